@@ -1,0 +1,62 @@
+-- The tree and its map after a change of the nodes of an arena.
+use Rattle.std.proofs.Common.{rules, ◌≡◌, ◌≢◌, ℕ, ◌<◌, ◌≤◌, Bool, true, false, List, length, get_or, refl, sym, ◌∙◌, ap, subst, arith, inl, inr}
+use Rattle.std.specs.Prelude.{Option, Some, None, is_some, cond}
+use Rattle.std.specs.FinMap as map
+use Rattle.slab.specs.Slab.{get, ContainsKey, Updates}
+use Rattle.congee.specs.Heap.{Node, Hung, Below, Holds, Nothing, fits, child_for, value_at}
+use Rattle.congee.specs.Ledger.{Linked, Gone, Note, Tree}
+use Rattle.congee.specs.Forms.{prefix_of, children_of}
+use Rattle.congee.specs.Arena.{Nodes, hung, node_of, heap_of, ledger_of, IsTree, OnWay}
+use Rattle.congee.specs.Changes.{Differs, MapChange}
+use Rattle.congee.specs.declared.base_node.Node.{Node as Form}
+use Rattle.congee.specs.declared.child.Child.{Child}
+use Rattle.congee.specs.declared.child.Child.TheVariants.{Node as Sub, Value}
+use Rattle.congee.proofs.Tree.{same_or_not}
+use Rattle.congee.proofs.Puts.{Puts, put_child, put_tree, put_map}
+use Rattle.congee.proofs.Ways.{linked_of, stands_of}
+
+module _ {P : Type 0} where
+  abbrev pub child_of : Option P → Option (Child ℕ P)
+  child_of None = None
+  child_of (Some v) = Some (Value v)
+
+  hung_child : (o : Option P) → hung (child_of o) ≡ put_child o
+  hung_child None = refl
+  hung_child (Some v) = refl
+
+  -- the ledgers of two slabs that have the same places taken
+  ledger_same : (s s' : Nodes P) (parent : ℕ → ℕ) → ((n : ℕ) → is_some (get s' n) ≡ is_some (get s n)) → ledger_of s parent ≡ ledger_of s' parent
+  ledger_same s s' parent e =
+      let p : (n : ℕ) → ledger_of s parent n ≡ ledger_of s' parent n = λ n. ap (λ b. record { status = cond b Linked Gone; owner = None; parent = parent n }) (sym (e n)) in
+      λ i n. p n i
+
+  taken_same : (s s' : Nodes P) (at : ℕ) (x y : Form ℕ P) → get s at ≡ Some x → Updates s s' at (Some y) → (n : ℕ) → is_some (get s' n) ≡ is_some (get s n)
+  taken_same s s' at x y e u n = elim (same_or_not n at) [
+    | inl p ↦ (let Q : ℕ → Type 0 = λ m. is_some (get s' m) ≡ is_some (get s m) in subst Q (sym p) (rw (u.changed, e) refl))
+    | inr q ↦ ap is_some (u.others n q)
+  ]
+
+  -- what a leaf has for one key changes
+  pub put_done : (s s' : Nodes P) (key : List ℕ) (at : ℕ) (x y : Form ℕ P) (old new : Option P) → length key ≡ 8 → IsTree s → OnWay s key at
+      → get s at ≡ Some x → length (prefix_of x) ≡ 7 → child_for (heap_of s at) key ≡ put_child old
+      → Differs x y (get_or key (length (prefix_of x)) 0) (child_of new) → Updates s s' at (Some y)
+      → IsTree s' × MapChange s s' key old new
+  put_done s s' key at x y old new len t w e seven before d u =
+      let hx : heap_of s at ≡ node_of (Some x) = ap node_of e in
+      let hy : heap_of s' at ≡ node_of (Some y) = ap node_of u.changed in
+      let a = ledger_of s t.parent in
+      let k : Puts a (heap_of s) (heap_of s') at key old new = record {
+        linked = linked_of s t.parent at w.stands;
+        fitted = w.fitted;
+        seven = rw hx seven;
+        before = before;
+        prefix = rw (hx, hy) d.prefix;
+        child = rw (hx, hy) (ap hung d.here ∙ hung_child new);
+        beside = λ c ne. let ne' : c ≢ get_or key (length (prefix_of x)) 0 = rw hx at ne in rw (hx, hy) (ap hung (d.beside c ne'));
+        nodes = λ m ne. ap node_of (u.others m ne);
+      } in
+      let m = put_map a (heap_of s) (heap_of s') at key old new len t.tree k in
+      let T : (ℕ → Note) → Type 0 = λ b. Tree b (heap_of s') in (
+        record { parent = t.parent; tree = subst T (ledger_same s s' t.parent (taken_same s s' at x y e u)) (put_tree a (heap_of s) (heap_of s') at key old new t.tree k) },
+        record { was = m.0; now = m.1; others = m.2 },
+      )

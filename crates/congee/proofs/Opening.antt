@@ -1,0 +1,73 @@
+-- Where a tree begins, with a root alone, calls may begin.
+use Rattle.std.proofs.Common.{◌≡◌, ◌≢◌, ℕ, zero, suc, ◌==◌, Bool, true, false, cond, List, [], ◌∷◌, length, refl, sym, ◌∙◌, ap, subst, arith}
+use Rattle.std.specs.Prelude.{None, Some, slice_get}
+use Rattle.congee.specs.declared.machine.Machine.{Machine}
+use Rattle.congee.specs.Heap.{Node, Nothing, Below, Holds, Stands, is_free}
+use Rattle.congee.specs.Ledger.{Note, Unmade, Linked, Gone, is_published, Tree, WordAt, Words}
+use Rattle.congee.specs.Opening.{RootAlone}
+use Rattle.congee.specs.Play.{IsNew, Begins}
+use Rattle.congee.proofs.Fits.{equal}
+use Rattle.congee.proofs.Touch.{by_test}
+
+unfoldable pub opened : ℕ → Note
+opened n = cond (n == 0) (record { status = Linked; owner = None; parent = 0 }) (record { status = Unmade; owner = None; parent = 0 })
+
+opened_linked : (n : ℕ) → (opened n).status ≡ Linked → n ≡ 0
+unfolding opened
+opened_linked n = by_test (λ (x : Note). x.status ≡ Linked → n ≡ 0) (n == 0) _ _ (λ t _. equal n 0 t) (λ _ l. let z : Unmade ≡ Linked = l in cc)
+
+opened_published : (n : ℕ) → is_published (opened n).status ≡ true → n ≡ 0
+unfolding opened
+opened_published n = by_test (λ (x : Note). is_published x.status ≡ true → n ≡ 0) (n == 0) _ _ (λ t _. equal n 0 t) (λ _ l. let z : false ≡ true = l in cc)
+
+opened_owner : (n : ℕ) → (opened n).owner ≡ None
+unfolding opened
+opened_owner n = by_test (λ (x : Note). x.owner ≡ None) (n == 0) _ _ (λ _. refl) (λ _. refl)
+
+opened_gone : (n : ℕ) → (opened n).status ≡ Gone → ⊥
+unfolding opened
+opened_gone n = by_test (λ (x : Note). x.status ≡ Gone → ⊥) (n == 0) _ _ (λ _ l. let z : Linked ≡ Gone = l in cc) (λ _ l. let z : Unmade ≡ Gone = l in cc)
+
+opened_unmade : (n : ℕ) → n ≢ 0 → (opened n).status ≡ Unmade
+unfolding opened
+opened_unmade n ne = by_test (λ (x : Note). x.status ≡ Unmade) (n == 0) _ _ (λ t. absurd (ne (equal n 0 t))) (λ _. refl)
+
+opened_root : (opened 0).status ≡ Linked
+unfolding opened
+opened_root = refl
+
+module _ {V : Type 0} (h : ℕ → Node V) (r : RootAlone h) where
+  pub opening_tree : Tree opened h
+  opening_tree = record {
+    root = opened_root;
+    empty = r.empty;
+    short = λ n l. rw (opened_linked n l, r.empty) (omega arith);
+    leaves = λ n b v l e. absurd (let z : Nothing ≡ Holds v = sym (r.bare b) ∙ (let P : ℕ → Type 0 = λ x. (h x).children b ≡ Holds v in subst P (opened_linked n l) e) in cc);
+    down = λ n b c l e. absurd (let z : Nothing ≡ Below c = sym (r.bare b) ∙ (let P : ℕ → Type 0 = λ x. (h x).children b ≡ Below c in subst P (opened_linked n l) e) in cc);
+    up = λ n l ne. absurd (ne (opened_linked n l));
+  }
+
+  pub opening_words : Words opened h
+  opening_words = record {
+    each = λ n. record {
+      free = λ _. opened_owner n;
+      gone = λ g. absurd (opened_gone n g);
+      unmade = λ e. opened_unmade n (λ z. let f : (h 0).made ≡ false = (let P : ℕ → Type 0 = λ x. (h x).made ≡ false in subst P z e) in let g : (h 0).made ≡ true = r.stands.made in cc);
+      stands = λ p. let P : ℕ → Type 0 = λ x. Stands (h x) in subst P (sym (opened_published n p)) r.stands;
+      unretired = λ l. let P : ℕ → Type 0 = λ x. (h x).retired ≡ false in subst P (sym (opened_linked n l)) r.unretired;
+    };
+    wide = r.wide;
+  }
+
+-- one new call on such a tree
+pub opening_one : {C V : Type 0} (number : C → ℕ) (h : ℕ → Node V) (m : Machine C V) → RootAlone h → number m.root ≡ 0 → IsNew m → Begins number h (m ∷ [])
+opening_one {C} {V} number h m r z n = record {
+  notes = opened;
+  tree = opening_tree h r;
+  words = opening_words h r;
+  root = λ i x e. (let P : Machine C V → Type 0 = λ y. number y.root ≡ 0 in subst P (only i x e) z);
+  new = λ i x e. (let P : Machine C V → Type 0 = λ y. IsNew y in subst P (only i x e) n);
+} where
+  only : (i : ℕ) (x : Machine C V) → slice_get (m ∷ []) i ≡ Some x → m ≡ x
+  only zero x e = cc
+  only (suc i) x e = absurd cc

@@ -1,0 +1,163 @@
+-- Steps of any number of calls, one after another.
+use Rattle.std.proofs.Common.{◌≡◌, ◌≢◌, ℕ, zero, suc, ◌<◌, ◌≤◌, ◌^◌, ◌⊎◌, inl, inr, Bool, true, false, List, [], ◌∷◌, ◌++◌, length, map, take, ◌+◌, refl, sym, ◌∙◌, ap, subst, arith}
+use Rattle.std.proofs.Math.ListN.{set}
+use Rattle.std.proofs.lemmas.List.{map-set, append_assoc, length-append}
+use Rattle.std.proofs.Math.Seq.{take-append_seam}
+use Rattle.std.proofs.lemmas.Option.{slice_get-map, slice_get_past, slice_get-get_or}
+use Rattle.std.specs.Prelude.{Option, None, Some, slice_get, option_map}
+use Rattle.judge.specs.Answer.{Pairs}
+use Rattle.congee.specs.declared.phase.Kind.{Kind}
+use Rattle.congee.specs.declared.phase.Phase.{Phase}
+use Rattle.congee.specs.declared.phase.Phase.TheVariants.{New}
+use Rattle.congee.specs.declared.machine.Move.{Move}
+use Rattle.congee.specs.declared.machine.Outcome.TheVariants.{Running}
+use Rattle.congee.specs.declared.machine.Machine.{Machine}
+use Rattle.congee.specs.declared.calls.Step.{Step}
+use Rattle.congee.specs.Heap.{Node}
+use Rattle.congee.specs.Keys.{key_bytes, Standing}
+use Rattle.congee.specs.Ledger.{Note}
+use Rattle.congee.specs.Protocol.{Rely, Known}
+use Rattle.congee.specs.Steps.{MayStep, Stepped}
+use Rattle.congee.specs.Answers.{Keeps, KeepsProtocol}
+use Rattle.congee.specs.Play.{IsNew, Flight, Watched, WatchedAt, Run, flight_in, flight, EachKnown, Protocol, Begins, Plays, StepMap, StepPlays}
+use Rattle.congee.proofs.Rely.{known_kept, named_all}
+use Rattle.congee.proofs.Wants.{wants}
+use Rattle.congee.proofs.Watches.{watched}
+
+get_set : {A : Type 0} → (xs : List A) (i j : ℕ) (x y : A) → slice_get (set xs i x) j ≡ Some y → ((j ≡ i) × (x ≡ y)) ⊎ ((j ≢ i) × (slice_get xs j ≡ Some y))
+get_set [] i j x y e = absurd cc
+get_set (z ∷ xs) zero zero x y e = inl (refl, cc)
+get_set (z ∷ xs) zero (suc j) x y e = inr ((λ q. absurd (omega arith)), e)
+get_set (z ∷ xs) (suc i) zero x y e = inr ((λ q. absurd (omega arith)), e)
+get_set (z ∷ xs) (suc i) (suc j) x y e = elim (get_set xs i j x y e) [
+  | inl p ↦ inl (ap suc p.0, p.1)
+  | inr p ↦ inr ((λ q. p.0 (omega arith)), p.1)
+]
+
+module _ {C V : Type 0} (number : C → ℕ) (same : V → V → Bool) (always : Bool) where
+  -- a call of the protocol may step
+  pub may_step : (h : ℕ → Node V) (ms : List (Machine C V)) (i : ℕ) (m : Machine C V) → Protocol number same always h ms → slice_get ms i ≡ Some m → MayStep number (key_bytes m.key) m.given m.phase h
+  may_step h ms i m p e = wants number same always i p.notes h m.key p.tree p.words m.kind m.given m.phase (p.each i m e).known
+
+  each_kept : (i : ℕ) (a : ℕ → Note) (h : ℕ → Node V) (ms : List (Machine C V)) (a' : ℕ → Note) (m' : Machine C V) (h' : ℕ → Node V)
+      → ((j : ℕ) (m : Machine C V) → slice_get ms j ≡ Some m → EachKnown number same always a h j m) → ((j : ℕ) → j ≢ i → Rely (λ _. Unit {0}) j a h a' h')
+      → EachKnown number same always a' h' i m' → (j : ℕ) (x : Machine C V) → slice_get (set ms i m') j ≡ Some x → EachKnown number same always a' h' j x
+  each_kept i a h ms a' m' h' e r q j x g = elim (get_set ms i j m' x g) [
+    | inl p ↦ (let P : ℕ → Machine C V → Type 0 = λ y z. EachKnown number same always a' h' y z in
+        let Q : ℕ → Type 0 = λ y. P y x in subst Q (sym p.0) (let R : Machine C V → Type 0 = λ z. P i z in subst R p.1 q))
+    | inr p ↦ (let o : EachKnown number same always a h j x = e j x p.1 in record {
+      root = o.root;
+      key = o.key;
+      known = known_kept number same always (λ _. Unit {0}) j a h a' h' (r j p.0) x.key (key_bytes x.key) x.kind x.given x.phase (named_all number x.phase) o.known;
+    })
+  ]
+
+  -- the step of one call
+  pub turned : (most : ℕ) (h : ℕ → Node V) (ms : List (Machine C V)) (s : Step C V) (m m' : Machine C V) (h' : ℕ → Node V) (d : Move V)
+      → Protocol number same always h ms → slice_get ms s.who ≡ Some m → Stepped number same always most m h s.noise.fail s.noise.answer m' h' d → KeepsProtocol number same always m h m' h' d
+      → StepPlays number same always h ms s d h' (set ms s.who m')
+  turned most h ms s m m' h' d p e g keeps =
+      let o : EachKnown number same always p.notes h s.who m = p.each s.who m e in
+      let r : Keeps number same always s.who p.notes m h m' h' d = keeps s.who p.notes o.root p.tree p.words o.known in
+      record {
+        protocol = record {
+          notes = r.notes;
+          tree = r.effect.tree;
+          words = r.effect.words;
+          each = each_kept s.who p.notes h ms r.notes m' h' p.each r.effect.others (record {
+            root = ap number g.root ∙ o.root;
+            key = (let P : ℕ → Type 0 = λ x. x < 2 ^ 64 in subst P (sym g.key) o.key);
+            known = r.known;
+          });
+        };
+        watched = λ pairs st.
+            let w : (m1 : Pairs V) × Standing h' m1 × Watched same (flight m) pairs s.noise.answer d (flight_in m.key m.kind m'.given m'.phase) m1
+            = watched number same always most s.who p.notes h m.root m.key m.kind s.noise.fail s.noise.answer m.given m'.given (record { phase = m'.phase; step = d }) h' o.key pairs st m.phase o.known g.step r.answer in
+            let P : ℕ → Kind V → Type 0 = λ x y. Watched same (flight m) pairs s.noise.answer d (flight_in x y m'.given m'.phase) w.0 in
+            let Q : ℕ → Type 0 = λ x. P x m.kind in
+            let R : Kind V → Type 0 = λ y. P m'.key y in
+            let y : Watched same (flight m) pairs s.noise.answer d (flight m') w.0 = subst R (sym g.kind) (subst Q (sym g.key) w.2) in
+            let there : slice_get (map flight ms) s.who ≡ Some (flight m) = slice_get-map flight ms s.who ∙ (let T : Option (Machine C V) → Type 0 = λ z. option_map flight z ≡ Some (flight m) in subst T (sym e) refl) in
+            let T : Option (Flight V) → Type 0 = λ z. WatchedAt same (map flight ms) pairs z s d (map flight (set ms s.who m')) w.0 in
+            (w.0, w.1, subst T (sym there) (flight m', y, map-set flight ms s.who m'));
+      }
+
+  -- the step of a call that isn't there
+  pub idled : (h : ℕ → Node V) (ms : List (Machine C V)) (s : Step C V) → Protocol number same always h ms → length ms ≤ s.who
+      → StepPlays number same always h ms s (record { decided = false; outcome = Running }) h ms
+  idled h ms s p l = record {
+    protocol = p;
+    watched = λ pairs st.
+        let there : slice_get (map flight ms) s.who ≡ None = slice_get-map flight ms s.who ∙ (let T : Option (Machine C V) → Type 0 = λ z. option_map flight z ≡ None in subst T (sym (slice_get_past ms s.who l)) refl) in
+        let T : Option (Flight V) → Type 0 = λ z. WatchedAt same (map flight ms) pairs z s (record { decided = false; outcome = Running }) (map flight ms) pairs in
+        (pairs, st, subst T (sym there) (refl, refl, refl));
+  }
+
+  run_more : (fs : List (Flight V)) (m : Pairs V) (ss : List (Step C V)) (ds : List (Move V)) (fs1 : List (Flight V)) (m1 : Pairs V) (s : Step C V) (d : Move V) (fs2 : List (Flight V)) (m2 : Pairs V)
+      → Run same fs m ss ds fs1 m1 → WatchedAt same fs1 m1 (slice_get fs1 s.who) s d fs2 m2 → Run same fs m (ss ++ s ∷ []) (ds ++ d ∷ []) fs2 m2
+  run_more fs m [] [] fs1 m1 s d fs2 m2 r q =
+      let P : List (Flight V) → Type 0 = λ x. WatchedAt same x m (slice_get x s.who) s d fs2 m2 in
+      let Q : Pairs V → Type 0 = λ x. WatchedAt same fs1 x (slice_get fs1 s.who) s d fs2 m2 in
+      (fs2, m2, subst P r.0 (subst Q r.1 q), (refl, refl))
+  run_more fs m [] (y ∷ ds) fs1 m1 s d fs2 m2 r q = absurd r
+  run_more fs m (x ∷ ss) [] fs1 m1 s d fs2 m2 r q = absurd r
+  run_more fs m (x ∷ ss) (y ∷ ds) fs1 m1 s d fs2 m2 r q = (r.0, r.1, r.2, run_more r.0 r.1 ss ds fs1 m1 s d fs2 m2 r.3 q)
+
+  -- one step more
+  pub plays_more : (h0 : ℕ → Node V) (ms0 : List (Machine C V)) (ss : List (Step C V)) (ds : List (Move V)) (h : ℕ → Node V) (ms : List (Machine C V)) (s : Step C V) (d : Move V) (h' : ℕ → Node V) (ms' : List (Machine C V))
+      → Plays number same always h0 ms0 ss ds h ms → StepPlays number same always h ms s d h' ms' → Plays number same always h0 ms0 (ss ++ s ∷ []) (ds ++ d ∷ []) h' ms'
+  plays_more h0 ms0 ss ds h ms s d h' ms' p q = record {
+    protocol = q.protocol;
+    run = λ m st.
+        let r : (m1 : Pairs V) × Standing h m1 × Run same (map flight ms0) m ss ds (map flight ms) m1 = p.run m st in
+        let w : (m2 : Pairs V) × Standing h' m2 × WatchedAt same (map flight ms) r.0 (slice_get (map flight ms) s.who) s d (map flight ms') m2 = q.watched r.0 r.1 in
+        (w.0, w.1, run_more (map flight ms0) m ss ds (map flight ms) r.0 s d (map flight ms') w.0 r.2 w.2);
+  }
+
+  -- calls that have not begun know what they are to know
+  pub plays_none : (h : ℕ → Node V) (ms : List (Machine C V)) → Begins number h ms → Plays number same always h ms [] [] h ms
+  plays_none h ms b = record {
+    protocol = record {
+      notes = b.notes;
+      tree = b.tree;
+      words = b.words;
+      each = λ i m e. record {
+        root = b.root i m e;
+        key = (b.new i m e).key;
+        known = (let P : Phase C V → Type 0 = λ x. Known number same always i b.notes h m.key (key_bytes m.key) m.kind m.given x in subst P (sym (b.new i m e).phase) (b.new i m e).given);
+      };
+    };
+    run = λ m st. (m, st, (refl, refl));
+  }
+
+  -- how far the steps have come: those taken and those left
+  pub record Progress (h0 : ℕ → Node V) (ms0 : List (Machine C V)) (all rest : List (Step C V)) (done : ℕ) (ds : List (Move V)) (h : ℕ → Node V) (ms : List (Machine C V)) : Type 0 where
+    pub taken : List (Step C V)
+    pub split : all ≡ taken ++ rest
+    pub count : length taken ≡ done
+    pub plays : Plays number same always h0 ms0 taken ds h ms
+
+  pub progress_none : (h : ℕ → Node V) (ms : List (Machine C V)) (all rest : List (Step C V)) (done : ℕ) (ds : List (Move V)) → rest ≡ all → done ≡ 0 → ds ≡ [] → Begins number h ms → Progress h ms all rest done ds h ms
+  progress_none h ms all rest done ds e n q b = record {
+    taken = [];
+    split = sym e;
+    count = sym n;
+    plays = (let P : List (Move V) → Type 0 = λ x. Plays number same always h ms [] x h ms in subst P (sym q) (plays_none h ms b));
+  }
+
+  pub progress_more : (h0 : ℕ → Node V) (ms0 : List (Machine C V)) (all rest rest' : List (Step C V)) (done done1 done' : ℕ) (ds ds1 ds' : List (Move V)) (h : ℕ → Node V) (ms : List (Machine C V)) (s : Step C V) (d : Move V) (h' : ℕ → Node V) (ms' : List (Machine C V))
+      → Progress h0 ms0 all rest done ds h ms → rest ≡ s ∷ rest' → done1 ≡ done → done' ≡ done1 + 1 → ds1 ≡ ds → ds' ≡ ds1 ++ d ∷ [] → StepPlays number same always h ms s d h' ms' → Progress h0 ms0 all rest' done' ds' h' ms'
+  progress_more h0 ms0 all rest rest' done done1 done' ds ds1 ds' h ms s d h' ms' p e n1 n q1 q x = record {
+    taken = p.taken ++ s ∷ [];
+    split = p.split ∙ (ap (λ x. p.taken ++ x) e ∙ sym (append_assoc p.taken (s ∷ []) rest'));
+    count = (let l : length (p.taken ++ s ∷ []) ≡ length p.taken + 1 = length-append p.taken (s ∷ []) in let c : length p.taken ≡ done = p.count in omega (arith, l, c, n1, n));
+    plays = (let P : List (Move V) → Type 0 = λ y. Plays number same always h0 ms0 (p.taken ++ s ∷ []) y h' ms' in
+        subst P (sym (q ∙ ap (λ y. y ++ d ∷ []) q1)) (plays_more h0 ms0 p.taken ds h ms s d h' ms' p.plays x));
+  }
+
+  pub progress_end : (h0 : ℕ → Node V) (ms0 : List (Machine C V)) (all rest : List (Step C V)) (done done' : ℕ) (ds ds' : List (Move V)) (h : ℕ → Node V) (ms : List (Machine C V))
+      → Progress h0 ms0 all rest done ds h ms → done' ≡ done → ds' ≡ ds → Plays number same always h0 ms0 (take done' all) ds' h ms
+  progress_end h0 ms0 all rest done done' ds ds' h ms p n q =
+      let e : take done' all ≡ p.taken = ap (λ x. take x all) (n ∙ sym p.count) ∙ (ap (take (length p.taken)) p.split ∙ take-append_seam p.taken rest) in
+      let P : List (Step C V) → Type 0 = λ x. Plays number same always h0 ms0 x ds' h ms in
+      let Q : List (Move V) → Type 0 = λ x. Plays number same always h0 ms0 p.taken x h ms in subst P (sym e) (subst Q (sym q) p.plays)

@@ -1,0 +1,157 @@
+-- Each step of a call is one that the watch of a map's run allows.
+use Rattle.std.proofs.Common.{◌≡◌, ◌≢◌, ℕ, ◌<◌, ◌^◌, ◌==◌, Bool, true, false, List, length, refl, sym, ◌∙◌, ap, subst}
+use Rattle.std.specs.Prelude.{Option, None, Some}
+use Rattle.std.specs.FinMap.{get}
+use Rattle.judge.specs.declared.journal.Call.{Call}
+use Rattle.judge.specs.declared.journal.Reply.{Reply}
+use Rattle.judge.specs.Answer.{Pairs, set_at, answer}
+use Rattle.judge.proofs.Maps.{key_of, leaves, reply_on, get-set_at_here, get-set_at_apart, answer_at}
+use Rattle.congee.specs.declared.phase.Kind.{Kind}
+use Rattle.congee.specs.declared.phase.Kind.TheVariants.{Get, Insert, Remove, ComputePresent, ComputeInsert, Exchange}
+use Rattle.congee.specs.declared.phase.Phase.{Phase}
+use Rattle.congee.specs.declared.phase.Phase.TheVariants.{New, Version, Read, Check, CheckUncopied, CheckMiss, CheckDown, CheckOld, MakeLeaf, MakeGreater, MakeTop, MakeBeside, AskOld, AskNew, Confirm, CheckAbove, UpgradeOne, ChangeOne, UpgradeAbove, UpgradeBoth, ChangeTwo, Obsolete, Retire, UnlockBelow, Unlock, Unwind, Ended}
+use Rattle.congee.specs.declared.turn.Turn.{Turn}
+use Rattle.congee.specs.Heap.{Node, is_taken, version_of}
+use Rattle.congee.specs.Steps.{quiet, again, answered, finished, refused, decided, asking, PhaseStepped}
+use Rattle.congee.specs.Keys.{key_bytes, Standing}
+use Rattle.congee.specs.Ledger.{Note}
+use Rattle.congee.specs.Protocol.{IsCall, Settles, Known}
+use Rattle.congee.specs.Answers.{SameMap, Decides, Answers, reply_in, told}
+use Rattle.congee.specs.Play.{Flight, Pending, Decided, Over, heard, Watched, PendingMoves, flight_in}
+use Rattle.congee.proofs.Graft.{on_test}
+use Rattle.congee.proofs.Keys.{standing_same, standing_changed}
+use Rattle.congee.proofs.Shapes.{Shape, GoesOn, Wonders, Stops, Replies, Takes, go, back, at, answers, checks, reads, versions, if_taken, misses_at, halts, leaf_made, greater_made, top_made, beside_made, one_upgraded, above_upgraded, both_upgraded, unwinds, at_old, change_shape, given_shape, given_new_shape_at}
+
+-- the call is on its key
+call_key : {V : Type 0} (k : ℕ) (kind : Kind V) (given found : Option V) (c : Call V) → IsCall k kind given found c → key_of c ≡ k
+call_key k Get given found c e = ap key_of e
+call_key k Insert None found c e = absurd e
+call_key k Insert (Some v) found c e = ap key_of e
+call_key k Remove given found c e = ap key_of e
+call_key k ComputePresent given None c e = ap key_of e
+call_key k ComputePresent given (Some v) c e = ap key_of e
+call_key k ComputeInsert None found c e = absurd e
+call_key k ComputeInsert (Some v) found c e = ap key_of e
+call_key k (Exchange old) given found c e = ap key_of e
+
+-- a step that decides answers as the finite map that stands
+record Answered {V : Type 0} (same : V → V → Bool) (k : ℕ) (kind : Kind V) (given : Option V) (m : Pairs V) (r : Reply V) (h' : ℕ → Node V) : Type 0 where
+  next : Pairs V
+  stands : Standing h' next
+  call : Call V
+  is_call : IsCall k kind given (get m k) call
+  answer : ◌≡◌ {A = Reply V × Pairs V} (answer same m call) (r, next)
+
+answered_on : {V : Type 0} (same : V → V → Bool) (k : ℕ) (kind : Kind V) (given : Option V) (h : ℕ → Node V) (r : Reply V) (h' : ℕ → Node V) (m : Pairs V)
+    → k < 2 ^ 64 → Decides same k kind given h r h' → Standing h m → Answered same k kind given m r h'
+answered_on {V} same k kind given h r h' m p d s =
+    let n : Pairs V = set_at m k d.after in
+    let was : get m k ≡ d.found = s.at k p ∙ d.before in
+    let here : get (set_at m k d.after) k ≡ d.after = get-set_at_here m k d.after in
+    let apart : (q : ℕ) → q ≢ k → get (set_at m k d.after) q ≡ get m q = get-set_at_apart m k d.after in
+    let c : Call V = d.settles.call in
+    let kc : key_of d.settles.call ≡ k = call_key k kind given d.found d.settles.call d.settles.is_call in
+    let was_at : get m (key_of d.settles.call) ≡ d.found = (let P : ℕ → Type 0 = λ x. get m x ≡ d.found in subst P (sym kc) was) in
+    let now_at : get (set_at m k d.after) (key_of d.settles.call) ≡ leaves same d.settles.call d.found = (let P : ℕ → Type 0 = λ x. get (set_at m k d.after) x ≡ leaves same d.settles.call d.found in subst P (sym kc) (here ∙ sym d.settles.left)) in
+    let apart_at : (q : ℕ) → q ≢ key_of d.settles.call → get (set_at m k d.after) q ≡ get m q = (let P : ℕ → Type 0 = λ x. (q : ℕ) → q ≢ x → get (set_at m k d.after) q ≡ get m q in subst P (sym kc) apart) in
+    record {
+      next = set_at m k d.after;
+      stands = standing_changed h h' m (set_at m k d.after) k p d.rest (here ∙ sym d.now) apart s;
+      call = d.settles.call;
+      is_call = (let P : Option V → Type 0 = λ x. IsCall k kind given x d.settles.call in subst P (sym was) d.settles.is_call);
+      answer = (let P : Reply V → Type 0 = λ x. ◌≡◌ {A = Reply V × Pairs V} (answer same m d.settles.call) (x, set_at m k d.after) in
+          subst P d.settles.reply (answer_at same m (set_at m k d.after) d.settles.call d.found was_at now_at apart_at));
+    }
+
+module _ {C V : Type 0} (same : V → V → Bool) (k : ℕ) (kind : Kind V) (v v1 v' : Option V) (h h' : ℕ → Node V) (m : Pairs V) (p : k < 2 ^ 64) (s : Standing h m) where
+  abbrev pub Out : Turn C V → Type 0
+  Out t = (m' : Pairs V) × Standing h' m' × PendingMoves same k kind v1 m t.step.decided t.step.outcome (flight_in k kind v' t.phase) m'
+
+  abbrev pub Then : Turn C V → Type 0
+  Then t = Answers same k kind v h t h' → Out t
+
+  replied : (r : Reply V) (t : Turn C V) → t ≡ answered r → v1 ≡ v → Then t
+  replied r t q o = subst Then (sym q) (λ x.
+      let e : Some r ≡ Some x.0 = x.1 in
+      let y : Answered same k kind v m x.0 h' = answered_on same k kind v h x.0 h' m p x.2 s in
+      let P : Option V → Type 0 = λ x. IsCall k kind x (get m k) y.call in
+      let rr : r ≡ x.0 = cc in
+      (y.next, y.stands, (y.call, x.0, subst P (sym o) y.is_call, y.answer, (rr, refl))))
+
+  takes : (st : Phase C V) (r : Reply V) → flight_in k kind v' st ≡ Decided r → reply_in st ≡ Some r → v1 ≡ v → Then (decided st)
+  takes st r f g o x =
+      let y : Answered same k kind v m x.0 h' = answered_on same k kind v h x.0 h' m p x.2 s in
+      let P : Option V → Type 0 = λ x. IsCall k kind x (get m k) y.call in
+      let z : Some r ≡ Some x.0 = sym g ∙ x.1 in
+      let rr : r ≡ x.0 = cc in
+      (y.next, y.stands, (y.call, x.0, subst P (sym o) y.is_call, y.answer, f ∙ ap Decided rr))
+
+  pub from_shape : (t : Turn C V) → Shape k kind v v1 v' t → Answers same k kind v h t h' → Out t
+  from_shape t (GoesOn st e f) = subst Then (sym e) (λ x. (m, standing_same h h' m x s, (f, refl)))
+  from_shape t (Wonders st o e f) = subst Then (sym e) (λ x. (m, standing_same h h' m x s, (f, refl)))
+  from_shape t (Stops r e) = subst Then (sym e) (λ x. (m, standing_same h h' m x s, (refl, refl)))
+  from_shape t (Replies r e o) = replied r t e o
+  from_shape t (Takes st r e f g o) = subst Then (sym e) (takes st r f g o)
+
+  -- a call that took effect goes on with its reply
+  pub settled : (r : Reply V) (st : Phase C V) (t : Turn C V) → t ≡ quiet st → flight_in k kind v' st ≡ Decided r → Answers same k kind v h t h'
+      → (m' : Pairs V) × Standing h' m' × Watched same (Decided r) m None t.step (flight_in k kind v' t.phase) m'
+  settled r st t e f =
+      let P : Turn C V → Type 0 = λ z. Answers same k kind v h z h' → (m' : Pairs V) × Standing h' m' × Watched same (Decided r) m None z.step (flight_in k kind v' z.phase) m' in
+      subst P (sym e) (λ x. (m, standing_same h h' m x s, (refl, f, refl)))
+
+  pub ends : (r : Reply V) (t : Turn C V) → t ≡ finished r → Answers same k kind v h t h'
+      → (m' : Pairs V) × Standing h' m' × Watched same (Decided r) m None t.step (flight_in k kind v' t.phase) m'
+  ends r t e =
+      let P : Turn C V → Type 0 = λ z. Answers same k kind v h z h' → (m' : Pairs V) × Standing h' m' × Watched same (Decided r) m None z.step (flight_in k kind v' z.phase) m' in
+      subst P (sym e) (λ x. (m, standing_same h h' m x s, (refl, (refl, refl), refl)))
+
+  pub rests : (t : Turn C V) → t ≡ quiet Ended → Answers same k kind v h t h'
+      → (m' : Pairs V) × Standing h' m' × Watched same Over m None t.step (flight_in k kind v' t.phase) m'
+  rests t e =
+      let P : Turn C V → Type 0 = λ z. Answers same k kind v h z h' → (m' : Pairs V) × Standing h' m' × Watched same Over m None z.step (flight_in k kind v' z.phase) m' in
+      subst P (sym e) (λ x. (m, standing_same h h' m x s, (refl, refl, refl)))
+
+module _ {C V : Type 0} (number : C → ℕ) (same : V → V → Bool) (always : Bool) (most : ℕ) (i : ℕ) (a : ℕ → Note) (h : ℕ → Node V) (root : C) (k : ℕ) (kind : Kind V)
+    (fail : Bool) (told : Option (Option V)) (v v' : Option V) (t : Turn C V) (h' : ℕ → Node V) (p : k < 2 ^ 64) (m : Pairs V) (st : Standing h m) where
+  abbrev pub Next : Flight V → Type 0
+  Next f = (m' : Pairs V) × Standing h' m' × Watched same f m told t.step (flight_in k kind v' t.phase) m'
+
+  by_shape : Answers same k kind v h t h' → Shape k kind v v v' t → Next (Pending k kind v false)
+  by_shape n x = from_shape same k kind v v v' h h' m p st t x n
+
+  by_answer : Answers same k kind v h t h' → Shape k kind v (heard kind true told v) v' t → Next (Pending k kind v true)
+  by_answer n x = from_shape same k kind v (heard kind true told v) v' h h' m p st t x n
+
+  -- every step
+  pub watched : (s : Phase C V) → Known number same always i a h k (key_bytes k) kind v s → PhaseStepped number same always most root (key_bytes k) kind fail told v s h v' t h'
+      → Answers same k kind v h t h' → Next (flight_in k kind v s)
+  watched New c g n = by_shape n (at number k kind v v' g.1 _ t g.2 (back number k kind v v' g.1 root))
+  watched (Version above x) c g n = by_shape n (at number k kind v v' g.1 _ t g.2 (versions number k kind v v' g.1 root above x (version_of (h (number x)))))
+  watched (Read above seat) c g n = by_shape n (at number k kind v v' g.1 _ t g.2.2 (reads number k kind v v' g.1 root above seat g.2.0))
+  watched (Check s x) c g n = by_shape n (if_taken number k kind v v' g.1 _ root _ t g.2 (λ y. checks number k kind v v' g.1 always same v s x t y))
+  watched (CheckUncopied seat) c g n = by_shape n (if_taken number k kind v v' g.1 _ root _ t g.2 (λ y. halts number k kind v v' g.1 _ t y))
+  watched (CheckMiss q seat common byte) c g n = by_shape n (if_taken number k kind v v' g.1 _ root _ t g.2 (λ y. at number k kind v v' g.1 _ t y (misses_at number k kind v v' g.1 q seat common byte)))
+  watched (CheckDown q seat x) c g n = by_shape n (if_taken number k kind v v' g.1 _ root _ t g.2 (λ y. at number k kind v v' g.1 _ t y (go number k kind v v' g.1 (Version _ x) refl)))
+  watched (CheckOld q s old) c g n = by_shape n (if_taken number k kind v v' g.1 _ root _ t g.2 (λ y. at_old k kind v v v' g.1 always same kind v s old t y))
+  watched (MakeLeaf s) c g n = by_shape n (leaf_made number k kind v v' g.0 s h (key_bytes k) g.1.0 h' t g.1.1)
+  watched (MakeGreater s q leaf) c g n = by_shape n (greater_made number k kind v v' g.0 s q leaf h (key_bytes k) g.1.0 h' t g.1.1)
+  watched (MakeTop q seat common byte) c g n = by_shape n (top_made number k kind v v' g.0 q seat common byte h (key_bytes k) g.1.0 h' t g.1.1)
+  watched (MakeBeside q seat common byte top) c g n = by_shape n (beside_made number k kind v v' g.0 q seat common byte top h (key_bytes k) g.1.0 h' t g.1.1)
+  watched (AskOld s old) c g n = by_answer n (given_shape always same k kind s old told v v' t c.2 g.1)
+  watched (AskNew plan) c g n = by_answer n (given_new_shape_at k kind plan told v v' t c.1 g.1)
+  watched (Confirm seat r) c g n = by_shape n (if_taken number k kind v v' g.1 _ root _ t g.2 (λ y. at number k kind v v' g.1 _ t y (answers number k kind v v' g.1 r)))
+  watched (CheckAbove q one r) c g n = by_shape n (on_test (is_taken (h (number q.node)) q.version)
+      (λ y. at number k kind v v' g.0 _ t (g.1.goes_on y).1 (go number k kind v v' g.0 (UpgradeOne one r) refl))
+      (λ y. at number k kind v v' g.0 _ t (g.1.goes_back y).1 (back number k kind v v' g.0 root)))
+  watched (UpgradeOne one r) c g n = by_shape n (one_upgraded number k kind v v' g.0 root one r h g.1.0 h' t g.1.2)
+  watched (ChangeOne one r) c g n = by_shape n (Takes (Unlock one.at.node r) r g.2 refl refl refl)
+  watched (UpgradeAbove two r) c g n = by_shape n (above_upgraded number k kind v v' g.0 root two r h g.1.0 h' t g.1.2)
+  watched (UpgradeBoth two r) c g n = by_shape n (both_upgraded number k kind v v' g.0 two r h g.1.0 h' t g.1.2)
+  watched (ChangeTwo two r) c g n = by_shape n (change_shape k kind v v' two r two.change t g.2)
+  watched (Obsolete x q r) c g n = settled same k kind v v v' h h' m p st r (Retire x q r) t g.2 refl n
+  watched (Retire x q r) c g n = settled same k kind v v v' h h' m p st r (Unlock q r) t g.2 refl n
+  watched (UnlockBelow x q r) c g n = settled same k kind v v v' h h' m p st r (Unlock q r) t g.2 refl n
+  watched (Unlock x r) c g n = ends same k kind v v v' h h' m p st r t g.2 n
+  watched (Unwind x e) c g n = by_shape n (unwinds number k kind v v' g.0 root e t g.2)
+  watched Ended c g n = rests same k kind v v v' h h' m p st t g.2 n

@@ -1,0 +1,108 @@
+use Rattle.std.proofs.Common.{rules, ◌≡◌, ◌≢◌, ◌+◌, ◌≤◌, length, Some, arith, ap, take, get_or, ◌∙◌, sym, subst, refl, ℕ, List}
+use Rattle.slab.specs.Slab.{get}
+use Rattle.congee.specs.Sizes.{bytes_of, bytes_at}
+use Rattle.congee.specs.Changes.{Parts}
+use Rattle.congee.specs.Forms.{size_of, form_of, prefix_of}
+use Rattle.congee.proofs.Sizes.{bytes_same, bytes_update, makes_bytes}
+use Rattle.congee.proofs.Moves.{Forking, forking_at, forking_present, fork_added, apart_of, fresh_made}
+use Rattle.congee.specs.declared.base_node.Node.{Node}
+use Rattle.congee.proofs.arena.Arena.split.Goals as goal
+
+pub returns-in-Err-clause-balance : goal.returns-in-Err-clause-balance
+returns-in-Err-clause-balance g c = omega (arith, bytes_same c.args.self.now.nodes c.make.new.self.nodes c.in-Err.ensures.same, c.in-Err.ensures.unchanged)
+
+pub returns-in-Err-make-clause-balance : goal.returns-in-Err-make-clause-balance
+returns-in-Err-make-clause-balance g c =
+    let u = bytes_update c.make-2.new.self.nodes c.give_back.new.self.nodes c.in-Ok.over _ c.give_back.ensures.gone in
+    let b : bytes_at (get c.make-2.new.self.nodes c.in-Ok.over) ≡ 64 = ap bytes_at (c.in-Err-make.ensures.same c.in-Ok.over ∙ c.in-Ok.ensures.made.updates.changed) ∙ ap size_of c.in-Ok.ensures.made.form in
+    let m = makes_bytes c.args.self.now.nodes c.make.new.self.nodes c.in-Ok.over _ c.in-Ok.ensures.made in
+    let s = bytes_same c.make.new.self.nodes c.make-2.new.self.nodes c.in-Err-make.ensures.same in
+    omega (arith, u, b, m, s, c.in-Err-make.ensures.unchanged, c.in-Ok.ensures.charge, c.give_back.ensures.charge)
+
+pub swap-requires-clause-present : goal.swap-requires-clause-present
+swap-requires-clause-present g c =
+    let p1 : c.prefix.result.now ≡ prefix_of c.index.result.now = c.prefix.ensures.bytes in
+    let same : c.index-2.result.now ≡ c.index.result.now = (let z : Some c.index-2.result.now ≡ Some c.index.result.now = sym c.index-2.ensures ∙ c.index.ensures in cc) in
+    let p2 : c.prefix-2.result.now ≡ prefix_of c.index.result.now = c.prefix-2.ensures.bytes ∙ ap prefix_of same in
+    let Q : List ℕ → Type 0 = λ z. Parts c.args.key.now z c.first_apart-common.result in
+    let f : Forking c.args.self.now.nodes c.make.new.self.nodes c.make-2.new.self.nodes c.fill_leaf.new.self.nodes c.fill_fork.new.self.nodes c.args.key.now c.args.at c.first_apart-common.result c.in-Ok.over c.in-Ok-make.leaf (get_or c.prefix-2.result.now c.first_apart-common.result 0) c.args.below c.args.value = record {
+      lower = c.index.result.now;
+      stands = c.index.ensures;
+      parts = subst Q p1 c.first_apart-common.ensures;
+      other_is = ap (λ p. get_or p c.first_apart-common.result 0) p2;
+      over_made = c.in-Ok.ensures.made;
+      leaf_made = c.in-Ok-make.ensures.made;
+      fills = c.fill_leaf.ensures.fills;
+      forks = c.fill_fork.ensures.forks;
+    } in
+    forking_present c.args.self.now.nodes c.fill_fork.new.self.nodes c.args.key.now c.args.at c.args.below c.byte_at-byte.result
+    (forking_at c.args.self.now.nodes c.make.new.self.nodes c.make-2.new.self.nodes c.fill_leaf.new.self.nodes c.fill_fork.new.self.nodes c.args.key.now c.args.at c.first_apart-common.result c.in-Ok.over c.in-Ok-make.leaf (get_or c.prefix-2.result.now c.first_apart-common.result 0) c.args.below c.args.value c.requires.way.stands f) c.requires.hangs c.byte_at-byte.ensures
+
+pub returns-clause-tree : goal.returns-clause-tree
+returns-clause-tree g c =
+    let p1 : c.prefix.result.now ≡ prefix_of c.index.result.now = c.prefix.ensures.bytes in
+    let same : c.index-2.result.now ≡ c.index.result.now = (let z : Some c.index-2.result.now ≡ Some c.index.result.now = sym c.index-2.ensures ∙ c.index.ensures in cc) in
+    let p2 : c.prefix-2.result.now ≡ prefix_of c.index.result.now = c.prefix-2.ensures.bytes ∙ ap prefix_of same in
+    let Q : List ℕ → Type 0 = λ z. Parts c.args.key.now z c.first_apart-common.result in
+    let f : Forking c.args.self.now.nodes c.make.new.self.nodes c.make-2.new.self.nodes c.fill_leaf.new.self.nodes c.fill_fork.new.self.nodes c.args.key.now c.args.at c.first_apart-common.result c.in-Ok.over c.in-Ok-make.leaf (get_or c.prefix-2.result.now c.first_apart-common.result 0) c.args.below c.args.value = record {
+      lower = c.index.result.now;
+      stands = c.index.ensures;
+      parts = subst Q p1 c.first_apart-common.ensures;
+      other_is = ap (λ p. get_or p c.first_apart-common.result 0) p2;
+      over_made = c.in-Ok.ensures.made;
+      leaf_made = c.in-Ok-make.ensures.made;
+      fills = c.fill_leaf.ensures.fills;
+      forks = c.fill_fork.ensures.forks;
+    } in
+    let len : length c.args.key.now ≡ 8 = search rules in
+    let r = fork_added c.args.self.now.nodes c.make.new.self.nodes c.make-2.new.self.nodes c.fill_leaf.new.self.nodes c.fill_fork.new.self.nodes c.swap.new.self.nodes c.args.key.now c.args.at c.first_apart-common.result c.in-Ok.over c.in-Ok-make.leaf (get_or c.prefix-2.result.now c.first_apart-common.result 0) c.args.below c.byte_at-byte.result c.args.value len c.requires.tree c.requires.way c.requires.hangs c.requires.differs f c.byte_at-byte.ensures c.swap.ensures.node in
+    r.0.0
+
+pub returns-clause-change : goal.returns-clause-change
+returns-clause-change g c =
+    let p1 : c.prefix.result.now ≡ prefix_of c.index.result.now = c.prefix.ensures.bytes in
+    let same : c.index-2.result.now ≡ c.index.result.now = (let z : Some c.index-2.result.now ≡ Some c.index.result.now = sym c.index-2.ensures ∙ c.index.ensures in cc) in
+    let p2 : c.prefix-2.result.now ≡ prefix_of c.index.result.now = c.prefix-2.ensures.bytes ∙ ap prefix_of same in
+    let Q : List ℕ → Type 0 = λ z. Parts c.args.key.now z c.first_apart-common.result in
+    let f : Forking c.args.self.now.nodes c.make.new.self.nodes c.make-2.new.self.nodes c.fill_leaf.new.self.nodes c.fill_fork.new.self.nodes c.args.key.now c.args.at c.first_apart-common.result c.in-Ok.over c.in-Ok-make.leaf (get_or c.prefix-2.result.now c.first_apart-common.result 0) c.args.below c.args.value = record {
+      lower = c.index.result.now;
+      stands = c.index.ensures;
+      parts = subst Q p1 c.first_apart-common.ensures;
+      other_is = ap (λ p. get_or p c.first_apart-common.result 0) p2;
+      over_made = c.in-Ok.ensures.made;
+      leaf_made = c.in-Ok-make.ensures.made;
+      fills = c.fill_leaf.ensures.fills;
+      forks = c.fill_fork.ensures.forks;
+    } in
+    let len : length c.args.key.now ≡ 8 = search rules in
+    let r = fork_added c.args.self.now.nodes c.make.new.self.nodes c.make-2.new.self.nodes c.fill_leaf.new.self.nodes c.fill_fork.new.self.nodes c.swap.new.self.nodes c.args.key.now c.args.at c.first_apart-common.result c.in-Ok.over c.in-Ok-make.leaf (get_or c.prefix-2.result.now c.first_apart-common.result 0) c.args.below c.byte_at-byte.result c.args.value len c.requires.tree c.requires.way c.requires.hangs c.requires.differs f c.byte_at-byte.ensures c.swap.ensures.node in
+    r.0.1
+
+pub returns-clause-balance : goal.returns-clause-balance
+returns-clause-balance g c =
+    let p1 : c.prefix.result.now ≡ prefix_of c.index.result.now = c.prefix.ensures.bytes in
+    let same : c.index-2.result.now ≡ c.index.result.now = (let z : Some c.index-2.result.now ≡ Some c.index.result.now = sym c.index-2.ensures ∙ c.index.ensures in cc) in
+    let p2 : c.prefix-2.result.now ≡ prefix_of c.index.result.now = c.prefix-2.ensures.bytes ∙ ap prefix_of same in
+    let Q : List ℕ → Type 0 = λ z. Parts c.args.key.now z c.first_apart-common.result in
+    let f : Forking c.args.self.now.nodes c.make.new.self.nodes c.make-2.new.self.nodes c.fill_leaf.new.self.nodes c.fill_fork.new.self.nodes c.args.key.now c.args.at c.first_apart-common.result c.in-Ok.over c.in-Ok-make.leaf (get_or c.prefix-2.result.now c.first_apart-common.result 0) c.args.below c.args.value = record {
+      lower = c.index.result.now;
+      stands = c.index.ensures;
+      parts = subst Q p1 c.first_apart-common.ensures;
+      other_is = ap (λ p. get_or p c.first_apart-common.result 0) p2;
+      over_made = c.in-Ok.ensures.made;
+      leaf_made = c.in-Ok-make.ensures.made;
+      fills = c.fill_leaf.ensures.fills;
+      forks = c.fill_fork.ensures.forks;
+    } in
+    let len : length c.args.key.now ≡ 8 = search rules in
+    let r = fork_added c.args.self.now.nodes c.make.new.self.nodes c.make-2.new.self.nodes c.fill_leaf.new.self.nodes c.fill_fork.new.self.nodes c.swap.new.self.nodes c.args.key.now c.args.at c.first_apart-common.result c.in-Ok.over c.in-Ok-make.leaf (get_or c.prefix-2.result.now c.first_apart-common.result 0) c.args.below c.byte_at-byte.result c.args.value len c.requires.tree c.requires.way c.requires.hangs c.requires.differs f c.byte_at-byte.ensures c.swap.ensures.node in
+    let m1 = makes_bytes c.args.self.now.nodes c.make.new.self.nodes c.in-Ok.over _ c.in-Ok.ensures.made in
+    let m2 = makes_bytes c.make.new.self.nodes c.make-2.new.self.nodes c.in-Ok-make.leaf _ c.in-Ok-make.ensures.made in
+    let a : g.A.Allocator.charged_of c.swap.new.self.allocator ≡ g.A.Allocator.charged_of c.make-2.new.self.allocator = ap g.A.Allocator.charged_of (c.swap.ensures.allocator ∙ (c.fill_fork.ensures.allocator ∙ c.fill_leaf.ensures.allocator)) in
+    omega (arith, a, r.1, m1, m2, c.in-Ok.ensures.charge, c.in-Ok-make.ensures.charge, c.fill_leaf.ensures.bytes, c.fill_fork.ensures.bytes)
+
+pub fill_fork-requires-clause-fresh : goal.fill_fork-requires-clause-fresh
+fill_fork-requires-clause-fresh g c =
+    let ol : c.in-Ok.over ≢ c.in-Ok-make.leaf = apart_of c.make.new.self.nodes c.in-Ok.over c.in-Ok-make.leaf c.in-Ok.ensures.made.node c.in-Ok.ensures.made.updates.changed c.in-Ok-make.ensures.made.vacant in
+    fresh_made c.args.self.now.nodes c.make.new.self.nodes c.fill_leaf.new.self.nodes c.in-Ok.over _ c.in-Ok.ensures.made
+    (c.fill_leaf.ensures.fills.updates.others c.in-Ok.over ol ∙ c.in-Ok-make.ensures.made.updates.others c.in-Ok.over ol)

@@ -1,0 +1,33 @@
+use Rattle.std.proofs.Common.{rules, ◌≡◌, ◌≢◌, ◌<◌, ◌^◌, ap, subst, refl, sym, ◌∙◌, ℕ, List, None, Some, Ok, Err, arith}
+use Rattle.std.specs.Prelude.{nat_eq, Option}
+use Rattle.std.specs.Option.{option_map}
+use Rattle.judge.specs.declared.journal.Call.TheVariants as call
+use Rattle.judge.specs.declared.journal.Reply.TheVariants as reply
+use Rattle.congee.specs.Heap.{value_at}
+use Rattle.congee.specs.Arena.{heap_of}
+use Rattle.congee.specs.Changes.{MapChange}
+use Rattle.congee.specs.Keys.{key_bytes}
+use Rattle.congee.specs.OwnedSteps.{settled}
+use Rattle.congee.proofs.Answered.{answered_absent, answered_present, answered_compute, present_change, exchange_refused, exchange_done}
+use Rattle.congee.proofs.Sizes.{bytes_same}
+use Rattle.congee.proofs.Tables.{answer_pairs, same_pairs, pairs_empty}
+use Rattle.congee.proofs.Ways.{same_tree}
+use Rattle.congee.proofs.congee.Congee.compute_if_present.Goals as goal
+
+pub returns-in_default-clause-absent : goal.returns-in_default-clause-absent
+returns-in_default-clause-absent g c =
+    let small : c.to_word.result < 2 ^ 64 = search rules in
+    let v : c.copied.result ≡ value_at (heap_of c.self.inside.arena.nodes) (key_bytes c.to_word.result) = c.copied.ensures ∙ (c.get.ensures ∙ ap (value_at (heap_of c.self.inside.arena.nodes)) c.to_be_bytes-bytes.ensures) in
+    let n : c.copied.result ≡ None = search rules in
+    let a = answer_pairs nat_eq c.self.inside.arena.nodes c.self.inside.arena.nodes (call.ComputePresent c.to_word.result None) (reply.ComputePresent None) (answered_absent nat_eq c.self.inside.arena.nodes c.self.inside.arena.nodes c.to_word.result small None (sym v ∙ n)) in
+    rw (← c.self.view_is, ← c.to_word.ensures) a
+
+pub returns-clause-present : goal.returns-clause-present
+returns-clause-present g c =
+    let small : c.to_word.result < 2 ^ 64 = search rules in
+    let v : Some c.in-Some.old ≡ value_at (heap_of c.self.inside.arena.nodes) (key_bytes c.to_word.result) = c.in-Some.ensures ∙ (c.get.ensures ∙ ap (value_at (heap_of c.self.inside.arena.nodes)) c.to_be_bytes-bytes.ensures) in
+    let Q : List ℕ → Type 0 = λ k. MapChange c.self.inside.arena.nodes c.settle.new.self.nodes k c.settle.result (settled c.settle.result c.f-new.result) in
+    let change : MapChange c.self.inside.arena.nodes c.settle.new.self.nodes (key_bytes c.to_word.result) c.settle.result (settled c.settle.result c.f-new.result) = subst Q c.to_be_bytes-bytes.ensures c.settle.ensures.change in
+    let a = answer_pairs nat_eq c.self.inside.arena.nodes c.settle.new.self.nodes (call.ComputePresent c.to_word.result c.f-new.result) (reply.ComputePresent (Some (c.in-Some.old, c.f-new.result)))
+    (answered_present nat_eq c.self.inside.arena.nodes c.settle.new.self.nodes c.to_word.result small c.in-Some.old c.f-new.result (present_change c.self.inside.arena.nodes c.settle.new.self.nodes (key_bytes c.to_word.result) c.settle.result c.in-Some.old c.f-new.result change v)) in
+    rw (← c.self.view_is, ← c.to_word.ensures) a

@@ -1,0 +1,39 @@
+use Rattle.std.proofs.Common.{rules, ◌≡◌, ◌≢◌, ◌<◌, ◌^◌, ap, subst, refl, sym, ◌∙◌, ℕ, List, None, Some, Ok, Err, arith}
+use Rattle.std.specs.Prelude.{nat_eq, Option}
+use Rattle.std.specs.Option.{option_map}
+use Rattle.judge.specs.declared.journal.Call.TheVariants as call
+use Rattle.judge.specs.declared.journal.Reply.TheVariants as reply
+use Rattle.congee.specs.Heap.{value_at}
+use Rattle.congee.specs.Arena.{heap_of}
+use Rattle.congee.specs.Changes.{MapChange}
+use Rattle.congee.specs.Keys.{key_bytes}
+use Rattle.congee.specs.OwnedSteps.{settled}
+use Rattle.congee.proofs.Answered.{answered_absent, answered_present, answered_compute, present_change, exchange_refused, exchange_done}
+use Rattle.congee.proofs.Sizes.{bytes_same}
+use Rattle.congee.proofs.Tables.{answer_pairs, same_pairs, pairs_empty}
+use Rattle.congee.proofs.Ways.{same_tree}
+use Rattle.congee.proofs.congee.Congee.compute_or_insert.Goals as goal
+
+pub returns-in-Ok-clause-answers : goal.returns-in-Ok-clause-answers
+returns-in-Ok-clause-answers g c =
+    let small : c.to_word.result < 2 ^ 64 = search rules in
+    let v : c.copied-old.result ≡ value_at (heap_of c.self.inside.arena.nodes) (key_bytes c.to_word.result) = c.copied-old.ensures ∙ (c.get.ensures ∙ ap (value_at (heap_of c.self.inside.arena.nodes)) c.to_be_bytes-bytes.ensures) in
+    let Q : List ℕ → Type 0 = λ k. MapChange c.self.inside.arena.nodes c.insert.new.self.nodes k c.in-Ok.before (Some c.f-value.result) in
+    let change : MapChange c.self.inside.arena.nodes c.insert.new.self.nodes (key_bytes c.to_word.result) c.in-Ok.before (Some c.f-value.result) = subst Q c.to_be_bytes-bytes.ensures c.in-Ok.ensures.change in
+    let e : c.in-Ok.before ≡ c.copied-old.result = sym change.was ∙ sym v in
+    let R : Option ℕ → Type 0 = λ o. MapChange c.self.inside.arena.nodes c.insert.new.self.nodes (key_bytes c.to_word.result) o (Some c.f-value.result) in
+    let a = answer_pairs nat_eq c.self.inside.arena.nodes c.insert.new.self.nodes (call.ComputeInsert c.to_word.result c.f-value.result) (reply.ComputeInsert c.copied-old.result)
+    (answered_compute nat_eq c.self.inside.arena.nodes c.insert.new.self.nodes c.to_word.result small c.copied-old.result c.f-value.result (subst R e change)) in
+    (c.copied-old.result, c.f-value.result, c.word_of.ensures ∙ ap (option_map g.V.Word64.of_word) e, c.f-value.new.self, search rules, rw (← c.self.view_is, ← c.to_word.ensures) a)
+
+pub invariant_of-self-2 : goal.invariant_of-self-2
+invariant_of-self-2 g c = (
+  same_tree c.self.inside.arena.nodes c.insert.new.self.nodes c.in-Err.ensures.same c.self.invariant.0,
+  omega (arith, bytes_same c.self.inside.arena.nodes c.insert.new.self.nodes c.in-Err.ensures.same, c.insert.ensures.balance, c.self.invariant.1),
+)
+
+pub returns-clause-unchanged : goal.returns-clause-unchanged
+returns-clause-unchanged g c = rw (← c.self.view_is) (record {
+  pairs = same_pairs c.self.inside.arena.nodes c.insert.new.self.nodes c.in-Err.ensures.same;
+  bytes = bytes_same c.self.inside.arena.nodes c.insert.new.self.nodes c.in-Err.ensures.same;
+})

@@ -1,0 +1,15 @@
+-- Finite maps from bytes to children.
+use Rattle.std.specs.Prelude.{◌≡◌, ℕ, ◌<◌, ◌≤◌, ltb, cond, not, ◌&&◌, List, [], ◌∷◌, None, Some}
+use Rattle.std.specs.Ordering.{nat_cmp}
+use Rattle.std.specs.FinMap as map
+
+-- x is the child of b, the least byte from `from` on that has one
+pub record IsFirst {X : Type 0} (m : map.FinMap nat_cmp X) (from b : ℕ) (x : X) : Type 0 where
+  pub past : from ≤ b
+  pub here : map.get m b ≡ Some x
+  pub before : (q : ℕ) → from ≤ q → q < b → map.get m q ≡ None
+
+-- the pairs whose byte lies from `start` to `end`, both included
+abbrev pub between : {X : Type 0} → ℕ → ℕ → List (ℕ × X) → List (ℕ × X)
+between start end [] = []
+between start end ((b, x) ∷ r) = cond (ltb b start) (between start end r) (cond (ltb end b) (between start end r) ((b, x) ∷ between start end r))

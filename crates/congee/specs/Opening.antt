@@ -1,0 +1,11 @@
+-- A tree as it begins: a root alone.
+use Rattle.std.specs.Prelude.{◌≡◌, ◌≢◌, ℕ, false, List, []}
+use Rattle.congee.specs.Heap.{Node, Nothing, Stands}
+
+-- the root stands, empty, unlocked, with 256 places, and no other node was ever made
+pub record RootAlone {V : Type 0} (h : ℕ → Node V) : Type 0 where
+  pub empty : (h 0).prefix ≡ []
+  pub bare : (b : ℕ) → (h 0).children b ≡ Nothing
+  pub stands : Stands (h 0)
+  pub wide : (h 0).capacity ≡ 256
+  pub unretired : (h 0).retired ≡ false

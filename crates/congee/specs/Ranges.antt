@@ -1,0 +1,12 @@
+-- The pairs of a map within a range of keys.
+use Rattle.std.specs.Prelude.{ℕ, ltb, cond, List, [], ◌∷◌}
+
+-- the pairs whose key is `start` or more, and less than `end`
+abbrev pub in_range : {X : Type 0} → ℕ → ℕ → List (ℕ × X) → List (ℕ × X)
+in_range start end [] = []
+in_range start end ((k, x) ∷ r) = cond (ltb k start) (in_range start end r) (cond (ltb k end) ((k, x) ∷ in_range start end r) (in_range start end r))
+
+-- the keys of the pairs, each as what stands for its number
+abbrev pub keys_by : {K X : Type 0} → (ℕ → K) → List (ℕ × X) → List K
+keys_by of_word [] = []
+keys_by of_word ((k, x) ∷ r) = of_word k ∷ keys_by of_word r

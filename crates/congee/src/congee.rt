@@ -1,0 +1,245 @@
+//! The owned tree of words.
+ghost use Rattle.std.specs.Prelude.{◌≡◌, ◌+◌, ◌≤◌, ℕ, Option, None, Some, Ok, Err, IfOk, IfErr, IfSome, IfNone, OnOk, OnErr};
+ghost use Rattle.std.specs.Prelude.{IsTrue, ◌↔◌, nat_eq, length, take, drop};
+ghost use Rattle.std.specs.Option.{option_map};
+ghost use Rattle.std.specs.FinMap as map;
+ghost use Rattle.congee.specs.Content.{Answers, Keeps, Unchanged};
+ghost use Rattle.congee.specs.OwnedSteps.{IsOutOf, IsRefusal};
+ghost use Rattle.congee.specs.Ranges.{in_range, keys_by};
+ghost use Rattle.judge.specs.declared.journal.Call.TheVariants as call;
+ghost use Rattle.judge.specs.declared.journal.Reply.TheVariants as reply;
+
+use crate::allocator::{Allocator, OOMError};
+use crate::arena::Arena;
+use crate::drainer::NoDrain;
+use judge::Word64;
+use std::alloc::{AllocError, Global};
+use std::marker::{Model, PhantomData};
+
+/// An ordered map from words to words for one thread: an adaptive radix tree over the keys' eight bytes.
+#[derive(Drop)]
+pub struct Congee<K, V, A: Allocator, D> {
+    arena: Arena<u64, A>,
+    drainer: D,
+    alloc: Global,
+    words: PhantomData<(K, V)>,
+}
+
+impl<K, V, A: Allocator, D> Model for Congee<K, V, A, D> {
+    ghost use Rattle.std.specs.Prelude.{ℕ, ◌≤◌};
+    ghost use Rattle.std.specs.Coded.{coded_ℕ};
+    ghost use Rattle.congee.specs.Content.{Content, content_code};
+
+    ghost Value = { Content ℕ A D };
+
+    ghost coded = { content_code coded_ℕ A.code D.code };
+
+    ghost use Rattle.congee.specs.Arena.{IsTree};
+    ghost use Rattle.congee.specs.Sizes.{bytes_of};
+    ghost use Rattle.congee.specs.Table.{pairs_of};
+
+    ghost view = { λ t. record { pairs = pairs_of t.arena.nodes; bytes = bytes_of t.arena.nodes; allocator = t.arena.allocator; drainer = t.drainer } };
+
+    ghost invariant = { λ t. IsTree t.arena.nodes × (bytes_of t.arena.nodes ≤ A.charged_of t.arena.allocator) };
+}
+
+// The value of a number, if there is one.
+fn word_of<V: Word64>(number: Option<u64>) -> Option<V>
+    ensures { result ≡ option_map V.of_word number }
+{
+    match number {
+        Some(number) => Some(V::from_word(number)),
+        None => None,
+    }
+}
+
+// Whether the number is there.
+fn holds(found: Option<u64>, number: u64) -> bool
+    ensures { IsTrue result ↔ (found ≡ Some number) }
+{
+    match found {
+        Some(value) => value == number,
+        None => false,
+    }
+}
+
+// The number of a value, if there is one.
+fn number_of<V: Word64>(value: &Option<V>) -> Option<u64>
+    ensures { result ≡ option_map V.word value.now }
+{
+    match value {
+        Some(value) => Some(value.to_word()),
+        None => None,
+    }
+}
+
+impl<K: Word64, V: Word64, A: Allocator, D: Drop> Congee<K, V, A, D> {
+    /// An empty tree over the allocator, which its root is charged to. A refused call drops both.
+    pub fn new_with_drainer(alloc: Global, allocator: A, drainer: D) -> Result<Self, OOMError>
+        ensures empty { IfOk result (λ t. t.pairs ≡ map.empty) }
+        ensures root { IfOk result (λ t. t.bytes ≡ 2104) }
+        ensures charged { IfOk result (λ t. A.charged_of t.allocator ≡ A.charged_of allocator + 2104) }
+        ensures limit { IfOk result (λ t. A.limit_of t.allocator ≡ A.limit_of allocator) }
+        ensures drainer { IfOk result (λ t. t.drainer ≡ drainer) }
+        ensures refused { IfErr result (λ e. IsRefusal (A.charged_of allocator) 2104 (A.limit_of allocator) e) }
+    {
+        let arena = Arena::new(alloc, allocator)?;
+        Ok(Congee {
+            arena,
+            drainer,
+            alloc,
+            words: PhantomData,
+        })
+    }
+
+    /// Puts the answer of `f` at a key that is present, or takes the key out where the answer is `None`.
+    /// Gives the value before and the answer.
+    pub fn compute_if_present<F: FnMut(u64) -> Option<u64>>(
+        &mut self,
+        key: &K,
+        mut f: F,
+    ) -> Option<(u64, Option<u64>)>
+        requires { F.IsAlwaysCallable f }
+        ensures asked { IfSome result (λ r. (after : F) × F.step f r.0 r.1 after) }
+        ensures present { IfSome result (λ r. Answers nat_eq self.old self.new
+            (call.ComputePresent (K.word key.now) r.1) (reply.ComputePresent (Some (r.0, r.1)))) }
+        ensures absent { IfNone result (Answers nat_eq self.old self.new
+            (call.ComputePresent (K.word key.now) None) (reply.ComputePresent None)) }
+        ensures keeps { Keeps A.charged_of A.limit_of self.old self.new }
+    {
+        let bytes = key.to_word().to_be_bytes();
+        let Some(old) = self.arena.get(&bytes).copied() else {
+            return None;
+        };
+        let new = f(old);
+        self.arena.settle(&bytes, new);
+        Some((old, new))
+    }
+
+    /// Puts the answer of `f` at a key, present or not, and gives the value before. A refused call changes nothing.
+    pub fn compute_or_insert<F: FnMut(Option<u64>) -> u64>(
+        &mut self,
+        key: K,
+        mut f: F,
+    ) -> Result<Option<V>, OOMError>
+        requires { F.IsAlwaysCallable f }
+        ensures answers { IfOk result (λ r. (before : Option ℕ) × (value : ℕ)
+            × (r ≡ option_map V.of_word before) × (after : F) × F.step f before value after
+            × Answers nat_eq self.old self.new (call.ComputeInsert (K.word key) value) (reply.ComputeInsert before)) }
+        ensures keeps { Keeps A.charged_of A.limit_of self.old self.new }
+        ensures unchanged { OnErr result (Unchanged self.old self.new) }
+        ensures refused { IfErr result (λ e. IsOutOf (A.charged_of self.old.allocator) (A.limit_of self.old.allocator) e) }
+    {
+        let bytes = key.to_word().to_be_bytes();
+        let old = self.arena.get(&bytes).copied();
+        let value = f(old);
+        match self.arena.insert(self.alloc, &bytes, value) {
+            Ok(before) => Ok(word_of(before)),
+            Err((e, _)) => Err(e),
+        }
+    }
+
+    /// Where the key has the old value, puts the new one there, or takes the key out at `None`.
+    /// Another value, or none, is the error.
+    pub fn compare_exchange(
+        &mut self,
+        key: &K,
+        old: &V,
+        new: Option<V>,
+    ) -> Result<Option<V>, Option<V>>
+        ensures ok { IfOk result (λ r. (word : Option ℕ) × (word ≡ option_map V.word new) × (r ≡ new)
+            × Answers nat_eq self.old self.new
+            (call.Exchange (K.word key.now) (V.word old.now) word) (reply.Exchange (Ok word))) }
+        ensures other { IfErr result (λ r. (found : Option ℕ) × (r ≡ option_map V.of_word found)
+            × Answers nat_eq self.old self.new
+            (call.Exchange (K.word key.now) (V.word old.now) (option_map V.word new)) (reply.Exchange (Err found))) }
+        ensures keeps { Keeps A.charged_of A.limit_of self.old self.new }
+    {
+        let bytes = key.to_word().to_be_bytes();
+        let old = old.to_word();
+        let found = self.arena.get(&bytes).copied();
+        if !holds(found, old) {
+            return Err(word_of(found));
+        }
+        let word = number_of(&new);
+        self.arena.settle(&bytes, word);
+        Ok(new)
+    }
+
+    /// The value at a key.
+    pub fn get(&self, key: &K) -> Option<V>
+        ensures { result ≡ option_map V.of_word (map.get self.now.pairs (K.word key.now)) }
+    {
+        let key = key.to_word().to_be_bytes();
+        word_of(self.arena.get(&key).copied())
+    }
+
+    /// Puts a value at a key, and gives the one before. A refused call changes nothing.
+    pub fn insert(&mut self, key: K, value: V) -> Result<Option<V>, OOMError>
+        ensures answers { IfOk result (λ r. (before : Option ℕ) × (r ≡ option_map V.of_word before)
+            × Answers nat_eq self.old self.new (call.Insert (K.word key) (V.word value)) (reply.Insert before)) }
+        ensures keeps { Keeps A.charged_of A.limit_of self.old self.new }
+        ensures unchanged { OnErr result (Unchanged self.old self.new) }
+        ensures refused { IfErr result (λ e. IsOutOf (A.charged_of self.old.allocator) (A.limit_of self.old.allocator) e) }
+    {
+        let bytes = key.to_word().to_be_bytes();
+        match self.arena.insert(self.alloc, &bytes, value.to_word()) {
+            Ok(before) => Ok(word_of(before)),
+            Err((e, _)) => Err(e),
+        }
+    }
+
+    /// Takes a key's value out.
+    pub fn remove(&mut self, key: &K) -> Option<V>
+        ensures answers { (before : Option ℕ) × (result ≡ option_map V.of_word before)
+            × Answers nat_eq self.old self.new (call.Remove (K.word key.now)) (reply.Remove before) }
+        ensures keeps { Keeps A.charged_of A.limit_of self.old self.new }
+    {
+        let bytes = key.to_word().to_be_bytes();
+        word_of(self.arena.remove(&bytes))
+    }
+
+    /// All keys, ascending. It is refused for want of memory alone.
+    pub fn keys(&self) -> Result<Vec<K, Global>, AllocError>
+        ensures { IfOk result (λ keys. keys.items ≡ keys_by K.of_word (map.entries self.now.pairs)) }
+    {
+        self.arena.keys(self.alloc)
+    }
+
+    /// Whether no key has a value.
+    pub fn is_empty(&self) -> bool
+        ensures { IsTrue result ↔ (self.now.pairs ≡ map.empty) }
+    {
+        self.arena.first_from(0).is_none()
+    }
+
+    /// Writes the pairs with start <= key < end into `out`, ascending, as many as fit, and gives their number.
+    /// The places past them stay as they were.
+    pub fn range(&self, start: &K, end: &K, out: &mut [(u64, u64)]) -> usize
+        ensures pairs { take result out.new ≡ take (length out.old) (in_range (K.word start.now) (K.word end.now) (map.entries self.now.pairs)) }
+        ensures count { result ≡ length (take (length out.old) (in_range (K.word start.now) (K.word end.now) (map.entries self.now.pairs))) }
+        ensures past { drop result out.new ≡ drop result out.old }
+    {
+        self.arena.range(start.to_word(), end.to_word(), out)
+    }
+
+    /// The bytes that the allocator has charged.
+    pub fn charged(&self) -> u64
+        ensures { result ≡ A.charged_of self.now.allocator }
+    {
+        self.arena.allocator.charged()
+    }
+}
+
+impl<K: Word64, V: Word64, A: Allocator> Congee<K, V, A, NoDrain> {
+    /// An empty tree over the allocator, which its root is charged to. A refused call drops the allocator.
+    pub fn new(alloc: Global, allocator: A) -> Result<Self, OOMError>
+        ensures empty { IfOk result (λ t. t.pairs ≡ map.empty) }
+        ensures root { IfOk result (λ t. t.bytes ≡ 2104) }
+        ensures charged { IfOk result (λ t. A.charged_of t.allocator ≡ A.charged_of allocator + 2104) }
+        ensures limit { IfOk result (λ t. A.limit_of t.allocator ≡ A.limit_of allocator) }
+        ensures refused { IfErr result (λ e. IsRefusal (A.charged_of allocator) 2104 (A.limit_of allocator) e) }
+    {
+        Congee::new_with_drainer(alloc, allocator, NoDrain)
+    }
+}

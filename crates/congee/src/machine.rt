@@ -1,0 +1,607 @@
+//! One call on a shared tree, as a machine that takes one step at a time.
+ghost use Rattle.std.specs.Prelude.{◌≡◌, ◌≢◌, ℕ, ◌+◌, ◌<◌, ◌≤◌, Bool, true, false, Option, None, Some, Result, List, [], ◌∷◌};
+ghost use Rattle.congee.specs.Heap.{Node, Stands, is_taken, version_of};
+ghost use Rattle.congee.specs.Answers.{KeepsProtocol};
+ghost use Rattle.congee.specs.Play.{begun, IsNew, Begins};
+ghost use Rattle.congee.specs.Opening.{RootAlone};
+ghost use Rattle.congee.specs.Keys.{key_bytes};
+ghost use Rattle.congee.specs.Steps.{decided, after_change, IsGiven, IsGivenNew, BackOne, BackTwo, BackLeaf, MadeLeaf, MadeGreater, MadeTop, MadeBeside, UpgradedOne, UpgradedAbove, UpgradedBoth, value_hung, ChangedOne, ChangedTwo, IsCheckedAbove, MayStep, MayBackOne, MayBackTwo, MayBackLeaf, MayChangeOne, MayChangeTwo, PhaseStepped, Stepped};
+ghost use Rattle.congee.specs.Events.{hung, upgrade_gives};
+ghost use Rattle.congee.specs.declared.store.Upgrade.{Upgrade};
+ghost use Rattle.congee.specs.declared.store.Refusal.{Refusal};
+ghost use Rattle.congee.specs.declared.phase.Phase.TheVariants as phase;
+
+use crate::base_node::NodeType;
+use crate::child::Child;
+use crate::op::Op;
+use crate::phase::{Double, Kind, One, Parent, Phase, Plan, Single, Site, Two};
+use crate::store::{NodeName, Refusal, Seat, Seen, Store, Upgrade};
+use crate::turn::Turn;
+use judge::{Payload, Reply};
+
+/// How a step left its call.
+#[derive(Drop)]
+pub enum Outcome<P> {
+    /// The call goes on.
+    Running,
+    /// The closure's answer is wanted, for the value that stands or for an absent key.
+    Asks(Option<P>),
+    /// The call has ended with its reply.
+    Done(Reply<P>),
+    /// The call has ended without one, and has changed nothing.
+    Refused(Refusal),
+}
+
+/// What one step of a call did.
+#[derive(Drop)]
+pub struct Move<P> {
+    /// Whether the call took effect in this step.
+    pub decided: bool,
+    /// How the call stands after it.
+    pub outcome: Outcome<P>,
+}
+
+/// What comes to a step from outside; each part is used only where the step asks for it.
+#[derive(Drop)]
+pub struct Noise<C, P> {
+    /// An exchange of a lock word fails.
+    pub fail: bool,
+    /// What a read of a changed node sees.
+    pub seen: Option<Seen<C, P>>,
+    /// What the closure answers. `Some(None)` takes the key out, and is no answer where a value is wanted.
+    pub answer: Option<Option<P>>,
+}
+
+/// One call on one key, between two of its steps.
+#[derive(Drop)]
+pub struct Machine<C: NodeName, P> {
+    /// The tree's root.
+    pub root: C,
+    /// The key.
+    pub key: u64,
+    /// What the call does.
+    pub kind: Kind<P>,
+    /// The value that the call puts at its key: given with the call, or the closure's last answer.
+    pub given: Option<P>,
+    /// Its next step.
+    pub phase: Phase<C, P>,
+}
+
+impl<C: NodeName, P: Payload> Machine<C, P> {
+    /// The call on the tree with this root, before its first step.
+    pub fn new(root: C, op: Op<P>) -> Self
+        ensures call { result ≡ begun root op }
+        ensures new { IsNew result }
+        ensures begins { (h : ℕ → Node P) → RootAlone h → C.number root ≡ 0 → Begins C.number h (result ∷ []) }
+    {
+        let (key, kind, given) = op.parts();
+        Machine {
+            root,
+            key,
+            kind,
+            given,
+            phase: Phase::New,
+        }
+    }
+
+    /// The next step of the call.
+    pub fn next<S: Store<C, P>>(&mut self, store: &mut S, noise: Noise<C, P>) -> Move<P>
+        requires { MayStep C.number (key_bytes self.old.key) self.old.given self.old.phase (S.heap store.old) }
+        ensures limit { S.version_max store.new ≡ S.version_max store.old }
+        ensures step { Stepped C.number P.same_as P.always_copies (S.version_max store.old) self.old (S.heap store.old) noise.fail noise.answer self.new (S.heap store.new) result }
+        ensures keeps { KeepsProtocol C.number P.same_as P.always_copies self.old (S.heap store.old) self.new (S.heap store.new) result }
+    {
+        let phase = std::mem::replace(&mut self.phase, Phase::Ended);
+        let turn = self.turn(store, phase, noise);
+        self.phase = turn.phase;
+        turn.step
+    }
+
+    /// The step of a phase.
+    fn turn<S: Store<C, P>>(
+        &mut self,
+        store: &mut S,
+        phase: Phase<C, P>,
+        noise: Noise<C, P>,
+    ) -> Turn<C, P>
+        requires { MayStep C.number (key_bytes self.old.key) self.old.given phase (S.heap store.old) }
+        ensures root { self.new.root ≡ self.old.root }
+        ensures key { self.new.key ≡ self.old.key }
+        ensures kind { self.new.kind ≡ self.old.kind }
+        ensures limit { S.version_max store.new ≡ S.version_max store.old }
+        ensures step { PhaseStepped C.number P.same_as P.always_copies (S.version_max store.old) self.old.root (key_bytes self.old.key) self.old.kind noise.fail noise.answer self.old.given phase (S.heap store.old) self.new.given result (S.heap store.new) }
+    {
+        let Noise { fail, seen, answer } = noise;
+        match phase {
+            Phase::New => Turn::again(self.root),
+            Phase::Version { above, node } => {
+                Turn::after_version(self.root, above, node, store.version(node))
+            }
+            Phase::Read { above, at } => {
+                let reading = store.read(at, &self.key.to_be_bytes(), seen);
+                Turn::after_read(self.root, above, at, reading)
+            }
+            Phase::Check { site, child } => {
+                if store.check(site.at) {
+                    Turn::checked(&self.kind, &self.given, site, child)
+                } else {
+                    Turn::again(self.root)
+                }
+            }
+            Phase::CheckUncopied { at } => {
+                if store.check(at) {
+                    Turn::refused(Refusal::Count)
+                } else {
+                    Turn::again(self.root)
+                }
+            }
+            Phase::CheckMiss {
+                above,
+                at,
+                common,
+                byte,
+            } => {
+                if store.check(above.seat) {
+                    Turn::after_miss(&self.kind, above, at, common, byte)
+                } else {
+                    Turn::again(self.root)
+                }
+            }
+            Phase::CheckDown { above, at, node } => {
+                if store.check(above) {
+                    Turn::quiet(Phase::Version {
+                        above: Some(at),
+                        node,
+                    })
+                } else {
+                    Turn::again(self.root)
+                }
+            }
+            Phase::CheckOld { above, site, old } => {
+                if store.check(above) {
+                    Turn::at_old(&self.kind, &self.given, site, old)
+                } else {
+                    Turn::again(self.root)
+                }
+            }
+            Phase::MakeLeaf { site } => self.make_leaf(store, site),
+            Phase::MakeGreater { site, above, leaf } => {
+                self.make_greater(store, site, above, leaf)
+            }
+            Phase::MakeTop {
+                above,
+                at,
+                common,
+                byte,
+            } => self.make_top(store, above, at, common, byte),
+            Phase::MakeBeside {
+                above,
+                at,
+                common,
+                byte,
+                top,
+            } => self.make_beside(store, above, at, common, byte, top),
+            Phase::AskOld { site, old } => self.take_answer(site, old, answer),
+            Phase::AskNew { plan } => self.take_new(plan, answer),
+            Phase::Confirm { at, reply } => {
+                if store.check(at) {
+                    Turn::answered(reply)
+                } else {
+                    Turn::again(self.root)
+                }
+            }
+            Phase::CheckAbove { above, one, reply } => self.check_above(store, above, one, reply),
+            Phase::UpgradeOne { one, reply } => self.upgrade_one(store, one, reply, fail),
+            Phase::ChangeOne { one, reply } => self.change_one(store, one, reply),
+            Phase::UpgradeAbove { two, reply } => { self.upgrade_above(store, two, reply, fail) }
+            Phase::UpgradeBoth { two, reply } => upgrade_both(store, two, reply, fail),
+            Phase::ChangeTwo { two, reply } => self.change_two(store, two, reply),
+            Phase::Obsolete { node, above, reply } => {
+                store.obsolete(node);
+                Turn::quiet(Phase::Retire { node, above, reply })
+            }
+            Phase::Retire { node, above, reply } => {
+                store.retire(node);
+                Turn::quiet(Phase::Unlock { node: above, reply })
+            }
+            Phase::UnlockBelow { node, above, reply } => {
+                store.unlock(node);
+                Turn::quiet(Phase::Unlock { node: above, reply })
+            }
+            Phase::Unlock { node, reply } => {
+                store.unlock(node);
+                Turn::finished(reply)
+            }
+            Phase::Unwind { node, refusal } => {
+                store.unlock(node);
+                Turn::unwound(self.root, refusal)
+            }
+            Phase::Ended => Turn::quiet(Phase::Ended),
+        }
+    }
+
+    fn make_leaf<S: Store<C, P>>(&self, store: &mut S, site: Site<C>) -> Turn<C, P>
+        ensures limit { S.version_max store.new ≡ S.version_max store.old }
+        ensures made { ((r : Result C Refusal) × MadeLeaf C.number self.now.kind site (S.heap store.old) (key_bytes self.now.key) r (S.heap store.new) result) }
+    {
+        match store.make(NodeType::N4, &self.key.to_be_bytes(), 7) {
+            Err(refusal) => Turn::refused(refusal),
+            Ok(leaf) => Turn::unless_full(&self.kind, site, Some(leaf), Single::Link { leaf }),
+        }
+    }
+
+    fn make_greater<S: Store<C, P>>(
+        &self,
+        store: &mut S,
+        site: Site<C>,
+        above: Parent<C>,
+        leaf: Option<C>,
+    ) -> Turn<C, P>
+        requires depth { site.depth ≤ 7 }
+        requires stands { MayBackLeaf C.number (S.heap store.old) leaf }
+        ensures limit { S.version_max store.new ≡ S.version_max store.old }
+        ensures made { ((r : Result C Refusal) × MadeGreater C.number self.now.kind site above leaf (S.heap store.old) (key_bytes self.now.key) r (S.heap store.new) result) }
+    {
+        let form = NodeType::above(site.count);
+        match store.make(form, &self.key.to_be_bytes(), site.depth) {
+            Err(refusal) => {
+                if let Some(leaf) = leaf {
+                    store.give_back(leaf);
+                }
+                Turn::refused(refusal)
+            }
+            Ok(node) => {
+                let change = site.greater(leaf, node);
+                let at = site.at;
+                Turn::ready(
+                    &self.kind,
+                    Plan::Above {
+                        two: Two { above, at, change },
+                    },
+                )
+            }
+        }
+    }
+
+    fn make_top<S: Store<C, P>>(
+        &self,
+        store: &mut S,
+        above: Parent<C>,
+        at: Seat<C>,
+        common: usize,
+        byte: u8,
+    ) -> Turn<C, P>
+        requires { common < 7 }
+        ensures limit { S.version_max store.new ≡ S.version_max store.old }
+        ensures made { ((r : Result C Refusal) × MadeTop C.number above at common byte (S.heap store.old) (key_bytes self.now.key) r (S.heap store.new) result) }
+    {
+        match store.make(NodeType::N4, &self.key.to_be_bytes(), common) {
+            Err(refusal) => Turn::refused(refusal),
+            Ok(top) => Turn::quiet(Phase::MakeBeside {
+                above,
+                at,
+                common,
+                byte,
+                top,
+            }),
+        }
+    }
+
+    fn make_beside<S: Store<C, P>>(
+        &self,
+        store: &mut S,
+        above: Parent<C>,
+        at: Seat<C>,
+        common: usize,
+        byte: u8,
+        top: C,
+    ) -> Turn<C, P>
+        requires { Stands (S.heap store.old (C.number top)) }
+        ensures limit { S.version_max store.new ≡ S.version_max store.old }
+        ensures made { ((r : Result C Refusal) × MadeBeside C.number self.now.kind above at common byte top (S.heap store.old) (key_bytes self.now.key) r (S.heap store.new) result) }
+    {
+        match store.make(NodeType::N4, &self.key.to_be_bytes(), 7) {
+            Err(refusal) => {
+                store.give_back(top);
+                Turn::refused(refusal)
+            }
+            Ok(leaf) => {
+                let change = Double::Split {
+                    top,
+                    leaf,
+                    common,
+                    byte,
+                };
+                Turn::ready(
+                    &self.kind,
+                    Plan::Above {
+                        two: Two { above, at, change },
+                    },
+                )
+            }
+        }
+    }
+
+    fn take_answer(&mut self, site: Site<C>, old: P, answer: Option<Option<P>>) -> Turn<C, P>
+        ensures root { self.new.root ≡ self.old.root }
+        ensures key { self.new.key ≡ self.old.key }
+        ensures kind { self.new.kind ≡ self.old.kind }
+        ensures given { IsGiven P.always_copies P.same_as self.old.kind site old answer self.old.given self.new.given result }
+    {
+        match (&self.kind, answer) {
+            (_, None) => Turn::asked(site, old),
+            (Kind::ComputeInsert, Some(None)) => Turn::asked(site, old),
+            (Kind::ComputeInsert, Some(Some(value))) => {
+                let same = old.same(&value);
+                self.given = Some(value);
+                Turn::replaced(site, same, Reply::ComputeInsert(Some(old)))
+            }
+            (_, Some(None)) => {
+                self.given = None;
+                Turn::emptied(site, Reply::ComputePresent(Some((old, None))))
+            }
+            (_, Some(Some(value))) => {
+                let same = old.same(&value);
+                let copied = value.copy();
+                self.given = Some(value);
+                match copied {
+                    None => Turn::refused(Refusal::Count),
+                    Some(copied) => Turn::replaced(
+                        site,
+                        same,
+                        Reply::ComputePresent(Some((old, Some(copied)))),
+                    ),
+                }
+            }
+        }
+    }
+
+    fn take_new(&mut self, plan: Plan<C>, answer: Option<Option<P>>) -> Turn<C, P>
+        ensures root { self.new.root ≡ self.old.root }
+        ensures key { self.new.key ≡ self.old.key }
+        ensures kind { self.new.kind ≡ self.old.kind }
+        ensures given { IsGivenNew plan answer self.old.given self.new.given result }
+    {
+        match answer {
+            Some(Some(value)) => {
+                self.given = Some(value);
+                Turn::started(plan, Reply::ComputeInsert(None))
+            }
+            _ => Turn::asking(Phase::AskNew { plan }, None),
+        }
+    }
+
+    fn check_above<S: Store<C, P>>(
+        &self,
+        store: &mut S,
+        above: Seat<C>,
+        one: One<C>,
+        reply: Reply<P>,
+    ) -> Turn<C, P>
+        requires stands { Stands (S.heap store.old (C.number above.node)) }
+        requires made { MayBackOne C.number (S.heap store.old) one.change }
+        ensures limit { S.version_max store.new ≡ S.version_max store.old }
+        ensures checked { IsCheckedAbove C.number self.now.root above one reply (S.heap store.old) (S.heap store.new) result }
+    {
+        if store.check(above) {
+            Turn::quiet(Phase::UpgradeOne { one, reply })
+        } else {
+            back_one(store, one.change);
+            Turn::again(self.root)
+        }
+    }
+
+    fn upgrade_one<S: Store<C, P>>(
+        &self,
+        store: &mut S,
+        one: One<C>,
+        reply: Reply<P>,
+        fail: bool,
+    ) -> Turn<C, P>
+        requires stands { Stands (S.heap store.old (C.number one.at.node)) }
+        requires made { MayBackOne C.number (S.heap store.old) one.change }
+        ensures limit { S.version_max store.new ≡ S.version_max store.old }
+        ensures upgraded { ((u : Upgrade) × (u ≡ upgrade_gives (S.version_max store.old) (S.heap store.old (C.number one.at.node)) one.at.version fail) × UpgradedOne C.number self.now.root one reply (S.heap store.old) u (S.heap store.new) result) }
+    {
+        match store.upgrade(one.at, fail) {
+            Upgrade::Locked => Turn::quiet(Phase::ChangeOne { one, reply }),
+            Upgrade::Failed => {
+                back_one(store, one.change);
+                Turn::again(self.root)
+            }
+            Upgrade::Exhausted => {
+                back_one(store, one.change);
+                Turn::refused(Refusal::Exhausted)
+            }
+        }
+    }
+
+    fn upgrade_above<S: Store<C, P>>(
+        &self,
+        store: &mut S,
+        two: Two<C>,
+        reply: Reply<P>,
+        fail: bool,
+    ) -> Turn<C, P>
+        requires stands { Stands (S.heap store.old (C.number two.above.seat.node)) }
+        requires made { MayBackTwo C.number (S.heap store.old) two.change }
+        ensures limit { S.version_max store.new ≡ S.version_max store.old }
+        ensures upgraded { ((u : Upgrade) × (u ≡ upgrade_gives (S.version_max store.old) (S.heap store.old (C.number two.above.seat.node)) two.above.seat.version fail) × UpgradedAbove C.number self.now.root two reply (S.heap store.old) u (S.heap store.new) result) }
+    {
+        match store.upgrade(two.seat_above(), fail) {
+            Upgrade::Locked => Turn::quiet(Phase::UpgradeBoth { two, reply }),
+            Upgrade::Failed => {
+                back_two(store, two.change);
+                Turn::again(self.root)
+            }
+            Upgrade::Exhausted => {
+                back_two(store, two.change);
+                Turn::refused(Refusal::Exhausted)
+            }
+        }
+    }
+
+    fn change_one<S: Store<C, P>>(
+        &mut self,
+        store: &mut S,
+        one: One<C>,
+        reply: Reply<P>,
+    ) -> Turn<C, P>
+        requires { MayChangeOne C.number self.old.given one one.change (S.heap store.old) }
+        ensures root { self.new.root ≡ self.old.root }
+        ensures key { self.new.key ≡ self.old.key }
+        ensures kind { self.new.kind ≡ self.old.kind }
+        ensures spent { self.new.given ≡ None }
+        ensures limit { S.version_max store.new ≡ S.version_max store.old }
+        ensures changed { ChangedOne C.number (key_bytes self.old.key) self.old.given one one.change (S.heap store.old) (S.heap store.new) }
+        ensures turn { result ≡ decided (phase.Unlock one.at.node reply) }
+    {
+        let value = value_child(self.given.take());
+        let One { at, byte, change } = one;
+        let node = at.node;
+        match change {
+            Single::Set => store.change(node, byte, value),
+            Single::Link { leaf } => {
+                store.fill(leaf, self.key.to_be_bytes()[7], value);
+                store.change(node, byte, Child::Node(leaf));
+            }
+        }
+        Turn::decided(Phase::Unlock { node, reply })
+    }
+
+    fn change_two<S: Store<C, P>>(
+        &mut self,
+        store: &mut S,
+        two: Two<C>,
+        reply: Reply<P>,
+    ) -> Turn<C, P>
+        requires { MayChangeTwo C.number (key_bytes self.old.key) self.old.given two two.change (S.heap store.old) }
+        ensures root { self.new.root ≡ self.old.root }
+        ensures key { self.new.key ≡ self.old.key }
+        ensures kind { self.new.kind ≡ self.old.kind }
+        ensures spent { self.new.given ≡ None }
+        ensures limit { S.version_max store.new ≡ S.version_max store.old }
+        ensures changed { ChangedTwo C.number (key_bytes self.old.key) self.old.given two two.change (S.heap store.old) (S.heap store.new) }
+        ensures turn { result ≡ after_change two reply two.change }
+    {
+        let value = value_child(self.given.take());
+        let key = self.key.to_be_bytes();
+        let parent = two.parent();
+        let Two { above, at, change } = two;
+        let node = at.node;
+        let above = above.byte;
+        match change {
+            Double::Unlink => store.change(parent, above, Child::Blank),
+            Double::Grow { node: greater } => {
+                store.take_over(node, greater);
+                store.fill(greater, key[7], value);
+                store.change(parent, above, Child::Node(greater));
+            }
+            Double::GrowLink {
+                node: greater,
+                leaf,
+                byte,
+            } => {
+                store.fill(leaf, key[7], value);
+                store.take_over(node, greater);
+                store.fill(greater, byte, Child::Node(leaf));
+                store.change(parent, above, Child::Node(greater));
+            }
+            Double::Split {
+                top,
+                leaf,
+                common,
+                byte,
+            } => {
+                store.fill(leaf, key[7], value);
+                store.fill(top, byte, Child::Node(node));
+                store.fill(top, key[common], Child::Node(leaf));
+                store.change(parent, above, Child::Node(top));
+                return Turn::decided(Phase::UnlockBelow {
+                    node,
+                    above: parent,
+                    reply,
+                });
+            }
+        }
+        Turn::decided(Phase::Obsolete {
+            node,
+            above: parent,
+            reply,
+        })
+    }
+}
+
+/// What hangs where the call puts its value, or takes one out.
+fn value_child<C: NodeName, P: Payload>(new: Option<P>) -> Child<C, P>
+    ensures { hung C.number result ≡ value_hung new }
+{
+    match new {
+        None => Child::Blank,
+        Some(value) => Child::Value(value),
+    }
+}
+
+/// Gives back the node that was made for the change of one node.
+fn back_one<C: NodeName, P: Payload, S: Store<C, P>>(store: &mut S, change: Single<C>)
+    requires { MayBackOne C.number (S.heap store.old) change }
+    ensures limit { S.version_max store.new ≡ S.version_max store.old }
+    ensures back { BackOne C.number (S.heap store.old) change (S.heap store.new) }
+{
+    match change {
+        Single::Set => {}
+        Single::Link { leaf } => store.give_back(leaf),
+    }
+}
+
+/// Gives back the nodes that were made for the change of the node above.
+fn back_two<C: NodeName, P: Payload, S: Store<C, P>>(store: &mut S, change: Double<C>)
+    requires { MayBackTwo C.number (S.heap store.old) change }
+    ensures limit { S.version_max store.new ≡ S.version_max store.old }
+    ensures back { BackTwo C.number (S.heap store.old) change (S.heap store.new) }
+{
+    match change {
+        Double::Unlink => {}
+        Double::Grow { node } => store.give_back(node),
+        Double::GrowLink { node, leaf, .. } => {
+            store.give_back(leaf);
+            store.give_back(node);
+        }
+        Double::Split { top, leaf, .. } => {
+            store.give_back(leaf);
+            store.give_back(top);
+        }
+    }
+}
+
+/// Locks the node at hand, where the node above is locked.
+fn upgrade_both<C: NodeName, P: Payload, S: Store<C, P>>(
+    store: &mut S,
+    two: Two<C>,
+    reply: Reply<P>,
+    fail: bool,
+) -> Turn<C, P>
+    requires stands { Stands (S.heap store.old (C.number two.at.node)) }
+    requires made { MayBackTwo C.number (S.heap store.old) two.change }
+    ensures limit { S.version_max store.new ≡ S.version_max store.old }
+    ensures upgraded { ((u : Upgrade) × (u ≡ upgrade_gives (S.version_max store.old) (S.heap store.old (C.number two.at.node)) two.at.version fail) × UpgradedBoth C.number two reply (S.heap store.old) u (S.heap store.new) result) }
+{
+    let node = two.parent();
+    match store.upgrade(two.at, fail) {
+        Upgrade::Locked => Turn::quiet(Phase::ChangeTwo { two, reply }),
+        Upgrade::Failed => {
+            back_two(store, two.change);
+            Turn::quiet(Phase::Unwind {
+                node,
+                refusal: None,
+            })
+        }
+        Upgrade::Exhausted => {
+            back_two(store, two.change);
+            Turn::quiet(Phase::Unwind {
+                node,
+                refusal: Some(Refusal::Exhausted),
+            })
+        }
+    }
+}

@@ -1,0 +1,41 @@
+//! The calls on one key, as they begin.
+ghost use Rattle.std.specs.Prelude.{◌≡◌, ◌<◌, ◌^◌};
+ghost use Rattle.congee.specs.Protocol.{HasGift};
+ghost use Rattle.congee.specs.Play.{parts};
+
+use crate::phase::Kind;
+
+/// A call on one key, before its closure has answered anything.
+#[derive(Drop)]
+pub enum Op<P> {
+    /// Looks the key up.
+    Get(u64),
+    /// Puts the value at the key.
+    Insert(u64, P),
+    /// Takes the key out.
+    Remove(u64),
+    /// Where the key is present, puts the closure's answer there, or takes the key out.
+    ComputePresent(u64),
+    /// Puts the closure's answer at the key, present or not.
+    ComputeInsert(u64),
+    /// Where the key has the old value, puts the new one there, or takes the key out at `None`.
+    Exchange(u64, P, Option<P>),
+}
+
+impl<P> Op<P> {
+    /// The key, what the call does there, and the value that it was given.
+    pub(crate) fn parts(self) -> (u64, Kind<P>, Option<P>)
+        ensures parts { result ≡ parts self }
+        ensures gift { HasGift result.1 result.2 }
+        ensures key { result.0 < 2 ^ 64 }
+    {
+        match self {
+            Op::Get(key) => (key, Kind::Get, None),
+            Op::Insert(key, value) => (key, Kind::Insert, Some(value)),
+            Op::Remove(key) => (key, Kind::Remove, None),
+            Op::ComputePresent(key) => (key, Kind::ComputePresent, None),
+            Op::ComputeInsert(key) => (key, Kind::ComputeInsert, None),
+            Op::Exchange(key, old, new) => (key, Kind::Exchange { old }, new),
+        }
+    }
+}

@@ -1,0 +1,166 @@
+//! The nodes of a shared tree, as one call's steps reach them.
+ghost use Rattle.std.specs.Prelude.{◌≡◌, ◌≢◌, ℕ, ◌+◌, ◌<◌, ◌≤◌, Bool, true, false};
+ghost use Rattle.congee.specs.Heap.{Node, Stands, version_of, is_taken};
+ghost use Rattle.congee.specs.Events.{hung, ReadGives, UpgradeGives, MayChange, ChangeGives, MakeGives, TakesOver, TakeOverGives, BackGives, ObsoleteGives, RetireGives, UnlockGives};
+
+use crate::base_node::NodeType;
+use crate::child::Child;
+use judge::Payload;
+
+/// The name of a node: two names are of one node where their numbers are equal.
+pub trait NodeName: Copy {
+    /// The number of a name.
+    ghost number: { Self → ℕ };
+}
+
+/// A node, and the version of its lock word that was taken.
+#[derive(Clone, Copy)]
+pub struct Seat<C: NodeName> {
+    /// The node.
+    pub node: C,
+    /// The version.
+    pub version: u64,
+}
+
+/// What a read found at one byte of a node.
+#[derive(Drop)]
+pub struct Seen<C, P> {
+    /// What hangs there.
+    pub child: Child<C, P>,
+    /// The byte.
+    pub byte: u8,
+    /// Whether the node has no place for one child more.
+    pub full: bool,
+    /// How many children the node has.
+    pub count: u16,
+}
+
+/// What a read of a node found out for a key.
+#[derive(Drop)]
+pub enum Reading<C, P> {
+    /// The node's prefix and the key differ after so many bytes; the byte is the prefix's there.
+    Differs { common: usize, byte: u8 },
+    /// The node's prefix, of so many bytes, is the beginning of the key.
+    Fits { depth: usize, seen: Seen<C, P> },
+    /// The prefix fits, and the value at the key's byte could not be copied.
+    Uncopied,
+}
+
+/// How an attempt to lock a node ended.
+#[derive(Clone, Copy, PartialEq, Eq, Debug)]
+pub enum Upgrade {
+    /// The node is locked.
+    Locked,
+    /// Its lock word isn't the one that was taken, or the exchange failed.
+    Failed,
+    /// The version is the greatest that a lock word has.
+    Exhausted,
+}
+
+/// Why a call ended without an answer.
+#[derive(Clone, Copy, PartialEq, Eq, Debug)]
+pub enum Refusal {
+    /// The allocator's limit is reached: what it has charged, what was wanted, its limit, in bytes.
+    Budget {
+        charged: u64,
+        wanted: u64,
+        limit: u64,
+    },
+    /// No place for a node is free.
+    Cells,
+    /// Memory for a node was refused.
+    Memory,
+    /// A node's version is the greatest that a lock word has.
+    Exhausted,
+    /// No more owners of the value can be counted.
+    Count,
+}
+
+/// The nodes of a shared tree. What a call names stands: each method wants it of the nodes that it is given.
+pub trait Store<C: NodeName, P: Payload> {
+    /// The nodes by their numbers.
+    ghost heap: { Self → ℕ → Node P };
+
+    /// The version at which no node can be locked any more.
+    ghost version_max: { Self → ℕ };
+
+    /// The node's version, where it is neither locked nor obsolete.
+    fn version(&self, node: C) -> Option<u64>
+        requires { Stands (heap self.now (C.number node)) }
+        ensures { result ≡ version_of (heap self.now (C.number node)) };
+
+    /// Compares the key with the node's prefix, and looks at the key's byte there. Of a node whose lock word
+    /// isn't the one that was taken, what hangs at the byte, and whether it is full, are any.
+    fn read(&self, at: Seat<C>, key: &[u8; 8], seen: Option<Seen<C, P>>) -> Reading<C, P>
+        requires { Stands (heap self.now (C.number at.node)) }
+        ensures { ReadGives C.number P.always_copies (heap self.now (C.number at.node)) at.version key.now result };
+
+    /// Whether the node's lock word is the one that was taken.
+    fn check(&self, at: Seat<C>) -> bool
+        requires { Stands (heap self.now (C.number at.node)) }
+        ensures { result ≡ is_taken (heap self.now (C.number at.node)) at.version };
+
+    /// Locks the node by one exchange from the version that was taken; `fail` makes the exchange fail.
+    fn upgrade(&mut self, at: Seat<C>, fail: bool) -> Upgrade
+        requires { Stands (heap self.old (C.number at.node)) }
+        ensures limit { version_max self.new ≡ version_max self.old }
+        ensures gives { UpgradeGives (version_max self.old) (heap self.old) (C.number at.node) at.version fail result (heap self.new) };
+
+    /// Makes an empty node of the form, whose prefix is the key's first `length` bytes.
+    fn make(&mut self, form: NodeType, key: &[u8; 8], length: usize) -> Result<C, Refusal>
+        requires { length ≤ 7 }
+        ensures limit { version_max self.new ≡ version_max self.old }
+        ensures gives { MakeGives C.number (heap self.old) form key.now length result (heap self.new) };
+
+    /// Hangs the child at the byte of a locked node, in place of what hangs there, or takes out what hangs there.
+    fn change(&mut self, node: C, byte: u8, child: Child<C, P>)
+        requires stands { Stands (heap self.old (C.number node)) }
+        requires locked { (heap self.old (C.number node)).locked ≡ true }
+        requires room { MayChange (heap self.old (C.number node)) byte (hung C.number child) }
+        ensures limit { version_max self.new ≡ version_max self.old }
+        ensures gives { ChangeGives (heap self.old) (C.number node) byte (hung C.number child) (heap self.new) };
+
+    /// Hangs the child at the byte of a node that isn't in reach yet.
+    fn fill(&mut self, node: C, byte: u8, child: Child<C, P>)
+        requires stands { Stands (heap self.old (C.number node)) }
+        requires room { MayChange (heap self.old (C.number node)) byte (hung C.number child) }
+        ensures limit { version_max self.new ≡ version_max self.old }
+        ensures gives { ChangeGives (heap self.old) (C.number node) byte (hung C.number child) (heap self.new) };
+
+    /// Gives an empty node that isn't in reach yet the children of another one. Values are moved; the names of
+    /// nodes stay in the old node too.
+    fn take_over(&mut self, old: C, node: C)
+        requires stands_old { Stands (heap self.old (C.number old)) }
+        requires stands { Stands (heap self.old (C.number node)) }
+        requires room { TakesOver (heap self.old (C.number old)) (heap self.old (C.number node)) }
+        ensures limit { version_max self.new ≡ version_max self.old }
+        ensures gives { TakeOverGives (heap self.old) (C.number old) (C.number node) (heap self.new) };
+
+    /// Destroys a node that never was in reach.
+    fn give_back(&mut self, node: C)
+        requires { Stands (heap self.old (C.number node)) }
+        ensures limit { version_max self.new ≡ version_max self.old }
+        ensures gives { BackGives (heap self.old) (C.number node) (heap self.new) };
+
+    /// Marks a locked node that was taken out of the tree.
+    fn obsolete(&mut self, node: C)
+        requires stands { Stands (heap self.old (C.number node)) }
+        requires locked { (heap self.old (C.number node)).locked ≡ true }
+        ensures limit { version_max self.new ≡ version_max self.old }
+        ensures gives { ObsoleteGives (heap self.old) (C.number node) (heap self.new) };
+
+    /// Defers the destruction of an obsolete node until nobody can look at it.
+    fn retire(&mut self, node: C)
+        requires stands { Stands (heap self.old (C.number node)) }
+        requires obsolete { (heap self.old (C.number node)).obsolete ≡ true }
+        requires once { (heap self.old (C.number node)).retired ≡ false }
+        ensures limit { version_max self.new ≡ version_max self.old }
+        ensures gives { RetireGives (heap self.old) (C.number node) (heap self.new) };
+
+    /// Raises the version of a locked node by one, and frees its lock.
+    fn unlock(&mut self, node: C)
+        requires stands { Stands (heap self.old (C.number node)) }
+        requires locked { (heap self.old (C.number node)).locked ≡ true }
+        ensures limit { version_max self.new ≡ version_max self.old }
+        ensures gives { UnlockGives (heap self.old) (C.number node) (heap self.new) };
+}

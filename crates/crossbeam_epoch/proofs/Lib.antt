@@ -1,0 +1,11 @@
+pub mod FreeCells
+pub mod Grace
+pub mod Jobs
+pub mod Marks
+pub mod Moves
+pub mod Reaches
+pub mod Runs
+pub mod Told
+pub mod Whole
+pub mod FaceTags
+pub mod FaceWords

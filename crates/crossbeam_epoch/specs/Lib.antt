@@ -1,0 +1,16 @@
+pub mod Calls
+pub mod Fits
+pub mod Free
+pub mod History
+pub mod Limits
+pub mod Machine
+pub mod Reach
+pub mod Steps
+pub mod Store
+pub mod Tickets
+pub mod FaceEpoch
+pub mod FaceHandle
+pub mod FaceOrdering
+pub mod FacePointer
+pub mod FaceQueue
+pub mod FaceSlots

@@ -1,0 +1,106 @@
+//! Bags of deferred jobs.
+
+ghost use Rattle.std.specs.Prelude.{◌≡◌, ◌<◌, ◌≤◌, ◌++◌, ◌∷◌, [], length, remove, slice_index_or, nat_eq};
+
+use crate::names::Name;
+use arrayvec::ArrayVec;
+use std::marker::Model;
+
+/// The places of a bag.
+pub const BAG: usize = 64;
+
+/// What an entry does when it is called. A blank fills a bag's free places.
+#[derive(Drop)]
+pub enum Work<J> {
+    Blank,
+    /// The cell of this name is destroyed.
+    Remove(Name),
+    /// The job is run.
+    Run(J),
+}
+
+/// A deferred job with its ticket.
+#[derive(Drop)]
+pub struct Entry<J> {
+    pub ticket: u64,
+    pub work: Work<J>,
+}
+
+impl<J> Default for Entry<J> {
+    fn default() -> Self {
+        Entry {
+            ticket: 0,
+            work: Work::Blank,
+        }
+    }
+}
+
+/// At most 64 jobs, in the order of deferral; it never allocates.
+#[derive(Drop)]
+pub struct Bag<J> {
+    entries: ArrayVec<Entry<J>, 64>,
+}
+
+impl<J> Model for Bag<J> {
+    ghost use Rattle.std.specs.Prelude.{List, ◌≤◌, length};
+    ghost use Rattle.crossbeam_epoch.specs.declared.bag.Entry.{Entry};
+
+    ghost Value = { List (Entry J) };
+
+    ghost view = { λ b. b.entries.items };
+
+    ghost invariant = { λ b. length b.entries.items ≤ 64 };
+}
+
+impl<J> Bag<J> {
+    /// Whether no place is free.
+    pub fn is_full(&self) -> bool
+        ensures value { result ≡ nat_eq (length self.now) 64 }
+        ensures fits { length self.now ≤ 64 }
+    {
+        self.entries.is_full()
+    }
+
+    /// Whether there is no job.
+    pub fn is_empty(&self) -> bool
+        ensures { result ≡ nat_eq (length self.now) 0 }
+    {
+        self.entries.is_empty()
+    }
+
+    /// The number of jobs.
+    pub fn len(&self) -> usize
+        ensures value { result ≡ length self.now }
+        ensures fits { result ≤ 64 }
+    {
+        self.entries.len()
+    }
+}
+
+impl<J: Drop> Bag<J> {
+    /// An empty bag.
+    pub fn new() -> Bag<J>
+        ensures { result ≡ [] }
+    {
+        Bag {
+            entries: ArrayVec::new(),
+        }
+    }
+
+    /// Puts a job behind the others.
+    pub fn push(&mut self, entry: Entry<J>)
+        requires { length self.old < 64 }
+        ensures { self.new ≡ self.old ++ entry ∷ [] }
+    {
+        self.entries.push(entry);
+    }
+
+    /// Takes the first job out.
+    pub fn take_first(&mut self) -> Entry<J>
+        requires { 0 < length self.old }
+        ensures first { result ≡ slice_index_or self.old 0 result }
+        ensures rest { self.new ≡ remove self.old 0 }
+    {
+        self.entries.remove(0)
+    }
+}

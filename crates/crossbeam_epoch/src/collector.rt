@@ -1,0 +1,203 @@
+//! The collector.
+
+ghost use Rattle.std.specs.Prelude.{◌≡◌, ◌<◌, ◌&&◌, ℕ, [], nat_eq, IfErr, MatchResult};
+ghost use Rattle.std.specs.Bool.{MatchBool};
+ghost use Rattle.crossbeam_epoch.specs.Limits.{within};
+
+use crate::deferred::{Deferred, Jobs};
+use crate::epoch::Words;
+use crate::expired::ExpiredBag;
+use crate::fault::Fault;
+use crate::handle::LocalHandle;
+use crate::internal::Internal;
+use crate::limits::Limits;
+use crate::names::Name;
+use crate::queue::{EXPIRY, Queue};
+use crate::slots::Slots;
+use crate::task::Task;
+use crossbeam_utils::CachePadded;
+use std::alloc::{AllocError, Global};
+use std::fmt;
+use std::fmt::{Debug, Formatter};
+use std::sync::{Mutex, Wait};
+
+/// Bags that one collection takes at most.
+const BAGS: u8 = 8;
+
+/// An epoch-based garbage collector for values of one type (the source's `Collector`).
+#[derive(Drop)]
+pub struct Collector<T> {
+    id: u64,
+    internal: CachePadded<Mutex<Internal<T>>>,
+}
+
+impl<T: Drop> Collector<T> {
+    /// A collector with these limits. Its number tells it from others, so give each another one.
+    /// Refused as `Limits`, also where `expiry` isn't 2, or as `Memory`.
+    pub fn new<R: Wait>(_rt: &R, alloc: Global, limits: Limits, id: u64) -> Result<Self, Fault>
+        ensures { MatchResult result (λ c. c.id ≡ id) (λ e. MatchBool (within limits && nat_eq limits.expiry 2) (e ≡ Fault.Memory) (e ≡ Fault.Limits)) }
+    {
+        if !limits.is_within() || limits.expiry != EXPIRY {
+            return Err(Fault::Limits);
+        }
+        match Collector::make(alloc, limits) {
+            Ok(internal) => Ok(Collector::with(id, internal)),
+            Err(_) => Err(Fault::Memory),
+        }
+    }
+
+    fn make(alloc: Global, limits: Limits) -> Result<Internal<T>, AllocError> {
+        let words = Words::new(alloc, limits.participants, limits.epoch_max)?;
+        let slots = Slots::new(alloc, limits.cells, limits.turn_max)?;
+        Ok(Internal {
+            words,
+            slots,
+            queue: Queue::new(alloc),
+        })
+    }
+
+    fn with(id: u64, internal: Internal<T>) -> Self
+        ensures { result.id ≡ id }
+    {
+        Collector {
+            id,
+            internal: CachePadded::new(Mutex::new(internal)),
+        }
+    }
+
+    /// The number that tells it from others.
+    pub fn id(&self) -> u64
+        ensures { result ≡ self.now.id }
+    {
+        self.id
+    }
+
+    /// Whether both have one number.
+    pub fn same(&self, other: &Collector<T>) -> bool
+        ensures { result ≡ nat_eq self.now.id other.now.id }
+    {
+        self.id == other.id
+    }
+
+    /// Takes the lowest free place of the table. Refused as `TableFull`.
+    pub fn register<R: Wait>(&self, rt: &R) -> Result<LocalHandle<'_, T>, Fault>
+        ensures { MatchResult result (λ h. (h.collector.now ≡ self.now) × (h.guards ≡ 0) × (h.bag.items ≡ [])) (λ e. e ≡ Fault.TableFull) }
+    {
+        match self.lock().lock(rt).words.claim() {
+            Some(place) => Ok(LocalHandle::new(self, place)),
+            None => Err(Fault::TableFull),
+        }
+    }
+
+    /// Calls every job that is left. Refused as `Registered(n)` while n handles aren't released; the collector comes back.
+    pub fn end(self) -> Result<(), (Fault, Self)>
+        ensures { IfErr result (λ e. (e.1.id ≡ self.id) × ((n : ℕ) × (0 < n) × (e.0 ≡ Fault.Registered n))) }
+    {
+        let Collector { id, internal } = self;
+        let internal = internal.into_inner().into_inner();
+        let registered = internal.words.registered();
+        if registered > 0 {
+            return Err((Fault::Registered(registered), Collector::with(id, internal)));
+        }
+        let Internal {
+            words: _,
+            mut slots,
+            queue,
+        } = internal;
+        for bag in queue.into_bags() {
+            for job in bag.jobs {
+                match job {
+                    Deferred::Blank => {}
+                    Deferred::Destroy(name) => drop(slots.remove(name)),
+                    Deferred::Call(job) => job.run(),
+                }
+            }
+        }
+        Ok(())
+    }
+
+    fn lock(&self) -> &Mutex<Internal<T>> {
+        &self.internal
+    }
+}
+
+/// What handles, guards and pointers do under the lock, each in one hold.
+impl<T: Drop> Collector<T> {
+    pub(crate) fn pin<R: Wait>(&self, rt: &R, place: u32) -> u64 {
+        self.lock().lock(rt).words.pin(place)
+    }
+
+    pub(crate) fn repin<R: Wait>(&self, rt: &R, place: u32) -> u64 {
+        self.lock().lock(rt).words.repin(place)
+    }
+
+    pub(crate) fn leave<R: Wait>(&self, rt: &R, place: u32) {
+        self.lock().lock(rt).words.leave(place);
+    }
+
+    pub(crate) fn give_up<R: Wait>(&self, rt: &R, place: u32) {
+        self.lock().lock(rt).words.give_up(place);
+    }
+
+    pub(crate) fn seal<R: Wait>(&self, rt: &R, jobs: Jobs) -> Result<(), Jobs>
+        ensures { IfErr result (λ j. j ≡ jobs) }
+    {
+        self.lock().lock(rt).seal(jobs)
+    }
+
+    pub(crate) fn place<R: Wait>(&self, rt: &R, value: Box<T>) -> Result<Name, Box<T>>
+        ensures { IfErr result (λ v. v ≡ value) }
+    {
+        self.lock().lock(rt).slots.place(value)
+    }
+
+    pub(crate) fn lend<R: Wait>(&self, rt: &R, name: Name) -> Option<Box<T>> {
+        self.lock().lock(rt).slots.lend(name)
+    }
+
+    pub(crate) fn put_back<R: Wait>(&self, rt: &R, name: Name, value: Box<T>) -> Result<(), Box<T>>
+        ensures { IfErr result (λ v. v ≡ value) }
+    {
+        self.lock().lock(rt).slots.put_back(name, value)
+    }
+
+    pub(crate) fn remove<R: Wait>(&self, rt: &R, name: Name) -> Option<Box<T>> {
+        self.lock().lock(rt).slots.remove(name)
+    }
+
+    fn advance<R: Wait>(&self, rt: &R) -> u64 {
+        self.lock().lock(rt).words.advance()
+    }
+
+    fn take_expired<R: Wait>(&self, rt: &R, seen: u64) -> Option<ExpiredBag> {
+        self.lock().lock(rt).take_expired(seen)
+    }
+
+    /// Tries to advance the epoch once, then calls the jobs of at most eight expired bags from the queue's front.
+    /// No lock is held while a job runs.
+    pub(crate) fn collect<R: Wait>(&self, rt: &R) {
+        let seen = self.advance(rt);
+        for _ in 0..BAGS {
+            match self.take_expired(rt, seen) {
+                Some(bag) => self.call(rt, bag),
+                None => return,
+            }
+        }
+    }
+
+    fn call<R: Wait>(&self, rt: &R, bag: ExpiredBag) {
+        for job in bag.jobs {
+            match job {
+                Deferred::Blank => {}
+                Deferred::Destroy(name) => drop(self.remove(rt, name)),
+                Deferred::Call(job) => job.run(),
+            }
+        }
+    }
+}
+
+impl<T> Debug for Collector<T> {
+    fn fmt<W: fmt::Write>(&self, f: &mut Formatter<W>) -> fmt::Result {
+        f.debug_struct("Collector").finish()
+    }
+}

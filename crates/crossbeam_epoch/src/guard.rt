@@ -1,0 +1,55 @@
+//! Guards.
+
+ghost use Rattle.std.specs.Prelude.{◌≡◌, IsSomeAnd};
+
+use crate::collector::Collector;
+use crate::unguarded::Unprotected;
+use std::fmt;
+use std::fmt::{Debug, Formatter};
+
+/// A place of a collector's table.
+#[derive(Clone, Copy, Debug, PartialEq, Eq, Drop)]
+pub struct Seat {
+    /// The collector's identity number.
+    pub collector: u64,
+    pub place: u32,
+}
+
+/// What a pointer's lifetime may rest on: a guard.
+pub trait Protects {}
+
+impl<T> Protects for Guard<'_, T> {}
+
+/// Keeps a participant pinned (the source's `Guard`). It is spent by `LocalHandle::unpin`, and can't be dropped.
+pub struct Guard<'c, T> {
+    pub collector: &'c Collector<T>,
+    pub seat: Seat,
+    pub epoch: u64,
+}
+
+impl<'c, T: Drop> Guard<'c, T> {
+    /// An epoch that was read after the pin was published.
+    pub fn pinned_at(&self) -> u64
+        ensures { result ≡ self.now.epoch }
+    {
+        self.epoch
+    }
+
+    /// The collector of its handle.
+    pub fn collector(&self) -> Option<&'c Collector<T>>
+        ensures { IsSomeAnd result (λ c. c.now ≡ self.now.collector.now) }
+    {
+        Some(self.collector)
+    }
+}
+
+/// What puts nothing off, for a collector that nobody else uses.
+pub fn unprotected() -> Unprotected {
+    Unprotected
+}
+
+impl<T> Debug for Guard<'_, T> {
+    fn fmt<W: fmt::Write>(&self, f: &mut Formatter<W>) -> fmt::Result {
+        f.debug_struct("Guard").finish()
+    }
+}

@@ -1,0 +1,119 @@
+//! What can be put into an `Atomic`.
+
+ghost use Rattle.std.specs.Prelude.{◌≡◌};
+ghost use Rattle.crossbeam_epoch.specs.FacePointer.{is_foreign};
+
+use crate::fault::Fault;
+use crate::guard::Guard;
+use crate::link::{Link, Site, Word};
+use crate::names::Pointable;
+use crate::owned::Owned;
+use crate::shared::Shared;
+use std::sync::Wait;
+
+/// A value with a tag, or a pointer to one (the source's `Pointer`).
+pub trait Pointer<T: Pointable>: Sized {
+    ghost use Rattle.std.specs.Prelude.{ℕ, Bool, true, false, ◌≡◌, ◌%◌, MatchResult, IfErr, IsErr};
+    ghost use Rattle.crossbeam_epoch.specs.declared.fault.Fault.{Fault};
+
+    ghost tag_bits: { Self → ℕ };
+
+    ghost leads_elsewhere: { Self → ℕ → Bool };
+
+    ghost refused_as: { Fault };
+
+    /// Whether it leads to a cell of another collector than this one.
+    fn is_foreign(&self, collector: u64) -> bool
+        ensures { result ≡ leads_elsewhere self.now collector };
+
+    /// The word that leads to it: a value is placed in a cell of the guard's collector. Refused as `Foreign`, or as
+    /// `CellsFull`; it comes back.
+    fn enter<R: Wait>(self, rt: &R, guard: &Guard<'_, T>) -> Result<Word<T>, (Fault, Self)>
+        ensures tag { MatchResult result (λ w. w.link.tag ≡ tag_bits self % T.ALIGN) (λ e. (e.0 ≡ refused_as) × (e.1 ≡ self)) }
+        ensures elsewhere { leads_elsewhere self guard.now.collector.now.id ≡ true → IsErr result };
+}
+
+impl<T: Pointable + Drop> Pointer<T> for Owned<T> {
+    ghost use Rattle.std.specs.Prelude.{false};
+    ghost use Rattle.crossbeam_epoch.specs.declared.fault.Fault.TheVariants.{CellsFull};
+
+    ghost tag_bits = { λ o. o.tag };
+
+    ghost leads_elsewhere = { λ _ _. false };
+
+    ghost refused_as = { CellsFull };
+
+    fn is_foreign(&self, _collector: u64) -> bool {
+        false
+    }
+
+    fn enter<R: Wait>(self, rt: &R, guard: &Guard<'_, T>) -> Result<Word<T>, (Fault, Self)> {
+        let (value, tag) = self.into_parts();
+        match guard.collector.place(rt, value) {
+            Ok(name) => {
+                let site = Site {
+                    collector: guard.collector.id(),
+                    cell: name.cell,
+                    turn: name.turn,
+                };
+                Ok(Word::new(Link {
+                    site: Some(site),
+                    tag,
+                }))
+            }
+            Err(value) => Err((Fault::CellsFull, Owned::with(value, tag))),
+        }
+    }
+}
+
+impl<'s, T: Pointable + Drop> Pointer<T> for Shared<'s, T> {
+    ghost use Rattle.crossbeam_epoch.specs.FacePointer.{is_foreign};
+    ghost use Rattle.crossbeam_epoch.specs.declared.fault.Fault.TheVariants.{Foreign};
+
+    ghost tag_bits = { λ s. s.link.tag };
+
+    ghost leads_elsewhere = { λ s id. is_foreign s.link.site id };
+
+    ghost refused_as = { Foreign };
+
+    fn is_foreign(&self, collector: u64) -> bool {
+        match self.link().site {
+            Some(site) => site.collector != collector,
+            None => false,
+        }
+    }
+
+    fn enter<R: Wait>(self, _rt: &R, guard: &Guard<'_, T>) -> Result<Word<T>, (Fault, Self)> {
+        if self.is_foreign(guard.collector.id()) {
+            return Err((Fault::Foreign, self));
+        }
+        Ok(Word::new(self.link()))
+    }
+}
+
+/// A pointer without a guard's lifetime (own).
+impl<T: Pointable + Drop> Pointer<T> for Link {
+    ghost use Rattle.crossbeam_epoch.specs.FacePointer.{is_foreign};
+    ghost use Rattle.crossbeam_epoch.specs.declared.fault.Fault.TheVariants.{Foreign};
+
+    ghost tag_bits = { λ l. l.tag };
+
+    ghost leads_elsewhere = { λ l id. is_foreign l.site id };
+
+    ghost refused_as = { Foreign };
+
+    fn is_foreign(&self, collector: u64) -> bool {
+        match self.site {
+            Some(site) => site.collector != collector,
+            None => false,
+        }
+    }
+
+    fn enter<R: Wait>(self, _rt: &R, guard: &Guard<'_, T>) -> Result<Word<T>, (Fault, Self)> {
+        let place = guard.collector.id();
+        match self.site {
+            Some(site) if site.collector != place => Err((Fault::Foreign, self)),
+            _ => Ok(Word::new(self)),
+        }
+    }
+}

@@ -1,0 +1,78 @@
+//! The queue of sealed bags.
+
+ghost use Rattle.std.specs.Prelude.{◌≡◌, ◌≤◌, ◌+◌, ◌∷◌, [], ◌++◌, is_ok, if◌then◌else◌, IfErr, MatchOption, false};
+ghost use Rattle.crossbeam_epoch.specs.FaceQueue.{is_due};
+
+use crate::deferred::Jobs;
+use crate::expired::ExpiredBag;
+use std::alloc::Global;
+use std::collections::LinkedList;
+
+/// How far the epoch has to be past a bag's seal.
+pub const EXPIRY: u64 = 2;
+
+/// A full or flushed bag, with an epoch that was read after its last deferral.
+#[derive(Drop)]
+pub struct SealedBag {
+    pub seal: u64,
+    pub jobs: Jobs,
+}
+
+/// Sealed bags, the oldest in front.
+#[derive(Drop)]
+pub struct Queue {
+    bags: LinkedList<SealedBag>,
+}
+
+impl Queue {
+    /// No bag.
+    pub fn new(alloc: Global) -> Queue
+        ensures { result.bags ≡ [] }
+    {
+        Queue {
+            bags: LinkedList::new(alloc),
+        }
+    }
+
+    /// Puts a bag behind the others, or hands its jobs back where there is no memory.
+    pub fn push(&mut self, seal: u64, jobs: Jobs) -> Result<(), Jobs>
+        ensures bags { self.new.bags ≡ (if is_ok result then self.old.bags ++ record { seal = seal; jobs = jobs } ∷ [] else self.old.bags) }
+        ensures back { IfErr result (λ j. j ≡ jobs) }
+    {
+        match self.bags.push_back(SealedBag { seal, jobs }) {
+            Ok(()) => Ok(()),
+            Err(refused) => Err(refused.value.jobs),
+        }
+    }
+
+    /// Whether the epoch that was seen is at least two past the seal of the front bag.
+    fn is_due(&self, seen: u64) -> bool
+        ensures { result ≡ is_due (λ b. b.seal) self.now.bags seen }
+    {
+        match self.bags.front() {
+            Some(bag) => seen >= EXPIRY && bag.seal <= seen - EXPIRY,
+            None => false,
+        }
+    }
+
+    /// Takes the front bag off, where the epoch that was seen is at least two past its seal.
+    pub fn pop_expired(&mut self, seen: u64) -> Option<ExpiredBag>
+        ensures { MatchOption result
+            ((is_due (λ b. b.seal) self.old.bags seen ≡ false) × (self.new.bags ≡ self.old.bags))
+            (λ b. (b.seen ≡ seen) × (self.old.bags ≡ record { seal = b.seal; jobs = b.jobs } ∷ self.new.bags)) }
+    {
+        if !self.is_due(seen) {
+            return None;
+        }
+        let SealedBag { seal, jobs } = self.bags.pop_front()?;
+        Some(ExpiredBag { seal, seen, jobs })
+    }
+
+    /// Its bags, the oldest in front.
+    pub fn into_bags(self) -> LinkedList<SealedBag>
+        ensures { result ≡ self.bags }
+    {
+        let Queue { bags } = self;
+        bags
+    }
+}

@@ -1,0 +1,56 @@
+//! What stands for a guard where nothing else uses the collector.
+
+ghost use Rattle.std.specs.Prelude.{◌≡◌, None, MatchResult, IsErrAnd};
+ghost use Rattle.crossbeam_epoch.specs.FacePointer.{name_in};
+
+use crate::collector::Collector;
+use crate::fault::Fault;
+use crate::names::Pointable;
+use crate::shared::Shared;
+use crate::task::{Job, Task};
+use std::sync::Wait;
+
+/// Puts nothing off (the source's `unprotected`).
+#[derive(Clone, Copy, Debug, Drop)]
+pub struct Unprotected;
+
+impl Unprotected {
+    /// Calls the job at once.
+    pub fn defer<R: Wait>(&self, _rt: &R, job: Job) {
+        job.run();
+    }
+
+    /// Destroys the value at once. Refused as `Unknown` for null, or as `Foreign` for another collector's pointer, which
+    /// comes back.
+    pub fn defer_destroy<'s, T: Pointable + Drop, R: Wait>(
+        &self,
+        rt: &R,
+        collector: &Collector<T>,
+        pointer: Shared<'s, T>,
+    ) -> Result<(), (Fault, Shared<'s, T>)>
+        ensures { MatchResult (name_in pointer.entry.link.site collector.now.id)
+            (λ _. result ≡ Ok tt)
+            (λ f. IsErrAnd result (λ e. (e.0 ≡ f) × (e.1 ≡ pointer.entry))) }
+    {
+        match pointer.name_in(collector) {
+            Ok(name) => {
+                drop(collector.remove(rt, name));
+                Ok(())
+            }
+            Err(fault) => Err((fault, pointer)),
+        }
+    }
+
+    /// Does nothing.
+    pub fn flush<R: Wait>(&self, _rt: &R) {}
+
+    /// Does nothing.
+    pub fn repin<R: Wait>(&mut self, _rt: &R) {}
+
+    /// None.
+    pub fn collector<T: Drop>(&self) -> Option<&Collector<T>>
+        ensures { result ≡ None }
+    {
+        None
+    }
+}

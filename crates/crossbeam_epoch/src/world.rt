@@ -1,0 +1,165 @@
+//! The collector: the epoch, the table, the queue, the cells and the roots.
+
+ghost use Rattle.std.specs.Prelude.{◌≡◌, ◌<◌, ℕ, List, [], ◌∷◌, IsTrue, true, false, IfOk, IfSome, MatchResult, length, unwrap_or, replicate, if◌then◌else◌};
+ghost use Rattle.std.specs.Result.{result_ok};
+ghost use Rattle.crossbeam_epoch.specs.Machine.{place, opened, registered, blank, null};
+ghost use Rattle.crossbeam_epoch.specs.Limits.{within};
+ghost use Rattle.crossbeam_epoch.specs.Reach.{Moment, Quiet, moment, Tells};
+
+use crate::bag::Bag;
+use crate::cells::Cells;
+use crate::fault::Fault;
+use crate::limits::Limits;
+use crate::names::{Links, Pointable, Ptr};
+use crate::places::{Participant, Phase, Sealed};
+use crate::task::Task;
+use crate::tickets::Tickets;
+use std::alloc::{AllocError, Global};
+use std::collections::VecDeque;
+use std::marker::Model;
+
+/// Epoch-based reclamation as a machine of atomic steps.
+#[derive(Drop)]
+pub struct World<T, J> {
+    pub(crate) limits: Limits,
+    pub(crate) epoch: u64,
+    pub(crate) participants: Vec<Participant<J>>,
+    pub(crate) queue: VecDeque<Sealed<J>>,
+    pub(crate) tickets: Tickets,
+    pub(crate) cells: Cells<T>,
+    pub(crate) roots: Vec<Ptr>,
+}
+
+impl<T, J> Model for World<T, J> {
+    ghost use Rattle.crossbeam_epoch.specs.Machine.{State};
+
+    ghost Value = { State T J };
+
+    ghost view = { λ w. record {
+      limits = w.limits;
+      epoch = w.epoch;
+      table = w.participants.items;
+      queue = w.queue.items;
+      next = w.tickets.next;
+      waiting = w.tickets.waiting;
+      store = w.cells;
+      roots = w.roots.items;
+    } };
+}
+
+impl<T: Links + Pointable + Drop, J: Task> World<T, J> {
+    /// A collector with no participant, whose roots hold null.
+    pub fn new(alloc: Global, limits: Limits, roots: usize) -> Result<World<T, J>, Fault>
+        ensures state { IfOk result (λ w. w ≡ opened limits roots) }
+        ensures told { IfOk result (λ w. limits.expiry ≡ 2 → Tells T.names (moment T.names Quiet w ∷ []) w) }
+        ensures limits { MatchResult result (λ _. within limits ≡ true) (λ e. e ≡ (if within limits then Fault.Memory else Fault.Limits)) }
+    {
+        if !limits.is_within() {
+            return Err(Fault::Limits);
+        }
+        let Ok(world) = World::with_room(alloc, limits, roots) else {
+            return Err(Fault::Memory);
+        };
+        Ok(world)
+    }
+
+    fn with_room(alloc: Global, limits: Limits, roots: usize) -> Result<World<T, J>, AllocError>
+        ensures state { IfOk result (λ w. w ≡ opened limits roots) }
+    {
+        let cells = Cells::new(alloc, limits.cells, limits.turn_max)?;
+        let participants = blanks(alloc, limits.participants as usize)?;
+        let roots = nulls(alloc, roots)?;
+        Ok(World {
+            limits,
+            epoch: 0,
+            participants,
+            queue: VecDeque::new(alloc),
+            tickets: Tickets::new(),
+            cells,
+            roots,
+        })
+    }
+
+    /// Takes the lowest free place, and answers its number; TableFull where every place is taken.
+    pub fn register(&mut self) -> Result<usize, Fault>
+        ensures state { MatchResult result (λ n. self.new ≡ registered self.old n) (λ e. (e ≡ Fault.TableFull) × (self.new ≡ self.old)) }
+        ensures free { IfOk result (λ n. (n < length self.old.table) × ((place self.old n).registered ≡ false)) }
+        ensures lowest { (q : ℕ) → q < unwrap_or (result_ok result) (length self.old.table) → (place self.old q).registered ≡ true }
+        ensures told { (h : List Moment) → Tells T.names h self.old → Tells T.names (moment T.names Quiet self.new ∷ h) self.new }
+    {
+        self.take_place()
+    }
+
+    fn take_place(&mut self) -> Result<usize, Fault>
+        ensures state { MatchResult result (λ n. self.new ≡ registered self.old n) (λ e. (e ≡ Fault.TableFull) × (self.new ≡ self.old)) }
+        ensures free { IfOk result (λ n. (n < length self.old.table) × ((place self.old n).registered ≡ false)) }
+        ensures lowest { (q : ℕ) → q < unwrap_or (result_ok result) (length self.old.table) → (place self.old q).registered ≡ true }
+    {
+        match self.free_place() {
+            Some(n) => {
+                let place = &mut self.participants[n];
+                place.registered = true;
+                place.pins = 0;
+                Ok(n)
+            }
+            None => Err(Fault::TableFull),
+        }
+    }
+
+    /// The lowest free place.
+    fn free_place(&self) -> Option<usize>
+        ensures free { IfSome result (λ n. (n < length self.now.table) × ((place self.now n).registered ≡ false)) }
+        ensures below { (q : ℕ) → q < unwrap_or result (length self.now.table) → (place self.now q).registered ≡ true }
+    {
+        for (n, place) in self.participants.iter().enumerate() {
+            if !place.registered {
+                return Some(n);
+            }
+        }
+        None
+    }
+
+    /// Whether a participant of this number is registered.
+    pub fn is_registered(&self, who: usize) -> bool
+        ensures value { result ≡ (place self.now who).registered }
+        ensures inside { IsTrue result → who < length self.now.table }
+    {
+        who < self.participants.len() && self.participants[who].registered
+    }
+
+    /// The global epoch.
+    pub fn epoch(&self) -> u64
+        ensures { result ≡ self.now.epoch }
+    {
+        self.epoch
+    }
+
+    /// How many jobs were deferred and not yet called.
+    pub fn waiting(&self) -> u64
+        ensures { result ≡ self.now.waiting }
+    {
+        self.tickets.waiting()
+    }
+}
+
+/// So many places that nobody holds.
+fn blanks<J: Task>(alloc: Global, places: usize) -> Result<Vec<Participant<J>>, AllocError>
+    ensures { IfOk result (λ v. v.items ≡ replicate places blank) }
+{
+    let mut table = Vec::with_capacity(alloc, places)?;
+    for _ in 0..places {
+        table.push(Participant::blank())?;
+    }
+    Ok(table)
+}
+
+/// So many roots that hold null.
+fn nulls(alloc: Global, roots: usize) -> Result<Vec<Ptr>, AllocError>
+    ensures { IfOk result (λ v. v.items ≡ replicate roots null) }
+{
+    let mut all = Vec::with_capacity(alloc, roots)?;
+    for _ in 0..roots {
+        all.push(Ptr::null())?;
+    }
+    Ok(all)
+}

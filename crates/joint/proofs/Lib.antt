@@ -1,0 +1,11 @@
+pub mod Edges
+pub mod Walks
+pub mod Sums
+pub mod Growth
+pub mod Planting
+pub mod Pairs
+pub mod Choices
+pub mod Plans
+pub mod Maps
+pub mod Standing
+pub mod Bags

@@ -1,0 +1,13 @@
+use Rattle.std.proofs.Common.{ℕ, subst, sym, ◌∙◌}
+use Rattle.joint.specs.Forest.{Forest}
+use Rattle.joint.proofs.Planting.{links, is_placed, Placed}
+use Rattle.joint.proofs.tree.Tree+u64.link.Goals as goal
+
+pub returns-clause-pairs : goal.returns-clause-pairs
+returns-clause-pairs c = λ v s pl ta.
+    let i = c.self.inside in
+    let t : Forest ℕ = record { cells = i.cells.items; free = i.free.items; most = i.most; turn_max = i.turn_max; waiting = i.waiting; waiting_bytes = i.waiting_bytes } in
+    let P : Forest ℕ → Type 0 = λ w. Placed c.args.self.now w c.args.at c.args.node in
+    let k : Placed c.args.self.now t c.args.at c.args.node = subst P (sym (c.self.view_is ∙ c.place.ensures.state)) (is_placed c.args.self.now c.args.at c.args.node c.requires) in
+    let r = links c.args.self.now t c.args.at c.args.node c.index_mut.result.now c.hang.new.self c.args.key.now v s k pl ta c.index_mut.ensures.value c.hang.ensures.same c.hang.ensures.child in
+    record { shape = r.0; adds = r.1 }

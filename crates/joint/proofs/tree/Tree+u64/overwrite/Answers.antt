@@ -1,0 +1,12 @@
+use Rattle.std.proofs.Common.{◌≡◌, ℕ, subst, set}
+use Rattle.joint.specs.declared.cell.Plan.TheVariants.{Overwrite}
+use Rattle.joint.specs.Forest.{Forest, heap, plan, ShapeOf, Comes}
+use Rattle.joint.proofs.Growth.{overwrites}
+use Rattle.joint.proofs.tree.Tree+u64.overwrite.Goals as goal
+
+pub returns-clause-pairs : goal.returns-clause-pairs
+returns-clause-pairs c =
+    let i = c.self.inside in
+    let t : Forest ℕ = record { cells = set i.cells.items c.args.leaf c.change.new.self; free = i.free.items; most = i.most; turn_max = i.turn_max; waiting = i.waiting; waiting_bytes = i.waiting_bytes } in
+    let Q : Forest ℕ → Type 0 = λ w. plan (heap w) c.args.key.now ≡ Overwrite c.args.leaf → ShapeOf w → Comes w t c.args.key.now c.args.value in
+    subst Q c.self.view_is (λ p s. let r = overwrites i.cells.items s c.args.leaf c.index_mut.result.now c.change.new.self c.args.key.now c.args.value p c.index_mut.ensures.value c.change.ensures.same c.change.ensures.child in record { shape = r.0; adds = r.1 }) c.requires

@@ -1,0 +1,230 @@
+-- The machine of tree and collector, and what its calls make of it.
+use Rattle.std.specs.Prelude.{◌≡◌, ◌≢◌, ℕ, ◌+◌, ◌^◌, ◌<◌, ◌≤◌, true, false, List, [], ◌∷◌, length, Option, Some, None, MatchOption, replicate, slice_index, slice_index_or, drop, ◌⊎◌, Result, MatchResult, MatchBool, is_some}
+use Rattle.std.specs.Int.{to_be_bytes, w64}
+use Rattle.std.specs.FinMap.{FinMap, get, insert, empty}
+use Rattle.std.specs.Ordering.{nat_cmp}
+use Rattle.joint.specs.declared.limits.Limits.{Limits}
+use Rattle.joint.specs.declared.refusal.Refusal.{Refusal}
+use Rattle.joint.specs.declared.refusal.Refusal.TheVariants.{Memory, Budget, Cells, TableFull, Later as OfLater, Limits as OutOfLimits}
+use Rattle.joint.specs.declared.steps.Kind.{Kind}
+use Rattle.joint.specs.declared.steps.Kind.TheVariants.{Tree, Collection}
+use Rattle.joint.specs.declared.steps.Report.{Report}
+use Rattle.joint.specs.declared.steps.Outcome.{Outcome}
+use Rattle.joint.specs.declared.steps.Outcome.TheVariants.{Registered, Done, Refused}
+use Rattle.joint.specs.declared.steps.Done.{Done as Replies}
+use Rattle.joint.specs.declared.steps.Done.TheVariants.{Unit as Nothing, Get as Got, Insert as Inserted}
+use Rattle.joint.specs.declared.steps.Op.{Op}
+use Rattle.joint.specs.declared.steps.Op.TheVariants.{Pin, Unpin, Flush, Get, Insert}
+use Rattle.joint.specs.declared.form.Form.TheVariants.{Node256}
+use Rattle.joint.specs.declared.participant.Sealed.{Sealed}
+use Rattle.joint.specs.Limits.{AreAllowed}
+use Rattle.joint.specs.Collector.{Clock, place, registered, pinned, pin_collects, unpinned, secured, flushed, advanced, blank, no_bag, IsRegistered}
+use Rattle.joint.specs.Refusals.{of_pin, of_guard}
+use Rattle.joint.specs.Forest.{Forest, heap, cell_at, value_at, sizes, plan, spare, Adds, Spares, Stands}
+use Rattle.joint.specs.declared.cell.Plan.{Plan}
+use Rattle.joint.specs.declared.cell.Plan.TheVariants.{Overwrite, Add, Link, Grow, Later}
+
+pub record State (V : Type 0) : Type 0 where
+  pub collector : Clock
+  pub tree : Forest V
+  -- the bytes that the allocator has charged, those of them that it had charged before, and its limit
+  pub charge : ℕ
+  pub base : ℕ
+  pub limit : ℕ
+
+abbrev pub charged_of : {V : Type 0} → State V → ℕ
+charged_of s = s.charge
+
+abbrev pub waiting_of : {V : Type 0} → State V → ℕ
+waiting_of s = s.tree.waiting
+
+abbrev pub waiting_bytes_of : {V : Type 0} → State V → ℕ
+waiting_bytes_of s = s.tree.waiting_bytes
+
+-- the bytes of a key, from the first
+abbrev pub bytes_of : ℕ → List ℕ
+bytes_of key = to_be_bytes w64 key
+
+-- what stands at a key
+abbrev pub standing : {V : Type 0} → State V → ℕ → Option V
+standing s key = value_at s.tree (bytes_of key)
+
+-- the charge is what the allocator told at first and the sizes of the nodes
+abbrev pub IsCharged : {V : Type 0} → State V → Type 0
+IsCharged s = s.charge ≡ s.base + sizes s.tree
+
+-- the map has the standing pairs, and no others, among the keys of eight bytes
+abbrev pub Represents : FinMap nat_cmp ℕ → State ℕ → Type 0
+Represents m s = (key : ℕ) → key < 2 ^ 64 → get m key ≡ standing s key
+
+-- a new index: a root alone, charged
+abbrev pub opened : Limits → ℕ → ℕ → State ℕ
+opened l charge limit = record {
+  collector = record { epoch = 0; epoch_max = l.epoch.epoch_max; expiry = l.epoch.expiry; table = replicate l.epoch.participants blank; queue = [] };
+  tree = record {
+    cells = record { turn = 0; node = Some (record { prefix = []; form = Node256; edges = [] }); obsolete = false } ∷ [];
+    free = [];
+    most = l.epoch.cells;
+    turn_max = l.epoch.turn_max;
+    waiting = 0;
+    waiting_bytes = 0;
+  };
+  charge = charge + 2104;
+  base = charge;
+  limit = limit;
+}
+
+-- why no index was made, in the order of the causes
+abbrev pub IsUnopened : Limits → ℕ → ℕ → Refusal → Type 0
+IsUnopened l charge limit OutOfLimits = AreAllowed l → ⊥
+IsUnopened l charge limit (Budget a b c) = AreAllowed l × (limit < charge + 2104) × (a ≡ charge) × (b ≡ 2104) × (c ≡ limit)
+IsUnopened l charge limit Memory = AreAllowed l × (charge + 2104 ≤ limit)
+IsUnopened l charge limit _ = ⊥
+
+-- an index without pairs was opened under an allocator with this charge and this limit, or refused
+abbrev pub Opens : Limits → ℕ → ℕ → Result (State ℕ) Refusal → Type 0
+Opens l charge limit r = MatchResult r (λ s. AreAllowed l × (charge + 2104 ≤ limit) × (s ≡ opened l charge limit) × Represents empty s) (λ e. IsUnopened l charge limit e)
+
+-- the report of a call that destroyed nothing and decided nothing
+abbrev pub quiet : Kind → Outcome ℕ → Report ℕ
+quiet kind outcome = record { kind = kind; decided = false; kept = false; destroyed = 0; outcome = outcome }
+
+abbrev pub RegistersBy : State ℕ → Outcome ℕ → State ℕ → Type 0
+RegistersBy s (Registered n) s' = (n < length s.collector.table) × ((place s.collector n).registered ≡ false) × ((q : ℕ) → q < n → IsRegistered s.collector q) × (s' ≡ record s { collector = registered s.collector n })
+RegistersBy s (Refused e) s' = (e ≡ TableFull) × ((q : ℕ) → q < length s.collector.table → IsRegistered s.collector q) × (s' ≡ s)
+RegistersBy s (Done d) s' = ⊥
+
+-- the lowest free place was given out, or none was free
+pub record Registers (s : State ℕ) (r : Report ℕ) (s' : State ℕ) : Type 0 where
+  pub report : r ≡ quiet Collection r.outcome
+  pub given : RegistersBy s r.outcome s'
+
+-- only the tree and the charge changed
+pub record IsRestSame (s s' : State ℕ) : Type 0 where
+  pub collector : s'.collector ≡ s.collector
+  pub base : s'.base ≡ s.base
+  pub limit : s'.limit ≡ s.limit
+
+-- the bag has no job of this cell
+abbrev pub Misses : Sealed → ℕ → Type 0
+Misses bag c = (j : ℕ) → j < length bag.jobs.items → slice_index bag.jobs.items j ≢ c
+
+-- so many bags were taken off the queue, each of them old enough at the answered epoch, and no cell changed but those of their jobs
+pub record Empties (s : State ℕ) (answered : ℕ) (s' : State ℕ) (n : ℕ) : Type 0 where
+  pub queue : s'.collector.queue ≡ drop n s.collector.queue
+  pub old_enough : (i : ℕ) → i < n → (slice_index_or s.collector.queue i no_bag).seal + s.collector.expiry ≤ answered
+  pub cells : (c : ℕ) → ((i : ℕ) → i < n → Misses (slice_index_or s.collector.queue i no_bag) c) → cell_at s'.tree c ≡ cell_at s.tree c
+
+-- a collection: the epoch moves on where it may, nodes that waited are destroyed, and all pairs stay
+pub record Collects (s : State ℕ) (r : Report ℕ) (s' : State ℕ) : Type 0 where
+  pub report : r ≡ record (quiet Collection (Done Nothing)) { destroyed = r.destroyed }
+  pub destroyed : s'.tree.waiting + r.destroyed ≡ s.tree.waiting
+  pub spared : Spares s.tree s'.tree
+  pub bags : (n : ℕ) × (n ≤ 8) × Empties s s'.collector.epoch s' n
+  pub pairs : (key : List ℕ) → value_at s'.tree key ≡ value_at s.tree key
+  pub collector : s'.collector ≡ record (advanced s.collector) { queue = s'.collector.queue }
+  pub base : s'.base ≡ s.base
+  pub limit : s'.limit ≡ s.limit
+
+-- the call was refused for this cause, and changed nothing
+abbrev pub Refuses : State ℕ → Kind → Refusal → Report ℕ → State ℕ → Type 0
+Refuses s kind e r s' = (r ≡ quiet kind (Refused e)) × (s' ≡ s)
+
+abbrev pub Pins : State ℕ → ℕ → Report ℕ → State ℕ → Type 0
+Pins s who r s' =
+    let t : State ℕ = record s { collector = pinned s.collector who } in
+    MatchOption (of_pin s.collector who)
+    (MatchBool (pin_collects s.collector who) (Collects t r s') ((r ≡ quiet Collection (Done Nothing)) × (s' ≡ t)))
+    (λ e. Refuses s Collection e r s')
+
+abbrev pub Unpins : State ℕ → ℕ → Report ℕ → State ℕ → Type 0
+Unpins s who r s' =
+    MatchOption (of_guard s.collector who)
+    ((r ≡ quiet Collection (Done Nothing)) × (s' ≡ record s { collector = unpinned s.collector who }))
+    (λ e. Refuses s Collection e r s')
+
+abbrev pub Flushes : State ℕ → ℕ → Report ℕ → State ℕ → Type 0
+Flushes s who r s' =
+    MatchOption (of_guard s.collector who)
+    (Refuses s Collection Memory r s' ⊎ Collects (record s { collector = flushed s.collector who }) r s')
+    (λ e. Refuses s Collection e r s')
+
+-- a point call got this answer
+abbrev pub answered : Replies ℕ → Report ℕ
+answered reply = record { kind = Tree; decided = true; kept = false; destroyed = 0; outcome = Done reply }
+
+abbrev pub Gets : State ℕ → ℕ → ℕ → Report ℕ → State ℕ → Type 0
+Gets s who key r s' =
+    MatchOption (of_guard s.collector who)
+    ((r ≡ answered (Got (standing s key))) × (s' ≡ s))
+    (λ e. Refuses s Tree e r s')
+
+-- why no node of a size was made, in the order of the causes, by the charge, its limit and the cell for the node
+abbrev pub IsRefusedNode : ℕ → ℕ → ℕ → Option ℕ → Refusal → Type 0
+IsRefusedNode charge limit size at (Budget a b c) = (limit < charge + size) × (a ≡ charge) × (b ≡ size) × (c ≡ limit)
+IsRefusedNode charge limit size at Cells = (charge + size ≤ limit) × (at ≡ None)
+IsRefusedNode charge limit size at Memory = (charge + size ≤ limit) × (is_some at ≡ true)
+IsRefusedNode charge limit size at _ = ⊥
+
+abbrev pub IsUnmade : State ℕ → ℕ → Refusal → Type 0
+IsUnmade s size e = IsRefusedNode s.charge s.limit size (spare s.tree) e
+
+abbrev pub of_plan : State ℕ → Plan → Refusal → Type 0
+of_plan s Link e = IsUnmade s 64 e
+of_plan s (Grow c) e = IsUnmade s 168 e
+of_plan s (Overwrite c) e = ⊥
+of_plan s (Add c) e = ⊥
+of_plan s Later e = ⊥
+
+-- the value came to its key, or was refused for want of a node
+abbrev pub InsertsBy : State ℕ → ℕ → ℕ → ℕ → Report ℕ → State ℕ → Type 0
+InsertsBy s who key value r s' =
+    ((e : Refusal) × of_plan s (plan (heap s.tree) (bytes_of key)) e × Refuses s Tree e r s')
+    ⊎ ((r ≡ answered (Inserted (standing s key))) × Adds (heap s.tree) (heap s'.tree) (bytes_of key) value)
+
+abbrev pub Inserts : State ℕ → ℕ → ℕ → ℕ → Report ℕ → State ℕ → Type 0
+Inserts s who key value r s' =
+    MatchOption (of_guard s.collector who)
+    (((plan (heap s.tree) (bytes_of key) ≡ Later) × Refuses s Tree OfLater r s')
+    ⊎ ((¬ (plan (heap s.tree) (bytes_of key) ≡ Later)) × (Refuses s Collection Memory r s' ⊎ InsertsBy (record s { collector = secured s.collector who }) who key value r s')))
+    (λ e. Refuses s Tree e r s')
+
+-- the map after a call with this outcome
+abbrev pub after : FinMap nat_cmp ℕ → Op ℕ → Outcome ℕ → FinMap nat_cmp ℕ
+after m Pin o = m
+after m Unpin o = m
+after m Flush o = m
+after m (Get key) o = m
+after m (Insert key value) (Registered n) = m
+after m (Insert key value) (Done reply) = insert m key value
+after m (Insert key value) (Refused e) = m
+
+-- the outcome tells what the map says of the key, unless it is a refusal
+abbrev pub IsReply : FinMap nat_cmp ℕ → Op ℕ → Outcome ℕ → Type 0
+IsReply m Pin o = Unit {0}
+IsReply m Unpin o = Unit {0}
+IsReply m Flush o = Unit {0}
+IsReply m (Get key) (Registered n) = ⊥
+IsReply m (Get key) (Done reply) = reply ≡ Got (get m key)
+IsReply m (Get key) (Refused e) = Unit {0}
+IsReply m (Insert key value) (Registered n) = ⊥
+IsReply m (Insert key value) (Done reply) = reply ≡ Inserted (get m key)
+IsReply m (Insert key value) (Refused e) = Unit {0}
+
+-- a map that has the standing pairs gives the call's answer, and what it is then has the standing pairs after the call
+abbrev pub AsMap : State ℕ → Op ℕ → Report ℕ → State ℕ → Type 0
+AsMap s op r s' = (m : FinMap nat_cmp ℕ) → Represents m s → IsReply m op r.outcome × Represents (after m op r.outcome) s'
+
+-- what a call of a worker answers, and what it makes of the machine
+abbrev pub CallsBy : State ℕ → ℕ → Op ℕ → Report ℕ → State ℕ → Type 0
+CallsBy s who Pin r s' = Pins s who r s'
+CallsBy s who Unpin r s' = Unpins s who r s'
+CallsBy s who Flush r s' = Flushes s who r s'
+CallsBy s who (Get key) r s' = Gets s who key r s'
+CallsBy s who (Insert key value) r s' = Inserts s who key value r s'
+
+-- the same, the map's answer on the standing pairs, and a tree whose nodes all stand in their cells
+pub record Calls (s : State ℕ) (who : ℕ) (op : Op ℕ) (r : Report ℕ) (s' : State ℕ) : Type 0 where
+  pub steps : CallsBy s who op r s'
+  pub map : AsMap s op r s'
+  pub stands : Stands s'.tree

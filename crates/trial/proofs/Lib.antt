@@ -1,0 +1,10 @@
+pub mod Decimals
+pub mod Keywords
+pub mod Splitting
+pub mod Calls
+pub mod Commands
+pub mod Spelling
+pub mod Lines
+pub mod Rounds
+pub mod Feeding
+pub mod Ending

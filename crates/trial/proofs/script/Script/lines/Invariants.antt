@@ -1,0 +1,5 @@
+use Rattle.trial.proofs.Feeding.{Reached}
+use Rattle.trial.proofs.script.Script.lines.Given as goal
+
+abbrev pub invariant-loop-i : goal.invariant-loop-i
+invariant-loop-i l = Reached l.fn.self l.bytes l.start l.i l.self

@@ -1,0 +1,9 @@
+pub mod Words
+pub mod Grammar
+pub mod Parsing
+pub mod Line
+pub mod Texts
+pub mod Session
+pub mod Script
+pub mod Turns
+pub mod Going

@@ -1,0 +1,49 @@
+-- The texts that replies are printed as.
+use Rattle.std.specs.Prelude.{ℕ, List, [], ◌∷◌, ◌++◌, None, Some, decimal, codes}
+use Rattle.joint.specs.declared.refusal.Refusal.{Refusal}
+use Rattle.joint.specs.declared.refusal.Refusal.TheVariants as refusal
+use Rattle.trial.specs.declared.reply.Refused.{Refused}
+use Rattle.trial.specs.declared.reply.Refused.TheVariants as refused
+use Rattle.trial.specs.declared.reply.Reply.{Reply}
+use Rattle.trial.specs.declared.reply.Reply.TheVariants as reply
+
+-- a number after a space
+abbrev pub spaced : ℕ → List ℕ
+spaced n = codes " " ++ decimal n
+
+-- the name of a refusal of the tree, with its numbers
+abbrev pub refusal_text : Refusal → List ℕ
+refusal_text refusal.TableFull = codes "TableFull"
+refusal_text refusal.Memory = codes "Memory"
+refusal_text (refusal.Budget charged wanted limit) = codes "Budget" ++ spaced charged ++ spaced wanted ++ spaced limit
+refusal_text refusal.Cells = codes "Cells"
+refusal_text refusal.Unpinned = codes "Unpinned"
+refusal_text refusal.Unknown = codes "Unknown"
+refusal_text refusal.Count = codes "Count"
+refusal_text refusal.Limits = codes "Limits"
+refusal_text refusal.Later = codes "Later"
+
+-- the name of a refusal, with its numbers
+abbrev pub refused_text : Refused → List ℕ
+refused_text refused.NoTree = codes "NoTree"
+refused_text refused.Open = codes "Open"
+refused_text refused.Later = codes "Later"
+refused_text (refused.Tree r) = refusal_text r
+
+-- a reply without its line feed
+abbrev pub reply_text : Reply → List ℕ
+reply_text reply.Ok = codes "ok"
+reply_text (reply.Worker w) = codes "worker" ++ spaced w
+reply_text (reply.Value None) = codes "none"
+reply_text (reply.Value (Some v)) = codes "some" ++ spaced v
+reply_text (reply.Charged bytes) = codes "charged" ++ spaced bytes
+reply_text (reply.Waiting nodes bytes) = codes "waiting" ++ spaced nodes ++ spaced bytes
+reply_text (reply.Refused r) = codes "refused " ++ refused_text r
+
+-- a reply as it is printed
+abbrev pub printed : Reply → List ℕ
+printed r = reply_text r ++ 10 ∷ []
+
+-- what is printed of a line outside the grammar, by its number
+abbrev pub bad_line_text : ℕ → List ℕ
+bad_line_text n = codes "bad line" ++ spaced n ++ 10 ∷ []

@@ -1,0 +1,24 @@
+//! Reads a script from standard input, one command a line, and prints the replies.
+#![tactic(auto)]
+
+mod command;
+mod end;
+mod keyword;
+mod line;
+mod parser;
+mod reply;
+mod run;
+mod script;
+mod session;
+#[cfg(test)]
+mod tests;
+mod word;
+
+use std::io;
+use std::process::ExitCode;
+
+fn main(rt: HostRuntime) -> ExitCode {
+    let mut reader = rt.reader();
+    let mut writer = io::writer(&rt);
+    ExitCode::from(run::run(rt.alloc(), &mut reader, &mut writer))
+}

@@ -1,0 +1,195 @@
+//! The program: from a reader's bytes to a writer's.
+ghost use Rattle.std.specs.Prelude.{◌≡◌, ◌+◌, ◌<◌, ◌≤◌, ℕ, List, Option, [], length, take, drop, IsNone, IfSome};
+ghost use Rattle.std.specs.Prelude.{IfOk, IfErr, OnOk, OnErr, vec_len};
+ghost use Rattle.std.specs.Io.KnownBytes.{Appends, Consumes, IsAtEnd, Keeps};
+ghost use Rattle.trial.specs.declared.end.End.{End};
+ghost use Rattle.trial.specs.Script.{status_of, input_max, read_max};
+ghost use Rattle.trial.specs.Going.{Going, Ends, Ran, IsFresh, IsWritten};
+
+use crate::end::End;
+use crate::script::Script;
+use std::alloc::{AllocError, Global};
+use std::io::{Read, Write};
+
+/// The most bytes of a script.
+const INPUT_MAX: u64 = 16_777_216;
+
+/// The most bytes that one read is asked for.
+const CHUNK: usize = 8192;
+
+/// A script on its way from a reader to a writer.
+#[derive(Drop)]
+pub struct Program {
+    pub script: Script,
+    /// What was read of the line that isn't whole yet.
+    pub unread: Vec<u8>,
+    /// The bytes that were read.
+    pub taken: u64,
+}
+
+fn chunk(alloc: Global) -> Result<Vec<u8>, AllocError>
+    ensures { IfOk result (λ chunk. vec_len chunk ≡ read_max) }
+{
+    let mut chunk = Vec::with_capacity(alloc, CHUNK)?;
+    chunk.resize(CHUNK, 0)?;
+    Ok(chunk)
+}
+
+// Reads at the front of the chunk. An interrupted read is a failed one.
+fn read_chunk<R: Read>(reader: &mut R, chunk: &mut Vec<u8>) -> Result<usize, End>
+    ensures bound { IfOk result (λ n. n ≤ length chunk.new.items) }
+    ensures room { vec_len chunk.new ≡ vec_len chunk.old }
+    ensures ok { IfOk result (λ n. Consumes (R.remaining reader.old) (R.remaining reader.new) (take n chunk.new.items)) }
+    ensures end { IfOk result (λ n. n ≡ 0 → 0 < vec_len chunk.old → IsAtEnd (R.remaining reader.new)) }
+    ensures err { IfErr result (λ e. (e ≡ End.Reading) × Keeps (R.remaining reader.old) (R.remaining reader.new)) }
+{
+    match reader.read(chunk.as_mut_slice()) {
+        Ok(n) => Ok(n),
+        Err(_) => Err(End::Reading),
+    }
+}
+
+// Writes all the bytes, or a front of them. An interrupted write is a failed one.
+fn write_out<W: Write>(writer: &mut W, bytes: &[u8]) -> Result<(), End>
+    ensures ok { OnOk result (Appends (W.contents writer.old) (W.contents writer.new) bytes.now) }
+    ensures err { IfErr result (λ e. (e ≡ End.Writing) × (n : ℕ) × Appends (W.contents writer.old) (W.contents writer.new) (take n bytes.now)) }
+{
+    let mut written = 0;
+    while written < bytes.len() {
+        match writer.write(&bytes[written..]) {
+            Ok(0) => return Err(End::Writing),
+            Ok(n) => written += n,
+            Err(_) => return Err(End::Writing),
+        }
+    }
+    match writer.flush() {
+        Ok(()) => Ok(()),
+        Err(_) => Err(End::Writing),
+    }
+}
+
+fn remove_front(buffer: &mut Vec<u8>, n: usize)
+    requires { n ≤ vec_len buffer.old }
+    ensures { buffer.new.items ≡ drop n buffer.old.items }
+{
+    buffer.drain(..n);
+}
+
+impl Program {
+    fn new(alloc: Global) -> Program
+        ensures { IsFresh result }
+    {
+        Program {
+            script: Script {
+                alloc,
+                session: None,
+                lines: 0,
+                replies: Vec::new(alloc),
+            },
+            unread: Vec::new(alloc),
+            taken: 0,
+        }
+    }
+
+    // Answers the last line, where no line feed ends it.
+    fn last_line(&mut self) -> End
+        requires { self.old.script.lines ≤ input_max }
+        ensures { (had left : Option (List ℕ)) (written : List ℕ) → IsAtEnd left → Going had left written self.old
+            → Ends had left written self.new result }
+    {
+        if self.unread.is_empty() {
+            return End::Done;
+        }
+        match self.script.line(&self.unread) {
+            Ok(()) => End::Done,
+            Err(end) => end,
+        }
+    }
+
+    // Takes the bytes, and answers each line that is whole now.
+    fn accept(&mut self, bytes: &[u8]) -> Option<End>
+        requires bound { self.old.taken ≤ input_max }
+        requires lines { self.old.script.lines ≤ input_max }
+        requires short { length self.old.unread.items ≤ 1000 }
+        requires read { length bytes.now ≤ read_max }
+        ensures goes { IsNone result → (had mid left : Option (List ℕ)) (written : List ℕ) → Going had mid written self.old
+            → Consumes mid left bytes.now → Going had left written self.new }
+        ensures ends { IfSome result (λ e. (had mid left : Option (List ℕ)) (written : List ℕ) → Going had mid written self.old
+            → Consumes mid left bytes.now → Ends had left written self.new e) }
+        ensures taken { IsNone result → (self.new.taken ≡ self.old.taken + length bytes.now) × (self.new.taken ≤ input_max) }
+    {
+        let room = (INPUT_MAX - self.taken) as usize;
+        let (fresh, over) = bytes.split_at(bytes.len().min(room));
+        let Ok(()) = self.unread.extend_from_slice(fresh) else {
+            return Some(End::Memory);
+        };
+        match self.script.lines(&self.unread) {
+            Ok(answered) => remove_front(&mut self.unread, answered),
+            Err(end) => return Some(end),
+        }
+        if !over.is_empty() {
+            return Some(End::TooLong);
+        }
+        self.taken += bytes.len() as u64;
+        None
+    }
+
+    // One read, and the replies to the lines that it completes. The end, if it came.
+    fn turn<R: Read>(&mut self, reader: &mut R, chunk: &mut Vec<u8>) -> Option<End>
+        requires room { vec_len chunk.old ≡ read_max }
+        requires bound { self.old.taken ≤ input_max }
+        requires lines { self.old.script.lines ≤ input_max }
+        requires short { length self.old.unread.items ≤ 1000 }
+        ensures goes { IsNone result → (had : Option (List ℕ)) (written : List ℕ) → Going had (R.remaining reader.old) written self.old
+            → Going had (R.remaining reader.new) written self.new }
+        ensures ends { IfSome result (λ e. (had : Option (List ℕ)) (written : List ℕ) → Going had (R.remaining reader.old) written self.old
+            → Ends had (R.remaining reader.new) written self.new e) }
+        ensures room { vec_len chunk.new ≡ vec_len chunk.old }
+        ensures taken { IsNone result → (self.old.taken < self.new.taken) × (self.new.taken ≤ input_max) }
+    {
+        match read_chunk(reader, chunk) {
+            Ok(0) => Some(self.last_line()),
+            Ok(n) => self.accept(&chunk[..n]),
+            Err(end) => Some(end),
+        }
+    }
+
+    // Writes the replies out.
+    fn write_replies<W: Write>(&mut self, writer: &mut W) -> Result<(), End>
+        ensures ok { OnOk result (Appends (W.contents writer.old) (W.contents writer.new) self.old.script.replies.items) }
+        ensures empty { OnOk result (IsWritten self.old self.new) }
+        ensures err { IfErr result (λ e. (e ≡ End.Writing) × (n : ℕ)
+            × Appends (W.contents writer.old) (W.contents writer.new) (take n self.old.script.replies.items)) }
+    {
+        write_out(writer, &self.script.replies)?;
+        self.script.replies.clear();
+        Ok(())
+    }
+
+    fn run<R: Read, W: Write>(&mut self, reader: &mut R, writer: &mut W, chunk: &mut Vec<u8>) -> End
+        requires fresh { IsFresh self.old }
+        requires room { vec_len chunk.old ≡ read_max }
+        ensures { Ran (R.remaining reader.old) (R.remaining reader.new) (W.contents writer.old) (W.contents writer.new) result }
+    {
+        loop {
+            let end = self.turn(reader, chunk);
+            if let Err(failed) = self.write_replies(writer) {
+                return failed;
+            }
+            if let Some(end) = end {
+                return end;
+            }
+        }
+    }
+}
+
+/// Reads a script, one command a line, writes the replies, and tells the exit status.
+pub fn run<R: Read, W: Write>(alloc: Global, reader: &mut R, writer: &mut W) -> u8
+    ensures { (end : End) × (result ≡ status_of end)
+        × Ran (R.remaining reader.old) (R.remaining reader.new) (W.contents writer.old) (W.contents writer.new) end }
+{
+    match chunk(alloc) {
+        Ok(mut chunk) => Program::new(alloc).run(reader, writer, &mut chunk).status(),
+        Err(_) => End::Memory.status(),
+    }
+}
