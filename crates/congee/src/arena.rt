@@ -35,7 +35,7 @@ fn has_prefix(key: &[u8; 8], prefix: &[u8]) -> bool
 
 /// The nodes of a tree by their names, the root's is 0, and the budget that they are charged to.
 #[derive(Drop)]
-pub struct Arena<P: Small, A> {
+pub struct Arena<P: Stored, A> {
     pub nodes: Slab<Node<usize, P>>,
     pub allocator: A,
 }
