@@ -20,6 +20,7 @@ pub mod MapLemmas
 pub mod MaskLemmas
 pub mod MoveLemmas
 pub mod Moves
+pub mod OwnerLemmas
 pub mod OffsetLemmas
 pub mod Passes
 pub mod Prefixes

@@ -3,6 +3,8 @@ use Rattle.std.proofs.Common.{ℕ, zero, suc, ◌≤◌, ◌<◌, ◌+◌, ◌*�
 use Rattle.std.proofs.Math.Nat.{max-le}
 use Rattle.std.specs.Mem.{FitsInMemory}
 use mir.Syntax.{Ty, Tys, Tyss, Sym, w8, w16, w64, ty_int, ty_ptr, ty_unit, ty_array, ty_struct, ty_enum, tnil, tcons, ttnil, ttcons}
+use denote.Param.{layout}
+use denote.RattleType.{RattleType}
 use prog.Memory.{size, align, aligns, alignss, end_of, endss, up, pad}
 use Rattle.congee.specs.Room.{IsSmall}
 
@@ -115,27 +117,27 @@ bytes_array n m l =
     let w = struct (field (struct (field (array n byte) no_fields)) (field word (field unit no_fields))) in
     record { bytes = omega (arith, w.bytes, l); aligned = w.aligned }
 
-module _ {τ σ : Ty} (c : IsSmall τ) (p : IsSmall σ) where
-  child : Within (child_ty τ σ) 327684
+module _ (C P : RattleType) (c : IsSmall (layout C)) (p : IsSmall (layout P)) where
+  child : Within (child_ty (layout C) (layout P)) 327684
   child = enum (case no_fields (case (field (record { bytes = c.bytes; aligned = c.aligned }) no_fields) (case (field (record { bytes = p.bytes; aligned = p.aligned }) no_fields) no_cases)))
 
-  children : (n m : ℕ) → n * 327684 + 655360 ≤ m → Within (array_vec_ty (child_ty τ σ) n) m
+  children : (n m : ℕ) → n * 327684 + 655360 ≤ m → Within (array_vec_ty (child_ty (layout C) (layout P)) n) m
   children n m l =
       let w = struct (field (struct (field (array n child) no_fields)) (field word (field unit no_fields))) in
       record { bytes = omega (arith, w.bytes, l); aligned = w.aligned }
 
-  sorted : (n : ℕ) → n ≤ 16 → Within (sorted_ty n τ σ) 200000000
+  sorted : (n : ℕ) → n ≤ 16 → Within (sorted_ty n (layout C) (layout P)) 200000000
   sorted n l =
       let w = struct (field (bytes_array n 1000000 (omega arith)) (field (children n 100000000 (omega arith)) no_fields)) in
       record { bytes = omega (arith, w.bytes); aligned = w.aligned }
 
-  indexed : Within (indexed_ty τ σ) 200000000
+  indexed : Within (indexed_ty (layout C) (layout P)) 200000000
   indexed =
       let index = struct (field byte (field byte (field (array 256 byte) (field (array 48 byte) no_fields)))) in
       let w = struct (field index (field (children 48 100000000 (omega arith)) no_fields)) in
       record { bytes = omega (arith, w.bytes); aligned = w.aligned }
 
-  masked : Within (masked_ty τ σ) 200000000
+  masked : Within (masked_ty (layout C) (layout P)) 200000000
   masked =
       let w = struct (field count (field (struct (field (array 32 byte) no_fields)) (field (children 256 100000000 (omega arith)) no_fields))) in
       record { bytes = omega (arith, w.bytes); aligned = w.aligned }
@@ -143,25 +145,25 @@ module _ {τ σ : Ty} (c : IsSmall τ) (p : IsSmall σ) where
   node : {ρ : Ty} → Within ρ 200000000 → size (node_ty ρ) < 2 ^ 63
   node r = let w = struct (field (bytes_array 7 1000000 (omega arith)) (field r no_fields)) in omega (arith, w.bytes)
 
-  pub sorted_fits : size (sorted_ty 16 τ σ) < 2 ^ 63
+  pub sorted_fits : size (sorted_ty 16 (layout C) (layout P)) < 2 ^ 63
   sorted_fits = let w = sorted 16 (omega arith) in omega (arith, w.bytes)
 
-  pub indexed_fits : size (indexed_ty τ σ) < 2 ^ 63
+  pub indexed_fits : size (indexed_ty (layout C) (layout P)) < 2 ^ 63
   indexed_fits = omega (arith, indexed.bytes)
 
-  pub masked_fits : size (masked_ty τ σ) < 2 ^ 63
+  pub masked_fits : size (masked_ty (layout C) (layout P)) < 2 ^ 63
   masked_fits = omega (arith, masked.bytes)
 
-  pub node16_fits : size (node_ty (sorted_ty 16 τ σ)) < 2 ^ 63
+  pub node16_fits : size (node_ty (sorted_ty 16 (layout C) (layout P))) < 2 ^ 63
   node16_fits = node (sorted 16 (omega arith))
 
-  pub node48_fits : size (node_ty (indexed_ty τ σ)) < 2 ^ 63
+  pub node48_fits : size (node_ty (indexed_ty (layout C) (layout P))) < 2 ^ 63
   node48_fits = node indexed
 
-  pub node256_fits : size (node_ty (masked_ty τ σ)) < 2 ^ 63
+  pub node256_fits : size (node_ty (masked_ty (layout C) (layout P))) < 2 ^ 63
   node256_fits = node masked
 
-  pub any_node_fits : size (any_node_ty τ σ) < 2 ^ 63
+  pub any_node_fits : size (any_node_ty (layout C) (layout P)) < 2 ^ 63
   any_node_fits =
       let small = struct (field (bytes_array 7 1000000 (omega arith)) (field (sorted 4 (omega arith)) no_fields)) in
       let w = enum (case (field small no_fields) (case (field pointer no_fields) (case (field pointer no_fields) (case (field pointer no_fields) no_cases)))) in

@@ -18,6 +18,7 @@ pub mod Room
 pub mod Scan
 pub mod Sizes
 pub mod OwnedSteps
+pub mod Owners
 pub mod Table
 pub mod Events
 pub mod Steps

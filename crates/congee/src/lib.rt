@@ -12,6 +12,9 @@ pub mod base_node;
 mod calls;
 pub mod child;
 mod congee;
+mod congee_arc;
+#[cfg(test)]
+mod congee_arc_tests;
 mod drainer;
 mod edit;
 #[cfg(test)]
@@ -45,6 +48,7 @@ pub use base_node::{Node, NodeIter, NodeType};
 pub use calls::{Played, Step, play};
 pub use child::{Child, Small};
 pub use congee::Congee;
+pub use congee_arc::{CongeeArc, Count};
 pub use drainer::{Calls, Drainer, NoDrain};
 pub use judge::{ArcPayload, Payload, Word64};
 pub use machine::{Machine, Move, Noise, Outcome};

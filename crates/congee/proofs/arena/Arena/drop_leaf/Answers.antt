@@ -40,10 +40,10 @@ deallocate-requires g c =
     omega (arith, u, b, a, s, c.requires.covered)
 
 pub drop-requires-room-T-Destruct : goal.drop-requires-room-T-Destruct
-drop-requires-room-T-Destruct g c κs within = let us : IsSmall (layout word) = search rules in node16_fits us g.met.P.Small.small
+drop-requires-room-T-Destruct g c κs within = let us : IsSmall (layout word) = search rules in node16_fits word g.row.P us g.met.P.Small.small
 
 pub drop-requires-2-room-T-Destruct : goal.drop-requires-2-room-T-Destruct
-drop-requires-2-room-T-Destruct g c κs within = let us : IsSmall (layout word) = search rules in node48_fits us g.met.P.Small.small
+drop-requires-2-room-T-Destruct g c κs within = let us : IsSmall (layout word) = search rules in node48_fits word g.row.P us g.met.P.Small.small
 
 pub drop-requires-3-room-T-Destruct : goal.drop-requires-3-room-T-Destruct
-drop-requires-3-room-T-Destruct g c κs within = let us : IsSmall (layout word) = search rules in node256_fits us g.met.P.Small.small
+drop-requires-3-room-T-Destruct g c κs within = let us : IsSmall (layout word) = search rules in node256_fits word g.row.P us g.met.P.Small.small

@@ -9,7 +9,7 @@ use Rattle.congee.proofs.Root.{root_tree, root_empty, root_bytes}
 use Rattle.congee.proofs.arena.Arena.new.Goals as goal
 
 pub drop-requires-in-Err-3-room-T-Destruct : goal.drop-requires-in-Err-3-room-T-Destruct
-drop-requires-in-Err-3-room-T-Destruct g c κs within = let us : IsSmall (layout word) = search rules in node256_fits us g.met.P.Small.small
+drop-requires-in-Err-3-room-T-Destruct g c κs within = let us : IsSmall (layout word) = search rules in node256_fits word g.row.P us g.met.P.Small.small
 
 pub returns-in-Ok-insert-clause-tree : goal.returns-in-Ok-insert-clause-tree
 returns-in-Ok-insert-clause-tree g c =

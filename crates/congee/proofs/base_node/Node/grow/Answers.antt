@@ -3,12 +3,12 @@ use Rattle.congee.proofs.base_node.Node.grow.Goals as goal
 
 pub drop-requires-room-T-Destruct :
     goal.drop-requires-room-T-Destruct
-drop-requires-room-T-Destruct g c κs within = node16_fits g.met.C.Small.small g.met.P.Small.small
+drop-requires-room-T-Destruct g c κs within = node16_fits g.row.C g.row.P g.met.C.Small.small g.met.P.Small.small
 
 pub drop-requires-in_ok-greater-2-room-T-Destruct :
     goal.drop-requires-in_ok-greater-2-room-T-Destruct
-drop-requires-in_ok-greater-2-room-T-Destruct g c κs within = node48_fits g.met.C.Small.small g.met.P.Small.small
+drop-requires-in_ok-greater-2-room-T-Destruct g c κs within = node48_fits g.row.C g.row.P g.met.C.Small.small g.met.P.Small.small
 
 pub drop-requires-in_ok-greater-3-room-T-Destruct :
     goal.drop-requires-in_ok-greater-3-room-T-Destruct
-drop-requires-in_ok-greater-3-room-T-Destruct g c κs within = node256_fits g.met.C.Small.small g.met.P.Small.small
+drop-requires-in_ok-greater-3-room-T-Destruct g c κs within = node256_fits g.row.C g.row.P g.met.C.Small.small g.met.P.Small.small

@@ -8,7 +8,7 @@ use Rattle.congee.proofs.base_node.NodeIterIterator.next.Goals as goal
 use Rattle.congee.proofs.base_node.NodeIterIterator.next.Goals.{in_default-via-in-Some+else-byte-self, in_default-via-in_default}
 
 pub first_from-requires : goal.first_from-requires
-first_from-requires g c = any_node_fits g.met.C.Small.small g.met.P.Small.small
+first_from-requires g c = any_node_fits g.row.C g.row.P g.met.C.Small.small g.met.P.Small.small
 
 pub returns-in-Some-clause-steps : goal.returns-in-Some-clause-steps
 returns-in-Some-clause-steps g c = between_first (children_of c.args.self.now.node.now) c.args.self.now.from c.args.self.now.end c.in-Some.byte c.in-Some.child.now c.in-Some.ensures (omega (arith, c.if-byte-self.true))

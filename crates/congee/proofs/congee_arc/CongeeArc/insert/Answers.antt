@@ -1,0 +1,32 @@
+use Rattle.std.proofs.Common.{rules, ◌≡◌, ◌<◌, ◌^◌, ap, subst, ℕ, List, None, Some, arith}
+use Rattle.judge.specs.declared.journal.Call.TheVariants as call
+use Rattle.judge.specs.declared.journal.Reply.TheVariants as reply
+use Rattle.congee.specs.Changes.{MapChange}
+use Rattle.congee.specs.Keys.{key_bytes}
+use Rattle.congee.specs.Owners.{never_same}
+use Rattle.congee.proofs.Answered.{answered_insert}
+use Rattle.congee.proofs.Sizes.{bytes_same}
+use Rattle.congee.proofs.Tables.{answer_pairs, same_pairs}
+use Rattle.congee.proofs.Ways.{same_tree}
+use Rattle.congee.proofs.congee_arc.CongeeArc.insert.Goals as goal
+
+pub returns-in-Ok-clause-answers : goal.returns-in-Ok-clause-answers
+returns-in-Ok-clause-answers g c =
+    let small : c.to_word.result < 2 ^ 64 = search rules in
+    let Q : List ℕ → Type 0 = λ k. MapChange c.self.inside.arena.nodes c.insert.new.self.nodes k c.in-Ok.before (Some c.new.result) in
+    let change : MapChange c.self.inside.arena.nodes c.insert.new.self.nodes (key_bytes c.to_word.result) c.in-Ok.before (Some c.new.result) = subst Q c.to_be_bytes-bytes.ensures c.in-Ok.ensures.change in
+    let a = answer_pairs never_same c.self.inside.arena.nodes c.insert.new.self.nodes (call.Insert c.to_word.result c.new.result) (reply.Insert c.in-Ok.before)
+    (answered_insert never_same c.self.inside.arena.nodes c.insert.new.self.nodes c.to_word.result small c.in-Ok.before c.new.result change) in
+    rw (← c.self.view_is, ← c.to_word.ensures, c.owner_of.ensures, ← c.new.ensures) a
+
+pub invariant_of-self-2 : goal.invariant_of-self-2
+invariant_of-self-2 g c = (
+  same_tree c.self.inside.arena.nodes c.insert.new.self.nodes c.in-Err.ensures.same c.self.invariant.0,
+  omega (arith, bytes_same c.self.inside.arena.nodes c.insert.new.self.nodes c.in-Err.ensures.same, c.insert.ensures.balance, c.self.invariant.1),
+)
+
+pub returns-clause-unchanged : goal.returns-clause-unchanged
+returns-clause-unchanged g c =
+    let p = same_pairs c.self.inside.arena.nodes c.insert.new.self.nodes c.in-Err.ensures.same in
+    let b = bytes_same c.self.inside.arena.nodes c.insert.new.self.nodes c.in-Err.ensures.same in
+    rw (← c.self.view_is) (λ i. record { pairs = p i; bytes = b i })
