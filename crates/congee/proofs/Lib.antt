@@ -22,6 +22,7 @@ pub mod MoveLemmas
 pub mod Moves
 pub mod OffsetLemmas
 pub mod Passes
+pub mod Paths
 pub mod Prefixes
 pub mod Puts
 pub mod RangeLemmas
