@@ -23,6 +23,7 @@ pub mod Moves
 pub mod OwnerLemmas
 pub mod OffsetLemmas
 pub mod Passes
+pub mod Paths
 pub mod Prefixes
 pub mod Puts
 pub mod RangeLemmas

@@ -21,7 +21,8 @@ pub trait Stored: Small {
     ghost fits: { FitsInMemory (the_row word Self.row) };
 }
 
-fn has_prefix(key: &[u8; 8], prefix: &[u8]) -> bool
+// Whether the prefix is the beginning of the key.
+pub(crate) fn has_prefix(key: &[u8; 8], prefix: &[u8]) -> bool
     requires { length prefix.now ≤ 7 }
     ensures { result ≡ fits prefix.now key.now }
 {

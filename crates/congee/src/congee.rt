@@ -210,7 +210,7 @@ impl<K: Word64, V: Word64, A: Allocator, D: Drop> Congee<K, V, A, D> {
     pub fn is_empty(&self) -> bool
         ensures { IsTrue result ↔ (self.now.pairs ≡ map.empty) }
     {
-        self.arena.first_from(0).is_none()
+        self.arena.first().is_none()
     }
 
     /// Writes the pairs with start <= key < end into `out`, ascending, as many as fit, and gives their number.

@@ -4,6 +4,7 @@ ghost use Rattle.std.specs.FinMap as map;
 ghost use Rattle.congee.specs.Heap.{Below, Nothing, child_for, fits, value_at};
 ghost use Rattle.congee.specs.Keys.{key_bytes};
 ghost use Rattle.congee.specs.Arena.{IsTree, OnWay, heap_of};
+ghost use Rattle.congee.specs.Place.{EndsAt, IsPath};
 ghost use Rattle.congee.specs.Gaps.{Near, Gap};
 ghost use Rattle.congee.specs.Bytes.{IsFirst};
 ghost use Rattle.congee.specs.Table.{pairs_of};
@@ -11,12 +12,16 @@ ghost use Rattle.congee.specs.OwnedSteps.{IsHeld};
 ghost use Rattle.congee.specs.Ranges.{in_range, keys_by};
 
 use crate::allocator::Allocator;
-use crate::arena::{Arena, Stored};
+use crate::arena::{Arena, Stored, has_prefix};
 use crate::child::Child;
 use crate::edit::first_apart;
 use crate::place::Spot;
+use arrayvec::ArrayVec;
 use judge::Word64;
 use std::alloc::{AllocError, Global};
+
+/// Nodes below the root, each below the one before.
+pub(crate) type Path = ArrayVec<usize, 7>;
 
 // The least number past those that begin with the first `depth` bytes of the key and go on with a byte under `next`.
 fn past(key: u64, depth: usize, next: u64) -> Option<u64>
@@ -70,20 +75,66 @@ impl<P: Stored, A: Allocator> Arena<P, A> {
         past(key, depth, next)
     }
 
-    /// The pair of the least key from a number on.
-    pub(crate) fn first_from(&self, from: u64) -> Option<(u64, &P)>
-        requires { IsTree self.now.nodes }
-        ensures { MatchOption result ((q : ℕ) → from ≤ q → map.get (pairs_of self.now.nodes) q ≡ None)
+    // The lowest node of the path that is on the key's way, or the root. What is below it leaves the path.
+    fn resume(&self, path: &mut Path, key: &[u8; 8]) -> usize
+        requires tree { IsTree self.now.nodes }
+        requires path { IsPath self.now.nodes path.old.items }
+        ensures path { IsPath self.now.nodes path.new.items }
+        ensures way { OnWay self.now.nodes key.now result }
+        ensures deep { length path.new.items ≤ length (heap_of self.now.nodes result).prefix }
+    {
+        while let Some(&at) = path.as_slice().last() {
+            if has_prefix(key, self.nodes[at].prefix()) {
+                return at;
+            }
+            path.pop();
+        }
+        0
+    }
+
+    // The end of a key's way, and what stands there. The path has the nodes of the way then.
+    fn follow(&self, path: &mut Path, key: &[u8; 8]) -> (usize, Spot)
+        requires tree { IsTree self.now.nodes }
+        requires path { IsPath self.now.nodes path.old.items }
+        ensures path { IsPath self.now.nodes path.new.items }
+        ensures way { OnWay self.now.nodes key.now result.0 }
+        ensures ends { EndsAt self.now.nodes key.now result.0 result.1 }
+    {
+        let mut at = self.resume(path, key);
+        loop {
+            let node = &self.nodes[at];
+            match node.get_child(key[node.prefix().len()]) {
+                None => return (at, Spot::Free),
+                Some(Child::Blank) => unreachable!(),
+                Some(Child::Value(_)) => return (at, Spot::Held),
+                Some(Child::Node(below)) => {
+                    let below = *below;
+                    if !has_prefix(key, self.nodes[below].prefix()) {
+                        return (at, Spot::Apart(below));
+                    }
+                    path.push(below);
+                    at = below;
+                }
+            }
+        }
+    }
+
+    /// The pair of the least key from a number on. The search goes on from a path, and leaves its own there.
+    pub(crate) fn first_along(&self, path: &mut Path, from: u64) -> Option<(u64, &P)>
+        requires tree { IsTree self.now.nodes }
+        requires path { IsPath self.now.nodes path.old.items }
+        ensures path { IsPath self.now.nodes path.new.items }
+        ensures first { MatchOption result ((q : ℕ) → from ≤ q → map.get (pairs_of self.now.nodes) q ≡ None)
             (λ r. IsFirst (pairs_of self.now.nodes) from r.0 r.1.now) }
     {
         let mut key = from;
         loop {
             let bytes = key.to_be_bytes();
-            let place = self.locate(&bytes);
-            let next = match place.spot {
-                Spot::Held => return Some((key, self.held(place.at, &bytes))),
-                Spot::Free => self.past_free(place.at, key, &bytes),
-                Spot::Apart(below) => self.past_apart(place.at, below, key, &bytes),
+            let (at, spot) = self.follow(path, &bytes);
+            let next = match spot {
+                Spot::Held => return Some((key, self.held(at, &bytes))),
+                Spot::Free => self.past_free(at, key, &bytes),
+                Spot::Apart(below) => self.past_apart(at, below, key, &bytes),
             };
             match next {
                 Some(next) => key = next,
@@ -92,14 +143,24 @@ impl<P: Stored, A: Allocator> Arena<P, A> {
         }
     }
 
+    /// The pair of the least key.
+    pub(crate) fn first(&self) -> Option<(u64, &P)>
+        requires { IsTree self.now.nodes }
+        ensures { MatchOption result ((q : ℕ) → 0 ≤ q → map.get (pairs_of self.now.nodes) q ≡ None)
+            (λ r. IsFirst (pairs_of self.now.nodes) 0 r.0 r.1.now) }
+    {
+        self.first_along(&mut Path::new(), 0)
+    }
+
     /// All keys, ascending.
     pub(crate) fn keys<K: Word64>(&self, alloc: Global) -> Result<Vec<K, Global>, AllocError>
         requires { IsTree self.now.nodes }
         ensures { IfOk result (λ keys. keys.items ≡ keys_by K.of_word (map.entries (pairs_of self.now.nodes))) }
     {
         let mut keys = Vec::new(alloc);
+        let mut path = Path::new();
         let mut from = 0;
-        while let Some((key, _)) = self.first_from(from) {
+        while let Some((key, _)) = self.first_along(&mut path, from) {
             if keys.push(K::from_word(key)).is_err() {
                 return Err(AllocError);
             }
@@ -134,10 +195,11 @@ impl<A: Allocator> Arena<u64, A> {
         ensures count { result ≡ length (take (length out.old) (in_range start end (map.entries (pairs_of self.now.nodes)))) }
         ensures past { drop result out.new ≡ drop result out.old }
     {
+        let mut path = Path::new();
         let mut from = start;
         let mut count = 0;
         while count < out.len() {
-            match self.first_from(from) {
+            match self.first_along(&mut path, from) {
                 Some((key, value)) if key < end => {
                     out[count] = (key, *value);
                     count += 1;
