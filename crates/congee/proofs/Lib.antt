@@ -3,6 +3,7 @@ pub mod BetweenLemmas
 pub mod BitLemmas
 pub mod ByteLemmas
 pub mod ChainLemmas
+pub mod Drains
 pub mod Edits
 pub mod Entries
 pub mod EntryLemmas
