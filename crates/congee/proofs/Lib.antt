@@ -2,6 +2,7 @@ pub mod Answered
 pub mod BetweenLemmas
 pub mod BitLemmas
 pub mod ByteLemmas
+pub mod ByteRanges
 pub mod ChainLemmas
 pub mod Drains
 pub mod Edits

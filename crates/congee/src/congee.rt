@@ -1,8 +1,9 @@
 //! The owned tree of words.
 ghost use Rattle.std.specs.Prelude.{◌≡◌, ◌+◌, ◌≤◌, ℕ, Option, None, Some, Ok, Err, IfOk, IfErr, IfSome, IfNone, OnOk, OnErr};
-ghost use Rattle.std.specs.Prelude.{IsTrue, ◌↔◌, nat_eq, length, take, drop};
+ghost use Rattle.std.specs.Prelude.{IsTrue, ◌↔◌, nat_eq, length, take, drop, MatchOption};
 ghost use Rattle.std.specs.Option.{option_map};
 ghost use Rattle.std.specs.FinMap as map;
+ghost use Rattle.congee.specs.Bytes.{IsFirst};
 ghost use Rattle.congee.specs.Content.{Answers, Keeps, Unchanged};
 ghost use Rattle.congee.specs.Drained.{Drained};
 ghost use Rattle.congee.specs.OwnedSteps.{IsOutOf, IsRefusal};
@@ -212,6 +213,14 @@ impl<K: Word64, V: Word64, A: Allocator, D: Drop> Congee<K, V, A, D> {
         ensures { IsTrue result ↔ (self.now.pairs ≡ map.empty) }
     {
         self.arena.first_from(0).is_none()
+    }
+
+    // The pair of the least key from a number on.
+    pub(crate) fn first_from(&self, from: u64) -> Option<(u64, u64)>
+        ensures { MatchOption result ((q : ℕ) → from ≤ q → map.get self.now.pairs q ≡ None) (λ r. IsFirst self.now.pairs from r.0 r.1) }
+    {
+        let (key, value) = self.arena.first_from(from)?;
+        Some((key, *value))
     }
 
     /// Writes the pairs with start <= key < end into `out`, ascending, as many as fit, and gives their number.
