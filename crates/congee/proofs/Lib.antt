@@ -2,7 +2,9 @@ pub mod Answered
 pub mod BetweenLemmas
 pub mod BitLemmas
 pub mod ByteLemmas
+pub mod ByteRanges
 pub mod ChainLemmas
+pub mod Drains
 pub mod Edits
 pub mod Entries
 pub mod EntryLemmas

@@ -13,6 +13,33 @@ use Rattle.congee.specs.Ranges.{in_range, keys_by}
 use Rattle.congee.specs.Places.{AllKeys}
 use Rattle.congee.proofs.BetweenLemmas.{between_none, between_first, all_found, get_find}
 
+module _ {T : Type 0} where
+  -- one more pair is written
+  pub pair_written : (out : List T) (i room : ℕ) (p : T) (rest all : List T) → i < length out → room ≡ length out
+      → take i out ++ take (room - i) (p ∷ rest) ≡ all → take (i + 1) (set out i p) ++ take (room - (i + 1)) rest ≡ all
+  pair_written out i room p rest all l e h =
+      let up : room - i ≡ suc (room - (i + 1)) = omega (arith, l, e) in
+      ap (λ t. t ++ take (room - (i + 1)) rest) (take-set_at out i (i + 1) p refl l) ∙ append_one (take i out) p (take (room - (i + 1)) rest) ∙ ap (λ n. take i out ++ take n (p ∷ rest)) (sym up) ∙ h
+    where
+      append_one : (xs : List T) (p : T) (ys : List T) → (xs ++ p ∷ []) ++ ys ≡ xs ++ (p ∷ ys)
+      append_one [] p ys = refl
+      append_one (x ∷ xs) p ys = ap (λ t. x ∷ t) (append_one xs p ys)
+
+  pub rest_kept : (out old : List T) (i : ℕ) (p : T) → i < length out → drop i out ≡ drop i old → drop (i + 1) (set out i p) ≡ drop (i + 1) old
+  rest_kept out old i p l h = drop-set-lt (i + 1) out i p (omega arith) ∙ sym (drop-drop 1 i out) ∙ ap (drop 1) h ∙ drop-drop 1 i old
+
+  take_none : (n : ℕ) (es : List T) → es ≡ [] → take n es ≡ []
+  take_none zero [] e = refl
+  take_none (suc n) [] e = refl
+  take_none n (x ∷ es) e = absurd (cc e)
+
+  -- the range has no pair more
+  pub range_ended : (out rest all : List T) (i n : ℕ) → take i out ++ take n rest ≡ all → rest ≡ [] → take i out ≡ all
+  range_ended out rest all i n h e = sym (append-nil (take i out)) ∙ ap (λ t. take i out ++ t) (sym (take_none n rest e)) ∙ h
+
+  pub counted : (out all : List T) (i : ℕ) → i ≤ length out → take i out ≡ all → i ≡ length all
+  counted out all i l e = sym (length-take-le i out l) ∙ ap length e
+
 module _ {X : Type 0} where
   -- a range that ends before a number, and one that ends at it
   pub ends_before : (start e : ℕ) (es : List (ℕ × X)) → in_range start (suc e) es ≡ between start e es
@@ -41,32 +68,6 @@ module _ {X : Type 0} where
   range_first m start zero k x f l = absurd (omega (arith, l))
   range_first m start (suc e) k x f l =
       ends_before start e (map.entries m) ∙ between_first m start e k x f (omega (arith, l)) ∙ ap (λ r. (k, x) ∷ r) (sym (ends_before (k + 1) e (map.entries m)))
-
-  -- one more pair is written
-  pub pair_written : (out : List (ℕ × X)) (i room : ℕ) (p : ℕ × X) (rest all : List (ℕ × X)) → i < length out → room ≡ length out
-      → take i out ++ take (room - i) (p ∷ rest) ≡ all → take (i + 1) (set out i p) ++ take (room - (i + 1)) rest ≡ all
-  pair_written out i room p rest all l e h =
-      let up : room - i ≡ suc (room - (i + 1)) = omega (arith, l, e) in
-      ap (λ t. t ++ take (room - (i + 1)) rest) (take-set_at out i (i + 1) p refl l) ∙ append_one (take i out) p (take (room - (i + 1)) rest) ∙ ap (λ n. take i out ++ take n (p ∷ rest)) (sym up) ∙ h
-    where
-      append_one : (xs : List (ℕ × X)) (p : ℕ × X) (ys : List (ℕ × X)) → (xs ++ p ∷ []) ++ ys ≡ xs ++ (p ∷ ys)
-      append_one [] p ys = refl
-      append_one (x ∷ xs) p ys = ap (λ t. x ∷ t) (append_one xs p ys)
-
-  pub rest_kept : (out old : List (ℕ × X)) (i : ℕ) (p : ℕ × X) → i < length out → drop i out ≡ drop i old → drop (i + 1) (set out i p) ≡ drop (i + 1) old
-  rest_kept out old i p l h = drop-set-lt (i + 1) out i p (omega arith) ∙ sym (drop-drop 1 i out) ∙ ap (drop 1) h ∙ drop-drop 1 i old
-
-  take_none : (n : ℕ) (es : List (ℕ × X)) → es ≡ [] → take n es ≡ []
-  take_none zero [] e = refl
-  take_none (suc n) [] e = refl
-  take_none n (x ∷ es) e = absurd (cc e)
-
-  -- the range has no pair more
-  pub range_ended : (out rest all : List (ℕ × X)) (i n : ℕ) → take i out ++ take n rest ≡ all → rest ≡ [] → take i out ≡ all
-  range_ended out rest all i n h e = sym (append-nil (take i out)) ∙ ap (λ t. take i out ++ t) (sym (take_none n rest e)) ∙ h
-
-  pub counted : (out all : List (ℕ × X)) (i : ℕ) → i ≤ length out → take i out ≡ all → i ≡ length all
-  counted out all i l e = sym (length-take-le i out l) ∙ ap length e
 
   range_of_all : (e : ℕ) (es : List (ℕ × X)) → AllKeys (λ k. k < e) es → in_range 0 e es ≡ es
   range_of_all e [] a = refl

@@ -1,7 +1,7 @@
 -- The room that the nodes take, after a change of one of them.
 use Rattle.std.proofs.Common.{◌≡◌, ◌≢◌, ℕ, zero, suc, ◌+◌, List, [], ◌∷◌, get_or, refl, sym, ap, subst, ◌∙◌, arith, inl, inr}
 use Rattle.std.specs.Prelude.{Option, None, Some}
-use Rattle.slab.specs.Slab.{get, Updates, ContainsKey, with_value}
+use Rattle.slab.specs.Slab.{get, Updates, ContainsKey, with_value, entries, entries_from}
 use Rattle.slab.proofs.SlabLemmas.{Updates-with_value}
 use Rattle.congee.proofs.Tree.{same_or_not}
 use Rattle.congee.specs.Forms.{form_of, size_of}
@@ -81,3 +81,16 @@ module _ {P : Type 0} where
         | inl p ↦ (let Q : ℕ → Type 0 = λ n. get (with_value s at y) n ≡ get s n in subst Q (sym p) (u.changed ∙ (ap Some q ∙ sym e)))
         | inr ne ↦ u.others name ne
       ]
+
+  -- the sizes of the nodes that a walk over the slab has still to come to
+  abbrev pub bytes_left : List (ℕ × Node ℕ P) → ℕ
+  bytes_left [] = 0
+  bytes_left ((key, node) ∷ rest) = size_of (form_of node) + bytes_left rest
+
+  left_from : (key : ℕ) (slots : List (Option (Node ℕ P))) → bytes_left (entries_from key slots) ≡ bytes_in slots
+  left_from key [] = refl
+  left_from key (None ∷ rest) = let r = left_from (key + 1) rest in omega (arith, r)
+  left_from key (Some node ∷ rest) = ap (λ n. size_of (form_of node) + n) (left_from (key + 1) rest)
+
+  pub bytes_left_first : (s : Nodes P) → bytes_left (entries s) ≡ bytes_of s
+  bytes_left_first s = left_from 0 s.slots

@@ -3,6 +3,7 @@ pub mod Balance
 pub mod Bytes
 pub mod Changes
 pub mod Content
+pub mod Drained
 pub mod Forms
 pub mod Gaps
 pub mod Heap

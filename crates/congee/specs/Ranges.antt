@@ -1,5 +1,6 @@
 -- The pairs of a map within a range of keys.
 use Rattle.std.specs.Prelude.{ℕ, ltb, cond, List, [], ◌∷◌}
+use Rattle.congee.specs.Keys.{key_bytes}
 
 -- the pairs whose key is `start` or more, and less than `end`
 abbrev pub in_range : {X : Type 0} → ℕ → ℕ → List (ℕ × X) → List (ℕ × X)
@@ -10,3 +11,8 @@ in_range start end ((k, x) ∷ r) = cond (ltb k start) (in_range start end r) (c
 abbrev pub keys_by : {K X : Type 0} → (ℕ → K) → List (ℕ × X) → List K
 keys_by of_word [] = []
 keys_by of_word ((k, x) ∷ r) = of_word k ∷ keys_by of_word r
+
+-- the pairs, each key as its eight bytes
+abbrev pub by_bytes : {X : Type 0} → List (ℕ × X) → List (List ℕ × X)
+by_bytes [] = []
+by_bytes ((k, x) ∷ r) = (key_bytes k, x) ∷ by_bytes r

@@ -1,9 +1,11 @@
 //! The owned tree of words.
 ghost use Rattle.std.specs.Prelude.{◌≡◌, ◌+◌, ◌≤◌, ℕ, Option, None, Some, Ok, Err, IfOk, IfErr, IfSome, IfNone, OnOk, OnErr};
-ghost use Rattle.std.specs.Prelude.{IsTrue, ◌↔◌, nat_eq, length, take, drop};
+ghost use Rattle.std.specs.Prelude.{IsTrue, ◌↔◌, nat_eq, length, take, drop, MatchOption};
 ghost use Rattle.std.specs.Option.{option_map};
 ghost use Rattle.std.specs.FinMap as map;
+ghost use Rattle.congee.specs.Bytes.{IsFirst};
 ghost use Rattle.congee.specs.Content.{Answers, Keeps, Unchanged};
+ghost use Rattle.congee.specs.Drained.{Drained};
 ghost use Rattle.congee.specs.OwnedSteps.{IsOutOf, IsRefusal};
 ghost use Rattle.congee.specs.Ranges.{in_range, keys_by};
 ghost use Rattle.judge.specs.declared.journal.Call.TheVariants as call;
@@ -11,7 +13,7 @@ ghost use Rattle.judge.specs.declared.journal.Reply.TheVariants as reply;
 
 use crate::allocator::{Allocator, OOMError};
 use crate::arena::Arena;
-use crate::drainer::NoDrain;
+use crate::drainer::{Drainer, NoDrain};
 use judge::Word64;
 use std::alloc::{AllocError, Global};
 use std::marker::{Model, PhantomData};
@@ -213,6 +215,14 @@ impl<K: Word64, V: Word64, A: Allocator, D: Drop> Congee<K, V, A, D> {
         self.arena.first().is_none()
     }
 
+    // The pair of the least key from a number on.
+    pub(crate) fn first_from(&self, from: u64) -> Option<(u64, u64)>
+        ensures { MatchOption result ((q : ℕ) → from ≤ q → map.get self.now.pairs q ≡ None) (λ r. IsFirst self.now.pairs from r.0 r.1) }
+    {
+        let (key, value) = self.arena.first_from(from)?;
+        Some((key, *value))
+    }
+
     /// Writes the pairs with start <= key < end into `out`, ascending, as many as fit, and gives their number.
     /// The places past them stay as they were.
     pub fn range(&self, start: &K, end: &K, out: &mut [(u64, u64)]) -> usize
@@ -241,5 +251,20 @@ impl<K: Word64, V: Word64, A: Allocator> Congee<K, V, A, NoDrain> {
         ensures refused { IfErr result (λ e. IsRefusal (A.charged_of allocator) 2104 (A.limit_of allocator) e) }
     {
         Congee::new_with_drainer(alloc, allocator, NoDrain)
+    }
+}
+
+impl<K: Word64, V: Word64, A: Allocator, D: Drainer<K, V>> Congee<K, V, A, D> {
+    /// Hands each pair to the drainer, ascending by key, and drops the nodes. Gives the allocator and the drainer back:
+    /// the nodes' bytes are off the charge, so it is the one with which the allocator came in.
+    pub fn close(self) -> (A, D)
+        requires { D.can_drain self.drainer }
+        ensures drained { Drained D.drains K.of_word V.of_word self.drainer (map.entries self.pairs) result.1 }
+        ensures charged { A.charged_of result.0 + self.bytes ≡ A.charged_of self.allocator }
+        ensures limit { A.limit_of result.0 ≡ A.limit_of self.allocator }
+    {
+        let Congee { arena, drainer, .. } = self;
+        let drainer = arena.drain::<K, V, D>(drainer);
+        (arena.release(), drainer)
     }
 }

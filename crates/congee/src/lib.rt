@@ -11,6 +11,7 @@ mod arena;
 pub mod base_node;
 mod calls;
 pub mod child;
+mod close;
 mod congee;
 mod congee_arc;
 #[cfg(test)]

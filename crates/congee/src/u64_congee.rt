@@ -1,9 +1,10 @@
 //! The owned tree whose keys are numbers.
-ghost use Rattle.std.specs.Prelude.{◌≡◌, ◌+◌, ℕ, Option, Some, None, IfOk, IfErr, OnErr, nat_eq};
+ghost use Rattle.std.specs.Prelude.{◌≡◌, ◌+◌, ℕ, Option, Some, None, IfOk, IfErr, OnErr, nat_eq, length, take, drop};
 ghost use Rattle.std.specs.Option.{option_map};
 ghost use Rattle.std.specs.FinMap as map;
 ghost use Rattle.congee.specs.Content.{Answers, Keeps, Unchanged};
 ghost use Rattle.congee.specs.OwnedSteps.{IsOutOf, IsRefusal};
+ghost use Rattle.congee.specs.Ranges.{by_bytes, in_range};
 ghost use Rattle.judge.specs.declared.journal.Call.TheVariants as call;
 ghost use Rattle.judge.specs.declared.journal.Reply.TheVariants as reply;
 
@@ -56,5 +57,36 @@ impl<V: Word64, A: Allocator> U64Congee<V, A> {
         ensures keeps { Keeps A.charged_of A.limit_of self.old.tree self.new.tree }
     {
         self.tree.remove(&key)
+    }
+
+    /// Writes the pairs with start <= key < end into `out`, ascending, as many as fit, each key as its eight bytes, the
+    /// highest first. Gives their number. The places past them stay as they were.
+    pub fn range(&self, start: u64, end: u64, out: &mut [([u8; 8], u64)]) -> usize
+        ensures pairs { take result out.new ≡ by_bytes (take (length out.old) (in_range start end (map.entries self.now.tree.pairs))) }
+        ensures count { result ≡ length (take (length out.old) (in_range start end (map.entries self.now.tree.pairs))) }
+        ensures past { drop result out.new ≡ drop result out.old }
+    {
+        let mut from = start;
+        let mut count = 0;
+        while count < out.len() {
+            match self.tree.first_from(from) {
+                Some((key, value)) if key < end => {
+                    out[count] = (key.to_be_bytes(), value);
+                    count += 1;
+                    from = key + 1;
+                }
+                _ => return count,
+            }
+        }
+        count
+    }
+
+    /// Drops the pairs and the nodes. Gives the allocator back with the charge with which it came in.
+    pub fn close(self) -> A
+        ensures charged { A.charged_of result + self.tree.bytes ≡ A.charged_of self.tree.allocator }
+        ensures limit { A.limit_of result ≡ A.limit_of self.tree.allocator }
+    {
+        let (allocator, _) = self.tree.close();
+        allocator
     }
 }
