@@ -10,7 +10,7 @@ use Rattle.congee.proofs.Fits.{same_key}
 use Rattle.congee.proofs.Tree.{same_or_not, finds, aside}
 use Rattle.congee.proofs.Link.{Leaf, Links, link_tree, link_map}
 use Rattle.congee.proofs.Unlink.{Unlinks, unlink_tree, unlink_map}
-use Rattle.congee.proofs.Touch.{noted, noted_same, noted_other, Touched, as_it_was, under_lock, out_of_reach, effect, not_taken, locked_not_free, owner_locked, but_one, touch_one}
+use Rattle.congee.proofs.Touch.{fares_free, fares_mine, noted, noted_same, noted_other, Touched, as_it_was, under_lock, out_of_reach, effect, not_taken, locked_not_free, owner_locked, but_one, touch_one}
 
 -- a change of the map at one key
 pub record Changed {V : Type 0} (i : ℕ) (a : ℕ → Note) (h : ℕ → Node V) (key : List ℕ) (found : Option V) (given : Option V) (a' : ℕ → Note) (h' : ℕ → Node V) : Type 0 where
@@ -22,6 +22,7 @@ pub record Changed {V : Type 0} (i : ℕ) (a : ℕ → Note) (h : ℕ → Node V
 -- a node that the call has locked before and after
 pub record Under {V : Type 0} (i : ℕ) (a : ℕ → Note) (h : ℕ → Node V) (a' : ℕ → Note) (h' : ℕ → Node V) (n : ℕ) : Type 0 where
   pub owner : (a n).owner ≡ Some i
+  pub owner_after : (a' n).owner ≡ Some i
   pub published : is_published (a n).status ≡ true
   pub published_after : is_published (a' n).status ≡ true
   pub linked : (a' n).status ≡ Linked → (a n).status ≡ Linked
@@ -44,11 +45,13 @@ under_touch i a h a' h' n w u =
       stands = λ _. let s : Stands (h n) = (w.each n).stands u.published in record { made = u.made ∙ s.made; kept = u.destroyed ∙ s.kept };
       unretired = λ l. u.retired ∙ (w.each n).unretired (u.linked l);
     })
+    (fares_mine i (a n) (a' n) (h n) (h' n) u.owner u.owner_after u.published_after u.retired)
 
 -- a node whose children a change touched
 pub under_change : {V : Type 0} (i : ℕ) (a : ℕ → Note) (h : ℕ → Node V) (a' : ℕ → Note) (h1 h' : ℕ → Node V) (n b : ℕ) (x : Hung V) → Holding i a n → a' n ≡ a n → h1 n ≡ h n → ChangeGives h1 n b x h' → Under i a h a' h' n
 under_change i a h a' h1 h' n b x o e f k = record {
   owner = o.owner;
+  owner_after = rw e o.owner;
   published = ap is_published o.linked;
   published_after = rw e (ap is_published o.linked);
   linked = λ _. o.linked;
@@ -65,6 +68,7 @@ pub record Live {V : Type 0} (n : Node V) : Type 0 where
   pub made : n.made ≡ true
   pub kept : n.destroyed ≡ false
   pub unretired : n.retired ≡ false
+  pub unlocked : n.locked ≡ false
 
 abbrev pub joined : ℕ → Note
 joined p = record { status = Linked; owner = None; parent = p }
@@ -79,12 +83,13 @@ joined_touch i a h a' h' key c size least p m e l =
       stands = λ _. record { made = l.made; kept = l.kept };
       unretired = λ _. l.unretired;
     })
+    (fares_free i (a c) (a' c) (h c) (h' c) (rw e refl) (rw e refl) l.unlocked)
 
 pub live_made : {V : Type 0} (i : ℕ) (a : ℕ → Note) (h : ℕ → Node V) (key : List ℕ) (c size least : ℕ) → Made i a h key c size least → Live (h c)
-live_made i a h key c size least m = record { made = m.made; kept = m.kept; unretired = m.unretired }
+live_made i a h key c size least m = record { made = m.made; kept = m.kept; unretired = m.unretired; unlocked = m.unlocked }
 
 pub live_changed : {V : Type 0} (h : ℕ → Node V) (c b : ℕ) (x : Hung V) (h' : ℕ → Node V) → ChangeGives h c b x h' → Live (h c) → Live (h' c)
-live_changed h c b x h' k l = record { made = k.made ∙ l.made; kept = k.destroyed ∙ l.kept; unretired = k.retired ∙ l.unretired }
+live_changed h c b x h' k l = record { made = k.made ∙ l.made; kept = k.destroyed ∙ l.kept; unretired = k.retired ∙ l.unretired; unlocked = k.locked ∙ l.unlocked }
 
 pub live_same : {V : Type 0} (n n' : Node V) → n' ≡ n → Live n → Live n'
 live_same {V} n n' e l = let P : Node V → Type 0 = λ z. Live z in subst P (sym e) l
@@ -272,6 +277,7 @@ unlink_changed i a h key p b m v h' len t w o fit eb hung om leaf k =
       | inl q ↦ (let P : ℕ → Type 0 = λ y. Touched i a h (left_out a i m) h' y in
           subst P (sym q) (under_touch i a h _ h' m w (record {
             owner = om;
+            owner_after = rw same refl;
             published = ap is_published ch.linked;
             published_after = rw same refl;
             linked = λ _. ch.linked;

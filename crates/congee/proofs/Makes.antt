@@ -16,10 +16,10 @@ use Rattle.congee.specs.Heap.{Node, Hung, value_at, is_taken, fits}
 use Rattle.congee.specs.Events.{NewNode, BackGives, places}
 use Rattle.congee.specs.Steps.{BackOne, BackTwo, BackLeaf}
 use Rattle.congee.specs.Keys.{key_bytes}
-use Rattle.congee.specs.Ledger.{Note, Status, Held, Linked, is_published, Tree, Words}
-use Rattle.congee.specs.Protocol.{Rely, Made, MadeOne, MadeTwo, Effect}
+use Rattle.congee.specs.Ledger.{Note, Status, Held, Linked, Back, is_published, Tree, Words}
+use Rattle.congee.specs.Protocol.{Rely, Made, MadeOne, MadeTwo, Fares, Effect}
 use Rattle.congee.proofs.Tree.{same_or_not}
-use Rattle.congee.proofs.Touch.{noted, noted_same, noted_other, as_it_was, effect}
+use Rattle.congee.proofs.Touch.{fares_same, fares_back, noted, noted_same, noted_other, as_it_was, effect}
 use Rattle.congee.proofs.Words.{Still, making, backed, make_still, back_still}
 use Rattle.congee.proofs.Change.{made_apart}
 use Rattle.congee.proofs.Locks.{made_same}
@@ -39,12 +39,13 @@ rely_then {V} j a h a1 h1 a2 h2 r s = record {
       let f : (h2 n ≡ h1 n) × (a2 n ≡ a1 n) = s.held n (ap (λ x. x.status) e.1 ∙ o) in (f.0 ∙ e.0, f.1 ∙ e.1);
 }
 
-still_then : {V : Type 0} (i : ℕ) (a : ℕ → Note) (h : ℕ → Node V) (a1 : ℕ → Note) (h1 : ℕ → Node V) (a2 : ℕ → Note) (h2 : ℕ → Node V) → Still i a h a1 h1 → Still i a1 h1 a2 h2 → Still i a h a2 h2
-still_then i a h a1 h1 a2 h2 r s = record {
+still_then : {V : Type 0} (i : ℕ) (a : ℕ → Note) (h : ℕ → Node V) (a1 : ℕ → Note) (h1 : ℕ → Node V) (a2 : ℕ → Note) (h2 : ℕ → Node V) → Still i a h a1 h1 → Still i a1 h1 a2 h2 → ((n : ℕ) → Fares i (a n) (a2 n) (h n) (h2 n)) → Still i a h a2 h2
+still_then i a h a1 h1 a2 h2 r s f = record {
   effect = record {
     tree = s.effect.tree;
     words = s.effect.words;
     others = λ j ne. rely_then j a h a1 h1 a2 h2 (r.effect.others j ne) (s.effect.others j ne);
+    fares = f;
   };
   map = λ x l. s.map x l ∙ r.map x l;
 }
@@ -73,9 +74,21 @@ back_nodes i a h key c size least d h1 h' t w mc md ne g k =
     let s : Still i a h (backed a d) h1 = back_still i a h key d 7 0 h1 t w md g in
     let mc' : Made i (backed a d) h1 key c size least = made_same i a h (backed a d) h1 key c size least (g.others c ne) (noted_other a d _ c ne) mc in
     let s' : Still i (backed a d) h1 (backed (backed a d) c) h' = back_still i (backed a d) h1 key c size least h' s.effect.tree s.effect.words mc' k in
+    let last : backed (backed a d) c c ≡ record { status = Back; owner = None; parent = 0 } = noted_same (backed a d) c _ in
+    let first : backed (backed a d) c d ≡ record { status = Back; owner = None; parent = 0 } = noted_other (backed a d) c _ d (λ e. ne (sym e)) ∙ noted_same a d _ in
+    let fares : (n : ℕ) → Fares i (a n) (backed (backed a d) c n) (h n) (h' n) = λ n. elim (same_or_not n c) [
+      | inl q ↦ (let P : ℕ → Type 0 = λ y. Fares i (a y) (backed (backed a d) c y) (h y) (h' y) in
+          subst P (sym q) (fares_back i (a c) _ (h c) (h' c) (rw last refl) (rw last refl) k.gone))
+      | inr nc ↦ elim (same_or_not n d) [
+        | inl q ↦ (let P : ℕ → Type 0 = λ y. Fares i (a y) (backed (backed a d) c y) (h y) (h' y) in
+            subst P (sym q) (fares_back i (a d) _ (h d) (h' d) (rw first refl) (rw first refl) (rw (k.others d (λ e. ne (sym e))) g.gone)))
+        | inr nd ↦ (let e : backed (backed a d) c n ≡ a n = noted_other (backed a d) c _ n nc ∙ noted_other a d _ n nd in
+            fares_same i (a n) _ (h n) (h' n) (k.others n nc ∙ g.others n nd) (ap (λ z. z.status) e) (ap (λ z. z.owner) e))
+      ]
+    ] in
     record {
       notes = backed (backed a d) c;
-      still = still_then i a h (backed a d) h1 (backed (backed a d) c) h' s s';
+      still = still_then i a h (backed a d) h1 (backed (backed a d) c) h' s s' fares;
       keeps = λ n p. noted_other (backed a d) c _ n (λ e. made_apart i a h key c size least n mc p (sym e)) ∙ noted_other a d _ n (λ e. made_apart i a h key d 7 0 n md p (sym e));
     }
 

@@ -49,7 +49,7 @@ module _ (a : ℕ → Note) (i p m c d : ℕ) where
   pub regrown_status : (x : ℕ) → x ≢ c → x ≢ d → x ≢ m → (regrown a i p m c d x).status ≡ (a x).status
   regrown_status x nc nd nm = rw (regrown_rest x nc nd nm) (by_test (λ (n : Note). n.status ≡ (a x).status) (is_published (a x).status && ((a x).parent == m)) _ _ (λ _. refl) (λ _. refl))
 
-  regrown_owner : (x : ℕ) → x ≢ c → x ≢ d → x ≢ m → (regrown a i p m c d x).owner ≡ (a x).owner
+  pub regrown_owner : (x : ℕ) → x ≢ c → x ≢ d → x ≢ m → (regrown a i p m c d x).owner ≡ (a x).owner
   regrown_owner x nc nd nm = rw (regrown_rest x nc nd nm) (by_test (λ (n : Note). n.owner ≡ (a x).owner) (is_published (a x).status && ((a x).parent == m)) _ _ (λ _. refl) (λ _. refl))
 
   regrown_same : (x : ℕ) → x ≢ c → x ≢ d → x ≢ m → (a x).parent ≢ m → (regrown a i p m c d x).parent ≡ (a x).parent

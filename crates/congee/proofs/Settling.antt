@@ -25,7 +25,7 @@ use Rattle.congee.proofs.Link.{Leaf}
 use Rattle.congee.proofs.Grow.{Extra, a_value, a_leaf}
 use Rattle.congee.proofs.Touch.{noted, noted_other}
 use Rattle.congee.proofs.Change.{Changed, Under, Live, live_made, live_changed, live_same, joined, leaf_filled, leaf_same, made_apart, set_changed, link_changed, unlink_changed, left_out}
-use Rattle.congee.proofs.Regrow.{regrown, regrown_leaf, regrown_status, regrown_old, LeafMore, no_leaf, new_leaf, Regrows, regrow_changed}
+use Rattle.congee.proofs.Regrow.{regrown, regrown_leaf, regrown_status, regrown_owner, regrown_old, LeafMore, no_leaf, new_leaf, Regrows, regrow_changed}
 use Rattle.congee.proofs.Parting.{split_changed, parted}
 use Rattle.congee.proofs.Sound.{Sound}
 use Rattle.congee.proofs.Locks.{Kept}
@@ -45,9 +45,10 @@ fits_same (x ∷ p) (y ∷ q) (z ∷ key) a b l =
     cc
 
 -- the node above, locked before and after, with one of its children changed
-under_above : {V : Type 0} (i : ℕ) (a : ℕ → Note) (h : ℕ → Node V) (a' : ℕ → Note) (g h' : ℕ → Node V) (n b : ℕ) (x : Hung V) → Holding i a n → (a' n).status ≡ (a n).status → g n ≡ h n → ChangeGives g n b x h' → Under i a h a' h' n
-under_above i a h a' g h' n b x o e f k = record {
+under_above : {V : Type 0} (i : ℕ) (a : ℕ → Note) (h : ℕ → Node V) (a' : ℕ → Note) (g h' : ℕ → Node V) (n b : ℕ) (x : Hung V) → Holding i a n → (a' n).status ≡ (a n).status → (a' n).owner ≡ (a n).owner → g n ≡ h n → ChangeGives g n b x h' → Under i a h a' h' n
+under_above i a h a' g h' n b x o e eo f k = record {
   owner = o.owner;
+  owner_after = eo ∙ o.owner;
   published = ap is_published o.linked;
   published_after = rw e (ap is_published o.linked);
   linked = λ _. o.linked;
@@ -60,10 +61,11 @@ under_above i a h a' g h' n b x o e f k = record {
 }
 
 -- the old node, whose values may have been moved
-under_taken : {V : Type 0} (i : ℕ) (a : ℕ → Note) (h : ℕ → Node V) (a' : ℕ → Note) (g g1 h' : ℕ → Node V) (m c : ℕ) → (a m).owner ≡ Some i → (a m).status ≡ Linked → is_published (a' m).status ≡ true
+under_taken : {V : Type 0} (i : ℕ) (a : ℕ → Note) (h : ℕ → Node V) (a' : ℕ → Note) (g g1 h' : ℕ → Node V) (m c : ℕ) → (a m).owner ≡ Some i → (a m).status ≡ Linked → is_published (a' m).status ≡ true → (a' m).owner ≡ Some i
     → g m ≡ h m → TakeOverGives g m c g1 → h' m ≡ g1 m → Under i a h a' h' m
-under_taken i a h a' g g1 h' m c o l p e k f = record {
+under_taken i a h a' g g1 h' m c o l p po e k f = record {
   owner = o;
+  owner_after = po;
   published = ap is_published l;
   published_after = p;
   linked = λ _. l;
@@ -76,7 +78,7 @@ under_taken i a h a' g g1 h' m c o l p e k f = record {
 }
 
 live_taken : {V : Type 0} (h : ℕ → Node V) (m c : ℕ) (h' : ℕ → Node V) → TakeOverGives h m c h' → Live (h c) → Live (h' c)
-live_taken h m c h' k l = record { made = k.made ∙ l.made; kept = k.destroyed ∙ l.kept; unretired = k.retired ∙ l.unretired }
+live_taken h m c h' k l = record { made = k.made ∙ l.made; kept = k.destroyed ∙ l.kept; unretired = k.retired ∙ l.unretired; unlocked = k.locked ∙ l.unlocked }
 
 module _ {V : Type 0} (i : ℕ) (a : ℕ → Note) (h : ℕ → Node V) (key : List ℕ) (len : length key ≡ 8) (t : Tree a h) (w : Words a h) where
   -- a full leaf gives way to a greater one with the value
@@ -115,8 +117,8 @@ module _ {V : Type 0} (i : ℕ) (a : ℕ → Note) (h : ℕ → Node V) (key : L
         copied = λ y ne. ap (λ z. z.children y) ec ∙ (k2.beside y (let P : ℕ → Type 0 = λ z. y ≢ get_or key z 0 in subst P seven ne) ∙ k1.children y);
         extra = a_value refl size (let P : ℕ → Type 0 = λ y. (h' c).children (get_or key y 0) ≡ Holds v in subst P (sym size) (ap (λ z. z.children (get_or key 7 0)) ec ∙ k2.child));
         live = live_same (h2 c) (h' c) ec (live_changed h1 c _ _ h2 k2 (live_taken h m c h1 k1 (live_made i a h key c _ q mc)));
-        under_above = under_above i a h _ h2 h' p b (Below c) o (regrown_status a i p m c c p pc pc pm) p2 k3;
-        under_old = under_taken i a h _ h h1 h' m c om ch.linked (rw (regrown_old a i p m c c mc' mc') refl) refl k1 em;
+        under_above = under_above i a h _ h2 h' p b (Below c) o (regrown_status a i p m c c p pc pc pm) (regrown_owner a i p m c c p pc pc pm) p2 k3;
+        under_old = under_taken i a h _ h h1 h' m c om ch.linked (rw (regrown_old a i p m c c mc' mc') refl) (rw (regrown_old a i p m c c mc' mc') refl) refl k1 em;
         capacity = k3.capacity ∙ ap (λ z. z.capacity) p2;
         child = rw (← eb) k3.child;
         beside = λ y ne. k3.beside y (let P : ℕ → Type 0 = λ z. y ≢ z in subst P (sym eb) ne) ∙ ap (λ z. z.children y) p2;
@@ -171,8 +173,8 @@ module _ {V : Type 0} (i : ℕ) (a : ℕ → Note) (h : ℕ → Node V) (key : L
             (let P : ℕ → Type 0 = λ y. (h' c).children y ≡ Below d in subst P (ebyte ∙ ap (λ y. get_or key y 0) (sym size)) (ap (λ z. z.children byte) ec ∙ k3.child))
             (leaf_same h1 h' d key v ed (leaf_filled i a h key d v h1 md k1)) (rw new refl) (rw new refl);
         live = live_same (h3 c) (h' c) ec (live_changed h2 c _ _ h3 k3 (live_taken h1 m c h2 k2 (live_same (h c) (h1 c) c1 (live_made i a h key c _ q mc))));
-        under_above = under_above i a h _ h3 h' p b (Below c) o (regrown_status a i p m c d p pc pd pm) p3 k4;
-        under_old = under_taken i a h _ h1 h2 h' m c om ch.linked (rw (regrown_old a i p m c d mc' md') refl) m1 k2 em;
+        under_above = under_above i a h _ h3 h' p b (Below c) o (regrown_status a i p m c d p pc pd pm) (regrown_owner a i p m c d p pc pd pm) p3 k4;
+        under_old = under_taken i a h _ h1 h2 h' m c om ch.linked (rw (regrown_old a i p m c d mc' md') refl) (rw (regrown_old a i p m c d mc' md') refl) m1 k2 em;
         capacity = k4.capacity ∙ ap (λ z. z.capacity) p3;
         child = rw (← eb) k4.child;
         beside = λ y ne. k4.beside y (let P : ℕ → Type 0 = λ z. y ≢ z in subst P (sym eb) ne) ∙ ap (λ z. z.children y) p3;

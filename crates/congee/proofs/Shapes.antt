@@ -32,199 +32,253 @@ use Rattle.congee.specs.Heap.{Node, is_taken, version_of}
 use Rattle.congee.specs.Steps.{quiet, again, answered, refused, decided, asking, adds, asks_new, absent_reply, after_version, after_read, down, started, ready, plan_here, unless_full, missing, absent, Uncounted, IsAsked, replaced, taken_out, emptied, is_same, IsAtOld, IsAdded, IsExchanged, IsCompared, IsPresent, IsChecked, IsIf, after_miss, IsGiven, IsGivenNew, MadeLeaf, MadeGreater, MadeTop, MadeBeside, IsCheckedAbove, UpgradedOne, UpgradedAbove, UpgradedBoth, after_change, unwound, PhaseStepped}
 use Rattle.congee.specs.Protocol.{Asking}
 use Rattle.congee.specs.Answers.{reply_in}
-use Rattle.congee.specs.Play.{Flight, Pending, Decided, without, heard, flight_in}
+use Rattle.congee.specs.Play.{Question, Unasked, Asked, Replied, Flight, Pending, Decided, without, heard, after_none, resolved, Carries, heeding, flight_in}
 use Rattle.congee.proofs.Graft.{on_test}
 use Rattle.congee.proofs.Touch.{by_test}
 
--- `v` was the call's value, `v1` is it after an answer, and v' is what the machine has after the step
-pub data Shape {C V : Type 0} (k : ℕ) (kind : Kind V) (v v1 v' : Option V) (t : Turn C V) : Type 0 where
-  GoesOn : (s : Phase C V) → t ≡ quiet s → flight_in k kind v' s ≡ Pending k kind v1 false → Shape k kind v v1 v' t
-  Wonders : (s : Phase C V) (o : Option V) → t ≡ asking s o → flight_in k kind v' s ≡ Pending k kind v1 true → Shape k kind v v1 v' t
-  Stops : (e : Refusal) → t ≡ refused e → Shape k kind v v1 v' t
-  Replies : (r : Reply V) → t ≡ answered r → v1 ≡ v → Shape k kind v v1 v' t
-  Takes : (s : Phase C V) (r : Reply V) → t ≡ decided s → flight_in k kind v' s ≡ Decided r → reply_in s ≡ Some r → v1 ≡ v → Shape k kind v v1 v' t
+-- the call may go to work on its value: it has its closure's answer, or no closure
+abbrev pub Ripe : {V : Type 0} → Kind V → Question → Type 0
+Ripe kind q = Carries q (heeding kind)
+
+-- a call that is at work may
+pub ripe_at_work : {V : Type 0} (kind : Kind V) → Ripe kind (heeding kind)
+ripe_at_work Get = tt
+ripe_at_work Insert = tt
+ripe_at_work Remove = tt
+ripe_at_work ComputePresent = refl
+ripe_at_work ComputeInsert = refl
+ripe_at_work (Exchange x) = tt
+
+-- one that puts its value at an absent key without a question has no closure
+ripe_new : {V : Type 0} (kind : Kind V) (q : Question) → adds kind ≡ true → asks_new kind ≡ false → Ripe kind q
+ripe_new Get q e f = tt
+ripe_new Insert q e f = tt
+ripe_new Remove q e f = tt
+ripe_new ComputePresent q e f = absurd cc
+ripe_new ComputeInsert q e f = absurd cc
+ripe_new (Exchange x) q e f = tt
+
+-- the reply is one that the call may give: on its closure's answer, or where it wants none
+abbrev pub Fair : {V : Type 0} → Kind V → Question → Reply V → Type 0
+Fair ComputePresent q r = (q ≡ Replied) ⊎ (r ≡ reply.ComputePresent None)
+Fair ComputeInsert q r = q ≡ Replied
+Fair _ q r = Unit {0}
+
+pub fair : {V : Type 0} (kind : Kind V) (r : Reply V) → Fair kind (heeding kind) r
+fair Get r = tt
+fair Insert r = tt
+fair Remove r = tt
+fair ComputePresent r = inl refl
+fair ComputeInsert r = refl
+fair (Exchange x) r = tt
+
+pub fair_absent : {V : Type 0} (kind : Kind V) (q : Question) → adds kind ≡ false → Fair kind q (absent_reply kind)
+fair_absent Get q e = tt
+fair_absent Insert q e = tt
+fair_absent Remove q e = tt
+fair_absent ComputePresent q e = inr refl
+fair_absent ComputeInsert q e = absurd cc
+fair_absent (Exchange x) q e = tt
+
+-- `v` was the call's value, `v1` is it after an answer, and v' is what the machine has after the step; q is what the
+-- call has of its closure
+pub data Shape {C V : Type 0} (k : ℕ) (kind : Kind V) (v v1 v' : Option V) (q : Question) (t : Turn C V) : Type 0 where
+  GoesOn : (s : Phase C V) (q' : Question) → t ≡ quiet s → flight_in k kind v' s ≡ Pending k kind v1 q' → Carries q q' → Shape k kind v v1 v' q t
+  Wonders : (s : Phase C V) (o : Option V) → t ≡ asking s o → flight_in k kind v' s ≡ Pending k kind v1 Asked → Shape k kind v v1 v' q t
+  Stops : (e : Refusal) → t ≡ refused e → Shape k kind v v1 v' q t
+  Replies : (r : Reply V) → t ≡ answered r → v1 ≡ v → Fair kind q r → Shape k kind v v1 v' q t
+  Takes : (s : Phase C V) (r : Reply V) → t ≡ decided s → flight_in k kind v' s ≡ Decided r → reply_in s ≡ Some r → v1 ≡ v → Fair kind q r → Shape k kind v v1 v' q t
 
 -- where a step of the call may lead, whatever its value is after an answer
-module _ {C V : Type 0} (k : ℕ) (kind : Kind V) (v v1 v' : Option V) (e : v' ≡ v1) where
-  on : (s : Phase C V) → flight_in k kind v' s ≡ Pending k kind v' false → Shape k kind v v1 v' (quiet s)
-  on s f = GoesOn s refl (f ∙ ap (λ x. Pending k kind x false) e)
+module _ {C V : Type 0} (k : ℕ) (v v1 v' : Option V) (e : v' ≡ v1) (q : Question) where
+  on : (kind : Kind V) (s : Phase C V) → flight_in k kind v' s ≡ Pending k kind v' Unasked → Shape k kind v v1 v' q (quiet s)
+  on kind s f = GoesOn s Unasked refl (f ∙ ap (λ x. Pending k kind x Unasked) e) tt
 
-  wonders : (s : Phase C V) (o : Option V) → flight_in k kind v' s ≡ Pending k kind v' true → Shape k kind v v1 v' (asking s o)
-  wonders s o f = Wonders s o refl (f ∙ ap (λ x. Pending k kind x true) e)
+  works : (kind : Kind V) (s : Phase C V) → Ripe kind q → flight_in k kind v' s ≡ Pending k kind v' (heeding kind) → Shape k kind v v1 v' q (quiet s)
+  works kind s c f = GoesOn s (heeding kind) refl (f ∙ ap (λ x. Pending k kind x (heeding kind)) e) c
 
-  to : (x y : Turn C V) → y ≡ x → Shape k kind v v1 v' x → Shape k kind v v1 v' y
-  to x y q s = subst (λ (z : Turn C V). Shape k kind v v1 v' z) (sym q) s
+  wonders : (kind : Kind V) (s : Phase C V) (o : Option V) → flight_in k kind v' s ≡ Pending k kind v' Asked → Shape k kind v v1 v' q (asking s o)
+  wonders kind s o f = Wonders s o refl (f ∙ ap (λ x. Pending k kind x Asked) e)
 
-  anew : (root : C) → Shape k kind v v1 v' (again root)
-  anew root = on (Version None root) refl
+  to : (kind : Kind V) (x y : Turn C V) → y ≡ x → Shape k kind v v1 v' q x → Shape k kind v v1 v' q y
+  to kind x y p s = subst (λ (z : Turn C V). Shape k kind v v1 v' q z) (sym p) s
 
-  stopped : (r : Refusal) → Shape {C = C} k kind v v1 v' (refused r)
-  stopped r = Stops r refl
+  anew : (kind : Kind V) (root : C) → Shape k kind v v1 v' q (again root)
+  anew kind root = on kind (Version None root) refl
 
-  starts : (plan : Plan C) (r : Reply V) → Shape k kind v v1 v' (started plan r)
-  starts (Here None one) r = on (UpgradeOne one r) refl
-  starts (Here (Some p) one) r = on (CheckAbove p one r) refl
-  starts (Above two) r = on (UpgradeAbove two r) refl
+  stopped : (kind : Kind V) (r : Refusal) → Shape {C = C} k kind v v1 v' q (refused r)
+  stopped kind r = Stops r refl
 
-  readies : (plan : Plan C) → Shape k kind v v1 v' (ready kind plan)
-  readies plan = by_test (λ (z : Turn C V). Shape k kind v v1 v' z) (asks_new kind) _ _ (λ _. wonders (AskNew plan) None refl) (λ _. starts plan (absent_reply kind))
+  starts : (kind : Kind V) (plan : Plan C) (r : Reply V) → Ripe kind q → Shape k kind v v1 v' q (started plan r)
+  starts kind (Here None one) r c = works kind (UpgradeOne one r) c refl
+  starts kind (Here (Some p) one) r c = works kind (CheckAbove p one r) c refl
+  starts kind (Above two) r c = works kind (UpgradeAbove two r) c refl
 
-  unless : (s : Site C) (full : Bool) (above : Option (Parent C)) (leaf : Option C) (change : Single C) → Shape k kind v v1 v' (unless_full kind s full above leaf change)
-  unless s true (Some p) leaf change = on (MakeGreater s p leaf) refl
-  unless s true None leaf change = readies (plan_here s change)
-  unless s false above leaf change = readies (plan_here s change)
+  readies : (kind : Kind V) (plan : Plan C) → adds kind ≡ true → Shape k kind v v1 v' q (ready kind plan)
+  readies kind plan w = by_test (λ (z : Turn C V). Shape k kind v v1 v' q z) (asks_new kind) _ _ (λ _. wonders kind (AskNew plan) None refl)
+      (λ n. starts kind plan (absent_reply kind) (ripe_new kind q w n))
 
-  misses : (s : Site C) → Shape k kind v v1 v' (missing kind s)
-  misses s = by_test (λ (z : Turn C V). Shape k kind v v1 v' z) (s.depth == 7) _ _ (λ _. unless s s.full s.above None Set) (λ _. on (MakeLeaf s) refl)
+  unless : (kind : Kind V) (s : Site C) (full : Bool) (above : Option (Parent C)) (leaf : Option C) (change : Single C) → adds kind ≡ true → Shape k kind v v1 v' q (unless_full kind s full above leaf change)
+  unless kind s true (Some p) leaf change w = on kind (MakeGreater s p leaf) refl
+  unless kind s true None leaf change w = readies kind (plan_here s change) w
+  unless kind s false above leaf change w = readies kind (plan_here s change) w
 
-  replaces : (s : Site C) (b : Bool) (r : Reply V) → Shape k kind v v1 v' (replaced s b r)
-  replaces s b r = by_test (λ (z : Turn C V). Shape k kind v v1 v' z) b _ _ (λ _. on (Confirm s.at r) refl) (λ _. on (UpgradeOne _ r) refl)
+  misses : (kind : Kind V) (s : Site C) → adds kind ≡ true → Shape k kind v v1 v' q (missing kind s)
+  misses kind s w = by_test (λ (z : Turn C V). Shape k kind v v1 v' q z) (s.depth == 7) _ _ (λ _. unless kind s s.full s.above None Set w) (λ _. on kind (MakeLeaf s) refl)
 
-  takes_out : (s : Site C) (b : Bool) (above : Option (Parent C)) (r : Reply V) → Shape k kind v v1 v' (taken_out s b above r)
-  takes_out s true (Some p) r = on (UpgradeAbove _ r) refl
-  takes_out s true None r = on (UpgradeOne _ r) refl
-  takes_out s false above r = on (UpgradeOne _ r) refl
+  replaces : (kind : Kind V) (s : Site C) (b : Bool) (r : Reply V) → Ripe kind q → Shape k kind v v1 v' q (replaced s b r)
+  replaces kind s b r c = by_test (λ (z : Turn C V). Shape k kind v v1 v' q z) b _ _ (λ _. works kind (Confirm s.at r) c refl) (λ _. works kind (UpgradeOne _ r) c refl)
 
-  empties : (s : Site C) (r : Reply V) → Shape k kind v v1 v' (emptied s r)
-  empties s r = takes_out s (s.count == 1) s.above r
+  takes_out : (kind : Kind V) (s : Site C) (b : Bool) (above : Option (Parent C)) (r : Reply V) → Ripe kind q → Shape k kind v v1 v' q (taken_out s b above r)
+  takes_out kind s true (Some p) r c = works kind (UpgradeAbove _ r) c refl
+  takes_out kind s true None r c = works kind (UpgradeOne _ r) c refl
+  takes_out kind s false above r c = works kind (UpgradeOne _ r) c refl
 
-  uncounted : (always : Bool) (x t : Turn C V) → (t ≡ x) ⊎ Uncounted always t → Shape k kind v v1 v' x → Shape k kind v v1 v' t
-  uncounted always x t (inl q) s = to x t q s
-  uncounted always x t (inr q) s = to (refused refusal.Count) t q.1 (stopped refusal.Count)
+  empties : (kind : Kind V) (s : Site C) (r : Reply V) → Ripe kind q → Shape k kind v v1 v' q (emptied s r)
+  empties kind s r c = takes_out kind s (s.count == 1) s.above r c
 
-  asks : (always : Bool) (s : Site C) (old : V) (t : Turn C V) → IsAsked always s old t → Shape k kind v v1 v' t
-  asks always s old t x = uncounted always (asking (AskOld s old) (Some old)) t x (wonders (AskOld s old) (Some old) refl)
+  uncounted : (kind : Kind V) (always : Bool) (x t : Turn C V) → (t ≡ x) ⊎ Uncounted always t → Shape k kind v v1 v' q x → Shape k kind v v1 v' q t
+  uncounted kind always x t (inl p) s = to kind x t p s
+  uncounted kind always x t (inr p) s = to kind (refused refusal.Count) t p.1 (stopped kind refusal.Count)
 
-  pub at_old : (always : Bool) (same : V → V → Bool) (kind2 : Kind V) (new : Option V) (s : Site C) (old : V) (t : Turn C V) → IsAtOld always same kind2 new s old t → Shape k kind v v1 v' t
-  at_old always same Insert new s old t x = to _ t x (replaces s (is_same same old new) (reply.Insert (Some old)))
-  at_old always same Get new s old t x = asks always s old t x
-  at_old always same Remove new s old t x = asks always s old t x
-  at_old always same ComputePresent new s old t x = asks always s old t x
-  at_old always same ComputeInsert new s old t x = asks always s old t x
-  at_old always same (Exchange w) new s old t x = asks always s old t x
+  asks : (kind : Kind V) (always : Bool) (s : Site C) (old : V) (t : Turn C V) → IsAsked always s old t → Shape k kind v v1 v' q t
+  asks kind always s old t x = uncounted kind always (asking (AskOld s old) (Some old)) t x (wonders kind (AskOld s old) (Some old) refl)
 
-  adds_at : (always : Bool) (same : V → V → Bool) (kind2 : Kind V) (new : Option V) (s : Site C) (above : Option (Parent C)) (old : V) (t : Turn C V) → IsAdded always same kind2 new s above old t → Shape k kind v v1 v' t
-  adds_at always same kind2 new s None old t x = at_old always same kind2 new s old t x
-  adds_at always same kind2 new s (Some p) old t x = to _ t x (on (CheckOld p.seat s old) refl)
+  pub at_old : (always : Bool) (same : V → V → Bool) (kind : Kind V) (new : Option V) (s : Site C) (old : V) (t : Turn C V) → IsAtOld always same kind new s old t → Shape k kind v v1 v' q t
+  at_old always same Insert new s old t x = to Insert _ t x (replaces Insert s (is_same same old new) (reply.Insert (Some old)) tt)
+  at_old always same Get new s old t x = asks Get always s old t x
+  at_old always same Remove new s old t x = asks Remove always s old t x
+  at_old always same ComputePresent new s old t x = asks ComputePresent always s old t x
+  at_old always same ComputeInsert new s old t x = asks ComputeInsert always s old t x
+  at_old always same (Exchange w) new s old t x = asks (Exchange w) always s old t x
 
-  exchanges : (always : Bool) (same : V → V → Bool) (new : Option V) (s : Site C) (old : V) (t : Turn C V) → IsExchanged always same new s old t → Shape k kind v v1 v' t
-  exchanges always same None s old t x = to _ t x (empties s (reply.Exchange (Ok None)))
-  exchanges always same (Some w) s old t x = uncounted always _ t x (replaces s (same old w) (reply.Exchange (Ok (Some w))))
+  adds_at : (always : Bool) (same : V → V → Bool) (kind : Kind V) (new : Option V) (s : Site C) (above : Option (Parent C)) (old : V) (t : Turn C V) → IsAdded always same kind new s above old t → Shape k kind v v1 v' q t
+  adds_at always same kind new s None old t x = at_old always same kind new s old t x
+  adds_at always same kind new s (Some p) old t x = to kind _ t x (on kind (CheckOld p.seat s old) refl)
 
-  downs : (b : Bool) (s : Site C) (above : Option (Parent C)) (c : C) → Shape k kind v v1 v' (down b s above c)
-  downs false s above c = on (Version _ c) refl
-  downs true s None c = on (Version _ c) refl
-  downs true s (Some p) c = on (CheckDown p.seat _ c) refl
+  exchanges : (always : Bool) (same : V → V → Bool) (w : V) (new : Option V) (s : Site C) (old : V) (t : Turn C V) → IsExchanged always same new s old t → Shape k (Exchange w) v v1 v' q t
+  exchanges always same w None s old t x = to (Exchange w) _ t x (empties (Exchange w) s (reply.Exchange (Ok None)) tt)
+  exchanges always same w (Some u) s old t x = uncounted (Exchange w) always _ t x (replaces (Exchange w) s (same old u) (reply.Exchange (Ok (Some u))) tt)
+
+  downs : (kind : Kind V) (b : Bool) (s : Site C) (above : Option (Parent C)) (c : C) → Shape k kind v v1 v' q (down b s above c)
+  downs kind false s above c = on kind (Version _ c) refl
+  downs kind true s None c = on kind (Version _ c) refl
+  downs kind true s (Some p) c = on kind (CheckDown p.seat _ c) refl
 
 -- before an answer was wanted
-module _ {C V : Type 0} (number : C → ℕ) (k : ℕ) (kind : Kind V) (v v' : Option V) (e : v' ≡ v) where
-  pub go : (s : Phase C V) → flight_in k kind v' s ≡ Pending k kind v' false → Shape k kind v v v' (quiet s)
-  go s f = on k kind v v v' e s f
+pub presents : {C V : Type 0} (k : ℕ) (v v' : Option V) (e : v' ≡ v) (q : Question) (always : Bool) (same : V → V → Bool) (kind : Kind V) (new : Option V) (s : Site C) (old : V) (t : Turn C V)
+    → IsPresent always same kind new s old t → Shape k kind v v v' q t
+presents k v v' e q always same Get new s old t x = to k v v v' e q Get _ t x (Replies (reply.Get (Some old)) refl refl tt)
+presents k v v' e q always same Insert new s old t x = adds_at k v v v' e q always same Insert new s s.above old t x
+presents k v v' e q always same Remove new s old t x = to k v v v' e q Remove _ t x (empties k v v v' e q Remove s (reply.Remove (Some old)) tt)
+presents k v v' e q always same ComputePresent new s old t x = asks k v v v' e q ComputePresent always s old t x
+presents k v v' e q always same ComputeInsert new s old t x = adds_at k v v v' e q always same ComputeInsert new s s.above old t x
+presents k v v' e q always same (Exchange w) new s old t x = on_test (same old w) (λ p. exchanges k v v v' e q always same w new s old t (x.0 p))
+    (λ p. to k v v v' e q (Exchange w) _ t (x.1 p) (works k v v v' e q (Exchange w) (Confirm s.at (reply.Exchange (Err (Some old)))) tt refl))
 
-  pub back : (root : C) → Shape k kind v v v' (again root)
-  back root = anew k kind v v v' e root
+module _ {C V : Type 0} (number : C → ℕ) (k : ℕ) (kind : Kind V) (v v' : Option V) (e : v' ≡ v) (q : Question) where
+  pub go : (s : Phase C V) → flight_in k kind v' s ≡ Pending k kind v' Unasked → Shape k kind v v v' q (quiet s)
+  go s f = on k v v v' e q kind s f
 
-  pub at : (x y : Turn C V) → y ≡ x → Shape k kind v v v' x → Shape k kind v v v' y
-  at x y q s = to k kind v v v' e x y q s
+  pub goes_to_work : (s : Phase C V) → Ripe kind q → flight_in k kind v' s ≡ Pending k kind v' (heeding kind) → Shape k kind v v v' q (quiet s)
+  goes_to_work s c f = works k v v v' e q kind s c f
 
-  pub answers : (r : Reply V) → Shape {C = C} k kind v v v' (answered r)
-  answers r = Replies r refl refl
+  pub back : (root : C) → Shape k kind v v v' q (again root)
+  back root = anew k v v v' e q kind root
 
-  absents : (s : Site C) → Shape k kind v v v' (absent kind s)
-  absents s = by_test (λ (z : Turn C V). Shape k kind v v v' z) (adds kind) _ _ (λ _. misses k kind v v v' e s) (λ _. answers (absent_reply kind))
+  pub at : (x y : Turn C V) → y ≡ x → Shape k kind v v v' q x → Shape k kind v v v' q y
+  at x y p s = to k v v v' e q kind x y p s
 
-  pub presents : (always : Bool) (same : V → V → Bool) (kind2 : Kind V) (new : Option V) (s : Site C) (old : V) (t : Turn C V) → IsPresent always same kind2 new s old t → Shape k kind v v v' t
-  presents always same Get new s old t x = at _ t x (answers (reply.Get (Some old)))
-  presents always same Insert new s old t x = adds_at k kind v v v' e always same Insert new s s.above old t x
-  presents always same Remove new s old t x = at _ t x (empties k kind v v v' e s (reply.Remove (Some old)))
-  presents always same ComputePresent new s old t x = asks k kind v v v' e always s old t x
-  presents always same ComputeInsert new s old t x = adds_at k kind v v v' e always same ComputeInsert new s s.above old t x
-  presents always same (Exchange w) new s old t x = on_test (same old w) (λ q. exchanges k kind v v v' e always same new s old t (x.0 q))
-      (λ q. at _ t (x.1 q) (go (Confirm s.at (reply.Exchange (Err (Some old)))) refl))
+  pub answers : (r : Reply V) → Fair kind q r → Shape {C = C} k kind v v v' q (answered r)
+  answers r f = Replies r refl refl f
 
-  pub checks : (always : Bool) (same : V → V → Bool) (new : Option V) (s : Site C) (c : Child C V) (t : Turn C V) → IsChecked always same kind new s c t → Shape k kind v v v' t
+  absents : (s : Site C) → Shape k kind v v v' q (absent kind s)
+  absents s = by_test (λ (z : Turn C V). Shape k kind v v v' q z) (adds kind) _ _ (λ w. misses k v v v' e q kind s w) (λ w. answers (absent_reply kind) (fair_absent kind q w))
+
+  pub checks : (always : Bool) (same : V → V → Bool) (new : Option V) (s : Site C) (c : Child C V) (t : Turn C V) → IsChecked always same kind new s c t → Shape k kind v v v' q t
   checks always same new s child.Blank t x = at _ t x (absents s)
-  checks always same new s (child.Node c) t x = at _ t x (downs k kind v v v' e (adds kind) s s.above c)
-  checks always same new s (child.Value old) t x = presents always same kind new s old t x
+  checks always same new s (child.Node c) t x = at _ t x (downs k v v v' e q kind (adds kind) s s.above c)
+  checks always same new s (child.Value old) t x = presents k v v' e q always same kind new s old t x
 
-  pub reads : (root : C) (above : Option (Parent C)) (seat : Seat C) (r : Reading C V) → Shape k kind v v v' (after_read root above seat r)
+  pub reads : (root : C) (above : Option (Parent C)) (seat : Seat C) (r : Reading C V) → Shape k kind v v v' q (after_read root above seat r)
   reads root None seat (Differs common byte) = back root
   reads root (Some p) seat (Differs common byte) = go (CheckMiss p seat common byte) refl
   reads root above seat (Fits depth s) = go (Check _ s.child) refl
   reads root above seat Uncopied = go (CheckUncopied seat) refl
 
-  pub versions : (root : C) (above : Option (Parent C)) (n : C) (o : Option ℕ) → Shape k kind v v v' (after_version root above n o)
+  pub versions : (root : C) (above : Option (Parent C)) (n : C) (o : Option ℕ) → Shape k kind v v v' q (after_version root above n o)
   versions root above n None = back root
   versions root above n (Some x) = go (Read above _) refl
 
-  pub if_taken : (taken : Bool) (root : C) (T : Type 0) (t : Turn C V) → (taken ≡ true → T) × (taken ≡ false → t ≡ again root) → (T → Shape k kind v v v' t) → Shape k kind v v v' t
-  if_taken taken root T t x f = on_test taken (λ q. f (x.0 q)) (λ q. at _ t (x.1 q) (back root))
+  pub if_taken : (taken : Bool) (root : C) (T : Type 0) (t : Turn C V) → (taken ≡ true → T) × (taken ≡ false → t ≡ again root) → (T → Shape k kind v v v' q t) → Shape k kind v v v' q t
+  if_taken taken root T t x f = on_test taken (λ p. f (x.0 p)) (λ p. at _ t (x.1 p) (back root))
 
-  pub misses_at : (p : Parent C) (seat : Seat C) (common byte : ℕ) → Shape k kind v v v' (after_miss kind p seat common byte)
-  misses_at p seat common byte = by_test (λ (z : Turn C V). Shape k kind v v v' z) (adds kind) _ _ (λ _. go (MakeTop p seat common byte) refl) (λ _. answers (absent_reply kind))
+  pub misses_at : (p : Parent C) (seat : Seat C) (common byte : ℕ) → Shape k kind v v v' q (after_miss kind p seat common byte)
+  misses_at p seat common byte = by_test (λ (z : Turn C V). Shape k kind v v v' q z) (adds kind) _ _ (λ _. go (MakeTop p seat common byte) refl) (λ w. answers (absent_reply kind) (fair_absent kind q w))
 
-  pub halts : (r : Refusal) (t : Turn C V) → t ≡ refused r → Shape k kind v v v' t
-  halts r t q = Stops r q
+  pub halts : (r : Refusal) (t : Turn C V) → t ≡ refused r → Shape k kind v v v' q t
+  halts r t p = Stops r p
 
-  pub leaf_made : (s : Site C) (h : ℕ → Node V) (key : List ℕ) (r : Result C Refusal) (h' : ℕ → Node V) (t : Turn C V) → MadeLeaf number kind s h key r h' t → Shape k kind v v v' t
-  leaf_made s h key (Ok leaf) h' t x = at _ t x.1 (unless k kind v v v' e s s.full s.above (Some leaf) (Link leaf))
-  leaf_made s h key (Err r) h' t x = halts r t x.1
+  pub leaf_made : (s : Site C) (h : ℕ → Node V) (key : List ℕ) (r : Result C Refusal) (h' : ℕ → Node V) (t : Turn C V) → adds kind ≡ true → MadeLeaf number kind s h key r h' t → Shape k kind v v v' q t
+  leaf_made s h key (Ok leaf) h' t w x = at _ t x.1 (unless k v v v' e q kind s s.full s.above (Some leaf) (Link leaf) w)
+  leaf_made s h key (Err r) h' t w x = halts r t x.1
 
-  pub greater_made : (s : Site C) (p : Parent C) (leaf : Option C) (h : ℕ → Node V) (key : List ℕ) (r : Result C Refusal) (h' : ℕ → Node V) (t : Turn C V) → MadeGreater number kind s p leaf h key r h' t → Shape k kind v v v' t
-  greater_made s p leaf h key (Ok c) h' t x = at _ t x.1 (readies k kind v v v' e _)
-  greater_made s p leaf h key (Err r) h' t x = halts r t x.1
+  pub greater_made : (s : Site C) (p : Parent C) (leaf : Option C) (h : ℕ → Node V) (key : List ℕ) (r : Result C Refusal) (h' : ℕ → Node V) (t : Turn C V) → adds kind ≡ true → MadeGreater number kind s p leaf h key r h' t → Shape k kind v v v' q t
+  greater_made s p leaf h key (Ok c) h' t w x = at _ t x.1 (readies k v v v' e q kind _ w)
+  greater_made s p leaf h key (Err r) h' t w x = halts r t x.1
 
-  pub top_made : (p : Parent C) (seat : Seat C) (common byte : ℕ) (h : ℕ → Node V) (key : List ℕ) (r : Result C Refusal) (h' : ℕ → Node V) (t : Turn C V) → MadeTop number p seat common byte h key r h' t → Shape k kind v v v' t
+  pub top_made : (p : Parent C) (seat : Seat C) (common byte : ℕ) (h : ℕ → Node V) (key : List ℕ) (r : Result C Refusal) (h' : ℕ → Node V) (t : Turn C V) → MadeTop number p seat common byte h key r h' t → Shape k kind v v v' q t
   top_made p seat common byte h key (Ok top) h' t x = at _ t x.1 (go (MakeBeside p seat common byte top) refl)
   top_made p seat common byte h key (Err r) h' t x = halts r t x.1
 
-  pub beside_made : (p : Parent C) (seat : Seat C) (common byte : ℕ) (top : C) (h : ℕ → Node V) (key : List ℕ) (r : Result C Refusal) (h' : ℕ → Node V) (t : Turn C V) → MadeBeside number kind p seat common byte top h key r h' t → Shape k kind v v v' t
-  beside_made p seat common byte top h key (Ok leaf) h' t x = at _ t x.1 (readies k kind v v v' e _)
-  beside_made p seat common byte top h key (Err r) h' t x = halts r t x.1
+  pub beside_made : (p : Parent C) (seat : Seat C) (common byte : ℕ) (top : C) (h : ℕ → Node V) (key : List ℕ) (r : Result C Refusal) (h' : ℕ → Node V) (t : Turn C V) → adds kind ≡ true → MadeBeside number kind p seat common byte top h key r h' t
+      → Shape k kind v v v' q t
+  beside_made p seat common byte top h key (Ok leaf) h' t w x = at _ t x.1 (readies k v v v' e q kind _ w)
+  beside_made p seat common byte top h key (Err r) h' t w x = halts r t x.1
 
-  pub one_upgraded : (root : C) (one : One C) (r : Reply V) (h : ℕ → Node V) (u : Upgrade) (h' : ℕ → Node V) (t : Turn C V) → UpgradedOne number root one r h u h' t → Shape k kind v v v' t
-  one_upgraded root one r h Locked h' t x = at _ t x.1 (go (ChangeOne one r) refl)
-  one_upgraded root one r h Failed h' t x = at _ t x.1 (back root)
-  one_upgraded root one r h Exhausted h' t x = halts refusal.Exhausted t x.1
+  pub one_upgraded : (root : C) (one : One C) (r : Reply V) (h : ℕ → Node V) (u : Upgrade) (h' : ℕ → Node V) (t : Turn C V) → Ripe kind q → UpgradedOne number root one r h u h' t → Shape k kind v v v' q t
+  one_upgraded root one r h Locked h' t c x = at _ t x.1 (goes_to_work (ChangeOne one r) c refl)
+  one_upgraded root one r h Failed h' t c x = at _ t x.1 (back root)
+  one_upgraded root one r h Exhausted h' t c x = halts refusal.Exhausted t x.1
 
-  pub above_upgraded : (root : C) (two : Two C) (r : Reply V) (h : ℕ → Node V) (u : Upgrade) (h' : ℕ → Node V) (t : Turn C V) → UpgradedAbove number root two r h u h' t → Shape k kind v v v' t
-  above_upgraded root two r h Locked h' t x = at _ t x.1 (go (UpgradeBoth two r) refl)
-  above_upgraded root two r h Failed h' t x = at _ t x.1 (back root)
-  above_upgraded root two r h Exhausted h' t x = halts refusal.Exhausted t x.1
+  pub above_upgraded : (root : C) (two : Two C) (r : Reply V) (h : ℕ → Node V) (u : Upgrade) (h' : ℕ → Node V) (t : Turn C V) → Ripe kind q → UpgradedAbove number root two r h u h' t → Shape k kind v v v' q t
+  above_upgraded root two r h Locked h' t c x = at _ t x.1 (goes_to_work (UpgradeBoth two r) c refl)
+  above_upgraded root two r h Failed h' t c x = at _ t x.1 (back root)
+  above_upgraded root two r h Exhausted h' t c x = halts refusal.Exhausted t x.1
 
-  pub both_upgraded : (two : Two C) (r : Reply V) (h : ℕ → Node V) (u : Upgrade) (h' : ℕ → Node V) (t : Turn C V) → UpgradedBoth number two r h u h' t → Shape k kind v v v' t
-  both_upgraded two r h Locked h' t x = at _ t x.1 (go (ChangeTwo two r) refl)
-  both_upgraded two r h Failed h' t x = at _ t x.1 (go (Unwind _ None) refl)
-  both_upgraded two r h Exhausted h' t x = at _ t x.1 (go (Unwind _ (Some refusal.Exhausted)) refl)
+  pub both_upgraded : (two : Two C) (r : Reply V) (h : ℕ → Node V) (u : Upgrade) (h' : ℕ → Node V) (t : Turn C V) → Ripe kind q → UpgradedBoth number two r h u h' t → Shape k kind v v v' q t
+  both_upgraded two r h Locked h' t c x = at _ t x.1 (goes_to_work (ChangeTwo two r) c refl)
+  both_upgraded two r h Failed h' t c x = at _ t x.1 (go (Unwind _ None) refl)
+  both_upgraded two r h Exhausted h' t c x = at _ t x.1 (go (Unwind _ (Some refusal.Exhausted)) refl)
 
-  pub unwinds : (root : C) (o : Option Refusal) (t : Turn C V) → t ≡ unwound root o → Shape k kind v v v' t
+  pub unwinds : (root : C) (o : Option Refusal) (t : Turn C V) → t ≡ unwound root o → Shape k kind v v v' q t
   unwinds root None t x = at _ t x (back root)
   unwinds root (Some r) t x = halts r t x
 
 -- a change takes effect
-pub change_shape : {C V : Type 0} (k : ℕ) (kind : Kind V) (v v' : Option V) (two : Two C) (r : Reply V) (change : Double C) (t : Turn C V) → t ≡ after_change two r change → Shape k kind v v v' t
-change_shape k kind v v' two r Unlink t x = Takes _ r x refl refl refl
-change_shape k kind v v' two r (Grow c) t x = Takes _ r x refl refl refl
-change_shape k kind v v' two r (GrowLink c leaf byte) t x = Takes _ r x refl refl refl
-change_shape k kind v v' two r (Split top leaf common byte) t x = Takes _ r x refl refl refl
+pub change_shape : {C V : Type 0} (k : ℕ) (kind : Kind V) (v v' : Option V) (two : Two C) (r : Reply V) (change : Double C) (t : Turn C V) → t ≡ after_change two r change → Shape k kind v v v' (heeding kind) t
+change_shape k kind v v' two r Unlink t x = Takes _ r x refl refl refl (fair kind r)
+change_shape k kind v v' two r (Grow c) t x = Takes _ r x refl refl refl (fair kind r)
+change_shape k kind v v' two r (GrowLink c leaf byte) t x = Takes _ r x refl refl refl (fair kind r)
+change_shape k kind v v' two r (Split top leaf common byte) t x = Takes _ r x refl refl refl (fair kind r)
 
 -- the closure's answer
 pub given_shape : {C V : Type 0} (always : Bool) (same : V → V → Bool) (k : ℕ) (kind : Kind V) (s : Site C) (old : V) (told : Option (Option V)) (v v' : Option V) (t : Turn C V)
-    → Asking kind → IsGiven always same kind s old told v v' t → Shape k kind v (heard kind true told v) v' t
-given_shape always same k kind s old None v v' t w x = asks k kind v v v' x.0 always s old t x.1
-given_shape always same k ComputeInsert s old (Some None) v v' t w x = asks k ComputeInsert v v v' x.0 always s old t x.1
-given_shape always same k ComputeInsert s old (Some (Some y)) v v' t w x = to k ComputeInsert v (Some y) v' x.0 _ t x.1 (replaces k ComputeInsert v (Some y) v' x.0 s (same old y) _)
-given_shape always same k ComputePresent s old (Some None) v v' t w x = to k ComputePresent v None v' x.0 _ t x.1 (empties k ComputePresent v None v' x.0 s _)
-given_shape always same k ComputePresent s old (Some (Some y)) v v' t w x = uncounted k ComputePresent v (Some y) v' x.0 always _ t x.1 (replaces k ComputePresent v (Some y) v' x.0 s (same old y) _)
+    → Asking kind → IsGiven always same kind s old told v v' t → Shape k kind v (heard kind Asked told v) v' (resolved kind Asked told) t
+given_shape always same k kind s old None v v' t w x = asks k v v v' x.0 Asked kind always s old t x.1
+given_shape always same k ComputeInsert s old (Some None) v v' t w x = asks k v v v' x.0 Asked ComputeInsert always s old t x.1
+given_shape always same k ComputeInsert s old (Some (Some y)) v v' t w x = to k v (Some y) v' x.0 Replied ComputeInsert _ t x.1 (replaces k v (Some y) v' x.0 Replied ComputeInsert s (same old y) _ refl)
+given_shape always same k ComputePresent s old (Some None) v v' t w x = to k v None v' x.0 Replied ComputePresent _ t x.1 (empties k v None v' x.0 Replied ComputePresent s _ refl)
+given_shape always same k ComputePresent s old (Some (Some y)) v v' t w x = uncounted k v (Some y) v' x.0 Replied ComputePresent always _ t x.1 (replaces k v (Some y) v' x.0 Replied ComputePresent s (same old y) _ refl)
 given_shape always same k Get s old (Some o) v v' t w x = absurd w
 given_shape always same k Insert s old (Some o) v v' t w x = absurd w
 given_shape always same k Remove s old (Some o) v v' t w x = absurd w
 given_shape always same k (Exchange y) s old (Some o) v v' t w x = absurd w
 
-given_new_shape : {C V : Type 0} (k : ℕ) (plan : Plan C) (told : Option (Option V)) (v v' : Option V) (t : Turn C V) → IsGivenNew plan told v v' t → Shape k ComputeInsert v (heard ComputeInsert true told v) v' t
-given_new_shape k plan None v v' t x = to k ComputeInsert v v v' x.0 _ t x.1 (wonders k ComputeInsert v v v' x.0 (AskNew plan) None refl)
-given_new_shape k plan (Some None) v v' t x = to k ComputeInsert v v v' x.0 _ t x.1 (wonders k ComputeInsert v v v' x.0 (AskNew plan) None refl)
-given_new_shape k plan (Some (Some y)) v v' t x = to k ComputeInsert v (Some y) v' x.0 _ t x.1 (starts k ComputeInsert v (Some y) v' x.0 plan _)
+given_new_shape : {C V : Type 0} (k : ℕ) (plan : Plan C) (told : Option (Option V)) (v v' : Option V) (t : Turn C V) → IsGivenNew plan told v v' t → Shape k ComputeInsert v (heard ComputeInsert Asked told v) v' (resolved ComputeInsert Asked told) t
+given_new_shape k plan None v v' t x = to k v v v' x.0 Asked ComputeInsert _ t x.1 (wonders k v v v' x.0 Asked ComputeInsert (AskNew plan) None refl)
+given_new_shape k plan (Some None) v v' t x = to k v v v' x.0 Asked ComputeInsert _ t x.1 (wonders k v v v' x.0 Asked ComputeInsert (AskNew plan) None refl)
+given_new_shape k plan (Some (Some y)) v v' t x = to k v (Some y) v' x.0 Replied ComputeInsert _ t x.1 (starts k v (Some y) v' x.0 Replied ComputeInsert plan _ refl)
 
-pub given_new_shape_at : {C V : Type 0} (k : ℕ) (kind : Kind V) (plan : Plan C) (told : Option (Option V)) (v v' : Option V) (t : Turn C V) → kind ≡ ComputeInsert → IsGivenNew plan told v v' t → Shape k kind v (heard kind true told v) v' t
-given_new_shape_at {C} {V} k kind plan told v v' t e x = let P : Kind V → Type 0 = λ y. Shape k y v (heard y true told v) v' t in subst P (sym e) (given_new_shape k plan told v v' t x)
+pub given_new_shape_at : {C V : Type 0} (k : ℕ) (kind : Kind V) (plan : Plan C) (told : Option (Option V)) (v v' : Option V) (t : Turn C V) → kind ≡ ComputeInsert → IsGivenNew plan told v v' t → Shape k kind v (heard kind Asked told v) v' (resolved kind Asked told) t
+given_new_shape_at {C} {V} k kind plan told v v' t e x = let P : Kind V → Type 0 = λ y. Shape k y v (heard y Asked told v) v' (resolved y Asked told) t in subst P (sym e) (given_new_shape k plan told v v' t x)

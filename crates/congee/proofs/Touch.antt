@@ -2,8 +2,8 @@
 use Rattle.std.proofs.Common.{◌≡◌, ◌≢◌, ℕ, zero, suc, ◌+◌, ◌<◌, ◌≤◌, ◌==◌, ◌&&◌, not, Bool, true, false, cond, List, length, refl, sym, ◌∙◌, ap, subst, inl, inr, arith}
 use Rattle.std.specs.Prelude.{Option, None, Some}
 use Rattle.congee.specs.Heap.{Node, Hung, Below, Holds, Stands, walk, value_at, is_taken, is_free}
-use Rattle.congee.specs.Ledger.{Note, Status, Unmade, Held, Linked, Gone, Back, Destroyed, is_published, IsChild, HasParent, Tree, WordAt, Words}
-use Rattle.congee.specs.Protocol.{Rely, Effect}
+use Rattle.congee.specs.Ledger.{Note, Status, Unmade, Held, Linked, Gone, Back, Destroyed, is_published, is_spent, IsChild, HasParent, Tree, WordAt, Words}
+use Rattle.congee.specs.Protocol.{Rely, Fares, Effect}
 use Rattle.congee.proofs.Fits.{both_true, equal, same_test, other_test}
 use Rattle.congee.proofs.Tree.{same_or_not, step_same}
 
@@ -30,12 +30,103 @@ owned x o = record { status = x.status; owner = o; parent = x.parent }
 abbrev pub own : (ℕ → Note) → ℕ → Option ℕ → ℕ → Note
 own a n o = noted a n (owned (a n) o)
 
+-- a node and a note that stay, but for the parent
+pub fares_same : {V : Type 0} (i : ℕ) (x y : Note) (p q : Node V) → q ≡ p → y.status ≡ x.status → y.owner ≡ x.owner → Fares i x y p q
+fares_same i x y p q e s o = record {
+  owner = λ j f. inl (sym o ∙ f);
+  handed = λ j f. ap (λ z. z.retired) e;
+  held = λ j f. inl (sym s ∙ f, e);
+  gone = λ f. inr (sym s ∙ f, (λ r. ap (λ z. z.retired) e ∙ r));
+  locked = λ f k. inr (sym s ∙ f, sym (ap (λ z. z.locked) e) ∙ k, o);
+  spent = λ f. inr (sym (ap is_spent s) ∙ f, ap (λ z. z.destroyed) e);
+  unmade = λ f. (sym s ∙ f, ap (λ z. z.made) e);
+}
+
+-- a node that was or is in reach, and that the call has locked before and after
+pub fares_mine : {V : Type 0} (i : ℕ) (x y : Note) (p q : Node V) → x.owner ≡ Some i → y.owner ≡ Some i → is_published y.status ≡ true → q.retired ≡ p.retired → Fares i x y p q
+fares_mine i x y p q o o' u r = record {
+  owner = λ j f. inl (o ∙ (sym o' ∙ f));
+  handed = λ j f. r;
+  held = λ j f. let z : is_published y.status ≡ false = ap is_published f in absurd cc;
+  gone = λ f. inl o';
+  locked = λ f k. inl o';
+  spent = λ f. absurd (spent_unpublished y.status u f);
+  unmade = λ f. let z : is_published y.status ≡ false = ap is_published f in absurd cc;
+} where
+  spent_unpublished : (s : Status) → is_published s ≡ true → is_spent s ≡ true → ⊥
+  spent_unpublished Unmade a b = cc
+  spent_unpublished (Held j) a b = cc
+  spent_unpublished Linked a b = cc
+  spent_unpublished Gone a b = cc
+  spent_unpublished Back a b = cc
+  spent_unpublished Destroyed a b = cc
+
+-- a node of the tree that the call locks
+pub fares_locked : {V : Type 0} (i : ℕ) (x y : Note) (p q : Node V) → p.locked ≡ false → y.owner ≡ Some i → y.status ≡ Linked → q.retired ≡ p.retired → Fares i x y p q
+fares_locked i x y p q l o s r = record {
+  owner = λ j f. let z : Some i ≡ Some j = sym o ∙ f in inr (sym cc, l);
+  handed = λ j f. r;
+  held = λ j f. let z : Linked ≡ Held j = sym s ∙ f in absurd cc;
+  gone = λ f. inl o;
+  locked = λ f k. inl o;
+  spent = λ f. let z : is_spent y.status ≡ false = ap is_spent s in absurd cc;
+  unmade = λ f. let z : Linked ≡ Unmade = sym s ∙ f in absurd cc;
+}
+
+-- a node of the tree that is free after the step
+pub fares_free : {V : Type 0} (i : ℕ) (x y : Note) (p q : Node V) → y.owner ≡ None → y.status ≡ Linked → q.locked ≡ false → Fares i x y p q
+fares_free i x y p q o s l = record {
+  owner = λ j f. let z : None ≡ Some j = sym o ∙ f in absurd cc;
+  handed = λ j f. let z : None ≡ Some j = sym o ∙ f in absurd cc;
+  held = λ j f. let z : Linked ≡ Held j = sym s ∙ f in absurd cc;
+  gone = λ f. let z : Linked ≡ Gone = sym s ∙ f in absurd cc;
+  locked = λ f k. absurd cc;
+  spent = λ f. let z : is_spent y.status ≡ false = ap is_spent s in absurd cc;
+  unmade = λ f. let z : Linked ≡ Unmade = sym s ∙ f in absurd cc;
+}
+
+-- a node that was taken out, handed over
+pub fares_retired : {V : Type 0} (i : ℕ) (x y : Note) (p q : Node V) → x.status ≡ Gone → y.owner ≡ None → y.status ≡ Gone → q.retired ≡ true → Fares i x y p q
+fares_retired i x y p q g o s r = record {
+  owner = λ j f. let z : None ≡ Some j = sym o ∙ f in absurd cc;
+  handed = λ j f. let z : None ≡ Some j = sym o ∙ f in absurd cc;
+  held = λ j f. let z : Gone ≡ Held j = sym s ∙ f in absurd cc;
+  gone = λ f. inr (g, (λ _. r));
+  locked = λ f k. let z : Gone ≡ Linked = sym s ∙ f in absurd cc;
+  spent = λ f. let z : is_spent y.status ≡ false = ap is_spent s in absurd cc;
+  unmade = λ f. let z : Gone ≡ Unmade = sym s ∙ f in absurd cc;
+}
+
+-- a new node
+pub fares_made : {V : Type 0} (i : ℕ) (x y : Note) (p q : Node V) → p.made ≡ false → y.owner ≡ None → y.status ≡ Held i → Fares i x y p q
+fares_made i x y p q m o s = record {
+  owner = λ j f. let z : None ≡ Some j = sym o ∙ f in absurd cc;
+  handed = λ j f. let z : None ≡ Some j = sym o ∙ f in absurd cc;
+  held = λ j f. let z : Held i ≡ Held j = sym s ∙ f in inr (sym cc, m);
+  gone = λ f. let z : Held i ≡ Gone = sym s ∙ f in absurd cc;
+  locked = λ f k. let z : Held i ≡ Linked = sym s ∙ f in absurd cc;
+  spent = λ f. let z : is_spent y.status ≡ false = ap is_spent s in absurd cc;
+  unmade = λ f. let z : Held i ≡ Unmade = sym s ∙ f in absurd cc;
+}
+
+-- a made node, given back
+pub fares_back : {V : Type 0} (i : ℕ) (x y : Note) (p q : Node V) → y.owner ≡ None → y.status ≡ Back → q.destroyed ≡ true → Fares i x y p q
+fares_back i x y p q o s d = record {
+  owner = λ j f. let z : None ≡ Some j = sym o ∙ f in absurd cc;
+  handed = λ j f. let z : None ≡ Some j = sym o ∙ f in absurd cc;
+  held = λ j f. let z : Back ≡ Held j = sym s ∙ f in absurd cc;
+  gone = λ f. let z : Back ≡ Gone = sym s ∙ f in absurd cc;
+  locked = λ f k. let z : Back ≡ Linked = sym s ∙ f in absurd cc;
+  spent = λ f. inl d;
+  unmade = λ f. let z : Back ≡ Unmade = sym s ∙ f in absurd cc;
+}
+
 pub data Touched {V : Type 0} (i : ℕ) (a : ℕ → Note) (h : ℕ → Node V) (a' : ℕ → Note) (h' : ℕ → Node V) (n : ℕ) : Type 0 where
   as_it_was : h' n ≡ h n → a' n ≡ a n → Touched i a h a' h' n
   moved : h' n ≡ h n → is_published (a n).status ≡ true → (a' n).status ≡ (a n).status → (a' n).owner ≡ (a n).owner → Touched i a h a' h' n
   under_lock : is_published (a n).status ≡ true → is_published (a' n).status ≡ true → (h' n).prefix ≡ (h n).prefix → (h n).version ≤ (h' n).version
-      → ((v : ℕ) → v ≤ (h n).version → is_taken (h' n) v ≡ true → ⊥) → ((j : ℕ) → j ≢ i → (a n).owner ≡ Some j → ⊥) → WordAt (a' n) (h' n) → Touched i a h a' h' n
-  out_of_reach : is_published (a n).status ≡ false → ((j : ℕ) → j ≢ i → (a n).status ≡ Held j → ⊥) → (a n).owner ≡ None → WordAt (a' n) (h' n) → Touched i a h a' h' n
+      → ((v : ℕ) → v ≤ (h n).version → is_taken (h' n) v ≡ true → ⊥) → ((j : ℕ) → j ≢ i → (a n).owner ≡ Some j → ⊥) → WordAt (a' n) (h' n) → Fares i (a n) (a' n) (h n) (h' n) → Touched i a h a' h' n
+  out_of_reach : is_published (a n).status ≡ false → ((j : ℕ) → j ≢ i → (a n).status ≡ Held j → ⊥) → (a n).owner ≡ None → WordAt (a' n) (h' n) → Fares i (a n) (a' n) (h n) (h' n) → Touched i a h a' h' n
 
 word_moved : {V : Type 0} (x y : Note) (n n' : Node V) → n' ≡ n → y.status ≡ x.status → y.owner ≡ x.owner → WordAt x n → WordAt y n'
 word_moved {V} x y n n' e s o w =
@@ -52,44 +143,50 @@ module _ {V : Type 0} (i : ℕ) (a : ℕ → Note) (h : ℕ → Node V) (a' : �
   touch_version : (n : ℕ) → Touched i a h a' h' n → is_published (a n).status ≡ true → (h n).version ≤ (h' n).version
   touch_version n (moved e q f g) p = rw e (omega arith)
   touch_version n (as_it_was e f) p = rw e (omega arith)
-  touch_version n (under_lock q q' pre up nt nobody w) p = up
-  touch_version n (out_of_reach q nobody o w) p = absurd cc
+  touch_version n (under_lock q q' pre up nt nobody w k) p = up
+  touch_version n (out_of_reach q nobody o w k) p = absurd cc
 
   touch_prefix : (n : ℕ) → Touched i a h a' h' n → is_published (a n).status ≡ true → (h' n).prefix ≡ (h n).prefix
   touch_prefix n (moved e q f g) p = rw e refl
   touch_prefix n (as_it_was e f) p = rw e refl
-  touch_prefix n (under_lock q q' pre up nt nobody w) p = pre
-  touch_prefix n (out_of_reach q nobody o w) p = absurd cc
+  touch_prefix n (under_lock q q' pre up nt nobody w k) p = pre
+  touch_prefix n (out_of_reach q nobody o w k) p = absurd cc
 
   touch_published : (n : ℕ) → Touched i a h a' h' n → is_published (a n).status ≡ true → is_published (a' n).status ≡ true
   touch_published n (moved e q f g) p = rw f p
   touch_published n (as_it_was e f) p = rw f p
-  touch_published n (under_lock q q' pre up nt nobody w) p = q'
-  touch_published n (out_of_reach q nobody o w) p = absurd cc
+  touch_published n (under_lock q q' pre up nt nobody w k) p = q'
+  touch_published n (out_of_reach q nobody o w k) p = absurd cc
 
   touch_word : (n : ℕ) → Touched i a h a' h' n → (v : ℕ) → is_published (a n).status ≡ true → v ≤ (h n).version → is_taken (h' n) v ≡ true → h' n ≡ h n
   touch_word n (moved e q f g) v p le t = e
   touch_word n (as_it_was e f) v p le t = e
-  touch_word n (under_lock q q' pre up nt nobody w) v p le t = absurd (nt v le t)
-  touch_word n (out_of_reach q nobody o w) v p le t = absurd cc
+  touch_word n (under_lock q q' pre up nt nobody w k) v p le t = absurd (nt v le t)
+  touch_word n (out_of_reach q nobody o w k) v p le t = absurd cc
 
   touch_mine : (j n : ℕ) → j ≢ i → Touched i a h a' h' n → (a n).owner ≡ Some j → (h' n ≡ h n) × ((a' n).status ≡ (a n).status) × ((a' n).owner ≡ (a n).owner)
   touch_mine j n ne (moved e q f g) p = (e, f, g)
   touch_mine j n ne (as_it_was e f) p = (e, ap (λ x. x.status) f, ap (λ x. x.owner) f)
-  touch_mine j n ne (under_lock q q' pre up nt nobody w) p = absurd (nobody j ne p)
-  touch_mine j n ne (out_of_reach q nobody o w) p = absurd cc
+  touch_mine j n ne (under_lock q q' pre up nt nobody w k) p = absurd (nobody j ne p)
+  touch_mine j n ne (out_of_reach q nobody o w k) p = absurd cc
 
   touch_held : (j n : ℕ) → j ≢ i → Touched i a h a' h' n → (a n).status ≡ Held j → (h' n ≡ h n) × (a' n ≡ a n)
   touch_held j n ne (moved e q f g) p = let z : is_published (a n).status ≡ false = ap is_published p in absurd cc
   touch_held j n ne (as_it_was e f) p = (e, f)
-  touch_held j n ne (under_lock q q' pre up nt nobody w) p = let z : is_published (a n).status ≡ false = ap is_published p in absurd cc
-  touch_held j n ne (out_of_reach q nobody o w) p = absurd (nobody j ne p)
+  touch_held j n ne (under_lock q q' pre up nt nobody w k) p = let z : is_published (a n).status ≡ false = ap is_published p in absurd cc
+  touch_held j n ne (out_of_reach q nobody o w k) p = absurd (nobody j ne p)
 
   touch_at : (n : ℕ) → WordAt (a n) (h n) → Touched i a h a' h' n → WordAt (a' n) (h' n)
   touch_at n x (moved e q f g) = word_moved (a n) (a' n) (h n) (h' n) e f g x
   touch_at n x (as_it_was e f) = word_moved (a n) (a' n) (h n) (h' n) e (ap (λ y. y.status) f) (ap (λ y. y.owner) f) x
-  touch_at n x (under_lock q q' pre up nt nobody w) = w
-  touch_at n x (out_of_reach q nobody o w) = w
+  touch_at n x (under_lock q q' pre up nt nobody w k) = w
+  touch_at n x (out_of_reach q nobody o w k) = w
+
+  touch_fares : (n : ℕ) → Touched i a h a' h' n → Fares i (a n) (a' n) (h n) (h' n)
+  touch_fares n (moved e q f g) = fares_same i (a n) (a' n) (h n) (h' n) e f g
+  touch_fares n (as_it_was e f) = fares_same i (a n) (a' n) (h n) (h' n) e (ap (λ z. z.status) f) (ap (λ z. z.owner) f)
+  touch_fares n (under_lock q q' pre up nt nobody w k) = k
+  touch_fares n (out_of_reach q nobody o w k) = k
 
   pub effect : Words a h → Tree a' h' → (h' 0).capacity ≡ (h 0).capacity → ((n : ℕ) → Touched i a h a' h' n) → Effect i a h a' h'
   effect w t c touch = record {
@@ -103,6 +200,7 @@ module _ {V : Type 0} (i : ℕ) (a : ℕ → Note) (h : ℕ → Node V) (a' : �
       mine = λ n p. touch_mine j n ne (touch n) p;
       held = λ n p. touch_held j n ne (touch n) p;
     };
+    fares = λ n. touch_fares n (touch n);
   }
 
 -- what a lock word tells

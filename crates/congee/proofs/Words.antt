@@ -5,10 +5,10 @@ use Rattle.congee.specs.declared.base_node.NodeType.{NodeType}
 use Rattle.congee.specs.Heap.{Node, Hung, Below, Stands, walk, value_at, is_taken, is_free}
 use Rattle.congee.specs.Events.{SameBut, NewNode, BackGives, ObsoleteGives, RetireGives, UnlockGives}
 use Rattle.congee.specs.Ledger.{Note, Status, Unmade, Held, Linked, Gone, Back, is_published, IsChild, HasParent, Tree, WordAt, Words}
-use Rattle.congee.specs.Protocol.{Seated, Made, Holding, TakenOut, Effect}
+use Rattle.congee.specs.Protocol.{Seated, Made, Holding, TakenOut, Fares, Effect}
 use Rattle.congee.proofs.Fits.{both_true, equal}
 use Rattle.congee.proofs.Tree.{same_or_not, step_same}
-use Rattle.congee.proofs.Touch.{noted, noted_same, noted_other, own, owned, Touched, under_lock, out_of_reach, effect, not_taken, taken_linked, taken_not_locked, locked_not_free, owner_locked, tree_same, same_map, but_one, but_note, touch_one}
+use Rattle.congee.proofs.Touch.{fares_locked, fares_free, fares_mine, fares_retired, fares_made, fares_back, noted, noted_same, noted_other, own, owned, Touched, under_lock, out_of_reach, effect, not_taken, taken_linked, taken_not_locked, locked_not_free, owner_locked, tree_same, same_map, but_one, but_note, touch_one}
 
 -- a step that leaves the map
 pub record Still {V : Type 0} (i : ℕ) (a : ℕ → Note) (h : ℕ → Node V) (a' : ℕ → Note) (h' : ℕ → Node V) : Type 0 where
@@ -29,6 +29,7 @@ pub record Reworded {V : Type 0} (i : ℕ) (a : ℕ → Note) (h : ℕ → Node 
   pub untaken : (v : ℕ) → v ≤ (h n).version → is_taken (h' n) v ≡ true → ⊥
   pub nobody : (j : ℕ) → j ≢ i → (a n).owner ≡ Some j → ⊥
   pub word : WordAt (a' n) (h' n)
+  pub fares : Fares i (a n) (a' n) (h n) (h' n)
 
 pub reworded : {V : Type 0} (i : ℕ) (a : ℕ → Note) (h : ℕ → Node V) (a' : ℕ → Note) (h' : ℕ → Node V) (n : ℕ) → Tree a h → Words a h → Reworded i a h a' h' n → Still i a h a' h'
 reworded {V} i a h a' h' n t w r =
@@ -38,7 +39,7 @@ reworded {V} i a h a' h' n t w r =
     let pa : (m : ℕ) → (a' m).parent ≡ (a m).parent = but_note (λ y z. y.parent ≡ z.parent) a a' n (λ x. refl) r.notes r.parent in
     record {
       effect = effect i a h a' h' w (tree_same a h a' h' t st pa pr ch) (but_one (λ y z. y.capacity ≡ z.capacity) h h' n (λ x. refl) r.nodes r.capacity 0)
-          (touch_one i a h a' h' n r.nodes r.notes (under_lock r.published (rw r.status r.published) r.prefix r.version r.untaken r.nobody r.word));
+          (touch_one i a h a' h' n r.nodes r.notes (under_lock r.published (rw r.status r.published) r.prefix r.version r.untaken r.nobody r.word r.fares));
       map = λ x _. same_map h h' pr ch 8 0 x;
     }
 
@@ -69,6 +70,7 @@ lock_still i a h n v h' t w s k g =
         stands = λ p. let q : Stands (h n) = (w.each n).stands s.published in record { made = rw g.after q.made; kept = rw g.after q.kept };
         unretired = λ e. rw g.after ((w.each n).unretired l);
       };
+      fares = fares_locked i (a n) _ (h n) (h' n) (taken_not_locked (h n) v k) (rw same refl) (rw same l) (rw g.after refl);
     })
 
 -- the lock goes
@@ -95,6 +97,7 @@ unlock_still i a h n h' t w o g =
         stands = λ p. let q : Stands (h n) = (w.each n).stands (ap is_published o.linked) in record { made = rw g.after q.made; kept = rw g.after q.kept };
         unretired = λ e. rw g.after ((w.each n).unretired o.linked);
       };
+      fares = fares_free i (a n) _ (h n) (h' n) (rw same refl) (rw same o.linked) (rw g.after refl);
     })
 
 -- the node that was taken out is marked
@@ -121,6 +124,7 @@ obsolete_still i a h p n h' t w o g =
         stands = λ q. let s : Stands (h n) = (w.each n).stands q in record { made = rw g.after s.made; kept = rw g.after s.kept };
         unretired = λ e. let z : Gone ≡ Linked = sym o.gone ∙ e in cc;
       };
+      fares = fares_mine i (a n) (a n) (h n) (h' n) o.owner o.owner (ap is_published o.gone) (rw g.after refl);
     })
 
 -- and handed over
@@ -149,6 +153,7 @@ retire_still i a h p n h' t w o g =
         stands = λ q. let s : Stands (h n) = (w.each n).stands (ap is_published o.gone) in record { made = rw g.after s.made; kept = rw g.after s.kept };
         unretired = λ e. let z : Gone ≡ Linked = sym o.gone ∙ (rw same at e) in cc;
       };
+      fares = fares_retired i (a n) _ (h n) (h' n) o.gone (rw same refl) (rw same o.gone) (rw g.after refl);
     })
 
 -- a change of one node that isn't in reach
@@ -160,6 +165,7 @@ pub record Off {V : Type 0} (i : ℕ) (a : ℕ → Note) (h : ℕ → Node V) (a
   pub nobody : (j : ℕ) → j ≢ i → (a c).status ≡ Held j → ⊥
   pub unowned : (a c).owner ≡ None
   pub word : WordAt (a' c) (h' c)
+  pub fares : Fares i (a c) (a' c) (h c) (h' c)
 
 off_other : (a : ℕ → Note) (c m : ℕ) → is_published (a c).status ≡ false → (a m).status ≡ Linked → m ≢ c
 off_other a c m u l e = let z : is_published (a c).status ≡ true = ap is_published (let P : ℕ → Type 0 = λ x. (a x).status ≡ Linked in subst P e l) in cc
@@ -201,7 +207,7 @@ pub off_still : {V : Type 0} (i : ℕ) (a : ℕ → Note) (h : ℕ → Node V) (
 off_still i a h a' h' c t w o = record {
   effect = effect i a h a' h' w (off_tree i a h a' h' c t o)
       (ap (λ z. z.capacity) (o.nodes 0 (off_other a c 0 o.before t.root)))
-      (touch_one i a h a' h' c o.nodes o.notes (out_of_reach o.before o.nobody o.unowned o.word));
+      (touch_one i a h a' h' c o.nodes o.notes (out_of_reach o.before o.nobody o.unowned o.word o.fares));
   map = λ x _. off_map i a h a' h' c t o 8 0 x t.root;
 }
 
@@ -228,6 +234,7 @@ make_still i a h c form key size h' t w g =
         stands = λ p. let z : false ≡ true = rw same at p in cc;
         unretired = λ e. let z : Held i ≡ Linked = rw same at e in cc;
       };
+      fares = fares_made i (a c) _ (h c) (h' c) g.unmade (rw same refl) (rw same refl);
     })
 
 -- a made node goes back
@@ -252,4 +259,5 @@ back_still i a h key c size least h' t w m g =
         stands = λ p. let z : false ≡ true = rw same at p in cc;
         unretired = λ e. let z : Back ≡ Linked = rw same at e in cc;
       };
+      fares = fares_back i (a c) _ (h c) (h' c) (rw same refl) (rw same refl) g.gone;
     })

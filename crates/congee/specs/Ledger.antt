@@ -27,6 +27,15 @@ is_published Gone = true
 is_published Back = false
 is_published Destroyed = false
 
+-- whether the node's place was given back for good
+abbrev pub is_spent : Status → Bool
+is_spent Unmade = false
+is_spent (Held i) = false
+is_spent Linked = false
+is_spent Gone = false
+is_spent Back = true
+is_spent Destroyed = true
+
 -- c hangs at byte b of n: it is in the tree, and its prefix goes on from that of n by b
 pub record IsChild {V : Type 0} (a : ℕ → Note) (h : ℕ → Node V) (n b c : ℕ) : Type 0 where
   pub linked : (a c).status ≡ Linked

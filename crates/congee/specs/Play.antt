@@ -10,7 +10,7 @@ use Rattle.congee.specs.declared.op.Op.TheVariants as op
 use Rattle.congee.specs.declared.phase.Kind.{Kind}
 use Rattle.congee.specs.declared.phase.Kind.TheVariants.{Get, Insert, Remove, ComputePresent, ComputeInsert, Exchange}
 use Rattle.congee.specs.declared.phase.Phase.{Phase}
-use Rattle.congee.specs.declared.phase.Phase.TheVariants.{New, AskOld, AskNew, Obsolete, Retire, UnlockBelow, Unlock, Ended}
+use Rattle.congee.specs.declared.phase.Phase.TheVariants.{New, AskOld, AskNew, Confirm, CheckAbove, UpgradeOne, ChangeOne, UpgradeAbove, UpgradeBoth, ChangeTwo, Obsolete, Retire, UnlockBelow, Unlock, Ended}
 use Rattle.congee.specs.declared.machine.Outcome.{Outcome}
 use Rattle.congee.specs.declared.machine.Outcome.TheVariants.{Running, Asks, Done, Refused}
 use Rattle.congee.specs.declared.machine.Move.{Move}
@@ -41,10 +41,16 @@ pub record IsNew {C V : Type 0} (m : Machine C V) : Type 0 where
   pub given : HasGift m.kind m.given
   pub key : m.key < 2 ^ 64
 
+-- what a call has of its closure: no answer, an open question, or the answer to the question that it asked last
+pub data Question : Type 0 where
+  Unasked : Question
+  Asked : Question
+  Replied : Question
+
 -- a call as it is watched: before it takes effect, with the value that it was given or that its closure answered
--- last, and whether the closure is asked; after it took effect, with its reply; at its end
+-- last, and what it has of its closure; after it took effect, with its reply; at its end
 pub data Flight (V : Type 0) : Type 0 where
-  Pending : ℕ → Kind V → Option V → Bool → Flight V
+  Pending : ℕ → Kind V → Option V → Question → Flight V
   Decided : Reply V → Flight V
   Over : Flight V
 
@@ -53,18 +59,45 @@ abbrev pub without : {V : Type 0} → Kind V → Option V → Option V
 without ComputeInsert v = v
 without _ v = None
 
-abbrev pub heard : {V : Type 0} → Kind V → Bool → Option (Option V) → Option V → Option V
-heard kind false answer v = v
-heard kind true None v = v
-heard kind true (Some None) v = without kind v
-heard kind true (Some (Some x)) v = Some x
+abbrev pub heard : {V : Type 0} → Kind V → Question → Option (Option V) → Option V → Option V
+heard kind Unasked answer v = v
+heard kind Replied answer v = v
+heard kind Asked None v = v
+heard kind Asked (Some None) v = without kind v
+heard kind Asked (Some (Some x)) v = Some x
+
+-- and what the call has of its closure then
+abbrev pub after_none : {V : Type 0} → Kind V → Question
+after_none ComputeInsert = Asked
+after_none _ = Replied
+
+abbrev pub resolved : {V : Type 0} → Kind V → Question → Option (Option V) → Question
+resolved kind Unasked answer = Unasked
+resolved kind Replied answer = Replied
+resolved kind Asked None = Asked
+resolved kind Asked (Some None) = after_none kind
+resolved kind Asked (Some (Some x)) = Replied
+
+-- a call that goes on keeps the answer that it has, or begins anew without one
+abbrev pub Carries : Question → Question → Type 0
+Carries q Unasked = Unit {0}
+Carries q Asked = ⊥
+Carries q Replied = q ≡ Replied
 
 -- a step that doesn't decide, before the call took effect: it goes on, asks, or is refused; it has no reply
-abbrev pub Undecided : {V : Type 0} → ℕ → Kind V → Option V → Outcome V → Flight V → Type 0
-Undecided k kind v Running f = f ≡ Pending k kind v false
-Undecided k kind v (Asks o) f = f ≡ Pending k kind v true
-Undecided k kind v (Done r) f = ⊥
-Undecided k kind v (Refused e) f = f ≡ Over
+abbrev pub Undecided : {V : Type 0} → ℕ → Kind V → Option V → Question → Outcome V → Flight V → Type 0
+Undecided k kind v q Running f = (q' : Question) × Carries q q' × (f ≡ Pending k kind v q')
+Undecided k kind v q (Asks o) f = f ≡ Pending k kind v Asked
+Undecided k kind v q (Done r) f = ⊥
+Undecided k kind v q (Refused e) f = f ≡ Over
+
+-- a call with a closure takes effect on an answer that the closure gave to its last question; for a key found
+-- absent, a call on a present key alone wants none
+abbrev pub Heeds : {V : Type 0} → Kind V → Option V → Question → Type 0
+Heeds ComputePresent None q = Unit {0}
+Heeds ComputePresent (Some x) q = q ≡ Replied
+Heeds ComputeInsert found q = q ≡ Replied
+Heeds _ found q = Unit {0}
 
 -- a step from which the call took effect on: it goes on, or is done with that very reply
 abbrev pub Concludes : {V : Type 0} → Reply V → Outcome V → Flight V → Type 0
@@ -73,16 +106,16 @@ Concludes r (Asks o) f = ⊥
 Concludes r (Done s) f = (s ≡ r) × (f ≡ Over)
 Concludes r (Refused e) f = ⊥
 
--- a step that decides: the call that began, with its closure's last answer, answers its reply on the map, and
--- leaves the map after it
-abbrev pub PendingMoves : {V : Type 0} → (V → V → Bool) → ℕ → Kind V → Option V → Pairs V → Bool → Outcome V → Flight V → Pairs V → Type 0
-PendingMoves same k kind v m false o f' m' = Undecided k kind v o f' × (m' ≡ m)
-PendingMoves {V} same k kind v m true o f' m' = (c : Call V) × (r : Reply V) × IsCall k kind v (get m k) c
+-- a step that decides: the call that began, with its closure's answer, answers its reply on the map, and leaves
+-- the map after it
+abbrev pub PendingMoves : {V : Type 0} → (V → V → Bool) → ℕ → Kind V → Option V → Question → Pairs V → Bool → Outcome V → Flight V → Pairs V → Type 0
+PendingMoves same k kind v q m false o f' m' = Undecided k kind v q o f' × (m' ≡ m)
+PendingMoves {V} same k kind v q m true o f' m' = (c : Call V) × (r : Reply V) × IsCall k kind v (get m k) c × Heeds kind (get m k) q
     × ◌≡◌ {A = Reply V × Pairs V} (answer same m c) (r, m') × Concludes r o f'
 
 -- one step of one call, on the map
 abbrev pub Watched : {V : Type 0} → (V → V → Bool) → Flight V → Pairs V → Option (Option V) → Move V → Flight V → Pairs V → Type 0
-Watched same (Pending k kind v asked) m told d f' m' = PendingMoves same k kind (heard kind asked told v) m d.decided d.outcome f' m'
+Watched same (Pending k kind v q) m told d f' m' = PendingMoves same k kind (heard kind q told v) (resolved kind q told) m d.decided d.outcome f' m'
 Watched same (Decided r) m told d f' m' = (d.decided ≡ false) × Concludes r d.outcome f' × (m' ≡ m)
 Watched same Over m told d f' m' = (d ≡ record { decided = false; outcome = Running }) × (f' ≡ Over) × (m' ≡ m)
 
@@ -98,16 +131,28 @@ Run same fs m [] (d ∷ ds) fs' m' = ⊥
 Run same fs m (s ∷ ss) [] fs' m' = ⊥
 Run {C} {V} same fs m (s ∷ ss) (d ∷ ds) fs' m' = (fs1 : List (Flight V)) × (m1 : Pairs V) × WatchedAt same fs m (slice_get fs s.who) s d fs1 m1 × Run same fs1 m1 ss ds fs' m'
 
--- how a machine is watched
+-- how a machine is watched: one with a closure that confirms or changes a value has its answer
+abbrev pub heeding : {V : Type 0} → Kind V → Question
+heeding ComputePresent = Replied
+heeding ComputeInsert = Replied
+heeding _ = Unasked
+
 abbrev pub flight_in : {C V : Type 0} → ℕ → Kind V → Option V → Phase C V → Flight V
-flight_in k kind v (AskOld s old) = Pending k kind v true
-flight_in k kind v (AskNew plan) = Pending k kind v true
+flight_in k kind v (AskOld s old) = Pending k kind v Asked
+flight_in k kind v (AskNew plan) = Pending k kind v Asked
+flight_in k kind v (Confirm at r) = Pending k kind v (heeding kind)
+flight_in k kind v (CheckAbove p one r) = Pending k kind v (heeding kind)
+flight_in k kind v (UpgradeOne one r) = Pending k kind v (heeding kind)
+flight_in k kind v (ChangeOne one r) = Pending k kind v (heeding kind)
+flight_in k kind v (UpgradeAbove two r) = Pending k kind v (heeding kind)
+flight_in k kind v (UpgradeBoth two r) = Pending k kind v (heeding kind)
+flight_in k kind v (ChangeTwo two r) = Pending k kind v (heeding kind)
 flight_in k kind v (Obsolete n p r) = Decided r
 flight_in k kind v (Retire n p r) = Decided r
 flight_in k kind v (UnlockBelow n p r) = Decided r
 flight_in k kind v (Unlock n r) = Decided r
 flight_in k kind v Ended = Over
-flight_in k kind v _ = Pending k kind v false
+flight_in k kind v _ = Pending k kind v Unasked
 
 abbrev pub flight : {C V : Type 0} → Machine C V → Flight V
 flight m = flight_in m.key m.kind m.given m.phase

@@ -1,5 +1,5 @@
 -- What a call knows of the tree between its steps, as long as others may step.
-use Rattle.std.specs.Prelude.{◌≡◌, ◌≢◌, ℕ, ◌==◌, ◌<◌, ◌≤◌, Bool, true, false, List, length, slice_index, Option, None, Some, Ok, Err}
+use Rattle.std.specs.Prelude.{◌≡◌, ◌≢◌, ℕ, ◌==◌, ◌<◌, ◌≤◌, ◌⊎◌, Bool, true, false, List, length, slice_index, Option, None, Some, Ok, Err}
 use Rattle.judge.specs.declared.journal.Call.{Call}
 use Rattle.judge.specs.declared.journal.Call.TheVariants as call
 use Rattle.judge.specs.declared.journal.Reply.{Reply}
@@ -24,7 +24,7 @@ use Rattle.congee.specs.declared.phase.Phase.TheVariants.{New, Version, Read, Ch
 use Rattle.congee.specs.Heap.{Node, Hung, Nothing, Below, Holds, fits, child_for, is_taken}
 use Rattle.congee.specs.Events.{hung, Parts}
 use Rattle.congee.specs.Steps.{adds}
-use Rattle.congee.specs.Ledger.{Note, Status, Held, Linked, Gone, is_published, Tree, Words}
+use Rattle.congee.specs.Ledger.{Note, Status, Unmade, Held, Linked, Gone, is_published, is_spent, Tree, Words}
 
 -- a node of which a version was taken
 pub record Seated {V : Type 0} (a : ℕ → Note) (h : ℕ → Node V) (n v : ℕ) : Type 0 where
@@ -288,11 +288,24 @@ pub record Rely {V : Type 0} (K : ℕ → Type 0) (i : ℕ) (a : ℕ → Note) (
   pub mine : (n : ℕ) → (a n).owner ≡ Some i → (h' n ≡ h n) × ((a' n).status ≡ (a n).status) × ((a' n).owner ≡ (a n).owner)
   pub held : (n : ℕ) → (a n).status ≡ Held i → (h' n ≡ h n) × (a' n ≡ a n)
 
+-- how one node fares in a step of call i, with its note: only call i takes its lock or makes it; a made node stays
+-- as it is until it is hung or given back; it leaves the tree under the lock of call i, and is handed over once;
+-- in the tree it is locked by its owner alone
+pub record Fares {V : Type 0} (i : ℕ) (x y : Note) (p q : Node V) : Type 0 where
+  pub owner : (j : ℕ) → y.owner ≡ Some j → (x.owner ≡ Some j) ⊎ ((j ≡ i) × (p.locked ≡ false))
+  pub handed : (j : ℕ) → y.owner ≡ Some j → q.retired ≡ p.retired
+  pub held : (j : ℕ) → y.status ≡ Held j → ((x.status ≡ Held j) × (q ≡ p)) ⊎ ((j ≡ i) × (p.made ≡ false))
+  pub gone : y.status ≡ Gone → (y.owner ≡ Some i) ⊎ ((x.status ≡ Gone) × (p.retired ≡ true → q.retired ≡ true))
+  pub locked : y.status ≡ Linked → q.locked ≡ true → (y.owner ≡ Some i) ⊎ ((x.status ≡ Linked) × (p.locked ≡ true) × (y.owner ≡ x.owner))
+  pub spent : is_spent y.status ≡ true → (q.destroyed ≡ true) ⊎ ((is_spent x.status ≡ true) × (q.destroyed ≡ p.destroyed))
+  pub unmade : y.status ≡ Unmade → (x.status ≡ Unmade) × (q.made ≡ p.made)
+
 -- what a step of call i leaves: the tree, the words, and what the others count on
 pub record Effect {V : Type 0} (i : ℕ) (a : ℕ → Note) (h : ℕ → Node V) (a' : ℕ → Note) (h' : ℕ → Node V) : Type 0 where
   pub tree : Tree a' h'
   pub words : Words a' h'
   pub others : (j : ℕ) → j ≢ i → Rely (λ _. Unit {0}) j a h a' h'
+  pub fares : (n : ℕ) → Fares i (a n) (a' n) (h n) (h' n)
 
 -- K has the nodes that the call names and neither holds nor has locked
 abbrev pub NamedAbove : {C : Type 0} → (C → ℕ) → (ℕ → Type 0) → Option (Parent C) → Type 0
