@@ -54,4 +54,5 @@ pub mod Shapes
 pub mod Watches
 pub mod Turns
 pub mod Opening
+pub mod PlainLemmas
 pub mod Tallies
