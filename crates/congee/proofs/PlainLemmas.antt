@@ -1,7 +1,8 @@
 -- The places of a plain node.
-use Rattle.std.proofs.Common.{◌≡◌, ◌≢◌, ℕ, zero, suc, ◌<◌, ◌≤◌, ◌+◌, ◌==◌, Bool, true, false, List, [], ◌∷◌, ◌++◌, length, get_or, set, refl, sym, ◌∙◌, ap, subst, arith, rules, inl, inr, cond, ◌↔◌}
+use Rattle.std.proofs.Common.{◌≡◌, ◌≢◌, ℕ, zero, suc, ◌<◌, ◌≤◌, ◌+◌, ◌==◌, Bool, true, false, List, [], ◌∷◌, ◌++◌, length, get_or, set, take, drop, refl, sym, ◌∙◌, ap, subst, arith, rules, inl, inr, cond, ◌↔◌}
 use Rattle.std.specs.Prelude.{count_by, sum_by}
 use Rattle.std.proofs.lemmas.List.Sums.{sum_by_push, sum_by-cons, sum_by-set, count_by-le-length}
+use Rattle.std.proofs.Math.Seq.{take-append_seam}
 use Rattle.std.proofs.lemmas.Bool.{cases_lt}
 use Rattle.congee.specs.declared.child.Child.{Child}
 use Rattle.congee.specs.declared.child.Child.TheVariants.{Blank, Node, Value}
@@ -116,3 +117,7 @@ names_end from to same below b d = elim (cases_lt b (length from)) [
   | inl lt ↦ below b d lt
   | inr ge ↦ rw (past from b ge, past to b (omega (arith, ge, same))) ((λ e. e), (λ e. e))
 ]
+
+-- a list that is written over as a whole
+pub all_written : (to xs : List (Child ℕ ℕ)) (size : ℕ) → size ≡ length to → take size (to ++ drop (length to) xs) ≡ to
+all_written to xs size e = rw e (take-append_seam to (drop (length to) xs))

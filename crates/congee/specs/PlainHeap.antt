@@ -1,6 +1,8 @@
 -- A plain list of nodes as the nodes of a tree.
-use Rattle.std.specs.Prelude.{◌≡◌, ℕ, Bool, true, false, List, [], take, Option, None, Some, slice_get}
+use Rattle.std.specs.Prelude.{◌≡◌, ℕ, ◌==◌, Bool, true, false, List, [], take, Option, None, Some, slice_get}
 use Rattle.congee.specs.Heap.{Node, Nothing}
+use Rattle.congee.specs.Events.{hung}
+use Rattle.congee.specs.declared.store.Seen.{Seen}
 use Rattle.congee.specs.Forms.{capacity_of}
 use Rattle.congee.specs.Plain.{count_of, child_at, NamesStay}
 use Rattle.congee.specs.declared.base_node.NodeType.{NodeType}
@@ -47,6 +49,12 @@ pub record IsFresh (n : PlainNode) (form : NodeType) (prefix : List ℕ) : Type 
   pub live : n.obsolete ≡ false
   pub kept : n.destroyed ≡ false
   pub unretired : n.retired ≡ false
+
+-- what a read that sees the node itself finds at the byte
+pub record IsTruly (n : PlainNode) (b : ℕ) (s : Seen ℕ ℕ) : Type 0 where
+  pub child_is : hung (λ c. c) s.child ≡ child_at n.children.items b
+  pub count_is : s.count ≡ count_of n.children.items
+  pub full_is : s.full ≡ (s.count == capacity_of n.form)
 
 -- all but the children is as it was
 pub record SameWord (n n' : PlainNode) : Type 0 where

@@ -1,12 +1,16 @@
 //! A store that is a plain list of nodes, none of which is ever taken away.
 ghost use Rattle.std.specs.Prelude.{◌≡◌, ℕ, ◌+◌, ◌-◌, ◌^◌, ◌<◌, ◌≤◌, Bool, true, false, IfOk};
 ghost use Rattle.congee.specs.Opening.{RootAlone};
-ghost use Rattle.congee.specs.Heap.{Stands, is_taken};
+ghost use Rattle.congee.specs.Heap.{Node, Stands, is_taken};
+ghost use Rattle.congee.specs.Play.{Begins};
+ghost use Rattle.std.specs.Vec.{vec_len};
 ghost use Rattle.congee.specs.Events.{hung, ReadGives, UpgradeGives, MayChange, ChangeGives};
 
 use crate::base_node::NodeType;
 use crate::child::Child;
-use crate::plain_node::{PlainNode, first_difference};
+use crate::machine::Machine;
+use crate::op::Op;
+use crate::plain_node::PlainNode;
 use crate::store::{NodeName, Reading, Refusal, Seat, Seen, Store, Upgrade};
 use std::alloc::{AllocError, Global};
 use std::vec::Vec;
@@ -36,6 +40,22 @@ impl PlainStore {
         nodes.push_reserved(root);
         Ok(PlainStore { nodes, room, alloc })
     }
+
+    /// These calls on the tree below a root, before their first steps.
+    pub fn calls(
+        alloc: Global,
+        ops: Vec<Op<u64>>,
+    ) -> Result<Vec<Machine<usize, u64>>, AllocError>
+        ensures count { IfOk result (λ calls. vec_len calls ≡ vec_len ops) }
+        ensures begins { IfOk result (λ calls. (h : ℕ → Node ℕ) → RootAlone h → Begins (λ n. n) h calls.items) }
+    {
+        let mut calls = Vec::with_capacity(alloc, ops.len())?;
+        let mut rest = ops.into_iter();
+        while let Some(op) = rest.next() {
+            calls.push_reserved(Machine::new(0, op));
+        }
+        Ok(calls)
+    }
 }
 
 impl Store<usize, u64> for PlainStore {
@@ -63,33 +83,7 @@ impl Store<usize, u64> for PlainStore {
         requires { Stands (heap_of self.now.nodes.items at.node) }
         ensures { ReadGives (λ n. n) true (heap_of self.now.nodes.items at.node) at.version key.now result }
     {
-        let node = &self.nodes[at.node];
-        if let Some(common) = first_difference(&node.prefix, key) {
-            return Reading::Differs {
-                common,
-                byte: node.prefix[common],
-            };
-        }
-        let depth = node.prefix.len();
-        let byte = key[depth];
-        let (child, full, count) = if node.is_at(at.version) {
-            let count = node.count();
-            (node.child(byte), count as usize == node.form.capacity(), count)
-        } else {
-            match seen {
-                None => (Child::Blank, false, 0),
-                Some(seen) => (seen.child, seen.full, seen.count),
-            }
-        };
-        Reading::Fits {
-            depth,
-            seen: Seen {
-                child,
-                byte,
-                full,
-                count,
-            },
-        }
+        self.nodes[at.node].read(at.version, key, seen)
     }
 
     fn check(&self, at: Seat<usize>) -> bool
@@ -106,11 +100,13 @@ impl Store<usize, u64> for PlainStore {
         if at.version == u64::MAX {
             return Upgrade::Exhausted;
         }
-        let node = &mut self.nodes[at.node];
-        if fail || !node.is_at(at.version) {
+        if fail {
             return Upgrade::Failed;
         }
-        node.locked = true;
+        if !self.nodes[at.node].is_at(at.version) {
+            return Upgrade::Failed;
+        }
+        self.nodes[at.node].locked = true;
         Upgrade::Locked
     }
 

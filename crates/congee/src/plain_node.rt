@@ -1,12 +1,13 @@
 //! One node of a plain list.
 ghost use Rattle.std.specs.Prelude.{◌≡◌, ◌≢◌, ℕ, ◌+◌, ◌-◌, ◌^◌, ◌<◌, ◌≤◌, Bool, true, false, List, length, take, IfOk, MatchOption, ◌↔◌};
 ghost use Rattle.congee.specs.Heap.{fits, Nothing, Below};
-ghost use Rattle.congee.specs.Events.{Parts, hung};
+ghost use Rattle.congee.specs.Events.{Parts, hung, ReadGives};
 ghost use Rattle.congee.specs.Plain.{is_there, count_of, child_at, NamesStay};
 
 use crate::base_node::NodeType;
 use crate::child::Child;
 use crate::prefix::{Prefix, prefix_from};
+use crate::store::{Reading, Seen};
 use std::alloc::{AllocError, Global};
 use std::mem;
 use std::vec::Vec;
@@ -98,7 +99,7 @@ fn copy_names(from: &[Child<usize, u64>], to: &mut [Child<usize, u64>])
 impl PlainNode {
     ghost use Rattle.std.specs.Prelude.{Some};
     ghost use Rattle.congee.specs.Heap.{is_taken};
-    ghost use Rattle.congee.specs.PlainHeap.{node_of, IsFresh, HandsOver};
+    ghost use Rattle.congee.specs.PlainHeap.{node_of, IsFresh, IsTruly, HandsOver};
 
     /// An empty node on the key's way.
     pub(crate) fn new(
@@ -145,6 +146,54 @@ impl PlainNode {
         ensures { result ≡ count_of self.now.children.items }
     {
         count(&self.children)
+    }
+
+    /// What the node has at the byte for a call that took this version, or what another call is to see.
+    fn look(&self, version: u64, byte: u8, seen: Option<Seen<usize, u64>>) -> Seen<usize, u64>
+        ensures byte { result.byte ≡ byte }
+        ensures fits { result.byte < 256 }
+        ensures truly { is_taken (node_of (Some self.now)) version ≡ true → IsTruly self.now byte result }
+    {
+        if self.is_at(version) {
+            let count = self.count();
+            return Seen {
+                child: self.child(byte),
+                byte,
+                full: count as usize == self.form.capacity(),
+                count,
+            };
+        }
+        match seen {
+            None => Seen {
+                child: Child::Blank,
+                byte,
+                full: false,
+                count: 0,
+            },
+            Some(seen) => Seen { byte, ..seen },
+        }
+    }
+
+    /// Compares the key with the prefix, and looks at the key's byte.
+    pub(crate) fn read(
+        &self,
+        version: u64,
+        key: &[u8; 8],
+        seen: Option<Seen<usize, u64>>,
+    ) -> Reading<usize, u64>
+        ensures { ReadGives (λ n. n) true (node_of (Some self.now)) version key.now result }
+    {
+        match first_difference(&self.prefix, key) {
+            Some(common) => Reading::Differs {
+                common,
+                byte: self.prefix[common],
+            },
+            None => {
+                let depth = self.prefix.len();
+                let seen = self.look(version, key[depth], seen);
+                Reading::Fits { depth, seen }
+            }
+        }
     }
 
     /// Gives the children to another node. The names of nodes stay here too.
