@@ -58,4 +58,6 @@ pub mod Shapes
 pub mod Watches
 pub mod Turns
 pub mod Opening
+pub mod PlainHeaps
+pub mod PlainLemmas
 pub mod Tallies

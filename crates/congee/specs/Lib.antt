@@ -28,3 +28,5 @@ pub mod Answers
 pub mod Play
 pub mod Opening
 pub mod Stats
+pub mod Plain
+pub mod PlainHeap

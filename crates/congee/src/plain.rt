@@ -1,0 +1,176 @@
+//! A store that is a plain list of nodes, none of which is ever taken away.
+ghost use Rattle.std.specs.Prelude.{◌≡◌, ℕ, ◌+◌, ◌-◌, ◌^◌, ◌<◌, ◌≤◌, Bool, true, false, IfOk};
+ghost use Rattle.congee.specs.Opening.{RootAlone};
+ghost use Rattle.congee.specs.Heap.{Node, Stands, is_taken};
+ghost use Rattle.congee.specs.Play.{Begins};
+ghost use Rattle.std.specs.Vec.{vec_len};
+ghost use Rattle.congee.specs.Events.{hung, ReadGives, UpgradeGives, MayChange, ChangeGives};
+
+use crate::base_node::NodeType;
+use crate::child::Child;
+use crate::machine::Machine;
+use crate::op::Op;
+use crate::plain_node::PlainNode;
+use crate::store::{NodeName, Reading, Refusal, Seat, Seen, Store, Upgrade};
+use std::alloc::{AllocError, Global};
+use std::vec::Vec;
+
+impl NodeName for usize {
+    ghost number = { λ n. n };
+}
+
+/// Nodes of words for one thread, each named by its place in the list. A node that is given back or retired stays
+/// there, marked, so that everything a run did can be looked at afterwards.
+#[derive(Drop)]
+pub struct PlainStore {
+    pub(crate) nodes: Vec<PlainNode>,
+    room: usize,
+    alloc: Global,
+}
+
+impl PlainStore {
+    ghost use Rattle.congee.specs.PlainHeap.{heap_of};
+
+    /// A store with a root alone, under the name 0. So many nodes have room in it, the root not counted.
+    pub fn new(alloc: Global, room: usize) -> Result<Self, AllocError>
+        ensures { IfOk result (λ s. RootAlone (heap_of s.nodes.items)) }
+    {
+        let root = PlainNode::new(alloc, NodeType::N256, &[0; 8], 0)?;
+        let mut nodes = Vec::with_capacity(alloc, 1)?;
+        nodes.push_reserved(root);
+        Ok(PlainStore { nodes, room, alloc })
+    }
+
+    /// These calls on the tree below a root, before their first steps.
+    pub fn calls(
+        alloc: Global,
+        ops: Vec<Op<u64>>,
+    ) -> Result<Vec<Machine<usize, u64>>, AllocError>
+        ensures count { IfOk result (λ calls. vec_len calls ≡ vec_len ops) }
+        ensures begins { IfOk result (λ calls. (h : ℕ → Node ℕ) → RootAlone h → Begins (λ n. n) h calls.items) }
+    {
+        let mut calls = Vec::with_capacity(alloc, ops.len())?;
+        let mut rest = ops.into_iter();
+        while let Some(op) = rest.next() {
+            calls.push_reserved(Machine::new(0, op));
+        }
+        Ok(calls)
+    }
+}
+
+impl Store<usize, u64> for PlainStore {
+    ghost use Rattle.congee.specs.PlainHeap.{heap_of};
+
+    ghost heap = { λ s. heap_of s.nodes.items };
+
+    ghost version_max = { λ s. 2 ^ 64 - 1 };
+
+    fn version(&self, node: usize) -> Option<u64> {
+        let node = &self.nodes[node];
+        if node.locked || node.obsolete {
+            None
+        } else {
+            Some(node.version)
+        }
+    }
+
+    fn read(
+        &self,
+        at: Seat<usize>,
+        key: &[u8; 8],
+        seen: Option<Seen<usize, u64>>,
+    ) -> Reading<usize, u64>
+        requires { Stands (heap_of self.now.nodes.items at.node) }
+        ensures { ReadGives (λ n. n) true (heap_of self.now.nodes.items at.node) at.version key.now result }
+    {
+        self.nodes[at.node].read(at.version, key, seen)
+    }
+
+    fn check(&self, at: Seat<usize>) -> bool
+        requires { Stands (heap_of self.now.nodes.items at.node) }
+        ensures { result ≡ is_taken (heap_of self.now.nodes.items at.node) at.version }
+    {
+        self.nodes[at.node].is_at(at.version)
+    }
+
+    fn upgrade(&mut self, at: Seat<usize>, fail: bool) -> Upgrade
+        requires { Stands (heap_of self.old.nodes.items at.node) }
+        ensures gives { UpgradeGives (2 ^ 64 - 1) (heap_of self.old.nodes.items) at.node at.version fail result (heap_of self.new.nodes.items) }
+    {
+        if at.version == u64::MAX {
+            return Upgrade::Exhausted;
+        }
+        if fail {
+            return Upgrade::Failed;
+        }
+        if !self.nodes[at.node].is_at(at.version) {
+            return Upgrade::Failed;
+        }
+        self.nodes[at.node].locked = true;
+        Upgrade::Locked
+    }
+
+    fn make(&mut self, form: NodeType, key: &[u8; 8], length: usize) -> Result<usize, Refusal> {
+        let name = self.nodes.len();
+        if name > self.room {
+            return Err(Refusal::Cells);
+        }
+        if self.nodes.reserve(1).is_err() {
+            return Err(Refusal::Memory);
+        }
+        match PlainNode::new(self.alloc, form, key, length) {
+            Err(_) => Err(Refusal::Memory),
+            Ok(node) => {
+                self.nodes.push_reserved(node);
+                Ok(name)
+            }
+        }
+    }
+
+    fn change(&mut self, node: usize, byte: u8, child: Child<usize, u64>)
+        requires stands { Stands (heap_of self.old.nodes.items node) }
+        requires locked { (heap_of self.old.nodes.items node).locked ≡ true }
+        requires room { MayChange (heap_of self.old.nodes.items node) byte (hung (λ n. n) child) }
+        ensures gives { ChangeGives (heap_of self.old.nodes.items) node byte (hung (λ n. n) child) (heap_of self.new.nodes.items) }
+    {
+        self.nodes[node].children[byte as usize] = child;
+    }
+
+    fn fill(&mut self, node: usize, byte: u8, child: Child<usize, u64>)
+        requires stands { Stands (heap_of self.old.nodes.items node) }
+        requires room { MayChange (heap_of self.old.nodes.items node) byte (hung (λ n. n) child) }
+        ensures gives { ChangeGives (heap_of self.old.nodes.items) node byte (hung (λ n. n) child) (heap_of self.new.nodes.items) }
+    {
+        self.nodes[node].children[byte as usize] = child;
+    }
+
+    fn take_over(&mut self, old: usize, node: usize) {
+        if old < node {
+            let (front, back) = self.nodes.split_at_mut(node);
+            front[old].hand_over(&mut back[0]);
+        } else if node < old {
+            let (front, back) = self.nodes.split_at_mut(old);
+            back[0].hand_over(&mut front[node]);
+        }
+    }
+
+    fn give_back(&mut self, node: usize) {
+        let node = &mut self.nodes[node];
+        node.destroyed = true;
+        node.locked = false;
+    }
+
+    fn obsolete(&mut self, node: usize) {
+        self.nodes[node].obsolete = true;
+    }
+
+    fn retire(&mut self, node: usize) {
+        self.nodes[node].retired = true;
+    }
+
+    fn unlock(&mut self, node: usize) {
+        let node = &mut self.nodes[node];
+        node.version += 1;
+        node.locked = false;
+    }
+}
