@@ -9,3 +9,4 @@ pub mod Told
 pub mod Whole
 pub mod FaceTags
 pub mod FaceWords
+pub mod RootCalls

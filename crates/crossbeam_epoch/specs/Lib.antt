@@ -14,3 +14,4 @@ pub mod FaceOrdering
 pub mod FacePointer
 pub mod FaceQueue
 pub mod FaceSlots
+pub mod Roots

@@ -1,5 +1,7 @@
 //! Names of cells, and what a cell's value shows of itself.
 
+use crate::tag::tag_of;
+
 /// The name of one value's stay in a cell: the cell's number, and how many values it had before.
 #[derive(Clone, Copy, Debug, PartialEq, Eq, Drop)]
 pub struct Name {
@@ -7,7 +9,7 @@ pub struct Name {
     pub turn: u32,
 }
 
-/// What a root holds: a name or null, with a tag below the `ALIGN` of its type.
+/// What a root holds: a name or null, with a tag. `with_tag` gives tags below the `ALIGN` of a type.
 #[derive(Clone, Copy, Debug, PartialEq, Eq, Drop)]
 pub struct Ptr {
     pub name: Option<Name>,
@@ -15,13 +17,23 @@ pub struct Ptr {
 }
 
 impl Ptr {
-    ghost use Rattle.std.specs.Prelude.{◌≡◌, None};
+    ghost use Rattle.std.specs.Prelude.{◌≡◌, ◌%◌, None};
 
     /// Null with tag 0.
     pub fn null() -> Ptr
         ensures { result ≡ record { name = None; tag = 0 } }
     {
         Ptr { name: None, tag: 0 }
+    }
+
+    /// The same cell with this number modulo `T::ALIGN` as its tag.
+    pub fn with_tag<T: Pointable>(self, number: usize) -> Ptr
+        ensures { result ≡ record self { tag = number % T.ALIGN } }
+    {
+        Ptr {
+            name: self.name,
+            tag: tag_of::<T>(number),
+        }
     }
 }
 

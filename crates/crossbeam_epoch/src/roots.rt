@@ -46,7 +46,7 @@ impl<T: Links + Pointable + Drop, J: Task> World<T, J> {
     }
 
     /// Whether a pointer is null, or its name isn't destroyed.
-    fn has_standing(&self, ptr: Ptr) -> bool
+    pub(crate) fn has_standing(&self, ptr: Ptr) -> bool
         ensures { result ≡ stands self.now.store ptr }
     {
         match ptr.name {

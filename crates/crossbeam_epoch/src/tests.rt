@@ -1,5 +1,6 @@
 //! Rows of the collector.
 
+use crate::exchanges::OtherPointer;
 use crate::fault::Fault;
 use crate::limits::Limits;
 use crate::names::{Links, Name, Pointable, Ptr};
@@ -272,5 +273,58 @@ fn a_job_runs_its_box(rt: HostRuntime) -> Result<(), Fail> {
     }
     assert_eq!(rt; world.waiting(), 0);
     assert_eq!(rt; flag.load(Ordering::SeqCst), 1);
+    Ok(())
+}
+
+#[test]
+fn an_exchange_of_a_root_looks_at_the_tag(rt: HostRuntime) -> Result<(), Fail> {
+    let mut world: Jobs = World::new(rt.alloc(), ample(1), 1)?;
+    let Ok(name) = world.place(Plain(7)) else {
+        return Ok(())
+    };
+    let stands = Ptr {
+        name: Some(name),
+        tag: 0,
+    };
+    let held = stands.with_tag::<Plain>(5);
+    let null = Ptr::null();
+    assert_eq!(rt; world.swap(0, held)?, null);
+    let other = world.compare_exchange(0, stands, null)?;
+    assert_eq!(rt;
+        other,
+        Err(OtherPointer {
+            current: held,
+            new: null
+        })
+    );
+    assert_eq!(rt; world.compare_exchange(0, held, null)?, Ok(null));
+    assert_eq!(rt; world.load(0)?, null);
+    Ok(())
+}
+
+/// A collector with one root, which holds null with this tag.
+fn tagged_null(alloc: Global, tag: usize) -> Result<Jobs, Fault> {
+    let mut world: Jobs = World::new(alloc, ample(1), 1)?;
+    world.store(0, Ptr::null().with_tag::<Plain>(tag))?;
+    Ok(world)
+}
+
+#[test]
+fn bits_of_a_tag_are_kept_and_flipped(rt: HostRuntime) -> Result<(), Fail> {
+    let mut world = tagged_null(rt.alloc(), 3)?;
+    let three = world.fetch_and(0, 1)?;
+    let one = world.fetch_xor(0, 3)?;
+    let two = world.load(0)?;
+    assert_eq!(rt; (three.tag, one.tag, two.tag), (3, 1, 2));
+    Ok(())
+}
+
+#[test]
+fn bits_of_a_tag_are_added(rt: HostRuntime) -> Result<(), Fail> {
+    let mut world = tagged_null(rt.alloc(), 1)?;
+    let one = world.fetch_or(0, 2)?;
+    let three = world.load(0)?;
+    let five = three.with_tag::<Plain>(5);
+    assert_eq!(rt; (one.tag, three.tag, five.tag), (1, 3, 1));
     Ok(())
 }
