@@ -9,6 +9,7 @@ ghost use Rattle.congee.specs.Table.{pairs_of};
 use crate::allocator::Allocator;
 use crate::arena::{Arena, Stored};
 use crate::drainer::Drainer;
+use crate::scan::Path;
 use judge::Word64;
 
 impl<P: Stored, A: Allocator> Arena<P, A> {
@@ -18,7 +19,10 @@ impl<P: Stored, A: Allocator> Arena<P, A> {
         ensures charge { A.charged_of result + bytes_of self.nodes ≡ A.charged_of self.allocator }
         ensures limit { A.limit_of result ≡ A.limit_of self.allocator }
     {
-        let Arena { nodes, mut allocator } = self;
+        let Arena {
+            nodes,
+            mut allocator,
+        } = self;
         for (_, node) in nodes.iter() {
             allocator.deallocate(node.size());
         }
@@ -34,8 +38,9 @@ impl<A: Allocator> Arena<u64, A> {
         ensures { Drained D.drains K.of_word V.of_word drainer (map.entries (pairs_of self.now.nodes)) result }
     {
         let mut drainer = drainer;
+        let mut path = Path::new();
         let mut from = 0;
-        while let Some((key, value)) = self.first_from(from) {
+        while let Some((key, value)) = self.first_along(&mut path, from) {
             drainer.drain(K::from_word(key), V::from_word(*value));
             match key.checked_add(1) {
                 Some(next) => from = next,

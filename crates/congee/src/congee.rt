@@ -7,7 +7,7 @@ ghost use Rattle.congee.specs.Bytes.{IsFirst};
 ghost use Rattle.congee.specs.Content.{Answers, Keeps, Unchanged};
 ghost use Rattle.congee.specs.Drained.{Drained};
 ghost use Rattle.congee.specs.OwnedSteps.{IsOutOf, IsRefusal};
-ghost use Rattle.congee.specs.Ranges.{in_range, keys_by};
+ghost use Rattle.congee.specs.Ranges.{by_bytes, in_range, keys_by};
 ghost use Rattle.judge.specs.declared.journal.Call.TheVariants as call;
 ghost use Rattle.judge.specs.declared.journal.Reply.TheVariants as reply;
 
@@ -215,12 +215,13 @@ impl<K: Word64, V: Word64, A: Allocator, D: Drop> Congee<K, V, A, D> {
         self.arena.first().is_none()
     }
 
-    // The pair of the least key from a number on.
-    pub(crate) fn first_from(&self, from: u64) -> Option<(u64, u64)>
-        ensures { MatchOption result ((q : ℕ) → from ≤ q → map.get self.now.pairs q ≡ None) (λ r. IsFirst self.now.pairs from r.0 r.1) }
+    // Writes the pairs with start <= key < end into `out`, ascending, as many as fit, each key as its eight bytes.
+    pub(crate) fn range_by_bytes(&self, start: u64, end: u64, out: &mut [([u8; 8], u64)]) -> usize
+        ensures pairs { take result out.new ≡ by_bytes (take (length out.old) (in_range start end (map.entries self.now.pairs))) }
+        ensures count { result ≡ length (take (length out.old) (in_range start end (map.entries self.now.pairs))) }
+        ensures past { drop result out.new ≡ drop result out.old }
     {
-        let (key, value) = self.arena.first_from(from)?;
-        Some((key, *value))
+        self.arena.range_by_bytes(start, end, out)
     }
 
     /// Writes the pairs with start <= key < end into `out`, ascending, as many as fit, and gives their number.

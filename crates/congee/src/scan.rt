@@ -9,7 +9,7 @@ ghost use Rattle.congee.specs.Gaps.{Near, Gap};
 ghost use Rattle.congee.specs.Bytes.{IsFirst};
 ghost use Rattle.congee.specs.Table.{pairs_of};
 ghost use Rattle.congee.specs.OwnedSteps.{IsHeld};
-ghost use Rattle.congee.specs.Ranges.{in_range, keys_by};
+ghost use Rattle.congee.specs.Ranges.{by_bytes, in_range, keys_by};
 
 use crate::allocator::Allocator;
 use crate::arena::{Arena, Stored, has_prefix};
@@ -202,6 +202,29 @@ impl<A: Allocator> Arena<u64, A> {
             match self.first_along(&mut path, from) {
                 Some((key, value)) if key < end => {
                     out[count] = (key, *value);
+                    count += 1;
+                    from = key + 1;
+                }
+                _ => return count,
+            }
+        }
+        count
+    }
+
+    /// The same, with each key as its eight bytes, the highest first.
+    pub(crate) fn range_by_bytes(&self, start: u64, end: u64, out: &mut [([u8; 8], u64)]) -> usize
+        requires { IsTree self.now.nodes }
+        ensures pairs { take result out.new ≡ by_bytes (take (length out.old) (in_range start end (map.entries (pairs_of self.now.nodes)))) }
+        ensures count { result ≡ length (take (length out.old) (in_range start end (map.entries (pairs_of self.now.nodes)))) }
+        ensures past { drop result out.new ≡ drop result out.old }
+    {
+        let mut path = Path::new();
+        let mut from = start;
+        let mut count = 0;
+        while count < out.len() {
+            match self.first_along(&mut path, from) {
+                Some((key, value)) if key < end => {
+                    out[count] = (key.to_be_bytes(), *value);
                     count += 1;
                     from = key + 1;
                 }

@@ -66,19 +66,7 @@ impl<V: Word64, A: Allocator> U64Congee<V, A> {
         ensures count { result ≡ length (take (length out.old) (in_range start end (map.entries self.now.tree.pairs))) }
         ensures past { drop result out.new ≡ drop result out.old }
     {
-        let mut from = start;
-        let mut count = 0;
-        while count < out.len() {
-            match self.tree.first_from(from) {
-                Some((key, value)) if key < end => {
-                    out[count] = (key.to_be_bytes(), value);
-                    count += 1;
-                    from = key + 1;
-                }
-                _ => return count,
-            }
-        }
-        count
+        self.tree.range_by_bytes(start, end, out)
     }
 
     /// Drops the pairs and the nodes. Gives the allocator back with the charge with which it came in.
