@@ -90,7 +90,7 @@ module _ {J : Type 0} where
 
 module _ {T J : Type 0} where
   -- a removal that destroys a cell is the removal of its name
-  destroys_named : (st : Store T) (work : Work J) (n : Name) → destroys st work ≡ Some n → work ≡ Remove n
+  pub destroys_named : (st : Store T) (work : Work J) (n : Name) → destroys st work ≡ Some n → work ≡ Remove n
   destroys_named st Blank n is = absurd (cc is)
   destroys_named st (Run job) n is = absurd (cc is)
   destroys_named st (Remove name) n is = ap Remove (by_standing (is_some (value_at st name)) is)

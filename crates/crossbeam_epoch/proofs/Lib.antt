@@ -1,10 +1,13 @@
+pub mod Endings
 pub mod FreeCells
 pub mod Grace
 pub mod Jobs
+pub mod Leads
 pub mod Marks
 pub mod Moves
 pub mod Reaches
 pub mod Runs
+pub mod Tables
 pub mod Told
 pub mod Whole
 pub mod FaceTags

@@ -27,9 +27,10 @@ use Rattle.crossbeam_epoch.specs.History.{Mark, Unpinned, Deferred}
 use Rattle.crossbeam_epoch.specs.Machine.{State, place, in_phase, is_due, taken, called_one, no_entry, destroys, after_work, opened, registered, with_store, with_roots, after_deferral, deferred, deferred_anew, name_of}
 use Rattle.crossbeam_epoch.specs.Store.{Store, fresh, cell_at, value_in, value_at, emptied, replaced, placed, with_cell, is_usable, IsNext}
 use Rattle.crossbeam_epoch.specs.Steps.{after, gone, needs_memory, called_by, called_entry, called_in, defer_fault, destroy_fault, IsReport, begin_marks, phase_marks, moved_marks, unless_refused, marks, state_after, AreReports}
-use Rattle.crossbeam_epoch.specs.Fits.{Fits}
+use Rattle.crossbeam_epoch.specs.Fits.{Fits, IsTable}
 use Rattle.crossbeam_epoch.specs.Reach.{Act, Quiet, Marked, Moment, with_act, marks_of, IsEnd, moment, Tells, newest, step_act, moments_after, GivenBack}
-use Rattle.crossbeam_epoch.proofs.Runs.{fits_after, fits_opened, fits_place, fits_store, fits_roots, fits_deferral, fits_removal}
+use Rattle.crossbeam_epoch.proofs.Runs.{fits_after, fits_opened, fits_place, fits_store, fits_roots, fits_deferral, fits_removal, no_destroy_fault}
+use Rattle.crossbeam_epoch.proofs.Tables.{table_is, table_after, table_new, table_registered, table_deferral}
 
 unpin_act : (b : Bool) (who : ℕ) (h : List Mark) → with_act (newest (if b then Unpinned who ∷ [] else [])) h ≡ (if b then Unpinned who ∷ h else h)
 unpin_act true who h = refl
@@ -259,12 +260,13 @@ module _ {T J : Type 0} where
 
   -- a call or a step tells what it destroys
   pub tells_act : (names : T → List Name) (h : List Moment) (s s' : State T J) (act : Act) → Tells names h s → Fits (with_act act (marks_of h)) s'
-      → ((n : Name) → is_some (value_at s.store n) ≡ true → is_some (value_at s'.store n) ≡ false → IsEnd act n) → Tells names (moment names act s' ∷ h) s'
-  tells_act names [] s s' act t f ends = absurd t.now
-  tells_act names (b ∷ h) s s' act t f ends = record {
+      → ((n : Name) → is_some (value_at s.store n) ≡ true → is_some (value_at s'.store n) ≡ false → IsEnd act n) → IsTable s'.limits.participants s'.table → Tells names (moment names act s' ∷ h) s'
+  tells_act names [] s s' act t f ends table = absurd t.now
+  tells_act names (b ∷ h) s s' act t f ends table = record {
     fits = f;
     now = (refl, λ n. refl, λ n. refl);
     ends = ((λ n live gone. ends n (sym (t.now.1 n) ∙ live) gone), t.ends);
+    table = table;
   }
 
   pub tells_after : (names : T → List Name) (h : List Moment) (s : State T J) (who : ℕ) (event : Event) (r : Report) → IsReport s who event r → Tells names h s
@@ -273,6 +275,7 @@ module _ {T J : Type 0} where
       tells_act names h s (after s who event r.outcome) (step_act s who event r) t
       (subst (λ g. Fits g (after s who event r.outcome)) (sym (marks_act s who event r (marks_of h))) (fits_after (marks_of h) s who event r is t.fits))
       (λ n live gone. step_ends s who event r n is live gone)
+      (table_after s who event r is t.table)
 
   pub tells_run : (names : T → List Name) (h : List Moment) (s : State T J) (steps : List Step) (reports : List Report) → AreReports s steps reports → Tells names h s → Tells names (moments_after names s steps reports h) (state_after s steps reports)
   tells_run names h s [] [] are t = t
@@ -283,15 +286,19 @@ module _ {T J : Type 0} where
       (tells_after names h s step.who step.event r are.0 t)
 
   pub tells_opened : (names : T → List Name) (limits : Limits) (roots : ℕ) (s : State T J) → s ≡ opened limits roots → limits.expiry ≡ 2 → Tells names (moment names Quiet s ∷ []) s
-  tells_opened names limits roots s is two = rw is (record { fits = fits_opened limits roots (omega (arith, two)); now = (refl, λ n. refl, λ n. refl); ends = tt })
+  tells_opened names limits roots s is two = rw is (record { fits = fits_opened limits roots (omega (arith, two)); now = (refl, λ n. refl, λ n. refl); ends = tt; table = table_new limits.participants })
 
   -- a call that leaves the cells as they are
-  tells_same : (names : T → List Name) (h : List Moment) (s s' : State T J) (act : Act) → Tells names h s → Fits (with_act act (marks_of h)) s' → s'.store ≡ s.store → Tells names (moment names act s' ∷ h) s'
-  tells_same names h s s' act t f same = tells_act names h s s' act t f (λ n live gone. same_ends s.store s'.store n same live gone)
+  tells_same : (names : T → List Name) (h : List Moment) (s s' : State T J) (act : Act) → Tells names h s → Fits (with_act act (marks_of h)) s' → s'.store ≡ s.store → IsTable s'.limits.participants s'.table → Tells names (moment names act s' ∷ h) s'
+  tells_same names h s s' act t f same table = tells_act names h s s' act t f (λ n live gone. same_ends s.store s'.store n same live gone) table
 
   pub tells_place : (names : T → List Name) (h : List Moment) (s s' : State T J) (r : Result ℕ Fault) → MatchResult r (λ n. s' ≡ registered s n) (λ e. (e ≡ F.TableFull) × (s' ≡ s)) → IfOk r (λ n. (n < length s.table) × ((place s n).registered ≡ false)) → Tells names h s → Tells names (moment names Quiet s' ∷ h) s'
-  tells_place names h s s' r is free t = tells_same names h s s' Quiet t (fits_place (marks_of h) s s' r is free t.fits) (by_result r is)
+  tells_place names h s s' r is free t = tells_same names h s s' Quiet t (fits_place (marks_of h) s s' r is free t.fits) (by_result r is) (by_table r is)
     where
+      by_table : (r : Result ℕ Fault) → MatchResult r (λ n. s' ≡ registered s n) (λ e. (e ≡ F.TableFull) × (s' ≡ s)) → IsTable s'.limits.participants s'.table
+      by_table (Ok n) is = table_is s' (registered s n) is (table_registered s n t.table)
+      by_table (Err e) is = table_is s' s is.1 t.table
+
       by_result : (r : Result ℕ Fault) → MatchResult r (λ n. s' ≡ registered s n) (λ e. (e ≡ F.TableFull) × (s' ≡ s)) → s'.store ≡ s.store
       by_result (Ok n) is = ap (λ (x : State T J). x.store) is
       by_result (Err e) is = ap (λ (x : State T J). x.store) is.1
@@ -307,21 +314,26 @@ module _ {T J : Type 0} where
       → MatchResult r (λ t. defer_fault s who ≡ None) (λ e. MatchOption (defer_fault s who) ((e.0 ≡ F.Memory) × (length (place s who).bag ≡ 64)) (λ f. e.0 ≡ f)) → Tells names h s
       → MatchResult r (λ t. Tells names (moment names (Marked (Deferred t (name_of work))) s' ∷ h) s') (λ e. Tells names (moment names Quiet s' ∷ h) s')
   tells_deferral names h s s' who work back (Ok k) ticket on err none t =
-      tells_same names h s s' (Marked (Deferred k (name_of work))) t (fits_deferral (marks_of h) s s' who work back (Ok k) ticket on err none t.fits) (ap (λ (x : State T J). x.store) on ∙ deferral_store s who work)
+      tells_same names h s s' (Marked (Deferred k (name_of work))) t (fits_deferral (marks_of h) s s' who work back (Ok k) ticket on err none t.fits) (ap (λ (x : State T J). x.store) on ∙ deferral_store s who work) (table_is s' (after_deferral s who work) on (table_deferral s who work none t.table))
   tells_deferral names h s s' who work back (Err e) ticket on err none t =
-      tells_same names h s s' Quiet t (fits_deferral (marks_of h) s s' who work back (Err e) ticket on err none t.fits) (ap (λ (x : State T J). x.store) err.0)
+      tells_same names h s s' Quiet t (fits_deferral (marks_of h) s s' who work back (Err e) ticket on err none t.fits) (ap (λ (x : State T J). x.store) err.0) (table_is s' s err.0 t.table)
 
   pub tells_removal : (names : T → List Name) (h : List Moment) (s s' : State T J) (who : ℕ) (name : Name) (r : Result ℕ Fault) → IfOk r (λ t. t ≡ s.next) → OnOk r (s' ≡ after_deferral s who (Remove name)) → OnErr r (s' ≡ s)
       → MatchResult r (λ t. destroy_fault s who name ≡ None) (λ e. MatchOption (destroy_fault s who name) ((e ≡ F.Memory) × (length (place s who).bag ≡ 64)) (λ f. e ≡ f)) → Tells names h s
       → MatchResult r (λ t. Tells names (moment names (Marked (Deferred t (Some name))) s' ∷ h) s') (λ e. Tells names (moment names Quiet s' ∷ h) s')
   tells_removal names h s s' who name (Ok k) ticket on err none t =
       tells_same names h s s' (Marked (Deferred k (Some name))) t (fits_removal (marks_of h) s s' who name (Ok k) ticket on err none t.fits) (ap (λ (x : State T J). x.store) on ∙ deferral_store s who (Remove name))
+      (table_is s' (after_deferral s who (Remove name)) on (table_deferral s who (Remove name) (no_destroy_fault (is_some (value_at s.store name)) (defer_fault s who) none) t.table))
   tells_removal names h s s' who name (Err e) ticket on err none t =
-      tells_same names h s s' Quiet t (fits_removal (marks_of h) s s' who name (Err e) ticket on err none t.fits) (ap (λ (x : State T J). x.store) err)
+      tells_same names h s s' Quiet t (fits_removal (marks_of h) s s' who name (Err e) ticket on err none t.fits) (ap (λ (x : State T J). x.store) err) (table_is s' s err t.table)
 
   pub tells_roots : (names : T → List Name) (h : List Moment) (s s' : State T J) (r : Result (Unit {0}) Fault) (roots : List Ptr) → OnOk r (s' ≡ with_roots s roots) → IfErr r (λ e. (e ≡ F.Unknown) × (s' ≡ s)) → Tells names h s → Tells names (moment names Quiet s' ∷ h) s'
-  tells_roots names h s s' r roots on back t = tells_same names h s s' Quiet t (fits_roots (marks_of h) s s' r roots on back t.fits) (by_result r on back)
+  tells_roots names h s s' r roots on back t = tells_same names h s s' Quiet t (fits_roots (marks_of h) s s' r roots on back t.fits) (by_result r on back) (by_table r on back)
     where
+      by_table : (r : Result (Unit {0}) Fault) → OnOk r (s' ≡ with_roots s roots) → IfErr r (λ e. (e ≡ F.Unknown) × (s' ≡ s)) → IsTable s'.limits.participants s'.table
+      by_table (Ok u) on back = table_is s' (with_roots s roots) on t.table
+      by_table (Err e) on back = table_is s' s back.1 t.table
+
       by_result : (r : Result (Unit {0}) Fault) → OnOk r (s' ≡ with_roots s roots) → IfErr r (λ e. (e ≡ F.Unknown) × (s' ≡ s)) → s'.store ≡ s.store
       by_result (Ok u) on back = ap (λ (x : State T J). x.store) on
       by_result (Err e) on back = ap (λ (x : State T J). x.store) back.1
@@ -330,20 +342,23 @@ module _ {T J : Type 0} where
   tells_placed names h s s' v (Ok name) on back t =
       tells_act names h s s' Quiet t (rw on.1 (fits_store (marks_of h) s (with_store s (placed s.store name v)) refl t.fits))
       (λ n live gone. absurd (cc (placed_lives s.store name n v on.0 live, ap (λ (x : State T J). lives x.store n) on.1, gone)))
-  tells_placed names h s s' v (Err e) on back t = tells_same names h s s' Quiet t (rw back.2 t.fits) (ap (λ (x : State T J). x.store) back.2)
+      (table_is s' (with_store s (placed s.store name v)) on.1 t.table)
+  tells_placed names h s s' v (Err e) on back t = tells_same names h s s' Quiet t (rw back.2 t.fits) (ap (λ (x : State T J). x.store) back.2) (table_is s' s back.2 t.table)
 
   pub tells_given_back : (names : T → List Name) (h : List Moment) (s s' : State T J) (name : Name) (r : Result T Fault) → IfOk r (λ v. (value_at s.store name ≡ Some v) × (s' ≡ with_store s (emptied s.store name.cell))) → IfErr r (λ e. (value_at s.store name ≡ None) × (e ≡ F.Unknown) × (s' ≡ s)) → Tells names h s
       → MatchResult r (λ v. Tells names (moment names (GivenBack name) s' ∷ h) s') (λ e. Tells names (moment names Quiet s' ∷ h) s')
   tells_given_back names h s s' name (Ok v) on back t =
       tells_act names h s s' (GivenBack name) t (rw on.1 (fits_store (marks_of h) s (with_store s (emptied s.store name.cell)) refl t.fits))
       (λ n live gone. emptied_gone s.store name n (ap is_some on.0) live (sym (ap (λ (x : State T J). lives x.store n) on.1) ∙ gone))
-  tells_given_back names h s s' name (Err e) on back t = tells_same names h s s' Quiet t (rw back.2 t.fits) (ap (λ (x : State T J). x.store) back.2)
+      (table_is s' (with_store s (emptied s.store name.cell)) on.1 t.table)
+  tells_given_back names h s s' name (Err e) on back t = tells_same names h s s' Quiet t (rw back.2 t.fits) (ap (λ (x : State T J). x.store) back.2) (table_is s' s back.2 t.table)
 
   pub tells_replaced : (names : T → List Name) (h : List Moment) (s s' : State T J) (name : Name) (w : T) (r : Result T (Fault × T)) → IfOk r (λ v. (value_at s.store name ≡ Some v) × (s' ≡ with_store s (replaced s.store name.cell w))) → IfErr r (λ e. (value_at s.store name ≡ None) × (e.0 ≡ F.Unknown) × (e.1 ≡ w) × (s' ≡ s)) → Tells names h s → Tells names (moment names Quiet s' ∷ h) s'
   tells_replaced names h s s' name w (Ok v) on back t =
       tells_act names h s s' Quiet t (rw on.1 (fits_store (marks_of h) s (with_store s (replaced s.store name.cell w)) refl t.fits))
       (λ n live gone. absurd (cc (replaced_lives s.store name.cell n w live, ap (λ (x : State T J). lives x.store n) on.1, gone)))
-  tells_replaced names h s s' name w (Err e) on back t = tells_same names h s s' Quiet t (rw back.3 t.fits) (ap (λ (x : State T J). x.store) back.3)
+      (table_is s' (with_store s (replaced s.store name.cell w)) on.1 t.table)
+  tells_replaced names h s s' name w (Err e) on back t = tells_same names h s s' Quiet t (rw back.3 t.fits) (ap (λ (x : State T J). x.store) back.3) (table_is s' s back.3 t.table)
 
   pub opened_told : {E : Type 0} (names : T → List Name) (limits : Limits) (roots : ℕ) (r : Result (State T J) E) → IfOk r (λ s. s ≡ opened limits roots) → IfOk r (λ s. limits.expiry ≡ 2 → Tells names (moment names Quiet s ∷ []) s)
   opened_told names limits roots (Ok s) is = λ two. tells_opened names limits roots s is two

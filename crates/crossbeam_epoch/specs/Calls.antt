@@ -8,7 +8,11 @@ use Rattle.crossbeam_epoch.specs.declared.report.Outcome.TheVariants.{Running}
 use Rattle.crossbeam_epoch.specs.declared.report.Report.{Report}
 use Rattle.crossbeam_epoch.specs.declared.report.Step.{Step}
 use Rattle.crossbeam_epoch.specs.Machine.{State}
-use Rattle.crossbeam_epoch.specs.Steps.{state_after, AreReports}
+use Rattle.crossbeam_epoch.specs.declared.names.Name.{Name}
+use Rattle.crossbeam_epoch.specs.Fits.{Fits}
+use Rattle.crossbeam_epoch.specs.History.{Mark}
+use Rattle.crossbeam_epoch.specs.Reach.{Moment, Tells, moments_after}
+use Rattle.crossbeam_epoch.specs.Steps.{state_after, history_after, AreReports}
 
 -- the event of a call's n-th step
 abbrev pub event_at : Op → ℕ → Event
@@ -32,3 +36,8 @@ pub record IsCall {T J : Type 0} (s : State T J) (who : ℕ) (op : Op) (most : �
   pub state : s' ≡ state_after s (call_steps who op (length reports)) reports
   pub newest_is : EndsWith reports newest
   pub stops : MatchOption newest (most ≡ 0) (λ r. r.outcome ≡ Running → length reports ≡ most)
+
+-- the steps of a call lead each history on
+pub record LeadsOn {T J : Type 0} (names : T → List Name) (s : State T J) (who : ℕ) (op : Op) (reports : List Report) (s' : State T J) : Type 0 where
+  pub kept : (h : List Mark) → Fits h s → Fits (history_after s (call_steps who op (length reports)) reports h) s'
+  pub told : (h : List Moment) → Tells names h s → Tells names (moments_after names s (call_steps who op (length reports)) reports h) s'

@@ -1,5 +1,5 @@
 -- How a history and a state belong together.
-use Rattle.std.specs.Prelude.{◌≡◌, ℕ, ◌+◌, ◌==◌, ◌≤◌, ◌<◌, nat_lt, true, List, [], length, Option, Some, None, if◌then◌else◌}
+use Rattle.std.specs.Prelude.{◌≡◌, ℕ, ◌+◌, ◌==◌, ◌≤◌, ◌<◌, nat_lt, true, false, List, [], length, Option, Some, None, if◌then◌else◌, slice_index_or}
 use Rattle.std.specs.List.{Contains, sum_by}
 use Rattle.crossbeam_epoch.specs.declared.bag.Entry.{Entry}
 use Rattle.crossbeam_epoch.specs.declared.bag.Work.TheVariants.{Remove}
@@ -9,7 +9,12 @@ use Rattle.crossbeam_epoch.specs.declared.places.Sealed.{Sealed}
 use Rattle.crossbeam_epoch.specs.declared.places.Phase.{Phase}
 use Rattle.crossbeam_epoch.specs.declared.places.Phase.TheVariants.{Idle, Look, Publish, RepinLook, RepinPublish, Seal, Queue, ReleaseSeal, ReleaseQueue, Secure, SecureSeal, SecureQueue, Load, Inspect, Advance, Take, Call}
 use Rattle.crossbeam_epoch.specs.History.{Mark, began, blocks, calls, deferrals, IsGraceful, WasDeferred, AreCalledLater}
-use Rattle.crossbeam_epoch.specs.Machine.{State, place}
+use Rattle.crossbeam_epoch.specs.Machine.{State, place, blank}
+
+-- the table has its places, and those that nobody holds are blank
+pub record IsTable {J : Type 0} (places : ℕ) (table : List (Participant J)) : Type 0 where
+  pub long : length table ≡ places
+  pub free : (q : ℕ) → (slice_index_or table q blank).registered ≡ false → slice_index_or table q blank ≡ blank
 
 -- the word is no newer than the stretch, and the epoch is at most one past its beginning
 abbrev pub Bounds : Option ℕ → Option ℕ → ℕ → Type 0

@@ -1,4 +1,5 @@
 pub mod Calls
+pub mod Ending
 pub mod Fits
 pub mod Free
 pub mod History

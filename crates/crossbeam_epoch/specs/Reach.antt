@@ -10,7 +10,7 @@ use Rattle.crossbeam_epoch.specs.History.{Mark, Pinned, Repinned, Unpinned, Defe
 use Rattle.crossbeam_epoch.specs.Machine.{State}
 use Rattle.crossbeam_epoch.specs.Store.{Store, value_at}
 use Rattle.crossbeam_epoch.specs.Steps.{after, marks}
-use Rattle.crossbeam_epoch.specs.Fits.{Fits}
+use Rattle.crossbeam_epoch.specs.Fits.{Fits, IsTable}
 
 -- what a call or a step did
 pub data Act : Type 0 where
@@ -138,6 +138,7 @@ pub record Tells {T J : Type 0} (names : T → List Name) (h : List Moment) (s :
   pub fits : Fits (marks_of h) s
   pub now : IsNow names h s
   pub ends : EndsTold h
+  pub table : IsTable s.limits.participants s.table
 
 -- the act of a step: the mark that it adds
 abbrev pub newest : List Mark → Act

@@ -4,7 +4,7 @@ ghost use Rattle.std.specs.Prelude.{◌≡◌, ◌<◌, ◌≤◌, List, ◌∷�
 ghost use Rattle.crossbeam_epoch.specs.Machine.{place};
 ghost use Rattle.crossbeam_epoch.specs.Steps.{after, busy_fault, IsReport, state_after, AreReports, history_after};
 ghost use Rattle.crossbeam_epoch.specs.declared.report.Report.{Report};
-ghost use Rattle.crossbeam_epoch.specs.Calls.{IsCall};
+ghost use Rattle.crossbeam_epoch.specs.Calls.{IsCall, LeadsOn};
 ghost use Rattle.crossbeam_epoch.specs.Fits.{Fits};
 ghost use Rattle.crossbeam_epoch.specs.History.{Mark};
 ghost use Rattle.crossbeam_epoch.specs.Reach.{Moment, moment, step_act, moments_after, Tells};
@@ -44,6 +44,42 @@ impl<T: Links + Pointable + Drop, J: Task> World<T, J> {
 
     /// A whole call, at most so many steps of it; answers its last report, none where `most` is 0.
     pub fn call(&mut self, who: usize, op: Op, most: usize) -> Option<Report>
+        ensures call { (reports : List Report) × IsCall self.old who op most reports result self.new × LeadsOn T.names self.old who op reports self.new }
+    {
+        self.act_out(who, op, most)
+    }
+
+    /// A whole flush: the bag is sealed and queued, and a collection follows. Running only if it isn't over after 1,000 steps.
+    pub fn flush(&mut self, who: usize) -> Outcome
+        ensures call { (reports : List Report) × (newest : Report) × IsCall self.old who Op.Flush 1000 reports (Some newest) self.new × (result ≡ newest.outcome) × LeadsOn T.names self.old who Op.Flush reports self.new }
+    {
+        self.whole(who, Op::Flush)
+    }
+
+    /// A whole repin: a lone guard is pinned anew at the present epoch.
+    pub fn repin(&mut self, who: usize) -> Outcome
+        ensures call { (reports : List Report) × (newest : Report) × IsCall self.old who Op.Repin 1000 reports (Some newest) self.new × (result ≡ newest.outcome) × LeadsOn T.names self.old who Op.Repin reports self.new }
+    {
+        self.whole(who, Op::Repin)
+    }
+
+    /// A whole leave: the bag is sealed and queued, and the place is free.
+    pub fn release(&mut self, who: usize) -> Outcome
+        ensures call { (reports : List Report) × (newest : Report) × IsCall self.old who Op.Release 1000 reports (Some newest) self.new × (result ≡ newest.outcome) × LeadsOn T.names self.old who Op.Release reports self.new }
+    {
+        self.whole(who, Op::Release)
+    }
+
+    fn whole(&mut self, who: usize, op: Op) -> Outcome
+        ensures call { (reports : List Report) × (newest : Report) × IsCall self.old who op 1000 reports (Some newest) self.new × (result ≡ newest.outcome) × LeadsOn T.names self.old who op reports self.new }
+    {
+        match self.call(who, op, MOST) {
+            Some(report) => report.outcome,
+            None => Outcome::Running,
+        }
+    }
+
+    fn act_out(&mut self, who: usize, op: Op, most: usize) -> Option<Report>
         ensures call { (reports : List Report) × IsCall self.old who op most reports result self.new }
     {
         let mut newest = None;
@@ -58,36 +94,6 @@ impl<T: Links + Pointable + Drop, J: Task> World<T, J> {
             event = Event::Go;
         }
         newest
-    }
-
-    /// A whole flush: the bag is sealed and queued, and a collection follows. Running only if it isn't over after 1,000 steps.
-    pub fn flush(&mut self, who: usize) -> Outcome
-        ensures call { (reports : List Report) × (newest : Report) × IsCall self.old who Op.Flush 1000 reports (Some newest) self.new × (result ≡ newest.outcome) }
-    {
-        self.whole(who, Op::Flush)
-    }
-
-    /// A whole repin: a lone guard is pinned anew at the present epoch.
-    pub fn repin(&mut self, who: usize) -> Outcome
-        ensures call { (reports : List Report) × (newest : Report) × IsCall self.old who Op.Repin 1000 reports (Some newest) self.new × (result ≡ newest.outcome) }
-    {
-        self.whole(who, Op::Repin)
-    }
-
-    /// A whole leave: the bag is sealed and queued, and the place is free.
-    pub fn release(&mut self, who: usize) -> Outcome
-        ensures call { (reports : List Report) × (newest : Report) × IsCall self.old who Op.Release 1000 reports (Some newest) self.new × (result ≡ newest.outcome) }
-    {
-        self.whole(who, Op::Release)
-    }
-
-    fn whole(&mut self, who: usize, op: Op) -> Outcome
-        ensures call { (reports : List Report) × (newest : Report) × IsCall self.old who op 1000 reports (Some newest) self.new × (result ≡ newest.outcome) }
-    {
-        match self.call(who, op, MOST) {
-            Some(report) => report.outcome,
-            None => Outcome::Running,
-        }
     }
 
     fn act_all(&mut self, alloc: Global, steps: &[Step]) -> Ran

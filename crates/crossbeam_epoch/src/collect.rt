@@ -132,7 +132,7 @@ fn after_call(left: usize, answered: u64, bags: u8, seal: u64) -> Phase
 }
 
 /// Runs a job, or destroys the cell of a removal; answers the name that was destroyed.
-fn perform<T: Drop, J: Task>(cells: &mut Cells<T>, work: Work<J>) -> Option<Name>
+pub(crate) fn perform<T: Drop, J: Task>(cells: &mut Cells<T>, work: Work<J>) -> Option<Name>
     ensures destroyed { result ≡ destroys cells.old work }
     ensures cells { cells.new ≡ after_work cells.old work }
 {

@@ -10,6 +10,7 @@ mod collect;
 mod collector;
 mod defer;
 mod deferred;
+mod ending;
 mod epoch;
 mod exchanges;
 mod expired;

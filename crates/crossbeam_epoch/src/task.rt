@@ -4,11 +4,14 @@
 pub trait Task: Drop {
     ghost use Rattle.std.specs.Mem.{FitsInMemory};
     ghost use Rattle.crossbeam_epoch.specs.contracts.places.Participant.{the_row};
+    ghost use Rattle.crossbeam_epoch.specs.contracts.places.Sealed.{the_row as sealed_row};
 
     /// Runs the job.
     fn run(self);
 
     ghost fits: { FitsInMemory (the_row Self.row) };
+
+    ghost fits_sealed: { FitsInMemory (sealed_row Self.row) };
 }
 
 /// The job that does nothing.
@@ -18,6 +21,8 @@ impl Task for () {
     fn run(self) {}
 
     ghost fits = { Prim.search rules };
+
+    ghost fits_sealed = { Prim.search rules };
 }
 
 /// A boxed closure that may be called (the source's `Deferred`).
@@ -45,4 +50,6 @@ impl Task for Job {
     }
 
     ghost fits = { Prim.search rules };
+
+    ghost fits_sealed = { Prim.search rules };
 }

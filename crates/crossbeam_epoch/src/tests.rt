@@ -328,3 +328,38 @@ fn bits_of_a_tag_are_added(rt: HostRuntime) -> Result<(), Fail> {
     assert_eq!(rt; (one.tag, three.tag, five.tag), (1, 3, 1));
     Ok(())
 }
+
+#[test]
+fn the_end_waits_for_everybody(rt: HostRuntime) -> Result<(), Fail> {
+    let mut world: Jobs = World::new(rt.alloc(), ample(1), 1)?;
+    world.register()?;
+    match world.end() {
+        Err((fault, world)) => assert_eq!(rt;
+            (fault, world.is_registered(0)),
+            (Fault::Registered(1), true)
+        ),
+        Ok(_) => assert!(rt; false),
+    }
+    Ok(())
+}
+
+#[test]
+fn the_end_calls_what_is_left(rt: HostRuntime) -> Result<(), Fail> {
+    let flag = Arc::new(rt.alloc(), AtomicU64::new(0))?;
+    let theirs = Arc::try_clone(&flag)?;
+    let run: Box<dyn FnOnce() + Send> = Box::new(rt.alloc(), move || {
+        theirs.store(1, Ordering::SeqCst);
+    })?;
+    let mut world: World<Plain, Job> = World::new(rt.alloc(), ample(1), 1)?;
+    world.register()?;
+    world.call(0, Op::Pin, 1000);
+    assert!(rt; world.defer(0, Job::new(run)).is_ok());
+    world.call(0, Op::Unpin, 1000);
+    assert_eq!(rt; world.release(0), Outcome::Done);
+    match world.end() {
+        Ok(called) => assert_eq!(rt; called, 1),
+        Err(_) => assert!(rt; false),
+    }
+    assert_eq!(rt; flag.load(Ordering::SeqCst), 1);
+    Ok(())
+}

@@ -1,0 +1,16 @@
+-- The steps of a whole call lead each history on.
+use Rattle.std.proofs.Common.{ℕ, List, Option, length}
+use Rattle.crossbeam_epoch.specs.declared.names.Name.{Name}
+use Rattle.crossbeam_epoch.specs.declared.report.Op.{Op}
+use Rattle.crossbeam_epoch.specs.declared.report.Report.{Report}
+use Rattle.crossbeam_epoch.specs.Calls.{call_steps, IsCall, LeadsOn}
+use Rattle.crossbeam_epoch.specs.Machine.{State}
+use Rattle.crossbeam_epoch.proofs.Runs.{fits_run}
+use Rattle.crossbeam_epoch.proofs.Told.{tells_run}
+
+module _ {T J : Type 0} where
+  pub leads_on : (names : T → List Name) (s s' : State T J) (who : ℕ) (op : Op) (most : ℕ) (reports : List Report) (newest : Option Report) → IsCall s who op most reports newest s' → LeadsOn names s who op reports s'
+  leads_on names s s' who op most reports newest c = record {
+    kept = λ h f. rw c.state (fits_run h s (call_steps who op (length reports)) reports c.legal f);
+    told = λ h t. rw c.state (tells_run names h s (call_steps who op (length reports)) reports c.legal t);
+  }
