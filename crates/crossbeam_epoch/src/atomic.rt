@@ -1,6 +1,6 @@
 //! Pointers that threads share.
 
-ghost use Rattle.std.specs.Prelude.{◌≡◌, ◌≢◌, ◌⊎◌, ◌%◌, ◌<◌, true, MatchResult, IfErr, IsErr};
+ghost use Rattle.std.specs.Prelude.{◌≡◌, ◌≢◌, ◌⊎◌, ◌%◌, ◌<◌, true, MatchResult, IfErr, IfSome, IsErr};
 
 use crate::fault::Fault;
 use crate::guard::{Guard, Protects};
@@ -177,7 +177,7 @@ impl<T: Pointable + Drop> Atomic<T> {
     ) -> Result<Exchanged<'g, T, P>, (Fault, P)>
         ensures answer { MatchResult result
             (λ r. MatchResult r
-            (λ s. s.link.tag ≡ P.tag_bits new % T.ALIGN)
+            (λ s. (s.link.tag ≡ P.tag_bits new % T.ALIGN) × P.leads_to new guard.now.collector.now.id s.link.site)
             (λ e. (e.current.link ≢ current.entry.link) × (e.current.link.tag < T.ALIGN) × (e.new ≡ new)))
             (λ e. e.1 ≡ new) }
         ensures foreign { P.leads_elsewhere new guard.now.collector.now.id ≡ true → IfErr result (λ e. e.0 ≡ Fault.Foreign) × IsErr result }
@@ -201,7 +201,7 @@ impl<T: Pointable + Drop> Atomic<T> {
     ) -> Result<Exchanged<'g, T, P>, (Fault, P)>
         ensures answer { MatchResult result
             (λ r. MatchResult r
-            (λ s. s.link.tag ≡ P.tag_bits new % T.ALIGN)
+            (λ s. (s.link.tag ≡ P.tag_bits new % T.ALIGN) × P.leads_to new guard.now.collector.now.id s.link.site)
             (λ e. (e.current.link ≢ current.entry.link) × (e.current.link.tag < T.ALIGN) × (e.new ≡ new)))
             (λ e. e.1 ≡ new) }
         ensures foreign { P.leads_elsewhere new guard.now.collector.now.id ≡ true → IfErr result (λ e. e.0 ≡ Fault.Foreign) × IsErr result }
@@ -220,7 +220,7 @@ impl<T: Pointable + Drop> Atomic<T> {
     ) -> Result<Exchanged<'g, T, P>, (Fault, P)>
         ensures answer { MatchResult result
             (λ r. MatchResult r
-            (λ s. s.link.tag ≡ P.tag_bits new % T.ALIGN)
+            (λ s. (s.link.tag ≡ P.tag_bits new % T.ALIGN) × P.leads_to new guard.now.collector.now.id s.link.site)
             (λ e. (e.current.link ≢ current.entry.link) × (e.current.link.tag < T.ALIGN) × (e.new ≡ new)))
             (λ e. e.1 ≡ new) }
         ensures foreign { P.leads_elsewhere new guard.now.collector.now.id ≡ true → IfErr result (λ e. e.0 ≡ Fault.Foreign) × IsErr result }
@@ -239,7 +239,7 @@ impl<T: Pointable + Drop> Atomic<T> {
     ) -> Result<Exchanged<'g, T, P>, (Fault, P)>
         ensures answer { MatchResult result
             (λ r. MatchResult r
-            (λ s. s.link.tag ≡ P.tag_bits new % T.ALIGN)
+            (λ s. (s.link.tag ≡ P.tag_bits new % T.ALIGN) × P.leads_to new guard.now.collector.now.id s.link.site)
             (λ e. (e.current.link ≢ current.entry.link) × (e.current.link.tag < T.ALIGN) × (e.new ≡ new)))
             (λ e. e.1 ≡ new) }
         ensures foreign { P.leads_elsewhere new guard.now.collector.now.id ≡ true → IfErr result (λ e. e.0 ≡ Fault.Foreign) × IsErr result }
@@ -314,13 +314,17 @@ impl<T: Pointable + Drop> Atomic<T> {
     }
 
     /// Takes the value out of its cell, which is destroyed. `None` as for `Shared::into_owned`.
-    pub fn into_owned<R: Wait>(self, rt: &R, guard: &Guard<'_, T>) -> Option<Owned<T>> {
+    pub fn into_owned<R: Wait>(self, rt: &R, guard: &Guard<'_, T>) -> Option<Owned<T>>
+        ensures { IfSome result (λ o. o.tag < T.ALIGN) }
+    {
         let Atomic { word } = self;
         Shared::of(word.into_inner().load()).into_owned(rt, guard)
     }
 
     /// The same as `into_owned`.
-    pub fn try_into_owned<R: Wait>(self, rt: &R, guard: &Guard<'_, T>) -> Option<Owned<T>> {
+    pub fn try_into_owned<R: Wait>(self, rt: &R, guard: &Guard<'_, T>) -> Option<Owned<T>>
+        ensures { IfSome result (λ o. o.tag < T.ALIGN) }
+    {
         self.into_owned(rt, guard)
     }
 }
@@ -349,7 +353,7 @@ fn exchange<'g, R: Wait, T: Pointable + Drop, P: Pointer<T>>(
 ) -> Result<Exchanged<'g, T, P>, (Fault, P)>
     ensures { MatchResult result
         (λ r. MatchResult r
-        (λ s. (held.old.link ≡ current) × (s.link ≡ held.new.link) × (s.link.tag ≡ P.tag_bits new % T.ALIGN))
+        (λ s. (held.old.link ≡ current) × (s.link ≡ held.new.link) × (s.link.tag ≡ P.tag_bits new % T.ALIGN) × P.leads_to new guard.now.collector.now.id s.link.site)
         (λ e. (held.old.link ≢ current) × (e.current.link ≡ held.old.link) × (e.new ≡ new) × (held.new ≡ held.old)))
         (λ e. (held.old.link ≡ current) × (e.0 ≡ P.refused_as) × (e.1 ≡ new) × (held.new ≡ held.old)) }
 {

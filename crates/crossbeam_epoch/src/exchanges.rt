@@ -40,9 +40,9 @@ impl<T: Links + Pointable + Drop, J: Task> World<T, J> {
         ensures err { IfErr result (λ e. (e ≡ Fault.Unknown) × (self.new ≡ self.old)) }
         ensures fault { is_ok result ≡ (nat_lt root (length self.old.roots) && stands self.old.store new) }
     {
-        let before = self.load(root)?;
+        let held = self.load(root)?;
         self.store(root, new)?;
-        Ok(before)
+        Ok(held)
     }
 
     /// Writes `new` into a root that holds the cell and the tag of `current`, and gives what was written; else it

@@ -641,3 +641,100 @@ fn a_repin_goes_on(rt: HostRuntime) -> Result<(), Fail> {
     assert!(rt; repinned == Ok(()) && answer == Ok(7));
     Ok(())
 }
+
+/// Leaves a guard out for good.
+fn leave_out(guard: Guard<'_, Item>) {
+    let Guard {
+        collector: _,
+        seat: _,
+        epoch: _,
+    } = guard;
+}
+
+#[test]
+fn guards_are_counted(rt: HostRuntime) -> Result<(), Fail> {
+    let items: Collector<Item> = Collector::new(&rt, rt.alloc(), limits(1), 1)?;
+    let mut handle = items.register(&rt)?;
+    for _ in 0..u16::MAX {
+        leave_out(handle.pin(&rt)?);
+    }
+    let refused = match handle.pin(&rt) {
+        Ok(guard) => {
+            leave_out(guard);
+            None
+        }
+        Err(fault) => Some(fault),
+    };
+    assert!(rt; refused == Some(Fault::Count));
+    Ok(())
+}
+
+#[test]
+fn a_pinned_handle_stays(rt: HostRuntime) -> Result<(), Fail> {
+    let items: Collector<Item> = Collector::new(&rt, rt.alloc(), limits(1), 1)?;
+    let mut handle = items.register(&rt)?;
+    let guard = handle.pin(&rt)?;
+    match handle.release(&rt) {
+        Ok(()) => unreachable!(),
+        Err((fault, mut back)) => {
+            spend(&rt, &mut back, guard);
+            assert!(rt; fault == Fault::GuardOut && back.release(&rt).is_ok());
+        }
+    }
+    Ok(())
+}
+
+#[test]
+fn a_copy_has_the_value_and_the_tag(rt: HostRuntime) -> Result<(), Fail> {
+    let owned = boxed(rt.alloc(), 4)?.with_tag(3);
+    let copy = owned.clone()?;
+    assert!(rt; copy.tag() == 3 && copy.into_box().0 == 4);
+    assert!(rt; owned.tag() == 3 && owned.into_box().0 == 4);
+    Ok(())
+}
+
+#[test]
+fn atomics_of_new_values(rt: HostRuntime) -> Result<(), Fail> {
+    let alloc = rt.alloc();
+    let items: Collector<Item> = Collector::new(&rt, alloc, limits(2), 1)?;
+    let mut handle = items.register(&rt)?;
+    let guard = handle.pin(&rt)?;
+    let outcome = makes(&rt, alloc, &guard);
+    spend(&rt, &mut handle, guard);
+    assert!(rt; outcome?);
+    Ok(())
+}
+
+/// Whether two values that are boxed and placed are read and taken out again.
+fn makes<R: Wait>(rt: &R, alloc: Global, guard: &Guard<'_, Item>) -> Result<bool, Fault> {
+    let one = match Atomic::new(rt, alloc, Item(1), guard) {
+        Ok(one) => one,
+        Err((fault, _item)) => return Err(fault),
+    };
+    let two = match Atomic::init(rt, alloc, Item(2), guard) {
+        Ok(two) => two,
+        Err((fault, _item)) => return Err(fault),
+    };
+    let read = number_read(rt, one.load(rt, SeqCst, guard), guard) == Some(1);
+    let first = match one.try_into_owned(rt, guard) {
+        Some(owned) => owned.into_box().0 == 1,
+        None => false,
+    };
+    let second = match two.into_owned(rt, guard) {
+        Some(owned) => owned.into_box().0 == 2,
+        None => false,
+    };
+    Ok(read && first && second)
+}
+
+/// The number that the pointer leads to, where it isn't lent.
+fn number_read<'g, R: Wait>(
+    rt: &R,
+    pointer: Shared<'g, Item>,
+    guard: &'g Guard<'_, Item>,
+) -> Option<u64> {
+    let lent = pointer.deref(rt, guard)?;
+    let number = lent.get().0;
+    lent.back(rt);
+    Some(number)
+}

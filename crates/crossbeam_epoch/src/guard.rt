@@ -22,9 +22,9 @@ impl<T> Protects for Guard<'_, T> {}
 
 /// Keeps a participant pinned (the source's `Guard`). It is spent by `LocalHandle::unpin`, and can't be dropped.
 pub struct Guard<'c, T> {
-    pub collector: &'c Collector<T>,
-    pub seat: Seat,
-    pub epoch: u64,
+    pub(crate) collector: &'c Collector<T>,
+    pub(crate) seat: Seat,
+    pub(crate) epoch: u64,
 }
 
 impl<'c, T: Drop> Guard<'c, T> {

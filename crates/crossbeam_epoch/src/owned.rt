@@ -1,6 +1,6 @@
 //! Values that aren't placed yet.
 
-ghost use Rattle.std.specs.Prelude.{◌≡◌, ◌%◌, ◌<◌, MatchResult, IfOk, IfErr};
+ghost use Rattle.std.specs.Prelude.{◌≡◌, ◌%◌, ◌<◌, MatchResult, IfOk, IfErr, IsSomeAnd};
 
 use crate::fault::Fault;
 use crate::guard::Guard;
@@ -90,7 +90,7 @@ impl<T: Pointable + Drop> Owned<T> {
         rt: &R,
         guard: &'g Guard<'_, T>,
     ) -> Result<Shared<'g, T>, (Fault, Self)>
-        ensures { MatchResult result (λ s. s.link.tag ≡ self.tag % T.ALIGN) (λ e. (e.0 ≡ Fault.CellsFull) × (e.1 ≡ self)) }
+        ensures { MatchResult result (λ s. (s.link.tag ≡ self.tag % T.ALIGN) × IsSomeAnd s.link.site (λ x. x.collector ≡ guard.now.collector.now.id)) (λ e. (e.0 ≡ Fault.CellsFull) × (e.1 ≡ self)) }
     {
         let word = self.enter(rt, guard)?;
         Ok(Shared::of(word.load()))

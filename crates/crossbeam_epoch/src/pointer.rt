@@ -13,12 +13,15 @@ use std::sync::Wait;
 
 /// A value with a tag, or a pointer to one (the source's `Pointer`).
 pub trait Pointer<T: Pointable>: Sized {
-    ghost use Rattle.std.specs.Prelude.{ℕ, Bool, true, false, ◌≡◌, ◌%◌, MatchResult, IfErr, IsErr};
+    ghost use Rattle.std.specs.Prelude.{ℕ, Bool, Option, true, false, ◌≡◌, ◌%◌, MatchResult, IfErr, IfOk, IsErr};
     ghost use Rattle.crossbeam_epoch.specs.declared.fault.Fault.{Fault};
+    ghost use Rattle.crossbeam_epoch.specs.declared.link.Site.{Site};
 
     ghost tag_bits: { Self → ℕ };
 
     ghost leads_elsewhere: { Self → ℕ → Bool };
+
+    ghost leads_to: { Self → ℕ → Option Site → Type 0 };
 
     ghost refused_as: { Fault };
 
@@ -30,16 +33,19 @@ pub trait Pointer<T: Pointable>: Sized {
     /// `CellsFull`; it comes back.
     fn enter<R: Wait>(self, rt: &R, guard: &Guard<'_, T>) -> Result<Word<T>, (Fault, Self)>
         ensures tag { MatchResult result (λ w. w.link.tag ≡ tag_bits self % T.ALIGN) (λ e. (e.0 ≡ refused_as) × (e.1 ≡ self)) }
+        ensures site { IfOk result (λ w. leads_to self guard.now.collector.now.id w.link.site) }
         ensures elsewhere { leads_elsewhere self guard.now.collector.now.id ≡ true → IsErr result };
 }
 
 impl<T: Pointable + Drop> Pointer<T> for Owned<T> {
-    ghost use Rattle.std.specs.Prelude.{false};
+    ghost use Rattle.std.specs.Prelude.{false, IsSomeAnd};
     ghost use Rattle.crossbeam_epoch.specs.declared.fault.Fault.TheVariants.{CellsFull};
 
     ghost tag_bits = { λ o. o.tag };
 
     ghost leads_elsewhere = { λ _ _. false };
+
+    ghost leads_to = { λ _ id site. IsSomeAnd site (λ s. s.collector ≡ id) };
 
     ghost refused_as = { CellsFull };
 
@@ -74,6 +80,8 @@ impl<'s, T: Pointable + Drop> Pointer<T> for Shared<'s, T> {
 
     ghost leads_elsewhere = { λ s id. is_foreign s.link.site id };
 
+    ghost leads_to = { λ s _ site. site ≡ s.link.site };
+
     ghost refused_as = { Foreign };
 
     fn is_foreign(&self, collector: u64) -> bool {
@@ -99,6 +107,8 @@ impl<T: Pointable + Drop> Pointer<T> for Link {
     ghost tag_bits = { λ l. l.tag };
 
     ghost leads_elsewhere = { λ l id. is_foreign l.site id };
+
+    ghost leads_to = { λ l _ site. site ≡ l.site };
 
     ghost refused_as = { Foreign };
 

@@ -1,6 +1,6 @@
 //! Pointers that a guard protects.
 
-ghost use Rattle.std.specs.Prelude.{◌≡◌, ◌%◌, not, is_some, None, IfSome};
+ghost use Rattle.std.specs.Prelude.{◌≡◌, ◌%◌, not, is_some, is_ok, true, None, IfSome};
 ghost use Rattle.crossbeam_epoch.specs.FacePointer.{name_in};
 
 use crate::collector::Collector;
@@ -127,7 +127,8 @@ impl<'g, T: Drop> Shared<'g, T> {
     /// Takes the value out of its cell, which is destroyed. The value keeps the pointer's tag. `None` for null, and where
     /// the value is destroyed, lent, or another collector's.
     pub fn into_owned<R: Wait>(self, rt: &R, guard: &Guard<'_, T>) -> Option<Owned<T>>
-        ensures { IfSome result (λ o. o.tag ≡ self.entry.link.tag) }
+        ensures tag { IfSome result (λ o. o.tag ≡ self.entry.link.tag) }
+        ensures here { IfSome result (λ _. is_ok (name_in self.entry.link.site guard.now.collector.now.id) ≡ true) }
     {
         let name = self.name_in(guard.collector).ok()?;
         let value = guard.collector.remove(rt, name)?;
@@ -136,7 +137,8 @@ impl<'g, T: Drop> Shared<'g, T> {
 
     /// The same as `into_owned`.
     pub fn try_into_owned<R: Wait>(self, rt: &R, guard: &Guard<'_, T>) -> Option<Owned<T>>
-        ensures { IfSome result (λ o. o.tag ≡ self.entry.link.tag) }
+        ensures tag { IfSome result (λ o. o.tag ≡ self.entry.link.tag) }
+        ensures here { IfSome result (λ _. is_ok (name_in self.entry.link.site guard.now.collector.now.id) ≡ true) }
     {
         self.into_owned(rt, guard)
     }
