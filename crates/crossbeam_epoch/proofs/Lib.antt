@@ -3,8 +3,10 @@ pub mod Grace
 pub mod Jobs
 pub mod Marks
 pub mod Moves
+pub mod Progress
 pub mod Reaches
 pub mod Runs
+pub mod Stages
 pub mod Told
 pub mod Whole
 pub mod FaceTags
