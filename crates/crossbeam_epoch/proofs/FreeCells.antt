@@ -4,7 +4,7 @@ use Rattle.std.specs.Prelude.{if◌then◌else◌, nat_lt, nat_le, is_none, is_s
 use Rattle.std.proofs.lemmas.Bool.{cases_eq, cases_lt, eq-eqb, ne_eqb}
 use Rattle.std.proofs.lemmas.Bool.Decides.{nat_tests}
 use Rattle.std.proofs.lemmas.List.{length_push, get_or_push, get_or_append_left}
-use Rattle.std.proofs.lemmas.List.Sums.{sum_by-set, sum_by_push}
+use Rattle.std.proofs.lemmas.List.Sums.{sum_by-cons, sum_by-set, sum_by_push}
 use Rattle.crossbeam_epoch.specs.declared.cells.Cell.{Cell}
 use Rattle.crossbeam_epoch.specs.Store.{Store, fresh, is_usable, IsNext, placed}
 use Rattle.crossbeam_epoch.specs.Free.{FitsFree, is_open, is_open_at, busy, times}
@@ -224,3 +224,22 @@ placed_next {T} st cells at most turn_max turns v is o same =
     let usable : is_usable (record { cells = cells; most = most; turn_max = turn_max }) at ≡ true = (λ k. in_most k && empty k && in_turns k) in
     let c : Cell T = record { turns = turns + 1; value = Some v } in
     rw is (record { usable = usable; turn = same; near = omega arith }, ap (λ (b : Bool). record { cells = if b then set cells at c else cells ++ c ∷ []; most = most; turn_max = turn_max }) (sym yes))
+
+-- a cell of the list is usable
+pub some_usable : {T : Type 0} (cells : List (Cell T)) (free : List ℕ) (most turn_max : ℕ) → FitsFree cells free most turn_max → (length free == 0) ≡ false → (i : ℕ) × (is_usable (record { cells = cells; most = most; turn_max = turn_max }) i ≡ true)
+some_usable cells [] most turn_max f e = absurd (cc e)
+some_usable cells (x ∷ xs) most turn_max f e =
+    let each = f.each x in
+    let here : bit (x == x) ≡ 1 = ap bit (eq-eqb x x refl) in
+    let sum = sum_by-cons (λ y. if y == x then 1 else 0) x xs in
+    let is : is_open_at cells turn_max x ≡ true = one_is_true (is_open_at cells turn_max x) (times x xs) (omega (arith, here, sum) ∙ each) in
+    let few = f.few in
+    (x, grind (arith, nat_tests))
+
+-- a cell that was never used is usable
+pub next_usable : {T : Type 0} (cells : List (Cell T)) (most turn_max : ℕ) → length cells < most → (i : ℕ) × (is_usable (record { cells = cells; most = most; turn_max = turn_max }) i ≡ true)
+next_usable cells most turn_max lt = (length cells, rw (past cells) (grind (arith, nat_tests)))
+  where
+    past : {T : Type 0} (cells : List (Cell T)) → get_or cells (length cells) fresh ≡ fresh
+    past [] = refl
+    past (c ∷ cs) = past cs

@@ -5,9 +5,11 @@ pub mod Jobs
 pub mod Leads
 pub mod Marks
 pub mod Moves
+pub mod Progress
 pub mod Reaches
 pub mod Runs
 pub mod Tables
+pub mod Stages
 pub mod Told
 pub mod Whole
 pub mod FaceTags

@@ -108,10 +108,10 @@ module _ {J : Type 0} where
   begin_idle op (Call answered bags seal) p e = absurd (cc e)
 
   -- the places of a new collector
-  blank_at : (n q : ℕ) → get_or (replicate n (blank {J = J})) q blank ≡ blank
+  pub blank_at : (n q : ℕ) → get_or (replicate n (blank {J = J})) q blank ≡ blank
   blank_at n q = elim (cases_lt q n) [ inl lt ↦ get_or-replicate n q blank blank lt | inr ge ↦ get_or_past (replicate n blank) q blank (rw length-replicate ge) ]
 
-  blanks_weigh_none : (w : Entry J → ℕ) (n : ℕ) → sum_by (at_place w) (replicate n blank) ≡ 0
+  pub blanks_weigh_none : (w : Entry J → ℕ) (n : ℕ) → sum_by (at_place w) (replicate n blank) ≡ 0
   blanks_weigh_none w zero = refl
   blanks_weigh_none w (suc n) = blanks_weigh_none w n
 

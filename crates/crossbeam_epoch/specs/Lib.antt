@@ -5,6 +5,7 @@ pub mod Free
 pub mod History
 pub mod Limits
 pub mod Machine
+pub mod Progress
 pub mod Reach
 pub mod Steps
 pub mod Store

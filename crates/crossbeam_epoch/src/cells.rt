@@ -1,6 +1,6 @@
 //! The cells: values under names, each cell used again under its next turn.
 
-ghost use Rattle.std.specs.Prelude.{◌≡◌, ◌<◌, ◌≤◌, ℕ, IsTrue, length, false, None, Some, IfOk, IfErr, MatchResult, is_some, if◌then◌else◌};
+ghost use Rattle.std.specs.Prelude.{◌≡◌, ◌<◌, ◌≤◌, ℕ, IsTrue, length, true, false, None, Some, IfOk, IfErr, MatchResult, is_some, if◌then◌else◌};
 ghost use Rattle.std.specs.Option.{option_copied};
 ghost use Rattle.crossbeam_epoch.specs.Store.{value_at, cell_at, IsNext, placed, emptied, replaced, is_usable, opened_store};
 
@@ -84,6 +84,20 @@ impl<T: Drop> Cells<T> {
             value: Some(value),
         });
         Ok(Name { cell, turn: 0 })
+    }
+
+    /// Whether some cell is usable.
+    pub fn has_room(&self) -> bool
+        ensures some { IsTrue result → (i : ℕ) × (is_usable self.now i ≡ true) }
+        ensures none { result ≡ false → (i : ℕ) → is_usable self.now i ≡ false }
+    {
+        if !self.free.is_empty() {
+            return true;
+        }
+        if self.cells.len() < self.most as usize {
+            return true;
+        }
+        false
     }
 
     /// Whether the name isn't destroyed.

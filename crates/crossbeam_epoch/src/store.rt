@@ -1,6 +1,6 @@
 //! The cells of a collector.
 
-ghost use Rattle.std.specs.Prelude.{◌≡◌, List, ℕ, false, None, Some, IfOk, IfErr, OnErr, MatchResult, ◌∷◌, Contains};
+ghost use Rattle.std.specs.Prelude.{◌≡◌, List, ℕ, IsTrue, true, false, None, Some, IfOk, IfErr, OnErr, MatchResult, ◌∷◌, Contains};
 ghost use Rattle.std.specs.Option.{option_copied};
 ghost use Rattle.crossbeam_epoch.specs.Machine.{with_store};
 ghost use Rattle.crossbeam_epoch.specs.Store.{value_at, IsNext, placed, emptied, replaced, is_usable};
@@ -21,6 +21,14 @@ impl<T: Links + Pointable + Drop, J: Task> World<T, J> {
         ensures full { OnErr result ((i : ℕ) → is_usable self.old.store i ≡ false) }
     {
         self.put_value(value)
+    }
+
+    /// Whether some cell is usable, so that the next value is placed.
+    pub fn has_cell(&self) -> bool
+        ensures some { IsTrue result → (i : ℕ) × (is_usable self.now.store i ≡ true) }
+        ensures none { result ≡ false → (i : ℕ) → is_usable self.now.store i ≡ false }
+    {
+        self.cells.has_room()
     }
 
     fn put_value(&mut self, value: T) -> Result<Name, (Fault, T)>

@@ -1,6 +1,6 @@
 //! The collector: the epoch, the table, the queue, the cells and the roots.
 
-ghost use Rattle.std.specs.Prelude.{◌≡◌, ◌<◌, ℕ, List, [], ◌∷◌, IsTrue, true, false, IfOk, IfSome, MatchResult, length, unwrap_or, replicate, if◌then◌else◌};
+ghost use Rattle.std.specs.Prelude.{◌≡◌, ◌<◌, ℕ, List, [], ◌∷◌, IsTrue, true, false, IfOk, IfSome, MatchResult, length, unwrap_or, replicate, is_some, if◌then◌else◌, ◌&&◌};
 ghost use Rattle.std.specs.Result.{result_ok};
 ghost use Rattle.crossbeam_epoch.specs.Machine.{place, opened, registered, blank, null};
 ghost use Rattle.crossbeam_epoch.specs.Limits.{within};
@@ -125,6 +125,13 @@ impl<T: Links + Pointable + Drop, J: Task> World<T, J> {
         ensures inside { IsTrue result → who < length self.now.table }
     {
         who < self.participants.len() && self.participants[who].registered
+    }
+
+    /// Whether a participant of this number is registered and pinned.
+    pub fn is_pinned(&self, who: usize) -> bool
+        ensures { result ≡ ((place self.now who).registered && is_some (place self.now who).word) }
+    {
+        self.is_registered(who) && self.participants[who].word.is_some()
     }
 
     /// The global epoch.
