@@ -139,7 +139,10 @@ impl<K: Word64, V: Drop> CongeeArc<K, V> {
         ensures refused { IfErr result (λ e. IsOutOf self.old.bytes (2 ^ 64 - 1) e.0) }
     {
         let bytes = key.to_word().to_be_bytes();
-        match self.arena.insert(self.alloc, &bytes, ArcPayload::new(value)) {
+        match self
+            .arena
+            .insert(self.alloc, &bytes, ArcPayload::new(value))
+        {
             Ok(before) => Ok(owner_of(before)),
             Err((e, payload)) => Err((e, payload.into_arc())),
         }

@@ -42,6 +42,6 @@ returns-clause-present g c =
     let a = answer_pairs never_same nodes c.settle.new.self.nodes (call.ComputePresent c.to_word.result new) (reply.ComputePresent (Some (old, new)))
     (answered_present never_same nodes c.settle.new.self.nodes c.to_word.result small old new (present_change nodes c.settle.new.self.nodes (key_bytes c.to_word.result) c.settle.result old new change v)) in
     if_some c.owner_of.result _ (λ x is.
-      let r : c.settle.result ≡ Some (arc_value x) = sym c.owner_of.ensures ∙ ap (option_map arc_value) is in
-      let same : old ≡ arc_value x = same_some old (arc_value x) (v ∙ change.was ∙ r) in
-      (c.in_ok-given-in-Some.given, c.f.result, c.f.new.self, c.in_ok-given-in-Some.ensures ∙ same, search rules, rw (← c.self.view_is, ← c.to_word.ensures, ← c.payload_of-new.ensures, ← same) a))
+    let r : c.settle.result ≡ Some (arc_value x) = sym c.owner_of.ensures ∙ ap (option_map arc_value) is in
+    let same : old ≡ arc_value x = same_some old (arc_value x) (v ∙ change.was ∙ r) in
+    (c.in_ok-given-in-Some.given, c.f.result, c.f.new.self, c.in_ok-given-in-Some.ensures ∙ same, search rules, rw (← c.self.view_is, ← c.to_word.ensures, ← c.payload_of-new.ensures, ← same) a))
