@@ -31,20 +31,25 @@ fn a_text_is_shared(rt: HostRuntime) -> Result<(), Fail> {
     Ok(())
 }
 
+// The fifth value of a leaf makes it grow, which takes memory.
 #[test]
 fn a_refused_text_comes_back(rt: HostRuntime) -> Result<(), Fail> {
     let mut tree: CongeeArc<u64, String<Global>> = CongeeArc::new(rt.alloc())?;
-    let before = match tree.insert(1, text(rt.alloc(), "hello")?) {
+    let hello = text(rt.alloc(), "hello")?;
+    for key in 1..5u64 {
+        assert!(rt; tree.insert(key, Arc::try_clone(&hello)?)?.is_none());
+    }
+    let before = match tree.insert(5, hello) {
         Ok(before) => before,
         Err((refused, back)) => {
             assert_eq!(rt; refused, OOMError::Memory);
-            assert!(rt; tree.is_empty());
             assert!(rt; back.as_str() == "hello");
-            tree.insert(1, back)?
+            assert!(rt; tree.get(5)?.is_none());
+            tree.insert(5, back)?
         }
     };
     assert!(rt; before.is_none());
-    assert!(rt; is(tree.get(1)?, "hello"));
+    assert!(rt; is(tree.get(5)?, "hello"));
     Ok(())
 }
 
