@@ -1,5 +1,5 @@
 -- What a call found at its key, and how it ends then.
-use Rattle.std.proofs.Common.{◌≡◌, refl, sym, ap, ◌∙◌}
+use Rattle.std.proofs.Common.{◌≡◌, refl, sym, ap}
 use Rattle.std.specs.Prelude.{Option, None, Some, Result, Ok, Err, IsSome, IfSome, OnErr, is_some}
 
 module _ {A : Type 0} where

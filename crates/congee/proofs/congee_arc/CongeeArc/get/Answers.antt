@@ -1,10 +1,7 @@
-use Rattle.std.proofs.Common.{rules, ◌≡◌, ◌<◌, ◌^◌, ap, sym, ◌∙◌}
+use Rattle.std.proofs.Common.{rules, ◌≡◌, ◌<◌, ◌^◌, ap, ◌∙◌}
 use Rattle.std.specs.Prelude.{Some, None}
-use Rattle.std.specs.FinMap as map
 use Rattle.congee.specs.Heap.{value_at}
 use Rattle.congee.specs.Arena.{heap_of}
-use Rattle.congee.specs.Keys.{key_bytes}
-use Rattle.congee.specs.Table.{pairs_of}
 use Rattle.congee.proofs.OwnerLemmas.{is_there, on_error}
 use Rattle.congee.proofs.Tables.{get_pairs}
 use Rattle.congee.proofs.congee_arc.CongeeArc.get.Goals as goal
