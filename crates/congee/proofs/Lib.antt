@@ -21,6 +21,7 @@ pub mod MaskLemmas
 pub mod MoveLemmas
 pub mod Moves
 pub mod OffsetLemmas
+pub mod Orders
 pub mod Passes
 pub mod Paths
 pub mod Prefixes
