@@ -24,7 +24,7 @@ nth_byte (suc m) n zero l = ap (λ x. byte_at x n) (omega arith)
 nth_byte (suc m) n (suc j) l = nth_byte m n j (omega (arith, l)) ∙ ap (λ x. byte_at x n) (omega (arith, l))
 
 -- the byte at a depth, and the bytes above it
-digit : (q j : ℕ) → j < 8 → get_or (key_bytes q) j 0 ≡ q / 2 ^ (8 * (7 - j)) % 256
+pub digit : (q j : ℕ) → j < 8 → get_or (key_bytes q) j 0 ≡ q / 2 ^ (8 * (7 - j)) % 256
 digit q j l = nth_byte 8 q j l ∙ byte_is (7 - j) q
 
 above : (q d j : ℕ) → j < d → d < 8 → get_or (key_bytes q) j 0 ≡ q / 2 ^ (8 * (7 - d)) / 256 / 2 ^ (8 * (d - 1 - j)) % 256

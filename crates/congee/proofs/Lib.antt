@@ -24,6 +24,7 @@ pub mod MoveLemmas
 pub mod Moves
 pub mod OwnerLemmas
 pub mod OffsetLemmas
+pub mod Orders
 pub mod Passes
 pub mod Paths
 pub mod Prefixes

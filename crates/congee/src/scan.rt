@@ -1,5 +1,5 @@
 //! The pairs of an arena by ascending keys.
-ghost use Rattle.std.specs.Prelude.{◌≡◌, ◌^◌, ℕ, ◌<◌, ◌≤◌, length, take, drop, slice_index, Some, None, IfOk, false, MatchOption};
+ghost use Rattle.std.specs.Prelude.{◌≡◌, ◌^◌, ℕ, ◌<◌, ◌≤◌, length, take, drop, slice_index, Some, None, IfOk, true, false, MatchOption};
 ghost use Rattle.std.specs.FinMap as map;
 ghost use Rattle.congee.specs.Heap.{Below, Nothing, child_for, fits, value_at};
 ghost use Rattle.congee.specs.Keys.{key_bytes};
@@ -38,6 +38,19 @@ fn past(key: u64, depth: usize, next: u64) -> Option<u64>
         .checked_mul(1 << shift)
 }
 
+// The least number with a prefix.
+fn least_with(prefix: &[u8]) -> u64
+    requires { length prefix.now ≤ 7 }
+    ensures fits { fits prefix.now (key_bytes result) ≡ true }
+    ensures least { (q : ℕ) → q < 2 ^ 64 → fits prefix.now (key_bytes q) ≡ true → result ≤ q }
+{
+    let mut bytes = [0; 8];
+    for i in 0..prefix.len() {
+        bytes[i] = prefix[i];
+    }
+    u64::from_be_bytes(bytes)
+}
+
 impl<P: Stored, A: Allocator> Arena<P, A> {
     // The next number that may have a value, where a node has nothing for the key.
     fn past_free(&self, at: usize, key: u64, bytes: &[u8; 8]) -> Option<u64>
@@ -66,13 +79,12 @@ impl<P: Stored, A: Allocator> Arena<P, A> {
         ensures { MatchOption result (Gap self.now.nodes key (2 ^ 64)) (λ k. (key < k) × ((k < 2 ^ 64) × Gap self.now.nodes key k)) }
     {
         let prefix = self.nodes[below].prefix();
-        let depth = first_apart(bytes, prefix);
-        let next = if bytes[depth] < prefix[depth] {
-            prefix[depth] as u64
-        } else {
-            256
-        };
-        past(key, depth, next)
+        let apart = first_apart(bytes, prefix);
+        if bytes[apart] < prefix[apart] {
+            return Some(least_with(prefix));
+        }
+        let depth = self.nodes[at].prefix().len();
+        past(key, depth, bytes[depth] as u64 + 1)
     }
 
     // The lowest node of the path that is on the key's way, or the root. What is below it leaves the path.
