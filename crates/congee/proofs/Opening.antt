@@ -1,8 +1,11 @@
 -- Where a tree begins, with a root alone, calls may begin.
 use Rattle.std.proofs.Common.{◌≡◌, ◌≢◌, ℕ, zero, suc, ◌==◌, Bool, true, false, cond, List, [], ◌∷◌, length, refl, sym, ◌∙◌, ap, subst, arith}
-use Rattle.std.specs.Prelude.{None, Some, slice_get}
+use Rattle.std.specs.Prelude.{Option, None, Some, slice_get}
+use Rattle.std.specs.FinMap.{empty, get-empty}
+use Rattle.std.specs.Ordering.{nat_cmp}
 use Rattle.congee.specs.declared.machine.Machine.{Machine}
-use Rattle.congee.specs.Heap.{Node, Nothing, Below, Holds, Stands, is_free}
+use Rattle.congee.specs.Heap.{Node, Hung, Nothing, Below, Holds, Stands, is_free, fits, of_child, walk, value_at}
+use Rattle.congee.specs.Keys.{key_bytes, Standing}
 use Rattle.congee.specs.Ledger.{Note, Unmade, Linked, Gone, is_published, Tree, WordAt, Words}
 use Rattle.congee.specs.Opening.{RootAlone}
 use Rattle.congee.specs.Play.{IsNew, Begins}
@@ -58,6 +61,18 @@ module _ {V : Type 0} (h : ℕ → Node V) (r : RootAlone h) where
     };
     wide = r.wide;
   }
+
+  -- no key stands in it
+  pub standing_none : Standing h empty
+  standing_none = record {
+    at = λ k p. get-empty nat_cmp k ∙ sym (no_value k);
+    none_beyond = λ k p. get-empty nat_cmp k;
+  } where
+    none_at : (f : ℕ) (key : List ℕ) (x : Hung V) → x ≡ Nothing → of_child (λ c. walk h f c key) x ≡ None
+    none_at f key x e = rw e refl
+
+    no_value : (k : ℕ) → value_at h (key_bytes k) ≡ None
+    no_value k = by_test (λ (o : Option V). o ≡ None) (fits (h 0).prefix (key_bytes k)) _ _ (λ _. none_at 7 (key_bytes k) _ (r.bare _)) (λ _. refl)
 
 -- one new call on such a tree
 pub opening_one : {C V : Type 0} (number : C → ℕ) (h : ℕ → Node V) (m : Machine C V) → RootAlone h → number m.root ≡ 0 → IsNew m → Begins number h (m ∷ [])

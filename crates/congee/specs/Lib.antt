@@ -26,3 +26,4 @@ pub mod Answers
 pub mod Play
 pub mod Opening
 pub mod Stats
+pub mod Holdings
