@@ -1,5 +1,5 @@
 -- What a step leaves a call of locks and made nodes.
-use Rattle.std.proofs.Common.{◌≡◌, ◌≢◌, ℕ, ◌+◌, ◌<◌, ◌==◌, ◌⊎◌, inl, inr, Bool, true, false, cond, List, length, get_or, refl, sym, ◌∙◌, ap, subst}
+use Rattle.std.proofs.Common.{◌≡◌, ◌≢◌, ℕ, ◌+◌, ◌⊎◌, inl, inr, Bool, true, false, List, get_or, refl, sym, ◌∙◌, ap, subst}
 use Rattle.std.specs.Prelude.{Option, None, Some, Result, Ok, Err}
 use Rattle.judge.specs.declared.journal.Reply.{Reply}
 use Rattle.congee.specs.declared.base_node.NodeType.{NodeType}
@@ -21,13 +21,13 @@ use Rattle.congee.specs.declared.phase.Plan.TheVariants.{Here, Above}
 use Rattle.congee.specs.declared.phase.Phase.{Phase}
 use Rattle.congee.specs.declared.phase.Phase.TheVariants.{New, Version, Read, Check, CheckUncopied, CheckMiss, CheckDown, CheckOld, MakeLeaf, MakeGreater, MakeTop, MakeBeside, AskOld, AskNew, Confirm, CheckAbove, UpgradeOne, ChangeOne, UpgradeAbove, UpgradeBoth, ChangeTwo, Obsolete, Retire, UnlockBelow, Unlock, Unwind, Ended}
 use Rattle.congee.specs.declared.turn.Turn.{Turn}
-use Rattle.congee.specs.Heap.{Node, Hung, Below, Holds, child_for, is_taken}
+use Rattle.congee.specs.Heap.{Node, Hung, Below, is_taken}
 use Rattle.congee.specs.Events.{SameBut, NewNode, ChangeGives, TakeOverGives, BackGives}
-use Rattle.congee.specs.Steps.{quiet, again, refused, finished, decided, asking, asks_new, absent_reply, started, ready, plan_here, unless_full, unwound, greater, after_change, BackOne, BackTwo, BackLeaf, MadeLeaf, MadeGreater, MadeTop, MadeBeside, IsCheckedAbove, UpgradedOne, UpgradedAbove, UpgradedBoth, ChangedOne, ChangedTwo, IsGivenNew, PhaseStepped}
+use Rattle.congee.specs.Steps.{quiet, again, decided, asking, asks_new, absent_reply, started, ready, plan_here, unless_full, unwound, greater, after_change, BackOne, BackTwo, BackLeaf, MadeLeaf, MadeGreater, MadeTop, MadeBeside, UpgradedOne, UpgradedAbove, UpgradedBoth, ChangedOne, ChangedTwo, IsGivenNew, PhaseStepped}
 use Rattle.congee.specs.Keys.{key_bytes}
-use Rattle.congee.specs.Ledger.{Note, Status, Unmade, Held, Linked, Gone, is_published, IsChild, Tree, Words}
-use Rattle.congee.specs.Protocol.{Made, Holding, MadeOne, MadeTwo, MadeLeafFor, OneLocked, TwoLocked, TakenOut, Fares, Known}
-use Rattle.congee.specs.Holdings.{LockedBy, MadeForOne, MadeForTwo, MadeForPlan, IsMade, MadeBy, TakenBy}
+use Rattle.congee.specs.Ledger.{Note, Unmade, Held, Linked, is_published, Tree, Words}
+use Rattle.congee.specs.Protocol.{Made, Holding, MadeOne, MadeTwo, MadeLeafFor, Fares, Known}
+use Rattle.congee.specs.Holdings.{LockedBy, MadeForOne, MadeForTwo, MadeForPlan, IsMade, MadeBy}
 use Rattle.congee.proofs.Graft.{on_test}
 use Rattle.congee.proofs.Tree.{same_or_not}
 use Rattle.congee.proofs.Touch.{by_test, owner_locked}

@@ -1,12 +1,12 @@
 -- Where a tree begins, with a root alone, calls may begin.
-use Rattle.std.proofs.Common.{◌≡◌, ◌≢◌, ℕ, zero, suc, ◌==◌, Bool, true, false, cond, List, [], ◌∷◌, length, refl, sym, ◌∙◌, ap, subst, arith}
+use Rattle.std.proofs.Common.{◌≡◌, ◌≢◌, ℕ, zero, suc, ◌==◌, true, false, cond, List, [], ◌∷◌, ◌++◌, ◌⊎◌, inl, inr, refl, sym, ◌∙◌, subst, arith}
 use Rattle.std.specs.Prelude.{Option, None, Some, slice_get}
 use Rattle.std.specs.FinMap.{empty, get-empty}
 use Rattle.std.specs.Ordering.{nat_cmp}
 use Rattle.congee.specs.declared.machine.Machine.{Machine}
-use Rattle.congee.specs.Heap.{Node, Hung, Nothing, Below, Holds, Stands, is_free, fits, of_child, walk, value_at}
+use Rattle.congee.specs.Heap.{Node, Hung, Nothing, Below, Holds, Stands, fits, of_child, walk, value_at}
 use Rattle.congee.specs.Keys.{key_bytes, Standing}
-use Rattle.congee.specs.Ledger.{Note, Unmade, Linked, Gone, is_published, Tree, WordAt, Words}
+use Rattle.congee.specs.Ledger.{Note, Unmade, Linked, Gone, is_published, Tree, Words}
 use Rattle.congee.specs.Opening.{RootAlone}
 use Rattle.congee.specs.Play.{IsNew, Begins}
 use Rattle.congee.proofs.Fits.{equal}
@@ -86,3 +86,24 @@ opening_one {C} {V} number h m r z n = record {
   only : (i : ℕ) (x : Machine C V) → slice_get (m ∷ []) i ≡ Some x → m ≡ x
   only zero x e = cc
   only (suc i) x e = absurd cc
+
+-- one more new call beside others
+pub opening_more : {C V : Type 0} (number : C → ℕ) (h : ℕ → Node V) (ms : List (Machine C V)) (m : Machine C V) → Begins number h ms → number m.root ≡ 0 → IsNew m → Begins number h (ms ++ m ∷ [])
+opening_more {C} {V} number h ms m b z n = record {
+  notes = b.notes;
+  tree = b.tree;
+  words = b.words;
+  root = λ i x e. elim (among ms i x e) [
+    | inl y ↦ b.root i x y
+    | inr y ↦ (let P : Machine C V → Type 0 = λ y. number y.root ≡ 0 in subst P y z)
+  ];
+  new = λ i x e. elim (among ms i x e) [
+    | inl y ↦ b.new i x y
+    | inr y ↦ (let P : Machine C V → Type 0 = λ y. IsNew y in subst P y n)
+  ];
+} where
+  among : (xs : List (Machine C V)) (i : ℕ) (x : Machine C V) → slice_get (xs ++ m ∷ []) i ≡ Some x → (slice_get xs i ≡ Some x) ⊎ (m ≡ x)
+  among [] zero x e = inr cc
+  among [] (suc i) x e = absurd cc
+  among (y ∷ xs) zero x e = inl e
+  among (y ∷ xs) (suc i) x e = among xs i x e

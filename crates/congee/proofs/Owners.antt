@@ -1,8 +1,7 @@
 -- What all calls hold, after a step of one of them.
-use Rattle.std.proofs.Common.{◌≡◌, ◌≢◌, ℕ, zero, suc, ◌⊎◌, inl, inr, Bool, true, false, List, [], ◌∷◌, refl, sym, ◌∙◌, ap, subst, arith}
+use Rattle.std.proofs.Common.{◌≡◌, ◌≢◌, ℕ, zero, suc, ◌⊎◌, inl, inr, Bool, true, List, [], ◌∷◌, refl, sym, ◌∙◌, ap, subst, arith}
 use Rattle.std.proofs.Math.ListN.{set}
 use Rattle.std.specs.Prelude.{Option, None, Some, slice_get}
-use Rattle.congee.specs.declared.store.Seat.{Seat}
 use Rattle.congee.specs.declared.phase.Kind.{Kind}
 use Rattle.congee.specs.declared.phase.Site.{Site}
 use Rattle.congee.specs.declared.phase.Single.{Single}
@@ -16,13 +15,12 @@ use Rattle.congee.specs.declared.phase.Phase.TheVariants.{New, Version, Read, Ch
 use Rattle.congee.specs.declared.turn.Turn.{Turn}
 use Rattle.congee.specs.declared.machine.Machine.{Machine}
 use Rattle.congee.specs.Heap.{Node}
-use Rattle.congee.specs.Steps.{quiet, PhaseStepped}
+use Rattle.congee.specs.Steps.{PhaseStepped}
 use Rattle.congee.specs.Keys.{key_bytes}
 use Rattle.congee.specs.Ledger.{Note, Unmade, Held, Linked, Gone, Tree, Words}
 use Rattle.congee.specs.Protocol.{Made, MadeOne, MadeTwo, MadeLeafFor, PlanKnown, Fares, Known}
 use Rattle.congee.specs.Holdings.{LockedBy, MadeForOne, MadeForTwo, MadeForPlan, IsMade, MadeBy, TakenBy, Holdings}
 use Rattle.congee.proofs.Tree.{same_or_not}
-use Rattle.congee.proofs.Touch.{owner_locked}
 use Rattle.congee.proofs.Holdings.{Holds_now}
 
 pub get_set : {A : Type 0} → (xs : List A) (i j : ℕ) (x y : A) → slice_get (set xs i x) j ≡ Some y → ((j ≡ i) × (x ≡ y)) ⊎ ((j ≢ i) × (slice_get xs j ≡ Some y))

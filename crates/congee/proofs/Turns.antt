@@ -1,15 +1,14 @@
 -- Steps of any number of calls, one after another.
-use Rattle.std.proofs.Common.{◌≡◌, ◌≢◌, ℕ, zero, suc, ◌<◌, ◌≤◌, ◌^◌, ◌⊎◌, inl, inr, Bool, true, false, List, [], ◌∷◌, ◌++◌, length, map, take, ◌+◌, refl, sym, ◌∙◌, ap, subst, arith}
+use Rattle.std.proofs.Common.{◌≡◌, ◌≢◌, ℕ, ◌<◌, ◌≤◌, ◌^◌, inl, inr, Bool, false, List, [], ◌∷◌, ◌++◌, length, map, take, ◌+◌, refl, sym, ◌∙◌, ap, subst, arith}
 use Rattle.std.proofs.Math.ListN.{set}
 use Rattle.std.proofs.lemmas.List.{map-set, append_assoc, length-append}
 use Rattle.std.proofs.Math.Seq.{take-append_seam}
-use Rattle.std.proofs.lemmas.Option.{slice_get-map, slice_get_past, slice_get-get_or}
+use Rattle.std.proofs.lemmas.Option.{slice_get-map, slice_get_past}
 use Rattle.std.specs.Prelude.{Option, None, Some, slice_get, option_map}
 use Rattle.judge.specs.Answer.{Pairs}
 use Rattle.std.specs.FinMap.{empty}
 use Rattle.congee.specs.declared.phase.Kind.{Kind}
 use Rattle.congee.specs.declared.phase.Phase.{Phase}
-use Rattle.congee.specs.declared.phase.Phase.TheVariants.{New}
 use Rattle.congee.specs.declared.machine.Move.{Move}
 use Rattle.congee.specs.declared.machine.Outcome.TheVariants.{Running}
 use Rattle.congee.specs.declared.machine.Machine.{Machine}
@@ -20,7 +19,7 @@ use Rattle.congee.specs.Ledger.{Note, Held, Tree, Words}
 use Rattle.congee.specs.Protocol.{Rely, Known}
 use Rattle.congee.specs.Steps.{MayStep, Stepped}
 use Rattle.congee.specs.Answers.{Keeps, KeepsProtocol}
-use Rattle.congee.specs.Play.{IsNew, Flight, Watched, WatchedAt, Run, flight_in, flight, EachKnown, Protocol, ProtocolAt, Settled, Begins, Plays, StepMap, StepPlays}
+use Rattle.congee.specs.Play.{Flight, Watched, WatchedAt, Run, flight_in, flight, EachKnown, Protocol, ProtocolAt, Settled, Begins, Plays, StepPlays}
 use Rattle.congee.specs.Holdings.{LockedBy, MadeBy, Holdings, Rests, Apart}
 use Rattle.congee.proofs.Rely.{known_kept, named_all}
 use Rattle.congee.proofs.Owners.{get_set, own_before, mine_before, held_after, gone_taken, taken_on, made_held, locks_owned}

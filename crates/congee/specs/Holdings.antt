@@ -1,5 +1,5 @@
 -- Which locks and nodes a call holds between its steps, and that nobody holds any other.
-use Rattle.std.specs.Prelude.{◌≡◌, ◌≢◌, ℕ, ◌⊎◌, Bool, true, false, List, [], Option, None, Some, slice_get}
+use Rattle.std.specs.Prelude.{◌≡◌, ◌≢◌, ℕ, ◌⊎◌, true, false, List, [], Option, None, Some, slice_get}
 use Rattle.congee.specs.declared.phase.Single.{Single}
 use Rattle.congee.specs.declared.phase.Single.TheVariants.{Set, Link}
 use Rattle.congee.specs.declared.phase.Double.{Double}
