@@ -1,10 +1,10 @@
 -- What a change of locked nodes leaves, and the map after it: a value set, a leaf linked, a leaf taken out.
-use Rattle.std.proofs.Common.{◌≡◌, ◌≢◌, ℕ, zero, suc, ◌+◌, ◌<◌, ◌≤◌, ◌==◌, Bool, true, false, List, length, get_or, refl, sym, ◌∙◌, ap, subst, inl, inr, arith}
+use Rattle.std.proofs.Common.{◌≡◌, ◌≢◌, ℕ, ◌<◌, true, false, List, length, get_or, refl, sym, ◌∙◌, ap, subst, inl, inr, arith}
 use Rattle.std.specs.Prelude.{Option, None, Some}
-use Rattle.congee.specs.Heap.{Node, Hung, Nothing, Below, Holds, Stands, fits, child_for, of_child, walk, value_at, is_taken, is_free}
-use Rattle.congee.specs.Events.{ChangeGives, TakeOverGives}
+use Rattle.congee.specs.Heap.{Node, Hung, Nothing, Below, Holds, Stands, fits, child_for, of_child, value_at}
+use Rattle.congee.specs.Events.{ChangeGives}
 use Rattle.congee.specs.Steps.{value_hung}
-use Rattle.congee.specs.Ledger.{Note, Status, Unmade, Held, Linked, Gone, is_published, IsChild, HasParent, Tree, WordAt, Words}
+use Rattle.congee.specs.Ledger.{Note, Unmade, Held, Linked, Gone, is_published, IsChild, HasParent, Tree, Words}
 use Rattle.congee.specs.Protocol.{Made, Holding, TakenOut, IsValue, value_in, Effect}
 use Rattle.congee.proofs.Fits.{same_key}
 use Rattle.congee.proofs.Tree.{same_or_not, finds, aside}

@@ -14,6 +14,7 @@ pub mod Gaps
 pub mod Graft
 pub mod Grow
 pub mod Grown
+pub mod Holdings
 pub mod IndexLemmas
 pub mod Joins
 pub mod Keys
@@ -45,6 +46,7 @@ pub mod Rely
 pub mod Words
 pub mod Change
 pub mod Regrow
+pub mod Owners
 pub mod Parting
 pub mod Sound
 pub mod Locks

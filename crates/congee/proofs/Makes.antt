@@ -1,26 +1,19 @@
 -- The steps of a call that make nodes, and those in which made nodes go back.
-use Rattle.std.proofs.Common.{◌≡◌, ◌≢◌, ℕ, zero, suc, ◌+◌, ◌<◌, ◌≤◌, ◌==◌, inl, inr, Bool, true, false, cond, List, length, get_or, refl, sym, ◌∙◌, ap, subst, arith}
-use Rattle.std.proofs.Math.Dec.{ltb}
-use Rattle.std.specs.Prelude.{Option, None, Some, Result, Ok, Err}
+use Rattle.std.proofs.Common.{◌≡◌, ◌≢◌, ℕ, ◌<◌, inl, inr, true, false, List, refl, sym, ◌∙◌, ap, subst, arith}
+use Rattle.std.specs.Prelude.{None}
 use Rattle.congee.specs.declared.base_node.NodeType.{NodeType}
-use Rattle.congee.specs.declared.store.Seat.{Seat}
-use Rattle.congee.specs.declared.store.Refusal.{Refusal}
-use Rattle.congee.specs.declared.phase.Kind.{Kind}
-use Rattle.congee.specs.declared.phase.Parent.{Parent}
-use Rattle.congee.specs.declared.phase.Site.{Site}
 use Rattle.congee.specs.declared.phase.Single.{Single}
 use Rattle.congee.specs.declared.phase.Single.TheVariants.{Set, Link}
 use Rattle.congee.specs.declared.phase.Double.{Double}
 use Rattle.congee.specs.declared.phase.Double.TheVariants.{Unlink, Grow, GrowLink, Split}
-use Rattle.congee.specs.Heap.{Node, Hung, value_at, is_taken, fits}
+use Rattle.congee.specs.Heap.{Node, is_taken}
 use Rattle.congee.specs.Events.{NewNode, BackGives, places}
-use Rattle.congee.specs.Steps.{BackOne, BackTwo, BackLeaf}
-use Rattle.congee.specs.Keys.{key_bytes}
-use Rattle.congee.specs.Ledger.{Note, Status, Held, Linked, Back, is_published, Tree, Words}
-use Rattle.congee.specs.Protocol.{Rely, Made, MadeOne, MadeTwo, Fares, Effect}
+use Rattle.congee.specs.Steps.{BackOne, BackTwo}
+use Rattle.congee.specs.Ledger.{Note, Held, Back, is_published, Tree, Words}
+use Rattle.congee.specs.Protocol.{Rely, Made, MadeOne, MadeTwo, Fares}
 use Rattle.congee.proofs.Tree.{same_or_not}
-use Rattle.congee.proofs.Touch.{fares_same, fares_back, noted, noted_same, noted_other, as_it_was, effect}
-use Rattle.congee.proofs.Words.{Still, making, backed, make_still, back_still}
+use Rattle.congee.proofs.Touch.{fares_same, fares_back, noted_same, noted_other, as_it_was, effect}
+use Rattle.congee.proofs.Words.{Still, making, backed, back_still}
 use Rattle.congee.proofs.Change.{made_apart}
 use Rattle.congee.proofs.Locks.{made_same}
 

@@ -1,9 +1,12 @@
 -- Where a tree begins, with a root alone, calls may begin.
-use Rattle.std.proofs.Common.{◌≡◌, ◌≢◌, ℕ, zero, suc, ◌==◌, Bool, true, false, cond, List, [], ◌∷◌, ◌++◌, length, refl, sym, ◌∙◌, ap, subst, arith}
-use Rattle.std.specs.Prelude.{None, Some, slice_get}
+use Rattle.std.proofs.Common.{◌≡◌, ◌≢◌, ℕ, zero, suc, ◌==◌, Bool, true, false, cond, List, [], ◌∷◌, ◌++◌, ◌⊎◌, inl, inr, length, refl, sym, ◌∙◌, ap, subst, arith}
+use Rattle.std.specs.Prelude.{Option, None, Some, slice_get}
+use Rattle.std.specs.FinMap.{empty, get-empty}
+use Rattle.std.specs.Ordering.{nat_cmp}
 use Rattle.congee.specs.declared.machine.Machine.{Machine}
-use Rattle.congee.specs.Heap.{Node, Nothing, Below, Holds, Stands, is_free}
-use Rattle.congee.specs.Ledger.{Note, Unmade, Linked, Gone, is_published, Tree, WordAt, Words}
+use Rattle.congee.specs.Heap.{Node, Hung, Nothing, Below, Holds, Stands, fits, of_child, walk, value_at}
+use Rattle.congee.specs.Keys.{key_bytes, Standing}
+use Rattle.congee.specs.Ledger.{Note, Unmade, Linked, Gone, is_published, Tree, Words}
 use Rattle.congee.specs.Opening.{RootAlone}
 use Rattle.congee.specs.Play.{IsNew, Begins}
 use Rattle.congee.proofs.Fits.{equal}
@@ -59,6 +62,18 @@ module _ {V : Type 0} (h : ℕ → Node V) (r : RootAlone h) where
     wide = r.wide;
   }
 
+  -- no key stands in it
+  pub standing_none : Standing h empty
+  standing_none = record {
+    at = λ k p. get-empty nat_cmp k ∙ sym (no_value k);
+    none_beyond = λ k p. get-empty nat_cmp k;
+  } where
+    none_at : (f : ℕ) (key : List ℕ) (x : Hung V) → x ≡ Nothing → of_child (λ c. walk h f c key) x ≡ None
+    none_at f key x e = rw e refl
+
+    no_value : (k : ℕ) → value_at h (key_bytes k) ≡ None
+    no_value k = by_test (λ (o : Option V). o ≡ None) (fits (h 0).prefix (key_bytes k)) _ _ (λ _. none_at 7 (key_bytes k) _ (r.bare _)) (λ _. refl)
+
 -- one new call on such a tree
 pub opening_one : {C V : Type 0} (number : C → ℕ) (h : ℕ → Node V) (m : Machine C V) → RootAlone h → number m.root ≡ 0 → IsNew m → Begins number h (m ∷ [])
 opening_one {C} {V} number h m r z n = record {
@@ -90,3 +105,24 @@ opening_all number ms a h r = record {
   root = λ i m e. (a i m e).0;
   new = λ i m e. (a i m e).1;
 }
+
+-- one more new call beside others
+pub opening_more : {C V : Type 0} (number : C → ℕ) (h : ℕ → Node V) (ms : List (Machine C V)) (m : Machine C V) → Begins number h ms → number m.root ≡ 0 → IsNew m → Begins number h (ms ++ m ∷ [])
+opening_more {C} {V} number h ms m b z n = record {
+  notes = b.notes;
+  tree = b.tree;
+  words = b.words;
+  root = λ i x e. elim (among ms i x e) [
+    | inl y ↦ b.root i x y
+    | inr y ↦ (let P : Machine C V → Type 0 = λ y. number y.root ≡ 0 in subst P y z)
+  ];
+  new = λ i x e. elim (among ms i x e) [
+    | inl y ↦ b.new i x y
+    | inr y ↦ (let P : Machine C V → Type 0 = λ y. IsNew y in subst P y n)
+  ];
+} where
+  among : (xs : List (Machine C V)) (i : ℕ) (x : Machine C V) → slice_get (xs ++ m ∷ []) i ≡ Some x → (slice_get xs i ≡ Some x) ⊎ (m ≡ x)
+  among [] zero x e = inr cc
+  among [] (suc i) x e = absurd cc
+  among (y ∷ xs) zero x e = inl e
+  among (y ∷ xs) (suc i) x e = among xs i x e

@@ -1,5 +1,5 @@
 -- The steps of a call that change the tree: each one answers as the map.
-use Rattle.std.proofs.Common.{◌≡◌, ◌≢◌, ℕ, zero, suc, ◌+◌, ◌<◌, ◌≤◌, ◌==◌, ◌&&◌, inl, inr, not, Bool, true, false, cond, List, [], ◌∷◌, length, get_or, refl, sym, ◌∙◌, ap, subst, arith}
+use Rattle.std.proofs.Common.{◌≡◌, ◌≢◌, ℕ, ◌<◌, ◌==◌, Bool, true, List, [], ◌∷◌, length, get_or, refl, sym, ◌∙◌, ap, subst, arith}
 use Rattle.std.specs.Prelude.{Option, None, Some}
 use Rattle.judge.specs.declared.journal.Reply.{Reply}
 use Rattle.congee.specs.declared.phase.Kind.{Kind}
@@ -10,24 +10,20 @@ use Rattle.congee.specs.declared.phase.Double.{Double}
 use Rattle.congee.specs.declared.phase.Double.TheVariants.{Unlink, Grow, GrowLink, Split}
 use Rattle.congee.specs.declared.phase.Two.{Two}
 use Rattle.congee.specs.declared.phase.Phase.{Phase}
-use Rattle.congee.specs.declared.phase.Phase.TheVariants.{ChangeOne, ChangeTwo, Obsolete, Retire, UnlockBelow, Unlock}
-use Rattle.congee.specs.declared.turn.Turn.{Turn}
-use Rattle.congee.specs.Heap.{Node, Hung, Nothing, Below, Holds, fits, child_for, value_at}
-use Rattle.congee.specs.Events.{ChangeGives, TakeOverGives, Parts}
-use Rattle.congee.specs.Steps.{decided, value_hung, ChangedOne, ChangedTwo, after_change}
+use Rattle.congee.specs.declared.phase.Phase.TheVariants.{ChangeOne, ChangeTwo, Obsolete, UnlockBelow, Unlock}
+use Rattle.congee.specs.Heap.{Node, Hung, Nothing, Below, Holds, fits, child_for}
+use Rattle.congee.specs.Events.{ChangeGives, TakeOverGives}
+use Rattle.congee.specs.Steps.{decided, ChangedOne, ChangedTwo, after_change}
 use Rattle.congee.specs.Keys.{key_bytes}
-use Rattle.congee.specs.Ledger.{Note, Status, Held, Linked, Gone, is_published, IsChild, Tree, WordAt, Words}
-use Rattle.congee.specs.Protocol.{Made, Holding, PlacedOne, WantedOne, MadeOne, IsValue, value_in, FitsOne, OneLocked, PlacedTwo, WantedTwo, MadeTwo, FitsTwo, AboveLocked, TwoLocked, TakenOut, Settles, Known, Effect}
+use Rattle.congee.specs.Ledger.{Note, Linked, is_published, IsChild, Tree, Words}
+use Rattle.congee.specs.Protocol.{Made, Holding, PlacedOne, WantedOne, MadeOne, value_in, FitsOne, PlacedTwo, WantedTwo, MadeTwo, FitsTwo, AboveLocked, TakenOut, Settles, Known}
 use Rattle.congee.specs.Answers.{Decides}
 use Rattle.congee.proofs.Fits.{both_true, equal}
-use Rattle.congee.proofs.Tree.{same_or_not}
-use Rattle.congee.proofs.Link.{Leaf}
-use Rattle.congee.proofs.Grow.{Extra, a_value, a_leaf}
+use Rattle.congee.proofs.Grow.{a_value, a_leaf}
 use Rattle.congee.proofs.Touch.{noted, noted_other}
-use Rattle.congee.proofs.Change.{Changed, Under, Live, live_made, live_changed, live_same, joined, leaf_filled, leaf_same, made_apart, set_changed, link_changed, unlink_changed, left_out}
-use Rattle.congee.proofs.Regrow.{regrown, regrown_leaf, regrown_status, regrown_owner, regrown_old, LeafMore, no_leaf, new_leaf, Regrows, regrow_changed}
-use Rattle.congee.proofs.Parting.{split_changed, parted}
-use Rattle.congee.proofs.Sound.{Sound}
+use Rattle.congee.proofs.Change.{Changed, Under, Live, live_made, live_changed, live_same, joined, leaf_filled, leaf_same, made_apart, set_changed, link_changed, unlink_changed}
+use Rattle.congee.proofs.Regrow.{regrown, regrown_leaf, regrown_status, regrown_owner, regrown_old, no_leaf, new_leaf, regrow_changed}
+use Rattle.congee.proofs.Parting.{split_changed}
 use Rattle.congee.proofs.Locks.{Kept}
 
 -- two beginnings of one key that are as long as each other

@@ -1,10 +1,10 @@
 -- How one node may fare in a step, and what a step leaves that touches each node in one of these ways.
-use Rattle.std.proofs.Common.{◌≡◌, ◌≢◌, ℕ, zero, suc, ◌+◌, ◌<◌, ◌≤◌, ◌==◌, ◌&&◌, not, Bool, true, false, cond, List, length, refl, sym, ◌∙◌, ap, subst, inl, inr, arith}
+use Rattle.std.proofs.Common.{◌≡◌, ◌≢◌, ℕ, zero, suc, ◌≤◌, ◌==◌, not, Bool, true, false, cond, List, refl, sym, ◌∙◌, ap, subst, inl, inr, arith}
 use Rattle.std.specs.Prelude.{Option, None, Some}
-use Rattle.congee.specs.Heap.{Node, Hung, Below, Holds, Stands, walk, value_at, is_taken, is_free}
+use Rattle.congee.specs.Heap.{Node, walk, is_taken, is_free}
 use Rattle.congee.specs.Ledger.{Note, Status, Unmade, Held, Linked, Gone, Back, Destroyed, is_published, is_spent, IsChild, HasParent, Tree, WordAt, Words}
-use Rattle.congee.specs.Protocol.{Rely, Fares, Effect}
-use Rattle.congee.proofs.Fits.{both_true, equal, same_test, other_test}
+use Rattle.congee.specs.Protocol.{Fares, Effect}
+use Rattle.congee.proofs.Fits.{both_true, same_test, other_test}
 use Rattle.congee.proofs.Tree.{same_or_not, step_same}
 
 pub by_test : {T : Type 0} (P : T → Type 0) (b : Bool) (x y : T) → (b ≡ true → P x) → (b ≡ false → P y) → P (cond b x y)

@@ -1,38 +1,33 @@
 -- Steps of any number of calls, one after another.
-use Rattle.std.proofs.Common.{◌≡◌, ◌≢◌, ℕ, zero, suc, ◌<◌, ◌≤◌, ◌^◌, ◌⊎◌, inl, inr, Bool, true, false, List, [], ◌∷◌, ◌++◌, length, map, take, ◌+◌, refl, sym, ◌∙◌, ap, subst, arith}
+use Rattle.std.proofs.Common.{◌≡◌, ◌≢◌, ℕ, ◌<◌, ◌≤◌, ◌^◌, inl, inr, Bool, false, List, [], ◌∷◌, ◌++◌, length, map, take, ◌+◌, refl, sym, ◌∙◌, ap, subst, arith}
 use Rattle.std.proofs.Math.ListN.{set}
 use Rattle.std.proofs.lemmas.List.{map-set, append_assoc, length-append}
 use Rattle.std.proofs.Math.Seq.{take-append_seam}
-use Rattle.std.proofs.lemmas.Option.{slice_get-map, slice_get_past, slice_get-get_or}
+use Rattle.std.proofs.lemmas.Option.{slice_get-map, slice_get_past}
 use Rattle.std.specs.Prelude.{Option, None, Some, slice_get, option_map}
 use Rattle.judge.specs.Answer.{Pairs}
+use Rattle.std.specs.FinMap.{empty}
 use Rattle.congee.specs.declared.phase.Kind.{Kind}
 use Rattle.congee.specs.declared.phase.Phase.{Phase}
-use Rattle.congee.specs.declared.phase.Phase.TheVariants.{New}
 use Rattle.congee.specs.declared.machine.Move.{Move}
 use Rattle.congee.specs.declared.machine.Outcome.TheVariants.{Running}
 use Rattle.congee.specs.declared.machine.Machine.{Machine}
 use Rattle.congee.specs.declared.calls.Step.{Step}
 use Rattle.congee.specs.Heap.{Node}
 use Rattle.congee.specs.Keys.{key_bytes, Standing}
-use Rattle.congee.specs.Ledger.{Note}
+use Rattle.congee.specs.Ledger.{Note, Held, Tree, Words}
 use Rattle.congee.specs.Protocol.{Rely, Known}
 use Rattle.congee.specs.Steps.{MayStep, Stepped}
 use Rattle.congee.specs.Answers.{Keeps, KeepsProtocol}
-use Rattle.congee.specs.Play.{IsNew, Flight, Watched, WatchedAt, Run, flight_in, flight, EachKnown, Protocol, Begins, Plays, StepMap, StepPlays}
+use Rattle.congee.specs.Play.{Flight, Watched, WatchedAt, Run, flight_in, flight, EachKnown, Protocol, ProtocolAt, Settled, Begins, Plays, StepPlays}
+use Rattle.congee.specs.Holdings.{LockedBy, MadeBy, Holdings, Rests, Apart}
 use Rattle.congee.proofs.Rely.{known_kept, named_all}
+use Rattle.congee.proofs.Owners.{get_set, own_before, mine_before, held_after, gone_taken, taken_on, made_held, locks_owned}
+use Rattle.congee.proofs.Holdings.{step_holds}
+use Rattle.congee.proofs.Opening.{standing_none}
+use Rattle.congee.proofs.Touch.{owner_locked}
 use Rattle.congee.proofs.Wants.{wants}
 use Rattle.congee.proofs.Watches.{watched}
-
-get_set : {A : Type 0} → (xs : List A) (i j : ℕ) (x y : A) → slice_get (set xs i x) j ≡ Some y → ((j ≡ i) × (x ≡ y)) ⊎ ((j ≢ i) × (slice_get xs j ≡ Some y))
-get_set [] i j x y e = absurd cc
-get_set (z ∷ xs) zero zero x y e = inl (refl, cc)
-get_set (z ∷ xs) zero (suc j) x y e = inr ((λ q. absurd (omega arith)), e)
-get_set (z ∷ xs) (suc i) zero x y e = inr ((λ q. absurd (omega arith)), e)
-get_set (z ∷ xs) (suc i) (suc j) x y e = elim (get_set xs i j x y e) [
-  | inl p ↦ inl (ap suc p.0, p.1)
-  | inr p ↦ inr ((λ q. p.0 (omega arith)), p.1)
-]
 
 module _ {C V : Type 0} (number : C → ℕ) (same : V → V → Bool) (always : Bool) where
   -- a call of the protocol may step
@@ -52,6 +47,38 @@ module _ {C V : Type 0} (number : C → ℕ) (same : V → V → Bool) (always :
     })
   ]
 
+  -- the step of one call, on a ledger
+  turned_at : (most : ℕ) (h : ℕ → Node V) (ms : List (Machine C V)) (i : ℕ) (fail : Bool) (answer : Option (Option V)) (m m' : Machine C V) (h' : ℕ → Node V) (d : Move V) (a : ℕ → Note)
+      → ProtocolAt number same always a h ms → slice_get ms i ≡ Some m → Stepped number same always most m h fail answer m' h' d → KeepsProtocol number same always m h m' h' d
+      → (a' : ℕ → Note) × ProtocolAt number same always a' h' (set ms i m') × (Holdings number a h ms → Holdings number a' h' (set ms i m'))
+  turned_at most h ms i fail answer m m' h' d a p e g keeps =
+      let o : EachKnown number same always a h i m = p.each i m e in
+      let r : Keeps number same always i a m h m' h' d = keeps i a o.root p.tree p.words o.known in
+      let KP : ℕ → Kind V → Type 0 = λ x y. Known number same always i r.notes h' x (key_bytes x) y m'.given m'.phase in
+      let KQ : ℕ → Type 0 = λ x. KP x m'.kind in
+      let KR : Kind V → Type 0 = λ y. KP m.key y in
+      let known : Known number same always i r.notes h' m.key (key_bytes m.key) m.kind m'.given m'.phase = subst KR g.kind (subst KQ g.key r.known) in (
+        r.notes,
+        record {
+          tree = r.effect.tree;
+          words = r.effect.words;
+          each = each_kept i a h ms r.notes m' h' p.each r.effect.others (record {
+            root = ap number g.root ∙ o.root;
+            key = (let P : ℕ → Type 0 = λ x. x < 2 ^ 64 in subst P (sym g.key) o.key);
+            known = r.known;
+          });
+        },
+        (λ s. held_after number same always i a h r.notes h' ms m m' e p.words p.tree r.effect.words r.effect.tree r.effect.fares s
+            (step_holds number same always i a h r.notes h' m.key p.words p.tree r.effect.words r.effect.tree r.effect.fares most m.root m.kind fail answer m.given m.phase m'.given (record { phase = m'.phase; step = d })
+            (own_before number same always i a h r.notes h' ms m m' e p.words p.tree r.effect.words r.effect.tree r.effect.fares s)
+            (mine_before number same always i a h r.notes h' ms m m' e p.words p.tree r.effect.words r.effect.tree r.effect.fares s) o.known known g.step)
+            (λ n l x. gone_taken number same always i r.notes h' m.key m.kind m'.given n r.effect.tree m'.phase known l x)
+            (λ n l. taken_on number same always i a h m.key m.kind m.given n most m.root fail answer m.phase m'.given (record { phase = m'.phase; step = d }) h' g.step l)),
+      )
+
+  at_hand : (h : ℕ → Node V) (ms : List (Machine C V)) (p : Protocol number same always h ms) → ProtocolAt number same always p.notes h ms
+  at_hand h ms p = record { tree = p.tree; words = p.words; each = p.each }
+
   -- the step of one call
   pub turned : (most : ℕ) (h : ℕ → Node V) (ms : List (Machine C V)) (s : Step C V) (m m' : Machine C V) (h' : ℕ → Node V) (d : Move V)
       → Protocol number same always h ms → slice_get ms s.who ≡ Some m → Stepped number same always most m h s.noise.fail s.noise.answer m' h' d → KeepsProtocol number same always m h m' h' d
@@ -59,17 +86,18 @@ module _ {C V : Type 0} (number : C → ℕ) (same : V → V → Bool) (always :
   turned most h ms s m m' h' d p e g keeps =
       let o : EachKnown number same always p.notes h s.who m = p.each s.who m e in
       let r : Keeps number same always s.who p.notes m h m' h' d = keeps s.who p.notes o.root p.tree p.words o.known in
+      let q : (a' : ℕ → Note) × ProtocolAt number same always a' h' (set ms s.who m') × (Holdings number p.notes h ms → Holdings number a' h' (set ms s.who m'))
+      = turned_at most h ms s.who s.noise.fail s.noise.answer m m' h' d p.notes (at_hand h ms p) e g keeps in
       record {
         protocol = record {
-          notes = r.notes;
-          tree = r.effect.tree;
-          words = r.effect.words;
-          each = each_kept s.who p.notes h ms r.notes m' h' p.each r.effect.others (record {
-            root = ap number g.root ∙ o.root;
-            key = (let P : ℕ → Type 0 = λ x. x < 2 ^ 64 in subst P (sym g.key) o.key);
-            known = r.known;
-          });
+          notes = q.0;
+          tree = q.1.tree;
+          words = q.1.words;
+          each = q.1.each;
         };
+        settled = λ a x y.
+            let z : (a' : ℕ → Note) × ProtocolAt number same always a' h' (set ms s.who m') × (Holdings number a h ms → Holdings number a' h' (set ms s.who m'))
+            = turned_at most h ms s.who s.noise.fail s.noise.answer m m' h' d a x e g keeps in (z.0, z.1, z.2 y);
         watched = λ pairs st.
             let w : (m1 : Pairs V) × Standing h' m1 × Watched same (flight m) pairs s.noise.answer d (flight_in m.key m.kind m'.given m'.phase) m1
             = watched number same always most s.who p.notes h m.root m.key m.kind s.noise.fail s.noise.answer m.given m'.given (record { phase = m'.phase; step = d }) h' o.key pairs st m.phase o.known g.step r.answer in
@@ -87,6 +115,7 @@ module _ {C V : Type 0} (number : C → ℕ) (same : V → V → Bool) (always :
       → StepPlays number same always h ms s (record { decided = false; outcome = Running }) h ms
   idled h ms s p l = record {
     protocol = p;
+    settled = λ a x y. (a, x, y);
     watched = λ pairs st.
         let there : slice_get (map flight ms) s.who ≡ None = slice_get-map flight ms s.who ∙ (let T : Option (Machine C V) → Type 0 = λ z. option_map flight z ≡ None in subst T (sym (slice_get_past ms s.who l)) refl) in
         let T : Option (Flight V) → Type 0 = λ z. WatchedAt same (map flight ms) pairs z s (record { decided = false; outcome = Running }) (map flight ms) pairs in
@@ -103,31 +132,73 @@ module _ {C V : Type 0} (number : C → ℕ) (same : V → V → Bool) (always :
   run_more fs m (x ∷ ss) [] fs1 m1 s d fs2 m2 r q = absurd r
   run_more fs m (x ∷ ss) (y ∷ ds) fs1 m1 s d fs2 m2 r q = (r.0, r.1, r.2, run_more r.0 r.1 ss ds fs1 m1 s d fs2 m2 r.3 q)
 
+  -- what the calls hold is their own
+  apart : (h : ℕ → Node V) (ms : List (Machine C V)) → Protocol number same always h ms → Apart number h ms
+  apart h ms p = record {
+    locked = λ i n m e l. owner_locked p.notes h p.words n i (owns i n m e l);
+    locks = λ i j n m k ne e f l o. let z : Some i ≡ Some j = sym (owns i n m e l) ∙ owns j n k f o in ne cc;
+    nodes = λ i j n m k ne e f l o. let z : Held i ≡ Held j = sym (holds i n m e l) ∙ holds j n k f o in ne cc;
+  } where
+    owns : (i n : ℕ) (m : Machine C V) → slice_get ms i ≡ Some m → LockedBy number m.phase n → (p.notes n).owner ≡ Some i
+    owns i n m e l = locks_owned number same always i p.notes h m.key m.kind m.given n m.phase (p.each i m e).known l
+
+    holds : (i n : ℕ) (m : Machine C V) → slice_get ms i ≡ Some m → MadeBy number m.phase n → (p.notes n).status ≡ Held i
+    holds i n m e l = made_held number same always i p.notes h m.key m.kind m.given n m.phase (p.each i m e).known l
+
+  more_map : (h0 : ℕ → Node V) (ms0 : List (Machine C V)) (ss : List (Step C V)) (ds : List (Move V)) (h : ℕ → Node V) (ms : List (Machine C V)) (s : Step C V) (d : Move V) (h' : ℕ → Node V) (ms' : List (Machine C V)) (m : Pairs V)
+      → (m1 : Pairs V) × Standing h m1 × Run same (map flight ms0) m ss ds (map flight ms) m1 → StepPlays number same always h ms s d h' ms'
+      → (m2 : Pairs V) × Standing h' m2 × Run same (map flight ms0) m (ss ++ s ∷ []) (ds ++ d ∷ []) (map flight ms') m2
+  more_map h0 ms0 ss ds h ms s d h' ms' m r q =
+      let w : (m2 : Pairs V) × Standing h' m2 × WatchedAt same (map flight ms) r.0 (slice_get (map flight ms) s.who) s d (map flight ms') m2 = q.watched r.0 r.1 in
+      (w.0, w.1, run_more (map flight ms0) m ss ds (map flight ms) r.0 s d (map flight ms') w.0 r.2 w.2)
+
   -- one step more
   pub plays_more : (h0 : ℕ → Node V) (ms0 : List (Machine C V)) (ss : List (Step C V)) (ds : List (Move V)) (h : ℕ → Node V) (ms : List (Machine C V)) (s : Step C V) (d : Move V) (h' : ℕ → Node V) (ms' : List (Machine C V))
       → Plays number same always h0 ms0 ss ds h ms → StepPlays number same always h ms s d h' ms' → Plays number same always h0 ms0 (ss ++ s ∷ []) (ds ++ d ∷ []) h' ms'
   plays_more h0 ms0 ss ds h ms s d h' ms' p q = record {
     protocol = q.protocol;
-    run = λ m st.
-        let r : (m1 : Pairs V) × Standing h m1 × Run same (map flight ms0) m ss ds (map flight ms) m1 = p.run m st in
-        let w : (m2 : Pairs V) × Standing h' m2 × WatchedAt same (map flight ms) r.0 (slice_get (map flight ms) s.who) s d (map flight ms') m2 = q.watched r.0 r.1 in
-        (w.0, w.1, run_more (map flight ms0) m ss ds (map flight ms) r.0 s d (map flight ms') w.0 r.2 w.2);
+    run = λ m st. more_map h0 ms0 ss ds h ms s d h' ms' m (p.run m st) q;
+    from_root = λ o. more_map h0 ms0 ss ds h ms s d h' ms' empty (p.from_root o) q;
+    apart = apart h' ms' q.protocol;
+    settled = λ a t w r. let x : Settled number same always h ms = p.settled a t w r in q.settled x.0 x.1 x.2;
   }
 
   -- calls that have not begun know what they are to know
+  begun_at : (h : ℕ → Node V) (ms : List (Machine C V)) → Begins number h ms → (a : ℕ → Note) → Tree a h → Words a h → ProtocolAt number same always a h ms
+  begun_at h ms b a t w = record {
+    tree = t;
+    words = w;
+    each = λ i m e. record {
+      root = b.root i m e;
+      key = (b.new i m e).key;
+      known = (let P : Phase C V → Type 0 = λ x. Known number same always i a h m.key (key_bytes m.key) m.kind m.given x in subst P (sym (b.new i m e).phase) (b.new i m e).given);
+    };
+  }
+
+  begun_protocol : (h : ℕ → Node V) (ms : List (Machine C V)) → Begins number h ms → Protocol number same always h ms
+  begun_protocol h ms b = let p : ProtocolAt number same always b.notes h ms = begun_at h ms b b.notes b.tree b.words in record { notes = b.notes; tree = p.tree; words = p.words; each = p.each }
+
+  -- a tree at rest, beside calls that have not begun
+  rested : (h : ℕ → Node V) (ms : List (Machine C V)) (a : ℕ → Note) → Rests {V = V} number a h → Holdings number a h ms
+  rested h ms a r = record {
+    owned = λ n i o. let x : (m : Machine C V) × (slice_get [] i ≡ Some m) × LockedBy number m.phase n = r.owned n i o in let z : None ≡ Some x.0 = x.1 in absurd cc;
+    held = λ n i o. let x : (m : Machine C V) × (slice_get [] i ≡ Some m) × MadeBy number m.phase n = r.held n i o in let z : None ≡ Some x.0 = x.1 in absurd cc;
+    locked = r.locked;
+    gone = λ n g. elim (r.gone n g) [
+      | inl x ↦ inl x
+      | inr x ↦ absurd (let z : None ≡ Some x.1 = x.2 in cc)
+    ];
+    spent = r.spent;
+    unmade = r.unmade;
+  }
+
   pub plays_none : (h : ℕ → Node V) (ms : List (Machine C V)) → Begins number h ms → Plays number same always h ms [] [] h ms
   plays_none h ms b = record {
-    protocol = record {
-      notes = b.notes;
-      tree = b.tree;
-      words = b.words;
-      each = λ i m e. record {
-        root = b.root i m e;
-        key = (b.new i m e).key;
-        known = (let P : Phase C V → Type 0 = λ x. Known number same always i b.notes h m.key (key_bytes m.key) m.kind m.given x in subst P (sym (b.new i m e).phase) (b.new i m e).given);
-      };
-    };
+    protocol = begun_protocol h ms b;
     run = λ m st. (m, st, (refl, refl));
+    from_root = λ o. (empty, standing_none h o, (refl, refl));
+    apart = apart h ms (begun_protocol h ms b);
+    settled = λ a t w r. (a, begun_at h ms b a t w, rested h ms a r);
   }
 
   -- how far the steps have come: those taken and those left

@@ -1,5 +1,5 @@
 -- Each step of a call is one that the watch of a map's run allows.
-use Rattle.std.proofs.Common.{◌≡◌, ◌≢◌, ℕ, ◌<◌, ◌^◌, ◌==◌, ◌⊎◌, inl, inr, Bool, true, false, List, length, refl, sym, ◌∙◌, ap, subst}
+use Rattle.std.proofs.Common.{◌≡◌, ◌≢◌, ℕ, ◌<◌, ◌^◌, inl, inr, Bool, refl, sym, ◌∙◌, ap, subst}
 use Rattle.std.specs.Prelude.{Option, None, Some}
 use Rattle.std.specs.FinMap.{get}
 use Rattle.judge.specs.declared.journal.Call.{Call}
@@ -14,15 +14,15 @@ use Rattle.congee.specs.declared.phase.Phase.{Phase}
 use Rattle.congee.specs.declared.phase.Phase.TheVariants.{New, Version, Read, Check, CheckUncopied, CheckMiss, CheckDown, CheckOld, MakeLeaf, MakeGreater, MakeTop, MakeBeside, AskOld, AskNew, Confirm, CheckAbove, UpgradeOne, ChangeOne, UpgradeAbove, UpgradeBoth, ChangeTwo, Obsolete, Retire, UnlockBelow, Unlock, Unwind, Ended}
 use Rattle.congee.specs.declared.turn.Turn.{Turn}
 use Rattle.congee.specs.Heap.{Node, is_taken, version_of}
-use Rattle.congee.specs.Steps.{quiet, again, answered, finished, refused, decided, asking, PhaseStepped}
+use Rattle.congee.specs.Steps.{quiet, answered, finished, decided, PhaseStepped}
 use Rattle.congee.specs.Keys.{key_bytes, Standing}
 use Rattle.congee.specs.Ledger.{Note}
-use Rattle.congee.specs.Protocol.{IsCall, Settles, Known}
-use Rattle.congee.specs.Answers.{SameMap, Decides, Answers, reply_in, told}
+use Rattle.congee.specs.Protocol.{IsCall, Known}
+use Rattle.congee.specs.Answers.{Decides, Answers, reply_in, told}
 use Rattle.congee.specs.Play.{Question, Unasked, Asked, Replied, Flight, Pending, Decided, Over, heard, resolved, Heeds, Watched, PendingMoves, heeding, flight_in}
 use Rattle.congee.proofs.Graft.{on_test}
 use Rattle.congee.proofs.Keys.{standing_same, standing_changed}
-use Rattle.congee.proofs.Shapes.{Ripe, ripe_at_work, Fair, fair, Shape, GoesOn, Wonders, Stops, Replies, Takes, go, goes_to_work, back, at, answers, checks, reads, versions, if_taken, misses_at, halts, leaf_made, greater_made, top_made, beside_made, one_upgraded, above_upgraded, both_upgraded, unwinds, at_old, change_shape, given_shape, given_new_shape_at}
+use Rattle.congee.proofs.Shapes.{ripe_at_work, Fair, fair, Shape, GoesOn, Wonders, Stops, Replies, Takes, go, goes_to_work, back, at, answers, checks, reads, versions, if_taken, misses_at, halts, leaf_made, greater_made, top_made, beside_made, one_upgraded, above_upgraded, both_upgraded, unwinds, at_old, change_shape, given_shape, given_new_shape_at}
 
 -- the call is on its key
 call_key : {V : Type 0} (k : ℕ) (kind : Kind V) (given found : Option V) (c : Call V) → IsCall k kind given found c → key_of c ≡ k

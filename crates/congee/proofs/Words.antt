@@ -1,14 +1,14 @@
 -- The steps that change a lock word, a life or a mark: lock, unlock, marks, making and giving back.
-use Rattle.std.proofs.Common.{◌≡◌, ◌≢◌, ℕ, zero, suc, ◌+◌, ◌<◌, ◌≤◌, ◌==◌, ◌&&◌, not, Bool, true, false, List, length, refl, sym, ◌∙◌, ap, subst, inl, inr, arith}
-use Rattle.std.specs.Prelude.{Option, None, Some}
+use Rattle.std.proofs.Common.{◌≡◌, ◌≢◌, ℕ, zero, suc, ◌+◌, ◌≤◌, ◌==◌, true, false, List, length, refl, sym, ◌∙◌, ap, subst, arith}
+use Rattle.std.specs.Prelude.{None, Some}
 use Rattle.congee.specs.declared.base_node.NodeType.{NodeType}
-use Rattle.congee.specs.Heap.{Node, Hung, Below, Stands, walk, value_at, is_taken, is_free}
+use Rattle.congee.specs.Heap.{Node, Stands, walk, value_at, is_taken}
 use Rattle.congee.specs.Events.{SameBut, NewNode, BackGives, ObsoleteGives, RetireGives, UnlockGives}
-use Rattle.congee.specs.Ledger.{Note, Status, Unmade, Held, Linked, Gone, Back, is_published, IsChild, HasParent, Tree, WordAt, Words}
+use Rattle.congee.specs.Ledger.{Note, Unmade, Held, Linked, Gone, Back, is_published, IsChild, HasParent, Tree, WordAt, Words}
 use Rattle.congee.specs.Protocol.{Seated, Made, Holding, TakenOut, Fares, Effect}
 use Rattle.congee.proofs.Fits.{both_true, equal}
-use Rattle.congee.proofs.Tree.{same_or_not, step_same}
-use Rattle.congee.proofs.Touch.{fares_locked, fares_free, fares_mine, fares_retired, fares_made, fares_back, noted, noted_same, noted_other, own, owned, Touched, under_lock, out_of_reach, effect, not_taken, taken_linked, taken_not_locked, locked_not_free, owner_locked, tree_same, same_map, but_one, but_note, touch_one}
+use Rattle.congee.proofs.Tree.{step_same}
+use Rattle.congee.proofs.Touch.{fares_locked, fares_free, fares_mine, fares_retired, fares_made, fares_back, noted, noted_same, noted_other, own, owned, under_lock, out_of_reach, effect, not_taken, taken_linked, taken_not_locked, locked_not_free, owner_locked, tree_same, same_map, but_one, but_note, touch_one}
 
 -- a step that leaves the map
 pub record Still {V : Type 0} (i : ℕ) (a : ℕ → Note) (h : ℕ → Node V) (a' : ℕ → Note) (h' : ℕ → Node V) : Type 0 where

@@ -1,6 +1,6 @@
 -- What is true of the tree and stands in no node: which nodes are in the tree, below which node each hangs,
 -- who made it and who holds its lock.
-use Rattle.std.specs.Prelude.{◌≡◌, ◌≢◌, ℕ, ◌<◌, ◌≤◌, Bool, true, false, List, [], length, slice_index, Option, None}
+use Rattle.std.specs.Prelude.{◌≡◌, ◌≢◌, ℕ, ◌<◌, ◌≤◌, Bool, true, false, [], length, slice_index, Option, None}
 use Rattle.congee.specs.Heap.{Node, Below, Holds, Stands, fits, is_free}
 
 -- not made yet; held by call i, never in reach; in the tree; taken out of it; given back unused; destroyed

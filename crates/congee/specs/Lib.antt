@@ -30,3 +30,4 @@ pub mod Opening
 pub mod Stats
 pub mod Plain
 pub mod PlainHeap
+pub mod Holdings

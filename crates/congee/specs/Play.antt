@@ -1,7 +1,7 @@
 -- What any number of calls do, stepped in any order: each is watched from its begin to its end, beside the map.
 use Rattle.std.specs.Prelude.{◌≡◌, ℕ, ◌<◌, ◌^◌, Bool, true, false, List, [], ◌∷◌, map, Option, None, Some, slice_get}
 use Rattle.std.proofs.Math.ListN.{set}
-use Rattle.std.specs.FinMap.{get}
+use Rattle.std.specs.FinMap.{get, empty}
 use Rattle.judge.specs.declared.journal.Call.{Call}
 use Rattle.judge.specs.declared.journal.Reply.{Reply}
 use Rattle.judge.specs.Answer.{Pairs, answer}
@@ -20,6 +20,8 @@ use Rattle.congee.specs.Heap.{Node}
 use Rattle.congee.specs.Keys.{Standing}
 use Rattle.congee.specs.Ledger.{Note, Tree, Words}
 use Rattle.congee.specs.Protocol.{IsCall, HasGift, Known}
+use Rattle.congee.specs.Holdings.{Holdings, Rests, Apart}
+use Rattle.congee.specs.Opening.{RootAlone}
 use Rattle.congee.specs.Keys.{key_bytes}
 
 -- a call's key, what it does there, and the value that it was given
@@ -169,6 +171,16 @@ pub record Protocol {C V : Type 0} (number : C → ℕ) (same : V → V → Bool
   pub words : Words notes h
   pub each : (i : ℕ) (m : Machine C V) → slice_get ms i ≡ Some m → EachKnown number same always notes h i m
 
+-- the same on a ledger at hand
+pub record ProtocolAt {C V : Type 0} (number : C → ℕ) (same : V → V → Bool) (always : Bool) (a : ℕ → Note) (h : ℕ → Node V) (ms : List (Machine C V)) : Type 0 where
+  pub tree : Tree a h
+  pub words : Words a h
+  pub each : (i : ℕ) (m : Machine C V) → slice_get ms i ≡ Some m → EachKnown number same always a h i m
+
+-- locks and nodes are held by the calls alone that are between their steps
+abbrev pub Settled : {C V : Type 0} → (C → ℕ) → (V → V → Bool) → Bool → (ℕ → Node V) → List (Machine C V) → Type 0
+Settled number same always h ms = (a : ℕ → Note) × ProtocolAt number same always a h ms × Holdings number a h ms
+
 -- a tree, and calls on its root that have not begun
 pub record Begins {C V : Type 0} (number : C → ℕ) (h : ℕ → Node V) (ms : List (Machine C V)) : Type 0 where
   pub notes : ℕ → Note
@@ -182,10 +194,17 @@ pub record Begins {C V : Type 0} (number : C → ℕ) (h : ℕ → Node V) (ms :
 abbrev pub PlaysMap : {C V : Type 0} → (V → V → Bool) → (ℕ → Node V) → List (Machine C V) → List (Step C V) → List (Move V) → (ℕ → Node V) → List (Machine C V) → Type 0
 PlaysMap {C} {V} same h ms steps moves h' ms' = (m : Pairs V) → Standing h m → (m' : Pairs V) × Standing h' m' × Run same (map flight ms) m steps moves (map flight ms') m'
 
+-- and from the empty map, where a root stands alone
+abbrev pub FromRoot : {C V : Type 0} → (V → V → Bool) → (ℕ → Node V) → List (Machine C V) → List (Step C V) → List (Move V) → (ℕ → Node V) → List (Machine C V) → Type 0
+FromRoot {C} {V} same h ms steps moves h' ms' = (m' : Pairs V) × Standing h' m' × Run same (map flight ms) empty steps moves (map flight ms') m'
+
 pub record Plays {C V : Type 0} (number : C → ℕ) (same : V → V → Bool) (always : Bool) (h : ℕ → Node V) (ms : List (Machine C V)) (steps : List (Step C V)) (moves : List (Move V))
     (h' : ℕ → Node V) (ms' : List (Machine C V)) : Type 0 where
   pub protocol : Protocol number same always h' ms'
   pub run : PlaysMap same h ms steps moves h' ms'
+  pub from_root : RootAlone h → FromRoot same h ms steps moves h' ms'
+  pub apart : Apart number h' ms'
+  pub settled : (a : ℕ → Note) → Tree a h → Words a h → Rests {V = V} number a h → Settled number same always h' ms'
 
 -- one step of the calls
 abbrev pub StepMap : {C V : Type 0} → (V → V → Bool) → (ℕ → Node V) → List (Machine C V) → Step C V → Move V → (ℕ → Node V) → List (Machine C V) → Type 0
@@ -195,3 +214,4 @@ pub record StepPlays {C V : Type 0} (number : C → ℕ) (same : V → V → Boo
     (h' : ℕ → Node V) (ms' : List (Machine C V)) : Type 0 where
   pub protocol : Protocol number same always h' ms'
   pub watched : StepMap same h ms s d h' ms'
+  pub settled : (a : ℕ → Note) → ProtocolAt number same always a h ms → Holdings number a h ms → Settled number same always h' ms'

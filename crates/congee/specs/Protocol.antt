@@ -1,10 +1,9 @@
 -- What a call knows of the tree between its steps, as long as others may step.
-use Rattle.std.specs.Prelude.{◌≡◌, ◌≢◌, ℕ, ◌==◌, ◌<◌, ◌≤◌, ◌⊎◌, Bool, true, false, List, length, slice_index, Option, None, Some, Ok, Err}
+use Rattle.std.specs.Prelude.{◌≡◌, ◌≢◌, ℕ, ◌==◌, ◌<◌, ◌≤◌, ◌⊎◌, Bool, true, false, List, length, slice_index, Option, None, Some}
 use Rattle.judge.specs.declared.journal.Call.{Call}
 use Rattle.judge.specs.declared.journal.Call.TheVariants as call
 use Rattle.judge.specs.declared.journal.Reply.{Reply}
 use Rattle.judge.proofs.Maps.{leaves, reply_on}
-use Rattle.congee.specs.declared.child.Child.{Child}
 use Rattle.congee.specs.declared.child.Child.TheVariants as child
 use Rattle.congee.specs.declared.store.Seat.{Seat}
 use Rattle.congee.specs.declared.phase.Kind.{Kind}
@@ -24,7 +23,7 @@ use Rattle.congee.specs.declared.phase.Phase.TheVariants.{New, Version, Read, Ch
 use Rattle.congee.specs.Heap.{Node, Hung, Nothing, Below, Holds, fits, child_for, is_taken}
 use Rattle.congee.specs.Events.{hung, Parts}
 use Rattle.congee.specs.Steps.{adds}
-use Rattle.congee.specs.Ledger.{Note, Status, Unmade, Held, Linked, Gone, is_published, is_spent, Tree, Words}
+use Rattle.congee.specs.Ledger.{Note, Unmade, Held, Linked, Gone, is_published, is_spent, Tree, Words}
 
 -- a node of which a version was taken
 pub record Seated {V : Type 0} (a : ℕ → Note) (h : ℕ → Node V) (n v : ℕ) : Type 0 where

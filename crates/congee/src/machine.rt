@@ -1,5 +1,5 @@
 //! One call on a shared tree, as a machine that takes one step at a time.
-ghost use Rattle.std.specs.Prelude.{◌≡◌, ◌≢◌, ℕ, ◌+◌, ◌<◌, ◌≤◌, Bool, true, false, Option, None, Some, Result, List, [], ◌∷◌};
+ghost use Rattle.std.specs.Prelude.{◌≡◌, ◌≢◌, ℕ, ◌+◌, ◌<◌, ◌≤◌, Bool, true, false, Option, None, Some, Result, List, [], ◌∷◌, ◌++◌};
 ghost use Rattle.congee.specs.Heap.{Node, Stands, is_taken, version_of};
 ghost use Rattle.congee.specs.Answers.{KeepsProtocol};
 ghost use Rattle.congee.specs.Play.{begun, IsNew, Begins};
@@ -73,6 +73,7 @@ impl<C: NodeName, P: Payload> Machine<C, P> {
         ensures call { result ≡ begun root op }
         ensures new { IsNew result }
         ensures begins { (h : ℕ → Node P) → RootAlone h → C.number root ≡ 0 → Begins C.number h (result ∷ []) }
+        ensures joins { (h : ℕ → Node P) (ms : List (Machine C P)) → Begins C.number h ms → C.number root ≡ 0 → Begins C.number h (ms ++ result ∷ []) }
     {
         let (key, kind, given) = op.parts();
         Machine {
