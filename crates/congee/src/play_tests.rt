@@ -1,6 +1,6 @@
 //! Calls that are stepped by turns on a plain store: worked rows, and every interleaving of two short calls.
 use crate::{Child, Move, Noise, Op, Outcome, PlainStore, Refusal, Seen, Step, play};
-use judge::{Call, Entry, Reply, Verdict, check};
+use judge::Reply;
 use std::alloc::Global;
 use std::test::Fail;
 
@@ -8,6 +8,7 @@ use std::test::Fail;
 const END: usize = 30;
 
 /// What a run left, and what each of its steps did.
+#[derive(Drop)]
 struct Ran {
     store: PlainStore,
     moves: Vec<Move<u64>>,
@@ -91,6 +92,142 @@ fn a_call_finds_its_leaf_gone(rt: HostRuntime) -> Result<(), Fail> {
         Reply::Get(Some(9)),
         Reply::Get(Some(9)),
     ];
+    assert!(rt; replies(alloc, ran.moves)?.as_slice() == expected.as_slice());
+    Ok(())
+}
+
+#[test]
+fn two_make_a_leaf_for_one_key(rt: HostRuntime) -> Result<(), Fail> {
+    let alloc = rt.alloc();
+    let ops = vec![in alloc; Op::Insert(7, 1), Op::Insert(7, 2), Op::Get(7)]?;
+    let steps = turns(alloc, &[(0, 5), (1, 5), (0, END), (1, END), (2, END)])?;
+    let ran = run(alloc, 10, ops, steps)?;
+    assert!(rt; is_at_rest(&ran.store));
+    assert_eq!(rt; ran.store.nodes.len(), 3);
+    assert_eq!(rt; given_back(&ran.store), 1);
+    let expected = [
+        Reply::Insert(None),
+        Reply::Insert(Some(1)),
+        Reply::Get(Some(2)),
+    ];
+    assert!(rt; replies(alloc, ran.moves)?.as_slice() == expected.as_slice());
+    Ok(())
+}
+
+#[test]
+fn a_split_comes_before_the_read(rt: HostRuntime) -> Result<(), Fail> {
+    let alloc = rt.alloc();
+    let ops = vec![in alloc; Op::Insert(1, 1), Op::Get(256), Op::Insert(256, 5)]?;
+    let steps = turns(alloc, &[(0, END), (1, 5), (2, END), (1, END)])?;
+    let ran = run(alloc, 10, ops, steps)?;
+    assert!(rt; is_at_rest(&ran.store));
+    let expected = [
+        Reply::Insert(None),
+        Reply::Insert(None),
+        Reply::Get(Some(5)),
+    ];
+    assert!(rt; replies(alloc, ran.moves)?.as_slice() == expected.as_slice());
+    Ok(())
+}
+
+#[test]
+fn a_lying_read_is_checked(rt: HostRuntime) -> Result<(), Fail> {
+    let alloc = rt.alloc();
+    let ops = vec![in alloc; Op::Insert(1, 42), Op::Get(1), Op::Insert(2, 9), Op::Get(1)]?;
+    let mut steps = turns(alloc, &[(0, END), (1, 5), (3, 5), (2, END)])?;
+    for (who, child) in [(1, Child::Value(77)), (3, Child::Node(99))] {
+        let mut step = step_of(who);
+        step.noise.seen = Some(Seen {
+            child,
+            byte: 200,
+            full: true,
+            count: 3,
+        });
+        steps.push(step)?;
+    }
+    for step in turns(alloc, &[(1, END), (3, END)])? {
+        steps.push(step)?;
+    }
+    let ran = run(alloc, 10, ops, steps)?;
+    let expected = [
+        Reply::Insert(None),
+        Reply::Insert(None),
+        Reply::Get(Some(42)),
+        Reply::Get(Some(42)),
+    ];
+    assert!(rt; replies(alloc, ran.moves)?.as_slice() == expected.as_slice());
+    Ok(())
+}
+
+#[test]
+fn a_failed_upgrade_begins_anew(rt: HostRuntime) -> Result<(), Fail> {
+    let alloc = rt.alloc();
+    let ops = vec![in alloc; Op::Insert(1, 42), Op::Get(1)]?;
+    let mut steps = turns(alloc, &[(0, 5)])?;
+    let mut failing = step_of(0);
+    failing.noise.fail = true;
+    steps.push(failing)?;
+    for step in turns(alloc, &[(0, END), (1, END)])? {
+        steps.push(step)?;
+    }
+    let ran = run(alloc, 10, ops, steps)?;
+    assert!(rt; is_at_rest(&ran.store));
+    assert_eq!(rt; ran.store.nodes.len(), 3);
+    assert_eq!(rt; given_back(&ran.store), 1);
+    let expected = [Reply::Insert(None), Reply::Get(Some(42))];
+    assert!(rt; replies(alloc, ran.moves)?.as_slice() == expected.as_slice());
+    Ok(())
+}
+
+#[test]
+fn a_closure_is_asked_until_it_answers(rt: HostRuntime) -> Result<(), Fail> {
+    let alloc = rt.alloc();
+    let ops = vec![in alloc; Op::Insert(1, 42), Op::ComputePresent(1), Op::Get(1)]?;
+    let mut steps = turns(alloc, &[(0, END), (1, 7)])?;
+    for _ in 0..2 {
+        let mut step = step_of(1);
+        step.noise.answer = None;
+        steps.push(step)?;
+    }
+    for step in turns(alloc, &[(1, END), (2, END)])? {
+        steps.push(step)?;
+    }
+    let ran = run(alloc, 10, ops, steps)?;
+    let mut asked = 0;
+    for step in &ran.moves {
+        if let Outcome::Asks(value) = &step.outcome {
+            assert_eq!(rt; *value, Some(42));
+            asked = usize::wrapping_add(asked, 1);
+        }
+    }
+    assert_eq!(rt; asked, 3);
+    let expected = [
+        Reply::Insert(None),
+        Reply::ComputePresent(Some((42, Some(50)))),
+        Reply::Get(Some(50)),
+    ];
+    assert!(rt; replies(alloc, ran.moves)?.as_slice() == expected.as_slice());
+    Ok(())
+}
+
+#[test]
+fn a_refused_call_gives_its_nodes_back(rt: HostRuntime) -> Result<(), Fail> {
+    let alloc = rt.alloc();
+    let ops = vec![in alloc; Op::Insert(1, 42), Op::Insert(256, 5), Op::Get(256)]?;
+    let steps = turns(alloc, &[(0, END), (1, END), (2, END)])?;
+    let ran = run(alloc, 2, ops, steps)?;
+    assert!(rt; is_at_rest(&ran.store));
+    assert_eq!(rt; ran.store.nodes.len(), 3);
+    assert_eq!(rt; given_back(&ran.store), 1);
+    let mut refused = 0;
+    for step in &ran.moves {
+        if let Outcome::Refused(refusal) = &step.outcome {
+            assert_eq!(rt; *refusal, Refusal::Cells);
+            refused = usize::wrapping_add(refused, 1);
+        }
+    }
+    assert_eq!(rt; refused, 1);
+    let expected = [Reply::Insert(None), Reply::Get(None)];
     assert!(rt; replies(alloc, ran.moves)?.as_slice() == expected.as_slice());
     Ok(())
 }
