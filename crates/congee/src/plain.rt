@@ -42,10 +42,7 @@ impl PlainStore {
     }
 
     /// These calls on the tree below a root, before their first steps.
-    pub fn calls(
-        alloc: Global,
-        ops: Vec<Op<u64>>,
-    ) -> Result<Vec<Machine<usize, u64>>, AllocError>
+    pub fn calls(alloc: Global, ops: Vec<Op<u64>>) -> Result<Vec<Machine<usize, u64>>, AllocError>
         ensures count { IfOk result (λ calls. vec_len calls ≡ vec_len ops) }
         ensures begins { IfOk result (λ calls. (h : ℕ → Node ℕ) → RootAlone h → Begins (λ n. n) h calls.items) }
     {

@@ -1,6 +1,6 @@
 //! Calls that are stepped by turns on a plain store: worked rows, and every interleaving of two short calls.
 use crate::{Child, Move, Noise, Op, Outcome, PlainStore, Refusal, Seen, Step, play};
-use judge::Reply;
+use judge::{Call, Entry, Reply, Verdict, check};
 use std::alloc::Global;
 use std::test::Fail;
 
@@ -69,7 +69,10 @@ fn given_back(store: &PlainStore) -> usize {
 
 /// Whether no node is locked but those that were taken out and retired.
 fn is_at_rest(store: &PlainStore) -> bool {
-    store.nodes.iter().all(|n| n.locked == n.obsolete && n.obsolete == n.retired)
+    store
+        .nodes
+        .iter()
+        .all(|n| n.locked == n.obsolete && n.obsolete == n.retired)
 }
 
 #[test]
@@ -80,9 +83,12 @@ fn a_call_finds_its_leaf_gone(rt: HostRuntime) -> Result<(), Fail> {
         Op::Get(1),
         Op::Remove(1),
         Op::Insert(1, 9),
-        Op::Get(1)
+        Op::Get(1),
     ]?;
-    let steps = turns(alloc, &[(0, END), (1, 4), (2, END), (3, END), (1, END), (4, END)])?;
+    let steps = turns(
+        alloc,
+        &[(0, END), (1, 4), (2, END), (3, END), (1, END), (4, END)],
+    )?;
     let ran = run(alloc, 10, ops, steps)?;
     assert!(rt; is_at_rest(&ran.store));
     let expected = [
@@ -229,5 +235,182 @@ fn a_refused_call_gives_its_nodes_back(rt: HostRuntime) -> Result<(), Fail> {
     assert_eq!(rt; refused, 1);
     let expected = [Reply::Insert(None), Reply::Get(None)];
     assert!(rt; replies(alloc, ran.moves)?.as_slice() == expected.as_slice());
+    Ok(())
+}
+
+/// Two calls on a small tree, and how many steps each takes after its begin where the other one isn't there.
+struct Case {
+    setup: &'static [Call<u64>],
+    pair: [Call<u64>; 2],
+    lengths: [u32; 2],
+}
+
+/// On an empty tree, a leaf with one key, a full leaf, and two leaves below a node that was split off.
+const CASES: [Case; 6] = [
+    Case {
+        setup: &[],
+        pair: [Call::Insert(7, 1), Call::Insert(7, 2)],
+        lengths: [7, 7],
+    },
+    Case {
+        setup: &[],
+        pair: [Call::Insert(1, 1), Call::Insert(256, 2)],
+        lengths: [7, 7],
+    },
+    Case {
+        setup: &[Call::Insert(1, 1)],
+        pair: [Call::Insert(256, 2), Call::Get(256)],
+        lengths: [13, 6],
+    },
+    Case {
+        setup: &[Call::Insert(1, 1)],
+        pair: [Call::Remove(1), Call::Get(1)],
+        lengths: [12, 6],
+    },
+    Case {
+        setup: &[Call::Insert(1, 1)],
+        pair: [Call::Exchange(1, 1, Some(2)), Call::Exchange(1, 1, Some(3))],
+        lengths: [9, 9],
+    },
+    Case {
+        setup: &[
+            Call::Insert(1, 1),
+            Call::Insert(2, 2),
+            Call::Insert(3, 3),
+            Call::Insert(4, 4),
+        ],
+        pair: [Call::Insert(5, 5), Call::Get(4)],
+        lengths: [13, 6],
+    },
+];
+
+fn key_of(call: Call<u64>) -> u64 {
+    match call {
+        Call::Get(key) => key,
+        Call::Insert(key, _) => key,
+        Call::Remove(key) => key,
+        Call::ComputePresent(key, _) => key,
+        Call::ComputeInsert(key, _) => key,
+        Call::Exchange(key, _, _) => key,
+    }
+}
+
+fn op_of(call: Call<u64>) -> Op<u64> {
+    match call {
+        Call::Get(key) => Op::Get(key),
+        Call::Insert(key, value) => Op::Insert(key, value),
+        Call::Remove(key) => Op::Remove(key),
+        Call::ComputePresent(key, _) => Op::ComputePresent(key),
+        Call::ComputeInsert(key, _) => Op::ComputeInsert(key),
+        Call::Exchange(key, old, new) => Op::Exchange(key, old, new),
+    }
+}
+
+/// The journal of a run, in the order in which its calls took effect.
+fn journal_of(
+    alloc: Global,
+    calls: &[Call<u64>],
+    turns: &[usize],
+    moves: Vec<Move<u64>>,
+) -> Result<Vec<Entry<u64>>, Fail> {
+    let mut order = Vec::new(alloc);
+    let mut replies = Vec::new(alloc);
+    for (who, step) in turns.iter().zip(moves) {
+        if step.decided {
+            order.push(*who)?;
+        }
+        if let Outcome::Done(reply) = step.outcome {
+            replies.push((*who, reply))?;
+        }
+    }
+    let mut journal = Vec::new(alloc);
+    for who in &order {
+        let reply = replies.iter().find(|(ended, _)| ended == who);
+        if let (Some(call), Some((_, reply))) = (calls.get(*who), reply) {
+            journal.push(Entry {
+                worker: 0,
+                call: *call,
+                reply: *reply,
+            })?;
+        }
+    }
+    Ok(journal)
+}
+
+/// The calls of a case: those that make the tree, the two, and those that look at their keys in the end.
+fn calls_of(alloc: Global, case: &Case) -> Result<Vec<Call<u64>>, Fail> {
+    let mut calls = Vec::new(alloc);
+    for call in case.setup {
+        calls.push(*call)?;
+    }
+    for call in case.pair {
+        calls.push(call)?;
+    }
+    for call in case.pair {
+        calls.push(Call::Get(key_of(call)))?;
+    }
+    Ok(calls)
+}
+
+/// Whose turn it is: the tree is made, the two calls begin and take turns by the bits of `mask`, then each ends.
+fn turns_of(
+    alloc: Global,
+    calls: usize,
+    first: usize,
+    mask: u32,
+    bits: u32,
+) -> Result<Vec<usize>, Fail> {
+    let mut turns = Vec::new(alloc);
+    let second = first.wrapping_add(1);
+    for who in 0..first {
+        for _ in 0..END {
+            turns.push(who)?;
+        }
+    }
+    turns.push(first)?;
+    turns.push(second)?;
+    let mut rest = mask;
+    for _ in 0..bits {
+        turns.push(if rest % 2 == 0 { first } else { second })?;
+        rest /= 2;
+    }
+    for who in first..calls {
+        for _ in 0..END {
+            turns.push(who)?;
+        }
+    }
+    Ok(turns)
+}
+
+/// Whether the calls of a case, interleaved by the bits of `mask`, answer as one map does in deciding order.
+fn is_one_map(alloc: Global, case: &Case, mask: u32, bits: u32) -> Result<bool, Fail> {
+    let calls = calls_of(alloc, case)?;
+    let turns = turns_of(alloc, calls.len(), case.setup.len(), mask, bits)?;
+    let mut ops = Vec::new(alloc);
+    for call in &calls {
+        ops.push(op_of(*call))?;
+    }
+    let mut steps = Vec::new(alloc);
+    for who in &turns {
+        steps.push(step_of(*who))?;
+    }
+    let ran = run(alloc, 10, ops, steps)?;
+    let at_rest = is_at_rest(&ran.store);
+    let journal = journal_of(alloc, &calls, &turns, ran.moves)?;
+    let verdict = check(alloc, &journal)?;
+    Ok(at_rest && journal.len() == calls.len() && verdict == Verdict::Legal)
+}
+
+#[test]
+fn every_interleaving_answers_as_one_map(rt: HostRuntime) -> Result<(), Fail> {
+    for case in &CASES {
+        let [first, second] = case.lengths;
+        let bits = u32::wrapping_add(first, second);
+        for mask in 0..1u32.wrapping_shl(bits) {
+            if mask.count_ones() == second {
+                assert!(rt; is_one_map(rt.alloc(), case, mask, bits)?);
+            }
+        }
+    }
     Ok(())
 }
