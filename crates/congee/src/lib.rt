@@ -36,6 +36,8 @@ mod phase;
 mod place;
 mod plain;
 mod plain_node;
+#[cfg(test)]
+mod play_tests;
 mod prefix;
 mod scan;
 mod sorted;
