@@ -95,15 +95,14 @@ pub spared_on : {V : Type 0} (t t' t'' : Forest V) → Spares t t' → Spares t'
 spared_on t t' t'' k l = record { cells = λ c live. l.cells c (ap (λ x. x.obsolete) (k.cells c live) ∙ live) ∙ k.cells c live }
 
 -- an obsolete node goes
-pub spared : {V : Type 0} (t t' t'' : Forest V) (at : ℕ) (f : Form) → is_obsolete t at ≡ true → t' ≡ emptied t at f → t'' ≡ record t' { free = t''.free } → Spares t t''
-spared t t' t'' at f o e r = record {
-  cells = λ c live. ap (λ w. cell_at w c) r ∙ (ap (λ w. cell_at w c) e
-      ∙ set_other t.cells at c _ unused (λ z. let y : true ≡ false = sym o ∙ (ap (is_obsolete t) (sym z) ∙ live) in absurd cc));
+pub spared : {V : Type 0} (t t' : Forest V) (at : ℕ) (f : Form) → is_obsolete t at ≡ true → t' ≡ emptied t at f → Spares t t'
+spared t t' at f o e = record {
+  cells = λ c live. ap (λ w. cell_at w c) e ∙ set_other t.cells at c _ unused (λ z. let y : true ≡ false = sym o ∙ (ap (is_obsolete t) (sym z) ∙ live) in absurd cc);
 }
 
 -- and no other cell changes
-pub beside : {V : Type 0} (t t' t'' : Forest V) (at : ℕ) (f : Form) → t' ≡ emptied t at f → t'' ≡ record t' { free = t''.free } → (c : ℕ) → c ≢ at → cell_at t'' c ≡ cell_at t c
-beside t t' t'' at f e r = λ c ne. ap (λ w. cell_at w c) r ∙ (ap (λ w. cell_at w c) e ∙ set_other t.cells at c _ unused ne)
+pub beside : {V : Type 0} (t t' : Forest V) (at : ℕ) (f : Form) → t' ≡ emptied t at f → (c : ℕ) → c ≢ at → cell_at t' c ≡ cell_at t c
+beside t t' at f e = λ c ne. ap (λ w. cell_at w c) e ∙ set_other t.cells at c _ unused ne
 
 -- a node becomes obsolete
 pub retires : {V : Type 0} (t t' : Forest V) (at : ℕ) (old x : Cell V) → at < length t.cells → old ≡ get_or t.cells at old → x.node ≡ old.node → t'.cells ≡ set t.cells at x → Retires t t' at

@@ -9,3 +9,4 @@ pub mod Plans
 pub mod Maps
 pub mod Standing
 pub mod Bags
+pub mod FreeList

@@ -70,6 +70,26 @@ spare t =
     if nat_lt c (length t.cells) && is_usable t.turn_max (cell_at t c) then Some c else None)
     else (if nat_lt (length t.cells) t.most then Some (length t.cells) else None)
 
+-- how often a cell stands in a list
+abbrev pub times : ℕ → List ℕ → ℕ
+times c free = sum_by (λ x. if x == c then 1 else 0) free
+
+-- a cell that had a node, and may have another
+abbrev pub is_open : {V : Type 0} → Forest V → ℕ → Bool
+is_open t c = nat_lt c (length t.cells) && is_usable t.turn_max (cell_at t c)
+
+-- a cell that never had a node, or may have another
+abbrev pub is_free : {V : Type 0} → Forest V → ℕ → Bool
+is_free t c = nat_lt c t.most && (if nat_lt c (length t.cells) then is_usable t.turn_max (cell_at t c) else true)
+
+abbrev pub taken : {V : Type 0} → ℕ → Cell V → ℕ
+taken turn_max c = if is_usable turn_max c then 0 else 1
+
+-- the list has each cell that may have another node once, and no other
+pub record Lists {V : Type 0} (t : Forest V) : Type 0 where
+  pub each : (c : ℕ) → times c t.free ≡ (if is_open t c then 1 else 0)
+  pub room : length t.free + sum_by (taken t.turn_max) t.cells ≡ length t.cells
+
 -- a node comes into a spare cell
 abbrev pub placed : {V : Type 0} → Forest V → ℕ → Body V → Forest V
 placed t c n =
@@ -252,9 +272,10 @@ pub record Swaps {V : Type 0} (t t' : Forest V) (key : List ℕ) (v : V) (c : �
 pub record Spares {V : Type 0} (t t' : Forest V) : Type 0 where
   pub cells : (c : ℕ) → is_obsolete t c ≡ false → cell_at t' c ≡ cell_at t c
 
--- an obsolete node of a form is taken out of its cell
+-- an obsolete node of a form is taken out of its cell, which is free again if it has a turn left
 abbrev pub emptied : {V : Type 0} → Forest V → ℕ → Form → Forest V
 emptied t c f = record t {
+  free = if nat_lt (cell_at t c).turn t.turn_max then t.free ++ c ∷ [] else t.free;
   cells = slice_set t.cells c (record (cell_at t c) { node = None; obsolete = false });
   waiting = t.waiting - 1;
   waiting_bytes = t.waiting_bytes - size_of f;

@@ -20,7 +20,7 @@ use Rattle.joint.specs.declared.participant.Sealed.{Sealed}
 use Rattle.joint.specs.Limits.{AreAllowed}
 use Rattle.joint.specs.Collector.{Clock, place, registered, pinned, pin_collects, unpinned, secured, flushed, advanced, blank, no_bag, IsRegistered}
 use Rattle.joint.specs.Refusals.{of_pin, of_guard}
-use Rattle.joint.specs.Forest.{Forest, heap, cell_at, value_at, sizes, plan, spare, Adds, Spares, Stands}
+use Rattle.joint.specs.Forest.{Forest, heap, cell_at, value_at, sizes, plan, is_free, Adds, Spares, Stands}
 use Rattle.joint.specs.declared.cell.Plan.{Plan}
 use Rattle.joint.specs.declared.cell.Plan.TheVariants.{Overwrite, Add, Link, Grow, Later}
 
@@ -159,15 +159,15 @@ Gets s who key r s' =
     ((r ≡ answered (Got (standing s key))) × (s' ≡ s))
     (λ e. Refuses s Tree e r s')
 
--- why no node of a size was made, in the order of the causes, by the charge, its limit and the cell for the node
-abbrev pub IsRefusedNode : ℕ → ℕ → ℕ → Option ℕ → Refusal → Type 0
-IsRefusedNode charge limit size at (Budget a b c) = (limit < charge + size) × (a ≡ charge) × (b ≡ size) × (c ≡ limit)
-IsRefusedNode charge limit size at Cells = (charge + size ≤ limit) × (at ≡ None)
-IsRefusedNode charge limit size at Memory = (charge + size ≤ limit) × (is_some at ≡ true)
-IsRefusedNode charge limit size at _ = ⊥
+-- why no node of a size was made, in the order of the causes, by the charge, its limit and the cells
+abbrev pub IsRefusedNode : ℕ → ℕ → ℕ → Forest ℕ → Refusal → Type 0
+IsRefusedNode charge limit size t (Budget a b c) = (limit < charge + size) × (a ≡ charge) × (b ≡ size) × (c ≡ limit)
+IsRefusedNode charge limit size t Cells = (charge + size ≤ limit) × ((c : ℕ) → is_free t c ≡ false)
+IsRefusedNode charge limit size t Memory = (charge + size ≤ limit) × ((c : ℕ) × (is_free t c ≡ true))
+IsRefusedNode charge limit size t _ = ⊥
 
 abbrev pub IsUnmade : State ℕ → ℕ → Refusal → Type 0
-IsUnmade s size e = IsRefusedNode s.charge s.limit size (spare s.tree) e
+IsUnmade s size e = IsRefusedNode s.charge s.limit size s.tree e
 
 abbrev pub of_plan : State ℕ → Plan → Refusal → Type 0
 of_plan s Link e = IsUnmade s 64 e

@@ -16,7 +16,7 @@ pub struct Cell<P> {
 }
 
 impl Cell<u64> {
-    ghost use Rattle.joint.specs.Forest.{is_usable, size, IsSame, CanChange, CanHang, HangsIn};
+    ghost use Rattle.joint.specs.Forest.{size, IsSame, CanChange, CanHang, HangsIn};
 
     /// The size of its node, in bytes.
     pub fn size(&self) -> u64
@@ -46,13 +46,6 @@ impl Cell<u64> {
         if let Some(node) = &mut self.node {
             let _ = node.insert(byte, child);
         }
-    }
-
-    /// Whether a node may come into it.
-    pub fn is_usable(&self, turn_max: u32) -> bool
-        ensures { result ≡ is_usable turn_max self.now }
-    {
-        self.node.is_none() && !self.obsolete && self.turn < turn_max
     }
 }
 

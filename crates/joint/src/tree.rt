@@ -6,7 +6,7 @@ ghost use Rattle.std.specs.Option.{option_copied};
 ghost use Rattle.std.specs.List.{sum_by};
 ghost use Rattle.joint.specs.Walk.{Body, walk, of_node, child_at};
 ghost use Rattle.joint.specs.Form.{size_of, capacity_of};
-ghost use Rattle.joint.specs.Forest.{Forest, heap, cell_at, is_obsolete, value_at, sizes, spare, placed, unused, IsEdited, ShapeOf, Comes, Takes};
+ghost use Rattle.joint.specs.Forest.{Forest, heap, cell_at, is_obsolete, value_at, sizes, spare, is_free, placed, unused, IsEdited, ShapeOf, Comes, Takes};
 ghost use Rattle.joint.specs.Forest.{IsFree, IsGrown, Retires, Spares, Swaps, emptied, size, plan, plan_at, plan_link, child_for, waits, waiting_size};
 
 use crate::cell::{Cell, Plan};
@@ -37,7 +37,7 @@ pub struct Tree<P> {
 
 impl<P> Model for Tree<P> {
     ghost use Rattle.std.specs.Prelude.{◌≤◌, vec_capacity};
-    ghost use Rattle.joint.specs.Forest.{Forest, Sound};
+    ghost use Rattle.joint.specs.Forest.{Forest, Sound, Lists};
 
     ghost Value = { Forest P };
 
@@ -50,7 +50,14 @@ impl<P> Model for Tree<P> {
       waiting_bytes = t.waiting_bytes;
     } };
 
-    ghost invariant = { λ t. (t.most ≤ vec_capacity t.cells) × Sound (record {
+    ghost invariant = { λ t. (t.most ≤ vec_capacity t.cells) × (t.most ≤ vec_capacity t.free) × Sound (record {
+      cells = t.cells.items;
+      free = t.free.items;
+      most = t.most;
+      turn_max = t.turn_max;
+      waiting = t.waiting;
+      waiting_bytes = t.waiting_bytes;
+    }) × Lists (record {
       cells = t.cells.items;
       free = t.free.items;
       most = t.most;
@@ -201,13 +208,12 @@ impl Tree<u64> {
 
     /// The free cell into which the next node comes.
     pub fn spare(&self) -> Option<u32>
-        ensures { result ≡ spare self.now }
+        ensures value { result ≡ spare self.now }
+        ensures free { IfSome result (λ c. is_free self.now c ≡ true) }
+        ensures none { result ≡ None → (c : ℕ) → is_free self.now c ≡ false }
     {
         match self.free.last() {
-            Some(at) => match self.cells.get(*at as usize) {
-                Some(cell) if cell.is_usable(self.turn_max) => Some(*at),
-                _ => None,
-            },
+            Some(at) => Some(*at),
             None if self.cells.len() < self.most as usize => Some(self.cells.len() as u32),
             None => None,
         }
@@ -313,7 +319,7 @@ impl Tree<u64> {
             return;
         }
         let cell = &mut self.cells[at as usize];
-        if cell.obsolete {
+        if cell.obsolete || cell.node.is_none() {
             return;
         }
         let size = cell.size();
@@ -332,26 +338,15 @@ impl Tree<u64> {
         match self.waiting_form(at) {
             Some(form) => {
                 self.empty(at, form);
-                self.reuse(at);
                 Some(form)
             }
             None => None,
         }
     }
 
-    /// Frees an empty cell for another node, unless it has had its last.
-    fn reuse(&mut self, at: u32)
-        requires { at < length self.old.cells }
-        ensures { self.new ≡ record self.old { free = self.new.free } }
-    {
-        if self.cells[at as usize].turn < self.turn_max {
-            let _ = self.free.push(at);
-        }
-    }
-
     /// The form of the node in the cell, if it is obsolete.
     fn waiting_form(&self, at: u32) -> Option<Form>
-        ensures { IfSome result (λ f. (at < length self.now.cells) × (is_obsolete self.now at ≡ true) × (size (cell_at self.now at) ≡ size_of f)) }
+        ensures { IfSome result (λ f. (at < length self.now.cells) × (is_obsolete self.now at ≡ true) × (is_some (heap self.now at) ≡ true) × (size (cell_at self.now at) ≡ size_of f)) }
     {
         let cell = self.cells.get(at as usize)?;
         if cell.obsolete {
@@ -361,10 +356,11 @@ impl Tree<u64> {
         }
     }
 
-    /// Takes the node of this form out of its cell.
+    /// Takes the node of this form out of its cell, which is free again if it has a turn left.
     fn empty(&mut self, at: u32, form: Form)
         requires cell { at < length self.old.cells }
         requires obsolete { is_obsolete self.old at ≡ true }
+        requires node { is_some (heap self.old at) ≡ true }
         requires size { size (cell_at self.old at) ≡ size_of form }
         ensures state { self.new ≡ emptied self.old at form }
         ensures waiting { self.new.waiting + 1 ≡ self.old.waiting }
@@ -373,7 +369,12 @@ impl Tree<u64> {
         let cell = &mut self.cells[at as usize];
         cell.node = None;
         cell.obsolete = false;
+        let again = cell.turn < self.turn_max;
         self.waiting -= 1;
         self.waiting_bytes -= form.size();
+        if !again {
+            return;
+        }
+        self.free.push_reserved(at);
     }
 }

@@ -3,7 +3,7 @@
 ghost use Rattle.std.specs.Prelude.{◌≡◌, ◌≢◌, ◌≤◌, ◌<◌, ◌+◌, ◌^◌, ℕ, MatchResult, IfOk, Some, None, true, false, length, OnErr, OnOk, IfErr, ◌⊎◌, []};
 ghost use Rattle.joint.specs.Form.{size_of};
 ghost use Rattle.std.specs.List.{sum_by};
-ghost use Rattle.joint.specs.Forest.{sizes, spare, value_at, heap, plan, waits, waiting_size, Takes, Comes, Spares, IsAsBefore, cell_at};
+ghost use Rattle.joint.specs.Forest.{sizes, spare, is_free, value_at, heap, plan, waits, waiting_size, Takes, Comes, Spares, IsAsBefore, cell_at};
 ghost use Rattle.joint.specs.Collector.{IsRegistered, place, advanced};
 ghost use Rattle.joint.specs.Machine.{State, Opens, Registers, charged_of, waiting_of, waiting_bytes_of, quiet, Calls, CallsBy, AsMap, Misses};
 ghost use Rattle.joint.specs.Machine.{Empties, Pins, Unpins, Flushes, Gets, Inserts, Collects, IsRestSame, IsUnmade, IsRefusedNode, of_plan};
@@ -375,9 +375,9 @@ fn spare_for<A: Allocator>(tree: &Tree<u64>, allocator: &mut A, form: Form) -> R
     ensures most { A.most allocator.new ≡ A.most allocator.old }
     ensures charge { MatchResult result (λ _. A.charge allocator.new ≡ A.charge allocator.old + size_of form)
         (λ _. A.charge allocator.new ≡ A.charge allocator.old) }
-    ensures spare { IfOk result (λ at. spare tree.now ≡ Some at) }
+    ensures spare { IfOk result (λ at. (spare tree.now ≡ Some at) × (is_free tree.now at ≡ true)) }
     ensures fits { OnOk result (A.charge allocator.old + size_of form ≤ A.most allocator.old) }
-    ensures cause { IfErr result (λ e. IsRefusedNode (A.charge allocator.old) (A.most allocator.old) (size_of form) (spare tree.now) e) }
+    ensures cause { IfErr result (λ e. IsRefusedNode (A.charge allocator.old) (A.most allocator.old) (size_of form) tree.now e) }
 {
     charge(allocator, form)?;
     match tree.spare() {
