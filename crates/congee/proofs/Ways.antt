@@ -1,5 +1,5 @@
 -- The way of a key through an arena.
-use Rattle.std.proofs.Common.{rules, ◌≡◌, ◌≢◌, ℕ, ◌<◌, ◌≤◌, ◌-◌, true, false, List, length, get_or, refl, sym, ◌∙◌, ap, subst, arith}
+use Rattle.std.proofs.Common.{rules, ◌≡◌, ◌≢◌, ℕ, ◌<◌, ◌≤◌, ◌+◌, ◌-◌, inl, inr, true, false, List, length, get_or, refl, sym, ◌∙◌, ap, subst, arith}
 use Rattle.std.specs.Prelude.{Option, Some, None, is_some, slice_index, cond, IsSome}
 use Rattle.slab.specs.Slab.{get, ContainsKey}
 use Rattle.congee.specs.Heap.{Hung, Below, Holds, Nothing, fits, child_for}
@@ -10,6 +10,8 @@ use Rattle.congee.specs.declared.base_node.Node.{Node as Form}
 use Rattle.congee.specs.OwnedSteps.{SameNodes}
 use Rattle.congee.specs.Arena.{Nodes, hung, node_of, heap_of, ledger_of, IsTree, OnWay, Hangs, Reached}
 use Rattle.congee.specs.declared.child.Child.{Child}
+use Rattle.std.proofs.lemmas.Bool.{cases_lt}
+use Rattle.congee.proofs.Fits.{fits_byte}
 
 module _ {P : Type 0} where
   -- what a node has for a key
@@ -63,6 +65,16 @@ module _ {P : Type 0} where
   pub falls : (s : Nodes P) → IsTree s → (key : List ℕ) (n c : ℕ) → ContainsKey s n → child_for (heap_of s n) key ≡ Below c
       → 8 - length (heap_of s c).prefix < 8 - length (heap_of s n).prefix
   falls s t key n c h e = let i = is_child s t n c key h e in omega (arith, i.longer, short_prefix s t c (below_stands s t n c key h e))
+
+  -- what a key and the node below have in common before the node's prefix is compared
+  pub same_below : (s : Nodes P) → IsTree s → (key : List ℕ) (n c : ℕ) → OnWay s key n → child_for (heap_of s n) key ≡ Below c
+      → (j : ℕ) → j < length (heap_of s n).prefix + 1 → get_or key j 0 ≡ get_or (heap_of s c).prefix j 0
+  same_below s t key n c w e j l =
+      let i = is_child s t n c key w.stands e in
+      elim (cases_lt j (length (heap_of s n).prefix)) [
+        | inl under ↦ fits_byte (heap_of s n).prefix key j w.fitted under ∙ sym (fits_byte (heap_of s n).prefix (heap_of s c).prefix j i.fitted under)
+        | inr from ↦ (let at : length (heap_of s n).prefix ≡ j = omega (arith, l, from) in subst (λ y. get_or key y 0 ≡ get_or (heap_of s c).prefix y 0) at (sym i.byte))
+      ]
 
   -- no blank hangs anywhere
   pub no_blank : (s : Nodes P) → IsTree s → (key : List ℕ) (n : ℕ) → ContainsKey s n → child_for (heap_of s n) key ≡ Below 0 → ⊥

@@ -1,5 +1,5 @@
 //! The nodes of an owned tree: the way of a key, and the changes of single nodes.
-ghost use Rattle.std.specs.Prelude.{◌≡◌, ◌+◌, ℕ, length, ◌<◌, ◌≤◌, Some, None, false, IsSome, IfOk, IfErr, OnOk, OnErr};
+ghost use Rattle.std.specs.Prelude.{◌≡◌, ◌+◌, ℕ, length, slice_index, ◌<◌, ◌≤◌, Some, None, false, IsSome, IfOk, IfErr, OnOk, OnErr};
 ghost use Rattle.std.specs.FinMap as map;
 ghost use Rattle.slab.specs.Slab.{Updates, SameValues, get, ContainsKey};
 ghost use Rattle.congee.specs.Heap.{fits};
@@ -21,12 +21,13 @@ pub trait Stored: Small {
     ghost fits: { FitsInMemory (the_row word Self.row) };
 }
 
-// Whether the prefix is the beginning of the key.
-pub(crate) fn has_prefix(key: &[u8; 8], prefix: &[u8]) -> bool
-    requires { length prefix.now ≤ 7 }
+// Whether the prefix is the beginning of the key. Its first `from` bytes are.
+pub(crate) fn has_prefix(key: &[u8; 8], prefix: &[u8], from: usize) -> bool
+    requires short { length prefix.now ≤ 7 }
+    requires same { (j : ℕ) → j < from → slice_index key.now j ≡ slice_index prefix.now j }
     ensures { result ≡ fits prefix.now key.now }
 {
-    for i in 0..prefix.len() {
+    for i in from..prefix.len() {
         if key[i] != prefix[i] {
             return false;
         }
@@ -54,8 +55,8 @@ impl<P: Stored, A: Allocator> Arena<P, A> {
         let mut at = 0usize;
         loop {
             let node = &self.nodes[at];
-            let byte = key[node.prefix().len()];
-            match node.get_child(byte) {
+            let depth = node.prefix().len();
+            match node.get_child(key[depth]) {
                 None => return Place {
                     above,
                     at,
@@ -69,7 +70,7 @@ impl<P: Stored, A: Allocator> Arena<P, A> {
                 },
                 Some(Child::Node(below)) => {
                     let below = *below;
-                    if !has_prefix(key, self.nodes[below].prefix()) {
+                    if !has_prefix(key, self.nodes[below].prefix(), depth + 1) {
                         return Place {
                             above,
                             at,

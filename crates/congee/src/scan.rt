@@ -96,7 +96,7 @@ impl<P: Stored, A: Allocator> Arena<P, A> {
         ensures deep { length path.new.items ≤ length (heap_of self.now.nodes result).prefix }
     {
         while let Some(&at) = path.as_slice().last() {
-            if has_prefix(key, self.nodes[at].prefix()) {
+            if has_prefix(key, self.nodes[at].prefix(), 0) {
                 return at;
             }
             path.pop();
@@ -115,13 +115,14 @@ impl<P: Stored, A: Allocator> Arena<P, A> {
         let mut at = self.resume(path, key);
         loop {
             let node = &self.nodes[at];
-            match node.get_child(key[node.prefix().len()]) {
+            let depth = node.prefix().len();
+            match node.get_child(key[depth]) {
                 None => return (at, Spot::Free),
                 Some(Child::Blank) => unreachable!(),
                 Some(Child::Value(_)) => return (at, Spot::Held),
                 Some(Child::Node(below)) => {
                     let below = *below;
-                    if !has_prefix(key, self.nodes[below].prefix()) {
+                    if !has_prefix(key, self.nodes[below].prefix(), depth + 1) {
                         return (at, Spot::Apart(below));
                     }
                     path.push(below);
