@@ -1,25 +1,24 @@
 -- A change of the nodes at one key, as a call on the map.
-use Rattle.std.proofs.Common.{◌≡◌, ◌≢◌, ℕ, ◌<◌, ◌≤◌, ◌^◌, Bool, true, false, cond, List, length, get_or, refl, sym, ap, subst, ◌∙◌, arith}
+use Rattle.std.proofs.Common.{◌≡◌, ◌≢◌, ℕ, ◌<◌, ◌^◌, Bool, true, false, List, length, refl, sym, ap, subst, ◌∙◌, arith}
 use Rattle.std.specs.Prelude.{Option, None, Some, Ok, Err, nat_eq}
 use Rattle.congee.proofs.Fits.{same_test, other_test}
 use Rattle.std.specs.FinMap as map
-use Rattle.slab.specs.Slab.{get, ContainsKey}
-use Rattle.judge.specs.Answer.{Pairs, answer, set_at}
+use Rattle.judge.specs.Answer.{Pairs, set_at}
 use Rattle.judge.specs.declared.journal.Call.TheVariants as call
 use Rattle.judge.specs.declared.journal.Reply.TheVariants as reply
 use Rattle.judge.proofs.Maps.{get-insert_here, get-insert_apart, get-remove_here, get-remove_apart}
 use Rattle.congee.specs.Heap.{Holds, Nothing, Below, fits, child_for, value_at}
-use Rattle.congee.specs.Keys.{key_bytes, Standing}
+use Rattle.congee.specs.Keys.{key_bytes}
 use Rattle.congee.specs.Arena.{Nodes, node_of, heap_of, IsTree, OnWay, Hangs}
 use Rattle.congee.specs.Changes.{MapChange}
-use Rattle.congee.specs.Owned.{Stands, Answered, SamePairs}
+use Rattle.congee.specs.Owned.{Stands, Answered}
 use Rattle.congee.specs.Place.{Located, EndsAt}
 use Rattle.congee.specs.OwnedSteps.{SameNodes, IsHeld, settled}
 use Rattle.congee.specs.declared.place.Place.{Place}
 use Rattle.congee.specs.declared.place.Spot.TheVariants.{Held, Free, Apart}
 use Rattle.congee.specs.declared.place.Spot.{Spot}
 use Rattle.congee.proofs.Moves.{held_seven}
-use Rattle.congee.proofs.Keys.{key_length, standing_changed}
+use Rattle.congee.proofs.Keys.{standing_changed}
 use Rattle.congee.proofs.Tree.{finds, misses}
 use Rattle.congee.proofs.Ways.{linked_of}
 

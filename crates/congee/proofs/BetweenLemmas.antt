@@ -1,5 +1,5 @@
 -- The pairs of a map within a range of bytes.
-use Rattle.std.proofs.Common.{◌≡◌, ◌≢◌, ℕ, zero, suc, ◌<◌, ◌≤◌, ◌+◌, ◌-◌, MatchOption, Bool, true, false, cond, ltb, eqb, ◌&&◌, T, List, [], ◌∷◌, Option, None, Some, IsSome, refl, inl, inr, sym, ap, ◌∙◌, subst, arith}
+use Rattle.std.proofs.Common.{◌≡◌, ◌≢◌, ℕ, suc, ◌<◌, ◌≤◌, ◌+◌, ◌-◌, MatchOption, Bool, true, false, ◌&&◌, T, List, [], ◌∷◌, Option, None, Some, IsSome, refl, inl, inr, sym, ap, ◌∙◌, subst, arith}
 use Rattle.std.proofs.lemmas.Bool.Decides.{nat_tests}
 use Rattle.std.proofs.lemmas.Bool.{cases_lt, cases_eq}
 use Rattle.std.specs.Ordering.{nat_cmp, is_lt}

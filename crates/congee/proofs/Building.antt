@@ -1,30 +1,26 @@
 -- What a call knows after it made a node.
-use Rattle.std.proofs.Common.{◌≡◌, ◌≢◌, ℕ, zero, suc, ◌+◌, ◌<◌, ◌≤◌, ◌==◌, inl, inr, Bool, true, false, cond, List, length, get_or, refl, sym, ◌∙◌, ap, subst, arith}
+use Rattle.std.proofs.Common.{◌≡◌, ◌≢◌, ℕ, suc, ◌<◌, Bool, true, false, List, get_or, refl, sym, ◌∙◌, ap, subst, arith}
 use Rattle.std.proofs.Math.Dec.{ltb}
 use Rattle.std.proofs.lemmas.Bool.Decides.{nat_tests}
 use Rattle.std.specs.Prelude.{Option, None, Some, Result, Ok, Err}
 use Rattle.congee.specs.declared.base_node.NodeType.{NodeType}
-use Rattle.congee.specs.declared.base_node.NodeType.TheVariants.{N4, N16, N48, N256}
+use Rattle.congee.specs.declared.base_node.NodeType.TheVariants.{N4}
 use Rattle.congee.specs.declared.store.Seat.{Seat}
 use Rattle.congee.specs.declared.store.Refusal.{Refusal}
 use Rattle.congee.specs.declared.phase.Kind.{Kind}
 use Rattle.congee.specs.declared.phase.Parent.{Parent}
 use Rattle.congee.specs.declared.phase.Site.{Site}
-use Rattle.congee.specs.declared.phase.Single.TheVariants.{Set, Link}
-use Rattle.congee.specs.declared.phase.Double.TheVariants.{Unlink, Grow, GrowLink, Split}
-use Rattle.congee.specs.declared.phase.Two.{Two}
-use Rattle.congee.specs.declared.phase.Plan.TheVariants.{Here, Above}
-use Rattle.congee.specs.declared.phase.Phase.{Phase}
+use Rattle.congee.specs.declared.phase.Single.TheVariants.{Link}
+use Rattle.congee.specs.declared.phase.Plan.TheVariants.{Above}
 use Rattle.congee.specs.declared.phase.Phase.TheVariants.{MakeLeaf, MakeGreater, MakeTop, MakeBeside}
 use Rattle.congee.specs.declared.turn.Turn.{Turn}
-use Rattle.congee.specs.Heap.{Node, Hung, Nothing, Below, child_for, value_at}
-use Rattle.congee.specs.Events.{NewNode, BackGives, Parts, places}
-use Rattle.congee.specs.Steps.{quiet, refused, adds, form_above, unless_full, ready, greater, MadeLeaf, MadeGreater, MadeTop, MadeBeside}
+use Rattle.congee.specs.Heap.{Node, Hung, Nothing}
+use Rattle.congee.specs.Events.{NewNode, Parts, places}
+use Rattle.congee.specs.Steps.{refused, form_above, greater, MadeLeaf, MadeGreater, MadeTop, MadeBeside}
 use Rattle.congee.specs.Keys.{key_bytes}
 use Rattle.congee.specs.Ledger.{Note, is_published, Tree, Words}
-use Rattle.congee.specs.Protocol.{Rely, Seated, Fresh, ChildOf, IsAbove, Sees, Knows, Made, TwoKnown, MadeLeafFor, PlanKnown, Known, Effect}
-use Rattle.congee.specs.Answers.{SameMap, Decides, Answers, AnswersIf}
-use Rattle.congee.proofs.Graft.{on_test}
+use Rattle.congee.specs.Protocol.{Seated, ChildOf, IsAbove, Sees, Knows, Made, MadeLeafFor, PlanKnown, Known, Effect}
+use Rattle.congee.specs.Answers.{SameMap, AnswersIf}
 use Rattle.congee.proofs.Rely.{knows_kept, child_kept, seated_kept, named_above_all}
 use Rattle.congee.proofs.Touch.{by_test}
 use Rattle.congee.proofs.Words.{Still, making, make_still}

@@ -1,12 +1,12 @@
 -- Children by byte: what stands at each place is what the map has there.
-use Rattle.std.proofs.Common.{◌≡◌, ℕ, zero, suc, ◌<◌, ◌≤◌, ◌+◌, eqb, cond, List, [], ◌∷◌, length, get_or, Option, None, Some, IsSome, refl, inl, inr, sym, ap, ◌∙◌, subst, arith}
+use Rattle.std.proofs.Common.{◌≡◌, ℕ, zero, suc, ◌<◌, ◌≤◌, ◌+◌, eqb, cond, List, [], ◌∷◌, length, get_or, Option, None, Some, IsSome, refl, inl, inr, sym, ◌∙◌, arith}
 use Rattle.std.proofs.lemmas.Bool.Decides.{nat_tests}
 use Rattle.std.proofs.lemmas.Bool.{cases_lt}
 use Rattle.std.proofs.lemmas.List.{get_or_past}
 use Rattle.std.specs.Ordering.{nat_cmp}
 use Rattle.std.specs.Cmp.{nat_cmp_total}
 use Rattle.std.specs.FinMap as map
-use Rattle.congee.specs.Places.{AllKeys, Rises, pair_of, index_somes, children_by}
+use Rattle.congee.specs.Places.{AllKeys, Rises, index_somes, children_by}
 use Rattle.congee.proofs.Entries.{find}
 use Rattle.congee.proofs.EntryLemmas.{find_below}
 use Rattle.congee.proofs.MapLemmas.{same_is, get_of, len_of}

@@ -1,5 +1,5 @@
 -- Pairs with their keys as bytes.
-use Rattle.std.proofs.Common.{◌≡◌, ℕ, zero, suc, ◌+◌, List, [], ◌∷◌, ◌++◌, append-nil, length, take, refl, sym, ap, ◌∙◌}
+use Rattle.std.proofs.Common.{◌≡◌, ℕ, zero, suc, List, [], ◌∷◌, ◌++◌, append-nil, length, take, refl, sym, ap, ◌∙◌}
 use Rattle.congee.specs.Keys.{key_bytes}
 use Rattle.congee.specs.Ranges.{by_bytes}
 

@@ -1,19 +1,18 @@
 -- The tree and its map after a change of the nodes of an arena.
-use Rattle.std.proofs.Common.{rules, ◌≡◌, ◌≢◌, ℕ, ◌<◌, ◌≤◌, Bool, true, false, List, length, get_or, refl, sym, ◌∙◌, ap, subst, arith, inl, inr}
+use Rattle.std.proofs.Common.{◌≡◌, ◌≢◌, ℕ, List, length, get_or, refl, sym, ◌∙◌, ap, subst, inl, inr}
 use Rattle.std.specs.Prelude.{Option, Some, None, is_some, cond}
-use Rattle.std.specs.FinMap as map
-use Rattle.slab.specs.Slab.{get, ContainsKey, Updates}
-use Rattle.congee.specs.Heap.{Node, Hung, Below, Holds, Nothing, fits, child_for, value_at}
+use Rattle.slab.specs.Slab.{get, Updates}
+use Rattle.congee.specs.Heap.{child_for}
 use Rattle.congee.specs.Ledger.{Linked, Gone, Note, Tree}
-use Rattle.congee.specs.Forms.{prefix_of, children_of}
+use Rattle.congee.specs.Forms.{prefix_of}
 use Rattle.congee.specs.Arena.{Nodes, hung, node_of, heap_of, ledger_of, IsTree, OnWay}
 use Rattle.congee.specs.Changes.{Differs, MapChange}
 use Rattle.congee.specs.declared.base_node.Node.{Node as Form}
 use Rattle.congee.specs.declared.child.Child.{Child}
-use Rattle.congee.specs.declared.child.Child.TheVariants.{Node as Sub, Value}
+use Rattle.congee.specs.declared.child.Child.TheVariants.{Value}
 use Rattle.congee.proofs.Tree.{same_or_not}
 use Rattle.congee.proofs.Puts.{Puts, put_child, put_tree, put_map}
-use Rattle.congee.proofs.Ways.{linked_of, stands_of}
+use Rattle.congee.proofs.Ways.{linked_of}
 
 module _ {P : Type 0} where
   abbrev pub child_of : Option P → Option (Child ℕ P)

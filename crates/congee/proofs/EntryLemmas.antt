@@ -1,5 +1,5 @@
 -- Rising lists of a byte and a child, and what `find`, `put` and `del` leave of them.
-use Rattle.std.proofs.Common.{◌≡◌, ℕ, zero, suc, ◌<◌, ◌≤◌, ◌+◌, ◌≢◌, eqb, ltb, cond, true, false, List, [], ◌∷◌, ◌++◌, length, Option, None, Some, IsSome, refl, sym, ap, ◌∙◌, subst, arith}
+use Rattle.std.proofs.Common.{◌≡◌, ℕ, ◌<◌, eqb, ltb, cond, true, false, List, [], ◌∷◌, None, Some, IsSome, refl, subst, arith}
 use Rattle.std.proofs.lemmas.Bool.Decides.{nat_tests}
 use Rattle.congee.specs.Places.{AllKeys, Rises}
 use Rattle.congee.proofs.Entries.{find, put, del}

@@ -1,5 +1,5 @@
 -- Whether a form is full.
-use Rattle.std.proofs.Common.{◌≡◌, ℕ, Bool, true, false, ◌==◌, refl}
+use Rattle.std.proofs.Common.{◌≡◌, ℕ, Bool, false, ◌==◌, refl}
 use Rattle.std.specs.FinMap as map
 use Rattle.congee.specs.Forms.{form_of, children_of, is_full_of}
 use Rattle.congee.specs.declared.base_node.Node.{Node}

@@ -1,5 +1,5 @@
 -- A full node gives way to a greater one that has one child more: a value, or a new leaf.
-use Rattle.std.proofs.Common.{◌≡◌, ◌≢◌, ℕ, ◌<◌, ◌≤◌, inl, inr, true, false, List, length, get_or, refl, sym, ◌∙◌, ap, subst, arith}
+use Rattle.std.proofs.Common.{◌≡◌, ◌≢◌, ℕ, ◌<◌, ◌≤◌, inl, inr, true, List, length, get_or, refl, sym, ◌∙◌, ap, subst, arith}
 use Rattle.std.specs.Prelude.{None, Some}
 use Rattle.congee.specs.Heap.{Nothing, Below, Holds, Node, fits, child_for, walk, value_at}
 use Rattle.congee.specs.Ledger.{Linked, Note, IsChild, HasParent, Tree}

@@ -1,18 +1,16 @@
 -- The tree and its map after a leaf or a fork comes in, or a leaf goes.
-use Rattle.std.proofs.Common.{rules, ◌≡◌, ◌≢◌, ℕ, ◌==◌, ◌<◌, ◌≤◌, Bool, true, false, List, length, take, get_or, refl, sym, ◌∙◌, ap, subst, arith, inl, inr, zero, suc}
-use Rattle.std.specs.Prelude.{Option, Some, None, is_some, cond}
+use Rattle.std.proofs.Common.{◌≡◌, ◌≢◌, ℕ, ◌==◌, ◌<◌, ◌≤◌, true, false, List, length, take, get_or, refl, sym, ◌∙◌, ap, subst, arith, inl, inr, zero, suc}
+use Rattle.std.specs.Prelude.{Some, None, is_some, cond}
 use Rattle.std.proofs.lemmas.List.{get_or-take, length-take-le}
 use Rattle.std.proofs.lemmas.Bool.{cases_lt}
-use Rattle.std.specs.FinMap as map
-use Rattle.slab.specs.Slab.{get, ContainsKey, Updates}
-use Rattle.congee.specs.Heap.{Node, Hung, Below, Holds, Nothing, fits, child_for, walk, value_at}
+use Rattle.slab.specs.Slab.{get, ContainsKey}
+use Rattle.congee.specs.Heap.{Node, Below, Nothing, fits, child_for, walk, value_at}
 use Rattle.congee.specs.Ledger.{Linked, Gone, Note, Tree, IsChild, HasParent}
-use Rattle.congee.specs.Forms.{prefix_of, children_of}
+use Rattle.congee.specs.Forms.{prefix_of}
 use Rattle.congee.specs.Arena.{Nodes, hung, node_of, heap_of, ledger_of, IsTree, OnWay, Hangs}
-use Rattle.congee.specs.Changes.{Differs, MapChange, IsLeafOf, AddsLeaf, AddsFork, DropsLeaf, Parts}
+use Rattle.congee.specs.Changes.{MapChange, IsLeafOf, AddsLeaf, AddsFork, DropsLeaf, Parts}
 use Rattle.congee.specs.declared.base_node.Node.{Node as Form}
-use Rattle.congee.specs.declared.child.Child.{Child}
-use Rattle.congee.proofs.Fits.{same_test, other_test, fits_byte, fits_trans}
+use Rattle.congee.proofs.Fits.{same_test, other_test, fits_byte}
 use Rattle.congee.proofs.Prefixes.{fits_every}
 use Rattle.congee.proofs.Tree.{same_or_not, step_same}
 use Rattle.congee.proofs.Link.{Leaf, Links, link_tree, link_map}

@@ -1,13 +1,10 @@
 -- The steps of a call that lock, mark, hand over and unlock.
-use Rattle.std.proofs.Common.{◌≡◌, ◌≢◌, ℕ, zero, suc, ◌+◌, ◌<◌, ◌≤◌, ◌==◌, ◌&&◌, inl, inr, not, Bool, true, false, cond, List, [], ◌∷◌, length, get_or, refl, sym, ◌∙◌, ap, subst, arith}
+use Rattle.std.proofs.Common.{◌≡◌, ◌≢◌, ℕ, suc, ◌==◌, ◌&&◌, not, Bool, true, false, cond, List, length, get_or, refl, sym, ap, subst, arith}
 use Rattle.std.specs.Prelude.{Option, None, Some}
 use Rattle.judge.specs.declared.journal.Reply.{Reply}
-use Rattle.congee.specs.declared.store.Seat.{Seat}
 use Rattle.congee.specs.declared.store.Refusal.{Refusal}
-use Rattle.congee.specs.declared.store.Upgrade.{Upgrade}
 use Rattle.congee.specs.declared.store.Upgrade.TheVariants.{Locked, Failed, Exhausted}
 use Rattle.congee.specs.declared.phase.Kind.{Kind}
-use Rattle.congee.specs.declared.phase.Parent.{Parent}
 use Rattle.congee.specs.declared.phase.Single.{Single}
 use Rattle.congee.specs.declared.phase.Single.TheVariants.{Set, Link}
 use Rattle.congee.specs.declared.phase.One.{One}
@@ -15,19 +12,17 @@ use Rattle.congee.specs.declared.phase.Double.{Double}
 use Rattle.congee.specs.declared.phase.Double.TheVariants.{Unlink, Grow, GrowLink, Split}
 use Rattle.congee.specs.declared.phase.Two.{Two}
 use Rattle.congee.specs.declared.phase.Phase.{Phase}
-use Rattle.congee.specs.declared.phase.Phase.TheVariants.{UpgradeOne, ChangeOne, UpgradeAbove, UpgradeBoth, ChangeTwo, Obsolete, Retire, UnlockBelow, Unlock, Unwind, Ended}
+use Rattle.congee.specs.declared.phase.Phase.TheVariants.{UpgradeOne, ChangeOne, UpgradeAbove, UpgradeBoth, ChangeTwo, Obsolete, Retire, UnlockBelow, Unlock, Unwind}
 use Rattle.congee.specs.declared.turn.Turn.{Turn}
-use Rattle.congee.specs.Heap.{Node, Hung, Below, fits, child_for, value_at, is_taken}
+use Rattle.congee.specs.Heap.{Node, Below, child_for, is_taken}
 use Rattle.congee.specs.Events.{SameBut, upgrade_gives, ObsoleteGives, RetireGives, UnlockGives}
-use Rattle.congee.specs.Steps.{quiet, again, finished, refused, unwound}
+use Rattle.congee.specs.Steps.{quiet, finished, unwound}
 use Rattle.congee.specs.Keys.{key_bytes}
-use Rattle.congee.specs.Ledger.{Note, Held, Linked, Gone, is_published, IsChild, Tree, Words}
-use Rattle.congee.specs.Protocol.{Rely, Seated, Fresh, ChildOf, Made, Holding, PlacedOne, WantedOne, MadeOne, OneKnown, OneLocked, PlacedTwo, WantedTwo, MadeTwo, TwoKnown, AboveLocked, HalfLocked, TwoLocked, TakenOut, HasGift, FitsOne, FitsTwo, Settles, Known, Effect}
-use Rattle.congee.specs.Answers.{SameMap}
+use Rattle.congee.specs.Ledger.{Note, Linked, Gone, is_published, IsChild, Tree, Words}
+use Rattle.congee.specs.Protocol.{Rely, Fresh, ChildOf, Made, PlacedOne, WantedOne, MadeOne, PlacedTwo, WantedTwo, MadeTwo, TwoKnown, HalfLocked, Known, Effect}
 use Rattle.congee.proofs.Fits.{both_true}
-use Rattle.congee.proofs.Tree.{same_or_not}
-use Rattle.congee.proofs.Rely.{fresh_kept, seated_kept}
-use Rattle.congee.proofs.Touch.{noted, noted_same, noted_other, own, owned, taken_linked}
+use Rattle.congee.proofs.Rely.{fresh_kept}
+use Rattle.congee.proofs.Touch.{noted_same, noted_other, own, owned, taken_linked}
 use Rattle.congee.proofs.Words.{Still, lock_still, unlock_still, obsolete_still, retire_still}
 use Rattle.congee.proofs.Change.{made_apart}
 use Rattle.congee.proofs.Sound.{Sound}

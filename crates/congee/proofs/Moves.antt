@@ -1,23 +1,21 @@
 -- What single changes of nodes make of the tree, one after another.
-use Rattle.std.proofs.Common.{rules, ◌≡◌, ◌≢◌, ℕ, ◌+◌, ◌<◌, ◌≤◌, Bool, true, false, List, length, take, get_or, refl, sym, ◌∙◌, ap, subst, arith, inl, inr}
-use Rattle.std.specs.Prelude.{Option, Some, None, is_some, IsSome, cond}
+use Rattle.std.proofs.Common.{rules, ◌≡◌, ◌≢◌, ℕ, ◌<◌, true, false, List, length, take, get_or, refl, sym, ◌∙◌, ap, subst}
+use Rattle.std.specs.Prelude.{Option, Some, None, is_some, IsSome}
 use Rattle.std.specs.Ordering.{nat_cmp}
 use Rattle.std.specs.FinMap as map
 use Rattle.std.specs.FinMap.{gets}
 use Rattle.std.specs.Cmp.{nat_cmp_total}
 use Rattle.slab.specs.Slab.{get, ContainsKey, Updates}
-use Rattle.congee.specs.Heap.{Node, Hung, Below, Holds, Nothing, fits, child_for, value_at}
-use Rattle.congee.specs.Ledger.{Linked, Gone, Note, Tree}
-use Rattle.congee.specs.Forms.{prefix_of, children_of, form_of, is_full_of, Becomes}
-use Rattle.congee.specs.Arena.{Nodes, hung, node_of, heap_of, ledger_of, IsTree, OnWay, Hangs}
+use Rattle.congee.specs.Heap.{Below, Holds, Nothing, fits, child_for}
+use Rattle.congee.specs.Forms.{prefix_of, children_of, is_full_of, Becomes}
+use Rattle.congee.specs.Arena.{Nodes, hung, node_of, heap_of, IsTree, OnWay, Hangs}
 use Rattle.congee.specs.Sizes.{bytes_of}
-use Rattle.congee.specs.Changes.{Differs, MapChange, IsLeafOf, AddsLeaf, AddsFork, DropsLeaf, Parts}
+use Rattle.congee.specs.Changes.{Differs, MapChange, AddsLeaf, AddsFork, DropsLeaf, Parts}
 use Rattle.congee.specs.OwnedSteps.{Sets, Makes, Grows, Fresh, Fills, Forks, IsHeld}
 use Rattle.congee.specs.declared.base_node.Node.{Node as Form}
 use Rattle.congee.specs.declared.base_node.NodeType.TheVariants.{N4}
 use Rattle.congee.specs.declared.child.Child.{Child}
 use Rattle.congee.specs.declared.child.Child.TheVariants.{Blank, Node as Sub, Value}
-use Rattle.congee.proofs.Tree.{same_or_not}
 use Rattle.congee.proofs.Puts.{put_child}
 use Rattle.congee.proofs.Ways.{linked_of, above_apart}
 use Rattle.congee.proofs.Sizes.{sets_bytes}

@@ -1,5 +1,5 @@
 -- Where an element of a slice lies.
-use Rattle.std.proofs.Common.{◌≡◌, ℕ, zero, suc, ◌<◌, ◌≤◌, ◌+◌, ◌*◌, ◌^◌, Fits, w64, arith}
+use Rattle.std.proofs.Common.{ℕ, zero, suc, ◌<◌, ◌≤◌, ◌*◌, ◌^◌, Fits, w64, arith}
 
 mul_le : (p n s : ℕ) → p ≤ n → p * s ≤ n * s
 mul_le zero n s l = omega arith

@@ -1,17 +1,16 @@
 -- A node whose prefix differs from the key gets one above it: what the change leaves, and the map after it.
-use Rattle.std.proofs.Common.{◌≡◌, ◌≢◌, ℕ, zero, suc, ◌+◌, ◌<◌, ◌≤◌, ◌==◌, ◌&&◌, inl, inr, Bool, true, false, List, [], ◌∷◌, length, get_or, refl, sym, ◌∙◌, ap, subst, arith}
-use Rattle.std.specs.Prelude.{Option, None, Some}
-use Rattle.congee.specs.Heap.{Node, Hung, Nothing, Below, Holds, fits, child_for, value_at}
+use Rattle.std.proofs.Common.{◌≡◌, ◌≢◌, ℕ, suc, ◌<◌, ◌≤◌, ◌==◌, inl, inr, true, false, List, [], ◌∷◌, length, get_or, refl, sym, ◌∙◌, ap, subst, arith}
+use Rattle.std.specs.Prelude.{None, Some}
+use Rattle.congee.specs.Heap.{Node, Below, Holds, fits, child_for, value_at}
 use Rattle.congee.specs.Events.{ChangeGives, Parts}
-use Rattle.congee.specs.Ledger.{Note, Status, Held, Linked, Gone, is_published, IsChild, Tree, WordAt, Words}
-use Rattle.congee.specs.Protocol.{Made, Holding, Effect}
-use Rattle.congee.proofs.Fits.{both_true, both, same_test, fits_byte}
+use Rattle.congee.specs.Ledger.{Note, Held, Linked, is_published, IsChild, Tree, Words}
+use Rattle.congee.specs.Protocol.{Made, Holding}
+use Rattle.congee.proofs.Fits.{both_true, both, fits_byte}
 use Rattle.congee.proofs.Tree.{same_or_not}
 use Rattle.congee.proofs.Graft.{on_test}
-use Rattle.congee.proofs.Link.{Leaf}
 use Rattle.congee.proofs.Split.{Splits, split_tree, split_map}
 use Rattle.congee.proofs.Touch.{noted, noted_same, noted_other, Touched, as_it_was, moved, effect, but_one}
-use Rattle.congee.proofs.Change.{Changed, Under, under_touch, under_change, Live, live_made, live_changed, live_same, joined, joined_touch, leaf_filled, leaf_same, made_apart}
+use Rattle.congee.proofs.Change.{Changed, under_touch, under_change, live_made, live_changed, live_same, joined, joined_touch, leaf_filled, leaf_same, made_apart}
 
 -- a prefix that begins another one of the key's bytes as far as they are alike
 pub fits_alike : (p q key : List ℕ) → fits p key ≡ true → length p ≤ length q → ((i : ℕ) → i < length p → get_or q i 0 ≡ get_or key i 0) → fits p q ≡ true

@@ -1,11 +1,11 @@
 -- Keys that pass by a node's children, and the pairs from a number on.
-use Rattle.std.proofs.Common.{◌≡◌, ◌≢◌, ℕ, ◌<◌, ◌≤◌, ◌+◌, ◌^◌, true, false, List, length, get_or, inl, inr, refl, sym, ap, ◌∙◌, subst, arith}
+use Rattle.std.proofs.Common.{◌≡◌, ℕ, ◌<◌, ◌≤◌, ◌+◌, ◌^◌, true, false, List, length, get_or, inl, inr, refl, sym, ap, ◌∙◌, subst, arith}
 use Rattle.std.specs.Prelude.{Option, None, Some, MatchOption}
 use Rattle.std.proofs.lemmas.Bool.{cases_lt}
 use Rattle.std.specs.FinMap as map
 use Rattle.slab.specs.Slab.{get}
 use Rattle.congee.specs.Heap.{Below, Nothing, fits, child_for, value_at}
-use Rattle.congee.specs.Keys.{key_bytes, Standing}
+use Rattle.congee.specs.Keys.{key_bytes}
 use Rattle.congee.specs.Arena.{Nodes, hung, heap_of, IsTree, OnWay}
 use Rattle.congee.specs.Gaps.{Near, Gap}
 use Rattle.congee.specs.Bytes.{IsFirst}

@@ -1,12 +1,11 @@
 -- Changes of single nodes of a plain list.
-use Rattle.std.proofs.Common.{◌≡◌, ◌≢◌, ℕ, zero, suc, ◌<◌, ◌≤◌, ◌+◌, ◌==◌, ◌&&◌, not, Bool, true, false, List, [], ◌∷◌, ◌++◌, length, get_or, set, take, drop, refl, sym, ◌∙◌, ap, subst, arith, rules, inl, inr, cond, ◌↔◌}
-use Rattle.std.specs.Prelude.{Option, None, Some, slice_get, slice_index}
+use Rattle.std.proofs.Common.{◌≡◌, ◌≢◌, ℕ, zero, suc, ◌<◌, ◌≤◌, ◌==◌, Bool, true, false, List, [], ◌∷◌, ◌++◌, length, get_or, set, take, drop, refl, sym, ◌∙◌, ap, arith}
+use Rattle.std.specs.Prelude.{None, Some, slice_index}
 use Rattle.std.proofs.Math.Seq.{take-append_seam}
 use Rattle.std.proofs.lemmas.List.{length-set, length-take-le, get_or-take}
 use Rattle.congee.specs.declared.child.Child.{Child}
-use Rattle.congee.specs.declared.child.Child.TheVariants.{Blank}
 use Rattle.congee.specs.declared.plain_node.PlainNode.{PlainNode}
-use Rattle.congee.specs.Heap.{Node, Hung, Nothing, Below, is_taken}
+use Rattle.congee.specs.Heap.{Node, is_taken}
 use Rattle.congee.specs.declared.base_node.NodeType.{NodeType}
 use Rattle.congee.specs.declared.base_node.NodeType.TheVariants.{N4, N16, N48, N256}
 use Rattle.congee.specs.declared.store.Seen.{Seen}

@@ -1,12 +1,11 @@
 -- The places of a plain node.
-use Rattle.std.proofs.Common.{◌≡◌, ◌≢◌, ℕ, zero, suc, ◌<◌, ◌≤◌, ◌+◌, ◌==◌, Bool, true, false, List, [], ◌∷◌, ◌++◌, length, get_or, set, take, drop, refl, sym, ◌∙◌, ap, subst, arith, rules, inl, inr, cond, ◌↔◌}
-use Rattle.std.specs.Prelude.{count_by, sum_by}
+use Rattle.std.proofs.Common.{◌≡◌, ◌≢◌, ℕ, zero, suc, ◌<◌, ◌≤◌, ◌+◌, List, [], ◌∷◌, ◌++◌, length, get_or, set, take, drop, refl, ◌∙◌, ap, subst, arith, inl, inr, cond, ◌↔◌}
 use Rattle.std.proofs.lemmas.List.Sums.{sum_by_push, sum_by-cons, sum_by-set, count_by-le-length}
 use Rattle.std.proofs.Math.Seq.{take-append_seam}
 use Rattle.std.proofs.lemmas.Bool.{cases_lt}
 use Rattle.congee.specs.declared.child.Child.{Child}
 use Rattle.congee.specs.declared.child.Child.TheVariants.{Blank, Node, Value}
-use Rattle.congee.specs.Heap.{Hung, Nothing, Below, Holds}
+use Rattle.congee.specs.Heap.{Nothing, Below}
 use Rattle.congee.specs.Events.{hung, weight}
 use Rattle.congee.specs.Plain.{is_there, count_of, child_at, NamesStay}
 

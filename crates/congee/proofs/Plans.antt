@@ -1,39 +1,30 @@
 -- Where a check that succeeded leads: an absent key, a value, the closure's answer.
-use Rattle.std.proofs.Common.{◌≡◌, ◌≢◌, ℕ, zero, suc, ◌+◌, ◌<◌, ◌≤◌, ◌==◌, ◌⊎◌, inl, inr, not, Bool, true, false, cond, List, [], ◌∷◌, length, get_or, refl, sym, ◌∙◌, ap, subst, arith}
-use Rattle.std.specs.Prelude.{Option, None, Some, Ok, Err}
+use Rattle.std.proofs.Common.{◌≡◌, ◌≢◌, ℕ, ◌<◌, ◌≤◌, ◌==◌, inl, inr, Bool, true, false, List, refl, sym, ◌∙◌, subst, arith}
+use Rattle.std.specs.Prelude.{Option, None, Some}
 use Rattle.judge.specs.declared.journal.Call.TheVariants as call
 use Rattle.judge.specs.declared.journal.Reply.{Reply}
 use Rattle.judge.specs.declared.journal.Reply.TheVariants as reply
-use Rattle.congee.specs.declared.child.Child.{Child}
-use Rattle.congee.specs.declared.child.Child.TheVariants as child
-use Rattle.congee.specs.declared.store.Seat.{Seat}
-use Rattle.congee.specs.declared.store.Refusal.TheVariants as refusal
 use Rattle.congee.specs.declared.phase.Kind.{Kind}
 use Rattle.congee.specs.declared.phase.Kind.TheVariants.{Get, Insert, Remove, ComputePresent, ComputeInsert, Exchange}
 use Rattle.congee.specs.declared.phase.Parent.{Parent}
 use Rattle.congee.specs.declared.phase.Site.{Site}
 use Rattle.congee.specs.declared.phase.Single.{Single}
 use Rattle.congee.specs.declared.phase.Single.TheVariants.{Set, Link}
-use Rattle.congee.specs.declared.phase.One.{One}
 use Rattle.congee.specs.declared.phase.Double.{Double}
 use Rattle.congee.specs.declared.phase.Double.TheVariants.{Unlink, Grow, GrowLink, Split}
-use Rattle.congee.specs.declared.phase.Two.{Two}
 use Rattle.congee.specs.declared.phase.Plan.{Plan}
 use Rattle.congee.specs.declared.phase.Plan.TheVariants.{Here, Above}
-use Rattle.congee.specs.declared.phase.Phase.{Phase}
-use Rattle.congee.specs.declared.phase.Phase.TheVariants.{CheckOld, MakeLeaf, MakeGreater, AskOld, AskNew, Confirm, CheckAbove, UpgradeOne, UpgradeAbove, Ended}
 use Rattle.congee.specs.declared.turn.Turn.{Turn}
-use Rattle.congee.specs.Heap.{Node, Hung, Nothing, Below, Holds, fits, child_for, of_child, walk, value_at, is_taken}
-use Rattle.congee.specs.Events.{hung}
-use Rattle.congee.specs.Steps.{quiet, answered, asking, refused, adds, asks_new, absent_reply, seat_above, started, ready, plan_here, unless_full, missing, absent, Uncounted, IsAsked, replaced, taken_out, emptied, is_same, IsAtOld, IsAdded, IsExchanged, IsCompared, IsPresent, IsChecked, IsGiven, IsGivenNew}
+use Rattle.congee.specs.Heap.{Node, Nothing, Holds, is_taken}
+use Rattle.congee.specs.Steps.{adds, absent_reply, seat_above, started, ready, plan_here, unless_full, missing, absent, IsAsked, replaced, taken_out, emptied}
 use Rattle.congee.specs.Keys.{key_bytes}
-use Rattle.congee.specs.Ledger.{Note, Linked, is_published, IsChild, Tree, Words}
-use Rattle.congee.specs.Protocol.{Seated, Fresh, ChildOf, IsAbove, Sees, Knows, Made, PlacedOne, WantedOne, MadeOne, IsLeafAt, FitsOne, OneKnown, PlacedTwo, WantedTwo, MadeTwo, FitsTwo, TwoKnown, HasGift, Asking, Adding, SeatedIf, PlanKnown, MadeLeafFor, Settles, Confirmed, Known}
-use Rattle.congee.specs.Answers.{SameMap, Answers, AnswersIf}
+use Rattle.congee.specs.Ledger.{Note, Tree, Words}
+use Rattle.congee.specs.Protocol.{IsAbove, Sees, Knows, WantedOne, MadeOne, IsLeafAt, FitsOne, OneKnown, FitsTwo, HasGift, Asking, Adding, SeatedIf, PlanKnown, MadeLeafFor, Settles, Known}
+use Rattle.congee.specs.Answers.{AnswersIf}
 use Rattle.congee.proofs.Fits.{equal, same_test}
 use Rattle.congee.proofs.Touch.{by_test, taken_linked}
 use Rattle.congee.proofs.Graft.{on_test}
-use Rattle.congee.proofs.Sound.{Sound, fresh_map, settle_absent, goes_on, answers_now, stands_at, down_sound}
+use Rattle.congee.proofs.Sound.{Sound, fresh_map, settle_absent, answers_now, stands_at}
 
 fits_one_new : {C V : Type 0} (change : Single C) (v : V) → FitsOne change Nothing (Some v)
 fits_one_new Set v = tt

@@ -1,12 +1,11 @@
 -- A value comes into a leaf, leaves it, or gives place to another.
-use Rattle.std.proofs.Common.{◌≡◌, ◌≢◌, ℕ, inl, inr, true, false, List, length, get_or, refl, sym, ◌∙◌, ap, subst, arith}
+use Rattle.std.proofs.Common.{◌≡◌, ◌≢◌, ℕ, inl, inr, true, List, length, get_or, refl, sym, ◌∙◌, subst, arith}
 use Rattle.std.specs.Prelude.{Option, None, Some}
 use Rattle.congee.specs.Heap.{Node, Hung, Nothing, Below, Holds, fits, child_for, value_at}
 use Rattle.congee.specs.Ledger.{Linked, Note, Tree}
 use Rattle.congee.proofs.Fits.{same_key}
 use Rattle.congee.proofs.Tree.{same_or_not, finds}
 use Rattle.congee.proofs.Graft.{Graft, old_down, old_up, old_leaves, untouched, on_test}
-use Rattle.congee.proofs.Link.{child_moved}
 
 abbrev pub put_child : {V : Type 0} → Option V → Hung V
 put_child None = Nothing

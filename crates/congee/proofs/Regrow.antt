@@ -1,17 +1,15 @@
 -- A full node gives way to a greater one: what the change of the node above leaves, and the map after it.
-use Rattle.std.proofs.Common.{◌≡◌, ◌≢◌, ℕ, ◌+◌, ◌<◌, ◌≤◌, ◌==◌, ◌&&◌, ◌⊎◌, inl, inr, Bool, true, false, cond, List, [], ◌∷◌, length, get_or, refl, sym, ◌∙◌, ap, subst, arith}
-use Rattle.std.specs.Prelude.{Option, None, Some}
-use Rattle.congee.specs.Heap.{Node, Hung, Nothing, Below, Holds, fits, child_for, value_at}
-use Rattle.congee.specs.Events.{ChangeGives, TakeOverGives}
-use Rattle.congee.specs.Ledger.{Note, Status, Held, Linked, Gone, is_published, IsChild, Tree, WordAt, Words}
-use Rattle.congee.specs.Protocol.{Made, Holding, TakenOut, Effect}
+use Rattle.std.proofs.Common.{◌≡◌, ◌≢◌, ℕ, ◌==◌, ◌&&◌, inl, inr, true, false, cond, List, length, get_or, refl, sym, ◌∙◌, ap, subst, arith}
+use Rattle.std.specs.Prelude.{None, Some}
+use Rattle.congee.specs.Heap.{Node, Nothing, Below, fits, child_for, value_at}
+use Rattle.congee.specs.Ledger.{Note, Linked, Gone, is_published, IsChild, Tree, Words}
+use Rattle.congee.specs.Protocol.{Made, Holding, TakenOut}
 use Rattle.congee.proofs.Fits.{both_true, both, equal, same_test}
 use Rattle.congee.proofs.Tree.{same_or_not}
 use Rattle.congee.proofs.Graft.{on_test}
-use Rattle.congee.proofs.Link.{Leaf}
-use Rattle.congee.proofs.Grow.{Grows, Extra, a_value, a_leaf, grow_tree, grow_map}
+use Rattle.congee.proofs.Grow.{Grows, Extra, grow_tree, grow_map}
 use Rattle.congee.proofs.Touch.{by_test, Touched, as_it_was, moved, effect}
-use Rattle.congee.proofs.Change.{Changed, Under, under_touch, under_change, Live, live_made, live_changed, live_same, joined, joined_touch, leaf_filled, leaf_same, made_apart}
+use Rattle.congee.proofs.Change.{Changed, Under, under_touch, Live, joined, joined_touch, made_apart}
 
 -- the ledger after it: m is gone, c stands in its place, d below c, and the children of m are those of c
 abbrev pub out_note : ℕ → ℕ → Note

@@ -1,5 +1,5 @@
 -- What a call may count on over the steps of others, and that its knowledge is kept by them.
-use Rattle.std.proofs.Common.{◌≡◌, ◌≢◌, ℕ, ◌<◌, ◌≤◌, Bool, true, false, List, length, refl, sym, ◌∙◌, ap, subst, inl, inr, arith}
+use Rattle.std.proofs.Common.{◌≡◌, ℕ, Bool, true, List, length, refl, sym, ◌∙◌, ap, subst, arith}
 use Rattle.std.specs.Prelude.{Option, None, Some}
 use Rattle.congee.specs.declared.phase.Parent.{Parent}
 use Rattle.congee.specs.declared.phase.Site.{Site}
@@ -17,8 +17,8 @@ use Rattle.congee.specs.declared.phase.Phase.TheVariants.{New, Version, Read, Ch
 use Rattle.congee.specs.declared.store.Seat.{Seat}
 use Rattle.congee.specs.Heap.{Node, Hung, fits, is_taken}
 use Rattle.congee.specs.Events.{hung, Parts}
-use Rattle.congee.specs.Ledger.{Note, Status, Held, is_published}
-use Rattle.congee.specs.Protocol.{Seated, Fresh, ChildOf, IsAbove, Sees, Knows, Made, Holding, PlacedOne, WantedOne, MadeOne, OneKnown, OneLocked, PlacedTwo, WantedTwo, MadeTwo, TwoKnown, AboveLocked, HalfLocked, TwoLocked, TakenOut, SeatedIf, PlanKnown, MadeLeafFor, Confirmed, Known, Rely, Named, NamedAbove, NamedIf, NamedPlan}
+use Rattle.congee.specs.Ledger.{Note, Held, is_published}
+use Rattle.congee.specs.Protocol.{Seated, Fresh, ChildOf, IsAbove, Knows, Made, Holding, PlacedOne, WantedOne, MadeOne, OneKnown, OneLocked, PlacedTwo, WantedTwo, MadeTwo, TwoKnown, AboveLocked, HalfLocked, TwoLocked, TakenOut, SeatedIf, PlanKnown, MadeLeafFor, Known, Rely, Named, NamedAbove, NamedIf, NamedPlan}
 
 pub rely_still : {V : Type 0} (K : ℕ → Type 0) (i : ℕ) (a : ℕ → Note) (h : ℕ → Node V) → Rely K i a h a h
 rely_still K i a h = record {

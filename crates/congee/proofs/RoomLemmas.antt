@@ -1,11 +1,10 @@
 -- The room that nodes take: what stands in a box fits in memory.
 use Rattle.std.proofs.Common.{ℕ, zero, suc, ◌≤◌, ◌<◌, ◌+◌, ◌*◌, ◌-◌, ◌%◌, ◌^◌, [], arith}
 use Rattle.std.proofs.Math.Nat.{max-le}
-use Rattle.std.specs.Mem.{FitsInMemory}
-use mir.Syntax.{Ty, Tys, Tyss, Sym, w8, w16, w64, ty_int, ty_ptr, ty_unit, ty_array, ty_struct, ty_enum, tnil, tcons, ttnil, ttcons}
+use mir.Syntax.{Ty, Tys, Tyss, w8, w16, w64, ty_int, ty_ptr, ty_unit, ty_array, ty_struct, ty_enum, tnil, tcons, ttnil, ttcons}
 use denote.Param.{layout}
 use denote.RattleType.{RattleType}
-use prog.Memory.{size, align, aligns, alignss, end_of, endss, up, pad}
+use prog.Memory.{size, align, aligns, alignss, end_of, endss, up}
 use Rattle.congee.specs.Room.{IsSmall}
 
 mod_le : (a k : ℕ) → a % k ≤ a

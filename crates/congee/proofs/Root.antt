@@ -1,9 +1,9 @@
 -- A root alone is a tree without pairs.
-use Rattle.std.proofs.Common.{◌≡◌, ◌≢◌, ℕ, ◌+◌, ◌≤◌, inl, inr, List, [], length, refl, sym, ap, ◌∙◌, subst, arith}
-use Rattle.std.specs.Prelude.{Option, None, Some, is_some, cond}
+use Rattle.std.proofs.Common.{◌≡◌, ℕ, ◌≤◌, inl, inr, List, [], length, refl, sym, ap, ◌∙◌, subst, arith}
+use Rattle.std.specs.Prelude.{None, Some}
 use Rattle.std.specs.FinMap as map
 use Rattle.slab.specs.Slab.{get, Updates}
-use Rattle.congee.specs.Heap.{Hung, Nothing, Below, Holds, value_at}
+use Rattle.congee.specs.Heap.{Nothing, Below, Holds, value_at}
 use Rattle.congee.specs.Ledger.{Linked, Gone}
 use Rattle.congee.specs.Forms.{form_of, prefix_of, children_of, size_of}
 use Rattle.congee.specs.Sizes.{bytes_of, bytes_at}

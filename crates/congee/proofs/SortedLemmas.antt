@@ -1,13 +1,12 @@
 -- Children in the order of their bytes, and what stands where.
-use Rattle.std.proofs.Common.{◌≡◌, ℕ, zero, suc, ◌+◌, ◌<◌, ◌≤◌, List, [], ◌∷◌, ◌++◌, length, get_or, take, drop, refl, arith, rules, sym, ap, Option, None, Some, IsSome, subst, ◌∙◌, Bool, true, false}
+use Rattle.std.proofs.Common.{◌≡◌, ℕ, zero, suc, ◌<◌, ◌≤◌, List, [], ◌∷◌, ◌++◌, length, get_or, take, drop, refl, arith, sym, None, Some, IsSome, subst, ◌∙◌, true, false}
 use Rattle.std.specs.List.{insert, remove, refill}
-use Rattle.std.proofs.Common.{cond, eqb, ltb}
+use Rattle.std.proofs.Common.{cond, eqb}
 use Rattle.std.proofs.Math.ListN.{set}
 use Rattle.std.proofs.lemmas.Bool.Decides.{nat_tests}
 use Rattle.std.proofs.lemmas.List.{length-set}
 use Rattle.std.proofs.Math.Seq.{take-append_seam}
 use Rattle.std.proofs.lemmas.List.Edits.{length-insert, length-remove}
-use Rattle.std.specs.Ordering.{nat_cmp}
 use Rattle.std.specs.FinMap as map
 use Rattle.congee.specs.Bytes.{IsFirst}
 use Rattle.congee.specs.Places.{pairs, AllKeys, Rises, IsSorted, sorted_map}

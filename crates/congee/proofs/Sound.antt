@@ -1,12 +1,9 @@
 -- Each step of a call answers as the map, and leaves the call what its next phase says that it knows: the steps
 -- that change no node.
-use Rattle.std.proofs.Common.{◌≡◌, ◌≢◌, ℕ, zero, suc, ◌+◌, ◌<◌, ◌≤◌, ◌==◌, ◌⊎◌, inl, inr, not, Bool, true, false, cond, List, [], ◌∷◌, length, get_or, refl, sym, ◌∙◌, ap, subst, arith}
-use Rattle.std.specs.Prelude.{Option, None, Some, Ok, Err}
+use Rattle.std.proofs.Common.{◌≡◌, ℕ, Bool, true, false, cond, refl, sym, ap, subst, arith}
+use Rattle.std.specs.Prelude.{Option, None, Some}
 use Rattle.judge.specs.declared.journal.Call.TheVariants as call
 use Rattle.judge.specs.declared.journal.Reply.{Reply}
-use Rattle.judge.specs.declared.journal.Reply.TheVariants as reply
-use Rattle.congee.specs.declared.child.Child.{Child}
-use Rattle.congee.specs.declared.child.Child.TheVariants as child
 use Rattle.congee.specs.declared.store.Reading.{Reading}
 use Rattle.congee.specs.declared.store.Reading.TheVariants.{Differs, Fits, Uncopied}
 use Rattle.congee.specs.declared.store.Seat.{Seat}
@@ -15,18 +12,18 @@ use Rattle.congee.specs.declared.phase.Kind.TheVariants.{Get, Insert, Remove, Co
 use Rattle.congee.specs.declared.phase.Parent.{Parent}
 use Rattle.congee.specs.declared.phase.Site.{Site}
 use Rattle.congee.specs.declared.phase.Phase.{Phase}
-use Rattle.congee.specs.declared.phase.Phase.TheVariants.{New, Version, Read, Check, CheckUncopied, CheckMiss, CheckDown, Confirm, Ended}
+use Rattle.congee.specs.declared.phase.Phase.TheVariants.{Version, Read, CheckUncopied, CheckMiss, CheckDown}
 use Rattle.congee.specs.declared.turn.Turn.{Turn}
-use Rattle.congee.specs.Heap.{Node, Hung, Nothing, Below, Holds, fits, child_for, of_child, walk, value_at, is_taken, is_free}
+use Rattle.congee.specs.Heap.{Node, Hung, Below, fits, child_for, of_child, walk, value_at, is_taken}
 use Rattle.congee.specs.Events.{hung, Parts, ReadGives, SeenTruly}
 use Rattle.congee.specs.Steps.{quiet, again, answered, adds, absent_reply, after_version, after_read, down}
 use Rattle.congee.specs.Keys.{key_bytes}
-use Rattle.congee.specs.Ledger.{Note, Linked, is_published, IsChild, Tree, Words}
-use Rattle.congee.specs.Protocol.{Seated, Fresh, ChildOf, IsAbove, Sees, Knows, HasGift, Settles, Confirmed, Known, Effect}
-use Rattle.congee.specs.Answers.{SameMap, Decides, Answers}
+use Rattle.congee.specs.Ledger.{Note, Linked, is_published, Tree, Words}
+use Rattle.congee.specs.Protocol.{Seated, Fresh, ChildOf, IsAbove, Knows, HasGift, Settles, Known, Effect}
+use Rattle.congee.specs.Answers.{Answers}
 use Rattle.congee.proofs.Tree.{finds, misses}
 use Rattle.congee.proofs.Parting.{parts_differ}
-use Rattle.congee.proofs.Touch.{taken_linked, taken_free, as_it_was, effect}
+use Rattle.congee.proofs.Touch.{taken_linked, as_it_was, effect}
 
 -- what a turn leaves the call
 pub record Sound {C V : Type 0} (number : C → ℕ) (same : V → V → Bool) (always : Bool) (i k : ℕ) (kind : Kind V) (given : Option V) (h : ℕ → Node V)

@@ -1,5 +1,5 @@
 -- Every step of a call keeps the tree, what the call and the others know, and answers as the map.
-use Rattle.std.proofs.Common.{◌≡◌, ◌≢◌, ℕ, ◌==◌, inl, inr, Bool, true, false, cond, List, refl, sym, ◌∙◌, ap, subst}
+use Rattle.std.proofs.Common.{◌≡◌, ℕ, Bool, true, false, refl, sym, ap, subst}
 use Rattle.std.specs.Prelude.{Option, None, Some}
 use Rattle.judge.specs.declared.journal.Reply.{Reply}
 use Rattle.congee.specs.declared.store.Refusal.{Refusal}
@@ -12,9 +12,9 @@ use Rattle.congee.specs.declared.phase.Two.{Two}
 use Rattle.congee.specs.declared.phase.Phase.{Phase}
 use Rattle.congee.specs.declared.phase.Phase.TheVariants.{New, Version, Read, Check, CheckUncopied, CheckMiss, CheckDown, CheckOld, MakeLeaf, MakeGreater, MakeTop, MakeBeside, AskOld, AskNew, Confirm, CheckAbove, UpgradeOne, ChangeOne, UpgradeAbove, UpgradeBoth, ChangeTwo, Obsolete, Retire, UnlockBelow, Unlock, Unwind, Ended}
 use Rattle.congee.specs.declared.turn.Turn.{Turn}
-use Rattle.congee.specs.Heap.{Node, Hung, Nothing, Holds, child_for, is_taken, is_free}
+use Rattle.congee.specs.Heap.{Node, Nothing, Holds, child_for, is_taken, is_free}
 use Rattle.congee.specs.Events.{upgrade_gives}
-use Rattle.congee.specs.Steps.{quiet, again, answered, refused, adds, absent_reply, after_miss, IsIf, UpgradedOne, UpgradedAbove, UpgradedBoth, PhaseStepped, Stepped}
+use Rattle.congee.specs.Steps.{quiet, again, refused, adds, absent_reply, UpgradedOne, UpgradedAbove, UpgradedBoth, PhaseStepped, Stepped}
 use Rattle.congee.specs.Keys.{key_bytes}
 use Rattle.congee.specs.Ledger.{Note, is_published, Tree, Words}
 use Rattle.congee.specs.declared.machine.Machine.{Machine}
@@ -23,7 +23,6 @@ use Rattle.congee.specs.Answers.{KeepsProtocol}
 use Rattle.congee.specs.Protocol.{HasGift, Holding, Known}
 use Rattle.congee.proofs.Graft.{on_test}
 use Rattle.congee.proofs.Touch.{by_test}
-use Rattle.congee.proofs.Words.{Still}
 use Rattle.congee.proofs.Sound.{Sound, same_effect, settle_absent, goes_on, begins_anew, answers_now, version_sound, read_sound, stands_at, miss_value}
 use Rattle.congee.proofs.Plans.{turn_at}
 use Rattle.congee.proofs.Values.{at_old_sound, checked_sound, given_sound, given_new_sound}

@@ -1,8 +1,8 @@
 -- The finite map that stands in the nodes.
-use Rattle.std.proofs.Common.{◌≡◌, ◌≢◌, ℕ, List, zero, suc, ◌<◌, ◌≤◌, ◌^◌, inl, inr, refl, sym, ap, subst, ◌∙◌, arith}
+use Rattle.std.proofs.Common.{◌≡◌, ◌≢◌, ℕ, List, zero, suc, ◌<◌, ◌≤◌, ◌^◌, inl, inr, refl, sym, subst, ◌∙◌, arith}
 use Rattle.std.specs.Prelude.{Option, None, Some}
 use Rattle.std.specs.Ordering.{nat_cmp}
-use Rattle.std.specs.FinMap.{FinMap, get, get-empty, empty, insert, remove}
+use Rattle.std.specs.FinMap.{FinMap, get, get-empty, empty}
 use Rattle.judge.proofs.Maps.{get-insert_here, get-insert_apart}
 use Rattle.congee.specs.Heap.{value_at}
 use Rattle.congee.specs.Keys.{key_bytes, Standing}

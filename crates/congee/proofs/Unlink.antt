@@ -1,5 +1,5 @@
 -- A leaf with one value goes out of the tree.
-use Rattle.std.proofs.Common.{◌≡◌, ◌≢◌, ℕ, inl, inr, true, false, List, length, get_or, refl, sym, ◌∙◌, ap, subst, arith}
+use Rattle.std.proofs.Common.{◌≡◌, ◌≢◌, ℕ, inl, inr, true, List, length, get_or, refl, sym, ◌∙◌, ap, subst, arith}
 use Rattle.std.specs.Prelude.{None, Some}
 use Rattle.congee.specs.Heap.{Nothing, Below, Holds, Node, fits, child_for, value_at}
 use Rattle.congee.specs.Ledger.{Linked, Note, IsChild, HasParent, Tree}

@@ -1,8 +1,7 @@
 -- A call stands at a value, or takes the closure's answer.
-use Rattle.std.proofs.Common.{◌≡◌, ◌≢◌, ℕ, ◌==◌, ◌⊎◌, inl, inr, Bool, true, false, cond, List, refl, sym, ◌∙◌, ap, subst, arith}
-use Rattle.std.specs.Prelude.{Option, None, Some, Ok, Err}
+use Rattle.std.proofs.Common.{◌≡◌, ℕ, inl, inr, Bool, true, refl, sym, subst}
+use Rattle.std.specs.Prelude.{Option, None, Some}
 use Rattle.judge.specs.declared.journal.Call.TheVariants as call
-use Rattle.judge.specs.declared.journal.Reply.{Reply}
 use Rattle.judge.specs.declared.journal.Reply.TheVariants as reply
 use Rattle.congee.specs.declared.child.Child.{Child}
 use Rattle.congee.specs.declared.child.Child.TheVariants as child
@@ -12,12 +11,12 @@ use Rattle.congee.specs.declared.phase.Parent.{Parent}
 use Rattle.congee.specs.declared.phase.Site.{Site}
 use Rattle.congee.specs.declared.phase.Plan.{Plan}
 use Rattle.congee.specs.declared.turn.Turn.{Turn}
-use Rattle.congee.specs.Heap.{Node, Hung, Nothing, Below, Holds, is_taken}
+use Rattle.congee.specs.Heap.{Node, Holds, is_taken}
 use Rattle.congee.specs.Events.{hung}
-use Rattle.congee.specs.Steps.{quiet, answered, asking, adds, started, Uncounted, IsAsked, replaced, emptied, is_same, IsAtOld, IsAdded, IsExchanged, IsCompared, IsPresent, IsChecked, IsGiven, IsGivenNew}
+use Rattle.congee.specs.Steps.{adds, IsAsked, replaced, is_same, IsAtOld, IsAdded, IsExchanged, IsCompared, IsPresent, IsChecked, IsGiven, IsGivenNew}
 use Rattle.congee.specs.Keys.{key_bytes}
 use Rattle.congee.specs.Ledger.{Note, Tree, Words}
-use Rattle.congee.specs.Protocol.{IsAbove, Sees, Knows, HasGift, Asking, PlanKnown, Settles, Known}
+use Rattle.congee.specs.Protocol.{IsAbove, Sees, Knows, HasGift, Asking, PlanKnown}
 use Rattle.congee.proofs.Graft.{on_test}
 use Rattle.congee.proofs.Sound.{Sound, fresh_map, answers_now, stands_at, down_sound}
 use Rattle.congee.proofs.Plans.{turn_at, absent_sound, at_leaf, replaced_sound, emptied_sound, asked_sound, started_sound}

@@ -1,8 +1,7 @@
 -- What the store wants of the nodes that a call's next step names, the call knows.
-use Rattle.std.proofs.Common.{◌≡◌, ◌≢◌, ℕ, ◌<◌, ◌≤◌, ◌==◌, Bool, true, false, List, length, refl, sym, ◌∙◌, ap, subst, arith}
+use Rattle.std.proofs.Common.{◌≡◌, ◌≢◌, ℕ, ◌==◌, Bool, true, false, length, refl, sym, ◌∙◌, ap, subst, arith}
 use Rattle.std.specs.Prelude.{Option, None, Some, slice_index}
 use Rattle.congee.specs.declared.phase.Kind.{Kind}
-use Rattle.congee.specs.declared.phase.Parent.{Parent}
 use Rattle.congee.specs.declared.phase.Site.{Site}
 use Rattle.congee.specs.declared.phase.Single.{Single}
 use Rattle.congee.specs.declared.phase.Single.TheVariants.{Set, Link}
@@ -12,7 +11,7 @@ use Rattle.congee.specs.declared.phase.Double.TheVariants.{Unlink, Grow, GrowLin
 use Rattle.congee.specs.declared.phase.Two.{Two}
 use Rattle.congee.specs.declared.phase.Phase.{Phase}
 use Rattle.congee.specs.declared.phase.Phase.TheVariants.{New, Version, Read, Check, CheckUncopied, CheckMiss, CheckDown, CheckOld, MakeLeaf, MakeGreater, MakeTop, MakeBeside, AskOld, AskNew, Confirm, CheckAbove, UpgradeOne, ChangeOne, UpgradeAbove, UpgradeBoth, ChangeTwo, Obsolete, Retire, UnlockBelow, Unlock, Unwind, Ended}
-use Rattle.congee.specs.Heap.{Node, Hung, Nothing, Below, Holds, Stands, child_for}
+use Rattle.congee.specs.Heap.{Node, Hung, Nothing, Below, Stands, child_for}
 use Rattle.congee.specs.Events.{MayChange, Parts}
 use Rattle.congee.specs.Steps.{value_hung, MayBackOne, MayBackTwo, MayBackLeaf, Changeable, Blank, MayChangeOne, MayChangeTwo, MayStep}
 use Rattle.congee.specs.Keys.{key_bytes}

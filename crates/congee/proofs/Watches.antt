@@ -18,7 +18,7 @@ use Rattle.congee.specs.Steps.{quiet, answered, finished, decided, PhaseStepped}
 use Rattle.congee.specs.Keys.{key_bytes, Standing}
 use Rattle.congee.specs.Ledger.{Note}
 use Rattle.congee.specs.Protocol.{IsCall, Known}
-use Rattle.congee.specs.Answers.{Decides, Answers, reply_in, told}
+use Rattle.congee.specs.Answers.{Decides, Answers, reply_in}
 use Rattle.congee.specs.Play.{Question, Unasked, Asked, Replied, Flight, Pending, Decided, Over, heard, resolved, Heeds, Watched, PendingMoves, heeding, flight_in}
 use Rattle.congee.proofs.Graft.{on_test}
 use Rattle.congee.proofs.Keys.{standing_same, standing_changed}

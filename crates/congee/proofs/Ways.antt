@@ -1,9 +1,9 @@
 -- The way of a key through an arena.
-use Rattle.std.proofs.Common.{rules, ◌≡◌, ◌≢◌, ℕ, ◌<◌, ◌≤◌, ◌+◌, ◌-◌, inl, inr, true, false, List, length, get_or, refl, sym, ◌∙◌, ap, subst, arith}
-use Rattle.std.specs.Prelude.{Option, Some, None, is_some, slice_index, cond, IsSome}
+use Rattle.std.proofs.Common.{rules, ◌≡◌, ◌≢◌, ℕ, ◌<◌, ◌≤◌, ◌+◌, ◌-◌, inl, inr, true, List, length, get_or, refl, sym, ◌∙◌, ap, subst, arith}
+use Rattle.std.specs.Prelude.{Option, Some, None, is_some, cond, IsSome}
 use Rattle.slab.specs.Slab.{get, ContainsKey}
-use Rattle.congee.specs.Heap.{Hung, Below, Holds, Nothing, fits, child_for}
-use Rattle.congee.specs.Ledger.{Linked, Gone, Note, Tree, IsChild}
+use Rattle.congee.specs.Heap.{Below, fits, child_for}
+use Rattle.congee.specs.Ledger.{Linked, Gone, IsChild}
 use Rattle.std.specs.FinMap as map
 use Rattle.congee.specs.Forms.{prefix_of, children_of}
 use Rattle.congee.specs.declared.base_node.Node.{Node as Form}

@@ -1,10 +1,10 @@
 -- The nodes of an owned tree, which stand in a slab, as a tree.
-use Rattle.std.specs.Prelude.{◌≡◌, ◌≢◌, ℕ, Bool, true, false, List, [], length, Option, None, Some, is_some, cond}
+use Rattle.std.specs.Prelude.{◌≡◌, ◌≢◌, ℕ, true, false, List, [], Option, None, Some, is_some, cond}
 use Rattle.std.specs.FinMap as map
 use Rattle.slab.specs.Slab.{Slab, get, ContainsKey}
-use Rattle.congee.specs.Heap.{Node, Hung, Nothing, Below, Holds, fits, child_for, value_at}
-use Rattle.congee.specs.Ledger.{Status, Linked, Gone, Note, Tree}
-use Rattle.congee.specs.Forms.{prefix_of, children_of, form_of, size_of, capacity_of}
+use Rattle.congee.specs.Heap.{Node, Hung, Nothing, Below, Holds, fits, child_for}
+use Rattle.congee.specs.Ledger.{Linked, Gone, Note, Tree}
+use Rattle.congee.specs.Forms.{prefix_of, children_of, form_of, capacity_of}
 use Rattle.congee.specs.declared.base_node.Node.{Node as Form}
 use Rattle.congee.specs.declared.child.Child.{Child}
 use Rattle.congee.specs.declared.child.Child.TheVariants.{Blank, Node as Sub, Value}

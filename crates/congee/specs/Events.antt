@@ -1,5 +1,5 @@
 -- What each of the store's calls does to the nodes.
-use Rattle.std.specs.Prelude.{◌≡◌, ◌≢◌, ℕ, ◌+◌, ◌==◌, ◌&&◌, ◌<◌, ◌≤◌, not, Bool, true, false, List, length, slice_index, Option, None, Some, Result, Ok, Err, cond, ◌↔◌}
+use Rattle.std.specs.Prelude.{◌≡◌, ◌≢◌, ℕ, ◌+◌, ◌==◌, ◌&&◌, ◌<◌, ◌≤◌, not, Bool, true, false, List, length, slice_index, Result, Ok, Err, cond, ◌↔◌}
 use Rattle.congee.specs.declared.child.Child.{Child}
 use Rattle.congee.specs.declared.child.Child.TheVariants as child
 use Rattle.congee.specs.declared.store.Reading.{Reading}
@@ -10,7 +10,7 @@ use Rattle.congee.specs.declared.store.Upgrade.TheVariants.{Locked, Failed, Exha
 use Rattle.congee.specs.declared.base_node.NodeType.{NodeType}
 use Rattle.congee.specs.declared.base_node.NodeType.TheVariants.{N4, N16, N48, N256}
 use Rattle.congee.specs.declared.store.Refusal.{Refusal}
-use Rattle.congee.specs.Heap.{Node, Hung, Nothing, Below, Holds, Stands, fits, child_for, is_taken}
+use Rattle.congee.specs.Heap.{Node, Hung, Nothing, Below, Holds, fits, child_for, is_taken}
 
 -- what hangs at a byte, with nodes by their numbers
 abbrev pub hung : {C V : Type 0} → (C → ℕ) → Child C V → Hung V

@@ -1,5 +1,5 @@
 -- A tree as it begins: a root alone.
-use Rattle.std.specs.Prelude.{◌≡◌, ◌≢◌, ℕ, false, List, []}
+use Rattle.std.specs.Prelude.{◌≡◌, ℕ, false, []}
 use Rattle.congee.specs.Heap.{Node, Nothing, Stands}
 
 -- the root stands, empty, unlocked, with 256 places, and no other node was ever made

@@ -1,5 +1,5 @@
 -- What a call on an owned tree answers.
-use Rattle.std.specs.Prelude.{◌≡◌, ℕ, Bool}
+use Rattle.std.specs.Prelude.{◌≡◌, Bool}
 use Rattle.judge.specs.Answer.{Pairs, answer}
 use Rattle.judge.specs.declared.journal.Call.{Call}
 use Rattle.judge.specs.declared.journal.Reply.{Reply}

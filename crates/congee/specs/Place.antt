@@ -1,7 +1,7 @@
 -- Where a key's way through the tree ends.
 use Rattle.std.specs.Prelude.{◌≡◌, ℕ, ◌<◌, false, List, length, slice_index}
 use Rattle.slab.specs.Slab.{ContainsKey}
-use Rattle.congee.specs.Heap.{Hung, Nothing, Below, Holds, fits, child_for}
+use Rattle.congee.specs.Heap.{Nothing, Below, Holds, fits, child_for}
 use Rattle.congee.specs.Arena.{Nodes, heap_of, Reached}
 use Rattle.congee.specs.declared.place.Place.{Place}
 use Rattle.congee.specs.declared.place.Spot.{Spot}

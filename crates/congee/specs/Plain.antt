@@ -1,5 +1,5 @@
 -- What hangs in the places of a plain node.
-use Rattle.std.specs.Prelude.{◌≡◌, ℕ, List, length, count_by, Bool, true, false, ◌↔◌, get_or}
+use Rattle.std.specs.Prelude.{◌≡◌, ℕ, List, count_by, Bool, true, false, ◌↔◌, get_or}
 use Rattle.congee.specs.declared.child.Child.{Child}
 use Rattle.congee.specs.declared.child.Child.TheVariants.{Blank, Node, Value}
 use Rattle.congee.specs.Heap.{Hung, Below}

@@ -1,5 +1,5 @@
 -- A plain list of nodes as the nodes of a tree.
-use Rattle.std.specs.Prelude.{◌≡◌, ℕ, ◌==◌, Bool, true, false, List, [], take, Option, None, Some, slice_get}
+use Rattle.std.specs.Prelude.{◌≡◌, ℕ, ◌==◌, true, false, List, [], Option, None, Some, slice_get}
 use Rattle.congee.specs.Heap.{Node, Nothing}
 use Rattle.congee.specs.Events.{hung}
 use Rattle.congee.specs.declared.store.Seen.{Seen}

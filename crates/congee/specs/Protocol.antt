@@ -4,7 +4,6 @@ use Rattle.judge.specs.declared.journal.Call.{Call}
 use Rattle.judge.specs.declared.journal.Call.TheVariants as call
 use Rattle.judge.specs.declared.journal.Reply.{Reply}
 use Rattle.judge.proofs.Maps.{leaves, reply_on}
-use Rattle.congee.specs.declared.child.Child.TheVariants as child
 use Rattle.congee.specs.declared.store.Seat.{Seat}
 use Rattle.congee.specs.declared.phase.Kind.{Kind}
 use Rattle.congee.specs.declared.phase.Kind.TheVariants.{Get, Insert, Remove, ComputePresent, ComputeInsert, Exchange}

@@ -1,5 +1,5 @@
 -- One step of a call on what the store answers: the next phase, and what the step reports.
-use Rattle.std.specs.Prelude.{◌≡◌, ◌≢◌, ℕ, ◌+◌, ◌==◌, ◌<◌, ◌≤◌, ◌⊎◌, Bool, true, false, List, length, slice_index, Option, None, Some, Result, Ok, Err, cond, MatchOption}
+use Rattle.std.specs.Prelude.{◌≡◌, ◌≢◌, ℕ, ◌==◌, ◌<◌, ◌≤◌, ◌⊎◌, Bool, true, false, List, slice_index, Option, None, Some, Result, Ok, Err, cond}
 use Rattle.std.proofs.Math.Dec.{ltb}
 use Rattle.judge.specs.declared.journal.Reply.{Reply}
 use Rattle.judge.specs.declared.journal.Reply.TheVariants as reply
@@ -10,7 +10,6 @@ use Rattle.congee.specs.declared.child.Child.TheVariants as child
 use Rattle.congee.specs.declared.store.Reading.{Reading}
 use Rattle.congee.specs.declared.store.Reading.TheVariants.{Differs, Fits, Uncopied}
 use Rattle.congee.specs.declared.store.Seat.{Seat}
-use Rattle.congee.specs.declared.store.Seen.{Seen}
 use Rattle.congee.specs.declared.store.Upgrade.{Upgrade}
 use Rattle.congee.specs.declared.store.Upgrade.TheVariants.{Locked, Failed, Exhausted}
 use Rattle.congee.specs.declared.store.Refusal.{Refusal}
@@ -29,13 +28,12 @@ use Rattle.congee.specs.declared.phase.Plan.{Plan}
 use Rattle.congee.specs.declared.phase.Plan.TheVariants.{Here, Above}
 use Rattle.congee.specs.declared.phase.Phase.{Phase}
 use Rattle.congee.specs.declared.phase.Phase.TheVariants.{New, Version, Read, Check, CheckUncopied, CheckMiss, CheckDown, CheckOld, MakeLeaf, MakeGreater, MakeTop, MakeBeside, AskOld, AskNew, Confirm, CheckAbove, UpgradeOne, ChangeOne, UpgradeAbove, UpgradeBoth, ChangeTwo, Obsolete, Retire, UnlockBelow, Unlock, Unwind, Ended}
-use Rattle.congee.specs.declared.machine.Outcome.{Outcome}
 use Rattle.congee.specs.declared.machine.Outcome.TheVariants.{Running, Asks, Done, Refused}
 use Rattle.congee.specs.declared.machine.Move.{Move}
 use Rattle.congee.specs.declared.turn.Turn.{Turn}
 use Rattle.congee.specs.declared.machine.Machine.{Machine}
-use Rattle.congee.specs.Heap.{Node, Hung, Nothing, Below, Holds, Stands, fits, child_for, version_of, is_taken}
-use Rattle.congee.specs.Events.{ReadGives, SameBut, upgrade_gives, Locks, UpgradeGives, MakeGives, MayChange, ChangeGives, TakesOver, TakeOverGives, BackGives, ObsoleteGives, RetireGives, UnlockGives}
+use Rattle.congee.specs.Heap.{Node, Hung, Nothing, Below, Holds, Stands, version_of, is_taken}
+use Rattle.congee.specs.Events.{ReadGives, SameBut, upgrade_gives, MakeGives, MayChange, ChangeGives, TakeOverGives, BackGives, ObsoleteGives, RetireGives, UnlockGives}
 use Rattle.congee.specs.Keys.{key_bytes}
 
 -- what a step leaves: it goes on, begins anew, answers in this step, ends with an answer given before, is refused,

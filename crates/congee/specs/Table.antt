@@ -1,5 +1,5 @@
 -- A finite map from what a function gives for each number below a bound.
-use Rattle.std.specs.Prelude.{◌≡◌, ℕ, zero, suc, ◌^◌, Option, None, Some}
+use Rattle.std.specs.Prelude.{ℕ, zero, suc, ◌^◌, Option, None, Some}
 use Rattle.std.specs.Ordering.{nat_cmp}
 use Rattle.std.specs.FinMap.{FinMap, empty, insert}
 use Rattle.congee.specs.Heap.{value_at}

@@ -1,4 +1,4 @@
-use Rattle.std.proofs.Common.{◌≡◌, sym, arith}
+use Rattle.std.proofs.Common.{sym, arith}
 use Rattle.congee.proofs.Prefixes.{fits_every, fits_not}
 use Rattle.congee.proofs.arena.has_prefix.Goals as goal
 

@@ -1,4 +1,4 @@
-use Rattle.std.proofs.Common.{ℕ, ◌≡◌, ◌<◌, ◌≤◌, ◌-◌, get_or, length}
+use Rattle.std.proofs.Common.{ℕ, ◌≡◌, ◌<◌, ◌-◌, get_or, length}
 use Rattle.congee.proofs.edit.first_apart.Given as goal
 
 abbrev pub invariant-loop-common : goal.invariant-loop-common

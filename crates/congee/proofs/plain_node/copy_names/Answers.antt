@@ -1,4 +1,4 @@
-use Rattle.std.proofs.Common.{◌≡◌, length, sym, ◌∙◌, arith}
+use Rattle.std.proofs.Common.{sym, ◌∙◌, arith}
 use Rattle.congee.proofs.PlainLemmas.{names_go, names_end}
 use Rattle.congee.proofs.plain_node.copy_names.Goals as goal
 

@@ -1,4 +1,4 @@
-use Rattle.std.proofs.Common.{ℕ, ◌≡◌, ◌≤◌, take}
+use Rattle.std.proofs.Common.{◌≡◌, ◌≤◌, take}
 use Rattle.congee.specs.Plain.{count_of}
 use Rattle.congee.proofs.plain_node.count.Given as goal
 

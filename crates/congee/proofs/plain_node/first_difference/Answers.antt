@@ -1,5 +1,5 @@
-use Rattle.std.proofs.Common.{◌≡◌, sym, arith}
-use Rattle.congee.proofs.Prefixes.{fits_every, fits_not}
+use Rattle.std.proofs.Common.{sym, arith}
+use Rattle.congee.proofs.Prefixes.{fits_every}
 use Rattle.congee.proofs.plain_node.first_difference.Goals as goal
 
 pub returns-then-key-i : goal.returns-then-key-i

@@ -1,4 +1,3 @@
-use Rattle.std.proofs.Common.{rules, ◌≡◌, ◌^◌, ℕ, ◌<◌, ◌≤◌, Some, None, arith}
 use Rattle.congee.proofs.Gaps.{past_of}
 use Rattle.congee.proofs.scan.past.Goals as goal
 

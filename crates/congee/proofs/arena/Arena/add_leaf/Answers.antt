@@ -1,7 +1,7 @@
-use Rattle.std.proofs.Common.{rules, ◌≡◌, ◌+◌, ◌≤◌, length, Some, arith, ap, take, ◌∙◌}
+use Rattle.std.proofs.Common.{rules, ◌≡◌, length, arith, ap, ◌∙◌}
 use Rattle.slab.specs.Slab.{get}
-use Rattle.congee.specs.Sizes.{bytes_of, bytes_at}
-use Rattle.congee.specs.Forms.{size_of, form_of}
+use Rattle.congee.specs.Sizes.{bytes_at}
+use Rattle.congee.specs.Forms.{size_of}
 use Rattle.congee.proofs.Sizes.{bytes_same, bytes_update, makes_bytes}
 use Rattle.congee.proofs.Moves.{made_fresh, made_roomy, roomy_stands, roomy_absent, roomy_room, leaf_added}
 use Rattle.congee.proofs.arena.Arena.add_leaf.Goals as goal

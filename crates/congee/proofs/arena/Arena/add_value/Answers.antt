@@ -1,4 +1,4 @@
-use Rattle.std.proofs.Common.{rules, ◌≡◌, ◌+◌, length, Some, arith, ap}
+use Rattle.std.proofs.Common.{rules, ◌≡◌, length, arith, ap}
 use Rattle.congee.proofs.Moves.{grown_roomy, roomy_stands, roomy_absent, roomy_room, value_added}
 use Rattle.congee.proofs.arena.Arena.add_value.Goals as goal
 

@@ -2,10 +2,9 @@ use denote.Param.{layout}
 use Rattle.std.specs.Borrow.{usize as word}
 use Rattle.congee.specs.Room.{IsSmall}
 use Rattle.congee.proofs.RoomLemmas.{node16_fits, node48_fits, node256_fits}
-use Rattle.std.proofs.Common.{rules, ◌≡◌, ◌+◌, ◌≤◌, length, Some, arith, ap, ◌∙◌}
+use Rattle.std.proofs.Common.{rules, ◌≡◌, length, arith, ap, ◌∙◌}
 use Rattle.slab.specs.Slab.{get}
-use Rattle.congee.specs.Sizes.{bytes_of, bytes_at}
-use Rattle.congee.specs.Forms.{size_of, form_of}
+use Rattle.congee.specs.Sizes.{bytes_at}
 use Rattle.congee.proofs.Sizes.{bytes_update}
 use Rattle.congee.proofs.Moves.{leaf_dropped, dropped_bytes}
 use Rattle.congee.proofs.arena.Arena.drop_leaf.Goals as goal

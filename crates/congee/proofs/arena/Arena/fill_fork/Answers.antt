@@ -1,4 +1,4 @@
-use Rattle.std.proofs.Common.{rules, get_or, take}
+use Rattle.std.proofs.Common.{rules, get_or}
 use Rattle.congee.proofs.Moves.{fresh_absent, fresh_room, forked, second_absent, second_room}
 use Rattle.congee.proofs.arena.Arena.fill_fork.Goals as goal
 

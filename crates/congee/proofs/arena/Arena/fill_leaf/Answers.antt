@@ -1,4 +1,4 @@
-use Rattle.std.proofs.Common.{rules, get_or, take}
+use Rattle.std.proofs.Common.{get_or, take}
 use Rattle.congee.proofs.Moves.{fresh_absent, fresh_room, fill_done}
 use Rattle.congee.proofs.Sizes.{sets_bytes}
 use Rattle.congee.proofs.arena.Arena.fill_leaf.Goals as goal

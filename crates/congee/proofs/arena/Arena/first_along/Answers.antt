@@ -1,4 +1,4 @@
-use Rattle.std.proofs.Common.{rules, ◌≡◌, ◌^◌, ℕ, ◌<◌, ◌≤◌, ◌∙◌, Some, None, MatchOption, sym, ap, subst, arith}
+use Rattle.std.proofs.Common.{◌^◌, ℕ, ◌<◌, ◌∙◌, Some, None, MatchOption, sym, ap, subst, arith}
 use Rattle.std.specs.Prelude.{Option}
 use Rattle.congee.specs.Heap.{value_at}
 use Rattle.congee.specs.Arena.{heap_of}

@@ -1,4 +1,4 @@
-use Rattle.std.proofs.Common.{◌≡◌, ◌^◌, ◌<◌, ◌≤◌, ◌-◌}
+use Rattle.std.proofs.Common.{◌^◌, ◌<◌, ◌≤◌, ◌-◌}
 use Rattle.congee.specs.Gaps.{Gap}
 use Rattle.congee.specs.Place.{IsPath}
 use Rattle.congee.proofs.arena.Arena.first_along.Given as goal

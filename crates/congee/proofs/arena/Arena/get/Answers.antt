@@ -1,4 +1,4 @@
-use Rattle.std.proofs.Common.{rules, ◌≡◌, sym, Some}
+use Rattle.std.proofs.Common.{rules, ◌≡◌, sym}
 use Rattle.congee.specs.Heap.{Holds, child_for}
 use Rattle.congee.specs.Arena.{heap_of}
 use Rattle.congee.proofs.Answered.{at_held, located_free, located_apart}

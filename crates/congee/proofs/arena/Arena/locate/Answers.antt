@@ -1,8 +1,8 @@
-use Rattle.std.proofs.Common.{rules, ◌≡◌, ◌<◌, ◌+◌, get_or, subst, length, refl, sym, ap, ◌∙◌, arith, None, Some}
+use Rattle.std.proofs.Common.{rules, ◌≡◌, ◌<◌, ◌+◌, get_or, subst, length, sym, ap, ◌∙◌, Some}
 use Rattle.slab.specs.Slab.{get}
-use Rattle.congee.specs.Heap.{Below, child_for, fits}
-use Rattle.congee.specs.Arena.{heap_of, hung}
-use Rattle.congee.proofs.Ways.{child_is, below_stands, falls, no_blank, prefix_is, same_below}
+use Rattle.congee.specs.Heap.{Below, child_for}
+use Rattle.congee.specs.Arena.{heap_of}
+use Rattle.congee.proofs.Ways.{below_stands, falls, no_blank, prefix_is, same_below}
 use Rattle.congee.proofs.arena.Arena.locate.Goals as goal
 
 pub index-requires : goal.index-requires

@@ -1,4 +1,4 @@
-use Rattle.std.proofs.Common.{◌≡◌, ◌-◌, length}
+use Rattle.std.proofs.Common.{◌-◌, length}
 use Rattle.congee.specs.Arena.{heap_of, Reached}
 use Rattle.congee.proofs.arena.Arena.locate.Given as goal
 

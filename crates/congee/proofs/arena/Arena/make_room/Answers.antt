@@ -1,11 +1,10 @@
-use Rattle.std.proofs.Common.{rules, ◌≡◌, ◌+◌, refl, sym, ap, ◌∙◌, arith, true, false, Some}
+use Rattle.std.proofs.Common.{rules, ◌≡◌, refl, sym, ap, ◌∙◌, arith, true, false, Some}
 use Rattle.slab.specs.Slab.{get, with_value}
 use Rattle.slab.proofs.SlabLemmas.{Updates-with_value}
 use Rattle.congee.specs.Forms.{form_of, prefix_of, children_of, next_form, size_of, is_full_of}
-use Rattle.congee.specs.Sizes.{bytes_of, bytes_at}
+use Rattle.congee.specs.Sizes.{bytes_at}
 use Rattle.congee.proofs.Sizes.{bytes_update, bytes_same, same_written}
 use Rattle.congee.proofs.Grown.{grown_room}
-use Rattle.congee.specs.declared.base_node.Node.{Node}
 use Rattle.congee.proofs.arena.Arena.make_room.Goals as goal
 
 pub returns-clause-grows : goal.returns-clause-grows

@@ -1,10 +1,10 @@
-use Rattle.std.proofs.Common.{rules, ◌≡◌, ◌≢◌, ℕ, ap, sym, ◌∙◌, refl, subst, None, Some, []}
+use Rattle.std.proofs.Common.{rules, ◌≡◌, ℕ, ap, ◌∙◌, refl, subst, None, Some}
 use denote.Param.{layout}
 use Rattle.std.specs.Borrow.{usize as word}
 use Rattle.slab.specs.Slab.{Updates, get}
 use Rattle.congee.specs.Room.{IsSmall}
-use Rattle.congee.specs.Sizes.{bytes_of, bytes_in}
-use Rattle.congee.proofs.RoomLemmas.{node16_fits, node48_fits, node256_fits}
+use Rattle.congee.specs.Sizes.{bytes_in}
+use Rattle.congee.proofs.RoomLemmas.{node256_fits}
 use Rattle.congee.proofs.Root.{root_tree, root_empty, root_bytes}
 use Rattle.congee.proofs.arena.Arena.new.Goals as goal
 

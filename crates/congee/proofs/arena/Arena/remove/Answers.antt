@@ -1,4 +1,4 @@
-use Rattle.std.proofs.Common.{rules, ◌≡◌, sym, refl}
+use Rattle.std.proofs.Common.{refl}
 use Rattle.congee.proofs.Answered.{located_free, located_apart, located_hangs, none_change}
 use Rattle.congee.proofs.arena.Arena.remove.Goals as goal
 

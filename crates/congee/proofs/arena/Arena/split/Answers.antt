@@ -1,11 +1,10 @@
-use Rattle.std.proofs.Common.{rules, ◌≡◌, ◌≢◌, ◌+◌, ◌≤◌, length, Some, arith, ap, take, get_or, ◌∙◌, sym, subst, refl, ℕ, List}
+use Rattle.std.proofs.Common.{rules, ◌≡◌, ◌≢◌, length, Some, arith, ap, get_or, ◌∙◌, sym, subst, ℕ, List}
 use Rattle.slab.specs.Slab.{get}
-use Rattle.congee.specs.Sizes.{bytes_of, bytes_at}
+use Rattle.congee.specs.Sizes.{bytes_at}
 use Rattle.congee.specs.Changes.{Parts}
-use Rattle.congee.specs.Forms.{size_of, form_of, prefix_of}
+use Rattle.congee.specs.Forms.{size_of, prefix_of}
 use Rattle.congee.proofs.Sizes.{bytes_same, bytes_update, makes_bytes}
 use Rattle.congee.proofs.Moves.{Forking, forking_at, forking_present, fork_added, apart_of, fresh_made}
-use Rattle.congee.specs.declared.base_node.Node.{Node}
 use Rattle.congee.proofs.arena.Arena.split.Goals as goal
 
 pub returns-in-Err-clause-balance : goal.returns-in-Err-clause-balance

@@ -1,5 +1,4 @@
-use Rattle.std.proofs.Common.{rules, ◌≡◌, length, Some}
-use Rattle.std.specs.FinMap as map
+use Rattle.std.proofs.Common.{rules, ◌≡◌, length}
 use Rattle.congee.proofs.Moves.{taken}
 use Rattle.congee.proofs.arena.Arena.take_value.Goals as goal
 

@@ -1,8 +1,7 @@
-use Rattle.std.proofs.Common.{rules, ◌≡◌, ◌<◌, ◌≤◌, refl, sym, ap, ◌∙◌, subst, arith}
-use Rattle.std.specs.FinMap as map
+use Rattle.std.proofs.Common.{refl, sym, ap, ◌∙◌, subst, arith}
 use Rattle.congee.specs.Bytes.{IsFirst}
-use Rattle.congee.specs.Forms.{capacity_of, form_of, children_of, Becomes}
-use Rattle.congee.proofs.MoveLemmas.{IsMoved, IsMoving, none_moved, one_moved, room_left, all_moved, has_room}
+use Rattle.congee.specs.Forms.{capacity_of, children_of}
+use Rattle.congee.proofs.MoveLemmas.{IsMoved, none_moved, one_moved, room_left, all_moved, has_room}
 use Rattle.congee.proofs.RoomLemmas.{any_node_fits}
 use Rattle.congee.proofs.base_node.Node.move_to.Goals as goal
 

@@ -1,4 +1,4 @@
-use Rattle.std.proofs.Common.{ℕ, ◌≤◌, ◌-◌}
+use Rattle.std.proofs.Common.{◌-◌}
 use Rattle.congee.proofs.MoveLemmas.{IsMoving}
 use Rattle.congee.proofs.base_node.Node.move_to.Given as goal
 

@@ -1,5 +1,4 @@
-use Rattle.std.proofs.Common.{rules, ◌≡◌, ◌≢◌, arith}
-use Rattle.std.proofs.lemmas.Bool.Decides.{nat_tests}
+use Rattle.std.proofs.Common.{rules}
 use Rattle.congee.proofs.RoomLemmas.{sorted_fits, indexed_fits, masked_fits}
 use Rattle.congee.proofs.base_node.Node.remove.Goals as goal
 

@@ -1,5 +1,4 @@
-use Rattle.std.proofs.Common.{rules, length, ◌≡◌, ◌≤◌, ◌<◌, ℕ, [], ◌∷◌, None, Some, ap, arith}
-use Rattle.std.specs.FinMap as map
+use Rattle.std.proofs.Common.{rules, length, ◌≡◌, [], ap, arith}
 use Rattle.congee.specs.Forms.{children_of}
 use Rattle.congee.specs.Scan.{rest}
 use Rattle.congee.proofs.BetweenLemmas.{between_none, between_first}

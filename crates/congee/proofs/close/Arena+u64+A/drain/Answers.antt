@@ -1,4 +1,4 @@
-use Rattle.std.proofs.Common.{rules, ◌≡◌, ◌^◌, ℕ, ◌<◌, ◌≤◌, ◌+◌, List, refl, sym, subst, arith}
+use Rattle.std.proofs.Common.{rules, ◌^◌, ◌<◌, ◌≤◌, ◌+◌, subst, arith}
 use Rattle.std.specs.FinMap as map
 use Rattle.congee.specs.Drained.{Drained}
 use Rattle.congee.specs.Ranges.{in_range}

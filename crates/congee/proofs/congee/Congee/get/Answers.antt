@@ -1,4 +1,4 @@
-use Rattle.std.proofs.Common.{rules, ◌≡◌, ◌<◌, ◌^◌, ap, ◌∙◌}
+use Rattle.std.proofs.Common.{rules, ◌<◌, ◌^◌, ap, ◌∙◌}
 use Rattle.std.specs.Option.{option_map}
 use Rattle.congee.specs.Heap.{value_at}
 use Rattle.congee.specs.Arena.{heap_of}

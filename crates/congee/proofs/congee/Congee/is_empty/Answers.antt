@@ -1,4 +1,3 @@
-use Rattle.std.proofs.Common.{rules, ◌≡◌, sym, ap, ◌∙◌}
 use Rattle.congee.specs.Table.{pairs_of}
 use Rattle.congee.proofs.Scanned.{empty_told}
 use Rattle.congee.proofs.congee.Congee.is_empty.Goals as goal

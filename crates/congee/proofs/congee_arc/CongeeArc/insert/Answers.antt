@@ -1,4 +1,4 @@
-use Rattle.std.proofs.Common.{rules, ◌≡◌, ◌<◌, ◌^◌, subst, ℕ, List, None, Some, arith}
+use Rattle.std.proofs.Common.{rules, ◌<◌, ◌^◌, subst, ℕ, List, Some, arith}
 use Rattle.judge.specs.declared.journal.Call.TheVariants as call
 use Rattle.judge.specs.declared.journal.Reply.TheVariants as reply
 use Rattle.congee.specs.Changes.{MapChange}

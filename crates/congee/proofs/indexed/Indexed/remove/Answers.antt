@@ -1,6 +1,5 @@
-use Rattle.std.proofs.Common.{◌≡◌, ◌<◌, length, IsSome, sym, ap, ◌∙◌, subst, arith}
+use Rattle.std.proofs.Common.{length, IsSome, sym, ap, ◌∙◌, subst, arith}
 use Rattle.std.specs.FinMap as map
-use Rattle.std.specs.List.{slice_get}
 use Rattle.std.proofs.lemmas.Option.{slice_get-get_or}
 use Rattle.congee.specs.Index.{place_of}
 use Rattle.congee.proofs.IndexLemmas.{present_place, some_count, get_is, removed_map}

@@ -1,4 +1,4 @@
-use Rattle.std.proofs.Common.{◌≡◌, ℕ, ◌<◌, ◌≤◌, ◌/◌, get_or, inl, inr, arith}
+use Rattle.std.proofs.Common.{◌<◌, ◌/◌, get_or, inl, inr, arith}
 use Rattle.std.proofs.lemmas.Bool.{cases_lt}
 use Rattle.congee.proofs.BitLemmas.{lowest, rest_is_zero}
 use Rattle.congee.proofs.masked.Mask.first_from.Goals as goal

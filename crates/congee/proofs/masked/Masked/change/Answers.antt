@@ -1,4 +1,4 @@
-use Rattle.std.proofs.Common.{◌≡◌, IsSome, sym, ap, ◌∙◌, subst, arith}
+use Rattle.std.proofs.Common.{IsSome, sym, ap, ◌∙◌, subst, arith}
 use Rattle.std.specs.FinMap as map
 use Rattle.congee.proofs.MaskLemmas.{get_there, some_bit, changed_map}
 use Rattle.congee.proofs.SortedLemmas.{refill_set}

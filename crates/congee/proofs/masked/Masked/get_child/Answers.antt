@@ -1,4 +1,4 @@
-use Rattle.std.proofs.Common.{◌≡◌, ◌≢◌, sym, ap, ◌∙◌, refl, arith}
+use Rattle.std.proofs.Common.{◌≢◌, sym, ap, ◌∙◌, refl, arith}
 use Rattle.std.specs.FinMap as map
 use Rattle.congee.specs.Mask.{bit_of}
 use Rattle.congee.proofs.MaskLemmas.{get_there, get_none}

@@ -1,4 +1,4 @@
-use Rattle.std.proofs.Common.{◌≡◌, ap, ◌∙◌, arith}
+use Rattle.std.proofs.Common.{ap, ◌∙◌, arith}
 use Rattle.std.specs.FinMap as map
 use Rattle.congee.proofs.MaskLemmas.{count_fits, inserted_map}
 use Rattle.congee.proofs.SortedLemmas.{refill_set}

@@ -1,4 +1,4 @@
-use Rattle.std.proofs.Common.{sym, subst, IsSome, arith}
+use Rattle.std.proofs.Common.{sym, subst, IsSome}
 use Rattle.std.specs.FinMap as map
 use Rattle.congee.proofs.MaskLemmas.{count_fits, is_byte}
 use Rattle.congee.proofs.masked.Masked.len.Goals as goal

@@ -1,4 +1,4 @@
-use Rattle.std.proofs.Common.{◌≡◌, IsSome, length, sym, ap, ◌∙◌, subst, arith}
+use Rattle.std.proofs.Common.{IsSome, length, sym, ap, ◌∙◌, subst, arith}
 use Rattle.std.specs.FinMap as map
 use Rattle.congee.proofs.MaskLemmas.{get_there, some_bit, some_count, removed_map}
 use Rattle.congee.proofs.SortedLemmas.{refill_set}

@@ -1,4 +1,4 @@
-use Rattle.std.proofs.Common.{◌≡◌, ap, rules, arith}
+use Rattle.std.proofs.Common.{ap, arith}
 use Rattle.std.proofs.lemmas.Grind.{common_steps}
 use Rattle.congee.proofs.Opening.{new_more, opening_all}
 use Rattle.congee.proofs.plain.PlainStore.calls.Goals as goal

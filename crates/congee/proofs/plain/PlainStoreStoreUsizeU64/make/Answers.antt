@@ -1,4 +1,4 @@
-use Rattle.std.proofs.Common.{◌≡◌, [], ◌∷◌, ◌++◌, ◌∙◌, ap, arith}
+use Rattle.std.proofs.Common.{[], ◌∷◌, ◌++◌, ◌∙◌, ap, arith}
 use Rattle.congee.proofs.PlainHeaps.{new_node}
 use Rattle.congee.proofs.plain.PlainStoreStoreUsizeU64.make.Goals as goal
 

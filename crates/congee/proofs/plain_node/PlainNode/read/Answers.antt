@@ -1,4 +1,4 @@
-use Rattle.std.proofs.Common.{◌≡◌, refl, sym, arith}
+use Rattle.std.proofs.Common.{◌≡◌, refl, arith}
 use Rattle.congee.proofs.PlainHeaps.{seen_truly}
 use Rattle.congee.proofs.plain_node.PlainNode.read.Goals as goal
 

@@ -1,9 +1,8 @@
-use Rattle.std.proofs.Common.{rules, ◌≡◌, ℕ, ◌<◌, ◌≤◌, ◌+◌, ◌-◌, List, ◌∷◌, ◌++◌, length, take, drop, None, refl, sym, ap, ◌∙◌, arith}
+use Rattle.std.proofs.Common.{◌≡◌, ◌+◌, ◌-◌, ◌∷◌, ◌++◌, length, take, sym, ap, ◌∙◌, arith}
 use Rattle.std.specs.FinMap as map
 use Rattle.std.proofs.lemmas.List.{length-set}
 use Rattle.congee.specs.Keys.{key_bytes}
 use Rattle.congee.specs.Table.{pairs_of}
-use Rattle.congee.proofs.Paths.{no_path}
 use Rattle.congee.specs.Ranges.{by_bytes, in_range}
 use Rattle.congee.proofs.ByteRanges.{take_by_bytes, count_by_bytes}
 use Rattle.congee.proofs.RangeLemmas.{range_none, range_first, pair_written, rest_kept, range_ended, counted, none_told}

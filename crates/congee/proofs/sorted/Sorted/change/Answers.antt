@@ -1,4 +1,4 @@
-use Rattle.std.proofs.Common.{rules, ◌≡◌, ◌<◌, ◌≤◌, length, IsSome, sym, ◌∙◌, ap, subst, arith}
+use Rattle.std.proofs.Common.{length, IsSome, sym, ◌∙◌, ap, subst, arith}
 use Rattle.std.specs.FinMap as map
 use Rattle.congee.proofs.SortedLemmas.{Stands, stands_there, get_found, change_map, refill_set}
 use Rattle.congee.proofs.sorted.Sorted.change.Goals as goal

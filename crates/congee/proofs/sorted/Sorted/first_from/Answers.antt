@@ -1,4 +1,4 @@
-use Rattle.std.proofs.Common.{◌≡◌, ℕ, ◌≤◌, ◌<◌, length, None, get_or, subst, sym, arith}
+use Rattle.std.proofs.Common.{◌≡◌, ℕ, ◌≤◌, ◌<◌, length, None, get_or, subst, arith}
 use Rattle.std.specs.FinMap as map
 use Rattle.congee.specs.Bytes.{IsFirst}
 use Rattle.congee.specs.Places.{sorted_map}

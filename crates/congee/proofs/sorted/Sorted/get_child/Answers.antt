@@ -1,4 +1,4 @@
-use Rattle.std.proofs.Common.{◌≡◌, ◌<◌, ◌≢◌, None, get_or, ℕ, List, arith, sym, ◌∙◌, ap, subst}
+use Rattle.std.proofs.Common.{◌≡◌, ◌≢◌, get_or, ℕ, List, arith, sym, ◌∙◌, ap, subst}
 use Rattle.std.specs.FinMap as map
 use Rattle.congee.proofs.SortedLemmas.{Stands, get_found, get_absent}
 use Rattle.congee.proofs.sorted.Sorted.get_child.Goals as goal

@@ -1,4 +1,4 @@
-use Rattle.std.proofs.Common.{rules, ◌≡◌, ◌<◌, ◌≤◌, length, None, sym, ◌∙◌, ap, arith}
+use Rattle.std.proofs.Common.{rules, ◌<◌, ◌≤◌, length, ◌∙◌, ap, arith}
 use Rattle.std.specs.FinMap as map
 use Rattle.congee.proofs.SortedLemmas.{Stands, len_is, insert_map}
 use Rattle.congee.proofs.sorted.Sorted.insert.Goals as goal

@@ -1,4 +1,4 @@
-use Rattle.std.proofs.Common.{sym, ap, ◌∙◌, subst, IsSome}
+use Rattle.std.proofs.Common.{sym, subst, IsSome}
 use Rattle.std.specs.FinMap as map
 use Rattle.congee.proofs.SortedLemmas.{len_is, is_byte}
 use Rattle.congee.proofs.sorted.Sorted.len.Goals as goal

@@ -1,4 +1,3 @@
-use Rattle.std.proofs.Common.{◌≡◌, List, []}
 use Rattle.congee.proofs.SortedLemmas.{no_pairs}
 use Rattle.congee.proofs.sorted.Sorted.new.Goals as goal
 

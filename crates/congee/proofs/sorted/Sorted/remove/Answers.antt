@@ -1,4 +1,4 @@
-use Rattle.std.proofs.Common.{rules, ◌≡◌, ◌<◌, ◌≤◌, length, IsSome, sym, ◌∙◌, ap, subst, arith}
+use Rattle.std.proofs.Common.{rules, ◌<◌, length, IsSome, sym, ◌∙◌, ap, subst, arith}
 use Rattle.std.specs.FinMap as map
 use Rattle.congee.proofs.SortedLemmas.{Stands, stands_there, get_found, remove_map}
 use Rattle.congee.proofs.sorted.Sorted.remove.Goals as goal
