@@ -18,7 +18,10 @@ impl<P: Stored, A: Allocator> Arena<P, A> {
         ensures charge { A.charged_of result + bytes_of self.nodes ≡ A.charged_of self.allocator }
         ensures limit { A.limit_of result ≡ A.limit_of self.allocator }
     {
-        let Arena { nodes, mut allocator } = self;
+        let Arena {
+            nodes,
+            mut allocator,
+        } = self;
         for (_, node) in nodes.iter() {
             allocator.deallocate(node.size());
         }

@@ -6,5 +6,5 @@ use Rattle.congee.proofs.arena.Arena.release.Goals as goal
 pub loop-node-init : goal.loop-node-init
 loop-node-init g c =
     let left : bytes_left c.into_iter-node-iterator.result ≡ bytes_of c.args.self.nodes =
-        ap bytes_left (c.into_iter-node-iterator.ensures.into_iter_gives ∙ c.iter-node-items.ensures.rest) ∙ bytes_left_first c.args.self.nodes in
+    ap bytes_left (c.into_iter-node-iterator.ensures.into_iter_gives ∙ c.iter-node-items.ensures.rest) ∙ bytes_left_first c.args.self.nodes in
     (tt, (tt, (omega (arith, left, c.requires.covered), (omega (arith, left), refl))))

@@ -18,13 +18,12 @@ pub loop-key-preserved : goal.loop-key-preserved
 loop-key-preserved g c =
     let m = pairs_of c.args.self.now.nodes in
     let small : c.in-Some.key < 2 ^ 64 = omega (arith, c.in-Some-checked_add.ensures.0) in
-    let first = range_first m c.loop-key.from (2 ^ 64) c.in-Some.key c.in-Some.value.now c.in-Some.ensures small in
-    (
+    let first = range_first m c.loop-key.from (2 ^ 64) c.in-Some.key c.in-Some.value.now c.in-Some.ensures small in (
       c.drain.ensures.again,
       λ last d. c.loop-key.invariant.1 last (first_drained g.D.Drainer.drains g.K.Word64.of_word g.V.Word64.of_word
-      (in_range c.loop-key.from (2 ^ 64) (map.entries m)) (in_range (c.in-Some.key + 1) (2 ^ 64) (map.entries m)) c.in-Some.key c.in-Some.value.now
-      c.loop-key.drainer c.drain.new.self last c.from_word.result c.from_word-in-Some.result first c.from_word.ensures c.from_word-in-Some.ensures c.drain.ensures.drained
-      (subst (λ n. Drained g.D.Drainer.drains g.K.Word64.of_word g.V.Word64.of_word c.drain.new.self (in_range n (2 ^ 64) (map.entries m)) last) c.in-Some-checked_add.ensures.1 d)),
+          (in_range c.loop-key.from (2 ^ 64) (map.entries m)) (in_range (c.in-Some.key + 1) (2 ^ 64) (map.entries m)) c.in-Some.key c.in-Some.value.now
+          c.loop-key.drainer c.drain.new.self last c.from_word.result c.from_word-in-Some.result first c.from_word.ensures c.from_word-in-Some.ensures c.drain.ensures.drained
+          (subst (λ n. Drained g.D.Drainer.drains g.K.Word64.of_word g.V.Word64.of_word c.drain.new.self (in_range n (2 ^ 64) (map.entries m)) last) c.in-Some-checked_add.ensures.1 d)),
     )
 
 pub returns-in-None : goal.returns-in-None

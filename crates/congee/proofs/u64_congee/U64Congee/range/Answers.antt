@@ -16,8 +16,8 @@ loop-count-preserved g c =
     let bytes : c.to_be_bytes.result ≡ key_bytes c.in-Some.key = c.to_be_bytes.ensures in
     let same = length-set c.loop-count.out c.loop-count.count (c.to_be_bytes.result, c.in-Some.value) in
     let pairs : take c.loop-count.count c.loop-count.out ++ take (length c.args.out.now - c.loop-count.count) ((c.to_be_bytes.result, c.in-Some.value) ∷ by_bytes (in_range (c.in-Some.key + 1) c.args.end (map.entries m))) ≡ take (length c.args.out.now) (by_bytes (in_range c.args.start c.args.end (map.entries m))) =
-        ap (λ b. take c.loop-count.count c.loop-count.out ++ take (length c.args.out.now - c.loop-count.count) ((b, c.in-Some.value) ∷ by_bytes (in_range (c.in-Some.key + 1) c.args.end (map.entries m)))) bytes
-        ∙ ap (λ r. take c.loop-count.count c.loop-count.out ++ take (length c.args.out.now - c.loop-count.count) (by_bytes r)) (sym first) ∙ i.1.1.1 in (
+    ap (λ b. take c.loop-count.count c.loop-count.out ++ take (length c.args.out.now - c.loop-count.count) ((b, c.in-Some.value) ∷ by_bytes (in_range (c.in-Some.key + 1) c.args.end (map.entries m)))) bytes
+    ∙ ap (λ r. take c.loop-count.count c.loop-count.out ++ take (length c.args.out.now - c.loop-count.count) (by_bytes r)) (sym first) ∙ i.1.1.1 in (
       omega (arith, same, c.loop-count-test.true),
       (
         same ∙ i.1.0,
