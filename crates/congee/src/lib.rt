@@ -12,6 +12,8 @@ pub mod base_node;
 mod calls;
 pub mod child;
 mod close;
+#[cfg(test)]
+mod close_tests;
 mod congee;
 mod congee_arc;
 #[cfg(test)]

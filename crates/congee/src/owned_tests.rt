@@ -132,63 +132,6 @@ fn values_are_exchanged(rt: HostRuntime) -> Result<(), Fail> {
 }
 
 #[test]
-fn dense_keys_come_and_go(rt: HostRuntime) -> Result<(), Fail> {
-    let mut tree: U64Congee<u64, DefaultAllocator> = U64Congee::new(
-        rt.alloc(),
-        DefaultAllocator::new(),
-    )?;
-    for k in 0..100_000u64 {
-        assert_eq!(rt; tree.insert(k, k)?, None);
-    }
-    for k in 0..200_000u64 {
-        assert_eq!(rt; tree.get(k), if k < 100_000 { Some(k) } else { None });
-    }
-    for k in 0..50_000u64 {
-        assert_eq!(rt; tree.remove(k), Some(k));
-    }
-    for k in 0..100_000u64 {
-        assert_eq!(rt; tree.get(k), if k < 50_000 { None } else { Some(k) });
-    }
-    Ok(())
-}
-
-#[test]
-fn a_full_node_loses_and_gains(rt: HostRuntime) -> Result<(), Fail> {
-    let mut tree = empty(rt.alloc())?;
-    for k in 0..48u64 {
-        assert_eq!(rt; tree.insert(k, k)?, None);
-    }
-    for k in 24..30u64 {
-        assert_eq!(rt; tree.remove(&k), Some(k));
-    }
-    for k in 24..30u64 {
-        assert_eq!(rt; tree.insert(k, k)?, None);
-    }
-    for k in 0..48u64 {
-        assert_eq!(rt; tree.get(&k), Some(k));
-    }
-    Ok(())
-}
-
-#[test]
-fn scattered_keys_come_and_go(rt: HostRuntime) -> Result<(), Fail> {
-    let mut tree = empty(rt.alloc())?;
-    for i in 1..100_001u64 {
-        let key = i.wrapping_mul(11400714819323198485) & 0x7fff_ffff_ffff_ffff;
-        assert_eq!(rt; tree.insert(key, key)?, None);
-    }
-    for i in 1..50_001u64 {
-        let key = i.wrapping_mul(11400714819323198485) & 0x7fff_ffff_ffff_ffff;
-        assert_eq!(rt; tree.remove(&key), Some(key));
-    }
-    for i in 1..100_001u64 {
-        let key = i.wrapping_mul(11400714819323198485) & 0x7fff_ffff_ffff_ffff;
-        assert_eq!(rt; tree.get(&key), if i <= 50_000 { None } else { Some(key) });
-    }
-    Ok(())
-}
-
-#[test]
 fn a_range_ends_before_its_end(rt: HostRuntime) -> Result<(), Fail> {
     let mut tree = empty(rt.alloc())?;
     assert_eq!(rt; tree.insert(4294967295, 1)?, None);
