@@ -1,10 +1,10 @@
-use Rattle.std.proofs.Common.{rules, ◌≡◌, ◌<◌, ◌≤◌, ◌+◌, get_or, length, refl, sym, ap, subst, ◌∙◌, arith, None, Some, true}
+use Rattle.std.proofs.Common.{rules, ◌≡◌, ◌<◌, ◌+◌, get_or, length, sym, ap, subst, ◌∙◌, arith, Some, true}
 use Rattle.slab.specs.Slab.{get}
 use Rattle.congee.specs.Heap.{Below, child_for, fits}
-use Rattle.congee.specs.Arena.{heap_of, hung, OnWay}
+use Rattle.congee.specs.Arena.{heap_of}
 use Rattle.congee.specs.Place.{IsPath}
 use Rattle.congee.proofs.Paths.{path_on}
-use Rattle.congee.proofs.Ways.{child_is, below_stands, falls, no_blank, prefix_is, is_child, short_prefix, same_below}
+use Rattle.congee.proofs.Ways.{below_stands, falls, no_blank, prefix_is, is_child, short_prefix, same_below}
 use Rattle.congee.proofs.arena.Arena.follow.Goals as goal
 
 pub index-requires : goal.index-requires

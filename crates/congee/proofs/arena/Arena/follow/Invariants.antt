@@ -1,4 +1,4 @@
-use Rattle.std.proofs.Common.{◌≡◌, ◌≤◌, ◌-◌, length}
+use Rattle.std.proofs.Common.{◌≤◌, ◌-◌, length}
 use Rattle.congee.specs.Arena.{heap_of, OnWay}
 use Rattle.congee.specs.Place.{IsPath}
 use Rattle.congee.proofs.arena.Arena.follow.Given as goal
