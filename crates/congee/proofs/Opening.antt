@@ -6,8 +6,9 @@ use Rattle.std.specs.Ordering.{nat_cmp}
 use Rattle.congee.specs.declared.machine.Machine.{Machine}
 use Rattle.congee.specs.Heap.{Node, Hung, Nothing, Below, Holds, Stands, fits, of_child, walk, value_at}
 use Rattle.congee.specs.Keys.{key_bytes, Standing}
-use Rattle.congee.specs.Ledger.{Note, Unmade, Linked, Gone, is_published, Tree, Words}
-use Rattle.congee.specs.Opening.{RootAlone}
+use Rattle.congee.specs.Ledger.{Note, Unmade, Held, Linked, Gone, is_published, is_spent, Tree, Words}
+use Rattle.congee.specs.Opening.{RootAlone, FreshRoot}
+use Rattle.congee.specs.Holdings.{Rests}
 use Rattle.congee.specs.Play.{IsNew, Begins}
 use Rattle.congee.proofs.Fits.{equal}
 use Rattle.congee.proofs.Touch.{by_test}
@@ -73,6 +74,25 @@ module _ {V : Type 0} (h : ℕ → Node V) (r : RootAlone h) where
 
     no_value : (k : ℕ) → value_at h (key_bytes k) ≡ None
     no_value k = by_test (λ (o : Option V). o ≡ None) (fits (h 0).prefix (key_bytes k)) _ _ (λ _. none_at 7 (key_bytes k) _ (r.bare _)) (λ _. refl)
+
+opened_held : (n i : ℕ) → (opened n).status ≡ Held i → ⊥
+unfolding opened
+opened_held n i = by_test (λ (x : Note). x.status ≡ Held i → ⊥) (n == 0) _ _ (λ _ l. let z : Linked ≡ Held i = l in cc) (λ _ l. let z : Unmade ≡ Held i = l in cc)
+
+opened_spent : (n : ℕ) → is_spent (opened n).status ≡ true → ⊥
+unfolding opened
+opened_spent n = by_test (λ (x : Note). is_spent x.status ≡ true → ⊥) (n == 0) _ _ (λ _ l. let z : false ≡ true = l in cc) (λ _ l. let z : false ≡ true = l in cc)
+
+-- nobody holds anything in it
+pub opening_rests : {C V : Type 0} (number : C → ℕ) (h : ℕ → Node V) → FreshRoot h → Rests {V = V} number opened h
+opening_rests number h r = record {
+  owned = λ n i o. let z : None ≡ Some i = sym (opened_owner n) ∙ o in absurd cc;
+  held = λ n i o. absurd (opened_held n i o);
+  locked = λ n l o. absurd (let y : (h 0).locked ≡ true = (let P : ℕ → Type 0 = λ x. (h x).locked ≡ true in subst P (opened_linked n l) o) in let z : true ≡ false = sym y ∙ r.unlocked in cc);
+  gone = λ n g. absurd (opened_gone n g);
+  spent = λ n g. absurd (opened_spent n g);
+  unmade = λ n u. r.others n (λ e. let y : (opened 0).status ≡ Unmade = (let P : ℕ → Type 0 = λ x. (opened x).status ≡ Unmade in subst P e u) in let z : Linked ≡ Unmade = sym opened_root ∙ y in cc);
+}
 
 -- one new call on such a tree
 pub opening_one : {C V : Type 0} (number : C → ℕ) (h : ℕ → Node V) (m : Machine C V) → RootAlone h → number m.root ≡ 0 → IsNew m → Begins number h (m ∷ [])

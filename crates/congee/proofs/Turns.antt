@@ -24,7 +24,7 @@ use Rattle.congee.specs.Holdings.{LockedBy, MadeBy, Holdings, Rests, Apart}
 use Rattle.congee.proofs.Rely.{known_kept, named_all}
 use Rattle.congee.proofs.Owners.{get_set, own_before, mine_before, held_after, gone_taken, taken_on, made_held, locks_owned}
 use Rattle.congee.proofs.Holdings.{step_holds}
-use Rattle.congee.proofs.Opening.{standing_none}
+use Rattle.congee.proofs.Opening.{opened, opening_tree, opening_words, opening_rests, standing_none}
 use Rattle.congee.proofs.Touch.{owner_locked}
 use Rattle.congee.proofs.Wants.{wants}
 use Rattle.congee.proofs.Watches.{watched}
@@ -161,6 +161,7 @@ module _ {C V : Type 0} (number : C → ℕ) (same : V → V → Bool) (always :
     from_root = λ o. more_map h0 ms0 ss ds h ms s d h' ms' empty (p.from_root o) q;
     apart = apart h' ms' q.protocol;
     settled = λ a t w r. let x : Settled number same always h ms = p.settled a t w r in q.settled x.0 x.1 x.2;
+    settled_fresh = λ o. let x : Settled number same always h ms = p.settled_fresh o in q.settled x.0 x.1 x.2;
   }
 
   -- calls that have not begun know what they are to know
@@ -199,6 +200,7 @@ module _ {C V : Type 0} (number : C → ℕ) (same : V → V → Bool) (always :
     from_root = λ o. (empty, standing_none h o, (refl, refl));
     apart = apart h ms (begun_protocol h ms b);
     settled = λ a t w r. (a, begun_at h ms b a t w, rested h ms a r);
+    settled_fresh = λ o. (opened, begun_at h ms b opened (opening_tree h o.alone) (opening_words h o.alone), rested h ms opened (opening_rests number h o));
   }
 
   -- how far the steps have come: those taken and those left

@@ -21,7 +21,7 @@ use Rattle.congee.specs.Keys.{Standing}
 use Rattle.congee.specs.Ledger.{Note, Tree, Words}
 use Rattle.congee.specs.Protocol.{IsCall, HasGift, Known}
 use Rattle.congee.specs.Holdings.{Holdings, Rests, Apart}
-use Rattle.congee.specs.Opening.{RootAlone}
+use Rattle.congee.specs.Opening.{RootAlone, FreshRoot}
 use Rattle.congee.specs.Keys.{key_bytes}
 
 -- a call's key, what it does there, and the value that it was given
@@ -205,6 +205,7 @@ pub record Plays {C V : Type 0} (number : C → ℕ) (same : V → V → Bool) (
   pub from_root : RootAlone h → FromRoot same h ms steps moves h' ms'
   pub apart : Apart number h' ms'
   pub settled : (a : ℕ → Note) → Tree a h → Words a h → Rests {V = V} number a h → Settled number same always h' ms'
+  pub settled_fresh : FreshRoot h → Settled number same always h' ms'
 
 -- one step of the calls
 abbrev pub StepMap : {C V : Type 0} → (V → V → Bool) → (ℕ → Node V) → List (Machine C V) → Step C V → Move V → (ℕ → Node V) → List (Machine C V) → Type 0
