@@ -11,13 +11,13 @@ use Rattle.joint.specs.declared.steps.Kind.{Kind}
 use Rattle.joint.specs.declared.steps.Kind.TheVariants.{Tree, Collection}
 use Rattle.joint.specs.declared.steps.Report.{Report}
 use Rattle.joint.specs.declared.steps.Done.TheVariants.{Get as Got, Insert as Inserted}
-use Rattle.joint.specs.declared.steps.Op.TheVariants.{Pin, Unpin, Flush, Get, Insert}
+use Rattle.joint.specs.declared.steps.Op.TheVariants.{Pin, Unpin, Repin, Flush, Release, Get, Insert}
 use Rattle.joint.specs.declared.limits.Limits.{Limits}
 use Rattle.joint.specs.Limits.{AreAllowed}
-use Rattle.joint.specs.Collector.{pinned, pin_collects, unpinned, secured, flushed}
-use Rattle.joint.specs.Refusals.{of_pin, of_guard}
+use Rattle.joint.specs.Collector.{pinned, pin_collects, unpinned, repinned, released, secured, flushed}
+use Rattle.joint.specs.Refusals.{of_pin, of_guard, of_leave}
 use Rattle.joint.specs.Forest.{heap, value_at, Adds}
-use Rattle.joint.specs.Machine.{State, bytes_of, standing, Represents, after, IsReply, AsMap, Pins, Unpins, Flushes, Gets, Inserts, InsertsBy, Collects, Refuses, answered, opened, Opens}
+use Rattle.joint.specs.Machine.{State, bytes_of, standing, Represents, after, IsReply, AsMap, Pins, Unpins, Repins, Releases, Flushes, Gets, Inserts, InsertsBy, Collects, Refuses, answered, opened, Opens}
 use Rattle.joint.proofs.Pairs.{same_or_not}
 use Rattle.joint.proofs.Edges.{passes, fails}
 
@@ -57,6 +57,20 @@ unpins_by (Some e) s t s' r r' k c q = ap (λ x. value_at x.tree q) c.1
 
 pub unpins_map : (s s' : State ℕ) (who : ℕ) (r : Report ℕ) → Unpins s who r s' → AsMap s Unpin r s'
 unpins_map s s' who r c = λ m rep. (tt, stays m s s' (unpins_by (of_guard s.collector who) s (record s { collector = unpinned s.collector who }) s' r _ refl c) rep)
+
+pub repins_map : (s s' : State ℕ) (who : ℕ) (r : Report ℕ) → Repins s who r s' → AsMap s Repin r s'
+repins_map s s' who r c = λ m rep. (tt, stays m s s' (unpins_by (of_guard s.collector who) s (record s { collector = repinned s.collector who }) s' r _ refl c) rep)
+
+releases_by : (o : Option Refusal) (s t s' : State ℕ) (r r' : Report ℕ) (f : Refusal) → t.tree ≡ s.tree → MatchOption o (Refuses s Collection f r s' ⊎ ((r ≡ r') × (s' ≡ t))) (λ e. Refuses s Collection e r s')
+    → (q : List ℕ) → value_at s'.tree q ≡ value_at s.tree q
+releases_by None s t s' r r' f k c q = elim c [
+  | inl d ↦ ap (λ x. value_at x.tree q) d.1
+  | inr d ↦ ap (λ x. value_at x.tree q) d.1 ∙ ap (λ x. value_at x q) k
+]
+releases_by (Some e) s t s' r r' f k c q = ap (λ x. value_at x.tree q) c.1
+
+pub releases_map : (s s' : State ℕ) (who : ℕ) (r : Report ℕ) → Releases s who r s' → AsMap s Release r s'
+releases_map s s' who r c = λ m rep. (tt, stays m s s' (releases_by (of_leave s.collector who) s (record s { collector = released s.collector who }) s' r _ _ refl c) rep)
 
 flushes_by : (o : Option Refusal) (s t s' : State ℕ) (r : Report ℕ) (f : Refusal) → t.tree ≡ s.tree → MatchOption o (Refuses s Collection f r s' ⊎ Collects t r s') (λ e. Refuses s Collection e r s')
     → (q : List ℕ) → value_at s'.tree q ≡ value_at s.tree q

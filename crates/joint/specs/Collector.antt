@@ -63,6 +63,12 @@ unpinned s who =
     if nat_le p.guards 1 then with_place s who (record p { word = None; guards = 0 })
     else with_place s who (record p { guards = p.guards - 1 })
 
+-- a lone guard is pinned anew at the epoch; under more than one nothing happens
+abbrev pub repinned : Clock → ℕ → Clock
+repinned s who =
+    let p = place s who in
+    if nat_le p.guards 1 then with_place s who (record p { word = Some s.epoch }) else s
+
 -- the bag joins the queue under the epoch
 abbrev pub sealed : Clock → ℕ → Clock
 sealed s who =
@@ -96,6 +102,14 @@ taken s = record s { queue = drop 1 s.queue }
 -- a full bag makes way for an empty one
 abbrev pub secured : Clock → ℕ → Clock
 secured s who = if length (place s who).bag.items == 64 then sealed s who else s
+
+-- a place is free again
+abbrev pub left : Clock → ℕ → Clock
+left s who = with_place s who blank
+
+-- a worker leaves: a bag that isn't empty is sealed first
+abbrev pub released : Clock → ℕ → Clock
+released s who = left (if length (place s who).bag.items == 0 then s else sealed s who) who
 
 -- a bag that isn't empty is sealed
 abbrev pub flushed : Clock → ℕ → Clock

@@ -14,12 +14,12 @@ use Rattle.joint.specs.declared.steps.Outcome.TheVariants.{Registered, Done, Ref
 use Rattle.joint.specs.declared.steps.Done.{Done as Replies}
 use Rattle.joint.specs.declared.steps.Done.TheVariants.{Unit as Nothing, Get as Got, Insert as Inserted}
 use Rattle.joint.specs.declared.steps.Op.{Op}
-use Rattle.joint.specs.declared.steps.Op.TheVariants.{Pin, Unpin, Flush, Get, Insert}
+use Rattle.joint.specs.declared.steps.Op.TheVariants.{Pin, Unpin, Repin, Flush, Release, Get, Insert}
 use Rattle.joint.specs.declared.form.Form.TheVariants.{Node256}
 use Rattle.joint.specs.declared.participant.Sealed.{Sealed}
 use Rattle.joint.specs.Limits.{AreAllowed}
-use Rattle.joint.specs.Collector.{Clock, place, registered, pinned, pin_collects, unpinned, secured, flushed, advanced, blank, no_bag, IsRegistered}
-use Rattle.joint.specs.Refusals.{of_pin, of_guard}
+use Rattle.joint.specs.Collector.{Clock, place, registered, pinned, pin_collects, unpinned, repinned, released, secured, flushed, advanced, blank, no_bag, IsRegistered}
+use Rattle.joint.specs.Refusals.{of_pin, of_guard, of_leave}
 use Rattle.joint.specs.Forest.{Forest, heap, cell_at, value_at, sizes, plan, is_free, Adds, Spares, Stands}
 use Rattle.joint.specs.declared.cell.Plan.{Plan}
 use Rattle.joint.specs.declared.cell.Plan.TheVariants.{Overwrite, Add, Link, Grow, Later}
@@ -143,6 +143,18 @@ Unpins s who r s' =
     ((r ≡ quiet Collection (Done Nothing)) × (s' ≡ record s { collector = unpinned s.collector who }))
     (λ e. Refuses s Collection e r s')
 
+abbrev pub Repins : State ℕ → ℕ → Report ℕ → State ℕ → Type 0
+Repins s who r s' =
+    MatchOption (of_guard s.collector who)
+    ((r ≡ quiet Collection (Done Nothing)) × (s' ≡ record s { collector = repinned s.collector who }))
+    (λ e. Refuses s Collection e r s')
+
+abbrev pub Releases : State ℕ → ℕ → Report ℕ → State ℕ → Type 0
+Releases s who r s' =
+    MatchOption (of_leave s.collector who)
+    (Refuses s Collection Memory r s' ⊎ ((r ≡ quiet Collection (Done Nothing)) × (s' ≡ record s { collector = released s.collector who })))
+    (λ e. Refuses s Collection e r s')
+
 abbrev pub Flushes : State ℕ → ℕ → Report ℕ → State ℕ → Type 0
 Flushes s who r s' =
     MatchOption (of_guard s.collector who)
@@ -193,7 +205,9 @@ Inserts s who key value r s' =
 abbrev pub after : FinMap nat_cmp ℕ → Op ℕ → Outcome ℕ → FinMap nat_cmp ℕ
 after m Pin o = m
 after m Unpin o = m
+after m Repin o = m
 after m Flush o = m
+after m Release o = m
 after m (Get key) o = m
 after m (Insert key value) (Registered n) = m
 after m (Insert key value) (Done reply) = insert m key value
@@ -203,7 +217,9 @@ after m (Insert key value) (Refused e) = m
 abbrev pub IsReply : FinMap nat_cmp ℕ → Op ℕ → Outcome ℕ → Type 0
 IsReply m Pin o = Unit {0}
 IsReply m Unpin o = Unit {0}
+IsReply m Repin o = Unit {0}
 IsReply m Flush o = Unit {0}
+IsReply m Release o = Unit {0}
 IsReply m (Get key) (Registered n) = ⊥
 IsReply m (Get key) (Done reply) = reply ≡ Got (get m key)
 IsReply m (Get key) (Refused e) = Unit {0}
@@ -219,7 +235,9 @@ AsMap s op r s' = (m : FinMap nat_cmp ℕ) → Represents m s → IsReply m op r
 abbrev pub CallsBy : State ℕ → ℕ → Op ℕ → Report ℕ → State ℕ → Type 0
 CallsBy s who Pin r s' = Pins s who r s'
 CallsBy s who Unpin r s' = Unpins s who r s'
+CallsBy s who Repin r s' = Repins s who r s'
 CallsBy s who Flush r s' = Flushes s who r s'
+CallsBy s who Release r s' = Releases s who r s'
 CallsBy s who (Get key) r s' = Gets s who key r s'
 CallsBy s who (Insert key value) r s' = Inserts s who key value r s'
 

@@ -8,8 +8,8 @@ ghost use Rattle.std.specs.Prelude.{◌≡◌, ◌<◌, ◌≤◌, ◌+◌, ◌^
 ghost use Rattle.std.specs.Prelude.{MatchOption, unwrap_or, true, false, nat_lt, nat_le, slice_index_or, replicate, is_some, drop, IsTrue, ◌↔◌};
 ghost use Rattle.std.specs.List.{list_all};
 ghost use Rattle.joint.specs.Collector.{Clock, place, registered, pinned, pin_collects, unpinned, sealed, deferred, advanced, is_due, is_pinned};
-ghost use Rattle.joint.specs.Collector.{IsRegistered, blank, no_bag, passes, secured, flushed, taken};
-ghost use Rattle.joint.specs.Refusals.{of_pin, of_guard};
+ghost use Rattle.joint.specs.Collector.{IsRegistered, blank, no_bag, passes, secured, flushed, taken, repinned, left, released};
+ghost use Rattle.joint.specs.Refusals.{of_pin, of_guard, of_leave};
 
 use crate::participant::{Participant, Sealed};
 use crate::refusal::Refusal;
@@ -153,6 +153,57 @@ impl Collector {
         } else {
             place.guards -= 1;
         }
+    }
+
+    /// A lone guard of the worker is pinned anew at the epoch.
+    pub fn repin(&mut self, who: u32)
+        requires { of_guard self.old who ≡ None }
+        ensures { self.new ≡ repinned self.old who }
+    {
+        let epoch = self.epoch;
+        let place = &mut self.participants[who as usize];
+        if place.guards > 1 {
+            return;
+        }
+        place.word = Some(epoch);
+    }
+
+    /// Whether the worker may leave.
+    pub fn may_leave(&self, who: u32) -> Result<(), Refusal>
+        ensures { MatchResult result (λ _. of_leave self.now who ≡ None) (λ e. of_leave self.now who ≡ Some e) }
+    {
+        let Some(n) = self.registered(who) else {
+            return Err(Refusal::Unknown);
+        };
+        if self.participants[n].word.is_some() {
+            return Err(Refusal::GuardOut);
+        }
+        Ok(())
+    }
+
+    /// The worker leaves, and its bag is sealed and queued, if it isn't empty. Refused for want of memory alone.
+    pub fn release(&mut self, who: u32) -> Result<(), Refusal>
+        requires { IsRegistered self.old who }
+        ensures state { MatchResult result (λ _. self.new ≡ released self.old who) (λ _. self.new ≡ self.old) }
+        ensures cause { IfErr result (λ e. e ≡ Refusal.Memory) }
+    {
+        self.flush(who)?;
+        self.clear(who as usize);
+        Ok(())
+    }
+
+    /// Frees the worker's place.
+    fn clear(&mut self, who: usize)
+        requires { who < length self.old.table }
+        ensures { self.new ≡ left self.old who }
+    {
+        self.participants[who] = Participant {
+            registered: false,
+            word: None,
+            guards: 0,
+            pins: 0,
+            bag: ArrayVec::new(),
+        };
     }
 
     /// Secures a place in the worker's bag. Refused for want of memory alone.

@@ -30,6 +30,9 @@ pub enum Refusal {
     /// The worker's guards stand at 65,535.
     #[error("the worker has too many guards")]
     Count,
+    /// The worker leaves while a guard of it is out.
+    #[error("a guard is out")]
+    GuardOut,
     /// A limit is out of its range.
     #[error("a limit is out of its range")]
     Limits,

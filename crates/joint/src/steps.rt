@@ -22,7 +22,11 @@ pub enum Event {
 pub enum Op<P> {
     Pin,
     Unpin,
+    /// A lone guard is pinned anew at the present epoch.
+    Repin,
     Flush,
+    /// The worker leaves the table. What it removed waits on.
+    Release,
     Get(u64),
     Insert(u64, P),
 }
@@ -59,7 +63,7 @@ pub enum Outcome<P> {
 /// The reply of a call.
 #[derive(Clone, Copy, Debug, PartialEq, Eq, Drop)]
 pub enum Done<P> {
-    /// Of a pin, an unpin or a flush.
+    /// Of a pin, an unpin, a repin, a flush or a release.
     Unit,
     /// What stands at the key.
     Get(Option<P>),

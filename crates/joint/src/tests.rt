@@ -24,6 +24,16 @@ fn call(world: &mut World<u64, DefaultAllocator>, who: u32, op: Op<u64>) -> Outc
     world.call(who, op, 10_000, &mut []).outcome
 }
 
+#[test]
+fn a_worker_pins_anew_and_leaves(rt: HostRuntime) -> Result<(), Fail> {
+    let mut world = open(&rt, 1, 9)?;
+    call(&mut world, 0, Op::Pin);
+    assert_eq!(rt; call(&mut world, 0, Op::Repin), Outcome::Done(Done::Unit));
+    call(&mut world, 0, Op::Unpin);
+    assert_eq!(rt; call(&mut world, 0, Op::Release), Outcome::Done(Done::Unit));
+    Ok(())
+}
+
 fn rounds(world: &mut World<u64, DefaultAllocator>, who: u32, count: u32) {
     for _ in 0..count {
         call(world, who, Op::Pin);

@@ -346,7 +346,8 @@ impl Tree<u64> {
 
     /// The form of the node in the cell, if it is obsolete.
     fn waiting_form(&self, at: u32) -> Option<Form>
-        ensures { IfSome result (λ f. (at < length self.now.cells) × (is_obsolete self.now at ≡ true) × (is_some (heap self.now at) ≡ true) × (size (cell_at self.now at) ≡ size_of f)) }
+        ensures { IfSome result (λ f. (at < length self.now.cells) × (is_obsolete self.now at ≡ true)
+            × (is_some (heap self.now at) ≡ true) × (size (cell_at self.now at) ≡ size_of f)) }
     {
         let cell = self.cells.get(at as usize)?;
         if cell.obsolete {

@@ -6,7 +6,7 @@ ghost use Rattle.std.specs.List.{sum_by};
 ghost use Rattle.joint.specs.Forest.{sizes, spare, is_free, value_at, heap, plan, waits, waiting_size, Takes, Comes, Spares, IsAsBefore, cell_at};
 ghost use Rattle.joint.specs.Collector.{IsRegistered, place, advanced};
 ghost use Rattle.joint.specs.Machine.{State, Opens, Registers, charged_of, waiting_of, waiting_bytes_of, quiet, Calls, CallsBy, AsMap, Misses};
-ghost use Rattle.joint.specs.Machine.{Empties, Pins, Unpins, Flushes, Gets, Inserts, Collects, IsRestSame, IsUnmade, IsRefusedNode, of_plan};
+ghost use Rattle.joint.specs.Machine.{Empties, Pins, Unpins, Repins, Releases, Flushes, Gets, Inserts, Collects, IsRestSame, IsUnmade, IsRefusedNode, of_plan};
 ghost use Rattle.joint.specs.Machine.{IsCharged, answered};
 
 use crate::allocator::{Allocator, OOMError};
@@ -144,7 +144,9 @@ impl<A: Allocator + Drop> World<u64, A> {
         match op {
             Op::Pin => self.pin(who),
             Op::Unpin => self.unpin(who),
+            Op::Repin => self.repin(who),
             Op::Flush => self.flush(who),
+            Op::Release => self.release(who),
             Op::Get(key) => self.get(who, key),
             Op::Insert(key, value) => self.insert(who, key, value),
         }
@@ -168,6 +170,30 @@ impl<A: Allocator + Drop> World<u64, A> {
                 self.collector.unpin(who);
                 report(Kind::Collection, Outcome::Done(Done::Unit))
             }
+            Err(refusal) => report(Kind::Collection, Outcome::Refused(refusal)),
+        }
+    }
+
+    fn repin(&mut self, who: u32) -> Report<u64>
+        ensures { Repins self.old who result self.new }
+    {
+        match self.collector.guarded(who) {
+            Ok(()) => {
+                self.collector.repin(who);
+                report(Kind::Collection, Outcome::Done(Done::Unit))
+            }
+            Err(refusal) => report(Kind::Collection, Outcome::Refused(refusal)),
+        }
+    }
+
+    fn release(&mut self, who: u32) -> Report<u64>
+        ensures { Releases self.old who result self.new }
+    {
+        if let Err(refusal) = self.collector.may_leave(who) {
+            return report(Kind::Collection, Outcome::Refused(refusal));
+        }
+        match self.collector.release(who) {
+            Ok(()) => report(Kind::Collection, Outcome::Done(Done::Unit)),
             Err(refusal) => report(Kind::Collection, Outcome::Refused(refusal)),
         }
     }

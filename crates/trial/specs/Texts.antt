@@ -20,6 +20,7 @@ refusal_text refusal.Cells = codes "Cells"
 refusal_text refusal.Unpinned = codes "Unpinned"
 refusal_text refusal.Unknown = codes "Unknown"
 refusal_text refusal.Count = codes "Count"
+refusal_text refusal.GuardOut = codes "GuardOut"
 refusal_text refusal.Limits = codes "Limits"
 refusal_text refusal.Later = codes "Later"
 

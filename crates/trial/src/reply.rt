@@ -55,6 +55,7 @@ impl fmt::Display for Refused {
             Refusal::Unpinned => write!(f, "Unpinned"),
             Refusal::Unknown => write!(f, "Unknown"),
             Refusal::Count => write!(f, "Count"),
+            Refusal::GuardOut => write!(f, "GuardOut"),
             Refusal::Limits => write!(f, "Limits"),
             Refusal::Later => write!(f, "Later"),
         }

@@ -25,7 +25,13 @@ fn is_built(command: Command) -> bool
         Command::Register | Command::Charged | Command::Waiting | Command::Round(..) => true,
         Command::Call(_, call) => matches!(
             call,
-            Call::Pin | Call::Unpin | Call::Get(_) | Call::Insert(..)
+            Call::Pin
+                | Call::Unpin
+                | Call::Repin
+                | Call::Flush
+                | Call::Release
+                | Call::Get(_)
+                | Call::Insert(..)
         ),
         _ => false,
     }
@@ -37,6 +43,9 @@ fn op(call: Call) -> Option<Op<u64>>
     match call {
         Call::Pin => Some(Op::Pin),
         Call::Unpin => Some(Op::Unpin),
+        Call::Repin => Some(Op::Repin),
+        Call::Flush => Some(Op::Flush),
+        Call::Release => Some(Op::Release),
         Call::Get(key) => Some(Op::Get(key)),
         Call::Insert(key, value) => Some(Op::Insert(key, value)),
         _ => None,

@@ -15,7 +15,7 @@ fn played(alloc: Global, script: &[u8]) -> (u8, Vec<u8>) {
 
 #[test]
 fn scripts_print_their_replies(rt: HostRuntime) -> Result<(), Fail> {
-    let table: [(&str, u8, &str); 10] = [
+    let table: [(&str, u8, &str); 12] = [
         (
             "new 1 1000\nreg\n0 pin\ncharged\n0 get 1\n",
             0,
@@ -44,6 +44,17 @@ fn scripts_print_their_replies(rt: HostRuntime) -> Result<(), Fail> {
              1 unpin\n0 round 3\nwaiting\n1 round 1\n0 round 3\nwaiting\n",
             0,
             "ok\nworker 0\nworker 1\nok\nnone\nnone\nnone\nnone\nnone\nok\nok\nwaiting 1 64\nok\nok\nwaiting 0 0\n",
+        ),
+        (
+            "new 2 1000\nreg\nreg\n0 pin\n0 insert 1 1\n0 insert 2 2\n0 insert 3 3\n0 insert 4 4\n0 insert 5 5\n\
+             0 unpin\n0 release\nwaiting\n1 round 3\nwaiting\n0 pin\n",
+            0,
+            "ok\nworker 0\nworker 1\nok\nnone\nnone\nnone\nnone\nnone\nok\nok\nwaiting 1 64\nok\nwaiting 0 0\nrefused Unknown\n",
+        ),
+        (
+            "new 1 9\nreg\n0 repin\n0 flush\n0 pin\n0 repin\n0 flush\n0 release\n0 unpin\n0 release\n0 release\nreg\n",
+            0,
+            "ok\nworker 0\nrefused Unpinned\nrefused Unpinned\nok\nok\nok\nrefused GuardOut\nok\nok\nrefused Unknown\nworker 0\n",
         ),
         ("reg", 0, "refused NoTree\n"),
         ("new 2", 2, "bad line 1\n"),

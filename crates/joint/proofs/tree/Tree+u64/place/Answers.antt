@@ -1,5 +1,5 @@
-use Rattle.std.proofs.Common.{◌≡◌, ℕ, ◌+◌, ◌<◌, ◌++◌, ◌∷◌, [], set, length, refl, ◌∙◌, ap, arith, rules, Some, false}
-use Rattle.std.specs.Prelude.{nat_lt}
+use Rattle.std.proofs.Common.{◌≡◌, ℕ, ◌+◌, ◌-◌, ◌<◌, ◌++◌, ◌∷◌, [], set, take, length, refl, ◌∙◌, ap, arith, rules, Some, false}
+use Rattle.std.specs.Prelude.{nat_lt, vec_len}
 use Rattle.std.proofs.lemmas.Grind.{common_steps}
 use Rattle.joint.specs.declared.cell.Cell.{Cell}
 use Rattle.joint.specs.Forest.{Forest, spare, Lists}
@@ -14,6 +14,7 @@ invariant_of-self c =
     let t' : Forest ℕ = record t { cells = set i.cells.items c.args.at x; free = c.pop.new.self.items } in
     let s : spare t ≡ Some c.args.at = ap spare c.self.view_is ∙ c.requires in
     let lt : c.args.at < length i.cells.items = search rules in
-    let split = spare_splits t c.args.at c.pop.new.self.items s lt c.pop.ensures.rest in
+    let long : vec_len i.free ≡ length i.free.items = search rules in
+    let split = spare_splits t c.args.at c.pop.new.self.items s lt (c.pop.ensures.rest ∙ ap (λ n. take (n - 1) i.free.items) long) in
     let kept : Lists t' = lists_used t t' c.pop.new.self.items c.args.at x c.self.invariant.3 split refl refl refl refl in
     (search rules, search rules, first_of (search rules, grind (arith, common_steps)), kept)

@@ -1,7 +1,7 @@
 use Rattle.std.proofs.Common.{ℕ, subst, sym}
 use Rattle.joint.specs.declared.steps.Op.{Op}
 use Rattle.joint.specs.Machine.{AsMap}
-use Rattle.joint.proofs.Maps.{pins_map, unpins_map, flushes_map, gets_map, inserts_map}
+use Rattle.joint.proofs.Maps.{pins_map, unpins_map, repins_map, releases_map, flushes_map, gets_map, inserts_map}
 use Rattle.joint.proofs.world.World+u64+A.run.Goals as goal
 
 pub returns-in-Pin-clause-map : goal.returns-in-Pin-clause-map
@@ -28,3 +28,13 @@ pub returns-in-Insert-clause-map : goal.returns-in-Insert-clause-map
 returns-in-Insert-clause-map g c =
     let P : Op ℕ → Type 0 = λ o. AsMap c.args.self.now o c.insert.result c.insert.new.self in
     subst P (sym c.in-Insert.is) (inserts_map c.args.self.now c.insert.new.self c.args.who c.in-Insert.key c.in-Insert.value c.insert.result c.insert.ensures.key c.insert.ensures.steps)
+
+pub returns-in-Repin-clause-map : goal.returns-in-Repin-clause-map
+returns-in-Repin-clause-map g c =
+    let P : Op ℕ → Type 0 = λ o. AsMap c.args.self.now o c.repin.result c.repin.new.self in
+    subst P (sym c.in-Repin.is) (repins_map c.args.self.now c.repin.new.self c.args.who c.repin.result c.repin.ensures)
+
+pub returns-in-Release-clause-map : goal.returns-in-Release-clause-map
+returns-in-Release-clause-map g c =
+    let P : Op ℕ → Type 0 = λ o. AsMap c.args.self.now o c.release.result c.release.new.self in
+    subst P (sym c.in-Release.is) (releases_map c.args.self.now c.release.new.self c.args.who c.release.result c.release.ensures)
