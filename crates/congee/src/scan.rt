@@ -236,10 +236,10 @@ impl<A: Allocator> Arena<u64, A> {
         let mut count = 0;
         while count < out.len() {
             match self.first_along(&mut path, from) {
-                Some((key, value)) if key < end => {
-                    out[count] = (key.to_be_bytes(), *value);
+                Some((number, value)) if number < end => {
+                    out[count] = (number.to_be_bytes(), *value);
                     count += 1;
-                    from = key + 1;
+                    from = number + 1;
                 }
                 _ => return count,
             }

@@ -13,11 +13,11 @@ pub loop-count-preserved : goal.loop-count-preserved
 loop-count-preserved g c =
     let m = (pairs_of c.args.self.now.nodes) in
     let i = c.loop-count.invariant.1 in
-    let first = range_first m c.loop-count.from c.args.end c.in-Some.key c.in-Some.value.now c.in-Some.ensures.first c.if-key-end.true in
-    let bytes : c.to_be_bytes.result ≡ key_bytes c.in-Some.key = c.to_be_bytes.ensures in
+    let first = range_first m c.loop-count.from c.args.end c.in-Some.number c.in-Some.value.now c.in-Some.ensures.first c.if-number-end.true in
+    let bytes : c.to_be_bytes.result ≡ key_bytes c.in-Some.number = c.to_be_bytes.ensures in
     let same = length-set c.loop-count.out c.loop-count.count (c.to_be_bytes.result, c.in-Some.value.now) in
-    let pairs : take c.loop-count.count c.loop-count.out ++ take (length c.args.out.now - c.loop-count.count) ((c.to_be_bytes.result, c.in-Some.value.now) ∷ by_bytes (in_range (c.in-Some.key + 1) c.args.end (map.entries m))) ≡ take (length c.args.out.now) (by_bytes (in_range c.args.start c.args.end (map.entries m))) =
-    ap (λ b. take c.loop-count.count c.loop-count.out ++ take (length c.args.out.now - c.loop-count.count) ((b, c.in-Some.value.now) ∷ by_bytes (in_range (c.in-Some.key + 1) c.args.end (map.entries m)))) bytes
+    let pairs : take c.loop-count.count c.loop-count.out ++ take (length c.args.out.now - c.loop-count.count) ((c.to_be_bytes.result, c.in-Some.value.now) ∷ by_bytes (in_range (c.in-Some.number + 1) c.args.end (map.entries m))) ≡ take (length c.args.out.now) (by_bytes (in_range c.args.start c.args.end (map.entries m))) =
+    ap (λ b. take c.loop-count.count c.loop-count.out ++ take (length c.args.out.now - c.loop-count.count) ((b, c.in-Some.value.now) ∷ by_bytes (in_range (c.in-Some.number + 1) c.args.end (map.entries m)))) bytes
     ∙ ap (λ r. take c.loop-count.count c.loop-count.out ++ take (length c.args.out.now - c.loop-count.count) (by_bytes r)) (sym first) ∙ i.1.1.1 in (
       c.first_along.ensures.path,
       (
@@ -26,7 +26,7 @@ loop-count-preserved g c =
           same ∙ i.1.0,
           (
             rest_kept c.loop-count.out c.args.out.now c.loop-count.count (c.to_be_bytes.result, c.in-Some.value.now) c.loop-count-test.true i.1.1.0,
-            pair_written c.loop-count.out c.loop-count.count (length c.args.out.now) (c.to_be_bytes.result, c.in-Some.value.now) (by_bytes (in_range (c.in-Some.key + 1) c.args.end (map.entries m))) (take (length c.args.out.now) (by_bytes (in_range c.args.start c.args.end (map.entries m)))) c.loop-count-test.true (sym i.1.0) pairs,
+            pair_written c.loop-count.out c.loop-count.count (length c.args.out.now) (c.to_be_bytes.result, c.in-Some.value.now) (by_bytes (in_range (c.in-Some.number + 1) c.args.end (map.entries m))) (take (length c.args.out.now) (by_bytes (in_range c.args.start c.args.end (map.entries m)))) c.loop-count-test.true (sym i.1.0) pairs,
           ),
         ),
       ),
@@ -36,7 +36,7 @@ pub returns-in_default-clause-pairs : goal.returns-in_default-clause-pairs
 returns-in_default-clause-pairs g c =
     let m = (pairs_of c.args.self.now.nodes) in
     range_ended c.loop-count.out (by_bytes (in_range c.loop-count.from c.args.end (map.entries m))) (take (length c.args.out.now) (by_bytes (in_range c.args.start c.args.end (map.entries m)))) c.loop-count.count (length c.args.out.now - c.loop-count.count) c.loop-count.invariant.1.1.1.1
-    (ap by_bytes (range_none m c.loop-count.from c.args.end (λ q lo hi. c.in-Some.ensures.first.before q lo (omega (arith, hi, c.if-key-end.false)))))
+    (ap by_bytes (range_none m c.loop-count.from c.args.end (λ q lo hi. c.in-Some.ensures.first.before q lo (omega (arith, hi, c.if-number-end.false)))))
     ∙ take_by_bytes (length c.args.out.now) (in_range c.args.start c.args.end (map.entries m))
 
 pub returns-in_default-clause-count : goal.returns-in_default-clause-count
