@@ -1,5 +1,5 @@
 -- A tree as it begins: a root alone.
-use Rattle.std.specs.Prelude.{◌≡◌, ℕ, false, []}
+use Rattle.std.specs.Prelude.{◌≡◌, ◌≢◌, ℕ, false, []}
 use Rattle.congee.specs.Heap.{Node, Nothing, Stands}
 
 -- the root stands, empty, with 256 places, and wasn't handed over
