@@ -5,7 +5,7 @@ pub returns : goal.returns
 returns g c = record {
   moves = λ s who event r o is. moves s who event r o is;
   opened = λ limits roots. opened_rests limits roots;
-  empty = λ limits roots f. opened_weighs _ limits roots f;
+  empty = λ limits roots f. opened_weighs g.row.T.Denot limits roots f;
   registered = λ s n lt o. registered_keeps s n lt o;
   deferred = λ s who work lt room o. deferred_keeps s who work lt room o;
 }
