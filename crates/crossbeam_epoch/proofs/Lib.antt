@@ -1,5 +1,6 @@
 pub mod Endings
 pub mod FreeCells
+pub mod Givens
 pub mod Grace
 pub mod Jobs
 pub mod Leads

@@ -25,11 +25,12 @@ use Rattle.crossbeam_epoch.specs.declared.report.Report.{Report}
 use Rattle.crossbeam_epoch.specs.declared.report.Step.{Step}
 use Rattle.crossbeam_epoch.specs.History.{Mark, Unpinned, Deferred}
 use Rattle.crossbeam_epoch.specs.Machine.{State, place, in_phase, is_due, taken, called_one, no_entry, destroys, after_work, opened, registered, with_store, with_roots, after_deferral, deferred, deferred_anew, name_of}
-use Rattle.crossbeam_epoch.specs.Store.{Store, fresh, cell_at, value_in, value_at, emptied, replaced, placed, with_cell, is_usable, IsNext}
+use Rattle.crossbeam_epoch.specs.Store.{Store, fresh, cell_at, value_in, value_at, emptied, replaced, placed, with_cell, is_usable, IsNext, was_given}
 use Rattle.crossbeam_epoch.specs.Steps.{after, gone, needs_memory, called_by, called_entry, called_in, defer_fault, destroy_fault, IsReport, begin_marks, phase_marks, moved_marks, unless_refused, marks, state_after, AreReports}
 use Rattle.crossbeam_epoch.specs.Fits.{Fits, IsTable}
-use Rattle.crossbeam_epoch.specs.Reach.{Act, Quiet, Marked, Moment, with_act, marks_of, IsEnd, moment, Tells, newest, step_act, moments_after, GivenBack}
+use Rattle.crossbeam_epoch.specs.Reach.{Act, Quiet, Marked, Moment, WasLive, with_act, marks_of, IsEnd, moment, Tells, newest, step_act, moments_after, GivenBack}
 use Rattle.crossbeam_epoch.proofs.Runs.{fits_after, fits_opened, fits_place, fits_store, fits_roots, fits_deferral, fits_removal, no_destroy_fault}
+use Rattle.crossbeam_epoch.proofs.Givens.{Keeps, live_given, emptied_keeps, replaced_keeps, placed_keeps, after_keeps, next_new}
 use Rattle.crossbeam_epoch.proofs.Tables.{table_is, table_after, table_new, table_registered, table_deferral}
 
 unpin_act : (b : Bool) (who : ℕ) (h : List Mark) → with_act (newest (if b then Unpinned who ∷ [] else [])) h ≡ (if b then Unpinned who ∷ h else h)
@@ -260,13 +261,14 @@ module _ {T J : Type 0} where
 
   -- a call or a step tells what it destroys
   pub tells_act : (names : T → List Name) (h : List Moment) (s s' : State T J) (act : Act) → Tells names h s → Fits (with_act act (marks_of h)) s'
-      → ((n : Name) → is_some (value_at s.store n) ≡ true → is_some (value_at s'.store n) ≡ false → IsEnd act n) → IsTable s'.limits.participants s'.table → Tells names (moment names act s' ∷ h) s'
-  tells_act names [] s s' act t f ends table = absurd t.now
-  tells_act names (b ∷ h) s s' act t f ends table = record {
+      → ((n : Name) → is_some (value_at s.store n) ≡ true → is_some (value_at s'.store n) ≡ false → IsEnd act n) → IsTable s'.limits.participants s'.table → Keeps s.store s'.store → Tells names (moment names act s' ∷ h) s'
+  tells_act names [] s s' act t f ends table keeps = absurd t.now
+  tells_act names (b ∷ h) s s' act t f ends table keeps = record {
     fits = f;
     now = (refl, λ n. refl, λ n. refl);
     ends = ((λ n live gone. ends n (sym (t.now.1 n) ∙ live) gone), t.ends);
     table = table;
+    given = λ n was. elim was [ inl now ↦ live_given s'.store n now | inr before ↦ keeps n (t.given n before) ];
   }
 
   pub tells_after : (names : T → List Name) (h : List Moment) (s : State T J) (who : ℕ) (event : Event) (r : Report) → IsReport s who event r → Tells names h s
@@ -275,7 +277,7 @@ module _ {T J : Type 0} where
       tells_act names h s (after s who event r.outcome) (step_act s who event r) t
       (subst (λ g. Fits g (after s who event r.outcome)) (sym (marks_act s who event r (marks_of h))) (fits_after (marks_of h) s who event r is t.fits))
       (λ n live gone. step_ends s who event r n is live gone)
-      (table_after s who event r is t.table)
+      (table_after s who event r is t.table) (after_keeps s who event r.outcome)
 
   pub tells_run : (names : T → List Name) (h : List Moment) (s : State T J) (steps : List Step) (reports : List Report) → AreReports s steps reports → Tells names h s → Tells names (moments_after names s steps reports h) (state_after s steps reports)
   tells_run names h s [] [] are t = t
@@ -286,11 +288,11 @@ module _ {T J : Type 0} where
       (tells_after names h s step.who step.event r are.0 t)
 
   pub tells_opened : (names : T → List Name) (limits : Limits) (roots : ℕ) (s : State T J) → s ≡ opened limits roots → limits.expiry ≡ 2 → Tells names (moment names Quiet s ∷ []) s
-  tells_opened names limits roots s is two = rw is (record { fits = fits_opened limits roots (omega (arith, two)); now = (refl, λ n. refl, λ n. refl); ends = tt; table = table_new limits.participants })
+  tells_opened names limits roots s is two = rw is (record { fits = fits_opened limits roots (omega (arith, two)); now = (refl, λ n. refl, λ n. refl); ends = tt; table = table_new limits.participants; given = λ n was. elim was [ inl now ↦ live_given (opened {T = T} {J = J} limits roots).store n now | inr before ↦ absurd before ] })
 
   -- a call that leaves the cells as they are
   tells_same : (names : T → List Name) (h : List Moment) (s s' : State T J) (act : Act) → Tells names h s → Fits (with_act act (marks_of h)) s' → s'.store ≡ s.store → IsTable s'.limits.participants s'.table → Tells names (moment names act s' ∷ h) s'
-  tells_same names h s s' act t f same table = tells_act names h s s' act t f (λ n live gone. same_ends s.store s'.store n same live gone) table
+  tells_same names h s s' act t f same table = tells_act names h s s' act t f (λ n live gone. same_ends s.store s'.store n same live gone) table (λ n given. ap (λ (x : Store T). was_given x n) same ∙ given)
 
   pub tells_place : (names : T → List Name) (h : List Moment) (s s' : State T J) (r : Result ℕ Fault) → MatchResult r (λ n. s' ≡ registered s n) (λ e. (e ≡ F.TableFull) × (s' ≡ s)) → IfOk r (λ n. (n < length s.table) × ((place s n).registered ≡ false)) → Tells names h s → Tells names (moment names Quiet s' ∷ h) s'
   tells_place names h s s' r is free t = tells_same names h s s' Quiet t (fits_place (marks_of h) s s' r is free t.fits) (by_result r is) (by_table r is)
@@ -343,6 +345,7 @@ module _ {T J : Type 0} where
       tells_act names h s s' Quiet t (rw on.1 (fits_store (marks_of h) s (with_store s (placed s.store name v)) refl t.fits))
       (λ n live gone. absurd (cc (placed_lives s.store name n v on.0 live, ap (λ (x : State T J). lives x.store n) on.1, gone)))
       (table_is s' (with_store s (placed s.store name v)) on.1 t.table)
+      (rw on.1 (placed_keeps s.store name v on.0 (λ j ne. cell_with s.store name.cell j (record { turns = name.turn + 1; value = Some v }) on.0.near ne)))
   tells_placed names h s s' v (Err e) on back t = tells_same names h s s' Quiet t (rw back.2 t.fits) (ap (λ (x : State T J). x.store) back.2) (table_is s' s back.2 t.table)
 
   pub tells_given_back : (names : T → List Name) (h : List Moment) (s s' : State T J) (name : Name) (r : Result T Fault) → IfOk r (λ v. (value_at s.store name ≡ Some v) × (s' ≡ with_store s (emptied s.store name.cell))) → IfErr r (λ e. (value_at s.store name ≡ None) × (e ≡ F.Unknown) × (s' ≡ s)) → Tells names h s
@@ -350,16 +353,21 @@ module _ {T J : Type 0} where
   tells_given_back names h s s' name (Ok v) on back t =
       tells_act names h s s' (GivenBack name) t (rw on.1 (fits_store (marks_of h) s (with_store s (emptied s.store name.cell)) refl t.fits))
       (λ n live gone. emptied_gone s.store name n (ap is_some on.0) live (sym (ap (λ (x : State T J). lives x.store n) on.1) ∙ gone))
-      (table_is s' (with_store s (emptied s.store name.cell)) on.1 t.table)
+      (table_is s' (with_store s (emptied s.store name.cell)) on.1 t.table) (rw on.1 (emptied_keeps s.store name.cell))
   tells_given_back names h s s' name (Err e) on back t = tells_same names h s s' Quiet t (rw back.2 t.fits) (ap (λ (x : State T J). x.store) back.2) (table_is s' s back.2 t.table)
 
   pub tells_replaced : (names : T → List Name) (h : List Moment) (s s' : State T J) (name : Name) (w : T) (r : Result T (Fault × T)) → IfOk r (λ v. (value_at s.store name ≡ Some v) × (s' ≡ with_store s (replaced s.store name.cell w))) → IfErr r (λ e. (value_at s.store name ≡ None) × (e.0 ≡ F.Unknown) × (e.1 ≡ w) × (s' ≡ s)) → Tells names h s → Tells names (moment names Quiet s' ∷ h) s'
   tells_replaced names h s s' name w (Ok v) on back t =
       tells_act names h s s' Quiet t (rw on.1 (fits_store (marks_of h) s (with_store s (replaced s.store name.cell w)) refl t.fits))
       (λ n live gone. absurd (cc (replaced_lives s.store name.cell n w live, ap (λ (x : State T J). lives x.store n) on.1, gone)))
-      (table_is s' (with_store s (replaced s.store name.cell w)) on.1 t.table)
+      (table_is s' (with_store s (replaced s.store name.cell w)) on.1 t.table) (rw on.1 (replaced_keeps s.store name.cell w))
   tells_replaced names h s s' name w (Err e) on back t = tells_same names h s s' Quiet t (rw back.3 t.fits) (ap (λ (x : State T J). x.store) back.3) (table_is s' s back.3 t.table)
 
   pub opened_told : {E : Type 0} (names : T → List Name) (limits : Limits) (roots : ℕ) (r : Result (State T J) E) → IfOk r (λ s. s ≡ opened limits roots) → IfOk r (λ s. limits.expiry ≡ 2 → Tells names (moment names Quiet s ∷ []) s)
   opened_told names limits roots (Ok s) is = λ two. tells_opened names limits roots s is two
   opened_told names limits roots (Err e) is = tt
+
+  -- a name that is placed was never live before
+  pub placed_new : (names : T → List Name) (s s' : State T J) (v : T) (r : Result Name (Fault × T)) → IfOk r (λ name. IsNext s.store name × (s' ≡ with_store s (placed s.store name v))) → IfOk r (λ name. (h : List Moment) → Tells names h s → WasLive h name → ⊥)
+  placed_new names s s' v (Ok name) on = λ h t was. next_new s.store name on.0 (t.given name was)
+  placed_new names s s' v (Err e) on = tt

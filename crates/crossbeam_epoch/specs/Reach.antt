@@ -8,7 +8,7 @@ use Rattle.crossbeam_epoch.specs.declared.report.Report.{Report}
 use Rattle.crossbeam_epoch.specs.declared.report.Step.{Step}
 use Rattle.crossbeam_epoch.specs.History.{Mark, Pinned, Repinned, Unpinned, Deferred, Called, WasDeferred}
 use Rattle.crossbeam_epoch.specs.Machine.{State}
-use Rattle.crossbeam_epoch.specs.Store.{Store, value_at}
+use Rattle.crossbeam_epoch.specs.Store.{Store, value_at, was_given}
 use Rattle.crossbeam_epoch.specs.Steps.{after, marks}
 use Rattle.crossbeam_epoch.specs.Fits.{Fits, IsTable}
 
@@ -50,6 +50,11 @@ IsIn m n = InReach m.roots m.links n
 abbrev pub WasIn : List Moment → Name → Type 0
 WasIn [] n = ⊥
 WasIn (m ∷ h) n = IsIn m n ⊎ WasIn h n
+
+-- the name wasn't destroyed at some moment
+abbrev pub WasLive : List Moment → Name → Type 0
+WasLive [] n = ⊥
+WasLive (m ∷ h) n = (m.live n ≡ true) ⊎ WasLive h n
 
 -- the act begins or ends a stretch of p
 abbrev pub mark_turns : Mark → ℕ → Bool
@@ -139,6 +144,7 @@ pub record Tells {T J : Type 0} (names : T → List Name) (h : List Moment) (s :
   pub now : IsNow names h s
   pub ends : EndsTold h
   pub table : IsTable s.limits.participants s.table
+  pub given : (n : Name) → WasLive h n → was_given s.store n ≡ true
 
 -- the act of a step: the mark that it adds
 abbrev pub newest : List Mark → Act

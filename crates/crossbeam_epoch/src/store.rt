@@ -5,7 +5,7 @@ ghost use Rattle.std.specs.Option.{option_copied};
 ghost use Rattle.crossbeam_epoch.specs.Machine.{with_store};
 ghost use Rattle.crossbeam_epoch.specs.Store.{value_at, IsNext, placed, emptied, replaced, is_usable};
 ghost use Rattle.crossbeam_epoch.specs.declared.names.Name.{Name};
-ghost use Rattle.crossbeam_epoch.specs.Reach.{Moment, Quiet, GivenBack, moment, Tells, KeepsLinks, Visible, links_of};
+ghost use Rattle.crossbeam_epoch.specs.Reach.{Moment, Quiet, GivenBack, moment, Tells, WasLive, KeepsLinks, Visible, links_of};
 
 use crate::fault::Fault;
 use crate::names::{Links, Name, Pointable};
@@ -19,6 +19,7 @@ impl<T: Links + Pointable + Drop, J: Task> World<T, J> {
         ensures back { IfErr result (λ e. (e.0 ≡ Fault.CellsFull) × (e.1 ≡ value) × (self.new ≡ self.old)) }
         ensures told { (h : List Moment) → Tells T.names h self.old → Tells T.names (moment T.names Quiet self.new ∷ h) self.new }
         ensures full { OnErr result ((i : ℕ) → is_usable self.old.store i ≡ false) }
+        ensures fresh { IfOk result (λ name. (h : List Moment) → Tells T.names h self.old → WasLive h name → ⊥) }
     {
         self.put_value(value)
     }
