@@ -1,6 +1,6 @@
 -- With nobody registered the jobs that are left stand in the queue, and each of them may be called.
-use Rattle.std.proofs.Common.{◌≡◌, ℕ, zero, suc, ◌+◌, ◌-◌, ◌<◌, ◌≤◌, Bool, true, false, List, [], ◌∷◌, ◌++◌, ◌==◌, Option, Some, None, refl, sym, ◌∙◌, ap, subst, inl, inr, length, arith, get_or, ◌⊎◌, length-append}
-use Rattle.std.specs.Prelude.{if◌then◌else◌, nat_lt, remove}
+use Rattle.std.proofs.Common.{◌≡◌, ℕ, zero, suc, ◌+◌, ◌-◌, ◌<◌, ◌≤◌, Bool, true, false, List, [], ◌∷◌, ◌++◌, ◌==◌, None, refl, sym, ◌∙◌, ap, inl, inr, length, arith, get_or, ◌⊎◌, length-append}
+use Rattle.std.specs.Prelude.{if◌then◌else◌, remove}
 use Rattle.std.specs.List.{Contains, sum_by}
 use Rattle.std.proofs.lemmas.Bool.{cases_lt}
 use Rattle.std.proofs.lemmas.Bool.Decides.{nat_tests}
@@ -13,8 +13,8 @@ use Rattle.crossbeam_epoch.specs.declared.names.Name.{Name}
 use Rattle.crossbeam_epoch.specs.declared.places.Participant.{Participant}
 use Rattle.crossbeam_epoch.specs.declared.places.Sealed.{Sealed}
 use Rattle.crossbeam_epoch.specs.Ending.{registered_below, registered_in, jobs_of, after_jobs, history_of_calls, IsEnded}
-use Rattle.crossbeam_epoch.specs.Fits.{Fits, IsTable, AreAccepted, at_place, in_bag, has_ticket, one}
-use Rattle.crossbeam_epoch.specs.History.{Mark, Called, began, blocks, calls, deferrals, IsGraceful, AreCalledLater, WasDeferred}
+use Rattle.crossbeam_epoch.specs.Fits.{Fits, IsTable, at_place, in_bag, has_ticket, one}
+use Rattle.crossbeam_epoch.specs.History.{Mark, Called, began, blocks, calls, IsGraceful, AreCalledLater, WasDeferred}
 use Rattle.crossbeam_epoch.specs.Machine.{State, place, blank, destroys, after_work}
 use Rattle.crossbeam_epoch.specs.Reach.{Moment, marks_of, Tells}
 use Rattle.crossbeam_epoch.specs.Store.{Store}

@@ -1,5 +1,5 @@
 -- Bounds of tags.
-use Rattle.std.proofs.Common.{◌≡◌, ℕ, ◌<◌, ◌≤◌, ◌^◌, ◌%◌, arith, sym, subst}
+use Rattle.std.proofs.Common.{◌≡◌, ℕ, ◌<◌, ◌≤◌, ◌^◌, ◌%◌, arith, sym}
 use Rattle.std.specs.Prelude.{bit_or, bit_xor}
 use Rattle.std.proofs.Common.{lit<}
 use Rattle.std.proofs.Math.Nat.{mod-lt, pow-le-pow_right}

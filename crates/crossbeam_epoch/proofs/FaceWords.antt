@@ -1,5 +1,5 @@
 -- The words of a collector.
-use Rattle.std.proofs.Common.{◌≡◌, ℕ, ◌+◌, ◌≤◌, Bool, false, not, refl, sym, ap, ◌∙◌, arith}
+use Rattle.std.proofs.Common.{◌≡◌, ℕ, ◌+◌, false, not, sym, ap, ◌∙◌, arith}
 use Rattle.std.specs.Prelude.{List, Some, nat_eq, slice_get, slice_set}
 use Rattle.std.specs.List.{list_any}
 use Rattle.std.proofs.lemmas.Bool.{eqb-true, not-false, false_from_ne_true, false≢true}

@@ -1,13 +1,12 @@
 -- A name that was given stays one that was given.
-use Rattle.std.proofs.Common.{◌≡◌, ℕ, ◌+◌, ◌<◌, ◌≤◌, ◌≢◌, Bool, true, false, List, [], ◌∷◌, ◌++◌, ◌==◌, Option, Some, None, refl, sym, ◌∙◌, ap, inl, inr, length, arith, get_or, set, get_or-set_same, get_or-set_other}
+use Rattle.std.proofs.Common.{◌≡◌, ℕ, ◌+◌, ◌≤◌, ◌≢◌, Bool, true, false, [], ◌∷◌, ◌++◌, ◌==◌, Option, Some, None, refl, ap, inl, inr, length, arith, get_or, set, get_or-set_same, get_or-set_other}
 use Rattle.std.specs.Prelude.{if◌then◌else◌, is_some, nat_lt, ◌&&◌}
 use Rattle.std.proofs.lemmas.Bool.{cases_eq, cases_lt}
 use Rattle.std.proofs.lemmas.Bool.Decides.{nat_tests}
-use Rattle.std.proofs.lemmas.List.{get_or_past, set_past, get_or_push}
+use Rattle.std.proofs.lemmas.List.{set_past, get_or_push}
 use Rattle.crossbeam_epoch.specs.declared.bag.Work.{Work}
 use Rattle.crossbeam_epoch.specs.declared.bag.Work.TheVariants.{Blank, Remove, Run}
 use Rattle.crossbeam_epoch.specs.declared.cells.Cell.{Cell}
-use Rattle.crossbeam_epoch.specs.declared.fault.Fault.{Fault}
 use Rattle.crossbeam_epoch.specs.declared.fault.Fault.TheVariants as F
 use Rattle.crossbeam_epoch.specs.declared.names.Name.{Name}
 use Rattle.crossbeam_epoch.specs.declared.places.Phase.{Phase}
@@ -18,7 +17,7 @@ use Rattle.crossbeam_epoch.specs.declared.report.Outcome.{Outcome}
 use Rattle.crossbeam_epoch.specs.declared.report.Outcome.TheVariants.{Running, Done, Refused}
 use Rattle.crossbeam_epoch.specs.Machine.{State, place, in_phase, is_due, taken, called_one, no_entry, after_work}
 use Rattle.crossbeam_epoch.specs.Steps.{after, gone, moved, needs_memory}
-use Rattle.crossbeam_epoch.specs.Store.{Store, fresh, cell_at, value_in, value_at, was_given, with_cell, emptied, replaced, placed, IsNext}
+use Rattle.crossbeam_epoch.specs.Store.{Store, fresh, cell_at, value_at, was_given, with_cell, emptied, replaced, placed, IsNext}
 
 module _ {T : Type 0} where
   -- names stay given

@@ -1,12 +1,11 @@
 -- A place that nobody holds is blank, whatever steps were taken.
-use Rattle.std.proofs.Common.{◌≡◌, ℕ, ◌+◌, ◌-◌, ◌<◌, ◌≤◌, Bool, true, false, List, [], ◌∷◌, ◌++◌, ◌==◌, Option, Some, None, refl, sym, ◌∙◌, ap, inl, inr, length, arith, replicate, get_or, set, get_or-set_same, get_or-set_other, length-set}
-use Rattle.std.specs.Prelude.{if◌then◌else◌, is_none, nat_le, nat_lt, ◌&&◌, remove, slice_index_or, Result, Ok, Err, IfOk, IfErr, OnOk, OnErr, MatchResult, MatchOption}
+use Rattle.std.proofs.Common.{◌≡◌, ℕ, ◌+◌, ◌-◌, Bool, true, false, List, [], ◌∷◌, ◌++◌, ◌==◌, Option, Some, None, refl, ap, inl, inr, length, replicate, set, get_or-set_same, get_or-set_other, length-set}
+use Rattle.std.specs.Prelude.{if◌then◌else◌, is_none, nat_le, nat_lt, ◌&&◌, remove, slice_index_or}
 use Rattle.std.proofs.lemmas.Bool.{cases_eq, cases_lt}
 use Rattle.std.proofs.lemmas.List.{get_or_past, set_past, length-replicate, get_or-replicate}
 use Rattle.crossbeam_epoch.specs.declared.bag.Work.{Work}
 use Rattle.crossbeam_epoch.specs.declared.fault.Fault.{Fault}
 use Rattle.crossbeam_epoch.specs.declared.fault.Fault.TheVariants as F
-use Rattle.crossbeam_epoch.specs.declared.limits.Limits.{Limits}
 use Rattle.crossbeam_epoch.specs.declared.places.Participant.{Participant}
 use Rattle.crossbeam_epoch.specs.declared.places.Phase.{Phase}
 use Rattle.crossbeam_epoch.specs.declared.places.Phase.TheVariants.{Idle, Look, Publish, RepinLook, RepinPublish, Seal, Queue, ReleaseSeal, ReleaseQueue, Secure, SecureSeal, SecureQueue, Load, Inspect, Advance, Take, Call}
@@ -18,7 +17,7 @@ use Rattle.crossbeam_epoch.specs.declared.report.Outcome.{Outcome}
 use Rattle.crossbeam_epoch.specs.declared.report.Outcome.TheVariants.{Running, Done, Refused}
 use Rattle.crossbeam_epoch.specs.declared.report.Report.{Report}
 use Rattle.crossbeam_epoch.specs.Fits.{IsTable}
-use Rattle.crossbeam_epoch.specs.Machine.{State, place, blank, no_bag, after_call, published, relooked, repinned, secured, inspection, in_phase, opened, registered, is_due, taken, called_one, deferred, deferred_anew, after_deferral}
+use Rattle.crossbeam_epoch.specs.Machine.{State, place, blank, no_bag, after_call, published, relooked, repinned, secured, inspection, in_phase, registered, is_due, taken, called_one, deferred, deferred_anew, after_deferral}
 use Rattle.crossbeam_epoch.specs.Steps.{after, gone, moved, begun_at, needs_memory, fault, event_fault, defer_fault, or_count, quiet_fault, IsOutcome, IsReport}
 use Rattle.crossbeam_epoch.proofs.Runs.{known}
 

@@ -1,5 +1,5 @@
 -- The words of a collector.
-use Rattle.std.specs.Prelude.{ℕ, ◌≡◌, ◌≤◌, ◌+◌, Bool, true, false, ◌&&◌, not, nat_eq, nat_lt, if◌then◌else◌, List, Option, Some, slice_get, slice_set}
+use Rattle.std.specs.Prelude.{ℕ, ◌≡◌, ◌≤◌, ◌+◌, Bool, true, false, ◌&&◌, not, nat_eq, nat_lt, if◌then◌else◌, List, Some, slice_get, slice_set}
 use Rattle.std.specs.List.{list_any}
 use Rattle.crossbeam_epoch.specs.declared.epoch.Word.{Word}
 use Rattle.crossbeam_epoch.specs.declared.epoch.Word.TheVariants.{Free, Unpinned, Pinned}

@@ -1,4 +1,3 @@
-use Rattle.std.proofs.Common.{refl}
 use Rattle.crossbeam_epoch.proofs.FaceWords.{written_same}
 use Rattle.crossbeam_epoch.specs.declared.epoch.Word.TheVariants.{Pinned}
 use Rattle.crossbeam_epoch.proofs.epoch.Words.repin.Goals as goal
