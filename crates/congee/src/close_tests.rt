@@ -1,4 +1,6 @@
 //! Owned trees that are closed, number trees, and sequences beside a `BTreeMap`.
+ghost use Rattle.std.specs.Prelude.{◌≤◌};
+
 use crate::{Allocator, Calls, Congee, DefaultAllocator, Limited, NoDrain, U64Congee};
 use std::alloc::Global;
 use std::collections::BTreeMap;
