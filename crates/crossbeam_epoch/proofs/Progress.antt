@@ -1,11 +1,11 @@
 -- What a step makes of the jobs and the cells, and how a call goes on to its end.
-use Rattle.std.proofs.Common.{◌≡◌, ◌≢◌, ℕ, zero, suc, ◌+◌, ◌-◌, ◌*◌, ◌<◌, ◌≤◌, Bool, true, false, List, [], ◌∷◌, ◌++◌, ◌==◌, ◌&&◌, Option, Some, None, refl, sym, ◌∙◌, ap, subst, inl, inr, length, arith, get_or-set_same, get_or-set_other, length-set}
+use Rattle.std.proofs.Common.{◌≡◌, ℕ, suc, ◌+◌, ◌-◌, ◌<◌, ◌≤◌, Bool, true, false, List, [], ◌∷◌, ◌++◌, ◌==◌, ◌&&◌, Option, Some, None, refl, sym, ◌∙◌, ap, subst, inl, inr, length, arith, get_or-set_same, get_or-set_other, length-set}
 use Rattle.std.specs.Prelude.{slice_index_or, if◌then◌else◌, nat_lt, nat_le, is_none, drop, remove, slice_set}
 use Rattle.std.specs.List.{Contains, sum_by}
 use Rattle.std.proofs.lemmas.Bool.{cases_eq, cases_lt}
 use Rattle.std.proofs.lemmas.Bool.Decides.{nat_tests}
-use Rattle.std.proofs.lemmas.List.{set-get_or, set_past, length_push}
-use Rattle.std.proofs.lemmas.List.Sums.{sum_by-append, sum_by-set, get_or-le-sum_by}
+use Rattle.std.proofs.lemmas.List.{set_past, length_push}
+use Rattle.std.proofs.lemmas.List.Sums.{sum_by-append, sum_by-set}
 use Rattle.std.proofs.lemmas.List.Elements.{Contains-push_cases, Contains-get_or}
 use Rattle.crossbeam_epoch.specs.declared.bag.Entry.{Entry}
 use Rattle.crossbeam_epoch.specs.declared.bag.Work.{Work}
@@ -25,8 +25,8 @@ use Rattle.crossbeam_epoch.specs.declared.report.Outcome.{Outcome}
 use Rattle.crossbeam_epoch.specs.declared.report.Outcome.TheVariants.{Running, Done, Refused}
 use Rattle.crossbeam_epoch.specs.declared.report.Report.{Report}
 use Rattle.crossbeam_epoch.specs.Fits.{HandFits, at_place, in_bag, weight}
-use Rattle.crossbeam_epoch.specs.Machine.{State, place, blank, with_place, in_phase, published, is_at, relooked, repinned, secured, has_free, advanced, queued, left, inspection, inspected, ends_advance, is_due, no_bag, taken, took, after_call, called, called_one, no_entry, destroys, after_work, opened, registered, with_store, with_roots, deferred}
-use Rattle.crossbeam_epoch.specs.Steps.{fault, event_fault, begin_fault, outcome_at, begun_at, begun, gone, moved, needs_memory, given_up, after, called_entry, called_by, called_in, IsOutcome, IsReport}
+use Rattle.crossbeam_epoch.specs.Machine.{State, place, blank, with_place, in_phase, published, relooked, repinned, secured, queued, left, inspection, is_due, no_bag, taken, after_call, called_one, no_entry, after_work, opened, registered, deferred}
+use Rattle.crossbeam_epoch.specs.Steps.{fault, event_fault, begun, gone, moved, needs_memory, after, called_entry, called_by, called_in, IsOutcome, IsReport}
 use Rattle.crossbeam_epoch.specs.Store.{Store}
 use Rattle.crossbeam_epoch.specs.Progress.{Orderly, Calls, Moves, Keeps, IsResting, collects}
 use Rattle.crossbeam_epoch.proofs.Moves.{none_in, contains_tail, none_in_hand}

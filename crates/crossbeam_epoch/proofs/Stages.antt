@@ -1,10 +1,8 @@
 -- A call comes from stage to stage, and takes fewer and fewer steps more.
-use Rattle.std.proofs.Common.{◌≡◌, ℕ, zero, suc, ◌+◌, ◌-◌, ◌*◌, ◌<◌, ◌≤◌, Bool, true, false, List, [], ◌∷◌, ◌==◌, ◌&&◌, Option, Some, None, refl, sym, ◌∙◌, ap, subst, inl, inr, length, arith, get_or-set_same, length-set}
+use Rattle.std.proofs.Common.{◌≡◌, ℕ, ◌+◌, ◌-◌, ◌<◌, ◌≤◌, Bool, true, false, List, [], ◌==◌, ◌&&◌, Option, Some, None, refl, sym, ◌∙◌, ap, subst, length, arith, get_or-set_same, length-set}
 use Rattle.std.specs.Prelude.{slice_index_or, slice_set, if◌then◌else◌, nat_lt, nat_le, is_none, remove}
-use Rattle.std.specs.List.{Contains}
 use Rattle.std.proofs.lemmas.Bool.Decides.{nat_tests}
 use Rattle.std.proofs.lemmas.List.Elements.{Contains-get_or}
-use Rattle.crossbeam_epoch.specs.declared.bag.Entry.{Entry}
 use Rattle.crossbeam_epoch.specs.declared.fault.Fault.{Fault}
 use Rattle.crossbeam_epoch.specs.declared.fault.Fault.TheVariants as F
 use Rattle.crossbeam_epoch.specs.declared.places.Participant.{Participant}
@@ -12,14 +10,13 @@ use Rattle.crossbeam_epoch.specs.declared.places.Phase.{Phase}
 use Rattle.crossbeam_epoch.specs.declared.places.Phase.TheVariants.{Idle, Look, Publish, RepinLook, RepinPublish, Seal, Queue, ReleaseSeal, ReleaseQueue, Secure, SecureSeal, SecureQueue, Load, Inspect, Advance, Take, Call}
 use Rattle.crossbeam_epoch.specs.declared.report.Op.{Op}
 use Rattle.crossbeam_epoch.specs.declared.report.Op.TheVariants as O
-use Rattle.crossbeam_epoch.specs.declared.report.Event.{Event}
 use Rattle.crossbeam_epoch.specs.declared.report.Event.TheVariants.{Begin, Go}
 use Rattle.crossbeam_epoch.specs.declared.report.Outcome.{Outcome}
 use Rattle.crossbeam_epoch.specs.declared.report.Outcome.TheVariants.{Running, Done, Refused}
 use Rattle.crossbeam_epoch.specs.declared.report.Report.{Report}
-use Rattle.crossbeam_epoch.specs.Machine.{State, place, blank, with_place, in_phase, published, is_at, relooked, repinned, secured, has_free, advanced, queued, left, inspection, inspected, ends_advance, is_due, no_bag, taken, took, after_call, called, called_one, no_entry}
-use Rattle.crossbeam_epoch.specs.Steps.{fault, event_fault, begin_fault, outcome_at, begun_at, begun, gone, moved, needs_memory, given_up, after, IsOutcome, IsReport}
-use Rattle.crossbeam_epoch.specs.Progress.{Orderly, Stage, Resting, Pinning, Repinning, Flushing, Releasing, Securing, Collecting, stage, is_places, comes_by, IsOn, Secures, left_after, left_in, steps_left, refusal, Begins, queues, collects, GoesOn}
+use Rattle.crossbeam_epoch.specs.Machine.{State, place, blank, in_phase, published, is_at, relooked, repinned, secured, has_free, inspection, ends_advance, is_due, no_bag, taken, after_call, called_one}
+use Rattle.crossbeam_epoch.specs.Steps.{fault, event_fault, begin_fault, outcome_at, begun_at, begun, gone, needs_memory, after, IsOutcome, IsReport}
+use Rattle.crossbeam_epoch.specs.Progress.{Orderly, Stage, Resting, Pinning, Repinning, Flushing, Releasing, Securing, Collecting, stage, comes_by, IsOn, Secures, left_in, refusal, Begins, queues, collects, GoesOn}
 use Rattle.crossbeam_epoch.proofs.Progress.{one_less}
 use Rattle.crossbeam_epoch.proofs.Runs.{in_table, known}
 

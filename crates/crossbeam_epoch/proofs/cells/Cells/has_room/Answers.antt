@@ -1,5 +1,5 @@
 use Rattle.std.proofs.Common.{rules}
-use Rattle.crossbeam_epoch.proofs.FreeCells.{some_usable, next_usable, none_usable}
+use Rattle.crossbeam_epoch.proofs.FreeCells.{some_usable}
 use Rattle.crossbeam_epoch.proofs.cells.Cells.has_room.Goals as goal
 
 pub returns-then-not-is_empty-clause-some : goal.returns-then-not-is_empty-clause-some
