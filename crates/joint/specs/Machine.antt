@@ -1,5 +1,5 @@
 -- The machine of tree and collector, and what its calls make of it.
-use Rattle.std.specs.Prelude.{◌≡◌, ◌≢◌, ℕ, ◌+◌, ◌^◌, ◌<◌, ◌≤◌, true, false, List, [], ◌∷◌, length, Option, Some, None, MatchOption, replicate, slice_index, slice_index_or, drop, ◌⊎◌, Result, MatchResult, MatchBool, is_some}
+use Rattle.std.specs.Prelude.{◌≡◌, ◌≢◌, ℕ, ◌+◌, ◌^◌, ◌<◌, ◌≤◌, true, false, List, [], ◌∷◌, length, Option, Some, MatchOption, replicate, slice_index, slice_index_or, drop, ◌⊎◌, Result, MatchResult, MatchBool}
 use Rattle.std.specs.Int.{to_be_bytes, w64}
 use Rattle.std.specs.FinMap.{FinMap, get, insert, empty}
 use Rattle.std.specs.Ordering.{nat_cmp}

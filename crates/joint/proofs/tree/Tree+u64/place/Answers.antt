@@ -1,5 +1,5 @@
-use Rattle.std.proofs.Common.{◌≡◌, ℕ, ◌+◌, ◌-◌, ◌<◌, ◌++◌, ◌∷◌, [], set, take, length, refl, ◌∙◌, ap, arith, rules, Some, false}
-use Rattle.std.specs.Prelude.{nat_lt, vec_len}
+use Rattle.std.proofs.Common.{◌≡◌, ℕ, ◌+◌, ◌-◌, ◌<◌, set, take, length, refl, ◌∙◌, ap, arith, rules, Some, false}
+use Rattle.std.specs.Prelude.{vec_len}
 use Rattle.std.proofs.lemmas.Grind.{common_steps}
 use Rattle.joint.specs.declared.cell.Cell.{Cell}
 use Rattle.joint.specs.Forest.{Forest, spare, Lists}
