@@ -245,8 +245,8 @@ struct Case {
     lengths: [u32; 2],
 }
 
-/// On an empty tree, a leaf with one key, a full leaf, and two leaves below a node that was split off.
-const CASES: [Case; 6] = [
+/// Two insertions into an empty tree: of one key, and of two keys whose ways part above the leaves.
+const INSERTIONS: [Case; 2] = [
     Case {
         setup: &[],
         pair: [Call::Insert(7, 1), Call::Insert(7, 2)],
@@ -257,32 +257,20 @@ const CASES: [Case; 6] = [
         pair: [Call::Insert(1, 1), Call::Insert(256, 2)],
         lengths: [7, 7],
     },
-    Case {
-        setup: &[Call::Insert(1, 1)],
-        pair: [Call::Insert(256, 2), Call::Get(256)],
-        lengths: [13, 6],
-    },
-    Case {
-        setup: &[Call::Insert(1, 1)],
-        pair: [Call::Remove(1), Call::Get(1)],
-        lengths: [12, 6],
-    },
-    Case {
-        setup: &[Call::Insert(1, 1)],
-        pair: [Call::Exchange(1, 1, Some(2)), Call::Exchange(1, 1, Some(3))],
-        lengths: [9, 9],
-    },
-    Case {
-        setup: &[
-            Call::Insert(1, 1),
-            Call::Insert(2, 2),
-            Call::Insert(3, 3),
-            Call::Insert(4, 4),
-        ],
-        pair: [Call::Insert(5, 5), Call::Get(4)],
-        lengths: [13, 6],
-    },
 ];
+
+/// A leaf with one value that goes while the value is looked for, and a value that is exchanged meanwhile.
+const REMOVAL: [Case; 1] = [Case {
+    setup: &[Call::Insert(1, 1)],
+    pair: [Call::Remove(1), Call::Get(1)],
+    lengths: [12, 6],
+}];
+
+const EXCHANGE: [Case; 1] = [Case {
+    setup: &[Call::Insert(1, 1)],
+    pair: [Call::Exchange(1, 1, Some(2)), Call::Get(1)],
+    lengths: [9, 6],
+}];
 
 fn key_of(call: Call<u64>) -> u64 {
     match call {
@@ -401,16 +389,34 @@ fn is_one_map(alloc: Global, case: &Case, mask: u32, bits: u32) -> Result<bool, 
     Ok(at_rest && journal.len() == calls.len() && verdict == Verdict::Legal)
 }
 
-#[test]
-fn every_interleaving_answers_as_one_map(rt: HostRuntime) -> Result<(), Fail> {
-    for case in &CASES {
+// Whether every interleaving of each pair of calls answers as one map.
+fn are_one_map(alloc: Global, cases: &[Case]) -> Result<bool, Fail> {
+    for case in cases {
         let [first, second] = case.lengths;
         let bits = u32::wrapping_add(first, second);
         for mask in 0..1u32.wrapping_shl(bits) {
-            if mask.count_ones() == second {
-                assert!(rt; is_one_map(rt.alloc(), case, mask, bits)?);
+            if mask.count_ones() == second && !is_one_map(alloc, case, mask, bits)? {
+                return Ok(false);
             }
         }
     }
+    Ok(true)
+}
+
+#[test]
+fn insertions_by_turns_answer_as_one_map(rt: HostRuntime) -> Result<(), Fail> {
+    assert!(rt; are_one_map(rt.alloc(), &INSERTIONS)?);
+    Ok(())
+}
+
+#[test]
+fn a_removal_by_turns_answers_as_one_map(rt: HostRuntime) -> Result<(), Fail> {
+    assert!(rt; are_one_map(rt.alloc(), &REMOVAL)?);
+    Ok(())
+}
+
+#[test]
+fn an_exchange_by_turns_answers_as_one_map(rt: HostRuntime) -> Result<(), Fail> {
+    assert!(rt; are_one_map(rt.alloc(), &EXCHANGE)?);
     Ok(())
 }
