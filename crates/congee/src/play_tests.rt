@@ -259,11 +259,11 @@ const INSERTIONS: [Case; 2] = [
     },
 ];
 
-/// A leaf with one value that goes while the value is looked for, and a value that is exchanged meanwhile.
+/// A value that goes while it is looked for, and one that is exchanged meanwhile.
 const REMOVAL: [Case; 1] = [Case {
-    setup: &[Call::Insert(1, 1)],
+    setup: &[Call::Insert(1, 1), Call::Insert(2, 2)],
     pair: [Call::Remove(1), Call::Get(1)],
-    lengths: [12, 6],
+    lengths: [9, 6],
 }];
 
 const EXCHANGE: [Case; 1] = [Case {
