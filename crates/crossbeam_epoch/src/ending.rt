@@ -16,7 +16,8 @@ use crate::world::World;
 use std::collections::VecDeque;
 
 impl<T: Links + Pointable + Drop, J: Task> World<T, J> {
-    /// Calls every job that is left, and answers how many of those that waited it called; Registered(n), with the collector, while n participants are registered.
+    /// Calls every job that is left, and answers how many of those that waited it called; Registered(n), with the
+    /// collector, while n participants are registered.
     pub fn end(self) -> Result<u64, (Fault, World<T, J>)>
         ensures fault { MatchResult result (λ n. registered_in self ≡ 0) (λ e. (0 < registered_in self) × (e.0 ≡ Fault.Registered (registered_in self)) × (e.1 ≡ self)) }
         ensures count { IfOk result (λ n. n ≡ min self.waiting (length (jobs_of self.queue))) }

@@ -48,7 +48,8 @@ impl<T: Links + Pointable + Drop, J: Task> World<T, J> {
         ensures deferred { (s : State T J) (who : ℕ) (work : Work J) → who < length s.table → length (place s who).bag < 64 → Orderly s → Keeps s (deferred s who work) (λ f. f (record { ticket = s.next; work = work })) }
     {}
 
-    /// A call begins unless its first refusal stands. In flight it is at most some 800 steps from its end, one less with each, and refused only for want of memory for its bag.
+    /// A call begins unless its first refusal stands. In flight it is at most 534 steps, and one for each place of the
+    /// table, from its end, one less with each, and refused only for want of memory for its bag.
     pub fn progress()
         ensures begins { (s : State T J) (who : ℕ) (op : Op) (r : Report) → (place s who).phase ≡ Phase.Idle → IsReport s who (Event.Begin op) r → Begins s who op r.outcome (after s who (Event.Begin op) r.outcome) }
         ensures goes_on { (s : State T J) (who : ℕ) (op : Op) (r : Report) → Orderly s → IsOn op (place s who) → IsReport s who Event.Go r → GoesOn s who op r.outcome (after s who Event.Go r.outcome) }

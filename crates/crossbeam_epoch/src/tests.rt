@@ -158,6 +158,14 @@ fn a_full_bag_is_queued(rt: HostRuntime) -> Result<(), Fail> {
     Ok(())
 }
 
+/// Places a number.
+fn placed(world: &mut Jobs, number: u64) -> Result<Name, Fault> {
+    match world.place(Plain(number)) {
+        Ok(name) => Ok(name),
+        Err((fault, _)) => Err(fault),
+    }
+}
+
 #[test]
 fn cells_are_used_again_under_the_next_turn(rt: HostRuntime) -> Result<(), Fail> {
     let limits = Limits {
@@ -167,9 +175,7 @@ fn cells_are_used_again_under_the_next_turn(rt: HostRuntime) -> Result<(), Fail>
     };
     let mut world: Jobs = World::new(rt.alloc(), limits, 1)?;
     world.register()?;
-    let Ok(first) = world.place(Plain(1)) else {
-        return Ok(())
-    };
+    let first = placed(&mut world, 1)?;
     assert_eq!(rt; first, Name { cell: 0, turn: 0 });
     match world.place(Plain(2)) {
         Err((fault, Plain(v))) => assert_eq!(rt; (fault, v), (Fault::CellsFull, 2)),
@@ -207,9 +213,7 @@ fn cells_are_used_again_under_the_next_turn(rt: HostRuntime) -> Result<(), Fail>
     }
     assert_eq!(rt; world.waiting(), 0);
     assert!(rt; world.read(first).is_none());
-    let Ok(second) = world.place(Plain(4)) else {
-        return Ok(())
-    };
+    let second = placed(&mut world, 4)?;
     assert_eq!(rt; second, Name { cell: 0, turn: 1 });
     match world.give_back(second) {
         Ok(Plain(v)) => assert_eq!(rt; v, 4),
@@ -279,9 +283,7 @@ fn a_job_runs_its_box(rt: HostRuntime) -> Result<(), Fail> {
 #[test]
 fn an_exchange_of_a_root_looks_at_the_tag(rt: HostRuntime) -> Result<(), Fail> {
     let mut world: Jobs = World::new(rt.alloc(), ample(1), 1)?;
-    let Ok(name) = world.place(Plain(7)) else {
-        return Ok(())
-    };
+    let name = placed(&mut world, 7)?;
     let stands = Ptr {
         name: Some(name),
         tag: 0,
