@@ -107,23 +107,14 @@ opening_one {C} {V} number h m r z n = record {
   only zero x e = cc
   only (suc i) x e = absurd cc
 
--- any number of new calls
-abbrev pub AreNew : {C V : Type 0} (number : C → ℕ) → List (Machine C V) → Type 0
-AreNew {C} {V} number ms = (i : ℕ) (m : Machine C V) → slice_get ms i ≡ Some m → (number m.root ≡ 0) × IsNew m
-
-pub new_more : {C V : Type 0} (number : C → ℕ) (ms : List (Machine C V)) (m : Machine C V) → AreNew number ms → number m.root ≡ 0 → IsNew m → AreNew number (ms ++ m ∷ [])
-new_more {C} {V} number [] m a z n zero x e = (let q : m ≡ x = cc in let P : Machine C V → Type 0 = λ y. (number y.root ≡ 0) × IsNew y in subst P q (z, n))
-new_more number [] m a z n (suc i) x e = absurd cc
-new_more number (y ∷ ms) m a z n zero x e = a zero x e
-new_more number (y ∷ ms) m a z n (suc i) x e = new_more number ms m (λ j w q. a (suc j) w q) z n i x e
-
-pub opening_all : {C V : Type 0} (number : C → ℕ) (ms : List (Machine C V)) → AreNew number ms → (h : ℕ → Node V) → RootAlone h → Begins number h ms
-opening_all number ms a h r = record {
+-- no call yet
+pub opening_none : {C V : Type 0} (number : C → ℕ) (h : ℕ → Node V) → RootAlone h → Begins {C = C} number h []
+opening_none number h r = record {
   notes = opened;
   tree = opening_tree h r;
   words = opening_words h r;
-  root = λ i m e. (a i m e).0;
-  new = λ i m e. (a i m e).1;
+  root = λ i m e. absurd cc;
+  new = λ i m e. absurd cc;
 }
 
 -- one more new call beside others

@@ -1,8 +1,8 @@
 //! A store that is a plain list of nodes, none of which is ever taken away.
-ghost use Rattle.std.specs.Prelude.{◌≡◌, ℕ, ◌+◌, ◌-◌, ◌^◌, ◌<◌, ◌≤◌, Bool, true, false, IfOk};
-ghost use Rattle.congee.specs.Opening.{RootAlone};
+ghost use Rattle.std.specs.Prelude.{◌≡◌, ℕ, ◌+◌, ◌-◌, ◌^◌, ◌<◌, ◌≤◌, Bool, true, false, IfOk, map};
+ghost use Rattle.congee.specs.Opening.{RootAlone, FreshRoot};
 ghost use Rattle.congee.specs.Heap.{Node, Stands, is_taken};
-ghost use Rattle.congee.specs.Play.{Begins};
+ghost use Rattle.congee.specs.Play.{Begins, begun};
 ghost use Rattle.std.specs.Vec.{vec_len};
 ghost use Rattle.congee.specs.Events.{hung, ReadGives, UpgradeGives, MayChange, ChangeGives};
 
@@ -31,9 +31,10 @@ pub struct PlainStore {
 impl PlainStore {
     ghost use Rattle.congee.specs.PlainHeap.{heap_of};
 
-    /// A store with a root alone, under the name 0. So many nodes have room in it, the root not counted.
+    /// A store with a root alone, under the name 0, that nobody holds. So many nodes have room in it, the root not
+    /// counted.
     pub fn new(alloc: Global, room: usize) -> Result<Self, AllocError>
-        ensures { IfOk result (λ s. RootAlone (heap_of s.nodes.items)) }
+        ensures { IfOk result (λ s. FreshRoot (heap_of s.nodes.items)) }
     {
         let root = PlainNode::new(alloc, NodeType::N256, &[0; 8], 0)?;
         let mut nodes = Vec::with_capacity(alloc, 1)?;
@@ -44,6 +45,7 @@ impl PlainStore {
     /// These calls on the tree below a root, before their first steps.
     pub fn calls(alloc: Global, ops: Vec<Op<u64>>) -> Result<Vec<Machine<usize, u64>>, AllocError>
         ensures count { IfOk result (λ calls. vec_len calls ≡ vec_len ops) }
+        ensures each { IfOk result (λ calls. calls.items ≡ map (begun 0) ops.items) }
         ensures begins { IfOk result (λ calls. (h : ℕ → Node ℕ) → RootAlone h → Begins (λ n. n) h calls.items) }
     {
         let mut calls = Vec::with_capacity(alloc, ops.len())?;
