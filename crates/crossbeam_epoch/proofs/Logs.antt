@@ -1,5 +1,5 @@
 -- The log of steps, reports and tickets shows the history and the state.
-use Rattle.std.proofs.Common.{◌≡◌, ℕ, ◌+◌, ◌-◌, ◌<◌, ◌≤◌, ◌≢◌, Bool, true, false, List, [], ◌∷◌, ◌++◌, ◌==◌, ◌&&◌, Option, Some, None, refl, sym, ◌∙◌, ap, subst, inl, inr, length, arith, set, get_or-set_same, get_or-set_other}
+use Rattle.std.proofs.Common.{◌≡◌, ℕ, ◌+◌, ◌-◌, ◌<◌, ◌≢◌, Bool, true, false, List, [], ◌∷◌, ◌++◌, ◌==◌, ◌&&◌, Option, Some, None, refl, sym, ◌∙◌, ap, subst, inl, inr, length, arith, get_or-set_same, get_or-set_other}
 use Rattle.std.specs.Prelude.{if◌then◌else◌, is_none, is_some, nat_le, nat_lt, remove, slice_index_or, slice_set}
 use Rattle.std.proofs.lemmas.Bool.{cases_eq, cases_lt, eq-eqb, ne_eqb}
 use Rattle.std.proofs.lemmas.Bool.Decides.{nat_tests}
@@ -22,13 +22,13 @@ use Rattle.crossbeam_epoch.specs.declared.report.Step.{Step}
 use Rattle.crossbeam_epoch.specs.declared.report.Outcome.{Outcome}
 use Rattle.crossbeam_epoch.specs.declared.report.Outcome.TheVariants.{Running, Done, Refused}
 use Rattle.crossbeam_epoch.specs.declared.report.Report.{Report}
-use Rattle.crossbeam_epoch.specs.History.{Mark, Pinned, Repinned, Unpinned, Deferred, Called, began, calls, deferrals, IsGraceful, AreCalledLater}
+use Rattle.crossbeam_epoch.specs.History.{Mark, Pinned, Repinned, Unpinned, Deferred, began, calls, deferrals, IsGraceful, AreCalledLater}
 use Rattle.crossbeam_epoch.specs.Fits.{Fits, Bounds, held}
-use Rattle.crossbeam_epoch.specs.Reach.{Moment, Tells, IsCareful, Visible, marks_of, moment, moments_after, step_act, with_act}
+use Rattle.crossbeam_epoch.specs.Reach.{Moment, Tells, IsCareful, Visible, marks_of, moment, moments_after, step_act}
 use Rattle.crossbeam_epoch.specs.Store.{Store, value_at}
 use Rattle.crossbeam_epoch.specs.Log.{Noted, Stepped, Accepted, log_after, Flight, one_more, flight_after, flight, is_pin, is_repin, pins_next, repins_next, guards_after, guards, untold, publication, event_marks, history_of, undated, IsPastBy, IsPast, IsFlight, AgreesAt, Shows}
-use Rattle.crossbeam_epoch.specs.Machine.{State, place, blank, with_place, in_phase, published, is_at, relooked, repinned, secured, has_free, inspection, ends_advance, is_due, no_bag, taken, after_call, called_one, opened, registered, with_store, with_roots, deferred, deferred_anew, after_deferral, name_of}
-use Rattle.crossbeam_epoch.specs.Steps.{when, outcome_at, begin_fault, event_fault, fault, begun_at, begun, gone, moved, needs_memory, after, IsOutcome, IsReport, begin_marks, phase_marks, moved_marks, unless_refused, marks, state_after, history_after, AreReports}
+use Rattle.crossbeam_epoch.specs.Machine.{State, place, blank, in_phase, published, is_at, relooked, repinned, secured, has_free, inspection, ends_advance, no_bag, taken, after_call, called_one, opened, registered, with_store, with_roots, deferred, deferred_anew, after_deferral, name_of}
+use Rattle.crossbeam_epoch.specs.Steps.{outcome_at, begin_fault, event_fault, fault, begun_at, begun, gone, moved, needs_memory, after, IsOutcome, IsReport, begin_marks, phase_marks, moved_marks, unless_refused, marks, state_after, history_after, AreReports}
 use Rattle.crossbeam_epoch.proofs.Reaches.{seen_stands}
 use Rattle.crossbeam_epoch.proofs.Told.{marks_act}
 use Rattle.crossbeam_epoch.proofs.Undated.{undated_began, undated_graceful, undated_calls, undated_deferrals, undated_later}
