@@ -5,6 +5,7 @@ use Rattle.crossbeam_epoch.specs.declared.report.Op.{Op}
 use Rattle.crossbeam_epoch.specs.declared.report.Report.{Report}
 use Rattle.crossbeam_epoch.specs.Calls.{call_steps, IsCall, LeadsOn}
 use Rattle.crossbeam_epoch.specs.Machine.{State}
+use Rattle.crossbeam_epoch.proofs.Logs.{shows_run}
 use Rattle.crossbeam_epoch.proofs.Runs.{fits_run}
 use Rattle.crossbeam_epoch.proofs.Told.{tells_run}
 
@@ -13,4 +14,5 @@ module _ {T J : Type 0} where
   leads_on names s s' who op most reports newest c = record {
     kept = λ h f. rw c.state (fits_run h s (call_steps who op (length reports)) reports c.legal f);
     told = λ h t. rw c.state (tells_run names h s (call_steps who op (length reports)) reports c.legal t);
+    shown = λ log h w. rw c.state (shows_run log h s (call_steps who op (length reports)) reports c.legal w);
   }

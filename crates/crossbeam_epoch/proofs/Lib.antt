@@ -4,6 +4,7 @@ pub mod Givens
 pub mod Grace
 pub mod Jobs
 pub mod Leads
+pub mod Logs
 pub mod Marks
 pub mod Moves
 pub mod Progress
@@ -12,6 +13,7 @@ pub mod Runs
 pub mod Tables
 pub mod Stages
 pub mod Told
+pub mod Undated
 pub mod Whole
 pub mod FaceTags
 pub mod FaceWords

@@ -33,7 +33,7 @@ use Rattle.crossbeam_epoch.proofs.Moves.{fits_stay, fits_phase, fits_guards, fit
 use Rattle.crossbeam_epoch.proofs.Jobs.{fits_called, call_marks, fits_after_deferral}
 
 -- a test of a fault that isn't given
-off : (b : Bool) (f : Fault) → when b f ≡ None → b ≡ false
+pub off : (b : Bool) (f : Fault) → when b f ≡ None → b ≡ false
 off true f e = absurd (cc e)
 off false f e = refl
 
@@ -166,7 +166,7 @@ module _ {T J : Type 0} where
   refused_any h s who event F.InCall f = f
 
   -- what a begin leaves, by its outcome
-  refused_begin : (s : State T J) (who : ℕ) (op : Op) (f : Fault) → after s who (Begin op) (Refused f) ≡ s
+  pub refused_begin : (s : State T J) (who : ℕ) (op : Op) (f : Fault) → after s who (Begin op) (Refused f) ≡ s
   refused_begin s who op F.TableFull = refl
   refused_begin s who op F.CellsFull = refl
   refused_begin s who op F.Memory = refl

@@ -166,7 +166,7 @@ module _ {T : Type 0} where
   ]
 
 module _ {T J : Type 0} where
-  marks_act : (s : State T J) (who : ℕ) (event : Event) (r : Report) (h : List Mark) → with_act (step_act s who event r) h ≡ marks s who event r h
+  pub marks_act : (s : State T J) (who : ℕ) (event : Event) (r : Report) (h : List Mark) → with_act (step_act s who event r) h ≡ marks s who event r h
   marks_act s who event r h = by_outcome r.outcome
     where
       by_event : (event : Event) → with_act (newest (moved_marks s who event r.called [])) h ≡ moved_marks s who event r.called h

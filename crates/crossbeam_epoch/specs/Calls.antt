@@ -7,6 +7,7 @@ use Rattle.crossbeam_epoch.specs.declared.report.Op.{Op}
 use Rattle.crossbeam_epoch.specs.declared.report.Outcome.TheVariants.{Running}
 use Rattle.crossbeam_epoch.specs.declared.report.Report.{Report}
 use Rattle.crossbeam_epoch.specs.declared.report.Step.{Step}
+use Rattle.crossbeam_epoch.specs.Log.{Noted, log_after, Shows}
 use Rattle.crossbeam_epoch.specs.Machine.{State}
 use Rattle.crossbeam_epoch.specs.declared.names.Name.{Name}
 use Rattle.crossbeam_epoch.specs.Fits.{Fits}
@@ -37,7 +38,8 @@ pub record IsCall {T J : Type 0} (s : State T J) (who : ℕ) (op : Op) (most : �
   pub newest_is : EndsWith reports newest
   pub stops : MatchOption newest (most ≡ 0) (λ r. r.outcome ≡ Running → length reports ≡ most)
 
--- the steps of a call lead each history on
+-- the steps of a call lead each history on, and each log
 pub record LeadsOn {T J : Type 0} (names : T → List Name) (s : State T J) (who : ℕ) (op : Op) (reports : List Report) (s' : State T J) : Type 0 where
   pub kept : (h : List Mark) → Fits h s → Fits (history_after s (call_steps who op (length reports)) reports h) s'
   pub told : (h : List Moment) → Tells names h s → Tells names (moments_after names s (call_steps who op (length reports)) reports h) s'
+  pub shown : (log : List Noted) (h : List Mark) → Shows log h s → Shows (log_after (call_steps who op (length reports)) reports log) (history_after s (call_steps who op (length reports)) reports h) s'

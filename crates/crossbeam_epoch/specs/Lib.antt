@@ -4,6 +4,7 @@ pub mod Fits
 pub mod Free
 pub mod History
 pub mod Limits
+pub mod Log
 pub mod Machine
 pub mod Progress
 pub mod Reach

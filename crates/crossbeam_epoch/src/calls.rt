@@ -2,11 +2,12 @@
 
 ghost use Rattle.std.specs.Prelude.{◌≡◌, ◌<◌, ◌≤◌, List, ◌∷◌, length, take as first_of, vec_len, None, Some, ◌+◌};
 ghost use Rattle.crossbeam_epoch.specs.Machine.{place};
-ghost use Rattle.crossbeam_epoch.specs.Steps.{after, busy_fault, IsReport, state_after, AreReports, history_after};
+ghost use Rattle.crossbeam_epoch.specs.Steps.{after, busy_fault, marks, IsReport, state_after, AreReports, history_after};
 ghost use Rattle.crossbeam_epoch.specs.declared.report.Report.{Report};
 ghost use Rattle.crossbeam_epoch.specs.Calls.{IsCall, LeadsOn};
 ghost use Rattle.crossbeam_epoch.specs.Fits.{Fits};
 ghost use Rattle.crossbeam_epoch.specs.History.{Mark};
+ghost use Rattle.crossbeam_epoch.specs.Log.{Noted, Stepped, log_after, Shows};
 ghost use Rattle.crossbeam_epoch.specs.Reach.{Moment, moment, step_act, moments_after, Tells};
 
 use crate::fault::Fault;
@@ -26,6 +27,7 @@ impl<T: Links + Pointable + Drop, J: Task> World<T, J> {
         ensures report { IsReport self.old who event result }
         ensures state { self.new ≡ after self.old who event result.outcome }
         ensures told { (h : List Moment) → Tells T.names h self.old → Tells T.names (moment T.names (step_act self.old who event result) self.new ∷ h) self.new }
+        ensures shown { (log : List Noted) (h : List Mark) → Shows log h self.old → Shows (Stepped (record { who = who; event = event }) result ∷ log) (marks self.old who event result h) self.new }
     {
         self.act(who, event)
     }
@@ -38,6 +40,7 @@ impl<T: Links + Pointable + Drop, J: Task> World<T, J> {
         ensures state { self.new ≡ state_after self.old (first_of result.done steps.now) result.reports.items }
         ensures kept { (h : List Mark) → Fits h self.old → Fits (history_after self.old (first_of result.done steps.now) result.reports.items h) self.new }
         ensures told { (h : List Moment) → Tells T.names h self.old → Tells T.names (moments_after T.names self.old (first_of result.done steps.now) result.reports.items h) self.new }
+        ensures shown { (log : List Noted) (h : List Mark) → Shows log h self.old → Shows (log_after (first_of result.done steps.now) result.reports.items log) (history_after self.old (first_of result.done steps.now) result.reports.items h) self.new }
     {
         self.act_all(alloc, steps)
     }

@@ -1,16 +1,19 @@
 //! What follows for a user from a history that fits.
 
-ghost use Rattle.std.specs.Prelude.{◌≡◌, ◌<◌, ◌≤◌, ◌+◌, ℕ, true, false, List, ◌∷◌, None, Some, is_some, length, Contains};
+ghost use Rattle.std.specs.Prelude.{◌≡◌, ◌<◌, ◌≤◌, ◌+◌, ℕ, true, false, List, [], ◌∷◌, None, Some, is_some, length, Contains, nat_lt, if◌then◌else◌};
 ghost use Rattle.crossbeam_epoch.specs.declared.names.Name.{Name};
-ghost use Rattle.crossbeam_epoch.specs.Machine.{State, place, opened, registered, deferred};
-ghost use Rattle.crossbeam_epoch.specs.Store.{value_at};
-ghost use Rattle.crossbeam_epoch.specs.History.{Mark, IsGraceful, began, calls};
+ghost use Rattle.crossbeam_epoch.specs.declared.names.Ptr.{Ptr};
+ghost use Rattle.crossbeam_epoch.specs.Machine.{State, place, opened, registered, deferred, after_deferral, with_store, with_roots, name_of};
+ghost use Rattle.crossbeam_epoch.specs.Store.{Store, value_at};
+ghost use Rattle.crossbeam_epoch.specs.History.{Mark, IsGraceful, AreCalledLater, Deferred, began, calls, deferrals};
 ghost use Rattle.crossbeam_epoch.specs.Fits.{Fits, held, jobs, weight};
 ghost use Rattle.crossbeam_epoch.specs.declared.report.Op.{Op};
 ghost use Rattle.crossbeam_epoch.specs.declared.report.Report.{Report};
-ghost use Rattle.crossbeam_epoch.specs.Steps.{after, IsReport};
+ghost use Rattle.crossbeam_epoch.specs.declared.report.Step.{Step};
+ghost use Rattle.crossbeam_epoch.specs.Steps.{after, marks, state_after, history_after, AreReports, IsReport};
+ghost use Rattle.crossbeam_epoch.specs.Log.{Noted, Stepped, Accepted, log_after, history_of, guards, Shows};
 ghost use Rattle.crossbeam_epoch.specs.Progress.{Orderly, Moves, Begins, IsOn, GoesOn, IsResting, Keeps, collects};
-ghost use Rattle.crossbeam_epoch.specs.Reach.{Moment, marks_of, Tells, IsCareful, KeepsLinks, Visible};
+ghost use Rattle.crossbeam_epoch.specs.Reach.{Moment, marks_of, moments_after, Tells, IsCareful, KeepsLinks, Visible};
 
 use crate::bag::{Entry, Work};
 use crate::limits::Limits;
@@ -37,6 +40,29 @@ impl<T: Links + Pointable + Drop, J: Task> World<T, J> {
     pub fn reach()
         ensures stands { (h : List Moment) (s : State T J) (p : ℕ) (n : Name) → Tells T.names h s → IsCareful h → is_some (began (marks_of h) p) ≡ true → Visible h p n → is_some (value_at s.store n) ≡ true }
         ensures closed { (m : Moment) (h : List Moment) (p : ℕ) (c n : Name) → KeepsLinks (m ∷ h) → Visible (m ∷ h) p c → Contains (m.links c) n → Visible (m ∷ h) p n }
+    {}
+
+    /// The history is read off the steps, their reports and the tickets alone, its epochs aside, and so are the guards that are out.
+    pub fn watched()
+        ensures opened { (limits : Limits) (roots : ℕ) → Shows {T = T} {J = J} [] [] (opened limits roots) }
+        ensures step { (log : List Noted) (h : List Mark) (s : State T J) (step : Step) (r : Report) → IsReport s step.who step.event r → Shows log h s → Shows (Stepped step r ∷ log) (marks s step.who step.event r h) (after s step.who step.event r.outcome) }
+        ensures run { (log : List Noted) (h : List Mark) (s : State T J) (steps : List Step) (reports : List Report) → AreReports s steps reports → Shows log h s → Shows (log_after steps reports log) (history_after s steps reports h) (state_after s steps reports) }
+        ensures moments { (log : List Noted) (h : List Moment) (s : State T J) (steps : List Step) (reports : List Report) → AreReports s steps reports → Shows log (marks_of h) s → Shows (log_after steps reports log) (marks_of (moments_after T.names s steps reports h)) (state_after s steps reports) }
+        ensures registered { (log : List Noted) (h : List Mark) (s : State T J) (n : ℕ) → Shows log h s → Shows log h (registered s n) }
+        ensures deferred { (log : List Noted) (h : List Mark) (s : State T J) (who : ℕ) (work : Work J) → Shows log h s → Shows (Accepted s.next (name_of work) ∷ log) (Deferred s.next (name_of work) ∷ h) (after_deferral s who work) }
+        ensures stored { (log : List Noted) (h : List Mark) (s : State T J) (st : Store T) → Shows log h s → Shows log h (with_store s st) }
+        ensures rooted { (log : List Noted) (h : List Mark) (s : State T J) (roots : List Ptr) → Shows log h s → Shows log h (with_roots s roots) }
+    {}
+
+    /// What the log alone tells: no job was called while a participant blocked it; each accepted job stands in one bag or was
+    /// called once, a cell's removal only after it was accepted; a stretch lasts exactly while guards are out, and what it saw in
+    /// reach isn't destroyed then.
+    pub fn log()
+        ensures called { (log : List Noted) (h : List Mark) (s : State T J) → Shows log h s → Fits h s → IsGraceful (history_of log) }
+        ensures later { (log : List Noted) (h : List Mark) (s : State T J) → Shows log h s → Fits h s → AreCalledLater (history_of log) }
+        ensures once { (log : List Noted) (h : List Mark) (s : State T J) (t : ℕ) → Shows log h s → Fits h s → (held s t + calls (history_of log) t ≡ deferrals (history_of log) t) × (deferrals (history_of log) t ≡ (if nat_lt t s.next then 1 else 0)) }
+        ensures pinned { (log : List Noted) (h : List Mark) (s : State T J) (q : ℕ) → Shows log h s → Fits h s → (is_some (place s q).word ≡ nat_lt 0 (guards log q)) × (is_some (began (history_of log) q) ≡ nat_lt 0 (guards log q)) }
+        ensures stands { (log : List Noted) (h : List Moment) (s : State T J) (p : ℕ) (n : Name) → Shows log (marks_of h) s → Tells T.names h s → IsCareful h → 0 < guards log p → Visible h p n → is_some (value_at s.store n) ≡ true }
     {}
 
     /// A step of any participant keeps the order of the bags, and each job that it doesn't call stands as before.
