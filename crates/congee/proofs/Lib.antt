@@ -59,6 +59,7 @@ pub mod Steps
 pub mod Wants
 pub mod Shapes
 pub mod Watches
+pub mod Handing
 pub mod Turns
 pub mod Opening
 pub mod PlainHeaps

@@ -33,12 +33,12 @@ get_set (z ∷ xs) (suc i) (suc j) x y e = elim (get_set xs i j x y e) [
   | inr p ↦ inr ((λ q. p.0 (omega arith)), p.1)
 ]
 
-set_here : {A : Type 0} → (xs : List A) (i : ℕ) (x y : A) → slice_get xs i ≡ Some y → slice_get (set xs i x) i ≡ Some x
+pub set_here : {A : Type 0} → (xs : List A) (i : ℕ) (x y : A) → slice_get xs i ≡ Some y → slice_get (set xs i x) i ≡ Some x
 set_here [] i x y e = absurd cc
 set_here (z ∷ xs) zero x y e = refl
 set_here (z ∷ xs) (suc i) x y e = set_here xs i x y e
 
-set_apart : {A : Type 0} → (xs : List A) (i j : ℕ) (x y : A) → j ≢ i → slice_get xs j ≡ Some y → slice_get (set xs i x) j ≡ Some y
+pub set_apart : {A : Type 0} → (xs : List A) (i j : ℕ) (x y : A) → j ≢ i → slice_get xs j ≡ Some y → slice_get (set xs i x) j ≡ Some y
 set_apart [] i j x y ne e = absurd cc
 set_apart (z ∷ xs) zero zero x y ne e = absurd (ne refl)
 set_apart (z ∷ xs) zero (suc j) x y ne e = e

@@ -24,6 +24,7 @@ use Rattle.congee.specs.Holdings.{LockedBy, MadeBy, Holdings, Rests, Apart}
 use Rattle.congee.proofs.Rely.{known_kept, named_all}
 use Rattle.congee.proofs.Owners.{get_set, own_before, mine_before, held_after, gone_taken, taken_on, made_held, locks_owned}
 use Rattle.congee.proofs.Holdings.{step_holds}
+use Rattle.congee.proofs.Handing.{step_hands, leaves_on, stepped_hands, idle_hands, handing_none, handing_more}
 use Rattle.congee.proofs.Opening.{opened, opening_tree, opening_words, opening_rests, standing_none}
 use Rattle.congee.proofs.Touch.{owner_locked}
 use Rattle.congee.proofs.Wants.{wants}
@@ -108,6 +109,9 @@ module _ {C V : Type 0} (number : C → ℕ) (same : V → V → Bool) (always :
             let there : slice_get (map flight ms) s.who ≡ Some (flight m) = slice_get-map flight ms s.who ∙ (let T : Option (Machine C V) → Type 0 = λ z. option_map flight z ≡ Some (flight m) in subst T (sym e) refl) in
             let T : Option (Flight V) → Type 0 = λ z. WatchedAt same (map flight ms) pairs z s d (map flight (set ms s.who m')) w.0 in
             (w.0, w.1, subst T (sym there) (flight m', y, map-set flight ms s.who m'));
+        hands = stepped_hands h ms s.who m m' h' e
+            (λ l. leaves_on number same always s.who p.notes h h' m.key p.words p.tree most m.root m.kind s.noise.fail s.noise.answer m.given m.phase m'.given (record { phase = m'.phase; step = d }) g.step l)
+            (step_hands number same always s.who p.notes h h' m.key p.words p.tree most m.root m.kind s.noise.fail s.noise.answer m.given m.phase m'.given (record { phase = m'.phase; step = d }) o.known g.step);
       }
 
   -- the step of a call that isn't there
@@ -120,6 +124,7 @@ module _ {C V : Type 0} (number : C → ℕ) (same : V → V → Bool) (always :
         let there : slice_get (map flight ms) s.who ≡ None = slice_get-map flight ms s.who ∙ (let T : Option (Machine C V) → Type 0 = λ z. option_map flight z ≡ None in subst T (sym (slice_get_past ms s.who l)) refl) in
         let T : Option (Flight V) → Type 0 = λ z. WatchedAt same (map flight ms) pairs z s (record { decided = false; outcome = Running }) (map flight ms) pairs in
         (pairs, st, subst T (sym there) (refl, refl, refl));
+    hands = idle_hands h ms s.who;
   }
 
   run_more : (fs : List (Flight V)) (m : Pairs V) (ss : List (Step C V)) (ds : List (Move V)) (fs1 : List (Flight V)) (m1 : Pairs V) (s : Step C V) (d : Move V) (fs2 : List (Flight V)) (m2 : Pairs V)
@@ -160,6 +165,7 @@ module _ {C V : Type 0} (number : C → ℕ) (same : V → V → Bool) (always :
     run = λ m st. more_map h0 ms0 ss ds h ms s d h' ms' m (p.run m st) q;
     from_root = λ o. more_map h0 ms0 ss ds h ms s d h' ms' empty (p.from_root o) q;
     apart = apart h' ms' q.protocol;
+    handing = handing_more h0 ss h ms s h' ms' p.handing q.protocol.notes q.protocol.tree q.protocol.words q.hands;
     settled = λ a t w r. let x : Settled number same always h ms = p.settled a t w r in q.settled x.0 x.1 x.2;
     settled_fresh = λ o. let x : Settled number same always h ms = p.settled_fresh o in q.settled x.0 x.1 x.2;
   }
@@ -199,6 +205,7 @@ module _ {C V : Type 0} (number : C → ℕ) (same : V → V → Bool) (always :
     run = λ m st. (m, st, (refl, refl));
     from_root = λ o. (empty, standing_none h o, (refl, refl));
     apart = apart h ms (begun_protocol h ms b);
+    handing = handing_none h ms b.notes b.tree b.words;
     settled = λ a t w r. (a, begun_at h ms b a t w, rested h ms a r);
     settled_fresh = λ o. (opened, begun_at h ms b opened (opening_tree h o.alone) (opening_words h o.alone), rested h ms opened (opening_rests number h o));
   }
