@@ -31,3 +31,4 @@ pub mod Stats
 pub mod Plain
 pub mod PlainHeap
 pub mod Holdings
+pub mod Names
