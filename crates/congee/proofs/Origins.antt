@@ -1,8 +1,8 @@
 -- Where the names of a next phase come from: each step of the table gives the call a name that it had, the root's,
 -- that of a node just made, or that of a child which the check of its parent found.
-use Rattle.std.proofs.Common.{◌≡◌, ℕ, zero, suc, ◌==◌, ◌≤◌, ◌⊎◌, inl, inr, Bool, true, false, List, [], ◌∷◌, ◌++◌, length, refl, sym, ◌∙◌, subst, arith}
+use Rattle.std.proofs.Common.{◌≡◌, ℕ, zero, suc, ◌==◌, ◌≤◌, ◌⊎◌, inl, inr, Bool, true, false, List, length, refl, sym, ◌∙◌, subst, arith}
 use Rattle.std.specs.Prelude.{Option, None, Some, Result, Ok, Err, slice_index}
-use Rattle.std.specs.List.{All, AllByRecursion, Contains}
+use Rattle.std.specs.List.{All, Contains}
 use Rattle.std.proofs.lemmas.List.Elements.{All-from_recursion, recursion_from_All, All-weaker, All-contains_itself}
 use Rattle.judge.specs.declared.journal.Reply.{Reply}
 use Rattle.judge.specs.declared.journal.Reply.TheVariants as reply
@@ -38,6 +38,7 @@ use Rattle.congee.specs.Keys.{key_bytes}
 use Rattle.congee.specs.Ledger.{Note, Linked, IsChild, HasParent, Tree, Words}
 use Rattle.congee.specs.Protocol.{Knows, Known}
 use Rattle.congee.specs.Names.{name_above, name_seated, name_made, names_for_one, names_for_two, names_site, names_one, names_two, names_plan, names, InTree, from_root, from_parent, Comes, Had, Top, New_made, Hangs, KeepsOrigin}
+use Rattle.congee.proofs.Each.{Each, both, left, right}
 use Rattle.congee.proofs.Graft.{on_test}
 use Rattle.congee.proofs.Tree.{same_or_not}
 use Rattle.congee.proofs.Touch.{by_test, taken_linked}
@@ -60,23 +61,6 @@ linked_under a h t (suc d) n le l =
 
 pub linked_in : {V : Type 0} (a : ℕ → Note) (h : ℕ → Node V) → Tree a h → (n : ℕ) → (a n).status ≡ Linked → InTree h n
 linked_in a h t n l = linked_under a h t (length (h n).prefix) n (omega arith) l
-
--- lists of names that all have a property
-module _ (K : ℕ → Type 0) where
-  abbrev Each : List ℕ → Type 0
-  Each = AllByRecursion K
-
-  both : (xs ys : List ℕ) → Each xs → Each ys → Each (xs ++ ys)
-  both [] ys e f = f
-  both (x ∷ xs) ys e f = (e.0, both xs ys e.1 f)
-
-  left : (xs ys : List ℕ) → Each (xs ++ ys) → Each xs
-  left [] ys e = tt
-  left (x ∷ xs) ys e = (e.0, left xs ys e.1)
-
-  right : (xs ys : List ℕ) → Each (xs ++ ys) → Each ys
-  right [] ys e = e
-  right (x ∷ xs) ys e = right xs ys e.1
 
 -- the names of a next phase all have what the names before it, the root's and the new ones have
 module _ {C : Type 0} (V : Type 0) (number : C → ℕ) (K : ℕ → Type 0) where

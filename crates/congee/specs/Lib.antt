@@ -32,3 +32,4 @@ pub mod Plain
 pub mod PlainHeap
 pub mod Holdings
 pub mod Names
+pub mod Destroys
