@@ -21,7 +21,9 @@ use Rattle.congee.specs.Keys.{key_bytes}
 use Rattle.congee.specs.Ledger.{Note, is_published, Tree, Words}
 use Rattle.congee.specs.Protocol.{Seated, ChildOf, IsAbove, Sees, Knows, Made, MadeLeafFor, PlanKnown, Known, Effect}
 use Rattle.congee.specs.Answers.{SameMap, AnswersIf}
-use Rattle.congee.proofs.Rely.{knows_kept, child_kept, seated_kept, named_above_all}
+use Rattle.congee.proofs.Rely.{knows_kept, child_kept, seated_kept}
+use Rattle.congee.specs.Names.{name_above}
+use Rattle.congee.proofs.Each.{each_any}
 use Rattle.congee.proofs.Touch.{by_test}
 use Rattle.congee.proofs.Words.{Still, making, make_still}
 use Rattle.congee.proofs.Locks.{Kept, own_rely}
@@ -63,7 +65,7 @@ module _ {C V : Type 0} (number : C → ℕ) (same : V → V → Bool) (always :
 module _ {C V : Type 0} (number : C → ℕ) (same : V → V → Bool) (always : Bool) (i : ℕ) (a : ℕ → Note) (h : ℕ → Node V) (k : ℕ) (kind : Kind V) (given : Option V)
     (t : Tree a h) (w : Words a h) where
   knows_after : (a' : ℕ → Note) (h' : ℕ → Node V) → Effect i a h a' h' → (s : Site C) (x : Hung V) → Knows number a h (key_bytes k) s x → Knows number a' h' (key_bytes k) s x
-  knows_after a' h' e s x m = knows_kept number (key_bytes k) (λ _. Unit {0}) (suc i) a h a' h' (own_rely i a h a' h' e) s x (named_above_all number s.above) tt m
+  knows_after a' h' e s x m = knows_kept number (key_bytes k) (λ _. Unit {0}) (suc i) a h a' h' (own_rely i a h a' h' e) s x (each_any (name_above number s.above)) tt m
 
   child_after : (a' : ℕ → Note) (h' : ℕ → Node V) → Effect i a h a' h' → (p : Parent C) (n : ℕ) → ChildOf number a h (key_bytes k) p n → ChildOf number a' h' (key_bytes k) p n
   child_after a' h' e p n m = child_kept number (key_bytes k) (λ _. Unit {0}) (suc i) a h a' h' (own_rely i a h a' h' e) p n tt m

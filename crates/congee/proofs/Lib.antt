@@ -42,6 +42,7 @@ pub mod Tree
 pub mod Unlink
 pub mod Ways
 pub mod Touch
+pub mod Each
 pub mod Rely
 pub mod Words
 pub mod Change
@@ -65,3 +66,5 @@ pub mod Opening
 pub mod PlainHeaps
 pub mod PlainLemmas
 pub mod Tallies
+pub mod Origins
+pub mod Destroys

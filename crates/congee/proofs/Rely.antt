@@ -18,7 +18,9 @@ use Rattle.congee.specs.declared.store.Seat.{Seat}
 use Rattle.congee.specs.Heap.{Node, Hung, fits, is_taken}
 use Rattle.congee.specs.Events.{hung, Parts}
 use Rattle.congee.specs.Ledger.{Note, Held, is_published}
-use Rattle.congee.specs.Protocol.{Seated, Fresh, ChildOf, IsAbove, Knows, Made, Holding, PlacedOne, WantedOne, MadeOne, OneKnown, OneLocked, PlacedTwo, WantedTwo, MadeTwo, TwoKnown, AboveLocked, HalfLocked, TwoLocked, TakenOut, SeatedIf, PlanKnown, MadeLeafFor, Known, Rely, Named, NamedAbove, NamedIf, NamedPlan}
+use Rattle.congee.specs.Protocol.{Seated, Fresh, ChildOf, IsAbove, Knows, Made, Holding, PlacedOne, WantedOne, MadeOne, OneKnown, OneLocked, PlacedTwo, WantedTwo, MadeTwo, TwoKnown, AboveLocked, HalfLocked, TwoLocked, TakenOut, SeatedIf, PlanKnown, MadeLeafFor, Known, Rely}
+use Rattle.congee.specs.Names.{name_above, name_seated, name_made, names_site, names_one, names_plan, names}
+use Rattle.congee.proofs.Each.{Each, left, right}
 
 pub rely_still : {V : Type 0} (K : ℕ → Type 0) (i : ℕ) (a : ℕ → Note) (h : ℕ → Node V) → Rely K i a h a h
 rely_still K i a h = record {
@@ -73,11 +75,11 @@ module _ {C V : Type 0} (number : C → ℕ) (key : List ℕ) (K : ℕ → Type 
     fresh = fresh_kept K i a h a' h' r (number p.seat.node) p.seat.version _ k c.fresh;
   }
 
-  pub above_kept : (p : Option (Parent C)) (n : ℕ) → NamedAbove number K p → IsAbove number a h key p n → IsAbove number a' h' key p n
+  pub above_kept : (p : Option (Parent C)) (n : ℕ) → Each K (name_above number p) → IsAbove number a h key p n → IsAbove number a' h' key p n
   above_kept None n k e = e
-  above_kept (Some p) n k c = child_kept p n k c
+  above_kept (Some p) n k c = child_kept p n k.0 c
 
-  pub knows_kept : (s : Site C) (x : Hung V) → NamedAbove number K s.above → K (number s.at.node) → Knows number a h key s x → Knows number a' h' key s x
+  pub knows_kept : (s : Site C) (x : Hung V) → Each K (name_above number s.above) → K (number s.at.node) → Knows number a h key s x → Knows number a' h' key s x
   knows_kept s x ka k w =
       let e : (h' (number s.at.node)).prefix ≡ (h (number s.at.node)).prefix = r.prefix (number s.at.node) k w.fresh.seated.published in
       record {
@@ -178,13 +180,13 @@ module _ {C V : Type 0} (number : C → ℕ) (key : List ℕ) (K : ℕ → Type 
         unretired = rw e.0 o.unretired;
       }
 
-  pub seated_if_kept : (p : Option (Seat C)) → NamedIf number K p → SeatedIf number a h p → SeatedIf number a' h' p
+  pub seated_if_kept : (p : Option (Seat C)) → Each K (name_seated number p) → SeatedIf number a h p → SeatedIf number a' h' p
   seated_if_kept None k s = tt
-  seated_if_kept (Some p) k s = seated_kept K i a h a' h' r (number p.node) p.version k s
+  seated_if_kept (Some p) k s = seated_kept K i a h a' h' r (number p.node) p.version k.0 s
 
-  pub plan_kept : (plan : Plan C) → NamedPlan number K plan → PlanKnown number i a h key plan → PlanKnown number i a' h' key plan
-  plan_kept (Here check one) k x = (seated_if_kept check k.0 x.0, one_kept one _ k.1 x.1)
-  plan_kept (Above two) k x = ((x.0.0, two_kept two None x.0.0 k.0 k.1 x.0.1), x.1)
+  pub plan_kept : (plan : Plan C) → Each K (names_plan number plan) → PlanKnown number i a h key plan → PlanKnown number i a' h' key plan
+  plan_kept (Here check one) k x = (seated_if_kept check (left K (name_seated number check) (names_one number one) k) x.0, one_kept one _ (right K (name_seated number check) (names_one number one) k).0 x.1)
+  plan_kept (Above two) k x = ((x.0.0, two_kept two None x.0.0 k.0 k.1.0 x.0.1), x.1)
 
   pub made_leaf_kept : (s : Site C) (leaf : Option C) → MadeLeafFor number i a h key s leaf → MadeLeafFor number i a' h' key s leaf
   made_leaf_kept s None x = x
@@ -192,72 +194,72 @@ module _ {C V : Type 0} (number : C → ℕ) (key : List ℕ) (K : ℕ → Type 
 
 -- the steps of others keep what a call knows
 pub known_kept : {C V : Type 0} (number : C → ℕ) (same : V → V → Bool) (always : Bool) (K : ℕ → Type 0) (i : ℕ) (a : ℕ → Note) (h : ℕ → Node V) (a' : ℕ → Note) (h' : ℕ → Node V)
-    → Rely K i a h a' h' → (k : ℕ) (key : List ℕ) (kind : Kind V) (given : Option V) (s : Phase C V) → Named number K s
+    → Rely K i a h a' h' → (k : ℕ) (key : List ℕ) (kind : Kind V) (given : Option V) (s : Phase C V) → Each K (names number s)
     → Known number same always i a h k key kind given s → Known number same always i a' h' k key kind given s
 known_kept number same always K i a h a' h' r k key kind given New n m = m
 known_kept number same always K i a h a' h' r k key kind given (Version p c) n m =
-    (m.0, above_kept number key K i a h a' h' r p (number c) n.0 m.1, r.published (number c) n.1 m.2)
+    (m.0, above_kept number key K i a h a' h' r p (number c) n.1 m.1, r.published (number c) n.0 m.2)
 known_kept number same always K i a h a' h' r k key kind given (Read p at) n m =
-    (m.0, above_kept number key K i a h a' h' r p (number at.node) n.0 m.1, seated_kept K i a h a' h' r (number at.node) at.version n.1 m.2)
-known_kept number same always K i a h a' h' r k key kind given (Check s c) n m = (m.0, knows_kept number key K i a h a' h' r s (hung number c) n.0 n.1 m.1)
-known_kept number same always K i a h a' h' r k key kind given (CheckUncopied at) n m = (m.0, seated_kept K i a h a' h' r (number at.node) at.version n m.1, m.2)
+    (m.0, above_kept number key K i a h a' h' r p (number at.node) n.1 m.1, seated_kept K i a h a' h' r (number at.node) at.version n.0 m.2)
+known_kept number same always K i a h a' h' r k key kind given (Check s c) n m = (m.0, knows_kept number key K i a h a' h' r s (hung number c) n.1 n.0 m.1)
+known_kept number same always K i a h a' h' r k key kind given (CheckUncopied at) n m = (m.0, seated_kept K i a h a' h' r (number at.node) at.version n.0 m.1, m.2)
 known_kept number same always K i a h a' h' r k key kind given (CheckMiss p at common byte) n m =
-    let e : (h' (number at.node)).prefix ≡ (h (number at.node)).prefix = r.prefix (number at.node) n.1 m.2.published in (
+    let e : (h' (number at.node)).prefix ≡ (h (number at.node)).prefix = r.prefix (number at.node) n.1.0 m.2.published in (
       m.0,
       child_kept number key K i a h a' h' r p (number at.node) n.0 m.1,
-      seated_kept K i a h a' h' r (number at.node) at.version n.1 m.2,
+      seated_kept K i a h a' h' r (number at.node) at.version n.1.0 m.2,
       (let P : List ℕ → Type 0 = λ y. Parts y key common in subst P (sym e) m.3),
       rw e m.4,
     )
 known_kept number same always K i a h a' h' r k key kind given (CheckDown p at c) n m =
-    (m.0, seated_kept K i a h a' h' r (number p.node) p.version n.0 m.1, child_kept number key K i a h a' h' r at (number c) n.1 m.2, r.published (number c) n.2 m.3)
+    (m.0, seated_kept K i a h a' h' r (number p.node) p.version n.0 m.1, child_kept number key K i a h a' h' r at (number c) n.1.0 m.2, r.published (number c) n.1.1.0 m.3)
 known_kept number same always K i a h a' h' r k key kind given (CheckOld p s v) n m =
-    (m.0, seated_kept K i a h a' h' r (number p.node) p.version n.0 m.1, knows_kept number key K i a h a' h' r s _ n.1 n.2 m.2, m.3, m.4)
-known_kept number same always K i a h a' h' r k key kind given (MakeLeaf s) n m = (m.0, knows_kept number key K i a h a' h' r s _ n.0 n.1 m.1, m.2, m.3, m.4)
+    (m.0, seated_kept K i a h a' h' r (number p.node) p.version n.0 m.1, knows_kept number key K i a h a' h' r s _ n.1.1 n.1.0 m.2, m.3, m.4)
+known_kept number same always K i a h a' h' r k key kind given (MakeLeaf s) n m = (m.0, knows_kept number key K i a h a' h' r s _ n.1 n.0 m.1, m.2, m.3, m.4)
 known_kept number same always K i a h a' h' r k key kind given (MakeGreater s p leaf) n m =
-    (m.0, knows_kept number key K i a h a' h' r s _ n.0 n.1 m.1, m.2, made_leaf_kept number key K i a h a' h' r s leaf m.3, m.4, m.5)
+    (m.0, knows_kept number key K i a h a' h' r s _ (right K (name_made number leaf) (names_site number s) n.1).1 (right K (name_made number leaf) (names_site number s) n.1).0 m.1, m.2, made_leaf_kept number key K i a h a' h' r s leaf m.3, m.4, m.5)
 known_kept number same always K i a h a' h' r k key kind given (MakeTop p at common byte) n m =
-    let e : (h' (number at.node)).prefix ≡ (h (number at.node)).prefix = r.prefix (number at.node) n.1 m.2.published in (
+    let e : (h' (number at.node)).prefix ≡ (h (number at.node)).prefix = r.prefix (number at.node) n.1.0 m.2.published in (
       m.0,
       child_kept number key K i a h a' h' r p (number at.node) n.0 m.1,
-      seated_kept K i a h a' h' r (number at.node) at.version n.1 m.2,
+      seated_kept K i a h a' h' r (number at.node) at.version n.1.0 m.2,
       (let P : List ℕ → Type 0 = λ y. Parts y key common in subst P (sym e) m.3),
       rw e m.4,
       m.5,
     )
 known_kept number same always K i a h a' h' r k key kind given (MakeBeside p at common byte top) n m =
-    let e : (h' (number at.node)).prefix ≡ (h (number at.node)).prefix = r.prefix (number at.node) n.1 m.2.published in (
+    let e : (h' (number at.node)).prefix ≡ (h (number at.node)).prefix = r.prefix (number at.node) n.1.0 m.2.published in (
       m.0,
       child_kept number key K i a h a' h' r p (number at.node) n.0 m.1,
-      seated_kept K i a h a' h' r (number at.node) at.version n.1 m.2,
+      seated_kept K i a h a' h' r (number at.node) at.version n.1.0 m.2,
       (let P : List ℕ → Type 0 = λ y. Parts y key common in subst P (sym e) m.3),
       rw e m.4,
       m.5,
       made_kept K i a h a' h' r key (number top) common 1 m.6,
     )
-known_kept number same always K i a h a' h' r k key kind given (AskOld s v) n m = (m.0, knows_kept number key K i a h a' h' r s _ n.0 n.1 m.1, m.2, m.3)
+known_kept number same always K i a h a' h' r k key kind given (AskOld s v) n m = (m.0, knows_kept number key K i a h a' h' r s _ n.1 n.0 m.1, m.2, m.3)
 known_kept number same always K i a h a' h' r k key kind given (AskNew plan) n m = (plan_kept number key K i a h a' h' r plan n m.0, m.1)
 known_kept number same always K i a h a' h' r k key kind given (Confirm at reply) n m = (
   m.0,
   (
     m.1.0,
     record {
-      fitted = fits_kept K i a h a' h' r (number at.node) key true n m.1.1.fresh.seated.published m.1.1.fitted;
-      fresh = fresh_kept K i a h a' h' r (number at.node) at.version _ n m.1.1.fresh;
+      fitted = fits_kept K i a h a' h' r (number at.node) key true n.0 m.1.1.fresh.seated.published m.1.1.fitted;
+      fresh = fresh_kept K i a h a' h' r (number at.node) at.version _ n.0 m.1.1.fresh;
     },
     m.1.2,
   ),
 )
 known_kept number same always K i a h a' h' r k key kind given (CheckAbove p one reply) n m =
-    (m.0, seated_kept K i a h a' h' r (number p.node) p.version n.0 m.1, one_kept number key K i a h a' h' r one _ n.1 m.2, m.3, m.4)
+    (m.0, seated_kept K i a h a' h' r (number p.node) p.version n.0 m.1, one_kept number key K i a h a' h' r one _ n.1.0 m.2, m.3, m.4)
 known_kept number same always K i a h a' h' r k key kind given (UpgradeOne one reply) n m =
-    (m.0, (m.1.0, one_kept number key K i a h a' h' r one _ n m.1.1, m.1.2, m.1.3))
+    (m.0, (m.1.0, one_kept number key K i a h a' h' r one _ n.0 m.1.1, m.1.2, m.1.3))
 known_kept number same always K i a h a' h' r k key kind given (ChangeOne one reply) n m =
     (m.0, one_locked_kept number key K i a h a' h' r one _ m.1, m.2, m.3)
 known_kept number same always K i a h a' h' r k key kind given (UpgradeAbove two reply) n m =
-    (m.0, (m.1.0, m.1.1, two_kept number key K i a h a' h' r two _ _ n.0 n.1 m.1.2, m.1.3, m.1.4))
+    (m.0, (m.1.0, m.1.1, two_kept number key K i a h a' h' r two _ _ n.0 n.1.0 m.1.2, m.1.3, m.1.4))
 known_kept number same always K i a h a' h' r k key kind given (UpgradeBoth two reply) n m =
-    (m.0, (m.1.0, m.1.1, half_kept number key K i a h a' h' r two _ _ n m.1.2, m.1.3, m.1.4))
+    (m.0, (m.1.0, m.1.1, half_kept number key K i a h a' h' r two _ _ n.1.0 m.1.2, m.1.3, m.1.4))
 known_kept number same always K i a h a' h' r k key kind given (ChangeTwo two reply) n m =
     (m.0, m.1, two_locked_kept number key K i a h a' h' r two _ _ m.2, m.3, m.4)
 known_kept number same always K i a h a' h' r k key kind given (Obsolete c p reply) n m = taken_kept number key K i a h a' h' r (number p) (number c) m
@@ -268,44 +270,3 @@ known_kept number same always K i a h a' h' r k key kind given (UnlockBelow c p 
 known_kept number same always K i a h a' h' r k key kind given (Unlock c reply) n m = holding_kept K i a h a' h' r (number c) m
 known_kept number same always K i a h a' h' r k key kind given (Unwind c e) n m = (m.0, holding_kept K i a h a' h' r (number c) m.1)
 known_kept number same always K i a h a' h' r k key kind given Ended n m = tt
-
-pub named_above_all : {C : Type 0} (number : C → ℕ) (p : Option (Parent C)) → NamedAbove number (λ _. Unit {0}) p
-named_above_all number None = tt
-named_above_all number (Some p) = tt
-
-named_if_all : {C : Type 0} (number : C → ℕ) (p : Option (Seat C)) → NamedIf number (λ _. Unit {0}) p
-named_if_all number None = tt
-named_if_all number (Some p) = tt
-
-named_plan_all : {C : Type 0} (number : C → ℕ) (plan : Plan C) → NamedPlan number (λ _. Unit {0}) plan
-named_plan_all number (Here check one) = (named_if_all number check, tt)
-named_plan_all number (Above two) = (tt, tt)
-
-pub named_all : {C V : Type 0} (number : C → ℕ) (s : Phase C V) → Named number (λ _. Unit {0}) s
-named_all number New = tt
-named_all number (Version p c) = (named_above_all number p, tt)
-named_all number (Read p at) = (named_above_all number p, tt)
-named_all number (Check s c) = (named_above_all number s.above, tt)
-named_all number (CheckUncopied at) = tt
-named_all number (CheckMiss p at common byte) = (tt, tt)
-named_all number (CheckDown p at c) = (tt, tt, tt)
-named_all number (CheckOld p s v) = (tt, named_above_all number s.above, tt)
-named_all number (MakeLeaf s) = (named_above_all number s.above, tt)
-named_all number (MakeGreater s p leaf) = (named_above_all number s.above, tt)
-named_all number (MakeTop p at common byte) = (tt, tt)
-named_all number (MakeBeside p at common byte top) = (tt, tt)
-named_all number (AskOld s v) = (named_above_all number s.above, tt)
-named_all number (AskNew plan) = named_plan_all number plan
-named_all number (Confirm at reply) = tt
-named_all number (CheckAbove p one reply) = (tt, tt)
-named_all number (UpgradeOne one reply) = tt
-named_all number (ChangeOne one reply) = tt
-named_all number (UpgradeAbove two reply) = (tt, tt)
-named_all number (UpgradeBoth two reply) = tt
-named_all number (ChangeTwo two reply) = tt
-named_all number (Obsolete c p reply) = tt
-named_all number (Retire c p reply) = tt
-named_all number (UnlockBelow c p reply) = tt
-named_all number (Unlock c reply) = tt
-named_all number (Unwind c e) = tt
-named_all number Ended = tt

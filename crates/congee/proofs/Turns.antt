@@ -21,7 +21,9 @@ use Rattle.congee.specs.Steps.{MayStep, Stepped}
 use Rattle.congee.specs.Answers.{Keeps, KeepsProtocol}
 use Rattle.congee.specs.Play.{Flight, Watched, WatchedAt, Run, flight_in, flight, EachKnown, Protocol, ProtocolAt, Settled, Begins, Plays, StepPlays}
 use Rattle.congee.specs.Holdings.{LockedBy, MadeBy, Holdings, Rests, Apart}
-use Rattle.congee.proofs.Rely.{known_kept, named_all}
+use Rattle.congee.specs.Names.{names}
+use Rattle.congee.proofs.Each.{each_any}
+use Rattle.congee.proofs.Rely.{known_kept}
 use Rattle.congee.proofs.Owners.{get_set, own_before, mine_before, held_after, gone_taken, taken_on, made_held, locks_owned}
 use Rattle.congee.proofs.Holdings.{step_holds}
 use Rattle.congee.proofs.Handing.{step_hands, leaves_on, stepped_hands, idle_hands, handing_none, handing_more}
@@ -44,7 +46,7 @@ module _ {C V : Type 0} (number : C → ℕ) (same : V → V → Bool) (always :
     | inr p ↦ (let o : EachKnown number same always a h j x = e j x p.1 in record {
       root = o.root;
       key = o.key;
-      known = known_kept number same always (λ _. Unit {0}) j a h a' h' (r j p.0) x.key (key_bytes x.key) x.kind x.given x.phase (named_all number x.phase) o.known;
+      known = known_kept number same always (λ _. Unit {0}) j a h a' h' (r j p.0) x.key (key_bytes x.key) x.kind x.given x.phase (each_any (names number x.phase)) o.known;
     })
   ]
 

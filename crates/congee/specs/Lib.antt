@@ -32,3 +32,5 @@ pub mod Plain
 pub mod PlainHeap
 pub mod Holdings
 pub mod Handing
+pub mod Names
+pub mod Destroys

@@ -2,6 +2,7 @@
 ghost use Rattle.std.specs.Prelude.{◌≡◌};
 ghost use Rattle.std.specs.Vec.{vec_len};
 ghost use Rattle.std.proofs.Math.ListN.{take};
+ghost use Rattle.congee.specs.Destroys.{Spares};
 ghost use Rattle.congee.specs.Play.{Begins, Protocol, Plays, StepPlays};
 
 use crate::machine::{Machine, Move, Noise, Outcome};
@@ -39,6 +40,7 @@ pub fn play<C: NodeName + Drop, P: Payload, S: Store<C, P>>(
     requires { Begins C.number (S.heap store.old) machines.old }
     ensures done { result.done ≡ vec_len result.moves }
     ensures run { Plays C.number P.same_as P.always_copies (S.heap store.old) machines.old (take result.done steps.items) result.moves.items (S.heap store.new) machines.new }
+    ensures spares { Spares C.number P.same_as P.always_copies (S.heap store.new) machines.new }
 {
     let mut moves = Vec::new(alloc);
     let mut rest = steps.into_iter();

@@ -2,6 +2,7 @@
 ghost use Rattle.std.specs.Prelude.{◌≡◌, ◌≢◌, ℕ, ◌+◌, ◌<◌, ◌≤◌, Bool, true, false, Option, None, Some, Result, List, [], ◌∷◌, ◌++◌};
 ghost use Rattle.congee.specs.Heap.{Node, Stands, is_taken, version_of};
 ghost use Rattle.congee.specs.Answers.{KeepsProtocol};
+ghost use Rattle.congee.specs.Names.{KeepsOrigin};
 ghost use Rattle.congee.specs.Play.{begun, IsNew, Begins};
 ghost use Rattle.congee.specs.Opening.{RootAlone};
 ghost use Rattle.congee.specs.Keys.{key_bytes};
@@ -91,6 +92,7 @@ impl<C: NodeName, P: Payload> Machine<C, P> {
         ensures limit { S.version_max store.new ≡ S.version_max store.old }
         ensures step { Stepped C.number P.same_as P.always_copies (S.version_max store.old) self.old (S.heap store.old) noise.fail noise.answer self.new (S.heap store.new) result }
         ensures keeps { KeepsProtocol C.number P.same_as P.always_copies self.old (S.heap store.old) self.new (S.heap store.new) result }
+        ensures origin { KeepsOrigin C.number P.same_as P.always_copies self.old (S.heap store.old) self.new (S.heap store.new) }
     {
         let phase = std::mem::replace(&mut self.phase, Phase::Ended);
         let turn = self.turn(store, phase, noise);

@@ -1,6 +1,7 @@
 use Rattle.std.proofs.Common.{◌∙◌, ap}
 use Rattle.std.specs.Vec.{vec_len}
 use Rattle.congee.proofs.Turns.{progress_none, progress_more, progress_end}
+use Rattle.congee.proofs.Destroys.{spares}
 use Rattle.congee.proofs.calls.play.Goals as goal
 use Rattle.congee.proofs.calls.play.Goals.{in-Some+then-is_err, in_default}
 
@@ -15,3 +16,6 @@ returns-clause-run g c = elim c.match-next.branch [
   | in-Some+then-is_err w ↦ progress_end _ _ _ _ _ _ _ _ _ _ _ _ _ c.loop-step.invariant (c.len-done.ensures ∙ (ap (λ v. vec_len v) w.moves-is ∙ w.reserve.ensures.len)) (ap (λ v. v.items) w.moves-is ∙ w.reserve.ensures.items)
   | in_default w ↦ progress_end _ _ _ _ _ _ _ _ _ _ _ _ _ c.loop-step.invariant (c.len-done.ensures ∙ ap (λ v. vec_len v) w.moves-is) (ap (λ v. v.items) w.moves-is)
 ]
+
+pub returns-clause-spares : goal.returns-clause-spares
+returns-clause-spares g c = spares _ _ _ _ _

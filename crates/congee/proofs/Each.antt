@@ -1,0 +1,23 @@
+-- A property of each of a list's elements, one by one.
+use Rattle.std.proofs.Common.{ℕ, List, [], ◌∷◌, ◌++◌}
+use Rattle.std.specs.List.{AllByRecursion}
+
+module _ (K : ℕ → Type 0) where
+  abbrev pub Each : List ℕ → Type 0
+  Each = AllByRecursion K
+
+  pub both : (xs ys : List ℕ) → Each xs → Each ys → Each (xs ++ ys)
+  both [] ys e f = f
+  both (x ∷ xs) ys e f = (e.0, both xs ys e.1 f)
+
+  pub left : (xs ys : List ℕ) → Each (xs ++ ys) → Each xs
+  left [] ys e = tt
+  left (x ∷ xs) ys e = (e.0, left xs ys e.1)
+
+  pub right : (xs ys : List ℕ) → Each (xs ++ ys) → Each ys
+  right [] ys e = e
+  right (x ∷ xs) ys e = right xs ys e.1
+
+pub each_any : (xs : List ℕ) → Each (λ _. Unit {0}) xs
+each_any [] = tt
+each_any (x ∷ xs) = (tt, each_any xs)
