@@ -64,3 +64,4 @@ pub mod Opening
 pub mod PlainHeaps
 pub mod PlainLemmas
 pub mod Tallies
+pub mod Surveys
