@@ -68,3 +68,4 @@ pub mod PlainLemmas
 pub mod Tallies
 pub mod Origins
 pub mod Destroys
+pub mod Surveys

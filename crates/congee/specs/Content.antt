@@ -1,15 +1,17 @@
 -- What contracts see of an owned tree.
-use Rattle.std.specs.Prelude.{◌≡◌, ℕ, ◌+◌, Bool, refl}
+use Rattle.std.specs.Prelude.{◌≡◌, ℕ, ◌+◌, Bool, List, refl}
 use Rattle.std.specs.Ordering.{nat_cmp}
 use Rattle.std.specs.FinMap as map
-use Rattle.std.specs.Coded.{Coded, code_by, coded×, coded_ℕ}
+use Rattle.std.specs.Coded.{Coded, code_by, coded×, coded_ℕ, coded_list}
+use Rattle.congee.specs.Stats.{Shape, shape_code}
 use Rattle.judge.specs.Answer.{answer}
 use Rattle.judge.specs.declared.journal.Call.{Call}
 use Rattle.judge.specs.declared.journal.Reply.{Reply}
 
--- the pairs, the sum of the sizes of the nodes in bytes, the budget that they are charged to, and the drainer
+-- the pairs, the nodes, the sum of their sizes in bytes, the budget that they are charged to, and the drainer
 pub record Content (V A D : Type 0) : Type 0 where
   pub pairs : map.FinMap nat_cmp V
+  pub nodes : List Shape
   pub bytes : ℕ
   pub allocator : A
   pub drainer : D
@@ -17,10 +19,10 @@ pub record Content (V A D : Type 0) : Type 0 where
 abbrev pub content_code : {V A D : Type 0} → Coded V → Coded A → Coded D → Coded (Content V A D)
 content_code {V} {A} {D} v a d =
     code_by
-    (map.FinMap nat_cmp V × (ℕ × (A × D)))
-    (coded× (map.code coded_ℕ v) (coded× coded_ℕ (coded× a d)))
-    (λ c. (c.pairs, (c.bytes, (c.allocator, c.drainer))))
-    (λ p. record { pairs = p.0; bytes = p.1.0; allocator = p.1.1.0; drainer = p.1.1.1 })
+    (map.FinMap nat_cmp V × (List Shape × (ℕ × (A × D))))
+    (coded× (map.code coded_ℕ v) (coded× (coded_list shape_code) (coded× coded_ℕ (coded× a d))))
+    (λ c. (c.pairs, (c.nodes, (c.bytes, (c.allocator, c.drainer)))))
+    (λ p. record { pairs = p.0; nodes = p.1.0; bytes = p.1.1.0; allocator = p.1.1.1.0; drainer = p.1.1.1.1 })
     (λ _. refl)
 
 -- the call on the tree is the one on its map
@@ -33,7 +35,8 @@ pub record Keeps {V A D : Type 0} (charged limit : A → ℕ) (old new : Content
   pub same_limit : limit new.allocator ≡ limit old.allocator
   pub drainer : new.drainer ≡ old.drainer
 
--- a refused call leaves the pairs and the nodes' sizes
+-- a refused call leaves the pairs, the nodes and their sizes
 pub record Unchanged {V A D : Type 0} (old new : Content V A D) : Type 0 where
   pub pairs : new.pairs ≡ old.pairs
+  pub nodes : new.nodes ≡ old.nodes
   pub bytes : new.bytes ≡ old.bytes

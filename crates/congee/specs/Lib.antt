@@ -10,6 +10,7 @@ pub mod Heap
 pub mod Index
 pub mod Keys
 pub mod Ledger
+pub mod Levels
 pub mod Mask
 pub mod Owned
 pub mod Place

@@ -8,12 +8,14 @@ ghost use Rattle.congee.specs.Content.{Answers, Keeps, Unchanged};
 ghost use Rattle.congee.specs.Drained.{Drained};
 ghost use Rattle.congee.specs.OwnedSteps.{IsOutOf, IsRefusal};
 ghost use Rattle.congee.specs.Ranges.{by_bytes, in_range, keys_by};
+ghost use Rattle.congee.specs.Stats.{IsTally, root_alone};
 ghost use Rattle.judge.specs.declared.journal.Call.TheVariants as call;
 ghost use Rattle.judge.specs.declared.journal.Reply.TheVariants as reply;
 
 use crate::allocator::{Allocator, OOMError};
 use crate::arena::Arena;
 use crate::drainer::{Drainer, NoDrain};
+use crate::stats::NodeStats;
 use judge::Word64;
 use std::alloc::{AllocError, Global};
 use std::marker::{Model, PhantomData};
@@ -37,10 +39,11 @@ impl<K, V, A: Allocator, D> Model for Congee<K, V, A, D> {
     ghost coded = { content_code coded_ℕ A.code D.code };
 
     ghost use Rattle.congee.specs.Arena.{IsTree};
+    ghost use Rattle.congee.specs.Levels.{nodes_of};
     ghost use Rattle.congee.specs.Sizes.{bytes_of};
     ghost use Rattle.congee.specs.Table.{pairs_of};
 
-    ghost view = { λ t. record { pairs = pairs_of t.arena.nodes; bytes = bytes_of t.arena.nodes; allocator = t.arena.allocator; drainer = t.drainer } };
+    ghost view = { λ t. record { pairs = pairs_of t.arena.nodes; nodes = nodes_of t.arena.nodes; bytes = bytes_of t.arena.nodes; allocator = t.arena.allocator; drainer = t.drainer } };
 
     ghost invariant = { λ t. IsTree t.arena.nodes × (bytes_of t.arena.nodes ≤ A.charged_of t.arena.allocator) };
 }
@@ -79,6 +82,7 @@ impl<K: Word64, V: Word64, A: Allocator, D: Drop> Congee<K, V, A, D> {
     /// An empty tree over the allocator, which its root is charged to. A refused call drops both.
     pub fn new_with_drainer(alloc: Global, allocator: A, drainer: D) -> Result<Self, OOMError>
         ensures empty { IfOk result (λ t. t.pairs ≡ map.empty) }
+        ensures nodes { IfOk result (λ t. t.nodes ≡ root_alone) }
         ensures root { IfOk result (λ t. t.bytes ≡ 2104) }
         ensures charged { IfOk result (λ t. A.charged_of t.allocator ≡ A.charged_of allocator + 2104) }
         ensures limit { IfOk result (λ t. A.limit_of t.allocator ≡ A.limit_of allocator) }
@@ -208,6 +212,14 @@ impl<K: Word64, V: Word64, A: Allocator, D: Drop> Congee<K, V, A, D> {
         self.arena.keys(self.alloc)
     }
 
+    /// How many nodes of each form stand on each level and how many children they have, and how many pairs there are.
+    /// The root is level 0. It is refused for want of memory alone.
+    pub fn stats(&self) -> Result<NodeStats, AllocError>
+        ensures { IfOk result (λ stats. IsTally stats self.now.nodes (map.len self.now.pairs)) }
+    {
+        self.arena.stats(self.alloc)
+    }
+
     /// Whether no key has a value.
     pub fn is_empty(&self) -> bool
         ensures { IsTrue result ↔ (self.now.pairs ≡ map.empty) }
@@ -246,6 +258,7 @@ impl<K: Word64, V: Word64, A: Allocator> Congee<K, V, A, NoDrain> {
     /// An empty tree over the allocator, which its root is charged to. A refused call drops the allocator.
     pub fn new(alloc: Global, allocator: A) -> Result<Self, OOMError>
         ensures empty { IfOk result (λ t. t.pairs ≡ map.empty) }
+        ensures nodes { IfOk result (λ t. t.nodes ≡ root_alone) }
         ensures root { IfOk result (λ t. t.bytes ≡ 2104) }
         ensures charged { IfOk result (λ t. A.charged_of t.allocator ≡ A.charged_of allocator + 2104) }
         ensures limit { IfOk result (λ t. A.limit_of t.allocator ≡ A.limit_of allocator) }

@@ -47,6 +47,7 @@ mod stats;
 #[cfg(test)]
 mod stats_tests;
 mod store;
+mod survey;
 mod turn;
 mod u64_congee;
 

@@ -3,7 +3,9 @@ ghost use Rattle.std.specs.Prelude.{◌≡◌, ◌+◌, ℕ, length, ◌≤◌, 
 ghost use Rattle.std.specs.Option.{option_copied};
 ghost use Rattle.congee.specs.Heap.{value_at};
 ghost use Rattle.congee.specs.Arena.{IsTree, heap_of};
+ghost use Rattle.congee.specs.Levels.{nodes_of};
 ghost use Rattle.congee.specs.Sizes.{bytes_of};
+ghost use Rattle.congee.specs.Stats.{root_alone};
 ghost use Rattle.congee.specs.Changes.{MapChange};
 ghost use Rattle.std.specs.Prelude.{List};
 ghost use Rattle.congee.specs.OwnedSteps.{SameNodes, IsOutOf, IsRefusal, settled};
@@ -21,6 +23,7 @@ impl<P: Stored, A: Allocator> Arena<P, A> {
     pub(crate) fn new(alloc: Global, allocator: A) -> Result<Self, OOMError>
         ensures tree { IfOk result (λ t. IsTree t.nodes) }
         ensures empty { IfOk result (λ t. (key : List ℕ) → value_at (heap_of t.nodes) key ≡ None) }
+        ensures nodes { IfOk result (λ t. nodes_of t.nodes ≡ root_alone) }
         ensures bytes { IfOk result (λ t. bytes_of t.nodes ≡ 2104) }
         ensures charged { IfOk result (λ t. A.charged_of t.allocator ≡ A.charged_of allocator + 2104) }
         ensures limit { IfOk result (λ t. A.limit_of t.allocator ≡ A.limit_of allocator) }

@@ -45,28 +45,24 @@ const EMPTY_LEVEL: LevelStats = LevelStats {
 };
 
 impl NodeInfo {
-    ghost use Rattle.congee.specs.Stats.{one_more};
+    ghost use Rattle.congee.specs.Stats.{capped_info, one_more};
 
     // Counts one more node with its children.
     fn count(&mut self, children: u64)
-        requires nodes { self.old.node_count < u64.MAX }
-        requires children { self.old.value_count + children ≤ u64.MAX }
-        ensures { self.new ≡ one_more children self.old }
+        ensures { self.new ≡ capped_info (one_more children self.old) }
     {
-        self.node_count += 1;
-        self.value_count += children;
+        self.node_count = self.node_count.saturating_add(1);
+        self.value_count = self.value_count.saturating_add(children);
     }
 }
 
 impl LevelStats {
-    ghost use Rattle.congee.specs.Stats.{info_of, one_more};
+    ghost use Rattle.congee.specs.Stats.{capped_info, info_of, one_more};
     ghost use Rattle.congee.specs.declared.base_node.NodeType.{NodeType};
 
     // Counts one more node with its children.
     fn count(&mut self, form: NodeType, children: u64)
-        requires nodes { (info_of form self.old).node_count < u64.MAX }
-        requires children { (info_of form self.old).value_count + children ≤ u64.MAX }
-        ensures here { info_of form self.new ≡ one_more children (info_of form self.old) }
+        ensures here { info_of form self.new ≡ capped_info (one_more children (info_of form self.old)) }
         ensures others { (f : NodeType) → (f ≡ form → ⊥) → info_of f self.new ≡ info_of f self.old }
     {
         match form {
@@ -95,10 +91,9 @@ impl NodeStats {
     }
 
     /// Counts one more node with its children, at most one level below those counted so far.
+    /// A number past `u64::MAX` stays there. It is refused for want of memory alone, and changes nothing then.
     pub fn count(&mut self, level: usize, form: NodeType, children: u64) -> Result<(), AllocError>
         requires next { level ≤ vec_len self.old.levels }
-        requires nodes { (info_at self.old level form).node_count < u64.MAX }
-        requires children { (info_at self.old level form).value_count + children ≤ u64.MAX }
         ensures counted { OnOk result (Counts self.old self.new level form children) }
         ensures unchanged { OnErr result ((self.new.levels.items ≡ self.old.levels.items) × (self.new.kv_pairs ≡ self.old.kv_pairs)) }
     {

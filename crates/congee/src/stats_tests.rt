@@ -1,6 +1,6 @@
 //! What no clause says: printed text, and each public call once with ample memory.
 use super::*;
-use std::alloc::AllocError;
+use std::alloc::{AllocError, Global};
 use std::test::Fail;
 
 const TEXT: &str =
@@ -23,6 +23,59 @@ fn prints_stats(rt: HostRuntime) -> Result<(), Fail> {
     stats.kv_pairs = 2;
     assert_eq!(rt; format!(in rt.alloc(); "{stats}")?.as_str(), TEXT);
     assert_eq!(rt; stats.clone()?, stats);
+    Ok(())
+}
+
+fn empty(alloc: Global) -> Result<Congee<u64, u64, DefaultAllocator, NoDrain>, Fail> {
+    Ok(Congee::new(alloc, DefaultAllocator::new())?)
+}
+
+#[test]
+fn surveys_a_tree(rt: HostRuntime) -> Result<(), Fail> {
+    let mut tree = empty(rt.alloc())?;
+    assert_eq!(rt; tree.insert(1, 10)?, None);
+    assert_eq!(rt; tree.insert(256, 20)?, None);
+    let stats = tree.stats()?;
+    assert_eq!(rt; format!(in rt.alloc(); "{stats}")?.as_str(), TEXT);
+    Ok(())
+}
+
+#[test]
+fn surveys_every_form(rt: HostRuntime) -> Result<(), Fail> {
+    let none = NodeInfo {
+        node_count: 0,
+        value_count: 0,
+    };
+    let one = |children| NodeInfo {
+        node_count: 1,
+        value_count: children,
+    };
+    let mut tree = empty(rt.alloc())?;
+    let root = LevelStats {
+        n4: none,
+        n16: none,
+        n48: none,
+        n256: one(0),
+    };
+    assert_eq!(rt; tree.stats()?.levels.as_slice(), [root].as_slice());
+    for (high, count) in [(1u64, 4u64), (2, 5), (3, 17), (4, 49)] {
+        for low in 0..count {
+            assert_eq!(rt; tree.insert((high << 56) + low, low)?, None);
+        }
+    }
+    let stats = tree.stats()?;
+    let root = LevelStats {
+        n256: one(4),
+        ..root
+    };
+    let leaves = LevelStats {
+        n4: one(4),
+        n16: one(5),
+        n48: one(17),
+        n256: one(49),
+    };
+    assert_eq!(rt; stats.levels.as_slice(), [root, leaves].as_slice());
+    assert_eq!(rt; stats.kv_pairs, 75);
     Ok(())
 }
 

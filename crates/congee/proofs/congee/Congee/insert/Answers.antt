@@ -6,6 +6,7 @@ use Rattle.congee.specs.Changes.{MapChange}
 use Rattle.congee.specs.Keys.{key_bytes}
 use Rattle.congee.proofs.Answered.{answered_insert}
 use Rattle.congee.proofs.Sizes.{bytes_same}
+use Rattle.congee.proofs.Surveys.{same_nodes}
 use Rattle.congee.proofs.Tables.{answer_pairs, same_pairs}
 use Rattle.congee.proofs.Ways.{same_tree}
 use Rattle.congee.proofs.congee.Congee.insert.Goals as goal
@@ -28,5 +29,6 @@ invariant_of-self-2 g c = (
 pub returns-clause-unchanged : goal.returns-clause-unchanged
 returns-clause-unchanged g c = rw (← c.self.view_is) (record {
   pairs = same_pairs c.self.inside.arena.nodes c.insert.new.self.nodes c.in-Err.ensures.same;
+  nodes = same_nodes c.self.inside.arena.nodes c.insert.new.self.nodes c.in-Err.ensures.same;
   bytes = bytes_same c.self.inside.arena.nodes c.insert.new.self.nodes c.in-Err.ensures.same;
 })

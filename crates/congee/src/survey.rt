@@ -1,0 +1,68 @@
+//! How the nodes of an arena are spread over levels and forms.
+ghost use Rattle.std.specs.Prelude.{◌≡◌, ℕ, ◌≤◌, ◌<◌, ◌++◌, ◌^◌, List, length, vec_len, IfOk, OnOk};
+ghost use Rattle.std.specs.FinMap as map;
+ghost use Rattle.slab.specs.Slab.{get, ContainsKey};
+ghost use Rattle.congee.specs.Arena.{IsTree, heap_of};
+ghost use Rattle.congee.specs.Levels.{nodes_from, nodes_of};
+ghost use Rattle.congee.specs.Stats.{IsTally, Shape, capped};
+ghost use Rattle.congee.specs.Table.{pairs_of};
+
+use crate::allocator::Allocator;
+use crate::arena::{Arena, Stored};
+use crate::child::Child;
+use crate::scan::Path;
+use crate::stats::NodeStats;
+use std::alloc::{AllocError, Global};
+
+impl<P: Stored, A: Allocator> Arena<P, A> {
+    // Counts a node on a level, and the nodes below it.
+    fn count_from(&self, at: usize, level: usize, stats: &mut NodeStats) -> Result<(), AllocError>
+        requires tree { IsTree self.now.nodes }
+        requires stands { ContainsKey self.now.nodes at }
+        requires level { level ≤ length (heap_of self.now.nodes at).prefix }
+        requires next { level ≤ vec_len stats.old.levels }
+        ensures counted { OnOk result ((seen : List Shape) → IsTally stats.old seen 0
+            → IsTally stats.new (seen ++ nodes_from (get self.now.nodes) 8 level at) 0) }
+        ensures levels { OnOk result (vec_len stats.old.levels ≤ vec_len stats.new.levels) }
+    {
+        let node = &self.nodes[at];
+        stats.count(level, node.node_type(), node.len() as u64)?;
+        let mut from = 0;
+        while let Some((byte, child)) = node.first_from(from) {
+            if let Child::Node(below) = child {
+                self.count_from(*below, level + 1, stats)?;
+            }
+            from = byte as usize + 1;
+        }
+        Ok(())
+    }
+
+    // The number of pairs; one past `u64::MAX` stays there.
+    fn count_pairs(&self) -> u64
+        requires { IsTree self.now.nodes }
+        ensures { result ≡ capped (map.len (pairs_of self.now.nodes)) }
+    {
+        let mut count = 0u64;
+        let mut path = Path::new();
+        let mut from = 0;
+        while let Some((key, _)) = self.first_along(&mut path, from) {
+            count = count.saturating_add(1);
+            match key.checked_add(1) {
+                Some(next) => from = next,
+                None => return count,
+            }
+        }
+        count
+    }
+
+    /// How the nodes are spread, and how many pairs they hold.
+    pub(crate) fn stats(&self, alloc: Global) -> Result<NodeStats, AllocError>
+        requires { IsTree self.now.nodes }
+        ensures { IfOk result (λ stats. IsTally stats (nodes_of self.now.nodes) (map.len (pairs_of self.now.nodes))) }
+    {
+        let mut stats = NodeStats::new(alloc);
+        self.count_from(0, 0, &mut stats)?;
+        stats.kv_pairs = self.count_pairs();
+        Ok(stats)
+    }
+}
