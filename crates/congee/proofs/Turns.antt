@@ -28,7 +28,7 @@ use Rattle.congee.proofs.Holdings.{Holds_now, step_holds}
 use Rattle.congee.proofs.Locks.{own_rely}
 use Rattle.congee.specs.Handing.{Leaving, HandsAt, StepHands, StepTakes, Unlinking}
 use Rattle.congee.proofs.Handing.{Spares, Gives, step_hands, leaves_on, stepped_hands, stepped_apart, idle_hands, handing_none, handing_more}
-use Rattle.congee.proofs.Unlinking.{step_takes, idle_takes, unlinking_none, unlinking_more}
+use Rattle.congee.proofs.Unlinking.{step_takes, idle_takes, accounted, unlinking_none, unlinking_more}
 use Rattle.congee.proofs.Opening.{opened, opening_tree, opening_words, opening_rests, standing_none}
 use Rattle.congee.proofs.Touch.{owner_locked}
 use Rattle.congee.proofs.Wants.{wants}
@@ -192,8 +192,14 @@ module _ {C V : Type 0} (number : C → ℕ) (same : V → V → Bool) (always :
     apart = apart h' ms' q.protocol;
     by = (q.hands p.by p.handing.leaving).0;
     handing = handing_more p.by h0 ss h ms s (q.hands p.by p.handing.leaving).0 h' ms' p.handing q.protocol.notes q.protocol.tree q.protocol.words q.untouched (q.hands p.by p.handing.leaving).2 (q.hands p.by p.handing.leaving).1;
-    unlinking = λ a t w r. let x : Settled number same always h ms = p.settled a t w r in unlinking_more number p.by h0 ss h ms s h' ms' p.handing.leaving q.hands (q.takes x.0 x.1 x.2) (p.unlinking a t w r);
-    unlinking_fresh = λ o. let x : Settled number same always h ms = p.settled_fresh o in unlinking_more number p.by h0 ss h ms s h' ms' p.handing.leaving q.hands (q.takes x.0 x.1 x.2) (p.unlinking_fresh o);
+    unlinking = λ a t w r.
+        let x : Settled number same always h ms = p.settled a t w r in
+        let y : Settled number same always h' ms' = q.settled x.0 x.1 x.2 in
+        unlinking_more number p.by h0 ss h ms s h' ms' p.handing.leaving q.hands (q.takes x.0 x.1 x.2) (p.unlinking a t w r) (accounted number y.0 h' ms' y.1.tree y.2);
+    unlinking_fresh = λ o.
+        let x : Settled number same always h ms = p.settled_fresh o in
+        let y : Settled number same always h' ms' = q.settled x.0 x.1 x.2 in
+        unlinking_more number p.by h0 ss h ms s h' ms' p.handing.leaving q.hands (q.takes x.0 x.1 x.2) (p.unlinking_fresh o) (accounted number y.0 h' ms' y.1.tree y.2);
     settled = λ a t w r. let x : Settled number same always h ms = p.settled a t w r in q.settled x.0 x.1 x.2;
     settled_fresh = λ o. let x : Settled number same always h ms = p.settled_fresh o in q.settled x.0 x.1 x.2;
   }
@@ -238,8 +244,8 @@ module _ {C V : Type 0} (number : C → ℕ) (same : V → V → Bool) (always :
     apart = apart h ms (begun_protocol h ms b);
     by = λ _. None;
     handing = handing_none h ms b.notes b.tree b.words;
-    unlinking = λ a t w r. unlinking_none number h ms (none_taken h ms b);
-    unlinking_fresh = λ o. unlinking_none number h ms (none_taken h ms b);
+    unlinking = λ a t w r. unlinking_none number h ms (none_taken h ms b) (accounted number a h ms t (rested h ms a r));
+    unlinking_fresh = λ o. unlinking_none number h ms (none_taken h ms b) (accounted number opened h ms (opening_tree h o.alone) (rested h ms opened (opening_rests number h o)));
     settled = λ a t w r. (a, begun_at h ms b a t w, rested h ms a r);
     settled_fresh = λ o. (opened, begun_at h ms b opened (opening_tree h o.alone) (opening_words h o.alone), rested h ms opened (opening_rests number h o));
   }

@@ -11,10 +11,10 @@ use Rattle.congee.specs.declared.calls.Step.{Step}
 use Rattle.congee.specs.Heap.{Node, Below, Stands}
 use Rattle.congee.specs.Steps.{PhaseStepped}
 use Rattle.congee.specs.Keys.{key_bytes}
-use Rattle.congee.specs.Ledger.{Note, Status, Unmade, Held, Linked, Gone, Back, Destroyed, is_published, IsChild, HasParent, Tree, Words}
+use Rattle.congee.specs.Ledger.{Note, Status, Unmade, Held, Linked, Gone, Back, Destroyed, is_published, is_spent, IsChild, HasParent, Tree, Words}
 use Rattle.congee.specs.Protocol.{Fares, Rely, TakenOut, Known}
-use Rattle.congee.specs.Holdings.{LockedBy, TakenBy, Holdings}
-use Rattle.congee.specs.Handing.{is_waiting, Leads, InTree, HandsNothing, HandsNode, HandsAt, IsLeaving, Leaving, TakesNothing, TakesNode, TakesAt, Takes, Due, Unlinking, StepHands, StepTakes}
+use Rattle.congee.specs.Holdings.{LockedBy, MadeBy, TakenBy, Holdings}
+use Rattle.congee.specs.Handing.{is_waiting, Leads, InTree, HandsNothing, HandsNode, HandsAt, IsLeaving, Leaving, TakesNothing, TakesNode, TakesAt, Takes, Due, Accounted, Unlinking, StepHands, StepTakes}
 use Rattle.congee.proofs.Tree.{same_or_not}
 use Rattle.congee.proofs.Owners.{get_set, set_here, set_apart, gone_taken, taken_on}
 use Rattle.congee.proofs.Handing.{leads_linked, unlinked_out, giving, giving_here, giving_apart, none_if}
@@ -291,6 +291,22 @@ idle_takes number h ms i hands same by took l u = (
   },
 )
 
+-- no node is lost
+accounts : {C V : Type 0} (number : C → ℕ) (a : ℕ → Note) (h : ℕ → Node V) (ms : List (Machine C V)) → Tree a h → Holdings number a h ms → (n : ℕ) → Stands (h n) → (s : Status) → (a n).status ≡ s
+    → (InTree h n ⊎ (is_waiting (h n) ≡ true)) ⊎ ((i : ℕ) × (m : Machine C V) × (slice_get ms i ≡ Some m) × (MadeBy number m.phase n ⊎ TakenBy number m.phase n))
+accounts number a h ms t o n s Linked e = inl (inl (linked_in a h n t e))
+accounts {C} {V} number a h ms t o n s (Held i) e = let x : (m : Machine C V) × (slice_get ms i ≡ Some m) × MadeBy number m.phase n = o.held n i e in inr (i, x.0, x.1, inl x.2)
+accounts number a h ms t o n s Gone e = elim (o.gone n e) [
+  | inl r ↦ inl (inr (rw (r, s.made, s.kept) refl))
+  | inr x ↦ inr (x.0, x.1, x.2, inr x.3)
+]
+accounts number a h ms t o n s Unmade e = absurd (let z : true ≡ false = sym s.made ∙ o.unmade n e in cc)
+accounts number a h ms t o n s Back e = absurd (let z : true ≡ false = sym (o.spent n (ap is_spent e)) ∙ s.kept in cc)
+accounts number a h ms t o n s Destroyed e = absurd (let z : true ≡ false = sym (o.spent n (ap is_spent e)) ∙ s.kept in cc)
+
+pub accounted : {C V : Type 0} (number : C → ℕ) (a : ℕ → Note) (h : ℕ → Node V) (ms : List (Machine C V)) → Tree a h → Holdings number a h ms → Accounted number h ms
+accounted number a h ms t o n s = accounts number a h ms t o n s (a n).status refl
+
 -- steps, one after another
 takes_more : {C V : Type 0} (took : ℕ → Option ℕ) (h : ℕ → Node V) (ss : List (Step C V)) (took1 : ℕ → Option ℕ) (h1 : ℕ → Node V) (s : Step C V) (took2 : ℕ → Option ℕ) (h2 : ℕ → Node V)
     → Takes took h ss took1 h1 → TakesAt took1 h1 s.who took2 h2 → Takes took h (ss ++ s ∷ []) took2 h2
@@ -301,14 +317,15 @@ takes_more {C} {V} took h [] took1 h1 s took2 h2 r q =
 takes_more took h (x ∷ ss) took1 h1 s took2 h2 r q = (r.0, r.1, r.2, takes_more r.0 r.1 ss took1 h1 s took2 h2 r.3 q)
 
 pub unlinking_more : {C V : Type 0} (number : C → ℕ) (by : ℕ → Option ℕ) (h0 : ℕ → Node V) (ss : List (Step C V)) (h : ℕ → Node V) (ms : List (Machine C V)) (s : Step C V) (h' : ℕ → Node V) (ms' : List (Machine C V))
-    (l : Leaving by ms) (hands : StepHands number h ms s.who h' ms') → StepTakes number h ms s.who h' ms' hands → Unlinking number by h0 ss h ms → Unlinking number (hands by l).0 h0 (ss ++ s ∷ []) h' ms'
-unlinking_more {C} {V} number by h0 ss h ms s h' ms' l hands takes u =
+    (l : Leaving by ms) (hands : StepHands number h ms s.who h' ms') → StepTakes number h ms s.who h' ms' hands → Unlinking number by h0 ss h ms → Accounted number h' ms'
+    → Unlinking number (hands by l).0 h0 (ss ++ s ∷ []) h' ms'
+unlinking_more {C} {V} number by h0 ss h ms s h' ms' l hands takes u o =
     let x : (took' : ℕ → Option ℕ) × TakesAt u.0 h s.who took' h' × Due number (hands by l).0 took' ms' = takes by u.0 l u.2 in
-    (x.0, takes_more (λ _. None) h0 ss u.0 h s x.0 h' u.1 x.1, x.2)
+    (x.0, takes_more (λ _. None) h0 ss u.0 h s x.0 h' u.1 x.1, x.2, o)
 
-pub unlinking_none : {C V : Type 0} (number : C → ℕ) (h : ℕ → Node V) (ms : List (Machine C V)) → ((i n : ℕ) (m : Machine C V) → slice_get ms i ≡ Some m → TakenBy number m.phase n → ⊥)
+pub unlinking_none : {C V : Type 0} (number : C → ℕ) (h : ℕ → Node V) (ms : List (Machine C V)) → ((i n : ℕ) (m : Machine C V) → slice_get ms i ≡ Some m → TakenBy number m.phase n → ⊥) → Accounted number h ms
     → Unlinking number (λ _. None) h [] h ms
-unlinking_none number h ms empty = (
+unlinking_none number h ms empty o = (
   (λ _. None),
   (refl, refl),
   record {
@@ -316,4 +333,5 @@ unlinking_none number h ms empty = (
     due = λ i n q. absurd cc;
     held = λ i n m q y. absurd (empty i n m q y);
   },
+  o,
 )

@@ -4,8 +4,8 @@ use Rattle.congee.specs.declared.phase.Phase.{Phase}
 use Rattle.congee.specs.declared.phase.Phase.TheVariants.{Unlock, Ended}
 use Rattle.congee.specs.declared.machine.Machine.{Machine}
 use Rattle.congee.specs.declared.calls.Step.{Step}
-use Rattle.congee.specs.Heap.{Node, Below}
-use Rattle.congee.specs.Holdings.{TakenBy}
+use Rattle.congee.specs.Heap.{Node, Below, Stands}
+use Rattle.congee.specs.Holdings.{MadeBy, TakenBy}
 
 -- the node was handed over, and waits for its destruction
 abbrev pub is_waiting : {V : Type 0} → Node V → Bool
@@ -101,9 +101,15 @@ pub record Due {C V : Type 0} (number : C → ℕ) (by took : ℕ → Option ℕ
   pub due : (i n : ℕ) → took i ≡ Some n → (by i ≡ Some n) ⊎ ((m : Machine C V) × (slice_get ms i ≡ Some m) × TakenBy number m.phase n)
   pub held : (i n : ℕ) (m : Machine C V) → slice_get ms i ≡ Some m → TakenBy number m.phase n → took i ≡ Some n
 
--- what the calls of a run took out of the tree, and that they hand over what they took out
+-- each node that stands is in the tree, waits for its destruction, or is a call's between two of its steps: made by it
+-- and not hung yet, or taken out and not handed over yet
+abbrev pub Accounted : {C V : Type 0} → (C → ℕ) → (ℕ → Node V) → List (Machine C V) → Type 0
+Accounted {C} {V} number h ms = (n : ℕ) → Stands (h n) → (InTree h n ⊎ (is_waiting (h n) ≡ true))
+    ⊎ ((i : ℕ) × (m : Machine C V) × (slice_get ms i ≡ Some m) × (MadeBy number m.phase n ⊎ TakenBy number m.phase n))
+
+-- what the calls of a run took out of the tree, that they hand it over, and that no node is lost
 abbrev pub Unlinking : {C V : Type 0} → (C → ℕ) → (ℕ → Option ℕ) → (ℕ → Node V) → List (Step C V) → (ℕ → Node V) → List (Machine C V) → Type 0
-Unlinking number by h steps h' ms' = (took : ℕ → Option ℕ) × Takes (λ _. None) h steps took h' × Due number by took ms'
+Unlinking number by h steps h' ms' = (took : ℕ → Option ℕ) × Takes (λ _. None) h steps took h' × Due number by took ms' × Accounted number h' ms'
 
 -- one step of the calls, whatever they have handed over before
 abbrev pub StepHands : {C V : Type 0} → (C → ℕ) → (ℕ → Node V) → List (Machine C V) → ℕ → (ℕ → Node V) → List (Machine C V) → Type 0
