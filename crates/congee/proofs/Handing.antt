@@ -269,19 +269,22 @@ module _ {C V : Type 0} (number : C → ℕ) (same : V → V → Bool) (always :
       inl (both_upgraded number i a h h' (key_bytes k) two r _ _ most fail g.1.0 turn w x.1.2.fresh.seated.published x.1.2.made g.1.1 g.1.2)
   step_hands most root kind fail answer given (ChangeTwo two r) given' turn x g =
       inl (changed_two number i a h h' (key_bytes k) given two two.change _ _ (linked_idle a h (number two.above.seat.node) w x.2.above.holding.linked)
-          (linked_idle a h (number two.at.node) w (t.down (number two.above.seat.node) _ (number two.at.node) x.2.above.holding.linked x.2.above.child).linked) x.2.made g.1)
+      (linked_idle a h (number two.at.node) w (t.down (number two.above.seat.node) _ (number two.at.node) x.2.above.holding.linked x.2.above.child).linked) x.2.made g.1)
   step_hands most root kind fail answer given (Obsolete n p r) given' turn x g =
       let q : is_waiting (h (number n)) ≡ false = unretired_idle (h (number n)) x.unretired in inl (spares_but h h' (number n) _ q q g.1)
-  step_hands most root kind fail answer given (Retire n p r) given' turn x g = inr (number n, record {
-    taken = refl;
-    was = λ l. l;
-    is = (let P : Turn C V → Type 0 = λ z. IsLeaving z.phase in subst P (sym g.2) tt);
-    marked = x.1;
-    out = unlinked_out a h (number n) t (λ l. let z : Linked ≡ Gone = sym l ∙ x.0.gone in cc);
-    before = unretired_idle (h (number n)) x.0.unretired;
-    after = (let s : Stands (h (number n)) = (w.each (number n)).stands (ap is_published x.0.gone) in rw (g.1.after, s.made, s.kept) refl);
-    others = g.1.others;
-  })
+  step_hands most root kind fail answer given (Retire n p r) given' turn x g = inr (
+    number n,
+    record {
+      taken = refl;
+      was = λ l. l;
+      is = (let P : Turn C V → Type 0 = λ z. IsLeaving z.phase in subst P (sym g.2) tt);
+      marked = x.1;
+      out = unlinked_out a h (number n) t (λ l. let z : Linked ≡ Gone = sym l ∙ x.0.gone in cc);
+      before = unretired_idle (h (number n)) x.0.unretired;
+      after = (let s : Stands (h (number n)) = (w.each (number n)).stands (ap is_published x.0.gone) in rw (g.1.after, s.made, s.kept) refl);
+      others = g.1.others;
+    },
+  )
   step_hands most root kind fail answer given (UnlockBelow n p r) given' turn x g = inl (unlock_spares (number n) x.0.linked g.1)
   step_hands most root kind fail answer given (Unlock n r) given' turn x g = inl (unlock_spares (number n) x.linked g.1)
   step_hands most root kind fail answer given (Unwind n e) given' turn x g = inl (unlock_spares (number n) x.1.linked g.1)
@@ -347,16 +350,19 @@ module _ {C V : Type 0} (number : C → ℕ) (h : ℕ → Node V) (ms : List (Ma
   hands_node : (n : ℕ) → Gives number h m.phase n h' m'.phase → StepHands number h ms i h' (set ms i m')
   hands_node n g by l = (
     giving by i n,
-    inr (n, record {
-      first = none_if (by i) (λ c q. g.was (leaves_at by l c q));
-      now = giving_here by i n;
-      others = λ j ne. giving_apart by i n j ne;
-      marked = g.marked;
-      out = g.out;
-      before = g.before;
-      after = g.after;
-      nodes = λ c ne. ap is_waiting (g.others c ne);
-    }),
+    inr (
+      n,
+      record {
+        first = none_if (by i) (λ c q. g.was (leaves_at by l c q));
+        now = giving_here by i n;
+        others = λ j ne. giving_apart by i n j ne;
+        marked = g.marked;
+        out = g.out;
+        before = g.before;
+        after = g.after;
+        nodes = λ c ne. ap is_waiting (g.others c ne);
+      },
+    ),
     (λ j c q. elim (same_or_not j i) [
       | inl y ↦ leaves_here j y g.is
       | inr ne ↦ leaves_apart by l j c ne (sym (giving_apart by i n j ne) ∙ q)

@@ -111,7 +111,7 @@ module _ {C V : Type 0} (number : C → ℕ) (same : V → V → Bool) (always :
       let t : Turn C V = record { phase = m'.phase; step = d } in
       let does : Does h m h' m' = step_hands number same always s.who p.notes h h' m.key p.words p.tree most m.root m.kind s.noise.fail s.noise.answer m.given m.phase m'.given t o.known g.step in
       let hands : StepHands number h ms s.who h' (set ms s.who m') = stepped_hands number h ms s.who m m' h' e
-          (leaves_on number same always s.who p.notes h h' m.key p.words p.tree most m.root m.kind s.noise.fail s.noise.answer m.given m.phase m'.given t g.step) does in
+      (leaves_on number same always s.who p.notes h h' m.key p.words p.tree most m.root m.kind s.noise.fail s.noise.answer m.given m.phase m'.given t g.step) does in
       let q : After h ms s.who m' h' p.notes = turned_at most h ms s.who s.noise.fail s.noise.answer m m' h' d p.notes (at_hand h ms p) e g keeps in
       record {
         protocol = record {

@@ -228,17 +228,20 @@ module _ {C V : Type 0} (number : C → ℕ) (same : V → V → Bool) (always :
     takes_node : (n : ℕ) → TakenBy number m'.phase n → (a n).status ≡ Linked → (took' : ℕ → Option ℕ) × TakesAt took h i took' h' × Due number (hands by l).0 took' (set ms i m')
     takes_node n y lk = (
       giving took i n,
-      inr (n, record {
-        first = first;
-        now = giving_here took i n;
-        others = λ j ne. giving_apart took i n j ne;
-        was = linked_in a h n t lk;
-        out = unlinked_out a' h' n t' (λ z. let v : Linked ≡ Gone = sym z ∙ (taken_gone number same always i a' h' m.key m.kind m'.given m'.phase n x' y).0 in cc);
-        tree = λ c ne z. elim (stays c z) [
-          | inl b ↦ b
-          | inr b ↦ absurd (ne (taken_once number m'.phase n c y b.0))
-        ];
-      }),
+      inr (
+        n,
+        record {
+          first = first;
+          now = giving_here took i n;
+          others = λ j ne. giving_apart took i n j ne;
+          was = linked_in a h n t lk;
+          out = unlinked_out a' h' n t' (λ z. let v : Linked ≡ Gone = sym z ∙ (taken_gone number same always i a' h' m.key m.kind m'.given m'.phase n x' y).0 in cc);
+          tree = λ c ne z. elim (stays c z) [
+            | inl b ↦ b
+            | inr b ↦ absurd (ne (taken_once number m'.phase n c y b.0))
+          ];
+        },
+      ),
       due_on (giving took i n)
           (λ j c q. giving_apart took i n j (λ z. let P : ℕ → Type 0 = λ b. took b ≡ Some c in let v : None ≡ Some c = sym first ∙ subst P z q in cc) ∙ q)
           (λ j c q. elim (same_or_not j i) [
