@@ -28,6 +28,7 @@ use Rattle.congee.specs.Steps.{finished, quiet, again, BackOne, BackTwo, BackLea
 use Rattle.congee.specs.Keys.{key_bytes}
 use Rattle.congee.specs.Ledger.{Note, Linked, Gone, is_published, Tree, Words}
 use Rattle.congee.specs.Protocol.{Made, MadeOne, MadeTwo, MadeLeafFor, Known}
+use Rattle.congee.specs.Holdings.{TakenBy}
 use Rattle.congee.specs.Handing.{is_waiting, Leads, IsOut, HandsNothing, HandsNode, HandsAt, Hands, IsLeaving, Leaving, Untouched, Handing, StepHands}
 use Rattle.congee.proofs.Graft.{on_test}
 use Rattle.congee.proofs.Fits.{same_test, other_test}
@@ -37,11 +38,11 @@ use Rattle.congee.proofs.Locks.{locked_taken}
 use Rattle.congee.proofs.Owners.{get_set, set_here, set_apart}
 
 -- what no path leads to
-leads_linked : {V : Type 0} (a : ℕ → Note) (h : ℕ → Node V) → Tree a h → (path : List ℕ) (n c : ℕ) → (a n).status ≡ Linked → Leads h n path c → (a c).status ≡ Linked
+pub leads_linked : {V : Type 0} (a : ℕ → Note) (h : ℕ → Node V) → Tree a h → (path : List ℕ) (n c : ℕ) → (a n).status ≡ Linked → Leads h n path c → (a c).status ≡ Linked
 leads_linked a h t [] n c l e = let P : ℕ → Type 0 = λ x. (a x).status ≡ Linked in subst P e l
 leads_linked a h t (b ∷ path) n c l e = leads_linked a h t path e.0 c (t.down n b e.0 l e.1).linked e.2
 
-unlinked_out : {V : Type 0} (a : ℕ → Note) (h : ℕ → Node V) (n : ℕ) → Tree a h → ((a n).status ≡ Linked → ⊥) → IsOut h n
+pub unlinked_out : {V : Type 0} (a : ℕ → Note) (h : ℕ → Node V) (n : ℕ) → Tree a h → ((a n).status ≡ Linked → ⊥) → IsOut h n
 unlinked_out a h n t u path e = u (leads_linked a h t path 0 n t.root e)
 
 -- whether a node waits
@@ -221,7 +222,8 @@ module _ {C V : Type 0} (number : C → ℕ) (i : ℕ) (a : ℕ → Note) (h : �
   both_upgraded two r size q most fail Exhausted turn w p m e g = back_two two.change size q m g.0
 
 -- the call hands node n over, in its last step but one
-pub record Gives {C V : Type 0} (h : ℕ → Node V) (s : Phase C V) (n : ℕ) (h' : ℕ → Node V) (s' : Phase C V) : Type 0 where
+pub record Gives {C V : Type 0} (number : C → ℕ) (h : ℕ → Node V) (s : Phase C V) (n : ℕ) (h' : ℕ → Node V) (s' : Phase C V) : Type 0 where
+  pub taken : TakenBy number s n
   pub was : IsLeaving s → ⊥
   pub is : IsLeaving s'
   pub marked : (h n).obsolete ≡ true
@@ -238,7 +240,7 @@ module _ {C V : Type 0} (number : C → ℕ) (same : V → V → Bool) (always :
   -- every step
   pub step_hands : (most : ℕ) (root : C) (kind : Kind V) (fail : Bool) (answer : Option (Option V)) (given : Option V) (s : Phase C V) (given' : Option V) (turn : Turn C V)
       → Known number same always i a h k (key_bytes k) kind given s → PhaseStepped number same always most root (key_bytes k) kind fail answer given s h given' turn h'
-      → Spares h h' ⊎ ((n : ℕ) × Gives h s n h' turn.phase)
+      → Spares h h' ⊎ ((n : ℕ) × Gives number h s n h' turn.phase)
   step_hands most root kind fail answer given New given' turn x g = inl (spares_same h h' g.0)
   step_hands most root kind fail answer given (Version p n) given' turn x g = inl (spares_same h h' g.0)
   step_hands most root kind fail answer given (Read p at) given' turn x g = inl (spares_same h h' g.0)
@@ -267,18 +269,22 @@ module _ {C V : Type 0} (number : C → ℕ) (same : V → V → Bool) (always :
       inl (both_upgraded number i a h h' (key_bytes k) two r _ _ most fail g.1.0 turn w x.1.2.fresh.seated.published x.1.2.made g.1.1 g.1.2)
   step_hands most root kind fail answer given (ChangeTwo two r) given' turn x g =
       inl (changed_two number i a h h' (key_bytes k) given two two.change _ _ (linked_idle a h (number two.above.seat.node) w x.2.above.holding.linked)
-          (linked_idle a h (number two.at.node) w (t.down (number two.above.seat.node) _ (number two.at.node) x.2.above.holding.linked x.2.above.child).linked) x.2.made g.1)
+      (linked_idle a h (number two.at.node) w (t.down (number two.above.seat.node) _ (number two.at.node) x.2.above.holding.linked x.2.above.child).linked) x.2.made g.1)
   step_hands most root kind fail answer given (Obsolete n p r) given' turn x g =
       let q : is_waiting (h (number n)) ≡ false = unretired_idle (h (number n)) x.unretired in inl (spares_but h h' (number n) _ q q g.1)
-  step_hands most root kind fail answer given (Retire n p r) given' turn x g = inr (number n, record {
-    was = λ l. l;
-    is = (let P : Turn C V → Type 0 = λ z. IsLeaving z.phase in subst P (sym g.2) tt);
-    marked = x.1;
-    out = unlinked_out a h (number n) t (λ l. let z : Linked ≡ Gone = sym l ∙ x.0.gone in cc);
-    before = unretired_idle (h (number n)) x.0.unretired;
-    after = (let s : Stands (h (number n)) = (w.each (number n)).stands (ap is_published x.0.gone) in rw (g.1.after, s.made, s.kept) refl);
-    others = g.1.others;
-  })
+  step_hands most root kind fail answer given (Retire n p r) given' turn x g = inr (
+    number n,
+    record {
+      taken = refl;
+      was = λ l. l;
+      is = (let P : Turn C V → Type 0 = λ z. IsLeaving z.phase in subst P (sym g.2) tt);
+      marked = x.1;
+      out = unlinked_out a h (number n) t (λ l. let z : Linked ≡ Gone = sym l ∙ x.0.gone in cc);
+      before = unretired_idle (h (number n)) x.0.unretired;
+      after = (let s : Stands (h (number n)) = (w.each (number n)).stands (ap is_published x.0.gone) in rw (g.1.after, s.made, s.kept) refl);
+      others = g.1.others;
+    },
+  )
   step_hands most root kind fail answer given (UnlockBelow n p r) given' turn x g = inl (unlock_spares (number n) x.0.linked g.1)
   step_hands most root kind fail answer given (Unlock n r) given' turn x g = inl (unlock_spares (number n) x.linked g.1)
   step_hands most root kind fail answer given (Unwind n e) given' turn x g = inl (unlock_spares (number n) x.1.linked g.1)
@@ -295,20 +301,20 @@ module _ {C V : Type 0} (number : C → ℕ) (same : V → V → Bool) (always :
 unfoldable pub giving : (ℕ → Option ℕ) → ℕ → ℕ → ℕ → Option ℕ
 giving by i n j = cond (j == i) (Some n) (by j)
 
-giving_here : (by : ℕ → Option ℕ) (i n : ℕ) → giving by i n i ≡ Some n
+pub giving_here : (by : ℕ → Option ℕ) (i n : ℕ) → giving by i n i ≡ Some n
 unfolding giving
 giving_here by i n = rw (same_test i i refl) refl
 
-giving_apart : (by : ℕ → Option ℕ) (i n j : ℕ) → j ≢ i → giving by i n j ≡ by j
+pub giving_apart : (by : ℕ → Option ℕ) (i n j : ℕ) → j ≢ i → giving by i n j ≡ by j
 unfolding giving
 giving_apart by i n j e = rw (other_test j i e) refl
 
-none_if : (o : Option ℕ) → ((n : ℕ) → o ≡ Some n → ⊥) → o ≡ None
+pub none_if : (o : Option ℕ) → ((n : ℕ) → o ≡ Some n → ⊥) → o ≡ None
 none_if None f = refl
 none_if (Some n) f = absurd (f n refl)
 
 -- one step of the calls
-module _ {C V : Type 0} (h : ℕ → Node V) (ms : List (Machine C V)) (i : ℕ) (m m' : Machine C V) (h' : ℕ → Node V) (e : slice_get ms i ≡ Some m) where
+module _ {C V : Type 0} (number : C → ℕ) (h : ℕ → Node V) (ms : List (Machine C V)) (i : ℕ) (m m' : Machine C V) (h' : ℕ → Node V) (e : slice_get ms i ≡ Some m) where
   leaves_at : (by : ℕ → Option ℕ) → Leaving by ms → (n : ℕ) → by i ≡ Some n → IsLeaving m.phase
   leaves_at by l n q =
       let x : (k : Machine C V) × (slice_get ms i ≡ Some k) × IsLeaving k.phase = l i n q in
@@ -324,7 +330,7 @@ module _ {C V : Type 0} (h : ℕ → Node V) (ms : List (Machine C V)) (i : ℕ)
   leaves_apart : (by : ℕ → Option ℕ) → Leaving by ms → (j n : ℕ) → j ≢ i → by j ≡ Some n → At j
   leaves_apart by l j n ne q = let x : (k : Machine C V) × (slice_get ms j ≡ Some k) × IsLeaving k.phase = l j n q in (x.0, set_apart ms i j m' x.0 ne x.1, x.2)
 
-  hands_nothing : (IsLeaving m.phase → IsLeaving m'.phase) → Spares h h' → (by : ℕ → Option ℕ) → Leaving by ms → (by' : ℕ → Option ℕ) × HandsAt by h i by' h' × Leaving by' (set ms i m')
+  hands_nothing : (IsLeaving m.phase → IsLeaving m'.phase) → Spares h h' → StepHands number h ms i h' (set ms i m')
   hands_nothing f s by l = (
     by,
     inl (record {
@@ -338,26 +344,42 @@ module _ {C V : Type 0} (h : ℕ → Node V) (ms : List (Machine C V)) (i : ℕ)
       | inl y ↦ leaves_here j y (f (leaves_at by l n (let P : ℕ → Type 0 = λ z. by z ≡ Some n in subst P y q)))
       | inr ne ↦ leaves_apart by l j n ne q
     ]),
+    (λ j n q. inl q),
   )
 
-  hands_node : (n : ℕ) → Gives h m.phase n h' m'.phase → (by : ℕ → Option ℕ) → Leaving by ms → (by' : ℕ → Option ℕ) × HandsAt by h i by' h' × Leaving by' (set ms i m')
+  hands_node : (n : ℕ) → Gives number h m.phase n h' m'.phase → StepHands number h ms i h' (set ms i m')
   hands_node n g by l = (
     giving by i n,
-    inr (n, record {
-      first = none_if (by i) (λ c q. g.was (leaves_at by l c q));
-      now = giving_here by i n;
-      others = λ j ne. giving_apart by i n j ne;
-      marked = g.marked;
-      out = g.out;
-      before = g.before;
-      after = g.after;
-      nodes = λ c ne. ap is_waiting (g.others c ne);
-    }),
+    inr (
+      n,
+      record {
+        first = none_if (by i) (λ c q. g.was (leaves_at by l c q));
+        now = giving_here by i n;
+        others = λ j ne. giving_apart by i n j ne;
+        marked = g.marked;
+        out = g.out;
+        before = g.before;
+        after = g.after;
+        nodes = λ c ne. ap is_waiting (g.others c ne);
+      },
+    ),
     (λ j c q. elim (same_or_not j i) [
       | inl y ↦ leaves_here j y g.is
       | inr ne ↦ leaves_apart by l j c ne (sym (giving_apart by i n j ne) ∙ q)
     ]),
-  )
+    (λ j c q. elim (same_or_not j i) [
+      | inl y ↦ inr (taker n g by j c y q)
+      | inr ne ↦ inl (sym (giving_apart by i n j ne) ∙ q)
+    ]),
+  ) where
+    taker : (n : ℕ) → Gives number h m.phase n h' m'.phase → (by : ℕ → Option ℕ) → (j c : ℕ) → j ≡ i → giving by i n j ≡ Some c → (k : Machine C V) × (slice_get ms j ≡ Some k) × TakenBy number k.phase c
+    taker n g by j c y q =
+        let P : ℕ → Type 0 = λ z. giving by i n z ≡ Some c in
+        let z : Some n ≡ Some c = sym (giving_here by i n) ∙ subst P y q in
+        let u : n ≡ c = cc in
+        let Q : ℕ → Type 0 = λ z. TakenBy number m.phase z in
+        let R : ℕ → Type 0 = λ z. slice_get ms z ≡ Some m in
+        (m, subst R (sym y) e, subst Q u g.taken)
 
   -- what waits is left alone
   spared : Spares h h' → Untouched h h'
@@ -366,16 +388,20 @@ module _ {C V : Type 0} (h : ℕ → Node V) (ms : List (Machine C V)) (i : ℕ)
     | inr q ↦ absurd (let z : true ≡ false = sym x ∙ q.0 in cc)
   ]
 
-  given_apart : (n : ℕ) → Gives h m.phase n h' m'.phase → Untouched h h'
+  given_apart : (n : ℕ) → Gives number h m.phase n h' m'.phase → Untouched h h'
   given_apart n g c x = g.others c (λ q. let y : is_waiting (h c) ≡ false = (let P : ℕ → Type 0 = λ z. is_waiting (h z) ≡ false in subst P (sym q) g.before) in let z : true ≡ false = sym x ∙ y in cc)
 
-  pub stepped_hands : (IsLeaving m.phase → IsLeaving m'.phase) → Spares h h' ⊎ ((n : ℕ) × Gives h m.phase n h' m'.phase) → StepHands h ms i h' (set ms i m')
-  stepped_hands f (inl s) = record { hands = hands_nothing f s; untouched = spared s }
-  stepped_hands f (inr g) = record { hands = hands_node g.0 g.1; untouched = given_apart g.0 g.1 }
+  pub stepped_hands : (IsLeaving m.phase → IsLeaving m'.phase) → Spares h h' ⊎ ((n : ℕ) × Gives number h m.phase n h' m'.phase) → StepHands number h ms i h' (set ms i m')
+  stepped_hands f (inl s) = hands_nothing f s
+  stepped_hands f (inr g) = hands_node g.0 g.1
+
+  pub stepped_apart : Spares h h' ⊎ ((n : ℕ) × Gives number h m.phase n h' m'.phase) → Untouched h h'
+  stepped_apart (inl s) = spared s
+  stepped_apart (inr g) = given_apart g.0 g.1
 
 -- a call that isn't there hands nothing over
-pub idle_hands : {C V : Type 0} (h : ℕ → Node V) (ms : List (Machine C V)) (i : ℕ) → StepHands h ms i h ms
-idle_hands h ms i = record { hands = λ by l. (by, inl (record { calls = λ j. refl; nodes = λ n. refl }), l); untouched = λ n x. refl }
+abbrev pub idle_hands : {C V : Type 0} (number : C → ℕ) (h : ℕ → Node V) (ms : List (Machine C V)) (i : ℕ) → StepHands number h ms i h ms
+idle_hands number h ms i = λ by l. (by, inl (record { calls = λ j. refl; nodes = λ n. refl }), l, (λ j n q. inl q))
 
 -- steps, one after another
 hands_more : {C V : Type 0} (by : ℕ → Option ℕ) (h : ℕ → Node V) (ss : List (Step C V)) (by1 : ℕ → Option ℕ) (h1 : ℕ → Node V) (s : Step C V) (by2 : ℕ → Option ℕ) (h2 : ℕ → Node V)
@@ -386,9 +412,8 @@ hands_more by h [] by1 h1 s by2 h2 r q =
     (by2, h2, subst P r.0 (subst Q r.1 q), (refl, refl))
 hands_more by h (x ∷ ss) by1 h1 s by2 h2 r q = (r.0, r.1, r.2, hands_more r.0 r.1 ss by1 h1 s by2 h2 r.3 q)
 
-pub handing_none : {C V : Type 0} (h : ℕ → Node V) (ms : List (Machine C V)) (a : ℕ → Note) → Tree a h → Words a h → Handing h [] h ms
+pub handing_none : {C V : Type 0} (h : ℕ → Node V) (ms : List (Machine C V)) (a : ℕ → Note) → Tree a h → Words a h → Handing (λ _. None) h [] h ms
 handing_none h ms a t w = record {
-  by = λ _. None;
   run = (refl, refl);
   leaving = λ i n q. absurd cc;
   once = λ i j n q r. absurd cc;
@@ -398,25 +423,11 @@ handing_none h ms a t w = record {
   untouched = λ n x. refl;
 }
 
-module _ {C V : Type 0} (h0 : ℕ → Node V) (ss : List (Step C V)) (h : ℕ → Node V) (ms : List (Machine C V)) (s : Step C V) (h' : ℕ → Node V) (ms' : List (Machine C V)) (p : Handing h0 ss h ms) where
-  -- who hands over one node more
-  one_more : (by' : ℕ → Option ℕ) (n : ℕ) → HandsNode p.by h s.who n by' h' → (i c : ℕ) → by' i ≡ Some c → ((i ≡ s.who) × (c ≡ n)) ⊎ (p.by i ≡ Some c)
-  one_more by' n x i c q = elim (same_or_not i s.who) [
-    | inl y ↦ (let P : ℕ → Type 0 = λ z. by' z ≡ Some c in let z : Some c ≡ Some n = sym (subst P y q) ∙ x.now in inl (y, cc))
-    | inr ne ↦ inr (sym (x.others i ne) ∙ q)
-  ]
-
-  -- nobody handed it over before
-  not_yet : (by' : ℕ → Option ℕ) (n : ℕ) → HandsNode p.by h s.who n by' h' → (i c : ℕ) → p.by i ≡ Some c → c ≡ n → ⊥
-  not_yet by' n x i c q y =
-      let z : is_waiting (h c) ≡ true = (p.new i c q).1 in
-      let u : is_waiting (h c) ≡ false = (let P : ℕ → Type 0 = λ v. is_waiting (h v) ≡ false in subst P (sym y) x.before) in
-      let v : true ≡ false = sym z ∙ u in cc
-
-  more_nothing : (by' : ℕ → Option ℕ) (a' : ℕ → Note) → Tree a' h' → Words a' h' → Untouched h h' → Leaving by' ms' → HandsNothing p.by h by' h' → Handing h0 (ss ++ s ∷ []) h' ms'
-  more_nothing by' a' t w u l x = record {
-    by = by';
-    run = hands_more (λ _. None) h0 ss p.by h s by' h' p.run (inl x);
+module _ {C V : Type 0} (by : ℕ → Option ℕ) (h0 : ℕ → Node V) (ss : List (Step C V)) (h : ℕ → Node V) (ms : List (Machine C V)) (s : Step C V) (by' : ℕ → Option ℕ) (h' : ℕ → Node V) (ms' : List (Machine C V))
+    (p : Handing by h0 ss h ms) (a' : ℕ → Note) (t : Tree a' h') (w : Words a' h') (u : Untouched h h') (l : Leaving by' ms') where
+  more_nothing : HandsNothing by h by' h' → Handing by' h0 (ss ++ s ∷ []) h' ms'
+  more_nothing x = record {
+    run = hands_more (λ _. None) h0 ss by h s by' h' p.run (inl x);
     leaving = l;
     once = λ i j n q r. p.once i j n (sym (x.calls i) ∙ q) (sym (x.calls j) ∙ r);
     new = λ i n q. let y : (is_waiting (h0 n) ≡ false) × (is_waiting (h n) ≡ true) = p.new i n (sym (x.calls i) ∙ q) in (y.0, x.nodes n ∙ y.1);
@@ -428,36 +439,22 @@ module _ {C V : Type 0} (h0 : ℕ → Node V) (ss : List (Step C V)) (h : ℕ �
     untouched = λ n y. u n (ap is_waiting (p.untouched n y) ∙ y) ∙ p.untouched n y;
   }
 
-  more_node : (by' : ℕ → Option ℕ) (n : ℕ) (a' : ℕ → Note) → Tree a' h' → Words a' h' → Untouched h h' → Leaving by' ms' → HandsNode p.by h s.who n by' h' → Handing h0 (ss ++ s ∷ []) h' ms'
-  more_node by' n a' t w u l x = record {
-    by = by';
-    run = hands_more (λ _. None) h0 ss p.by h s by' h' p.run (inr (n, x));
-    leaving = l;
-    once = λ i j c q r. elim (one_more by' n x i c q) [
-      | inl y ↦ elim (one_more by' n x j c r) [
-        | inl z ↦ y.0 ∙ sym z.0
-        | inr z ↦ absurd (not_yet by' n x j c z y.1)
-      ]
-      | inr y ↦ elim (one_more by' n x j c r) [
-        | inl z ↦ absurd (not_yet by' n x i c y z.1)
-        | inr z ↦ p.once i j c y z
-      ]
-    ];
-    new = λ i c q. elim (one_more by' n x i c q) [
-      | inl y ↦ fresh c y.1
-      | inr y ↦ (let z : (is_waiting (h0 c) ≡ false) × (is_waiting (h c) ≡ true) = p.new i c y in (z.0, ap is_waiting (u c z.1) ∙ z.1))
-    ];
-    all = λ c q. elim (same_or_not c n) [
-      | inl y ↦ inr (s.who, (let P : ℕ → Type 0 = λ z. by' s.who ≡ Some z in subst P (sym y) x.now))
-      | inr ne ↦ elim (p.all c (sym (x.nodes c ne) ∙ q)) [
-        | inl y ↦ inl y
-        | inr y ↦ inr (y.0, x.others y.0 (λ z. let v : None ≡ Some c = sym x.first ∙ (let P : ℕ → Type 0 = λ k. p.by k ≡ Some c in subst P z y.1) in cc) ∙ y.1)
-      ]
-    ];
-    out = λ c y. waiting_out a' h' c t w y;
-    untouched = λ c y. u c (ap is_waiting (p.untouched c y) ∙ y) ∙ p.untouched c y;
-  } where
-    -- it didn't wait at first, else it would still wait now
+  module _ (n : ℕ) (x : HandsNode by h s.who n by' h') where
+    -- who hands over one node more
+    one_more : (i c : ℕ) → by' i ≡ Some c → ((i ≡ s.who) × (c ≡ n)) ⊎ (by i ≡ Some c)
+    one_more i c q = elim (same_or_not i s.who) [
+      | inl y ↦ (let P : ℕ → Type 0 = λ z. by' z ≡ Some c in let z : Some c ≡ Some n = sym (subst P y q) ∙ x.now in inl (y, cc))
+      | inr ne ↦ inr (sym (x.others i ne) ∙ q)
+    ]
+
+    -- nobody handed it over before
+    not_yet : (i c : ℕ) → by i ≡ Some c → c ≡ n → ⊥
+    not_yet i c q y =
+        let z : is_waiting (h c) ≡ true = (p.new i c q).1 in
+        let b : is_waiting (h c) ≡ false = (let P : ℕ → Type 0 = λ v. is_waiting (h v) ≡ false in subst P (sym y) x.before) in
+        let v : true ≡ false = sym z ∙ b in cc
+
+    -- it didn't wait at first, else it would still wait
     at_first : (b : Bool) → is_waiting (h0 n) ≡ b → is_waiting (h0 n) ≡ false
     at_first false e = e
     at_first true e = absurd (let y : is_waiting (h n) ≡ true = ap is_waiting (p.untouched n e) ∙ e in let z : true ≡ false = sym y ∙ x.before in cc)
@@ -465,8 +462,38 @@ module _ {C V : Type 0} (h0 : ℕ → Node V) (ss : List (Step C V)) (h : ℕ �
     fresh : (c : ℕ) → c ≡ n → (is_waiting (h0 c) ≡ false) × (is_waiting (h' c) ≡ true)
     fresh c y = let P : ℕ → Type 0 = λ z. (is_waiting (h0 z) ≡ false) × (is_waiting (h' z) ≡ true) in subst P (sym y) (at_first (is_waiting (h0 n)) refl, x.after)
 
-  pub handing_more : (a' : ℕ → Note) → Tree a' h' → Words a' h' → StepHands h ms s.who h' ms' → Handing h0 (ss ++ s ∷ []) h' ms'
-  handing_more a' t w q = let y : (by' : ℕ → Option ℕ) × HandsAt p.by h s.who by' h' × Leaving by' ms' = q.hands p.by p.leaving in by_cases y.0 y.2 y.1 where
-    by_cases : (by' : ℕ → Option ℕ) → Leaving by' ms' → HandsAt p.by h s.who by' h' → Handing h0 (ss ++ s ∷ []) h' ms'
-    by_cases by' l (inl x) = more_nothing by' a' t w q.untouched l x
-    by_cases by' l (inr x) = more_node by' x.0 a' t w q.untouched l x.1
+    not_who : (i c : ℕ) → by i ≡ Some c → i ≢ s.who
+    not_who i c q z = let P : ℕ → Type 0 = λ k. by k ≡ Some c in let v : None ≡ Some c = sym x.first ∙ subst P z q in cc
+
+    more_node : Handing by' h0 (ss ++ s ∷ []) h' ms'
+    more_node = record {
+      run = hands_more (λ _. None) h0 ss by h s by' h' p.run (inr (n, x));
+      leaving = l;
+      once = λ i j c q r. elim (one_more i c q) [
+        | inl y ↦ elim (one_more j c r) [
+          | inl z ↦ y.0 ∙ sym z.0
+          | inr z ↦ absurd (not_yet j c z y.1)
+        ]
+        | inr y ↦ elim (one_more j c r) [
+          | inl z ↦ absurd (not_yet i c y z.1)
+          | inr z ↦ p.once i j c y z
+        ]
+      ];
+      new = λ i c q. elim (one_more i c q) [
+        | inl y ↦ fresh c y.1
+        | inr y ↦ (let z : (is_waiting (h0 c) ≡ false) × (is_waiting (h c) ≡ true) = p.new i c y in (z.0, ap is_waiting (u c z.1) ∙ z.1))
+      ];
+      all = λ c q. elim (same_or_not c n) [
+        | inl y ↦ inr (s.who, (let P : ℕ → Type 0 = λ z. by' s.who ≡ Some z in subst P (sym y) x.now))
+        | inr ne ↦ elim (p.all c (sym (x.nodes c ne) ∙ q)) [
+          | inl y ↦ inl y
+          | inr y ↦ inr (y.0, x.others y.0 (not_who y.0 c y.1) ∙ y.1)
+        ]
+      ];
+      out = λ c y. waiting_out a' h' c t w y;
+      untouched = λ c y. u c (ap is_waiting (p.untouched c y) ∙ y) ∙ p.untouched c y;
+    }
+
+  pub handing_more : HandsAt by h s.who by' h' → Handing by' h0 (ss ++ s ∷ []) h' ms'
+  handing_more (inl x) = more_nothing x
+  handing_more (inr x) = more_node x.0 x.1

@@ -61,6 +61,7 @@ pub mod Wants
 pub mod Shapes
 pub mod Watches
 pub mod Handing
+pub mod Unlinking
 pub mod Turns
 pub mod Opening
 pub mod PlainHeaps

@@ -64,7 +64,7 @@ fares_mine i x y p q o o' u r = record {
 -- a node of the tree that the call locks
 pub fares_locked : {V : Type 0} (i : ℕ) (x y : Note) (p q : Node V) → p.locked ≡ false → y.owner ≡ Some i → y.status ≡ Linked → q.retired ≡ p.retired → Fares i x y p q
 fares_locked i x y p q l o s r = record {
-  owner = λ j f. let z : Some i ≡ Some j = sym o ∙ f in inr (sym cc, l);
+  owner = λ j f. let z : Some i ≡ Some j = sym o ∙ f in inr (sym cc, l, s);
   handed = λ j f. r;
   held = λ j f. let z : Linked ≡ Held j = sym s ∙ f in absurd cc;
   gone = λ f. inl o;

@@ -1,5 +1,5 @@
 -- Steps of any number of calls, one after another.
-use Rattle.std.proofs.Common.{◌≡◌, ◌≢◌, ℕ, ◌<◌, ◌≤◌, ◌^◌, inl, inr, Bool, false, List, [], ◌∷◌, ◌++◌, length, map, take, ◌+◌, refl, sym, ◌∙◌, ap, subst, arith}
+use Rattle.std.proofs.Common.{◌≡◌, ◌≢◌, ℕ, ◌<◌, ◌≤◌, ◌^◌, ◌⊎◌, inl, inr, Bool, false, List, [], ◌∷◌, ◌++◌, length, map, take, ◌+◌, refl, sym, ◌∙◌, ap, subst, arith}
 use Rattle.std.proofs.Math.ListN.{set}
 use Rattle.std.proofs.lemmas.List.{map-set, append_assoc, length-append}
 use Rattle.std.proofs.Math.Seq.{take-append_seam}
@@ -9,6 +9,7 @@ use Rattle.judge.specs.Answer.{Pairs}
 use Rattle.std.specs.FinMap.{empty}
 use Rattle.congee.specs.declared.phase.Kind.{Kind}
 use Rattle.congee.specs.declared.phase.Phase.{Phase}
+use Rattle.congee.specs.declared.turn.Turn.{Turn}
 use Rattle.congee.specs.declared.machine.Move.{Move}
 use Rattle.congee.specs.declared.machine.Outcome.TheVariants.{Running}
 use Rattle.congee.specs.declared.machine.Machine.{Machine}
@@ -16,17 +17,20 @@ use Rattle.congee.specs.declared.calls.Step.{Step}
 use Rattle.congee.specs.Heap.{Node}
 use Rattle.congee.specs.Keys.{key_bytes, Standing}
 use Rattle.congee.specs.Ledger.{Note, Held, Tree, Words}
-use Rattle.congee.specs.Protocol.{Rely, Known}
+use Rattle.congee.specs.Protocol.{Rely, Fares, Known}
 use Rattle.congee.specs.Steps.{MayStep, Stepped}
 use Rattle.congee.specs.Answers.{Keeps, KeepsProtocol}
 use Rattle.congee.specs.Play.{Flight, Watched, WatchedAt, Run, flight_in, flight, EachKnown, Protocol, ProtocolAt, Settled, Begins, Plays, StepPlays}
-use Rattle.congee.specs.Holdings.{LockedBy, MadeBy, Holdings, Rests, Apart}
+use Rattle.congee.specs.Holdings.{LockedBy, MadeBy, TakenBy, Holdings, Rests, Apart}
 use Rattle.congee.specs.Names.{names}
 use Rattle.congee.proofs.Each.{each_any}
 use Rattle.congee.proofs.Rely.{known_kept}
 use Rattle.congee.proofs.Owners.{get_set, own_before, mine_before, held_after, gone_taken, taken_on, made_held, locks_owned}
-use Rattle.congee.proofs.Holdings.{step_holds}
-use Rattle.congee.proofs.Handing.{step_hands, leaves_on, stepped_hands, idle_hands, handing_none, handing_more}
+use Rattle.congee.proofs.Holdings.{Holds_now, step_holds}
+use Rattle.congee.proofs.Locks.{own_rely}
+use Rattle.congee.specs.Handing.{Leaving, HandsAt, StepHands, StepTakes, Unlinking}
+use Rattle.congee.proofs.Handing.{Spares, Gives, step_hands, leaves_on, stepped_hands, stepped_apart, idle_hands, handing_none, handing_more}
+use Rattle.congee.proofs.Unlinking.{step_takes, idle_takes, accounted, unlinking_none, unlinking_more}
 use Rattle.congee.proofs.Opening.{opened, opening_tree, opening_words, opening_rests, standing_none}
 use Rattle.congee.proofs.Touch.{owner_locked}
 use Rattle.congee.proofs.Wants.{wants}
@@ -50,10 +54,17 @@ module _ {C V : Type 0} (number : C → ℕ) (same : V → V → Bool) (always :
     })
   ]
 
+  -- what a step of one call leaves, on a ledger
+  abbrev After : (ℕ → Node V) → List (Machine C V) → ℕ → Machine C V → (ℕ → Node V) → (ℕ → Note) → Type 0
+  After h ms i m' h' a = (a' : ℕ → Note) × ProtocolAt number same always a' h' (set ms i m') × (Holdings number a h ms → Holdings number a' h' (set ms i m') × ((hands : StepHands number h ms i h' (set ms i m')) → StepTakes number h ms i h' (set ms i m') hands))
+
+  abbrev Now_after : (i : ℕ) → (a : ℕ → Note) → (h : ℕ → Node V) → (a' : ℕ → Note) → (h' : ℕ → Node V) → (m m' : Machine C V) → Words a h → Tree a h → Words a' h' → Tree a' h' → ((n : ℕ) → Fares i (a n) (a' n) (h n) (h' n)) → Type 0
+  Now_after i a h a' h' m m' w t w' t' f = Holds_now number same always i a h a' h' (key_bytes m.key) w w' t' f m'.phase
+
   -- the step of one call, on a ledger
   turned_at : (most : ℕ) (h : ℕ → Node V) (ms : List (Machine C V)) (i : ℕ) (fail : Bool) (answer : Option (Option V)) (m m' : Machine C V) (h' : ℕ → Node V) (d : Move V) (a : ℕ → Note)
       → ProtocolAt number same always a h ms → slice_get ms i ≡ Some m → Stepped number same always most m h fail answer m' h' d → KeepsProtocol number same always m h m' h' d
-      → (a' : ℕ → Note) × ProtocolAt number same always a' h' (set ms i m') × (Holdings number a h ms → Holdings number a' h' (set ms i m'))
+      → After h ms i m' h' a
   turned_at most h ms i fail answer m m' h' d a p e g keeps =
       let o : EachKnown number same always a h i m = p.each i m e in
       let r : Keeps number same always i a m h m' h' d = keeps i a o.root p.tree p.words o.known in
@@ -71,13 +82,23 @@ module _ {C V : Type 0} (number : C → ℕ) (same : V → V → Bool) (always :
             known = r.known;
           });
         },
-        (λ s. held_after number same always i a h r.notes h' ms m m' e p.words p.tree r.effect.words r.effect.tree r.effect.fares s
-            (step_holds number same always i a h r.notes h' m.key p.words p.tree r.effect.words r.effect.tree r.effect.fares most m.root m.kind fail answer m.given m.phase m'.given (record { phase = m'.phase; step = d })
-            (own_before number same always i a h r.notes h' ms m m' e p.words p.tree r.effect.words r.effect.tree r.effect.fares s)
-            (mine_before number same always i a h r.notes h' ms m m' e p.words p.tree r.effect.words r.effect.tree r.effect.fares s) o.known known g.step)
-            (λ n l x. gone_taken number same always i r.notes h' m.key m.kind m'.given n r.effect.tree m'.phase known l x)
-            (λ n l. taken_on number same always i a h m.key m.kind m.given n most m.root fail answer m.phase m'.given (record { phase = m'.phase; step = d }) h' g.step l)),
+        (λ s.
+            let own : (n : ℕ) → (a n).owner ≡ Some i → LockedBy number m.phase n = own_before number same always i a h r.notes h' ms m m' e p.words p.tree r.effect.words r.effect.tree r.effect.fares s in
+            let now : Now_after i a h r.notes h' m m' p.words p.tree r.effect.words r.effect.tree r.effect.fares = step_holds number same always i a h r.notes h' m.key p.words p.tree r.effect.words r.effect.tree r.effect.fares most m.root m.kind fail answer m.given m.phase m'.given (record { phase = m'.phase; step = d })
+            own
+            (mine_before number same always i a h r.notes h' ms m m' e p.words p.tree r.effect.words r.effect.tree r.effect.fares s) o.known known g.step in (
+              held_after number same always i a h r.notes h' ms m m' e p.words p.tree r.effect.words r.effect.tree r.effect.fares s now
+                  (λ n l x. gone_taken number same always i r.notes h' m.key m.kind m'.given n r.effect.tree m'.phase known l x)
+                  (λ n l. taken_on number same always i a h m.key m.kind m.given n most m.root fail answer m.phase m'.given (record { phase = m'.phase; step = d }) h' g.step l),
+              (λ hands. step_takes number same always most i a h r.notes h' ms m m' e p.words p.tree r.effect.tree r.effect.fares
+                  (λ n q. (own_rely i a h r.notes h' r.effect).published n tt q) r.effect.words own now.own o.known known m.root fail answer (record { phase = m'.phase; step = d }) refl g.step
+                  (leaves_on number same always i a h h' m.key p.words p.tree most m.root m.kind fail answer m.given m.phase m'.given (record { phase = m'.phase; step = d }) g.step) hands),
+            )),
       )
+
+  -- what it hands over
+  abbrev Does : (ℕ → Node V) → Machine C V → (ℕ → Node V) → Machine C V → Type 0
+  Does h m h' m' = Spares h h' ⊎ ((n : ℕ) × Gives number h m.phase n h' m'.phase)
 
   at_hand : (h : ℕ → Node V) (ms : List (Machine C V)) (p : Protocol number same always h ms) → ProtocolAt number same always p.notes h ms
   at_hand h ms p = record { tree = p.tree; words = p.words; each = p.each }
@@ -89,8 +110,11 @@ module _ {C V : Type 0} (number : C → ℕ) (same : V → V → Bool) (always :
   turned most h ms s m m' h' d p e g keeps =
       let o : EachKnown number same always p.notes h s.who m = p.each s.who m e in
       let r : Keeps number same always s.who p.notes m h m' h' d = keeps s.who p.notes o.root p.tree p.words o.known in
-      let q : (a' : ℕ → Note) × ProtocolAt number same always a' h' (set ms s.who m') × (Holdings number p.notes h ms → Holdings number a' h' (set ms s.who m'))
-      = turned_at most h ms s.who s.noise.fail s.noise.answer m m' h' d p.notes (at_hand h ms p) e g keeps in
+      let t : Turn C V = record { phase = m'.phase; step = d } in
+      let does : Does h m h' m' = step_hands number same always s.who p.notes h h' m.key p.words p.tree most m.root m.kind s.noise.fail s.noise.answer m.given m.phase m'.given t o.known g.step in
+      let hands : StepHands number h ms s.who h' (set ms s.who m') = stepped_hands number h ms s.who m m' h' e
+      (leaves_on number same always s.who p.notes h h' m.key p.words p.tree most m.root m.kind s.noise.fail s.noise.answer m.given m.phase m'.given t g.step) does in
+      let q : After h ms s.who m' h' p.notes = turned_at most h ms s.who s.noise.fail s.noise.answer m m' h' d p.notes (at_hand h ms p) e g keeps in
       record {
         protocol = record {
           notes = q.0;
@@ -99,8 +123,8 @@ module _ {C V : Type 0} (number : C → ℕ) (same : V → V → Bool) (always :
           each = q.1.each;
         };
         settled = λ a x y.
-            let z : (a' : ℕ → Note) × ProtocolAt number same always a' h' (set ms s.who m') × (Holdings number a h ms → Holdings number a' h' (set ms s.who m'))
-            = turned_at most h ms s.who s.noise.fail s.noise.answer m m' h' d a x e g keeps in (z.0, z.1, z.2 y);
+            let z : After h ms s.who m' h' a = turned_at most h ms s.who s.noise.fail s.noise.answer m m' h' d a x e g keeps in (z.0, z.1, (z.2 y).0);
+        takes = λ a x y. let z : After h ms s.who m' h' a = turned_at most h ms s.who s.noise.fail s.noise.answer m m' h' d a x e g keeps in (z.2 y).1 hands;
         watched = λ pairs st.
             let w : (m1 : Pairs V) × Standing h' m1 × Watched same (flight m) pairs s.noise.answer d (flight_in m.key m.kind m'.given m'.phase) m1
             = watched number same always most s.who p.notes h m.root m.key m.kind s.noise.fail s.noise.answer m.given m'.given (record { phase = m'.phase; step = d }) h' o.key pairs st m.phase o.known g.step r.answer in
@@ -111,9 +135,8 @@ module _ {C V : Type 0} (number : C → ℕ) (same : V → V → Bool) (always :
             let there : slice_get (map flight ms) s.who ≡ Some (flight m) = slice_get-map flight ms s.who ∙ (let T : Option (Machine C V) → Type 0 = λ z. option_map flight z ≡ Some (flight m) in subst T (sym e) refl) in
             let T : Option (Flight V) → Type 0 = λ z. WatchedAt same (map flight ms) pairs z s d (map flight (set ms s.who m')) w.0 in
             (w.0, w.1, subst T (sym there) (flight m', y, map-set flight ms s.who m'));
-        hands = stepped_hands h ms s.who m m' h' e
-            (λ l. leaves_on number same always s.who p.notes h h' m.key p.words p.tree most m.root m.kind s.noise.fail s.noise.answer m.given m.phase m'.given (record { phase = m'.phase; step = d }) g.step l)
-            (step_hands number same always s.who p.notes h h' m.key p.words p.tree most m.root m.kind s.noise.fail s.noise.answer m.given m.phase m'.given (record { phase = m'.phase; step = d }) o.known g.step);
+        hands = hands;
+        untouched = stepped_apart number h ms s.who m m' h' e does;
       }
 
   -- the step of a call that isn't there
@@ -126,7 +149,9 @@ module _ {C V : Type 0} (number : C → ℕ) (same : V → V → Bool) (always :
         let there : slice_get (map flight ms) s.who ≡ None = slice_get-map flight ms s.who ∙ (let T : Option (Machine C V) → Type 0 = λ z. option_map flight z ≡ None in subst T (sym (slice_get_past ms s.who l)) refl) in
         let T : Option (Flight V) → Type 0 = λ z. WatchedAt same (map flight ms) pairs z s (record { decided = false; outcome = Running }) (map flight ms) pairs in
         (pairs, st, subst T (sym there) (refl, refl, refl));
-    hands = idle_hands h ms s.who;
+    hands = idle_hands number h ms s.who;
+    untouched = λ n x. refl;
+    takes = λ a x y. idle_takes number h ms s.who (idle_hands number h ms s.who) (λ by l j. refl);
   }
 
   run_more : (fs : List (Flight V)) (m : Pairs V) (ss : List (Step C V)) (ds : List (Move V)) (fs1 : List (Flight V)) (m1 : Pairs V) (s : Step C V) (d : Move V) (fs2 : List (Flight V)) (m2 : Pairs V)
@@ -167,7 +192,16 @@ module _ {C V : Type 0} (number : C → ℕ) (same : V → V → Bool) (always :
     run = λ m st. more_map h0 ms0 ss ds h ms s d h' ms' m (p.run m st) q;
     from_root = λ o. more_map h0 ms0 ss ds h ms s d h' ms' empty (p.from_root o) q;
     apart = apart h' ms' q.protocol;
-    handing = handing_more h0 ss h ms s h' ms' p.handing q.protocol.notes q.protocol.tree q.protocol.words q.hands;
+    by = (q.hands p.by p.handing.leaving).0;
+    handing = handing_more p.by h0 ss h ms s (q.hands p.by p.handing.leaving).0 h' ms' p.handing q.protocol.notes q.protocol.tree q.protocol.words q.untouched (q.hands p.by p.handing.leaving).2 (q.hands p.by p.handing.leaving).1;
+    unlinking = λ a t w r.
+        let x : Settled number same always h ms = p.settled a t w r in
+        let y : Settled number same always h' ms' = q.settled x.0 x.1 x.2 in
+        unlinking_more number p.by h0 ss h ms s h' ms' p.handing.leaving q.hands (q.takes x.0 x.1 x.2) (p.unlinking a t w r) (accounted number y.0 h' ms' y.1.tree y.2);
+    unlinking_fresh = λ o.
+        let x : Settled number same always h ms = p.settled_fresh o in
+        let y : Settled number same always h' ms' = q.settled x.0 x.1 x.2 in
+        unlinking_more number p.by h0 ss h ms s h' ms' p.handing.leaving q.hands (q.takes x.0 x.1 x.2) (p.unlinking_fresh o) (accounted number y.0 h' ms' y.1.tree y.2);
     settled = λ a t w r. let x : Settled number same always h ms = p.settled a t w r in q.settled x.0 x.1 x.2;
     settled_fresh = λ o. let x : Settled number same always h ms = p.settled_fresh o in q.settled x.0 x.1 x.2;
   }
@@ -201,13 +235,19 @@ module _ {C V : Type 0} (number : C → ℕ) (same : V → V → Bool) (always :
     unmade = r.unmade;
   }
 
+  none_taken : (h : ℕ → Node V) (ms : List (Machine C V)) → Begins number h ms → (i n : ℕ) (m : Machine C V) → slice_get ms i ≡ Some m → TakenBy number m.phase n → ⊥
+  none_taken h ms b i n m e x = let P : Phase C V → Type 0 = λ y. TakenBy number y n in subst P (b.new i m e).phase x
+
   pub plays_none : (h : ℕ → Node V) (ms : List (Machine C V)) → Begins number h ms → Plays number same always h ms [] [] h ms
   plays_none h ms b = record {
     protocol = begun_protocol h ms b;
     run = λ m st. (m, st, (refl, refl));
     from_root = λ o. (empty, standing_none h o, (refl, refl));
     apart = apart h ms (begun_protocol h ms b);
+    by = λ _. None;
     handing = handing_none h ms b.notes b.tree b.words;
+    unlinking = λ a t w r. unlinking_none number h ms (none_taken h ms b) (accounted number a h ms t (rested h ms a r));
+    unlinking_fresh = λ o. unlinking_none number h ms (none_taken h ms b) (accounted number opened h ms (opening_tree h o.alone) (rested h ms opened (opening_rests number h o)));
     settled = λ a t w r. (a, begun_at h ms b a t w, rested h ms a r);
     settled_fresh = λ o. (opened, begun_at h ms b opened (opening_tree h o.alone) (opening_words h o.alone), rested h ms opened (opening_rests number h o));
   }

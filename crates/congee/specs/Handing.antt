@@ -4,7 +4,8 @@ use Rattle.congee.specs.declared.phase.Phase.{Phase}
 use Rattle.congee.specs.declared.phase.Phase.TheVariants.{Unlock, Ended}
 use Rattle.congee.specs.declared.machine.Machine.{Machine}
 use Rattle.congee.specs.declared.calls.Step.{Step}
-use Rattle.congee.specs.Heap.{Node, Below}
+use Rattle.congee.specs.Heap.{Node, Below, Stands}
+use Rattle.congee.specs.Holdings.{MadeBy, TakenBy}
 
 -- the node was handed over, and waits for its destruction
 abbrev pub is_waiting : {V : Type 0} → Node V → Bool
@@ -15,7 +16,11 @@ abbrev pub Leads : {V : Type 0} → (ℕ → Node V) → ℕ → List ℕ → �
 Leads h n [] c = n ≡ c
 Leads h n (b ∷ path) c = (d : ℕ) × ((h n).children b ≡ Below d) × Leads h d path c
 
--- no path from the root leads to the node
+-- a path from the root leads to the node
+abbrev pub InTree : {V : Type 0} → (ℕ → Node V) → ℕ → Type 0
+InTree h n = (path : List ℕ) × Leads h 0 path n
+
+-- and none does
 abbrev pub IsOut : {V : Type 0} → (ℕ → Node V) → ℕ → Type 0
 IsOut h n = (path : List ℕ) → Leads h 0 path n → ⊥
 
@@ -57,10 +62,9 @@ Leaving {C} {V} by ms = (i n : ℕ) → by i ≡ Some n → (m : Machine C V) ×
 abbrev pub Untouched : {V : Type 0} → (ℕ → Node V) → (ℕ → Node V) → Type 0
 Untouched h h' = (n : ℕ) → is_waiting (h n) ≡ true → h' n ≡ h n
 
--- what the calls of a run handed over: each of them none or one node, two calls never the same one, and what waits
+-- what the calls of a run handed over, each of them none or one node: two calls never the same one, and what waits
 -- after the run waited before it or was handed over in it; no path leads to what waits, and nobody changes it
-pub record Handing {C V : Type 0} (h : ℕ → Node V) (steps : List (Step C V)) (h' : ℕ → Node V) (ms' : List (Machine C V)) : Type 0 where
-  pub by : ℕ → Option ℕ
+pub record Handing {C V : Type 0} (by : ℕ → Option ℕ) (h : ℕ → Node V) (steps : List (Step C V)) (h' : ℕ → Node V) (ms' : List (Machine C V)) : Type 0 where
   pub run : Hands (λ _. None) h steps by h'
   pub leaving : Leaving by ms'
   pub once : (i j n : ℕ) → by i ≡ Some n → by j ≡ Some n → i ≡ j
@@ -69,7 +73,49 @@ pub record Handing {C V : Type 0} (h : ℕ → Node V) (steps : List (Step C V))
   pub out : (n : ℕ) → is_waiting (h' n) ≡ true → IsOut h' n
   pub untouched : Untouched h h'
 
+-- what each call has taken out of the tree, before and after a step of call i: nothing more, and what was in the
+-- tree is in it
+pub record TakesNothing {V : Type 0} (took : ℕ → Option ℕ) (h : ℕ → Node V) (took' : ℕ → Option ℕ) (h' : ℕ → Node V) : Type 0 where
+  pub calls : (j : ℕ) → took' j ≡ took j
+  pub tree : (m : ℕ) → InTree h m → InTree h' m
+
+-- or one node: the call of the step had taken out none, and every other node stays in the tree
+pub record TakesNode {V : Type 0} (took : ℕ → Option ℕ) (h : ℕ → Node V) (i n : ℕ) (took' : ℕ → Option ℕ) (h' : ℕ → Node V) : Type 0 where
+  pub first : took i ≡ None
+  pub now : took' i ≡ Some n
+  pub others : (j : ℕ) → j ≢ i → took' j ≡ took j
+  pub was : InTree h n
+  pub out : IsOut h' n
+  pub tree : (m : ℕ) → m ≢ n → InTree h m → InTree h' m
+
+abbrev pub TakesAt : {V : Type 0} → (ℕ → Option ℕ) → (ℕ → Node V) → ℕ → (ℕ → Option ℕ) → (ℕ → Node V) → Type 0
+TakesAt took h i took' h' = TakesNothing took h took' h' ⊎ ((n : ℕ) × TakesNode took h i n took' h')
+
+abbrev pub Takes : {C V : Type 0} → (ℕ → Option ℕ) → (ℕ → Node V) → List (Step C V) → (ℕ → Option ℕ) → (ℕ → Node V) → Type 0
+Takes took h [] took' h' = (took' ≡ took) × (h' ≡ h)
+Takes {C} {V} took h (s ∷ steps) took' h' = (took1 : ℕ → Option ℕ) × (h1 : ℕ → Node V) × TakesAt took h s.who took1 h1 × Takes took1 h1 steps took' h'
+
+-- a call hands over the node that it took out, and nothing else; until then it has it between two of its steps
+pub record Due {C V : Type 0} (number : C → ℕ) (by took : ℕ → Option ℕ) (ms : List (Machine C V)) : Type 0 where
+  pub handed : (i n : ℕ) → by i ≡ Some n → took i ≡ Some n
+  pub due : (i n : ℕ) → took i ≡ Some n → (by i ≡ Some n) ⊎ ((m : Machine C V) × (slice_get ms i ≡ Some m) × TakenBy number m.phase n)
+  pub held : (i n : ℕ) (m : Machine C V) → slice_get ms i ≡ Some m → TakenBy number m.phase n → took i ≡ Some n
+
+-- each node that stands is in the tree, waits for its destruction, or is a call's between two of its steps: made by it
+-- and not hung yet, or taken out and not handed over yet
+abbrev pub Accounted : {C V : Type 0} → (C → ℕ) → (ℕ → Node V) → List (Machine C V) → Type 0
+Accounted {C} {V} number h ms = (n : ℕ) → Stands (h n) → (InTree h n ⊎ (is_waiting (h n) ≡ true))
+    ⊎ ((i : ℕ) × (m : Machine C V) × (slice_get ms i ≡ Some m) × (MadeBy number m.phase n ⊎ TakenBy number m.phase n))
+
+-- what the calls of a run took out of the tree, that they hand it over, and that no node is lost
+abbrev pub Unlinking : {C V : Type 0} → (C → ℕ) → (ℕ → Option ℕ) → (ℕ → Node V) → List (Step C V) → (ℕ → Node V) → List (Machine C V) → Type 0
+Unlinking number by h steps h' ms' = (took : ℕ → Option ℕ) × Takes (λ _. None) h steps took h' × Due number by took ms' × Accounted number h' ms'
+
 -- one step of the calls, whatever they have handed over before
-pub record StepHands {C V : Type 0} (h : ℕ → Node V) (ms : List (Machine C V)) (i : ℕ) (h' : ℕ → Node V) (ms' : List (Machine C V)) : Type 0 where
-  pub hands : (by : ℕ → Option ℕ) → Leaving by ms → (by' : ℕ → Option ℕ) × HandsAt by h i by' h' × Leaving by' ms'
-  pub untouched : Untouched h h'
+abbrev pub StepHands : {C V : Type 0} → (C → ℕ) → (ℕ → Node V) → List (Machine C V) → ℕ → (ℕ → Node V) → List (Machine C V) → Type 0
+StepHands {C} {V} number h ms i h' ms' = (by : ℕ → Option ℕ) → Leaving by ms → (by' : ℕ → Option ℕ) × HandsAt by h i by' h' × Leaving by' ms'
+    × ((j n : ℕ) → by' j ≡ Some n → (by j ≡ Some n) ⊎ ((m : Machine C V) × (slice_get ms j ≡ Some m) × TakenBy number m.phase n))
+
+-- and taken out
+abbrev pub StepTakes : {C V : Type 0} → (number : C → ℕ) → (h : ℕ → Node V) → (ms : List (Machine C V)) → (i : ℕ) → (h' : ℕ → Node V) → (ms' : List (Machine C V)) → StepHands number h ms i h' ms' → Type 0
+StepTakes number h ms i h' ms' hands = (by took : ℕ → Option ℕ) (l : Leaving by ms) → Due number by took ms → (took' : ℕ → Option ℕ) × TakesAt took h i took' h' × Due number (hands by l).0 took' ms'

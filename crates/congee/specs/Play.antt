@@ -21,7 +21,7 @@ use Rattle.congee.specs.Keys.{Standing}
 use Rattle.congee.specs.Ledger.{Note, Tree, Words}
 use Rattle.congee.specs.Protocol.{IsCall, HasGift, Known}
 use Rattle.congee.specs.Holdings.{Holdings, Rests, Apart}
-use Rattle.congee.specs.Handing.{Handing, StepHands}
+use Rattle.congee.specs.Handing.{Untouched, Handing, Unlinking, StepHands, StepTakes}
 use Rattle.congee.specs.Opening.{RootAlone, FreshRoot}
 use Rattle.congee.specs.Keys.{key_bytes}
 
@@ -205,7 +205,10 @@ pub record Plays {C V : Type 0} (number : C → ℕ) (same : V → V → Bool) (
   pub run : PlaysMap same h ms steps moves h' ms'
   pub from_root : RootAlone h → FromRoot same h ms steps moves h' ms'
   pub apart : Apart number h' ms'
-  pub handing : Handing h steps h' ms'
+  pub by : ℕ → Option ℕ
+  pub handing : Handing by h steps h' ms'
+  pub unlinking : (a : ℕ → Note) → Tree a h → Words a h → Rests {V = V} number a h → Unlinking number by h steps h' ms'
+  pub unlinking_fresh : FreshRoot h → Unlinking number by h steps h' ms'
   pub settled : (a : ℕ → Note) → Tree a h → Words a h → Rests {V = V} number a h → Settled number same always h' ms'
   pub settled_fresh : FreshRoot h → Settled number same always h' ms'
 
@@ -217,5 +220,7 @@ pub record StepPlays {C V : Type 0} (number : C → ℕ) (same : V → V → Boo
     (h' : ℕ → Node V) (ms' : List (Machine C V)) : Type 0 where
   pub protocol : Protocol number same always h' ms'
   pub watched : StepMap same h ms s d h' ms'
-  pub hands : StepHands h ms s.who h' ms'
+  pub hands : StepHands number h ms s.who h' ms'
+  pub untouched : Untouched h h'
+  pub takes : (a : ℕ → Note) → ProtocolAt number same always a h ms → Holdings number a h ms → StepTakes number h ms s.who h' ms' hands
   pub settled : (a : ℕ → Note) → ProtocolAt number same always a h ms → Holdings number a h ms → Settled number same always h' ms'

@@ -286,11 +286,12 @@ pub record Rely {V : Type 0} (K : ℕ → Type 0) (i : ℕ) (a : ℕ → Note) (
   pub mine : (n : ℕ) → (a n).owner ≡ Some i → (h' n ≡ h n) × ((a' n).status ≡ (a n).status) × ((a' n).owner ≡ (a n).owner)
   pub held : (n : ℕ) → (a n).status ≡ Held i → (h' n ≡ h n) × (a' n ≡ a n)
 
--- how one node fares in a step of call i, with its note: only call i takes its lock or makes it; a made node stays
--- as it is until it is hung or given back; it leaves the tree under the lock of call i, and is handed over once;
+-- how one node fares in a step of call i, with its note: only call i takes its lock, of a node in the tree, or makes
+-- it; a made node stays as it is until it is hung or given back; it leaves the tree under the lock of call i, and is
+-- handed over once;
 -- in the tree it is locked by its owner alone
 pub record Fares {V : Type 0} (i : ℕ) (x y : Note) (p q : Node V) : Type 0 where
-  pub owner : (j : ℕ) → y.owner ≡ Some j → (x.owner ≡ Some j) ⊎ ((j ≡ i) × (p.locked ≡ false))
+  pub owner : (j : ℕ) → y.owner ≡ Some j → (x.owner ≡ Some j) ⊎ ((j ≡ i) × (p.locked ≡ false) × (y.status ≡ Linked))
   pub handed : (j : ℕ) → y.owner ≡ Some j → q.retired ≡ p.retired
   pub held : (j : ℕ) → y.status ≡ Held j → ((x.status ≡ Held j) × (q ≡ p)) ⊎ ((j ≡ i) × (p.made ≡ false))
   pub gone : y.status ≡ Gone → (y.owner ≡ Some i) ⊎ ((x.status ≡ Gone) × (p.retired ≡ true → q.retired ≡ true))
