@@ -25,9 +25,9 @@ pub struct Internal<T> {
 impl<T: Drop> Internal<T> {
     /// Reads the epoch as the seal of these jobs, and queues them.
     pub fn seal(&mut self, jobs: Jobs) -> Result<(), Jobs>
-        ensures queue { self.new.queue.bags ≡ (if is_ok result
-            then self.old.queue.bags ++ record { seal = self.old.words.epoch; jobs = jobs } ∷ []
-            else self.old.queue.bags) }
+        ensures queue { self.new.queue.bags.items ≡ (if is_ok result
+            then self.old.queue.bags.items ++ record { seal = self.old.words.epoch; jobs = jobs } ∷ []
+            else self.old.queue.bags.items) }
         ensures back { IfErr result (λ j. j ≡ jobs) }
         ensures words { self.new.words ≡ self.old.words }
         ensures slots { self.new.slots ≡ self.old.slots }

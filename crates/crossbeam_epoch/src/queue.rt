@@ -6,7 +6,7 @@ ghost use Rattle.crossbeam_epoch.specs.FaceQueue.{is_due};
 use crate::deferred::Jobs;
 use crate::expired::ExpiredBag;
 use std::alloc::Global;
-use std::collections::LinkedList;
+use std::collections::VecDeque;
 
 /// How far the epoch has to be past a bag's seal.
 pub const EXPIRY: u64 = 2;
@@ -21,22 +21,22 @@ pub struct SealedBag {
 /// Sealed bags, the oldest in front.
 #[derive(Drop)]
 pub struct Queue {
-    bags: LinkedList<SealedBag>,
+    bags: VecDeque<SealedBag>,
 }
 
 impl Queue {
     /// No bag.
     pub fn new(alloc: Global) -> Queue
-        ensures { result.bags ≡ [] }
+        ensures { result.bags.items ≡ [] }
     {
         Queue {
-            bags: LinkedList::new(alloc),
+            bags: VecDeque::new(alloc),
         }
     }
 
     /// Puts a bag behind the others, or hands its jobs back where there is no memory.
     pub fn push(&mut self, seal: u64, jobs: Jobs) -> Result<(), Jobs>
-        ensures bags { self.new.bags ≡ (if is_ok result then self.old.bags ++ record { seal = seal; jobs = jobs } ∷ [] else self.old.bags) }
+        ensures bags { self.new.bags.items ≡ (if is_ok result then self.old.bags.items ++ record { seal = seal; jobs = jobs } ∷ [] else self.old.bags.items) }
         ensures back { IfErr result (λ j. j ≡ jobs) }
     {
         match self.bags.push_back(SealedBag { seal, jobs }) {
@@ -47,7 +47,7 @@ impl Queue {
 
     /// Whether the epoch that was seen is at least two past the seal of the front bag.
     fn is_due(&self, seen: u64) -> bool
-        ensures { result ≡ is_due (λ b. b.seal) self.now.bags seen }
+        ensures { result ≡ is_due (λ b. b.seal) self.now.bags.items seen }
     {
         match self.bags.front() {
             Some(bag) => seen >= EXPIRY && bag.seal <= seen - EXPIRY,
@@ -58,8 +58,8 @@ impl Queue {
     /// Takes the front bag off, where the epoch that was seen is at least two past its seal.
     pub fn pop_expired(&mut self, seen: u64) -> Option<ExpiredBag>
         ensures { MatchOption result
-            ((is_due (λ b. b.seal) self.old.bags seen ≡ false) × (self.new.bags ≡ self.old.bags))
-            (λ b. (b.seen ≡ seen) × (self.old.bags ≡ record { seal = b.seal; jobs = b.jobs } ∷ self.new.bags)) }
+            ((is_due (λ b. b.seal) self.old.bags.items seen ≡ false) × (self.new.bags.items ≡ self.old.bags.items))
+            (λ b. (b.seen ≡ seen) × (self.old.bags.items ≡ record { seal = b.seal; jobs = b.jobs } ∷ self.new.bags.items)) }
     {
         if !self.is_due(seen) {
             return None;
@@ -69,7 +69,7 @@ impl Queue {
     }
 
     /// Its bags, the oldest in front.
-    pub fn into_bags(self) -> LinkedList<SealedBag>
+    pub fn into_bags(self) -> VecDeque<SealedBag>
         ensures { result ≡ self.bags }
     {
         let Queue { bags } = self;
