@@ -371,6 +371,30 @@ pub record Stepped {C V : Type 0} (number : C → ℕ) (same : V → V → Bool)
   pub kind : m'.kind ≡ m.kind
   pub step : PhaseStepped number same always most m.root (key_bytes m.key) m.kind fail answer m.given m.phase h m'.given (record { phase = m'.phase; step = d }) h'
 
+-- a phase in which a call marks, hands over or unlocks a node, or has ended
+abbrev pub Leaves : {C V : Type 0} → Phase C V → Type 0
+Leaves (Obsolete n p r) = Unit {0}
+Leaves (Retire n p r) = Unit {0}
+Leaves (UnlockBelow n p r) = Unit {0}
+Leaves (Unlock n r) = Unit {0}
+Leaves (Unwind n e) = Unit {0}
+Leaves Ended = Unit {0}
+Leaves _ = ⊥
+
+-- one in which it may make, lock or change nodes, or one of these
+abbrev pub Acts : {C V : Type 0} → Phase C V → Type 0
+Acts (MakeLeaf s) = Unit {0}
+Acts (MakeGreater s p leaf) = Unit {0}
+Acts (MakeTop p at common byte) = Unit {0}
+Acts (MakeBeside p at common byte top) = Unit {0}
+Acts (CheckAbove p one r) = Unit {0}
+Acts (UpgradeOne one r) = Unit {0}
+Acts (ChangeOne one r) = Unit {0}
+Acts (UpgradeAbove two r) = Unit {0}
+Acts (UpgradeBoth two r) = Unit {0}
+Acts (ChangeTwo two r) = Unit {0}
+Acts s = Leaves s
+
 -- what the store wants of the made nodes that may go back
 abbrev pub MayBackOne : {C V : Type 0} → (C → ℕ) → (ℕ → Node V) → Single C → Type 0
 MayBackOne number h Set = Unit {0}

@@ -6,7 +6,7 @@ ghost use Rattle.congee.specs.Names.{KeepsOrigin};
 ghost use Rattle.congee.specs.Play.{begun, IsNew, Begins};
 ghost use Rattle.congee.specs.Opening.{RootAlone};
 ghost use Rattle.congee.specs.Keys.{key_bytes};
-ghost use Rattle.congee.specs.Steps.{decided, after_change, IsGiven, IsGivenNew, BackOne, BackTwo, BackLeaf, MadeLeaf, MadeGreater, MadeTop, MadeBeside, UpgradedOne, UpgradedAbove, UpgradedBoth, value_hung, ChangedOne, ChangedTwo, IsCheckedAbove, MayStep, MayBackOne, MayBackTwo, MayBackLeaf, MayChangeOne, MayChangeTwo, PhaseStepped, Stepped};
+ghost use Rattle.congee.specs.Steps.{quiet, decided, after_change, after_miss, IsIf, IsChecked, IsAtOld, Acts, Leaves, IsGiven, IsGivenNew, BackOne, BackTwo, BackLeaf, MadeLeaf, MadeGreater, MadeTop, MadeBeside, UpgradedOne, UpgradedAbove, UpgradedBoth, value_hung, ChangedOne, ChangedTwo, IsCheckedAbove, MayStep, MayBackOne, MayBackTwo, MayBackLeaf, MayChangeOne, MayChangeTwo, PhaseStepped, Stepped};
 ghost use Rattle.congee.specs.Events.{hung, upgrade_gives};
 ghost use Rattle.congee.specs.declared.store.Upgrade.{Upgrade};
 ghost use Rattle.congee.specs.declared.store.Refusal.{Refusal};
@@ -100,7 +100,7 @@ impl<C: NodeName, P: Payload> Machine<C, P> {
         turn.step
     }
 
-    /// The step of a phase.
+    /// The step of a phase: of one that looks at nodes or takes an answer, or a later one.
     fn turn<S: Store<C, P>>(
         &mut self,
         store: &mut S,
@@ -124,49 +124,34 @@ impl<C: NodeName, P: Payload> Machine<C, P> {
                 let reading = store.read(at, &self.key.to_be_bytes(), seen);
                 Turn::after_read(self.root, above, at, reading)
             }
-            Phase::Check { site, child } => {
-                if store.check(site.at) {
-                    Turn::checked(&self.kind, &self.given, site, child)
-                } else {
-                    Turn::again(self.root)
-                }
-            }
-            Phase::CheckUncopied { at } => {
-                if store.check(at) {
-                    Turn::refused(Refusal::Count)
-                } else {
-                    Turn::again(self.root)
-                }
-            }
+            Phase::Check { site, child } => self.check(store, site, child),
+            Phase::CheckUncopied { at } => self.if_taken(store, at, Turn::refused(Refusal::Count)),
             Phase::CheckMiss {
                 above,
                 at,
                 common,
                 byte,
-            } => {
-                if store.check(above.seat) {
-                    Turn::after_miss(&self.kind, above, at, common, byte)
-                } else {
-                    Turn::again(self.root)
-                }
-            }
-            Phase::CheckDown { above, at, node } => {
-                if store.check(above) {
-                    Turn::quiet(Phase::Version {
-                        above: Some(at),
-                        node,
-                    })
-                } else {
-                    Turn::again(self.root)
-                }
-            }
-            Phase::CheckOld { above, site, old } => {
-                if store.check(above) {
-                    Turn::at_old(&self.kind, &self.given, site, old)
-                } else {
-                    Turn::again(self.root)
-                }
-            }
+            } => self.check_miss(store, above, at, common, byte),
+            Phase::CheckDown { above, at, node } => self.check_down(store, above, at, node),
+            Phase::CheckOld { above, site, old } => self.check_old(store, above, site, old),
+            Phase::AskOld { site, old } => self.take_answer(site, old, answer),
+            Phase::AskNew { plan } => self.take_new(plan, answer),
+            Phase::Confirm { at, reply } => self.if_taken(store, at, Turn::answered(reply)),
+            phase => self.act(store, phase, fail),
+        }
+    }
+
+    /// The step of a phase that makes, locks or changes nodes, or of a later one.
+    fn act<S: Store<C, P>>(&mut self, store: &mut S, phase: Phase<C, P>, fail: bool) -> Turn<C, P>
+        requires may { MayStep C.number (key_bytes self.old.key) self.old.given phase (S.heap store.old) }
+        requires acts { Acts phase }
+        ensures root { self.new.root ≡ self.old.root }
+        ensures key { self.new.key ≡ self.old.key }
+        ensures kind { self.new.kind ≡ self.old.kind }
+        ensures limit { S.version_max store.new ≡ S.version_max store.old }
+        ensures step { (answer : Option (Option P)) → PhaseStepped C.number P.same_as P.always_copies (S.version_max store.old) self.old.root (key_bytes self.old.key) self.old.kind fail answer self.old.given phase (S.heap store.old) self.new.given result (S.heap store.new) }
+    {
+        match phase {
             Phase::MakeLeaf { site } => self.make_leaf(store, site),
             Phase::MakeGreater { site, above, leaf } => {
                 self.make_greater(store, site, above, leaf)
@@ -184,21 +169,24 @@ impl<C: NodeName, P: Payload> Machine<C, P> {
                 byte,
                 top,
             } => self.make_beside(store, above, at, common, byte, top),
-            Phase::AskOld { site, old } => self.take_answer(site, old, answer),
-            Phase::AskNew { plan } => self.take_new(plan, answer),
-            Phase::Confirm { at, reply } => {
-                if store.check(at) {
-                    Turn::answered(reply)
-                } else {
-                    Turn::again(self.root)
-                }
-            }
             Phase::CheckAbove { above, one, reply } => self.check_above(store, above, one, reply),
             Phase::UpgradeOne { one, reply } => self.upgrade_one(store, one, reply, fail),
             Phase::ChangeOne { one, reply } => self.change_one(store, one, reply),
             Phase::UpgradeAbove { two, reply } => { self.upgrade_above(store, two, reply, fail) }
             Phase::UpgradeBoth { two, reply } => upgrade_both(store, two, reply, fail),
             Phase::ChangeTwo { two, reply } => self.change_two(store, two, reply),
+            phase => self.leave(store, phase),
+        }
+    }
+
+    /// The step of a phase that marks, hands over or unlocks a node, or of a call that has ended.
+    fn leave<S: Store<C, P>>(&self, store: &mut S, phase: Phase<C, P>) -> Turn<C, P>
+        requires may { MayStep C.number (key_bytes self.now.key) self.now.given phase (S.heap store.old) }
+        requires leaves { Leaves phase }
+        ensures limit { S.version_max store.new ≡ S.version_max store.old }
+        ensures step { (fail : Bool) (answer : Option (Option P)) → PhaseStepped C.number P.same_as P.always_copies (S.version_max store.old) self.now.root (key_bytes self.now.key) self.now.kind fail answer self.now.given phase (S.heap store.old) self.now.given result (S.heap store.new) }
+    {
+        match phase {
             Phase::Obsolete { node, above, reply } => {
                 store.obsolete(node);
                 Turn::quiet(Phase::Retire { node, above, reply })
@@ -219,7 +207,87 @@ impl<C: NodeName, P: Payload> Machine<C, P> {
                 store.unlock(node);
                 Turn::unwound(self.root, refusal)
             }
-            Phase::Ended => Turn::quiet(Phase::Ended),
+            _ => Turn::quiet(Phase::Ended),
+        }
+    }
+
+    /// What follows where the node's lock word is the one that was taken; else the call begins anew.
+    fn if_taken<S: Store<C, P>>(&self, store: &S, at: Seat<C>, then: Turn<C, P>) -> Turn<C, P>
+        requires { Stands (S.heap store.now (C.number at.node)) }
+        ensures { IsIf (is_taken (S.heap store.now (C.number at.node)) at.version) self.now.root (λ u. u ≡ then) result }
+    {
+        if store.check(at) {
+            then
+        } else {
+            Turn::again(self.root)
+        }
+    }
+
+    /// Checks the node after the read.
+    fn check<S: Store<C, P>>(&self, store: &S, site: Site<C>, child: Child<C, P>) -> Turn<C, P>
+        requires { Stands (S.heap store.now (C.number site.at.node)) }
+        ensures { IsIf (is_taken (S.heap store.now (C.number site.at.node)) site.at.version) self.now.root (IsChecked P.always_copies P.same_as self.now.kind self.now.given site child) result }
+    {
+        if store.check(site.at) {
+            Turn::checked(&self.kind, &self.given, site, child)
+        } else {
+            Turn::again(self.root)
+        }
+    }
+
+    /// Checks the node above one whose prefix differs from the key.
+    fn check_miss<S: Store<C, P>>(
+        &self,
+        store: &S,
+        above: Parent<C>,
+        at: Seat<C>,
+        common: usize,
+        byte: u8,
+    ) -> Turn<C, P>
+        requires { Stands (S.heap store.now (C.number above.seat.node)) }
+        ensures { IsIf (is_taken (S.heap store.now (C.number above.seat.node)) above.seat.version) self.now.root (λ u. u ≡ after_miss self.now.kind above at common byte) result }
+    {
+        if store.check(above.seat) {
+            Turn::after_miss(&self.kind, above, at, common, byte)
+        } else {
+            Turn::again(self.root)
+        }
+    }
+
+    /// Checks the node above, before a child is followed.
+    fn check_down<S: Store<C, P>>(
+        &self,
+        store: &S,
+        above: Seat<C>,
+        at: Parent<C>,
+        node: C,
+    ) -> Turn<C, P>
+        requires { Stands (S.heap store.now (C.number above.node)) }
+        ensures { IsIf (is_taken (S.heap store.now (C.number above.node)) above.version) self.now.root (λ u. u ≡ quiet (phase.Version (Some at) node)) result }
+    {
+        if store.check(above) {
+            let above = Some(at);
+            Turn::quiet(Phase::Version { above, node })
+        } else {
+            Turn::again(self.root)
+        }
+    }
+
+    /// Checks the node above, at a value.
+    fn check_old<S: Store<C, P>>(
+        &self,
+        store: &S,
+        above: Seat<C>,
+        site: Site<C>,
+        old: P,
+    ) -> Turn<C, P>
+        requires { Stands (S.heap store.now (C.number above.node)) }
+        ensures { IsIf (is_taken (S.heap store.now (C.number above.node)) above.version) self.now.root (IsAtOld P.always_copies P.same_as self.now.kind self.now.given site old) result }
+    {
+        if store.check(above) {
+            Turn::at_old(&self.kind, &self.given, site, old)
+        } else {
+            Turn::again(self.root)
         }
     }
 
