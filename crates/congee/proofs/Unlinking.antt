@@ -1,5 +1,5 @@
 -- What a step takes out of the tree: nothing, or the node that its call then hands over.
-use Rattle.std.proofs.Common.{◌≡◌, ◌≢◌, ℕ, zero, suc, ◌<◌, ◌⊎◌, inl, inr, Bool, true, false, List, [], ◌∷◌, ◌++◌, length, refl, sym, ◌∙◌, ap, subst, arith}
+use Rattle.std.proofs.Common.{◌≡◌, ℕ, zero, suc, ◌<◌, ◌⊎◌, inl, inr, Bool, true, false, List, [], ◌∷◌, ◌++◌, length, refl, sym, ◌∙◌, ap, subst, arith}
 use Rattle.std.proofs.Math.ListN.{set}
 use Rattle.std.specs.Prelude.{Option, None, Some, slice_get}
 use Rattle.congee.specs.declared.phase.Kind.{Kind}
@@ -12,9 +12,9 @@ use Rattle.congee.specs.Heap.{Node, Below, Stands}
 use Rattle.congee.specs.Steps.{PhaseStepped}
 use Rattle.congee.specs.Keys.{key_bytes}
 use Rattle.congee.specs.Ledger.{Note, Status, Unmade, Held, Linked, Gone, Back, Destroyed, is_published, is_spent, IsChild, HasParent, Tree, Words}
-use Rattle.congee.specs.Protocol.{Fares, Rely, TakenOut, Known}
+use Rattle.congee.specs.Protocol.{Fares, TakenOut, Known}
 use Rattle.congee.specs.Holdings.{LockedBy, MadeBy, TakenBy, Holdings}
-use Rattle.congee.specs.Handing.{is_waiting, Leads, InTree, HandsNothing, HandsNode, HandsAt, IsLeaving, Leaving, TakesNothing, TakesNode, TakesAt, Leaves, Due, Accounted, Unlinking, StepHands, StepTakes}
+use Rattle.congee.specs.Handing.{is_waiting, Leads, InTree, HandsAt, IsLeaving, Leaving, TakesAt, Leaves, Due, Accounted, Unlinking, StepHands, StepTakes}
 use Rattle.congee.proofs.Tree.{same_or_not}
 use Rattle.congee.proofs.Owners.{get_set, set_here, set_apart, gone_taken, taken_on}
 use Rattle.congee.proofs.Handing.{leads_linked, unlinked_out, giving, giving_here, giving_apart, none_if}
