@@ -1,5 +1,5 @@
 -- Each step of a call hands over no node, or the one that the call took out.
-use Rattle.std.proofs.Common.{◌≡◌, ◌≢◌, ℕ, ◌+◌, ◌==◌, ◌⊎◌, inl, inr, ◌&&◌, not, Bool, true, false, cond, List, [], ◌∷◌, ◌++◌, length, get_or, refl, sym, ◌∙◌, ap, subst}
+use Rattle.std.proofs.Common.{◌≡◌, ◌≢◌, ℕ, ◌+◌, ◌==◌, ◌⊎◌, inl, inr, ◌&&◌, Bool, true, false, cond, List, [], ◌∷◌, ◌++◌, refl, sym, ◌∙◌, ap, subst}
 use Rattle.std.proofs.Math.ListN.{set}
 use Rattle.std.specs.Prelude.{Option, None, Some, Result, Ok, Err, slice_get}
 use Rattle.judge.specs.declared.journal.Reply.{Reply}
@@ -22,9 +22,9 @@ use Rattle.congee.specs.declared.phase.Phase.TheVariants.{New, Version, Read, Ch
 use Rattle.congee.specs.declared.turn.Turn.{Turn}
 use Rattle.congee.specs.declared.machine.Machine.{Machine}
 use Rattle.congee.specs.declared.calls.Step.{Step}
-use Rattle.congee.specs.Heap.{Node, Hung, Below, Stands, is_taken}
+use Rattle.congee.specs.Heap.{Node, Hung, Stands, is_taken}
 use Rattle.congee.specs.Events.{SameBut, upgrade_gives, NewNode, ChangeGives, TakeOverGives, BackGives}
-use Rattle.congee.specs.Steps.{finished, quiet, again, BackOne, BackTwo, BackLeaf, MadeLeaf, MadeGreater, MadeTop, MadeBeside, UpgradedOne, UpgradedAbove, UpgradedBoth, ChangedOne, ChangedTwo, PhaseStepped}
+use Rattle.congee.specs.Steps.{BackOne, BackTwo, BackLeaf, MadeLeaf, MadeGreater, MadeTop, MadeBeside, UpgradedOne, UpgradedAbove, UpgradedBoth, ChangedOne, ChangedTwo, PhaseStepped}
 use Rattle.congee.specs.Keys.{key_bytes}
 use Rattle.congee.specs.Ledger.{Note, Linked, Gone, is_published, Tree, Words}
 use Rattle.congee.specs.Protocol.{Made, MadeOne, MadeTwo, MadeLeafFor, Known}
@@ -35,7 +35,7 @@ use Rattle.congee.proofs.Fits.{same_test, other_test}
 use Rattle.congee.proofs.Tree.{same_or_not}
 use Rattle.congee.proofs.Touch.{taken_linked}
 use Rattle.congee.proofs.Locks.{locked_taken}
-use Rattle.congee.proofs.Owners.{get_set, set_here, set_apart}
+use Rattle.congee.proofs.Owners.{set_here, set_apart}
 
 -- what no path leads to
 pub leads_linked : {V : Type 0} (a : ℕ → Note) (h : ℕ → Node V) → Tree a h → (path : List ℕ) (n c : ℕ) → (a n).status ≡ Linked → Leads h n path c → (a c).status ≡ Linked

@@ -28,7 +28,7 @@ use Rattle.congee.proofs.Rely.{known_kept}
 use Rattle.congee.proofs.Owners.{get_set, own_before, mine_before, held_after, gone_taken, taken_on, made_held, locks_owned}
 use Rattle.congee.proofs.Holdings.{Holds_now, step_holds}
 use Rattle.congee.proofs.Locks.{own_rely}
-use Rattle.congee.specs.Handing.{Leaving, HandsAt, StepHands, StepTakes, Unlinking}
+use Rattle.congee.specs.Handing.{StepHands, StepTakes}
 use Rattle.congee.proofs.Handing.{Spares, Gives, step_hands, leaves_on, stepped_hands, stepped_apart, idle_hands, handing_none, handing_more}
 use Rattle.congee.proofs.Unlinking.{step_takes, idle_takes, accounted, unlinking_none, unlinking_more}
 use Rattle.congee.proofs.Opening.{opened, opening_tree, opening_words, opening_rests, standing_none}

@@ -1,5 +1,5 @@
 -- What a step takes out of the tree: nothing, or the node that its call then hands over.
-use Rattle.std.proofs.Common.{◌≡◌, ◌≢◌, ℕ, zero, suc, ◌<◌, ◌⊎◌, inl, inr, Bool, true, false, List, [], ◌∷◌, ◌++◌, length, refl, sym, ◌∙◌, ap, subst, arith}
+use Rattle.std.proofs.Common.{◌≡◌, ℕ, zero, suc, ◌<◌, ◌⊎◌, inl, inr, Bool, true, false, List, [], ◌∷◌, ◌++◌, length, refl, sym, ◌∙◌, ap, subst, arith}
 use Rattle.std.proofs.Math.ListN.{set}
 use Rattle.std.specs.Prelude.{Option, None, Some, slice_get}
 use Rattle.congee.specs.declared.phase.Kind.{Kind}
@@ -12,9 +12,9 @@ use Rattle.congee.specs.Heap.{Node, Below, Stands}
 use Rattle.congee.specs.Steps.{PhaseStepped}
 use Rattle.congee.specs.Keys.{key_bytes}
 use Rattle.congee.specs.Ledger.{Note, Status, Unmade, Held, Linked, Gone, Back, Destroyed, is_published, is_spent, IsChild, HasParent, Tree, Words}
-use Rattle.congee.specs.Protocol.{Fares, Rely, TakenOut, Known}
+use Rattle.congee.specs.Protocol.{Fares, TakenOut, Known}
 use Rattle.congee.specs.Holdings.{LockedBy, MadeBy, TakenBy, Holdings}
-use Rattle.congee.specs.Handing.{is_waiting, Leads, InTree, HandsNothing, HandsNode, HandsAt, IsLeaving, Leaving, TakesNothing, TakesNode, TakesAt, Takes, Due, Accounted, Unlinking, StepHands, StepTakes}
+use Rattle.congee.specs.Handing.{is_waiting, Leads, InTree, HandsAt, IsLeaving, Leaving, TakesAt, Leaves, Due, Accounted, Unlinking, StepHands, StepTakes}
 use Rattle.congee.proofs.Tree.{same_or_not}
 use Rattle.congee.proofs.Owners.{get_set, set_here, set_apart, gone_taken, taken_on}
 use Rattle.congee.proofs.Handing.{leads_linked, unlinked_out, giving, giving_here, giving_apart, none_if}
@@ -311,26 +311,36 @@ pub accounted : {C V : Type 0} (number : C → ℕ) (a : ℕ → Note) (h : ℕ 
 accounted number a h ms t o n s = accounts number a h ms t o n s (a n).status refl
 
 -- steps, one after another
-takes_more : {C V : Type 0} (took : ℕ → Option ℕ) (h : ℕ → Node V) (ss : List (Step C V)) (took1 : ℕ → Option ℕ) (h1 : ℕ → Node V) (s : Step C V) (took2 : ℕ → Option ℕ) (h2 : ℕ → Node V)
-    → Takes took h ss took1 h1 → TakesAt took1 h1 s.who took2 h2 → Takes took h (ss ++ s ∷ []) took2 h2
-takes_more {C} {V} took h [] took1 h1 s took2 h2 r q =
+leaves_more : {C V : Type 0} (took by : ℕ → Option ℕ) (h : ℕ → Node V) (ss : List (Step C V)) (took1 by1 : ℕ → Option ℕ) (h1 : ℕ → Node V) (s : Step C V) (took2 by2 : ℕ → Option ℕ) (h2 : ℕ → Node V)
+    → Leaves took by h ss took1 by1 h1 → TakesAt took1 h1 s.who took2 h2 → HandsAt by1 h1 s.who by2 h2 → ((i n : ℕ) → by2 i ≡ Some n → took1 i ≡ Some n) → Leaves took by h (ss ++ s ∷ []) took2 by2 h2
+leaves_more {C} {V} took by h [] took1 by1 h1 s took2 by2 h2 r q b o =
+    let A : (ℕ → Node V) → Type 0 = λ x. TakesAt took1 x s.who took2 h2 in
+    let B : (ℕ → Node V) → Type 0 = λ x. HandsAt by1 x s.who by2 h2 in
     let P : (ℕ → Option ℕ) → Type 0 = λ x. TakesAt x h s.who took2 h2 in
-    let Q : (ℕ → Node V) → Type 0 = λ x. TakesAt took1 x s.who took2 h2 in
-    (took2, h2, subst P r.0 (subst Q r.1 q), (refl, refl))
-takes_more took h (x ∷ ss) took1 h1 s took2 h2 r q = (r.0, r.1, r.2, takes_more r.0 r.1 ss took1 h1 s took2 h2 r.3 q)
+    let Q : (ℕ → Option ℕ) → Type 0 = λ x. HandsAt x h s.who by2 h2 in
+    let R : (ℕ → Option ℕ) → Type 0 = λ x. (i n : ℕ) → by2 i ≡ Some n → x i ≡ Some n in
+    (took2, by2, h2, subst P r.0 (subst A r.2 q), subst Q r.1 (subst B r.2 b), subst R r.0 o, (refl, refl, refl))
+leaves_more took by h (x ∷ ss) took1 by1 h1 s took2 by2 h2 r q b o = (r.0, r.1, r.2, r.3, r.4, r.5, leaves_more r.0 r.1 r.2 ss took1 by1 h1 s took2 by2 h2 r.6 q b o)
 
 pub unlinking_more : {C V : Type 0} (number : C → ℕ) (by : ℕ → Option ℕ) (h0 : ℕ → Node V) (ss : List (Step C V)) (h : ℕ → Node V) (ms : List (Machine C V)) (s : Step C V) (h' : ℕ → Node V) (ms' : List (Machine C V))
     (l : Leaving by ms) (hands : StepHands number h ms s.who h' ms') → StepTakes number h ms s.who h' ms' hands → Unlinking number by h0 ss h ms → Accounted number h' ms'
     → Unlinking number (hands by l).0 h0 (ss ++ s ∷ []) h' ms'
 unlinking_more {C} {V} number by h0 ss h ms s h' ms' l hands takes u o =
-    let x : (took' : ℕ → Option ℕ) × TakesAt u.0 h s.who took' h' × Due number (hands by l).0 took' ms' = takes by u.0 l u.2 in
-    (x.0, takes_more (λ _. None) h0 ss u.0 h s x.0 h' u.1 x.1, x.2, o)
+    let x : (took' : ℕ → Option ℕ) × TakesAt u.0 h s.who took' h' × Due number (hands by l).0 took' ms' = takes by u.0 l u.2 in (
+      x.0,
+      leaves_more (λ _. None) (λ _. None) h0 ss u.0 by h s x.0 (hands by l).0 h' u.1 x.1 (hands by l).1 (λ i n q. elim ((hands by l).3 i n q) [
+        | inl b ↦ u.2.handed i n b
+        | inr b ↦ u.2.held i n b.0 b.1 b.2
+      ]),
+      x.2,
+      o,
+    )
 
 pub unlinking_none : {C V : Type 0} (number : C → ℕ) (h : ℕ → Node V) (ms : List (Machine C V)) → ((i n : ℕ) (m : Machine C V) → slice_get ms i ≡ Some m → TakenBy number m.phase n → ⊥) → Accounted number h ms
     → Unlinking number (λ _. None) h [] h ms
 unlinking_none number h ms empty o = (
   (λ _. None),
-  (refl, refl),
+  (refl, refl, refl),
   record {
     handed = λ i n q. q;
     due = λ i n q. absurd cc;

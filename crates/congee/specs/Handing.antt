@@ -91,9 +91,11 @@ pub record TakesNode {V : Type 0} (took : ℕ → Option ℕ) (h : ℕ → Node 
 abbrev pub TakesAt : {V : Type 0} → (ℕ → Option ℕ) → (ℕ → Node V) → ℕ → (ℕ → Option ℕ) → (ℕ → Node V) → Type 0
 TakesAt took h i took' h' = TakesNothing took h took' h' ⊎ ((n : ℕ) × TakesNode took h i n took' h')
 
-abbrev pub Takes : {C V : Type 0} → (ℕ → Option ℕ) → (ℕ → Node V) → List (Step C V) → (ℕ → Option ℕ) → (ℕ → Node V) → Type 0
-Takes took h [] took' h' = (took' ≡ took) × (h' ≡ h)
-Takes {C} {V} took h (s ∷ steps) took' h' = (took1 : ℕ → Option ℕ) × (h1 : ℕ → Node V) × TakesAt took h s.who took1 h1 × Takes took1 h1 steps took' h'
+-- steps, one after another, on both: what is handed over was taken out at an earlier step
+abbrev pub Leaves : {C V : Type 0} → (took by : ℕ → Option ℕ) → (ℕ → Node V) → List (Step C V) → (took' by' : ℕ → Option ℕ) → (ℕ → Node V) → Type 0
+Leaves took by h [] took' by' h' = (took' ≡ took) × (by' ≡ by) × (h' ≡ h)
+Leaves {C} {V} took by h (s ∷ steps) took' by' h' = (took1 : ℕ → Option ℕ) × (by1 : ℕ → Option ℕ) × (h1 : ℕ → Node V) × TakesAt took h s.who took1 h1 × HandsAt by h s.who by1 h1
+    × ((i n : ℕ) → by1 i ≡ Some n → took i ≡ Some n) × Leaves took1 by1 h1 steps took' by' h'
 
 -- a call hands over the node that it took out, and nothing else; until then it has it between two of its steps
 pub record Due {C V : Type 0} (number : C → ℕ) (by took : ℕ → Option ℕ) (ms : List (Machine C V)) : Type 0 where
@@ -109,7 +111,7 @@ Accounted {C} {V} number h ms = (n : ℕ) → Stands (h n) → (InTree h n ⊎ (
 
 -- what the calls of a run took out of the tree, that they hand it over, and that no node is lost
 abbrev pub Unlinking : {C V : Type 0} → (C → ℕ) → (ℕ → Option ℕ) → (ℕ → Node V) → List (Step C V) → (ℕ → Node V) → List (Machine C V) → Type 0
-Unlinking number by h steps h' ms' = (took : ℕ → Option ℕ) × Takes (λ _. None) h steps took h' × Due number by took ms' × Accounted number h' ms'
+Unlinking number by h steps h' ms' = (took : ℕ → Option ℕ) × Leaves (λ _. None) (λ _. None) h steps took by h' × Due number by took ms' × Accounted number h' ms'
 
 -- one step of the calls, whatever they have handed over before
 abbrev pub StepHands : {C V : Type 0} → (C → ℕ) → (ℕ → Node V) → List (Machine C V) → ℕ → (ℕ → Node V) → List (Machine C V) → Type 0
