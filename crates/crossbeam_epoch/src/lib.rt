@@ -66,3 +66,5 @@ pub use world::World;
 mod face_tests;
 #[cfg(test)]
 mod tests;
+#[cfg(test)]
+mod thread_tests;
