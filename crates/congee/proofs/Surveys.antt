@@ -8,9 +8,9 @@ use Rattle.std.specs.FinMap as map
 use Rattle.slab.specs.Slab.{get, ContainsKey}
 use Rattle.congee.specs.Bytes.{IsFirst}
 use Rattle.congee.specs.Heap.{Hung, Nothing, Below, Holds}
-use Rattle.congee.specs.Ledger.{Linked, IsChild}
-use Rattle.congee.specs.Forms.{form_of, prefix_of, children_of}
-use Rattle.congee.specs.Arena.{Nodes, hung, node_of, heap_of, ledger_of, IsTree}
+use Rattle.congee.specs.Ledger.{IsChild}
+use Rattle.congee.specs.Forms.{form_of, children_of}
+use Rattle.congee.specs.Arena.{Nodes, hung, heap_of, ledger_of, IsTree}
 use Rattle.congee.specs.Stats.{capped, no_nodes, info_at, Counts, Shape, IsTally, root_alone}
 use Rattle.congee.specs.Levels.{shape_of, under_byte, under_bytes, with_node, nodes_from, nodes_of}
 use Rattle.congee.specs.OwnedSteps.{SameNodes}
