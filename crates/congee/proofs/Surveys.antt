@@ -8,9 +8,9 @@ use Rattle.std.specs.FinMap as map
 use Rattle.slab.specs.Slab.{get, ContainsKey}
 use Rattle.congee.specs.Bytes.{IsFirst}
 use Rattle.congee.specs.Heap.{Hung, Nothing, Below, Holds}
-use Rattle.congee.specs.Ledger.{Linked, IsChild}
-use Rattle.congee.specs.Forms.{form_of, prefix_of, children_of}
-use Rattle.congee.specs.Arena.{Nodes, hung, node_of, heap_of, ledger_of, IsTree}
+use Rattle.congee.specs.Ledger.{IsChild}
+use Rattle.congee.specs.Forms.{form_of, children_of}
+use Rattle.congee.specs.Arena.{Nodes, hung, heap_of, ledger_of, IsTree}
 use Rattle.congee.specs.Stats.{capped, no_nodes, info_at, Counts, Shape, IsTally, root_alone}
 use Rattle.congee.specs.Levels.{shape_of, under_byte, under_bytes, with_node, nodes_from, nodes_of}
 use Rattle.congee.specs.OwnedSteps.{SameNodes}
@@ -83,7 +83,7 @@ module _ {P : Type 0} (s : Nodes P) where
     stable zero g level n h p q = let l = short_prefix s t n h in absurd (omega (arith, l, p))
     stable (suc f) zero level n h p q = let l = short_prefix s t n h in absurd (omega (arith, l, q))
     stable (suc f) (suc g) level n h p q = with_same _ _ level (get s n) (λ x b c e d.
-      let i = child_of n x b c h e d in stable f g (level + 1) c (stands_of s t.parent c i.linked) (omega (arith, p, i.longer)) (omega (arith, q, i.longer)))
+        let i = child_of n x b c h e d in stable f g (level + 1) c (stands_of s t.parent c i.linked) (omega (arith, p, i.longer)) (omega (arith, q, i.longer)))
 
     -- a node and those below it
     nodes_at : (level n : ℕ) (x : Form ℕ P) → ContainsKey s n → get s n ≡ Some x
@@ -118,12 +118,12 @@ module _ {P : Type 0} (s : Nodes P) where
   went_on old mid new level x from b y c first small more on = record {
     bound = omega (arith, small);
     tally = λ seen is.
-      let here : at_bytes x b ≡ hung (Some y) = ap hung first.here in
-      let grown : under_bytes (next level) (at_bytes x) (b + 1) ≡ under_bytes (next level) (at_bytes x) from ++ under_byte (next level) (hung (Some y)) =
-      one_more (next level) (at_bytes x) from b first.past (λ q lo hi. ap hung (first.before q lo hi)) ∙ ap (λ h. under_bytes (next level) (at_bytes x) from ++ under_byte (next level) h) here in
-      let all : (seen ++ shape_of level x ∷ under_bytes (next level) (at_bytes x) from) ++ under_byte (next level) (hung (Some y)) ≡ seen ++ shape_of level x ∷ under_bytes (next level) (at_bytes x) (b + 1) =
-      append_assoc seen (shape_of level x ∷ under_bytes (next level) (at_bytes x) from) (under_byte (next level) (hung (Some y))) ∙ ap (λ l. seen ++ shape_of level x ∷ l) (sym grown) in
-      subst (λ l. IsTally new l 0) all (on (seen ++ shape_of level x ∷ under_bytes (next level) (at_bytes x) from) (c.tally seen is));
+        let here : at_bytes x b ≡ hung (Some y) = ap hung first.here in
+        let grown : under_bytes (next level) (at_bytes x) (b + 1) ≡ under_bytes (next level) (at_bytes x) from ++ under_byte (next level) (hung (Some y)) =
+        one_more (next level) (at_bytes x) from b first.past (λ q lo hi. ap hung (first.before q lo hi)) ∙ ap (λ h. under_bytes (next level) (at_bytes x) from ++ under_byte (next level) h) here in
+        let all : (seen ++ shape_of level x ∷ under_bytes (next level) (at_bytes x) from) ++ under_byte (next level) (hung (Some y)) ≡ seen ++ shape_of level x ∷ under_bytes (next level) (at_bytes x) (b + 1) =
+        append_assoc seen (shape_of level x ∷ under_bytes (next level) (at_bytes x) from) (under_byte (next level) (hung (Some y))) ∙ ap (λ l. seen ++ shape_of level x ∷ l) (sym grown) in
+        subst (λ l. IsTally new l 0) all (on (seen ++ shape_of level x ∷ under_bytes (next level) (at_bytes x) from) (c.tally seen is));
     opened = let o = c.opened in omega (arith, o, more);
     levels = let o = c.levels in omega (arith, o, more);
   }

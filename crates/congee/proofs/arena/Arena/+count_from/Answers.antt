@@ -1,4 +1,4 @@
-use Rattle.std.proofs.Common.{rules, ◌<◌, ◌≤◌, ◌+◌, ◌-◌, length, refl, sym, subst, arith}
+use Rattle.std.proofs.Common.{rules, ◌<◌, ◌≤◌, ◌+◌, ◌-◌, length, sym, subst, arith}
 use Rattle.std.specs.Vec.{vec_len}
 use Rattle.congee.specs.Arena.{heap_of}
 use Rattle.congee.specs.declared.stats.NodeStats.{NodeStats}

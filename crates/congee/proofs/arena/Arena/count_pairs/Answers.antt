@@ -1,4 +1,4 @@
-use Rattle.std.proofs.Common.{rules, ◌≡◌, ◌^◌, ◌<◌, ◌≤◌, ◌+◌, [], ◌∷◌, length, ap, ◌∙◌, arith}
+use Rattle.std.proofs.Common.{rules, ◌≡◌, ◌^◌, ◌<◌, ◌≤◌, ◌+◌, length, ap, ◌∙◌, arith}
 use Rattle.std.specs.FinMap as map
 use Rattle.congee.specs.Ranges.{in_range}
 use Rattle.congee.specs.Table.{pairs_of}
