@@ -143,6 +143,10 @@ pub record Sound {V : Type 0} (t : Forest V) : Type 0 where
 abbrev pub fresh : {V : Type 0} → Body V → Slot V
 fresh n = record { node = Some n; retired = false }
 
+-- what stands in a cell while its node is out to be changed
+abbrev pub out : {V : Type 0} → Slot V
+out = record { node = None; retired = false }
+
 -- a node comes into a usable cell
 abbrev pub placed : {V : Type 0} → Forest V → Name → Body V → Forest V
 placed t name n = record t {

@@ -1,16 +1,18 @@
 //! The tree, whose nodes stand in the collector's cells.
 
-ghost use Rattle.std.specs.Prelude.{◌≡◌, ◌≢◌, ◌<◌, ◌≤◌, ◌+◌, ◌-◌, ℕ, ◌∷◌, [], IfOk, IfSome, Some, None, length, MatchOption, if◌then◌else◌, ◌==◌, true, OnErr, OnOk, MatchResult, IsTrue, unwrap_or, ⊤};
+ghost use Rattle.std.specs.Prelude.{◌≡◌, ◌≢◌, ◌<◌, ◌≤◌, ◌+◌, ◌-◌, ℕ, ◌∷◌, [], IfOk, IfSome, Some, None, length, MatchOption, if◌then◌else◌, ◌==◌, true, OnErr, OnOk, MatchResult, IsTrue, unwrap_or, ⊤, vec_capacity};
 ghost use Rattle.std.specs.Prelude.{false, is_some, slice_set, slice_index, slice_index_or, take};
 ghost use Rattle.std.specs.Option.{option_copied};
 ghost use Rattle.std.specs.List.{sum_by};
-ghost use Rattle.crossbeam_epoch.specs.Machine.{place as holder, registered};
-ghost use Rattle.crossbeam_epoch.specs.Store.{is_usable, IsNext};
+ghost use Rattle.crossbeam_epoch.specs.Machine.{place as holder, registered, deferred, with_store};
+ghost use Rattle.crossbeam_epoch.specs.declared.bag.Work.{Work};
+ghost use Rattle.crossbeam_epoch.specs.Store.{is_usable, IsNext, replaced};
+ghost use Rattle.crossbeam_epoch.specs.Store as S;
 ghost use Rattle.crossbeam_epoch.specs.Steps.{IsReport, after, defer_fault};
 ghost use Rattle.joint.specs.Walk.{Body, walk, of_node, child_at, top};
 ghost use Rattle.joint.specs.Form.{size_of, capacity_of};
 ghost use Rattle.joint.specs.Forest.{Forest, Clock, heap, slot_at, is_retired, value_at, sizes, placed, planted, IsEdited, ShapeOf, Comes, Takes, Retires, Spares, Swaps, Edits};
-ghost use Rattle.joint.specs.Forest.{IsFree, IsGrown, size, plan, plan_at, plan_link, child_for, waits, waiting_size, cells_of, HangsIn, CanHang, CanChange};
+ghost use Rattle.joint.specs.Forest.{IsFree, IsGrown, size, plan, plan_at, plan_link, child_for, waits, waiting_size, cells_of, HangsIn, CanHang, CanChange, out, with_form};
 ghost use Rattle.joint.specs.Collector.{IsIdle, IsWhole, Readies};
 ghost use Rattle.joint.specs.Refusals.{of_guard};
 
@@ -399,29 +401,22 @@ impl Tree<u64> {
             node: Some(node),
             retired: false,
         };
-        let name = match self.collector.place(slot) {
-            Ok(name) => name,
+        match self.collector.place(slot) {
+            Ok(name) => {
+                note_form(&mut self.forms, name.cell as usize, form);
+                name
+            }
             Err(_) => unreachable!(),
-        };
-        if (name.cell as usize) < self.forms.len() {
-            self.forms[name.cell as usize] = form;
-        } else {
-            self.forms.push_reserved(form);
         }
-        name
     }
 
     /// Hangs another child at a byte of a node in the tree.
     fn change(&mut self, at: Name, byte: u8, child: Child<u64>)
         ensures { Edits self.old self.new at (λ n n'. CanChange n byte → HangsIn n n' byte child) }
     {
-        let out = Slot {
-            node: None,
-            retired: false,
-        };
-        if let Ok(mut slot) = self.collector.replace(at, out) {
+        if let Some(mut slot) = take_out(&mut self.collector, at) {
             slot.change(byte, child);
-            let _ = self.collector.replace(at, slot);
+            put_back(&mut self.collector, at, slot);
         }
     }
 
@@ -429,13 +424,9 @@ impl Tree<u64> {
     fn hang(&mut self, at: Name, byte: u8, child: Child<u64>)
         ensures { Edits self.old self.new at (λ n n'. CanHang n byte → HangsIn n n' byte child) }
     {
-        let out = Slot {
-            node: None,
-            retired: false,
-        };
-        if let Ok(mut slot) = self.collector.replace(at, out) {
+        if let Some(mut slot) = take_out(&mut self.collector, at) {
             slot.hang(byte, child);
-            let _ = self.collector.replace(at, slot);
+            put_back(&mut self.collector, at, slot);
         }
     }
 
@@ -451,16 +442,65 @@ impl Tree<u64> {
         ensures idle { IsIdle self.new.collector }
     {
         World::<Slot<u64>, ()>::order();
-        let out = Slot {
-            node: None,
-            retired: false,
-        };
-        if let Ok(mut slot) = self.collector.replace(at, out) {
+        if let Some(mut slot) = take_out(&mut self.collector, at) {
             slot.retired = true;
-            let _ = self.collector.replace(at, slot);
-            let _ = self.collector.defer_destroy(who as usize, at);
+            put_back(&mut self.collector, at, slot);
+            put_off(&mut self.collector, who, at);
             self.waiting += 1;
             self.waiting_bytes += self.forms[at.cell as usize].size();
         }
+    }
+}
+
+/// Notes the form of a cell's node.
+fn note_form(forms: &mut Vec<Form>, at: usize, form: Form)
+    requires near { at ≤ length forms.old.items }
+    requires room { at < vec_capacity forms.old }
+    ensures items { forms.new.items ≡ with_form forms.old.items at form }
+    ensures capacity { vec_capacity forms.old ≤ vec_capacity forms.new }
+{
+    if at < forms.len() {
+        forms[at] = form;
+    } else {
+        forms.push_reserved(form);
+    }
+}
+
+/// Takes the slot of a name out, to be changed and put back.
+fn take_out(collector: &mut World<Slot<u64>, ()>, at: Name) -> Option<Slot<u64>>
+    ensures { MatchOption result ((S.value_at collector.old.store at ≡ None) × (collector.new ≡ collector.old))
+        (λ s. (S.value_at collector.old.store at ≡ Some s) × (collector.new ≡ with_store collector.old (replaced collector.old.store at.cell out))) }
+{
+    let out = Slot {
+        node: None,
+        retired: false,
+    };
+    match collector.replace(at, out) {
+        Ok(slot) => Some(slot),
+        Err(_) => None,
+    }
+}
+
+/// Puts a slot under a name that stands.
+fn put_back(collector: &mut World<Slot<u64>, ()>, at: Name, slot: Slot<u64>)
+    requires { is_some (S.value_at collector.old.store at) ≡ true }
+    ensures { collector.new ≡ with_store collector.old (replaced collector.old.store at.cell slot) }
+{
+    match collector.replace(at, slot) {
+        Ok(_) => {}
+        Err(_) => unreachable!(),
+    }
+}
+
+/// Defers the removal of a name.
+fn put_off(collector: &mut World<Slot<u64>, ()>, who: u32, at: Name)
+    requires stands { is_some (S.value_at collector.old.store at) ≡ true }
+    requires accepted { defer_fault collector.old who ≡ None }
+    requires room { length (holder collector.old who).bag < 64 }
+    ensures { collector.new ≡ deferred collector.old who (Work.Remove at) }
+{
+    match collector.defer_destroy(who as usize, at) {
+        Ok(_) => {}
+        Err(_) => unreachable!(),
     }
 }
