@@ -156,6 +156,24 @@ swaps {V} t t1 t2 at n key v leaf s k pl gr ed =
       ];
     }
 
+-- what stands under the leaf's name stays until then
+pub kept_leaf : {V : Type 0} (t t1 t2 : Forest V) (at : Name) (n : Body V) (key : List ℕ) (leaf : Name) (s : ShapeOf t) → Placed t t1 at n → plan (heap t) key ≡ Grow leaf → (P : Option (Body V) → Option (Body V) → Type 0) → Edits t1 t2 top P
+    → slot_at t2 leaf ≡ slot_at t leaf
+kept_leaf {V} t t1 t2 at n key leaf s k pl P ed =
+    let f : Found (heap t) (is_retired t) s key leaf (Grow leaf) = found (heap t) (is_retired t) s key leaf (Grow leaf) pl refl in
+    let l : IsLeaf (heap t) (is_retired t) (get_or key 0 0) leaf = leaf_at (heap t) (is_retired t) s _ leaf f.at in
+    let kept : Keeps (heap t) (heap t1) (is_retired t) (is_retired t1) s = keeps_placed t t1 at n s k in
+    let o = slot_of (slot_at t1 top) s.root (kept.root ∙ s.stands) in
+    let away : leaf ≢ at = (λ z. let y : Some l.body ≡ None = sym l.stands ∙ (ap (heap t) z ∙ ap node_of k.was) in cc) in
+    (ed.slot o.0 o.1).1.others leaf l.below ∙ k.others leaf away
+
+-- the leaf that grows stands in the tree
+pub growing : {V : Type 0} (t : Forest V) (key : List ℕ) (leaf : Name) → ShapeOf t → plan (heap t) key ≡ Grow leaf → (is_some (slot_at t leaf) ≡ true) × (is_retired t leaf ≡ false)
+growing t key leaf s pl =
+    let f : Found (heap t) (is_retired t) s key leaf (Grow leaf) = found (heap t) (is_retired t) s key leaf (Grow leaf) pl refl in
+    let l : IsLeaf (heap t) (is_retired t) (get_or key 0 0) leaf = leaf_at (heap t) (is_retired t) s _ leaf f.at in
+    (ap is_some (slot_of (slot_at t leaf) l.body l.stands).1, l.live)
+
 -- and the other waits from then on
 pub retired : {V : Type 0} (t t1 t2 : Forest V) (key : List ℕ) (v : V) (leaf : Name) → Swaps t t1 key v leaf → Retires t1 t2 leaf → Comes t t2 key v
 retired t t1 t2 key v leaf w r =

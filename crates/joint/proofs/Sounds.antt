@@ -1,6 +1,6 @@
 -- What always holds of the nodes in their cells, over their changes.
 use Rattle.std.proofs.Common.{◌≡◌, ◌≢◌, ◌⊎◌, ℕ, zero, suc, ◌+◌, ◌-◌, ◌*◌, ◌<◌, ◌≤◌, ◌==◌, ◌++◌, inl, inr, Bool, true, false, List, [], ◌∷◌, length, get_or, set, refl, sym, ◌∙◌, ap, subst, arith, Option, Some, None, if◌then◌else◌, get_or-set_same, get_or-set_other}
-use Rattle.std.specs.Prelude.{nat_lt, nat_le, is_some, ◌&&◌, ◌^◌, ⊤}
+use Rattle.std.specs.Prelude.{MatchOption, nat_lt, nat_le, is_some, ◌&&◌, ◌^◌, ⊤}
 use Rattle.std.specs.List.{sum_by}
 use Rattle.std.proofs.lemmas.List.{length-set, length_push}
 use Rattle.std.proofs.lemmas.List.Sums.{sum_by-set, sum_by_push}
@@ -327,3 +327,10 @@ emptied {V} t t' name s k f w b =
   where
     written_value : {V : Type 0} (t : Forest V) (name : Name) (v : Slot V) → StandsIn t.collector.store name v → slot_at t name ≡ Some v
     written_value t name v k = ap (λ b. if b then (S.cell_at t.collector.store name.cell).value else None) (passes _ _ k.turns) ∙ k.value
+
+pub by_called : (called : Option (ℕ × Option Name)) (k : ℕ) (name : Option Name) → called ≡ Some (k, name) → MatchOption name ((j : ℕ) (n : Name) → called ≢ Some (j, Some n)) (λ n. (j : ℕ) × (called ≡ Some (j, Some n)))
+by_called called k None e = λ j n f. other_call k j n (sym e ∙ f)
+  where
+    other_call : (k j : ℕ) (n : Name) → ◌≡◌ {A = Option (ℕ × Option Name)} (Some (k, None)) (Some (j, Some n)) → ⊥
+    other_call k j n e = cc
+by_called called k (Some n) e = (k, e)

@@ -6,8 +6,10 @@ ghost use Rattle.std.specs.Option.{option_copied};
 ghost use Rattle.std.specs.List.{sum_by};
 ghost use Rattle.crossbeam_epoch.specs.Machine.{place as holder, registered, deferred, with_store};
 ghost use Rattle.crossbeam_epoch.specs.declared.bag.Work.{Work};
+ghost use Rattle.crossbeam_epoch.specs.declared.names.Name.{Name};
 ghost use Rattle.crossbeam_epoch.specs.Store.{is_usable, IsNext, replaced};
 ghost use Rattle.crossbeam_epoch.specs.Store as S;
+ghost use Rattle.crossbeam_epoch.specs.Progress.{Orderly, Moves};
 ghost use Rattle.crossbeam_epoch.specs.Steps.{IsReport, after, defer_fault};
 ghost use Rattle.joint.specs.Walk.{Body, walk, of_node, child_at, top};
 ghost use Rattle.joint.specs.Form.{size_of, capacity_of};
@@ -209,18 +211,23 @@ impl Tree<u64> {
         ensures sizes { MatchOption result.form (sizes self.new ≡ sizes self.old) (λ f. sizes self.new + size_of f ≡ sizes self.old) }
         ensures spared { Spares self.old self.new }
         ensures forms { self.new.forms ≡ self.old.forms }
+        ensures orderly { Orderly self.old.collector }
+        ensures places { length self.old.collector.table ≤ 256 }
+        ensures moves { Moves self.old.collector who result.report.called self.new.collector }
     {
         World::<Slot<u64>, ()>::order();
         let report = self.collector.step(who as usize, event);
-        let Some((_, Some(name))) = report.called else {
-            return Stepped { report, form: None };
-        };
-        let form = self.forms[name.cell as usize];
-        self.waiting -= 1;
-        self.waiting_bytes -= form.size();
-        Stepped {
-            report,
-            form: Some(form),
+        match destroyed_by(&report) {
+            None => Stepped { report, form: None },
+            Some(name) => {
+                let form = self.forms[name.cell as usize];
+                self.waiting -= 1;
+                self.waiting_bytes -= form.size();
+                Stepped {
+                    report,
+                    form: Some(form),
+                }
+            }
         }
     }
 
@@ -449,6 +456,16 @@ impl Tree<u64> {
             self.waiting += 1;
             self.waiting_bytes += self.forms[at.cell as usize].size();
         }
+    }
+}
+
+/// The name of the cell that a step destroyed.
+fn destroyed_by(report: &Report) -> Option<Name>
+    ensures { MatchOption result ((k : ℕ) (n : Name) → report.now.called ≢ Some (k, Some n)) (λ n. (k : ℕ) × (report.now.called ≡ Some (k, Some n))) }
+{
+    match report.called {
+        Some((_, name)) => name,
+        None => None,
     }
 }
 
