@@ -14,3 +14,4 @@ pub mod Sounds
 pub mod Placing
 pub mod Editing
 pub mod Turning
+pub mod Flights

@@ -22,7 +22,7 @@ use Rattle.joint.specs.Form.{size_of}
 use Rattle.joint.specs.Walk.{Body}
 use Rattle.joint.specs.Forest.{Forest, Clock, cells_of, turn_max_of, slot_at, retired_of, is_retired, size, sizes, waits, waiting_size, departed, same_name, removes, removal, IsFormed, HasForm, form_at, with_form, Sound, fresh, placed, Spares, IsSame}
 use Rattle.joint.proofs.Edges.{tested, passes, fails}
-use Rattle.joint.proofs.Pairs.{same_or_not, same_name_or_not, one_name}
+use Rattle.joint.proofs.Pairs.{same_or_not, same_name_or_not, one_name, some_inj}
 use Rattle.joint.proofs.Slots.{stands_in, StandsIn, written, written_here, written_beside, Usable, usable, put_here, put_beside}
 use Rattle.joint.proofs.Sums.{form_size, slot_size, slot_form}
 
@@ -332,5 +332,5 @@ pub by_called : (called : Option (ℕ × Option Name)) (k : ℕ) (name : Option 
 by_called called k None e = λ j n f. other_call k j n (sym e ∙ f)
   where
     other_call : (k j : ℕ) (n : Name) → ◌≡◌ {A = Option (ℕ × Option Name)} (Some (k, None)) (Some (j, Some n)) → ⊥
-    other_call k j n e = cc
+    other_call k j n e = (let y : None ≡ Some n = ap (λ (p : ℕ × Option Name). p.1) (some_inj _ _ e) in cc)
 by_called called k (Some n) e = (k, e)

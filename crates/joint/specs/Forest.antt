@@ -139,6 +139,11 @@ pub record Sound {V : Type 0} (t : Forest V) : Type 0 where
   pub forms : length t.forms ≡ length (cells_of t)
   pub formed : (c : ℕ) → IsFormed (S.cell_at t.collector.store c).value (form_at t.forms c)
 
+-- the counts are those of the retired nodes
+pub record IsCounted {V : Type 0} (t : Forest V) : Type 0 where
+  pub waiting : t.waiting ≡ sum_by waits (cells_of t)
+  pub waiting_bytes : t.waiting_bytes ≡ sum_by waiting_size (cells_of t)
+
 -- a node that came into its cell
 abbrev pub fresh : {V : Type 0} → Body V → Slot V
 fresh n = record { node = Some n; retired = false }

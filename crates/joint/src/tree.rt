@@ -14,7 +14,7 @@ ghost use Rattle.crossbeam_epoch.specs.Steps.{IsReport, after, defer_fault};
 ghost use Rattle.joint.specs.Walk.{Body, walk, of_node, child_at, top};
 ghost use Rattle.joint.specs.Form.{size_of, capacity_of};
 ghost use Rattle.joint.specs.Forest.{Forest, Clock, heap, slot_at, is_retired, value_at, sizes, placed, planted, IsEdited, ShapeOf, Comes, Takes, Retires, Spares, Swaps, Edits};
-ghost use Rattle.joint.specs.Forest.{IsFree, IsGrown, size, plan, plan_at, plan_link, child_for, waits, waiting_size, cells_of, HangsIn, CanHang, CanChange, out, with_form};
+ghost use Rattle.joint.specs.Forest.{IsFree, IsGrown, size, plan, plan_at, plan_link, child_for, waits, waiting_size, cells_of, HangsIn, CanHang, CanChange, out, with_form, IsCounted};
 ghost use Rattle.joint.specs.Collector.{IsIdle, IsWhole, Readies};
 ghost use Rattle.joint.specs.Refusals.{of_guard};
 
@@ -214,6 +214,7 @@ impl Tree<u64> {
         ensures orderly { Orderly self.old.collector }
         ensures places { length self.old.collector.table ≤ 256 }
         ensures moves { Moves self.old.collector who result.report.called self.new.collector }
+        ensures counts { IsCounted self.old × IsCounted self.new }
     {
         World::<Slot<u64>, ()>::order();
         let report = self.collector.step(who as usize, event);

@@ -39,4 +39,58 @@ invariant_of-self-in-Some c =
     (omega (arith, most, room), sound_sets t t' c.in-Some.name.cell _ c.self.invariant.1 e.sets)
 
 pub overflow_sub-self : goal.overflow_sub-self
-overflow_sub-self c = ?
+overflow_sub-self c =
+    let i = c.self.inside in
+    let t : Forest ℕ = record { collector = i.collector; forms = i.forms.items; waiting = i.waiting; waiting_bytes = i.waiting_bytes } in
+    let M : Clock ℕ → Type 0 = λ k. Moves i.collector c.args.who c.step-report.result.called k in
+    let m = subst M (sym c.step-report.ensures.state) (c.order.ensures.moves i.collector c.args.who c.args.event c.step-report.result c.self.invariant.1.orderly c.step-report.ensures.report) in
+    let N : Option (ℕ × Option Name) → Type 0 = λ k. Moves i.collector c.args.who k c.step-report.new.self in
+    let d = step_destroys t c.step-report.new.self c.args.who c.in-Some.ensures.0 c.in-Some.name c.self.invariant.1 (subst N c.in-Some.ensures.1 m) in
+    let n = counted t c.in-Some.name c.step-report.new.self c.self.invariant.1 d in
+    n.waiting
+
+pub overflow_sub-self-in-Some : goal.overflow_sub-self-in-Some
+overflow_sub-self-in-Some c =
+    let i = c.self.inside in
+    let t : Forest ℕ = record { collector = i.collector; forms = i.forms.items; waiting = i.waiting; waiting_bytes = i.waiting_bytes } in
+    let M : Clock ℕ → Type 0 = λ k. Moves i.collector c.args.who c.step-report.result.called k in
+    let m = subst M (sym c.step-report.ensures.state) (c.order.ensures.moves i.collector c.args.who c.args.event c.step-report.result c.self.invariant.1.orderly c.step-report.ensures.report) in
+    let N : Option (ℕ × Option Name) → Type 0 = λ k. Moves i.collector c.args.who k c.step-report.new.self in
+    let d = step_destroys t c.step-report.new.self c.args.who c.in-Some.ensures.0 c.in-Some.name c.self.invariant.1 (subst N c.in-Some.ensures.1 m) in
+    let n = counted t c.in-Some.name c.step-report.new.self c.self.invariant.1 d in
+    let f : c.index-form.result.now ≡ form_at i.forms.items c.in-Some.name.cell = c.index-form.ensures ∙ in_range i.forms.items c.in-Some.name.cell c.index-form.result.now Node4 n.inside in
+    let z : c.size.result ≡ size_of (form_at i.forms.items c.in-Some.name.cell) = c.size.ensures ∙ ap size_of f in
+    omega (arith, n.bytes, z)
+
+pub returns-in-Some-clause-sizes : goal.returns-in-Some-clause-sizes
+returns-in-Some-clause-sizes c =
+    let i = c.self.inside in
+    let t : Forest ℕ = record { collector = i.collector; forms = i.forms.items; waiting = i.waiting; waiting_bytes = i.waiting_bytes } in
+    let M : Clock ℕ → Type 0 = λ k. Moves i.collector c.args.who c.step-report.result.called k in
+    let m = subst M (sym c.step-report.ensures.state) (c.order.ensures.moves i.collector c.args.who c.args.event c.step-report.result c.self.invariant.1.orderly c.step-report.ensures.report) in
+    let N : Option (ℕ × Option Name) → Type 0 = λ k. Moves i.collector c.args.who k c.step-report.new.self in
+    let d = step_destroys t c.step-report.new.self c.args.who c.in-Some.ensures.0 c.in-Some.name c.self.invariant.1 (subst N c.in-Some.ensures.1 m) in
+    let n = counted t c.in-Some.name c.step-report.new.self c.self.invariant.1 d in
+    let f : c.index-form.result.now ≡ form_at i.forms.items c.in-Some.name.cell = c.index-form.ensures ∙ in_range i.forms.items c.in-Some.name.cell c.index-form.result.now Node4 n.inside in
+    let z : c.size.result ≡ size_of (form_at i.forms.items c.in-Some.name.cell) = c.size.ensures ∙ ap size_of f in
+    let t' : Forest ℕ = record { collector = c.step-report.new.self; forms = i.forms.items; waiting = i.waiting - 1; waiting_bytes = i.waiting_bytes - c.size.result } in
+    let e = emptied t t' c.in-Some.name c.self.invariant.1 d refl (omega (arith, n.waiting)) (omega (arith, n.bytes, z)) in
+    let g = ap size_of f in
+    let h = ap sizes c.self.view_is in
+    omega (arith, e.sizes, g, h)
+
+pub returns-in-Some-clause-spared : goal.returns-in-Some-clause-spared
+returns-in-Some-clause-spared c =
+    let i = c.self.inside in
+    let t : Forest ℕ = record { collector = i.collector; forms = i.forms.items; waiting = i.waiting; waiting_bytes = i.waiting_bytes } in
+    let M : Clock ℕ → Type 0 = λ k. Moves i.collector c.args.who c.step-report.result.called k in
+    let m = subst M (sym c.step-report.ensures.state) (c.order.ensures.moves i.collector c.args.who c.args.event c.step-report.result c.self.invariant.1.orderly c.step-report.ensures.report) in
+    let N : Option (ℕ × Option Name) → Type 0 = λ k. Moves i.collector c.args.who k c.step-report.new.self in
+    let d = step_destroys t c.step-report.new.self c.args.who c.in-Some.ensures.0 c.in-Some.name c.self.invariant.1 (subst N c.in-Some.ensures.1 m) in
+    let n = counted t c.in-Some.name c.step-report.new.self c.self.invariant.1 d in
+    let f : c.index-form.result.now ≡ form_at i.forms.items c.in-Some.name.cell = c.index-form.ensures ∙ in_range i.forms.items c.in-Some.name.cell c.index-form.result.now Node4 n.inside in
+    let z : c.size.result ≡ size_of (form_at i.forms.items c.in-Some.name.cell) = c.size.ensures ∙ ap size_of f in
+    let t' : Forest ℕ = record { collector = c.step-report.new.self; forms = i.forms.items; waiting = i.waiting - 1; waiting_bytes = i.waiting_bytes - c.size.result } in
+    let e = emptied t t' c.in-Some.name c.self.invariant.1 d refl (omega (arith, n.waiting)) (omega (arith, n.bytes, z)) in
+    let P : Forest ℕ → Type 0 = λ w. Spares w t' in
+    subst P c.self.view_is e.spared
