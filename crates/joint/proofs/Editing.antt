@@ -18,6 +18,7 @@ use Rattle.crossbeam_epoch.specs.Machine.{place, with_store, deferred}
 use Rattle.crossbeam_epoch.specs.Progress.{Orderly, Keeps}
 use Rattle.crossbeam_epoch.specs.Steps.{defer_fault, or_count, quiet_fault, when}
 use Rattle.crossbeam_epoch.specs.Store as S
+use Rattle.crossbeam_epoch.proofs.Progress.{deferred_keeps}
 use Rattle.joint.specs.declared.refusal.Refusal.{Refusal}
 use Rattle.joint.specs.declared.slot.Slot.{Slot}
 use Rattle.joint.specs.declared.form.Form.{Form}
@@ -149,3 +150,73 @@ few_tickets t s =
     let a = departed_bound (turn_max_of t + 1) (cells_of t) s.turns in
     let b : (turn_max_of t + 1) * length (cells_of t) ≤ 2 ^ 32 * 16777215 = mul-le (turn_max_of t + 1) (length (cells_of t)) (2 ^ 32) 16777215 (omega (arith, s.turn_max)) (omega (arith, s.bounded, s.few)) in
     omega (arith, a, b, s.tickets)
+
+-- a node that left the tree, with its removal
+pub record Retired {V : Type 0} (t t' : Forest V) (at : Name) : Type 0 where
+  pub sound : Sound t'
+  pub sizes : sizes t' ≡ sizes t
+  pub retires : Retires t t' at
+
+pub retired : {V : Type 0} (t t' : Forest V) (at : Name) (s : Slot V) (k : Clock V) (who : ℕ) → Sound t → slot_at t at ≡ Some s → s.retired ≡ false
+    → k ≡ with_store t.collector (written t.collector.store at.cell (Some (record { node = s.node; retired = true }))) → t'.collector ≡ deferred k who (Remove at) → who < length t.collector.table → length (place t.collector who).bag < 64
+    → t'.forms ≡ t.forms → t'.waiting ≡ t.waiting + 1 → t'.waiting_bytes ≡ t.waiting_bytes + size_of (form_at t.forms at.cell) → Retired t t' at
+retired {V} t t' at s k who z e live kk ke lt room f w b =
+    let st = t.collector.store in
+    let s' : Slot V = record { node = s.node; retired = true } in
+    let x : Cell (Slot V) = record { turns = (S.cell_at st at.cell).turns; value = Some s } in
+    let y : Cell (Slot V) = record { turns = (S.cell_at st at.cell).turns; value = Some s' } in
+    let was : S.cell_at st at.cell ≡ x = cell_was t at s e in
+    let sw : StandsIn st at s = stands_in st at s e in
+    let m : Clock V = with_store t.collector (written st at.cell (Some s')) in
+    let c' : t'.collector ≡ deferred m who (Remove at) = ke ∙ ap (λ (q : Clock V). deferred q who (Remove at)) kk in
+    let store : t'.collector.store ≡ written st at.cell (Some s') = ap (λ (q : Clock V). q.store) c' in
+    let ed : IsEditedAt t t' at s s' = put_at t t' at s s' e store in
+    let cells : cells_of t' ≡ set (cells_of t) at.cell y = ap (λ (q : S.Store (Slot V)). q.cells) store in
+    let F : Option (Slot V) → Type 0 = λ q. IsFormed q (form_at t.forms at.cell) in
+    let form : HasForm s.node (form_at t.forms at.cell) = subst F sw.value (z.formed at.cell) in
+    let sz : size x ≡ size_of (form_at t.forms at.cell) = form_size s.node _ form in
+    let ss : size y ≡ size (S.cell_at st at.cell) = sym (ap size was) in
+    let w0 : waits (S.cell_at st at.cell) ≡ 0 = ap waits was ∙ ap (λ q. if q then 1 else 0) live in
+    let b0 : waiting_size (S.cell_at st at.cell) ≡ 0 = ap waiting_size was ∙ ap (λ q. if q then size x else 0) live in
+    let d0 : departed (S.cell_at st at.cell) ≡ x.turns - 1 = ap departed was ∙ ap (λ q. x.turns - (if (if q then false else true) then 1 else 0)) live in
+    let d1 : departed y ≡ x.turns - 0 = refl in
+    let orderly : Orderly m = record { hands = z.orderly.hands; bags = z.orderly.bags; held = z.orderly.held; sealed = z.orderly.sealed } in
+    let kp = deferred_keeps m who (Remove at) lt room orderly in
+    let kj : (n : Name) → weight (removal n) t'.collector ≡ weight (removal n) t.collector + removes {J = ⊤} n (Remove at) = (λ n. ap (λ (q : Clock V). weight (removal n) q) c' ∙ kp.jobs (removal n)) in
+    let P : Clock V → Type 0 = λ q. Orderly q in
+    let nx : t'.collector.next ≡ t.collector.next + 1 = ap (λ (q : Clock V). q.next) c' in
+    let sets : Sets t t' at.cell y = record {
+      inside = sw.inside;
+      cells = cells;
+      most = ap (λ (q : S.Store (Slot V)). q.most) store;
+      turn_max = ap (λ (q : S.Store (Slot V)). q.turn_max) store;
+      turns = refl;
+      orderly = subst P (sym c') kp.orderly;
+      places = ap (λ (q : Clock V). length q.table) c' ∙ length-set t.collector.table who _;
+      next = omega (arith, nx, d0, d1, sw.turns);
+      jobs = λ n. elim (same_name_or_not n at) [
+        | inl q ↦ (let a : weight (removal n) t.collector ≡ 0 = z.jobs n ∙ (ap (λ i. if is_retired t i then 1 else 0) q ∙ (ap (λ o. if retired_of o then 1 else 0) e ∙ ap (λ v. if v then 1 else 0) live)) in
+            let o : removes {J = ⊤} n (Remove at) ≡ 1 = same_removal at n (sym q) in
+            let r : ◌≡◌ {A = ℕ} (if is_retired t' n then 1 else 0) 1 = ap (λ i. if is_retired t' i then 1 else 0) q ∙ ap (λ o. if retired_of o then 1 else 0) ed.is in
+            omega (arith, kj n, a, o, r))
+        | inr q ↦ (let o : removes {J = ⊤} n (Remove at) ≡ 0 = other_removal at n q in
+            let r : ◌≡◌ {A = ℕ} (if is_retired t' n then 1 else 0) (if is_retired t n then 1 else 0) = ap (λ o. if retired_of o then 1 else 0) (ed.others n q) in
+            omega (arith, kj n, z.jobs n, o, r))
+      ];
+      waiting = omega (arith, w, w0);
+      waiting_bytes = omega (arith, b, b0, sz);
+      forms = f;
+      formed = form;
+    } in
+    let sum = sum_sets t t' at.cell y size sw.inside cells in
+    record {
+      sound = sound_sets t t' at.cell y z sets;
+      sizes = omega (arith, sum, ss);
+      retires = record {
+        nodes = λ d. elim (same_name_or_not d at) [
+          | inl q ↦ ap (heap t') q ∙ (ap node_of ed.is ∙ (sym (ap node_of e) ∙ sym (ap (heap t) q)))
+          | inr q ↦ ap node_of (ed.others d q)
+        ];
+        others = λ d ne. ap retired_of (ed.others d ne);
+      };
+    }

@@ -20,11 +20,11 @@ use Rattle.joint.specs.declared.slot.Slot.{Slot}
 use Rattle.joint.specs.declared.form.Form.{Form}
 use Rattle.joint.specs.Form.{size_of}
 use Rattle.joint.specs.Walk.{Body}
-use Rattle.joint.specs.Forest.{Forest, Clock, cells_of, turn_max_of, slot_at, retired_of, is_retired, size, sizes, waits, waiting_size, departed, same_name, removes, removal, IsFormed, HasForm, form_at, with_form, Sound, fresh, placed, Spares, IsSame}
+use Rattle.joint.specs.Forest.{Forest, Clock, cells_of, turn_max_of, slot_at, retired_of, is_retired, size, sizes, waits, waiting_size, departed, same_name, removes, removal, IsCounted, IsFormed, HasForm, form_at, with_form, Sound, fresh, placed, Spares, IsSame}
 use Rattle.joint.proofs.Edges.{tested, passes, fails}
 use Rattle.joint.proofs.Pairs.{same_or_not, same_name_or_not, one_name, some_inj}
 use Rattle.joint.proofs.Slots.{stands_in, StandsIn, written, written_here, written_beside, Usable, usable, put_here, put_beside}
-use Rattle.joint.proofs.Sums.{form_size, slot_size, slot_form}
+use Rattle.joint.proofs.Sums.{form_size, slot_size, slot_form, waits_bound, sizes_bound}
 
 less : (m n : ℕ) → nat_lt m n ≡ true → m < n
 less m n h = grind (arith, nat_tests)
@@ -334,3 +334,11 @@ by_called called k None e = λ j n f. other_call k j n (sym e ∙ f)
     other_call : (k j : ℕ) (n : Name) → ◌≡◌ {A = Option (ℕ × Option Name)} (Some (k, None)) (Some (j, Some n)) → ⊥
     other_call k j n e = (let y : None ≡ Some n = ap (λ (p : ℕ × Option Name). p.1) (some_inj _ _ e) in cc)
 by_called called k (Some n) e = (k, e)
+
+pub counts : {V : Type 0} (t : Forest V) → Sound t → IsCounted t
+counts t s = record {
+  waiting = s.waiting;
+  waiting_bytes = s.waiting_bytes;
+  few = omega (arith, s.waiting, waits_bound (cells_of t), s.bounded, s.few);
+  small = omega (arith, sizes_bound (cells_of t), s.bounded, s.few);
+}

@@ -33,7 +33,7 @@ pub form_size : {V : Type 0} (n : Option (Body V)) (f : Form) → HasForm n f �
 form_size None f h = absurd h
 form_size (Some n) f h = ap size_of h
 
-form_bound : (f : Form) → size_of f ≤ 2104
+pub form_bound : (f : Form) → size_of f ≤ 2104
 form_bound Node4 = omega arith
 form_bound Node16 = omega arith
 form_bound Node256 = omega arith
@@ -53,6 +53,10 @@ waits_bound (c ∷ cs) = omega (arith, waits_bound cs, test_bound (retired_of c.
 pub waiting_bound : {V : Type 0} (cs : List (Cell (Slot V))) → sum_by waiting_size cs ≤ 2104 * length cs
 waiting_bound [] = omega arith
 waiting_bound (c ∷ cs) = omega (arith, waiting_bound cs, test_bound (retired_of c.value) (size c) 2104 (size_bound (node_of c.value)), sum_by-cons waiting_size c cs)
+
+pub sizes_bound : {V : Type 0} (cs : List (Cell (Slot V))) → sum_by size cs ≤ 2104 * length cs
+sizes_bound [] = omega arith
+sizes_bound (c ∷ cs) = omega (arith, sizes_bound cs, size_bound (node_of c.value), sum_by-cons size c cs)
 
 -- the nodes that left are no more than the turns
 pub departed_bound : {V : Type 0} (most : ℕ) (cs : List (Cell (Slot V))) → ((i : ℕ) → (get_or cs i fresh).turns ≤ most) → sum_by departed cs ≤ most * length cs

@@ -1,5 +1,5 @@
 -- The nodes in the collector's cells.
-use Rattle.std.specs.Prelude.{◌≡◌, ◌≢◌, ℕ, zero, suc, ◌+◌, ◌-◌, ◌==◌, ◌<◌, ◌≤◌, ◌^◌, nat_lt, Bool, true, false, List, [], ◌∷◌, ◌++◌, length, Option, Some, None, if◌then◌else◌, slice_set, slice_index, slice_index_or, ◌&&◌, is_some, ⊤}
+use Rattle.std.specs.Prelude.{◌≡◌, ◌≢◌, ℕ, zero, suc, ◌+◌, ◌-◌, ◌*◌, ◌==◌, ◌<◌, ◌≤◌, ◌^◌, nat_lt, Bool, true, false, List, [], ◌∷◌, ◌++◌, length, Option, Some, None, if◌then◌else◌, slice_set, slice_index, slice_index_or, ◌&&◌, is_some, ⊤}
 use Rattle.std.specs.List.{sum_by}
 use Rattle.crossbeam_epoch.specs.declared.bag.Entry.{Entry}
 use Rattle.crossbeam_epoch.specs.declared.bag.Work.{Work}
@@ -139,10 +139,12 @@ pub record Sound {V : Type 0} (t : Forest V) : Type 0 where
   pub forms : length t.forms ≡ length (cells_of t)
   pub formed : (c : ℕ) → IsFormed (S.cell_at t.collector.store c).value (form_at t.forms c)
 
--- the counts are those of the retired nodes
+-- the counts are those of the retired nodes, and far from the greatest numbers
 pub record IsCounted {V : Type 0} (t : Forest V) : Type 0 where
   pub waiting : t.waiting ≡ sum_by waits (cells_of t)
   pub waiting_bytes : t.waiting_bytes ≡ sum_by waiting_size (cells_of t)
+  pub few : t.waiting ≤ 16777215
+  pub small : sizes t ≤ 2104 * 16777215
 
 -- a node that came into its cell
 abbrev pub fresh : {V : Type 0} → Body V → Slot V

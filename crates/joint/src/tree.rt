@@ -177,7 +177,7 @@ impl Tree<u64> {
         ensures bytes { sizes self.new + result.bytes ≡ sizes self.old }
         ensures spared { Spares self.old self.new }
         ensures unchanged { IfSome result.fault (λ f. self.new ≡ self.old) }
-        ensures ready { (n : ℕ) → op ≡ Op.Secure n → Readies self.old self.new who n }
+        ensures ready { (n : ℕ) → op ≡ Op.Secure n → result.fault ≡ None → Readies self.old self.new who n }
     {
         let mut ended = Ended {
             fault: None,
