@@ -1,6 +1,6 @@
 //! The tree, whose nodes stand in the collector's cells.
 
-ghost use Rattle.std.specs.Prelude.{◌≡◌, ◌≢◌, ◌<◌, ◌≤◌, ◌+◌, ◌-◌, ℕ, ◌∷◌, [], IfOk, IfSome, Some, None, length, MatchOption, if◌then◌else◌, ◌==◌, true, OnErr, OnOk, MatchResult, IsTrue, unwrap_or, ⊤, vec_capacity};
+ghost use Rattle.std.specs.Prelude.{◌≡◌, ◌≢◌, ◌<◌, ◌≤◌, ◌+◌, ◌-◌, ◌^◌, ℕ, ◌∷◌, [], IfOk, IfSome, Some, None, length, MatchOption, if◌then◌else◌, ◌==◌, true, OnErr, OnOk, MatchResult, IsTrue, unwrap_or, ⊤, vec_capacity};
 ghost use Rattle.std.specs.Prelude.{false, is_some, slice_set, slice_index, slice_index_or, take};
 ghost use Rattle.std.specs.Option.{option_copied};
 ghost use Rattle.std.specs.List.{sum_by};
@@ -95,6 +95,7 @@ impl Tree<u64> {
         requires places { limits.participants ≤ 256 }
         ensures { IfOk result (λ t. t ≡ planted limits) }
     {
+        fits_32_bits(limits.turn_max);
         let Ok(mut collector) = World::new(alloc, limits, 0) else {
             return Err(AllocError);
         };
@@ -459,6 +460,11 @@ impl Tree<u64> {
         }
     }
 }
+
+/// A turn is a number of 32 bits.
+fn fits_32_bits(turn: u32)
+    ensures { turn < 2 ^ 32 }
+{}
 
 /// The name of the cell that a step destroyed.
 fn destroyed_by(report: &Report) -> Option<Name>
