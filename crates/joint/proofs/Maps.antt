@@ -1,6 +1,6 @@
 -- Each call gives the answer of a finite map that has the standing pairs.
-use Rattle.std.proofs.Common.{◌≡◌, ℕ, ◌+◌, ◌<◌, ◌≤◌, ◌==◌, ◌⊎◌, inl, inr, Bool, true, false, List, length, refl, sym, ◌∙◌, ap, subst, Option, Some, None}
-use Rattle.std.specs.Prelude.{◌^◌, Ok, cond, MatchOption}
+use Rattle.std.proofs.Common.{◌≡◌, ℕ, ◌+◌, ◌<◌, ◌≤◌, ◌==◌, ◌⊎◌, inl, inr, Bool, true, false, List, length, refl, sym, ◌∙◌, ap, subst, arith, Option, Some, None}
+use Rattle.std.specs.Prelude.{◌^◌, Ok, cond, MatchOption, IfSome}
 use Rattle.std.specs.FinMap.{FinMap, get, insert, empty, get-insert, get-empty}
 use Rattle.std.specs.Ordering.{nat_cmp, eq_by_cmp}
 use Rattle.std.specs.Cmp.{nat_cmp_total, unsigned_tied}
@@ -18,7 +18,7 @@ use Rattle.crossbeam_epoch.specs.declared.report.Op.TheVariants as turn
 use Rattle.crossbeam_epoch.specs.Store as S
 use Rattle.joint.specs.Walk.{walk, top}
 use Rattle.joint.specs.Refusals.{of_guard}
-use Rattle.joint.specs.Forest.{heap, node_of, value_at, Adds}
+use Rattle.joint.specs.Forest.{heap, node_of, value_at, sizes, Adds}
 use Rattle.joint.specs.Machine.{State, bytes_of, standing, Represents, after, IsReply, AsMap, Serves, Secures, Gets, Inserts, InsertsBy, Refuses, answered, opened, Opens}
 use Rattle.joint.proofs.Pairs.{same_or_not}
 use Rattle.joint.proofs.Edges.{passes, fails}
@@ -113,3 +113,11 @@ opened_empty l charge limit s e = λ key lt. get-empty nat_cmp key ∙ sym (ap (
 
 pub opens_with : (l : Limits) (charge limit : ℕ) (s : State ℕ) → AreAllowed l → charge + 2104 ≤ limit → s ≡ opened l charge limit → Opens l charge limit (Ok s)
 opens_with l charge limit s a b e = (a, b, e, opened_empty l charge limit s e)
+
+-- a refusal that left the tree left the charge
+pub all_unchanged : {X : Type 0} (o : Option X) (s s' : State ℕ) (bytes : ℕ) → IfSome o (λ f. s'.tree ≡ s.tree) → s'.charge + bytes ≡ s.charge → sizes s'.tree + bytes ≡ sizes s.tree → s'.base ≡ s.base → s'.limit ≡ s.limit → IfSome o (λ f. s' ≡ s)
+all_unchanged None s s' bytes k c z b l = tt
+all_unchanged (Some f) s s' bytes k c z b l =
+    let e : sizes s'.tree ≡ sizes s.tree = ap sizes k in
+    let d : s'.charge ≡ s.charge = omega (arith, c, z, e) in
+    ap (λ x. record s' { tree = x }) k ∙ (ap (λ x. record s' { tree = s.tree; charge = x }) d ∙ (ap (λ x. record s' { tree = s.tree; charge = s.charge; base = x }) b ∙ ap (λ x. record s' { tree = s.tree; charge = s.charge; base = s.base; limit = x }) l))

@@ -208,3 +208,6 @@ sound_planted l one p c t =
       turn = refl;
       near = omega arith;
     })
+
+pub idle_planted : (l : Limits) → IsIdle {V = ℕ} (planted l).collector
+idle_planted l = (opened_rests {T = Slot ℕ} {J = ⊤} l 0).idle

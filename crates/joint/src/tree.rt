@@ -326,6 +326,7 @@ impl Tree<u64> {
         requires { plan (heap self.old) key.now ≡ Plan.Overwrite leaf }
         ensures edited { IsEdited self.old self.new }
         ensures pairs { ShapeOf self.old → Comes self.old self.new key.now value }
+        ensures idle { IsIdle self.old.collector → IsIdle self.new.collector }
     {
         self.change(leaf, key[7], Child::Value(value));
     }
@@ -335,6 +336,7 @@ impl Tree<u64> {
         requires { plan (heap self.old) key.now ≡ Plan.Add leaf }
         ensures edited { IsEdited self.old self.new }
         ensures pairs { ShapeOf self.old → Comes self.old self.new key.now value }
+        ensures idle { IsIdle self.old.collector → IsIdle self.new.collector }
     {
         self.hang(leaf, key[7], Child::Value(value));
     }
