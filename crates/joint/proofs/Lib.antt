@@ -8,5 +8,10 @@ pub mod Choices
 pub mod Plans
 pub mod Maps
 pub mod Standing
-pub mod Bags
-pub mod FreeList
+pub mod Slots
+pub mod Names
+pub mod Sounds
+pub mod Placing
+pub mod Editing
+pub mod Turning
+pub mod Flights

@@ -1,6 +1,6 @@
 -- Each call gives the answer of a finite map that has the standing pairs.
-use Rattle.std.proofs.Common.{◌≡◌, ℕ, ◌+◌, ◌<◌, ◌≤◌, ◌==◌, ◌⊎◌, inl, inr, Bool, true, false, List, length, refl, sym, ◌∙◌, ap, subst, Option, Some, None}
-use Rattle.std.specs.Prelude.{◌^◌, Ok, cond, MatchOption, MatchBool}
+use Rattle.std.proofs.Common.{◌≡◌, ℕ, ◌+◌, ◌<◌, ◌≤◌, ◌==◌, ◌⊎◌, inl, inr, Bool, true, false, List, length, refl, sym, ◌∙◌, ap, subst, arith, Option, Some, None}
+use Rattle.std.specs.Prelude.{◌^◌, Ok, cond, MatchOption, IfSome}
 use Rattle.std.specs.FinMap.{FinMap, get, insert, empty, get-insert, get-empty}
 use Rattle.std.specs.Ordering.{nat_cmp, eq_by_cmp}
 use Rattle.std.specs.Cmp.{nat_cmp_total, unsigned_tied}
@@ -14,10 +14,12 @@ use Rattle.joint.specs.declared.steps.Done.TheVariants.{Get as Got, Insert as In
 use Rattle.joint.specs.declared.steps.Op.TheVariants.{Pin, Unpin, Repin, Flush, Release, Get, Insert}
 use Rattle.joint.specs.declared.limits.Limits.{Limits}
 use Rattle.joint.specs.Limits.{AreAllowed}
-use Rattle.joint.specs.Collector.{pinned, pin_collects, unpinned, repinned, released, secured, flushed}
-use Rattle.joint.specs.Refusals.{of_pin, of_guard, of_leave}
-use Rattle.joint.specs.Forest.{heap, value_at, Adds}
-use Rattle.joint.specs.Machine.{State, bytes_of, standing, Represents, after, IsReply, AsMap, Pins, Unpins, Repins, Releases, Flushes, Gets, Inserts, InsertsBy, Collects, Refuses, answered, opened, Opens}
+use Rattle.crossbeam_epoch.specs.declared.report.Op.TheVariants as turn
+use Rattle.crossbeam_epoch.specs.Store as S
+use Rattle.joint.specs.Walk.{walk, top}
+use Rattle.joint.specs.Refusals.{of_guard}
+use Rattle.joint.specs.Forest.{heap, node_of, value_at, sizes, Adds}
+use Rattle.joint.specs.Machine.{State, bytes_of, standing, Represents, after, IsReply, AsMap, Serves, Secures, Gets, Inserts, InsertsBy, Refuses, answered, opened, Opens}
 use Rattle.joint.proofs.Pairs.{same_or_not}
 use Rattle.joint.proofs.Edges.{passes, fails}
 
@@ -41,47 +43,20 @@ puts m s s' key value lt a r = λ q lq. get-insert nat_cmp_total m key value q �
   | inr z ↦ ap (λ b. cond b (Some value) (get m q)) (tied q key false (fails q key z)) ∙ (r q lq ∙ sym (a.beside (bytes_of q) (eight q) (λ e. z (one_key q key lq lt e))))
 ]
 
-pins_by : (o : Option Refusal) (b : Bool) (s t s' : State ℕ) (r r' : Report ℕ) → t.tree ≡ s.tree → MatchOption o (MatchBool b (Collects t r s') ((r ≡ r') × (s' ≡ t))) (λ e. Refuses s Collection e r s')
-    → (q : List ℕ) → value_at s'.tree q ≡ value_at s.tree q
-pins_by None true s t s' r r' k c q = c.pairs q ∙ ap (λ x. value_at x q) k
-pins_by None false s t s' r r' k c q = ap (λ x. value_at x.tree q) c.1 ∙ ap (λ x. value_at x q) k
-pins_by (Some e) b s t s' r r' k c q = ap (λ x. value_at x.tree q) c.1
+pub pins_map : (s s' : State ℕ) (who : ℕ) (r : Report ℕ) → Serves s who turn.Pin r s' → AsMap s Pin r s'
+pins_map s s' who r c = λ m rep. (tt, stays m s s' c.pairs rep)
 
-pub pins_map : (s s' : State ℕ) (who : ℕ) (r : Report ℕ) → Pins s who r s' → AsMap s Pin r s'
-pins_map s s' who r c = λ m rep. (tt, stays m s s' (pins_by (of_pin s.collector who) (pin_collects s.collector who) s (record s { collector = pinned s.collector who }) s' r _ refl c) rep)
+pub unpins_map : (s s' : State ℕ) (who : ℕ) (r : Report ℕ) → Serves s who turn.Unpin r s' → AsMap s Unpin r s'
+unpins_map s s' who r c = λ m rep. (tt, stays m s s' c.pairs rep)
 
-unpins_by : (o : Option Refusal) (s t s' : State ℕ) (r r' : Report ℕ) → t.tree ≡ s.tree → MatchOption o ((r ≡ r') × (s' ≡ t)) (λ e. Refuses s Collection e r s')
-    → (q : List ℕ) → value_at s'.tree q ≡ value_at s.tree q
-unpins_by None s t s' r r' k c q = ap (λ x. value_at x.tree q) c.1 ∙ ap (λ x. value_at x q) k
-unpins_by (Some e) s t s' r r' k c q = ap (λ x. value_at x.tree q) c.1
+pub repins_map : (s s' : State ℕ) (who : ℕ) (r : Report ℕ) → Serves s who turn.Repin r s' → AsMap s Repin r s'
+repins_map s s' who r c = λ m rep. (tt, stays m s s' c.pairs rep)
 
-pub unpins_map : (s s' : State ℕ) (who : ℕ) (r : Report ℕ) → Unpins s who r s' → AsMap s Unpin r s'
-unpins_map s s' who r c = λ m rep. (tt, stays m s s' (unpins_by (of_guard s.collector who) s (record s { collector = unpinned s.collector who }) s' r _ refl c) rep)
+pub releases_map : (s s' : State ℕ) (who : ℕ) (r : Report ℕ) → Serves s who turn.Release r s' → AsMap s Release r s'
+releases_map s s' who r c = λ m rep. (tt, stays m s s' c.pairs rep)
 
-pub repins_map : (s s' : State ℕ) (who : ℕ) (r : Report ℕ) → Repins s who r s' → AsMap s Repin r s'
-repins_map s s' who r c = λ m rep. (tt, stays m s s' (unpins_by (of_guard s.collector who) s (record s { collector = repinned s.collector who }) s' r _ refl c) rep)
-
-releases_by : (o : Option Refusal) (s t s' : State ℕ) (r r' : Report ℕ) (f : Refusal) → t.tree ≡ s.tree → MatchOption o (Refuses s Collection f r s' ⊎ ((r ≡ r') × (s' ≡ t))) (λ e. Refuses s Collection e r s')
-    → (q : List ℕ) → value_at s'.tree q ≡ value_at s.tree q
-releases_by None s t s' r r' f k c q = elim c [
-  | inl d ↦ ap (λ x. value_at x.tree q) d.1
-  | inr d ↦ ap (λ x. value_at x.tree q) d.1 ∙ ap (λ x. value_at x q) k
-]
-releases_by (Some e) s t s' r r' f k c q = ap (λ x. value_at x.tree q) c.1
-
-pub releases_map : (s s' : State ℕ) (who : ℕ) (r : Report ℕ) → Releases s who r s' → AsMap s Release r s'
-releases_map s s' who r c = λ m rep. (tt, stays m s s' (releases_by (of_leave s.collector who) s (record s { collector = released s.collector who }) s' r _ _ refl c) rep)
-
-flushes_by : (o : Option Refusal) (s t s' : State ℕ) (r : Report ℕ) (f : Refusal) → t.tree ≡ s.tree → MatchOption o (Refuses s Collection f r s' ⊎ Collects t r s') (λ e. Refuses s Collection e r s')
-    → (q : List ℕ) → value_at s'.tree q ≡ value_at s.tree q
-flushes_by None s t s' r f k c q = elim c [
-  | inl d ↦ ap (λ x. value_at x.tree q) d.1
-  | inr d ↦ d.pairs q ∙ ap (λ x. value_at x q) k
-]
-flushes_by (Some e) s t s' r f k c q = ap (λ x. value_at x.tree q) c.1
-
-pub flushes_map : (s s' : State ℕ) (who : ℕ) (r : Report ℕ) → Flushes s who r s' → AsMap s Flush r s'
-flushes_map s s' who r c = λ m rep. (tt, stays m s s' (flushes_by (of_guard s.collector who) s (record s { collector = flushed s.collector who }) s' r _ refl c) rep)
+pub flushes_map : (s s' : State ℕ) (who : ℕ) (r : Report ℕ) → Serves s who turn.Flush r s' → AsMap s Flush r s'
+flushes_map s s' who r c = λ m rep. (tt, stays m s s' c.pairs rep)
 
 refused_get : (s s' : State ℕ) (r : Report ℕ) (key : ℕ) (e : Refusal) (m : FinMap nat_cmp ℕ) → Refuses s Tree e r s' → Represents m s → IsReply m (Get key) r.outcome × Represents (after m (Get key) r.outcome) s'
 refused_get s s' r key e m c rep =
@@ -96,41 +71,53 @@ gets_by None s s' r key m lt c rep =
 gets_by (Some e) s s' r key m lt c rep = refused_get s s' r key e m c rep
 
 pub gets_map : (s s' : State ℕ) (who key : ℕ) (r : Report ℕ) → key < 2 ^ 64 → Gets s who key r s' → AsMap s (Get key) r s'
-gets_map s s' who key r lt c = λ m rep. gets_by (of_guard s.collector who) s s' r key m lt c rep
+gets_map s s' who key r lt c = λ m rep. gets_by (of_guard s.tree.collector who) s s' r key m lt c rep
 
-refused_insert : (s t s' : State ℕ) (r : Report ℕ) (key value : ℕ) (kind : Kind) (e : Refusal) (m : FinMap nat_cmp ℕ) → t.tree ≡ s.tree → Refuses t kind e r s' → Represents m s
+refused_insert : (s t s' : State ℕ) (r : Report ℕ) (key value : ℕ) (kind : Kind) (e : Refusal) (m : FinMap nat_cmp ℕ) → ((q : List ℕ) → value_at t.tree q ≡ value_at s.tree q) → Refuses t kind e r s' → Represents m s
     → IsReply m (Insert key value) r.outcome × Represents (after m (Insert key value) r.outcome) s'
 refused_insert s t s' r key value kind e m k c rep =
     let P : Report ℕ → Type 0 = λ x. IsReply m (Insert key value) x.outcome × Represents (after m (Insert key value) x.outcome) s' in
-    subst P (sym c.0) (tt, stays m s s' (λ q. ap (λ x. value_at x.tree q) c.1 ∙ ap (λ x. value_at x q) k) rep)
+    subst P (sym c.0) (tt, stays m s s' (λ q. ap (λ (x : State ℕ). value_at x.tree q) c.1 ∙ k q) rep)
 
-answered_insert : (s t s' : State ℕ) (r : Report ℕ) (key value : ℕ) (m : FinMap nat_cmp ℕ) → key < 2 ^ 64 → t.tree ≡ s.tree → (r ≡ answered (Inserted (standing t key))) × Adds (heap t.tree) (heap s'.tree) (bytes_of key) value → Represents m s
+answered_insert : (s t s' : State ℕ) (r : Report ℕ) (key value : ℕ) (m : FinMap nat_cmp ℕ) → key < 2 ^ 64 → ((q : List ℕ) → value_at t.tree q ≡ value_at s.tree q) → (r ≡ answered (Inserted (standing t key))) × Adds (heap t.tree) (heap s'.tree) (bytes_of key) value → Represents m s
     → IsReply m (Insert key value) r.outcome × Represents (after m (Insert key value) r.outcome) s'
 answered_insert s t s' r key value m lt k c rep =
     let P : Report ℕ → Type 0 = λ x. IsReply m (Insert key value) x.outcome × Represents (after m (Insert key value) x.outcome) s' in
-    let rep' : Represents m t = stays m s t (λ q. ap (λ x. value_at x q) k) rep in
+    let rep' : Represents m t = stays m s t k rep in
     subst P (sym c.0) (ap Inserted (sym (rep' key lt)), puts m t s' key value lt c.1 rep')
 
-inserts_by : (o : Option Refusal) (L N : Type 0) (s t s' : State ℕ) (r : Report ℕ) (who key value : ℕ) (l f : Refusal) (m : FinMap nat_cmp ℕ) → key < 2 ^ 64 → t.tree ≡ s.tree
-    → MatchOption o ((L × Refuses s Tree l r s') ⊎ (N × (Refuses s Collection f r s' ⊎ InsertsBy t who key value r s'))) (λ e. Refuses s Tree e r s') → Represents m s
+-- securing a place leaves all pairs
+pub secured_pairs : (s t : State ℕ) (who : ℕ) → Secures s who t → (q : List ℕ) → value_at t.tree q ≡ value_at s.tree q
+secured_pairs s t who c q = ap (λ st. walk (λ n. node_of (S.value_at st n)) 8 top q) c.store
+
+inserts_by : (o : Option Refusal) (L N : Type 0) (s s' : State ℕ) (r : Report ℕ) (who key value : ℕ) (l f : Refusal) (m : FinMap nat_cmp ℕ) → key < 2 ^ 64
+    → MatchOption o ((L × Refuses s Tree l r s') ⊎ (N × (Refuses s Collection f r s' ⊎ ((t : State ℕ) × Secures s who t × InsertsBy t who key value r s')))) (λ e. Refuses s Tree e r s') → Represents m s
     → IsReply m (Insert key value) r.outcome × Represents (after m (Insert key value) r.outcome) s'
-inserts_by None L N s t s' r who key value l f m lt k c rep = elim c [
-  | inl d ↦ refused_insert s s s' r key value Tree l m refl d.1 rep
+inserts_by None L N s s' r who key value l f m lt c rep = elim c [
+  | inl d ↦ refused_insert s s s' r key value Tree l m (λ q. refl) d.1 rep
   | inr d ↦ elim d.1 [
-    | inl e ↦ refused_insert s s s' r key value Collection f m refl e rep
-    | inr e ↦ elim e [
-      | inl g ↦ refused_insert s t s' r key value Tree g.0 m k g.2 rep
-      | inr g ↦ answered_insert s t s' r key value m lt k g rep
+    | inl e ↦ refused_insert s s s' r key value Collection f m (λ q. refl) e rep
+    | inr e ↦ elim e.2 [
+      | inl g ↦ refused_insert s e.0 s' r key value Tree g.0 m (secured_pairs s e.0 who e.1) g.2 rep
+      | inr g ↦ answered_insert s e.0 s' r key value m lt (secured_pairs s e.0 who e.1) g rep
     ]
   ]
 ]
-inserts_by (Some e) L N s t s' r who key value l f m lt k c rep = refused_insert s s s' r key value Tree e m refl c rep
+inserts_by (Some e) L N s s' r who key value l f m lt c rep = refused_insert s s s' r key value Tree e m (λ q. refl) c rep
 
 pub inserts_map : (s s' : State ℕ) (who key value : ℕ) (r : Report ℕ) → key < 2 ^ 64 → Inserts s who key value r s' → AsMap s (Insert key value) r s'
-inserts_map s s' who key value r lt c = λ m rep. inserts_by (of_guard s.collector who) _ _ s (record s { collector = secured s.collector who }) s' r who key value _ _ m lt refl c rep
+inserts_map s s' who key value r lt c = λ m rep. inserts_by (of_guard s.tree.collector who) _ _ s s' r who key value _ _ m lt c rep
 
 opened_empty : (l : Limits) (charge limit : ℕ) (s : State ℕ) → s ≡ opened l charge limit → Represents empty s
 opened_empty l charge limit s e = λ key lt. get-empty nat_cmp key ∙ sym (ap (λ x. standing x key) e)
 
 pub opens_with : (l : Limits) (charge limit : ℕ) (s : State ℕ) → AreAllowed l → charge + 2104 ≤ limit → s ≡ opened l charge limit → Opens l charge limit (Ok s)
 opens_with l charge limit s a b e = (a, b, e, opened_empty l charge limit s e)
+
+-- a refusal that left the tree left the charge
+pub all_unchanged : {X : Type 0} (o : Option X) (s s' : State ℕ) (bytes : ℕ) → IfSome o (λ f. s'.tree ≡ s.tree) → s'.charge + bytes ≡ s.charge → sizes s'.tree + bytes ≡ sizes s.tree → s'.base ≡ s.base → s'.limit ≡ s.limit → IfSome o (λ f. s' ≡ s)
+all_unchanged None s s' bytes k c z b l = tt
+all_unchanged (Some f) s s' bytes k c z b l =
+    let e : sizes s'.tree ≡ sizes s.tree = ap sizes k in
+    let d : s'.charge ≡ s.charge = omega (arith, c, z, e) in
+    ap (λ x. record s' { tree = x }) k ∙ (ap (λ x. record s' { tree = s.tree; charge = x }) d ∙ (ap (λ x. record s' { tree = s.tree; charge = s.charge; base = x }) b ∙ ap (λ x. record s' { tree = s.tree; charge = s.charge; base = s.base; limit = x }) l))

@@ -1,5 +1,5 @@
 -- The machine of tree and collector, and what its calls make of it.
-use Rattle.std.specs.Prelude.{◌≡◌, ◌≢◌, ℕ, ◌+◌, ◌^◌, ◌<◌, ◌≤◌, true, false, List, [], ◌∷◌, length, Option, Some, MatchOption, replicate, slice_index, slice_index_or, drop, ◌⊎◌, Result, MatchResult, MatchBool}
+use Rattle.std.specs.Prelude.{◌≡◌, ℕ, ◌+◌, ◌^◌, ◌<◌, ◌≤◌, true, false, List, [], ◌∷◌, length, Option, Some, None, IfSome, MatchOption, ◌⊎◌, Result, MatchResult}
 use Rattle.std.specs.Int.{to_be_bytes, w64}
 use Rattle.std.specs.FinMap.{FinMap, get, insert, empty}
 use Rattle.std.specs.Ordering.{nat_cmp}
@@ -15,17 +15,19 @@ use Rattle.joint.specs.declared.steps.Done.{Done as Replies}
 use Rattle.joint.specs.declared.steps.Done.TheVariants.{Unit as Nothing, Get as Got, Insert as Inserted}
 use Rattle.joint.specs.declared.steps.Op.{Op}
 use Rattle.joint.specs.declared.steps.Op.TheVariants.{Pin, Unpin, Repin, Flush, Release, Get, Insert}
-use Rattle.joint.specs.declared.form.Form.TheVariants.{Node256}
-use Rattle.joint.specs.declared.participant.Sealed.{Sealed}
 use Rattle.joint.specs.Limits.{AreAllowed}
-use Rattle.joint.specs.Collector.{Clock, place, registered, pinned, pin_collects, unpinned, repinned, released, secured, flushed, advanced, blank, no_bag, IsRegistered}
-use Rattle.joint.specs.Refusals.{of_pin, of_guard, of_leave}
-use Rattle.joint.specs.Forest.{Forest, heap, cell_at, value_at, sizes, plan, is_free, Adds, Spares, Stands}
-use Rattle.joint.specs.declared.cell.Plan.{Plan}
-use Rattle.joint.specs.declared.cell.Plan.TheVariants.{Overwrite, Add, Link, Grow, Later}
+use Rattle.crossbeam_epoch.specs.declared.fault.Fault.{Fault}
+use Rattle.crossbeam_epoch.specs.declared.report.Op.{Op as Turn}
+use Rattle.crossbeam_epoch.specs.declared.report.Op.TheVariants as turn
+use Rattle.crossbeam_epoch.specs.Machine.{place, registered}
+use Rattle.crossbeam_epoch.specs.Store.{Store, is_usable}
+use Rattle.joint.specs.Collector.{IsWhole}
+use Rattle.joint.specs.Refusals.{of_guard, refusal_of}
+use Rattle.joint.specs.Forest.{Forest, Clock, heap, value_at, sizes, plan, planted, Adds, Spares, Stands}
+use Rattle.joint.specs.declared.plan.Plan.{Plan}
+use Rattle.joint.specs.declared.plan.Plan.TheVariants.{Overwrite, Add, Link, Grow, Later}
 
 pub record State (V : Type 0) : Type 0 where
-  pub collector : Clock
   pub tree : Forest V
   -- the bytes that the allocator has charged, those of them that it had charged before, and its limit
   pub charge : ℕ
@@ -59,20 +61,7 @@ Represents m s = (key : ℕ) → key < 2 ^ 64 → get m key ≡ standing s key
 
 -- a new index: a root alone, charged
 abbrev pub opened : Limits → ℕ → ℕ → State ℕ
-opened l charge limit = record {
-  collector = record { epoch = 0; epoch_max = l.epoch.epoch_max; expiry = l.epoch.expiry; table = replicate l.epoch.participants blank; queue = [] };
-  tree = record {
-    cells = record { turn = 0; node = Some (record { prefix = []; form = Node256; edges = [] }); obsolete = false } ∷ [];
-    free = [];
-    most = l.epoch.cells;
-    turn_max = l.epoch.turn_max;
-    waiting = 0;
-    waiting_bytes = 0;
-  };
-  charge = charge + 2104;
-  base = charge;
-  limit = limit;
-}
+opened l charge limit = record { tree = planted l.epoch; charge = charge + 2104; base = charge; limit = limit }
 
 -- why no index was made, in the order of the causes
 abbrev pub IsUnopened : Limits → ℕ → ℕ → Refusal → Type 0
@@ -89,9 +78,14 @@ Opens l charge limit r = MatchResult r (λ s. AreAllowed l × (charge + 2104 ≤
 abbrev pub quiet : Kind → Outcome ℕ → Report ℕ
 quiet kind outcome = record { kind = kind; decided = false; kept = false; destroyed = 0; outcome = outcome }
 
+abbrev pub IsRegistered : State ℕ → ℕ → Type 0
+IsRegistered s who = (place s.tree.collector who).registered ≡ true
+
 abbrev pub RegistersBy : State ℕ → Outcome ℕ → State ℕ → Type 0
-RegistersBy s (Registered n) s' = (n < length s.collector.table) × ((place s.collector n).registered ≡ false) × ((q : ℕ) → q < n → IsRegistered s.collector q) × (s' ≡ record s { collector = registered s.collector n })
-RegistersBy s (Refused e) s' = (e ≡ TableFull) × ((q : ℕ) → q < length s.collector.table → IsRegistered s.collector q) × (s' ≡ s)
+RegistersBy s (Registered n) s' =
+    (n < length s.tree.collector.table) × ((place s.tree.collector n).registered ≡ false) × ((q : ℕ) → q < n → IsRegistered s q)
+    × (s' ≡ record s { tree = record s.tree { collector = registered s.tree.collector n } })
+RegistersBy s (Refused e) s' = (e ≡ TableFull) × ((q : ℕ) → q < length s.tree.collector.table → IsRegistered s q) × (s' ≡ s)
 RegistersBy s (Done d) s' = ⊥
 
 -- the lowest free place was given out, or none was free
@@ -99,67 +93,31 @@ pub record Registers (s : State ℕ) (r : Report ℕ) (s' : State ℕ) : Type 0 
   pub report : r ≡ quiet Collection r.outcome
   pub given : RegistersBy s r.outcome s'
 
--- only the tree and the charge changed
-pub record IsRestSame (s s' : State ℕ) : Type 0 where
-  pub collector : s'.collector ≡ s.collector
-  pub base : s'.base ≡ s.base
-  pub limit : s'.limit ≡ s.limit
-
--- the bag has no job of this cell
-abbrev pub Misses : Sealed → ℕ → Type 0
-Misses bag c = (j : ℕ) → j < length bag.jobs.items → slice_index bag.jobs.items j ≢ c
-
--- so many bags were taken off the queue, each of them old enough at the answered epoch, and no cell changed but those of their jobs
-pub record Empties (s : State ℕ) (answered : ℕ) (s' : State ℕ) (n : ℕ) : Type 0 where
-  pub queue : s'.collector.queue ≡ drop n s.collector.queue
-  pub old_enough : (i : ℕ) → i < n → (slice_index_or s.collector.queue i no_bag).seal + s.collector.expiry ≤ answered
-  pub cells : (c : ℕ) → ((i : ℕ) → i < n → Misses (slice_index_or s.collector.queue i no_bag) c) → cell_at s'.tree c ≡ cell_at s.tree c
-
--- a collection: the epoch moves on where it may, nodes that waited are destroyed, and all pairs stay
-pub record Collects (s : State ℕ) (r : Report ℕ) (s' : State ℕ) : Type 0 where
-  pub report : r ≡ record (quiet Collection (Done Nothing)) { destroyed = r.destroyed }
-  pub destroyed : s'.tree.waiting + r.destroyed ≡ s.tree.waiting
-  pub spared : Spares s.tree s'.tree
-  pub bags : (n : ℕ) × (n ≤ 8) × Empties s s'.collector.epoch s' n
-  pub pairs : (key : List ℕ) → value_at s'.tree key ≡ value_at s.tree key
-  pub collector : s'.collector ≡ record (advanced s.collector) { queue = s'.collector.queue }
-  pub base : s'.base ≡ s.base
-  pub limit : s'.limit ≡ s.limit
-
 -- the call was refused for this cause, and changed nothing
 abbrev pub Refuses : State ℕ → Kind → Refusal → Report ℕ → State ℕ → Type 0
 Refuses s kind e r s' = (r ≡ quiet kind (Refused e)) × (s' ≡ s)
 
-abbrev pub Pins : State ℕ → ℕ → Report ℕ → State ℕ → Type 0
-Pins s who r s' =
-    let t : State ℕ = record s { collector = pinned s.collector who } in
-    MatchOption (of_pin s.collector who)
-    (MatchBool (pin_collects s.collector who) (Collects t r s') ((r ≡ quiet Collection (Done Nothing)) × (s' ≡ t)))
-    (λ e. Refuses s Collection e r s')
+abbrev pub outcome_of : Option Fault → Outcome ℕ
+outcome_of None = Done Nothing
+outcome_of (Some f) = Refused (refusal_of f)
 
-abbrev pub Unpins : State ℕ → ℕ → Report ℕ → State ℕ → Type 0
-Unpins s who r s' =
-    MatchOption (of_guard s.collector who)
-    ((r ≡ quiet Collection (Done Nothing)) × (s' ≡ record s { collector = unpinned s.collector who }))
-    (λ e. Refuses s Collection e r s')
+-- A whole call of the collector, refused for its first cause or at its end. All pairs stay, and a refusal changes nothing.
+pub record Serves (s : State ℕ) (who : ℕ) (op : Turn) (r : Report ℕ) (s' : State ℕ) : Type 0 where
+  pub fault : Option Fault
+  pub call : IsWhole s.tree.collector who op fault s'.tree.collector
+  pub report : r ≡ record (quiet Collection (outcome_of fault)) { destroyed = r.destroyed }
+  pub destroyed : s'.tree.waiting + r.destroyed ≡ s.tree.waiting
+  pub spared : Spares s.tree s'.tree
+  pub pairs : (key : List ℕ) → value_at s'.tree key ≡ value_at s.tree key
+  pub unchanged : IfSome fault (λ f. s' ≡ s)
+  pub base : s'.base ≡ s.base
+  pub limit : s'.limit ≡ s.limit
 
-abbrev pub Repins : State ℕ → ℕ → Report ℕ → State ℕ → Type 0
-Repins s who r s' =
-    MatchOption (of_guard s.collector who)
-    ((r ≡ quiet Collection (Done Nothing)) × (s' ≡ record s { collector = repinned s.collector who }))
-    (λ e. Refuses s Collection e r s')
-
-abbrev pub Releases : State ℕ → ℕ → Report ℕ → State ℕ → Type 0
-Releases s who r s' =
-    MatchOption (of_leave s.collector who)
-    (Refuses s Collection Memory r s' ⊎ ((r ≡ quiet Collection (Done Nothing)) × (s' ≡ record s { collector = released s.collector who })))
-    (λ e. Refuses s Collection e r s')
-
-abbrev pub Flushes : State ℕ → ℕ → Report ℕ → State ℕ → Type 0
-Flushes s who r s' =
-    MatchOption (of_guard s.collector who)
-    (Refuses s Collection Memory r s' ⊎ Collects (record s { collector = flushed s.collector who }) r s')
-    (λ e. Refuses s Collection e r s')
+-- a place is secured in the worker's bag, and nothing else changed
+pub record Secures (s : State ℕ) (who : ℕ) (s' : State ℕ) : Type 0 where
+  pub call : IsWhole s.tree.collector who (turn.Secure 1) None s'.tree.collector
+  pub rest : s' ≡ record s { tree = record s.tree { collector = s'.tree.collector } }
+  pub store : s'.tree.collector.store ≡ s.tree.collector.store
 
 -- a point call got this answer
 abbrev pub answered : Replies ℕ → Report ℕ
@@ -167,15 +125,15 @@ answered reply = record { kind = Tree; decided = true; kept = false; destroyed =
 
 abbrev pub Gets : State ℕ → ℕ → ℕ → Report ℕ → State ℕ → Type 0
 Gets s who key r s' =
-    MatchOption (of_guard s.collector who)
+    MatchOption (of_guard s.tree.collector who)
     ((r ≡ answered (Got (standing s key))) × (s' ≡ s))
     (λ e. Refuses s Tree e r s')
 
 -- why no node of a size was made, in the order of the causes, by the charge, its limit and the cells
 abbrev pub IsRefusedNode : ℕ → ℕ → ℕ → Forest ℕ → Refusal → Type 0
 IsRefusedNode charge limit size t (Budget a b c) = (limit < charge + size) × (a ≡ charge) × (b ≡ size) × (c ≡ limit)
-IsRefusedNode charge limit size t Cells = (charge + size ≤ limit) × ((c : ℕ) → is_free t c ≡ false)
-IsRefusedNode charge limit size t Memory = (charge + size ≤ limit) × ((c : ℕ) × (is_free t c ≡ true))
+IsRefusedNode charge limit size t Cells = (charge + size ≤ limit) × ((i : ℕ) → is_usable t.collector.store i ≡ false)
+IsRefusedNode charge limit size t Memory = (charge + size ≤ limit) × ((i : ℕ) × (is_usable t.collector.store i ≡ true))
 IsRefusedNode charge limit size t _ = ⊥
 
 abbrev pub IsUnmade : State ℕ → ℕ → Refusal → Type 0
@@ -196,9 +154,9 @@ InsertsBy s who key value r s' =
 
 abbrev pub Inserts : State ℕ → ℕ → ℕ → ℕ → Report ℕ → State ℕ → Type 0
 Inserts s who key value r s' =
-    MatchOption (of_guard s.collector who)
+    MatchOption (of_guard s.tree.collector who)
     (((plan (heap s.tree) (bytes_of key) ≡ Later) × Refuses s Tree OfLater r s')
-    ⊎ ((¬ (plan (heap s.tree) (bytes_of key) ≡ Later)) × (Refuses s Collection Memory r s' ⊎ InsertsBy (record s { collector = secured s.collector who }) who key value r s')))
+    ⊎ ((¬ (plan (heap s.tree) (bytes_of key) ≡ Later)) × (Refuses s Collection Memory r s' ⊎ ((t : State ℕ) × Secures s who t × InsertsBy t who key value r s'))))
     (λ e. Refuses s Tree e r s')
 
 -- the map after a call with this outcome
@@ -233,11 +191,11 @@ AsMap s op r s' = (m : FinMap nat_cmp ℕ) → Represents m s → IsReply m op r
 
 -- what a call of a worker answers, and what it makes of the machine
 abbrev pub CallsBy : State ℕ → ℕ → Op ℕ → Report ℕ → State ℕ → Type 0
-CallsBy s who Pin r s' = Pins s who r s'
-CallsBy s who Unpin r s' = Unpins s who r s'
-CallsBy s who Repin r s' = Repins s who r s'
-CallsBy s who Flush r s' = Flushes s who r s'
-CallsBy s who Release r s' = Releases s who r s'
+CallsBy s who Pin r s' = Serves s who turn.Pin r s'
+CallsBy s who Unpin r s' = Serves s who turn.Unpin r s'
+CallsBy s who Repin r s' = Serves s who turn.Repin r s'
+CallsBy s who Flush r s' = Serves s who turn.Flush r s'
+CallsBy s who Release r s' = Serves s who turn.Release r s'
 CallsBy s who (Get key) r s' = Gets s who key r s'
 CallsBy s who (Insert key value) r s' = Inserts s who key value r s'
 

@@ -1,17 +1,25 @@
--- Which refusal a call gets, the first of its order.
-use Rattle.std.specs.Prelude.{ℕ, ◌==◌, Option, Some, None, if◌then◌else◌}
-use Rattle.joint.specs.Collector.{Clock, place, is_pinned}
+-- Which refusal a call gets.
+use Rattle.std.specs.Prelude.{ℕ, Option, Some, None, is_some, if◌then◌else◌}
+use Rattle.crossbeam_epoch.specs.declared.fault.Fault.{Fault}
+use Rattle.crossbeam_epoch.specs.declared.fault.Fault.TheVariants as fault
+use Rattle.crossbeam_epoch.specs.Machine.{place}
 use Rattle.joint.specs.declared.refusal.Refusal.{Refusal}
-use Rattle.joint.specs.declared.refusal.Refusal.TheVariants.{Unknown, Count, Unpinned, GuardOut}
+use Rattle.joint.specs.declared.refusal.Refusal.TheVariants as refusal
+use Rattle.joint.specs.Forest.{Clock}
 
--- of a pin
-abbrev pub of_pin : Clock → ℕ → Option Refusal
-of_pin s who = if (place s who).registered then (if (place s who).guards == 65535 then Some Count else None) else Some Unknown
+-- the first refusal of a call on the tree, which wants a pin
+abbrev pub of_guard : {V : Type 0} → Clock V → ℕ → Option Refusal
+of_guard s who =
+    if (place s who).registered then (if is_some (place s who).word then None else Some refusal.Unpinned)
+    else Some refusal.Unknown
 
--- of a call that wants a pin
-abbrev pub of_guard : Clock → ℕ → Option Refusal
-of_guard s who = if (place s who).registered then (if is_pinned s who then None else Some Unpinned) else Some Unknown
-
--- of a leave
-abbrev pub of_leave : Clock → ℕ → Option Refusal
-of_leave s who = if (place s who).registered then (if is_pinned s who then Some GuardOut else None) else Some Unknown
+-- the refusal that a fault of the collector is told as
+abbrev pub refusal_of : Fault → Refusal
+refusal_of fault.Memory = refusal.Memory
+refusal_of fault.Unpinned = refusal.Unpinned
+refusal_of fault.Count = refusal.Count
+refusal_of fault.GuardOut = refusal.GuardOut
+refusal_of fault.TableFull = refusal.TableFull
+refusal_of fault.CellsFull = refusal.Cells
+refusal_of fault.Limits = refusal.Limits
+refusal_of _ = refusal.Unknown

@@ -1,10 +1,12 @@
 //! What hangs at a byte of a node.
 
+use crossbeam_epoch::Name;
+
 /// A child of a node.
 #[derive(Clone, Copy, Debug, PartialEq, Eq, Drop)]
 pub enum Child<P> {
-    /// The node in this cell.
-    Node(u32),
+    /// The node of this name.
+    Node(Name),
     /// A value, at the last byte of its key.
     Value(P),
 }

@@ -2,21 +2,21 @@
 #![tactic(auto)]
 
 mod allocator;
-mod cell;
 mod child;
-mod collector;
 mod form;
 mod limits;
 mod node;
-mod participant;
+mod plan;
 mod prefix;
 mod refusal;
+mod slot;
 mod steps;
 mod tree;
 mod world;
 
 pub use allocator::{Allocator, DefaultAllocator, OOMError};
-pub use limits::{EpochLimits, Limits};
+pub use crossbeam_epoch::Limits as EpochLimits;
+pub use limits::Limits;
 pub use refusal::Refusal;
 pub use steps::{Done, Event, Kind, Op, Outcome, Report, Step};
 pub use world::World;

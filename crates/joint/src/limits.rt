@@ -3,25 +3,11 @@
 ghost use Rattle.std.specs.Prelude.{◌≡◌, ◌↔◌, IsTrue};
 ghost use Rattle.joint.specs.Limits.{AreAllowed, usual};
 
-/// Limits of the collector and its cells.
-#[derive(Clone, Copy, Debug, PartialEq, Eq, Drop)]
-pub struct EpochLimits {
-    /// Workers that can be registered at once, 1 to 256.
-    pub participants: u32,
-    /// Places for nodes, 1 to 16,777,215.
-    pub cells: u32,
-    /// The turn after which a cell is never used again.
-    pub turn_max: u32,
-    /// The epoch at which the epoch stops, 3 to 2^62.
-    pub epoch_max: u64,
-    /// Epochs between a bag's seal and the call of its jobs: 2.
-    pub expiry: u64,
-}
-
 /// Limits of an index.
 #[derive(Clone, Copy, Debug, PartialEq, Eq, Drop)]
 pub struct Limits {
-    pub epoch: EpochLimits,
+    /// Of the collector and its cells. Its expiry is 2.
+    pub epoch: crossbeam_epoch::Limits,
     /// The greatest version of a node, 1 to 2^60 - 1.
     pub version_max: u64,
     /// The name of a threaded index, which its caller chooses.
@@ -34,7 +20,7 @@ impl Limits {
         ensures { result ≡ usual participants cells }
     {
         Limits {
-            epoch: EpochLimits {
+            epoch: crossbeam_epoch::Limits {
                 participants,
                 cells,
                 turn_max: u32::MAX,

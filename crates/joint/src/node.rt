@@ -2,12 +2,14 @@
 
 ghost use Rattle.std.specs.Prelude.{◌≡◌, ◌≤◌, ◌<◌, ◌+◌, ◌==◌, [], ℕ, length, IfOk, OnOk, nat_le, None, Some, if◌then◌else◌, is_some, true, ◌≢◌};
 ghost use Rattle.std.specs.Prelude.{IfSome, slice_index_or, unwrap_or};
-ghost use Rattle.joint.specs.Walk.{Body, child_at, no_edge};
+ghost use Rattle.std.specs.Prelude.{slice_get};
+ghost use Rattle.joint.specs.Walk.{Body, child_at, no_edge, names_in};
 ghost use Rattle.joint.specs.Form.{capacity_of};
 
 use crate::child::{Child, Edge};
 use crate::form::Form;
 use crate::prefix::Prefix;
+use crossbeam_epoch::Name;
 use std::alloc::{AllocError, Global};
 use std::marker::Model;
 
@@ -93,6 +95,22 @@ impl Node<u64> {
             Some(at) => Some(self.edges[at].child),
             None => None,
         }
+    }
+
+    /// The i-th name among its children.
+    pub fn link(&self, i: u32) -> Option<Name>
+        ensures { result ≡ slice_get (names_in self.now.edges) i }
+    {
+        let mut left = i;
+        for edge in self.edges.iter() {
+            if let Child::Node(name) = edge.child {
+                if left == 0 {
+                    return Some(name);
+                }
+                left -= 1;
+            }
+        }
+        None
     }
 
     /// The index of the child at the byte.

@@ -3,31 +3,32 @@
 ghost use Rattle.std.specs.Prelude.{◌≡◌, ◌≢◌, ◌≤◌, ◌<◌, ◌+◌, ◌^◌, ℕ, MatchResult, IfOk, Some, None, true, false, length, OnErr, OnOk, IfErr, ◌⊎◌, []};
 ghost use Rattle.joint.specs.Form.{size_of};
 ghost use Rattle.std.specs.List.{sum_by};
-ghost use Rattle.joint.specs.Forest.{sizes, spare, is_free, value_at, heap, plan, waits, waiting_size, Takes, Comes, Spares, IsAsBefore, cell_at};
-ghost use Rattle.joint.specs.Collector.{IsRegistered, place, advanced};
-ghost use Rattle.joint.specs.Machine.{State, Opens, Registers, charged_of, waiting_of, waiting_bytes_of, quiet, Calls, CallsBy, AsMap, Misses};
-ghost use Rattle.joint.specs.Machine.{Empties, Pins, Unpins, Repins, Releases, Flushes, Gets, Inserts, Collects, IsRestSame, IsUnmade, IsRefusedNode, of_plan};
-ghost use Rattle.joint.specs.Machine.{IsCharged, answered};
+ghost use Rattle.crossbeam_epoch.specs.Machine.{place as holder};
+ghost use Rattle.crossbeam_epoch.specs.Store.{is_usable};
+ghost use Rattle.joint.specs.Walk.{top};
+ghost use Rattle.joint.specs.Forest.{sizes, value_at, heap, plan, waits, waiting_size, cells_of, Takes, Comes};
+ghost use Rattle.joint.specs.Collector.{IsIdle};
+ghost use Rattle.joint.specs.Refusals.{of_guard, refusal_of};
+ghost use Rattle.joint.specs.Machine.{State, Opens, Registers, charged_of, waiting_of, waiting_bytes_of, quiet, Calls, CallsBy, AsMap};
+ghost use Rattle.joint.specs.Machine.{Serves, Gets, Inserts, Secures, IsUnmade, IsRefusedNode, of_plan, IsCharged, answered};
 
 use crate::allocator::{Allocator, OOMError};
-use crate::cell::Plan;
 use crate::child::Child;
-use crate::collector::Collector;
 use crate::form::Form;
 use crate::limits::Limits;
 use crate::node::Node;
-use crate::participant::Sealed;
+use crate::plan::Plan;
 use crate::prefix::Prefix;
 use crate::refusal::Refusal;
 use crate::steps::{Done, Event, Kind, Op, Outcome, Report, Step};
 use crate::tree::Tree;
+use crossbeam_epoch::{Fault, Name};
 use std::alloc::{AllocError, Global};
 use std::marker::Model;
 
 /// An index whose removed nodes are reclaimed. Its workers register, pin, and then call.
 #[derive(Drop)]
 pub struct World<P, A: Allocator> {
-    collector: Collector,
     tree: Tree<P>,
     allocator: A,
     /// What the allocator had charged before the index was made, in bytes.
@@ -39,12 +40,13 @@ impl<P, A: Allocator> Model for World<P, A> {
     ghost use Rattle.std.specs.Prelude.{◌≡◌, ◌+◌};
     ghost use Rattle.joint.specs.Machine.{State};
     ghost use Rattle.joint.specs.Forest.{sizes, ShapeOf};
+    ghost use Rattle.joint.specs.Collector.{IsIdle};
 
     ghost Value = { State P };
 
-    ghost view = { λ w. record { collector = w.collector; tree = w.tree; charge = A.charge w.allocator; base = w.base; limit = A.most w.allocator } };
+    ghost view = { λ w. record { tree = w.tree; charge = A.charge w.allocator; base = w.base; limit = A.most w.allocator } };
 
-    ghost invariant = { λ w. (A.charge w.allocator ≡ w.base + sizes w.tree) × ShapeOf w.tree };
+    ghost invariant = { λ w. (A.charge w.allocator ≡ w.base + sizes w.tree) × ShapeOf w.tree × IsIdle w.tree.collector };
 }
 
 impl<A: Allocator + Drop> World<u64, A> {
@@ -60,16 +62,10 @@ impl<A: Allocator + Drop> World<u64, A> {
         if let Err(refusal) = charge(&mut allocator, Form::Node256) {
             return Err(refusal);
         }
-        let epoch = limits.epoch;
-        let Ok(collector) = Collector::new(alloc, epoch.participants, epoch.epoch_max, epoch.expiry)
-        else {
-            return Err(Refusal::Memory);
-        };
-        let Ok(tree) = Tree::new(alloc, epoch.cells, epoch.turn_max) else {
+        let Ok(tree) = Tree::new(alloc, limits.epoch) else {
             return Err(Refusal::Memory);
         };
         Ok(World {
-            collector,
             tree,
             allocator,
             base,
@@ -88,7 +84,7 @@ impl<A: Allocator + Drop> World<u64, A> {
     /// The nodes that left the tree and aren't destroyed yet.
     pub fn waiting(&self) -> u64
         ensures value { result ≡ waiting_of self.now }
-        ensures counted { result ≡ sum_by waits self.now.tree.cells }
+        ensures counted { result ≡ sum_by waits (cells_of self.now.tree) }
     {
         self.tree.waiting()
     }
@@ -96,7 +92,7 @@ impl<A: Allocator + Drop> World<u64, A> {
     /// The sizes of the nodes that left the tree and aren't destroyed yet, in bytes.
     pub fn waiting_bytes(&self) -> u64
         ensures value { result ≡ waiting_bytes_of self.now }
-        ensures summed { result ≡ sum_by waiting_size self.now.tree.cells }
+        ensures summed { result ≡ sum_by waiting_size (cells_of self.now.tree) }
     {
         self.tree.waiting_bytes()
     }
@@ -113,7 +109,7 @@ impl<A: Allocator + Drop> World<u64, A> {
     fn register(&mut self) -> Report<u64>
         ensures { Registers self.old result self.new }
     {
-        match self.collector.register() {
+        match self.tree.register() {
             Some(n) => report(Kind::Collection, Outcome::Registered(n)),
             None => report(Kind::Collection, Outcome::Refused(Refusal::TableFull)),
         }
@@ -142,71 +138,32 @@ impl<A: Allocator + Drop> World<u64, A> {
         ensures map { AsMap self.old op result self.new }
     {
         match op {
-            Op::Pin => self.pin(who),
-            Op::Unpin => self.unpin(who),
-            Op::Repin => self.repin(who),
-            Op::Flush => self.flush(who),
-            Op::Release => self.release(who),
+            Op::Pin => self.serve(who, crossbeam_epoch::Op::Pin),
+            Op::Unpin => self.serve(who, crossbeam_epoch::Op::Unpin),
+            Op::Repin => self.serve(who, crossbeam_epoch::Op::Repin),
+            Op::Flush => self.serve(who, crossbeam_epoch::Op::Flush),
+            Op::Release => self.serve(who, crossbeam_epoch::Op::Release),
             Op::Get(key) => self.get(who, key),
             Op::Insert(key, value) => self.insert(who, key, value),
         }
     }
 
-    fn pin(&mut self, who: u32) -> Report<u64>
-        ensures { Pins self.old who result self.new }
+    /// A whole call of the collector. The sizes of the nodes that it destroyed come off the charge.
+    fn serve(&mut self, who: u32, op: crossbeam_epoch::Op) -> Report<u64>
+        ensures { Serves self.old who op result self.new }
     {
-        match self.collector.pin(who) {
-            Ok(true) => self.collected(),
-            Ok(false) => report(Kind::Collection, Outcome::Done(Done::Unit)),
-            Err(refusal) => report(Kind::Collection, Outcome::Refused(refusal)),
-        }
-    }
-
-    fn unpin(&mut self, who: u32) -> Report<u64>
-        ensures { Unpins self.old who result self.new }
-    {
-        match self.collector.guarded(who) {
-            Ok(()) => {
-                self.collector.unpin(who);
-                report(Kind::Collection, Outcome::Done(Done::Unit))
-            }
-            Err(refusal) => report(Kind::Collection, Outcome::Refused(refusal)),
-        }
-    }
-
-    fn repin(&mut self, who: u32) -> Report<u64>
-        ensures { Repins self.old who result self.new }
-    {
-        match self.collector.guarded(who) {
-            Ok(()) => {
-                self.collector.repin(who);
-                report(Kind::Collection, Outcome::Done(Done::Unit))
-            }
-            Err(refusal) => report(Kind::Collection, Outcome::Refused(refusal)),
-        }
-    }
-
-    fn release(&mut self, who: u32) -> Report<u64>
-        ensures { Releases self.old who result self.new }
-    {
-        if let Err(refusal) = self.collector.may_leave(who) {
-            return report(Kind::Collection, Outcome::Refused(refusal));
-        }
-        match self.collector.release(who) {
-            Ok(()) => report(Kind::Collection, Outcome::Done(Done::Unit)),
-            Err(refusal) => report(Kind::Collection, Outcome::Refused(refusal)),
-        }
-    }
-
-    fn flush(&mut self, who: u32) -> Report<u64>
-        ensures { Flushes self.old who result self.new }
-    {
-        if let Err(refusal) = self.collector.guarded(who) {
-            return report(Kind::Collection, Outcome::Refused(refusal));
-        }
-        match self.collector.flush(who) {
-            Ok(()) => self.collected(),
-            Err(refusal) => report(Kind::Collection, Outcome::Refused(refusal)),
+        let ended = self.tree.call(who, op);
+        self.allocator.deallocate(ended.bytes);
+        let outcome = match ended.fault {
+            None => Outcome::Done(Done::Unit),
+            Some(fault) => Outcome::Refused(refusal_of(fault)),
+        };
+        Report {
+            kind: Kind::Collection,
+            decided: false,
+            kept: false,
+            destroyed: ended.destroyed,
+            outcome,
         }
     }
 
@@ -214,7 +171,7 @@ impl<A: Allocator + Drop> World<u64, A> {
         ensures steps { Gets self.now who key result self.now }
         ensures key { key < 2 ^ 64 }
     {
-        match self.collector.guarded(who) {
+        match self.tree.guarded(who) {
             Ok(()) => answered(Done::Get(self.tree.find(&key.to_be_bytes()))),
             Err(refusal) => report(Kind::Tree, Outcome::Refused(refusal)),
         }
@@ -224,7 +181,7 @@ impl<A: Allocator + Drop> World<u64, A> {
         ensures steps { Inserts self.old who key value result self.new }
         ensures key { key < 2 ^ 64 }
     {
-        if let Err(refusal) = self.collector.guarded(who) {
+        if let Err(refusal) = self.tree.guarded(who) {
             return report(Kind::Tree, Outcome::Refused(refusal));
         }
         let bytes = key.to_be_bytes();
@@ -232,7 +189,7 @@ impl<A: Allocator + Drop> World<u64, A> {
         if plan == Plan::Later {
             return report(Kind::Tree, Outcome::Refused(Refusal::Later));
         }
-        if let Err(refusal) = self.collector.secure(who) {
+        if let Err(refusal) = self.secure(who) {
             return report(Kind::Collection, Outcome::Refused(refusal));
         }
         let before = self.tree.find(&bytes);
@@ -242,10 +199,24 @@ impl<A: Allocator + Drop> World<u64, A> {
         }
     }
 
+    /// Secures a place in the worker's bag. Refused for want of memory alone.
+    fn secure(&mut self, who: u32) -> Result<(), Refusal>
+        requires { of_guard self.old.tree.collector who ≡ None }
+        ensures state { MatchResult result (λ _. Secures self.old who self.new) (λ _. self.new ≡ self.old) }
+        ensures cause { IfErr result (λ e. e ≡ Refusal.Memory) }
+        ensures guarded { of_guard self.new.tree.collector who ≡ None }
+        ensures room { OnOk result (length (holder self.new.tree.collector who).bag < 64) }
+    {
+        match self.tree.call(who, crossbeam_epoch::Op::Secure(1)).fault {
+            None => Ok(()),
+            Some(_) => Err(Refusal::Memory),
+        }
+    }
+
     fn carry_out(&mut self, who: u32, way: Plan, key: &[u8; 8], value: u64) -> Result<(), Refusal>
         requires planned { plan (heap self.old.tree) key.now ≡ way }
-        requires registered { IsRegistered self.old.collector who }
-        requires room { length (place self.old.collector who).bag.items < 64 }
+        requires guarded { of_guard self.old.tree.collector who ≡ None }
+        requires room { length (holder self.old.tree.collector who).bag < 64 }
         ensures comes { OnOk result (Comes self.old.tree self.new.tree key.now value) }
         ensures cause { IfErr result (λ e. (way ≡ Plan.Later) ⊎ of_plan self.old way e) }
         ensures refused { OnErr result (self.new ≡ self.old) }
@@ -260,11 +231,7 @@ impl<A: Allocator + Drop> World<u64, A> {
                 Ok(())
             }
             Plan::Link => self.link(key, value),
-            Plan::Grow(leaf) => {
-                self.grow(leaf, key, value)?;
-                self.collector.defer(who, leaf);
-                Ok(())
-            }
+            Plan::Grow(leaf) => self.grow(who, leaf, key, value),
             Plan::Later => Err(Refusal::Later),
         }
     }
@@ -273,14 +240,13 @@ impl<A: Allocator + Drop> World<u64, A> {
     fn link(&mut self, key: &[u8; 8], value: u64) -> Result<(), Refusal>
         requires { plan (heap self.old.tree) key.now ≡ Plan.Link }
         ensures comes { OnOk result (Comes self.old.tree self.new.tree key.now value) }
-        ensures rest { IsRestSame self.old self.new }
         ensures cause { IfErr result (λ e. IsUnmade self.old 64 e) }
         ensures refused { OnErr result (self.new ≡ self.old) }
     {
-        let at = spare_for(&self.tree, &mut self.allocator, Form::Node4)?;
+        room_for(&self.tree, &mut self.allocator, Form::Node4)?;
         match leaf_for(self.alloc, key, value) {
             Ok(node) => {
-                self.tree.link(at, node, key);
+                self.tree.link(node, key);
                 Ok(())
             }
             Err(_) => {
@@ -291,81 +257,24 @@ impl<A: Allocator + Drop> World<u64, A> {
     }
 
     /// A leaf of 16 with the key's value takes the place of a leaf.
-    fn grow(&mut self, leaf: u32, key: &[u8; 8], value: u64) -> Result<(), Refusal>
-        requires { plan (heap self.old.tree) key.now ≡ Plan.Grow leaf }
+    fn grow(&mut self, who: u32, leaf: Name, key: &[u8; 8], value: u64) -> Result<(), Refusal>
+        requires planned { plan (heap self.old.tree) key.now ≡ Plan.Grow leaf }
+        requires guarded { of_guard self.old.tree.collector who ≡ None }
+        requires room { length (holder self.old.tree.collector who).bag < 64 }
         ensures comes { OnOk result (Comes self.old.tree self.new.tree key.now value) }
-        ensures rest { IsRestSame self.old self.new }
         ensures cause { IfErr result (λ e. IsUnmade self.old 168 e) }
         ensures refused { OnErr result (self.new ≡ self.old) }
     {
-        let at = spare_for(&self.tree, &mut self.allocator, Form::Node16)?;
+        room_for(&self.tree, &mut self.allocator, Form::Node16)?;
         match self.tree.grown(self.alloc, leaf, key, value) {
             Ok(node) => {
-                self.tree.replace(at, node, key, leaf);
+                self.tree.replace(who, node, key, leaf);
                 Ok(())
             }
             Err(_) => {
                 self.allocator.deallocate(Form::Node16.size());
                 Err(Refusal::Memory)
             }
-        }
-    }
-
-    /// A collection, told in its report.
-    fn collected(&mut self) -> Report<u64>
-        ensures { Collects self.old result self.new }
-    {
-        let before = self.waiting();
-        self.collect();
-        Report {
-            kind: Kind::Collection,
-            decided: false,
-            kept: false,
-            destroyed: before - self.waiting(),
-            outcome: Outcome::Done(Done::Unit),
-        }
-    }
-
-    /// Tries to move the epoch on, and destroys the nodes of at most eight bags that are old enough.
-    fn collect(&mut self)
-        ensures waiting { self.new.tree.waiting ≤ self.old.tree.waiting }
-        ensures spared { Spares self.old.tree self.new.tree }
-        ensures bags { (n : ℕ) × (n ≤ 8) × Empties self.old self.new.collector.epoch self.new n }
-        ensures pairs { IsAsBefore self.old.tree self.new.tree }
-        ensures collector { self.new.collector ≡ record (advanced self.old.collector) { queue = self.new.collector.queue } }
-        ensures base { self.new.base ≡ self.old.base }
-        ensures limit { self.new.limit ≡ self.old.limit }
-    {
-        let answered = self.collector.advance();
-        for _ in 0..8u32 {
-            match self.collector.take_due(answered) {
-                Some(bag) => self.empty(bag),
-                None => break,
-            }
-        }
-    }
-
-    /// Destroys the nodes of a bag.
-    fn empty(&mut self, bag: Sealed)
-        ensures waiting { self.new.tree.waiting ≤ self.old.tree.waiting }
-        ensures unnamed { (c : ℕ) → Misses bag c → cell_at self.new.tree c ≡ cell_at self.old.tree c }
-        ensures spared { Spares self.old.tree self.new.tree }
-        ensures rest { IsRestSame self.old self.new }
-    {
-        for at in bag.jobs.as_slice() {
-            self.destroy(*at);
-        }
-    }
-
-    /// Destroys an obsolete node and gives its size back.
-    fn destroy(&mut self, at: u32)
-        ensures waiting { self.new.tree.waiting ≤ self.old.tree.waiting }
-        ensures others { (c : ℕ) → c ≢ at → cell_at self.new.tree c ≡ cell_at self.old.tree c }
-        ensures spared { Spares self.old.tree self.new.tree }
-        ensures rest { IsRestSame self.old self.new }
-    {
-        if let Some(form) = self.tree.destroy(at) {
-            self.allocator.deallocate(form.size());
         }
     }
 }
@@ -396,22 +305,37 @@ fn charge<A: Allocator>(allocator: &mut A, form: Form) -> Result<(), Refusal>
     }
 }
 
-/// The free cell for a node of the form, which is charged.
-fn spare_for<A: Allocator>(tree: &Tree<u64>, allocator: &mut A, form: Form) -> Result<u32, Refusal>
+/// A node of the form is charged, for which some cell is usable.
+fn room_for<A: Allocator>(tree: &Tree<u64>, allocator: &mut A, form: Form) -> Result<(), Refusal>
     ensures most { A.most allocator.new ≡ A.most allocator.old }
     ensures charge { MatchResult result (λ _. A.charge allocator.new ≡ A.charge allocator.old + size_of form)
         (λ _. A.charge allocator.new ≡ A.charge allocator.old) }
-    ensures spare { IfOk result (λ at. (spare tree.now ≡ Some at) × (is_free tree.now at ≡ true)) }
+    ensures usable { OnOk result ((i : ℕ) × (is_usable tree.now.collector.store i ≡ true)) }
     ensures fits { OnOk result (A.charge allocator.old + size_of form ≤ A.most allocator.old) }
     ensures cause { IfErr result (λ e. IsRefusedNode (A.charge allocator.old) (A.most allocator.old) (size_of form) tree.now e) }
 {
     charge(allocator, form)?;
-    match tree.spare() {
-        Some(at) => Ok(at),
-        None => {
-            allocator.deallocate(form.size());
-            Err(Refusal::Cells)
-        }
+    if tree.has_cell() {
+        Ok(())
+    } else {
+        allocator.deallocate(form.size());
+        Err(Refusal::Cells)
+    }
+}
+
+/// The refusal that a fault of the collector is told as.
+fn refusal_of(fault: Fault) -> Refusal
+    ensures { result ≡ refusal_of fault }
+{
+    match fault {
+        Fault::Memory => Refusal::Memory,
+        Fault::Unpinned => Refusal::Unpinned,
+        Fault::Count => Refusal::Count,
+        Fault::GuardOut => Refusal::GuardOut,
+        Fault::TableFull => Refusal::TableFull,
+        Fault::CellsFull => Refusal::Cells,
+        Fault::Limits => Refusal::Limits,
+        _ => Refusal::Unknown,
     }
 }
 

@@ -6,18 +6,28 @@ use Rattle.joint.proofs.world.World+u64+A.run.Goals as goal
 
 pub returns-in-Pin-clause-map : goal.returns-in-Pin-clause-map
 returns-in-Pin-clause-map g c =
-    let P : Op ℕ → Type 0 = λ o. AsMap c.args.self.now o c.pin.result c.pin.new.self in
-    subst P (sym c.in-Pin.is) (pins_map c.args.self.now c.pin.new.self c.args.who c.pin.result c.pin.ensures)
+    let P : Op ℕ → Type 0 = λ o. AsMap c.args.self.now o c.serve.result c.serve.new.self in
+    subst P (sym c.in-Pin.is) (pins_map c.args.self.now c.serve.new.self c.args.who c.serve.result c.serve.ensures)
 
 pub returns-in-Unpin-clause-map : goal.returns-in-Unpin-clause-map
 returns-in-Unpin-clause-map g c =
-    let P : Op ℕ → Type 0 = λ o. AsMap c.args.self.now o c.unpin.result c.unpin.new.self in
-    subst P (sym c.in-Unpin.is) (unpins_map c.args.self.now c.unpin.new.self c.args.who c.unpin.result c.unpin.ensures)
+    let P : Op ℕ → Type 0 = λ o. AsMap c.args.self.now o c.serve-in-Unpin.result c.serve-in-Unpin.new.self in
+    subst P (sym c.in-Unpin.is) (unpins_map c.args.self.now c.serve-in-Unpin.new.self c.args.who c.serve-in-Unpin.result c.serve-in-Unpin.ensures)
+
+pub returns-in-Repin-clause-map : goal.returns-in-Repin-clause-map
+returns-in-Repin-clause-map g c =
+    let P : Op ℕ → Type 0 = λ o. AsMap c.args.self.now o c.serve-in-Repin.result c.serve-in-Repin.new.self in
+    subst P (sym c.in-Repin.is) (repins_map c.args.self.now c.serve-in-Repin.new.self c.args.who c.serve-in-Repin.result c.serve-in-Repin.ensures)
 
 pub returns-in-Flush-clause-map : goal.returns-in-Flush-clause-map
 returns-in-Flush-clause-map g c =
-    let P : Op ℕ → Type 0 = λ o. AsMap c.args.self.now o c.flush.result c.flush.new.self in
-    subst P (sym c.in-Flush.is) (flushes_map c.args.self.now c.flush.new.self c.args.who c.flush.result c.flush.ensures)
+    let P : Op ℕ → Type 0 = λ o. AsMap c.args.self.now o c.serve-in-Flush.result c.serve-in-Flush.new.self in
+    subst P (sym c.in-Flush.is) (flushes_map c.args.self.now c.serve-in-Flush.new.self c.args.who c.serve-in-Flush.result c.serve-in-Flush.ensures)
+
+pub returns-in-Release-clause-map : goal.returns-in-Release-clause-map
+returns-in-Release-clause-map g c =
+    let P : Op ℕ → Type 0 = λ o. AsMap c.args.self.now o c.serve-in-Release.result c.serve-in-Release.new.self in
+    subst P (sym c.in-Release.is) (releases_map c.args.self.now c.serve-in-Release.new.self c.args.who c.serve-in-Release.result c.serve-in-Release.ensures)
 
 pub returns-in-Get-clause-map : goal.returns-in-Get-clause-map
 returns-in-Get-clause-map g c =
@@ -28,13 +38,3 @@ pub returns-in-Insert-clause-map : goal.returns-in-Insert-clause-map
 returns-in-Insert-clause-map g c =
     let P : Op ℕ → Type 0 = λ o. AsMap c.args.self.now o c.insert.result c.insert.new.self in
     subst P (sym c.in-Insert.is) (inserts_map c.args.self.now c.insert.new.self c.args.who c.in-Insert.key c.in-Insert.value c.insert.result c.insert.ensures.key c.insert.ensures.steps)
-
-pub returns-in-Repin-clause-map : goal.returns-in-Repin-clause-map
-returns-in-Repin-clause-map g c =
-    let P : Op ℕ → Type 0 = λ o. AsMap c.args.self.now o c.repin.result c.repin.new.self in
-    subst P (sym c.in-Repin.is) (repins_map c.args.self.now c.repin.new.self c.args.who c.repin.result c.repin.ensures)
-
-pub returns-in-Release-clause-map : goal.returns-in-Release-clause-map
-returns-in-Release-clause-map g c =
-    let P : Op ℕ → Type 0 = λ o. AsMap c.args.self.now o c.release.result c.release.new.self in
-    subst P (sym c.in-Release.is) (releases_map c.args.self.now c.release.new.self c.args.who c.release.result c.release.ensures)
