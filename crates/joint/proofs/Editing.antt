@@ -18,7 +18,6 @@ use Rattle.crossbeam_epoch.specs.Machine.{place, with_store, deferred}
 use Rattle.crossbeam_epoch.specs.Progress.{Orderly, Keeps}
 use Rattle.crossbeam_epoch.specs.Steps.{defer_fault, or_count, quiet_fault, when}
 use Rattle.crossbeam_epoch.specs.Store as S
-use Rattle.crossbeam_epoch.proofs.Progress.{deferred_keeps}
 use Rattle.joint.specs.declared.refusal.Refusal.{Refusal}
 use Rattle.joint.specs.declared.slot.Slot.{Slot}
 use Rattle.joint.specs.declared.form.Form.{Form}
@@ -157,10 +156,14 @@ pub record Retired {V : Type 0} (t t' : Forest V) (at : Name) : Type 0 where
   pub sizes : sizes t' ≡ sizes t
   pub retires : Retires t t' at
 
-pub retired : {V : Type 0} (t t' : Forest V) (at : Name) (s : Slot V) (k : Clock V) (who : ℕ) → Sound t → slot_at t at ≡ Some s → s.retired ≡ false
+-- what the collector promises of a deferral
+abbrev pub Defers : Type 0 → Type 0
+Defers V = (s : Clock V) (who : ℕ) (work : Work ⊤) → who < length s.table → length (place s who).bag < 64 → Orderly s → Keeps s (deferred s who work) (λ f. f (record { ticket = s.next; work = work }))
+
+pub retired : {V : Type 0} → Defers V → (t t' : Forest V) (at : Name) (s : Slot V) (k : Clock V) (who : ℕ) → Sound t → slot_at t at ≡ Some s → s.retired ≡ false
     → k ≡ with_store t.collector (written t.collector.store at.cell (Some (record { node = s.node; retired = true }))) → t'.collector ≡ deferred k who (Remove at) → who < length t.collector.table → length (place t.collector who).bag < 64
     → t'.forms ≡ t.forms → t'.waiting ≡ t.waiting + 1 → t'.waiting_bytes ≡ t.waiting_bytes + size_of (form_at t.forms at.cell) → Retired t t' at
-retired {V} t t' at s k who z e live kk ke lt room f w b =
+retired {V} law t t' at s k who z e live kk ke lt room f w b =
     let st = t.collector.store in
     let s' : Slot V = record { node = s.node; retired = true } in
     let x : Cell (Slot V) = record { turns = (S.cell_at st at.cell).turns; value = Some s } in
@@ -181,7 +184,7 @@ retired {V} t t' at s k who z e live kk ke lt room f w b =
     let d0 : departed (S.cell_at st at.cell) ≡ x.turns - 1 = ap departed was ∙ ap (λ q. x.turns - (if (if q then false else true) then 1 else 0)) live in
     let d1 : departed y ≡ x.turns - 0 = refl in
     let orderly : Orderly m = record { hands = z.orderly.hands; bags = z.orderly.bags; held = z.orderly.held; sealed = z.orderly.sealed } in
-    let kp = deferred_keeps m who (Remove at) lt room orderly in
+    let kp = law m who (Remove at) lt room orderly in
     let kj : (n : Name) → weight (removal n) t'.collector ≡ weight (removal n) t.collector + removes {J = ⊤} n (Remove at) = (λ n. ap (λ (q : Clock V). weight (removal n) q) c' ∙ kp.jobs (removal n)) in
     let P : Clock V → Type 0 = λ q. Orderly q in
     let nx : t'.collector.next ≡ t.collector.next + 1 = ap (λ (q : Clock V). q.next) c' in

@@ -15,7 +15,6 @@ use Rattle.crossbeam_epoch.specs.Machine.{with_store, after_work, destroys}
 use Rattle.crossbeam_epoch.specs.Progress.{Orderly, Moves}
 use Rattle.crossbeam_epoch.specs.Steps.{called_entry}
 use Rattle.crossbeam_epoch.specs.Store as S
-use Rattle.crossbeam_epoch.proofs.Jobs.{destroys_named}
 use Rattle.joint.specs.declared.slot.Slot.{Slot}
 use Rattle.joint.specs.declared.form.Form.{Form}
 use Rattle.joint.specs.Form.{size_of}
@@ -151,6 +150,16 @@ name_or d (Some x) = x
 some_name : (m n : Name) → Some m ≡ Some n → m ≡ n
 unfolding name_or
 some_name m n e = ap (name_or m) e
+
+removed_by : {V : Type 0} (st : S.Store (Slot V)) (b : Bool) (m n : Name) → (if b then Some m else None) ≡ Some n → ◌≡◌ {A = Work ⊤} (Remove m) (Remove n)
+removed_by st true m n e = ap (λ x. Remove x) (some_name m n e)
+removed_by st false m n e = absurd cc
+
+-- a job that destroys a cell is its removal
+destroys_named : {V : Type 0} (st : S.Store (Slot V)) (w : Work ⊤) (n : Name) → destroys st w ≡ Some n → w ≡ Remove n
+destroys_named st Blank n e = absurd cc
+destroys_named st (Run job) n e = absurd cc
+destroys_named st (Remove m) n e = removed_by st (is_some (S.value_at st m)) m n e
 
 standing_work : {V : Type 0} (st : S.Store (Slot V)) (b : Bool) (m n : Name) → is_some (S.value_at st m) ≡ b → (if b then Some m else None) ≡ Some n → is_some (S.value_at st n) ≡ true
 standing_work st true m n q e = ap (λ x. is_some (S.value_at st x)) (sym (some_name m n e)) ∙ q
