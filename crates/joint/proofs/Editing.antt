@@ -1,10 +1,8 @@
 -- A slot is taken out, changed and put back.
-use Rattle.std.proofs.Common.{◌≡◌, ◌≢◌, ℕ, ◌+◌, ◌-◌, ◌*◌, ◌<◌, ◌≤◌, ◌==◌, inl, inr, Bool, true, false, List, length, get_or, set, refl, sym, ◌∙◌, ap, subst, arith, Option, Some, None, if◌then◌else◌}
+use Rattle.std.proofs.Common.{◌≡◌, ℕ, ◌+◌, ◌-◌, ◌*◌, ◌<◌, ◌≤◌, inl, inr, Bool, true, false, length, set, refl, sym, ◌∙◌, ap, subst, arith, Option, Some, None, if◌then◌else◌}
 use Rattle.std.specs.Prelude.{is_some, is_none, ◌^◌, ⊤}
 use Rattle.std.proofs.lemmas.List.{length-set}
 use Rattle.std.proofs.lemmas.Nat.{mul-le}
-use Rattle.std.proofs.lemmas.List.Sums.{sum_by-set}
-use Rattle.crossbeam_epoch.specs.declared.bag.Entry.{Entry}
 use Rattle.crossbeam_epoch.specs.declared.bag.Work.{Work}
 use Rattle.crossbeam_epoch.specs.declared.bag.Work.TheVariants.{Remove}
 use Rattle.crossbeam_epoch.specs.declared.cells.Cell.{Cell}
@@ -20,18 +18,16 @@ use Rattle.crossbeam_epoch.specs.Steps.{defer_fault, or_count, quiet_fault, when
 use Rattle.crossbeam_epoch.specs.Store as S
 use Rattle.joint.specs.declared.refusal.Refusal.{Refusal}
 use Rattle.joint.specs.declared.slot.Slot.{Slot}
-use Rattle.joint.specs.declared.form.Form.{Form}
 use Rattle.joint.specs.Form.{size_of}
 use Rattle.joint.specs.Walk.{Body}
 use Rattle.joint.specs.Refusals.{of_guard}
-use Rattle.joint.specs.Collector.{IsIdle}
-use Rattle.joint.specs.Forest.{Forest, Clock, cells_of, turn_max_of, slot_at, heap, node_of, retired_of, is_retired, is_live, size, sizes, waits, waiting_size, departed, removal, removes, IsFormed, HasForm, form_at, Sound, IsSame, IsEditedAt, IsEdited, Edits, Retires, out}
+use Rattle.joint.specs.Forest.{Forest, Clock, cells_of, turn_max_of, slot_at, heap, node_of, retired_of, is_retired, size, sizes, waits, waiting_size, departed, removal, removes, IsFormed, HasForm, form_at, Sound, IsSame, IsEditedAt, Edits, Retires, out}
 use Rattle.joint.proofs.Edges.{fails}
 use Rattle.joint.proofs.Pairs.{same_name_or_not, some_inj}
 use Rattle.joint.proofs.Slots.{stands_in, StandsIn, written, written_here, written_beside, written_twice}
-use Rattle.joint.proofs.Sums.{slot_size, slot_form, form_size, departed_bound, waits_bound, waiting_bound}
+use Rattle.joint.proofs.Sums.{slot_size, slot_form, form_size, departed_bound}
 use Rattle.joint.proofs.Growth.{edit_flags}
-use Rattle.joint.proofs.Sounds.{Sets, sound_sets, sum_sets, same_removal, other_removal, some_or}
+use Rattle.joint.proofs.Sounds.{Sets, sound_sets, sum_sets, same_removal, other_removal}
 
 -- a standing slot is out
 pub is_out : {V : Type 0} (st : S.Store (Slot V)) (at : Name) (s : Slot V) → S.value_at st at ≡ Some s → is_some (S.value_at (S.replaced st at.cell out) at) ≡ true

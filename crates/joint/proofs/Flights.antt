@@ -1,9 +1,8 @@
 -- A whole call of the collector under the tree.
-use Rattle.std.proofs.Common.{◌≡◌, ◌≢◌, ◌⊎◌, ℕ, zero, suc, ◌+◌, ◌<◌, ◌≤◌, inl, inr, Bool, true, false, List, [], length, refl, sym, ◌∙◌, ap, subst, arith, Option, Some, None}
+use Rattle.std.proofs.Common.{◌≡◌, ◌≢◌, ◌⊎◌, ℕ, suc, ◌<◌, ◌≤◌, inl, inr, [], length, refl, sym, ◌∙◌, ap, subst, arith, Option, Some, None}
 use Rattle.std.specs.Prelude.{⊤}
 use Rattle.std.specs.List.{sum_by, Contains}
 use Rattle.crossbeam_epoch.specs.declared.fault.Fault.{Fault}
-use Rattle.crossbeam_epoch.specs.declared.fault.Fault.TheVariants as F
 use Rattle.crossbeam_epoch.specs.declared.places.Phase.TheVariants as P
 use Rattle.crossbeam_epoch.specs.declared.report.Event.{Event}
 use Rattle.crossbeam_epoch.specs.declared.report.Event.TheVariants.{Begin, Go}
@@ -12,15 +11,14 @@ use Rattle.crossbeam_epoch.specs.declared.report.Op.TheVariants as O
 use Rattle.crossbeam_epoch.specs.declared.report.Outcome.{Outcome}
 use Rattle.crossbeam_epoch.specs.declared.report.Outcome.TheVariants.{Running, Done, Refused}
 use Rattle.crossbeam_epoch.specs.declared.report.Report.{Report}
-use Rattle.crossbeam_epoch.specs.Calls.{IsCall}
-use Rattle.crossbeam_epoch.specs.Machine.{State, place}
-use Rattle.crossbeam_epoch.specs.Progress.{Orderly, Moves, Begins, Secures, refusal, queues}
+use Rattle.crossbeam_epoch.specs.Machine.{place}
+use Rattle.crossbeam_epoch.specs.Progress.{Orderly, Moves, Begins, Secures, refusal}
 use Rattle.crossbeam_epoch.specs.Steps.{after, IsReport}
 use Rattle.crossbeam_epoch.specs.Store.{Store}
-use Rattle.crossbeam_epoch.proofs.Whole.{IsGoing, going_more, call_ends}
+use Rattle.crossbeam_epoch.proofs.Whole.{IsGoing, call_ends}
 use Rattle.joint.specs.declared.slot.Slot.{Slot}
 use Rattle.joint.specs.Collector.{IsIdle, IsWhole, IsCause, ended, Readies}
-use Rattle.joint.specs.Forest.{Forest, Clock, cells_of, waits, waiting_size, IsCounted}
+use Rattle.joint.specs.Forest.{Forest, Clock, waits, waiting_size, IsCounted}
 use Rattle.joint.proofs.Pairs.{same_or_not}
 use Rattle.joint.proofs.Turning.{Laws, Underway, begins_on, goes_further, goes_back, goes_done, secure_begins}
 

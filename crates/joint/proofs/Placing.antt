@@ -1,5 +1,5 @@
 -- A node comes into a usable cell, under a new name.
-use Rattle.std.proofs.Common.{replicate, ◌≡◌, ◌≢◌, ℕ, zero, suc, ◌+◌, ◌-◌, ◌<◌, ◌≤◌, ◌==◌, ◌++◌, inl, inr, Bool, true, false, List, [], ◌∷◌, length, get_or, set, refl, sym, ◌∙◌, ap, subst, arith, Option, Some, None, if◌then◌else◌}
+use Rattle.std.proofs.Common.{◌≡◌, ◌≢◌, ℕ, ◌+◌, ◌-◌, ◌<◌, ◌≤◌, ◌==◌, ◌++◌, inl, inr, Bool, true, false, List, [], ◌∷◌, length, get_or, set, refl, sym, ◌∙◌, ap, subst, arith, Option, Some, None, if◌then◌else◌}
 use Rattle.std.specs.Prelude.{nat_lt, nat_le, ◌^◌, ◌&&◌, ⊤}
 use Rattle.std.specs.List.{sum_by}
 use Rattle.std.proofs.lemmas.List.{length-set, length_push, length-replicate}
@@ -9,9 +9,8 @@ use Rattle.crossbeam_epoch.specs.declared.bag.Entry.{Entry}
 use Rattle.crossbeam_epoch.specs.declared.cells.Cell.{Cell}
 use Rattle.crossbeam_epoch.specs.declared.limits.Limits.{Limits}
 use Rattle.crossbeam_epoch.specs.declared.names.Name.{Name}
-use Rattle.crossbeam_epoch.specs.declared.places.Phase.TheVariants.{Idle}
-use Rattle.crossbeam_epoch.specs.Machine.{place, with_store}
-use Rattle.crossbeam_epoch.specs.Progress.{Orderly, IsResting}
+use Rattle.crossbeam_epoch.specs.Machine.{place}
+use Rattle.crossbeam_epoch.specs.Progress.{IsResting}
 use Rattle.crossbeam_epoch.specs.Store as S
 use Rattle.crossbeam_epoch.specs.Machine.{opened}
 use Rattle.crossbeam_epoch.specs.Fits.{weight}
@@ -20,7 +19,7 @@ use Rattle.joint.specs.declared.form.Form.{Form}
 use Rattle.joint.specs.declared.form.Form.TheVariants.{Node4, Node256}
 use Rattle.joint.specs.Form.{size_of}
 use Rattle.joint.specs.Walk.{Body, top}
-use Rattle.joint.specs.Forest.{Forest, Clock, cells_of, turn_max_of, slot_at, retired_of, is_retired, size, sizes, waits, waiting_size, departed, IsFormed, form_at, with_form, Sound, fresh, placed, planted, removal}
+use Rattle.joint.specs.Forest.{Forest, Clock, cells_of, turn_max_of, slot_at, retired_of, is_retired, size, sizes, waits, waiting_size, departed, IsFormed, form_at, Sound, fresh, placed, planted, removal}
 use Rattle.joint.specs.Collector.{IsIdle}
 use Rattle.joint.proofs.Pairs.{same_or_not, same_name_or_not, one_name}
 use Rattle.joint.proofs.Edges.{passes, fails}

@@ -7,17 +7,15 @@ use Rattle.crossbeam_epoch.specs.declared.names.Name.{Name}
 use Rattle.crossbeam_epoch.specs.declared.places.Participant.{Participant}
 use Rattle.crossbeam_epoch.specs.declared.places.Phase.{Phase}
 use Rattle.crossbeam_epoch.specs.declared.places.Phase.TheVariants as P
-use Rattle.crossbeam_epoch.specs.declared.report.Event.{Event}
 use Rattle.crossbeam_epoch.specs.declared.report.Event.TheVariants.{Begin, Go}
 use Rattle.crossbeam_epoch.specs.declared.report.Op.{Op}
 use Rattle.crossbeam_epoch.specs.declared.report.Op.TheVariants as O
 use Rattle.crossbeam_epoch.specs.declared.report.Outcome.{Outcome}
 use Rattle.crossbeam_epoch.specs.declared.report.Outcome.TheVariants.{Running, Done, Refused}
 use Rattle.crossbeam_epoch.specs.declared.report.Report.{Report}
-use Rattle.crossbeam_epoch.specs.Machine.{State, place, blank, with_place, in_phase, published, advanced, took, taken, called, called_one, queued, left, registered, is_due, after_call, is_at, ends_advance}
+use Rattle.crossbeam_epoch.specs.Machine.{State, place, blank, with_place, in_phase, taken, called_one, registered, is_due, is_at, ends_advance}
 use Rattle.crossbeam_epoch.specs.Progress.{Orderly, Moves, Begins, GoesOn, IsOn, Secures, refusal, queues, collects, comes_by, stage, steps_left}
-use Rattle.crossbeam_epoch.specs.Steps.{after, moved, gone, begun, begun_at, begin_fault, fault, event_fault, outcome_at, needs_memory, given_up, IsOutcome, IsReport}
-use Rattle.joint.proofs.Pairs.{same_or_not}
+use Rattle.crossbeam_epoch.specs.Steps.{after, gone, begun, begun_at, begin_fault, fault, outcome_at, needs_memory, given_up, IsOutcome, IsReport}
 
 -- a call is about to queue its bag
 abbrev pub sealing : Phase → Bool

@@ -1,14 +1,13 @@
-use Rattle.std.proofs.Common.{◌≡◌, ◌≤◌, ◌<◌, ◌+◌, ◌-◌, ◌∙◌, ap, subst, refl, sym, ℕ, arith, rules, Option, None, Some, inl, inr, suc, [], List}
+use Rattle.std.proofs.Common.{◌≡◌, ◌≤◌, ◌+◌, ◌∙◌, ap, subst, refl, sym, ℕ, arith, rules, Option, None, Some, inl, inr, suc, []}
 use Rattle.std.proofs.lemmas.Grind.{common_steps}
 use Rattle.crossbeam_epoch.specs.declared.fault.Fault.{Fault}
 use Rattle.crossbeam_epoch.specs.declared.report.Event.TheVariants.{Go}
-use Rattle.crossbeam_epoch.proofs.Whole.{IsGoing, going_more}
+use Rattle.crossbeam_epoch.proofs.Whole.{going_more}
 use Rattle.joint.specs.Collector.{IsWhole, IsIdle}
-use Rattle.joint.specs.Form.{size_of}
-use Rattle.joint.specs.Forest.{Forest, Clock, IsCounted, sizes}
+use Rattle.joint.specs.Forest.{Forest, Clock, IsCounted}
 use Rattle.joint.proofs.Growth.{spared_same, spared_on}
 use Rattle.joint.proofs.Sums.{form_bound}
-use Rattle.joint.proofs.Flights.{nobody, Flight, Stepping, flight_more, flight_ends, flight_done, flight_refused, whole, never_running, unchanged, readies}
+use Rattle.joint.proofs.Flights.{nobody, Flight, Stepping, flight_more, flight_done, flight_refused, whole, never_running, unchanged, readies}
 use Rattle.joint.proofs.tree.Tree+u64.call.Goals.{in-Some, in_default}
 use Rattle.joint.proofs.tree.Tree+u64.call.Goals as goal
 

@@ -1,5 +1,4 @@
-use Rattle.std.proofs.Common.{◌≡◌, ◌≤◌, ◌∙◌, ap, subst, sym, ℕ, arith, rules}
-use Rattle.std.specs.Prelude.{vec_capacity}
+use Rattle.std.proofs.Common.{◌≡◌, ap, subst, sym, ℕ, arith, rules}
 use Rattle.std.proofs.lemmas.Grind.{common_steps}
 use Rattle.joint.specs.Forest.{Forest, Sound, planted}
 use Rattle.joint.specs.Collector.{IsIdle}
