@@ -1,10 +1,8 @@
 -- A slot is taken out, changed and put back.
-use Rattle.std.proofs.Common.{◌≡◌, ◌≢◌, ℕ, ◌+◌, ◌-◌, ◌*◌, ◌<◌, ◌≤◌, ◌==◌, inl, inr, Bool, true, false, List, length, get_or, set, refl, sym, ◌∙◌, ap, subst, arith, Option, Some, None, if◌then◌else◌}
+use Rattle.std.proofs.Common.{◌≡◌, ℕ, ◌+◌, ◌-◌, ◌*◌, ◌<◌, ◌≤◌, inl, inr, Bool, true, false, length, set, refl, sym, ◌∙◌, ap, subst, arith, Option, Some, None, if◌then◌else◌}
 use Rattle.std.specs.Prelude.{is_some, is_none, ◌^◌, ⊤}
 use Rattle.std.proofs.lemmas.List.{length-set}
 use Rattle.std.proofs.lemmas.Nat.{mul-le}
-use Rattle.std.proofs.lemmas.List.Sums.{sum_by-set}
-use Rattle.crossbeam_epoch.specs.declared.bag.Entry.{Entry}
 use Rattle.crossbeam_epoch.specs.declared.bag.Work.{Work}
 use Rattle.crossbeam_epoch.specs.declared.bag.Work.TheVariants.{Remove}
 use Rattle.crossbeam_epoch.specs.declared.cells.Cell.{Cell}
@@ -18,21 +16,18 @@ use Rattle.crossbeam_epoch.specs.Machine.{place, with_store, deferred}
 use Rattle.crossbeam_epoch.specs.Progress.{Orderly, Keeps}
 use Rattle.crossbeam_epoch.specs.Steps.{defer_fault, or_count, quiet_fault, when}
 use Rattle.crossbeam_epoch.specs.Store as S
-use Rattle.crossbeam_epoch.proofs.Progress.{deferred_keeps}
 use Rattle.joint.specs.declared.refusal.Refusal.{Refusal}
 use Rattle.joint.specs.declared.slot.Slot.{Slot}
-use Rattle.joint.specs.declared.form.Form.{Form}
 use Rattle.joint.specs.Form.{size_of}
 use Rattle.joint.specs.Walk.{Body}
 use Rattle.joint.specs.Refusals.{of_guard}
-use Rattle.joint.specs.Collector.{IsIdle}
-use Rattle.joint.specs.Forest.{Forest, Clock, cells_of, turn_max_of, slot_at, heap, node_of, retired_of, is_retired, is_live, size, sizes, waits, waiting_size, departed, removal, removes, IsFormed, HasForm, form_at, Sound, IsSame, IsEditedAt, IsEdited, Edits, Retires, out}
+use Rattle.joint.specs.Forest.{Forest, Clock, cells_of, turn_max_of, slot_at, heap, node_of, retired_of, is_retired, size, sizes, waits, waiting_size, departed, removal, removes, IsFormed, HasForm, form_at, Sound, IsSame, IsEditedAt, Edits, Retires, out}
 use Rattle.joint.proofs.Edges.{fails}
 use Rattle.joint.proofs.Pairs.{same_name_or_not, some_inj}
 use Rattle.joint.proofs.Slots.{stands_in, StandsIn, written, written_here, written_beside, written_twice}
-use Rattle.joint.proofs.Sums.{slot_size, slot_form, form_size, departed_bound, waits_bound, waiting_bound}
+use Rattle.joint.proofs.Sums.{slot_size, slot_form, form_size, departed_bound}
 use Rattle.joint.proofs.Growth.{edit_flags}
-use Rattle.joint.proofs.Sounds.{Sets, sound_sets, sum_sets, same_removal, other_removal, some_or}
+use Rattle.joint.proofs.Sounds.{Sets, sound_sets, sum_sets, same_removal, other_removal}
 
 -- a standing slot is out
 pub is_out : {V : Type 0} (st : S.Store (Slot V)) (at : Name) (s : Slot V) → S.value_at st at ≡ Some s → is_some (S.value_at (S.replaced st at.cell out) at) ≡ true
@@ -157,10 +152,14 @@ pub record Retired {V : Type 0} (t t' : Forest V) (at : Name) : Type 0 where
   pub sizes : sizes t' ≡ sizes t
   pub retires : Retires t t' at
 
-pub retired : {V : Type 0} (t t' : Forest V) (at : Name) (s : Slot V) (k : Clock V) (who : ℕ) → Sound t → slot_at t at ≡ Some s → s.retired ≡ false
+-- what the collector promises of a deferral
+abbrev pub Defers : Type 0 → Type 0
+Defers V = (s : Clock V) (who : ℕ) (work : Work ⊤) → who < length s.table → length (place s who).bag < 64 → Orderly s → Keeps s (deferred s who work) (λ f. f (record { ticket = s.next; work = work }))
+
+pub retired : {V : Type 0} → Defers V → (t t' : Forest V) (at : Name) (s : Slot V) (k : Clock V) (who : ℕ) → Sound t → slot_at t at ≡ Some s → s.retired ≡ false
     → k ≡ with_store t.collector (written t.collector.store at.cell (Some (record { node = s.node; retired = true }))) → t'.collector ≡ deferred k who (Remove at) → who < length t.collector.table → length (place t.collector who).bag < 64
     → t'.forms ≡ t.forms → t'.waiting ≡ t.waiting + 1 → t'.waiting_bytes ≡ t.waiting_bytes + size_of (form_at t.forms at.cell) → Retired t t' at
-retired {V} t t' at s k who z e live kk ke lt room f w b =
+retired {V} law t t' at s k who z e live kk ke lt room f w b =
     let st = t.collector.store in
     let s' : Slot V = record { node = s.node; retired = true } in
     let x : Cell (Slot V) = record { turns = (S.cell_at st at.cell).turns; value = Some s } in
@@ -181,7 +180,7 @@ retired {V} t t' at s k who z e live kk ke lt room f w b =
     let d0 : departed (S.cell_at st at.cell) ≡ x.turns - 1 = ap departed was ∙ ap (λ q. x.turns - (if (if q then false else true) then 1 else 0)) live in
     let d1 : departed y ≡ x.turns - 0 = refl in
     let orderly : Orderly m = record { hands = z.orderly.hands; bags = z.orderly.bags; held = z.orderly.held; sealed = z.orderly.sealed } in
-    let kp = deferred_keeps m who (Remove at) lt room orderly in
+    let kp = law m who (Remove at) lt room orderly in
     let kj : (n : Name) → weight (removal n) t'.collector ≡ weight (removal n) t.collector + removes {J = ⊤} n (Remove at) = (λ n. ap (λ (q : Clock V). weight (removal n) q) c' ∙ kp.jobs (removal n)) in
     let P : Clock V → Type 0 = λ q. Orderly q in
     let nx : t'.collector.next ≡ t.collector.next + 1 = ap (λ (q : Clock V). q.next) c' in

@@ -1,9 +1,8 @@
 -- A whole call of the collector under the tree.
-use Rattle.std.proofs.Common.{◌≡◌, ◌≢◌, ◌⊎◌, ℕ, zero, suc, ◌+◌, ◌<◌, ◌≤◌, inl, inr, Bool, true, false, List, length, refl, sym, ◌∙◌, ap, subst, arith, Option, Some, None}
+use Rattle.std.proofs.Common.{◌≡◌, ◌≢◌, ◌⊎◌, ℕ, suc, ◌<◌, ◌≤◌, inl, inr, [], length, refl, sym, ◌∙◌, ap, subst, arith, Option, Some, None}
 use Rattle.std.specs.Prelude.{⊤}
-use Rattle.std.specs.List.{sum_by}
+use Rattle.std.specs.List.{sum_by, Contains}
 use Rattle.crossbeam_epoch.specs.declared.fault.Fault.{Fault}
-use Rattle.crossbeam_epoch.specs.declared.fault.Fault.TheVariants as F
 use Rattle.crossbeam_epoch.specs.declared.places.Phase.TheVariants as P
 use Rattle.crossbeam_epoch.specs.declared.report.Event.{Event}
 use Rattle.crossbeam_epoch.specs.declared.report.Event.TheVariants.{Begin, Go}
@@ -12,22 +11,24 @@ use Rattle.crossbeam_epoch.specs.declared.report.Op.TheVariants as O
 use Rattle.crossbeam_epoch.specs.declared.report.Outcome.{Outcome}
 use Rattle.crossbeam_epoch.specs.declared.report.Outcome.TheVariants.{Running, Done, Refused}
 use Rattle.crossbeam_epoch.specs.declared.report.Report.{Report}
-use Rattle.crossbeam_epoch.specs.Calls.{IsCall}
-use Rattle.crossbeam_epoch.specs.Machine.{State, place}
-use Rattle.crossbeam_epoch.specs.Progress.{Orderly, Moves, Begins, Secures, refusal, queues}
+use Rattle.crossbeam_epoch.specs.Machine.{place}
+use Rattle.crossbeam_epoch.specs.Progress.{Orderly, Moves, Begins, Secures, refusal}
 use Rattle.crossbeam_epoch.specs.Steps.{after, IsReport}
 use Rattle.crossbeam_epoch.specs.Store.{Store}
-use Rattle.crossbeam_epoch.proofs.Stages.{begins}
-use Rattle.crossbeam_epoch.proofs.Whole.{IsGoing, going_more, call_ends}
+use Rattle.crossbeam_epoch.proofs.Whole.{IsGoing, call_ends}
 use Rattle.joint.specs.declared.slot.Slot.{Slot}
 use Rattle.joint.specs.Collector.{IsIdle, IsWhole, IsCause, ended, Readies}
-use Rattle.joint.specs.Forest.{Forest, Clock, cells_of, waits, waiting_size, IsCounted}
+use Rattle.joint.specs.Forest.{Forest, Clock, waits, waiting_size, IsCounted}
 use Rattle.joint.proofs.Pairs.{same_or_not}
-use Rattle.joint.proofs.Turning.{Underway, begins_on, goes_further, goes_back, goes_done, secure_begins}
+use Rattle.joint.proofs.Turning.{Laws, Underway, begins_on, goes_further, goes_back, goes_done, secure_begins}
 
 -- a call before its first step, or in flight
 abbrev pub Flight : {V : Type 0} → Clock V → ℕ → Op → ℕ → Event → Clock V → Type 0
 Flight s who op n event now = ((n ≡ 0) × (event ≡ Begin op) × (now ≡ s)) ⊎ ((event ≡ Go) × Underway s now who op n)
+
+-- an empty list has nothing
+pub nobody : {X : Type 0} (x : X) → Contains [] x → ⊥
+nobody x m = let lt : m.0 < 0 = m.1 in omega arith
 
 -- a step, and the state after it
 pub record Stepping {V : Type 0} (now new : Clock V) (who : ℕ) (event : Event) (r : Report) : Type 0 where
@@ -43,14 +44,14 @@ stepping_at {V} now s new who event other r e f k =
     let B : Clock V → Type 0 = λ x. Stepping x new who other r in
     subst B e (subst A f k)
 
-pub flight_more : {V : Type 0} (s now new : Clock V) (who : ℕ) (op : Op) (n : ℕ) (event : Event) (r : Report) → IsIdle s → Flight s who op n event now → Stepping now new who event r → r.outcome ≡ Running → Flight s who op (suc n) Go new
-flight_more {V} s now new who op n event r idle f k run = elim f [
+pub flight_more : {V : Type 0} → Laws (Slot V) ⊤ → (s now new : Clock V) (who : ℕ) (op : Op) (n : ℕ) (event : Event) (r : Report) → IsIdle s → Flight s who op n event now → Stepping now new who event r → r.outcome ≡ Running → Flight s who op (suc n) Go new
+flight_more {V} law s now new who op n event r idle f k run = elim f [
   | inl x ↦ (let k1 : Stepping s new who (Begin op) r = stepping_at now s new who event (Begin op) r x.2 x.1 k in
-      let u : Underway s new who op 1 = begins_on s new who op r k1.places (idle who) k1.report k1.moves k1.state run in
+      let u : Underway s new who op 1 = begins_on law s new who op r k1.places (idle who) k1.report k1.moves k1.state run in
       let Q : ℕ → Type 0 = λ m. Underway s new who op (suc m) in
       inr (refl, subst Q (sym x.0) u))
   | inr x ↦ (let k1 : Stepping now new who Go r = stepping_at now now new who event Go r refl x.0 k in
-      inr (refl, goes_further s now new who op n r k1.orderly x.1 k1.report k1.moves k1.state run))
+      inr (refl, goes_further law s now new who op n r k1.orderly x.1 k1.report k1.moves k1.state run))
 ]
 
 -- in time
@@ -72,19 +73,19 @@ pub record Over {V : Type 0} (s new : Clock V) (who : ℕ) (op : Op) : Type 0 wh
   pub idle : IsIdle new
   pub ready : (k : ℕ) → op ≡ O.Secure k → (new.store ≡ s.store) × Secures op (place s who) (place new who)
 
-pub flight_done : {V : Type 0} (s now new : Clock V) (who : ℕ) (op : Op) (n : ℕ) (event : Event) (r : Report) → IsIdle s → Flight s who op n event now → Stepping now new who event r → r.outcome ≡ Done → Over s new who op
-flight_done {V} s now new who op n event r idle f k done = elim f [
+pub flight_done : {V : Type 0} → Laws (Slot V) ⊤ → (s now new : Clock V) (who : ℕ) (op : Op) (n : ℕ) (event : Event) (r : Report) → IsIdle s → Flight s who op n event now → Stepping now new who event r → r.outcome ≡ Done → Over s new who op
+flight_done {V} law s now new who op n event r idle f k done = elim f [
   | inl x ↦ (let k1 : Stepping s new who (Begin op) r = stepping_at now s new who event (Begin op) r x.2 x.1 k in
       let B : Outcome → Type 0 = λ o. Begins s who op o (after s who (Begin op) r.outcome) in
       let C : Clock V → Type 0 = λ w. Begins s who op Done w in
-      let b : Begins s who op Done new = subst C (sym k1.state) (subst B done (begins s who op r (idle who) k1.report)) in
+      let b : Begins s who op Done new = subst C (sym k1.state) (subst B done (law.begins s who op r (idle who) k1.report)) in
       record {
         free = b.0;
         idle = all_idle s new who idle k1.moves.others b.1;
         ready = λ j e. absurd (let A : Op → Type 0 = λ o. IsReport s who (Begin o) r in secure_begins s who j r (ap (refusal s who) (sym e) ∙ b.0) (subst A e k1.report) done);
       })
   | inr x ↦ (let k1 : Stepping now new who Go r = stepping_at now now new who event Go r refl x.0 k in
-      let d = goes_done s now new who op n r k1.orderly x.1 k1.report k1.moves k1.state done in
+      let d = goes_done law s now new who op n r k1.orderly x.1 k1.report k1.moves k1.state done in
       record {
         free = x.1.free;
         idle = all_idle s new who idle (λ q ne. k1.moves.others q ne ∙ x.1.others q ne) d.0;
@@ -92,15 +93,15 @@ flight_done {V} s now new who op n event r idle f k done = elim f [
       })
 ]
 
-pub flight_refused : {V : Type 0} (s now new : Clock V) (who : ℕ) (op : Op) (n : ℕ) (event : Event) (r : Report) (f : Fault) → IsIdle s → Flight s who op n event now → Stepping now new who event r → r.outcome ≡ Refused f → (new ≡ s) × IsCause s who op (Some f)
-flight_refused {V} s now new who op n event r f idle fl k run = elim fl [
+pub flight_refused : {V : Type 0} → Laws (Slot V) ⊤ → (s now new : Clock V) (who : ℕ) (op : Op) (n : ℕ) (event : Event) (r : Report) (f : Fault) → IsIdle s → Flight s who op n event now → Stepping now new who event r → r.outcome ≡ Refused f → (new ≡ s) × IsCause s who op (Some f)
+flight_refused {V} law s now new who op n event r f idle fl k run = elim fl [
   | inl x ↦ (let k1 : Stepping s new who (Begin op) r = stepping_at now s new who event (Begin op) r x.2 x.1 k in
       let B : Outcome → Type 0 = λ o. Begins s who op o (after s who (Begin op) r.outcome) in
       let C : Clock V → Type 0 = λ w. Begins s who op (Refused f) w in
-      let b : Begins s who op (Refused f) new = subst C (sym k1.state) (subst B run (begins s who op r (idle who) k1.report)) in
+      let b : Begins s who op (Refused f) new = subst C (sym k1.state) (subst B run (law.begins s who op r (idle who) k1.report)) in
       (b.1, inl b.0))
   | inr x ↦ (let k1 : Stepping now new who Go r = stepping_at now now new who event Go r refl x.0 k in
-      let g = goes_back s now new who op n r f k1.orderly (idle who) x.1 k1.report k1.state run in
+      let g = goes_back law s now new who op n r f k1.orderly (idle who) x.1 k1.report k1.state run in
       (g.0, inr (x.1.free, g.1, g.2)))
 ]
 

@@ -1,5 +1,5 @@
 -- The changes of the slots, and what they make of the standing pairs.
-use Rattle.std.proofs.Common.{◌≡◌, ◌≢◌, ℕ, ◌==◌, inl, inr, Bool, true, false, List, length, get_or, refl, sym, ◌∙◌, ap, subst, Option, Some, None, if◌then◌else◌}
+use Rattle.std.proofs.Common.{◌≡◌, ℕ, ◌==◌, inl, inr, List, length, get_or, refl, sym, ◌∙◌, ap, subst, Option, Some, None, if◌then◌else◌}
 use Rattle.crossbeam_epoch.specs.declared.names.Name.{Name}
 use Rattle.joint.specs.declared.child.Child.{Child}
 use Rattle.joint.specs.declared.child.Child.TheVariants.{Value}

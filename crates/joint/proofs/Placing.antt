@@ -1,26 +1,25 @@
 -- A node comes into a usable cell, under a new name.
-use Rattle.std.proofs.Common.{replicate, ◌≡◌, ◌≢◌, ℕ, zero, suc, ◌+◌, ◌-◌, ◌<◌, ◌≤◌, ◌==◌, ◌++◌, inl, inr, Bool, true, false, List, [], ◌∷◌, length, get_or, set, refl, sym, ◌∙◌, ap, subst, arith, Option, Some, None, if◌then◌else◌}
+use Rattle.std.proofs.Common.{◌≡◌, ◌≢◌, ℕ, ◌+◌, ◌-◌, ◌<◌, ◌≤◌, ◌==◌, ◌++◌, inl, inr, Bool, true, false, List, [], ◌∷◌, length, get_or, set, refl, sym, ◌∙◌, ap, subst, arith, Option, Some, None, if◌then◌else◌}
 use Rattle.std.specs.Prelude.{nat_lt, nat_le, ◌^◌, ◌&&◌, ⊤}
 use Rattle.std.specs.List.{sum_by}
 use Rattle.std.proofs.lemmas.List.{length-set, length_push, length-replicate}
 use Rattle.std.proofs.lemmas.List.Sums.{sum_by-set, sum_by_push}
 use Rattle.std.proofs.lemmas.Bool.Decides.{nat_tests}
+use Rattle.crossbeam_epoch.specs.declared.bag.Entry.{Entry}
 use Rattle.crossbeam_epoch.specs.declared.cells.Cell.{Cell}
 use Rattle.crossbeam_epoch.specs.declared.limits.Limits.{Limits}
 use Rattle.crossbeam_epoch.specs.declared.names.Name.{Name}
-use Rattle.crossbeam_epoch.specs.declared.places.Phase.TheVariants.{Idle}
-use Rattle.crossbeam_epoch.specs.Machine.{place, with_store}
-use Rattle.crossbeam_epoch.specs.Progress.{Orderly}
+use Rattle.crossbeam_epoch.specs.Machine.{place}
+use Rattle.crossbeam_epoch.specs.Progress.{IsResting}
 use Rattle.crossbeam_epoch.specs.Store as S
 use Rattle.crossbeam_epoch.specs.Machine.{opened}
 use Rattle.crossbeam_epoch.specs.Fits.{weight}
-use Rattle.crossbeam_epoch.proofs.Progress.{opened_rests, opened_weighs}
 use Rattle.joint.specs.declared.slot.Slot.{Slot}
 use Rattle.joint.specs.declared.form.Form.{Form}
 use Rattle.joint.specs.declared.form.Form.TheVariants.{Node4, Node256}
 use Rattle.joint.specs.Form.{size_of}
 use Rattle.joint.specs.Walk.{Body, top}
-use Rattle.joint.specs.Forest.{Forest, Clock, cells_of, turn_max_of, slot_at, retired_of, is_retired, size, sizes, waits, waiting_size, departed, IsFormed, form_at, with_form, Sound, fresh, placed, planted, removal}
+use Rattle.joint.specs.Forest.{Forest, Clock, cells_of, turn_max_of, slot_at, retired_of, is_retired, size, sizes, waits, waiting_size, departed, IsFormed, form_at, Sound, fresh, placed, planted, removal}
 use Rattle.joint.specs.Collector.{IsIdle}
 use Rattle.joint.proofs.Pairs.{same_or_not, same_name_or_not, one_name}
 use Rattle.joint.proofs.Edges.{passes, fails}
@@ -177,17 +176,17 @@ no_slot : (l : Limits) (n : Name) → slot_at (empty_tree l) n ≡ None
 unfolding empty_tree
 no_slot l n = if_none (0 == n.turn + 1) None refl
 
-sound_empty : (l : Limits) → l.participants ≤ 256 → l.cells ≤ 16777215 → l.turn_max < 2 ^ 32 → Sound (empty_tree l)
+sound_empty : (l : Limits) → IsResting {T = Slot ℕ} {J = ⊤} (opened l 0) → ((f : Entry ⊤ → ℕ) → weight f (opened {T = Slot ℕ} {J = ⊤} l 0) ≡ 0) → l.participants ≤ 256 → l.cells ≤ 16777215 → l.turn_max < 2 ^ 32 → Sound (empty_tree l)
 unfolding empty_tree
-sound_empty l p c t = record {
-  orderly = (opened_rests l 0).orderly;
+sound_empty l rests weighs p c t = record {
+  orderly = rests.orderly;
   places = (let e : length (opened {T = Slot ℕ} {J = ⊤} l 0).table ≡ l.participants = length-replicate l.participants _ in omega (arith, e, p));
   bounded = omega arith;
   few = c;
   turn_max = t;
   turns = λ i. omega arith;
   tickets = refl;
-  jobs = λ n. opened_weighs (Slot ℕ) l 0 (removal n) ∙ sym (ap (λ o. if retired_of o then 1 else 0) (no_slot l n));
+  jobs = λ n. weighs (removal n) ∙ sym (ap (λ o. if retired_of o then 1 else 0) (no_slot l n));
   waiting = refl;
   waiting_bytes = refl;
   forms = refl;
@@ -200,14 +199,14 @@ positive n h = grind (arith, nat_tests)
 above : (n : ℕ) → nat_le 0 n ≡ true
 above n = grind (arith, nat_tests)
 
-pub sound_planted : (l : Limits) → 1 ≤ l.cells → l.participants ≤ 256 → l.cells ≤ 16777215 → l.turn_max < 2 ^ 32 → Sound {V = ℕ} (planted l)
+pub sound_planted : (l : Limits) → IsResting {T = Slot ℕ} {J = ⊤} (opened l 0) → ((f : Entry ⊤ → ℕ) → weight f (opened {T = Slot ℕ} {J = ⊤} l 0) ≡ 0) → 1 ≤ l.cells → l.participants ≤ 256 → l.cells ≤ 16777215 → l.turn_max < 2 ^ 32 → Sound {V = ℕ} (planted l)
 unfolding empty_tree
-sound_planted l one p c t =
-    sound_placed (empty_tree l) top (record { prefix = []; form = Node256; edges = [] }) (sound_empty l p c t) (record {
+sound_planted l rests weighs one p c t =
+    sound_placed (empty_tree l) top (record { prefix = []; form = Node256; edges = [] }) (sound_empty l rests weighs p c t) (record {
       usable = ap (λ b. (b && true) && nat_le 0 l.turn_max) (positive l.cells one) ∙ above l.turn_max;
       turn = refl;
       near = omega arith;
     })
 
-pub idle_planted : (l : Limits) → IsIdle {V = ℕ} (planted l).collector
-idle_planted l = (opened_rests {T = Slot ℕ} {J = ⊤} l 0).idle
+pub idle_planted : (l : Limits) → IsResting {T = Slot ℕ} {J = ⊤} (opened l 0) → IsIdle {V = ℕ} (planted l).collector
+idle_planted l rests = rests.idle

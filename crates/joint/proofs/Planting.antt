@@ -5,11 +5,10 @@ use Rattle.crossbeam_epoch.specs.declared.names.Name.{Name}
 use Rattle.joint.specs.declared.child.Child.{Child}
 use Rattle.joint.specs.declared.child.Child.TheVariants.{Node, Value}
 use Rattle.joint.specs.declared.plan.Plan.TheVariants.{Link, Grow}
-use Rattle.joint.specs.declared.slot.Slot.{Slot}
 use Rattle.joint.specs.declared.form.Form.{Form}
 use Rattle.joint.specs.Form.{capacity_of}
 use Rattle.joint.specs.Walk.{Body, fits, child_at, top}
-use Rattle.joint.specs.Forest.{Forest, heap, slot_at, node_of, is_retired, retired_of, fresh, IsSame, IsEditedAt, Edits, CanHang, CanChange, HangsIn, IsGrown, Retires, Swaps, IsFree, plan_with, IsValue, IsLeaf, Shape, ShapeOf, Takes, Adds, Comes, plan}
+use Rattle.joint.specs.Forest.{Forest, heap, slot_at, node_of, is_retired, retired_of, fresh, Edits, CanHang, CanChange, HangsIn, IsGrown, Retires, Swaps, IsFree, plan_with, IsValue, IsLeaf, ShapeOf, Takes, Adds, Comes, plan}
 use Rattle.joint.proofs.Pairs.{leaf_at, leaf_takes, some_inj, same_or_not, grow_adds, Keeps, keeps_shape, keeps_pairs, Plants, plants_shape, link_adds, values_if, fits_byte}
 use Rattle.joint.proofs.Plans.{unlinked, Found, found}
 use Rattle.joint.proofs.Edges.{passes, fails}

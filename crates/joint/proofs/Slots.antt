@@ -3,7 +3,7 @@ use Rattle.std.proofs.Common.{◌≡◌, ◌≢◌, ℕ, zero, suc, ◌+◌, ◌
 use Rattle.std.specs.Prelude.{nat_lt, nat_le, is_none, ◌&&◌}
 use Rattle.crossbeam_epoch.specs.declared.cells.Cell.{Cell}
 use Rattle.crossbeam_epoch.specs.declared.names.Name.{Name}
-use Rattle.crossbeam_epoch.specs.Store.{Store, cell_at, value_at, value_in, fresh, is_usable, IsNext, placed, replaced}
+use Rattle.crossbeam_epoch.specs.Store.{Store, cell_at, value_at, value_in, fresh, is_usable}
 use Rattle.joint.proofs.Edges.{tested, passes, fails}
 use Rattle.joint.proofs.Pairs.{same_or_not, one_name}
 

@@ -1,30 +1,26 @@
 -- What always holds of the nodes in their cells, over their changes.
-use Rattle.std.proofs.Common.{◌≡◌, ◌≢◌, ◌⊎◌, ℕ, zero, suc, ◌+◌, ◌-◌, ◌*◌, ◌<◌, ◌≤◌, ◌==◌, ◌++◌, inl, inr, Bool, true, false, List, [], ◌∷◌, length, get_or, set, refl, sym, ◌∙◌, ap, subst, arith, Option, Some, None, if◌then◌else◌, get_or-set_same, get_or-set_other}
-use Rattle.std.specs.Prelude.{MatchOption, nat_lt, nat_le, is_some, ◌&&◌, ◌^◌, ⊤}
+use Rattle.std.proofs.Common.{◌≡◌, ◌≢◌, ◌⊎◌, ℕ, ◌+◌, ◌-◌, ◌<◌, ◌≤◌, ◌==◌, inl, inr, Bool, true, false, List, length, get_or, set, refl, sym, ◌∙◌, ap, subst, arith, Option, Some, None, if◌then◌else◌, get_or-set_same, get_or-set_other}
+use Rattle.std.specs.Prelude.{MatchOption, nat_lt, nat_le, is_some, ◌&&◌, ⊤}
 use Rattle.std.specs.List.{sum_by}
-use Rattle.std.proofs.lemmas.List.{length-set, length_push}
-use Rattle.std.proofs.lemmas.List.Sums.{sum_by-set, sum_by_push}
+use Rattle.std.proofs.lemmas.List.{length-set}
+use Rattle.std.proofs.lemmas.List.Sums.{sum_by-set}
 use Rattle.std.proofs.lemmas.Bool.Decides.{nat_tests}
-use Rattle.crossbeam_epoch.specs.declared.bag.Entry.{Entry}
 use Rattle.crossbeam_epoch.specs.declared.bag.Work.{Work}
 use Rattle.crossbeam_epoch.specs.declared.bag.Work.TheVariants.{Blank, Remove, Run}
 use Rattle.crossbeam_epoch.specs.declared.cells.Cell.{Cell}
 use Rattle.crossbeam_epoch.specs.declared.names.Name.{Name}
 use Rattle.crossbeam_epoch.specs.Fits.{weight}
-use Rattle.crossbeam_epoch.specs.Machine.{with_store, after_work, destroys}
+use Rattle.crossbeam_epoch.specs.Machine.{after_work, destroys}
 use Rattle.crossbeam_epoch.specs.Progress.{Orderly, Moves}
-use Rattle.crossbeam_epoch.specs.Steps.{called_entry}
 use Rattle.crossbeam_epoch.specs.Store as S
-use Rattle.crossbeam_epoch.proofs.Jobs.{destroys_named}
 use Rattle.joint.specs.declared.slot.Slot.{Slot}
 use Rattle.joint.specs.declared.form.Form.{Form}
 use Rattle.joint.specs.Form.{size_of}
-use Rattle.joint.specs.Walk.{Body}
-use Rattle.joint.specs.Forest.{Forest, Clock, cells_of, turn_max_of, slot_at, retired_of, is_retired, size, sizes, waits, waiting_size, departed, same_name, removes, removal, IsCounted, IsFormed, HasForm, form_at, with_form, Sound, fresh, placed, Spares, IsSame}
-use Rattle.joint.proofs.Edges.{tested, passes, fails}
+use Rattle.joint.specs.Forest.{Forest, Clock, cells_of, turn_max_of, slot_at, retired_of, is_retired, size, sizes, waits, waiting_size, departed, removes, removal, IsCounted, IsFormed, HasForm, form_at, Sound, Spares}
+use Rattle.joint.proofs.Edges.{tested, passes}
 use Rattle.joint.proofs.Pairs.{same_or_not, same_name_or_not, one_name, some_inj}
-use Rattle.joint.proofs.Slots.{stands_in, StandsIn, written, written_here, written_beside, Usable, usable, put_here, put_beside}
-use Rattle.joint.proofs.Sums.{form_size, slot_size, slot_form, waits_bound, sizes_bound}
+use Rattle.joint.proofs.Slots.{stands_in, StandsIn, written, written_here, written_beside}
+use Rattle.joint.proofs.Sums.{form_size, waits_bound, sizes_bound}
 
 less : (m n : ℕ) → nat_lt m n ≡ true → m < n
 less m n h = grind (arith, nat_tests)
@@ -151,6 +147,16 @@ name_or d (Some x) = x
 some_name : (m n : Name) → Some m ≡ Some n → m ≡ n
 unfolding name_or
 some_name m n e = ap (name_or m) e
+
+removed_by : {V : Type 0} (st : S.Store (Slot V)) (b : Bool) (m n : Name) → (if b then Some m else None) ≡ Some n → ◌≡◌ {A = Work ⊤} (Remove m) (Remove n)
+removed_by st true m n e = ap (λ x. Remove x) (some_name m n e)
+removed_by st false m n e = absurd cc
+
+-- a job that destroys a cell is its removal
+destroys_named : {V : Type 0} (st : S.Store (Slot V)) (w : Work ⊤) (n : Name) → destroys st w ≡ Some n → w ≡ Remove n
+destroys_named st Blank n e = absurd cc
+destroys_named st (Run job) n e = absurd cc
+destroys_named st (Remove m) n e = removed_by st (is_some (S.value_at st m)) m n e
 
 standing_work : {V : Type 0} (st : S.Store (Slot V)) (b : Bool) (m n : Name) → is_some (S.value_at st m) ≡ b → (if b then Some m else None) ≡ Some n → is_some (S.value_at st n) ≡ true
 standing_work st true m n q e = ap (λ x. is_some (S.value_at st x)) (sym (some_name m n e)) ∙ q

@@ -1,5 +1,5 @@
 -- Sums over the cells.
-use Rattle.std.proofs.Common.{◌≡◌, ℕ, ◌+◌, ◌-◌, ◌*◌, ◌≤◌, Bool, true, false, List, [], ◌∷◌, length, zero, suc, get_or, refl, ◌∙◌, ap, arith, Option, Some, None, if◌then◌else◌}
+use Rattle.std.proofs.Common.{◌≡◌, ℕ, ◌+◌, ◌-◌, ◌*◌, ◌≤◌, Bool, true, false, List, [], ◌∷◌, length, suc, get_or, refl, ◌∙◌, ap, arith, Option, Some, None, if◌then◌else◌}
 use Rattle.std.specs.List.{sum_by}
 use Rattle.std.proofs.lemmas.List.Sums.{sum_by-cons}
 use Rattle.crossbeam_epoch.specs.declared.cells.Cell.{Cell}
@@ -9,7 +9,7 @@ use Rattle.joint.specs.declared.form.Form.TheVariants.{Node4, Node16, Node256}
 use Rattle.joint.specs.declared.slot.Slot.{Slot}
 use Rattle.joint.specs.Form.{size_of}
 use Rattle.joint.specs.Walk.{Body}
-use Rattle.joint.specs.Forest.{node_of, size_in, size, waits, waiting_size, departed, is_live, retired_of, SameForm, IsSame, HasForm, IsFormed}
+use Rattle.joint.specs.Forest.{node_of, size_in, size, waits, waiting_size, departed, is_live, retired_of, SameForm, IsSame, HasForm}
 
 same_size : {V : Type 0} (n m : Option (Body V)) → SameForm n m → size_in m ≡ size_in n
 same_size None None s = refl

@@ -7,19 +7,15 @@ use Rattle.crossbeam_epoch.specs.declared.names.Name.{Name}
 use Rattle.crossbeam_epoch.specs.declared.places.Participant.{Participant}
 use Rattle.crossbeam_epoch.specs.declared.places.Phase.{Phase}
 use Rattle.crossbeam_epoch.specs.declared.places.Phase.TheVariants as P
-use Rattle.crossbeam_epoch.specs.declared.report.Event.{Event}
 use Rattle.crossbeam_epoch.specs.declared.report.Event.TheVariants.{Begin, Go}
 use Rattle.crossbeam_epoch.specs.declared.report.Op.{Op}
 use Rattle.crossbeam_epoch.specs.declared.report.Op.TheVariants as O
 use Rattle.crossbeam_epoch.specs.declared.report.Outcome.{Outcome}
 use Rattle.crossbeam_epoch.specs.declared.report.Outcome.TheVariants.{Running, Done, Refused}
 use Rattle.crossbeam_epoch.specs.declared.report.Report.{Report}
-use Rattle.crossbeam_epoch.specs.Machine.{State, place, blank, with_place, in_phase, published, advanced, took, taken, called, called_one, queued, left, registered, is_due, after_call, is_at, ends_advance}
+use Rattle.crossbeam_epoch.specs.Machine.{State, place, blank, with_place, in_phase, taken, called_one, registered, is_due, is_at, ends_advance}
 use Rattle.crossbeam_epoch.specs.Progress.{Orderly, Moves, Begins, GoesOn, IsOn, Secures, refusal, queues, collects, comes_by, stage, steps_left}
-use Rattle.crossbeam_epoch.specs.Steps.{after, moved, gone, begun, begun_at, begin_fault, fault, event_fault, outcome_at, needs_memory, given_up, IsOutcome, IsReport}
-use Rattle.crossbeam_epoch.proofs.Progress.{no_call_yet, no_call_begins}
-use Rattle.crossbeam_epoch.proofs.Stages.{goes_on, begins}
-use Rattle.joint.proofs.Pairs.{same_or_not}
+use Rattle.crossbeam_epoch.specs.Steps.{after, gone, begun, begun_at, begin_fault, fault, outcome_at, needs_memory, given_up, IsOutcome, IsReport}
 
 -- a call is about to queue its bag
 abbrev pub sealing : Phase → Bool
@@ -129,6 +125,13 @@ register_idle {T} {J} s s' (Ok n) m idle q =
     ap (λ (w : State T J). (place w q).phase) m ∙ (phase_set s.table n q (record (place s n) { registered = true; pins = 0 }) refl ∙ idle q)
 register_idle {T} {J} s s' (Err e) m idle q = ap (λ (w : State T J). (place w q).phase) m.1 ∙ idle q
 
+-- what the collector promises of the steps of a call
+pub record Laws (T J : Type 0) : Type 0 where
+  pub begins : (s : State T J) (who : ℕ) (op : Op) (r : Report) → (place s who).phase ≡ P.Idle → IsReport s who (Begin op) r → Begins s who op r.outcome (after s who (Begin op) r.outcome)
+  pub goes_on : (s : State T J) (who : ℕ) (op : Op) (r : Report) → Orderly s → IsOn op (place s who) → IsReport s who Go r → GoesOn s who op r.outcome (after s who Go r.outcome)
+  pub first : (s : State T J) (who : ℕ) (op : Op) (r : Report) → IsReport s who (Begin op) r → r.called ≡ None
+  pub quiet : (s : State T J) (who : ℕ) (r : Report) → collects (place s who).phase ≡ false → IsReport s who Go r → r.called ≡ None
+
 module _ {T J : Type 0} where
   -- one phase after another
   pub phase_on : (s : State T J) (who : ℕ) (a b : Phase) → who < length s.table → in_phase (in_phase s who a) who b ≡ in_phase s who b
@@ -227,11 +230,11 @@ module _ {T J : Type 0} where
   store_kept s new who None e m = m.jobs.0
   store_kept s new who (Some x) e m = absurd cc
 
-  pub begins_on : (s new : State T J) (who : ℕ) (op : Op) (r : Report) → length s.table ≤ 256 → (place s who).phase ≡ P.Idle → IsReport s who (Begin op) r → Moves s who r.called new → new ≡ after s who (Begin op) r.outcome → r.outcome ≡ Running → Underway s new who op 1
-  begins_on s new who op r few idle is m e run =
+  pub begins_on : Laws T J → (s new : State T J) (who : ℕ) (op : Op) (r : Report) → length s.table ≤ 256 → (place s who).phase ≡ P.Idle → IsReport s who (Begin op) r → Moves s who r.called new → new ≡ after s who (Begin op) r.outcome → r.outcome ≡ Running → Underway s new who op 1
+  begins_on law s new who op r few idle is m e run =
       let B : Outcome → Type 0 = λ o. Begins s who op o (after s who (Begin op) r.outcome) in
       let C : State T J → Type 0 = λ w. Begins s who op Running w in
-      let b : Begins s who op Running new = subst C (sym e) (subst B run (begins s who op r idle is)) in
+      let b : Begins s who op Running new = subst C (sym e) (subst B run (law.begins s who op r idle is)) in
       let lt : who < length s.table = omega (arith, in_table new.table who b.1.0, m.table) in
       let st : new ≡ begun s who op = begun_state s new who op r.outcome run e in
       record {
@@ -244,20 +247,20 @@ module _ {T J : Type 0} where
           | inr f ↦ absurd (no_seal (sealing (place new who).phase) sl (ap (λ (w : State T J). sealing (place w who).phase) st ∙ f))
         ];
         free = b.0;
-        store = λ k z. store_kept s new who r.called (no_call_begins s who op r is) m;
+        store = λ k z. store_kept s new who r.called (law.first s who op r is) m;
         secures = b.3;
       }
 
-  secured_store : (s now new : State T J) (who : ℕ) (op : Op) (n : ℕ) (r : Report) → Underway s now who op n → IsReport now who Go r → Moves now who r.called new → (k : ℕ) → op ≡ O.Secure k → new.store ≡ s.store
-  secured_store s now new who op n r u is m k z =
+  secured_store : Laws T J → (s now new : State T J) (who : ℕ) (op : Op) (n : ℕ) (r : Report) → Underway s now who op n → IsReport now who Go r → Moves now who r.called new → (k : ℕ) → op ≡ O.Secure k → new.store ≡ s.store
+  secured_store law s now new who op n r u is m k z =
       let Q : Op → Type 0 = λ o. comes_by (stage (place now who).phase) o ≡ true in
-      store_kept now new who r.called (no_call_yet now who r (secure_quiet (place now who).phase k (subst Q z u.on.1)) is) m ∙ u.store k z
+      store_kept now new who r.called (law.quiet now who r (secure_quiet (place now who).phase k (subst Q z u.on.1)) is) m ∙ u.store k z
 
-  pub goes_further : (s now new : State T J) (who : ℕ) (op : Op) (n : ℕ) (r : Report) → Orderly now → Underway s now who op n → IsReport now who Go r → Moves now who r.called new → new ≡ after now who Go r.outcome → r.outcome ≡ Running → Underway s new who op (suc n)
-  goes_further s now new who op n r ord u is m e run =
+  pub goes_further : Laws T J → (s now new : State T J) (who : ℕ) (op : Op) (n : ℕ) (r : Report) → Orderly now → Underway s now who op n → IsReport now who Go r → Moves now who r.called new → new ≡ after now who Go r.outcome → r.outcome ≡ Running → Underway s new who op (suc n)
+  goes_further law s now new who op n r ord u is m e run =
       let B : Outcome → Type 0 = λ o. GoesOn now who op o (after now who Go r.outcome) in
       let C : State T J → Type 0 = λ w. GoesOn now who op Running w in
-      let b : GoesOn now who op Running new = subst C (sym e) (subst B run (goes_on now who op r ord u.on is)) in
+      let b : GoesOn now who op Running new = subst C (sym e) (subst B run (law.goes_on now who op r ord u.on is)) in
       let lt : who < length now.table = in_table now.table who u.on.0 in
       let lt' : who < length s.table = omega (arith, lt, u.table) in
       let st : new ≡ gone now who (place now who).phase = gone_state now new who r.outcome run e in
@@ -272,7 +275,7 @@ module _ {T J : Type 0} where
           | inr f ↦ absurd (no_seal (sealing (place new who).phase) sl (ap (λ (w : State T J). sealing (place w who).phase) st ∙ f))
         ];
         free = u.free;
-        store = λ k z. secured_store s now new who op n r u is m k z;
+        store = λ k z. secured_store law s now new who op n r u is m k z;
         secures = secures_on op (place s who) (place now who) (place new who) u.secures b.2;
       }
 
@@ -285,22 +288,22 @@ module _ {T J : Type 0} where
   back_by s now who op n false new u idle nm e i = absurd (resting (place now who).phase op (ap (λ (w : State T J). (place w who).phase) (sym e) ∙ i) u.on.1)
 
   -- a call that found no memory left everything as it was
-  pub goes_back : (s now new : State T J) (who : ℕ) (op : Op) (n : ℕ) (r : Report) (f : Fault) → Orderly now → (place s who).phase ≡ P.Idle → Underway s now who op n → IsReport now who Go r → new ≡ after now who Go r.outcome → r.outcome ≡ Refused f
+  pub goes_back : Laws T J → (s now new : State T J) (who : ℕ) (op : Op) (n : ℕ) (r : Report) (f : Fault) → Orderly now → (place s who).phase ≡ P.Idle → Underway s now who op n → IsReport now who Go r → new ≡ after now who Go r.outcome → r.outcome ≡ Refused f
       → (new ≡ s) × (f ≡ F.Memory) × (queues op ≡ true)
-  goes_back s now new who op n r f ord idle u is e run =
+  goes_back law s now new who op n r f ord idle u is e run =
       let B : Outcome → Type 0 = λ o. GoesOn now who op o (after now who Go r.outcome) in
       let C : State T J → Type 0 = λ w. GoesOn now who op (Refused f) w in
-      let b : GoesOn now who op (Refused f) new = subst C (sym e) (subst B run (goes_on now who op r ord u.on is)) in
+      let b : GoesOn now who op (Refused f) new = subst C (sym e) (subst B run (law.goes_on now who op r ord u.on is)) in
       let st : new ≡ given_up now who Go = e ∙ (ap (after now who Go) run ∙ ap (λ x. after now who Go (Refused x)) b.0) in
       (back_by s now who op n (needs_memory Go (place now who).phase) new u idle refl st b.2, b.0, b.1)
 
-  pub goes_done : (s now new : State T J) (who : ℕ) (op : Op) (n : ℕ) (r : Report) → Orderly now → Underway s now who op n → IsReport now who Go r → Moves now who r.called new → new ≡ after now who Go r.outcome → r.outcome ≡ Done
+  pub goes_done : Laws T J → (s now new : State T J) (who : ℕ) (op : Op) (n : ℕ) (r : Report) → Orderly now → Underway s now who op n → IsReport now who Go r → Moves now who r.called new → new ≡ after now who Go r.outcome → r.outcome ≡ Done
       → ((place new who).phase ≡ P.Idle) × Secures op (place s who) (place new who) × ((k : ℕ) → op ≡ O.Secure k → new.store ≡ s.store)
-  goes_done s now new who op n r ord u is m e run =
+  goes_done law s now new who op n r ord u is m e run =
       let B : Outcome → Type 0 = λ o. GoesOn now who op o (after now who Go r.outcome) in
       let C : State T J → Type 0 = λ w. GoesOn now who op Done w in
-      let b : GoesOn now who op Done new = subst C (sym e) (subst B run (goes_on now who op r ord u.on is)) in
-      (b.0, secures_on op (place s who) (place now who) (place new who) u.secures b.1, λ k z. secured_store s now new who op n r u is m k z)
+      let b : GoesOn now who op Done new = subst C (sym e) (subst B run (law.goes_on now who op r ord u.on is)) in
+      (b.0, secures_on op (place s who) (place now who) (place new who) u.secures b.1, λ k z. secured_store law s now new who op n r u is m k z)
 
   by_fault : (s : State T J) (who k : ℕ) (f : Option Fault) (o : Outcome) → who < length s.table → o ≡ Done → IsOutcome s who (Begin (O.Secure k)) f o → ⊥
   by_fault s who k (Some f) o lt e is = (let z : Done ≡ Refused f = sym e ∙ is in cc)

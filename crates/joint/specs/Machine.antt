@@ -1,5 +1,5 @@
 -- The machine of tree and collector, and what its calls make of it.
-use Rattle.std.specs.Prelude.{◌≡◌, ℕ, ◌+◌, ◌^◌, ◌<◌, ◌≤◌, true, false, List, [], ◌∷◌, length, Option, Some, None, IfSome, MatchOption, ◌⊎◌, Result, MatchResult}
+use Rattle.std.specs.Prelude.{◌≡◌, ℕ, ◌+◌, ◌^◌, ◌<◌, ◌≤◌, true, false, List, length, Option, Some, None, IfSome, MatchOption, ◌⊎◌, Result, MatchResult}
 use Rattle.std.specs.Int.{to_be_bytes, w64}
 use Rattle.std.specs.FinMap.{FinMap, get, insert, empty}
 use Rattle.std.specs.Ordering.{nat_cmp}
@@ -20,10 +20,10 @@ use Rattle.crossbeam_epoch.specs.declared.fault.Fault.{Fault}
 use Rattle.crossbeam_epoch.specs.declared.report.Op.{Op as Turn}
 use Rattle.crossbeam_epoch.specs.declared.report.Op.TheVariants as turn
 use Rattle.crossbeam_epoch.specs.Machine.{place, registered}
-use Rattle.crossbeam_epoch.specs.Store.{Store, is_usable}
+use Rattle.crossbeam_epoch.specs.Store.{is_usable}
 use Rattle.joint.specs.Collector.{IsWhole}
 use Rattle.joint.specs.Refusals.{of_guard, refusal_of}
-use Rattle.joint.specs.Forest.{Forest, Clock, heap, value_at, sizes, plan, planted, Adds, Spares, Stands}
+use Rattle.joint.specs.Forest.{Forest, heap, value_at, sizes, plan, planted, Adds, Spares, Stands}
 use Rattle.joint.specs.declared.plan.Plan.{Plan}
 use Rattle.joint.specs.declared.plan.Plan.TheVariants.{Overwrite, Add, Link, Grow, Later}
 

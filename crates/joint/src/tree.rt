@@ -93,8 +93,10 @@ impl Tree<u64> {
         requires some_cell { 1 ≤ limits.cells }
         requires cells { limits.cells ≤ 16777215 }
         requires places { limits.participants ≤ 256 }
-        ensures { IfOk result (λ t. t ≡ planted limits) }
+        ensures state { IfOk result (λ t. t ≡ planted limits) }
+        ensures idle { IfOk result (λ t. IsIdle t.collector) }
     {
+        World::<Slot<u64>, ()>::order();
         fits_32_bits(limits.turn_max);
         let Ok(mut collector) = World::new(alloc, limits, 0) else {
             return Err(AllocError);
@@ -180,6 +182,7 @@ impl Tree<u64> {
         ensures unchanged { IfSome result.fault (λ f. self.new ≡ self.old) }
         ensures ready { (n : ℕ) → op ≡ Op.Secure n → result.fault ≡ None → Readies self.old self.new who n }
     {
+        World::<Slot<u64>, ()>::progress();
         let mut ended = Ended {
             fault: None,
             destroyed: 0,

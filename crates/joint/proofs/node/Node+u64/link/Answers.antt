@@ -1,8 +1,7 @@
-use Rattle.std.proofs.Common.{ap, ◌∙◌, arith}
+use Rattle.std.proofs.Common.{ap, ◌∙◌}
 use Rattle.std.specs.List.{slice_get}
 use Rattle.joint.specs.Walk.{names_in}
-use Rattle.joint.proofs.Names.{named, unnamed, no_more}
-use Rattle.joint.proofs.Sounds.{step_stays, step_destroys, sound_sets, sound_stays, emptied, counted}
+use Rattle.joint.proofs.Names.{named}
 use Rattle.joint.proofs.node.Node+u64.link.Goals as goal
 
 pub returns-then-left-eq0 : goal.returns-then-left-eq0

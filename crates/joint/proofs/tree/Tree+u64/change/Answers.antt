@@ -1,11 +1,9 @@
 use Rattle.std.proofs.Common.{◌≡◌, ◌≤◌, ◌∙◌, ap, subst, refl, ℕ, arith, Option}
 use Rattle.std.specs.Prelude.{is_some, vec_capacity}
-use Rattle.crossbeam_epoch.specs.Machine.{with_store}
 use Rattle.crossbeam_epoch.specs.Store as S
 use Rattle.joint.specs.Walk.{Body}
 use Rattle.joint.specs.Forest.{Forest, Clock, Edits, CanChange, HangsIn}
-use Rattle.joint.proofs.Slots.{written}
-use Rattle.joint.proofs.Editing.{edits, edited, edits_none, is_out, put_in}
+use Rattle.joint.proofs.Editing.{edits, edited, is_out, put_in}
 use Rattle.joint.proofs.tree.Tree+u64.change.Goals as goal
 
 pub put_back-requires : goal.put_back-requires

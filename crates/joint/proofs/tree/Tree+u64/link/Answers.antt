@@ -1,6 +1,5 @@
-use Rattle.std.proofs.Common.{◌≡◌, ◌∙◌, ap, subst, sym, ℕ}
+use Rattle.std.proofs.Common.{◌∙◌, ap, subst, sym, ℕ}
 use Rattle.joint.specs.Forest.{Forest}
-use Rattle.joint.specs.Collector.{IsIdle}
 use Rattle.joint.proofs.Planting.{links, Placed}
 use Rattle.joint.proofs.Placing.{is_placed, idle_table}
 use Rattle.joint.proofs.tree.Tree+u64.link.Goals as goal

@@ -1,4 +1,4 @@
-use Rattle.std.proofs.Common.{◌≡◌, ◌≤◌, ◌<◌, ◌+◌, ◌∙◌, ap, subst, refl, sym, ℕ, arith, length}
+use Rattle.std.proofs.Common.{◌≡◌, ◌≤◌, ◌<◌, ◌+◌, ◌∙◌, ap, subst, sym, ℕ, arith, length}
 use Rattle.std.specs.Prelude.{vec_capacity}
 use Rattle.crossbeam_epoch.specs.Machine.{with_store}
 use Rattle.crossbeam_epoch.specs.Store as S

@@ -1,4 +1,4 @@
-use Rattle.std.proofs.Common.{◌≡◌, ℕ, ap, subst}
+use Rattle.std.proofs.Common.{ℕ, subst}
 use Rattle.joint.specs.Forest.{Forest}
 use Rattle.joint.specs.Collector.{IsIdle}
 use Rattle.joint.proofs.Turning.{register_idle}

@@ -1,5 +1,4 @@
-use Rattle.std.proofs.Common.{ap, ◌∙◌}
-use Rattle.joint.proofs.Planting.{retired, growing}
+use Rattle.joint.proofs.Planting.{retired}
 use Rattle.joint.proofs.tree.Tree+u64.replace.Goals as goal
 
 pub returns-clause-pairs : goal.returns-clause-pairs

@@ -73,7 +73,7 @@ invariant_of-self c =
     let f : c.index.result.now ≡ form_at i.forms.items c.args.at.cell = c.index.ensures ∙ in_range i.forms.items c.args.at.cell c.index.result.now Node4 inside in
     let size : c.size.result ≡ size_of (form_at i.forms.items c.args.at.cell) = c.size.ensures ∙ ap size_of f in
     let t' : Forest ℕ = record { collector = c.put_off.new.collector; forms = i.forms.items; waiting = i.waiting + 1; waiting_bytes = i.waiting_bytes + c.size.result } in
-    let r = retired t t' c.args.at c.in-Some.slot c.put_back.new.collector c.args.who z e live k c.put_off.ensures (in_table i.collector.table c.args.who g.0) (let room = c.requires.ready in omega (arith, bag, room)) refl refl (ap (λ n. i.waiting_bytes + n) size) in
+    let r = retired c.order.ensures.deferred t t' c.args.at c.in-Some.slot c.put_back.new.collector c.args.who z e live k c.put_off.ensures (in_table i.collector.table c.args.who g.0) (let room = c.requires.ready in omega (arith, bag, room)) refl refl (ap (λ n. i.waiting_bytes + n) size) in
     let most : c.put_off.new.collector.store.most ≡ i.collector.store.most = ap (λ (w : Clock ℕ). w.store.most) c.put_off.ensures ∙ ap (λ (w : Clock ℕ). w.store.most) k in
     let cap : i.collector.store.most ≤ vec_capacity i.forms = c.self.invariant.0 in
     (omega (arith, most, cap), r.sound)
@@ -93,7 +93,7 @@ returns-in-Some-clause-retired c =
     let f : c.index.result.now ≡ form_at i.forms.items c.args.at.cell = c.index.ensures ∙ in_range i.forms.items c.args.at.cell c.index.result.now Node4 inside in
     let size : c.size.result ≡ size_of (form_at i.forms.items c.args.at.cell) = c.size.ensures ∙ ap size_of f in
     let t' : Forest ℕ = record { collector = c.put_off.new.collector; forms = i.forms.items; waiting = i.waiting + 1; waiting_bytes = i.waiting_bytes + c.size.result } in
-    let r = retired t t' c.args.at c.in-Some.slot c.put_back.new.collector c.args.who z e live k c.put_off.ensures (in_table i.collector.table c.args.who g.0) (let room = c.requires.ready in omega (arith, bag, room)) refl refl (ap (λ n. i.waiting_bytes + n) size) in
+    let r = retired c.order.ensures.deferred t t' c.args.at c.in-Some.slot c.put_back.new.collector c.args.who z e live k c.put_off.ensures (in_table i.collector.table c.args.who g.0) (let room = c.requires.ready in omega (arith, bag, room)) refl refl (ap (λ n. i.waiting_bytes + n) size) in
     let P : Forest ℕ → Type 0 = λ w. Retires w t' c.args.at in
     subst P c.self.view_is r.retires
 
@@ -112,5 +112,5 @@ returns-in-Some-clause-sizes c =
     let f : c.index.result.now ≡ form_at i.forms.items c.args.at.cell = c.index.ensures ∙ in_range i.forms.items c.args.at.cell c.index.result.now Node4 inside in
     let size : c.size.result ≡ size_of (form_at i.forms.items c.args.at.cell) = c.size.ensures ∙ ap size_of f in
     let t' : Forest ℕ = record { collector = c.put_off.new.collector; forms = i.forms.items; waiting = i.waiting + 1; waiting_bytes = i.waiting_bytes + c.size.result } in
-    let r = retired t t' c.args.at c.in-Some.slot c.put_back.new.collector c.args.who z e live k c.put_off.ensures (in_table i.collector.table c.args.who g.0) (let room = c.requires.ready in omega (arith, bag, room)) refl refl (ap (λ n. i.waiting_bytes + n) size) in
+    let r = retired c.order.ensures.deferred t t' c.args.at c.in-Some.slot c.put_back.new.collector c.args.who z e live k c.put_off.ensures (in_table i.collector.table c.args.who g.0) (let room = c.requires.ready in omega (arith, bag, room)) refl refl (ap (λ n. i.waiting_bytes + n) size) in
     r.sizes ∙ ap sizes c.self.view_is

@@ -1,4 +1,4 @@
-use Rattle.std.proofs.Common.{◌≡◌, ◌∙◌, ap, subst, sym, ℕ}
+use Rattle.std.proofs.Common.{◌∙◌, ap, subst, sym, ℕ}
 use Rattle.joint.specs.Forest.{Forest}
 use Rattle.joint.proofs.Planting.{swaps, kept_leaf, Placed}
 use Rattle.joint.proofs.Placing.{is_placed}

@@ -1,4 +1,4 @@
-use Rattle.std.proofs.Common.{◌≡◌, ◌⊎◌, ℕ, List, length, subst, ◌∙◌, ap, sym, refl, arith, rules, None, inl, inr}
+use Rattle.std.proofs.Common.{◌≡◌, ℕ, List, length, subst, ◌∙◌, ap, sym, refl, arith, rules, None, inr}
 use Rattle.std.proofs.lemmas.Grind.{common_steps}
 use Rattle.joint.specs.declared.plan.Plan.TheVariants.{Later}
 use Rattle.joint.specs.declared.steps.Done.TheVariants.{Insert as Inserted}

@@ -1,10 +1,10 @@
-use Rattle.std.proofs.Common.{◌≡◌, ◌+◌, ◌∙◌, ap, subst, sym, refl, ℕ, arith, None, Some, true, false}
+use Rattle.std.proofs.Common.{◌≡◌, ◌∙◌, ap, subst, sym, refl, ℕ, arith, false}
 use Rattle.joint.specs.declared.refusal.Refusal.{Refusal}
 use Rattle.joint.specs.declared.steps.Kind.TheVariants.{Collection}
 use Rattle.joint.specs.declared.steps.Outcome.{Outcome}
-use Rattle.joint.specs.declared.steps.Outcome.TheVariants.{Done, Refused}
+use Rattle.joint.specs.declared.steps.Outcome.TheVariants.{Refused}
 use Rattle.joint.specs.declared.steps.Report.{Report}
-use Rattle.joint.specs.Forest.{sizes, IsAsBefore}
+use Rattle.joint.specs.Forest.{IsAsBefore}
 use Rattle.joint.specs.Machine.{State, Serves, outcome_of}
 use Rattle.joint.proofs.Growth.{as_before}
 use Rattle.joint.proofs.Maps.{all_unchanged}
