@@ -1,6 +1,6 @@
 -- Where the names of a next phase come from: each step of the table gives the call a name that it had, the root's,
 -- that of a node just made, or that of a child which the check of its parent found.
-use Rattle.std.proofs.Common.{◌≡◌, ℕ, zero, suc, ◌==◌, ◌≤◌, ◌⊎◌, inl, inr, Bool, true, false, List, length, refl, sym, ◌∙◌, subst, arith}
+use Rattle.std.proofs.Common.{◌≡◌, ℕ, ◌==◌, ◌⊎◌, inl, inr, Bool, true, false, List, length, refl, sym, ◌∙◌, subst}
 use Rattle.std.specs.Prelude.{Option, None, Some, Result, Ok, Err, slice_index}
 use Rattle.std.specs.List.{All, Contains}
 use Rattle.std.proofs.lemmas.List.Elements.{All-from_recursion, recursion_from_All, All-weaker, All-contains_itself}
@@ -35,32 +35,13 @@ use Rattle.congee.specs.Heap.{Node, Below, is_taken}
 use Rattle.congee.specs.Events.{hung}
 use Rattle.congee.specs.Steps.{quiet, again, answered, finished, refused, decided, Uncounted, adds, asks_new, absent_reply, seat_above, after_version, after_read, down, started, ready, plan_here, unless_full, absent, IsAsked, replaced, taken_out, emptied, is_same, IsAtOld, IsAdded, IsExchanged, IsPresent, IsChecked, after_miss, IsGiven, IsGivenNew, MadeLeaf, greater, MadeGreater, MadeTop, MadeBeside, UpgradedOne, UpgradedAbove, UpgradedBoth, after_change, unwound, PhaseStepped}
 use Rattle.congee.specs.Keys.{key_bytes}
-use Rattle.congee.specs.Ledger.{Note, Linked, IsChild, HasParent, Tree, Words}
+use Rattle.congee.specs.Ledger.{Note, Linked, Words}
 use Rattle.congee.specs.Protocol.{Knows, Known}
-use Rattle.congee.specs.Names.{name_above, name_seated, name_made, names_for_one, names_for_two, names_site, names_one, names_two, names_plan, names, InTree, from_root, from_parent, Comes, Had, Top, New_made, Hangs, KeepsOrigin}
+use Rattle.congee.specs.Names.{name_above, name_seated, name_made, names_for_one, names_for_two, names_site, names_one, names_two, names_plan, names, Comes, Had, Top, New_made, Hangs, KeepsOrigin}
 use Rattle.congee.proofs.Each.{Each, both, left, right}
 use Rattle.congee.proofs.Graft.{on_test}
-use Rattle.congee.proofs.Tree.{same_or_not}
 use Rattle.congee.proofs.Touch.{by_test, taken_linked}
-
--- what is linked is in the tree
-linked_under : {V : Type 0} (a : ℕ → Note) (h : ℕ → Node V) → Tree a h → (d n : ℕ) → length (h n).prefix ≤ d → (a n).status ≡ Linked → InTree h n
-linked_under a h t zero n le l =
-    elim (same_or_not n 0) [
-      | inl e ↦ subst (InTree h) (sym e) from_root
-      | inr ne ↦ let u : HasParent a h n = t.up n l ne in
-          let i : IsChild a h (a n).parent u.byte n = t.down (a n).parent u.byte n u.linked u.holds in absurd (omega (arith, i.longer))
-    ]
-linked_under a h t (suc d) n le l =
-    elim (same_or_not n 0) [
-      | inl e ↦ subst (InTree h) (sym e) from_root
-      | inr ne ↦ let u : HasParent a h n = t.up n l ne in
-          let i : IsChild a h (a n).parent u.byte n = t.down (a n).parent u.byte n u.linked u.holds in
-          from_parent (a n).parent u.byte n (linked_under a h t d (a n).parent (omega (arith, i.longer)) u.linked) u.holds
-    ]
-
-pub linked_in : {V : Type 0} (a : ℕ → Note) (h : ℕ → Node V) → Tree a h → (n : ℕ) → (a n).status ≡ Linked → InTree h n
-linked_in a h t n l = linked_under a h t (length (h n).prefix) n (omega arith) l
+use Rattle.congee.proofs.Unlinking.{linked_in}
 
 -- the names of a next phase all have what the names before it, the root's and the new ones have
 module _ {C : Type 0} (V : Type 0) (number : C → ℕ) (K : ℕ → Type 0) where
@@ -295,5 +276,5 @@ stepped_origin {C} {V} number same always most m h fail answer given' turn m' h'
     let P : Phase C V → Type 0 = λ x. All K (names number x) in
     subst P (sym e) (All-from_recursion K (names number turn.phase)
     (step_names V number K m.root (Top refl) h h' (λ n x y. New_made x y) m.key m.kind same always most i a fail answer m.given given' turn w
-    (λ p b n l e. Hangs p b (linked_in a h t p l) e)
+    (λ p b n l e. Hangs p b (linked_in a h p t l) e)
     m.phase known s (recursion_from_All K had (All-weaker (Contains had) K (λ n c. Had c) had (All-contains_itself had)))))

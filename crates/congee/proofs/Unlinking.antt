@@ -34,7 +34,7 @@ reached a h t (suc f) n lt l = elim (same_or_not n 0) [
       (r.0 ++ u.byte ∷ [], leads_more h r.0 0 (a n).parent u.byte n r.1 u.holds))
 ]
 
-linked_in : {V : Type 0} (a : ℕ → Note) (h : ℕ → Node V) (n : ℕ) → Tree a h → (a n).status ≡ Linked → InTree h n
+pub linked_in : {V : Type 0} (a : ℕ → Note) (h : ℕ → Node V) (n : ℕ) → Tree a h → (a n).status ≡ Linked → InTree h n
 linked_in a h n t l = reached a h t (suc (length (h n).prefix)) n (omega arith) l
 
 in_linked : {V : Type 0} (a : ℕ → Note) (h : ℕ → Node V) (n : ℕ) → Tree a h → InTree h n → (a n).status ≡ Linked

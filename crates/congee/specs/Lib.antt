@@ -1,5 +1,4 @@
 pub mod Arena
-pub mod Balance
 pub mod Bytes
 pub mod Changes
 pub mod Content

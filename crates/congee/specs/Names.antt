@@ -16,6 +16,7 @@ use Rattle.congee.specs.declared.phase.Phase.{Phase}
 use Rattle.congee.specs.declared.phase.Phase.TheVariants.{New, Version, Read, Check, CheckUncopied, CheckMiss, CheckDown, CheckOld, MakeLeaf, MakeGreater, MakeTop, MakeBeside, AskOld, AskNew, Confirm, CheckAbove, UpgradeOne, ChangeOne, UpgradeAbove, UpgradeBoth, ChangeTwo, Obsolete, Retire, UnlockBelow, Unlock, Unwind, Ended}
 use Rattle.congee.specs.declared.machine.Machine.{Machine}
 use Rattle.congee.specs.Heap.{Node, Below}
+use Rattle.congee.specs.Handing.{InTree}
 use Rattle.congee.specs.Keys.{key_bytes}
 use Rattle.congee.specs.Ledger.{Note, Tree, Words}
 use Rattle.congee.specs.Protocol.{Known}
@@ -88,11 +89,6 @@ names number (UnlockBelow n p r) = number n ∷ number p ∷ []
 names number (Unlock n r) = number n ∷ []
 names number (Unwind n e) = number n ∷ []
 names number Ended = []
-
--- a node is in the tree: the root is, and so is each node that hangs in one of the tree
-pub data InTree {V : Type 0} (h : ℕ → Node V) : ℕ → Type 0 where
-  from_root : InTree h 0
-  from_parent : (n b c : ℕ) → InTree h n → (h n).children b ≡ Below c → InTree h c
 
 -- where a call has a name from after a step: it had it before; it is the root's; the step made the node; or the node
 -- hangs, at this step, in a node of the tree
