@@ -18,6 +18,7 @@ pub mod Holdings
 pub mod IndexLemmas
 pub mod Joins
 pub mod Keys
+pub mod Leads
 pub mod Link
 pub mod MapLemmas
 pub mod MaskLemmas

@@ -8,7 +8,7 @@ use Rattle.congee.specs.Keys.{key_bytes}
 use Rattle.congee.proofs.Gaps.{digit}
 
 -- the number of the first j bytes
-abbrev top : ℕ → ℕ → ℕ
+abbrev pub top : ℕ → ℕ → ℕ
 top q j = q / 2 ^ (8 * (8 - j))
 
 top_step : (q j : ℕ) → j < 8 → top q (j + 1) ≡ 256 * top q j + get_or (key_bytes q) j 0
@@ -24,7 +24,7 @@ top_none q l = omega (arith, l)
 top_all : (q : ℕ) → top q 8 ≡ q
 top_all q = div-one q
 
-same_top : (a b d : ℕ) → a < 2 ^ 64 → b < 2 ^ 64 → d ≤ 8 → ((j : ℕ) → j < d → get_or (key_bytes a) j 0 ≡ get_or (key_bytes b) j 0) → top a d ≡ top b d
+pub same_top : (a b d : ℕ) → a < 2 ^ 64 → b < 2 ^ 64 → d ≤ 8 → ((j : ℕ) → j < d → get_or (key_bytes a) j 0 ≡ get_or (key_bytes b) j 0) → top a d ≡ top b d
 same_top a b zero la lb l h = top_none a la ∙ sym (top_none b lb)
 same_top a b (suc d) la lb l h =
     let rest = same_top a b d la lb (omega (arith, l)) (λ j k. h j (omega (arith, k))) in
@@ -33,6 +33,23 @@ same_top a b (suc d) la lb l h =
     let z = h d (omega arith) in
     let s : d + 1 ≡ suc d = omega arith in
     subst (λ n. top a n ≡ top b n) s (omega (arith, rest, x, y, z))
+
+-- the other way round
+pub same_bytes : (a b d : ℕ) → d ≤ 8 → top a d ≡ top b d → (j : ℕ) → j < d → get_or (key_bytes a) j 0 ≡ get_or (key_bytes b) j 0
+same_bytes a b zero l h j k = absurd (omega (arith, k))
+same_bytes a b (suc d) l h j k =
+    let s : d + 1 ≡ suc d = omega arith in
+    let h' : top a (d + 1) ≡ top b (d + 1) = subst (λ n. top a n ≡ top b n) (sym s) h in
+    let x = top_step a d (omega (arith, l)) in
+    let y = top_step b d (omega (arith, l)) in
+    let ex = digit a d (omega (arith, l)) in
+    let ey = digit b d (omega (arith, l)) in
+    let above : top a d ≡ top b d = omega (arith, h', x, y, ex, ey) in
+    let here : get_or (key_bytes a) d 0 ≡ get_or (key_bytes b) d 0 = omega (arith, h', x, y, above) in
+    elim (cases_lt j d) [
+      | inl lt ↦ same_bytes a b d (omega (arith, l)) above j lt
+      | inr ge ↦ (let e : d ≡ j = omega (arith, ge, k) in subst (λ n. get_or (key_bytes a) n 0 ≡ get_or (key_bytes b) n 0) e here)
+    ]
 
 -- the first byte in which two numbers differ tells which is less
 pub less : (a b d : ℕ) → a < 2 ^ 64 → b < 2 ^ 64 → d < 8 → ((j : ℕ) → j < d → get_or (key_bytes a) j 0 ≡ get_or (key_bytes b) j 0)

@@ -217,15 +217,15 @@ now_locked nodes i v most x z y fail ef ne m e ez taken same = record {
 }
 
 -- what a look at an unchanged node finds
-pub seen_truly : (n : PlainNode) (key : List ℕ) (b depth : ℕ) (s : Seen ℕ ℕ) → depth ≡ length n.prefix.items → b ≡ slice_index key depth → b < 256 → IsTruly n b s → SeenTruly (λ c. c) (node_of (Some n)) key s
+pub seen_truly : (n : PlainNode) (key : List ℕ) (b depth : ℕ) (s : Seen ℕ ℕ) → depth ≡ length n.prefix → b ≡ slice_index key depth → b < 256 → IsTruly n b s → SeenTruly (λ c. c) (node_of (Some n)) key s
 seen_truly n key b depth s ed e l t =
-    let at : b ≡ slice_index key (length n.prefix.items) = e ∙ ap (λ d. slice_index key d) ed in
-    let child : hung (λ c. c) s.child ≡ child_at n.children.items (slice_index key (length n.prefix.items)) = t.child_is ∙ ap (λ y. child_at n.children.items y) at in
-    let within : slice_index key (length n.prefix.items) < length n.children.items = omega (arith, l, at, n.wide) in
+    let at : b ≡ slice_index key (length n.prefix) = e ∙ ap (λ d. slice_index key d) ed in
+    let child : hung (λ c. c) s.child ≡ child_at n.children.items (slice_index key (length n.prefix)) = t.child_is ∙ ap (λ y. child_at n.children.items y) at in
+    let within : slice_index key (length n.prefix) < length n.children.items = omega (arith, l, at, n.wide) in
     record {
       child = child;
       count = t.count_is;
       full = λ _. t.full_is ∙ ap (λ y. y == capacity_of n.form) t.count_is;
-      alone = λ one ne. alone n.children.items (slice_index key (length n.prefix.items)) one (λ q. ne (child ∙ q));
-      room = λ q. (let w : count_of n.children.items < length n.children.items = lacking n.children.items (slice_index key (length n.prefix.items)) within (sym child ∙ q) in omega (arith, w, n.wide));
+      alone = λ one ne. alone n.children.items (slice_index key (length n.prefix)) one (λ q. ne (child ∙ q));
+      room = λ q. (let w : count_of n.children.items < length n.children.items = lacking n.children.items (slice_index key (length n.prefix)) within (sym child ∙ q) in omega (arith, w, n.wide));
     }

@@ -86,7 +86,7 @@ abbrev array_vec_ty : Ty → ℕ → Ty
 array_vec_ty τ n = ty_struct [] (tcons (ty_struct [] (tcons (ty_array τ n) tnil)) (tcons (ty_int w64) (tcons ty_unit tnil)))
 
 abbrev prefix_ty : Ty
-prefix_ty = array_vec_ty (ty_int w8) 7
+prefix_ty = ty_struct [] (tcons (ty_array (ty_int w8) 8) tnil)
 
 abbrev sorted_ty : ℕ → Ty → Ty → Ty
 sorted_ty n τ σ = ty_struct [] (tcons (array_vec_ty (ty_int w8) n) (tcons (array_vec_ty (child_ty τ σ) n) tnil))
@@ -116,6 +116,9 @@ bytes_array n m l =
     let w = struct (field (struct (field (array n byte) no_fields)) (field word (field unit no_fields))) in
     record { bytes = omega (arith, w.bytes, l); aligned = w.aligned }
 
+prefix : Within prefix_ty 200000
+prefix = let w = struct (field (array 8 byte) no_fields) in record { bytes = omega (arith, w.bytes); aligned = w.aligned }
+
 module _ (C P : RattleType) (c : IsSmall (layout C)) (p : IsSmall (layout P)) where
   child : Within (child_ty (layout C) (layout P)) 327684
   child = enum (case no_fields (case (field (record { bytes = c.bytes; aligned = c.aligned }) no_fields) (case (field (record { bytes = p.bytes; aligned = p.aligned }) no_fields) no_cases)))
@@ -142,7 +145,7 @@ module _ (C P : RattleType) (c : IsSmall (layout C)) (p : IsSmall (layout P)) wh
       record { bytes = omega (arith, w.bytes); aligned = w.aligned }
 
   node : {ρ : Ty} → Within ρ 200000000 → size (node_ty ρ) < 2 ^ 63
-  node r = let w = struct (field (bytes_array 7 1000000 (omega arith)) (field r no_fields)) in omega (arith, w.bytes)
+  node r = let w = struct (field prefix (field r no_fields)) in omega (arith, w.bytes)
 
   pub sorted_fits : size (sorted_ty 16 (layout C) (layout P)) < 2 ^ 63
   sorted_fits = let w = sorted 16 (omega arith) in omega (arith, w.bytes)
@@ -164,6 +167,6 @@ module _ (C P : RattleType) (c : IsSmall (layout C)) (p : IsSmall (layout P)) wh
 
   pub any_node_fits : size (any_node_ty (layout C) (layout P)) < 2 ^ 63
   any_node_fits =
-      let small = struct (field (bytes_array 7 1000000 (omega arith)) (field (sorted 4 (omega arith)) no_fields)) in
+      let small = struct (field prefix (field (sorted 4 (omega arith)) no_fields)) in
       let w = enum (case (field small no_fields) (case (field pointer no_fields) (case (field pointer no_fields) (case (field pointer no_fields) no_cases)))) in
       omega (arith, w.bytes)

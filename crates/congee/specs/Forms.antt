@@ -38,10 +38,10 @@ module _ {C P : Type 0} where
 
   -- the first bytes of every key below the node
   abbrev pub prefix_of : Node C P → List ℕ
-  prefix_of (N4 n) = n.prefix.items
-  prefix_of (N16 n) = n.value.prefix.items
-  prefix_of (N48 n) = n.value.prefix.items
-  prefix_of (N256 n) = n.value.prefix.items
+  prefix_of (N4 n) = n.prefix
+  prefix_of (N16 n) = n.value.prefix
+  prefix_of (N48 n) = n.value.prefix
+  prefix_of (N256 n) = n.value.prefix
 
   abbrev pub children_of : Node C P → FinMap nat_cmp (Child C P)
   children_of (N4 n) = n.children

@@ -23,7 +23,7 @@ node_of None = record {
   retired = false;
 }
 node_of (Some n) = record {
-  prefix = n.prefix.items;
+  prefix = n.prefix;
   children = child_at n.children.items;
   count = count_of n.children.items;
   capacity = capacity_of n.form;
@@ -40,7 +40,7 @@ heap_of nodes i = node_of (slice_get nodes i)
 
 -- a new node, with the key's first bytes as its prefix
 pub record IsFresh (n : PlainNode) (form : NodeType) (prefix : List ℕ) : Type 0 where
-  pub prefix_is : n.prefix.items ≡ prefix
+  pub prefix_is : n.prefix ≡ prefix
   pub form_is : n.form ≡ form
   pub blank : (b : ℕ) → child_at n.children.items b ≡ Nothing
   pub empty : count_of n.children.items ≡ 0
@@ -58,7 +58,7 @@ pub record IsTruly (n : PlainNode) (b : ℕ) (s : Seen ℕ ℕ) : Type 0 where
 
 -- all but the children is as it was
 pub record SameWord (n n' : PlainNode) : Type 0 where
-  pub prefix_is : n'.prefix.items ≡ n.prefix.items
+  pub prefix_is : n'.prefix ≡ n.prefix
   pub form_is : n'.form ≡ n.form
   pub version_is : n'.version ≡ n.version
   pub locked_is : n'.locked ≡ n.locked

@@ -2,7 +2,6 @@
 ghost use Rattle.std.specs.Prelude.{◌≡◌, ◌+◌, ℕ, length, slice_index, ◌<◌, ◌≤◌, Some, None, false, IsSome, IfOk, IfErr, OnOk, OnErr};
 ghost use Rattle.std.specs.FinMap as map;
 ghost use Rattle.slab.specs.Slab.{Updates, SameValues, get, ContainsKey};
-ghost use Rattle.congee.specs.Heap.{fits};
 
 use crate::allocator::{Allocator, OOMError};
 use crate::base_node::{Node, NodeType};
@@ -19,20 +18,6 @@ pub trait Stored: Small {
     ghost use Rattle.std.specs.Borrow.{usize as word};
 
     ghost fits: { FitsInMemory (the_row word Self.row) };
-}
-
-// Whether the prefix is the beginning of the key. Its first `from` bytes are.
-pub(crate) fn has_prefix(key: &[u8; 8], prefix: &[u8], from: usize) -> bool
-    requires short { length prefix.now ≤ 7 }
-    requires same { (j : ℕ) → j < from → slice_index key.now j ≡ slice_index prefix.now j }
-    ensures { result ≡ fits prefix.now key.now }
-{
-    for i in from..prefix.len() {
-        if key[i] != prefix[i] {
-            return false;
-        }
-    }
-    true
 }
 
 /// The nodes of a tree by their names, the root's is 0, and the budget that they are charged to.
@@ -55,8 +40,7 @@ impl<P: Stored, A: Allocator> Arena<P, A> {
         let mut at = 0usize;
         loop {
             let node = &self.nodes[at];
-            let depth = node.prefix().len();
-            match node.get_child(key[depth]) {
+            match node.get_child(key[node.prefix().len()]) {
                 None => return Place {
                     above,
                     at,
@@ -70,7 +54,7 @@ impl<P: Stored, A: Allocator> Arena<P, A> {
                 },
                 Some(Child::Node(below)) => {
                     let below = *below;
-                    if !has_prefix(key, self.nodes[below].prefix(), depth + 1) {
+                    if !self.nodes[below].leads(key) {
                         return Place {
                             above,
                             at,

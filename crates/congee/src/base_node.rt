@@ -4,6 +4,7 @@ ghost use Rattle.std.specs.Option.{option_copied, option_map};
 ghost use Rattle.std.specs.Iterator.{YieldsFirstBy, item_count};
 ghost use Rattle.std.specs.FinMap as map;
 ghost use Rattle.congee.specs.Bytes.{IsFirst, between};
+ghost use Rattle.congee.specs.Heap.{fits};
 ghost use Rattle.congee.specs.Forms.{capacity_of, size_of, next_form, form_of, prefix_of, children_of, is_full_of, Becomes};
 ghost use Rattle.congee.specs.Scan.{rest};
 
@@ -14,7 +15,7 @@ use crate::node4::Node4;
 use crate::node16::Node16;
 use crate::node48::Node48;
 use crate::node256::Node256;
-use crate::prefix::prefix_from;
+use crate::prefix::Prefix;
 use crate::sorted::Sorted;
 use std::alloc::{AllocError, Global};
 
@@ -84,7 +85,7 @@ impl<C: Small, P: Small> Node<C, P> {
         ensures prefix { IfOk result (λ n. prefix_of n ≡ prefix.now) }
         ensures children { IfOk result (λ n. children_of n ≡ map.empty) }
     {
-        let prefix = prefix_from(prefix);
+        let prefix = Prefix::new(prefix);
         Ok(match form {
             NodeType::N4 => Node::N4(Node4 {
                 prefix,
@@ -143,6 +144,18 @@ impl<C: Small, P: Small> Node<C, P> {
             Node::N16(n) => n.prefix.as_slice(),
             Node::N48(n) => n.prefix.as_slice(),
             Node::N256(n) => n.prefix.as_slice(),
+        }
+    }
+
+    /// Whether its prefix is the beginning of the key.
+    pub(crate) fn leads(&self, key: &[u8; 8]) -> bool
+        ensures { result ≡ fits (prefix_of self.now) key.now }
+    {
+        match self {
+            Node::N4(n) => n.prefix.leads(key),
+            Node::N16(n) => n.prefix.leads(key),
+            Node::N48(n) => n.prefix.leads(key),
+            Node::N256(n) => n.prefix.leads(key),
         }
     }
 

@@ -46,17 +46,21 @@ impl<P: Stored, A: Allocator> Arena<P, A> {
         requires { IsTree self.now.nodes }
         ensures { option_copied result ≡ value_at (heap_of self.now.nodes) key.now }
     {
-        let place = self.locate(key);
-        match place.spot {
-            Spot::Held => {
-                let node = &self.nodes[place.at];
-                match node.get_child(key[node.prefix().len()]) {
-                    Some(Child::Value(value)) => Some(value),
-                    _ => unreachable!(),
+        let mut at = 0usize;
+        loop {
+            let node = &self.nodes[at];
+            match node.get_child(key[node.prefix().len()]) {
+                None => return None,
+                Some(Child::Blank) => unreachable!(),
+                Some(Child::Value(value)) => return Some(value),
+                Some(Child::Node(below)) => {
+                    let below = *below;
+                    if !self.nodes[below].leads(key) {
+                        return None;
+                    }
+                    at = below;
                 }
             }
-            Spot::Free => None,
-            Spot::Apart(_) => None,
         }
     }
 

@@ -6,7 +6,7 @@ ghost use Rattle.congee.specs.Plain.{is_there, count_of, child_at, NamesStay};
 
 use crate::base_node::NodeType;
 use crate::child::Child;
-use crate::prefix::{Prefix, prefix_from};
+use crate::prefix::Prefix;
 use crate::store::{Reading, Seen};
 use std::alloc::{AllocError, Global};
 use std::mem;
@@ -24,7 +24,7 @@ pub(crate) struct PlainNode {
     pub(crate) destroyed: bool,
     pub(crate) retired: bool,
     ghost wide: { length children.items ≡ 256 },
-    ghost short: { length prefix.items ≤ 7 },
+    ghost short: { length prefix ≤ 7 },
     ghost next: { locked ≡ true → version < 2 ^ 64 - 1 },
 }
 
@@ -112,7 +112,7 @@ impl PlainNode {
         ensures { IfOk result (λ n. IsFresh n form (take size key.now)) }
     {
         Ok(PlainNode {
-            prefix: prefix_from(&key[..size]),
+            prefix: Prefix::new(&key[..size]),
             children: blanks(alloc)?,
             form,
             version: 0,
@@ -183,10 +183,10 @@ impl PlainNode {
     ) -> Reading<usize, u64>
         ensures { ReadGives (λ n. n) true (node_of (Some self.now)) version key.now result }
     {
-        match first_difference(&self.prefix, key) {
+        match first_difference(self.prefix.as_slice(), key) {
             Some(common) => Reading::Differs {
                 common,
-                byte: self.prefix[common],
+                byte: self.prefix.as_slice()[common],
             },
             None => {
                 let depth = self.prefix.len();

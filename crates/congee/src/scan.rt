@@ -12,7 +12,7 @@ ghost use Rattle.congee.specs.OwnedSteps.{IsHeld};
 ghost use Rattle.congee.specs.Ranges.{by_bytes, in_range, keys_by};
 
 use crate::allocator::Allocator;
-use crate::arena::{Arena, Stored, has_prefix};
+use crate::arena::{Arena, Stored};
 use crate::child::Child;
 use crate::edit::first_apart;
 use crate::place::Spot;
@@ -96,7 +96,7 @@ impl<P: Stored, A: Allocator> Arena<P, A> {
         ensures deep { length path.new.items ≤ length (heap_of self.now.nodes result).prefix }
     {
         while let Some(&at) = path.as_slice().last() {
-            if has_prefix(key, self.nodes[at].prefix(), 0) {
+            if self.nodes[at].leads(key) {
                 return at;
             }
             path.pop();
@@ -115,14 +115,13 @@ impl<P: Stored, A: Allocator> Arena<P, A> {
         let mut at = self.resume(path, key);
         loop {
             let node = &self.nodes[at];
-            let depth = node.prefix().len();
-            match node.get_child(key[depth]) {
+            match node.get_child(key[node.prefix().len()]) {
                 None => return (at, Spot::Free),
                 Some(Child::Blank) => unreachable!(),
                 Some(Child::Value(_)) => return (at, Spot::Held),
                 Some(Child::Node(below)) => {
                     let below = *below;
-                    if !has_prefix(key, self.nodes[below].prefix(), depth + 1) {
+                    if !self.nodes[below].leads(key) {
                         return (at, Spot::Apart(below));
                     }
                     path.push(below);

@@ -3,7 +3,7 @@ use Rattle.congee.proofs.PlainHeaps.{seen_truly}
 use Rattle.congee.proofs.plain_node.PlainNode.read.Goals as goal
 
 pub returns-in-None : goal.returns-in-None
-returns-in-None c = let e : c.deref.result.now ≡ c.args.self.now.prefix.items = c.deref.ensures.0 in (
+returns-in-None c = let e : c.deref.result.now ≡ c.args.self.now.prefix = c.deref.ensures.0 in (
   rw (← e) c.in-None.ensures,
   c.len-depth.ensures.value,
   c.len-depth.ensures.fits,
