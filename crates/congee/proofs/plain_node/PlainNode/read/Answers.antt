@@ -3,10 +3,10 @@ use Rattle.congee.proofs.PlainHeaps.{seen_truly}
 use Rattle.congee.proofs.plain_node.PlainNode.read.Goals as goal
 
 pub returns-in-None : goal.returns-in-None
-returns-in-None c = let e : c.deref.result.now ≡ c.args.self.now.prefix = c.deref.ensures.0 in (
+returns-in-None c = let e : c.as_slice.result.now ≡ c.args.self.now.prefix = c.as_slice.ensures.bytes in (
   rw (← e) c.in-None.ensures,
-  c.len-depth.ensures.value,
+  c.len-depth.ensures.count,
   c.len-depth.ensures.fits,
   c.look-seen.ensures.byte,
-  λ t. seen_truly c.args.self.now c.args.key.now _ c.len-depth.result c.look-seen.result c.len-depth.ensures.value refl (omega (arith, c.look-seen.ensures.byte, c.look-seen.ensures.fits)) (c.look-seen.ensures.truly t),
+  λ t. seen_truly c.args.self.now c.args.key.now _ c.len-depth.result c.look-seen.result c.len-depth.ensures.count refl (omega (arith, c.look-seen.ensures.byte, c.look-seen.ensures.fits)) (c.look-seen.ensures.truly t),
 )
