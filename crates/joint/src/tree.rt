@@ -183,6 +183,7 @@ impl Tree<u64> {
         ensures ready { (n : ℕ) → op ≡ Op.Secure n → result.fault ≡ None → Readies self.old self.new who n }
     {
         World::<Slot<u64>, ()>::progress();
+        World::<Slot<u64>, ()>::parts();
         let mut ended = Ended {
             fault: None,
             destroyed: 0,
