@@ -83,6 +83,7 @@ impl<T: Links + Pointable + Drop, J: Task> World<T, J> {
         ensures first { (s : State T J) (who : ℕ) (op : Op) (r : Report) → IsReport s who (Event.Begin op) r → r.called ≡ None }
         ensures quiet { (s : State T J) (who : ℕ) (r : Report) → collects (place s who).phase ≡ false → IsReport s who Event.Go r → r.called ≡ None }
     {}
+
     /// Steps of one call, taken one by one, are the call: one after which it runs on leaves it going, and one that ends it makes it whole.
     pub fn parts()
         ensures begins { (s : State T J) (who : ℕ) (op : Op) → IsGoing s who op 0 None (Event.Begin op) s }

@@ -159,7 +159,7 @@ abbrev pub InsertsBy : State ℕ → ℕ → ℕ → ℕ → Report ℕ → Stat
 InsertsBy s who key value r s' =
     ((e : Refusal) × of_plan s (plan (heap s.tree) (bytes_of key)) e × Refuses s Tree e r s')
     ⊎ ((r ≡ answered (Inserted (standing s key))) × Adds (heap s.tree) (heap s'.tree) (bytes_of key) value
-      × (s'.tree.waiting ≡ s.tree.waiting + leaves (plan (heap s.tree) (bytes_of key))))
+    × (s'.tree.waiting ≡ s.tree.waiting + leaves (plan (heap s.tree) (bytes_of key))))
 
 abbrev pub Inserts : State ℕ → ℕ → ℕ → ℕ → Report ℕ → State ℕ → Type 0
 Inserts s who key value r s' =
