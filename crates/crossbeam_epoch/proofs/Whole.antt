@@ -5,29 +5,19 @@ use Rattle.std.specs.List.{Contains}
 use Rattle.std.proofs.lemmas.List.{length_push}
 use Rattle.std.proofs.lemmas.List.Elements.{Contains-push_cases}
 use Rattle.crossbeam_epoch.specs.declared.report.Event.{Event}
-use Rattle.crossbeam_epoch.specs.declared.report.Event.TheVariants.{Go}
+use Rattle.crossbeam_epoch.specs.declared.report.Event.TheVariants.{Begin, Go}
 use Rattle.crossbeam_epoch.specs.declared.report.Op.{Op}
 use Rattle.crossbeam_epoch.specs.declared.report.Outcome.TheVariants.{Running}
 use Rattle.crossbeam_epoch.specs.declared.report.Report.{Report}
 use Rattle.crossbeam_epoch.specs.declared.report.Step.{Step}
 use Rattle.crossbeam_epoch.specs.Machine.{State}
 use Rattle.crossbeam_epoch.specs.Steps.{after, IsReport, state_after, AreReports}
-use Rattle.crossbeam_epoch.specs.Calls.{event_at, call_steps, EndsWith, IsCall}
+use Rattle.crossbeam_epoch.specs.Calls.{event_at, call_steps, EndsWith, IsCall, IsGoing}
 use Rattle.crossbeam_epoch.proofs.Runs.{state_more, legal_more}
 
 length_call : (who : ℕ) (op : Op) (n : ℕ) → length (call_steps who op n) ≡ n
 length_call who op zero = refl
 length_call who op (suc n) = omega (arith, length_push (call_steps who op n) (record { who = who; event = event_at op n }), length_call who op n)
-
--- a call that took n steps and goes on
-pub record IsGoing {T J : Type 0} (s : State T J) (who : ℕ) (op : Op) (n : ℕ) (newest : Option Report) (event : Event) (now : State T J) : Type 0 where
-  pub reports : List Report
-  pub long : length reports ≡ n
-  pub legal : AreReports s (call_steps who op n) reports
-  pub state : now ≡ state_after s (call_steps who op n) reports
-  pub newest_is : EndsWith reports newest
-  pub going : (x : Report) → Contains reports x → x.outcome ≡ Running
-  pub next : event ≡ event_at op n
 
 module _ {T J : Type 0} where
   step_more : (s : State T J) (who : ℕ) (op : Op) (n : ℕ) (newest : Option Report) (event : Event) (now new : State T J) (r : Report) → IsGoing s who op n newest event now → IsReport now who event r → new ≡ after now who event r.outcome
@@ -38,6 +28,9 @@ module _ {T J : Type 0} where
       let report' : IsReport (state_after s (call_steps who op n) g.reports) who (event_at op n) r = rw (sym g.state, sym g.next) is in
       let new' : new ≡ after (state_after s (call_steps who op n) g.reports) who (event_at op n) r.outcome = rw (sym g.state, sym g.next) on in
       (g.reports, g.long, legal_more s (call_steps who op n) g.reports step r even g.legal report', new' ∙ sym (state_more s (call_steps who op n) g.reports step r even), g.going)
+
+  pub going_begins : (s : State T J) (who : ℕ) (op : Op) → IsGoing s who op 0 None (Begin op) s
+  going_begins s who op = record { reports = []; long = refl; legal = tt; state = refl; newest_is = refl; going = λ x m. absurd (let lt : m.0 < 0 = m.1 in omega arith); next = refl }
 
   pub going_more : (s : State T J) (who : ℕ) (op : Op) (n m : ℕ) (newest : Option Report) (event : Event) (now new : State T J) (r : Report) → IsGoing s who op n newest event now → IsReport now who event r → new ≡ after now who event r.outcome → r.outcome ≡ Running → m ≡ suc n
       → IsGoing s who op m (Some r) Go new

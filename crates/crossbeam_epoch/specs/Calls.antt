@@ -38,6 +38,16 @@ pub record IsCall {T J : Type 0} (s : State T J) (who : ℕ) (op : Op) (most : �
   pub newest_is : EndsWith reports newest
   pub stops : MatchOption newest (most ≡ 0) (λ r. r.outcome ≡ Running → length reports ≡ most)
 
+-- a call that took n steps and goes on
+pub record IsGoing {T J : Type 0} (s : State T J) (who : ℕ) (op : Op) (n : ℕ) (newest : Option Report) (event : Event) (now : State T J) : Type 0 where
+  pub reports : List Report
+  pub long : length reports ≡ n
+  pub legal : AreReports s (call_steps who op n) reports
+  pub state : now ≡ state_after s (call_steps who op n) reports
+  pub newest_is : EndsWith reports newest
+  pub going : (x : Report) → Contains reports x → x.outcome ≡ Running
+  pub next : event ≡ event_at op n
+
 -- the steps of a call lead each history on, and each log
 pub record LeadsOn {T J : Type 0} (names : T → List Name) (s : State T J) (who : ℕ) (op : Op) (reports : List Report) (s' : State T J) : Type 0 where
   pub kept : (h : List Mark) → Fits h s → Fits (history_after s (call_steps who op (length reports)) reports h) s'

@@ -1,6 +1,6 @@
 //! What follows for a user from a history that fits.
 
-ghost use Rattle.std.specs.Prelude.{◌≡◌, ◌<◌, ◌≤◌, ◌+◌, ℕ, true, false, List, [], ◌∷◌, None, Some, is_some, length, Contains, nat_lt, if◌then◌else◌};
+ghost use Rattle.std.specs.Prelude.{◌≡◌, ◌<◌, ◌≤◌, ◌+◌, ℕ, true, false, List, [], ◌∷◌, Option, None, Some, is_some, length, Contains, nat_lt, if◌then◌else◌};
 ghost use Rattle.crossbeam_epoch.specs.declared.names.Name.{Name};
 ghost use Rattle.crossbeam_epoch.specs.declared.names.Ptr.{Ptr};
 ghost use Rattle.crossbeam_epoch.specs.Machine.{State, place, opened, registered, deferred, after_deferral, with_store, with_roots, name_of};
@@ -12,6 +12,7 @@ ghost use Rattle.crossbeam_epoch.specs.declared.report.Report.{Report};
 ghost use Rattle.crossbeam_epoch.specs.declared.report.Step.{Step};
 ghost use Rattle.crossbeam_epoch.specs.Steps.{after, marks, state_after, history_after, AreReports, IsReport};
 ghost use Rattle.crossbeam_epoch.specs.Log.{Noted, Stepped, Accepted, log_after, history_of, guards, Shows};
+ghost use Rattle.crossbeam_epoch.specs.Calls.{IsGoing, IsCall};
 ghost use Rattle.crossbeam_epoch.specs.Progress.{Orderly, Moves, Begins, IsOn, GoesOn, IsResting, Keeps, collects};
 ghost use Rattle.crossbeam_epoch.specs.Reach.{Moment, marks_of, moments_after, Tells, IsCareful, KeepsLinks, Visible};
 
@@ -19,7 +20,7 @@ use crate::bag::{Entry, Work};
 use crate::limits::Limits;
 use crate::names::{Links, Pointable};
 use crate::places::Phase;
-use crate::report::Event;
+use crate::report::{Event, Outcome};
 use crate::task::Task;
 use crate::world::World;
 
@@ -81,5 +82,12 @@ impl<T: Links + Pointable + Drop, J: Task> World<T, J> {
         ensures goes_on { (s : State T J) (who : ℕ) (op : Op) (r : Report) → Orderly s → IsOn op (place s who) → IsReport s who Event.Go r → GoesOn s who op r.outcome (after s who Event.Go r.outcome) }
         ensures first { (s : State T J) (who : ℕ) (op : Op) (r : Report) → IsReport s who (Event.Begin op) r → r.called ≡ None }
         ensures quiet { (s : State T J) (who : ℕ) (r : Report) → collects (place s who).phase ≡ false → IsReport s who Event.Go r → r.called ≡ None }
+    {}
+
+    /// Steps of one call, taken one by one, are the call: one after which it runs on leaves it going, and one that ends it makes it whole.
+    pub fn parts()
+        ensures begins { (s : State T J) (who : ℕ) (op : Op) → IsGoing s who op 0 None (Event.Begin op) s }
+        ensures more { (s now new : State T J) (who : ℕ) (op : Op) (n : ℕ) (newest : Option Report) (event : Event) (r : Report) → IsGoing s who op n newest event now → IsReport now who event r → new ≡ after now who event r.outcome → r.outcome ≡ Outcome.Running → IsGoing s who op (n + 1) (Some r) Event.Go new }
+        ensures ends { (s now new : State T J) (who : ℕ) (op : Op) (n most : ℕ) (newest : Option Report) (event : Event) (r : Report) → n < most → IsGoing s who op n newest event now → IsReport now who event r → new ≡ after now who event r.outcome → (r.outcome ≡ Outcome.Running → ⊥) → (reports : List Report) × IsCall s who op most reports (Some r) new }
     {}
 }

@@ -1,7 +1,7 @@
 -- A whole call of the collector under the tree.
-use Rattle.std.proofs.Common.{◌≡◌, ◌≢◌, ◌⊎◌, ℕ, suc, ◌<◌, ◌≤◌, inl, inr, [], length, refl, sym, ◌∙◌, ap, subst, arith, Option, Some, None}
+use Rattle.std.proofs.Common.{◌≡◌, ◌≢◌, ◌⊎◌, ℕ, suc, ◌<◌, ◌≤◌, inl, inr, List, length, refl, sym, ◌∙◌, ap, subst, arith, Option, Some, None}
 use Rattle.std.specs.Prelude.{⊤}
-use Rattle.std.specs.List.{sum_by, Contains}
+use Rattle.std.specs.List.{sum_by}
 use Rattle.crossbeam_epoch.specs.declared.fault.Fault.{Fault}
 use Rattle.crossbeam_epoch.specs.declared.places.Phase.TheVariants as P
 use Rattle.crossbeam_epoch.specs.declared.report.Event.{Event}
@@ -11,11 +11,11 @@ use Rattle.crossbeam_epoch.specs.declared.report.Op.TheVariants as O
 use Rattle.crossbeam_epoch.specs.declared.report.Outcome.{Outcome}
 use Rattle.crossbeam_epoch.specs.declared.report.Outcome.TheVariants.{Running, Done, Refused}
 use Rattle.crossbeam_epoch.specs.declared.report.Report.{Report}
-use Rattle.crossbeam_epoch.specs.Machine.{place}
+use Rattle.crossbeam_epoch.specs.Machine.{State, place}
 use Rattle.crossbeam_epoch.specs.Progress.{Orderly, Moves, Begins, Secures, refusal}
 use Rattle.crossbeam_epoch.specs.Steps.{after, IsReport}
 use Rattle.crossbeam_epoch.specs.Store.{Store}
-use Rattle.crossbeam_epoch.proofs.Whole.{IsGoing, call_ends}
+use Rattle.crossbeam_epoch.specs.Calls.{IsGoing, IsCall}
 use Rattle.joint.specs.declared.slot.Slot.{Slot}
 use Rattle.joint.specs.Collector.{IsIdle, IsWhole, IsCause, ended, Readies}
 use Rattle.joint.specs.Forest.{Forest, Clock, waits, waiting_size, IsCounted}
@@ -25,10 +25,6 @@ use Rattle.joint.proofs.Turning.{Laws, Underway, begins_on, goes_further, goes_b
 -- a call before its first step, or in flight
 abbrev pub Flight : {V : Type 0} → Clock V → ℕ → Op → ℕ → Event → Clock V → Type 0
 Flight s who op n event now = ((n ≡ 0) × (event ≡ Begin op) × (now ≡ s)) ⊎ ((event ≡ Go) × Underway s now who op n)
-
--- an empty list has nothing
-pub nobody : {X : Type 0} (x : X) → Contains [] x → ⊥
-nobody x m = let lt : m.0 < 0 = m.1 in omega arith
 
 -- a step, and the state after it
 pub record Stepping {V : Type 0} (now new : Clock V) (who : ℕ) (event : Event) (r : Report) : Type 0 where
@@ -105,10 +101,15 @@ flight_refused {V} law s now new who op n event r f idle fl k run = elim fl [
       (g.0, inr (x.1.free, g.1, g.2)))
 ]
 
-pub whole : {V : Type 0} (s now new : Clock V) (who : ℕ) (op : Op) (n : ℕ) (newest : Option Report) (event : Event) (r : Report) (f : Option Fault) → n < 1000 → IsGoing s who op n newest event now → Stepping now new who event r → r.outcome ≡ ended f → (ended f ≡ Running → ⊥) → IsCause s who op f
+-- a step that ends a call makes it whole
+abbrev pub Ends : Type 0 → Type 0
+Ends T = (s now new : State T ⊤) (who : ℕ) (op : Op) (n most : ℕ) (newest : Option Report) (event : Event) (r : Report) → n < most → IsGoing s who op n newest event now → IsReport now who event r → new ≡ after now who event r.outcome → (r.outcome ≡ Running → ⊥)
+    → (reports : List Report) × IsCall s who op most reports (Some r) new
+
+pub whole : {V : Type 0} → Ends (Slot V) → (s now new : Clock V) (who : ℕ) (op : Op) (n : ℕ) (newest : Option Report) (event : Event) (r : Report) (f : Option Fault) → n < 1000 → IsGoing s who op n newest event now → Stepping now new who event r → r.outcome ≡ ended f → (ended f ≡ Running → ⊥) → IsCause s who op f
     → IsWhole s who op f new
-whole s now new who op n newest event r f lt g k e over cause =
-    let x = call_ends s who op n 1000 newest event now new r lt g k.report k.state (λ z. over (sym e ∙ z)) in
+whole law s now new who op n newest event r f lt g k e over cause =
+    let x = law s now new who op n 1000 newest event r lt g k.report k.state (λ z. over (sym e ∙ z)) in
     record { reports = x.0; newest = r; call = x.1; outcome = e; cause = cause }
 
 pub never_running : (f : Option Fault) → ended f ≡ Running → ⊥

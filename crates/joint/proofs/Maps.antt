@@ -99,7 +99,7 @@ inserts_by None L N s s' r who key value l f m lt c rep = elim c [
     | inl e ↦ refused_insert s s s' r key value Collection f m (λ q. refl) e rep
     | inr e ↦ elim e.2 [
       | inl g ↦ refused_insert s e.0 s' r key value Tree g.0 m (secured_pairs s e.0 who e.1) g.2 rep
-      | inr g ↦ answered_insert s e.0 s' r key value m lt (secured_pairs s e.0 who e.1) g rep
+      | inr g ↦ answered_insert s e.0 s' r key value m lt (secured_pairs s e.0 who e.1) (g.0, g.1) rep
     ]
   ]
 ]

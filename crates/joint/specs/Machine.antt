@@ -146,11 +146,20 @@ of_plan s (Overwrite c) e = ⊥
 of_plan s (Add c) e = ⊥
 of_plan s Later e = ⊥
 
+-- how many nodes an insertion takes out of the tree: a leaf that grew gave place to another, and waits from then on
+abbrev pub leaves : Plan → ℕ
+leaves (Grow c) = 1
+leaves Link = 0
+leaves (Overwrite c) = 0
+leaves (Add c) = 0
+leaves Later = 0
+
 -- the value came to its key, or was refused for want of a node
 abbrev pub InsertsBy : State ℕ → ℕ → ℕ → ℕ → Report ℕ → State ℕ → Type 0
 InsertsBy s who key value r s' =
     ((e : Refusal) × of_plan s (plan (heap s.tree) (bytes_of key)) e × Refuses s Tree e r s')
-    ⊎ ((r ≡ answered (Inserted (standing s key))) × Adds (heap s.tree) (heap s'.tree) (bytes_of key) value)
+    ⊎ ((r ≡ answered (Inserted (standing s key))) × Adds (heap s.tree) (heap s'.tree) (bytes_of key) value
+    × (s'.tree.waiting ≡ s.tree.waiting + leaves (plan (heap s.tree) (bytes_of key))))
 
 abbrev pub Inserts : State ℕ → ℕ → ℕ → ℕ → Report ℕ → State ℕ → Type 0
 Inserts s who key value r s' =

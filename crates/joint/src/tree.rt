@@ -183,6 +183,7 @@ impl Tree<u64> {
         ensures ready { (n : ℕ) → op ≡ Op.Secure n → result.fault ≡ None → Readies self.old self.new who n }
     {
         World::<Slot<u64>, ()>::progress();
+        World::<Slot<u64>, ()>::parts();
         let mut ended = Ended {
             fault: None,
             destroyed: 0,
@@ -368,6 +369,7 @@ impl Tree<u64> {
         requires { (i : ℕ) × (is_usable self.old.collector.store i ≡ true) }
         ensures pairs { (v : ℕ) → ShapeOf self.old → plan (heap self.old) key.now ≡ Plan.Link → Takes node [] key.now v → Comes self.old self.new key.now v }
         ensures sizes { sizes self.new ≡ sizes self.old + size_of node.form }
+        ensures waiting { self.new.waiting ≡ self.old.waiting }
         ensures idle { IsIdle self.old.collector → IsIdle self.new.collector }
     {
         let at = self.place(node);
@@ -384,6 +386,7 @@ impl Tree<u64> {
         requires ready { length (holder self.old.collector who).bag < 64 }
         ensures pairs { (v : ℕ) → IsGrown (heap self.old old) node key.now v → Comes self.old self.new key.now v }
         ensures sizes { sizes self.new ≡ sizes self.old + size_of node.form }
+        ensures waiting { self.new.waiting ≡ self.old.waiting + 1 }
         ensures idle { IsIdle self.new.collector }
     {
         self.swap(node, key);
@@ -397,6 +400,7 @@ impl Tree<u64> {
             → IsGrown (heap self.old old) node key.now v → Swaps self.old self.new key.now v old }
         ensures leaf { (old : Name) → ShapeOf self.old → plan (heap self.old) key.now ≡ Plan.Grow old → slot_at self.new old ≡ slot_at self.old old }
         ensures sizes { sizes self.new ≡ sizes self.old + size_of node.form }
+        ensures waiting { self.new.waiting ≡ self.old.waiting }
         ensures table { self.new.collector.table ≡ self.old.collector.table }
     {
         let at = self.place(node);
@@ -452,6 +456,7 @@ impl Tree<u64> {
         requires guarded { of_guard self.old.collector who ≡ None }
         requires ready { length (holder self.old.collector who).bag < 64 }
         ensures retired { Retires self.old self.new at }
+        ensures waiting { self.new.waiting ≡ self.old.waiting + 1 }
         ensures sizes { sizes self.new ≡ sizes self.old }
         ensures idle { IsIdle self.new.collector }
     {

@@ -10,7 +10,7 @@ ghost use Rattle.joint.specs.Forest.{sizes, value_at, heap, plan, waits, waiting
 ghost use Rattle.joint.specs.Collector.{IsIdle};
 ghost use Rattle.joint.specs.Refusals.{of_guard, refusal_of};
 ghost use Rattle.joint.specs.Machine.{State, Opens, Registers, charged_of, waiting_of, waiting_bytes_of, quiet, Calls, CallsBy, AsMap};
-ghost use Rattle.joint.specs.Machine.{Serves, Gets, Inserts, Secures, IsUnmade, IsRefusedNode, of_plan, IsCharged, answered};
+ghost use Rattle.joint.specs.Machine.{Serves, Gets, Inserts, Secures, IsUnmade, IsRefusedNode, of_plan, leaves, IsCharged, answered};
 
 use crate::allocator::{Allocator, OOMError};
 use crate::child::Child;
@@ -218,6 +218,7 @@ impl<A: Allocator + Drop> World<u64, A> {
         requires guarded { of_guard self.old.tree.collector who ≡ None }
         requires room { length (holder self.old.tree.collector who).bag < 64 }
         ensures comes { OnOk result (Comes self.old.tree self.new.tree key.now value) }
+        ensures waits { OnOk result (self.new.tree.waiting ≡ self.old.tree.waiting + leaves way) }
         ensures cause { IfErr result (λ e. (way ≡ Plan.Later) ⊎ of_plan self.old way e) }
         ensures refused { OnErr result (self.new ≡ self.old) }
     {
@@ -240,6 +241,7 @@ impl<A: Allocator + Drop> World<u64, A> {
     fn link(&mut self, key: &[u8; 8], value: u64) -> Result<(), Refusal>
         requires { plan (heap self.old.tree) key.now ≡ Plan.Link }
         ensures comes { OnOk result (Comes self.old.tree self.new.tree key.now value) }
+        ensures waits { OnOk result (self.new.tree.waiting ≡ self.old.tree.waiting) }
         ensures cause { IfErr result (λ e. IsUnmade self.old 64 e) }
         ensures refused { OnErr result (self.new ≡ self.old) }
     {
@@ -262,6 +264,7 @@ impl<A: Allocator + Drop> World<u64, A> {
         requires guarded { of_guard self.old.tree.collector who ≡ None }
         requires room { length (holder self.old.tree.collector who).bag < 64 }
         ensures comes { OnOk result (Comes self.old.tree self.new.tree key.now value) }
+        ensures waits { OnOk result (self.new.tree.waiting ≡ self.old.tree.waiting + 1) }
         ensures cause { IfErr result (λ e. IsUnmade self.old 168 e) }
         ensures refused { OnErr result (self.new ≡ self.old) }
     {

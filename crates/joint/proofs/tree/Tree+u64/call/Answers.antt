@@ -1,19 +1,18 @@
-use Rattle.std.proofs.Common.{◌≡◌, ◌≤◌, ◌+◌, ◌∙◌, ap, subst, refl, sym, ℕ, arith, rules, Option, None, Some, inl, inr, suc, []}
+use Rattle.std.proofs.Common.{◌≡◌, ◌≤◌, ◌+◌, ◌∙◌, ap, subst, refl, sym, ℕ, arith, rules, Option, None, Some, inl, inr, suc}
 use Rattle.std.proofs.lemmas.Grind.{common_steps}
 use Rattle.crossbeam_epoch.specs.declared.fault.Fault.{Fault}
 use Rattle.crossbeam_epoch.specs.declared.report.Event.TheVariants.{Go}
-use Rattle.crossbeam_epoch.proofs.Whole.{going_more}
 use Rattle.joint.specs.Collector.{IsWhole, IsIdle}
 use Rattle.joint.specs.Forest.{Forest, Clock, IsCounted}
 use Rattle.joint.proofs.Growth.{spared_same, spared_on}
 use Rattle.joint.proofs.Sums.{form_bound}
-use Rattle.joint.proofs.Flights.{nobody, Flight, Stepping, flight_more, flight_done, flight_refused, whole, never_running, unchanged, readies}
+use Rattle.joint.proofs.Flights.{Flight, Stepping, flight_more, flight_done, flight_refused, whole, never_running, unchanged, readies}
 use Rattle.joint.proofs.tree.Tree+u64.call.Goals.{in-Some, in_default}
 use Rattle.joint.proofs.tree.Tree+u64.call.Goals as goal
 
 pub loop-init : goal.loop-init
 loop-init c = (
-  (None, record { reports = []; long = refl; legal = tt; state = refl; newest_is = refl; going = λ x m. absurd (nobody x m); next = refl }),
+  (None, c.parts.ensures.begins c.args.self.now.collector c.args.who c.args.op),
   inl (refl, refl, refl),
   omega arith,
   omega arith,
@@ -56,7 +55,7 @@ returns-in-Done-clause-whole c =
     let o = flight_done (record { begins = c.progress.ensures.begins; goes_on = c.progress.ensures.goes_on; first = c.progress.ensures.first; quiet = c.progress.ensures.quiet }) s c.loop.self.collector c.step-step.new.self.collector c.args.who c.args.op c.loop.counter c.loop.event r c.requires.idle inv.1 k c.in-Done.is in
     let fault : c.match-step.ended.fault ≡ None = elim c.match-step.branch [ in-Some w ↦ ap (λ x. x.fault) w.ended-is ∙ inv.6 | in_default w ↦ ap (λ x. x.fault) w.ended-is ∙ inv.6 ] in
     let P : Option Fault → Type 0 = λ f. IsWhole s c.args.who c.args.op f c.step-step.new.self.collector in
-    subst P (sym fault) (whole s c.loop.self.collector c.step-step.new.self.collector c.args.who c.args.op c.loop.counter inv.0.0 c.loop.event r None c.loop-test.true inv.0.1 k c.in-Done.is (never_running None) o.free)
+    subst P (sym fault) (whole c.parts.ensures.ends s c.loop.self.collector c.step-step.new.self.collector c.args.who c.args.op c.loop.counter inv.0.0 c.loop.event r None c.loop-test.true inv.0.1 k c.in-Done.is (never_running None) o.free)
 
 pub returns-in-Done-clause-idle : goal.returns-in-Done-clause-idle
 returns-in-Done-clause-idle c =
@@ -88,7 +87,7 @@ returns-in-Refused-clause-whole c =
     let r = c.step-step.result.report in
     let k : Stepping c.loop.self.collector c.step-step.new.self.collector c.args.who c.loop.event r = record { report = e.report; state = e.state; moves = e.moves; orderly = e.orderly; places = e.places } in
     let o = flight_refused (record { begins = c.progress.ensures.begins; goes_on = c.progress.ensures.goes_on; first = c.progress.ensures.first; quiet = c.progress.ensures.quiet }) s c.loop.self.collector c.step-step.new.self.collector c.args.who c.args.op c.loop.counter c.loop.event r c.in-Refused.fault c.requires.idle inv.1 k c.in-Refused.is in
-    whole s c.loop.self.collector c.step-step.new.self.collector c.args.who c.args.op c.loop.counter inv.0.0 c.loop.event r (Some c.in-Refused.fault) c.loop-test.true inv.0.1 k c.in-Refused.is (never_running (Some c.in-Refused.fault)) o.1
+    whole c.parts.ensures.ends s c.loop.self.collector c.step-step.new.self.collector c.args.who c.args.op c.loop.counter inv.0.0 c.loop.event r (Some c.in-Refused.fault) c.loop-test.true inv.0.1 k c.in-Refused.is (never_running (Some c.in-Refused.fault)) o.1
 
 pub returns-in-Refused-clause-idle : goal.returns-in-Refused-clause-idle
 returns-in-Refused-clause-idle c =
@@ -125,7 +124,7 @@ loop-preserved c =
     let fault : c.match-step.ended.fault ≡ None = elim c.match-step.branch [ in-Some w ↦ ap (λ x. x.fault) w.ended-is ∙ inv.6 | in_default w ↦ ap (λ x. x.fault) w.ended-is ∙ inv.6 ] in
     let Q : ℕ → Type 0 = λ m. Flight s c.args.who c.args.op m Go c.step-step.new.self.collector in
     let one : suc c.loop.counter ≡ c.loop.counter + 1 = omega arith in (
-      (Some r, going_more s c.args.who c.args.op c.loop.counter (c.loop.counter + 1) inv.0.0 c.loop.event c.loop.self.collector c.step-step.new.self.collector r inv.0.1 e.report e.state c.in-Running.is (omega arith)),
+      (Some r, c.parts.ensures.more s c.loop.self.collector c.step-step.new.self.collector c.args.who c.args.op c.loop.counter inv.0.0 c.loop.event r inv.0.1 e.report e.state c.in-Running.is),
       subst Q one (flight_more (record { begins = c.progress.ensures.begins; goes_on = c.progress.ensures.goes_on; first = c.progress.ensures.first; quiet = c.progress.ensures.quiet }) s c.loop.self.collector c.step-step.new.self.collector c.args.who c.args.op c.loop.counter c.loop.event r c.requires.idle inv.1 k c.in-Running.is),
       first_of (search rules, grind (arith, common_steps)),
       first_of (search rules, grind (arith, common_steps)),

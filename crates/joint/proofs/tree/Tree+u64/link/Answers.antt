@@ -11,3 +11,6 @@ returns-clause-pairs c = λ v s pl ta.
 
 pub returns-clause-idle : goal.returns-clause-idle
 returns-clause-idle c = idle_table c.args.self.now.collector c.hang.new.self.collector (c.hang.ensures.table ∙ ap (λ (w : Forest ℕ). w.collector.table) c.place-at.ensures.state)
+
+pub returns-clause-waiting : goal.returns-clause-waiting
+returns-clause-waiting c = c.hang.ensures.edited.waiting ∙ ap (λ (w : Forest ℕ). w.waiting) c.place-at.ensures.state

@@ -114,3 +114,6 @@ returns-in-Some-clause-sizes c =
     let t' : Forest ℕ = record { collector = c.put_off.new.collector; forms = i.forms.items; waiting = i.waiting + 1; waiting_bytes = i.waiting_bytes + c.size.result } in
     let r = retired c.order.ensures.deferred t t' c.args.at c.in-Some.slot c.put_back.new.collector c.args.who z e live k c.put_off.ensures (in_table i.collector.table c.args.who g.0) (let room = c.requires.ready in omega (arith, bag, room)) refl refl (ap (λ n. i.waiting_bytes + n) size) in
     r.sizes ∙ ap sizes c.self.view_is
+
+pub returns-in-Some-clause-waiting : goal.returns-in-Some-clause-waiting
+returns-in-Some-clause-waiting c = ap (λ (w : Forest ℕ). w.waiting + 1) c.self.view_is

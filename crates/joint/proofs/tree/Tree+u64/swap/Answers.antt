@@ -16,3 +16,6 @@ returns-clause-leaf c = λ old s pl.
 
 pub returns-clause-table : goal.returns-clause-table
 returns-clause-table c = c.change.ensures.table ∙ ap (λ (w : Forest ℕ). w.collector.table) c.place-at.ensures.state
+
+pub returns-clause-waiting : goal.returns-clause-waiting
+returns-clause-waiting c = c.change.ensures.edited.waiting ∙ ap (λ (w : Forest ℕ). w.waiting) c.place-at.ensures.state
