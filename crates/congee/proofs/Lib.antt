@@ -4,6 +4,7 @@ pub mod BitLemmas
 pub mod ByteLemmas
 pub mod ByteRanges
 pub mod ChainLemmas
+pub mod Cursors
 pub mod Drains
 pub mod Edits
 pub mod Entries

@@ -2,6 +2,7 @@ pub mod Arena
 pub mod Bytes
 pub mod Changes
 pub mod Content
+pub mod Cursor
 pub mod Drained
 pub mod Forms
 pub mod Gaps
