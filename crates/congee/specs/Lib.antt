@@ -5,7 +5,6 @@ pub mod Content
 pub mod Cursor
 pub mod Drained
 pub mod Forms
-pub mod Gaps
 pub mod Heap
 pub mod Index
 pub mod Keys

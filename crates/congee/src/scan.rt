@@ -63,7 +63,7 @@ impl<P: Stored, A: Allocator> Arena<P, A> {
             let node = &self.nodes[at];
             let depth = node.prefix().len();
             let mut from = bytes[depth] as usize;
-            match node.get_child(bytes[depth]) {
+            let below = match node.get_child(bytes[depth]) {
                 None => {
                     cursor.push(Step { node: at, from });
                     return cursor;
@@ -73,24 +73,22 @@ impl<P: Stored, A: Allocator> Arena<P, A> {
                     cursor.push(Step { node: at, from });
                     return cursor;
                 }
-                Some(Child::Node(below)) => {
-                    let below = *below;
-                    let prefix = self.nodes[below].prefix();
-                    if !has_prefix(&bytes, prefix, depth + 1) {
-                        let apart = first_apart(&bytes, prefix);
-                        if prefix[apart] < bytes[apart] {
-                            from += 1;
-                        }
-                        cursor.push(Step { node: at, from });
-                        return cursor;
-                    }
-                    cursor.push(Step {
-                        node: at,
-                        from: from + 1,
-                    });
-                    at = below;
+                Some(Child::Node(below)) => *below,
+            };
+            let prefix = self.nodes[below].prefix();
+            if !has_prefix(&bytes, prefix, depth + 1) {
+                let apart = first_apart(&bytes, prefix);
+                if prefix[apart] < bytes[apart] {
+                    from += 1;
                 }
+                cursor.push(Step { node: at, from });
+                return cursor;
             }
+            cursor.push(Step {
+                node: at,
+                from: from + 1,
+            });
+            at = below;
         }
     }
 
