@@ -1,6 +1,6 @@
 -- The keys that are ahead of a scan, and how its steps change them.
 use Rattle.std.proofs.Common.{◌≡◌, ℕ, zero, suc, ◌<◌, ◌≤◌, ◌+◌, ◌-◌, ◌*◌, ◌^◌, ◌⊎◌, true, List, [], ◌∷◌, ◌++◌, length, length-append, get_or, inl, inr, refl, sym, ap, ◌∙◌, subst, arith}
-use Rattle.std.specs.Prelude.{Option, None, Some, is_some, IsSome, ◌↔◌}
+use Rattle.std.specs.Prelude.{Option, None, Some, is_some, IsSome, MatchOption, ◌↔◌}
 use Rattle.std.specs.Int.{from_be_bytes, w64}
 use Rattle.std.proofs.lemmas.Nat.{from_be_bytes-to_be_bytes_8}
 use Rattle.std.proofs.lemmas.Bool.{cases_lt}
@@ -29,6 +29,10 @@ use Rattle.congee.proofs.Ways.{linked_of, stands_of, short_prefix, below_stands,
 
 abbrev pub step : ℕ → ℕ → Step
 step node from = record { node = node; from = from }
+
+pub first_of_pair : {T : Type 0} (o : Option T) (A : Type 0) (B C : T → Type 0) → MatchOption o A (λ r. B r × C r) → MatchOption o A B
+first_of_pair None A B C m = m
+first_of_pair (Some x) A B C m = m.0
 
 -- where nothing is popped nothing was there
 pub none_left : (steps rest : List Step) (o : Option Step) → o ≡ None → IsSome o ↔ (0 < length steps) → steps ≡ []
@@ -402,8 +406,8 @@ module _ {P : Type 0} (s : Nodes P) (t : IsTree s) where
   ended before from e at q l = none_of (map.get (pairs_of s) q) (λ h. (e.same q h).0 ((at.ahead q h).0 l))
 
   -- before every pair
-  pub begins : IsCursor s (step 0 0 ∷ []) × IsAt s (step 0 0 ∷ []) 0
-  begins = (
+  pub begins : (steps : List Step) → steps ≡ step 0 0 ∷ [] → IsCursor s steps × IsAt s steps 0
+  begins steps e = subst (λ xs. IsCursor s xs × IsAt s xs 0) (sym e) (
     (refl, omega arith),
     record { ahead = λ q h. (λ l. inl (record { fitted = rw t.tree.empty refl; past = omega arith }), λ a. omega arith) },
   )
