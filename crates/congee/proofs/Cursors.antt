@@ -1,5 +1,5 @@
 -- The keys that are ahead of a scan, and how its steps change them.
-use Rattle.std.proofs.Common.{◌≡◌, ℕ, zero, suc, ◌<◌, ◌≤◌, ◌+◌, ◌-◌, ◌*◌, ◌^◌, ◌⊎◌, true, List, [], ◌∷◌, ◌++◌, length, length-append, get_or, inl, inr, refl, sym, ap, ◌∙◌, subst, arith}
+use Rattle.std.proofs.Common.{◌≡◌, ℕ, zero, suc, ◌<◌, ◌≤◌, ◌+◌, ◌-◌, ◌*◌, ◌^◌, ◌⊎◌, true, false, List, [], ◌∷◌, ◌++◌, length, length-append, get_or, inl, inr, refl, sym, ap, ◌∙◌, subst, arith}
 use Rattle.std.specs.Prelude.{Option, None, Some, is_some, IsSome, MatchOption, ◌↔◌}
 use Rattle.std.specs.Int.{from_be_bytes, w64}
 use Rattle.std.proofs.lemmas.Nat.{from_be_bytes-to_be_bytes_8}
@@ -33,6 +33,14 @@ step node from = record { node = node; from = from }
 pub first_of_pair : {T : Type 0} (o : Option T) (A : Type 0) (B C : T → Type 0) → MatchOption o A (λ r. B r × C r) → MatchOption o A B
 first_of_pair None A B C m = m
 first_of_pair (Some x) A B C m = m.0
+
+pub some_told : {T : Type 0} (o : Option T) (A : Type 0) (B : T → Type 0) → IsSome o → MatchOption o A B → (x : T) × B x
+some_told None A B e m = absurd (cc e)
+some_told (Some x) A B e m = (x, m)
+
+pub nothing_told : {T : Type 0} (o : Option T) (A : Type 0) (B : T → Type 0) → is_some o ≡ false → MatchOption o A B → A
+nothing_told None A B e m = m
+nothing_told (Some x) A B e m = absurd (cc e)
 
 -- where nothing is popped nothing was there
 pub none_left : (steps rest : List Step) (o : Option Step) → o ≡ None → IsSome o ↔ (0 < length steps) → steps ≡ []
