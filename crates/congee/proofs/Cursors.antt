@@ -386,25 +386,36 @@ module _ {P : Type 0} (s : Nodes P) (t : IsTree s) where
       let here : map.get (pairs_of s) k ≡ Some x = (pairs_stand s).at k lk ∙ at_held s (key_bytes k) n x t (record { stands = last.stands; fitted = f }) child in
       let has : IsSome (map.get (pairs_of s) k) = ap (λ o. is_some o) here in
       let from_k : from' ≤ k = (at.ahead k has).1 ((same.same k has).1 (ahead_right s steps (step n from) (key_bytes k) (record { fitted = f; past = omega (arith, lo, eb) }))) in
-      record { 0 = record { past = from_k; here = here; before = λ q a b. none_of (map.get (pairs_of s) q) (λ hq.
-          absurd (elim (next q hq ((same.same q hq).0 ((at.ahead q hq).0 a))) [ inl z ↦ omega (arith, z, b) | inr z ↦ omega (arith, z.0, b) ])) };
-        1 = record { ahead = λ q hq. (
+      record {
+        0 = record {
+          past = from_k;
+          here = here;
+          before = λ q a b. none_of (map.get (pairs_of s) q) (λ hq.
+              absurd (elim (next q hq ((same.same q hq).0 ((at.ahead q hq).0 a))) [ inl z ↦ omega (arith, z, b) | inr z ↦ omega (arith, z.0, b) ]));
+        };
+        1 = record {
+          ahead = λ q hq. (
             λ a. elim (next q hq ((same.same q hq).0 ((at.ahead q hq).0 (omega (arith, a, from_k))))) [ inl z ↦ absurd (omega (arith, z, a)) | inr z ↦ z.1 ],
             λ a. elim (ahead_split s steps (step n (byte + 1)) (key_bytes q) a) [
               | inl r ↦ (let l = comes_before steps (step n from) k q h lk (small q hq) f r in omega (arith, l))
               | inr v ↦ (let l = less_at n k q last.stands lk (small q hq) f v.fitted (omega (arith, v.past, eb)) in omega (arith, l))
             ],
-          ) } }
+          );
+        };
+      }
     where
       last : IsLast s (length steps) (step n from)
       last = last_of steps (step n from) h
+
       next : (q : ℕ) → IsSome (map.get (pairs_of s) q) → IsAhead s (steps ++ step n from ∷ []) (key_bytes q) → (q ≡ k) ⊎ ((k < q) × IsAhead s (steps ++ step n (byte + 1) ∷ []) (key_bytes q))
       next q hq a = elim (ahead_split s steps (step n from) (key_bytes q) a) [
         | inl r ↦ inr (comes_before steps (step n from) k q h lk (small q hq) f r, ahead_left s steps (step n (byte + 1)) (key_bytes q) r)
         | inr v ↦ (let w = moved_on n from byte q last.stands free hq v in
             elim (cases_lt byte (get_or (key_bytes q) (length (heap_of s n).prefix) 0)) [
-              | inl l ↦ inr (less_at n k q last.stands lk (small q hq) f v.fitted (omega (arith, l, eb)),
-                  ahead_right s steps (step n (byte + 1)) (key_bytes q) (record { fitted = v.fitted; past = omega (arith, l) }))
+              | inl l ↦ inr (
+                less_at n k q last.stands lk (small q hq) f v.fitted (omega (arith, l, eb)),
+                ahead_right s steps (step n (byte + 1)) (key_bytes q) (record { fitted = v.fitted; past = omega (arith, l) }),
+              )
               | inr g ↦ inl (one_key n byte k q x last.stands lk (small q hq) e f v.fitted (omega (arith, eb, g, w.past)))
             ])
       ]
@@ -506,7 +517,7 @@ module _ {P : Type 0} (s : Nodes P) (t : IsTree s) where
       let short = short_prefix s t below (below_stands s t at below (key_bytes key) d.way.stands e) in
       let there = fits_byte (heap_of s below).prefix (key_bytes q) common g parts.within in
       let l = less key q common lk (small q h) (omega (arith, short, parts.within))
-          (λ j lt. parts.same j lt ∙ sym (fits_byte (heap_of s below).prefix (key_bytes q) j g (omega (arith, lt, parts.within)))) (omega (arith, le, parts.apart, there)) in
+      (λ j lt. parts.same j lt ∙ sym (fits_byte (heap_of s below).prefix (key_bytes q) j g (omega (arith, lt, parts.within)))) (omega (arith, le, parts.apart, there)) in
       omega (arith, l))
 
   -- or after it
@@ -516,13 +527,13 @@ module _ {P : Type 0} (s : Nodes P) (t : IsTree s) where
   ends_after steps at below key from common lk d ef b e parts lt = ends_at steps at key from d b
       (λ q h v. let l = less_at at key q d.way.stands lk (small q h) d.way.fitted v.fitted (omega (arith, ef, v.past)) in omega (arith, l))
       (λ q h l f. let up = byte_from at key q d.way.stands l (small q h) d.way.fitted f in
-          elim (cases_lt (get_or (key_bytes key) (length (heap_of s at).prefix) 0) (get_or (key_bytes q) (length (heap_of s at).prefix) 0)) [
-            | inl over ↦ omega (arith, over, ef)
-            | inr ge ↦ (
-                let g = fits_child q at below h d.way.stands f (turns_same at key q (Below below) (omega (arith, up, ge)) e) in
-                let short = short_prefix s t below (below_stands s t at below (key_bytes key) d.way.stands e) in
-                let there = fits_byte (heap_of s below).prefix (key_bytes q) common g parts.within in
-                let n = less q key common (small q h) lk (omega (arith, short, parts.within))
-                    (λ j lt. fits_byte (heap_of s below).prefix (key_bytes q) j g (omega (arith, lt, parts.within)) ∙ sym (parts.same j lt)) (omega (arith, lt, there)) in
-                absurd (omega (arith, n, l)))
-          ])
+      elim (cases_lt (get_or (key_bytes key) (length (heap_of s at).prefix) 0) (get_or (key_bytes q) (length (heap_of s at).prefix) 0)) [
+        | inl over ↦ omega (arith, over, ef)
+        | inr ge ↦ (
+            let g = fits_child q at below h d.way.stands f (turns_same at key q (Below below) (omega (arith, up, ge)) e) in
+            let short = short_prefix s t below (below_stands s t at below (key_bytes key) d.way.stands e) in
+            let there = fits_byte (heap_of s below).prefix (key_bytes q) common g parts.within in
+            let n = less q key common (small q h) lk (omega (arith, short, parts.within))
+            (λ j lt. fits_byte (heap_of s below).prefix (key_bytes q) j g (omega (arith, lt, parts.within)) ∙ sym (parts.same j lt)) (omega (arith, lt, there)) in
+            absurd (omega (arith, n, l)))
+      ])

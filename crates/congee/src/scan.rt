@@ -100,7 +100,7 @@ impl<P: Stored, A: Allocator> Arena<P, A> {
         ensures less { OnSome result (steps_left 8 cursor.new.items < steps_left 8 cursor.old.items) }
         ensures first { (from : ℕ) → IsAt self.now.nodes cursor.old.items from
             → MatchOption result ((q : ℕ) → from ≤ q → map.get (pairs_of self.now.nodes) q ≡ None)
-                (λ r. IsFirst (pairs_of self.now.nodes) from r.0 r.1.now × IsAt self.now.nodes cursor.new.items (r.0 + 1)) }
+            (λ r. IsFirst (pairs_of self.now.nodes) from r.0 r.1.now × IsAt self.now.nodes cursor.new.items (r.0 + 1)) }
     {
         while let Some(Step { node: at, from }) = cursor.pop() {
             let node = &self.nodes[at];

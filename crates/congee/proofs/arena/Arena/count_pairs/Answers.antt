@@ -39,5 +39,5 @@ returns g c =
     let i = c.loop-cursor.invariant in
     let gone : is_some c.next_along.result ≡ false = search rules in
     let none : length (in_range i.from (2 ^ 64) (map.entries m)) ≡ 0 =
-        ap length (range_none m i.from (2 ^ 64) (λ q lo hi. nothing_told c.next_along.result _ _ gone (c.next_along.ensures.first i.from i.at) q lo)) in
+    ap length (range_none m i.from (2 ^ 64) (λ q lo hi. nothing_told c.next_along.result _ _ gone (c.next_along.ensures.first i.from i.at) q lo)) in
     omega (arith, none, map.len-entries m, i.count, i.small)

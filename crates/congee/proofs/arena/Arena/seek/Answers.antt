@@ -1,4 +1,4 @@
-use Rattle.std.proofs.Common.{rules, ◌≡◌, ℕ, ◌<◌, ◌≤◌, ◌+◌, ◌^◌, [], ◌∷◌, ◌++◌, true, Some, length, get_or, sym, ap, subst, ◌∙◌, arith}
+use Rattle.std.proofs.Common.{rules, ◌≡◌, ◌<◌, ◌+◌, ◌^◌, [], ◌∷◌, ◌++◌, true, Some, length, get_or, sym, ap, subst, ◌∙◌, arith}
 use Rattle.slab.specs.Slab.{get}
 use Rattle.congee.specs.Heap.{Below, Holds, Nothing, child_for, fits}
 use Rattle.congee.specs.Keys.{key_bytes}
@@ -35,7 +35,7 @@ returns-in-None g c =
     let prefix : c.prefix-depth.result.now ≡ (heap_of s at).prefix = c.prefix-depth.ensures.bytes ∙ sym (prefix_is s at c.index-node.result.now node) in
     let small : key < 2 ^ 64 = search rules in
     let byte : get_or c.to_be_bytes-bytes.result (length c.prefix-depth.result.now) 0 ≡ get_or (key_bytes key) (length (heap_of s at).prefix) 0 =
-        ap (λ y. get_or y (length c.prefix-depth.result.now) 0) bytes ∙ ap (λ p. get_or (key_bytes key) (length p) 0) prefix in
+    ap (λ y. get_or y (length c.prefix-depth.result.now) 0) bytes ∙ ap (λ p. get_or (key_bytes key) (length p) 0) prefix in
     let low : get_or c.to_be_bytes-bytes.result (length c.prefix-depth.result.now) 0 < 256 = omega (arith, byte, byte_small key (length (heap_of s at).prefix) (omega (arith, short_prefix s t at down.way.stands))) in
     let turn : child_for (heap_of s at) c.to_be_bytes-bytes.result ≡ Nothing = search rules in
     let child : child_for (heap_of s at) (key_bytes key) ≡ Nothing = subst (λ y. child_for (heap_of s at) y ≡ Nothing) bytes turn in
@@ -82,7 +82,7 @@ returns-in-Some-Value g c =
     let prefix : c.prefix-depth.result.now ≡ (heap_of s at).prefix = c.prefix-depth.ensures.bytes ∙ sym (prefix_is s at c.index-node.result.now node) in
     let small : key < 2 ^ 64 = search rules in
     let byte : get_or c.to_be_bytes-bytes.result (length c.prefix-depth.result.now) 0 ≡ get_or (key_bytes key) (length (heap_of s at).prefix) 0 =
-        ap (λ y. get_or y (length c.prefix-depth.result.now) 0) bytes ∙ ap (λ p. get_or (key_bytes key) (length p) 0) prefix in
+    ap (λ y. get_or y (length c.prefix-depth.result.now) 0) bytes ∙ ap (λ p. get_or (key_bytes key) (length p) 0) prefix in
     let low : get_or c.to_be_bytes-bytes.result (length c.prefix-depth.result.now) 0 < 256 = omega (arith, byte, byte_small key (length (heap_of s at).prefix) (omega (arith, short_prefix s t at down.way.stands))) in
     let turn : child_for (heap_of s at) c.to_be_bytes-bytes.result ≡ Holds c.in-Some-Value.field-0-0 = search rules in
     let child : child_for (heap_of s at) (key_bytes key) ≡ Holds c.in-Some-Value.field-0-0 = subst (λ y. child_for (heap_of s at) y ≡ Holds c.in-Some-Value.field-0-0) bytes turn in
@@ -135,7 +135,7 @@ overflow_add-from g c =
     let prefix : c.prefix-depth.result.now ≡ (heap_of s at).prefix = c.prefix-depth.ensures.bytes ∙ sym (prefix_is s at c.index-node.result.now node) in
     let small : key < 2 ^ 64 = search rules in
     let byte : get_or c.to_be_bytes-bytes.result (length c.prefix-depth.result.now) 0 ≡ get_or (key_bytes key) (length (heap_of s at).prefix) 0 =
-        ap (λ y. get_or y (length c.prefix-depth.result.now) 0) bytes ∙ ap (λ p. get_or (key_bytes key) (length p) 0) prefix in
+    ap (λ y. get_or y (length c.prefix-depth.result.now) 0) bytes ∙ ap (λ p. get_or (key_bytes key) (length p) 0) prefix in
     let low : get_or c.to_be_bytes-bytes.result (length c.prefix-depth.result.now) 0 < 256 = omega (arith, byte, byte_small key (length (heap_of s at).prefix) (omega (arith, short_prefix s t at down.way.stands))) in
     omega (arith, low)
 
@@ -163,7 +163,7 @@ returns-then-not-has_prefix g c =
     let prefix : c.prefix-depth.result.now ≡ (heap_of s at).prefix = c.prefix-depth.ensures.bytes ∙ sym (prefix_is s at c.index-node.result.now node) in
     let small : key < 2 ^ 64 = search rules in
     let byte : get_or c.to_be_bytes-bytes.result (length c.prefix-depth.result.now) 0 ≡ get_or (key_bytes key) (length (heap_of s at).prefix) 0 =
-        ap (λ y. get_or y (length c.prefix-depth.result.now) 0) bytes ∙ ap (λ p. get_or (key_bytes key) (length p) 0) prefix in
+    ap (λ y. get_or y (length c.prefix-depth.result.now) 0) bytes ∙ ap (λ p. get_or (key_bytes key) (length p) 0) prefix in
     let low : get_or c.to_be_bytes-bytes.result (length c.prefix-depth.result.now) 0 < 256 = omega (arith, byte, byte_small key (length (heap_of s at).prefix) (omega (arith, short_prefix s t at down.way.stands))) in
     let turn : child_for (heap_of s at) c.to_be_bytes-bytes.result ≡ Below c.in-Some-Node.below = search rules in
     let child : child_for (heap_of s at) (key_bytes key) ≡ Below c.in-Some-Node.below = subst (λ y. child_for (heap_of s at) y ≡ Below c.in-Some-Node.below) bytes turn in
@@ -171,7 +171,7 @@ returns-then-not-has_prefix g c =
     let lower : c.prefix-prefix.result.now ≡ (heap_of s c.in-Some-Node.below).prefix = c.prefix-prefix.ensures.bytes ∙ sym (prefix_is s c.in-Some-Node.below c.index.result.now below) in
     let apart = c.first_apart-apart.result in
     let parts : Parts (key_bytes key) (heap_of s c.in-Some-Node.below).prefix apart =
-        subst (λ y. Parts (key_bytes key) y apart) lower (subst (λ y. Parts y c.prefix-prefix.result.now apart) bytes c.first_apart-apart.ensures) in
+    subst (λ y. Parts (key_bytes key) y apart) lower (subst (λ y. Parts y c.prefix-prefix.result.now apart) bytes c.first_apart-apart.ensures) in
     let upper : get_or (heap_of s c.in-Some-Node.below).prefix apart 0 ≡ get_or c.prefix-prefix.result.now apart 0 = ap (λ y. get_or y apart 0) (sym lower) in
     let mine : get_or (key_bytes key) apart 0 ≡ get_or c.to_be_bytes-bytes.result apart 0 = ap (λ y. get_or y apart 0) (sym bytes) in
     let both : IsCursor s (xs ++ step at c.if-prefix-apart.from ∷ []) × IsAt s (xs ++ step at c.if-prefix-apart.from ∷ []) key = elim c.if-prefix-apart.branch [
@@ -222,7 +222,7 @@ loop-cursor-preserved g c =
     let prefix : c.prefix-depth.result.now ≡ (heap_of s at).prefix = c.prefix-depth.ensures.bytes ∙ sym (prefix_is s at c.index-node.result.now node) in
     let small : key < 2 ^ 64 = search rules in
     let byte : get_or c.to_be_bytes-bytes.result (length c.prefix-depth.result.now) 0 ≡ get_or (key_bytes key) (length (heap_of s at).prefix) 0 =
-        ap (λ y. get_or y (length c.prefix-depth.result.now) 0) bytes ∙ ap (λ p. get_or (key_bytes key) (length p) 0) prefix in
+    ap (λ y. get_or y (length c.prefix-depth.result.now) 0) bytes ∙ ap (λ p. get_or (key_bytes key) (length p) 0) prefix in
     let low : get_or c.to_be_bytes-bytes.result (length c.prefix-depth.result.now) 0 < 256 = omega (arith, byte, byte_small key (length (heap_of s at).prefix) (omega (arith, short_prefix s t at down.way.stands))) in
     let turn : child_for (heap_of s at) c.to_be_bytes-bytes.result ≡ Below c.in-Some-Node.below = search rules in
     let child : child_for (heap_of s at) (key_bytes key) ≡ Below c.in-Some-Node.below = subst (λ y. child_for (heap_of s at) y ≡ Below c.in-Some-Node.below) bytes turn in
