@@ -1,4 +1,4 @@
-use Rattle.std.proofs.Common.{rules, ◌≡◌, ◌^◌, ◌<◌, ◌+◌, true, false, length, sym, ap, ◌∙◌, arith}
+use Rattle.std.proofs.Common.{rules, ◌≡◌, ◌^◌, ◌<◌, ◌+◌, true, false, length, ap, ◌∙◌, arith}
 use Rattle.std.specs.Prelude.{is_some}
 use Rattle.std.specs.FinMap as map
 use Rattle.congee.specs.Ranges.{in_range}
