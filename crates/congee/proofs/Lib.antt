@@ -4,13 +4,13 @@ pub mod BitLemmas
 pub mod ByteLemmas
 pub mod ByteRanges
 pub mod ChainLemmas
+pub mod Cursors
 pub mod Drains
 pub mod Edits
 pub mod Entries
 pub mod EntryLemmas
 pub mod Fits
 pub mod Full
-pub mod Gaps
 pub mod Graft
 pub mod Grow
 pub mod Grown
@@ -27,8 +27,6 @@ pub mod Moves
 pub mod OwnerLemmas
 pub mod OffsetLemmas
 pub mod Orders
-pub mod Passes
-pub mod Paths
 pub mod Prefixes
 pub mod Puts
 pub mod RangeLemmas

@@ -1,11 +1,31 @@
 -- Numbers in the order of their bytes, the highest first.
-use Rattle.std.proofs.Common.{◌≡◌, ℕ, zero, suc, ◌<◌, ◌≤◌, ◌+◌, ◌*◌, ◌-◌, ◌/◌, ◌^◌, get_or, inl, inr, sym, ap, ◌∙◌, subst, arith}
-use Rattle.std.proofs.lemmas.Nat.{shr-shr}
-use Rattle.std.proofs.Math.Nat.{div-one, div-add-mod}
+use Rattle.std.proofs.Common.{◌≡◌, ℕ, zero, suc, ◌<◌, ◌≤◌, ◌+◌, ◌*◌, ◌-◌, ◌/◌, ◌%◌, ◌^◌, get_or, inl, inr, refl, sym, ap, ◌∙◌, subst, arith}
+use Rattle.std.specs.Int.{byte_at, bytes_high_first}
+use Rattle.std.proofs.lemmas.Nat.{shr-shr, pow-add}
+use Rattle.std.proofs.Math.Nat.{div-one, div-add-mod, pow-suc}
 use Rattle.std.proofs.Math.Pow.{shr_mono}
 use Rattle.std.proofs.lemmas.Bool.{cases_lt}
 use Rattle.congee.specs.Keys.{key_bytes}
-use Rattle.congee.proofs.Gaps.{digit}
+
+raised : (m : ℕ) → 256 ^ m ≡ 2 ^ (8 * m)
+raised zero = refl
+raised (suc m) = pow-suc 256 m ∙ ap (λ x. x * 256) (raised m) ∙ sym (pow-add 2 (8 * m) 8) ∙ ap (λ e. 2 ^ e) (omega arith)
+
+byte_is : (k n : ℕ) → byte_at k n ≡ n / 2 ^ (8 * k) % 256
+byte_is zero n = ap (λ x. x % 256) (sym (div-one n))
+byte_is (suc i) n = ap (λ x. n / x % 256) (raised (suc i))
+
+nth_byte : (m n j : ℕ) → j < m → get_or (bytes_high_first m n) j 0 ≡ byte_at (m - 1 - j) n
+nth_byte zero n j l = absurd (omega (arith, l))
+nth_byte (suc m) n zero l = ap (λ x. byte_at x n) (omega arith)
+nth_byte (suc m) n (suc j) l = nth_byte m n j (omega (arith, l)) ∙ ap (λ x. byte_at x n) (omega (arith, l))
+
+-- the byte at a depth
+digit : (q j : ℕ) → j < 8 → get_or (key_bytes q) j 0 ≡ q / 2 ^ (8 * (7 - j)) % 256
+digit q j l = nth_byte 8 q j l ∙ byte_is (7 - j) q
+
+pub byte_small : (q j : ℕ) → j < 8 → get_or (key_bytes q) j 0 < 256
+byte_small q j l = omega (arith, digit q j l)
 
 -- the number of the first j bytes
 abbrev pub top : ℕ → ℕ → ℕ
@@ -64,52 +84,3 @@ less a b d la lb l h k = elim (cases_lt a b) [
       absurd (omega (arith, rest, x, y, k, up))
       )
 ]
-
--- what lies between two numbers that begin alike begins as they do
-pub pinned : (a q b d : ℕ) → a ≤ q → q ≤ b → b < 2 ^ 64 → d ≤ 8 → ((j : ℕ) → j < d → get_or (key_bytes a) j 0 ≡ get_or (key_bytes b) j 0)
-    → (j : ℕ) → j < d → get_or (key_bytes q) j 0 ≡ get_or (key_bytes a) j 0
-pinned a q b zero lo hi lb l h j k = absurd (omega (arith, k))
-pinned a q b (suc d) lo hi lb l h j k =
-    let before : (j : ℕ) → j < d → get_or (key_bytes q) j 0 ≡ get_or (key_bytes a) j 0 = pinned a q b d lo hi lb (omega (arith, l)) (λ i m. h i (omega (arith, m))) in
-    elim (cases_lt j d) [
-      | inl lt ↦ before j lt
-      | inr ge ↦ (let e : d ≡ j = omega (arith, ge, k) in subst (λ n. get_or (key_bytes q) n 0 ≡ get_or (key_bytes a) n 0) e (here before))
-    ]
-  where
-    here : ((j : ℕ) → j < d → get_or (key_bytes q) j 0 ≡ get_or (key_bytes a) j 0) → get_or (key_bytes q) d 0 ≡ get_or (key_bytes a) d 0
-    here before =
-        let lq : q < 2 ^ 64 = omega (arith, hi, lb) in
-        let la : a < 2 ^ 64 = omega (arith, lo, lq) in
-        elim (cases_lt (get_or (key_bytes q) d 0) (get_or (key_bytes a) d 0)) [
-          | inl under ↦ (let n = less q a d lq la (omega (arith, l)) before under in absurd (omega (arith, n, lo)))
-          | inr from ↦ elim (cases_lt (get_or (key_bytes a) d 0) (get_or (key_bytes q) d 0)) [
-            | inl over ↦ (
-                let same = h d (omega arith) in
-                let n = less b q d lb lq (omega (arith, l)) (λ i m. sym (h i (omega (arith, m))) ∙ sym (before i m)) (omega (arith, same, over)) in
-                absurd (omega (arith, n, hi))
-                )
-            | inr to ↦ omega (arith, from, to)
-          ]
-        ]
-
--- a number that ends in zeros is the least that begins as it does
-pub least : (k q n : ℕ) → k < 2 ^ 64 → q < 2 ^ 64 → n ≤ 8 → ((j : ℕ) → j < n → get_or (key_bytes k) j 0 ≡ get_or (key_bytes q) j 0)
-    → ((j : ℕ) → n ≤ j → j < 8 → get_or (key_bytes k) j 0 ≡ 0) → k ≤ q
-least k q n lk lq l same zeros =
-    let all : top k (n + (8 - n)) ≤ top q (n + (8 - n)) = up (8 - n) (omega (arith, l)) in
-    let e : n + (8 - n) ≡ 8 = omega (arith, l) in
-    let whole : top k 8 ≤ top q 8 = subst (λ i. top k i ≤ top q i) e all in
-    subst (λ x. x ≤ q) (top_all k) (subst (λ x. top k 8 ≤ x) (top_all q) whole)
-  where
-    up : (m : ℕ) → n + m ≤ 8 → top k (n + m) ≤ top q (n + m)
-    up zero b =
-        let e = same_top k q n lk lq l same in
-        let z : n + 0 ≡ n = omega arith in
-        subst (λ i. top k i ≤ top q i) (sym z) (omega (arith, e))
-    up (suc m) b =
-        let rest = up m (omega (arith, b)) in
-        let x = top_step k (n + m) (omega (arith, b)) in
-        let y = top_step q (n + m) (omega (arith, b)) in
-        let z = zeros (n + m) (omega arith) (omega (arith, b)) in
-        let s : n + m + 1 ≡ n + suc m = omega arith in
-        subst (λ i. top k i ≤ top q i) s (omega (arith, rest, x, y, z))

@@ -1,7 +1,6 @@
 -- The pairs within a range of keys, one after the other.
 use Rattle.std.proofs.Common.{◌≡◌, ℕ, zero, suc, ◌<◌, ◌≤◌, ◌+◌, ◌-◌, List, [], ◌∷◌, ◌++◌, length, take, drop, set, append-nil, append_assoc, IsSome, length-take-le, refl, inl, inr, sym, ap, ◌∙◌, subst, arith}
 use Rattle.std.specs.Prelude.{Option, None, Some, MatchOption}
-use Rattle.std.specs.Option.{SomeIff}
 use Rattle.std.proofs.lemmas.Bool.Decides.{nat_tests}
 use Rattle.std.proofs.lemmas.Bool.{cases_lt}
 use Rattle.std.proofs.lemmas.Grind.{take-set_at}
@@ -91,7 +90,3 @@ module _ {X : Type 0} where
 pub none_told : {T : Type 0} (o : Option T) (A : Type 0) (B : T → Type 0) → o ≡ None → MatchOption o A B → A
 none_told None A B e m = m
 none_told (Some x) A B e m = absurd (cc e)
-
-pub sum_passes : (o : Option ℕ) (t e : ℕ) → o ≡ None → SomeIff o (t < e) t → e ≤ t
-sum_passes None t e n s = elim (cases_lt t e) [ inl l ↦ absurd (s l) | inr g ↦ g ]
-sum_passes (Some x) t e n s = absurd (cc n)

@@ -2,9 +2,9 @@ pub mod Arena
 pub mod Bytes
 pub mod Changes
 pub mod Content
+pub mod Cursor
 pub mod Drained
 pub mod Forms
-pub mod Gaps
 pub mod Heap
 pub mod Index
 pub mod Keys

@@ -1,6 +1,5 @@
 -- Where a key's way through the tree ends.
-use Rattle.std.specs.Prelude.{◌≡◌, ℕ, ◌<◌, false, List, length, slice_index}
-use Rattle.slab.specs.Slab.{ContainsKey}
+use Rattle.std.specs.Prelude.{◌≡◌, ℕ, false, List}
 use Rattle.congee.specs.Heap.{Nothing, Below, Holds, fits, child_for}
 use Rattle.congee.specs.Arena.{Nodes, heap_of, Reached}
 use Rattle.congee.specs.declared.place.Place.{Place}
@@ -16,8 +15,3 @@ EndsAt s key n (Apart c) = (child_for (heap_of s n) key ≡ Below c) × (fits (h
 pub record Located {P : Type 0} (s : Nodes P) (key : List ℕ) (p : Place) : Type 0 where
   pub reached : Reached s key p.above p.at
   pub ends : EndsAt s key p.at p.spot
-
--- names of nodes that stand; number i has a prefix of more than i bytes, so no more than seven are named
-pub record IsPath {P : Type 0} (s : Nodes P) (names : List ℕ) : Type 0 where
-  pub stand : (i : ℕ) → i < length names → ContainsKey s (slice_index names i)
-  pub deep : (i : ℕ) → i < length names → i < length (heap_of s (slice_index names i)).prefix

@@ -9,7 +9,7 @@ ghost use Rattle.congee.specs.Table.{pairs_of};
 use crate::allocator::Allocator;
 use crate::arena::{Arena, Stored};
 use crate::drainer::Drainer;
-use crate::scan::Path;
+use crate::scan::beginning;
 use judge::Word64;
 
 impl<P: Stored, A: Allocator> Arena<P, A> {
@@ -38,14 +38,9 @@ impl<A: Allocator> Arena<u64, A> {
         ensures { Drained D.drains K.of_word V.of_word drainer (map.entries (pairs_of self.now.nodes)) result }
     {
         let mut drainer = drainer;
-        let mut path = Path::new();
-        let mut from = 0;
-        while let Some((key, value)) = self.first_along(&mut path, from) {
+        let mut cursor = beginning();
+        while let Some((key, value)) = self.next_along(&mut cursor) {
             drainer.drain(K::from_word(key), V::from_word(*value));
-            match key.checked_add(1) {
-                Some(next) => from = next,
-                None => break,
-            }
         }
         drainer
     }

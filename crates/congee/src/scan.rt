@@ -1,158 +1,126 @@
 //! The pairs of an arena by ascending keys.
-ghost use Rattle.std.specs.Prelude.{◌≡◌, ◌^◌, ℕ, ◌<◌, ◌≤◌, length, take, drop, slice_index, Some, None, IfOk, true, false, MatchOption};
+ghost use Rattle.std.specs.Prelude.{◌≡◌, ◌+◌, ◌^◌, ℕ, ◌<◌, ◌≤◌, [], ◌∷◌, length, take, drop, slice_index, None, OnSome, IfOk, true, MatchOption};
 ghost use Rattle.std.specs.FinMap as map;
-ghost use Rattle.congee.specs.Heap.{Below, Nothing, child_for, fits, value_at};
+ghost use Rattle.congee.specs.Heap.{fits};
 ghost use Rattle.congee.specs.Keys.{key_bytes};
-ghost use Rattle.congee.specs.Arena.{IsTree, OnWay, heap_of};
-ghost use Rattle.congee.specs.Place.{EndsAt, IsPath};
-ghost use Rattle.congee.specs.Gaps.{Near, Gap};
+ghost use Rattle.congee.specs.Arena.{IsTree};
 ghost use Rattle.congee.specs.Bytes.{IsFirst};
+ghost use Rattle.congee.specs.Cursor.{IsCursor, IsAt, steps_left};
 ghost use Rattle.congee.specs.Table.{pairs_of};
-ghost use Rattle.congee.specs.OwnedSteps.{IsHeld};
 ghost use Rattle.congee.specs.Ranges.{by_bytes, in_range, keys_by};
 
 use crate::allocator::Allocator;
 use crate::arena::{Arena, Stored};
 use crate::child::Child;
 use crate::edit::first_apart;
-use crate::place::Spot;
 use arrayvec::ArrayVec;
 use judge::Word64;
 use std::alloc::{AllocError, Global};
 
-/// Nodes below the root, each below the one before.
-pub(crate) type Path = ArrayVec<usize, 7>;
-
-// The least number past those that begin with the first `depth` bytes of the key and go on with a byte under `next`.
-fn past(key: u64, depth: usize, next: u64) -> Option<u64>
-    requires inside { depth < 8 }
-    requires byte { slice_index (key_bytes key) depth < next }
-    requires bound { next ≤ 256 }
-    ensures { MatchOption result ((q : ℕ) → key ≤ q → q < 2 ^ 64 → Near key depth next q)
-        (λ k. (key < k) × ((k < 2 ^ 64) × ((q : ℕ) → key ≤ q → q < k → Near key depth next q))) }
-{
-    let shift = 8 * (7 - depth);
-    let high = key >> shift;
-    (high - high % 256)
-        .checked_add(next)?
-        .checked_mul(1 << shift)
+/// A node on a scan's way, and the least of its bytes that the scan has yet to look at: 256 where none is left.
+#[derive(Clone, Copy, Default)]
+pub(crate) struct Step {
+    node: usize,
+    from: usize,
 }
 
-// The least number with a prefix.
-fn least_with(prefix: &[u8]) -> u64
-    requires { length prefix.now ≤ 7 }
-    ensures fits { fits prefix.now (key_bytes result) ≡ true }
-    ensures least { (q : ℕ) → q < 2 ^ 64 → fits prefix.now (key_bytes q) ≡ true → result ≤ q }
+/// The nodes of a scan's way from the root down, each below the one before.
+pub(crate) type Cursor = ArrayVec<Step, 8>;
+
+/// The cursor before every pair.
+pub(crate) fn beginning() -> Cursor
+    ensures { result.items ≡ record { node = 0; from = 0 } ∷ [] }
 {
-    let mut bytes = [0; 8];
-    for i in 0..prefix.len() {
+    let mut cursor = Cursor::new();
+    cursor.push(Step { node: 0, from: 0 });
+    cursor
+}
+
+// The key of a leaf's pair: the leaf's prefix, and the byte.
+fn key_of(prefix: &[u8], byte: u8) -> u64
+    requires { length prefix.now ≡ 7 }
+    ensures begins { fits prefix.now (key_bytes result) ≡ true }
+    ensures ends { slice_index (key_bytes result) 7 ≡ byte }
+{
+    let mut bytes = [byte; 8];
+    for i in 0..7 {
         bytes[i] = prefix[i];
     }
     u64::from_be_bytes(bytes)
 }
 
 impl<P: Stored, A: Allocator> Arena<P, A> {
-    // The next number that may have a value, where a node has nothing for the key.
-    fn past_free(&self, at: usize, key: u64, bytes: &[u8; 8]) -> Option<u64>
-        requires tree { IsTree self.now.nodes }
-        requires bytes { bytes.now ≡ key_bytes key }
-        requires way { OnWay self.now.nodes bytes.now at }
-        requires free { child_for (heap_of self.now.nodes at) bytes.now ≡ Nothing }
-        ensures { MatchOption result (Gap self.now.nodes key (2 ^ 64)) (λ k. (key < k) × ((k < 2 ^ 64) × Gap self.now.nodes key k)) }
+    /// The cursor before the pair of the least key from a number on.
+    pub(crate) fn seek(&self, key: u64) -> Cursor
+        requires { IsTree self.now.nodes }
+        ensures cursor { IsCursor self.now.nodes result.items }
+        ensures at { IsAt self.now.nodes result.items key }
     {
-        let node = &self.nodes[at];
-        let depth = node.prefix().len();
-        let next = match node.first_from(bytes[depth] as usize + 1) {
-            Some((byte, _)) => byte as u64,
-            None => 256,
-        };
-        past(key, depth, next)
-    }
-
-    // The next number that may have a value, where the key lacks the prefix of the node below.
-    fn past_apart(&self, at: usize, below: usize, key: u64, bytes: &[u8; 8]) -> Option<u64>
-        requires tree { IsTree self.now.nodes }
-        requires bytes { bytes.now ≡ key_bytes key }
-        requires way { OnWay self.now.nodes bytes.now at }
-        requires child { child_for (heap_of self.now.nodes at) bytes.now ≡ Below below }
-        requires apart { fits (heap_of self.now.nodes below).prefix bytes.now ≡ false }
-        ensures { MatchOption result (Gap self.now.nodes key (2 ^ 64)) (λ k. (key < k) × ((k < 2 ^ 64) × Gap self.now.nodes key k)) }
-    {
-        let prefix = self.nodes[below].prefix();
-        let apart = first_apart(bytes, prefix);
-        if bytes[apart] < prefix[apart] {
-            return Some(least_with(prefix));
-        }
-        let depth = self.nodes[at].prefix().len();
-        past(key, depth, bytes[depth] as u64 + 1)
-    }
-
-    // The lowest node of the path that is on the key's way, or the root. What is below it leaves the path.
-    fn resume(&self, path: &mut Path, key: &[u8; 8]) -> usize
-        requires tree { IsTree self.now.nodes }
-        requires path { IsPath self.now.nodes path.old.items }
-        ensures path { IsPath self.now.nodes path.new.items }
-        ensures way { OnWay self.now.nodes key.now result }
-        ensures deep { length path.new.items ≤ length (heap_of self.now.nodes result).prefix }
-    {
-        while let Some(&at) = path.as_slice().last() {
-            if self.nodes[at].leads(key) {
-                return at;
-            }
-            path.pop();
-        }
-        0
-    }
-
-    // The end of a key's way, and what stands there. The path has the nodes of the way then.
-    fn follow(&self, path: &mut Path, key: &[u8; 8]) -> (usize, Spot)
-        requires tree { IsTree self.now.nodes }
-        requires path { IsPath self.now.nodes path.old.items }
-        ensures path { IsPath self.now.nodes path.new.items }
-        ensures way { OnWay self.now.nodes key.now result.0 }
-        ensures ends { EndsAt self.now.nodes key.now result.0 result.1 }
-    {
-        let mut at = self.resume(path, key);
+        let bytes = key.to_be_bytes();
+        let mut cursor = Cursor::new();
+        let mut at = 0;
         loop {
             let node = &self.nodes[at];
-            match node.get_child(key[node.prefix().len()]) {
-                None => return (at, Spot::Free),
-                Some(Child::Blank) => unreachable!(),
-                Some(Child::Value(_)) => return (at, Spot::Held),
-                Some(Child::Node(below)) => {
-                    let below = *below;
-                    if !self.nodes[below].leads(key) {
-                        return (at, Spot::Apart(below));
-                    }
-                    path.push(below);
-                    at = below;
+            let depth = node.prefix().len();
+            let mut from = bytes[depth] as usize;
+            let below = match node.get_child(bytes[depth]) {
+                None => {
+                    cursor.push(Step { node: at, from });
+                    return cursor;
                 }
+                Some(Child::Blank) => unreachable!(),
+                Some(Child::Value(_)) => {
+                    cursor.push(Step { node: at, from });
+                    return cursor;
+                }
+                Some(Child::Node(below)) => *below,
+            };
+            if !self.nodes[below].leads(&bytes) {
+                let prefix = self.nodes[below].prefix();
+                let apart = first_apart(&bytes, prefix);
+                if prefix[apart] < bytes[apart] {
+                    from += 1;
+                }
+                cursor.push(Step { node: at, from });
+                return cursor;
             }
+            cursor.push(Step {
+                node: at,
+                from: from + 1,
+            });
+            at = below;
         }
     }
 
-    /// The pair of the least key from a number on. The search goes on from a path, and leaves its own there.
-    pub(crate) fn first_along(&self, path: &mut Path, from: u64) -> Option<(u64, &P)>
+    /// The next pair. The cursor is past it then.
+    pub(crate) fn next_along(&self, cursor: &mut Cursor) -> Option<(u64, &P)>
         requires tree { IsTree self.now.nodes }
-        requires path { IsPath self.now.nodes path.old.items }
-        ensures path { IsPath self.now.nodes path.new.items }
-        ensures first { MatchOption result ((q : ℕ) → from ≤ q → map.get (pairs_of self.now.nodes) q ≡ None)
-            (λ r. IsFirst (pairs_of self.now.nodes) from r.0 r.1.now) }
+        requires cursor { IsCursor self.now.nodes cursor.old.items }
+        ensures cursor { IsCursor self.now.nodes cursor.new.items }
+        ensures less { OnSome result (steps_left 8 cursor.new.items < steps_left 8 cursor.old.items) }
+        ensures first { (from : ℕ) → IsAt self.now.nodes cursor.old.items from
+            → MatchOption result ((q : ℕ) → from ≤ q → map.get (pairs_of self.now.nodes) q ≡ None)
+            (λ r. IsFirst (pairs_of self.now.nodes) from r.0 r.1.now × IsAt self.now.nodes cursor.new.items (r.0 + 1)) }
     {
-        let mut key = from;
-        loop {
-            let bytes = key.to_be_bytes();
-            let (at, spot) = self.follow(path, &bytes);
-            let next = match spot {
-                Spot::Held => return Some((key, self.held(at, &bytes))),
-                Spot::Free => self.past_free(at, key, &bytes),
-                Spot::Apart(below) => self.past_apart(at, below, key, &bytes),
+        while let Some(Step { node: at, from }) = cursor.pop() {
+            let node = &self.nodes[at];
+            let Some((byte, child)) = node.first_from(from) else {
+                continue;
             };
-            match next {
-                Some(next) => key = next,
-                None => return None,
+            cursor.push(Step {
+                node: at,
+                from: byte as usize + 1,
+            });
+            match child {
+                Child::Blank => unreachable!(),
+                Child::Value(value) => return Some((key_of(node.prefix(), byte), value)),
+                Child::Node(below) => cursor.push(Step {
+                    node: *below,
+                    from: 0,
+                }),
             }
         }
+        None
     }
 
     /// The pair of the least key.
@@ -161,7 +129,7 @@ impl<P: Stored, A: Allocator> Arena<P, A> {
         ensures { MatchOption result ((q : ℕ) → 0 ≤ q → map.get (pairs_of self.now.nodes) q ≡ None)
             (λ r. IsFirst (pairs_of self.now.nodes) 0 r.0 r.1.now) }
     {
-        self.first_along(&mut Path::new(), 0)
+        self.next_along(&mut beginning())
     }
 
     /// All keys, ascending.
@@ -170,32 +138,13 @@ impl<P: Stored, A: Allocator> Arena<P, A> {
         ensures { IfOk result (λ keys. keys.items ≡ keys_by K.of_word (map.entries (pairs_of self.now.nodes))) }
     {
         let mut keys = Vec::new(alloc);
-        let mut path = Path::new();
-        let mut from = 0;
-        while let Some((key, _)) = self.first_along(&mut path, from) {
+        let mut cursor = beginning();
+        while let Some((key, _)) = self.next_along(&mut cursor) {
             if keys.push(K::from_word(key)).is_err() {
                 return Err(AllocError);
             }
-            match key.checked_add(1) {
-                Some(next) => from = next,
-                None => return Ok(keys),
-            }
         }
         Ok(keys)
-    }
-
-    // The value that a node has for a key.
-    fn held(&self, at: usize, key: &[u8; 8]) -> &P
-        requires tree { IsTree self.now.nodes }
-        requires way { OnWay self.now.nodes key.now at }
-        requires held { IsHeld self.now.nodes key.now at }
-        ensures { value_at (heap_of self.now.nodes) key.now ≡ Some result.now }
-    {
-        let node = &self.nodes[at];
-        match node.get_child(key[node.prefix().len()]) {
-            Some(Child::Value(value)) => value,
-            _ => unreachable!(),
-        }
     }
 }
 
@@ -207,15 +156,13 @@ impl<A: Allocator> Arena<u64, A> {
         ensures count { result ≡ length (take (length out.old) (in_range start end (map.entries (pairs_of self.now.nodes)))) }
         ensures past { drop result out.new ≡ drop result out.old }
     {
-        let mut path = Path::new();
-        let mut from = start;
+        let mut cursor = self.seek(start);
         let mut count = 0;
         while count < out.len() {
-            match self.first_along(&mut path, from) {
+            match self.next_along(&mut cursor) {
                 Some((key, value)) if key < end => {
                     out[count] = (key, *value);
                     count += 1;
-                    from = key + 1;
                 }
                 _ => return count,
             }
@@ -230,15 +177,13 @@ impl<A: Allocator> Arena<u64, A> {
         ensures count { result ≡ length (take (length out.old) (in_range start end (map.entries (pairs_of self.now.nodes)))) }
         ensures past { drop result out.new ≡ drop result out.old }
     {
-        let mut path = Path::new();
-        let mut from = start;
+        let mut cursor = self.seek(start);
         let mut count = 0;
         while count < out.len() {
-            match self.first_along(&mut path, from) {
+            match self.next_along(&mut cursor) {
                 Some((number, value)) if number < end => {
                     out[count] = (number.to_be_bytes(), *value);
                     count += 1;
-                    from = number + 1;
                 }
                 _ => return count,
             }

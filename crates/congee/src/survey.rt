@@ -10,7 +10,7 @@ ghost use Rattle.congee.specs.Table.{pairs_of};
 use crate::allocator::Allocator;
 use crate::arena::{Arena, Stored};
 use crate::child::Child;
-use crate::scan::Path;
+use crate::scan::beginning;
 use crate::stats::NodeStats;
 use std::alloc::{AllocError, Global};
 
@@ -43,14 +43,9 @@ impl<P: Stored, A: Allocator> Arena<P, A> {
         ensures { result ≡ capped (map.len (pairs_of self.now.nodes)) }
     {
         let mut count = 0u64;
-        let mut path = Path::new();
-        let mut from = 0;
-        while let Some((key, _)) = self.first_along(&mut path, from) {
+        let mut cursor = beginning();
+        while self.next_along(&mut cursor).is_some() {
             count = count.saturating_add(1);
-            match key.checked_add(1) {
-                Some(next) => from = next,
-                None => return count,
-            }
         }
         count
     }

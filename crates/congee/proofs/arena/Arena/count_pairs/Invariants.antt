@@ -1,15 +1,19 @@
-use Rattle.std.proofs.Common.{◌≡◌, ◌+◌, ◌-◌, ◌<◌, ◌^◌, length}
+use Rattle.std.proofs.Common.{◌≡◌, ℕ, ◌+◌, ◌<◌, ◌^◌, length}
 use Rattle.std.specs.FinMap as map
-use Rattle.congee.specs.Place.{IsPath}
+use Rattle.congee.specs.Cursor.{IsAt, IsCursor, steps_left}
 use Rattle.congee.specs.Ranges.{in_range}
 use Rattle.congee.specs.Stats.{capped}
 use Rattle.congee.specs.Table.{pairs_of}
 use Rattle.congee.proofs.arena.Arena.count_pairs.Given as goal
 
-abbrev pub invariant-loop-key : goal.invariant-loop-key
-invariant-loop-key g l =
-    IsPath l.self.nodes l.path.items × ((l.count < 2 ^ 64)
-    × (capped (l.count + length (in_range l.from (2 ^ 64) (map.entries (pairs_of l.self.nodes)))) ≡ capped (length (map.entries (pairs_of l.self.nodes)))))
+abbrev pub invariant-loop-cursor : goal.invariant-loop-cursor
+invariant-loop-cursor g l = record {
+  way : IsCursor l.self.nodes l.cursor.items;
+  small : l.count < 2 ^ 64;
+  from : ℕ;
+  at : IsAt l.self.nodes l.cursor.items from;
+  count : capped (l.count + length (in_range from (2 ^ 64) (map.entries (pairs_of l.self.nodes)))) ≡ capped (length (map.entries (pairs_of l.self.nodes)));
+}
 
-abbrev pub decreases-loop-key : goal.decreases-loop-key
-decreases-loop-key g l = 2 ^ 64 - l.from
+abbrev pub decreases-loop-cursor : goal.decreases-loop-cursor
+decreases-loop-cursor g l = steps_left 8 l.cursor.items
