@@ -1,5 +1,5 @@
 -- A prefix and its length in one word of eight bytes.
-use Rattle.std.proofs.Common.{◌≡◌, ◌≢◌, ℕ, zero, suc, ◌<◌, ◌≤◌, ◌+◌, ◌*◌, ◌-◌, ◌/◌, ◌^◌, nat_eq, true, false, List, [], ◌∷◌, length, take, set, get_or, inl, inr, refl, sym, ap, ◌∙◌, subst, arith}
+use Rattle.std.proofs.Common.{◌≡◌, ℕ, zero, suc, ◌<◌, ◌≤◌, ◌+◌, ◌*◌, ◌-◌, ◌/◌, ◌^◌, nat_eq, true, false, List, [], ◌∷◌, length, take, set, get_or, inl, inr, sym, ap, ◌∙◌, arith}
 use Rattle.std.specs.Int.{w64, from_be_bytes}
 use Rattle.std.specs.Prelude.{slice_index}
 use Rattle.std.proofs.lemmas.Bool.{cases_eq}
@@ -43,17 +43,17 @@ leads key word k w n size sized lk lw ek ew few =
       | inl e ↦ (
           let t : top k n ≡ top w n = sym (up k) ∙ e ∙ up w in
           let f : fits (take n word) key ≡ true = fits_every (take n word) key (omega (arith, long, size, few)) (λ j l.
-            let lt : j < n = omega (arith, l, long) in
-            ap (λ y. get_or y j 0) (sym ek) ∙ same_bytes k w n (omega (arith, few)) t j lt ∙ ap (λ y. get_or y j 0) ew ∙ sym (get_or-take n word j 0 lt)) in
+          let lt : j < n = omega (arith, l, long) in
+          ap (λ y. get_or y j 0) (sym ek) ∙ same_bytes k w n (omega (arith, few)) t j lt ∙ ap (λ y. get_or y j 0) ew ∙ sym (get_or-take n word j 0 lt)) in
           let one : nat_eq (k / 256 / 2 ^ (8 * (7 - n))) (w / 256 / 2 ^ (8 * (7 - n))) ≡ true = grind (arith, nat_tests) in
           one ∙ sym f
-        )
+          )
       | inr ne ↦ (
           let f : fits (take n word) key ≡ false = on_test (fits (take n word) key) (λ t. absurd (ne (
-            let e : top k n ≡ top w n = same_top k w n lk lw (omega (arith, few)) (λ j lt.
-              ap (λ y. get_or y j 0) ek ∙ fits_byte (take n word) key j t (omega (arith, lt, long)) ∙ get_or-take n word j 0 lt ∙ ap (λ y. get_or y j 0) (sym ew)) in
-            up k ∙ e ∙ sym (up w)))) (λ f. f) in
+          let e : top k n ≡ top w n = same_top k w n lk lw (omega (arith, few)) (λ j lt.
+          ap (λ y. get_or y j 0) ek ∙ fits_byte (take n word) key j t (omega (arith, lt, long)) ∙ get_or-take n word j 0 lt ∙ ap (λ y. get_or y j 0) (sym ew)) in
+          up k ∙ e ∙ sym (up w)))) (λ f. f) in
           let none : nat_eq (k / 256 / 2 ^ (8 * (7 - n))) (w / 256 / 2 ^ (8 * (7 - n))) ≡ false = grind (arith, nat_tests) in
           none ∙ sym f
-        )
+          )
     ]

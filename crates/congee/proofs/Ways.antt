@@ -66,16 +66,6 @@ module _ {P : Type 0} where
       → 8 - length (heap_of s c).prefix < 8 - length (heap_of s n).prefix
   falls s t key n c h e = let i = is_child s t n c key h e in omega (arith, i.longer, short_prefix s t c (below_stands s t n c key h e))
 
-  -- what a key and the node below have in common before the node's prefix is compared
-  pub same_below : (s : Nodes P) → IsTree s → (key : List ℕ) (n c : ℕ) → OnWay s key n → child_for (heap_of s n) key ≡ Below c
-      → (j : ℕ) → j < length (heap_of s n).prefix + 1 → get_or key j 0 ≡ get_or (heap_of s c).prefix j 0
-  same_below s t key n c w e j l =
-      let i = is_child s t n c key w.stands e in
-      elim (cases_lt j (length (heap_of s n).prefix)) [
-        | inl under ↦ fits_byte (heap_of s n).prefix key j w.fitted under ∙ sym (fits_byte (heap_of s n).prefix (heap_of s c).prefix j i.fitted under)
-        | inr from ↦ (let at : length (heap_of s n).prefix ≡ j = omega (arith, l, from) in subst (λ y. get_or key y 0 ≡ get_or (heap_of s c).prefix y 0) at (sym i.byte))
-      ]
-
   -- no blank hangs anywhere
   pub no_blank : (s : Nodes P) → IsTree s → (key : List ℕ) (n : ℕ) → ContainsKey s n → child_for (heap_of s n) key ≡ Below 0 → ⊥
   no_blank s t key n h e =

@@ -6,7 +6,7 @@ use Rattle.congee.specs.Arena.{heap_of}
 use Rattle.congee.specs.Changes.{Parts}
 use Rattle.congee.specs.Cursor.{IsCursor, IsAt}
 use Rattle.congee.proofs.Orders.{byte_small}
-use Rattle.congee.proofs.Ways.{below_stands, falls, no_blank, prefix_is, same_below, short_prefix}
+use Rattle.congee.proofs.Ways.{below_stands, falls, no_blank, prefix_is, short_prefix}
 use Rattle.congee.proofs.Cursors.{Descends, step, few_before, sets_out, goes_down, ends_free, ends_held, ends_before, ends_after}
 use Rattle.congee.proofs.arena.Arena.seek.Goals as goal
 use Rattle.congee.proofs.arena.Arena.seek.Goals.{then-prefix-apart, else-prefix-apart}

@@ -1,4 +1,4 @@
-use Rattle.std.proofs.Common.{rules, ◌≡◌, ◌∙◌, ap, subst, nat_eq, ◌/◌, ◌^◌, ◌*◌, ◌-◌, length, take, sym}
+use Rattle.std.proofs.Common.{rules, ◌≡◌, ◌∙◌, ap, nat_eq, ◌/◌, ◌^◌, ◌*◌, ◌-◌, length, take, sym}
 use Rattle.std.specs.List.{slice_index}
 use Rattle.congee.specs.Heap.{fits}
 use Rattle.congee.proofs.Leads.{leads, read_off}

@@ -13,10 +13,11 @@ stored c =
 pub loop-i-preserved : goal.loop-i-preserved
 loop-i-preserved c =
     let within : c.loop-i.i < length c.loop-i.word = omega (arith, c.loop-i.invariant.0, c.loop-i-test.true, c.requires.fits) in
-    let low : get_or c.args.bytes.now c.loop-i.i 0 < 256 = search rules in
-    (length-set c.loop-i.word c.loop-i.i _ ∙ c.loop-i.invariant.0,
+    let low : get_or c.args.bytes.now c.loop-i.i 0 < 256 = search rules in (
+      length-set c.loop-i.word c.loop-i.i _ ∙ c.loop-i.invariant.0,
       take_more_set c.loop-i.word c.loop-i.i _ within ∙ ap (λ y. y ++ get_or c.args.bytes.now c.loop-i.i 0 ∷ []) c.loop-i.invariant.1 ∙ sym (take_more c.args.bytes.now c.loop-i.i 0 c.loop-i-test.true),
-      low_set c.loop-i.word c.loop-i.i _ c.loop-i.invariant.2 low)
+      low_set c.loop-i.word c.loop-i.i _ c.loop-i.invariant.2 low,
+    )
 
 pub invariant_of-result : goal.invariant_of-result
 invariant_of-result c = let s = stored c in (s.0, subst (λ n. n ≤ 7) (sym s.1.0) c.requires.fits, low_set c.loop-i.word 7 (length c.args.bytes.now) c.loop-i.invariant.2 (omega (arith, c.requires.fits)))
