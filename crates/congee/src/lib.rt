@@ -12,16 +12,10 @@ pub mod base_node;
 mod calls;
 pub mod child;
 mod close;
-#[cfg(test)]
-mod close_tests;
 mod congee;
 mod congee_arc;
-#[cfg(test)]
-mod congee_arc_tests;
 mod drainer;
 mod edit;
-#[cfg(test)]
-mod form_tests;
 mod index;
 mod indexed;
 mod machine;
@@ -31,21 +25,15 @@ pub mod node256;
 pub mod node4;
 pub mod node48;
 mod op;
-#[cfg(test)]
-mod owned_tests;
 mod pairs;
 mod phase;
 mod place;
 mod plain;
 mod plain_node;
-#[cfg(test)]
-mod play_tests;
 mod prefix;
 mod scan;
 mod sorted;
 mod stats;
-#[cfg(test)]
-mod stats_tests;
 mod store;
 mod survey;
 mod turn;
@@ -67,6 +55,7 @@ pub use node256::Node256;
 pub use op::Op;
 pub use phase::{Double, Kind, One, Parent, Phase, Plan, Single, Site, Two};
 pub use plain::PlainStore;
+pub use plain_node::PlainNode;
 pub use prefix::MAX_PREFIX_LEN;
 pub use stats::{LevelStats, NodeInfo, NodeStats};
 pub use store::{NodeName, Reading, Refusal, Seat, Seen, Store, Upgrade};

@@ -23,7 +23,8 @@ impl NodeName for usize {
 /// there, marked, so that everything a run did can be looked at afterwards.
 #[derive(Drop)]
 pub struct PlainStore {
-    pub(crate) nodes: Vec<PlainNode>,
+    /// The nodes, each at the place of its name; the root comes first.
+    pub nodes: Vec<PlainNode>,
     room: usize,
     alloc: Global,
 }

@@ -14,15 +14,19 @@ use std::vec::Vec;
 
 /// A node with a place for each byte, whatever its form.
 #[derive(Drop)]
-pub(crate) struct PlainNode {
+pub struct PlainNode {
     pub(crate) prefix: Prefix,
     pub(crate) children: Vec<Child<usize, u64>>,
     pub(crate) form: NodeType,
     pub(crate) version: u64,
-    pub(crate) locked: bool,
-    pub(crate) obsolete: bool,
-    pub(crate) destroyed: bool,
-    pub(crate) retired: bool,
+    /// Whether a call has its lock.
+    pub locked: bool,
+    /// Whether a call took it out of the tree.
+    pub obsolete: bool,
+    /// Whether it was given back before it was hung.
+    pub destroyed: bool,
+    /// Whether it was handed over for its destruction.
+    pub retired: bool,
     ghost wide: { length children.items ≡ 256 },
     ghost short: { length prefix ≤ 7 },
     ghost next: { locked ≡ true → version < 2 ^ 64 - 1 },

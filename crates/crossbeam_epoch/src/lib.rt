@@ -61,10 +61,3 @@ pub use shared::Shared;
 pub use task::{Job, Task};
 pub use unguarded::Unprotected;
 pub use world::World;
-
-#[cfg(test)]
-mod face_tests;
-#[cfg(test)]
-mod tests;
-#[cfg(test)]
-mod thread_tests;

@@ -31,8 +31,8 @@ impl<T> Default for Shared<'_, T> {
 }
 
 impl<T> Shared<'_, T> {
-    /// The pointer of this link.
-    pub(crate) fn of(link: Link) -> Self
+    /// The pointer of this link, which may have been told under another guard.
+    pub fn of(link: Link) -> Self
         ensures { result.link ≡ link }
     {
         Shared {

@@ -20,6 +20,3 @@ pub use limits::Limits;
 pub use refusal::Refusal;
 pub use steps::{Done, Event, Kind, Op, Outcome, Report, Step};
 pub use world::World;
-
-#[cfg(test)]
-mod tests;

@@ -14,6 +14,3 @@ pub use checker::{Verdict, check};
 pub use journal::{Call, Entry, Reply};
 pub use payloads::{ArcPayload, Payload};
 pub use words::Word64;
-
-#[cfg(test)]
-mod tests;

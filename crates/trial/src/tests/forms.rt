@@ -1,6 +1,5 @@
 //! Each call once on each form.
-use crate::base_node::{Node, NodeType};
-use crate::child::Child;
+use congee::{Child, Node, NodeType};
 use std::alloc::Global;
 use std::test::Fail;
 

@@ -3,17 +3,10 @@
 ghost use Rattle.std.specs.Prelude.{◌≡◌, ◌-◌, true};
 ghost use Rattle.crossbeam_epoch.specs.FaceHandle.{owns};
 
-use crate::atomic::Atomic;
-use crate::collector::Collector;
-use crate::fault::Fault;
-use crate::guard::{Guard, unprotected};
-use crate::handle::LocalHandle;
-use crate::limits::Limits;
-use crate::link::Link;
-use crate::names::Pointable;
-use crate::owned::Owned;
-use crate::shared::Shared;
-use crate::task::Job;
+use crossbeam_epoch::{
+    Atomic, Collector, Fault, Guard, Job, Limits, Link, LocalHandle, Owned, Pointable, Shared,
+    unprotected,
+};
 use std::alloc::Global;
 use std::ops::DerefMut;
 use std::sync::atomic::Ordering::SeqCst;
@@ -643,33 +636,6 @@ fn a_repin_goes_on(rt: HostRuntime) -> Result<(), Fail> {
     spend(&rt, &mut zero, guard);
     assert!(rt; start == 0 && stuck == 0 && next == 1);
     assert!(rt; repinned == Ok(()) && answer == Ok(7));
-    Ok(())
-}
-
-/// Leaves a guard out for good.
-fn leave_out(guard: Guard<'_, Item>) {
-    let Guard {
-        collector: _,
-        seat: _,
-        epoch: _,
-    } = guard;
-}
-
-#[test]
-fn guards_are_counted(rt: HostRuntime) -> Result<(), Fail> {
-    let items: Collector<Item> = Collector::new(&rt, rt.alloc(), limits(1), 1)?;
-    let mut handle = items.register(&rt)?;
-    for _ in 0..u16::MAX {
-        leave_out(handle.pin(&rt)?);
-    }
-    let refused = match handle.pin(&rt) {
-        Ok(guard) => {
-            leave_out(guard);
-            None
-        }
-        Err(fault) => Some(fault),
-    };
-    assert!(rt; refused == Some(Fault::Count));
     Ok(())
 }
 

@@ -1,5 +1,5 @@
 //! What no clause says: printed text, and each public call once with ample memory.
-use super::*;
+use congee::*;
 use std::alloc::{AllocError, Global};
 use std::test::Fail;
 

@@ -1,12 +1,8 @@
 //! Rows of the collector.
 
-use crate::exchanges::OtherPointer;
-use crate::fault::Fault;
-use crate::limits::Limits;
-use crate::names::{Links, Name, Pointable, Ptr};
-use crate::report::{Event, Op, Outcome};
-use crate::task::Job;
-use crate::world::World;
+use crossbeam_epoch::{
+    Event, Fault, Job, Limits, Links, Name, Op, OtherPointer, Outcome, Pointable, Ptr, World,
+};
 use std::alloc::Global;
 use std::marker::Send;
 use std::sync::Arc;

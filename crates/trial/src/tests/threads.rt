@@ -2,15 +2,8 @@
 
 ghost use Rattle.std.specs.Prelude.{◌≡◌};
 
-use crate::atomic::Atomic;
-use crate::collector::Collector;
-use crate::face_tests::{Item, defer, destroy, limits, placed, rounds, spend, swapped};
-use crate::fault::Fault;
-use crate::guard::Guard;
-use crate::handle::LocalHandle;
-use crate::link::Link;
-use crate::names::Pointable;
-use crate::task::Job;
+use super::face::{Item, defer, destroy, limits, placed, rounds, spend, swapped};
+use crossbeam_epoch::{Atomic, Collector, Fault, Guard, Job, Link, LocalHandle, Pointable};
 use std::alloc::Global;
 use std::sync::atomic::AtomicU64;
 use std::sync::atomic::Ordering::SeqCst;

@@ -1,5 +1,5 @@
 //! What no clause says: worked journals, and each public call once with ample memory.
-use super::*;
+use judge::*;
 use std::sync::Arc;
 use std::test::Fail;
 

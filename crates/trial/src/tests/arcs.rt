@@ -1,5 +1,5 @@
 //! Worked sequences on a tree of shared values.
-use crate::{CongeeArc, OOMError};
+use congee::{CongeeArc, OOMError};
 use std::alloc::Global;
 use std::sync::Arc;
 use std::test::Fail;

@@ -1,7 +1,7 @@
 //! Owned trees that are closed, number trees, and sequences beside a `BTreeMap`.
 ghost use Rattle.std.specs.Prelude.{◌≤◌};
 
-use crate::{Allocator, Calls, Congee, DefaultAllocator, Limited, NoDrain, U64Congee};
+use congee::{Allocator, Calls, Congee, DefaultAllocator, Limited, NoDrain, U64Congee};
 use std::alloc::Global;
 use std::collections::BTreeMap;
 use std::test::Fail;

@@ -1,6 +1,6 @@
 //! Each call on its happy path, and the worked path of growth, waiting and reclamation.
 
-use crate::{
+use joint::{
     Allocator, DefaultAllocator, Done, Event, Limits, Op, Outcome, Refusal, Report, Step, World,
 };
 use std::test::Fail;

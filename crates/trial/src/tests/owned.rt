@@ -1,5 +1,5 @@
 //! Worked rows and sequences on owned trees.
-use crate::{Allocator, Congee, DefaultAllocator, Limited, NoDrain, OOMError, U64Congee};
+use congee::{Allocator, Congee, DefaultAllocator, Limited, NoDrain, OOMError, U64Congee};
 use std::alloc::Global;
 use std::test::Fail;
 

@@ -1,5 +1,5 @@
 //! Calls that are stepped by turns on a plain store: worked rows, and every interleaving of two short calls.
-use crate::{Child, Move, Noise, Op, Outcome, PlainStore, Refusal, Seen, Step, play};
+use congee::{Child, Move, Noise, Op, Outcome, PlainStore, Refusal, Seen, Step, play};
 use judge::{Call, Entry, Reply, Verdict, check};
 use std::alloc::Global;
 use std::test::Fail;
