@@ -13,6 +13,12 @@ fn played(alloc: Global, script: &[u8]) -> (u8, Vec<u8>) {
     (status, printed)
 }
 
+// Whether a script ends with this status, and prints these replies.
+fn answers(alloc: Global, script: &[u8], status: u8, replies: &[u8]) -> bool {
+    let (ended, printed) = played(alloc, script);
+    ended == status && printed.as_slice() == replies
+}
+
 #[test]
 fn scripts_print_their_replies(rt: HostRuntime) -> Result<(), Fail> {
     let table: [(&str, u8, &str); 12] = [
@@ -71,9 +77,8 @@ fn scripts_print_their_replies(rt: HostRuntime) -> Result<(), Fail> {
         ),
     ];
     for (script, status, replies) in table {
-        let (ended, printed) = played(rt.alloc(), script.as_bytes());
-        assert_eq!(rt; ended, status, "of {script}");
-        assert_eq!(rt; printed.as_slice(), replies.as_bytes(), "of {script}");
+        let is_right = answers(rt.alloc(), script.as_bytes(), status, replies.as_bytes());
+        assert!(rt; is_right, "of {script}");
     }
     Ok(())
 }
@@ -92,34 +97,28 @@ fn bad_lines_end_a_script(rt: HostRuntime) -> Result<(), Fail> {
         b"reg\nget 1",
     ];
     for script in table {
-        let (ended, printed) = played(rt.alloc(), script);
-        assert_eq!(rt; ended, 2);
-        assert_eq!(rt;
-            printed.as_slice(),
-            b"refused NoTree\nbad line 2\n".as_slice()
-        );
+        assert!(rt; answers(rt.alloc(), script, 2, b"refused NoTree\nbad line 2\n"));
     }
     Ok(())
 }
 
+// A comment with so many bytes after its sign, and a line after it.
+fn comment(alloc: Global, length: usize) -> Result<Vec<u8>, Fail> {
+    let mut script = Vec::new(alloc);
+    script.push(b'#')?;
+    for _ in 0..length {
+        script.push(b'x')?;
+    }
+    script.extend_from_slice(b"\nreg\n")?;
+    Ok(script)
+}
+
 #[test]
 fn lines_are_bounded(rt: HostRuntime) -> Result<(), Fail> {
-    for (length, status) in [(999, 0), (1000, 2)] {
-        let mut script = Vec::new(rt.alloc());
-        script.push(b'#')?;
-        for _ in 0..length {
-            script.push(b'x')?;
-        }
-        script.extend_from_slice(b"\nreg\n")?;
-        let (ended, printed) = played(rt.alloc(), script.as_slice());
-        assert_eq!(rt; ended, status);
-        let replies: &[u8] = if status == 0 {
-            b"refused NoTree\n"
-        } else {
-            b"bad line 1\n"
-        };
-        assert_eq!(rt; printed.as_slice(), replies);
-    }
+    let longest = comment(rt.alloc(), 999)?;
+    assert!(rt; answers(rt.alloc(), &longest, 0, b"refused NoTree\n"));
+    let longer = comment(rt.alloc(), 1000)?;
+    assert!(rt; answers(rt.alloc(), &longer, 2, b"bad line 1\n"));
     Ok(())
 }
 
