@@ -76,12 +76,14 @@ fn measures(node: &Words, form: NodeType, size: u64, capacity: usize) -> bool {
 
 fn ascends(alloc: Global, node: &Words) -> Result<bool, Fail> {
     let all = [(0, 1000), (65, 1065), (200, 1200), (255, 1255)];
-    Ok(scans(alloc, node, 0, 255, &all)?
-        && scans(alloc, node, 1, 200, &[(65, 1065), (200, 1200)])?
-        && scans(alloc, node, 66, 199, &[])?
-        && node.child_at(2).map(|r| r.0) == Some(200)
-        && node.child_at(4).is_none()
-        && node.is_full() == (node.node_type() == NodeType::N4))
+    Ok(
+        scans(alloc, node, 0, 255, &all)?
+            && scans(alloc, node, 1, 200, &[(65, 1065), (200, 1200)])?
+            && scans(alloc, node, 66, 199, &[])?
+            && node.child_at(2).map(|r| r.0) == Some(200)
+            && node.child_at(4).is_none()
+            && node.is_full() == (node.node_type() == NodeType::N4),
+    )
 }
 
 // Puts a node in place of a value.
@@ -114,10 +116,10 @@ fn grows_if_full(alloc: Global, node: &mut Words) -> Result<bool, Fail> {
 
 fn has_each_byte(alloc: Global, node: &Words) -> Result<bool, Fail> {
     let all = scanned(alloc, node, 0, 255)?;
-    Ok(all
-        .iter()
-        .enumerate()
-        .all(|(i, pair)| pair.0 as usize == i && pair.1 == pair.0 as u64 + 1000))
+    Ok(
+        all.iter().enumerate().all(|(i, pair)| pair.0 as usize == i
+            && pair.1 == pair.0 as u64 + 1000),
+    )
 }
 
 fn grows(alloc: Global, node: &mut Words) -> Result<bool, Fail> {
@@ -128,11 +130,13 @@ fn grows(alloc: Global, node: &mut Words) -> Result<bool, Fail> {
         }
         put(node, byte, value_of(byte));
     }
-    Ok(node.node_type() == NodeType::N256
-        && node.len() == 256
-        && !node.is_full()
-        && node.prefix() == [7, 9].as_slice()
-        && has_each_byte(alloc, node)?)
+    Ok(
+        node.node_type() == NodeType::N256
+            && node.len() == 256
+            && !node.is_full()
+            && node.prefix() == [7, 9].as_slice()
+            && has_each_byte(alloc, node)?,
+    )
 }
 
 fn reuses(node: &mut Words) -> bool {
@@ -189,6 +193,13 @@ fn children_come_ascending_change_and_go(rt: HostRuntime) -> Result<(), Fail> {
 #[test]
 fn a_node_grows_and_uses_places_again(rt: HostRuntime) -> Result<(), Fail> {
     assert!(rt; holds(rt.alloc(), NodeType::N4, &[], Question::Grows)?);
-    assert!(rt; holds(rt.alloc(), NodeType::N48, &[1, 2, 3, 4, 5, 6], Question::Reuses)?);
+    assert!(rt;
+        holds(
+            rt.alloc(),
+            NodeType::N48,
+            &[1, 2, 3, 4, 5, 6],
+            Question::Reuses
+        )?
+    );
     Ok(())
 }
