@@ -8,60 +8,78 @@ type Text = Arc<String<Global>, Global>;
 
 type Texts = CongeeArc<u64, String<Global>>;
 
+/// The texts of the rows.
+#[derive(Clone, Copy)]
+enum Word {
+    Hello,
+    HelloWorld,
+    A,
+    B,
+}
+
 /// What is asked of a tree, and the text that is expected.
 #[derive(Clone, Copy)]
 enum Row {
-    Get(u64, Option<&'static str>),
+    Get(u64, Option<Word>),
     /// A text at a key, and the one before.
-    Insert(u64, &'static str, Option<&'static str>),
-    Remove(u64, Option<&'static str>),
+    Insert(u64, Word, Option<Word>),
+    Remove(u64, Option<Word>),
     /// A text in place of the one that is present.
-    Replace(u64, &'static str, Option<&'static str>),
+    Replace(u64, Word, Option<Word>),
     /// The text that is present stays.
-    Keep(u64, Option<&'static str>),
+    Keep(u64, Option<Word>),
     /// The text that is present goes.
-    Drop(u64, Option<&'static str>),
+    Drop(u64, Option<Word>),
     Keys(&'static [u64]),
     Empty(bool),
 }
 
 const SHARED: [Row; 6] = [
-    Row::Insert(1, "hello", None),
-    Row::Get(1, Some("hello")),
-    Row::Replace(1, "hello world", Some("hello")),
-    Row::Get(1, Some("hello world")),
-    Row::Remove(1, Some("hello world")),
+    Row::Insert(1, Word::Hello, None),
+    Row::Get(1, Some(Word::Hello)),
+    Row::Replace(1, Word::HelloWorld, Some(Word::Hello)),
+    Row::Get(1, Some(Word::HelloWorld)),
+    Row::Remove(1, Some(Word::HelloWorld)),
     Row::Get(1, None),
 ];
 
 const GONE: [Row; 7] = [
     Row::Empty(true),
-    Row::Insert(256, "b", None),
-    Row::Insert(1, "a", None),
+    Row::Insert(256, Word::B, None),
+    Row::Insert(1, Word::A, None),
     Row::Keys(&[1, 256]),
-    Row::Drop(1, Some("a")),
+    Row::Drop(1, Some(Word::A)),
     Row::Keep(1, None),
     Row::Empty(false),
 ];
 
-fn text(alloc: Global, text: &str) -> Result<Text, Fail> {
-    Ok(Arc::new(alloc, String::from_str(alloc, text)?)?)
+fn spelled(word: Word) -> &'static str {
+    match word {
+        Word::Hello => "hello",
+        Word::HelloWorld => "hello world",
+        Word::A => "a",
+        Word::B => "b",
+    }
 }
 
-fn is(found: Option<Text>, text: Option<&str>) -> bool {
-    match (found, text) {
-        (Some(found), Some(text)) => found.as_str() == text,
+fn text(alloc: Global, word: Word) -> Result<Text, Fail> {
+    Ok(Arc::new(alloc, String::from_str(alloc, spelled(word))?)?)
+}
+
+fn is(found: Option<Text>, word: Option<Word>) -> bool {
+    match (found, word) {
+        (Some(found), Some(word)) => found.as_str() == spelled(word),
         (None, None) => true,
         _ => false,
     }
 }
 
-fn replaces(tree: &mut Texts, key: u64, new: &Text, before: Option<&str>) -> Result<bool, Fail> {
+fn replaces(tree: &mut Texts, key: u64, new: &Text, before: Option<Word>) -> Result<bool, Fail> {
     let replaced = tree.compute_if_present(key, |_| Arc::try_clone(new).ok())?;
     Ok(is(replaced, before))
 }
 
-fn inserts(tree: &mut Texts, key: u64, new: Text, before: Option<&str>) -> Result<bool, Fail> {
+fn inserts(tree: &mut Texts, key: u64, new: Text, before: Option<Word>) -> Result<bool, Fail> {
     Ok(is(tree.insert(key, new)?, before))
 }
 
@@ -105,10 +123,28 @@ fn holds(alloc: Global, rows: &[Row]) -> Result<bool, Fail> {
     answered
 }
 
+/// What is asked of a tree, with a name.
+struct Case {
+    name: &'static str,
+    rows: &'static [Row],
+}
+
+const CASES: [Case; 2] = [
+    Case {
+        name: "a text is shared",
+        rows: &SHARED,
+    },
+    Case {
+        name: "texts go",
+        rows: &GONE,
+    },
+];
+
 #[test]
 fn texts_are_shared_and_go(rt: HostRuntime) -> Result<(), Fail> {
-    assert!(rt; holds(rt.alloc(), &SHARED)?);
-    assert!(rt; holds(rt.alloc(), &GONE)?);
+    for case in &CASES {
+        assert!(rt; holds(rt.alloc(), case.rows)?, "{}", case.name);
+    }
     Ok(())
 }
 
@@ -117,7 +153,7 @@ fn comes_back(tree: &mut Texts, key: u64, hello: Text) -> Result<bool, Fail> {
     match tree.insert(key, hello) {
         Ok(before) => Ok(before.is_none()),
         Err((refused, back)) => {
-            let is_refused = refused == OOMError::Memory && back.as_str() == "hello";
+            let is_refused = refused == OOMError::Memory && back.as_str() == spelled(Word::Hello);
             Ok(is_refused && tree.get(key)?.is_none() && inserts(tree, key, back, None)?)
         }
     }
@@ -125,13 +161,13 @@ fn comes_back(tree: &mut Texts, key: u64, hello: Text) -> Result<bool, Fail> {
 
 // The fifth value of a leaf makes it grow, which takes memory.
 fn fifth_comes_back(alloc: Global, tree: &mut Texts) -> Result<bool, Fail> {
-    let hello = text(alloc, "hello")?;
+    let hello = text(alloc, Word::Hello)?;
     for key in 1..5u64 {
         if !inserts(tree, key, Arc::try_clone(&hello)?, None)? {
             return Ok(false);
         }
     }
-    Ok(comes_back(tree, 5, hello)? && is(tree.get(5)?, Some("hello")))
+    Ok(comes_back(tree, 5, hello)? && is(tree.get(5)?, Some(Word::Hello)))
 }
 
 #[test]

@@ -31,6 +31,7 @@ enum Told {
 
 /// Calls by turns, and what is expected of them.
 struct Worked {
+    name: &'static str,
     room: usize,
     calls: &'static [Call<u64>],
     turns: &'static [Turn],
@@ -39,152 +40,155 @@ struct Worked {
     nodes: (usize, usize),
 }
 
-const A_CALL_FINDS_ITS_LEAF_GONE: Worked = Worked {
-    room: 10,
-    calls: &[
-        Call::Insert(1, 42),
-        Call::Get(1),
-        Call::Remove(1),
-        Call::Insert(1, 9),
-        Call::Get(1),
-    ],
-    turns: &[
-        Turn::Steps(0, END),
-        Turn::Steps(1, 4),
-        Turn::Steps(2, END),
-        Turn::Steps(3, END),
-        Turn::Steps(1, END),
-        Turn::Steps(4, END),
-    ],
-    told: &[
-        Told::Reply(Reply::Insert(None)),
-        Told::Reply(Reply::Remove(Some(42))),
-        Told::Reply(Reply::Insert(None)),
-        Told::Reply(Reply::Get(Some(9))),
-        Told::Reply(Reply::Get(Some(9))),
-    ],
-    nodes: (3, 0),
-};
-
-const TWO_MAKE_A_LEAF_FOR_ONE_KEY: Worked = Worked {
-    room: 10,
-    calls: &[Call::Insert(7, 1), Call::Insert(7, 2), Call::Get(7)],
-    turns: &[
-        Turn::Steps(0, 5),
-        Turn::Steps(1, 5),
-        Turn::Steps(0, END),
-        Turn::Steps(1, END),
-        Turn::Steps(2, END),
-    ],
-    told: &[
-        Told::Reply(Reply::Insert(None)),
-        Told::Reply(Reply::Insert(Some(1))),
-        Told::Reply(Reply::Get(Some(2))),
-    ],
-    nodes: (3, 1),
-};
-
-const A_SPLIT_COMES_BEFORE_THE_READ: Worked = Worked {
-    room: 10,
-    calls: &[Call::Insert(1, 1), Call::Get(256), Call::Insert(256, 5)],
-    turns: &[
-        Turn::Steps(0, END),
-        Turn::Steps(1, 5),
-        Turn::Steps(2, END),
-        Turn::Steps(1, END),
-    ],
-    told: &[
-        Told::Reply(Reply::Insert(None)),
-        Told::Reply(Reply::Insert(None)),
-        Told::Reply(Reply::Get(Some(5))),
-    ],
-    nodes: (4, 0),
-};
-
-const A_LYING_READ_IS_CHECKED: Worked = Worked {
-    room: 10,
-    calls: &[
-        Call::Insert(1, 42),
-        Call::Get(1),
-        Call::Insert(2, 9),
-        Call::Get(1),
-    ],
-    turns: &[
-        Turn::Steps(0, END),
-        Turn::Steps(1, 5),
-        Turn::Steps(3, 5),
-        Turn::Steps(2, END),
-        Turn::SeesValue(1, 77),
-        Turn::SeesNode(3, 99),
-        Turn::Steps(1, END),
-        Turn::Steps(3, END),
-    ],
-    told: &[
-        Told::Reply(Reply::Insert(None)),
-        Told::Reply(Reply::Insert(None)),
-        Told::Reply(Reply::Get(Some(42))),
-        Told::Reply(Reply::Get(Some(42))),
-    ],
-    nodes: (2, 0),
-};
-
-const A_FAILED_UPGRADE_BEGINS_ANEW: Worked = Worked {
-    room: 10,
-    calls: &[Call::Insert(1, 42), Call::Get(1)],
-    turns: &[
-        Turn::Steps(0, 5),
-        Turn::Fails(0),
-        Turn::Steps(0, END),
-        Turn::Steps(1, END),
-    ],
-    told: &[
-        Told::Reply(Reply::Insert(None)),
-        Told::Reply(Reply::Get(Some(42))),
-    ],
-    nodes: (3, 1),
-};
-
-const A_CLOSURE_IS_ASKED_UNTIL_IT_ANSWERS: Worked = Worked {
-    room: 10,
-    calls: &[
-        Call::Insert(1, 42),
-        Call::ComputePresent(1, Some(50)),
-        Call::Get(1),
-    ],
-    turns: &[
-        Turn::Steps(0, END),
-        Turn::Steps(1, 7),
-        Turn::Waits(1),
-        Turn::Waits(1),
-        Turn::Steps(1, END),
-        Turn::Steps(2, END),
-    ],
-    told: &[
-        Told::Reply(Reply::Insert(None)),
-        Told::Asks(Some(42)),
-        Told::Asks(Some(42)),
-        Told::Asks(Some(42)),
-        Told::Reply(Reply::ComputePresent(Some((42, Some(50))))),
-        Told::Reply(Reply::Get(Some(50))),
-    ],
-    nodes: (2, 0),
-};
-
-const A_REFUSED_CALL_GIVES_ITS_NODES_BACK: Worked = Worked {
-    room: 2,
-    calls: &[Call::Insert(1, 42), Call::Insert(256, 5), Call::Get(256)],
-    turns: &[
-        Turn::Steps(0, END),
-        Turn::Steps(1, END),
-        Turn::Steps(2, END),
-    ],
-    told: &[
-        Told::Reply(Reply::Insert(None)),
-        Told::Refused(Refusal::Cells),
-        Told::Reply(Reply::Get(None)),
-    ],
-    nodes: (3, 1),
-};
+const WORKED: [Worked; 7] = [
+    Worked {
+        name: "a call finds its leaf gone",
+        room: 10,
+        calls: &[
+            Call::Insert(1, 42),
+            Call::Get(1),
+            Call::Remove(1),
+            Call::Insert(1, 9),
+            Call::Get(1),
+        ],
+        turns: &[
+            Turn::Steps(0, END),
+            Turn::Steps(1, 4),
+            Turn::Steps(2, END),
+            Turn::Steps(3, END),
+            Turn::Steps(1, END),
+            Turn::Steps(4, END),
+        ],
+        told: &[
+            Told::Reply(Reply::Insert(None)),
+            Told::Reply(Reply::Remove(Some(42))),
+            Told::Reply(Reply::Insert(None)),
+            Told::Reply(Reply::Get(Some(9))),
+            Told::Reply(Reply::Get(Some(9))),
+        ],
+        nodes: (3, 0),
+    },
+    Worked {
+        name: "two make a leaf for one key",
+        room: 10,
+        calls: &[Call::Insert(7, 1), Call::Insert(7, 2), Call::Get(7)],
+        turns: &[
+            Turn::Steps(0, 5),
+            Turn::Steps(1, 5),
+            Turn::Steps(0, END),
+            Turn::Steps(1, END),
+            Turn::Steps(2, END),
+        ],
+        told: &[
+            Told::Reply(Reply::Insert(None)),
+            Told::Reply(Reply::Insert(Some(1))),
+            Told::Reply(Reply::Get(Some(2))),
+        ],
+        nodes: (3, 1),
+    },
+    Worked {
+        name: "a split comes before the read",
+        room: 10,
+        calls: &[Call::Insert(1, 1), Call::Get(256), Call::Insert(256, 5)],
+        turns: &[
+            Turn::Steps(0, END),
+            Turn::Steps(1, 5),
+            Turn::Steps(2, END),
+            Turn::Steps(1, END),
+        ],
+        told: &[
+            Told::Reply(Reply::Insert(None)),
+            Told::Reply(Reply::Insert(None)),
+            Told::Reply(Reply::Get(Some(5))),
+        ],
+        nodes: (4, 0),
+    },
+    Worked {
+        name: "a lying read is checked",
+        room: 10,
+        calls: &[
+            Call::Insert(1, 42),
+            Call::Get(1),
+            Call::Insert(2, 9),
+            Call::Get(1),
+        ],
+        turns: &[
+            Turn::Steps(0, END),
+            Turn::Steps(1, 5),
+            Turn::Steps(3, 5),
+            Turn::Steps(2, END),
+            Turn::SeesValue(1, 77),
+            Turn::SeesNode(3, 99),
+            Turn::Steps(1, END),
+            Turn::Steps(3, END),
+        ],
+        told: &[
+            Told::Reply(Reply::Insert(None)),
+            Told::Reply(Reply::Insert(None)),
+            Told::Reply(Reply::Get(Some(42))),
+            Told::Reply(Reply::Get(Some(42))),
+        ],
+        nodes: (2, 0),
+    },
+    Worked {
+        name: "a failed upgrade begins anew",
+        room: 10,
+        calls: &[Call::Insert(1, 42), Call::Get(1)],
+        turns: &[
+            Turn::Steps(0, 5),
+            Turn::Fails(0),
+            Turn::Steps(0, END),
+            Turn::Steps(1, END),
+        ],
+        told: &[
+            Told::Reply(Reply::Insert(None)),
+            Told::Reply(Reply::Get(Some(42))),
+        ],
+        nodes: (3, 1),
+    },
+    Worked {
+        name: "a closure is asked until it answers",
+        room: 10,
+        calls: &[
+            Call::Insert(1, 42),
+            Call::ComputePresent(1, Some(50)),
+            Call::Get(1),
+        ],
+        turns: &[
+            Turn::Steps(0, END),
+            Turn::Steps(1, 7),
+            Turn::Waits(1),
+            Turn::Waits(1),
+            Turn::Steps(1, END),
+            Turn::Steps(2, END),
+        ],
+        told: &[
+            Told::Reply(Reply::Insert(None)),
+            Told::Asks(Some(42)),
+            Told::Asks(Some(42)),
+            Told::Asks(Some(42)),
+            Told::Reply(Reply::ComputePresent(Some((42, Some(50))))),
+            Told::Reply(Reply::Get(Some(50))),
+        ],
+        nodes: (2, 0),
+    },
+    Worked {
+        name: "a refused call gives its nodes back",
+        room: 2,
+        calls: &[Call::Insert(1, 42), Call::Insert(256, 5), Call::Get(256)],
+        turns: &[
+            Turn::Steps(0, END),
+            Turn::Steps(1, END),
+            Turn::Steps(2, END),
+        ],
+        told: &[
+            Told::Reply(Reply::Insert(None)),
+            Told::Refused(Refusal::Cells),
+            Told::Reply(Reply::Get(None)),
+        ],
+        nodes: (3, 1),
+    },
+];
 
 /// What a run left, and what each of its steps did.
 #[derive(Drop)]
@@ -339,13 +343,9 @@ fn holds(alloc: Global, worked: &Worked) -> Result<bool, Fail> {
 
 #[test]
 fn calls_by_turns_tell_what_was_worked_out(rt: HostRuntime) -> Result<(), Fail> {
-    assert!(rt; holds(rt.alloc(), &A_CALL_FINDS_ITS_LEAF_GONE)?);
-    assert!(rt; holds(rt.alloc(), &TWO_MAKE_A_LEAF_FOR_ONE_KEY)?);
-    assert!(rt; holds(rt.alloc(), &A_SPLIT_COMES_BEFORE_THE_READ)?);
-    assert!(rt; holds(rt.alloc(), &A_LYING_READ_IS_CHECKED)?);
-    assert!(rt; holds(rt.alloc(), &A_FAILED_UPGRADE_BEGINS_ANEW)?);
-    assert!(rt; holds(rt.alloc(), &A_CLOSURE_IS_ASKED_UNTIL_IT_ANSWERS)?);
-    assert!(rt; holds(rt.alloc(), &A_REFUSED_CALL_GIVES_ITS_NODES_BACK)?);
+    for worked in &WORKED {
+        assert!(rt; holds(rt.alloc(), worked)?, "{}", worked.name);
+    }
     Ok(())
 }
 
@@ -394,13 +394,25 @@ fn key_of(call: Call<u64>) -> u64 {
     }
 }
 
-/// What the call was told in the end.
-fn reply_of(who: usize, turns: &[usize], moves: &[Move<u64>]) -> Option<Reply<u64>> {
-    for (turn, step) in turns.iter().zip(moves) {
+/// The replies, each with its call.
+fn replies_of(
+    alloc: Global,
+    turns: &[usize],
+    moves: &[Move<u64>],
+) -> Result<Vec<(usize, Reply<u64>)>, Fail> {
+    let mut replies = Vec::new(alloc);
+    for (who, step) in turns.iter().zip(moves) {
         if let Outcome::Done(reply) = &step.outcome {
-            if *turn == who {
-                return Some(*reply);
-            }
+            replies.push((*who, *reply))?;
+        }
+    }
+    Ok(replies)
+}
+
+fn reply_of(who: usize, replies: &[(usize, Reply<u64>)]) -> Option<Reply<u64>> {
+    for (ended, reply) in replies {
+        if *ended == who {
+            return Some(*reply);
         }
     }
     None
@@ -413,12 +425,13 @@ fn journal_of(
     turns: &[usize],
     moves: &[Move<u64>],
 ) -> Result<Vec<Entry<u64>>, Fail> {
+    let replies = replies_of(alloc, turns, moves)?;
     let mut journal = Vec::new(alloc);
     for (who, step) in turns.iter().zip(moves) {
         if !step.decided {
             continue;
         }
-        if let (Some(call), Some(reply)) = (calls.get(*who), reply_of(*who, turns, moves)) {
+        if let (Some(call), Some(reply)) = (calls.get(*who), reply_of(*who, &replies)) {
             journal.push(Entry {
                 worker: 0,
                 call: *call,
