@@ -244,87 +244,33 @@ fn holds<A: Allocator>(alloc: Global, allocator: A, rows: &[Row]) -> Result<bool
     answered
 }
 
-/// What is asked of a tree, with a name.
-struct Case {
-    name: &'static str,
-    rows: &'static [Row],
+fn holds_unlimited(alloc: Global, rows: &[Row]) -> Result<bool, Fail> {
+    holds(alloc, DefaultAllocator::new(), rows)
 }
 
-const CASES: [Case; 9] = [
-    Case {
-        name: "a value is written and taken",
-        rows: &WRITTEN_AND_TAKEN,
-    },
-    Case {
-        name: "a leaf grows through all forms",
-        rows: &LEAF_THROUGH_ALL_FORMS,
-    },
-    Case {
-        name: "an emptied inner node stays",
-        rows: &EMPTIED_INNER_NODE_STAYS,
-    },
-    Case {
-        name: "closures answer",
-        rows: &CLOSURES_ANSWER,
-    },
-    Case {
-        name: "values are exchanged",
-        rows: &VALUES_ARE_EXCHANGED,
-    },
-    Case {
-        name: "a range ends before its end",
-        rows: &RANGE_ENDS_BEFORE_ITS_END,
-    },
-    Case {
-        name: "a range ends with its places",
-        rows: &RANGE_ENDS_WITH_ITS_PLACES,
-    },
-    Case {
-        name: "a range starts past other prefixes",
-        rows: &RANGE_STARTS_PAST_OTHER_PREFIXES,
-    },
-    Case {
-        name: "keys come ascending",
-        rows: &KEYS_COME_ASCENDING,
-    },
-];
+fn holds_within(alloc: Global, limit: u64, rows: &[Row]) -> Result<bool, Fail> {
+    holds(alloc, Limited::new(limit), rows)
+}
 
 #[test]
 fn each_call_answers(rt: HostRuntime) -> Result<(), Fail> {
-    for case in &CASES {
-        let held = holds(rt.alloc(), DefaultAllocator::new(), case.rows)?;
-        assert!(rt; held, "{}", case.name);
-    }
+    assert!(rt; holds_unlimited(rt.alloc(), &WRITTEN_AND_TAKEN)?);
+    assert!(rt; holds_unlimited(rt.alloc(), &LEAF_THROUGH_ALL_FORMS)?);
+    assert!(rt; holds_unlimited(rt.alloc(), &EMPTIED_INNER_NODE_STAYS)?);
+    assert!(rt; holds_unlimited(rt.alloc(), &CLOSURES_ANSWER)?);
+    assert!(rt; holds_unlimited(rt.alloc(), &VALUES_ARE_EXCHANGED)?);
+    assert!(rt; holds_unlimited(rt.alloc(), &RANGE_ENDS_BEFORE_ITS_END)?);
+    assert!(rt; holds_unlimited(rt.alloc(), &RANGE_ENDS_WITH_ITS_PLACES)?);
+    assert!(rt; holds_unlimited(rt.alloc(), &RANGE_STARTS_PAST_OTHER_PREFIXES)?);
+    assert!(rt; holds_unlimited(rt.alloc(), &KEYS_COME_ASCENDING)?);
     Ok(())
 }
 
-/// What is asked of a tree of so many bytes.
-struct Budget {
-    limit: u64,
-    rows: &'static [Row],
-}
-
-const BUDGETS: [Budget; 3] = [
-    Budget {
-        limit: 2168,
-        rows: &NO_ROOM_FOR_A_SECOND_LEAF,
-    },
-    Budget {
-        limit: 2104,
-        rows: &NO_ROOM_FOR_A_LEAF,
-    },
-    Budget {
-        limit: 2295,
-        rows: &SPLIT_GIVES_ITS_FIRST_NODE_BACK,
-    },
-];
-
 #[test]
 fn a_budget_is_kept(rt: HostRuntime) -> Result<(), Fail> {
-    for budget in &BUDGETS {
-        let held = holds(rt.alloc(), Limited::new(budget.limit), budget.rows)?;
-        assert!(rt; held, "limit {}", budget.limit);
-    }
+    assert!(rt; holds_within(rt.alloc(), 2168, &NO_ROOM_FOR_A_SECOND_LEAF)?);
+    assert!(rt; holds_within(rt.alloc(), 2104, &NO_ROOM_FOR_A_LEAF)?);
+    assert!(rt; holds_within(rt.alloc(), 2295, &SPLIT_GIVES_ITS_FIRST_NODE_BACK)?);
     Ok(())
 }
 
