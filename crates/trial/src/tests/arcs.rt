@@ -6,65 +6,157 @@ use std::test::Fail;
 
 type Text = Arc<String<Global>, Global>;
 
-fn text(alloc: Global, text: &str) -> Result<Text, Fail> {
-    Ok(Arc::new(alloc, String::from_str(alloc, text)?)?)
+type Texts = CongeeArc<u64, String<Global>>;
+
+/// The texts of the rows.
+#[derive(Clone, Copy)]
+enum Word {
+    Hello,
+    HelloWorld,
+    A,
+    B,
 }
 
-fn is(found: Option<Text>, text: &str) -> bool {
-    match found {
-        Some(found) => found.as_str() == text,
-        None => false,
+/// What is asked of a tree, and the text that is expected.
+#[derive(Clone, Copy)]
+enum Row {
+    Get(u64, Option<Word>),
+    /// A text at a key, and the one before.
+    Insert(u64, Word, Option<Word>),
+    Remove(u64, Option<Word>),
+    /// A text in place of the one that is present.
+    Replace(u64, Word, Option<Word>),
+    /// The text that is present stays.
+    Keep(u64, Option<Word>),
+    /// The text that is present goes.
+    Drop(u64, Option<Word>),
+    Keys(&'static [u64]),
+    Empty(bool),
+}
+
+const SHARED: [Row; 6] = [
+    Row::Insert(1, Word::Hello, None),
+    Row::Get(1, Some(Word::Hello)),
+    Row::Replace(1, Word::HelloWorld, Some(Word::Hello)),
+    Row::Get(1, Some(Word::HelloWorld)),
+    Row::Remove(1, Some(Word::HelloWorld)),
+    Row::Get(1, None),
+];
+
+const GONE: [Row; 7] = [
+    Row::Empty(true),
+    Row::Insert(256, Word::B, None),
+    Row::Insert(1, Word::A, None),
+    Row::Keys(&[1, 256]),
+    Row::Drop(1, Some(Word::A)),
+    Row::Keep(1, None),
+    Row::Empty(false),
+];
+
+fn spelled(word: Word) -> &'static str {
+    match word {
+        Word::Hello => "hello",
+        Word::HelloWorld => "hello world",
+        Word::A => "a",
+        Word::B => "b",
     }
 }
 
+fn text(alloc: Global, word: Word) -> Result<Text, Fail> {
+    Ok(Arc::new(alloc, String::from_str(alloc, spelled(word))?)?)
+}
+
+fn is(found: Option<Text>, word: Option<Word>) -> bool {
+    match (found, word) {
+        (Some(found), Some(word)) => found.as_str() == spelled(word),
+        (None, None) => true,
+        _ => false,
+    }
+}
+
+fn replaces(tree: &mut Texts, key: u64, new: &Text, before: Option<Word>) -> Result<bool, Fail> {
+    let replaced = tree.compute_if_present(key, |_| Arc::try_clone(new).ok())?;
+    Ok(is(replaced, before))
+}
+
+fn inserts(tree: &mut Texts, key: u64, new: Text, before: Option<Word>) -> Result<bool, Fail> {
+    Ok(is(tree.insert(key, new)?, before))
+}
+
+fn looks(tree: &Texts, row: Row) -> Result<bool, Fail> {
+    Ok(match row {
+        Row::Get(key, found) => is(tree.get(key)?, found),
+        Row::Keys(keys) => tree.keys()?.as_slice() == keys,
+        Row::Empty(empty) => tree.is_empty() == empty,
+        _ => false,
+    })
+}
+
+fn answers(alloc: Global, tree: &mut Texts, row: Row) -> Result<bool, Fail> {
+    match row {
+        Row::Insert(key, new, before) => inserts(tree, key, text(alloc, new)?, before),
+        Row::Replace(key, new, before) => replaces(tree, key, &text(alloc, new)?, before),
+        Row::Remove(key, before) => Ok(is(tree.remove(key), before)),
+        Row::Keep(key, before) => Ok(is(
+            tree.compute_if_present(key, |given| Some(given))?,
+            before,
+        )),
+        Row::Drop(key, before) => Ok(is(tree.compute_if_present(key, |_| None)?, before)),
+        _ => looks(tree, row),
+    }
+}
+
+fn all_answered(alloc: Global, tree: &mut Texts, rows: &[Row]) -> Result<bool, Fail> {
+    for row in rows {
+        if !answers(alloc, tree, *row)? {
+            return Ok(false);
+        }
+    }
+    Ok(true)
+}
+
+// Whether a tree that begins empty answers each row as expected.
+fn holds(alloc: Global, rows: &[Row]) -> Result<bool, Fail> {
+    let mut tree = CongeeArc::new(alloc)?;
+    let answered = all_answered(alloc, &mut tree, rows);
+    tree.close();
+    answered
+}
+
 #[test]
-fn a_text_is_shared(rt: HostRuntime) -> Result<(), Fail> {
-    let mut tree: CongeeArc<u64, String<Global>> = CongeeArc::new(rt.alloc())?;
-    assert!(rt; tree.insert(1, text(rt.alloc(), "hello")?)?.is_none());
-    assert!(rt; is(tree.get(1)?, "hello"));
-    let longer = text(rt.alloc(), "hello world")?;
-    let before = tree.compute_if_present(1, |_| Arc::try_clone(&longer).ok())?;
-    assert!(rt; is(before, "hello"));
-    assert!(rt; is(tree.get(1)?, "hello world"));
-    assert!(rt; is(tree.remove(1), "hello world"));
-    assert!(rt; tree.get(1)?.is_none());
+fn texts_are_shared_and_go(rt: HostRuntime) -> Result<(), Fail> {
+    assert!(rt; holds(rt.alloc(), &SHARED)?);
+    assert!(rt; holds(rt.alloc(), &GONE)?);
     Ok(())
+}
+
+// Whether a text that is refused for want of memory comes back, and goes in at a second try.
+fn comes_back(tree: &mut Texts, key: u64, hello: Text) -> Result<bool, Fail> {
+    match tree.insert(key, hello) {
+        Ok(before) => Ok(before.is_none()),
+        Err((refused, back)) => {
+            let is_refused = refused == OOMError::Memory && back.as_str() == spelled(Word::Hello);
+            Ok(is_refused && tree.get(key)?.is_none() && inserts(tree, key, back, None)?)
+        }
+    }
 }
 
 // The fifth value of a leaf makes it grow, which takes memory.
-#[test]
-fn a_refused_text_comes_back(rt: HostRuntime) -> Result<(), Fail> {
-    let mut tree: CongeeArc<u64, String<Global>> = CongeeArc::new(rt.alloc())?;
-    let hello = text(rt.alloc(), "hello")?;
+fn fifth_comes_back(alloc: Global, tree: &mut Texts) -> Result<bool, Fail> {
+    let hello = text(alloc, Word::Hello)?;
     for key in 1..5u64 {
-        assert!(rt; tree.insert(key, Arc::try_clone(&hello)?)?.is_none());
-    }
-    let before = match tree.insert(5, hello) {
-        Ok(before) => before,
-        Err((refused, back)) => {
-            assert_eq!(rt; refused, OOMError::Memory);
-            assert!(rt; back.as_str() == "hello");
-            assert!(rt; tree.get(5)?.is_none());
-            tree.insert(5, back)?
+        if !inserts(tree, key, Arc::try_clone(&hello)?, None)? {
+            return Ok(false);
         }
-    };
-    assert!(rt; before.is_none());
-    assert!(rt; is(tree.get(5)?, "hello"));
-    Ok(())
+    }
+    Ok(comes_back(tree, 5, hello)? && is(tree.get(5)?, Some(Word::Hello)))
 }
 
 #[test]
-fn texts_go(rt: HostRuntime) -> Result<(), Fail> {
-    let mut tree: CongeeArc<u64, String<Global>> = CongeeArc::new(rt.alloc())?;
-    assert!(rt; tree.is_empty());
-    assert!(rt; tree.insert(256, text(rt.alloc(), "b")?)?.is_none());
-    assert!(rt; tree.insert(1, text(rt.alloc(), "a")?)?.is_none());
-    let keys = tree.keys()?;
-    assert_eq!(rt; keys.len(), 2);
-    assert_eq!(rt; keys[0], 1);
-    assert!(rt; is(tree.compute_if_present(1, |_| None)?, "a"));
-    assert!(rt; tree.compute_if_present(1, |given| Some(given))?.is_none());
-    assert!(rt; !tree.is_empty());
+fn a_refused_text_comes_back(rt: HostRuntime) -> Result<(), Fail> {
+    let mut tree = CongeeArc::new(rt.alloc())?;
+    let back = fifth_comes_back(rt.alloc(), &mut tree);
     tree.close();
+    assert!(rt; back?);
     Ok(())
 }

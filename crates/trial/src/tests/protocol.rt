@@ -7,6 +7,189 @@ use std::test::Fail;
 /// More steps than a call takes that no other one disturbs.
 const END: usize = 30;
 
+/// Whose turn it is, the calls counted from 0.
+enum Turn {
+    /// So many steps of a call.
+    Steps(usize, usize),
+    /// A step whose upgrade fails.
+    Fails(usize),
+    /// A step that would see a value that isn't there.
+    SeesValue(usize, u64),
+    /// A step that would see a node that isn't there.
+    SeesNode(usize, usize),
+    /// A step at which the closure doesn't answer.
+    Waits(usize),
+}
+
+/// What a step tells, unless its call just goes on.
+enum Told {
+    Reply(Reply<u64>),
+    /// The closure is asked for the value that stands.
+    Asks(Option<u64>),
+    Refused(Refusal),
+}
+
+/// Calls by turns, and what is expected of them.
+struct Worked {
+    name: &'static str,
+    room: usize,
+    calls: &'static [Call<u64>],
+    turns: &'static [Turn],
+    told: &'static [Told],
+    /// How many nodes there are in the end, and how many of them were given back.
+    nodes: (usize, usize),
+}
+
+const WORKED: [Worked; 7] = [
+    Worked {
+        name: "a call finds its leaf gone",
+        room: 10,
+        calls: &[
+            Call::Insert(1, 42),
+            Call::Get(1),
+            Call::Remove(1),
+            Call::Insert(1, 9),
+            Call::Get(1),
+        ],
+        turns: &[
+            Turn::Steps(0, END),
+            Turn::Steps(1, 4),
+            Turn::Steps(2, END),
+            Turn::Steps(3, END),
+            Turn::Steps(1, END),
+            Turn::Steps(4, END),
+        ],
+        told: &[
+            Told::Reply(Reply::Insert(None)),
+            Told::Reply(Reply::Remove(Some(42))),
+            Told::Reply(Reply::Insert(None)),
+            Told::Reply(Reply::Get(Some(9))),
+            Told::Reply(Reply::Get(Some(9))),
+        ],
+        nodes: (3, 0),
+    },
+    Worked {
+        name: "two make a leaf for one key",
+        room: 10,
+        calls: &[Call::Insert(7, 1), Call::Insert(7, 2), Call::Get(7)],
+        turns: &[
+            Turn::Steps(0, 5),
+            Turn::Steps(1, 5),
+            Turn::Steps(0, END),
+            Turn::Steps(1, END),
+            Turn::Steps(2, END),
+        ],
+        told: &[
+            Told::Reply(Reply::Insert(None)),
+            Told::Reply(Reply::Insert(Some(1))),
+            Told::Reply(Reply::Get(Some(2))),
+        ],
+        nodes: (3, 1),
+    },
+    Worked {
+        name: "a split comes before the read",
+        room: 10,
+        calls: &[Call::Insert(1, 1), Call::Get(256), Call::Insert(256, 5)],
+        turns: &[
+            Turn::Steps(0, END),
+            Turn::Steps(1, 5),
+            Turn::Steps(2, END),
+            Turn::Steps(1, END),
+        ],
+        told: &[
+            Told::Reply(Reply::Insert(None)),
+            Told::Reply(Reply::Insert(None)),
+            Told::Reply(Reply::Get(Some(5))),
+        ],
+        nodes: (4, 0),
+    },
+    Worked {
+        name: "a lying read is checked",
+        room: 10,
+        calls: &[
+            Call::Insert(1, 42),
+            Call::Get(1),
+            Call::Insert(2, 9),
+            Call::Get(1),
+        ],
+        turns: &[
+            Turn::Steps(0, END),
+            Turn::Steps(1, 5),
+            Turn::Steps(3, 5),
+            Turn::Steps(2, END),
+            Turn::SeesValue(1, 77),
+            Turn::SeesNode(3, 99),
+            Turn::Steps(1, END),
+            Turn::Steps(3, END),
+        ],
+        told: &[
+            Told::Reply(Reply::Insert(None)),
+            Told::Reply(Reply::Insert(None)),
+            Told::Reply(Reply::Get(Some(42))),
+            Told::Reply(Reply::Get(Some(42))),
+        ],
+        nodes: (2, 0),
+    },
+    Worked {
+        name: "a failed upgrade begins anew",
+        room: 10,
+        calls: &[Call::Insert(1, 42), Call::Get(1)],
+        turns: &[
+            Turn::Steps(0, 5),
+            Turn::Fails(0),
+            Turn::Steps(0, END),
+            Turn::Steps(1, END),
+        ],
+        told: &[
+            Told::Reply(Reply::Insert(None)),
+            Told::Reply(Reply::Get(Some(42))),
+        ],
+        nodes: (3, 1),
+    },
+    Worked {
+        name: "a closure is asked until it answers",
+        room: 10,
+        calls: &[
+            Call::Insert(1, 42),
+            Call::ComputePresent(1, Some(50)),
+            Call::Get(1),
+        ],
+        turns: &[
+            Turn::Steps(0, END),
+            Turn::Steps(1, 7),
+            Turn::Waits(1),
+            Turn::Waits(1),
+            Turn::Steps(1, END),
+            Turn::Steps(2, END),
+        ],
+        told: &[
+            Told::Reply(Reply::Insert(None)),
+            Told::Asks(Some(42)),
+            Told::Asks(Some(42)),
+            Told::Asks(Some(42)),
+            Told::Reply(Reply::ComputePresent(Some((42, Some(50))))),
+            Told::Reply(Reply::Get(Some(50))),
+        ],
+        nodes: (2, 0),
+    },
+    Worked {
+        name: "a refused call gives its nodes back",
+        room: 2,
+        calls: &[Call::Insert(1, 42), Call::Insert(256, 5), Call::Get(256)],
+        turns: &[
+            Turn::Steps(0, END),
+            Turn::Steps(1, END),
+            Turn::Steps(2, END),
+        ],
+        told: &[
+            Told::Reply(Reply::Insert(None)),
+            Told::Refused(Refusal::Cells),
+            Told::Reply(Reply::Get(None)),
+        ],
+        nodes: (3, 1),
+    },
+];
+
 /// What a run left, and what each of its steps did.
 #[derive(Drop)]
 struct Ran {
@@ -25,15 +208,72 @@ fn step_of(who: usize) -> Step<usize, u64> {
     }
 }
 
-/// Steps of the calls, each so many at a time.
-fn turns(alloc: Global, turns: &[(usize, usize)]) -> Result<Vec<Step<usize, u64>>, Fail> {
+fn failing(who: usize) -> Step<usize, u64> {
+    let mut step = step_of(who);
+    step.noise.fail = true;
+    step
+}
+
+fn waiting(who: usize) -> Step<usize, u64> {
+    let mut step = step_of(who);
+    step.noise.answer = None;
+    step
+}
+
+fn seeing(who: usize, child: Child<usize, u64>) -> Step<usize, u64> {
+    let mut step = step_of(who);
+    step.noise.seen = Some(Seen {
+        child,
+        byte: 200,
+        full: true,
+        count: 3,
+    });
+    step
+}
+
+fn push_steps(steps: &mut Vec<Step<usize, u64>>, who: usize, count: usize) -> Result<(), Fail> {
+    for _ in 0..count {
+        steps.push(step_of(who))?;
+    }
+    Ok(())
+}
+
+fn push_turn(steps: &mut Vec<Step<usize, u64>>, turn: &Turn) -> Result<(), Fail> {
+    let step = match turn {
+        Turn::Steps(who, count) => return push_steps(steps, *who, *count),
+        Turn::Fails(who) => failing(*who),
+        Turn::SeesValue(who, value) => seeing(*who, Child::Value(*value)),
+        Turn::SeesNode(who, name) => seeing(*who, Child::Node(*name)),
+        Turn::Waits(who) => waiting(*who),
+    };
+    Ok(steps.push(step)?)
+}
+
+fn steps_of(alloc: Global, turns: &[Turn]) -> Result<Vec<Step<usize, u64>>, Fail> {
     let mut steps = Vec::new(alloc);
-    for (who, count) in turns {
-        for _ in 0..*count {
-            steps.push(step_of(*who))?;
-        }
+    for turn in turns {
+        push_turn(&mut steps, turn)?;
     }
     Ok(steps)
+}
+
+fn op_of(call: Call<u64>) -> Op<u64> {
+    match call {
+        Call::Get(key) => Op::Get(key),
+        Call::Insert(key, value) => Op::Insert(key, value),
+        Call::Remove(key) => Op::Remove(key),
+        Call::ComputePresent(key, _) => Op::ComputePresent(key),
+        Call::ComputeInsert(key, _) => Op::ComputeInsert(key),
+        Call::Exchange(key, old, new) => Op::Exchange(key, old, new),
+    }
+}
+
+fn ops_of(alloc: Global, calls: &[Call<u64>]) -> Result<Vec<Op<u64>>, Fail> {
+    let mut ops = Vec::new(alloc);
+    for call in calls {
+        ops.push(op_of(*call))?;
+    }
+    Ok(ops)
 }
 
 fn run(
@@ -51,17 +291,6 @@ fn run(
     })
 }
 
-/// The replies, in the order in which the calls ended.
-fn replies(alloc: Global, moves: Vec<Move<u64>>) -> Result<Vec<Reply<u64>>, Fail> {
-    let mut replies = Vec::new(alloc);
-    for step in moves {
-        if let Outcome::Done(reply) = step.outcome {
-            replies.push(reply)?;
-        }
-    }
-    Ok(replies)
-}
-
 /// How many nodes were given back.
 fn given_back(store: &PlainStore) -> usize {
     store.nodes.iter().filter(|n| n.destroyed).count()
@@ -75,166 +304,48 @@ fn is_at_rest(store: &PlainStore) -> bool {
         .all(|n| n.locked == n.obsolete && n.obsolete == n.retired)
 }
 
-#[test]
-fn a_call_finds_its_leaf_gone(rt: HostRuntime) -> Result<(), Fail> {
-    let alloc = rt.alloc();
-    let ops = vec![in alloc;
-        Op::Insert(1, 42),
-        Op::Get(1),
-        Op::Remove(1),
-        Op::Insert(1, 9),
-        Op::Get(1),
-    ]?;
-    let steps = turns(
-        alloc,
-        &[(0, END), (1, 4), (2, END), (3, END), (1, END), (4, END)],
-    )?;
-    let ran = run(alloc, 10, ops, steps)?;
-    assert!(rt; is_at_rest(&ran.store));
-    let expected = [
-        Reply::Insert(None),
-        Reply::Remove(Some(42)),
-        Reply::Insert(None),
-        Reply::Get(Some(9)),
-        Reply::Get(Some(9)),
-    ];
-    assert!(rt; replies(alloc, ran.moves)?.as_slice() == expected.as_slice());
-    Ok(())
+fn is_told(outcome: &Outcome<u64>, told: &Told) -> bool {
+    match (outcome, told) {
+        (Outcome::Done(reply), Told::Reply(expected)) => reply == expected,
+        (Outcome::Asks(value), Told::Asks(expected)) => value == expected,
+        (Outcome::Refused(refusal), Told::Refused(expected)) => refusal == expected,
+        _ => false,
+    }
 }
 
-#[test]
-fn two_make_a_leaf_for_one_key(rt: HostRuntime) -> Result<(), Fail> {
-    let alloc = rt.alloc();
-    let ops = vec![in alloc; Op::Insert(7, 1), Op::Insert(7, 2), Op::Get(7)]?;
-    let steps = turns(alloc, &[(0, 5), (1, 5), (0, END), (1, END), (2, END)])?;
-    let ran = run(alloc, 10, ops, steps)?;
-    assert!(rt; is_at_rest(&ran.store));
-    assert_eq!(rt; ran.store.nodes.len(), 3);
-    assert_eq!(rt; given_back(&ran.store), 1);
-    let expected = [
-        Reply::Insert(None),
-        Reply::Insert(Some(1)),
-        Reply::Get(Some(2)),
-    ];
-    assert!(rt; replies(alloc, ran.moves)?.as_slice() == expected.as_slice());
-    Ok(())
-}
-
-#[test]
-fn a_split_comes_before_the_read(rt: HostRuntime) -> Result<(), Fail> {
-    let alloc = rt.alloc();
-    let ops = vec![in alloc; Op::Insert(1, 1), Op::Get(256), Op::Insert(256, 5)]?;
-    let steps = turns(alloc, &[(0, END), (1, 5), (2, END), (1, END)])?;
-    let ran = run(alloc, 10, ops, steps)?;
-    assert!(rt; is_at_rest(&ran.store));
-    let expected = [
-        Reply::Insert(None),
-        Reply::Insert(None),
-        Reply::Get(Some(5)),
-    ];
-    assert!(rt; replies(alloc, ran.moves)?.as_slice() == expected.as_slice());
-    Ok(())
-}
-
-#[test]
-fn a_lying_read_is_checked(rt: HostRuntime) -> Result<(), Fail> {
-    let alloc = rt.alloc();
-    let ops = vec![in alloc; Op::Insert(1, 42), Op::Get(1), Op::Insert(2, 9), Op::Get(1)]?;
-    let mut steps = turns(alloc, &[(0, END), (1, 5), (3, 5), (2, END)])?;
-    for (who, child) in [(1, Child::Value(77)), (3, Child::Node(99))] {
-        let mut step = step_of(who);
-        step.noise.seen = Some(Seen {
-            child,
-            byte: 200,
-            full: true,
-            count: 3,
-        });
-        steps.push(step)?;
-    }
-    for step in turns(alloc, &[(1, END), (3, END)])? {
-        steps.push(step)?;
-    }
-    let ran = run(alloc, 10, ops, steps)?;
-    let expected = [
-        Reply::Insert(None),
-        Reply::Insert(None),
-        Reply::Get(Some(42)),
-        Reply::Get(Some(42)),
-    ];
-    assert!(rt; replies(alloc, ran.moves)?.as_slice() == expected.as_slice());
-    Ok(())
-}
-
-#[test]
-fn a_failed_upgrade_begins_anew(rt: HostRuntime) -> Result<(), Fail> {
-    let alloc = rt.alloc();
-    let ops = vec![in alloc; Op::Insert(1, 42), Op::Get(1)]?;
-    let mut steps = turns(alloc, &[(0, 5)])?;
-    let mut failing = step_of(0);
-    failing.noise.fail = true;
-    steps.push(failing)?;
-    for step in turns(alloc, &[(0, END), (1, END)])? {
-        steps.push(step)?;
-    }
-    let ran = run(alloc, 10, ops, steps)?;
-    assert!(rt; is_at_rest(&ran.store));
-    assert_eq!(rt; ran.store.nodes.len(), 3);
-    assert_eq!(rt; given_back(&ran.store), 1);
-    let expected = [Reply::Insert(None), Reply::Get(Some(42))];
-    assert!(rt; replies(alloc, ran.moves)?.as_slice() == expected.as_slice());
-    Ok(())
-}
-
-#[test]
-fn a_closure_is_asked_until_it_answers(rt: HostRuntime) -> Result<(), Fail> {
-    let alloc = rt.alloc();
-    let ops = vec![in alloc; Op::Insert(1, 42), Op::ComputePresent(1), Op::Get(1)]?;
-    let mut steps = turns(alloc, &[(0, END), (1, 7)])?;
-    for _ in 0..2 {
-        let mut step = step_of(1);
-        step.noise.answer = None;
-        steps.push(step)?;
-    }
-    for step in turns(alloc, &[(1, END), (2, END)])? {
-        steps.push(step)?;
-    }
-    let ran = run(alloc, 10, ops, steps)?;
-    let mut asked = 0;
-    for step in &ran.moves {
-        if let Outcome::Asks(value) = &step.outcome {
-            assert_eq!(rt; *value, Some(42));
-            asked = usize::wrapping_add(asked, 1);
+/// Whether the steps tell this, one after the other, and nothing else.
+fn are_told(moves: &[Move<u64>], told: &[Told]) -> bool {
+    let mut rest = told.iter();
+    for step in moves {
+        if matches!(step.outcome, Outcome::Running) {
+            continue;
+        }
+        match rest.next() {
+            Some(told) if is_told(&step.outcome, told) => {}
+            _ => return false,
         }
     }
-    assert_eq!(rt; asked, 3);
-    let expected = [
-        Reply::Insert(None),
-        Reply::ComputePresent(Some((42, Some(50)))),
-        Reply::Get(Some(50)),
-    ];
-    assert!(rt; replies(alloc, ran.moves)?.as_slice() == expected.as_slice());
-    Ok(())
+    rest.next().is_none()
+}
+
+fn is_as_worked(ran: &Ran, worked: &Worked) -> bool {
+    is_at_rest(&ran.store)
+        && (ran.store.nodes.len(), given_back(&ran.store)) == worked.nodes
+        && are_told(&ran.moves, worked.told)
+}
+
+fn holds(alloc: Global, worked: &Worked) -> Result<bool, Fail> {
+    let ops = ops_of(alloc, worked.calls)?;
+    let steps = steps_of(alloc, worked.turns)?;
+    let ran = run(alloc, worked.room, ops, steps)?;
+    Ok(is_as_worked(&ran, worked))
 }
 
 #[test]
-fn a_refused_call_gives_its_nodes_back(rt: HostRuntime) -> Result<(), Fail> {
-    let alloc = rt.alloc();
-    let ops = vec![in alloc; Op::Insert(1, 42), Op::Insert(256, 5), Op::Get(256)]?;
-    let steps = turns(alloc, &[(0, END), (1, END), (2, END)])?;
-    let ran = run(alloc, 2, ops, steps)?;
-    assert!(rt; is_at_rest(&ran.store));
-    assert_eq!(rt; ran.store.nodes.len(), 3);
-    assert_eq!(rt; given_back(&ran.store), 1);
-    let mut refused = 0;
-    for step in &ran.moves {
-        if let Outcome::Refused(refusal) = &step.outcome {
-            assert_eq!(rt; *refusal, Refusal::Cells);
-            refused = usize::wrapping_add(refused, 1);
-        }
+fn calls_by_turns_tell_what_was_worked_out(rt: HostRuntime) -> Result<(), Fail> {
+    for worked in &WORKED {
+        assert!(rt; holds(rt.alloc(), worked)?, "{}", worked.name);
     }
-    assert_eq!(rt; refused, 1);
-    let expected = [Reply::Insert(None), Reply::Get(None)];
-    assert!(rt; replies(alloc, ran.moves)?.as_slice() == expected.as_slice());
     Ok(())
 }
 
@@ -283,15 +394,28 @@ fn key_of(call: Call<u64>) -> u64 {
     }
 }
 
-fn op_of(call: Call<u64>) -> Op<u64> {
-    match call {
-        Call::Get(key) => Op::Get(key),
-        Call::Insert(key, value) => Op::Insert(key, value),
-        Call::Remove(key) => Op::Remove(key),
-        Call::ComputePresent(key, _) => Op::ComputePresent(key),
-        Call::ComputeInsert(key, _) => Op::ComputeInsert(key),
-        Call::Exchange(key, old, new) => Op::Exchange(key, old, new),
+/// The replies, each with its call.
+fn replies_of(
+    alloc: Global,
+    turns: &[usize],
+    moves: &[Move<u64>],
+) -> Result<Vec<(usize, Reply<u64>)>, Fail> {
+    let mut replies = Vec::new(alloc);
+    for (who, step) in turns.iter().zip(moves) {
+        if let Outcome::Done(reply) = &step.outcome {
+            replies.push((*who, *reply))?;
+        }
     }
+    Ok(replies)
+}
+
+fn reply_of(who: usize, replies: &[(usize, Reply<u64>)]) -> Option<Reply<u64>> {
+    for (ended, reply) in replies {
+        if *ended == who {
+            return Some(*reply);
+        }
+    }
+    None
 }
 
 /// The journal of a run, in the order in which its calls took effect.
@@ -299,45 +423,66 @@ fn journal_of(
     alloc: Global,
     calls: &[Call<u64>],
     turns: &[usize],
-    moves: Vec<Move<u64>>,
+    moves: &[Move<u64>],
 ) -> Result<Vec<Entry<u64>>, Fail> {
-    let mut order = Vec::new(alloc);
-    let mut replies = Vec::new(alloc);
-    for (who, step) in turns.iter().zip(moves) {
-        if step.decided {
-            order.push(*who)?;
-        }
-        if let Outcome::Done(reply) = step.outcome {
-            replies.push((*who, reply))?;
-        }
-    }
+    let replies = replies_of(alloc, turns, moves)?;
     let mut journal = Vec::new(alloc);
-    for who in &order {
-        let reply = replies.iter().find(|(ended, _)| ended == who);
-        if let (Some(call), Some((_, reply))) = (calls.get(*who), reply) {
+    for (who, step) in turns.iter().zip(moves) {
+        if !step.decided {
+            continue;
+        }
+        if let (Some(call), Some(reply)) = (calls.get(*who), reply_of(*who, &replies)) {
             journal.push(Entry {
                 worker: 0,
                 call: *call,
-                reply: *reply,
+                reply,
             })?;
         }
     }
     Ok(journal)
 }
 
-/// The calls of a case: those that make the tree, the two, and those that look at their keys in the end.
-fn calls_of(alloc: Global, case: &Case) -> Result<Vec<Call<u64>>, Fail> {
-    let mut calls = Vec::new(alloc);
-    for call in case.setup {
+fn push_calls(calls: &mut Vec<Call<u64>>, more: &[Call<u64>]) -> Result<(), Fail> {
+    for call in more {
         calls.push(*call)?;
     }
-    for call in case.pair {
-        calls.push(call)?;
-    }
-    for call in case.pair {
-        calls.push(Call::Get(key_of(call)))?;
-    }
+    Ok(())
+}
+
+/// The calls of a case: those that make the tree, the two, and those that look at their keys in the end.
+fn calls_of(alloc: Global, case: &Case) -> Result<Vec<Call<u64>>, Fail> {
+    let [first, second] = case.pair;
+    let looks = [Call::Get(key_of(first)), Call::Get(key_of(second))];
+    let mut calls = Vec::new(alloc);
+    push_calls(&mut calls, case.setup)?;
+    push_calls(&mut calls, &case.pair)?;
+    push_calls(&mut calls, &looks)?;
     Ok(calls)
+}
+
+fn push_turns(turns: &mut Vec<usize>, who: usize, count: usize) -> Result<(), Fail> {
+    for _ in 0..count {
+        turns.push(who)?;
+    }
+    Ok(())
+}
+
+/// Two calls take turns by the bits of `mask`.
+fn push_bits(turns: &mut Vec<usize>, first: usize, mask: u32, bits: u32) -> Result<(), Fail> {
+    let second = first.wrapping_add(1);
+    let mut rest = mask;
+    for _ in 0..bits {
+        turns.push(if rest % 2 == 0 { first } else { second })?;
+        rest /= 2;
+    }
+    Ok(())
+}
+
+fn push_ends(turns: &mut Vec<usize>, start: usize, end: usize) -> Result<(), Fail> {
+    for who in start..end {
+        push_turns(turns, who, END)?;
+    }
+    Ok(())
 }
 
 /// Whose turn it is: the tree is made, the two calls begin and take turns by the bits of `mask`, then each ends.
@@ -349,44 +494,39 @@ fn turns_of(
     bits: u32,
 ) -> Result<Vec<usize>, Fail> {
     let mut turns = Vec::new(alloc);
-    let second = first.wrapping_add(1);
-    for who in 0..first {
-        for _ in 0..END {
-            turns.push(who)?;
-        }
-    }
-    turns.push(first)?;
-    turns.push(second)?;
-    let mut rest = mask;
-    for _ in 0..bits {
-        turns.push(if rest % 2 == 0 { first } else { second })?;
-        rest /= 2;
-    }
-    for who in first..calls {
-        for _ in 0..END {
-            turns.push(who)?;
-        }
-    }
+    push_ends(&mut turns, 0, first)?;
+    push_turns(&mut turns, first, 1)?;
+    push_turns(&mut turns, first.wrapping_add(1), 1)?;
+    push_bits(&mut turns, first, mask, bits)?;
+    push_ends(&mut turns, first, calls)?;
     Ok(turns)
 }
 
-/// Whether the calls of a case, interleaved by the bits of `mask`, answer as one map does in deciding order.
+fn single_steps(alloc: Global, turns: &[usize]) -> Result<Vec<Step<usize, u64>>, Fail> {
+    let mut steps = Vec::new(alloc);
+    for who in turns {
+        steps.push(step_of(*who))?;
+    }
+    Ok(steps)
+}
+
+/// Whether the calls, with these turns, answer as one map does in deciding order.
+fn answer_as_one_map(alloc: Global, calls: &[Call<u64>], turns: &[usize]) -> Result<bool, Fail> {
+    let ops = ops_of(alloc, calls)?;
+    let ran = run(alloc, 10, ops, single_steps(alloc, turns)?)?;
+    let journal = journal_of(alloc, calls, turns, &ran.moves)?;
+    Ok(
+        is_at_rest(&ran.store)
+            && journal.len() == calls.len()
+            && check(alloc, &journal)? == Verdict::Legal,
+    )
+}
+
+/// Whether the calls of a case, interleaved by the bits of `mask`, answer as one map.
 fn is_one_map(alloc: Global, case: &Case, mask: u32, bits: u32) -> Result<bool, Fail> {
     let calls = calls_of(alloc, case)?;
     let turns = turns_of(alloc, calls.len(), case.setup.len(), mask, bits)?;
-    let mut ops = Vec::new(alloc);
-    for call in &calls {
-        ops.push(op_of(*call))?;
-    }
-    let mut steps = Vec::new(alloc);
-    for who in &turns {
-        steps.push(step_of(*who))?;
-    }
-    let ran = run(alloc, 10, ops, steps)?;
-    let at_rest = is_at_rest(&ran.store);
-    let journal = journal_of(alloc, &calls, &turns, ran.moves)?;
-    let verdict = check(alloc, &journal)?;
-    Ok(at_rest && journal.len() == calls.len() && verdict == Verdict::Legal)
+    answer_as_one_map(alloc, &calls, &turns)
 }
 
 // Whether every interleaving of each pair of calls answers as one map.
