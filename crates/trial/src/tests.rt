@@ -1,14 +1,5 @@
 //! The tests of all five crates.
 
-mod arcs;
-mod closing;
 mod collector;
 mod face;
-mod forms;
-mod journals;
-mod owned;
-mod protocol;
-mod scripts;
-mod stats;
 mod threads;
-mod worlds;
