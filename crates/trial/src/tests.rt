@@ -2,7 +2,13 @@
 
 mod arcs;
 mod closing;
+mod collector;
+mod face;
 mod forms;
+mod journals;
 mod owned;
 mod protocol;
+mod scripts;
 mod stats;
+mod threads;
+mod worlds;

@@ -1,9 +1,9 @@
-//! Rows of the collector.
+//! Rows of the collector: calls in order, and beside each what it answers.
 
 use crossbeam_epoch::{
-    Event, Fault, Job, Limits, Links, Name, Op, OtherPointer, Outcome, Pointable, Ptr, World,
+    Event, Fault, Job, Limits, Links, Name, Op, OtherPointer, Outcome, Pointable, Ptr, Task, World,
 };
-use std::alloc::Global;
+use std::alloc::{AllocError, Global};
 use std::marker::Send;
 use std::sync::Arc;
 use std::sync::atomic::{AtomicU64, Ordering};
@@ -21,31 +21,8 @@ fn ample(participants: u32) -> Limits {
 }
 
 #[test]
-fn limits_have_bounds(rt: HostRuntime) -> Result<(), Fail> {
+fn limits_have_bounds(rt: HostRuntime) {
     let good = ample(2);
-    assert!(rt; good.is_within());
-    let outside = [
-        ample(0),
-        ample(257),
-        Limits { cells: 0, ..good },
-        Limits {
-            cells: 16_777_216,
-            ..good
-        },
-        Limits {
-            epoch_max: 2,
-            ..good
-        },
-        Limits {
-            epoch_max: (1 << 62) + 1,
-            ..good
-        },
-        Limits { expiry: 0, ..good },
-        Limits { expiry: 3, ..good },
-    ];
-    for limits in &outside {
-        assert!(rt; !limits.is_within());
-    }
     let greatest = Limits {
         participants: 256,
         cells: 16_777_215,
@@ -53,8 +30,41 @@ fn limits_have_bounds(rt: HostRuntime) -> Result<(), Fail> {
         epoch_max: 3,
         expiry: 1,
     };
-    assert!(rt; greatest.is_within());
-    Ok(())
+    let rows = [
+        (good, true),
+        (ample(0), false),
+        (ample(257), false),
+        (Limits { cells: 0, ..good }, false),
+        (
+            Limits {
+                cells: 16_777_216,
+                ..good
+            },
+            false,
+        ),
+        (
+            Limits {
+                epoch_max: 2,
+                ..good
+            },
+            false,
+        ),
+        (
+            Limits {
+                epoch_max: (1 << 62) + 1,
+                ..good
+            },
+            false,
+        ),
+        (Limits { expiry: 0, ..good }, false),
+        (Limits { expiry: 3, ..good }, false),
+        (greatest, true),
+    ];
+    let mut right = true;
+    for (limits, expected) in rows {
+        right &= limits.is_within() == expected;
+    }
+    assert!(rt; right);
 }
 
 /// A value without links.
@@ -87,79 +97,270 @@ impl Pointable for Plain {
 
 type Jobs = World<Plain, ()>;
 
-/// A whole call of at most 2,000 steps.
-fn call(world: &mut Jobs, who: usize, op: Op) -> Result<(), Outcome> {
-    let mut outcome = world.step(who, Event::Begin(op)).outcome;
-    for _ in 0..2000 {
-        match outcome {
-            Outcome::Running => outcome = world.step(who, Event::Go).outcome,
-            Outcome::Done => return Ok(()),
-            Outcome::Refused(_) => return Err(outcome),
+/// A call. Calls of roots go to root 0, but for `LoadFrom`.
+#[derive(Clone, Copy, Drop)]
+enum Act {
+    Register,
+    /// A whole call of a participant.
+    Call(usize, Op),
+    /// So many rounds of pin, flush and unpin of a participant.
+    Rounds(usize, u32),
+    /// So many deferrals of a job by a participant; the last one answers.
+    Defer(usize, u32),
+    DeferDestroy(usize, Name),
+    Epoch,
+    Waiting,
+    Place(u64),
+    Replace(Name, u64),
+    Read(Name),
+    GiveBack(Name),
+    LoadFrom(usize),
+    Store(Ptr),
+    Swap(Ptr),
+    /// Writes the second pointer where the root holds the first.
+    Exchange(Ptr, Ptr),
+    FetchAnd(usize),
+    FetchOr(usize),
+    FetchXor(usize),
+}
+
+/// What a call answers.
+#[derive(Clone, Copy, PartialEq, Eq, Drop)]
+enum Answer {
+    Done,
+    Number(u64),
+    Named(Name),
+    Pointer(Ptr),
+    Other(OtherPointer),
+    Refused(Fault),
+    /// Refused; the number came back.
+    Back(Fault, u64),
+}
+
+type Row = (Act, Answer);
+
+/// The number of the first row whose call answers something else.
+fn first_wrong(world: &mut Jobs, rows: &[Row]) -> Option<usize> {
+    for (number, row) in rows.iter().enumerate() {
+        let (act, expected) = *row;
+        if answer_of(world, act) != expected {
+            return Some(number);
         }
     }
-    Err(outcome)
+    None
 }
 
-fn round(world: &mut Jobs, who: usize) -> Result<(), Outcome> {
-    call(world, who, Op::Pin)?;
-    call(world, who, Op::Flush)?;
-    call(world, who, Op::Unpin)
+/// Runs the rows in a new collector with one root.
+fn first_wrong_in_new(alloc: Global, limits: Limits, rows: &[Row]) -> Result<Option<usize>, Fault> {
+    let mut world: Jobs = World::new(alloc, limits, 1)?;
+    Ok(first_wrong(&mut world, rows))
 }
 
-fn blocked_job(alloc: Global, expiry: u64) -> Result<(u64, u64), Fail> {
-    let mut world: Jobs = World::new(alloc, Limits { expiry, ..ample(2) }, 1)?;
-    world.register()?;
-    world.register()?;
-    call(&mut world, 0, Op::Pin)?;
-    call(&mut world, 0, Op::Unpin)?;
-    call(&mut world, 1, Op::Pin)?;
-    call(&mut world, 1, Op::Unpin)?;
-    call(&mut world, 1, Op::Pin)?;
-    call(&mut world, 0, Op::Pin)?;
-    if world.defer(0, ()).is_err() {
-        return Ok((0, 0));
+fn answer_of(world: &mut Jobs, act: Act) -> Answer {
+    match act {
+        Act::Register => register(world),
+        Act::Call(who, op) => call(world, who, op),
+        Act::Rounds(who, count) => rounds(world, who, count),
+        Act::Defer(who, count) => defers(world, who, count),
+        Act::DeferDestroy(who, name) => defer_destroy(world, who, name),
+        Act::Epoch => Answer::Number(world.epoch()),
+        Act::Waiting => Answer::Number(world.waiting()),
+        Act::Place(number) => place(world, number),
+        Act::Replace(name, number) => replace(world, name, number),
+        Act::Read(name) => read(world, name),
+        Act::GiveBack(name) => give_back(world, name),
+        Act::LoadFrom(root) => pointer(world.load(root)),
+        Act::Store(new) => store(world, new),
+        Act::Swap(new) => pointer(world.swap(0, new)),
+        Act::Exchange(current, new) => exchange(world, current, new),
+        Act::FetchAnd(number) => pointer(world.fetch_and(0, number)),
+        Act::FetchOr(number) => pointer(world.fetch_or(0, number)),
+        Act::FetchXor(number) => pointer(world.fetch_xor(0, number)),
     }
-    call(&mut world, 0, Op::Flush)?;
-    Ok((world.epoch(), world.waiting()))
+}
+
+fn register(world: &mut Jobs) -> Answer {
+    match world.register() {
+        Ok(place) => Answer::Number(place as u64),
+        Err(fault) => Answer::Refused(fault),
+    }
+}
+
+fn step<J: Task>(world: &mut World<Plain, J>, who: usize, event: Event) -> Outcome {
+    world.step(who, event).outcome
+}
+
+/// A whole call of at most 2,000 steps.
+fn call(world: &mut Jobs, who: usize, op: Op) -> Answer {
+    let mut outcome = step(world, who, Event::Begin(op));
+    for _ in 0..2000 {
+        match outcome {
+            Outcome::Running => outcome = step(world, who, Event::Go),
+            Outcome::Done => return Answer::Done,
+            Outcome::Refused(fault) => return Answer::Refused(fault),
+        }
+    }
+    Answer::Number(2000)
+}
+
+/// Rounds of pin, flush and unpin; the first answer that isn't `Done`.
+fn rounds(world: &mut Jobs, who: usize, count: u32) -> Answer {
+    for _ in 0..count {
+        for op in [Op::Pin, Op::Flush, Op::Unpin] {
+            let answer = call(world, who, op);
+            if answer != Answer::Done {
+                return answer;
+            }
+        }
+    }
+    Answer::Done
+}
+
+fn defers(world: &mut Jobs, who: usize, count: u32) -> Answer {
+    for _ in 0..count {
+        if let Err((fault, ())) = world.defer(who, ()) {
+            return Answer::Refused(fault);
+        }
+    }
+    Answer::Done
+}
+
+fn defer_destroy(world: &mut Jobs, who: usize, name: Name) -> Answer {
+    match world.defer_destroy(who, name) {
+        Ok(ticket) => Answer::Number(ticket),
+        Err(fault) => Answer::Refused(fault),
+    }
+}
+
+fn place(world: &mut Jobs, number: u64) -> Answer {
+    match world.place(Plain(number)) {
+        Ok(name) => Answer::Named(name),
+        Err((fault, Plain(back))) => Answer::Back(fault, back),
+    }
+}
+
+fn replace(world: &mut Jobs, name: Name, number: u64) -> Answer {
+    match world.replace(name, Plain(number)) {
+        Ok(Plain(old)) => Answer::Number(old),
+        Err((fault, Plain(back))) => Answer::Back(fault, back),
+    }
+}
+
+fn read(world: &Jobs, name: Name) -> Answer {
+    match world.read(name) {
+        Some(Plain(number)) => Answer::Number(*number),
+        None => Answer::Refused(Fault::Unknown),
+    }
+}
+
+fn give_back(world: &mut Jobs, name: Name) -> Answer {
+    match world.give_back(name) {
+        Ok(Plain(number)) => Answer::Number(number),
+        Err(fault) => Answer::Refused(fault),
+    }
+}
+
+fn pointer(res: Result<Ptr, Fault>) -> Answer {
+    match res {
+        Ok(pointer) => Answer::Pointer(pointer),
+        Err(fault) => Answer::Refused(fault),
+    }
+}
+
+fn store(world: &mut Jobs, new: Ptr) -> Answer {
+    match world.store(0, new) {
+        Ok(()) => Answer::Done,
+        Err(fault) => Answer::Refused(fault),
+    }
+}
+
+fn exchange(world: &mut Jobs, current: Ptr, new: Ptr) -> Answer {
+    match world.compare_exchange(0, current, new) {
+        Ok(Ok(written)) => Answer::Pointer(written),
+        Ok(Err(other)) => Answer::Other(other),
+        Err(fault) => Answer::Refused(fault),
+    }
+}
+
+/// Participant 1 pins at an older epoch than the seal of a job of participant 0; then what the epoch is, and how many wait.
+fn blocked_rows(epoch: u64, waiting: u64) -> [Row; 12] {
+    [
+        (Act::Register, Answer::Number(0)),
+        (Act::Register, Answer::Number(1)),
+        (Act::Call(0, Op::Pin), Answer::Done),
+        (Act::Call(0, Op::Unpin), Answer::Done),
+        (Act::Call(1, Op::Pin), Answer::Done),
+        (Act::Call(1, Op::Unpin), Answer::Done),
+        (Act::Call(1, Op::Pin), Answer::Done),
+        (Act::Call(0, Op::Pin), Answer::Done),
+        (Act::Defer(0, 1), Answer::Done),
+        (Act::Call(0, Op::Flush), Answer::Done),
+        (Act::Epoch, Answer::Number(epoch)),
+        (Act::Waiting, Answer::Number(waiting)),
+    ]
 }
 
 #[test]
 fn a_blocked_job_waits_and_expiry_one_is_too_little(rt: HostRuntime) -> Result<(), Fail> {
-    assert_eq!(rt; blocked_job(rt.alloc(), 2)?, (3, 1));
-    assert_eq!(rt; blocked_job(rt.alloc(), 1)?, (3, 0));
+    for (expiry, waiting) in [(2, 1), (1, 0)] {
+        let limits = Limits { expiry, ..ample(2) };
+        let wrong = first_wrong_in_new(rt.alloc(), limits, &blocked_rows(3, waiting))?;
+        assert!(rt; wrong.is_none());
+    }
     Ok(())
 }
 
-/// One participant defers 65 jobs under a pin; how many wait then, after one round, and after two.
-fn sixty_five(alloc: Global) -> Result<(u64, u64, u64), Fail> {
-    let mut world: Jobs = World::new(alloc, ample(1), 1)?;
-    world.register()?;
-    call(&mut world, 0, Op::Pin)?;
-    for _ in 0..65 {
-        if let Err((fault, ())) = world.defer(0, ()) {
-            return Err(Fail::from(fault));
-        }
-    }
-    call(&mut world, 0, Op::Unpin)?;
-    let first = world.waiting();
-    round(&mut world, 0)?;
-    let second = world.waiting();
-    round(&mut world, 0)?;
-    Ok((first, second, world.waiting()))
+/// A full bag has 64 jobs; the 65th queues it.
+fn full_bag_rows() -> [Row; 9] {
+    [
+        (Act::Register, Answer::Number(0)),
+        (Act::Call(0, Op::Pin), Answer::Done),
+        (Act::Defer(0, 65), Answer::Done),
+        (Act::Call(0, Op::Unpin), Answer::Done),
+        (Act::Waiting, Answer::Number(65)),
+        (Act::Rounds(0, 1), Answer::Done),
+        (Act::Waiting, Answer::Number(65)),
+        (Act::Rounds(0, 1), Answer::Done),
+        (Act::Waiting, Answer::Number(0)),
+    ]
 }
 
 #[test]
 fn a_full_bag_is_queued(rt: HostRuntime) -> Result<(), Fail> {
-    assert_eq!(rt; sixty_five(rt.alloc())?, (65, 65, 0));
+    let wrong = first_wrong_in_new(rt.alloc(), ample(1), &full_bag_rows())?;
+    assert!(rt; wrong.is_none());
     Ok(())
 }
 
-/// Places a number.
-fn placed(world: &mut Jobs, number: u64) -> Result<Name, Fault> {
-    match world.place(Plain(number)) {
-        Ok(name) => Ok(name),
-        Err((fault, _)) => Err(fault),
-    }
+/// One cell, which has two turns.
+fn cell_rows() -> [Row; 18] {
+    let first = Name { cell: 0, turn: 0 };
+    let second = Name { cell: 0, turn: 1 };
+    let tagged = Ptr {
+        name: Some(first),
+        tag: 1,
+    };
+    [
+        (Act::Register, Answer::Number(0)),
+        (Act::Place(1), Answer::Named(first)),
+        (Act::Place(2), Answer::Back(Fault::CellsFull, 2)),
+        (Act::Replace(first, 3), Answer::Number(1)),
+        (Act::Read(first), Answer::Number(3)),
+        (Act::Store(tagged), Answer::Done),
+        (Act::LoadFrom(0), Answer::Pointer(tagged)),
+        (Act::LoadFrom(1), Answer::Refused(Fault::Unknown)),
+        (Act::Store(Ptr::null()), Answer::Done),
+        (Act::Call(0, Op::Pin), Answer::Done),
+        (Act::DeferDestroy(0, first), Answer::Number(0)),
+        (Act::Call(0, Op::Unpin), Answer::Done),
+        (Act::Rounds(0, 3), Answer::Done),
+        (Act::Waiting, Answer::Number(0)),
+        (Act::Read(first), Answer::Refused(Fault::Unknown)),
+        (Act::Place(4), Answer::Named(second)),
+        (Act::GiveBack(second), Answer::Number(4)),
+        // The cell's last turn is spent.
+        (Act::Place(5), Answer::Back(Fault::CellsFull, 5)),
+    ]
 }
 
 #[test]
@@ -169,195 +370,181 @@ fn cells_are_used_again_under_the_next_turn(rt: HostRuntime) -> Result<(), Fail>
         turn_max: 1,
         ..ample(1)
     };
-    let mut world: Jobs = World::new(rt.alloc(), limits, 1)?;
-    world.register()?;
-    let first = placed(&mut world, 1)?;
-    assert_eq!(rt; first, Name { cell: 0, turn: 0 });
-    match world.place(Plain(2)) {
-        Err((fault, Plain(v))) => assert_eq!(rt; (fault, v), (Fault::CellsFull, 2)),
-        Ok(_) => assert!(rt; false),
-    }
-    match world.replace(first, Plain(3)) {
-        Ok(Plain(old)) => assert_eq!(rt; old, 1),
-        Err(_) => assert!(rt; false),
-    }
-    match world.read(first) {
-        Some(Plain(v)) => assert_eq!(rt; *v, 3),
-        None => assert!(rt; false),
-    }
-    world.store(
-        0,
-        Ptr {
-            name: Some(first),
-            tag: 1,
-        },
-    )?;
-    assert_eq!(rt;
-        world.load(0)?,
-        Ptr {
-            name: Some(first),
-            tag: 1
-        }
-    );
-    assert_eq!(rt; world.load(1), Err(Fault::Unknown));
-    world.store(0, Ptr::null())?;
-    call(&mut world, 0, Op::Pin)?;
-    assert_eq!(rt; world.defer_destroy(0, first), Ok(0));
-    call(&mut world, 0, Op::Unpin)?;
-    for _ in 0..3 {
-        round(&mut world, 0)?;
-    }
-    assert_eq!(rt; world.waiting(), 0);
-    assert!(rt; world.read(first).is_none());
-    let second = placed(&mut world, 4)?;
-    assert_eq!(rt; second, Name { cell: 0, turn: 1 });
-    match world.give_back(second) {
-        Ok(Plain(v)) => assert_eq!(rt; v, 4),
-        Err(_) => assert!(rt; false),
-    }
-    // The cell's last turn is spent.
-    assert!(rt; world.place(Plain(5)).is_err());
+    let wrong = first_wrong_in_new(rt.alloc(), limits, &cell_rows())?;
+    assert!(rt; wrong.is_none());
     Ok(())
+}
+
+fn leaving_rows() -> [Row; 12] {
+    [
+        (Act::Register, Answer::Number(0)),
+        (Act::Register, Answer::Number(1)),
+        (Act::Register, Answer::Refused(Fault::TableFull)),
+        (Act::Call(0, Op::Pin), Answer::Done),
+        (Act::Defer(0, 1), Answer::Done),
+        (Act::Call(0, Op::Release), Answer::Refused(Fault::GuardOut)),
+        (Act::Call(0, Op::Unpin), Answer::Done),
+        (Act::Call(0, Op::Release), Answer::Done),
+        (Act::Waiting, Answer::Number(1)),
+        (Act::Rounds(1, 3), Answer::Done),
+        (Act::Waiting, Answer::Number(0)),
+        (Act::Register, Answer::Number(0)),
+    ]
 }
 
 #[test]
 fn a_participant_that_leaves_queues_its_bag(rt: HostRuntime) -> Result<(), Fail> {
-    let mut world: Jobs = World::new(rt.alloc(), ample(2), 1)?;
-    assert_eq!(rt; world.register()?, 0);
-    assert_eq!(rt; world.register()?, 1);
-    assert_eq!(rt; world.register(), Err(Fault::TableFull));
-    call(&mut world, 0, Op::Pin)?;
-    assert!(rt; world.defer(0, ()).is_ok());
-    assert_eq!(rt;
-        call(&mut world, 0, Op::Release),
-        Err(Outcome::Refused(Fault::GuardOut))
-    );
-    call(&mut world, 0, Op::Unpin)?;
-    call(&mut world, 0, Op::Release)?;
-    assert_eq!(rt; world.waiting(), 1);
-    for _ in 0..3 {
-        round(&mut world, 1)?;
-    }
-    assert_eq!(rt; world.waiting(), 0);
-    assert_eq!(rt; world.register()?, 0);
+    let wrong = first_wrong_in_new(rt.alloc(), ample(2), &leaving_rows())?;
+    assert!(rt; wrong.is_none());
     Ok(())
 }
 
-#[test]
-fn a_job_runs_its_box(rt: HostRuntime) -> Result<(), Fail> {
-    let flag = Arc::new(rt.alloc(), AtomicU64::new(0))?;
-    let theirs = Arc::try_clone(&flag)?;
-    let run: Box<dyn FnOnce() + Send> = Box::new(rt.alloc(), move || {
-        theirs.store(1, Ordering::SeqCst);
-    })?;
-    let mut world: World<Plain, Job> = World::new(rt.alloc(), ample(1), 1)?;
-    world.register()?;
-    for op in [Op::Pin, Op::Secure(1), Op::Unpin] {
-        world.step(0, Event::Begin(op));
-        for _ in 0..20 {
-            world.step(0, Event::Go);
-        }
-    }
-    world.step(0, Event::Begin(Op::Pin));
-    for _ in 0..20 {
-        world.step(0, Event::Go);
-    }
-    assert!(rt; world.defer(0, Job::new(run)).is_ok());
-    for _ in 0..4 {
-        for op in [Op::Flush, Op::Unpin, Op::Pin] {
-            world.step(0, Event::Begin(op));
-            for _ in 0..20 {
-                world.step(0, Event::Go);
-            }
-        }
-    }
-    assert_eq!(rt; world.waiting(), 0);
-    assert_eq!(rt; flag.load(Ordering::SeqCst), 1);
-    Ok(())
-}
-
-#[test]
-fn an_exchange_of_a_root_looks_at_the_tag(rt: HostRuntime) -> Result<(), Fail> {
-    let mut world: Jobs = World::new(rt.alloc(), ample(1), 1)?;
-    let name = placed(&mut world, 7)?;
+fn exchange_rows() -> [Row; 5] {
+    let name = Name { cell: 0, turn: 0 };
     let stands = Ptr {
         name: Some(name),
         tag: 0,
     };
-    let held = stands.with_tag::<Plain>(5);
+    // The tag is 5 modulo 4.
+    let held = Ptr { tag: 1, ..stands };
     let null = Ptr::null();
-    assert_eq!(rt; world.swap(0, held)?, null);
-    let other = world.compare_exchange(0, stands, null)?;
-    assert_eq!(rt;
-        other,
-        Err(OtherPointer {
-            current: held,
-            new: null
-        })
-    );
-    assert_eq!(rt; world.compare_exchange(0, held, null)?, Ok(null));
-    assert_eq!(rt; world.load(0)?, null);
-    Ok(())
-}
-
-/// A collector with one root, which holds null with this tag.
-fn tagged_null(alloc: Global, tag: usize) -> Result<Jobs, Fault> {
-    let mut world: Jobs = World::new(alloc, ample(1), 1)?;
-    world.store(0, Ptr::null().with_tag::<Plain>(tag))?;
-    Ok(world)
+    let other = OtherPointer {
+        current: held,
+        new: null,
+    };
+    [
+        (Act::Place(7), Answer::Named(name)),
+        (
+            Act::Swap(stands.with_tag::<Plain>(5)),
+            Answer::Pointer(null),
+        ),
+        (Act::Exchange(stands, null), Answer::Other(other)),
+        (Act::Exchange(held, null), Answer::Pointer(null)),
+        (Act::LoadFrom(0), Answer::Pointer(null)),
+    ]
 }
 
 #[test]
-fn bits_of_a_tag_are_kept_and_flipped(rt: HostRuntime) -> Result<(), Fail> {
-    let mut world = tagged_null(rt.alloc(), 3)?;
-    let three = world.fetch_and(0, 1)?;
-    let one = world.fetch_xor(0, 3)?;
-    let two = world.load(0)?;
-    assert_eq!(rt; (three.tag, one.tag, two.tag), (3, 1, 2));
+fn an_exchange_of_a_root_looks_at_the_tag(rt: HostRuntime) -> Result<(), Fail> {
+    let wrong = first_wrong_in_new(rt.alloc(), ample(1), &exchange_rows())?;
+    assert!(rt; wrong.is_none());
     Ok(())
 }
 
+fn tag_rows() -> [Row; 9] {
+    let null = Ptr::null();
+    let one = Ptr { tag: 1, ..null };
+    let two = Ptr { tag: 2, ..null };
+    let three = Ptr { tag: 3, ..null };
+    [
+        (Act::Store(null.with_tag::<Plain>(3)), Answer::Done),
+        (Act::FetchAnd(1), Answer::Pointer(three)),
+        (Act::FetchXor(3), Answer::Pointer(one)),
+        (Act::LoadFrom(0), Answer::Pointer(two)),
+        (Act::Store(null.with_tag::<Plain>(1)), Answer::Done),
+        (Act::FetchOr(2), Answer::Pointer(one)),
+        (Act::LoadFrom(0), Answer::Pointer(three)),
+        // The tag is 5 modulo 4.
+        (Act::Store(three.with_tag::<Plain>(5)), Answer::Done),
+        (Act::LoadFrom(0), Answer::Pointer(one)),
+    ]
+}
+
 #[test]
-fn bits_of_a_tag_are_added(rt: HostRuntime) -> Result<(), Fail> {
-    let mut world = tagged_null(rt.alloc(), 1)?;
-    let one = world.fetch_or(0, 2)?;
-    let three = world.load(0)?;
-    let five = three.with_tag::<Plain>(5);
-    assert_eq!(rt; (one.tag, three.tag, five.tag), (1, 3, 1));
+fn bits_of_a_tag_are_changed(rt: HostRuntime) -> Result<(), Fail> {
+    let wrong = first_wrong_in_new(rt.alloc(), ample(1), &tag_rows())?;
+    assert!(rt; wrong.is_none());
     Ok(())
+}
+
+/// How many jobs the end calls; where it is refused, the fault, and whether participant 0 is still registered.
+fn end<J: Task>(world: World<Plain, J>) -> Result<u64, (Fault, bool)> {
+    match world.end() {
+        Ok(called) => Ok(called),
+        Err((fault, world)) => Err((fault, world.is_registered(0))),
+    }
 }
 
 #[test]
 fn the_end_waits_for_everybody(rt: HostRuntime) -> Result<(), Fail> {
     let mut world: Jobs = World::new(rt.alloc(), ample(1), 1)?;
-    world.register()?;
-    match world.end() {
-        Err((fault, world)) => assert_eq!(rt;
-            (fault, world.is_registered(0)),
-            (Fault::Registered(1), true)
-        ),
-        Ok(_) => assert!(rt; false),
+    let answer = register(&mut world);
+    let refused = end(world) == Err((Fault::Registered(1), true));
+    assert!(rt; answer == Answer::Number(0) && refused);
+    Ok(())
+}
+
+type BoxedJobs = World<Plain, Job>;
+
+/// A job that adds this number to the sum when it is called.
+pub(crate) fn adds(alloc: Global, sum: &Arc<AtomicU64>, number: u64) -> Result<Job, AllocError> {
+    let sum = Arc::try_clone(sum)?;
+    let call: Box<dyn FnOnce() + Send> = Box::new(alloc, move || {
+        sum.fetch_add(number, Ordering::SeqCst);
+    })?;
+    Ok(Job::new(call))
+}
+
+/// A participant does these calls, 20 steps each.
+fn steps(world: &mut BoxedJobs, ops: &[Op]) {
+    for op in ops {
+        step(world, 0, Event::Begin(*op));
+        for _ in 0..20 {
+            step(world, 0, Event::Go);
+        }
     }
+}
+
+fn defers_boxed(world: &mut BoxedJobs, job: Job) -> bool {
+    world.defer(0, job).is_ok()
+}
+
+/// Secures a place for the job, defers it, and goes four rounds. Whether nothing waits then.
+fn job_is_called(world: &mut BoxedJobs, job: Job) -> bool {
+    steps(world, &[Op::Pin, Op::Secure(1), Op::Unpin, Op::Pin]);
+    let deferred = defers_boxed(world, job);
+    for _ in 0..4 {
+        steps(world, &[Op::Flush, Op::Unpin, Op::Pin]);
+    }
+    deferred && world.waiting() == 0
+}
+
+/// Defers the job under a pin and leaves.
+fn job_is_left(world: &mut BoxedJobs, job: Job) -> bool {
+    whole_call(world, Op::Pin);
+    let deferred = defers_boxed(world, job);
+    whole_call(world, Op::Unpin);
+    deferred && world.release(0) == Outcome::Done
+}
+
+fn whole_call(world: &mut BoxedJobs, op: Op) {
+    world.call(0, op, 1000);
+}
+
+/// A collector with one participant.
+fn with_one(alloc: Global) -> Result<BoxedJobs, Fault> {
+    let mut world = World::new(alloc, ample(1), 1)?;
+    world.register()?;
+    Ok(world)
+}
+
+#[test]
+fn a_job_runs_its_box(rt: HostRuntime) -> Result<(), Fail> {
+    let sum = Arc::new(rt.alloc(), AtomicU64::new(0))?;
+    let job = adds(rt.alloc(), &sum, 1)?;
+    let called = job_is_called(&mut with_one(rt.alloc())?, job);
+    assert!(rt; called && sum.load(Ordering::SeqCst) == 1);
     Ok(())
 }
 
 #[test]
 fn the_end_calls_what_is_left(rt: HostRuntime) -> Result<(), Fail> {
-    let flag = Arc::new(rt.alloc(), AtomicU64::new(0))?;
-    let theirs = Arc::try_clone(&flag)?;
-    let run: Box<dyn FnOnce() + Send> = Box::new(rt.alloc(), move || {
-        theirs.store(1, Ordering::SeqCst);
-    })?;
-    let mut world: World<Plain, Job> = World::new(rt.alloc(), ample(1), 1)?;
-    world.register()?;
-    world.call(0, Op::Pin, 1000);
-    assert!(rt; world.defer(0, Job::new(run)).is_ok());
-    world.call(0, Op::Unpin, 1000);
-    assert_eq!(rt; world.release(0), Outcome::Done);
-    match world.end() {
-        Ok(called) => assert_eq!(rt; called, 1),
-        Err(_) => assert!(rt; false),
-    }
-    assert_eq!(rt; flag.load(Ordering::SeqCst), 1);
+    let sum = Arc::new(rt.alloc(), AtomicU64::new(0))?;
+    let job = adds(rt.alloc(), &sum, 1)?;
+    let mut world = with_one(rt.alloc())?;
+    let left = job_is_left(&mut world, job);
+    let called = end(world);
+    assert!(rt; left && called == Ok(1));
+    assert!(rt; sum.load(Ordering::SeqCst) == 1);
     Ok(())
 }

@@ -3,9 +3,10 @@
 ghost use Rattle.std.specs.Prelude.{◌≡◌, ◌-◌, true};
 ghost use Rattle.crossbeam_epoch.specs.FaceHandle.{owns};
 
+use super::collector::adds;
 use crossbeam_epoch::{
-    Atomic, Collector, Fault, Guard, Job, Limits, Link, LocalHandle, Owned, Pointable, Shared,
-    unprotected,
+    Atomic, Collector, Exchanged, Fault, Guard, Job, Limits, Link, LocalHandle, Owned, Pointable,
+    Shared, unprotected,
 };
 use std::alloc::Global;
 use std::ops::DerefMut;
@@ -36,6 +37,105 @@ pub(crate) fn limits(cells: u32) -> Limits {
         turn_max: u32::MAX,
         epoch_max: 1 << 62,
         expiry: 2,
+    }
+}
+
+/// What is tried with a new handle of a new collector.
+#[derive(Clone, Copy, Drop)]
+enum Case {
+    GuardsNest,
+    ARepinGoesOn,
+    ACompareExchangeLooksAtTheTag,
+    TagsOfAnAtomic,
+    AFullStoreHandsBack,
+    UnprotectedDestroysAtOnce,
+    ValuesAreLent,
+    AnAtomicIsWritten,
+    AtomicsOfNewValues,
+    APointerIsRefusedElsewhere,
+}
+
+/// How many cells the collector has, and what is tried.
+const CASES: [(u32, Case); 10] = [
+    (1, Case::GuardsNest),
+    (1, Case::ARepinGoesOn),
+    (1, Case::ACompareExchangeLooksAtTheTag),
+    (1, Case::TagsOfAnAtomic),
+    (1, Case::AFullStoreHandsBack),
+    (1, Case::UnprotectedDestroysAtOnce),
+    (2, Case::ValuesAreLent),
+    (3, Case::AnAtomicIsWritten),
+    (2, Case::AtomicsOfNewValues),
+    (3, Case::APointerIsRefusedElsewhere),
+];
+
+#[test]
+fn each_case_holds(rt: HostRuntime) -> Result<(), Fail> {
+    assert_eq!(rt; first_failing(&rt, rt.alloc())?, None);
+    Ok(())
+}
+
+/// The number of the first case that doesn't hold.
+fn first_failing<R: Wait>(rt: &R, alloc: Global) -> Result<Option<usize>, Fault> {
+    for (number, (cells, case)) in CASES.iter().enumerate() {
+        if !holds_in_new(rt, alloc, *cells, *case)? {
+            return Ok(Some(number));
+        }
+    }
+    Ok(None)
+}
+
+/// Tries a case with a new collector.
+fn holds_in_new<R: Wait>(rt: &R, alloc: Global, cells: u32, case: Case) -> Result<bool, Fault> {
+    let items: Collector<Item> = Collector::new(rt, alloc, limits(cells), 1)?;
+    holds(rt, alloc, &items, case)
+}
+
+/// Tries a case with a new handle.
+fn holds<R: Wait>(
+    rt: &R,
+    alloc: Global,
+    items: &Collector<Item>,
+    case: Case,
+) -> Result<bool, Fault> {
+    let mut handle = items.register(rt)?;
+    match case {
+        Case::GuardsNest => nests(rt, &mut handle),
+        Case::ARepinGoesOn => repins(rt, &mut handle),
+        _ => holds_under_guard(rt, alloc, &mut handle, case),
+    }
+}
+
+fn holds_under_guard<R: Wait>(
+    rt: &R,
+    alloc: Global,
+    handle: &mut LocalHandle<'_, Item>,
+    case: Case,
+) -> Result<bool, Fault> {
+    let guard = handle.pin(rt)?;
+    let outcome = tries(rt, alloc, handle.collector(), &guard, case);
+    spend(rt, handle, guard);
+    outcome
+}
+
+fn tries<R: Wait>(
+    rt: &R,
+    alloc: Global,
+    items: &Collector<Item>,
+    guard: &Guard<'_, Item>,
+    case: Case,
+) -> Result<bool, Fault> {
+    match case {
+        Case::GuardsNest => Ok(false),
+        Case::ARepinGoesOn => Ok(false),
+        Case::ACompareExchangeLooksAtTheTag => exchanges(rt, alloc, guard),
+        Case::TagsOfAnAtomic => Ok(masks(rt, guard)),
+        Case::AFullStoreHandsBack => fills(rt, alloc, guard),
+        Case::UnprotectedDestroysAtOnce => destroys(rt, alloc, items, guard),
+        Case::ValuesAreLent => lends(rt, alloc, guard),
+        Case::AnAtomicIsWritten => writes(rt, alloc, &Atomic::null(), guard),
+        Case::AtomicsOfNewValues => makes(rt, alloc, guard),
+        Case::APointerIsRefusedElsewhere => refuses_elsewhere(rt, alloc, guard),
     }
 }
 
@@ -95,76 +195,11 @@ pub(crate) fn placed<R: Wait>(
 /// The number that stands there, which is taken out.
 fn taken<R: Wait>(rt: &R, link: Link, guard: &Guard<'_, Item>) -> Option<u64> {
     let pointer: Shared<'_, Item> = Shared::of(link);
-    match pointer.into_owned(rt, guard) {
-        Some(owned) => Some(owned.into_box().0),
-        None => None,
-    }
+    number_of(pointer.into_owned(rt, guard))
 }
 
-/// What an exchange writes, or the pointer that it finds; `None` where it is refused or loses `to`.
-fn exchange<R: Wait>(
-    rt: &R,
-    root: &Atomic<Item>,
-    from: Link,
-    to: Link,
-    guard: &Guard<'_, Item>,
-) -> Option<Result<Link, Link>> {
-    match root.compare_exchange(rt, Shared::of(from), to, SeqCst, SeqCst, guard) {
-        Ok(Ok(written)) => Some(Ok(written.link())),
-        Ok(Err(error)) => {
-            if error.new == to {
-                Some(Err(error.current.link()))
-            } else {
-                None
-            }
-        }
-        Err(_refused) => None,
-    }
-}
-
-/// Whether the other three forms of an exchange from one pointer to another, back, and there again succeed.
-fn exchanges_thrice<R: Wait>(
-    rt: &R,
-    root: &Atomic<Item>,
-    from: Link,
-    to: Link,
-    guard: &Guard<'_, Item>,
-) -> bool {
-    let weak = match root.compare_exchange_weak(rt, Shared::of(from), to, SeqCst, SeqCst, guard) {
-        Ok(Ok(_written)) => true,
-        Ok(Err(_error)) => false,
-        Err(_refused) => false,
-    };
-    weak && sets(rt, root, to, from, guard) && sets_weakly(rt, root, from, to, guard)
-}
-
-fn sets<R: Wait>(
-    rt: &R,
-    root: &Atomic<Item>,
-    from: Link,
-    to: Link,
-    guard: &Guard<'_, Item>,
-) -> bool {
-    match root.compare_and_set(rt, Shared::of(from), to, SeqCst, guard) {
-        Ok(Ok(_written)) => true,
-        Ok(Err(_error)) => false,
-        Err(_refused) => false,
-    }
-}
-
-fn sets_weakly<R: Wait>(
-    rt: &R,
-    root: &Atomic<Item>,
-    from: Link,
-    to: Link,
-    guard: &Guard<'_, Item>,
-) -> bool {
-    let pair = (SeqCst, Ordering::Relaxed);
-    match root.compare_and_set_weak(rt, Shared::of(from), to, pair, guard) {
-        Ok(Ok(_written)) => true,
-        Ok(Err(_error)) => false,
-        Err(_refused) => false,
-    }
+fn number_of(owned: Option<Owned<Item>>) -> Option<u64> {
+    Some(owned?.into_box().0)
 }
 
 /// Puts off the destruction of what stands there.
@@ -199,38 +234,66 @@ pub(crate) fn defer<R: Wait>(
     }
 }
 
-#[test]
-fn nested_guards(rt: HostRuntime) -> Result<(), Fail> {
-    let items: Collector<Item> = Collector::new(&rt, rt.alloc(), limits(1), 1)?;
-    let mut handle = items.register(&rt)?;
-    let first = handle.pin(&rt)?;
-    let second = match handle.pin(&rt) {
+/// Whether guards of one handle nest, and the last one that goes takes the pin away.
+fn nests<R: Wait>(rt: &R, handle: &mut LocalHandle<'_, Item>) -> Result<bool, Fault> {
+    let first = handle.pin(rt)?;
+    let second = match handle.pin(rt) {
         Ok(second) => second,
         Err(fault) => {
-            spend(&rt, &mut handle, first);
-            return Err(fault.into());
+            spend(rt, handle, first);
+            return Err(fault);
         }
     };
     let same = first.pinned_at() == second.pinned_at();
-    let both = handle.is_pinned(&rt);
-    spend(&rt, &mut handle, first);
-    let one = handle.is_pinned(&rt);
-    spend(&rt, &mut handle, second);
-    assert!(rt; same && both && one);
-    assert!(rt; !handle.is_pinned(&rt));
-    Ok(())
+    let both = handle.is_pinned(rt);
+    spend(rt, handle, first);
+    let one = handle.is_pinned(rt);
+    spend(rt, handle, second);
+    Ok(same && both && one && !handle.is_pinned(rt))
 }
 
-#[test]
-fn compare_exchange_looks_at_the_tag(rt: HostRuntime) -> Result<(), Fail> {
-    let alloc = rt.alloc();
-    let items: Collector<Item> = Collector::new(&rt, alloc, limits(1), 1)?;
-    let mut handle = items.register(&rt)?;
-    let guard = handle.pin(&rt)?;
-    let outcome = exchanges(&rt, alloc, &guard);
-    spend(&rt, &mut handle, guard);
-    assert!(rt; outcome?);
-    Ok(())
+/// Whether a guard stays at its epoch while the epoch goes on, until a repin.
+fn repins<R: Wait>(rt: &R, handle: &mut LocalHandle<'_, Item>) -> Result<bool, Fault> {
+    let mut guard = handle.pin(rt)?;
+    let start = guard.pinned_at();
+    handle.collect(rt);
+    handle.collect(rt);
+    let stuck = guard.pinned_at();
+    let repinned = handle.repin(rt, &mut guard);
+    let next = guard.pinned_at();
+    let answer = handle.repin_after(rt, &mut guard, || 7u8);
+    spend(rt, handle, guard);
+    let epochs = (start, stuck, next) == (0, 0, 1);
+    Ok(epochs && repinned == Ok(()) && answer == Ok(7))
+}
+
+/// What an exchange writes, or the pointer that it finds; `None` where it is refused or loses `to`.
+fn exchange<R: Wait>(
+    rt: &R,
+    root: &Atomic<Item>,
+    from: Link,
+    to: Link,
+    guard: &Guard<'_, Item>,
+) -> Option<Result<Link, Link>> {
+    match root.compare_exchange(rt, Shared::of(from), to, SeqCst, SeqCst, guard) {
+        Ok(Ok(written)) => Some(Ok(written.link())),
+        Ok(Err(error)) => {
+            if error.new == to {
+                Some(Err(error.current.link()))
+            } else {
+                None
+            }
+        }
+        Err(_refused) => None,
+    }
+}
+
+/// Whether an exchange wrote.
+fn is_written(written: Result<Exchanged<'_, Item, Link>, (Fault, Link)>) -> bool {
+    match written {
+        Ok(exchanged) => exchanged.is_ok(),
+        Err(_refused) => false,
+    }
 }
 
 /// Whether an exchange from another tag fails and hands everything back, and one from the pointer succeeds.
@@ -239,28 +302,44 @@ fn exchanges<R: Wait>(rt: &R, alloc: Global, guard: &Guard<'_, Item>) -> Result<
     let stands = placed(rt, alloc, 7, guard)?;
     let held = Link { tag: 1, ..stands };
     let root: Atomic<Item> = Atomic::from_shared(Shared::of(held));
-    let failed = match exchange(rt, &root, stands, null, guard) {
-        Some(Err(found)) => found == held,
-        Some(Ok(_written)) => false,
-        None => false,
-    };
-    let done = match exchange(rt, &root, held, null, guard) {
-        Some(Ok(written)) => written == null,
-        Some(Err(_found)) => false,
-        None => false,
-    };
-    Ok(failed && done && exchanges_thrice(rt, &root, null, held, guard))
+    let failed = exchange(rt, &root, stands, null, guard) == Some(Err(held));
+    let done = exchange(rt, &root, held, null, guard) == Some(Ok(null));
+    let weak = exchanges_weakly(rt, &root, null, held, guard);
+    let back = sets(rt, &root, held, null, guard);
+    let again = sets_weakly(rt, &root, null, held, guard);
+    Ok(failed && done && weak && back && again)
 }
 
-#[test]
-fn tags_of_an_atomic(rt: HostRuntime) -> Result<(), Fail> {
-    let items: Collector<Item> = Collector::new(&rt, rt.alloc(), limits(1), 1)?;
-    let mut handle = items.register(&rt)?;
-    let guard = handle.pin(&rt)?;
-    let good = masks(&rt, &guard);
-    spend(&rt, &mut handle, guard);
-    assert!(rt; good);
-    Ok(())
+/// Whether a weak exchange writes.
+fn exchanges_weakly<R: Wait>(
+    rt: &R,
+    root: &Atomic<Item>,
+    from: Link,
+    to: Link,
+    guard: &Guard<'_, Item>,
+) -> bool {
+    is_written(root.compare_exchange_weak(rt, Shared::of(from), to, SeqCst, SeqCst, guard))
+}
+
+fn sets<R: Wait>(
+    rt: &R,
+    root: &Atomic<Item>,
+    from: Link,
+    to: Link,
+    guard: &Guard<'_, Item>,
+) -> bool {
+    is_written(root.compare_and_set(rt, Shared::of(from), to, SeqCst, guard))
+}
+
+fn sets_weakly<R: Wait>(
+    rt: &R,
+    root: &Atomic<Item>,
+    from: Link,
+    to: Link,
+    guard: &Guard<'_, Item>,
+) -> bool {
+    let pair = (SeqCst, Ordering::Relaxed);
+    is_written(root.compare_and_set_weak(rt, Shared::of(from), to, pair, guard))
 }
 
 /// Whether the tag calls give the tag before, and leave what they should.
@@ -276,44 +355,38 @@ fn masks<R: Wait>(rt: &R, guard: &Guard<'_, Item>) -> bool {
     before == 1 && after == 3 && five == 1 && kept == 3 && flipped == 1 && last == 2
 }
 
-#[test]
-fn tagged_nulls_are_null(rt: HostRuntime) {
-    let null: Shared<'_, Item> = Shared::null();
-    let one: Shared<'_, Item> = null.with_tag(1);
-    assert!(rt; null.is_null() && one.is_null());
-    assert!(rt; null != one && null < one && one == one.with_tag(5));
-}
-
-#[test]
-fn a_full_store_hands_back(rt: HostRuntime) -> Result<(), Fail> {
-    let alloc = rt.alloc();
-    let items: Collector<Item> = Collector::new(&rt, alloc, limits(1), 1)?;
-    let mut handle = items.register(&rt)?;
-    let guard = handle.pin(&rt)?;
-    let outcome = fills(&rt, alloc, &guard);
-    spend(&rt, &mut handle, guard);
-    assert!(rt; outcome?);
-    Ok(())
-}
-
-/// Whether the second value is handed back, and finds room once the first is taken out.
+/// Whether the second value is handed back by a full store, and finds room once the first is taken out.
 fn fills<R: Wait>(rt: &R, alloc: Global, guard: &Guard<'_, Item>) -> Result<bool, Fault> {
-    let first = boxed(alloc, 1)?.with_tag(6);
-    let second = boxed(alloc, 2)?;
-    let root = match Atomic::place(rt, guard, first) {
-        Ok(root) => root,
-        Err((fault, _owned)) => return Err(fault),
-    };
-    let Some(second) = refused_value(rt, second, guard) else {
-        return Ok(false);
-    };
-    let kept = second.borrow().0 == 2;
-    let tag = match root.into_owned(rt, guard) {
-        Some(owned) => owned.tag(),
-        None => 0,
-    };
-    let room = refused_value(rt, second, guard).is_none();
-    Ok(kept && tag == 2 && room)
+    let first = placed_with_six(rt, alloc, guard)?;
+    let second = refused_value(rt, boxed(alloc, 2)?, guard);
+    let tag = tag_taken(rt, first, guard);
+    Ok(tag == Some(2) && finds_room(rt, second, guard))
+}
+
+/// A value that is placed with the tag 6 modulo 4.
+fn placed_with_six<R: Wait>(
+    rt: &R,
+    alloc: Global,
+    guard: &Guard<'_, Item>,
+) -> Result<Atomic<Item>, Fault> {
+    let owned = boxed(alloc, 1)?.with_tag(6);
+    match Atomic::place(rt, guard, owned) {
+        Ok(root) => Ok(root),
+        Err((fault, _owned)) => Err(fault),
+    }
+}
+
+/// The tag of the value that the pointer leads to, which is taken out.
+fn tag_taken<R: Wait>(rt: &R, root: Atomic<Item>, guard: &Guard<'_, Item>) -> Option<usize> {
+    Some(root.into_owned(rt, guard)?.tag())
+}
+
+/// Whether this is the second value, and finds room.
+fn finds_room<R: Wait>(rt: &R, second: Option<Owned<Item>>, guard: &Guard<'_, Item>) -> bool {
+    match second {
+        Some(owned) => owned.borrow().0 == 2 && refused_value(rt, owned, guard).is_none(),
+        None => false,
+    }
 }
 
 /// A value that a full store hands back.
@@ -326,61 +399,6 @@ fn refused_value<R: Wait>(
         Ok(_root) => None,
         Err((_fault, owned)) => Some(owned),
     }
-}
-
-#[test]
-fn a_pinned_handle_blocks(rt: HostRuntime) -> Result<(), Fail> {
-    let alloc = rt.alloc();
-    let items: Collector<Item> = Collector::new(&rt, alloc, limits(1), 1)?;
-    let flag = Arc::new(alloc, AtomicU64::new(0))?;
-    let theirs = Arc::try_clone(&flag)?;
-    let call: Box<dyn FnOnce() + Send> = Box::new(alloc, move || {
-        theirs.fetch_add(1, SeqCst);
-    })?;
-    let mut zero = items.register(&rt)?;
-    let mut one = items.register(&rt)?;
-    let blocking = one.pin(&rt)?;
-    let outcome = defers(&rt, &mut zero, Job::new(call));
-    let before = flag.load(SeqCst);
-    spend(&rt, &mut one, blocking);
-    outcome?;
-    rounds(&rt, &mut zero, 3)?;
-    assert!(rt; before == 0 && flag.load(SeqCst) == 1);
-    Ok(())
-}
-
-/// Pins, defers the job, flushes, unpins, and goes ten rounds.
-fn defers<R: Wait>(rt: &R, handle: &mut LocalHandle<'_, Item>, job: Job) -> Result<(), Fault> {
-    let guard = handle.pin(rt)?;
-    let deferred = defer(rt, handle, &guard, job);
-    let flushed = handle.flush(rt, &guard);
-    spend(rt, handle, guard);
-    deferred?;
-    flushed?;
-    rounds(rt, handle, 10)
-}
-
-#[test]
-fn unprotected_calls_at_once(rt: HostRuntime) -> Result<(), Fail> {
-    let alloc = rt.alloc();
-    let items: Collector<Item> = Collector::new(&rt, alloc, limits(1), 1)?;
-    let flag = Arc::new(alloc, AtomicU64::new(0))?;
-    let theirs = Arc::try_clone(&flag)?;
-    let call: Box<dyn FnOnce() + Send> = Box::new(alloc, move || {
-        theirs.fetch_add(1, SeqCst);
-    })?;
-    let mut free = unprotected();
-    free.defer(&rt, Job::new(call));
-    free.flush(&rt);
-    free.repin(&rt);
-    let none: Option<&Collector<Item>> = free.collector();
-    assert!(rt; flag.load(SeqCst) == 1 && none.is_none());
-    let mut handle = items.register(&rt)?;
-    let guard = handle.pin(&rt)?;
-    let outcome = destroys(&rt, alloc, &items, &guard);
-    spend(&rt, &mut handle, guard);
-    assert!(rt; outcome?);
-    Ok(())
 }
 
 /// Whether a value is destroyed at once, and null is refused.
@@ -403,35 +421,6 @@ fn destroys_at_once<R: Wait>(rt: &R, items: &Collector<Item>, link: Link) -> Opt
         Ok(()) => None,
         Err((fault, _back)) => Some(fault),
     }
-}
-
-#[test]
-fn owned_values(rt: HostRuntime) -> Result<(), Fail> {
-    let alloc = rt.alloc();
-    let mut owned = match Owned::init(alloc, Item(4)) {
-        Ok(owned) => owned.with_tag(7),
-        Err((fault, _item)) => return Err(fault.into()),
-    };
-    owned.deref_mut().0 = 5;
-    owned.as_mut().0 = 6;
-    owned.borrow_mut().0 = 7;
-    assert!(rt; owned.tag() == 3 && owned.0 == 7);
-    assert!(rt; *owned.as_ref() == Item(7) && *owned.borrow() == Item(7));
-    let copy = Owned::from(Box::new(alloc, Item(9))?);
-    assert!(rt; copy.tag() == 0 && copy.into_box().0 == 9);
-    Ok(())
-}
-
-#[test]
-fn values_are_lent(rt: HostRuntime) -> Result<(), Fail> {
-    let alloc = rt.alloc();
-    let items: Collector<Item> = Collector::new(&rt, alloc, limits(2), 1)?;
-    let mut handle = items.register(&rt)?;
-    let guard = handle.pin(&rt)?;
-    let outcome = lends(&rt, alloc, &guard);
-    spend(&rt, &mut handle, guard);
-    assert!(rt; outcome?);
-    Ok(())
 }
 
 /// Whether a value is lent to one at a time, and what is written comes back.
@@ -470,42 +459,30 @@ fn number_there<R: Wait>(rt: &R, link: Link, guard: &Guard<'_, Item>) -> Option<
     }
 }
 
-#[test]
-fn writes_of_an_atomic(rt: HostRuntime) -> Result<(), Fail> {
-    let alloc = rt.alloc();
-    let items: Collector<Item> = Collector::new(&rt, alloc, limits(3), 1)?;
-    let other: Collector<Item> = Collector::new(&rt, alloc, limits(2), 2)?;
-    let mut handle = items.register(&rt)?;
-    let mut stranger = other.register(&rt)?;
-    let guard = handle.pin(&rt)?;
-    let outcome = writes(&rt, alloc, &guard);
-    let link = placed(&rt, alloc, 5, &guard);
-    spend(&rt, &mut handle, guard);
-    let theirs = stranger.pin(&rt)?;
-    let foreign = match link {
-        Ok(link) => is_foreign(&rt, link, &theirs),
-        Err(_fault) => false,
-    };
-    spend(&rt, &mut stranger, theirs);
-    assert!(rt; outcome? && foreign);
-    Ok(())
-}
-
 /// Whether a store, a swap and an update write, and give what was there.
-fn writes<R: Wait>(rt: &R, alloc: Global, guard: &Guard<'_, Item>) -> Result<bool, Fault> {
-    let root: Atomic<Item> = Atomic::null();
-    let owned = boxed(alloc, 1)?;
-    let stored = match root.store(rt, owned, SeqCst, guard) {
-        Ok(()) => true,
-        Err(_refused) => false,
-    };
-    let one = swapped(rt, &root, Link::null(), guard)?;
+fn writes<R: Wait>(
+    rt: &R,
+    alloc: Global,
+    root: &Atomic<Item>,
+    guard: &Guard<'_, Item>,
+) -> Result<bool, Fault> {
+    let stored = stores(rt, root, boxed(alloc, 1)?, guard);
+    let one = swapped(rt, root, Link::null(), guard)?;
     let link = placed(rt, alloc, 2, guard)?;
-    let null = swapped(rt, &root, link, guard)?;
-    let updated = updates(rt, &root, guard);
-    let two = swapped(rt, &root, Link::null(), guard)?;
+    let null = swapped(rt, root, link, guard)?;
+    let updated = updates(rt, root, guard);
+    let two = swapped(rt, root, Link::null(), guard)?;
     let numbers = taken(rt, one, guard) == Some(1) && taken(rt, two, guard) == Some(2);
     Ok(stored && null == Link::null() && updated && two.tag == 2 && numbers)
+}
+
+fn stores<R: Wait>(
+    rt: &R,
+    root: &Atomic<Item>,
+    owned: Owned<Item>,
+    guard: &Guard<'_, Item>,
+) -> bool {
+    root.store(rt, owned, SeqCst, guard).is_ok()
 }
 
 /// The pointer before a swap.
@@ -535,6 +512,26 @@ fn updates<R: Wait>(rt: &R, root: &Atomic<Item>, guard: &Guard<'_, Item>) -> boo
     }
 }
 
+/// Whether a pointer of this collector is refused by another one.
+fn refuses_elsewhere<R: Wait>(
+    rt: &R,
+    alloc: Global,
+    guard: &Guard<'_, Item>,
+) -> Result<bool, Fault> {
+    let link = placed(rt, alloc, 5, guard)?;
+    let other: Collector<Item> = Collector::new(rt, alloc, limits(2), 2)?;
+    refuses(rt, &other, link)
+}
+
+/// Whether a pointer is refused by another collector.
+fn refuses<R: Wait>(rt: &R, other: &Collector<Item>, link: Link) -> Result<bool, Fault> {
+    let mut handle = other.register(rt)?;
+    let theirs = handle.pin(rt)?;
+    let refused = is_foreign(rt, link, &theirs);
+    spend(rt, &mut handle, theirs);
+    Ok(refused)
+}
+
 /// Whether a pointer of one collector is refused under a guard of another.
 fn is_foreign<R: Wait>(rt: &R, link: Link, theirs: &Guard<'_, Item>) -> bool {
     let root: Atomic<Item> = Atomic::null();
@@ -546,9 +543,37 @@ fn is_foreign<R: Wait>(rt: &R, link: Link, theirs: &Guard<'_, Item>) -> bool {
     refused && exchanged && number_there(rt, link, theirs).is_none()
 }
 
+/// Whether two values that are boxed and placed are read and taken out again.
+fn makes<R: Wait>(rt: &R, alloc: Global, guard: &Guard<'_, Item>) -> Result<bool, Fault> {
+    let one = made(Atomic::new(rt, alloc, Item(1), guard))?;
+    let two = made(Atomic::init(rt, alloc, Item(2), guard))?;
+    let read = number_read(rt, one.load(rt, SeqCst, guard), guard);
+    let first = number_of(one.try_into_owned(rt, guard));
+    let second = number_of(two.into_owned(rt, guard));
+    Ok(read == Some(1) && first == Some(1) && second == Some(2))
+}
+
+fn made(atomic: Result<Atomic<Item>, (Fault, Item)>) -> Result<Atomic<Item>, Fault> {
+    match atomic {
+        Ok(atomic) => Ok(atomic),
+        Err((fault, _item)) => Err(fault),
+    }
+}
+
+/// The number that the pointer leads to, where it isn't lent.
+fn number_read<'g, R: Wait>(
+    rt: &R,
+    pointer: Shared<'g, Item>,
+    guard: &'g Guard<'_, Item>,
+) -> Option<u64> {
+    let lent = pointer.deref(rt, guard)?;
+    let number = lent.get().0;
+    lent.back(rt);
+    Some(number)
+}
+
 #[test]
 fn handles_refuse(rt: HostRuntime) -> Result<(), Fail> {
-    let alloc = rt.alloc();
     let two_places = Limits {
         participants: 2,
         ..limits(1)
@@ -557,100 +582,198 @@ fn handles_refuse(rt: HostRuntime) -> Result<(), Fail> {
         expiry: 1,
         ..two_places
     };
-    let items: Collector<Item> = Collector::new(&rt, alloc, two_places, 1)?;
-    let refused: Result<Collector<Item>, Fault> = Collector::new(&rt, alloc, outside, 1);
-    let limits = match refused {
-        Ok(_collector) => false,
-        Err(fault) => fault == Fault::Limits,
-    };
-    let mut zero = items.register(&rt)?;
-    let mut one = items.register(&rt)?;
-    let full = match items.register(&rt) {
-        Ok(_handle) => false,
-        Err(fault) => fault == Fault::TableFull,
-    };
-    assert!(rt; limits && full);
-    let guard = zero.pin(&rt)?;
-    let flushed = one.flush(&rt, &guard) == Err(Fault::Foreign);
-    let destroyed = destroy(&rt, &mut zero, &guard, Link::null()) == Err(Fault::Unknown);
-    spend(&rt, &mut zero, guard);
-    assert!(rt; flushed && destroyed && zero.collector().same(&items));
-    assert!(rt; !one.is_pinned(&rt));
+    assert_eq!(rt;
+        refused_limits(&rt, rt.alloc(), outside),
+        Some(Fault::Limits)
+    );
+    let items: Collector<Item> = Collector::new(&rt, rt.alloc(), two_places, 1)?;
+    assert!(rt; two_handles_refuse(&rt, &items)?);
     Ok(())
+}
+
+fn refused_limits<R: Wait>(rt: &R, alloc: Global, limits: Limits) -> Option<Fault> {
+    let refused: Result<Collector<Item>, Fault> = Collector::new(rt, alloc, limits, 1);
+    refused.err()
+}
+
+/// Whether two handles fill the table of this collector, and refuse each other's guards and null.
+fn two_handles_refuse<R: Wait>(rt: &R, items: &Collector<Item>) -> Result<bool, Fault> {
+    let (mut zero, mut one) = two_handles(rt, items)?;
+    let full = refused_registration(rt, items) == Some(Fault::TableFull);
+    let refused = refuse(rt, &mut zero, &mut one)?;
+    Ok(full && refused && zero.collector().same(items) && !one.is_pinned(rt))
+}
+
+fn refused_registration<R: Wait>(rt: &R, items: &Collector<Item>) -> Option<Fault> {
+    items.register(rt).err()
+}
+
+/// Whether a handle refuses to flush under another's guard, and to destroy null.
+fn refuse<R: Wait>(
+    rt: &R,
+    zero: &mut LocalHandle<'_, Item>,
+    one: &mut LocalHandle<'_, Item>,
+) -> Result<bool, Fault> {
+    let guard = zero.pin(rt)?;
+    let flushed = one.flush(rt, &guard);
+    let destroyed = destroy(rt, zero, &guard, Link::null());
+    spend(rt, zero, guard);
+    Ok(flushed == Err(Fault::Foreign) && destroyed == Err(Fault::Unknown))
 }
 
 #[test]
 fn a_collector_ends(rt: HostRuntime) -> Result<(), Fail> {
-    let alloc = rt.alloc();
-    let items: Collector<Item> = Collector::new(&rt, alloc, limits(1), 1)?;
-    let flag = Arc::new(alloc, AtomicU64::new(0))?;
-    let theirs = Arc::try_clone(&flag)?;
-    let call: Box<dyn FnOnce() + Send> = Box::new(alloc, move || {
-        theirs.fetch_add(1, SeqCst);
-    })?;
-    let mut zero = items.register(&rt)?;
-    let guard = zero.pin(&rt)?;
-    let deferred = match zero.defer_unchecked(&rt, &guard, Job::new(call)) {
-        Ok(()) => true,
-        Err(_refused) => false,
-    };
-    spend(&rt, &mut zero, guard);
-    let released = match zero.release(&rt) {
-        Ok(()) => true,
-        Err(_refused) => false,
-    };
-    assert!(rt; deferred && released && flag.load(SeqCst) == 0);
-    let ended = match items.end() {
-        Ok(()) => true,
-        Err(_refused) => false,
-    };
-    assert!(rt; ended && flag.load(SeqCst) == 1);
+    let sum = Arc::new(rt.alloc(), AtomicU64::new(0))?;
+    let job = adds(rt.alloc(), &sum, 1)?;
+    let items: Collector<Item> = Collector::new(&rt, rt.alloc(), limits(1), 1)?;
+    let left = leaves_job(&rt, &items, job)? && sum.load(SeqCst) == 0;
+    let ended = items.end().is_ok();
+    assert!(rt; left && ended && sum.load(SeqCst) == 1);
     Ok(())
+}
+
+/// Defers a job in a new handle, which is released.
+fn leaves_job<R: Wait>(rt: &R, items: &Collector<Item>, job: Job) -> Result<bool, Fault> {
+    let mut handle = items.register(rt)?;
+    let guard = handle.pin(rt)?;
+    let deferred = defers_unchecked(rt, &mut handle, &guard, job);
+    spend(rt, &mut handle, guard);
+    Ok(deferred && handle.release(rt).is_ok())
+}
+
+fn defers_unchecked<R: Wait>(
+    rt: &R,
+    handle: &mut LocalHandle<'_, Item>,
+    guard: &Guard<'_, Item>,
+    job: Job,
+) -> bool
+    ensures seat { handle.new.seat ≡ handle.old.seat }
+    ensures guards { handle.new.guards ≡ handle.old.guards }
+{
+    handle.defer_unchecked(rt, guard, job).is_ok()
 }
 
 #[test]
 fn a_handle_keeps_its_collector(rt: HostRuntime) -> Result<(), Fail> {
     let items: Collector<Item> = Collector::new(&rt, rt.alloc(), limits(1), 2)?;
-    let handle = items.register(&rt)?;
-    drop(handle);
-    let refused = match items.end() {
-        Ok(()) => false,
-        Err((fault, back)) => fault == Fault::Registered(1) && back.id() == 2,
-    };
-    assert!(rt; refused);
+    drop(items.register(&rt)?);
+    assert_eq!(rt; refused_end(items), Some((Fault::Registered(1), 2)));
     Ok(())
 }
 
-#[test]
-fn a_repin_goes_on(rt: HostRuntime) -> Result<(), Fail> {
-    let items: Collector<Item> = Collector::new(&rt, rt.alloc(), limits(1), 1)?;
-    let mut zero = items.register(&rt)?;
-    let mut guard = zero.pin(&rt)?;
-    let start = guard.pinned_at();
-    zero.collect(&rt);
-    zero.collect(&rt);
-    let stuck = guard.pinned_at();
-    let repinned = zero.repin(&rt, &mut guard);
-    let next = guard.pinned_at();
-    let answer = zero.repin_after(&rt, &mut guard, || 7u8);
-    spend(&rt, &mut zero, guard);
-    assert!(rt; start == 0 && stuck == 0 && next == 1);
-    assert!(rt; repinned == Ok(()) && answer == Ok(7));
-    Ok(())
+/// Why a collector didn't end, and its number.
+fn refused_end(items: Collector<Item>) -> Option<(Fault, u64)> {
+    match items.end() {
+        Ok(()) => None,
+        Err((fault, back)) => Some((fault, back.id())),
+    }
 }
 
 #[test]
 fn a_pinned_handle_stays(rt: HostRuntime) -> Result<(), Fail> {
     let items: Collector<Item> = Collector::new(&rt, rt.alloc(), limits(1), 1)?;
-    let mut handle = items.register(&rt)?;
-    let guard = handle.pin(&rt)?;
-    match handle.release(&rt) {
+    assert!(rt; stays(&rt, items.register(&rt)?)?);
+    Ok(())
+}
+
+/// Whether a handle is released only when its guard is spent.
+fn stays<R: Wait>(rt: &R, mut handle: LocalHandle<'_, Item>) -> Result<bool, Fault> {
+    let guard = handle.pin(rt)?;
+    match handle.release(rt) {
         Ok(()) => unreachable!(),
         Err((fault, mut back)) => {
-            spend(&rt, &mut back, guard);
-            assert!(rt; fault == Fault::GuardOut && back.release(&rt).is_ok());
+            spend(rt, &mut back, guard);
+            Ok(fault == Fault::GuardOut && back.release(rt).is_ok())
         }
     }
+}
+
+#[test]
+fn a_pinned_handle_blocks(rt: HostRuntime) -> Result<(), Fail> {
+    let sum = Arc::new(rt.alloc(), AtomicU64::new(0))?;
+    let job = adds(rt.alloc(), &sum, 1)?;
+    let items: Collector<Item> = Collector::new(&rt, rt.alloc(), limits(1), 1)?;
+    let before = goes_while_blocked(&rt, &items, job, &sum)?;
+    assert_eq!(rt; (before, sum.load(SeqCst)), (0, 1));
+    Ok(())
+}
+
+/// The sum before the other handle is unpinned.
+fn goes_while_blocked<R: Wait>(
+    rt: &R,
+    items: &Collector<Item>,
+    job: Job,
+    sum: &AtomicU64,
+) -> Result<u64, Fault> {
+    let (mut zero, mut one) = two_handles(rt, items)?;
+    let before = goes(rt, &mut zero, &mut one, job, sum)?;
+    rounds(rt, &mut zero, 3)?;
+    Ok(before)
+}
+
+fn two_handles<'c, R: Wait>(
+    rt: &R,
+    items: &'c Collector<Item>,
+) -> Result<(LocalHandle<'c, Item>, LocalHandle<'c, Item>), Fault> {
+    let zero = items.register(rt)?;
+    let one = items.register(rt)?;
+    Ok((zero, one))
+}
+
+/// A handle defers a job and goes rounds while another one is pinned. The sum before the other one is unpinned.
+fn goes<R: Wait>(
+    rt: &R,
+    zero: &mut LocalHandle<'_, Item>,
+    one: &mut LocalHandle<'_, Item>,
+    job: Job,
+    sum: &AtomicU64,
+) -> Result<u64, Fault> {
+    let blocking = one.pin(rt)?;
+    let outcome = defers(rt, zero, job);
+    let before = sum.load(SeqCst);
+    spend(rt, one, blocking);
+    outcome?;
+    Ok(before)
+}
+
+/// Pins, defers the job, flushes, unpins, and goes ten rounds.
+fn defers<R: Wait>(rt: &R, handle: &mut LocalHandle<'_, Item>, job: Job) -> Result<(), Fault> {
+    let guard = handle.pin(rt)?;
+    let deferred = defer(rt, handle, &guard, job);
+    let flushed = handle.flush(rt, &guard);
+    spend(rt, handle, guard);
+    deferred?;
+    flushed?;
+    rounds(rt, handle, 10)
+}
+
+#[test]
+fn unprotected_calls_at_once(rt: HostRuntime) -> Result<(), Fail> {
+    let sum = Arc::new(rt.alloc(), AtomicU64::new(0))?;
+    let job = adds(rt.alloc(), &sum, 1)?;
+    let mut free = unprotected();
+    free.defer(&rt, job);
+    free.flush(&rt);
+    free.repin(&rt);
+    let none: Option<&Collector<Item>> = free.collector();
+    assert!(rt; sum.load(SeqCst) == 1 && none.is_none());
+    Ok(())
+}
+
+#[test]
+fn owned_values(rt: HostRuntime) -> Result<(), Fail> {
+    let alloc = rt.alloc();
+    let mut owned = match Owned::init(alloc, Item(4)) {
+        Ok(owned) => owned.with_tag(7),
+        Err((fault, _item)) => return Err(fault.into()),
+    };
+    owned.deref_mut().0 = 5;
+    owned.as_mut().0 = 6;
+    owned.borrow_mut().0 = 7;
+    assert!(rt; owned.tag() == 3 && owned.0 == 7);
+    assert!(rt; *owned.as_ref() == Item(7) && *owned.borrow() == Item(7));
+    let copy = Owned::from(Box::new(alloc, Item(9))?);
+    assert!(rt; copy.tag() == 0 && copy.into_box().0 == 9);
     Ok(())
 }
 
@@ -664,47 +787,9 @@ fn a_copy_has_the_value_and_the_tag(rt: HostRuntime) -> Result<(), Fail> {
 }
 
 #[test]
-fn atomics_of_new_values(rt: HostRuntime) -> Result<(), Fail> {
-    let alloc = rt.alloc();
-    let items: Collector<Item> = Collector::new(&rt, alloc, limits(2), 1)?;
-    let mut handle = items.register(&rt)?;
-    let guard = handle.pin(&rt)?;
-    let outcome = makes(&rt, alloc, &guard);
-    spend(&rt, &mut handle, guard);
-    assert!(rt; outcome?);
-    Ok(())
-}
-
-/// Whether two values that are boxed and placed are read and taken out again.
-fn makes<R: Wait>(rt: &R, alloc: Global, guard: &Guard<'_, Item>) -> Result<bool, Fault> {
-    let one = match Atomic::new(rt, alloc, Item(1), guard) {
-        Ok(one) => one,
-        Err((fault, _item)) => return Err(fault),
-    };
-    let two = match Atomic::init(rt, alloc, Item(2), guard) {
-        Ok(two) => two,
-        Err((fault, _item)) => return Err(fault),
-    };
-    let read = number_read(rt, one.load(rt, SeqCst, guard), guard) == Some(1);
-    let first = match one.try_into_owned(rt, guard) {
-        Some(owned) => owned.into_box().0 == 1,
-        None => false,
-    };
-    let second = match two.into_owned(rt, guard) {
-        Some(owned) => owned.into_box().0 == 2,
-        None => false,
-    };
-    Ok(read && first && second)
-}
-
-/// The number that the pointer leads to, where it isn't lent.
-fn number_read<'g, R: Wait>(
-    rt: &R,
-    pointer: Shared<'g, Item>,
-    guard: &'g Guard<'_, Item>,
-) -> Option<u64> {
-    let lent = pointer.deref(rt, guard)?;
-    let number = lent.get().0;
-    lent.back(rt);
-    Some(number)
+fn tagged_nulls_are_null(rt: HostRuntime) {
+    let null: Shared<'_, Item> = Shared::null();
+    let one: Shared<'_, Item> = null.with_tag(1);
+    assert!(rt; null.is_null() && one.is_null());
+    assert!(rt; null != one && null < one && one == one.with_tag(5));
 }

@@ -2,9 +2,10 @@
 
 ghost use Rattle.std.specs.Prelude.{◌≡◌};
 
+use super::collector::adds;
 use super::face::{Item, defer, destroy, limits, placed, rounds, spend, swapped};
 use crossbeam_epoch::{Atomic, Collector, Fault, Guard, Job, Link, LocalHandle, Pointable};
-use std::alloc::Global;
+use std::alloc::{AllocError, Global};
 use std::sync::atomic::AtomicU64;
 use std::sync::atomic::Ordering::SeqCst;
 use std::sync::{Arc, Wait};
@@ -23,32 +24,40 @@ fn both_cross<T: Pointable + Drop + Send>(items: &Collector<T>, root: &Atomic<T>
 
 #[test]
 fn two_threads_share_an_atomic(rt: HostRuntime) -> Result<(), Fail> {
-    let alloc = rt.alloc();
-    let items: Collector<Item> = Collector::new(&rt, alloc, limits(8), 1)?;
-    let root: Atomic<Item> = Atomic::null();
-    both_cross(&items, &root);
-    let calls = Arc::new(alloc, AtomicU64::new(0))?;
-    let mut first = Vec::new(alloc);
-    let mut second = Vec::new(alloc);
-    let mut unit = 1u64;
-    for number in 0..8u32 {
-        let calls = Arc::try_clone(&calls)?;
-        let call: Box<dyn FnOnce() + Send> = Box::new(alloc, move || {
-            calls.fetch_add(unit, SeqCst);
-        })?;
-        if number < 4 {
-            first.push(Job::new(call))?;
-        } else {
-            second.push(Job::new(call))?;
-        }
-        unit = unit.wrapping_mul(256);
-    }
-    let found = swap_in_two_threads(&rt, alloc, &items, &root, first, second)?;
-    let emptied = empties(&rt, alloc, &items, &root)?;
-    assert!(rt; found && emptied);
+    let calls = Arc::new(rt.alloc(), AtomicU64::new(0))?;
+    let first = jobs(rt.alloc(), &calls, 1)?;
+    let second = jobs(rt.alloc(), &calls, 1 << 32)?;
+    let items: Collector<Item> = Collector::new(&rt, rt.alloc(), limits(8), 1)?;
+    assert!(rt; shares(&rt, rt.alloc(), &items, first, second)?);
     // Byte n counts the calls of job n.
     assert!(rt; calls.load(SeqCst) == 0x0101_0101_0101_0101);
     Ok(())
+}
+
+/// Four jobs; the first adds this unit to the calls, and each further one 256 times the unit of the one before.
+fn jobs(alloc: Global, calls: &Arc<AtomicU64>, unit: u64) -> Result<Vec<Job>, AllocError> {
+    let mut jobs = Vec::new(alloc);
+    let mut unit = unit;
+    for _ in 0..4 {
+        jobs.push(adds(alloc, calls, unit)?)?;
+        unit = unit.wrapping_mul(256);
+    }
+    Ok(jobs)
+}
+
+/// Whether each load of two threads found a value, and everything is collected afterwards.
+fn shares<R: Threads + Wait + Sync>(
+    rt: &R,
+    alloc: Global,
+    items: &Collector<Item>,
+    first: Vec<Job>,
+    second: Vec<Job>,
+) -> Result<bool, Fault> {
+    let root: Atomic<Item> = Atomic::null();
+    both_cross(items, &root);
+    let found = swap_in_two_threads(rt, alloc, items, &root, first, second)?;
+    let emptied = empties(rt, alloc, items, &root)?;
+    Ok(found && emptied)
 }
 
 /// `swap_in_turn` in two threads at once. Whether each load found a value.
@@ -80,36 +89,61 @@ fn swap_in_turn<R: Wait>(
     let mut handle = items.register(rt)?;
     let mut found = true;
     for job in jobs {
-        let guard = handle.pin(rt)?;
-        let outcome = replaces(rt, alloc, &mut handle, root, job, &guard);
-        spend(rt, &mut handle, guard);
-        found &= outcome?;
+        found &= replaces(rt, alloc, &mut handle, root, job)?;
     }
     leaves(rt, handle)?;
     Ok(found)
 }
 
-/// Swaps a new value in, and puts off the job and the destruction of the value before. Whether a load finds a value.
+/// Swaps a new value in under a guard, and puts off the job and the destruction of the value before. Whether a load
+/// finds a value.
 fn replaces<R: Wait>(
     rt: &R,
     alloc: Global,
     handle: &mut LocalHandle<'_, Item>,
     root: &Atomic<Item>,
     job: Job,
+) -> Result<bool, Fault> {
+    let guard = handle.pin(rt)?;
+    let swapped = swaps_in(rt, alloc, root, &guard);
+    let put_off = match swapped {
+        Ok((before, _found)) => puts_off(rt, handle, &guard, before, job),
+        Err(fault) => Err(fault),
+    };
+    spend(rt, handle, guard);
+    put_off?;
+    let (_before, found) = swapped?;
+    Ok(found)
+}
+
+/// Swaps a new value in. The pointer before, and whether a load finds a value.
+fn swaps_in<R: Wait>(
+    rt: &R,
+    alloc: Global,
+    root: &Atomic<Item>,
     guard: &Guard<'_, Item>,
-) -> Result<bool, Fault>
+) -> Result<(Link, bool), Fault> {
+    let link = placed(rt, alloc, 1, guard)?;
+    let before = swapped(rt, root, link, guard)?;
+    Ok((before, !root.load(rt, SeqCst, guard).is_null()))
+}
+
+/// Puts off the job and the destruction of the value that the pointer leads to, if it isn't null, and collects.
+fn puts_off<R: Wait>(
+    rt: &R,
+    handle: &mut LocalHandle<'_, Item>,
+    guard: &Guard<'_, Item>,
+    before: Link,
+    job: Job,
+) -> Result<(), Fault>
     ensures seat { handle.new.seat ≡ handle.old.seat }
     ensures guards { handle.new.guards ≡ handle.old.guards }
 {
-    let link = placed(rt, alloc, 1, guard)?;
-    let before = swapped(rt, root, link, guard)?;
-    let found = !root.load(rt, SeqCst, guard).is_null();
     if before != Link::null() {
         destroy(rt, handle, guard, before)?;
     }
     defer(rt, handle, guard, job)?;
-    handle.flush(rt, guard)?;
-    Ok(found)
+    handle.flush(rt, guard)
 }
 
 /// Releases the handle.
@@ -128,17 +162,9 @@ fn empties<R: Wait>(
     root: &Atomic<Item>,
 ) -> Result<bool, Fault> {
     let mut handle = items.register(rt)?;
-    let guard = handle.pin(rt)?;
-    let outcome = drops_last(rt, &mut handle, root, &guard);
-    spend(rt, &mut handle, guard);
-    outcome?;
+    drops_last(rt, &mut handle, root)?;
     rounds(rt, &mut handle, 8)?;
-    let guard = handle.pin(rt)?;
-    let mut vacant = true;
-    for number in 0..8 {
-        vacant &= placed(rt, alloc, number, &guard).is_ok();
-    }
-    spend(rt, &mut handle, guard);
+    let vacant = fills_all(rt, alloc, &mut handle)?;
     leaves(rt, handle)?;
     Ok(vacant)
 }
@@ -148,11 +174,27 @@ fn drops_last<R: Wait>(
     rt: &R,
     handle: &mut LocalHandle<'_, Item>,
     root: &Atomic<Item>,
-    guard: &Guard<'_, Item>,
-) -> Result<(), Fault>
-    ensures seat { handle.new.seat ≡ handle.old.seat }
-    ensures guards { handle.new.guards ≡ handle.old.guards }
-{
-    let last = swapped(rt, root, Link::null(), guard)?;
-    destroy(rt, handle, guard, last)
+) -> Result<(), Fault> {
+    let guard = handle.pin(rt)?;
+    let outcome = match swapped(rt, root, Link::null(), &guard) {
+        Ok(last) => destroy(rt, handle, &guard, last),
+        Err(fault) => Err(fault),
+    };
+    spend(rt, handle, guard);
+    outcome
+}
+
+/// Whether eight values are placed.
+fn fills_all<R: Wait>(
+    rt: &R,
+    alloc: Global,
+    handle: &mut LocalHandle<'_, Item>,
+) -> Result<bool, Fault> {
+    let guard = handle.pin(rt)?;
+    let mut vacant = true;
+    for number in 0..8 {
+        vacant &= placed(rt, alloc, number, &guard).is_ok();
+    }
+    spend(rt, handle, guard);
+    Ok(vacant)
 }
