@@ -1,5 +1,5 @@
 -- What steps report and leave.
-use Rattle.std.proofs.Common.{◌≡◌, ℕ, ◌<◌, ◌⊎◌, true, List, Option, Some, None, refl, sym, ◌∙◌, ap, subst, inl, inr, length}
+use Rattle.std.proofs.Common.{◌≡◌, ℕ, ◌<◌, ◌⊎◌, true, Option, Some, None, refl, sym, ◌∙◌, ap, subst, inl, inr, length}
 use Rattle.std.specs.Prelude.{if◌then◌else◌}
 use Rattle.std.proofs.lemmas.List.{get_or-set_same}
 use Rattle.crossbeam_epoch.specs.declared.fault.Fault.{Fault}
@@ -75,7 +75,7 @@ module _ {T J : Type 0} where
   fault_of : (s : State T J) (who : ℕ) (op : Op) (phase : Phase) (f : Option Fault) → (place s who).registered ≡ true → (place s who).phase ≡ phase → event_fault (Begin op) phase (place s who) ≡ f → fault s who (Begin op) ≡ f
   fault_of s who op phase f reg is at =
       subst (λ b. (if b then event_fault (Begin op) (place s who).phase (place s who) else Some F.Unknown) ≡ f) (sym reg)
-        (subst (λ ph. event_fault (Begin op) ph (place s who) ≡ f) (sym is) at)
+      (subst (λ ph. event_fault (Begin op) ph (place s who) ≡ f) (sym is) at)
 
   stays : (s : State T J) (who : ℕ) (op : Op) → s ≡ after s who (Begin op) (Refused (busy_fault op))
   stays s who O.Pin = refl
@@ -124,7 +124,7 @@ module _ {T J : Type 0} where
   no_fault : (s : State T J) (who : ℕ) (phase : Phase) → (place s who).registered ≡ true → (place s who).phase ≡ phase → event_fault Go phase (place s who) ≡ None → fault s who Go ≡ None
   no_fault s who phase reg is none =
       subst (λ b. (if b then event_fault Go (place s who).phase (place s who) else Some F.Unknown) ≡ None) (sym reg)
-        (subst (λ ph. event_fault Go ph (place s who) ≡ None) (sym is) none)
+      (subst (λ ph. event_fault Go ph (place s who) ≡ None) (sym is) none)
 
   -- a step that nothing refuses
   pub goes : (s s' : State T J) (who : ℕ) (phase : Phase) (r : Report) → (place s who).registered ≡ true → (place s who).phase ≡ phase → event_fault Go phase (place s who) ≡ None

@@ -60,8 +60,8 @@ module _ {T J : Type 0} where
       ap (λ (y : Given). record v { table = slice_set v.table who x; next = y.next; waiting = y.waiting }) counts
       ∙ ap (λ (y : State T J). record y { table = slice_set y.table who x; next = y.next + 1; waiting = y.waiting + 1 }) is
       ∙ ap (λ (p : Participant J). record s { table = slice_set s.table who p; next = s.next + 1; waiting = s.waiting + 1 })
-        (made ∙ ap (λ (p : Participant J). record p { bag = p.bag ++ record { ticket = ticket; work = work } ∷ [] }) (held s v who old is lt read)
-        ∙ ap (λ t. record (place s who) { bag = (place s who).bag ++ record { ticket = t; work = work } ∷ [] }) (number ∙ ap (λ (y : State T J). y.next) is))
+      (made ∙ ap (λ (p : Participant J). record p { bag = p.bag ++ record { ticket = ticket; work = work } ∷ [] }) (held s v who old is lt read)
+      ∙ ap (λ t. record (place s who) { bag = (place s who).bag ++ record { ticket = t; work = work } ∷ [] }) (number ∙ ap (λ (y : State T J). y.next) is))
 
   -- a job in a new bag; the old one is queued
   pub anew_at : (s v : State T J) (who : ℕ) (x old : Participant J) (work : Work J) (ticket : ℕ) (given : Given) (queue : List (Sealed J)) → v ≡ s → who < length s.table → old ≡ get_or v.table who old → ticket ≡ v.next → given ≡ record { next = v.next + 1; waiting = v.waiting + 1 }
@@ -74,8 +74,8 @@ module _ {T J : Type 0} where
       ∙ ap (λ (y : State T J). record y { table = slice_set y.table who x; queue = y.queue ++ record { seal = y.epoch; jobs = old.bag } ∷ []; next = y.next + 1; waiting = y.waiting + 1 }) is
       ∙ ap (λ (p : Participant J). record s { table = slice_set s.table who x; queue = s.queue ++ record { seal = s.epoch; jobs = p.bag } ∷ []; next = s.next + 1; waiting = s.waiting + 1 }) at
       ∙ ap (λ (p : Participant J). record s { table = slice_set s.table who p; queue = s.queue ++ record { seal = s.epoch; jobs = (place s who).bag } ∷ []; next = s.next + 1; waiting = s.waiting + 1 })
-        (made ∙ ap (λ (p : Participant J). record p { bag = record { ticket = ticket; work = work } ∷ [] }) at
-        ∙ ap (λ t. record (place s who) { bag = record { ticket = t; work = work } ∷ [] }) (number ∙ ap (λ (y : State T J). y.next) is))
+      (made ∙ ap (λ (p : Participant J). record p { bag = record { ticket = ticket; work = work } ∷ [] }) at
+      ∙ ap (λ t. record (place s who) { bag = record { ticket = t; work = work } ∷ [] }) (number ∙ ap (λ (y : State T J). y.next) is))
 
   -- the fault of a deferral of a participant
   pub fault_known : (s v : State T J) (who : ℕ) (quiet fault : Option Fault) → v ≡ s → (place s who).registered ≡ true → quiet ≡ quiet_fault (place s who).phase (place s who) → fault ≡ or_count v.next quiet → fault ≡ defer_fault s who

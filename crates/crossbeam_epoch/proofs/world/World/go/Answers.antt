@@ -2,7 +2,7 @@ use Rattle.std.proofs.Common.{rules, ◌≡◌, ℕ, refl, ◌∙◌, ap, []}
 use Rattle.std.proofs.lemmas.List.{get_or-set_same}
 use Rattle.crossbeam_epoch.specs.Machine.{place, in_phase, published, relooked, repinned, secured, blank, queued, left}
 use Rattle.crossbeam_epoch.specs.declared.places.Phase.TheVariants as P
-use Rattle.crossbeam_epoch.proofs.Goes.{goes, goes_to, goes_queueing}
+use Rattle.crossbeam_epoch.proofs.Goes.{goes_to, goes_queueing}
 use Rattle.crossbeam_epoch.proofs.world.World.go.Goals as goal
 
 pub returns-in-Look : goal.returns-in-Look
@@ -50,5 +50,3 @@ returns-in-SecureQueue g c = record { step = goes_queueing c.args.self.now c.que
 
 pub returns-in-ReleaseQueue : goal.returns-in-ReleaseQueue
 returns-in-ReleaseQueue g c = record { step = goes_queueing c.args.self.now c.leave.new.self (left c.args.self.now c.args.who c.in-ReleaseQueue.seal) c.args.who (P.ReleaseQueue c.in-ReleaseQueue.seal) (blank) c.leave.result c.silent-in-ReleaseQueue.result c.requires.registered (c.requires.phase ∙ c.in-ReleaseQueue.is) refl refl refl refl (get_or-set_same c.args.self.now.table c.args.who (blank) blank c.requires.in_table) c.leave.ensures.outcome c.leave.ensures.done c.leave.ensures.refused c.silent-in-ReleaseQueue.ensures }
-
-

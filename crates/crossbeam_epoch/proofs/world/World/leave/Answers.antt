@@ -15,6 +15,6 @@ pub returns : goal.returns
 returns g c = record {
   outcome = inl refl;
   done = λ e. queued_at c.args.self.now _ c.args.who c.args.seal c.replace-bag.new.dest c.index_mut-place.result.now (λ p. blank) c.push_back_reserved.new.self.items c.self.view_is c.requires.in_table c.index_mut-place.ensures.value (c.replace-bag.ensures.after ∙ c.blank.ensures)
-    (c.push_back_reserved.ensures.items ∙ ap (λ q. q ++ record { seal = c.args.seal; jobs = c.replace-bag.result.bag } ∷ []) c.reserve.ensures.items ∙ ap (λ p. c.self.inside.queue.items ++ record { seal = c.args.seal; jobs = p.bag } ∷ []) c.replace-bag.ensures.value);
+      (c.push_back_reserved.ensures.items ∙ ap (λ q. q ++ record { seal = c.args.seal; jobs = c.replace-bag.result.bag } ∷ []) c.reserve.ensures.items ∙ ap (λ p. c.self.inside.queue.items ++ record { seal = c.args.seal; jobs = p.bag } ∷ []) c.replace-bag.ensures.value);
   refused = λ e. absurd (cc e);
 }
