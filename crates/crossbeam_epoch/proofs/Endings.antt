@@ -18,6 +18,7 @@ use Rattle.crossbeam_epoch.specs.History.{Mark, Called, began, blocks, calls, Is
 use Rattle.crossbeam_epoch.specs.Machine.{State, place, blank, destroys, after_work}
 use Rattle.crossbeam_epoch.specs.Reach.{Moment, marks_of, Tells}
 use Rattle.crossbeam_epoch.specs.Store.{Store}
+use Rattle.crossbeam_epoch.specs.Tickets.{Given}
 use Rattle.crossbeam_epoch.proofs.Jobs.{began_blocking, destroys_named}
 use Rattle.crossbeam_epoch.proofs.Moves.{none_in, contains_tail, unpinned_now}
 
@@ -34,6 +35,10 @@ none_blocks h q t none = by_value (blocks h q t) refl
     by_value : (b : Bool) → blocks h q t ≡ b → b ≡ false
     by_value false is = refl
     by_value true is = let b = began_blocking h q t is in absurd (cc (none, b.1))
+
+-- tickets by their parts
+pub given_is : (t : Given) (next waiting : ℕ) → t.next ≡ next → t.waiting ≡ waiting → t ≡ record { next = next; waiting = waiting }
+given_is t next waiting e f = λ k. record { next = e k; waiting = f k }
 
 module _ {J : Type 0} where
   -- blank places have no job
@@ -119,6 +124,14 @@ module _ {J : Type 0} where
   pub one_less : (jobs : List (Entry J)) (n : ℕ) → 0 < length jobs → n - 1 - length (remove jobs 0) ≡ n - length jobs
   one_less [] n lt = absurd (omega arith)
   one_less (x ∷ jobs) n lt = omega arith
+
+  pub fewer : (jobs : List (Entry J)) → 0 < length jobs → length (remove jobs 0) < length jobs
+  fewer [] lt = absurd (omega arith)
+  fewer (x ∷ jobs) lt = omega arith
+
+  pub no_jobs : (jobs : List (Entry J)) → true ≡ (length jobs == 0) → jobs ≡ []
+  no_jobs [] e = refl
+  no_jobs (x ∷ jobs) e = absurd (grind (arith, nat_tests))
 
   pub bag_less : (b : Sealed J) (queue queue' : List (Sealed J)) (n : ℕ) → queue ≡ b ∷ queue' → n - length b.jobs - length (jobs_of queue') ≡ n - length (jobs_of queue)
   bag_less b queue queue' n is = rw is (omega (arith, length-append b.jobs (jobs_of queue')))

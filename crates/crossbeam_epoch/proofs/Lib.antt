@@ -1,5 +1,7 @@
 pub mod Endings
 pub mod FreeCells
+pub mod Goes
+pub mod Held
 pub mod Givens
 pub mod Grace
 pub mod Jobs

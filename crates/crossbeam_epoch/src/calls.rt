@@ -1,6 +1,6 @@
 //! Steps, runs of steps, and whole calls.
 
-ghost use Rattle.std.specs.Prelude.{◌≡◌, ◌<◌, ◌≤◌, List, ◌∷◌, length, take as first_of, vec_len, None, Some, ◌+◌};
+ghost use Rattle.std.specs.Prelude.{◌≡◌, true, ◌<◌, ◌≤◌, List, ◌∷◌, length, take as first_of, vec_len, None, Some, ◌+◌};
 ghost use Rattle.crossbeam_epoch.specs.Machine.{place};
 ghost use Rattle.crossbeam_epoch.specs.Steps.{after, busy_fault, marks, IsReport, state_after, AreReports, history_after};
 ghost use Rattle.crossbeam_epoch.specs.declared.report.Report.{Report};
@@ -127,31 +127,49 @@ impl<T: Links + Pointable + Drop, J: Task> World<T, J> {
         if !self.is_registered(who) {
             return refused(Fault::Unknown);
         }
-        let phase = self.participants[who].phase;
+        let phase = self.phase_of(who);
         match event {
             Event::Begin(op) => match phase {
                 Phase::Idle => silent(self.begin(who, op)),
                 _ => refused(busy_fault(op)),
             },
-            Event::Go => match phase {
-                Phase::Idle => refused(Fault::Idle),
-                Phase::Look => silent(self.look(who, Phase::Publish(self.epoch))),
-                Phase::Publish(seen) => silent(self.publish(who, seen)),
-                Phase::RepinLook => silent(self.look_again(who)),
-                Phase::RepinPublish(seen) => silent(self.publish_again(who, seen)),
-                Phase::Seal => silent(self.look(who, Phase::Queue(self.epoch))),
-                Phase::Queue(seal) => silent(self.queue(who, seal, Phase::Load)),
-                Phase::ReleaseSeal => silent(self.look(who, Phase::ReleaseQueue(self.epoch))),
-                Phase::ReleaseQueue(seal) => silent(self.leave(who, seal)),
-                Phase::Secure(n) => silent(self.secure(who, n)),
-                Phase::SecureSeal => silent(self.look(who, Phase::SecureQueue(self.epoch))),
-                Phase::SecureQueue(seal) => silent(self.queue(who, seal, Phase::Idle)),
-                Phase::Load => silent(self.look(who, Phase::Inspect(self.epoch, 0))),
-                Phase::Inspect(seen, place) => silent(self.inspect(who, seen, place)),
-                Phase::Advance(seen) => silent(self.advance(who, seen)),
-                Phase::Take(answered, bags) => silent(self.take(who, answered, bags)),
-                Phase::Call(answered, bags, seal) => self.call_next(who, answered, bags, seal),
-            },
+            Event::Go => self.go(who, phase),
+        }
+    }
+
+    /// Where a participant's call stands.
+    fn phase_of(&self, who: usize) -> Phase
+        requires in_table { who < length self.now.table }
+        ensures { result ≡ (place self.now who).phase }
+    {
+        self.participants[who].phase
+    }
+
+    /// One step of the call in flight.
+    fn go(&mut self, who: usize, phase: Phase) -> Report
+        requires in_table { who < length self.old.table }
+        requires registered { (place self.old who).registered ≡ true }
+        requires phase { (place self.old who).phase ≡ phase }
+        ensures step { IsReport self.old who Event.Go result × (self.new ≡ after self.old who Event.Go result.outcome) }
+    {
+        match phase {
+            Phase::Idle => refused(Fault::Idle),
+            Phase::Look => silent(self.look(who, Phase::Publish(self.epoch))),
+            Phase::Publish(seen) => silent(self.publish(who, seen)),
+            Phase::RepinLook => silent(self.look_again(who)),
+            Phase::RepinPublish(seen) => silent(self.publish_again(who, seen)),
+            Phase::Seal => silent(self.look(who, Phase::Queue(self.epoch))),
+            Phase::Queue(seal) => silent(self.queue(who, seal, Phase::Load)),
+            Phase::ReleaseSeal => silent(self.look(who, Phase::ReleaseQueue(self.epoch))),
+            Phase::ReleaseQueue(seal) => silent(self.leave(who, seal)),
+            Phase::Secure(n) => silent(self.secure(who, n)),
+            Phase::SecureSeal => silent(self.look(who, Phase::SecureQueue(self.epoch))),
+            Phase::SecureQueue(seal) => silent(self.queue(who, seal, Phase::Idle)),
+            Phase::Load => silent(self.look(who, Phase::Inspect(self.epoch, 0))),
+            Phase::Inspect(seen, place) => silent(self.inspect(who, seen, place)),
+            Phase::Advance(seen) => silent(self.advance(who, seen)),
+            Phase::Take(answered, bags) => silent(self.take(who, answered, bags)),
+            Phase::Call(answered, bags, seal) => self.call_next(who, answered, bags, seal),
         }
     }
 }

@@ -2,7 +2,7 @@
 
 ghost use Rattle.std.specs.Prelude.{◌≡◌, ◌<◌, List, ◌∷◌, length, IfOk, OnOk, OnErr, IfErr, MatchResult, MatchOption, None, Some, ◌^◌, ◌-◌, ◌==◌, ◌&&◌, not, true, false};
 ghost use Rattle.crossbeam_epoch.specs.Machine.{place, deferred, deferred_anew, after_deferral, name_of};
-ghost use Rattle.crossbeam_epoch.specs.Steps.{defer_fault, destroy_fault};
+ghost use Rattle.crossbeam_epoch.specs.Steps.{defer_fault, destroy_fault, quiet_fault};
 ghost use Rattle.crossbeam_epoch.specs.History.{Deferred};
 ghost use Rattle.crossbeam_epoch.specs.Reach.{Moment, Quiet, Marked, moment, Tells};
 
@@ -98,8 +98,21 @@ impl<T: Links + Pointable + Drop, J: Task> World<T, J> {
         if !self.is_bag_full(who) {
             return Ok(self.put(who, work));
         }
+        match self.put_anew(who, work) {
+            Ok(ticket) => Ok(ticket),
+            Err(work) => Err((Fault::Memory, work)),
+        }
+    }
+
+    /// Seals and queues a bag, and puts a job into a new one; hands the job back where there is no memory.
+    fn put_anew(&mut self, who: usize, work: Work<J>) -> Result<u64, Work<J>>
+        requires in_table { who < length self.old.table }
+        requires few { self.old.next < 2 ^ 64 - 1 }
+        ensures ok { IfOk result (λ t. (t ≡ self.old.next) × (self.new ≡ deferred_anew self.old who work)) }
+        ensures err { IfErr result (λ w. (w ≡ work) × (self.new ≡ self.old)) }
+    {
         if self.queue.reserve(1).is_err() {
-            return Err((Fault::Memory, work));
+            return Err(work);
         }
         let ticket = self.tickets.give();
         let jobs = self.participants[who].start_bag(Entry { ticket, work });
@@ -142,10 +155,14 @@ impl<T: Links + Pointable + Drop, J: Task> World<T, J> {
         if !self.is_registered(who) {
             return Some(Fault::Unknown);
         }
-        match self.participants[who].quiet_fault() {
-            Some(fault) => Some(fault),
-            None if self.tickets.next() == u64::MAX => Some(Fault::Count),
-            None => None,
-        }
+        self.tickets.or_count(self.quiet_fault(who))
+    }
+
+    /// The fault of a deferral at a place, Count and Memory aside.
+    fn quiet_fault(&self, who: usize) -> Option<Fault>
+        requires in_table { who < length self.now.table }
+        ensures { result ≡ quiet_fault (place self.now who).phase (place self.now who) }
+    {
+        self.participants[who].quiet_fault()
     }
 }

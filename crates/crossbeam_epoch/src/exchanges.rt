@@ -1,6 +1,6 @@
 //! Exchanges and tag calls on the roots of a collector.
 
-ghost use Rattle.std.specs.Prelude.{◌≡◌, ◌≢◌, ◌%◌, List, ◌∷◌, ℕ, length, Some, IfOk, OnOk, IfErr, MatchResult};
+ghost use Rattle.std.specs.Prelude.{◌≡◌, ◌≢◌, ◌%◌, ◌<◌, List, ◌∷◌, ℕ, length, Some, IfOk, OnOk, IfErr, MatchResult};
 ghost use Rattle.std.specs.Prelude.{slice_get, is_ok, nat_lt, ◌&&◌, bit_and, bit_or, bit_xor};
 ghost use Rattle.crossbeam_epoch.specs.Machine.{stands};
 ghost use Rattle.crossbeam_epoch.specs.Roots.{root_at, with_root, with_tag_at};
@@ -106,8 +106,8 @@ impl<T: Links + Pointable + Drop, J: Task> World<T, J> {
         ensures err { IfErr result (λ e. (e ≡ Fault.Unknown) × (self.new ≡ self.old)) }
         ensures fault { is_ok result ≡ nat_lt root (length self.old.roots) }
     {
-        let before = self.load(root)?;
-        self.roots[root].tag = before.tag & tag_of::<T>(number);
+        let before = self.held_at(root)?;
+        self.set_tag(root, before.tag & tag_of::<T>(number));
         Ok(before)
     }
 
@@ -130,8 +130,8 @@ impl<T: Links + Pointable + Drop, J: Task> World<T, J> {
         ensures err { IfErr result (λ e. (e ≡ Fault.Unknown) × (self.new ≡ self.old)) }
         ensures fault { is_ok result ≡ nat_lt root (length self.old.roots) }
     {
-        let before = self.load(root)?;
-        self.roots[root].tag = before.tag | tag_of::<T>(number);
+        let before = self.held_at(root)?;
+        self.set_tag(root, before.tag | tag_of::<T>(number));
         Ok(before)
     }
 
@@ -154,8 +154,16 @@ impl<T: Links + Pointable + Drop, J: Task> World<T, J> {
         ensures err { IfErr result (λ e. (e ≡ Fault.Unknown) × (self.new ≡ self.old)) }
         ensures fault { is_ok result ≡ nat_lt root (length self.old.roots) }
     {
-        let before = self.load(root)?;
-        self.roots[root].tag = before.tag ^ tag_of::<T>(number);
+        let before = self.held_at(root)?;
+        self.set_tag(root, before.tag ^ tag_of::<T>(number));
         Ok(before)
+    }
+
+    /// Writes the tag of a root.
+    fn set_tag(&mut self, root: usize, tag: u8)
+        requires { root < length self.old.roots }
+        ensures { self.new ≡ with_tag_at self.old root tag }
+    {
+        self.roots[root].tag = tag;
     }
 }

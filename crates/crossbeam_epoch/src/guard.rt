@@ -8,7 +8,7 @@ use std::fmt;
 use std::fmt::{Debug, Formatter};
 
 /// A place of a collector's table.
-#[derive(Clone, Copy, Debug, PartialEq, Eq, Drop)]
+#[derive(Clone, Copy, PartialEq, Eq, Drop)]
 pub struct Seat {
     /// The collector's identity number.
     pub collector: u64,

@@ -1,7 +1,8 @@
 //! The roots of a collector.
 
-ghost use Rattle.std.specs.Prelude.{◌≡◌, ◌≤◌, List, ◌∷◌, ℕ, length, Some, IfOk, OnOk, IfErr, slice_get, slice_set, is_ok, nat_lt, ◌&&◌};
+ghost use Rattle.std.specs.Prelude.{◌≡◌, ◌<◌, ◌≤◌, List, ◌∷◌, ℕ, length, Some, IfOk, OnOk, IfErr, slice_get, slice_set, is_ok, nat_lt, ◌&&◌};
 ghost use Rattle.crossbeam_epoch.specs.Machine.{with_roots, stands};
+ghost use Rattle.crossbeam_epoch.specs.Roots.{root_at};
 ghost use Rattle.crossbeam_epoch.specs.declared.names.Name.{Name};
 ghost use Rattle.crossbeam_epoch.specs.Reach.{Moment, Quiet, moment, Tells, Visible};
 
@@ -16,6 +17,16 @@ impl<T: Links + Pointable + Drop, J: Task> World<T, J> {
         ensures ok { IfOk result (λ p. slice_get self.now.roots root ≡ Some p) }
         ensures err { IfErr result (λ e. (e ≡ Fault.Unknown) × (length self.now.roots ≤ root)) }
         ensures seen { IfOk result (λ ptr. (h : List Moment) (p : ℕ) (n : Name) → Tells T.names h self.now → ptr.name ≡ Some n → Visible h p n) }
+    {
+        self.held_at(root)
+    }
+
+    /// What a root holds, as `load` has it.
+    pub(crate) fn held_at(&self, root: usize) -> Result<Ptr, Fault>
+        ensures ok { IfOk result (λ p. slice_get self.now.roots root ≡ Some p) }
+        ensures held { IfOk result (λ p. (root_at self.now root ≡ p) × (root < length self.now.roots)) }
+        ensures err { IfErr result (λ e. (e ≡ Fault.Unknown) × (length self.now.roots ≤ root)) }
+        ensures fault { is_ok result ≡ nat_lt root (length self.now.roots) }
     {
         if root >= self.roots.len() {
             return Err(Fault::Unknown);

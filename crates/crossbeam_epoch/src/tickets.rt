@@ -1,7 +1,9 @@
 //! Tickets of deferred jobs.
 
-ghost use Rattle.std.specs.Prelude.{◌≡◌, ◌<◌, ◌+◌, ◌-◌, ◌^◌};
+ghost use Rattle.std.specs.Prelude.{◌≡◌, ◌<◌, ◌+◌, ◌-◌, ◌^◌, None};
+ghost use Rattle.crossbeam_epoch.specs.Steps.{or_count};
 
+use crate::fault::Fault;
 use std::marker::Model;
 
 /// The next ticket, and how many jobs wait to be called.
@@ -33,11 +35,16 @@ impl Tickets {
         }
     }
 
-    /// The next ticket.
-    pub fn next(&self) -> u64
-        ensures { result ≡ self.now.next }
+    /// This fault, or Count where no ticket is left.
+    pub fn or_count(&self, fault: Option<Fault>) -> Option<Fault>
+        ensures value { result ≡ or_count self.now.next fault }
+        ensures few { result ≡ None → self.now.next < 2 ^ 64 - 1 }
     {
-        self.next
+        match fault {
+            Some(fault) => Some(fault),
+            None if self.next == u64::MAX => Some(Fault::Count),
+            None => None,
+        }
     }
 
     /// How many jobs wait.

@@ -1,7 +1,9 @@
-use Rattle.std.proofs.Common.{◌≡◌, arith, ap, ◌∙◌, ◌∷◌, [], ◌++◌}
+use Rattle.std.proofs.Common.{rules, ◌≡◌, arith, ap, sym, subst, ◌∙◌, ◌∷◌, [], ◌++◌, length, take}
 use Rattle.std.proofs.lemmas.List.{length_push}
+use Rattle.crossbeam_epoch.specs.Steps.{state_after, AreReports}
 use Rattle.crossbeam_epoch.proofs.Runs.{run_more}
 use Rattle.crossbeam_epoch.proofs.world.World.act_all.Goals as goal
+use Rattle.crossbeam_epoch.proofs.world.World.act_all.Goals.{else-loop-step-test, then-loop-step-test+then-is_err}
 
 pub loop-step-preserved : goal.loop-step-preserved
 loop-step-preserved g c =
@@ -9,3 +11,20 @@ loop-step-preserved g c =
     let on = run_more c.args.self.now c.args.steps.now c.loop-step.step-index _ c.loop-step.reports.items c.push_reserved.new.self.items c.act-report.result c.loop-step.self c.act-report.new.self
     (omega arith) c.loop-step.invariant.count c.loop-step.invariant.legal c.loop-step.invariant.state c.act-report.ensures.report c.act-report.ensures.state more in
     record { count = rw more (omega (arith, length_push c.loop-step.reports.items c.act-report.result)); legal = on.0; state = on.1 }
+
+pub returns : goal.returns
+returns g c =
+    let l = c.loop-step in
+    let reports = c.loop-step-test.reports in
+    let same : reports.items ≡ l.reports.items = elim c.loop-step-test.branch [
+      | else-loop-step-test w ↦ ap (λ v. v.items) w.reports-is
+      | then-loop-step-test+then-is_err w ↦ ap (λ v. v.items) w.reports-is ∙ w.reserve.ensures.items
+    ] in
+    let counted : c.len.result ≡ length reports.items = search rules in
+    let long : c.len.result ≡ l.step-index = counted ∙ ap length same ∙ l.invariant.count in
+    record {
+      done = rw long l.auto.step-index-end;
+      reports = sym c.len.ensures;
+      legal = subst (λ n. AreReports c.args.self.now (take n c.args.steps.now) reports.items) (sym long) (subst (λ xs. AreReports c.args.self.now (take l.step-index c.args.steps.now) xs) (sym same) l.invariant.legal);
+      state = l.invariant.state ∙ ap (λ xs. state_after c.args.self.now (take l.step-index c.args.steps.now) xs) (sym same) ∙ ap (λ n. state_after c.args.self.now (take n c.args.steps.now) reports.items) (sym long);
+    }

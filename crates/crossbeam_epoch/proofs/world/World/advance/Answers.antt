@@ -1,0 +1,15 @@
+use Rattle.std.proofs.Common.{refl}
+use Rattle.crossbeam_epoch.proofs.Held.{advanced_at, stayed_at}
+use Rattle.crossbeam_epoch.proofs.world.World.advance.Goals as goal
+
+pub returns-then-seen-self : goal.returns-then-seen-self
+returns-then-seen-self g c = record {
+  state = stayed_at c.args.self.now _ c.args.who c.args.seen _ c.index_mut.result.now c.self.view_is c.requires.in_table c.index_mut.ensures.value refl c.if-seen-self.true;
+  outcome = refl;
+}
+
+pub returns : goal.returns
+returns g c = record {
+  state = advanced_at c.args.self.now _ c.args.who c.args.seen _ c.index_mut-2.result.now c.self.view_is c.requires.in_table c.index_mut-2.ensures.value refl c.if-seen-self.false;
+  outcome = refl;
+}

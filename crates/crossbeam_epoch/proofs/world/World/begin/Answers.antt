@@ -1,0 +1,10 @@
+use Rattle.std.proofs.Common.{ap, ◌∙◌}
+use Rattle.crossbeam_epoch.specs.Steps.{begin_fault, begun_at, outcome_or, place_or}
+use Rattle.crossbeam_epoch.proofs.Held.{held, placed_at}
+use Rattle.crossbeam_epoch.proofs.world.World.begin.Goals as goal
+
+pub returns : goal.returns
+returns g c = record {
+  state = placed_at c.args.self.now _ c.args.who c.begin.new.self c.index_mut.result.now (λ p. place_or (begin_fault c.args.op p) (begun_at c.args.op p) p) c.self.view_is c.requires.in_table c.index_mut.ensures.value c.begin.ensures.place;
+  outcome = c.begin.ensures.outcome ∙ ap (λ p. outcome_or (begin_fault c.args.op p) (begun_at c.args.op p)) (held c.args.self.now _ c.args.who c.index_mut.result.now c.self.view_is c.requires.in_table c.index_mut.ensures.value);
+}

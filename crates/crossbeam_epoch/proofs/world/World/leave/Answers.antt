@@ -1,0 +1,20 @@
+use Rattle.std.proofs.Common.{refl, ap, ◌∙◌, inl, inr, ◌++◌, ◌∷◌, []}
+use Rattle.crossbeam_epoch.specs.Machine.{blank}
+use Rattle.crossbeam_epoch.specs.declared.places.Phase.TheVariants as P
+use Rattle.crossbeam_epoch.proofs.Held.{placed_beside, queued_at}
+use Rattle.crossbeam_epoch.proofs.world.World.leave.Goals as goal
+
+pub returns-then-is_err : goal.returns-then-is_err
+returns-then-is_err g c = record {
+  outcome = inr refl;
+  done = λ e. absurd (cc e);
+  refused = λ e. placed_beside c.args.self.now _ c.args.who _ c.index_mut.result.now (λ p. record p { phase = P.Idle }) c.reserve.new.self.items c.self.view_is c.requires.in_table c.index_mut.ensures.value refl c.reserve.ensures.items;
+}
+
+pub returns : goal.returns
+returns g c = record {
+  outcome = inl refl;
+  done = λ e. queued_at c.args.self.now _ c.args.who c.args.seal c.replace-bag.new.dest c.index_mut-place.result.now (λ p. blank) c.push_back_reserved.new.self.items c.self.view_is c.requires.in_table c.index_mut-place.ensures.value (c.replace-bag.ensures.after ∙ c.blank.ensures)
+      (c.push_back_reserved.ensures.items ∙ ap (λ q. q ++ record { seal = c.args.seal; jobs = c.replace-bag.result.bag } ∷ []) c.reserve.ensures.items ∙ ap (λ p. c.self.inside.queue.items ++ record { seal = c.args.seal; jobs = p.bag } ∷ []) c.replace-bag.ensures.value);
+  refused = λ e. absurd (cc e);
+}
