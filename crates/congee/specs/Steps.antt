@@ -283,6 +283,16 @@ ChangedOne number key new one Set h h' = ChangeGives h (number one.at.node) one.
 ChangedOne {C} {V} number key new one (Link leaf) h h' = (h1 : ℕ → Node V) × ChangeGives h (number leaf) (slice_index key 7) (value_hung new) h1
     × ChangeGives h1 (number one.at.node) one.byte (Below (number leaf)) h'
 
+-- a greater node with one more child comes in the place of the node at hand
+abbrev pub PutsGreater : {C V : Type 0} → (C → ℕ) → Two C → C → ℕ → Hung V → (ℕ → Node V) → (ℕ → Node V) → Type 0
+PutsGreater {C} {V} number two c byte x h h' = (h1 : ℕ → Node V) × (h2 : ℕ → Node V) × TakeOverGives h (number two.at.node) (number c) h1
+    × ChangeGives h1 (number c) byte x h2 × ChangeGives h2 (number two.above.seat.node) two.above.byte (Below (number c)) h'
+
+-- a node over the one at hand and a new leaf comes in its place
+abbrev pub PutsFork : {C V : Type 0} → (C → ℕ) → Two C → C → ℕ → ℕ → C → (ℕ → Node V) → (ℕ → Node V) → Type 0
+PutsFork {C} {V} number two top byte new_byte leaf h h' = (h1 : ℕ → Node V) × (h2 : ℕ → Node V) × ChangeGives h (number top) byte (Below (number two.at.node)) h1
+    × ChangeGives h1 (number top) new_byte (Below (number leaf)) h2 × ChangeGives h2 (number two.above.seat.node) two.above.byte (Below (number top)) h'
+
 abbrev pub ChangedTwo : {C V : Type 0} → (C → ℕ) → List ℕ → Option V → Two C → Double C → (ℕ → Node V) → (ℕ → Node V) → Type 0
 ChangedTwo number key new two Unlink h h' = ChangeGives h (number two.above.seat.node) two.above.byte Nothing h'
 ChangedTwo {C} {V} number key new two (Grow c) h h' = (h1 : ℕ → Node V) × (h2 : ℕ → Node V) × TakeOverGives h (number two.at.node) (number c) h1

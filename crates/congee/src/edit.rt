@@ -128,6 +128,33 @@ impl<P: Stored, A: Allocator> Arena<P, A> {
         Ok(())
     }
 
+    // Puts a value in below a node that has nothing for the key, or hands it back.
+    pub(crate) fn add(
+        &mut self,
+        alloc: Global,
+        at: usize,
+        key: &[u8; 8],
+        value: P,
+    ) -> Result<(), (OOMError, P)>
+        requires tree { IsTree self.old.nodes }
+        requires way { OnWay self.old.nodes key.now at }
+        requires free { child_for (heap_of self.old.nodes at) key.now ≡ Nothing }
+        requires covered { bytes_of self.old.nodes ≤ A.charged_of self.old.allocator }
+        ensures tree { OnOk result (IsTree self.new.nodes) }
+        ensures change { OnOk result (MapChange self.old.nodes self.new.nodes key.now None (Some value)) }
+        ensures same { OnErr result (SameNodes self.old.nodes self.new.nodes) }
+        ensures back { IfErr result (λ e. e.1 ≡ value) }
+        ensures refused { IfErr result (λ e. IsOutOf (A.charged_of self.old.allocator) (A.limit_of self.old.allocator) e.0) }
+        ensures balance { A.charged_of self.new.allocator + bytes_of self.old.nodes ≡ A.charged_of self.old.allocator + bytes_of self.new.nodes }
+        ensures limit { A.limit_of self.new.allocator ≡ A.limit_of self.old.allocator }
+    {
+        if self.nodes[at].prefix().len() == 7 {
+            self.add_value(alloc, at, key, value)
+        } else {
+            self.add_leaf(alloc, at, key, value)
+        }
+    }
+
     // Takes a value out of a leaf that has others.
     pub(crate) fn take_value(&mut self, at: usize, key: &[u8; 8]) -> P
         requires tree { IsTree self.old.nodes }

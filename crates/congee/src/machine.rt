@@ -1,12 +1,12 @@
 //! One call on a shared tree, as a machine that takes one step at a time.
 ghost use Rattle.std.specs.Prelude.{◌≡◌, ◌≢◌, ℕ, ◌+◌, ◌<◌, ◌≤◌, Bool, true, false, Option, None, Some, Result, List, [], ◌∷◌, ◌++◌};
-ghost use Rattle.congee.specs.Heap.{Node, Stands, is_taken, version_of};
+ghost use Rattle.congee.specs.Heap.{Node, Nothing, Below, Stands, is_taken, version_of};
 ghost use Rattle.congee.specs.Answers.{KeepsProtocol};
 ghost use Rattle.congee.specs.Names.{KeepsOrigin};
 ghost use Rattle.congee.specs.Play.{begun, IsNew, Begins};
 ghost use Rattle.congee.specs.Opening.{RootAlone};
 ghost use Rattle.congee.specs.Keys.{key_bytes};
-ghost use Rattle.congee.specs.Steps.{quiet, decided, after_change, after_miss, IsIf, IsChecked, IsAtOld, Acts, Leaves, IsGiven, IsGivenNew, BackOne, BackTwo, BackLeaf, MadeLeaf, MadeGreater, MadeTop, MadeBeside, UpgradedOne, UpgradedAbove, UpgradedBoth, value_hung, ChangedOne, ChangedTwo, IsCheckedAbove, MayStep, MayBackOne, MayBackTwo, MayBackLeaf, MayChangeOne, MayChangeTwo, PhaseStepped, Stepped};
+ghost use Rattle.congee.specs.Steps.{quiet, decided, after_change, after_miss, IsIf, IsChecked, IsAtOld, Acts, Leaves, IsGiven, IsGivenNew, BackOne, BackTwo, BackLeaf, MadeLeaf, MadeGreater, MadeTop, MadeBeside, UpgradedOne, UpgradedAbove, UpgradedBoth, value_hung, ChangedOne, ChangedTwo, IsCheckedAbove, MayStep, MayBackOne, MayBackTwo, MayBackLeaf, MayChangeOne, MayChangeTwo, Changeable, Blank, PutsGreater, PutsFork, PhaseStepped, Stepped};
 ghost use Rattle.congee.specs.Events.{hung, upgrade_gives};
 ghost use Rattle.congee.specs.declared.store.Upgrade.{Upgrade};
 ghost use Rattle.congee.specs.declared.store.Refusal.{Refusal};
@@ -555,52 +555,93 @@ impl<C: NodeName, P: Payload> Machine<C, P> {
         ensures changed { ChangedTwo C.number (key_bytes self.old.key) self.old.given two two.change (S.heap store.old) (S.heap store.new) }
         ensures turn { result ≡ after_change two reply two.change }
     {
-        let value = value_child(self.given.take());
-        let key = self.key.to_be_bytes();
-        let parent = two.parent();
-        let Two { above, at, change } = two;
-        let node = at.node;
-        let above = above.byte;
-        match change {
-            Double::Unlink => store.change(parent, above, Child::Blank),
-            Double::Grow { node: greater } => {
-                store.take_over(node, greater);
-                store.fill(greater, key[7], value);
-                store.change(parent, above, Child::Node(greater));
-            }
-            Double::GrowLink {
-                node: greater,
-                leaf,
-                byte,
-            } => {
-                store.fill(leaf, key[7], value);
-                store.take_over(node, greater);
-                store.fill(greater, byte, Child::Node(leaf));
-                store.change(parent, above, Child::Node(greater));
-            }
-            Double::Split {
-                top,
-                leaf,
-                common,
-                byte,
-            } => {
-                store.fill(leaf, key[7], value);
-                store.fill(top, byte, Child::Node(node));
-                store.fill(top, key[common], Child::Node(leaf));
-                store.change(parent, above, Child::Node(top));
-                return Turn::decided(Phase::UnlockBelow {
-                    node,
-                    above: parent,
-                    reply,
-                });
-            }
-        }
-        Turn::decided(Phase::Obsolete {
-            node,
-            above: parent,
-            reply,
-        })
+        put_two(store, two, &self.key.to_be_bytes(), self.given.take());
+        Turn::after_change(two, reply)
     }
+}
+
+/// Changes the node above, and before it the new nodes.
+fn put_two<C: NodeName, P: Payload, S: Store<C, P>>(
+    store: &mut S,
+    two: Two<C>,
+    key: &[u8; 8],
+    new: Option<P>,
+)
+    requires { MayChangeTwo C.number key.now new two two.change (S.heap store.old) }
+    ensures limit { S.version_max store.new ≡ S.version_max store.old }
+    ensures changed { ChangedTwo C.number key.now new two two.change (S.heap store.old) (S.heap store.new) }
+{
+    let value = value_child(new);
+    let change = two.change;
+    match change {
+        Double::Unlink => store.change(two.parent(), two.above.byte, Child::Blank),
+        Double::Grow { node: greater } => put_greater(store, two, greater, key[7], value),
+        Double::GrowLink {
+            node: greater,
+            leaf,
+            byte,
+        } => {
+            store.fill(leaf, key[7], value);
+            put_greater(store, two, greater, byte, Child::Node(leaf));
+        }
+        Double::Split {
+            top,
+            leaf,
+            common,
+            byte,
+        } => {
+            store.fill(leaf, key[7], value);
+            put_fork(store, two, top, byte, key[common], leaf);
+        }
+    }
+}
+
+/// Puts a greater node, with one more child, in the place of the node at hand.
+fn put_greater<C: NodeName, P: Payload, S: Store<C, P>>(
+    store: &mut S,
+    two: Two<C>,
+    greater: C,
+    byte: u8,
+    child: Child<C, P>,
+)
+    requires above { Changeable (S.heap store.old (C.number two.above.seat.node)) two.above.byte (Below (C.number greater)) }
+    requires stands { Stands (S.heap store.old (C.number two.at.node)) }
+    requires blank { Blank (S.heap store.old (C.number greater)) (S.heap store.old (C.number two.at.node)).count }
+    requires beside_above { C.number two.above.seat.node ≢ C.number greater }
+    requires beside { C.number two.at.node ≢ C.number greater }
+    requires apart { C.number two.above.seat.node ≢ C.number two.at.node }
+    requires hangs { hung C.number child ≢ Nothing }
+    ensures limit { S.version_max store.new ≡ S.version_max store.old }
+    ensures put { PutsGreater C.number two greater byte (hung C.number child) (S.heap store.old) (S.heap store.new) }
+{
+    let parent = two.parent();
+    let Two { above, at, .. } = two;
+    store.take_over(at.node, greater);
+    store.fill(greater, byte, child);
+    store.change(parent, above.byte, Child::Node(greater));
+}
+
+/// Puts a node above the one at hand and a new leaf in its place.
+fn put_fork<C: NodeName, P: Payload, S: Store<C, P>>(
+    store: &mut S,
+    two: Two<C>,
+    top: C,
+    byte: u8,
+    new_byte: u8,
+    leaf: C,
+)
+    requires above { Changeable (S.heap store.old (C.number two.above.seat.node)) two.above.byte (Below (C.number top)) }
+    requires blank { Blank (S.heap store.old (C.number top)) 1 }
+    requires bytes { byte ≢ new_byte }
+    requires apart { C.number two.above.seat.node ≢ C.number top }
+    ensures limit { S.version_max store.new ≡ S.version_max store.old }
+    ensures put { PutsFork C.number two top byte new_byte leaf (S.heap store.old) (S.heap store.new) }
+{
+    let parent = two.parent();
+    let Two { above, at, .. } = two;
+    store.fill(top, byte, Child::Node(at.node));
+    store.fill(top, new_byte, Child::Node(leaf));
+    store.change(parent, above.byte, Child::Node(top));
 }
 
 /// What hangs where the call puts its value, or takes one out.

@@ -83,18 +83,14 @@ impl<P: Stored, A: Allocator> Arena<P, A> {
     {
         let place = self.locate(key);
         match place.spot {
-            Spot::Held => return Ok(Some(self.replace(place.at, key, value))),
+            Spot::Held => Ok(Some(self.replace(place.at, key, value))),
             Spot::Free => {
-                if self.nodes[place.at].prefix().len() == 7 {
-                    self.add_value(alloc, place.at, key, value)?;
-                } else {
-                    self.add_leaf(alloc, place.at, key, value)?;
-                }
-                return Ok(None);
+                self.add(alloc, place.at, key, value)?;
+                Ok(None)
             }
             Spot::Apart(below) => {
                 self.split(alloc, place.at, below, key, value)?;
-                return Ok(None);
+                Ok(None)
             }
         }
     }

@@ -1,6 +1,6 @@
 //! What a step leaves, and where the answers of the store lead.
 ghost use Rattle.std.specs.Prelude.{◌≡◌, ℕ, ◌<◌, ◌⊎◌, Bool, true, false, Option, None, Some};
-ghost use Rattle.congee.specs.Steps.{quiet, again, answered, finished, refused, decided, asking, adds, asks_new, absent_reply, form_above, after_version, after_read, down, started, ready, plan_here, unless_full, missing, absent, IsAsked, replaced, emptied, is_same, IsAtOld, IsAdded, IsExchanged, IsPresent, IsChecked, after_miss, greater, unwound};
+ghost use Rattle.congee.specs.Steps.{quiet, again, answered, finished, refused, decided, asking, adds, asks_new, absent_reply, form_above, after_version, after_read, down, started, ready, plan_here, unless_full, missing, absent, IsAsked, replaced, emptied, is_same, IsAtOld, IsAdded, IsExchanged, IsPresent, IsChecked, after_miss, after_change, greater, unwound};
 
 use crate::base_node::NodeType;
 use crate::child::Child;
@@ -424,6 +424,19 @@ impl<C: NodeName, P: Payload> Turn<C, P> {
             })
         } else {
             Turn::answered(kind.absent_reply())
+        }
+    }
+
+    /// The node above was changed.
+    pub(crate) fn after_change(two: Two<C>, reply: Reply<P>) -> Self
+        ensures { result ≡ after_change two reply two.change }
+    {
+        let above = two.parent();
+        let Two { at, change, .. } = two;
+        let node = at.node;
+        match change {
+            Double::Split { .. } => Turn::decided(Phase::UnlockBelow { node, above, reply }),
+            _ => Turn::decided(Phase::Obsolete { node, above, reply }),
         }
     }
 
