@@ -1,4 +1,4 @@
-//! The tests of all five crates.
+//! The tests of all five crates, which see of the libraries what a user sees.
 
 mod arcs;
 mod closing;

@@ -1,5 +1,5 @@
 //! What no clause says: worked journals, and each public call once with ample memory.
-use judge::*;
+use judge::{ArcPayload, Call, Entry, Payload, Reply, Verdict, Word64, check};
 use std::sync::Arc;
 use std::test::Fail;
 

@@ -1,5 +1,8 @@
 //! What no clause says: printed text, and each public call once with ample memory.
-use congee::*;
+use congee::{
+    Allocator, Calls, Congee, DefaultAllocator, Drainer, LevelStats, Limited, NoDrain, NodeInfo,
+    NodeStats, NodeType, OOMError,
+};
 use std::alloc::{AllocError, Global};
 use std::test::Fail;
 
