@@ -1,10 +1,12 @@
-use Rattle.std.proofs.Common.{rules, ◌≡◌, ◌≢◌, length, Some, arith, ap, get_or, ◌∙◌, sym, subst, ℕ, List}
-use Rattle.slab.specs.Slab.{get}
+use Rattle.std.proofs.Common.{rules, refl, ◌≡◌, ◌≢◌, length, Some, arith, ap, get_or, ◌∙◌, sym, subst, ℕ, List, IsSome}
+use Rattle.slab.specs.Slab.{get, ContainsKey}
+use Rattle.congee.specs.Arena.{Nodes}
+use Rattle.congee.specs.OwnedSteps.{Makes, Fills, Forks}
 use Rattle.congee.specs.Sizes.{bytes_at}
 use Rattle.congee.specs.Changes.{Parts}
 use Rattle.congee.specs.Forms.{size_of, prefix_of}
 use Rattle.congee.proofs.Sizes.{bytes_same, bytes_update, makes_bytes}
-use Rattle.congee.proofs.Moves.{Forking, forking_at, forking_present, fork_added, apart_of, fresh_made}
+use Rattle.congee.proofs.Moves.{Forking, forking_at, forking_present, fork_added, apart_of, fresh_made, node_at}
 use Rattle.congee.proofs.arena.Arena.split.Goals as goal
 
 pub returns-in-Err-clause-balance : goal.returns-in-Err-clause-balance
@@ -105,3 +107,26 @@ fill_fork-requires-clause-fresh g c =
     let ol : c.in-Ok.over ≢ c.in-Ok-make.leaf = apart_of c.make.new.self.nodes c.in-Ok.over c.in-Ok-make.leaf c.in-Ok.ensures.made.node c.in-Ok.ensures.made.updates.changed c.in-Ok-make.ensures.made.vacant in
     fresh_made c.args.self.now.nodes c.make.new.self.nodes c.fill_leaf.new.self.nodes c.in-Ok.over _ c.in-Ok.ensures.made
     (c.fill_leaf.ensures.fills.updates.others c.in-Ok.over ol ∙ c.in-Ok-make.ensures.made.updates.others c.in-Ok.over ol)
+
+pub fill_leaf-requires : goal.fill_leaf-requires
+fill_leaf-requires g c = record {
+  fresh = fresh_made c.make.new.self.nodes c.make-2.new.self.nodes c.make-2.new.self.nodes c.in-Ok-make.leaf _ c.in-Ok-make.ensures.made refl;
+}
+
+-- the node at hand stands while two nodes are made and filled
+stays : {P : Type 0} (s0 s1 s2 s3 s4 : Nodes P) (key p q r : List ℕ) (at over leaf byte other below : ℕ) (v : P) → ContainsKey s0 at
+    → Makes s0 s1 over p → Makes s1 s2 leaf q → Fills s2 s3 leaf key v → Forks s3 s4 over r byte leaf other below → ContainsKey s4 at
+stays s0 s1 s2 s3 s4 key p q r at over leaf byte other below v st m1 m2 fills forks =
+    let n = node_at s0 at st in
+    let no : at ≢ over = apart_of s0 at over n.0 n.1 m1.vacant in
+    let nl : at ≢ leaf = apart_of s1 at leaf n.0 (m1.updates.others at no ∙ n.1) m2.vacant in
+    let e : get s4 at ≡ get s0 at = forks.updates.others at no ∙ (fills.updates.others at nl ∙ (m2.updates.others at nl ∙ m1.updates.others at no)) in
+    subst IsSome (sym e) st
+
+pub byte_at-byte-requires : goal.byte_at-byte-requires
+byte_at-byte-requires g c = stays c.args.self.now.nodes c.make.new.self.nodes c.make-2.new.self.nodes c.fill_leaf.new.self.nodes c.fill_fork.new.self.nodes c.args.key.now _ _ _ c.args.at c.in-Ok.over c.in-Ok-make.leaf _ _ _ c.args.value
+    c.requires.way.stands c.in-Ok.ensures.made c.in-Ok-make.ensures.made c.fill_leaf.ensures.fills c.fill_fork.ensures.forks
+
+pub swap-requires-clause-stands : goal.swap-requires-clause-stands
+swap-requires-clause-stands g c = stays c.args.self.now.nodes c.make.new.self.nodes c.make-2.new.self.nodes c.fill_leaf.new.self.nodes c.fill_fork.new.self.nodes c.args.key.now _ _ _ c.args.at c.in-Ok.over c.in-Ok-make.leaf _ _ _ c.args.value
+    c.requires.way.stands c.in-Ok.ensures.made c.in-Ok-make.ensures.made c.fill_leaf.ensures.fills c.fill_fork.ensures.forks
