@@ -74,19 +74,19 @@ module _ {T J : Type 0} where
       let front : e ≡ get_or (place s who).hand 0 no_entry = subst (λ (p : Participant J). e ≡ get_or p.hand 0 no_entry) at (get_or_read old.hand 0 e (is_some_job old.hand some) first no_entry) in
       let x : Participant J = record old { hand = rest; phase = phase } in
       let made : x ≡ record (place s who) { hand = remove (place s who).hand 0; phase = after_call (length (remove (place s who).hand 0)) answered bags seal } =
-          ap (λ ph. record old { hand = rest; phase = ph }) goes
-          ∙ ap (λ xs. record old { hand = xs; phase = after_call (length xs) answered bags seal }) others
-          ∙ ap (λ (p : Participant J). record p { hand = remove p.hand 0; phase = after_call (length (remove p.hand 0)) answered bags seal }) at in (
+      ap (λ ph. record old { hand = rest; phase = ph }) goes
+      ∙ ap (λ xs. record old { hand = xs; phase = after_call (length xs) answered bags seal }) others
+      ∙ ap (λ (p : Participant J). record p { hand = remove p.hand 0; phase = after_call (length (remove p.hand 0)) answered bags seal }) at in (
         ap (λ (y : Given). record v { table = slice_set v.table who x; next = y.next; waiting = y.waiting; store = store }) counts
-        ∙ ap (λ (y : Store T). record v { table = slice_set v.table who x; waiting = v.waiting - 1; store = y }) works
-        ∙ ap (λ (y : State T J). record y { table = slice_set y.table who x; waiting = y.waiting - 1; store = after_work y.store e.work }) is
-        ∙ ap (λ (y : Entry J). record s { table = slice_set s.table who x; waiting = s.waiting - 1; store = after_work s.store y.work }) front
-        ∙ ap (λ (p : Participant J). record s { table = slice_set s.table who p; waiting = s.waiting - 1; store = after_work s.store (get_or (place s who).hand 0 no_entry).work }) made
-        ∙ sym (ap (λ b. if b then in_phase s who Idle else called_one s who answered bags seal) full),
+            ∙ ap (λ (y : Store T). record v { table = slice_set v.table who x; waiting = v.waiting - 1; store = y }) works
+            ∙ ap (λ (y : State T J). record y { table = slice_set y.table who x; waiting = y.waiting - 1; store = after_work y.store e.work }) is
+            ∙ ap (λ (y : Entry J). record s { table = slice_set s.table who x; waiting = s.waiting - 1; store = after_work s.store y.work }) front
+            ∙ ap (λ (p : Participant J). record s { table = slice_set s.table who p; waiting = s.waiting - 1; store = after_work s.store (get_or (place s who).hand 0 no_entry).work }) made
+            ∙ sym (ap (λ b. if b then in_phase s who Idle else called_one s who answered bags seal) full),
         ap (λ d. Some (e.ticket, d)) gone
-        ∙ ap (λ (y : State T J). Some (e.ticket, destroys y.store e.work)) is
-        ∙ ap (λ (y : Entry J). Some (y.ticket, destroys s.store y.work)) front
-        ∙ sym (ap (λ b. if b then None else Some (called_entry s.store (get_or (place s who).hand 0 no_entry))) full),
+            ∙ ap (λ (y : State T J). Some (e.ticket, destroys y.store e.work)) is
+            ∙ ap (λ (y : Entry J). Some (y.ticket, destroys s.store y.work)) front
+            ∙ sym (ap (λ b. if b then None else Some (called_entry s.store (get_or (place s who).hand 0 no_entry))) full),
       )
 
   -- the front bag is taken
