@@ -1,16 +1,20 @@
 -- A collector's state from its parts: what a place holds, and what a write into one makes of it.
-use Rattle.std.proofs.Common.{◌≡◌, ℕ, ◌+◌, ◌<◌, ◌≤◌, arith, ◌++◌, ◌∷◌, [], true, false, List, Option, Some, None, refl, sym, ◌∙◌, ap, subst, length, get_or}
-use Rattle.std.specs.Prelude.{nat_lt, ◌==◌, MatchOption, slice_set, if◌then◌else◌}
+use Rattle.std.proofs.Common.{◌≡◌, ℕ, ◌+◌, ◌-◌, ◌<◌, ◌≤◌, arith, ◌++◌, ◌∷◌, [], true, false, List, Option, Some, None, refl, sym, ◌∙◌, ap, subst, length, get_or}
+use Rattle.std.specs.Prelude.{nat_lt, ◌==◌, ◌&&◌, drop, remove, MatchOption, slice_set, if◌then◌else◌}
 use Rattle.std.proofs.lemmas.Bool.Decides.{nat_tests}
-use Rattle.std.proofs.lemmas.List.{get_or_read}
+use Rattle.std.proofs.lemmas.List.{get_or_read, get_or-set_same}
 use Rattle.crossbeam_epoch.specs.declared.bag.Work.{Work}
 use Rattle.crossbeam_epoch.specs.declared.fault.Fault.{Fault}
 use Rattle.crossbeam_epoch.specs.declared.fault.Fault.TheVariants.{Unknown}
 use Rattle.crossbeam_epoch.specs.declared.places.Participant.{Participant}
-use Rattle.crossbeam_epoch.specs.declared.places.Phase.TheVariants.{Take}
+use Rattle.crossbeam_epoch.specs.declared.places.Phase.{Phase}
+use Rattle.crossbeam_epoch.specs.declared.places.Phase.TheVariants.{Idle, Take, Call}
+use Rattle.crossbeam_epoch.specs.declared.bag.Entry.{Entry}
+use Rattle.crossbeam_epoch.specs.declared.names.Name.{Name}
+use Rattle.crossbeam_epoch.specs.Store.{Store}
 use Rattle.crossbeam_epoch.specs.declared.places.Sealed.{Sealed}
-use Rattle.crossbeam_epoch.specs.Machine.{State, place, blank, with_place, in_phase, advanced, deferred, deferred_anew, after_deferral}
-use Rattle.crossbeam_epoch.specs.Steps.{quiet_fault, or_count, defer_fault}
+use Rattle.crossbeam_epoch.specs.Machine.{State, is_due, took, taken, no_bag, no_entry, called, called_one, after_call, after_work, destroys, place, blank, with_place, in_phase, advanced, deferred, deferred_anew, after_deferral}
+use Rattle.crossbeam_epoch.specs.Steps.{called_by, called_entry, quiet_fault, or_count, defer_fault}
 use Rattle.crossbeam_epoch.specs.Tickets.{Given}
 
 is_below : (a b : ℕ) → a < b → nat_lt a b ≡ true
@@ -18,6 +22,10 @@ is_below a b lt = grind (arith, nat_tests)
 
 is_past : (a b : ℕ) → b ≤ a → nat_lt a b ≡ false
 is_past a b le = grind (arith, nat_tests)
+
+is_some_job : {A : Type 0} (xs : List A) → (length xs == 0) ≡ false → 0 < length xs
+is_some_job [] e = absurd (cc e)
+is_some_job (x ∷ xs) e = omega arith
 
 module _ {T J : Type 0} where
   -- what was read at an index of the table is the place
@@ -41,6 +49,59 @@ module _ {T J : Type 0} where
       ∙ ap (λ (y : State T J). record y { table = slice_set y.table who x; queue = y.queue ++ record { seal = seal; jobs = old.bag } ∷ [] }) is
       ∙ ap (λ (p : Participant J). record s { table = slice_set s.table who x; queue = s.queue ++ record { seal = seal; jobs = p.bag } ∷ [] }) at
       ∙ ap (λ (p : Participant J). record s { table = slice_set s.table who p; queue = s.queue ++ record { seal = seal; jobs = (place s who).bag } ∷ [] }) (made ∙ ap f at)
+
+  -- what stands at a place that was written
+  pub written_at : (s v : State T J) (who : ℕ) (x : Participant J) → v ≡ s → who < length s.table → get_or (slice_set v.table who x) who blank ≡ x
+  written_at s v who x is lt = get_or-set_same v.table who x blank (subst (λ (y : State T J). who < length y.table) (sym is) lt)
+
+  -- no job is left in hand
+  pub called_none : (s v : State T J) (who answered bags seal : ℕ) (old : Participant J) → v ≡ s → who < length s.table → old ≡ get_or v.table who old → (length old.hand == 0) ≡ true
+      → (with_place v who (record old { phase = Idle }) ≡ called s who answered bags seal) × (None ≡ called_by s.store (Call answered bags seal) (place s who).hand)
+  called_none s v who answered bags seal old is lt read empty =
+      let none : (length (place s who).hand == 0) ≡ true = subst (λ (p : Participant J). (length p.hand == 0) ≡ true) (held s v who old is lt read) empty in (
+        placed_at s v who (record old { phase = Idle }) old (λ p. record p { phase = Idle }) is lt read refl ∙ sym (ap (λ b. if b then in_phase s who Idle else called_one s who answered bags seal) none),
+        sym (ap (λ b. if b then None else Some (called_entry s.store (get_or (place s who).hand 0 no_entry))) none),
+      )
+
+  -- the first job in hand is called
+  pub called_first : (s v : State T J) (who answered bags seal : ℕ) (old : Participant J) (rest : List (Entry J)) (e : Entry J) (phase : Phase) (given : Given) (store : Store T) (destroyed : Option Name) → v ≡ s → who < length s.table → old ≡ get_or v.table who old → (length old.hand == 0) ≡ false
+      → e ≡ get_or old.hand 0 e → rest ≡ remove old.hand 0 → phase ≡ after_call (length rest) answered bags seal → given ≡ record { next = v.next; waiting = v.waiting - 1 } → store ≡ after_work v.store e.work → destroyed ≡ destroys v.store e.work
+      → (record v { table = slice_set v.table who (record old { hand = rest; phase = phase }); next = given.next; waiting = given.waiting; store = store } ≡ called s who answered bags seal)
+      × (Some (e.ticket, destroyed) ≡ called_by s.store (Call answered bags seal) (place s who).hand)
+  called_first s v who answered bags seal old rest e phase given store destroyed is lt read some first others goes counts works gone =
+      let at : old ≡ place s who = held s v who old is lt read in
+      let full : (length (place s who).hand == 0) ≡ false = subst (λ (p : Participant J). (length p.hand == 0) ≡ false) at some in
+      let front : e ≡ get_or (place s who).hand 0 no_entry = subst (λ (p : Participant J). e ≡ get_or p.hand 0 no_entry) at (get_or_read old.hand 0 e (is_some_job old.hand some) first no_entry) in
+      let x : Participant J = record old { hand = rest; phase = phase } in
+      let made : x ≡ record (place s who) { hand = remove (place s who).hand 0; phase = after_call (length (remove (place s who).hand 0)) answered bags seal } =
+      ap (λ ph. record old { hand = rest; phase = ph }) goes
+      ∙ ap (λ xs. record old { hand = xs; phase = after_call (length xs) answered bags seal }) others
+      ∙ ap (λ (p : Participant J). record p { hand = remove p.hand 0; phase = after_call (length (remove p.hand 0)) answered bags seal }) at in (
+        ap (λ (y : Given). record v { table = slice_set v.table who x; next = y.next; waiting = y.waiting; store = store }) counts
+            ∙ ap (λ (y : Store T). record v { table = slice_set v.table who x; waiting = v.waiting - 1; store = y }) works
+            ∙ ap (λ (y : State T J). record y { table = slice_set y.table who x; waiting = y.waiting - 1; store = after_work y.store e.work }) is
+            ∙ ap (λ (y : Entry J). record s { table = slice_set s.table who x; waiting = s.waiting - 1; store = after_work s.store y.work }) front
+            ∙ ap (λ (p : Participant J). record s { table = slice_set s.table who p; waiting = s.waiting - 1; store = after_work s.store (get_or (place s who).hand 0 no_entry).work }) made
+            ∙ sym (ap (λ b. if b then in_phase s who Idle else called_one s who answered bags seal) full),
+        ap (λ d. Some (e.ticket, d)) gone
+            ∙ ap (λ (y : State T J). Some (e.ticket, destroys y.store e.work)) is
+            ∙ ap (λ (y : Entry J). Some (y.ticket, destroys s.store y.work)) front
+            ∙ sym (ap (λ b. if b then None else Some (called_entry s.store (get_or (place s who).hand 0 no_entry))) full),
+      )
+
+  -- the front bag is taken
+  pub took_first : (s v : State T J) (who answered bags : ℕ) (x old : Participant J) (b : Sealed J) (queue : List (Sealed J)) → v ≡ s → who < length s.table → old ≡ get_or v.table who old → v.queue ≡ b ∷ queue
+      → x ≡ record old { hand = b.jobs; phase = Call answered (bags + 1) b.seal } → is_due s answered ≡ true → bags < 8 → record v { table = slice_set v.table who x; queue = queue } ≡ took s who answered bags
+  took_first s v who answered bags x old b queue is lt read popped made due few =
+      let front : b ≡ get_or v.queue 0 no_bag = sym (ap (λ (q : List (Sealed J)). get_or q 0 no_bag) popped) in
+      let rest : queue ≡ drop 1 v.queue = sym (ap (λ (q : List (Sealed J)). drop 1 q) popped) in
+      let room : nat_lt bags 8 ≡ true = is_below bags 8 few in
+      ap (λ q. record v { table = slice_set v.table who x; queue = q }) rest
+      ∙ ap (λ (p : Participant J). record v { table = slice_set v.table who p; queue = drop 1 v.queue }) made
+      ∙ ap (λ (y : Sealed J). record v { table = slice_set v.table who (record old { hand = y.jobs; phase = Call answered (bags + 1) y.seal }); queue = drop 1 v.queue }) front
+      ∙ ap (λ (y : State T J). record y { table = slice_set y.table who (record old { hand = (get_or y.queue 0 no_bag).jobs; phase = Call answered (bags + 1) (get_or y.queue 0 no_bag).seal }); queue = drop 1 y.queue }) is
+      ∙ ap (λ (p : Participant J). record s { table = slice_set s.table who (record p { hand = (get_or s.queue 0 no_bag).jobs; phase = Call answered (bags + 1) (get_or s.queue 0 no_bag).seal }); queue = drop 1 s.queue }) (held s v who old is lt read)
+      ∙ sym (ap (λ d. if d && nat_lt bags 8 then taken s who answered bags else in_phase s who Idle) due ∙ ap (λ d. if d then taken s who answered bags else in_phase s who Idle) room)
 
   -- the epoch is set, or is the last one
   pub advanced_at : (s v : State T J) (who seen : ℕ) (x old : Participant J) → v ≡ s → who < length s.table → old ≡ get_or v.table who old → x ≡ record old { phase = Take (seen + 1) 0 } → seen < v.limits.epoch_max → record v { epoch = seen + 1; table = slice_set v.table who x } ≡ advanced s who seen

@@ -152,20 +152,21 @@ impl<T: Links + Pointable + Drop, J: Task> World<T, J> {
         requires phase { (place self.old who).phase ≡ phase }
         ensures step { IsReport self.old who Event.Go result × (self.new ≡ after self.old who Event.Go result.outcome) }
     {
+        let epoch = self.epoch;
         match phase {
             Phase::Idle => refused(Fault::Idle),
-            Phase::Look => silent(self.look(who, Phase::Publish(self.epoch))),
+            Phase::Look => silent(self.look(who, Phase::Publish(epoch))),
             Phase::Publish(seen) => silent(self.publish(who, seen)),
             Phase::RepinLook => silent(self.look_again(who)),
             Phase::RepinPublish(seen) => silent(self.publish_again(who, seen)),
-            Phase::Seal => silent(self.look(who, Phase::Queue(self.epoch))),
+            Phase::Seal => silent(self.look(who, Phase::Queue(epoch))),
             Phase::Queue(seal) => silent(self.queue(who, seal, Phase::Load)),
-            Phase::ReleaseSeal => silent(self.look(who, Phase::ReleaseQueue(self.epoch))),
+            Phase::ReleaseSeal => silent(self.look(who, Phase::ReleaseQueue(epoch))),
             Phase::ReleaseQueue(seal) => silent(self.leave(who, seal)),
             Phase::Secure(n) => silent(self.secure(who, n)),
-            Phase::SecureSeal => silent(self.look(who, Phase::SecureQueue(self.epoch))),
+            Phase::SecureSeal => silent(self.look(who, Phase::SecureQueue(epoch))),
             Phase::SecureQueue(seal) => silent(self.queue(who, seal, Phase::Idle)),
-            Phase::Load => silent(self.look(who, Phase::Inspect(self.epoch, 0))),
+            Phase::Load => silent(self.look(who, Phase::Inspect(epoch, 0))),
             Phase::Inspect(seen, place) => silent(self.inspect(who, seen, place)),
             Phase::Advance(seen) => silent(self.advance(who, seen)),
             Phase::Take(answered, bags) => silent(self.take(who, answered, bags)),
