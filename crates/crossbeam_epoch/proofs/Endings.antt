@@ -1,6 +1,6 @@
 -- With nobody registered the jobs that are left stand in the queue, and each of them may be called.
 use Rattle.std.proofs.Common.{◌≡◌, ℕ, zero, suc, ◌+◌, ◌-◌, ◌<◌, ◌≤◌, Bool, true, false, List, [], ◌∷◌, ◌++◌, ◌==◌, None, refl, sym, ◌∙◌, ap, inl, inr, length, arith, get_or, ◌⊎◌, length-append}
-use Rattle.std.specs.Prelude.{if◌then◌else◌, remove}
+use Rattle.std.specs.Prelude.{if◌then◌else◌, drop, remove}
 use Rattle.std.specs.List.{Contains, sum_by}
 use Rattle.std.proofs.lemmas.Bool.{cases_lt}
 use Rattle.std.proofs.lemmas.Bool.Decides.{nat_tests}
@@ -132,6 +132,14 @@ module _ {J : Type 0} where
   pub no_jobs : (jobs : List (Entry J)) → true ≡ (length jobs == 0) → jobs ≡ []
   no_jobs [] e = refl
   no_jobs (x ∷ jobs) e = absurd (grind (arith, nat_tests))
+
+  pub fewer_bags : (b : Sealed J) (queue queue' : List (Sealed J)) → queue ≡ b ∷ queue' → length queue' < length queue
+  fewer_bags b queue queue' is = let more = ap (λ (q : List (Sealed J)). length q) is in omega (arith, more)
+
+  -- a queue that is its own rest is empty
+  pub none_left : (queue queue' : List (Sealed J)) → queue ≡ queue' → queue' ≡ drop 1 queue → queue ≡ []
+  none_left [] queue' same rest = refl
+  none_left (b ∷ queue) queue' same rest = let long = ap (λ (q : List (Sealed J)). length q) (same ∙ rest) in absurd (omega (arith, long))
 
   pub bag_less : (b : Sealed J) (queue queue' : List (Sealed J)) (n : ℕ) → queue ≡ b ∷ queue' → n - length b.jobs - length (jobs_of queue') ≡ n - length (jobs_of queue)
   bag_less b queue queue' n is = rw is (omega (arith, length-append b.jobs (jobs_of queue')))

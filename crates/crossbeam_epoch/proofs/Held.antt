@@ -1,8 +1,8 @@
 -- A collector's state from its parts: what a place holds, and what a write into one makes of it.
-use Rattle.std.proofs.Common.{◌≡◌, ℕ, ◌+◌, ◌-◌, ◌<◌, ◌≤◌, arith, ◌++◌, ◌∷◌, [], true, false, List, Option, Some, None, refl, sym, ◌∙◌, ap, subst, length, get_or}
+use Rattle.std.proofs.Common.{◌≡◌, ℕ, ◌+◌, ◌-◌, ◌<◌, ◌≤◌, arith, ◌++◌, ◌∷◌, [], Bool, true, false, List, Option, Some, None, refl, sym, ◌∙◌, ap, subst, length, get_or}
 use Rattle.std.specs.Prelude.{nat_lt, ◌==◌, ◌&&◌, drop, remove, MatchOption, slice_set, if◌then◌else◌}
 use Rattle.std.proofs.lemmas.Bool.Decides.{nat_tests}
-use Rattle.std.proofs.lemmas.List.{get_or_read, get_or-set_same}
+use Rattle.std.proofs.lemmas.List.{get_or_read, get_or_past, get_or-set_same}
 use Rattle.crossbeam_epoch.specs.declared.bag.Work.{Work}
 use Rattle.crossbeam_epoch.specs.declared.fault.Fault.{Fault}
 use Rattle.crossbeam_epoch.specs.declared.fault.Fault.TheVariants.{Unknown}
@@ -23,14 +23,47 @@ is_below a b lt = grind (arith, nat_tests)
 is_past : (a b : ℕ) → b ≤ a → nat_lt a b ≡ false
 is_past a b le = grind (arith, nat_tests)
 
+is_within : (a b : ℕ) → true ≡ nat_lt a b → a < b
+is_within a b e = grind (arith, nat_tests)
+
 is_some_job : {A : Type 0} (xs : List A) → (length xs == 0) ≡ false → 0 < length xs
 is_some_job [] e = absurd (cc e)
 is_some_job (x ∷ xs) e = omega arith
+
+-- a bag of at most 64 jobs that isn't full has a place
+pub has_place : (n : ℕ) (b : Bool) → b ≡ (n == 64) → n ≤ 64 → b ≡ false → n < 64
+has_place n b is le none = let not_64 : (n == 64) ≡ false = sym is ∙ none in grind (arith, nat_tests)
+
+pub is_full_at : (n : ℕ) (b : Bool) → b ≡ (n == 64) → b ≡ true → n ≡ 64
+is_full_at n b is some = let at_64 : (n == 64) ≡ true = sym is ∙ some in grind (arith, nat_tests)
 
 module _ {T J : Type 0} where
   -- what was read at an index of the table is the place
   pub held : (s v : State T J) (who : ℕ) (old : Participant J) → v ≡ s → who < length s.table → old ≡ get_or v.table who old → old ≡ place s who
   held s v who old is lt read = get_or_read s.table who old lt (subst (λ (x : State T J). old ≡ get_or x.table who old) is read) blank
+
+  -- past the table's end a place is blank
+  pub past_end : (s v : State T J) (who : ℕ) → v ≡ s → length v.table ≤ who → place s who ≡ blank
+  past_end s v who is past = get_or_past s.table who blank (subst (λ (x : State T J). length x.table ≤ who) is past)
+
+  -- a place that a look at an index of the table found
+  pub found : (s v : State T J) (xs : List (Participant J)) (at : ℕ) (p : Participant J) → v ≡ s → xs ≡ v.table → true ≡ nat_lt at (length xs) → p ≡ get_or xs at p → p ≡ place s at
+  found s v xs at p is same inside read = get_or_read xs at p (is_within at (length xs) inside) read blank ∙ ap (λ (ys : List (Participant J)). get_or ys at blank) (same ∙ ap (λ (x : State T J). x.table) is)
+
+  pub found_within : (s v : State T J) (xs : List (Participant J)) (at : ℕ) → v ≡ s → xs ≡ v.table → true ≡ nat_lt at (length xs) → at < length s.table
+  found_within s v xs at is same inside = subst (λ (ys : List (Participant J)). at < length ys) (same ∙ ap (λ (x : State T J). x.table) is) (is_within at (length xs) inside)
+
+  -- and where it found none
+  pub none_found : (s v : State T J) (xs : List (Participant J)) (at : ℕ) → v ≡ s → xs ≡ v.table → length xs ≤ at → place s at ≡ blank
+  none_found s v xs at is same past = past_end s v at is (subst (λ (ys : List (Participant J)). length ys ≤ at) same past)
+
+  -- every place that was looked at is taken
+  pub taken_below : (s v : State T J) (xs : List (Participant J)) (n q : ℕ) → v ≡ s → xs ≡ v.table → q < n → ((i : ℕ) → i < n → (get_or xs i blank).registered ≡ true) → (place s q).registered ≡ true
+  taken_below s v xs n q is same lt taken = subst (λ (ys : List (Participant J)). (get_or ys q blank).registered ≡ true) (same ∙ ap (λ (x : State T J). x.table) is) (taken q lt)
+
+  -- and so is every place of the table, after the last one
+  pub all_taken : (s v : State T J) (xs : List (Participant J)) (n q : ℕ) → v ≡ s → xs ≡ v.table → length xs ≤ n → q < length s.table → ((i : ℕ) → i < n → (get_or xs i blank).registered ≡ true) → (place s q).registered ≡ true
+  all_taken s v xs n q is same past lt taken = taken_below s v xs n q is same (let long = ap (λ (ys : List (Participant J)). length ys) (same ∙ ap (λ (x : State T J). x.table) is) in omega (arith, long, past, lt)) taken
 
   -- what was read is made another, and nothing else changes
   pub placed_at : (s v : State T J) (who : ℕ) (x old : Participant J) (f : Participant J → Participant J) → v ≡ s → who < length s.table → old ≡ get_or v.table who old → x ≡ f old → with_place v who x ≡ with_place s who (f (place s who))

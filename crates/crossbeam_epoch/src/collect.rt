@@ -41,10 +41,7 @@ impl<T: Links + Pointable + Drop, J: Task> World<T, J> {
         ensures { result ≡ ends_advance (place self.now at).word seen }
     {
         match self.participants.get(at) {
-            Some(place) => match place.word {
-                Some(word) => word != seen,
-                None => false,
-            },
+            Some(place) => place.is_elsewhere(seen),
             None => false,
         }
     }

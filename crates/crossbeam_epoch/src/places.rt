@@ -1,7 +1,7 @@
 //! The table's places, and sealed bags.
 
-ghost use Rattle.std.specs.Prelude.{◌≡◌, ◌∷◌, []};
-ghost use Rattle.crossbeam_epoch.specs.Machine.{blank, published, relooked, repinned, secured};
+ghost use Rattle.std.specs.Prelude.{◌≡◌, ◌+◌, ◌∷◌, [], ◌==◌, ◌&&◌, nat_le, nat_lt, if◌then◌else◌};
+ghost use Rattle.crossbeam_epoch.specs.Machine.{blank, ends_advance, is_at, published, relooked, repinned, secured};
 ghost use Rattle.crossbeam_epoch.specs.Steps.{begin_fault, begun_at, outcome_at, outcome_or, place_or, quiet_fault};
 
 use crate::bag::{BAG, Bag, Entry};
@@ -129,11 +129,10 @@ impl<J> Participant<J> {
         ensures place { self.new ≡ published seen self.old }
         ensures outcome { result ≡ outcome_at self.new.phase }
     {
-        let collects = self.pins == 0;
         self.word = Some(seen);
         self.guards = 1;
-        self.pins = if self.pins < 127 { self.pins + 1 } else { 0 };
-        self.phase = if collects { Phase::Load } else { Phase::Idle };
+        self.phase = after_pin(self.pins);
+        self.pins = one_more_pin(self.pins);
         outcome_at(self.phase)
     }
 
@@ -142,11 +141,7 @@ impl<J> Participant<J> {
         ensures place { self.new ≡ relooked epoch self.old }
         ensures outcome { result ≡ outcome_at self.new.phase }
     {
-        let same = match self.word {
-            Some(word) => word == epoch,
-            None => false,
-        };
-        self.phase = if same {
+        self.phase = if self.is_pinned_at(epoch) {
             Phase::Idle
         } else {
             Phase::RepinPublish(epoch)
@@ -162,6 +157,26 @@ impl<J> Participant<J> {
         self.word = Some(seen);
         self.phase = Phase::Idle;
         Outcome::Done
+    }
+
+    /// Whether it is pinned at this epoch.
+    fn is_pinned_at(&self, epoch: u64) -> bool
+        ensures { result ≡ is_at self.now.word epoch }
+    {
+        match self.word {
+            Some(word) => word == epoch,
+            None => false,
+        }
+    }
+
+    /// Whether it is pinned at another epoch.
+    pub(crate) fn is_elsewhere(&self, seen: u64) -> bool
+        ensures { result ≡ ends_advance self.now.word seen }
+    {
+        match self.word {
+            Some(word) => word != seen,
+            None => false,
+        }
     }
 
     /// A securing looks whether so many places of the bag are free.
@@ -198,7 +213,7 @@ impl<J> Participant<J> {
     {
         if self.word.is_none() {
             Outcome::Refused(Fault::Unpinned)
-        } else if n < 1 || n > 64 {
+        } else if !is_secured_size(n) {
             Outcome::Refused(Fault::Limits)
         } else {
             self.phase = Phase::Secure(n);
@@ -299,6 +314,27 @@ impl<J: Drop> Participant<J> {
             Op::Secure(n) => self.begin_secure(n),
         }
     }
+}
+
+/// The count of first-level pins after one more, modulo 128.
+fn one_more_pin(pins: u8) -> u8
+    ensures { result ≡ (if nat_lt pins 127 then pins + 1 else 0) }
+{
+    if pins < 127 { pins + 1 } else { 0 }
+}
+
+/// Where a first-level pin goes on after so many: each 128th collects, the first among them.
+fn after_pin(pins: u8) -> Phase
+    ensures { result ≡ (if pins == 0 then Phase.Load else Phase.Idle) }
+{
+    if pins == 0 { Phase::Load } else { Phase::Idle }
+}
+
+/// Whether a securing may be for so many places.
+fn is_secured_size(n: u8) -> bool
+    ensures { result ≡ (nat_lt 0 n && nat_le n 64) }
+{
+    n > 0 && n <= 64
 }
 
 /// Whether the call goes on.

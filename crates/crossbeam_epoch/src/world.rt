@@ -124,7 +124,10 @@ impl<T: Links + Pointable + Drop, J: Task> World<T, J> {
         ensures value { result ≡ (place self.now who).registered }
         ensures inside { IsTrue result → who < length self.now.table }
     {
-        who < self.participants.len() && self.participants[who].registered
+        match self.participants.get(who) {
+            Some(place) => place.registered,
+            None => false,
+        }
     }
 
     /// Whether a participant of this number is registered and pinned.

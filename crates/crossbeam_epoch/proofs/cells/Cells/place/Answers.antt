@@ -1,4 +1,4 @@
-use Rattle.std.proofs.Common.{rules, ◌≡◌, ◌+◌, ◌<◌, ◌++◌, ◌∷◌, [], length, arith, get_or}
+use Rattle.std.proofs.Common.{rules, ◌≡◌, ◌+◌, ◌<◌, ◌++◌, ◌∷◌, [], sym, length, arith, get_or}
 use Rattle.std.proofs.lemmas.List.{get_or_read}
 use Rattle.crossbeam_epoch.specs.Store.{fresh}
 use Rattle.crossbeam_epoch.proofs.FreeCells.{opens, fits_used, fits_pushed, placed_next}
@@ -6,16 +6,16 @@ use Rattle.crossbeam_epoch.proofs.cells.Cells.place.Goals as goal
 
 pub index_mut-cell-requires : goal.index_mut-cell-requires
 index_mut-cell-requires g c =
-    let popped : c.self.inside.free.items ≡ c.pop.new.self.items ++ c.in-Some.at ∷ [] = search rules in
+    let popped : c.self.inside.free.items ≡ c.pop.new.self.items ++ c.in-Some.at ∷ [] = c.in-Some.ensures.items in
     let o = opens c.self.inside.cells.items c.pop.new.self.items c.in-Some.at c.self.inside.most c.self.inside.turn_max (rw popped at c.self.invariant.0) in
     let lt = o.inside in
     search (rules, lt)
 
 pub overflow_cast-turn : goal.overflow_cast-turn
 overflow_cast-turn g c =
-    let popped : c.self.inside.free.items ≡ c.pop.new.self.items ++ c.in-Some.at ∷ [] = search rules in
+    let popped : c.self.inside.free.items ≡ c.pop.new.self.items ++ c.in-Some.at ∷ [] = c.in-Some.ensures.items in
     let o = opens c.self.inside.cells.items c.pop.new.self.items c.in-Some.at c.self.inside.most c.self.inside.turn_max (rw popped at c.self.invariant.0) in
-    let same = get_or_read c.self.inside.cells.items c.in-Some.at c.index_mut-cell.result.now o.inside (search rules) fresh in
+    let same = get_or_read c.self.inside.cells.items c.in-Some.at c.index_mut-cell.result.now o.inside c.index_mut-cell.ensures.value fresh in
     let turn : c.index_mut-cell.result.now.turns ≡ (get_or c.self.inside.cells.items c.in-Some.at fresh).turns = λ k. (same k).turns in
     let few = o.turns in
     let most : c.self.inside.turn_max < 4294967296 = search rules in
@@ -24,9 +24,9 @@ overflow_cast-turn g c =
 
 pub overflow_add-cell : goal.overflow_add-cell
 overflow_add-cell g c =
-    let popped : c.self.inside.free.items ≡ c.pop.new.self.items ++ c.in-Some.at ∷ [] = search rules in
+    let popped : c.self.inside.free.items ≡ c.pop.new.self.items ++ c.in-Some.at ∷ [] = c.in-Some.ensures.items in
     let o = opens c.self.inside.cells.items c.pop.new.self.items c.in-Some.at c.self.inside.most c.self.inside.turn_max (rw popped at c.self.invariant.0) in
-    let same = get_or_read c.self.inside.cells.items c.in-Some.at c.index_mut-cell.result.now o.inside (search rules) fresh in
+    let same = get_or_read c.self.inside.cells.items c.in-Some.at c.index_mut-cell.result.now o.inside c.index_mut-cell.ensures.value fresh in
     let turn : c.index_mut-cell.result.now.turns ≡ (get_or c.self.inside.cells.items c.in-Some.at fresh).turns = λ k. (same k).turns in
     let few = o.turns in
     let most : c.self.inside.turn_max < 4294967296 = search rules in
@@ -35,7 +35,7 @@ overflow_add-cell g c =
 
 pub invariant_of-self : goal.invariant_of-self
 invariant_of-self g c =
-    let popped : c.self.inside.free.items ≡ c.pop.new.self.items ++ c.in-Some.at ∷ [] = search rules in (
+    let popped : c.self.inside.free.items ≡ c.pop.new.self.items ++ c.in-Some.at ∷ [] = c.in-Some.ensures.items in (
       fits_used c.self.inside.cells.items c.pop.new.self.items c.in-Some.at c.self.inside.most c.self.inside.turn_max (c.index_mut-cell.result.now.turns + 1) c.args.value (rw popped at c.self.invariant.0),
       c.self.invariant.1,
       rw c.pop.ensures.capacity c.self.invariant.2,
@@ -43,10 +43,10 @@ invariant_of-self g c =
 
 pub returns-in-Some-clause-ok : goal.returns-in-Some-clause-ok
 returns-in-Some-clause-ok g c =
-    let popped : c.self.inside.free.items ≡ c.pop.new.self.items ++ c.in-Some.at ∷ [] = search rules in
+    let popped : c.self.inside.free.items ≡ c.pop.new.self.items ++ c.in-Some.at ∷ [] = c.in-Some.ensures.items in
     let o = opens c.self.inside.cells.items c.pop.new.self.items c.in-Some.at c.self.inside.most c.self.inside.turn_max (rw popped at c.self.invariant.0) in
-    let same = get_or_read c.self.inside.cells.items c.in-Some.at c.index_mut-cell.result.now o.inside (search rules) fresh in
-    placed_next c.args.self.now c.self.inside.cells.items c.in-Some.at c.self.inside.most c.self.inside.turn_max c.index_mut-cell.result.now.turns c.args.value (search rules) o (λ k. (same k).turns)
+    let same = get_or_read c.self.inside.cells.items c.in-Some.at c.index_mut-cell.result.now o.inside c.index_mut-cell.ensures.value fresh in
+    placed_next c.args.self.now c.self.inside.cells.items c.in-Some.at c.self.inside.most c.self.inside.turn_max c.index_mut-cell.result.now.turns c.args.value (sym c.self.view_is) o (λ k. (same k).turns)
 
 pub invariant_of-self-2 : goal.invariant_of-self-2
 invariant_of-self-2 g c =
