@@ -6,3 +6,18 @@ returns-in-Check-clause-step g c = rw c.in-Check.is (refl, refl, c.check.ensures
 
 pub returns-in-CheckMiss-clause-step : goal.returns-in-CheckMiss-clause-step
 returns-in-CheckMiss-clause-step g c = rw c.in-CheckMiss.is (refl, refl, c.check_miss.ensures)
+
+pub returns-in-CheckDown-clause-step : goal.returns-in-CheckDown-clause-step
+returns-in-CheckDown-clause-step g c = rw c.in-CheckDown.is (refl, refl, c.check_down.ensures)
+
+pub returns-in-CheckOld-clause-step : goal.returns-in-CheckOld-clause-step
+returns-in-CheckOld-clause-step g c = rw c.in-CheckOld.is (refl, refl, c.check_old.ensures)
+
+pub returns-in-AskOld-clause-step : goal.returns-in-AskOld-clause-step
+returns-in-AskOld-clause-step g c = rw c.in-AskOld.is (refl, c.take_answer.ensures.given)
+
+pub returns-in-AskNew-clause-step : goal.returns-in-AskNew-clause-step
+returns-in-AskNew-clause-step g c = rw c.in-AskNew.is (refl, c.take_new.ensures.given)
+
+pub returns-in_default-clause-step : goal.returns-in_default-clause-step
+returns-in_default-clause-step g c = c.act.ensures.step c.args.noise.answer
