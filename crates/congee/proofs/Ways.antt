@@ -1,5 +1,5 @@
 -- The way of a key through an arena.
-use Rattle.std.proofs.Common.{rules, ◌≡◌, ◌≢◌, ℕ, ◌<◌, ◌≤◌, ◌+◌, ◌-◌, inl, inr, true, List, length, get_or, refl, sym, ◌∙◌, ap, subst, arith}
+use Rattle.std.proofs.Common.{rules, ◌≡◌, ◌≢◌, ℕ, ◌<◌, ◌≤◌, ◌-◌, true, List, length, get_or, refl, sym, ap, arith}
 use Rattle.std.specs.Prelude.{Option, Some, None, is_some, cond, IsSome}
 use Rattle.slab.specs.Slab.{get, ContainsKey}
 use Rattle.congee.specs.Heap.{Below, fits, child_for}
@@ -8,10 +8,8 @@ use Rattle.std.specs.FinMap as map
 use Rattle.congee.specs.Forms.{prefix_of, children_of}
 use Rattle.congee.specs.declared.base_node.Node.{Node as Form}
 use Rattle.congee.specs.OwnedSteps.{SameNodes}
-use Rattle.congee.specs.Arena.{Nodes, hung, node_of, heap_of, ledger_of, IsTree, OnWay, Hangs, Reached}
+use Rattle.congee.specs.Arena.{Nodes, hung, node_of, heap_of, ledger_of, IsTree, Hangs, Reached}
 use Rattle.congee.specs.declared.child.Child.{Child}
-use Rattle.std.proofs.lemmas.Bool.{cases_lt}
-use Rattle.congee.proofs.Fits.{fits_byte}
 
 module _ {P : Type 0} where
   -- what a node has for a key

@@ -1,4 +1,4 @@
-use Rattle.std.proofs.Common.{◌≡◌, ◌==◌, true, false, refl, sym, ap, ◌∙◌, length}
+use Rattle.std.proofs.Common.{sym, ap, ◌∙◌}
 use Rattle.crossbeam_epoch.specs.Machine.{after_call}
 use Rattle.crossbeam_epoch.specs.Steps.{outcome_at}
 use Rattle.crossbeam_epoch.specs.declared.places.Phase.TheVariants as P
