@@ -1,7 +1,7 @@
 //! What a line of a script asks for.
 
 /// How a tree is opened. The limits that aren't given stand at their greatest.
-#[derive(Clone, Copy, Debug, PartialEq, Eq)]
+#[derive(Clone, Copy)]
 pub struct Opening {
     pub participants: u64,
     pub cells: u64,
@@ -14,7 +14,7 @@ pub struct Opening {
 }
 
 /// What a worker asks of the tree.
-#[derive(Clone, Copy, Debug, PartialEq, Eq)]
+#[derive(Clone, Copy)]
 pub enum Call {
     Pin,
     Unpin,
@@ -42,7 +42,7 @@ pub enum Call {
 }
 
 /// A command of the script. The first number of those that have a worker is its number.
-#[derive(Clone, Copy, Debug, PartialEq, Eq)]
+#[derive(Clone, Copy)]
 pub enum Command {
     New(Opening),
     Register,

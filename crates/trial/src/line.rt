@@ -18,7 +18,7 @@ pub const LINE_MAX: usize = 1000;
 const WORDS_MAX: usize = 9;
 
 /// What a line of a script is.
-#[derive(Clone, Copy, Debug, PartialEq, Eq)]
+#[derive(Clone, Copy)]
 pub enum Line {
     /// An empty line or a comment.
     Skipped,

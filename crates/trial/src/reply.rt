@@ -6,7 +6,7 @@ use joint::Refusal;
 use std::fmt;
 
 /// Why a line was refused.
-#[derive(Clone, Copy, Debug, PartialEq, Eq)]
+#[derive(Clone, Copy)]
 pub enum Refused {
     /// No tree is open.
     NoTree,
@@ -19,7 +19,7 @@ pub enum Refused {
 }
 
 /// The reply to a line.
-#[derive(Clone, Copy, Debug, PartialEq, Eq)]
+#[derive(Clone, Copy)]
 pub enum Reply {
     Ok,
     /// The number of the worker that was registered.

@@ -6,7 +6,7 @@ use crate::keyword::Keyword;
 use std::str;
 
 /// What a word of a line is.
-#[derive(Clone, Copy, Debug, Default, PartialEq, Eq)]
+#[derive(Clone, Copy, Default)]
 pub enum Word {
     Key(Keyword),
     /// A decimal below 2 ^ 64, without sign or leading zeros.
