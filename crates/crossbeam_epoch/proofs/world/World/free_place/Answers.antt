@@ -1,6 +1,6 @@
 use Rattle.std.proofs.Common.{arith, length}
-use Rattle.crossbeam_epoch.proofs.Held.{all_taken, taken_below}
-use Rattle.crossbeam_epoch.proofs.Within.{free_at, taken_next}
+use Rattle.crossbeam_epoch.proofs.Held.{all_taken}
+use Rattle.crossbeam_epoch.proofs.Within.{taken_next}
 use borrow.Author.Count.{falls}
 use Rattle.crossbeam_epoch.proofs.world.World.free_place.Goals as goal
 
@@ -17,16 +17,10 @@ pub loop-n-smaller : goal.loop-n-smaller
 loop-n-smaller g c = falls (length c.deref-place-items.result.now) c.loop-n.n c.loop-n-test.true
 
 pub loop-n-preserved : goal.loop-n-preserved
-loop-n-preserved g c = taken_next c.deref-place-items.result.now c.loop-n.n c.place-item.result c.loop-n-test.true c.place-item.is c.if-not-place.false c.loop-n.invariant
+loop-n-preserved g c = search taken_next
 
 pub bounds-place-items-n : goal.bounds-place-items-n
 bounds-place-items-n g c = c.loop-n-test.true
 
 pub offset_bounds-place-items-n : goal.offset_bounds-place-items-n
 offset_bounds-place-items-n g c = c.loop-n.auto.n-end
-
-pub returns-then-not-place : goal.returns-then-not-place
-returns-then-not-place g c = record {
-  free = free_at c.args.self.now _ c.deref-place-items.result.now c.loop-n.n c.place-item.result c.self.view_is c.deref-place-items.ensures.value c.loop-n-test.true c.place-item.is c.if-not-place.true;
-  below = λ q lt. taken_below c.args.self.now _ c.deref-place-items.result.now c.loop-n.n q c.self.view_is c.deref-place-items.ensures.value lt c.loop-n.invariant;
-}
