@@ -1,6 +1,6 @@
 use Rattle.std.proofs.Common.{arith, length}
-use Rattle.crossbeam_epoch.proofs.Held.{all_taken}
-use Rattle.crossbeam_epoch.proofs.Within.{taken_next}
+use Rattle.crossbeam_epoch.proofs.Held.{all_taken, taken_below}
+use Rattle.crossbeam_epoch.proofs.Within.{free_at, taken_next}
 use borrow.Author.Count.{falls}
 use Rattle.crossbeam_epoch.proofs.world.World.free_place.Goals as goal
 
@@ -24,3 +24,9 @@ bounds-place-items-n g c = c.loop-n-test.true
 
 pub offset_bounds-place-items-n : goal.offset_bounds-place-items-n
 offset_bounds-place-items-n g c = c.loop-n.auto.n-end
+
+pub returns-then-free : goal.returns-then-free
+returns-then-free g c = record {
+  free = free_at c.args.self.now _ c.deref-place-items.result.now c.loop-n.n c.place-item.result c.self.view_is c.deref-place-items.ensures.value c.loop-n-test.true c.place-item.is c.if-free.true;
+  below = λ q lt. taken_below c.args.self.now _ c.deref-place-items.result.now c.loop-n.n q c.self.view_is c.deref-place-items.ensures.value lt c.loop-n.invariant;
+}
