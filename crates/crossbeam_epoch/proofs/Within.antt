@@ -1,5 +1,5 @@
 -- What a collector's state gives the calls of a step: an index within the table, room for a bag, a ticket that is left.
-use Rattle.std.proofs.Common.{◌≡◌, ℕ, ◌+◌, ◌-◌, ◌^◌, ◌<◌, ◌≤◌, arith, ◌∷◌, [], Bool, true, false, List, Result, Ok, Err, OnOk, refl, sym, ◌∙◌, ap, subst, length, get_or}
+use Rattle.std.proofs.Common.{◌≡◌, ℕ, ◌+◌, ◌-◌, ◌^◌, ◌<◌, ◌≤◌, arith, Bool, true, false, List, Result, Ok, Err, OnOk, sym, ◌∙◌, ap, subst, length, get_or}
 use Rattle.std.specs.Result.{is_err}
 use Rattle.std.proofs.lemmas.List.{get_or_read}
 use borrow.Author.Count.{below_more}

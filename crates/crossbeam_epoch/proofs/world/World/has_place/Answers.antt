@@ -1,4 +1,4 @@
-use Rattle.std.proofs.Common.{◌≡◌, ◌<◌, Bool, true, false, not, sym, ap, ◌∙◌, length}
+use Rattle.std.proofs.Common.{not, sym, ap, ◌∙◌, length}
 use Rattle.std.specs.Prelude.{◌==◌, ◌&&◌}
 use Rattle.crossbeam_epoch.specs.Machine.{place}
 use Rattle.crossbeam_epoch.proofs.Held.{held}

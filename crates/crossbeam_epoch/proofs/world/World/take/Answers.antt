@@ -1,5 +1,5 @@
 use Rattle.std.proofs.Common.{rules, ◌≡◌, ℕ, ◌+◌, ◌<◌, ◌≤◌, arith, Bool, true, false, sym, refl, ap, ◌∙◌, length, get_or}
-use Rattle.std.specs.Prelude.{nat_lt, ◌&&◌, slice_set, if◌then◌else◌}
+use Rattle.std.specs.Prelude.{nat_lt, ◌&&◌, if◌then◌else◌}
 use Rattle.std.proofs.lemmas.Bool.Decides.{nat_tests}
 use Rattle.crossbeam_epoch.specs.Machine.{State, in_phase, is_due, taken, took, with_place}
 use Rattle.crossbeam_epoch.specs.declared.places.Participant.{Participant}
