@@ -17,6 +17,7 @@ pub mod Stages
 pub mod Told
 pub mod Undated
 pub mod Whole
+pub mod Within
 pub mod FaceTags
 pub mod FaceWords
 pub mod RootCalls

@@ -112,7 +112,8 @@ impl<T: Links + Pointable + Drop, J: Task> World<T, J> {
         ensures below { (q : ℕ) → q < unwrap_or result (length self.now.table) → (place self.now q).registered ≡ true }
     {
         for (n, place) in self.participants.iter().enumerate() {
-            if !place.registered {
+            let free = !place.registered;
+            if free {
                 return Some(n);
             }
         }

@@ -1,5 +1,6 @@
 use Rattle.std.proofs.Common.{refl}
 use Rattle.crossbeam_epoch.proofs.Held.{advanced_at, stayed_at}
+use Rattle.crossbeam_epoch.proofs.Within.{within}
 use Rattle.crossbeam_epoch.proofs.world.World.advance.Goals as goal
 
 pub returns-then-seen-self : goal.returns-then-seen-self
@@ -13,3 +14,9 @@ returns g c = record {
   state = advanced_at c.args.self.now _ c.args.who c.args.seen _ c.index_mut-2.result.now c.self.view_is c.requires.in_table c.index_mut-2.ensures.value refl c.if-seen-self.false;
   outcome = refl;
 }
+
+pub index_mut-requires : goal.index_mut-requires
+index_mut-requires g c = within c.args.self.now _ c.args.who _ c.self.view_is c.self.inside.participants.ok.0 c.requires.in_table
+
+pub index_mut-requires-2 : goal.index_mut-requires-2
+index_mut-requires-2 g c = within c.args.self.now _ c.args.who _ c.self.view_is c.self.inside.participants.ok.0 c.requires.in_table

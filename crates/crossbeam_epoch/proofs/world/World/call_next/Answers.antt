@@ -3,6 +3,7 @@ use Rattle.crossbeam_epoch.specs.Machine.{after_call}
 use Rattle.crossbeam_epoch.specs.Steps.{outcome_at}
 use Rattle.crossbeam_epoch.specs.declared.places.Phase.TheVariants as P
 use Rattle.crossbeam_epoch.proofs.Held.{called_none, called_first, written_at}
+use Rattle.crossbeam_epoch.proofs.Within.{within}
 use Rattle.crossbeam_epoch.proofs.world.World.call_next.Goals as goal
 
 pub returns-then-is_empty : goal.returns-then-is_empty
@@ -28,3 +29,6 @@ returns g c =
       outcome = c.outcome_at.ensures ∙ sym (ap (λ p. outcome_at p.phase) (written_at c.args.self.now _ c.args.who (record old { hand = rest; phase = phase }) c.self.view_is c.requires.in_table));
       job = first.1;
     }
+
+pub index_mut-place-requires : goal.index_mut-place-requires
+index_mut-place-requires g c = within c.args.self.now _ c.args.who _ c.self.view_is c.self.inside.participants.ok.0 c.requires.in_table

@@ -36,3 +36,19 @@ returns-in-Err g c = record {
   back = (c.in-Err.ensures.err.1, c.in-Err.ensures.err.0);
   fault = none_given ((Memory ≡ Memory) × (length (place c.args.self.now c.args.who).bag ≡ 64)) (defer_fault c.args.self.now c.args.who) Memory (sym c.defer_fault.ensures.value ∙ c.in_default.is) (refl, c.is_bag_full.ensures.full c.if-not-is_bag_full.false);
 }
+
+pub is_bag_full-requires : goal.is_bag_full-requires
+is_bag_full-requires g c = record { in_table = c.defer_fault.ensures.inside c.in_default.is }
+
+pub put-requires : goal.put-requires
+put-requires g c = record {
+  in_table = c.defer_fault.ensures.inside c.in_default.is;
+  room = c.is_bag_full.ensures.room c.if-not-is_bag_full.true;
+  few = c.defer_fault.ensures.few c.in_default.is;
+}
+
+pub put_anew-requires : goal.put_anew-requires
+put_anew-requires g c = record {
+  in_table = c.defer_fault.ensures.inside c.in_default.is;
+  few = c.defer_fault.ensures.few c.in_default.is;
+}

@@ -1,0 +1,17 @@
+use Rattle.std.proofs.Common.{refl, true}
+use Rattle.crossbeam_epoch.proofs.Held.{placed_at}
+use Rattle.crossbeam_epoch.proofs.Within.{within}
+use Rattle.crossbeam_epoch.proofs.world.World.take_place.Goals as goal
+
+pub index_mut-place-requires : goal.index_mut-place-requires
+index_mut-place-requires g c = within c.args.self.now _ c.in-Some.n _ c.self.view_is c.self.inside.participants.ok.0 c.in-Some.ensures.free.0
+
+pub returns-in-Some : goal.returns-in-Some
+returns-in-Some g c = record {
+  state = placed_at c.args.self.now _ c.in-Some.n _ c.index_mut-place.result.now (λ p. record p { registered = true; pins = 0 }) c.self.view_is c.in-Some.ensures.free.0 c.index_mut-place.ensures.value refl;
+  free = c.in-Some.ensures.free;
+  lowest = c.in-Some.ensures.below;
+}
+
+pub returns-in-None : goal.returns-in-None
+returns-in-None g c = record { state = (refl, refl); free = tt; lowest = c.in-None.ensures.below }
