@@ -470,6 +470,7 @@ impl<C: NodeName, P: Payload> Machine<C, P> {
         if store.check(above) {
             Turn::quiet(Phase::UpgradeOne { one, reply })
         } else {
+            drop(reply);
             back_one(store, one.change);
             Turn::again(self.root)
         }
