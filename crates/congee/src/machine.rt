@@ -6,10 +6,11 @@ ghost use Rattle.congee.specs.Names.{KeepsOrigin};
 ghost use Rattle.congee.specs.Play.{begun, IsNew, Begins};
 ghost use Rattle.congee.specs.Opening.{RootAlone};
 ghost use Rattle.congee.specs.Keys.{key_bytes};
-ghost use Rattle.congee.specs.Steps.{quiet, decided, after_change, after_miss, IsIf, IsChecked, IsAtOld, Acts, Leaves, IsGiven, IsGivenNew, BackOne, BackTwo, BackLeaf, MadeLeaf, MadeGreater, MadeTop, MadeBeside, UpgradedOne, UpgradedAbove, UpgradedBoth, value_hung, ChangedOne, ChangedTwo, IsCheckedAbove, MayStep, MayBackOne, MayBackTwo, MayBackLeaf, MayChangeOne, MayChangeTwo, Changeable, Blank, PutsGreater, PutsFork, PhaseStepped, Stepped};
+ghost use Rattle.congee.specs.Steps.{quiet, answered, refused, decided, after_change, after_miss, IsIf, IsChecked, IsAtOld, Acts, Leaves, IsGiven, IsGivenNew, BackOne, BackTwo, BackLeaf, MadeLeaf, MadeGreater, MadeTop, MadeBeside, UpgradedOne, UpgradedAbove, UpgradedBoth, value_hung, ChangedOne, ChangedTwo, IsCheckedAbove, MayStep, MayBackOne, MayBackTwo, MayBackLeaf, MayChangeOne, MayChangeTwo, Changeable, Blank, PutsGreater, PutsFork, PhaseStepped, Stepped};
 ghost use Rattle.congee.specs.Events.{hung, upgrade_gives};
 ghost use Rattle.congee.specs.declared.store.Upgrade.{Upgrade};
 ghost use Rattle.congee.specs.declared.store.Refusal.{Refusal};
+ghost use Rattle.congee.specs.declared.store.Refusal.TheVariants as refusal;
 ghost use Rattle.congee.specs.declared.phase.Phase.TheVariants as phase;
 
 use crate::base_node::NodeType;
@@ -87,7 +88,7 @@ impl<C: NodeName, P: Payload> Machine<C, P> {
     }
 
     /// The next step of the call.
-    pub fn next<S: Store<C, P>>(&mut self, store: &mut S, noise: Noise<C, P>) -> Move<P>
+    pub fn next<S: Store<C, P>>(&mut self, store: &mut S, mut noise: Noise<C, P>) -> Move<P>
         requires { MayStep C.number (key_bytes self.old.key) self.old.given self.old.phase (S.heap store.old) }
         ensures limit { S.version_max store.new ≡ S.version_max store.old }
         ensures step { Stepped C.number P.same_as P.always_copies (S.version_max store.old) self.old (S.heap store.old) noise.fail noise.answer self.new (S.heap store.new) result }
@@ -95,8 +96,9 @@ impl<C: NodeName, P: Payload> Machine<C, P> {
         ensures origin { KeepsOrigin C.number P.same_as P.always_copies self.old (S.heap store.old) self.new (S.heap store.new) }
     {
         let phase = std::mem::replace(&mut self.phase, Phase::Ended);
-        let turn = self.turn(store, phase, noise);
-        self.phase = turn.phase;
+        let turn = self.turn(store, phase, &mut noise);
+        drop(noise);
+        drop(std::mem::replace(&mut self.phase, turn.phase));
         turn.step
     }
 
@@ -105,27 +107,26 @@ impl<C: NodeName, P: Payload> Machine<C, P> {
         &mut self,
         store: &mut S,
         phase: Phase<C, P>,
-        noise: Noise<C, P>,
+        noise: &mut Noise<C, P>,
     ) -> Turn<C, P>
         requires { MayStep C.number (key_bytes self.old.key) self.old.given phase (S.heap store.old) }
         ensures root { self.new.root ≡ self.old.root }
         ensures key { self.new.key ≡ self.old.key }
         ensures kind { self.new.kind ≡ self.old.kind }
         ensures limit { S.version_max store.new ≡ S.version_max store.old }
-        ensures step { PhaseStepped C.number P.same_as P.always_copies (S.version_max store.old) self.old.root (key_bytes self.old.key) self.old.kind noise.fail noise.answer self.old.given phase (S.heap store.old) self.new.given result (S.heap store.new) }
+        ensures step { PhaseStepped C.number P.same_as P.always_copies (S.version_max store.old) self.old.root (key_bytes self.old.key) self.old.kind noise.old.fail noise.old.answer self.old.given phase (S.heap store.old) self.new.given result (S.heap store.new) }
     {
-        let Noise { fail, seen, answer } = noise;
         match phase {
             Phase::New => Turn::again(self.root),
             Phase::Version { above, node } => {
                 Turn::after_version(self.root, above, node, store.version(node))
             }
             Phase::Read { above, at } => {
-                let reading = store.read(at, &self.key.to_be_bytes(), seen);
+                let reading = store.read(at, &self.key.to_be_bytes(), noise.seen.take());
                 Turn::after_read(self.root, above, at, reading)
             }
             Phase::Check { site, child } => self.check(store, site, child),
-            Phase::CheckUncopied { at } => self.if_taken(store, at, Turn::refused(Refusal::Count)),
+            Phase::CheckUncopied { at } => self.check_uncopied(store, at),
             Phase::CheckMiss {
                 above,
                 at,
@@ -134,10 +135,10 @@ impl<C: NodeName, P: Payload> Machine<C, P> {
             } => self.check_miss(store, above, at, common, byte),
             Phase::CheckDown { above, at, node } => self.check_down(store, above, at, node),
             Phase::CheckOld { above, site, old } => self.check_old(store, above, site, old),
-            Phase::AskOld { site, old } => self.take_answer(site, old, answer),
-            Phase::AskNew { plan } => self.take_new(plan, answer),
-            Phase::Confirm { at, reply } => self.if_taken(store, at, Turn::answered(reply)),
-            phase => self.act(store, phase, fail),
+            Phase::AskOld { site, old } => self.take_answer(site, old, noise.answer.take()),
+            Phase::AskNew { plan } => self.take_new(plan, noise.answer.take()),
+            Phase::Confirm { at, reply } => self.confirm(store, at, reply),
+            phase => self.act(store, phase, noise.fail),
         }
     }
 
@@ -207,17 +208,29 @@ impl<C: NodeName, P: Payload> Machine<C, P> {
                 store.unlock(node);
                 Turn::unwound(self.root, refusal)
             }
-            _ => Turn::quiet(Phase::Ended),
+            phase => Turn::quiet(phase),
         }
     }
 
-    /// What follows where the node's lock word is the one that was taken; else the call begins anew.
-    fn if_taken<S: Store<C, P>>(&self, store: &S, at: Seat<C>, then: Turn<C, P>) -> Turn<C, P>
+    /// Checks the node whose value couldn't be copied.
+    fn check_uncopied<S: Store<C, P>>(&self, store: &S, at: Seat<C>) -> Turn<C, P>
         requires { Stands (S.heap store.now (C.number at.node)) }
-        ensures { IsIf (is_taken (S.heap store.now (C.number at.node)) at.version) self.now.root (λ u. u ≡ then) result }
+        ensures { IsIf (is_taken (S.heap store.now (C.number at.node)) at.version) self.now.root (λ u. u ≡ refused refusal.Count) result }
     {
         if store.check(at) {
-            then
+            Turn::refused(Refusal::Count)
+        } else {
+            Turn::again(self.root)
+        }
+    }
+
+    /// Checks the node once more, where the call leaves the value as it is.
+    fn confirm<S: Store<C, P>>(&self, store: &S, seat: Seat<C>, reply: Reply<P>) -> Turn<C, P>
+        requires { Stands (S.heap store.now (C.number seat.node)) }
+        ensures { IsIf (is_taken (S.heap store.now (C.number seat.node)) seat.version) self.now.root (λ u. u ≡ answered reply) result }
+    {
+        if store.check(seat) {
+            Turn::answered(reply)
         } else {
             Turn::again(self.root)
         }
@@ -457,6 +470,7 @@ impl<C: NodeName, P: Payload> Machine<C, P> {
         if store.check(above) {
             Turn::quiet(Phase::UpgradeOne { one, reply })
         } else {
+            drop(reply);
             back_one(store, one.change);
             Turn::again(self.root)
         }
@@ -477,10 +491,12 @@ impl<C: NodeName, P: Payload> Machine<C, P> {
         match store.upgrade(one.at, fail) {
             Upgrade::Locked => Turn::quiet(Phase::ChangeOne { one, reply }),
             Upgrade::Failed => {
+                drop(reply);
                 back_one(store, one.change);
                 Turn::again(self.root)
             }
             Upgrade::Exhausted => {
+                drop(reply);
                 back_one(store, one.change);
                 Turn::refused(Refusal::Exhausted)
             }
@@ -502,10 +518,12 @@ impl<C: NodeName, P: Payload> Machine<C, P> {
         match store.upgrade(two.seat_above(), fail) {
             Upgrade::Locked => Turn::quiet(Phase::UpgradeBoth { two, reply }),
             Upgrade::Failed => {
+                drop(reply);
                 back_two(store, two.change);
                 Turn::again(self.root)
             }
             Upgrade::Exhausted => {
+                drop(reply);
                 back_two(store, two.change);
                 Turn::refused(Refusal::Exhausted)
             }
@@ -702,6 +720,7 @@ fn upgrade_both<C: NodeName, P: Payload, S: Store<C, P>>(
     match store.upgrade(two.at, fail) {
         Upgrade::Locked => Turn::quiet(Phase::ChangeTwo { two, reply }),
         Upgrade::Failed => {
+            drop(reply);
             back_two(store, two.change);
             Turn::quiet(Phase::Unwind {
                 node,
@@ -709,6 +728,7 @@ fn upgrade_both<C: NodeName, P: Payload, S: Store<C, P>>(
             })
         }
         Upgrade::Exhausted => {
+            drop(reply);
             back_two(store, two.change);
             Turn::quiet(Phase::Unwind {
                 node,

@@ -8,10 +8,10 @@ returns-clause-keeps g c = stepped_keeps _ _ _ (g.S.Store.version_max c.args.sto
   root = search (rules, c.turn-turn.ensures.root);
   key = search (rules, c.turn-turn.ensures.key);
   kind = search (rules, c.turn-turn.ensures.kind);
-  step = rw (← c.replace-phase.ensures.value) c.turn-turn.ensures.step;
+  step = rw (← c.replace-phase.ensures.value, c.replace.ensures.after) c.turn-turn.ensures.step;
 })
 
 pub returns-clause-origin : goal.returns-clause-origin
-returns-clause-origin g c = stepped_origin g.C.NodeName.number g.P.Payload.same_as g.P.Payload.always_copies (g.S.Store.version_max c.args.store.now) c.args.self.now (g.S.Store.heap c.args.store.now) c.args.noise.fail c.args.noise.answer
+returns-clause-origin g c = rw c.replace.ensures.after (stepped_origin g.C.NodeName.number g.P.Payload.same_as g.P.Payload.always_copies (g.S.Store.version_max c.args.store.now) c.args.self.now (g.S.Store.heap c.args.store.now) c.args.noise.fail c.args.noise.answer
     c.turn-turn.new.self.given c.turn-turn.result (record c.turn-turn.new.self { phase = c.turn-turn.result.phase }) (g.S.Store.heap c.turn-turn.new.store) refl
-    (rw (← c.replace-phase.ensures.value) c.turn-turn.ensures.step)
+    (rw (← c.replace-phase.ensures.value) c.turn-turn.ensures.step))
