@@ -97,6 +97,8 @@ impl<C: NodeName, P: Payload> Machine<C, P> {
     {
         let phase = std::mem::replace(&mut self.phase, Phase::Ended);
         let turn = self.turn(store, phase, &mut noise);
+        // What isn't wanted any more is handed to `drop`, here and below: in place it would be a step for each variant,
+        // which the checker goes through at each branch.
         drop(noise);
         drop(std::mem::replace(&mut self.phase, turn.phase));
         turn.step
