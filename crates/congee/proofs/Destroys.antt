@@ -10,7 +10,7 @@ use Rattle.congee.specs.declared.phase.Double.TheVariants.{Unlink, Grow, GrowLin
 use Rattle.congee.specs.declared.phase.Plan.{Plan}
 use Rattle.congee.specs.declared.phase.Plan.TheVariants.{Here, Above}
 use Rattle.congee.specs.declared.phase.Phase.{Phase}
-use Rattle.congee.specs.declared.phase.Phase.TheVariants.{New, Version, Read, Check, CheckUncopied, CheckMiss, CheckDown, CheckOld, MakeLeaf, MakeGreater, MakeTop, MakeBeside, AskOld, AskNew, Confirm, CheckAbove, UpgradeOne, ChangeOne, UpgradeAbove, UpgradeBoth, ChangeTwo, Obsolete, Retire, UnlockBelow, Unlock, Unwind, Ended}
+use Rattle.congee.specs.declared.phase.Phase.TheVariants.{New, Version, Read, Check, CheckUncopied, CheckMiss, CheckDown, CheckOld, MakeLeaf, MakeGreater, MakeTop, MakeBeside, AskOld, AskNew, Confirm, CheckAbove, UpgradeOne, ChangeOne, UpgradeAbove, UpgradeBoth, ChangeTwo, Obsolete, Retire, UnlockBelow, Unlock, Unwind, Sweep, Ended}
 use Rattle.congee.specs.declared.machine.Machine.{Machine}
 use Rattle.congee.specs.Heap.{Node, walk}
 use Rattle.congee.specs.Keys.{key_bytes}
@@ -78,6 +78,7 @@ module _ {C : Type 0} (number : C → ℕ) (K : ℕ → Type 0) (n : ℕ) where
     made_named (UnlockBelow m p r) e x = absurd x
     made_named (Unlock m r) e x = absurd x
     made_named (Unwind m f) e x = absurd x
+    made_named (Sweep s) e x = absurd x
     made_named Ended e x = absurd x
 
     pub locked_named : (s : Phase C V) → Each K (names number s) → LockedBy number s n → K n
@@ -111,6 +112,7 @@ module _ {C : Type 0} (number : C → ℕ) (K : ℕ → Type 0) (n : ℕ) where
     locked_named (UnlockBelow m p r) e (inr x) = at_name m x e.0
     locked_named (Unlock m r) e x = at_name m x e.0
     locked_named (Unwind m f) e x = at_name m x e.0
+    locked_named (Sweep s) e x = absurd x
     locked_named Ended e x = absurd x
 
 -- the note of a destroyed node, and of one that is as it was

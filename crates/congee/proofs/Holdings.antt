@@ -19,7 +19,7 @@ use Rattle.congee.specs.declared.phase.Two.{Two}
 use Rattle.congee.specs.declared.phase.Plan.{Plan}
 use Rattle.congee.specs.declared.phase.Plan.TheVariants.{Here, Above}
 use Rattle.congee.specs.declared.phase.Phase.{Phase}
-use Rattle.congee.specs.declared.phase.Phase.TheVariants.{New, Version, Read, Check, CheckUncopied, CheckMiss, CheckDown, CheckOld, MakeLeaf, MakeGreater, MakeTop, MakeBeside, AskOld, AskNew, Confirm, CheckAbove, UpgradeOne, ChangeOne, UpgradeAbove, UpgradeBoth, ChangeTwo, Obsolete, Retire, UnlockBelow, Unlock, Unwind, Ended}
+use Rattle.congee.specs.declared.phase.Phase.TheVariants.{New, Version, Read, Check, CheckUncopied, CheckMiss, CheckDown, CheckOld, MakeLeaf, MakeGreater, MakeTop, MakeBeside, AskOld, AskNew, Confirm, CheckAbove, UpgradeOne, ChangeOne, UpgradeAbove, UpgradeBoth, ChangeTwo, Obsolete, Retire, UnlockBelow, Unlock, Unwind, Sweep, Ended}
 use Rattle.congee.specs.declared.turn.Turn.{Turn}
 use Rattle.congee.specs.Heap.{Node, Hung, Below, is_taken}
 use Rattle.congee.specs.Events.{SameBut, NewNode, ChangeGives, TakeOverGives, BackGives}
@@ -549,4 +549,5 @@ module _ {C V : Type 0} (number : C → ℕ) (same : V → V → Bool) (always :
       ]))
   step_holds most root kind fail answer given (Unlock n r) given' turn o m x x' g = at_turn _ turn g.2 (unlocks (number n) g.1 (λ u. u ≡ number n) o m Ended (λ u y. inl y))
   step_holds most root kind fail answer given (Unwind n e) given' turn o m x x' g = unwound_holds root e turn g.2 (λ s. unlocks (number n) g.1 (λ u. u ≡ number n) o m s (λ u z. inl z))
+  step_holds most root kind fail answer given (Sweep s) given' turn o m x x' g = calm_bare g.0 o m turn.phase
   step_holds most root kind fail answer given Ended given' turn o m x x' g = calm_bare g.0 o m turn.phase

@@ -69,3 +69,17 @@ pub mod Tallies
 pub mod Origins
 pub mod Destroys
 pub mod Surveys
+pub mod Regions
+pub mod Sweeps
+pub mod SweepRuns
+pub mod SweepBytes
+pub mod SweepWays
+pub mod SweepKept
+pub mod SweepTurns
+pub mod SweepStays
+pub mod SweepWants
+pub mod SweepRely
+pub mod SweepNames
+pub mod SweepFlights
+pub mod Seats
+pub mod RegionBytes

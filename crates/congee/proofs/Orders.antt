@@ -31,7 +31,7 @@ byte_small q j l = omega (arith, digit q j l)
 abbrev pub top : ℕ → ℕ → ℕ
 top q j = q / 2 ^ (8 * (8 - j))
 
-top_step : (q j : ℕ) → j < 8 → top q (j + 1) ≡ 256 * top q j + get_or (key_bytes q) j 0
+pub top_step : (q j : ℕ) → j < 8 → top q (j + 1) ≡ 256 * top q j + get_or (key_bytes q) j 0
 top_step q j l =
     let e : top q (j + 1) ≡ q / 2 ^ (8 * (7 - j)) = ap (λ i. q / 2 ^ i) (omega (arith, l)) in
     let up : top q j ≡ q / 2 ^ (8 * (7 - j)) / 256 = ap (λ i. q / 2 ^ i) (let i : 8 * (8 - j) ≡ 8 * (7 - j) + 8 = omega (arith, l) in i) ∙ sym (shr-shr q (8 * (7 - j)) 8) in

@@ -28,12 +28,12 @@ use Rattle.congee.specs.declared.phase.Two.{Two}
 use Rattle.congee.specs.declared.phase.Plan.{Plan}
 use Rattle.congee.specs.declared.phase.Plan.TheVariants.{Here, Above}
 use Rattle.congee.specs.declared.phase.Phase.{Phase}
-use Rattle.congee.specs.declared.phase.Phase.TheVariants.{New, Version, Read, Check, CheckUncopied, CheckMiss, CheckDown, CheckOld, MakeLeaf, MakeGreater, MakeTop, MakeBeside, AskOld, AskNew, Confirm, CheckAbove, UpgradeOne, ChangeOne, UpgradeAbove, UpgradeBoth, ChangeTwo, Obsolete, Retire, UnlockBelow, Unlock, Unwind, Ended}
+use Rattle.congee.specs.declared.phase.Phase.TheVariants.{New, Version, Read, Check, CheckUncopied, CheckMiss, CheckDown, CheckOld, MakeLeaf, MakeGreater, MakeTop, MakeBeside, AskOld, AskNew, Confirm, CheckAbove, UpgradeOne, ChangeOne, UpgradeAbove, UpgradeBoth, ChangeTwo, Obsolete, Retire, UnlockBelow, Unlock, Unwind, Sweep, Ended}
 use Rattle.congee.specs.declared.turn.Turn.{Turn}
 use Rattle.congee.specs.declared.machine.Machine.{Machine}
 use Rattle.congee.specs.Heap.{Node, Below, is_taken}
 use Rattle.congee.specs.Events.{hung}
-use Rattle.congee.specs.Steps.{quiet, again, answered, finished, refused, decided, Uncounted, adds, asks_new, absent_reply, seat_above, after_version, after_read, down, started, ready, plan_here, unless_full, absent, IsAsked, replaced, taken_out, emptied, is_same, IsAtOld, IsAdded, IsExchanged, IsPresent, IsChecked, after_miss, IsGiven, IsGivenNew, MadeLeaf, greater, MadeGreater, MadeTop, MadeBeside, UpgradedOne, UpgradedAbove, UpgradedBoth, after_change, unwound, PhaseStepped}
+use Rattle.congee.specs.Steps.{quiet, swept, again, answered, finished, refused, decided, Uncounted, adds, asks_new, absent_reply, seat_above, after_version, after_read, down, started, ready, plan_here, unless_full, absent, IsAsked, replaced, taken_out, emptied, is_same, IsAtOld, IsAdded, IsExchanged, IsPresent, IsChecked, after_miss, IsGiven, IsGivenNew, MadeLeaf, greater, MadeGreater, MadeTop, MadeBeside, UpgradedOne, UpgradedAbove, UpgradedBoth, after_change, unwound, PhaseStepped}
 use Rattle.congee.specs.Keys.{key_bytes}
 use Rattle.congee.specs.Ledger.{Note, Linked, Words}
 use Rattle.congee.specs.Protocol.{Knows, Known}
@@ -41,6 +41,7 @@ use Rattle.congee.specs.Names.{name_above, name_seated, name_made, names_for_one
 use Rattle.congee.proofs.Each.{Each, both, left, right}
 use Rattle.congee.proofs.Graft.{on_test}
 use Rattle.congee.proofs.Touch.{by_test, taken_linked}
+use Rattle.congee.proofs.SweepNames.{sweep_names}
 use Rattle.congee.proofs.Unlinking.{linked_in}
 
 -- the names of a next phase all have what the names before it, the root's and the new ones have
@@ -265,6 +266,7 @@ module _ {C : Type 0} (V : Type 0) (number : C → ℕ) (K : ℕ → Type 0) whe
       step_names (UnlockBelow n p r) m g e = at_turn turn (quiet (Unlock p r)) g.2 (e.1.0, tt)
       step_names (Unlock n r) m g e = at_turn turn (finished r) g.2 tt
       step_names (Unwind n r) m g e = at_turn turn _ g.2 (of_unwound root top r)
+      step_names (Sweep s) m g e = at_turn turn (swept g.2.0 g.2.1) g.2.3 (sweep_names number always a h K root top hangs w s (g.2.0, g.2.1) m g.2.2 e)
       step_names Ended m g e = at_turn turn (quiet Ended) g.2 tt
 
 -- a step by the table gives the call names of known origin

@@ -11,7 +11,7 @@ use Rattle.congee.specs.declared.phase.Double.TheVariants.{Unlink, Grow, GrowLin
 use Rattle.congee.specs.declared.phase.Plan.{Plan}
 use Rattle.congee.specs.declared.phase.Plan.TheVariants.{Here, Above}
 use Rattle.congee.specs.declared.phase.Phase.{Phase}
-use Rattle.congee.specs.declared.phase.Phase.TheVariants.{New, Version, Read, Check, CheckUncopied, CheckMiss, CheckDown, CheckOld, MakeLeaf, MakeGreater, MakeTop, MakeBeside, AskOld, AskNew, Confirm, CheckAbove, UpgradeOne, ChangeOne, UpgradeAbove, UpgradeBoth, ChangeTwo, Obsolete, Retire, UnlockBelow, Unlock, Unwind, Ended}
+use Rattle.congee.specs.declared.phase.Phase.TheVariants.{New, Version, Read, Check, CheckUncopied, CheckMiss, CheckDown, CheckOld, MakeLeaf, MakeGreater, MakeTop, MakeBeside, AskOld, AskNew, Confirm, CheckAbove, UpgradeOne, ChangeOne, UpgradeAbove, UpgradeBoth, ChangeTwo, Obsolete, Retire, UnlockBelow, Unlock, Unwind, Sweep, Ended}
 use Rattle.congee.specs.declared.turn.Turn.{Turn}
 use Rattle.congee.specs.declared.machine.Machine.{Machine}
 use Rattle.congee.specs.Heap.{Node}
@@ -97,6 +97,7 @@ module _ {C V : Type 0} (number : C → ℕ) (same : V → V → Bool) (always :
   made_held (UnlockBelow m p r) x l = absurd l
   made_held (Unlock m r) x l = absurd l
   made_held (Unwind m e) x l = absurd l
+  made_held (Sweep s) x l = absurd l
   made_held Ended x l = absurd l
 
   owned_at : (m : ℕ) → (a m).owner ≡ Some i → n ≡ m → (a n).owner ≡ Some i
@@ -133,6 +134,7 @@ module _ {C V : Type 0} (number : C → ℕ) (same : V → V → Bool) (always :
   locks_owned (UnlockBelow m p r) x (inr l) = owned_at (number m) x.0.owner l
   locks_owned (Unlock m r) x l = owned_at (number m) x.owner l
   locks_owned (Unwind m e) x l = owned_at (number m) x.1.owner l
+  locks_owned (Sweep s) x l = absurd l
   locks_owned Ended x l = absurd l
 
   linked_gone : (m : ℕ) → (a m).status ≡ Linked → n ≡ m → (a n).status ≡ Gone → ⊥
@@ -170,6 +172,7 @@ module _ {C V : Type 0} (number : C → ℕ) (same : V → V → Bool) (always :
   gone_taken t (UnlockBelow m p r) x (inr l) g = linked_gone (number m) x.0.linked l g
   gone_taken t (Unlock m r) x l g = linked_gone (number m) x.linked l g
   gone_taken t (Unwind m e) x l g = linked_gone (number m) x.1.linked l g
+  gone_taken t (Sweep s) x l g = absurd l
   gone_taken t Ended x l g = absurd l
 
   -- it is marked, and then handed over
@@ -201,6 +204,7 @@ module _ {C V : Type 0} (number : C → ℕ) (same : V → V → Bool) (always :
   taken_on most root fail answer (UnlockBelow m p r) given' turn h' g l = absurd l
   taken_on most root fail answer (Unlock m r) given' turn h' g l = absurd l
   taken_on most root fail answer (Unwind m e) given' turn h' g l = absurd l
+  taken_on most root fail answer (Sweep s) given' turn h' g l = absurd l
   taken_on most root fail answer Ended given' turn h' g l = absurd l
 
 module _ {C V : Type 0} (number : C → ℕ) (same : V → V → Bool) (always : Bool) (i : ℕ) (a : ℕ → Note) (h : ℕ → Node V) (a' : ℕ → Note) (h' : ℕ → Node V) (ms : List (Machine C V)) (m m' : Machine C V)

@@ -13,14 +13,16 @@ use Rattle.congee.specs.declared.phase.Plan.{Plan}
 use Rattle.congee.specs.declared.phase.Plan.TheVariants.{Here, Above}
 use Rattle.congee.specs.declared.phase.Kind.{Kind}
 use Rattle.congee.specs.declared.phase.Phase.{Phase}
-use Rattle.congee.specs.declared.phase.Phase.TheVariants.{New, Version, Read, Check, CheckUncopied, CheckMiss, CheckDown, CheckOld, MakeLeaf, MakeGreater, MakeTop, MakeBeside, AskOld, AskNew, Confirm, CheckAbove, UpgradeOne, ChangeOne, UpgradeAbove, UpgradeBoth, ChangeTwo, Obsolete, Retire, UnlockBelow, Unlock, Unwind, Ended}
+use Rattle.congee.specs.declared.phase.Phase.TheVariants.{New, Version, Read, Check, CheckUncopied, CheckMiss, CheckDown, CheckOld, MakeLeaf, MakeGreater, MakeTop, MakeBeside, AskOld, AskNew, Confirm, CheckAbove, UpgradeOne, ChangeOne, UpgradeAbove, UpgradeBoth, ChangeTwo, Obsolete, Retire, UnlockBelow, Unlock, Unwind, Sweep, Ended}
 use Rattle.congee.specs.declared.store.Seat.{Seat}
-use Rattle.congee.specs.Heap.{Node, Hung, fits, is_taken}
+use Rattle.congee.specs.Heap.{Node, Hung}
 use Rattle.congee.specs.Events.{hung, Parts}
-use Rattle.congee.specs.Ledger.{Note, Held, is_published}
-use Rattle.congee.specs.Protocol.{Seated, Fresh, ChildOf, IsAbove, Knows, Made, Holding, PlacedOne, WantedOne, MadeOne, OneKnown, OneLocked, PlacedTwo, WantedTwo, MadeTwo, TwoKnown, AboveLocked, HalfLocked, TwoLocked, TakenOut, SeatedIf, PlanKnown, MadeLeafFor, Known, Rely}
+use Rattle.congee.specs.Ledger.{Note}
+use Rattle.congee.specs.Protocol.{ChildOf, IsAbove, Knows, Made, PlacedOne, WantedOne, MadeOne, OneKnown, OneLocked, PlacedTwo, WantedTwo, MadeTwo, TwoKnown, AboveLocked, HalfLocked, TwoLocked, TakenOut, SeatedIf, PlanKnown, MadeLeafFor, Known, Rely}
 use Rattle.congee.specs.Names.{name_above, name_seated, name_made, names_site, names_one, names_plan, names}
 use Rattle.congee.proofs.Each.{Each, left, right}
+pub use Rattle.congee.proofs.Seats.{seated_kept, fresh_kept, fits_kept, holding_kept, made_kept}
+use Rattle.congee.proofs.SweepRely.{sweep_known_kept}
 
 pub rely_still : {V : Type 0} (K : ℕ → Type 0) (i : ℕ) (a : ℕ → Note) (h : ℕ → Node V) → Rely K i a h a h
 rely_still K i a h = record {
@@ -31,41 +33,6 @@ rely_still K i a h = record {
   mine = λ n e. (refl, refl, refl);
   held = λ n e. (refl, refl);
 }
-
-module _ {V : Type 0} (K : ℕ → Type 0) (i : ℕ) (a : ℕ → Note) (h : ℕ → Node V) (a' : ℕ → Note) (h' : ℕ → Node V) (r : Rely K i a h a' h') where
-  pub seated_kept : (n v : ℕ) → K n → Seated a h n v → Seated a' h' n v
-  seated_kept n v k s = record { published = r.published n k s.published; up = omega (arith, s.up, r.version n k s.published) }
-
-  pub fresh_kept : (n v : ℕ) (Q : Node V → Type 0) → K n → Fresh a h n v Q → Fresh a' h' n v Q
-  fresh_kept n v Q k f = record {
-    seated = seated_kept n v k f.seated;
-    holds = λ t. let e : h' n ≡ h n = r.word n v k f.seated.published f.seated.up t in
-        subst Q (sym e) (f.holds (let P : Node V → Type 0 = λ x. is_taken x v ≡ true in subst P e t));
-  }
-
-  pub fits_kept : (n : ℕ) (key : List ℕ) (b : Bool) → K n → is_published (a n).status ≡ true → fits (h n).prefix key ≡ b → fits (h' n).prefix key ≡ b
-  fits_kept n key b k p e = rw (r.prefix n k p) e
-
-  pub holding_kept : (n : ℕ) → Holding i a n → Holding i a' n
-  holding_kept n x = let e : (h' n ≡ h n) × ((a' n).status ≡ (a n).status) × ((a' n).owner ≡ (a n).owner) = r.mine n x.owner in
-      record { owner = e.2 ∙ x.owner; linked = e.1 ∙ x.linked }
-
-  pub made_kept : (key : List ℕ) (c size least : ℕ) → Made i a h key c size least → Made i a' h' key c size least
-  made_kept key c size least x = let e : (h' c ≡ h c) × (a' c ≡ a c) = r.held c x.held in
-      let P : Note → Node V → Type 0 = λ y z. (y.status ≡ Held i) × (y.owner ≡ None) × (fits z.prefix key ≡ true) × (length z.prefix ≡ size) in
-      record {
-        held = rw e.1 x.held;
-        unowned = rw e.1 x.unowned;
-        fitted = rw e.0 x.fitted;
-        long = rw e.0 x.long;
-        blank = λ b. rw e.0 (x.blank b);
-        empty = rw e.0 x.empty;
-        room = rw e.0 x.room;
-        made = rw e.0 x.made;
-        kept = rw e.0 x.kept;
-        unretired = rw e.0 x.unretired;
-        unlocked = rw e.0 x.unlocked;
-      }
 
 module _ {C V : Type 0} (number : C → ℕ) (key : List ℕ) (K : ℕ → Type 0) (i : ℕ) (a : ℕ → Note) (h : ℕ → Node V) (a' : ℕ → Note) (h' : ℕ → Node V) (r : Rely K i a h a' h') where
   pub child_kept : (p : Parent C) (n : ℕ) → K (number p.seat.node) → ChildOf number a h key p n → ChildOf number a' h' key p n
@@ -269,4 +236,5 @@ known_kept number same always K i a h a' h' r k key kind given (UnlockBelow c p 
     (holding_kept K i a h a' h' r (number c) m.0, holding_kept K i a h a' h' r (number p) m.1, m.2)
 known_kept number same always K i a h a' h' r k key kind given (Unlock c reply) n m = holding_kept K i a h a' h' r (number c) m
 known_kept number same always K i a h a' h' r k key kind given (Unwind c e) n m = (m.0, holding_kept K i a h a' h' r (number c) m.1)
+known_kept number same always K i a h a' h' r k key kind given (Sweep s) n m = sweep_known_kept number always K i a h a' h' r s n m
 known_kept number same always K i a h a' h' r k key kind given Ended n m = tt

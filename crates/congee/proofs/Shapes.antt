@@ -36,21 +36,22 @@ use Rattle.congee.specs.Play.{Question, Unasked, Asked, Replied, Pending, Decide
 use Rattle.congee.proofs.Graft.{on_test}
 use Rattle.congee.proofs.Touch.{by_test}
 
--- the call may go to work on its value: it has its closure's answer, or no closure
-abbrev pub Ripe : {V : Type 0} → Kind V → Question → Type 0
-Ripe kind q = Carries q (heeding kind)
+-- the call may go to work on its value, or give that reply: it has its closure's answer to a question about what it found, or no closure
+abbrev pub Ripe : {V : Type 0} → Reply V → Question V → Type 0
+Ripe r q = Carries q (heeding r)
 
 -- a call that is at work may
-pub ripe_at_work : {V : Type 0} (kind : Kind V) → Ripe kind (heeding kind)
-ripe_at_work Get = tt
-ripe_at_work Insert = tt
-ripe_at_work Remove = tt
-ripe_at_work ComputePresent = refl
-ripe_at_work ComputeInsert = refl
-ripe_at_work (Exchange x) = tt
+pub ripe_at_work : {V : Type 0} (r : Reply V) → Ripe r (heeding r)
+ripe_at_work (reply.Get x) = tt
+ripe_at_work (reply.Insert x) = tt
+ripe_at_work (reply.Remove x) = tt
+ripe_at_work (reply.ComputePresent None) = tt
+ripe_at_work (reply.ComputePresent (Some x)) = refl
+ripe_at_work (reply.ComputeInsert x) = refl
+ripe_at_work (reply.Exchange x) = tt
 
 -- one that puts its value at an absent key without a question has no closure
-ripe_new : {V : Type 0} (kind : Kind V) (q : Question) → adds kind ≡ true → asks_new kind ≡ false → Ripe kind q
+ripe_new : {V : Type 0} (kind : Kind V) (q : Question V) → adds kind ≡ true → asks_new kind ≡ false → Ripe (absent_reply kind) q
 ripe_new Get q e f = tt
 ripe_new Insert q e f = tt
 ripe_new Remove q e f = tt
@@ -58,47 +59,42 @@ ripe_new ComputePresent q e f = absurd cc
 ripe_new ComputeInsert q e f = absurd cc
 ripe_new (Exchange x) q e f = tt
 
--- the reply is one that the call may give: on its closure's answer, or where it wants none
-abbrev pub Fair : {V : Type 0} → Kind V → Question → Reply V → Type 0
-Fair ComputePresent q r = (q ≡ Replied) ⊎ (r ≡ reply.ComputePresent None)
-Fair ComputeInsert q r = q ≡ Replied
-Fair _ q r = Unit {0}
+-- a call that asks for an absent key has a closure
+asks_for : {V : Type 0} (kind : Kind V) → asks_new kind ≡ true → Asking kind
+asks_for Get e = absurd cc
+asks_for Insert e = absurd cc
+asks_for Remove e = absurd cc
+asks_for ComputePresent e = tt
+asks_for ComputeInsert e = tt
+asks_for (Exchange x) e = absurd cc
 
-pub fair : {V : Type 0} (kind : Kind V) (r : Reply V) → Fair kind (heeding kind) r
-fair Get r = tt
-fair Insert r = tt
-fair Remove r = tt
-fair ComputePresent r = inl refl
-fair ComputeInsert r = refl
-fair (Exchange x) r = tt
-
-pub fair_absent : {V : Type 0} (kind : Kind V) (q : Question) → adds kind ≡ false → Fair kind q (absent_reply kind)
+pub fair_absent : {V : Type 0} (kind : Kind V) (q : Question V) → adds kind ≡ false → Ripe (absent_reply kind) q
 fair_absent Get q e = tt
 fair_absent Insert q e = tt
 fair_absent Remove q e = tt
-fair_absent ComputePresent q e = inr refl
+fair_absent ComputePresent q e = tt
 fair_absent ComputeInsert q e = absurd cc
 fair_absent (Exchange x) q e = tt
 
 -- `v` was the call's value, `v1` is it after an answer, and v' is what the machine has after the step; q is what the
 -- call has of its closure
-pub data Shape {C V : Type 0} (k : ℕ) (kind : Kind V) (v v1 v' : Option V) (q : Question) (t : Turn C V) : Type 0 where
-  GoesOn : (s : Phase C V) (q' : Question) → t ≡ quiet s → flight_in k kind v' s ≡ Pending k kind v1 q' → Carries q q' → Shape k kind v v1 v' q t
-  Wonders : (s : Phase C V) (o : Option V) → t ≡ asking s o → flight_in k kind v' s ≡ Pending k kind v1 Asked → Shape k kind v v1 v' q t
+pub data Shape {C V : Type 0} (k : ℕ) (kind : Kind V) (v v1 v' : Option V) (q : Question V) (t : Turn C V) : Type 0 where
+  GoesOn : (s : Phase C V) (q' : Question V) → t ≡ quiet s → flight_in k kind v' s ≡ Pending k kind v1 q' → Carries q q' → Shape k kind v v1 v' q t
+  Wonders : (s : Phase C V) (o : Option V) → t ≡ asking s o → Asking kind → flight_in k kind v' s ≡ Pending k kind v1 (Asked o) → Shape k kind v v1 v' q t
   Stops : (e : Refusal) → t ≡ refused e → Shape k kind v v1 v' q t
-  Replies : (r : Reply V) → t ≡ answered r → v1 ≡ v → Fair kind q r → Shape k kind v v1 v' q t
-  Takes : (s : Phase C V) (r : Reply V) → t ≡ decided s → flight_in k kind v' s ≡ Decided r → reply_in s ≡ Some r → v1 ≡ v → Fair kind q r → Shape k kind v v1 v' q t
+  Replies : (r : Reply V) → t ≡ answered r → v1 ≡ v → Ripe r q → Shape k kind v v1 v' q t
+  Takes : (s : Phase C V) (r : Reply V) → t ≡ decided s → flight_in k kind v' s ≡ Decided r → reply_in s ≡ Some r → v1 ≡ v → Ripe r q → Shape k kind v v1 v' q t
 
 -- where a step of the call may lead, whatever its value is after an answer
-module _ {C V : Type 0} (k : ℕ) (v v1 v' : Option V) (e : v' ≡ v1) (q : Question) where
+module _ {C V : Type 0} (k : ℕ) (v v1 v' : Option V) (e : v' ≡ v1) (q : Question V) where
   on : (kind : Kind V) (s : Phase C V) → flight_in k kind v' s ≡ Pending k kind v' Unasked → Shape k kind v v1 v' q (quiet s)
   on kind s f = GoesOn s Unasked refl (f ∙ ap (λ x. Pending k kind x Unasked) e) tt
 
-  works : (kind : Kind V) (s : Phase C V) → Ripe kind q → flight_in k kind v' s ≡ Pending k kind v' (heeding kind) → Shape k kind v v1 v' q (quiet s)
-  works kind s c f = GoesOn s (heeding kind) refl (f ∙ ap (λ x. Pending k kind x (heeding kind)) e) c
+  works : (kind : Kind V) (r : Reply V) (s : Phase C V) → Ripe r q → flight_in k kind v' s ≡ Pending k kind v' (heeding r) → Shape k kind v v1 v' q (quiet s)
+  works kind r s c f = GoesOn s (heeding r) refl (f ∙ ap (λ x. Pending k kind x (heeding r)) e) c
 
-  wonders : (kind : Kind V) (s : Phase C V) (o : Option V) → flight_in k kind v' s ≡ Pending k kind v' Asked → Shape k kind v v1 v' q (asking s o)
-  wonders kind s o f = Wonders s o refl (f ∙ ap (λ x. Pending k kind x Asked) e)
+  wonders : (kind : Kind V) (s : Phase C V) (o : Option V) → Asking kind → flight_in k kind v' s ≡ Pending k kind v' (Asked o) → Shape k kind v v1 v' q (asking s o)
+  wonders kind s o w f = Wonders s o refl w (f ∙ ap (λ x. Pending k kind x (Asked o)) e)
 
   to : (kind : Kind V) (x y : Turn C V) → y ≡ x → Shape k kind v v1 v' q x → Shape k kind v v1 v' q y
   to kind x y p s = subst (λ (z : Turn C V). Shape k kind v v1 v' q z) (sym p) s
@@ -109,13 +105,13 @@ module _ {C V : Type 0} (k : ℕ) (v v1 v' : Option V) (e : v' ≡ v1) (q : Ques
   stopped : (kind : Kind V) (r : Refusal) → Shape {C = C} k kind v v1 v' q (refused r)
   stopped kind r = Stops r refl
 
-  starts : (kind : Kind V) (plan : Plan C) (r : Reply V) → Ripe kind q → Shape k kind v v1 v' q (started plan r)
-  starts kind (Here None one) r c = works kind (UpgradeOne one r) c refl
-  starts kind (Here (Some p) one) r c = works kind (CheckAbove p one r) c refl
-  starts kind (Above two) r c = works kind (UpgradeAbove two r) c refl
+  starts : (kind : Kind V) (plan : Plan C) (r : Reply V) → Ripe r q → Shape k kind v v1 v' q (started plan r)
+  starts kind (Here None one) r c = works kind r (UpgradeOne one r) c refl
+  starts kind (Here (Some p) one) r c = works kind r (CheckAbove p one r) c refl
+  starts kind (Above two) r c = works kind r (UpgradeAbove two r) c refl
 
   readies : (kind : Kind V) (plan : Plan C) → adds kind ≡ true → Shape k kind v v1 v' q (ready kind plan)
-  readies kind plan w = by_test (λ (z : Turn C V). Shape k kind v v1 v' q z) (asks_new kind) _ _ (λ _. wonders kind (AskNew plan) None refl)
+  readies kind plan w = by_test (λ (z : Turn C V). Shape k kind v v1 v' q z) (asks_new kind) _ _ (λ p. wonders kind (AskNew plan) None (asks_for kind p) refl)
       (λ n. starts kind plan (absent_reply kind) (ripe_new kind q w n))
 
   unless : (kind : Kind V) (s : Site C) (full : Bool) (above : Option (Parent C)) (leaf : Option C) (change : Single C) → adds kind ≡ true → Shape k kind v v1 v' q (unless_full kind s full above leaf change)
@@ -126,35 +122,35 @@ module _ {C V : Type 0} (k : ℕ) (v v1 v' : Option V) (e : v' ≡ v1) (q : Ques
   misses : (kind : Kind V) (s : Site C) → adds kind ≡ true → Shape k kind v v1 v' q (missing kind s)
   misses kind s w = by_test (λ (z : Turn C V). Shape k kind v v1 v' q z) (s.depth == 7) _ _ (λ _. unless kind s s.full s.above None Set w) (λ _. on kind (MakeLeaf s) refl)
 
-  replaces : (kind : Kind V) (s : Site C) (b : Bool) (r : Reply V) → Ripe kind q → Shape k kind v v1 v' q (replaced s b r)
-  replaces kind s b r c = by_test (λ (z : Turn C V). Shape k kind v v1 v' q z) b _ _ (λ _. works kind (Confirm s.at r) c refl) (λ _. works kind (UpgradeOne _ r) c refl)
+  replaces : (kind : Kind V) (s : Site C) (b : Bool) (r : Reply V) → Ripe r q → Shape k kind v v1 v' q (replaced s b r)
+  replaces kind s b r c = by_test (λ (z : Turn C V). Shape k kind v v1 v' q z) b _ _ (λ _. works kind r (Confirm s.at r) c refl) (λ _. works kind r (UpgradeOne _ r) c refl)
 
-  takes_out : (kind : Kind V) (s : Site C) (b : Bool) (above : Option (Parent C)) (r : Reply V) → Ripe kind q → Shape k kind v v1 v' q (taken_out s b above r)
-  takes_out kind s true (Some p) r c = works kind (UpgradeAbove _ r) c refl
-  takes_out kind s true None r c = works kind (UpgradeOne _ r) c refl
-  takes_out kind s false above r c = works kind (UpgradeOne _ r) c refl
+  takes_out : (kind : Kind V) (s : Site C) (b : Bool) (above : Option (Parent C)) (r : Reply V) → Ripe r q → Shape k kind v v1 v' q (taken_out s b above r)
+  takes_out kind s true (Some p) r c = works kind r (UpgradeAbove _ r) c refl
+  takes_out kind s true None r c = works kind r (UpgradeOne _ r) c refl
+  takes_out kind s false above r c = works kind r (UpgradeOne _ r) c refl
 
-  empties : (kind : Kind V) (s : Site C) (r : Reply V) → Ripe kind q → Shape k kind v v1 v' q (emptied s r)
+  empties : (kind : Kind V) (s : Site C) (r : Reply V) → Ripe r q → Shape k kind v v1 v' q (emptied s r)
   empties kind s r c = takes_out kind s (s.count == 1) s.above r c
 
   uncounted : (kind : Kind V) (always : Bool) (x t : Turn C V) → (t ≡ x) ⊎ Uncounted always t → Shape k kind v v1 v' q x → Shape k kind v v1 v' q t
   uncounted kind always x t (inl p) s = to kind x t p s
   uncounted kind always x t (inr p) s = to kind (refused refusal.Count) t p.1 (stopped kind refusal.Count)
 
-  asks : (kind : Kind V) (always : Bool) (s : Site C) (old : V) (t : Turn C V) → IsAsked always s old t → Shape k kind v v1 v' q t
-  asks kind always s old t x = uncounted kind always (asking (AskOld s old) (Some old)) t x (wonders kind (AskOld s old) (Some old) refl)
+  asks : (kind : Kind V) (always : Bool) (s : Site C) (old : V) (t : Turn C V) → Asking kind → IsAsked always s old t → Shape k kind v v1 v' q t
+  asks kind always s old t w x = uncounted kind always (asking (AskOld s old) (Some old)) t x (wonders kind (AskOld s old) (Some old) w refl)
 
-  pub at_old : (always : Bool) (same : V → V → Bool) (kind : Kind V) (new : Option V) (s : Site C) (old : V) (t : Turn C V) → IsAtOld always same kind new s old t → Shape k kind v v1 v' q t
-  at_old always same Insert new s old t x = to Insert _ t x (replaces Insert s (is_same same old new) (reply.Insert (Some old)) tt)
-  at_old always same Get new s old t x = asks Get always s old t x
-  at_old always same Remove new s old t x = asks Remove always s old t x
-  at_old always same ComputePresent new s old t x = asks ComputePresent always s old t x
-  at_old always same ComputeInsert new s old t x = asks ComputeInsert always s old t x
-  at_old always same (Exchange w) new s old t x = asks (Exchange w) always s old t x
+  pub at_old : (always : Bool) (same : V → V → Bool) (kind : Kind V) (new : Option V) (s : Site C) (old : V) (t : Turn C V) → adds kind ≡ true → IsAtOld always same kind new s old t → Shape k kind v v1 v' q t
+  at_old always same Insert new s old t w x = to Insert _ t x (replaces Insert s (is_same same old new) (reply.Insert (Some old)) tt)
+  at_old always same Get new s old t w x = absurd cc
+  at_old always same Remove new s old t w x = absurd cc
+  at_old always same ComputePresent new s old t w x = absurd cc
+  at_old always same ComputeInsert new s old t w x = asks ComputeInsert always s old t tt x
+  at_old always same (Exchange u) new s old t w x = absurd cc
 
-  adds_at : (always : Bool) (same : V → V → Bool) (kind : Kind V) (new : Option V) (s : Site C) (above : Option (Parent C)) (old : V) (t : Turn C V) → IsAdded always same kind new s above old t → Shape k kind v v1 v' q t
-  adds_at always same kind new s None old t x = at_old always same kind new s old t x
-  adds_at always same kind new s (Some p) old t x = to kind _ t x (on kind (CheckOld p.seat s old) refl)
+  adds_at : (always : Bool) (same : V → V → Bool) (kind : Kind V) (new : Option V) (s : Site C) (above : Option (Parent C)) (old : V) (t : Turn C V) → adds kind ≡ true → IsAdded always same kind new s above old t → Shape k kind v v1 v' q t
+  adds_at always same kind new s None old t w x = at_old always same kind new s old t w x
+  adds_at always same kind new s (Some p) old t w x = to kind _ t x (on kind (CheckOld p.seat s old) refl)
 
   exchanges : (always : Bool) (same : V → V → Bool) (w : V) (new : Option V) (s : Site C) (old : V) (t : Turn C V) → IsExchanged always same new s old t → Shape k (Exchange w) v v1 v' q t
   exchanges always same w None s old t x = to (Exchange w) _ t x (empties (Exchange w) s (reply.Exchange (Ok None)) tt)
@@ -166,22 +162,22 @@ module _ {C V : Type 0} (k : ℕ) (v v1 v' : Option V) (e : v' ≡ v1) (q : Ques
   downs kind true s (Some p) c = on kind (CheckDown p.seat _ c) refl
 
 -- before an answer was wanted
-pub presents : {C V : Type 0} (k : ℕ) (v v' : Option V) (e : v' ≡ v) (q : Question) (always : Bool) (same : V → V → Bool) (kind : Kind V) (new : Option V) (s : Site C) (old : V) (t : Turn C V)
+pub presents : {C V : Type 0} (k : ℕ) (v v' : Option V) (e : v' ≡ v) (q : Question V) (always : Bool) (same : V → V → Bool) (kind : Kind V) (new : Option V) (s : Site C) (old : V) (t : Turn C V)
     → IsPresent always same kind new s old t → Shape k kind v v v' q t
 presents k v v' e q always same Get new s old t x = to k v v v' e q Get _ t x (Replies (reply.Get (Some old)) refl refl tt)
-presents k v v' e q always same Insert new s old t x = adds_at k v v v' e q always same Insert new s s.above old t x
+presents k v v' e q always same Insert new s old t x = adds_at k v v v' e q always same Insert new s s.above old t refl x
 presents k v v' e q always same Remove new s old t x = to k v v v' e q Remove _ t x (empties k v v v' e q Remove s (reply.Remove (Some old)) tt)
-presents k v v' e q always same ComputePresent new s old t x = asks k v v v' e q ComputePresent always s old t x
-presents k v v' e q always same ComputeInsert new s old t x = adds_at k v v v' e q always same ComputeInsert new s s.above old t x
+presents k v v' e q always same ComputePresent new s old t x = asks k v v v' e q ComputePresent always s old t tt x
+presents k v v' e q always same ComputeInsert new s old t x = adds_at k v v v' e q always same ComputeInsert new s s.above old t refl x
 presents k v v' e q always same (Exchange w) new s old t x = on_test (same old w) (λ p. exchanges k v v v' e q always same w new s old t (x.0 p))
-    (λ p. to k v v v' e q (Exchange w) _ t (x.1 p) (works k v v v' e q (Exchange w) (Confirm s.at (reply.Exchange (Err (Some old)))) tt refl))
+    (λ p. to k v v v' e q (Exchange w) _ t (x.1 p) (works k v v v' e q (Exchange w) (reply.Exchange (Err (Some old))) (Confirm s.at (reply.Exchange (Err (Some old)))) tt refl))
 
-module _ {C V : Type 0} (number : C → ℕ) (k : ℕ) (kind : Kind V) (v v' : Option V) (e : v' ≡ v) (q : Question) where
+module _ {C V : Type 0} (number : C → ℕ) (k : ℕ) (kind : Kind V) (v v' : Option V) (e : v' ≡ v) (q : Question V) where
   pub go : (s : Phase C V) → flight_in k kind v' s ≡ Pending k kind v' Unasked → Shape k kind v v v' q (quiet s)
   go s f = on k v v v' e q kind s f
 
-  pub goes_to_work : (s : Phase C V) → Ripe kind q → flight_in k kind v' s ≡ Pending k kind v' (heeding kind) → Shape k kind v v v' q (quiet s)
-  goes_to_work s c f = works k v v v' e q kind s c f
+  pub goes_to_work : (r : Reply V) (s : Phase C V) → Ripe r q → flight_in k kind v' s ≡ Pending k kind v' (heeding r) → Shape k kind v v v' q (quiet s)
+  goes_to_work r s c f = works k v v v' e q kind r s c f
 
   pub back : (root : C) → Shape k kind v v v' q (again root)
   back root = anew k v v v' e q kind root
@@ -189,7 +185,7 @@ module _ {C V : Type 0} (number : C → ℕ) (k : ℕ) (kind : Kind V) (v v' : O
   pub at : (x y : Turn C V) → y ≡ x → Shape k kind v v v' q x → Shape k kind v v v' q y
   at x y p s = to k v v v' e q kind x y p s
 
-  pub answers : (r : Reply V) → Fair kind q r → Shape {C = C} k kind v v v' q (answered r)
+  pub answers : (r : Reply V) → Ripe r q → Shape {C = C} k kind v v v' q (answered r)
   answers r f = Replies r refl refl f
 
   absents : (s : Site C) → Shape k kind v v v' q (absent kind s)
@@ -236,18 +232,18 @@ module _ {C V : Type 0} (number : C → ℕ) (k : ℕ) (kind : Kind V) (v v' : O
   beside_made p seat common byte top h key (Ok leaf) h' t w x = at _ t x.1 (readies k v v v' e q kind _ w)
   beside_made p seat common byte top h key (Err r) h' t w x = halts r t x.1
 
-  pub one_upgraded : (root : C) (one : One C) (r : Reply V) (h : ℕ → Node V) (u : Upgrade) (h' : ℕ → Node V) (t : Turn C V) → Ripe kind q → UpgradedOne number root one r h u h' t → Shape k kind v v v' q t
-  one_upgraded root one r h Locked h' t c x = at _ t x.1 (goes_to_work (ChangeOne one r) c refl)
+  pub one_upgraded : (root : C) (one : One C) (r : Reply V) (h : ℕ → Node V) (u : Upgrade) (h' : ℕ → Node V) (t : Turn C V) → Ripe r q → UpgradedOne number root one r h u h' t → Shape k kind v v v' q t
+  one_upgraded root one r h Locked h' t c x = at _ t x.1 (goes_to_work r (ChangeOne one r) c refl)
   one_upgraded root one r h Failed h' t c x = at _ t x.1 (back root)
   one_upgraded root one r h Exhausted h' t c x = halts refusal.Exhausted t x.1
 
-  pub above_upgraded : (root : C) (two : Two C) (r : Reply V) (h : ℕ → Node V) (u : Upgrade) (h' : ℕ → Node V) (t : Turn C V) → Ripe kind q → UpgradedAbove number root two r h u h' t → Shape k kind v v v' q t
-  above_upgraded root two r h Locked h' t c x = at _ t x.1 (goes_to_work (UpgradeBoth two r) c refl)
+  pub above_upgraded : (root : C) (two : Two C) (r : Reply V) (h : ℕ → Node V) (u : Upgrade) (h' : ℕ → Node V) (t : Turn C V) → Ripe r q → UpgradedAbove number root two r h u h' t → Shape k kind v v v' q t
+  above_upgraded root two r h Locked h' t c x = at _ t x.1 (goes_to_work r (UpgradeBoth two r) c refl)
   above_upgraded root two r h Failed h' t c x = at _ t x.1 (back root)
   above_upgraded root two r h Exhausted h' t c x = halts refusal.Exhausted t x.1
 
-  pub both_upgraded : (two : Two C) (r : Reply V) (h : ℕ → Node V) (u : Upgrade) (h' : ℕ → Node V) (t : Turn C V) → Ripe kind q → UpgradedBoth number two r h u h' t → Shape k kind v v v' q t
-  both_upgraded two r h Locked h' t c x = at _ t x.1 (goes_to_work (ChangeTwo two r) c refl)
+  pub both_upgraded : (two : Two C) (r : Reply V) (h : ℕ → Node V) (u : Upgrade) (h' : ℕ → Node V) (t : Turn C V) → Ripe r q → UpgradedBoth number two r h u h' t → Shape k kind v v v' q t
+  both_upgraded two r h Locked h' t c x = at _ t x.1 (goes_to_work r (ChangeTwo two r) c refl)
   both_upgraded two r h Failed h' t c x = at _ t x.1 (go (Unwind _ None) refl)
   both_upgraded two r h Exhausted h' t c x = at _ t x.1 (go (Unwind _ (Some refusal.Exhausted)) refl)
 
@@ -256,29 +252,29 @@ module _ {C V : Type 0} (number : C → ℕ) (k : ℕ) (kind : Kind V) (v v' : O
   unwinds root (Some r) t x = halts r t x
 
 -- a change takes effect
-pub change_shape : {C V : Type 0} (k : ℕ) (kind : Kind V) (v v' : Option V) (two : Two C) (r : Reply V) (change : Double C) (t : Turn C V) → t ≡ after_change two r change → Shape k kind v v v' (heeding kind) t
-change_shape k kind v v' two r Unlink t x = Takes _ r x refl refl refl (fair kind r)
-change_shape k kind v v' two r (Grow c) t x = Takes _ r x refl refl refl (fair kind r)
-change_shape k kind v v' two r (GrowLink c leaf byte) t x = Takes _ r x refl refl refl (fair kind r)
-change_shape k kind v v' two r (Split top leaf common byte) t x = Takes _ r x refl refl refl (fair kind r)
+pub change_shape : {C V : Type 0} (k : ℕ) (kind : Kind V) (v v' : Option V) (two : Two C) (r : Reply V) (change : Double C) (t : Turn C V) → t ≡ after_change two r change → Shape k kind v v v' (heeding r) t
+change_shape k kind v v' two r Unlink t x = Takes _ r x refl refl refl (ripe_at_work r)
+change_shape k kind v v' two r (Grow c) t x = Takes _ r x refl refl refl (ripe_at_work r)
+change_shape k kind v v' two r (GrowLink c leaf byte) t x = Takes _ r x refl refl refl (ripe_at_work r)
+change_shape k kind v v' two r (Split top leaf common byte) t x = Takes _ r x refl refl refl (ripe_at_work r)
 
 -- the closure's answer
 pub given_shape : {C V : Type 0} (always : Bool) (same : V → V → Bool) (k : ℕ) (kind : Kind V) (s : Site C) (old : V) (told : Option (Option V)) (v v' : Option V) (t : Turn C V)
-    → Asking kind → IsGiven always same kind s old told v v' t → Shape k kind v (heard kind Asked told v) v' (resolved kind Asked told) t
-given_shape always same k kind s old None v v' t w x = asks k v v v' x.0 Asked kind always s old t x.1
-given_shape always same k ComputeInsert s old (Some None) v v' t w x = asks k v v v' x.0 Asked ComputeInsert always s old t x.1
-given_shape always same k ComputeInsert s old (Some (Some y)) v v' t w x = to k v (Some y) v' x.0 Replied ComputeInsert _ t x.1 (replaces k v (Some y) v' x.0 Replied ComputeInsert s (same old y) _ refl)
-given_shape always same k ComputePresent s old (Some None) v v' t w x = to k v None v' x.0 Replied ComputePresent _ t x.1 (empties k v None v' x.0 Replied ComputePresent s _ refl)
-given_shape always same k ComputePresent s old (Some (Some y)) v v' t w x = uncounted k v (Some y) v' x.0 Replied ComputePresent always _ t x.1 (replaces k v (Some y) v' x.0 Replied ComputePresent s (same old y) _ refl)
+    → Asking kind → IsGiven always same kind s old told v v' t → Shape k kind v (heard kind (Asked (Some old)) told v) v' (resolved kind (Asked (Some old)) told) t
+given_shape always same k kind s old None v v' t w x = asks k v v v' x.0 (Asked (Some old)) kind always s old t w x.1
+given_shape always same k ComputeInsert s old (Some None) v v' t w x = asks k v v v' x.0 (Asked (Some old)) ComputeInsert always s old t tt x.1
+given_shape always same k ComputeInsert s old (Some (Some y)) v v' t w x = to k v (Some y) v' x.0 (Replied (Some old)) ComputeInsert _ t x.1 (replaces k v (Some y) v' x.0 (Replied (Some old)) ComputeInsert s (same old y) _ refl)
+given_shape always same k ComputePresent s old (Some None) v v' t w x = to k v None v' x.0 (Replied (Some old)) ComputePresent _ t x.1 (empties k v None v' x.0 (Replied (Some old)) ComputePresent s _ refl)
+given_shape always same k ComputePresent s old (Some (Some y)) v v' t w x = uncounted k v (Some y) v' x.0 (Replied (Some old)) ComputePresent always _ t x.1 (replaces k v (Some y) v' x.0 (Replied (Some old)) ComputePresent s (same old y) _ refl)
 given_shape always same k Get s old (Some o) v v' t w x = absurd w
 given_shape always same k Insert s old (Some o) v v' t w x = absurd w
 given_shape always same k Remove s old (Some o) v v' t w x = absurd w
 given_shape always same k (Exchange y) s old (Some o) v v' t w x = absurd w
 
-given_new_shape : {C V : Type 0} (k : ℕ) (plan : Plan C) (told : Option (Option V)) (v v' : Option V) (t : Turn C V) → IsGivenNew plan told v v' t → Shape k ComputeInsert v (heard ComputeInsert Asked told v) v' (resolved ComputeInsert Asked told) t
-given_new_shape k plan None v v' t x = to k v v v' x.0 Asked ComputeInsert _ t x.1 (wonders k v v v' x.0 Asked ComputeInsert (AskNew plan) None refl)
-given_new_shape k plan (Some None) v v' t x = to k v v v' x.0 Asked ComputeInsert _ t x.1 (wonders k v v v' x.0 Asked ComputeInsert (AskNew plan) None refl)
-given_new_shape k plan (Some (Some y)) v v' t x = to k v (Some y) v' x.0 Replied ComputeInsert _ t x.1 (starts k v (Some y) v' x.0 Replied ComputeInsert plan _ refl)
+given_new_shape : {C V : Type 0} (k : ℕ) (plan : Plan C) (told : Option (Option V)) (v v' : Option V) (t : Turn C V) → IsGivenNew plan told v v' t → Shape k ComputeInsert v (heard ComputeInsert (Asked None) told v) v' (resolved ComputeInsert (Asked None) told) t
+given_new_shape k plan None v v' t x = to k v v v' x.0 (Asked None) ComputeInsert _ t x.1 (wonders k v v v' x.0 (Asked None) ComputeInsert (AskNew plan) None tt refl)
+given_new_shape k plan (Some None) v v' t x = to k v v v' x.0 (Asked None) ComputeInsert _ t x.1 (wonders k v v v' x.0 (Asked None) ComputeInsert (AskNew plan) None tt refl)
+given_new_shape k plan (Some (Some y)) v v' t x = to k v (Some y) v' x.0 (Replied None) ComputeInsert _ t x.1 (starts k v (Some y) v' x.0 (Replied None) ComputeInsert plan _ refl)
 
-pub given_new_shape_at : {C V : Type 0} (k : ℕ) (kind : Kind V) (plan : Plan C) (told : Option (Option V)) (v v' : Option V) (t : Turn C V) → kind ≡ ComputeInsert → IsGivenNew plan told v v' t → Shape k kind v (heard kind Asked told v) v' (resolved kind Asked told) t
-given_new_shape_at {C} {V} k kind plan told v v' t e x = let P : Kind V → Type 0 = λ y. Shape k y v (heard y Asked told v) v' (resolved y Asked told) t in subst P (sym e) (given_new_shape k plan told v v' t x)
+pub given_new_shape_at : {C V : Type 0} (k : ℕ) (kind : Kind V) (plan : Plan C) (told : Option (Option V)) (v v' : Option V) (t : Turn C V) → kind ≡ ComputeInsert → IsGivenNew plan told v v' t → Shape k kind v (heard kind (Asked None) told v) v' (resolved kind (Asked None) told) t
+given_new_shape_at {C} {V} k kind plan told v v' t e x = let P : Kind V → Type 0 = λ y. Shape k y v (heard y (Asked None) told v) v' (resolved y (Asked None) told) t in subst P (sym e) (given_new_shape k plan told v v' t x)

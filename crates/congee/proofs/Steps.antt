@@ -10,11 +10,11 @@ use Rattle.congee.specs.declared.phase.Kind.{Kind}
 use Rattle.congee.specs.declared.phase.One.{One}
 use Rattle.congee.specs.declared.phase.Two.{Two}
 use Rattle.congee.specs.declared.phase.Phase.{Phase}
-use Rattle.congee.specs.declared.phase.Phase.TheVariants.{New, Version, Read, Check, CheckUncopied, CheckMiss, CheckDown, CheckOld, MakeLeaf, MakeGreater, MakeTop, MakeBeside, AskOld, AskNew, Confirm, CheckAbove, UpgradeOne, ChangeOne, UpgradeAbove, UpgradeBoth, ChangeTwo, Obsolete, Retire, UnlockBelow, Unlock, Unwind, Ended}
+use Rattle.congee.specs.declared.phase.Phase.TheVariants.{New, Version, Read, Check, CheckUncopied, CheckMiss, CheckDown, CheckOld, MakeLeaf, MakeGreater, MakeTop, MakeBeside, AskOld, AskNew, Confirm, CheckAbove, UpgradeOne, ChangeOne, UpgradeAbove, UpgradeBoth, ChangeTwo, Obsolete, Retire, UnlockBelow, Unlock, Unwind, Sweep, Ended}
 use Rattle.congee.specs.declared.turn.Turn.{Turn}
 use Rattle.congee.specs.Heap.{Node, Nothing, Holds, child_for, is_taken, is_free}
 use Rattle.congee.specs.Events.{upgrade_gives}
-use Rattle.congee.specs.Steps.{quiet, again, refused, adds, absent_reply, UpgradedOne, UpgradedAbove, UpgradedBoth, PhaseStepped, Stepped}
+use Rattle.congee.specs.Steps.{quiet, swept, again, refused, adds, absent_reply, UpgradedOne, UpgradedAbove, UpgradedBoth, PhaseStepped, Stepped}
 use Rattle.congee.specs.Keys.{key_bytes}
 use Rattle.congee.specs.Ledger.{Note, is_published, Tree, Words}
 use Rattle.congee.specs.declared.machine.Machine.{Machine}
@@ -29,6 +29,7 @@ use Rattle.congee.proofs.Values.{at_old_sound, checked_sound, given_sound, given
 use Rattle.congee.proofs.Locks.{Kept, locked_taken, lock_one, lock_above, lock_both, marked, handed_over, unlocked_below, unlocked_last, unwinds}
 use Rattle.congee.proofs.Makes.{Backed, back_one, back_two}
 use Rattle.congee.proofs.Building.{kept_at, refused_back, leaf_made, greater_made, top_made, beside_made}
+use Rattle.congee.proofs.SweepStays.{sweep_stays}
 use Rattle.congee.proofs.Settling.{changed_one, changed_two}
 
 module _ {C V : Type 0} (number : C → ℕ) (same : V → V → Bool) (always : Bool) (i : ℕ) (a : ℕ → Note) (h : ℕ → Node V) (k : ℕ) (kind : Kind V) (given : Option V)
@@ -166,6 +167,8 @@ step_kept number same always most law i a h root z k kind fail answer given (Unl
     (kept_at number same always i a h k kind given given _ turn h' g.2 (unlocked_last number same always i a h k kind given t w n r h' m g.1))
 step_kept number same always most law i a h root z k kind fail answer given (Unwind n e) given' turn h' t w m g = given_at number same always i a h k kind given t w given' turn h' g.0
     (kept_at number same always i a h k kind given given _ turn h' g.2 (unwinds number same always i a h k kind given t w root z n e h' m g.1))
+step_kept number same always most law i a h root z k kind fail answer given (Sweep s) given' turn h' t w m g = sound_kept number same always i a h k kind given t w given' turn h' g.0 g.1
+    (at_turn number same always i a h k kind given t w (swept g.2.0 g.2.1) turn g.2.3 (record { known = sweep_stays number always a h t w root z s (g.2.0, g.2.1) m g.2.2; answer = λ y _. refl }))
 step_kept number same always most law i a h root z k kind fail answer given Ended given' turn h' t w m g = sound_kept number same always i a h k kind given t w given' turn h' g.0 g.1
     (at_turn number same always i a h k kind given t w (quiet Ended) turn g.2 (record { known = tt; answer = λ y _. refl }))
 

@@ -1,10 +1,10 @@
 -- Steps of any number of calls, one after another.
 use Rattle.std.proofs.Common.{◌≡◌, ◌≢◌, ℕ, ◌<◌, ◌≤◌, ◌^◌, ◌⊎◌, inl, inr, Bool, false, List, [], ◌∷◌, ◌++◌, length, map, take, ◌+◌, refl, sym, ◌∙◌, ap, subst, arith}
 use Rattle.std.proofs.Math.ListN.{set}
-use Rattle.std.proofs.lemmas.List.{map-set, append_assoc, length-append}
+use Rattle.std.proofs.lemmas.List.{append_assoc, length-append}
 use Rattle.std.proofs.Math.Seq.{take-append_seam}
-use Rattle.std.proofs.lemmas.Option.{slice_get-map, slice_get_past}
-use Rattle.std.specs.Prelude.{Option, None, Some, slice_get, option_map}
+use Rattle.std.proofs.lemmas.Option.{slice_get_past}
+use Rattle.std.specs.Prelude.{Option, None, Some, slice_get}
 use Rattle.judge.specs.Answer.{Pairs}
 use Rattle.std.specs.FinMap.{empty}
 use Rattle.congee.specs.declared.phase.Kind.{Kind}
@@ -18,9 +18,13 @@ use Rattle.congee.specs.Heap.{Node}
 use Rattle.congee.specs.Keys.{key_bytes, Standing}
 use Rattle.congee.specs.Ledger.{Note, Held, Tree, Words}
 use Rattle.congee.specs.Protocol.{Rely, Fares, Known}
-use Rattle.congee.specs.Steps.{MayStep, Stepped}
-use Rattle.congee.specs.Answers.{Keeps, KeepsProtocol}
-use Rattle.congee.specs.Play.{Flight, Watched, WatchedAt, Run, flight_in, flight, EachKnown, Protocol, ProtocolAt, Settled, Begins, Plays, StepPlays}
+use Rattle.congee.specs.Steps.{swept, PhaseStepped, MayStep, Stepped}
+use Rattle.congee.specs.SweepKnown.{SweepKnownAt}
+use Rattle.congee.specs.declared.sweep.Sweep.{Sweep as Scan}
+use Rattle.congee.specs.declared.sweep.Stage.{Stage}
+use Rattle.congee.specs.declared.phase.Phase.TheVariants.{New, Sweep}
+use Rattle.congee.specs.Answers.{Answers, Keeps, KeepsProtocol}
+use Rattle.congee.specs.Play.{Flight, Watched, WatchedAt, IsOfPoint, IsBegin, Follows, Following, flight_in, flight, EachKnown, Protocol, ProtocolAt, Settled, Begins, NextAt, Nexts, Chain, Plays, StepPlays}
 use Rattle.congee.specs.Holdings.{LockedBy, MadeBy, TakenBy, Holdings, Rests, Apart}
 use Rattle.congee.specs.Names.{names}
 use Rattle.congee.proofs.Each.{each_any}
@@ -35,6 +39,7 @@ use Rattle.congee.proofs.Opening.{opened, opening_tree, opening_words, opening_r
 use Rattle.congee.proofs.Touch.{owner_locked}
 use Rattle.congee.proofs.Wants.{wants}
 use Rattle.congee.proofs.Watches.{watched}
+use Rattle.congee.proofs.SweepFlights.{point_stays, follow_at, follow_none, follow_set, follow_new, scan_watched}
 
 module _ {C V : Type 0} (number : C → ℕ) (same : V → V → Bool) (always : Bool) where
   -- a call of the protocol may step
@@ -103,6 +108,30 @@ module _ {C V : Type 0} (number : C → ℕ) (same : V → V → Bool) (always :
   at_hand : (h : ℕ → Node V) (ms : List (Machine C V)) (p : Protocol number same always h ms) → ProtocolAt number same always p.notes h ms
   at_hand h ms p = record { tree = p.tree; words = p.words; each = p.each }
 
+  -- how the step is watched: of a point call, or of a scan
+  watched_as : (most : ℕ) (h : ℕ → Node V) (m m' : Machine C V) (h' : ℕ → Node V) (d : Move V) (i : ℕ) (fail : Bool) (answer : Option (Option V)) (a : ℕ → Note) (t : Tree a h) (w : Words a h)
+      → EachKnown number same always a h i m → Stepped number same always most m h fail answer m' h' d → Answers same m.key m.kind m.given h (record { phase = m'.phase; step = d }) h'
+      → (pairs : Pairs V) (f : Flight V) → Standing h pairs → Follows m f → (m1 : Pairs V) × (f1 : Flight V) × Standing h' m1 × Follows m' f1 × Watched same f pairs answer d f1 m1
+  watched_as most h m m' h' d i fail answer a t w o g n pairs f st (inl x) =
+      let y : (m1 : Pairs V) × Standing h' m1 × Watched same (flight m) pairs answer d (flight_in m.key m.kind m'.given m'.phase) m1
+      = watched number same always most i a h m.root m.key m.kind fail answer m.given m'.given (record { phase = m'.phase; step = d }) h' o.key pairs st m.phase (subst IsOfPoint x.1 x.0) o.known g.step n in
+      let P : ℕ → Kind V → Type 0 = λ u v. Watched same (flight m) pairs answer d (flight_in u v m'.given m'.phase) y.0 in
+      let Q : ℕ → Type 0 = λ u. P u m.kind in
+      let R : Kind V → Type 0 = λ v. P m'.key v in
+      let v : Watched same (flight m) pairs answer d (flight m') y.0 = subst R (sym g.kind) (subst Q (sym g.key) y.2) in
+      let S : Flight V → Type 0 = λ u. Watched same u pairs answer d (flight m') y.0 in
+      (y.0, flight m', y.1, inl (point_stays same (flight m) pairs answer d (flight m') y.0 (subst IsOfPoint x.1 x.0) v, refl), subst S (sym x.1) v)
+  watched_as most h m m' h' d i fail answer a t w o g n pairs f st (inr x) =
+      let s : Scan C V = x.0 in
+      let P : Phase C V → Type 0 = λ y. PhaseStepped number same always most m.root (key_bytes m.key) m.kind fail answer m.given y h m'.given (record { phase = m'.phase; step = d }) h' in
+      let step : PhaseStepped number same always most m.root (key_bytes m.key) m.kind fail answer m.given (Sweep s) h m'.given (record { phase = m'.phase; step = d }) h' = subst P x.1 g.step in
+      let K : Phase C V → Type 0 = λ y. Known number same always i a h m.key (key_bytes m.key) m.kind m.given y in
+      let y = scan_watched number same always a h t w pairs st m.root o.root answer s step.2.0 step.2.1 f x.2 (subst K x.1 o.known) step.2.2 in
+      let is : ◌≡◌ {A = Turn C V} (record { phase = m'.phase; step = d }) (swept step.2.0 step.2.1) = step.2.3 in
+      let H : (ℕ → Node V) → Type 0 = λ u. Standing u pairs in
+      let D : Move V → Type 0 = λ u. Watched same f pairs answer u y.0 pairs in
+      (pairs, y.0, subst H (sym step.0) st, inr (step.2.0, ap (λ (u : Turn C V). u.phase) is, y.2), subst D (sym (ap (λ (u : Turn C V). u.step) is)) y.1)
+
   -- the step of one call
   pub turned : (most : ℕ) (h : ℕ → Node V) (ms : List (Machine C V)) (s : Step C V) (m m' : Machine C V) (h' : ℕ → Node V) (d : Move V)
       → Protocol number same always h ms → slice_get ms s.who ≡ Some m → Stepped number same always most m h s.noise.fail s.noise.answer m' h' d → KeepsProtocol number same always m h m' h' d
@@ -122,19 +151,16 @@ module _ {C V : Type 0} (number : C → ℕ) (same : V → V → Bool) (always :
           words = q.1.words;
           each = q.1.each;
         };
+        next = (let P : Option (Machine C V) → Type 0 = λ o. NextAt number same always h ms o s d h' (set ms s.who m') in subst P (sym e) (m', most, g, refl));
         settled = λ a x y.
             let z : After h ms s.who m' h' a = turned_at most h ms s.who s.noise.fail s.noise.answer m m' h' d a x e g keeps in (z.0, z.1, (z.2 y).0);
         takes = λ a x y. let z : After h ms s.who m' h' a = turned_at most h ms s.who s.noise.fail s.noise.answer m m' h' d a x e g keeps in (z.2 y).1 hands;
-        watched = λ pairs st.
-            let w : (m1 : Pairs V) × Standing h' m1 × Watched same (flight m) pairs s.noise.answer d (flight_in m.key m.kind m'.given m'.phase) m1
-            = watched number same always most s.who p.notes h m.root m.key m.kind s.noise.fail s.noise.answer m.given m'.given (record { phase = m'.phase; step = d }) h' o.key pairs st m.phase o.known g.step r.answer in
-            let P : ℕ → Kind V → Type 0 = λ x y. Watched same (flight m) pairs s.noise.answer d (flight_in x y m'.given m'.phase) w.0 in
-            let Q : ℕ → Type 0 = λ x. P x m.kind in
-            let R : Kind V → Type 0 = λ y. P m'.key y in
-            let y : Watched same (flight m) pairs s.noise.answer d (flight m') w.0 = subst R (sym g.kind) (subst Q (sym g.key) w.2) in
-            let there : slice_get (map flight ms) s.who ≡ Some (flight m) = slice_get-map flight ms s.who ∙ (let T : Option (Machine C V) → Type 0 = λ z. option_map flight z ≡ Some (flight m) in subst T (sym e) refl) in
-            let T : Option (Flight V) → Type 0 = λ z. WatchedAt same (map flight ms) pairs z s d (map flight (set ms s.who m')) w.0 in
-            (w.0, w.1, subst T (sym there) (flight m', y, map-set flight ms s.who m'));
+        watched = λ pairs fs st fl.
+            let at = follow_at ms fs s.who m fl e in
+            let w : (m1 : Pairs V) × (f1 : Flight V) × Standing h' m1 × Follows m' f1 × Watched same at.0 pairs s.noise.answer d f1 m1
+            = watched_as most h m m' h' d s.who s.noise.fail s.noise.answer p.notes p.tree p.words o g r.answer pairs at.0 st at.2 in
+            let T : Option (Flight V) → Type 0 = λ z. WatchedAt same fs pairs z s d (set fs s.who w.1) w.0 in
+            (w.0, set fs s.who w.1, w.2, follow_set ms fs s.who m' w.1 fl w.3, subst T (sym at.1) (w.1, w.4, refl));
         hands = hands;
         untouched = stepped_apart number h ms s.who m m' h' e does;
       }
@@ -144,25 +170,40 @@ module _ {C V : Type 0} (number : C → ℕ) (same : V → V → Bool) (always :
       → StepPlays number same always h ms s (record { decided = false; outcome = Running }) h ms
   idled h ms s p l = record {
     protocol = p;
+    next = (let P : Option (Machine C V) → Type 0 = λ o. NextAt number same always h ms o s (record { decided = false; outcome = Running }) h ms in subst P (sym (slice_get_past ms s.who l)) (refl, refl, refl));
     settled = λ a x y. (a, x, y);
-    watched = λ pairs st.
-        let there : slice_get (map flight ms) s.who ≡ None = slice_get-map flight ms s.who ∙ (let T : Option (Machine C V) → Type 0 = λ z. option_map flight z ≡ None in subst T (sym (slice_get_past ms s.who l)) refl) in
-        let T : Option (Flight V) → Type 0 = λ z. WatchedAt same (map flight ms) pairs z s (record { decided = false; outcome = Running }) (map flight ms) pairs in
-        (pairs, st, subst T (sym there) (refl, refl, refl));
+    watched = λ pairs fs st fl.
+        let T : Option (Flight V) → Type 0 = λ z. WatchedAt same fs pairs z s (record { decided = false; outcome = Running }) fs pairs in
+        (pairs, fs, st, fl, subst T (sym (follow_none ms fs s.who fl l)) (refl, refl, refl));
     hands = idle_hands number h ms s.who;
     untouched = λ n x. refl;
     takes = λ a x y. idle_takes number h ms s.who (idle_hands number h ms s.who) (λ by l j. refl);
   }
 
-  run_more : (fs : List (Flight V)) (m : Pairs V) (ss : List (Step C V)) (ds : List (Move V)) (fs1 : List (Flight V)) (m1 : Pairs V) (s : Step C V) (d : Move V) (fs2 : List (Flight V)) (m2 : Pairs V)
-      → Run same fs m ss ds fs1 m1 → WatchedAt same fs1 m1 (slice_get fs1 s.who) s d fs2 m2 → Run same fs m (ss ++ s ∷ []) (ds ++ d ∷ []) fs2 m2
-  run_more fs m [] [] fs1 m1 s d fs2 m2 r q =
-      let P : List (Flight V) → Type 0 = λ x. WatchedAt same x m (slice_get x s.who) s d fs2 m2 in
-      let Q : Pairs V → Type 0 = λ x. WatchedAt same fs1 x (slice_get fs1 s.who) s d fs2 m2 in
-      (fs2, m2, subst P r.0 (subst Q r.1 q), (refl, refl))
-  run_more fs m [] (y ∷ ds) fs1 m1 s d fs2 m2 r q = absurd r
-  run_more fs m (x ∷ ss) [] fs1 m1 s d fs2 m2 r q = absurd r
-  run_more fs m (x ∷ ss) (y ∷ ds) fs1 m1 s d fs2 m2 r q = (r.0, r.1, r.2, run_more r.0 r.1 ss ds fs1 m1 s d fs2 m2 r.3 q)
+  chain_more : (h : ℕ → Node V) (ms : List (Machine C V)) (fs : List (Flight V)) (m : Pairs V) (ss : List (Step C V)) (ds : List (Move V)) (h1 : ℕ → Node V) (ms1 : List (Machine C V)) (fs1 : List (Flight V)) (m1 : Pairs V)
+      (s : Step C V) (d : Move V) (h2 : ℕ → Node V) (ms2 : List (Machine C V)) (fs2 : List (Flight V)) (m2 : Pairs V)
+      → Chain number same always h ms fs m ss ds h1 ms1 fs1 m1 → Standing h2 m2 → Following ms2 fs2 → NextAt number same always h1 ms1 (slice_get ms1 s.who) s d h2 ms2 → WatchedAt same fs1 m1 (slice_get fs1 s.who) s d fs2 m2
+      → Chain number same always h ms fs m (ss ++ s ∷ []) (ds ++ d ∷ []) h2 ms2 fs2 m2
+  chain_more h ms fs m [] [] h1 ms1 fs1 m1 s d h2 ms2 fs2 m2 r st fl n q =
+      let P : (ℕ → Node V) → Type 0 = λ x. NextAt number same always x ms (slice_get ms s.who) s d h2 ms2 in
+      let Q : List (Machine C V) → Type 0 = λ x. NextAt number same always h1 x (slice_get x s.who) s d h2 ms2 in
+      let R : List (Flight V) → Type 0 = λ x. WatchedAt same x m (slice_get x s.who) s d fs2 m2 in
+      let T : Pairs V → Type 0 = λ x. WatchedAt same fs1 x (slice_get fs1 s.who) s d fs2 m2 in
+      (h2, ms2, fs2, m2, st, fl, subst P r.0 (subst Q r.1 n), subst R r.2 (subst T r.3 q), (refl, refl, refl, refl))
+  chain_more h ms fs m [] (y ∷ ds) h1 ms1 fs1 m1 s d h2 ms2 fs2 m2 r st fl n q = absurd r
+  chain_more h ms fs m (x ∷ ss) [] h1 ms1 fs1 m1 s d h2 ms2 fs2 m2 r st fl n q = absurd r
+  chain_more h ms fs m (x ∷ ss) (y ∷ ds) h1 ms1 fs1 m1 s d h2 ms2 fs2 m2 r st fl n q =
+      (r.0, r.1, r.2, r.3, r.4, r.5, r.6, r.7, chain_more r.0 r.1 r.2 r.3 ss ds h1 ms1 fs1 m1 s d h2 ms2 fs2 m2 r.8 st fl n q)
+
+  nexts_more : (h : ℕ → Node V) (ms : List (Machine C V)) (ss : List (Step C V)) (ds : List (Move V)) (h1 : ℕ → Node V) (ms1 : List (Machine C V)) (s : Step C V) (d : Move V) (h2 : ℕ → Node V) (ms2 : List (Machine C V))
+      → Nexts number same always h ms ss ds h1 ms1 → NextAt number same always h1 ms1 (slice_get ms1 s.who) s d h2 ms2 → Nexts number same always h ms (ss ++ s ∷ []) (ds ++ d ∷ []) h2 ms2
+  nexts_more h ms [] [] h1 ms1 s d h2 ms2 r q =
+      let P : (ℕ → Node V) → Type 0 = λ x. NextAt number same always x ms (slice_get ms s.who) s d h2 ms2 in
+      let Q : List (Machine C V) → Type 0 = λ x. NextAt number same always h1 x (slice_get x s.who) s d h2 ms2 in
+      (h2, ms2, subst P r.0 (subst Q r.1 q), (refl, refl))
+  nexts_more h ms [] (y ∷ ds) h1 ms1 s d h2 ms2 r q = absurd r
+  nexts_more h ms (x ∷ ss) [] h1 ms1 s d h2 ms2 r q = absurd r
+  nexts_more h ms (x ∷ ss) (y ∷ ds) h1 ms1 s d h2 ms2 r q = (r.0, r.1, r.2, nexts_more r.0 r.1 ss ds h1 ms1 s d h2 ms2 r.3 q)
 
   -- what the calls hold is their own
   apart : (h : ℕ → Node V) (ms : List (Machine C V)) → Protocol number same always h ms → Apart number h ms
@@ -178,17 +219,18 @@ module _ {C V : Type 0} (number : C → ℕ) (same : V → V → Bool) (always :
     holds i n m e l = made_held number same always i p.notes h m.key m.kind m.given n m.phase (p.each i m e).known l
 
   more_map : (h0 : ℕ → Node V) (ms0 : List (Machine C V)) (ss : List (Step C V)) (ds : List (Move V)) (h : ℕ → Node V) (ms : List (Machine C V)) (s : Step C V) (d : Move V) (h' : ℕ → Node V) (ms' : List (Machine C V)) (m : Pairs V)
-      → (m1 : Pairs V) × Standing h m1 × Run same (map flight ms0) m ss ds (map flight ms) m1 → StepPlays number same always h ms s d h' ms'
-      → (m2 : Pairs V) × Standing h' m2 × Run same (map flight ms0) m (ss ++ s ∷ []) (ds ++ d ∷ []) (map flight ms') m2
+      → (m1 : Pairs V) × (fs : List (Flight V)) × Standing h m1 × Following ms fs × Chain number same always h0 ms0 (map flight ms0) m ss ds h ms fs m1 → StepPlays number same always h ms s d h' ms'
+      → (m2 : Pairs V) × (fs2 : List (Flight V)) × Standing h' m2 × Following ms' fs2 × Chain number same always h0 ms0 (map flight ms0) m (ss ++ s ∷ []) (ds ++ d ∷ []) h' ms' fs2 m2
   more_map h0 ms0 ss ds h ms s d h' ms' m r q =
-      let w : (m2 : Pairs V) × Standing h' m2 × WatchedAt same (map flight ms) r.0 (slice_get (map flight ms) s.who) s d (map flight ms') m2 = q.watched r.0 r.1 in
-      (w.0, w.1, run_more (map flight ms0) m ss ds (map flight ms) r.0 s d (map flight ms') w.0 r.2 w.2)
+      let w : (m2 : Pairs V) × (fs2 : List (Flight V)) × Standing h' m2 × Following ms' fs2 × WatchedAt same r.1 r.0 (slice_get r.1 s.who) s d fs2 m2 = q.watched r.0 r.1 r.2 r.3 in
+      (w.0, w.1, w.2, w.3, chain_more h0 ms0 (map flight ms0) m ss ds h ms r.1 r.0 s d h' ms' w.1 w.0 r.4 w.2 w.3 q.next w.4)
 
   -- one step more
   pub plays_more : (h0 : ℕ → Node V) (ms0 : List (Machine C V)) (ss : List (Step C V)) (ds : List (Move V)) (h : ℕ → Node V) (ms : List (Machine C V)) (s : Step C V) (d : Move V) (h' : ℕ → Node V) (ms' : List (Machine C V))
       → Plays number same always h0 ms0 ss ds h ms → StepPlays number same always h ms s d h' ms' → Plays number same always h0 ms0 (ss ++ s ∷ []) (ds ++ d ∷ []) h' ms'
   plays_more h0 ms0 ss ds h ms s d h' ms' p q = record {
     protocol = q.protocol;
+    nexts = nexts_more h0 ms0 ss ds h ms s d h' ms' p.nexts q.next;
     run = λ m st. more_map h0 ms0 ss ds h ms s d h' ms' m (p.run m st) q;
     from_root = λ o. more_map h0 ms0 ss ds h ms s d h' ms' empty (p.from_root o) q;
     apart = apart h' ms' q.protocol;
@@ -206,6 +248,11 @@ module _ {C V : Type 0} (number : C → ℕ) (same : V → V → Bool) (always :
     settled_fresh = λ o. let x : Settled number same always h ms = p.settled_fresh o in q.settled x.0 x.1 x.2;
   }
 
+  begin_known : (i : ℕ) (a : ℕ → Note) (h : ℕ → Node V) (k : ℕ) (kind : Kind V) (given : Option V) (x : Phase C V) → IsBegin kind given x → Known number same always i a h k (key_bytes k) kind given x
+  begin_known i a h k kind given New n = n
+  begin_known i a h k kind given (Sweep s) n = let P : Stage C V → Type 0 = λ y. SweepKnownAt number always a h s y in subst P (sym n.0) n.1
+  begin_known i a h k kind given _ n = absurd n
+
   -- calls that have not begun know what they are to know
   begun_at : (h : ℕ → Node V) (ms : List (Machine C V)) → Begins number h ms → (a : ℕ → Note) → Tree a h → Words a h → ProtocolAt number same always a h ms
   begun_at h ms b a t w = record {
@@ -214,7 +261,7 @@ module _ {C V : Type 0} (number : C → ℕ) (same : V → V → Bool) (always :
     each = λ i m e. record {
       root = b.root i m e;
       key = (b.new i m e).key;
-      known = (let P : Phase C V → Type 0 = λ x. Known number same always i a h m.key (key_bytes m.key) m.kind m.given x in subst P (sym (b.new i m e).phase) (b.new i m e).given);
+      known = begin_known i a h m.key m.kind m.given m.phase (b.new i m e).begins;
     };
   }
 
@@ -236,13 +283,19 @@ module _ {C V : Type 0} (number : C → ℕ) (same : V → V → Bool) (always :
   }
 
   none_taken : (h : ℕ → Node V) (ms : List (Machine C V)) → Begins number h ms → (i n : ℕ) (m : Machine C V) → slice_get ms i ≡ Some m → TakenBy number m.phase n → ⊥
-  none_taken h ms b i n m e x = let P : Phase C V → Type 0 = λ y. TakenBy number y n in subst P (b.new i m e).phase x
+  none_taken h ms b i n m e x = of m.kind m.given m.phase (b.new i m e).begins x
+    where
+      of : (kind : Kind V) (given : Option V) (y : Phase C V) → IsBegin kind given y → TakenBy number y n → ⊥
+      of kind given New g x = x
+      of kind given (Sweep s) g x = x
+      of kind given _ g x = g
 
   pub plays_none : (h : ℕ → Node V) (ms : List (Machine C V)) → Begins number h ms → Plays number same always h ms [] [] h ms
   plays_none h ms b = record {
     protocol = begun_protocol h ms b;
-    run = λ m st. (m, st, (refl, refl));
-    from_root = λ o. (empty, standing_none h o, (refl, refl));
+    nexts = (refl, refl);
+    run = λ m st. (m, map flight ms, st, follow_new ms b.new, (refl, refl, refl, refl));
+    from_root = λ o. (empty, map flight ms, standing_none h o, follow_new ms b.new, (refl, refl, refl, refl));
     apart = apart h ms (begun_protocol h ms b);
     by = λ _. None;
     handing = handing_none h ms b.notes b.tree b.words;

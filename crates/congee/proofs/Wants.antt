@@ -10,7 +10,7 @@ use Rattle.congee.specs.declared.phase.Double.{Double}
 use Rattle.congee.specs.declared.phase.Double.TheVariants.{Unlink, Grow, GrowLink, Split}
 use Rattle.congee.specs.declared.phase.Two.{Two}
 use Rattle.congee.specs.declared.phase.Phase.{Phase}
-use Rattle.congee.specs.declared.phase.Phase.TheVariants.{New, Version, Read, Check, CheckUncopied, CheckMiss, CheckDown, CheckOld, MakeLeaf, MakeGreater, MakeTop, MakeBeside, AskOld, AskNew, Confirm, CheckAbove, UpgradeOne, ChangeOne, UpgradeAbove, UpgradeBoth, ChangeTwo, Obsolete, Retire, UnlockBelow, Unlock, Unwind, Ended}
+use Rattle.congee.specs.declared.phase.Phase.TheVariants.{New, Version, Read, Check, CheckUncopied, CheckMiss, CheckDown, CheckOld, MakeLeaf, MakeGreater, MakeTop, MakeBeside, AskOld, AskNew, Confirm, CheckAbove, UpgradeOne, ChangeOne, UpgradeAbove, UpgradeBoth, ChangeTwo, Obsolete, Retire, UnlockBelow, Unlock, Unwind, Sweep, Ended}
 use Rattle.congee.specs.Heap.{Node, Hung, Nothing, Below, Stands, child_for}
 use Rattle.congee.specs.Events.{MayChange, Parts}
 use Rattle.congee.specs.Steps.{value_hung, MayBackOne, MayBackTwo, MayBackLeaf, Changeable, Blank, MayChangeOne, MayChangeTwo, MayStep}
@@ -19,6 +19,7 @@ use Rattle.congee.specs.Ledger.{Note, is_published, IsChild, Tree, Words}
 use Rattle.congee.specs.Protocol.{Made, Holding, MadeOne, MadeTwo, MadeLeafFor, FitsOne, FitsTwo, OneLocked, TwoLocked, WantedTwo, PlacedTwo, Known}
 use Rattle.congee.proofs.Touch.{owner_locked}
 use Rattle.congee.proofs.Change.{made_apart}
+use Rattle.congee.proofs.SweepWants.{sweep_wants}
 
 module _ {C V : Type 0} (number : C → ℕ) (same : V → V → Bool) (always : Bool) (i : ℕ) (a : ℕ → Note) (h : ℕ → Node V) (k : ℕ) (t : Tree a h) (w : Words a h) where
   there : (n : ℕ) → is_published (a n).status ≡ true → Stands (h n)
@@ -175,4 +176,5 @@ module _ {C V : Type 0} (number : C → ℕ) (same : V → V → Bool) (always :
   wants kind given (UnlockBelow n p r) m = held_there (number n) m.0
   wants kind given (Unlock n r) m = held_there (number n) m
   wants kind given (Unwind n e) m = held_there (number n) m.1
+  wants kind given (Sweep s) m = sweep_wants number always a h t w s m
   wants kind given Ended m = tt

@@ -38,7 +38,7 @@ abbrev pub ReadGives : {C V : Type 0} → (C → ℕ) → Bool → Node V → �
 ReadGives number always n v key (Differs common byte) = Parts n.prefix key common × (byte ≡ slice_index n.prefix common)
 ReadGives number always n v key (Fits depth s) = (fits n.prefix key ≡ true) × (depth ≡ length n.prefix) × (depth ≤ 7) × (s.byte ≡ slice_index key depth)
     × (is_taken n v ≡ true → SeenTruly number n key s)
-ReadGives number always n v key Uncopied = (fits n.prefix key ≡ true) × (always ≡ false)
+ReadGives {C} {V} number always n v key Uncopied = (fits n.prefix key ≡ true) × (always ≡ false) × (is_taken n v ≡ true → (x : V) × (child_for n key ≡ Holds x))
 
 -- the nodes with one of them changed
 pub record SameBut {V : Type 0} (h : ℕ → Node V) (n : ℕ) (x : Node V) (h' : ℕ → Node V) : Type 0 where

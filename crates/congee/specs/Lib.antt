@@ -34,3 +34,9 @@ pub mod Holdings
 pub mod Handing
 pub mod Names
 pub mod Destroys
+pub mod Regions
+pub mod Sweeps
+pub mod SweepEvents
+pub mod SweepSteps
+pub mod Seats
+pub mod SweepKnown

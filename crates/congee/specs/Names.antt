@@ -13,13 +13,14 @@ use Rattle.congee.specs.declared.phase.Two.{Two}
 use Rattle.congee.specs.declared.phase.Plan.{Plan}
 use Rattle.congee.specs.declared.phase.Plan.TheVariants.{Here, Above}
 use Rattle.congee.specs.declared.phase.Phase.{Phase}
-use Rattle.congee.specs.declared.phase.Phase.TheVariants.{New, Version, Read, Check, CheckUncopied, CheckMiss, CheckDown, CheckOld, MakeLeaf, MakeGreater, MakeTop, MakeBeside, AskOld, AskNew, Confirm, CheckAbove, UpgradeOne, ChangeOne, UpgradeAbove, UpgradeBoth, ChangeTwo, Obsolete, Retire, UnlockBelow, Unlock, Unwind, Ended}
+use Rattle.congee.specs.declared.phase.Phase.TheVariants.{New, Version, Read, Check, CheckUncopied, CheckMiss, CheckDown, CheckOld, MakeLeaf, MakeGreater, MakeTop, MakeBeside, AskOld, AskNew, Confirm, CheckAbove, UpgradeOne, ChangeOne, UpgradeAbove, UpgradeBoth, ChangeTwo, Obsolete, Retire, UnlockBelow, Unlock, Unwind, Sweep, Ended}
 use Rattle.congee.specs.declared.machine.Machine.{Machine}
 use Rattle.congee.specs.Heap.{Node, Below}
 use Rattle.congee.specs.Handing.{InTree}
 use Rattle.congee.specs.Keys.{key_bytes}
 use Rattle.congee.specs.Ledger.{Note, Tree, Words}
 use Rattle.congee.specs.Protocol.{Known}
+use Rattle.congee.specs.SweepKnown.{names_sweep}
 
 -- the node above, a node with its version, a made leaf, where there is one
 abbrev pub name_above : {C : Type 0} → (C → ℕ) → Option (Parent C) → List ℕ
@@ -88,6 +89,7 @@ names number (Retire n p r) = number n ∷ number p ∷ []
 names number (UnlockBelow n p r) = number n ∷ number p ∷ []
 names number (Unlock n r) = number n ∷ []
 names number (Unwind n e) = number n ∷ []
+names number (Sweep s) = names_sweep number s
 names number Ended = []
 
 -- where a call has a name from after a step: it had it before; it is the root's; the step made the node; or the node

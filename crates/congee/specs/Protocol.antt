@@ -18,21 +18,13 @@ use Rattle.congee.specs.declared.phase.Two.{Two}
 use Rattle.congee.specs.declared.phase.Plan.{Plan}
 use Rattle.congee.specs.declared.phase.Plan.TheVariants.{Here, Above}
 use Rattle.congee.specs.declared.phase.Phase.{Phase}
-use Rattle.congee.specs.declared.phase.Phase.TheVariants.{New, Version, Read, Check, CheckUncopied, CheckMiss, CheckDown, CheckOld, MakeLeaf, MakeGreater, MakeTop, MakeBeside, AskOld, AskNew, Confirm, CheckAbove, UpgradeOne, ChangeOne, UpgradeAbove, UpgradeBoth, ChangeTwo, Obsolete, Retire, UnlockBelow, Unlock, Unwind, Ended}
+use Rattle.congee.specs.declared.phase.Phase.TheVariants.{New, Version, Read, Check, CheckUncopied, CheckMiss, CheckDown, CheckOld, MakeLeaf, MakeGreater, MakeTop, MakeBeside, AskOld, AskNew, Confirm, CheckAbove, UpgradeOne, ChangeOne, UpgradeAbove, UpgradeBoth, ChangeTwo, Obsolete, Retire, UnlockBelow, Unlock, Unwind, Sweep, Ended}
 use Rattle.congee.specs.Heap.{Node, Hung, Nothing, Below, Holds, fits, child_for, is_taken}
 use Rattle.congee.specs.Events.{hung, Parts}
 use Rattle.congee.specs.Steps.{adds}
+use Rattle.congee.specs.SweepKnown.{SweepKnown}
+pub use Rattle.congee.specs.Seats.{Seated, Fresh}
 use Rattle.congee.specs.Ledger.{Note, Unmade, Held, Linked, Gone, is_published, is_spent, Tree, Words}
-
--- a node of which a version was taken
-pub record Seated {V : Type 0} (a : ℕ → Note) (h : ℕ → Node V) (n v : ℕ) : Type 0 where
-  pub published : is_published (a n).status ≡ true
-  pub up : v ≤ (h n).version
-
--- and what is true of it as long as its lock word is the one taken
-pub record Fresh {V : Type 0} (a : ℕ → Note) (h : ℕ → Node V) (n v : ℕ) (Q : Node V → Type 0) : Type 0 where
-  pub seated : Seated a h n v
-  pub holds : is_taken (h n) v ≡ true → Q (h n)
 
 -- node n was read in the node above, at the byte
 pub record ChildOf {C V : Type 0} (number : C → ℕ) (a : ℕ → Note) (h : ℕ → Node V) (key : List ℕ) (p : Parent C) (n : ℕ) : Type 0 where
@@ -274,6 +266,7 @@ Known number same always i a h k key kind given (Retire n p r) = TakenOut i a h 
 Known number same always i a h k key kind given (UnlockBelow n p r) = Holding i a (number n) × Holding i a (number p) × (number n ≢ number p)
 Known number same always i a h k key kind given (Unlock n r) = Holding i a (number n)
 Known number same always i a h k key kind given (Unwind n e) = HasGift kind given × Holding i a (number n)
+Known number same always i a h k key kind given (Sweep s) = SweepKnown number always a h s
 Known number same always i a h k key kind given Ended = Unit {0}
 
 -- what call i may count on over a step of others, as far as the nodes of K go: a word that was taken and still

@@ -27,8 +27,13 @@ use Rattle.congee.specs.declared.phase.Two.{Two}
 use Rattle.congee.specs.declared.phase.Plan.{Plan}
 use Rattle.congee.specs.declared.phase.Plan.TheVariants.{Here, Above}
 use Rattle.congee.specs.declared.phase.Phase.{Phase}
-use Rattle.congee.specs.declared.phase.Phase.TheVariants.{New, Version, Read, Check, CheckUncopied, CheckMiss, CheckDown, CheckOld, MakeLeaf, MakeGreater, MakeTop, MakeBeside, AskOld, AskNew, Confirm, CheckAbove, UpgradeOne, ChangeOne, UpgradeAbove, UpgradeBoth, ChangeTwo, Obsolete, Retire, UnlockBelow, Unlock, Unwind, Ended}
-use Rattle.congee.specs.declared.machine.Outcome.TheVariants.{Running, Asks, Done, Refused}
+use Rattle.congee.specs.declared.phase.Phase.TheVariants.{New, Version, Read, Check, CheckUncopied, CheckMiss, CheckDown, CheckOld, MakeLeaf, MakeGreater, MakeTop, MakeBeside, AskOld, AskNew, Confirm, CheckAbove, UpgradeOne, ChangeOne, UpgradeAbove, UpgradeBoth, ChangeTwo, Obsolete, Retire, UnlockBelow, Unlock, Unwind, Sweep, Ended}
+use Rattle.congee.specs.declared.machine.Outcome.{Outcome}
+use Rattle.congee.specs.declared.machine.Outcome.TheVariants.{Running, Asks, Found, Done, Scanned, Refused}
+use Rattle.congee.specs.declared.sweep.Sweep.{Sweep as Scan}
+use Rattle.congee.specs.declared.sweep.Told.{Told}
+use Rattle.congee.specs.declared.sweep.Told.TheVariants as told
+use Rattle.congee.specs.SweepSteps.{SweepStepped, MaySweep}
 use Rattle.congee.specs.declared.machine.Move.{Move}
 use Rattle.congee.specs.declared.turn.Turn.{Turn}
 use Rattle.congee.specs.declared.machine.Machine.{Machine}
@@ -314,6 +319,16 @@ abbrev pub unwound : {C V : Type 0} → C → Option Refusal → Turn C V
 unwound root None = again root
 unwound root (Some e) = refused e
 
+-- what a scan's step tells, as a report
+abbrev pub outcome_of : {V : Type 0} → Told V → Outcome V
+outcome_of told.Running = Running
+outcome_of (told.Found place key v) = Found place key v
+outcome_of (told.Done count) = Scanned count
+outcome_of (told.Refused e) = Refused e
+
+abbrev pub swept : {C V : Type 0} → Scan C V → Told V → Turn C V
+swept s o = record { phase = Sweep s; step = record { decided = false; outcome = outcome_of o } }
+
 -- the step of a call in a phase: on the nodes, the closure's answer and the failing of an exchange, it gives the
 -- call's new value, what it leaves, and the nodes after it
 abbrev pub PhaseStepped : {C V : Type 0} → (C → ℕ) → (V → V → Bool) → Bool → ℕ → C → List ℕ → Kind V → Bool → Option (Option V)
@@ -370,6 +385,8 @@ PhaseStepped number same always most root key kind fail answer new (Unlock n r) 
     (new' ≡ new) × UnlockGives h (number n) h' × (t ≡ finished r)
 PhaseStepped number same always most root key kind fail answer new (Unwind n e) h new' t h' =
     (new' ≡ new) × UnlockGives h (number n) h' × (t ≡ unwound root e)
+PhaseStepped {C} {V} number same always most root key kind fail answer new (Sweep s) h new' t h' =
+    (h' ≡ h) × (new' ≡ new) × ((s' : Scan C V) × (o : Told V) × SweepStepped number always root s h s' o × (t ≡ swept s' o))
 PhaseStepped number same always most root key kind fail answer new Ended h new' t h' =
     (h' ≡ h) × (new' ≡ new) × (t ≡ quiet Ended)
 
@@ -481,4 +498,5 @@ MayStep number key new New h = Unit {0}
 MayStep number key new (MakeLeaf s) h = Unit {0}
 MayStep number key new (AskOld s v) h = Unit {0}
 MayStep number key new (AskNew plan) h = Unit {0}
+MayStep number key new (Sweep s) h = MaySweep number s h
 MayStep number key new Ended h = Unit {0}

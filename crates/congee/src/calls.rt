@@ -56,13 +56,14 @@ pub fn play<C: NodeName + Drop, P: Payload, S: Store<C, P>>(
 }
 
 /// The step of the call at its place.
-fn step_of<C: NodeName + Drop, P: Payload, S: Store<C, P>>(
+pub fn step_of<C: NodeName + Drop, P: Payload, S: Store<C, P>>(
     store: &mut S,
     machines: &mut [Machine<C, P>],
     step: Step<C, P>,
 ) -> Move<P>
     requires { Protocol C.number P.same_as P.always_copies (S.heap store.old) machines.old }
-    ensures { StepPlays C.number P.same_as P.always_copies (S.heap store.old) machines.old step result (S.heap store.new) machines.new }
+    ensures plays { StepPlays C.number P.same_as P.always_copies (S.heap store.old) machines.old step result (S.heap store.new) machines.new }
+    ensures rest { S.rest store.new ≡ S.rest store.old }
 {
     let Step { who, noise } = step;
     if who < machines.len() {

@@ -28,8 +28,12 @@ pub enum Outcome<P> {
     Running,
     /// The closure's answer is wanted, for the value that stands or for an absent key.
     Asks(Option<P>),
+    /// A scan found a pair for a place; it goes on.
+    Found { place: usize, key: u64, value: P },
     /// The call has ended with its reply.
     Done(Reply<P>),
+    /// A scan has ended, with so many places filled.
+    Scanned { count: usize },
     /// The call has ended without one, and has changed nothing.
     Refused(Refusal),
 }
@@ -77,13 +81,14 @@ impl<C: NodeName, P: Payload> Machine<C, P> {
         ensures begins { (h : ℕ → Node P) → RootAlone h → C.number root ≡ 0 → Begins C.number h (result ∷ []) }
         ensures joins { (h : ℕ → Node P) (ms : List (Machine C P)) → Begins C.number h ms → C.number root ≡ 0 → Begins C.number h (ms ++ result ∷ []) }
     {
+        let phase = op.first_phase(root);
         let (key, kind, given) = op.parts();
         Machine {
             root,
             key,
             kind,
             given,
-            phase: Phase::New,
+            phase,
         }
     }
 
@@ -91,6 +96,7 @@ impl<C: NodeName, P: Payload> Machine<C, P> {
     pub fn next<S: Store<C, P>>(&mut self, store: &mut S, mut noise: Noise<C, P>) -> Move<P>
         requires { MayStep C.number (key_bytes self.old.key) self.old.given self.old.phase (S.heap store.old) }
         ensures limit { S.version_max store.new ≡ S.version_max store.old }
+        ensures rest { S.rest store.new ≡ S.rest store.old }
         ensures step { Stepped C.number P.same_as P.always_copies (S.version_max store.old) self.old (S.heap store.old) noise.fail noise.answer self.new (S.heap store.new) result }
         ensures keeps { KeepsProtocol C.number P.same_as P.always_copies self.old (S.heap store.old) self.new (S.heap store.new) result }
         ensures origin { KeepsOrigin C.number P.same_as P.always_copies self.old (S.heap store.old) self.new (S.heap store.new) }
@@ -116,6 +122,7 @@ impl<C: NodeName, P: Payload> Machine<C, P> {
         ensures key { self.new.key ≡ self.old.key }
         ensures kind { self.new.kind ≡ self.old.kind }
         ensures limit { S.version_max store.new ≡ S.version_max store.old }
+        ensures rest { S.rest store.new ≡ S.rest store.old }
         ensures step { PhaseStepped C.number P.same_as P.always_copies (S.version_max store.old) self.old.root (key_bytes self.old.key) self.old.kind noise.old.fail noise.old.answer self.old.given phase (S.heap store.old) self.new.given result (S.heap store.new) }
     {
         match phase {
@@ -140,6 +147,10 @@ impl<C: NodeName, P: Payload> Machine<C, P> {
             Phase::AskOld { site, old } => self.take_answer(site, old, noise.answer.take()),
             Phase::AskNew { plan } => self.take_new(plan, noise.answer.take()),
             Phase::Confirm { at, reply } => self.confirm(store, at, reply),
+            Phase::Sweep { mut sweep } => {
+                let told = sweep.step(store, self.root, &mut noise.seen);
+                Turn::swept(sweep, told)
+            }
             phase => self.act(store, phase, noise.fail),
         }
     }
@@ -152,6 +163,7 @@ impl<C: NodeName, P: Payload> Machine<C, P> {
         ensures key { self.new.key ≡ self.old.key }
         ensures kind { self.new.kind ≡ self.old.kind }
         ensures limit { S.version_max store.new ≡ S.version_max store.old }
+        ensures rest { S.rest store.new ≡ S.rest store.old }
         ensures step { (answer : Option (Option P)) → PhaseStepped C.number P.same_as P.always_copies (S.version_max store.old) self.old.root (key_bytes self.old.key) self.old.kind fail answer self.old.given phase (S.heap store.old) self.new.given result (S.heap store.new) }
     {
         match phase {
@@ -187,6 +199,7 @@ impl<C: NodeName, P: Payload> Machine<C, P> {
         requires may { MayStep C.number (key_bytes self.now.key) self.now.given phase (S.heap store.old) }
         requires leaves { Leaves phase }
         ensures limit { S.version_max store.new ≡ S.version_max store.old }
+        ensures rest { S.rest store.new ≡ S.rest store.old }
         ensures step { (fail : Bool) (answer : Option (Option P)) → PhaseStepped C.number P.same_as P.always_copies (S.version_max store.old) self.now.root (key_bytes self.now.key) self.now.kind fail answer self.now.given phase (S.heap store.old) self.now.given result (S.heap store.new) }
     {
         match phase {
@@ -308,6 +321,7 @@ impl<C: NodeName, P: Payload> Machine<C, P> {
 
     fn make_leaf<S: Store<C, P>>(&self, store: &mut S, site: Site<C>) -> Turn<C, P>
         ensures limit { S.version_max store.new ≡ S.version_max store.old }
+        ensures rest { S.rest store.new ≡ S.rest store.old }
         ensures made { ((r : Result C Refusal) × MadeLeaf C.number self.now.kind site (S.heap store.old) (key_bytes self.now.key) r (S.heap store.new) result) }
     {
         match store.make(NodeType::N4, &self.key.to_be_bytes(), 7) {
@@ -326,6 +340,7 @@ impl<C: NodeName, P: Payload> Machine<C, P> {
         requires depth { site.depth ≤ 7 }
         requires stands { MayBackLeaf C.number (S.heap store.old) leaf }
         ensures limit { S.version_max store.new ≡ S.version_max store.old }
+        ensures rest { S.rest store.new ≡ S.rest store.old }
         ensures made { ((r : Result C Refusal) × MadeGreater C.number self.now.kind site above leaf (S.heap store.old) (key_bytes self.now.key) r (S.heap store.new) result) }
     {
         let form = NodeType::above(site.count);
@@ -359,6 +374,7 @@ impl<C: NodeName, P: Payload> Machine<C, P> {
     ) -> Turn<C, P>
         requires { common < 7 }
         ensures limit { S.version_max store.new ≡ S.version_max store.old }
+        ensures rest { S.rest store.new ≡ S.rest store.old }
         ensures made { ((r : Result C Refusal) × MadeTop C.number above at common byte (S.heap store.old) (key_bytes self.now.key) r (S.heap store.new) result) }
     {
         match store.make(NodeType::N4, &self.key.to_be_bytes(), common) {
@@ -384,6 +400,7 @@ impl<C: NodeName, P: Payload> Machine<C, P> {
     ) -> Turn<C, P>
         requires { Stands (S.heap store.old (C.number top)) }
         ensures limit { S.version_max store.new ≡ S.version_max store.old }
+        ensures rest { S.rest store.new ≡ S.rest store.old }
         ensures made { ((r : Result C Refusal) × MadeBeside C.number self.now.kind above at common byte top (S.heap store.old) (key_bytes self.now.key) r (S.heap store.new) result) }
     {
         match store.make(NodeType::N4, &self.key.to_be_bytes(), 7) {
@@ -467,6 +484,7 @@ impl<C: NodeName, P: Payload> Machine<C, P> {
         requires stands { Stands (S.heap store.old (C.number above.node)) }
         requires made { MayBackOne C.number (S.heap store.old) one.change }
         ensures limit { S.version_max store.new ≡ S.version_max store.old }
+        ensures rest { S.rest store.new ≡ S.rest store.old }
         ensures checked { IsCheckedAbove C.number self.now.root above one reply (S.heap store.old) (S.heap store.new) result }
     {
         if store.check(above) {
@@ -488,6 +506,7 @@ impl<C: NodeName, P: Payload> Machine<C, P> {
         requires stands { Stands (S.heap store.old (C.number one.at.node)) }
         requires made { MayBackOne C.number (S.heap store.old) one.change }
         ensures limit { S.version_max store.new ≡ S.version_max store.old }
+        ensures rest { S.rest store.new ≡ S.rest store.old }
         ensures upgraded { ((u : Upgrade) × (u ≡ upgrade_gives (S.version_max store.old) (S.heap store.old (C.number one.at.node)) one.at.version fail) × UpgradedOne C.number self.now.root one reply (S.heap store.old) u (S.heap store.new) result) }
     {
         match store.upgrade(one.at, fail) {
@@ -515,6 +534,7 @@ impl<C: NodeName, P: Payload> Machine<C, P> {
         requires stands { Stands (S.heap store.old (C.number two.above.seat.node)) }
         requires made { MayBackTwo C.number (S.heap store.old) two.change }
         ensures limit { S.version_max store.new ≡ S.version_max store.old }
+        ensures rest { S.rest store.new ≡ S.rest store.old }
         ensures upgraded { ((u : Upgrade) × (u ≡ upgrade_gives (S.version_max store.old) (S.heap store.old (C.number two.above.seat.node)) two.above.seat.version fail) × UpgradedAbove C.number self.now.root two reply (S.heap store.old) u (S.heap store.new) result) }
     {
         match store.upgrade(two.seat_above(), fail) {
@@ -544,6 +564,7 @@ impl<C: NodeName, P: Payload> Machine<C, P> {
         ensures kind { self.new.kind ≡ self.old.kind }
         ensures spent { self.new.given ≡ None }
         ensures limit { S.version_max store.new ≡ S.version_max store.old }
+        ensures rest { S.rest store.new ≡ S.rest store.old }
         ensures changed { ChangedOne C.number (key_bytes self.old.key) self.old.given one one.change (S.heap store.old) (S.heap store.new) }
         ensures turn { result ≡ decided (phase.Unlock one.at.node reply) }
     {
@@ -572,6 +593,7 @@ impl<C: NodeName, P: Payload> Machine<C, P> {
         ensures kind { self.new.kind ≡ self.old.kind }
         ensures spent { self.new.given ≡ None }
         ensures limit { S.version_max store.new ≡ S.version_max store.old }
+        ensures rest { S.rest store.new ≡ S.rest store.old }
         ensures changed { ChangedTwo C.number (key_bytes self.old.key) self.old.given two two.change (S.heap store.old) (S.heap store.new) }
         ensures turn { result ≡ after_change two reply two.change }
     {
@@ -589,6 +611,7 @@ fn put_two<C: NodeName, P: Payload, S: Store<C, P>>(
 )
     requires { MayChangeTwo C.number key.now new two two.change (S.heap store.old) }
     ensures limit { S.version_max store.new ≡ S.version_max store.old }
+    ensures rest { S.rest store.new ≡ S.rest store.old }
     ensures changed { ChangedTwo C.number key.now new two two.change (S.heap store.old) (S.heap store.new) }
 {
     let value = value_child(new);
@@ -632,6 +655,7 @@ fn put_greater<C: NodeName, P: Payload, S: Store<C, P>>(
     requires apart { C.number two.above.seat.node ≢ C.number two.at.node }
     requires hangs { hung C.number child ≢ Nothing }
     ensures limit { S.version_max store.new ≡ S.version_max store.old }
+    ensures rest { S.rest store.new ≡ S.rest store.old }
     ensures put { PutsGreater C.number two greater byte (hung C.number child) (S.heap store.old) (S.heap store.new) }
 {
     let parent = two.parent();
@@ -655,6 +679,7 @@ fn put_fork<C: NodeName, P: Payload, S: Store<C, P>>(
     requires bytes { byte ≢ new_byte }
     requires apart { C.number two.above.seat.node ≢ C.number top }
     ensures limit { S.version_max store.new ≡ S.version_max store.old }
+    ensures rest { S.rest store.new ≡ S.rest store.old }
     ensures put { PutsFork C.number two top byte new_byte leaf (S.heap store.old) (S.heap store.new) }
 {
     let parent = two.parent();
@@ -678,6 +703,7 @@ fn value_child<C: NodeName, P: Payload>(new: Option<P>) -> Child<C, P>
 fn back_one<C: NodeName, P: Payload, S: Store<C, P>>(store: &mut S, change: Single<C>)
     requires { MayBackOne C.number (S.heap store.old) change }
     ensures limit { S.version_max store.new ≡ S.version_max store.old }
+    ensures rest { S.rest store.new ≡ S.rest store.old }
     ensures back { BackOne C.number (S.heap store.old) change (S.heap store.new) }
 {
     match change {
@@ -690,6 +716,7 @@ fn back_one<C: NodeName, P: Payload, S: Store<C, P>>(store: &mut S, change: Sing
 fn back_two<C: NodeName, P: Payload, S: Store<C, P>>(store: &mut S, change: Double<C>)
     requires { MayBackTwo C.number (S.heap store.old) change }
     ensures limit { S.version_max store.new ≡ S.version_max store.old }
+    ensures rest { S.rest store.new ≡ S.rest store.old }
     ensures back { BackTwo C.number (S.heap store.old) change (S.heap store.new) }
 {
     match change {
@@ -716,6 +743,7 @@ fn upgrade_both<C: NodeName, P: Payload, S: Store<C, P>>(
     requires stands { Stands (S.heap store.old (C.number two.at.node)) }
     requires made { MayBackTwo C.number (S.heap store.old) two.change }
     ensures limit { S.version_max store.new ≡ S.version_max store.old }
+    ensures rest { S.rest store.new ≡ S.rest store.old }
     ensures upgraded { ((u : Upgrade) × (u ≡ upgrade_gives (S.version_max store.old) (S.heap store.old (C.number two.at.node)) two.at.version fail) × UpgradedBoth C.number two reply (S.heap store.old) u (S.heap store.new) result) }
 {
     let node = two.parent();

@@ -5,6 +5,7 @@ ghost use Rattle.congee.specs.Steps.{plan_here, greater};
 
 use crate::child::Child;
 use crate::store::{NodeName, Refusal, Seat};
+use crate::sweep::Sweep;
 use judge::Reply;
 
 /// What a call does with its key.
@@ -255,6 +256,10 @@ pub enum Phase<C: NodeName, P> {
     Unwind {
         node: C,
         refusal: Option<Refusal>,
+    },
+    /// A scan's step.
+    Sweep {
+        sweep: Sweep<C, P>,
     },
     /// The call has ended.
     Ended,

@@ -5,13 +5,14 @@ ghost use Rattle.congee.specs.Heap.{Node, Stands, is_taken};
 ghost use Rattle.congee.specs.Play.{Begins, begun};
 ghost use Rattle.std.specs.Vec.{vec_len};
 ghost use Rattle.congee.specs.Events.{hung, ReadGives, UpgradeGives, MayChange, ChangeGives};
+ghost use Rattle.congee.specs.SweepEvents.{LeastGives};
 
 use crate::base_node::NodeType;
 use crate::child::Child;
 use crate::machine::Machine;
 use crate::op::Op;
 use crate::plain_node::PlainNode;
-use crate::store::{NodeName, Reading, Refusal, Seat, Seen, Store, Upgrade};
+use crate::store::{Least, NodeName, Reading, Refusal, Region, Seat, Seen, Store, Upgrade};
 use std::alloc::{AllocError, Global};
 use std::vec::Vec;
 
@@ -65,6 +66,12 @@ impl Store<usize, u64> for PlainStore {
 
     ghost version_max = { λ s. 2 ^ 64 - 1 };
 
+    ghost Rest = { ℕ };
+
+    ghost rest = { λ s. s.room };
+
+    ghost refuses = { λ s form e. Unit {0} };
+
     fn version(&self, node: usize) -> Option<u64> {
         let node = &self.nodes[node];
         if node.locked || node.obsolete {
@@ -86,6 +93,23 @@ impl Store<usize, u64> for PlainStore {
         self.nodes[at.node].read(at.version, key, seen)
     }
 
+    fn region(&self, node: usize) -> Region {
+        Region::of(self.nodes[node].prefix.as_slice())
+    }
+
+    fn least(
+        &self,
+        at: Seat<usize>,
+        from: u16,
+        last: u8,
+        seen: Option<Seen<usize, u64>>,
+    ) -> Least<usize, u64>
+        requires { Stands (heap_of self.now.nodes.items at.node) }
+        ensures { LeastGives (λ n. n) true (heap_of self.now.nodes.items at.node) at.version from last result }
+    {
+        self.nodes[at.node].least(at.version, from, last, seen)
+    }
+
     fn check(&self, at: Seat<usize>) -> bool
         requires { Stands (heap_of self.now.nodes.items at.node) }
         ensures { result ≡ is_taken (heap_of self.now.nodes.items at.node) at.version }
@@ -95,6 +119,7 @@ impl Store<usize, u64> for PlainStore {
 
     fn upgrade(&mut self, at: Seat<usize>, fail: bool) -> Upgrade
         requires { Stands (heap_of self.old.nodes.items at.node) }
+        ensures rest { self.new.room ≡ self.old.room }
         ensures gives { UpgradeGives (2 ^ 64 - 1) (heap_of self.old.nodes.items) at.node at.version fail result (heap_of self.new.nodes.items) }
     {
         if at.version == u64::MAX {
@@ -131,6 +156,7 @@ impl Store<usize, u64> for PlainStore {
         requires stands { Stands (heap_of self.old.nodes.items node) }
         requires locked { (heap_of self.old.nodes.items node).locked ≡ true }
         requires room { MayChange (heap_of self.old.nodes.items node) byte (hung (λ n. n) child) }
+        ensures rest { self.new.room ≡ self.old.room }
         ensures gives { ChangeGives (heap_of self.old.nodes.items) node byte (hung (λ n. n) child) (heap_of self.new.nodes.items) }
     {
         self.nodes[node].children[byte as usize] = child;
@@ -139,6 +165,7 @@ impl Store<usize, u64> for PlainStore {
     fn fill(&mut self, node: usize, byte: u8, child: Child<usize, u64>)
         requires stands { Stands (heap_of self.old.nodes.items node) }
         requires room { MayChange (heap_of self.old.nodes.items node) byte (hung (λ n. n) child) }
+        ensures rest { self.new.room ≡ self.old.room }
         ensures gives { ChangeGives (heap_of self.old.nodes.items) node byte (hung (λ n. n) child) (heap_of self.new.nodes.items) }
     {
         self.nodes[node].children[byte as usize] = child;

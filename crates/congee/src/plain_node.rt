@@ -7,7 +7,7 @@ ghost use Rattle.congee.specs.Plain.{is_there, count_of, child_at, NamesStay};
 use crate::base_node::NodeType;
 use crate::child::Child;
 use crate::prefix::Prefix;
-use crate::store::{Reading, Seen};
+use crate::store::{Least, Reading, Seen};
 use std::alloc::{AllocError, Global};
 use std::mem;
 use std::vec::Vec;
@@ -103,6 +103,7 @@ fn copy_names(from: &[Child<usize, u64>], to: &mut [Child<usize, u64>])
 impl PlainNode {
     ghost use Rattle.std.specs.Prelude.{Some};
     ghost use Rattle.congee.specs.Heap.{is_taken};
+    ghost use Rattle.congee.specs.SweepEvents.{IsAny, LeastTruly, LeastGives};
     ghost use Rattle.congee.specs.PlainHeap.{node_of, IsFresh, IsTruly, HandsOver};
 
     /// An empty node on the key's way.
@@ -198,6 +199,51 @@ impl PlainNode {
                 Reading::Fits { depth, seen }
             }
         }
+    }
+
+    /// The child of the least byte within bounds, for a call that took this version, or what another call is to see.
+    pub(crate) fn least(
+        &self,
+        version: u64,
+        from: u16,
+        last: u8,
+        seen: Option<Seen<usize, u64>>,
+    ) -> Least<usize, u64>
+        ensures { LeastGives (λ n. n) true (node_of (Some self.now)) version from last result }
+    {
+        if self.is_at(version) {
+            return self.least_child(from, last);
+        }
+        let Some(seen) = seen else {
+            return Least::Nothing;
+        };
+        match seen.child {
+            Child::Blank => Least::Nothing,
+            Child::Node(node) => Least::Node {
+                byte: seen.byte,
+                node,
+            },
+            Child::Value(value) => Least::Value {
+                byte: seen.byte,
+                value,
+            },
+        }
+    }
+
+    /// The child of the least byte within bounds.
+    fn least_child(&self, from: u16, last: u8) -> Least<usize, u64>
+        ensures any { IsAny true result }
+        ensures truly { LeastTruly (λ n. n) (node_of (Some self.now)) from last result }
+    {
+        for place in from..last as u16 + 1 {
+            let byte = place as u8;
+            match self.child(byte) {
+                Child::Blank => {}
+                Child::Node(node) => return Least::Node { byte, node },
+                Child::Value(value) => return Least::Value { byte, value },
+            }
+        }
+        Least::Nothing
     }
 
     /// Gives the children to another node. The names of nodes stay here too.

@@ -2,6 +2,9 @@
 ghost use Rattle.std.specs.Prelude.{◌≡◌, ◌≢◌, ℕ, ◌+◌, ◌<◌, ◌≤◌, Bool, true, false};
 ghost use Rattle.congee.specs.Heap.{Node, Stands, version_of, is_taken};
 ghost use Rattle.congee.specs.Events.{hung, ReadGives, UpgradeGives, MayChange, ChangeGives, MakeGives, TakesOver, TakeOverGives, BackGives, ObsoleteGives, RetireGives, UnlockGives};
+ghost use Rattle.congee.specs.Regions.{IsRegion};
+ghost use Rattle.congee.specs.SweepEvents.{LeastGives};
+ghost use Rattle.std.specs.Prelude.{IfErr};
 
 use crate::base_node::NodeType;
 use crate::child::Child;
@@ -46,6 +49,28 @@ pub enum Reading<C, P> {
     Uncopied,
 }
 
+/// The keys that begin with a node's prefix: those whose first `depth` bytes are those of `base`, the least of them.
+#[derive(Clone, Copy, PartialEq, Eq, Debug)]
+pub struct Region {
+    /// The least key.
+    pub base: u64,
+    /// How many bytes the prefix has.
+    pub depth: usize,
+}
+
+/// What hangs at the least of some of a node's bytes that has a child.
+#[derive(Drop)]
+pub enum Least<C, P> {
+    /// Nothing hangs at any of them.
+    Nothing,
+    /// A node.
+    Node { byte: u8, node: C },
+    /// A value.
+    Value { byte: u8, value: P },
+    /// A value that couldn't be copied.
+    Uncopied,
+}
+
 /// How an attempt to lock a node ended.
 #[derive(Clone, Copy, PartialEq, Eq, Debug)]
 pub enum Upgrade {
@@ -78,11 +103,22 @@ pub enum Refusal {
 
 /// The nodes of a shared tree. What a call names stands: each method wants it of the nodes that it is given.
 pub trait Store<C: NodeName, P: Payload> {
+    ghost use Rattle.congee.specs.declared.base_node.NodeType.{NodeType};
+    ghost use Rattle.congee.specs.declared.store.Refusal.{Refusal};
+
     /// The nodes by their numbers.
     ghost heap: { Self → ℕ → Node P };
 
     /// The version at which no node can be locked any more.
     ghost version_max: { Self → ℕ };
+
+    /// What stands beside the nodes, and no step of a call touches.
+    ghost Rest: { Type 0 };
+
+    ghost rest: { Self → Rest };
+
+    /// Why no node of the form is made.
+    ghost refuses: { Self → NodeType → Refusal → Type 0 };
 
     /// The node's version, where it is neither locked nor obsolete.
     fn version(&self, node: C) -> Option<u64>
@@ -95,6 +131,17 @@ pub trait Store<C: NodeName, P: Payload> {
         requires { Stands (heap self.now (C.number at.node)) }
         ensures { ReadGives C.number P.always_copies (heap self.now (C.number at.node)) at.version key.now result };
 
+    /// The keys that begin with the node's prefix, which is fixed when the node is made.
+    fn region(&self, node: C) -> Region
+        requires { Stands (heap self.now (C.number node)) }
+        ensures { IsRegion (heap self.now (C.number node)).prefix result.base result.depth };
+
+    /// What hangs at the least byte from `from` to `last` that has a child. Of a node whose lock word isn't the one
+    /// that was taken it is any.
+    fn least(&self, at: Seat<C>, from: u16, last: u8, seen: Option<Seen<C, P>>) -> Least<C, P>
+        requires { Stands (heap self.now (C.number at.node)) }
+        ensures { LeastGives C.number P.always_copies (heap self.now (C.number at.node)) at.version from last result };
+
     /// Whether the node's lock word is the one that was taken.
     fn check(&self, at: Seat<C>) -> bool
         requires { Stands (heap self.now (C.number at.node)) }
@@ -104,13 +151,16 @@ pub trait Store<C: NodeName, P: Payload> {
     fn upgrade(&mut self, at: Seat<C>, fail: bool) -> Upgrade
         requires { Stands (heap self.old (C.number at.node)) }
         ensures limit { version_max self.new ≡ version_max self.old }
+        ensures rest { rest self.new ≡ rest self.old }
         ensures gives { UpgradeGives (version_max self.old) (heap self.old) (C.number at.node) at.version fail result (heap self.new) };
 
     /// Makes an empty node of the form, whose prefix is the key's first `length` bytes.
     fn make(&mut self, form: NodeType, key: &[u8; 8], length: usize) -> Result<C, Refusal>
         requires { length ≤ 7 }
         ensures limit { version_max self.new ≡ version_max self.old }
-        ensures gives { MakeGives C.number (heap self.old) form key.now length result (heap self.new) };
+        ensures rest { rest self.new ≡ rest self.old }
+        ensures gives { MakeGives C.number (heap self.old) form key.now length result (heap self.new) }
+        ensures cause { IfErr result (λ e. refuses self.old form e) };
 
     /// Hangs the child at the byte of a locked node, in place of what hangs there, or takes out what hangs there.
     fn change(&mut self, node: C, byte: u8, child: Child<C, P>)
@@ -118,6 +168,7 @@ pub trait Store<C: NodeName, P: Payload> {
         requires locked { (heap self.old (C.number node)).locked ≡ true }
         requires room { MayChange (heap self.old (C.number node)) byte (hung C.number child) }
         ensures limit { version_max self.new ≡ version_max self.old }
+        ensures rest { rest self.new ≡ rest self.old }
         ensures gives { ChangeGives (heap self.old) (C.number node) byte (hung C.number child) (heap self.new) };
 
     /// Hangs the child at the byte of a node that isn't in reach yet.
@@ -125,6 +176,7 @@ pub trait Store<C: NodeName, P: Payload> {
         requires stands { Stands (heap self.old (C.number node)) }
         requires room { MayChange (heap self.old (C.number node)) byte (hung C.number child) }
         ensures limit { version_max self.new ≡ version_max self.old }
+        ensures rest { rest self.new ≡ rest self.old }
         ensures gives { ChangeGives (heap self.old) (C.number node) byte (hung C.number child) (heap self.new) };
 
     /// Gives an empty node that isn't in reach yet the children of another one. Values are moved; the names of
@@ -134,12 +186,14 @@ pub trait Store<C: NodeName, P: Payload> {
         requires stands { Stands (heap self.old (C.number node)) }
         requires room { TakesOver (heap self.old (C.number old)) (heap self.old (C.number node)) }
         ensures limit { version_max self.new ≡ version_max self.old }
+        ensures rest { rest self.new ≡ rest self.old }
         ensures gives { TakeOverGives (heap self.old) (C.number old) (C.number node) (heap self.new) };
 
     /// Destroys a node that never was in reach.
     fn give_back(&mut self, node: C)
         requires { Stands (heap self.old (C.number node)) }
         ensures limit { version_max self.new ≡ version_max self.old }
+        ensures rest { rest self.new ≡ rest self.old }
         ensures gives { BackGives (heap self.old) (C.number node) (heap self.new) };
 
     /// Marks a locked node that was taken out of the tree.
@@ -147,6 +201,7 @@ pub trait Store<C: NodeName, P: Payload> {
         requires stands { Stands (heap self.old (C.number node)) }
         requires locked { (heap self.old (C.number node)).locked ≡ true }
         ensures limit { version_max self.new ≡ version_max self.old }
+        ensures rest { rest self.new ≡ rest self.old }
         ensures gives { ObsoleteGives (heap self.old) (C.number node) (heap self.new) };
 
     /// Defers the destruction of an obsolete node until nobody can look at it.
@@ -155,6 +210,7 @@ pub trait Store<C: NodeName, P: Payload> {
         requires obsolete { (heap self.old (C.number node)).obsolete ≡ true }
         requires once { (heap self.old (C.number node)).retired ≡ false }
         ensures limit { version_max self.new ≡ version_max self.old }
+        ensures rest { rest self.new ≡ rest self.old }
         ensures gives { RetireGives (heap self.old) (C.number node) (heap self.new) };
 
     /// Raises the version of a locked node by one, and frees its lock.
@@ -162,5 +218,6 @@ pub trait Store<C: NodeName, P: Payload> {
         requires stands { Stands (heap self.old (C.number node)) }
         requires locked { (heap self.old (C.number node)).locked ≡ true }
         ensures limit { version_max self.new ≡ version_max self.old }
+        ensures rest { rest self.new ≡ rest self.old }
         ensures gives { UnlockGives (heap self.old) (C.number node) (heap self.new) };
 }

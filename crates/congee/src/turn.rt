@@ -1,12 +1,13 @@
 //! What a step leaves, and where the answers of the store lead.
 ghost use Rattle.std.specs.Prelude.{◌≡◌, ℕ, ◌<◌, ◌⊎◌, Bool, true, false, Option, None, Some};
-ghost use Rattle.congee.specs.Steps.{quiet, again, answered, finished, refused, decided, asking, adds, asks_new, absent_reply, form_above, after_version, after_read, down, started, ready, plan_here, unless_full, missing, absent, IsAsked, replaced, emptied, is_same, IsAtOld, IsAdded, IsExchanged, IsPresent, IsChecked, after_miss, after_change, greater, unwound};
+ghost use Rattle.congee.specs.Steps.{quiet, again, answered, finished, refused, decided, asking, adds, asks_new, absent_reply, form_above, after_version, after_read, down, started, ready, plan_here, unless_full, missing, absent, IsAsked, replaced, emptied, is_same, IsAtOld, IsAdded, IsExchanged, IsPresent, IsChecked, after_miss, after_change, greater, unwound, swept, outcome_of};
 
 use crate::base_node::NodeType;
 use crate::child::Child;
 use crate::machine::{Move, Outcome};
 use crate::phase::{Double, Kind, Parent, Phase, Plan, Single, Site, Two};
 use crate::store::{NodeName, Reading, Refusal, Seat};
+use crate::sweep::{Sweep, Told};
 use judge::{Payload, Reply};
 
 /// What a step leaves: the call's next step, and what is reported.
@@ -97,6 +98,35 @@ impl<C: NodeName, P> Turn<C, P> {
                 decided: false,
                 outcome: Outcome::Asks(value),
             },
+        }
+    }
+}
+
+impl<C: NodeName, P> Turn<C, P> {
+    /// After a scan's step.
+    pub(crate) fn swept(sweep: Sweep<C, P>, told: Told<P>) -> Self
+        ensures { result ≡ swept sweep told }
+    {
+        Turn {
+            phase: Phase::Sweep { sweep },
+            step: Move {
+                decided: false,
+                outcome: told.outcome(),
+            },
+        }
+    }
+}
+
+impl<P> Told<P> {
+    /// The report of it.
+    fn outcome(self) -> Outcome<P>
+        ensures { result ≡ outcome_of self }
+    {
+        match self {
+            Told::Running => Outcome::Running,
+            Told::Found { place, key, value } => Outcome::Found { place, key, value },
+            Told::Done { count } => Outcome::Scanned { count },
+            Told::Refused(refusal) => Outcome::Refused(refusal),
         }
     }
 }

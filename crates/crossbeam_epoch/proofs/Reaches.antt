@@ -178,7 +178,7 @@ visible_link m (b ∷ h) p c n keeps seen holds = elim seen [
   | inl now ↦ inl (from_cell c n now holds)
   | inr before ↦ elim (keeps.0 c (visible_was (b ∷ h) p c before.1)) [
     | inl now ↦ inl (from_cell c n now holds)
-    | inr same ↦ inr (before.0, visible_link b h p c n keeps.1 before.1 (subst (λ (l : List Name). Contains l n) same holds))
+    | inr less ↦ inr (before.0, visible_link b h p c n keeps.1 before.1 (less n holds))
   ]
 ]
 

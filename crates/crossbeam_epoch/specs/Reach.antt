@@ -90,18 +90,17 @@ abbrev pub GivesUnseen : List Moment → Type 0
 GivesUnseen [] = Unit {0}
 GivesUnseen (m ∷ h) = ((n : Name) → m.act ≡ GivenBack n → WasIn h n → ⊥) × GivesUnseen h
 
--- a cell that was in reach is in reach, or holds the names that it held
+-- a cell that was in reach is in reach, or holds no other names than it held
 abbrev pub KeepsLinks : List Moment → Type 0
 KeepsLinks [] = Unit {0}
 KeepsLinks (m ∷ []) = Unit {0}
-KeepsLinks (m ∷ b ∷ h) = ((c : Name) → WasIn (b ∷ h) c → IsIn m c ⊎ (m.links c ≡ b.links c)) × KeepsLinks (b ∷ h)
+KeepsLinks (m ∷ b ∷ h) = ((c : Name) → WasIn (b ∷ h) c → IsIn m c ⊎ ((n : Name) → Contains (m.links c) n → Contains (b.links c) n)) × KeepsLinks (b ∷ h)
 
 -- the user's part
 pub record IsCareful (h : List Moment) : Type 0 where
   pub leaves : LeavesFirst h
   pub enters : EntersLive h
   pub gives : GivesUnseen h
-  pub keeps : KeepsLinks h
 
 -- the act destroys the cell
 abbrev pub mark_ends : Mark → Name → Type 0

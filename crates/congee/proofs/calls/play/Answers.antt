@@ -9,7 +9,7 @@ pub loop-step-init : goal.loop-step-init
 loop-step-init g c = progress_none _ _ _ _ _ _ _ _ _ c.into_iter-rest.ensures.rest c.new-moves.ensures.len c.new-moves.ensures.items c.requires
 
 pub loop-step-preserved : goal.loop-step-preserved
-loop-step-preserved g c = progress_more _ _ _ _ _ _ _ _ _ _ _ _ _ _ _ _ _ _ _ _ c.loop-step.invariant c.in-Some.ensures.items c.reserve.ensures.len c.push_reserved.ensures.len c.reserve.ensures.items c.push_reserved.ensures.items c.step_of-moved.ensures
+loop-step-preserved g c = progress_more _ _ _ _ _ _ _ _ _ _ _ _ _ _ _ _ _ _ _ _ c.loop-step.invariant c.in-Some.ensures.items c.reserve.ensures.len c.push_reserved.ensures.len c.reserve.ensures.items c.push_reserved.ensures.items c.step_of-moved.ensures.plays
 
 pub returns-clause-run : goal.returns-clause-run
 returns-clause-run g c = elim c.match-next.branch [

@@ -5,8 +5,8 @@ use Rattle.congee.proofs.calls.step_of.Goals as goal
 pub next-requires : goal.next-requires
 next-requires g c = may_step _ _ _ _ _ _ _ c.requires (slice_get-get_or _ _ _ c.if-who-machines.true)
 
-pub returns-then-who-machines : goal.returns-then-who-machines
-returns-then-who-machines g c = turned _ _ _ _ _ _ _ _ _ _ _ c.requires (slice_get-get_or _ _ _ c.if-who-machines.true) c.next.ensures.step c.next.ensures.keeps
+pub returns-then-who-machines-clause-plays : goal.returns-then-who-machines-clause-plays
+returns-then-who-machines-clause-plays g c = turned _ _ _ _ _ _ _ _ _ _ _ c.requires (slice_get-get_or _ _ _ c.if-who-machines.true) c.next.ensures.step c.next.ensures.keeps
 
-pub returns-else-who-machines : goal.returns-else-who-machines
-returns-else-who-machines g c = idled _ _ _ _ _ _ c.requires c.if-who-machines.false
+pub returns-else-who-machines-clause-plays : goal.returns-else-who-machines-clause-plays
+returns-else-who-machines-clause-plays g c = idled _ _ _ _ _ _ c.requires c.if-who-machines.false

@@ -36,3 +36,6 @@ returns-in-Confirm-clause-step g c = rw c.in-Confirm.is (refl, refl, c.confirm.e
 
 pub returns-in-CheckUncopied-clause-step : goal.returns-in-CheckUncopied-clause-step
 returns-in-CheckUncopied-clause-step g c = rw c.in-CheckUncopied.is (refl, refl, c.check_uncopied.ensures)
+
+pub returns-in-Sweep-clause-step : goal.returns-in-Sweep-clause-step
+returns-in-Sweep-clause-step g c = rw c.in-Sweep.is (refl, refl, (c.step-told.new.self, c.step-told.result, c.step-told.ensures, c.swept.ensures))
