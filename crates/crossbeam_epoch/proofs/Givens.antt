@@ -54,7 +54,7 @@ module _ {T : Type 0} where
   pub replaced_keeps : (st : Store T) (i : ℕ) (v : T) → Keeps st (replaced st i v)
   replaced_keeps st i v = by_turns st (replaced st i v) (λ j. let e = set_turns st i j (Some v) in omega (arith, e))
 
-  cell_itself : (st : Store T) (i : ℕ) (c : Cell T) → i ≤ length st.cells → cell_at (with_cell st i c) i ≡ c
+  pub cell_itself : (st : Store T) (i : ℕ) (c : Cell T) → i ≤ length st.cells → cell_at (with_cell st i c) i ≡ c
   cell_itself st i c near = by_test (nat_lt i (length st.cells)) refl
     where
       by_test : (b : Bool) → nat_lt i (length st.cells) ≡ b → get_or (if b then set st.cells i c else st.cells ++ c ∷ []) i fresh ≡ c

@@ -1,3 +1,5 @@
+pub mod Acts
+pub mod CellWrites
 pub mod Endings
 pub mod FreeCells
 pub mod Goes

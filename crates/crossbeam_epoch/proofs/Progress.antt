@@ -1,6 +1,6 @@
 -- What a step makes of the jobs and the cells, and how a call goes on to its end.
 use Rattle.std.proofs.Common.{◌≡◌, ℕ, suc, ◌+◌, ◌-◌, ◌<◌, ◌≤◌, Bool, true, false, List, [], ◌∷◌, ◌++◌, ◌==◌, ◌&&◌, Option, Some, None, refl, sym, ◌∙◌, ap, subst, inl, inr, length, arith, get_or-set_same, get_or-set_other, length-set}
-use Rattle.std.specs.Prelude.{slice_index_or, if◌then◌else◌, nat_lt, nat_le, is_none, drop, remove, slice_set}
+use Rattle.std.specs.Prelude.{slice_index_or, if◌then◌else◌, nat_lt, nat_le, is_none, is_some, drop, remove, slice_set}
 use Rattle.std.specs.List.{Contains, sum_by}
 use Rattle.std.proofs.lemmas.Bool.{cases_eq, cases_lt}
 use Rattle.std.proofs.lemmas.Bool.Decides.{nat_tests}
@@ -9,6 +9,7 @@ use Rattle.std.proofs.lemmas.List.Sums.{sum_by-append, sum_by-set}
 use Rattle.std.proofs.lemmas.List.Elements.{Contains-push_cases, Contains-get_or}
 use Rattle.crossbeam_epoch.specs.declared.bag.Entry.{Entry}
 use Rattle.crossbeam_epoch.specs.declared.bag.Work.{Work}
+use Rattle.crossbeam_epoch.specs.declared.bag.Work.TheVariants.{Blank, Remove, Run}
 use Rattle.crossbeam_epoch.specs.declared.limits.Limits.{Limits}
 use Rattle.crossbeam_epoch.specs.declared.names.Name.{Name}
 use Rattle.crossbeam_epoch.specs.declared.fault.Fault.{Fault}
@@ -25,10 +26,10 @@ use Rattle.crossbeam_epoch.specs.declared.report.Outcome.{Outcome}
 use Rattle.crossbeam_epoch.specs.declared.report.Outcome.TheVariants.{Running, Done, Refused}
 use Rattle.crossbeam_epoch.specs.declared.report.Report.{Report}
 use Rattle.crossbeam_epoch.specs.Fits.{HandFits, at_place, in_bag, weight}
-use Rattle.crossbeam_epoch.specs.Machine.{State, place, blank, with_place, in_phase, published, relooked, repinned, secured, queued, left, inspection, is_due, no_bag, taken, after_call, called_one, no_entry, after_work, opened, registered, deferred}
+use Rattle.crossbeam_epoch.specs.Machine.{State, place, blank, with_place, in_phase, published, relooked, repinned, secured, queued, left, inspection, is_due, no_bag, taken, after_call, called_one, no_entry, destroys, after_work, opened, registered, deferred}
 use Rattle.crossbeam_epoch.specs.Steps.{fault, event_fault, begun, gone, moved, needs_memory, after, called_entry, called_by, called_in, IsOutcome, IsReport}
-use Rattle.crossbeam_epoch.specs.Store.{Store}
-use Rattle.crossbeam_epoch.specs.Progress.{Orderly, Calls, Moves, Keeps, IsResting, collects}
+use Rattle.crossbeam_epoch.specs.Store.{Store, value_at, emptied}
+use Rattle.crossbeam_epoch.specs.Progress.{Orderly, Calls, EmptiesAt, Empties, Moves, Keeps, IsResting, collects}
 use Rattle.crossbeam_epoch.proofs.Moves.{none_in, contains_tail, none_in_hand}
 use Rattle.crossbeam_epoch.proofs.Runs.{in_table, known, begin_idle, blank_at, blanks_weigh_none}
 
@@ -92,6 +93,20 @@ module _ {J : Type 0} where
   opened_weighs T limits roots f = omega (arith, blanks_weigh_none f limits.participants)
 
 module _ {T J : Type 0} where
+  -- what a call tells is what it destroyed
+  emptied_by : (st st' : Store T) (w : Work J) → st' ≡ after_work st w → EmptiesAt st (destroys st w) st'
+  emptied_by st st' Blank e = e
+  emptied_by st st' (Run job) e = e
+  emptied_by st st' (Remove n) e = by_standing (is_some (value_at st n)) refl e
+    where
+      by_standing : (b : Bool) → is_some (value_at st n) ≡ b → st' ≡ (if b then emptied st n.cell else st) → EmptiesAt st (if b then Some n else None) st'
+      by_standing true live e = (live, e)
+      by_standing false gone e = e
+
+  empties : (s s' : State T J) (c : Option (ℕ × Option Name)) → Calls s c s' → Empties s.store c s'.store
+  empties s s' None j = j.0
+  empties s s' (Some c) j = subst (λ (x : ℕ × Option Name). EmptiesAt s.store x.1 s'.store) (sym j.1) (emptied_by s.store s'.store j.0.work j.2)
+
   -- a place and the queue change
   moves_put : (s : State T J) (who : ℕ) (p : Participant J) (epoch' waiting' : ℕ) (queue' : List (Sealed J)) (store' : Store T) (c : Option (ℕ × Option Name))
       → who < length s.table → Orderly s → HandFits p.phase p.hand → length p.bag ≤ 64 → length p.hand ≤ 64 → ((b : Sealed J) → Contains queue' b → length b.jobs ≤ 64)
@@ -114,6 +129,9 @@ module _ {T J : Type 0} where
       sealed = queue;
     };
     jobs = jobs;
+    cells = empties s (record s { epoch = epoch'; waiting = waiting'; store = store'; queue = queue'; table = slice_set s.table who p }) c jobs;
+    roots = refl;
+    limits = refl;
     table = length-set s.table who p;
     others = λ q ne. get_or-set_other s.table who q p blank ne;
     next = refl;
@@ -136,7 +154,7 @@ module _ {T J : Type 0} where
   phase_only s who phase lt o none = stays s who (record (place s who) { phase = phase }) s.epoch lt o (none_in_hand phase (place s who).hand none) refl refl
 
   nothing : (s : State T J) (who : ℕ) → Orderly s → Moves s who None s
-  nothing s who o = record { orderly = o; jobs = (refl, refl, λ f. refl); table = refl; others = λ q ne. refl; next = refl }
+  nothing s who o = record { orderly = o; jobs = (refl, refl, λ f. refl); cells = refl; roots = refl; limits = refl; table = refl; others = λ q ne. refl; next = refl }
 
   moves_queued : (s : State T J) (who seal : ℕ) (phase : Phase) → who < length s.table → Orderly s → (place s who).hand ≡ [] → Moves s who None (queued s who seal phase)
   moves_queued s who seal phase lt o none =
@@ -342,6 +360,15 @@ module _ {T J : Type 0} where
       | inr ne ↦ ap (λ (p : Participant J). p.phase) (m.others q ne)
     ];
     jobs = λ f. let e = m.jobs.2 f in omega (arith, e);
+  }
+
+  -- cells and roots may change
+  pub orderly_beside : (s s' : State T J) → s'.table ≡ s.table → s'.queue ≡ s.queue → Orderly s → Orderly s'
+  orderly_beside s s' table queue o = record {
+    hands = λ q. rw table (o.hands q);
+    bags = λ q. rw table (o.bags q);
+    held = λ q. rw table (o.held q);
+    sealed = λ b m. o.sealed b (subst (λ (xs : List (Sealed J)). Contains xs b) queue m);
   }
 
   pub registered_keeps : (s : State T J) (n : ℕ) → n < length s.table → Orderly s → Keeps s (registered s n) (λ f. 0)

@@ -6,7 +6,7 @@ use Rattle.std.proofs.lemmas.Bool.{eq-eqb}
 use Rattle.crossbeam_epoch.specs.declared.names.Name.{Name}
 use Rattle.crossbeam_epoch.specs.declared.names.Ptr.{Ptr}
 use Rattle.crossbeam_epoch.specs.History.{Mark, Pinned, Repinned, Unpinned, Deferred, Called, began, blocks, deferrals, IsGraceful, WasDeferred, AreCalledLater}
-use Rattle.crossbeam_epoch.specs.Reach.{Act, Quiet, Marked, GivenBack, Moment, with_act, marks_of, from_cell, from_root, links_of, IsIn, WasIn, mark_turns, turns, Visible, LeavesFirst, EntersLive, GivesUnseen, KeepsLinks, mark_ends, IsEnd, EndsTold, IsCareful, Tells}
+use Rattle.crossbeam_epoch.specs.Reach.{Act, Quiet, Marked, GivenBack, Moment, with_act, marks_of, InReach, from_cell, from_root, links_of, IsIn, WasIn, WasLive, mark_turns, turns, Visible, LeavesFirst, EntersLive, GivesUnseen, KeepsLinks, mark_ends, IsEnd, EndsTold, IsNow, IsCareful, Tells}
 use Rattle.crossbeam_epoch.specs.Machine.{State}
 use Rattle.crossbeam_epoch.specs.Store.{value_at}
 
@@ -49,7 +49,8 @@ began_steady (Unpinned who) h p e = steady (who == p) None (began h p) e
 began_steady (Deferred ticket name) h p e = refl
 began_steady (Called ticket name) h p e = refl
 
-act_steady : (a : Act) (h : List Mark) (p : ℕ) → turns a p ≡ false → began (with_act a h) p ≡ began h p
+-- a stretch that an act doesn't turn goes on
+pub act_steady : (a : Act) (h : List Mark) (p : ℕ) → turns a p ≡ false → began (with_act a h) p ≡ began h p
 act_steady Quiet h p e = refl
 act_steady (Marked k) h p e = began_steady k h p e
 act_steady (GivenBack name) h p e = refl
@@ -129,7 +130,8 @@ unless_ended : (live : Bool) → (live ≡ false → ⊥) → live ≡ true
 unless_ended true never = refl
 unless_ended false never = absurd (never refl)
 
-visible_was : (h : List Moment) (p : ℕ) (n : Name) → Visible h p n → WasIn h n
+-- what a stretch saw was in reach
+pub visible_was : (h : List Moment) (p : ℕ) (n : Name) → Visible h p n → WasIn h n
 visible_was [] p n seen = seen
 visible_was (m ∷ h) p n seen = elim seen [ inl now ↦ inl now | inr before ↦ inr (visible_was h p n before.1) ]
 
@@ -201,3 +203,35 @@ seen_link names (m ∷ h) s p c n t keeps seen holds = visible_link m h p c n ke
 pub root_seen : {T J : Type 0} (names : T → List Name) (h : List Moment) (s : State T J) (p : ℕ) (n : Name) (ptr : Ptr) → Tells names h s → Contains s.roots ptr → ptr.name ≡ Some n → Visible h p n
 root_seen names [] s p n ptr t holds is = absurd t.now
 root_seen names (m ∷ h) s p n ptr t holds is = inl (from_root ptr n (subst (λ (l : List Ptr). Contains l ptr) (sym t.now.0) holds) is)
+
+-- fewer links lead no further
+pub less_reach : (roots : List Ptr) (links less : Name → List Name) → ((c m : Name) → Contains (less c) m → Contains (links c) m) → {n : Name} → InReach roots less n → InReach roots links n
+less_reach roots links less all (from_root p n is e) = from_root p n is e
+less_reach roots links less all (from_cell c n is holds) = from_cell c n (less_reach roots links less all is) (all c n holds)
+
+same_reach : (roots roots' : List Ptr) (links links' : Name → List Name) → roots' ≡ roots → ((c : Name) → links' c ≡ links c) → {n : Name} → InReach roots links n → InReach roots' links' n
+same_reach roots roots' links links' r l (from_root p n is e) = from_root p n (subst (λ (xs : List Ptr). Contains xs p) (sym r) is) e
+same_reach roots roots' links links' r l (from_cell c n is holds) = from_cell c n (same_reach roots roots' links links' r l is) (subst (λ (xs : List Name). Contains xs n) (sym (l c)) holds)
+
+-- what is in reach in a state is in reach at its newest moment
+pub reach_now : {T J : Type 0} (names : T → List Name) (m : Moment) (h : List Moment) (s : State T J) (n : Name) → IsNow names (m ∷ h) s → InReach s.roots (links_of names s.store) n → IsIn m n
+reach_now names m h s n now is = same_reach s.roots m.roots (links_of names s.store) m.links now.0 now.2 is
+
+-- so every stretch sees it
+pub reach_seen : {T J : Type 0} (names : T → List Name) (h : List Moment) (s : State T J) (p : ℕ) (n : Name) → IsNow names h s → InReach s.roots (links_of names s.store) n → Visible h p n
+reach_seen names [] s p n now is = absurd now
+reach_seen names (m ∷ h) s p n now is = inl (reach_now names m h s n now is)
+
+-- a moment after which each name in reach isn't destroyed, or was in reach before
+pub enters_next : {T J : Type 0} (names : T → List Name) (m : Moment) (h : List Moment) (s : State T J) → IsNow names h s → ((n : Name) → IsIn m n → (m.live n ≡ true) ⊎ InReach s.roots (links_of names s.store) n) → EntersLive h → EntersLive (m ∷ h)
+enters_next names m [] s now each e = absurd now
+enters_next names m (b ∷ h) s now each e = (λ n is. elim (each n is) [ inl live ↦ inl live | inr was ↦ inr (reach_now names b h s n now was) ], e)
+
+-- what stood and is destroyed at the next moment was destroyed by its act
+pub ended_by : {T J : Type 0} (names : T → List Name) (m : Moment) (h : List Moment) (s : State T J) (n : Name) → IsNow names h s → EndsTold (m ∷ h) → is_some (value_at s.store n) ≡ true → m.live n ≡ false → IsEnd m.act n
+ended_by names m [] s n now ends live gone = absurd now
+ended_by names m (b ∷ h) s n now ends live gone = ends.0 n (now.1 n ∙ live) gone
+
+pub live_was : {T J : Type 0} (names : T → List Name) (h : List Moment) (s : State T J) (n : Name) → IsNow names h s → is_some (value_at s.store n) ≡ true → WasLive h n
+live_was names [] s n now live = absurd now
+live_was names (m ∷ h) s n now live = inl (now.1 n ∙ live)

@@ -65,7 +65,8 @@ phase_act epoch who (Advance seen) None h = refl
 phase_act epoch who (Take answered bags) None h = refl
 phase_act epoch who (Call answered bags seal) None h = refl
 
-turn_of : {T : Type 0} (c : Cell T) (turn : ℕ) → is_some (value_in c turn) ≡ true → c.turns ≡ turn + 1
+-- a value stands under one turn
+pub turn_of : {T : Type 0} (c : Cell T) (turn : ℕ) → is_some (value_in c turn) ≡ true → c.turns ≡ turn + 1
 turn_of c turn is = by_turn (c.turns == turn + 1) refl is
   where
     by_turn : (b : Bool) → (c.turns == turn + 1) ≡ b → is_some (if b then c.value else None) ≡ true → c.turns ≡ turn + 1
@@ -109,7 +110,7 @@ module _ {T : Type 0} where
   ]
 
   -- a cell that has a value isn't usable
-  usable_empty : (st : Store T) (i : ℕ) → is_usable st i ≡ true → (cell_at st i).value ≡ None
+  pub usable_empty : (st : Store T) (i : ℕ) → is_usable st i ≡ true → (cell_at st i).value ≡ None
   usable_empty st i is = by_value (cell_at st i).value refl
     where
       by_value : (o : Option T) → (cell_at st i).value ≡ o → o ≡ None
@@ -123,7 +124,8 @@ module _ {T : Type 0} where
       by_turn true = ap is_some e
       by_turn false = refl
 
-  cell_with : (st : Store T) (i j : ℕ) (c : Cell T) → i ≤ length st.cells → j ≢ i → cell_at (with_cell st i c) j ≡ cell_at st j
+  -- one cell changes, the others don't
+  pub cell_with : (st : Store T) (i j : ℕ) (c : Cell T) → i ≤ length st.cells → j ≢ i → cell_at (with_cell st i c) j ≡ cell_at st j
   cell_with st i j c near ne = elim (cases_lt i (length st.cells)) [
     | inl lt ↦
         let yes : nat_lt i (length st.cells) ≡ true = grind (arith, nat_tests) in

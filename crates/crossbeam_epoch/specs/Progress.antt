@@ -1,5 +1,5 @@
 -- What a step makes of the jobs and the cells, and how a call goes on to its end.
-use Rattle.std.specs.Prelude.{◌≡◌, ◌≢◌, ℕ, ◌+◌, ◌-◌, ◌*◌, ◌==◌, ◌≤◌, ◌<◌, Bool, true, false, length, Option, Some, None, if◌then◌else◌}
+use Rattle.std.specs.Prelude.{◌≡◌, ◌≢◌, ℕ, ◌+◌, ◌-◌, ◌*◌, ◌==◌, ◌≤◌, ◌<◌, Bool, true, false, length, Option, Some, None, is_some, if◌then◌else◌}
 use Rattle.std.specs.List.{Contains}
 use Rattle.crossbeam_epoch.specs.declared.bag.Entry.{Entry}
 use Rattle.crossbeam_epoch.specs.declared.fault.Fault.{Fault}
@@ -16,6 +16,7 @@ use Rattle.crossbeam_epoch.specs.declared.report.Outcome.TheVariants.{Running, D
 use Rattle.crossbeam_epoch.specs.Fits.{HandFits, weight}
 use Rattle.crossbeam_epoch.specs.Machine.{State, place, after_work}
 use Rattle.crossbeam_epoch.specs.Steps.{called_entry, begin_fault}
+use Rattle.crossbeam_epoch.specs.Store.{Store, value_at, emptied}
 
 -- what holds of a collector between any two steps: only a collection that calls has jobs in hand, and no bag has more than 64
 pub record Orderly {T J : Type 0} (s : State T J) : Type 0 where
@@ -29,10 +30,22 @@ abbrev pub Calls : {T J : Type 0} → State T J → Option (ℕ × Option Name) 
 Calls s None s' = (s'.store ≡ s.store) × (s'.waiting ≡ s.waiting) × ((f : Entry _ → ℕ) → weight f s' ≡ weight f s)
 Calls s (Some c) s' = (e : Entry _) × (c ≡ called_entry s.store e) × (s'.store ≡ after_work s.store e.work) × (s'.waiting ≡ s.waiting - 1) × ((f : Entry _ → ℕ) → weight f s' + f e ≡ weight f s)
 
+-- the cell that a called job told was emptied, and no other
+abbrev pub EmptiesAt : {T : Type 0} → Store T → Option Name → Store T → Type 0
+EmptiesAt st None st' = st' ≡ st
+EmptiesAt st (Some n) st' = (is_some (value_at st n) ≡ true) × (st' ≡ emptied st n.cell)
+
+abbrev pub Empties : {T : Type 0} → Store T → Option (ℕ × Option Name) → Store T → Type 0
+Empties st None st' = st' ≡ st
+Empties st (Some c) st' = EmptiesAt st c.1 st'
+
 -- one participant took a step, which called this job
 pub record Moves {T J : Type 0} (s : State T J) (who : ℕ) (c : Option (ℕ × Option Name)) (s' : State T J) : Type 0 where
   pub orderly : Orderly s'
   pub jobs : Calls s c s'
+  pub cells : Empties s.store c s'.store
+  pub roots : s'.roots ≡ s.roots
+  pub limits : s'.limits ≡ s.limits
   pub table : length s'.table ≡ length s.table
   pub others : (q : ℕ) → q ≢ who → place s' q ≡ place s q
   pub next : s'.next ≡ s.next

@@ -69,6 +69,19 @@ turns Quiet p = false
 turns (Marked mark) p = mark_turns mark p
 turns (GivenBack name) p = false
 
+-- a step of this participant may mark this: a guard of its own comes or goes, or a job is called
+abbrev pub mark_by : ℕ → Mark → Type 0
+mark_by who (Pinned w epoch) = w ≡ who
+mark_by who (Repinned w epoch) = w ≡ who
+mark_by who (Unpinned w) = w ≡ who
+mark_by who (Deferred ticket name) = ⊥
+mark_by who (Called ticket name) = Unit {0}
+
+abbrev pub IsBy : ℕ → Act → Type 0
+IsBy who Quiet = Unit {0}
+IsBy who (Marked mark) = mark_by who mark
+IsBy who (GivenBack name) = ⊥
+
 -- the name was in reach at some moment of p's present stretch
 abbrev pub Visible : List Moment → ℕ → Name → Type 0
 Visible [] p n = ⊥

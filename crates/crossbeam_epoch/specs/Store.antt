@@ -1,5 +1,5 @@
 -- The cells as contracts see them.
-use Rattle.std.specs.Prelude.{◌≡◌, ℕ, ◌+◌, ◌==◌, nat_lt, nat_le, ◌≤◌, Bool, true, List, [], ◌∷◌, ◌++◌, length, Option, Some, None, is_none, if◌then◌else◌, slice_set, slice_index_or, ◌&&◌}
+use Rattle.std.specs.Prelude.{◌≡◌, ◌≢◌, ℕ, ◌+◌, ◌==◌, nat_lt, nat_le, ◌≤◌, Bool, true, List, [], ◌∷◌, ◌++◌, length, Option, Some, None, is_none, if◌then◌else◌, slice_set, slice_index_or, ◌&&◌}
 use Rattle.crossbeam_epoch.specs.declared.cells.Cell.{Cell}
 use Rattle.crossbeam_epoch.specs.declared.names.Name.{Name}
 
@@ -59,3 +59,10 @@ placed st name v = with_cell st name.cell (record { turns = name.turn + 1; value
 -- a new store
 abbrev pub opened_store : {T : Type 0} → ℕ → ℕ → Store T
 opened_store most turn_max = record { cells = []; most = most; turn_max = turn_max }
+
+-- this name stands for that from now on and is a given one, and every other name is what it was
+pub record Sets {T : Type 0} (st : Store T) (n : Name) (v : Option T) (st' : Store T) : Type 0 where
+  pub value : value_at st' n ≡ v
+  pub used : was_given st' n ≡ true
+  pub others : (m : Name) → m ≢ n → value_at st' m ≡ value_at st m
+  pub given : (m : Name) → m ≢ n → was_given st' m ≡ was_given st m

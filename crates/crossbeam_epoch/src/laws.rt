@@ -1,11 +1,11 @@
 //! What follows for a user from a history that fits.
 
-ghost use Rattle.std.specs.Prelude.{◌≡◌, ◌<◌, ◌≤◌, ◌+◌, ℕ, true, false, List, [], ◌∷◌, Option, None, Some, is_some, length, Contains, nat_lt, if◌then◌else◌};
+ghost use Rattle.std.specs.Prelude.{◌≡◌, ◌≢◌, ◌⊎◌, ◌<◌, ◌≤◌, ◌+◌, ℕ, true, false, List, [], ◌∷◌, Option, None, Some, is_some, length, Contains, nat_lt, if◌then◌else◌};
 ghost use Rattle.crossbeam_epoch.specs.declared.names.Name.{Name};
 ghost use Rattle.crossbeam_epoch.specs.declared.names.Ptr.{Ptr};
 ghost use Rattle.crossbeam_epoch.specs.Machine.{State, place, opened, registered, deferred, after_deferral, with_store, with_roots, name_of};
-ghost use Rattle.crossbeam_epoch.specs.Store.{Store, value_at};
-ghost use Rattle.crossbeam_epoch.specs.History.{Mark, IsGraceful, AreCalledLater, Deferred, began, calls, deferrals};
+ghost use Rattle.crossbeam_epoch.specs.Store.{Store, Sets, IsNext, value_at, was_given, placed, replaced, emptied};
+ghost use Rattle.crossbeam_epoch.specs.History.{Mark, IsGraceful, AreCalledLater, WasDeferred, Deferred, began, calls, deferrals};
 ghost use Rattle.crossbeam_epoch.specs.Fits.{Fits, held, jobs, weight};
 ghost use Rattle.crossbeam_epoch.specs.declared.report.Op.{Op};
 ghost use Rattle.crossbeam_epoch.specs.declared.report.Report.{Report};
@@ -14,7 +14,7 @@ ghost use Rattle.crossbeam_epoch.specs.Steps.{after, marks, state_after, history
 ghost use Rattle.crossbeam_epoch.specs.Log.{Noted, Stepped, Accepted, log_after, history_of, guards, Shows};
 ghost use Rattle.crossbeam_epoch.specs.Calls.{IsGoing, IsCall};
 ghost use Rattle.crossbeam_epoch.specs.Progress.{Orderly, Moves, Begins, IsOn, GoesOn, IsResting, Keeps, collects};
-ghost use Rattle.crossbeam_epoch.specs.Reach.{Moment, marks_of, moments_after, Tells, IsCareful, KeepsLinks, Visible};
+ghost use Rattle.crossbeam_epoch.specs.Reach.{Act, Moment, with_act, marks_of, moment, moments_after, step_act, InReach, IsIn, WasIn, WasLive, turns, IsBy, IsEnd, IsNow, EntersLive, EndsTold, Tells, IsCareful, KeepsLinks, Visible, links_of};
 
 use crate::bag::{Entry, Work};
 use crate::limits::Limits;
@@ -66,7 +66,51 @@ impl<T: Links + Pointable + Drop, J: Task> World<T, J> {
         ensures stands { (log : List Noted) (h : List Moment) (s : State T J) (p : ℕ) (n : Name) → Shows log (marks_of h) s → Tells T.names h s → IsCareful h → 0 < guards log p → Visible h p n → is_some (value_at s.store n) ≡ true }
     {}
 
-    /// A step of any participant keeps the order of the bags, and each job that it doesn't call stands as before.
+    /// What a step marks: that a guard of the participant's own comes or goes, that one job is called, or nothing. So the
+    /// stretch of every other participant goes on, no removal is accepted, and a cell that the step destroys was deferred.
+    pub fn acts()
+        ensures step { (s : State T J) (who : ℕ) (event : Event) (r : Report) → IsBy who (step_act s who event r) }
+        ensures marks { (h : List Mark) (s : State T J) (who : ℕ) (event : Event) (r : Report) → with_act (step_act s who event r) h ≡ marks s who event r h }
+        ensures others { (who p : ℕ) (act : Act) → IsBy who act → p ≢ who → turns act p ≡ false }
+        ensures began { (h : List Mark) (p : ℕ) (act : Act) → turns act p ≡ false → began (with_act act h) p ≡ began h p }
+        ensures deferred { (h : List Mark) (who t : ℕ) (n : Name) (act : Act) → IsBy who act → WasDeferred (with_act act h) t n → WasDeferred h t n }
+        ensures destroyed { (h : List Mark) (who : ℕ) (n : Name) (act : Act) → IsBy who act → IsEnd act n → AreCalledLater (with_act act h) → (t : ℕ) × WasDeferred h t n }
+    {}
+
+    /// Whatever becomes of the cells or the roots, the history of guards and jobs fits, and the bags stand in order. Where
+    /// the act tells what is destroyed, and no name that was given is given anew, so do the moments.
+    pub fn stored()
+        ensures fits { (h : List Mark) (s : State T J) (st : Store T) → Fits h s → Fits h (with_store s st) }
+        ensures rooted { (h : List Mark) (s : State T J) (roots : List Ptr) → Fits h s → Fits h (with_roots s roots) }
+        ensures orderly { (s : State T J) (st : Store T) (roots : List Ptr) → Orderly s → Orderly (with_roots (with_store s st) roots) }
+        ensures told { (h : List Moment) (s : State T J) (st : Store T) (act : Act) → Tells T.names h s → with_act act (marks_of h) ≡ marks_of h
+            → ((n : Name) → is_some (value_at s.store n) ≡ true → is_some (value_at st n) ≡ false → IsEnd act n)
+            → ((n : Name) → was_given s.store n ≡ true → was_given st n ≡ true)
+            → Tells T.names (moment T.names act (with_store s st) ∷ h) (with_store s st) }
+    {}
+
+    /// A value that is placed, replaced or taken out changes what one name stands for, and no other's.
+    pub fn cells()
+        ensures placed { (st : Store T) (n : Name) (v : T) → IsNext st n → Sets st n (Some v) (placed st n v) }
+        ensures vacant { (st : Store T) (n : Name) → IsNext st n → (value_at st n ≡ None) × (was_given st n ≡ false) }
+        ensures replaced { (st : Store T) (n : Name) (v : T) → is_some (value_at st n) ≡ true → Sets st n (Some v) (replaced st n.cell v) }
+        ensures emptied { (st : Store T) (n : Name) → is_some (value_at st n) ≡ true → Sets st n None (emptied st n.cell) }
+        ensures given { (st : Store T) (n : Name) → is_some (value_at st n) ≡ true → was_given st n ≡ true }
+    {}
+
+    /// What paths lead to in a state was in reach, and every stretch sees it; and what a stretch saw was in reach.
+    pub fn seen()
+        ensures now { (h : List Moment) (s : State T J) (p : ℕ) (n : Name) → IsNow T.names h s → InReach s.roots (links_of T.names s.store) n → Visible h p n }
+        ensures newest { (m : Moment) (h : List Moment) (s : State T J) (n : Name) → IsNow T.names (m ∷ h) s → InReach s.roots (links_of T.names s.store) n → IsIn m n }
+        ensures before { (h : List Moment) (p : ℕ) (n : Name) → Visible h p n → WasIn h n }
+        ensures fewer { (roots : List Ptr) (links less : Name → List Name) (n : Name) → ((c m : Name) → Contains (less c) m → Contains (links c) m) → InReach roots less n → InReach roots links n }
+        ensures enters { (m : Moment) (h : List Moment) (s : State T J) → IsNow T.names h s → ((n : Name) → IsIn m n → (m.live n ≡ true) ⊎ InReach s.roots (links_of T.names s.store) n) → EntersLive h → EntersLive (m ∷ h) }
+        ensures ended { (m : Moment) (h : List Moment) (s : State T J) (n : Name) → IsNow T.names h s → EndsTold (m ∷ h) → is_some (value_at s.store n) ≡ true → m.live n ≡ false → IsEnd m.act n }
+        ensures lived { (h : List Moment) (s : State T J) (n : Name) → IsNow T.names h s → is_some (value_at s.store n) ≡ true → WasLive h n }
+    {}
+
+    /// A step of any participant keeps the order of the bags, the roots and the limits; each job that it doesn't call stands
+    /// as before, and of the cells it empties the one that its call told.
     pub fn order()
         ensures moves { (s : State T J) (who : ℕ) (event : Event) (r : Report) → Orderly s → IsReport s who event r → Moves s who r.called (after s who event r.outcome) }
         ensures opened { (limits : Limits) (roots : ℕ) → IsResting {T = T} {J = J} (opened limits roots) }
