@@ -30,7 +30,6 @@ pub mod Orders
 pub mod Prefixes
 pub mod Puts
 pub mod RangeLemmas
-pub mod RoomLemmas
 pub mod Root
 pub mod Scanned
 pub mod Sizes

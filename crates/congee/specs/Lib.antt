@@ -16,6 +16,7 @@ pub mod Place
 pub mod Places
 pub mod Ranges
 pub mod Room
+pub mod RoomLemmas
 pub mod Scan
 pub mod Sizes
 pub mod OwnedSteps

@@ -16,6 +16,7 @@ use crate::node16::Node16;
 use crate::node48::Node48;
 use crate::node256::Node256;
 use crate::prefix::Prefix;
+use crate::room::Boxed;
 use crate::sorted::Sorted;
 use std::alloc::{AllocError, Global};
 
@@ -70,7 +71,7 @@ impl NodeType {
 ///
 /// `C` is a node's name and `P` a payload. The smallest form lies inline, the others in a box.
 #[derive(Drop)]
-pub enum Node<C: Small, P: Small> {
+pub enum Node<C: Small, P: Boxed<C>> {
     N4(Node4<C, P>),
     N16(Box<Node16<C, P>>),
     N48(Box<Node48<C, P>>),

@@ -12,7 +12,7 @@ ghost use Rattle.congee.specs.Stats.{IsTally, root_alone};
 ghost use Rattle.judge.specs.declared.journal.Call.TheVariants as call;
 ghost use Rattle.judge.specs.declared.journal.Reply.TheVariants as reply;
 
-use crate::allocator::{Allocator, OOMError};
+use crate::allocator::{Allocator, DefaultAllocator, OOMError};
 use crate::arena::Arena;
 use crate::drainer::{Drainer, NoDrain};
 use crate::stats::NodeStats;
@@ -21,8 +21,10 @@ use std::alloc::{AllocError, Global};
 use std::marker::{Model, PhantomData};
 
 /// An ordered map from words to words for one thread: an adaptive radix tree over the keys' eight bytes.
+///
+/// `A` is the budget that its nodes are charged to, `D` what takes the pairs where the tree is closed.
 #[derive(Drop)]
-pub struct Congee<K, V, A: Allocator, D> {
+pub struct Congee<K, V, A: Allocator = DefaultAllocator, D = NoDrain> {
     arena: Arena<u64, A>,
     drainer: D,
     alloc: Global,

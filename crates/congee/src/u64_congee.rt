@@ -8,7 +8,7 @@ ghost use Rattle.congee.specs.Ranges.{by_bytes, in_range};
 ghost use Rattle.judge.specs.declared.journal.Call.TheVariants as call;
 ghost use Rattle.judge.specs.declared.journal.Reply.TheVariants as reply;
 
-use crate::allocator::{Allocator, OOMError};
+use crate::allocator::{Allocator, DefaultAllocator, OOMError};
 use crate::congee::Congee;
 use crate::drainer::NoDrain;
 use judge::Word64;
@@ -16,7 +16,7 @@ use std::alloc::Global;
 
 /// An ordered map from 64-bit numbers to words for one thread.
 #[derive(Drop)]
-pub struct U64Congee<V, A: Allocator> {
+pub struct U64Congee<V, A: Allocator = DefaultAllocator> {
     tree: Congee<u64, V, A, NoDrain>,
 }
 

@@ -1,7 +1,7 @@
 use denote.Param.{layout}
 use Rattle.std.specs.Borrow.{usize as word}
 use Rattle.congee.specs.Room.{IsSmall}
-use Rattle.congee.proofs.RoomLemmas.{node16_fits, node48_fits, node256_fits}
+use Rattle.congee.specs.RoomLemmas.{node16_fits, node48_fits, node256_fits}
 use Rattle.std.proofs.Common.{rules, ◌≡◌, length, arith, ap, ◌∙◌}
 use Rattle.slab.specs.Slab.{get}
 use Rattle.congee.specs.Sizes.{bytes_at}

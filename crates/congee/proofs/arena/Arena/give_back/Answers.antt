@@ -1,7 +1,7 @@
 use denote.Param.{layout}
 use Rattle.std.specs.Borrow.{usize as word}
 use Rattle.congee.specs.Room.{IsSmall}
-use Rattle.congee.proofs.RoomLemmas.{node16_fits, node48_fits, node256_fits}
+use Rattle.congee.specs.RoomLemmas.{node16_fits, node48_fits, node256_fits}
 use Rattle.std.proofs.Common.{rules}
 use Rattle.congee.proofs.arena.Arena.give_back.Goals as goal
 

@@ -4,7 +4,7 @@ use Rattle.std.specs.Borrow.{usize as word}
 use Rattle.slab.specs.Slab.{Updates, get}
 use Rattle.congee.specs.Room.{IsSmall}
 use Rattle.congee.specs.Sizes.{bytes_in}
-use Rattle.congee.proofs.RoomLemmas.{node256_fits}
+use Rattle.congee.specs.RoomLemmas.{node256_fits}
 use Rattle.congee.proofs.Root.{root_tree, root_empty, root_bytes}
 use Rattle.congee.proofs.Surveys.{root_nodes}
 use Rattle.congee.proofs.arena.Arena.new.Goals as goal

@@ -1,4 +1,4 @@
-use Rattle.congee.proofs.RoomLemmas.{sorted_fits, indexed_fits, masked_fits}
+use Rattle.congee.specs.RoomLemmas.{sorted_fits, indexed_fits, masked_fits}
 use Rattle.congee.proofs.base_node.Node.first_from.Goals as goal
 
 pub first_from-requires-in-N16 : goal.first_from-requires-in-N16

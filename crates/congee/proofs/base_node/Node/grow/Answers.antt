@@ -1,4 +1,4 @@
-use Rattle.congee.proofs.RoomLemmas.{node16_fits, node48_fits, node256_fits}
+use Rattle.congee.specs.RoomLemmas.{node16_fits, node48_fits, node256_fits}
 use Rattle.congee.proofs.base_node.Node.grow.Goals as goal
 
 pub drop-requires-room-T-Destruct :

@@ -1,6 +1,6 @@
 use Rattle.std.proofs.Common.{rules, arith}
 use Rattle.std.proofs.lemmas.Bool.Decides.{nat_tests}
-use Rattle.congee.proofs.RoomLemmas.{sorted_fits, indexed_fits, masked_fits}
+use Rattle.congee.specs.RoomLemmas.{sorted_fits, indexed_fits, masked_fits}
 use Rattle.congee.proofs.base_node.Node.insert.Goals as goal
 
 pub insert-requires : goal.insert-requires

@@ -2,7 +2,7 @@ use Rattle.std.proofs.Common.{refl, sym, ap, ◌∙◌, subst, arith}
 use Rattle.congee.specs.Bytes.{IsFirst}
 use Rattle.congee.specs.Forms.{capacity_of, children_of}
 use Rattle.congee.proofs.MoveLemmas.{IsMoved, none_moved, one_moved, room_left, all_moved, has_room}
-use Rattle.congee.proofs.RoomLemmas.{any_node_fits}
+use Rattle.congee.specs.RoomLemmas.{any_node_fits}
 use Rattle.congee.proofs.base_node.Node.move_to.Goals as goal
 
 pub loop-byte-init : goal.loop-byte-init

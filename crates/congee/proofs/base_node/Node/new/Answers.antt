@@ -1,4 +1,4 @@
-use Rattle.congee.proofs.RoomLemmas.{sorted_fits, indexed_fits, masked_fits, node16_fits, node48_fits, node256_fits}
+use Rattle.congee.specs.RoomLemmas.{sorted_fits, indexed_fits, masked_fits, node16_fits, node48_fits, node256_fits}
 use Rattle.congee.proofs.base_node.Node.new.Goals as goal
 
 pub new-requires-in-N16 : goal.new-requires-in-N16

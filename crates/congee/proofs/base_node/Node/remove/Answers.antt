@@ -1,5 +1,5 @@
 use Rattle.std.proofs.Common.{rules}
-use Rattle.congee.proofs.RoomLemmas.{sorted_fits, indexed_fits, masked_fits}
+use Rattle.congee.specs.RoomLemmas.{sorted_fits, indexed_fits, masked_fits}
 use Rattle.congee.proofs.base_node.Node.remove.Goals as goal
 
 pub remove-requires-in-N16 : goal.remove-requires-in-N16

@@ -2,7 +2,7 @@ use Rattle.std.proofs.Common.{rules, length, ◌≡◌, [], ap, arith}
 use Rattle.congee.specs.Forms.{children_of}
 use Rattle.congee.specs.Scan.{rest}
 use Rattle.congee.proofs.BetweenLemmas.{between_none, between_first}
-use Rattle.congee.proofs.RoomLemmas.{any_node_fits}
+use Rattle.congee.specs.RoomLemmas.{any_node_fits}
 use Rattle.congee.proofs.base_node.NodeIterIterator.next.Goals as goal
 use Rattle.congee.proofs.base_node.NodeIterIterator.next.Goals.{in_default-via-in-Some+else-byte-self, in_default-via-in_default}
 
