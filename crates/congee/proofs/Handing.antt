@@ -238,41 +238,41 @@ module _ {C V : Type 0} (number : C → ℕ) (same : V → V → Bool) (always :
   unlock_spares n l g = let q : is_waiting (h n) ≡ false = linked_idle a h n w l in spares_but h h' n _ q q g
 
   -- every step
-  pub step_hands : (most : ℕ) (root : C) (kind : Kind V) (fail : Bool) (answer : Option (Option V)) (given : Option V) (s : Phase C V) (given' : Option V) (turn : Turn C V)
-      → Known number same always i a h k (key_bytes k) kind given s → PhaseStepped number same always most root (key_bytes k) kind fail answer given s h given' turn h'
+  pub step_hands : (most : ℕ) (why : NodeType → Refusal → Type 0) (root : C) (kind : Kind V) (fail : Bool) (answer : Option (Option V)) (given : Option V) (s : Phase C V) (given' : Option V) (turn : Turn C V)
+      → Known number same always i a h k (key_bytes k) kind given s → PhaseStepped number same always most why root (key_bytes k) kind fail answer given s h given' turn h'
       → Spares h h' ⊎ ((n : ℕ) × Gives number h s n h' turn.phase)
-  step_hands most root kind fail answer given New given' turn x g = inl (spares_same h h' g.0)
-  step_hands most root kind fail answer given (Version p n) given' turn x g = inl (spares_same h h' g.0)
-  step_hands most root kind fail answer given (Read p at) given' turn x g = inl (spares_same h h' g.0)
-  step_hands most root kind fail answer given (Check s c) given' turn x g = inl (spares_same h h' g.0)
-  step_hands most root kind fail answer given (CheckUncopied at) given' turn x g = inl (spares_same h h' g.0)
-  step_hands most root kind fail answer given (CheckMiss p at common byte) given' turn x g = inl (spares_same h h' g.0)
-  step_hands most root kind fail answer given (CheckDown p at c) given' turn x g = inl (spares_same h h' g.0)
-  step_hands most root kind fail answer given (CheckOld p s v) given' turn x g = inl (spares_same h h' g.0)
-  step_hands most root kind fail answer given (MakeLeaf s) given' turn x g = inl (leaf_made number i a h h' (key_bytes k) kind s g.1.0 turn g.1.1)
-  step_hands most root kind fail answer given (MakeGreater s p leaf) given' turn x g = inl (greater_made number i a h h' (key_bytes k) kind s p leaf g.1.0 turn x.3 g.1.1)
-  step_hands most root kind fail answer given (MakeTop p at common byte) given' turn x g = inl (top_made number i a h h' (key_bytes k) p at common byte g.1.0 turn g.1.1)
-  step_hands most root kind fail answer given (MakeBeside p at common byte top) given' turn x g = inl (beside_made number i a h h' (key_bytes k) kind p at common byte top g.1.0 turn x.6 g.1.1)
-  step_hands most root kind fail answer given (AskOld s v) given' turn x g = inl (spares_same h h' g.0)
-  step_hands most root kind fail answer given (AskNew plan) given' turn x g = inl (spares_same h h' g.0)
-  step_hands most root kind fail answer given (Confirm at r) given' turn x g = inl (spares_same h h' g.0)
-  step_hands most root kind fail answer given (CheckAbove p one r) given' turn x g = inl (on_test (is_taken (h (number p.node)) p.version)
+  step_hands most why root kind fail answer given New given' turn x g = inl (spares_same h h' g.0)
+  step_hands most why root kind fail answer given (Version p n) given' turn x g = inl (spares_same h h' g.0)
+  step_hands most why root kind fail answer given (Read p at) given' turn x g = inl (spares_same h h' g.0)
+  step_hands most why root kind fail answer given (Check s c) given' turn x g = inl (spares_same h h' g.0)
+  step_hands most why root kind fail answer given (CheckUncopied at) given' turn x g = inl (spares_same h h' g.0)
+  step_hands most why root kind fail answer given (CheckMiss p at common byte) given' turn x g = inl (spares_same h h' g.0)
+  step_hands most why root kind fail answer given (CheckDown p at c) given' turn x g = inl (spares_same h h' g.0)
+  step_hands most why root kind fail answer given (CheckOld p s v) given' turn x g = inl (spares_same h h' g.0)
+  step_hands most why root kind fail answer given (MakeLeaf s) given' turn x g = inl (leaf_made number i a h h' (key_bytes k) kind s g.1.0 turn g.1.1)
+  step_hands most why root kind fail answer given (MakeGreater s p leaf) given' turn x g = inl (greater_made number i a h h' (key_bytes k) kind s p leaf g.1.0 turn x.3 g.1.1)
+  step_hands most why root kind fail answer given (MakeTop p at common byte) given' turn x g = inl (top_made number i a h h' (key_bytes k) p at common byte g.1.0 turn g.1.1)
+  step_hands most why root kind fail answer given (MakeBeside p at common byte top) given' turn x g = inl (beside_made number i a h h' (key_bytes k) kind p at common byte top g.1.0 turn x.6 g.1.1)
+  step_hands most why root kind fail answer given (AskOld s v) given' turn x g = inl (spares_same h h' g.0)
+  step_hands most why root kind fail answer given (AskNew plan) given' turn x g = inl (spares_same h h' g.0)
+  step_hands most why root kind fail answer given (Confirm at r) given' turn x g = inl (spares_same h h' g.0)
+  step_hands most why root kind fail answer given (CheckAbove p one r) given' turn x g = inl (on_test (is_taken (h (number p.node)) p.version)
       (λ y. spares_same h h' (g.1.goes_on y).0)
       (λ y. back_one number i a h h' (key_bytes k) one.change x.2.made (g.1.goes_back y).0))
-  step_hands most root kind fail answer given (UpgradeOne one r) given' turn x g =
+  step_hands most why root kind fail answer given (UpgradeOne one r) given' turn x g =
       inl (one_upgraded number i a h h' (key_bytes k) root one r most fail g.1.0 turn w x.1.1.fresh.seated.published x.1.1.made g.1.1 g.1.2)
-  step_hands most root kind fail answer given (ChangeOne one r) given' turn x g =
+  step_hands most why root kind fail answer given (ChangeOne one r) given' turn x g =
       inl (changed_one number i a h h' (key_bytes k) given one one.change (linked_idle a h (number one.at.node) w x.1.holding.linked) x.1.made g.1)
-  step_hands most root kind fail answer given (UpgradeAbove two r) given' turn x g =
+  step_hands most why root kind fail answer given (UpgradeAbove two r) given' turn x g =
       inl (above_upgraded number i a h h' (key_bytes k) root two r _ _ most fail g.1.0 turn w x.1.2.above.fresh.seated.published x.1.2.made g.1.1 g.1.2)
-  step_hands most root kind fail answer given (UpgradeBoth two r) given' turn x g =
+  step_hands most why root kind fail answer given (UpgradeBoth two r) given' turn x g =
       inl (both_upgraded number i a h h' (key_bytes k) two r _ _ most fail g.1.0 turn w x.1.2.fresh.seated.published x.1.2.made g.1.1 g.1.2)
-  step_hands most root kind fail answer given (ChangeTwo two r) given' turn x g =
+  step_hands most why root kind fail answer given (ChangeTwo two r) given' turn x g =
       inl (changed_two number i a h h' (key_bytes k) given two two.change _ _ (linked_idle a h (number two.above.seat.node) w x.2.above.holding.linked)
       (linked_idle a h (number two.at.node) w (t.down (number two.above.seat.node) _ (number two.at.node) x.2.above.holding.linked x.2.above.child).linked) x.2.made g.1)
-  step_hands most root kind fail answer given (Obsolete n p r) given' turn x g =
+  step_hands most why root kind fail answer given (Obsolete n p r) given' turn x g =
       let q : is_waiting (h (number n)) ≡ false = unretired_idle (h (number n)) x.unretired in inl (spares_but h h' (number n) _ q q g.1)
-  step_hands most root kind fail answer given (Retire n p r) given' turn x g = inr (
+  step_hands most why root kind fail answer given (Retire n p r) given' turn x g = inr (
     number n,
     record {
       taken = refl;
@@ -285,18 +285,18 @@ module _ {C V : Type 0} (number : C → ℕ) (same : V → V → Bool) (always :
       others = g.1.others;
     },
   )
-  step_hands most root kind fail answer given (UnlockBelow n p r) given' turn x g = inl (unlock_spares (number n) x.0.linked g.1)
-  step_hands most root kind fail answer given (Unlock n r) given' turn x g = inl (unlock_spares (number n) x.linked g.1)
-  step_hands most root kind fail answer given (Unwind n e) given' turn x g = inl (unlock_spares (number n) x.1.linked g.1)
-  step_hands most root kind fail answer given (Sweep s) given' turn x g = inl (spares_same h h' g.0)
-  step_hands most root kind fail answer given Ended given' turn x g = inl (spares_same h h' g.0)
+  step_hands most why root kind fail answer given (UnlockBelow n p r) given' turn x g = inl (unlock_spares (number n) x.0.linked g.1)
+  step_hands most why root kind fail answer given (Unlock n r) given' turn x g = inl (unlock_spares (number n) x.linked g.1)
+  step_hands most why root kind fail answer given (Unwind n e) given' turn x g = inl (unlock_spares (number n) x.1.linked g.1)
+  step_hands most why root kind fail answer given (Sweep s) given' turn x g = inl (spares_same h h' g.0)
+  step_hands most why root kind fail answer given Ended given' turn x g = inl (spares_same h h' g.0)
 
   -- a call that is leaving goes on to leave
-  pub leaves_on : (most : ℕ) (root : C) (kind : Kind V) (fail : Bool) (answer : Option (Option V)) (given : Option V) (s : Phase C V) (given' : Option V) (turn : Turn C V)
-      → PhaseStepped number same always most root (key_bytes k) kind fail answer given s h given' turn h' → IsLeaving s → IsLeaving turn.phase
-  leaves_on most root kind fail answer given (Unlock n r) given' turn g l = let P : Turn C V → Type 0 = λ z. IsLeaving z.phase in subst P (sym g.2) tt
-  leaves_on most root kind fail answer given Ended given' turn g l = let P : Turn C V → Type 0 = λ z. IsLeaving z.phase in subst P (sym g.2) tt
-  leaves_on most root kind fail answer given _ given' turn g l = absurd l
+  pub leaves_on : (most : ℕ) (why : NodeType → Refusal → Type 0) (root : C) (kind : Kind V) (fail : Bool) (answer : Option (Option V)) (given : Option V) (s : Phase C V) (given' : Option V) (turn : Turn C V)
+      → PhaseStepped number same always most why root (key_bytes k) kind fail answer given s h given' turn h' → IsLeaving s → IsLeaving turn.phase
+  leaves_on most why root kind fail answer given (Unlock n r) given' turn g l = let P : Turn C V → Type 0 = λ z. IsLeaving z.phase in subst P (sym g.2) tt
+  leaves_on most why root kind fail answer given Ended given' turn g l = let P : Turn C V → Type 0 = λ z. IsLeaving z.phase in subst P (sym g.2) tt
+  leaves_on most why root kind fail answer given _ given' turn g l = absurd l
 
 -- what the calls have handed over, with one node more
 unfoldable pub giving : (ℕ → Option ℕ) → ℕ → ℕ → ℕ → Option ℕ

@@ -491,23 +491,23 @@ module _ {C V : Type 0} (number : C → ℕ) (same : V → V → Bool) (always :
   unwound_holds root (Some r) turn x g = at_turn _ turn x (g _)
 
   -- every step
-  pub step_holds : (most : ℕ) (root : C) (kind : Kind V) (fail : Bool) (answer : Option (Option V)) (given : Option V) (s : Phase C V) (given' : Option V) (turn : Turn C V)
+  pub step_holds : (most : ℕ) (why : NodeType → Refusal → Type 0) (root : C) (kind : Kind V) (fail : Bool) (answer : Option (Option V)) (given : Option V) (s : Phase C V) (given' : Option V) (turn : Turn C V)
       → Own (LockedBy number s) → Mine (MadeBy number s) → Known number same always i a h k (key_bytes k) kind given s → Known number same always i a' h' k (key_bytes k) kind given' turn.phase
-      → PhaseStepped number same always most root (key_bytes k) kind fail answer given s h given' turn h' → Now turn.phase
-  step_holds most root kind fail answer given New given' turn o m x x' g = calm_bare g.0 o m turn.phase
-  step_holds most root kind fail answer given (Version p n) given' turn o m x x' g = calm_bare g.0 o m turn.phase
-  step_holds most root kind fail answer given (Read p at) given' turn o m x x' g = calm_bare g.0 o m turn.phase
-  step_holds most root kind fail answer given (Check s c) given' turn o m x x' g = calm_bare g.0 o m turn.phase
-  step_holds most root kind fail answer given (CheckUncopied at) given' turn o m x x' g = calm_bare g.0 o m turn.phase
-  step_holds most root kind fail answer given (CheckMiss p at common byte) given' turn o m x x' g = calm_bare g.0 o m turn.phase
-  step_holds most root kind fail answer given (CheckDown p at c) given' turn o m x x' g = calm_bare g.0 o m turn.phase
-  step_holds most root kind fail answer given (CheckOld p s v) given' turn o m x x' g = calm_bare g.0 o m turn.phase
-  step_holds most root kind fail answer given (MakeLeaf s) given' turn o m x x' g = leaf_holds kind s g.1.0 turn o m g.1.1
-  step_holds most root kind fail answer given (MakeGreater s p leaf) given' turn o m x x' g = greater_holds kind s p leaf g.1.0 turn o m x.3 g.1.1
-  step_holds most root kind fail answer given (MakeTop p at common byte) given' turn o m x x' g = top_holds p at common byte g.1.0 turn o m g.1.1
-  step_holds most root kind fail answer given (MakeBeside p at common byte top) given' turn o m x x' g = beside_holds kind p at common byte top g.1.0 turn o m x.6 g.1.1
-  step_holds most root kind fail answer given (AskOld s v) given' turn o m x x' g = calm_bare g.0 o m turn.phase
-  step_holds most root kind fail answer given (AskNew plan) given' turn o m x x' g = asked answer g.1 where
+      → PhaseStepped number same always most why root (key_bytes k) kind fail answer given s h given' turn h' → Now turn.phase
+  step_holds most why root kind fail answer given New given' turn o m x x' g = calm_bare g.0 o m turn.phase
+  step_holds most why root kind fail answer given (Version p n) given' turn o m x x' g = calm_bare g.0 o m turn.phase
+  step_holds most why root kind fail answer given (Read p at) given' turn o m x x' g = calm_bare g.0 o m turn.phase
+  step_holds most why root kind fail answer given (Check s c) given' turn o m x x' g = calm_bare g.0 o m turn.phase
+  step_holds most why root kind fail answer given (CheckUncopied at) given' turn o m x x' g = calm_bare g.0 o m turn.phase
+  step_holds most why root kind fail answer given (CheckMiss p at common byte) given' turn o m x x' g = calm_bare g.0 o m turn.phase
+  step_holds most why root kind fail answer given (CheckDown p at c) given' turn o m x x' g = calm_bare g.0 o m turn.phase
+  step_holds most why root kind fail answer given (CheckOld p s v) given' turn o m x x' g = calm_bare g.0 o m turn.phase
+  step_holds most why root kind fail answer given (MakeLeaf s) given' turn o m x x' g = leaf_holds kind s g.1.0 turn o m g.1.1
+  step_holds most why root kind fail answer given (MakeGreater s p leaf) given' turn o m x x' g = greater_holds kind s p leaf g.1.0 turn o m x.3 g.1.1
+  step_holds most why root kind fail answer given (MakeTop p at common byte) given' turn o m x x' g = top_holds p at common byte g.1.0 turn o m g.1.1
+  step_holds most why root kind fail answer given (MakeBeside p at common byte top) given' turn o m x x' g = beside_holds kind p at common byte top g.1.0 turn o m x.6 g.1.1
+  step_holds most why root kind fail answer given (AskOld s v) given' turn o m x x' g = calm_bare g.0 o m turn.phase
+  step_holds most why root kind fail answer given (AskNew plan) given' turn o m x x' g = asked answer g.1 where
     stays : turn ≡ asking (AskNew plan) None → Now turn.phase
     stays e = at_turn _ turn e (calm_mine g.0 o (MadeForPlan number plan) m (AskNew plan) (λ n y. y))
 
@@ -515,24 +515,24 @@ module _ {C V : Type 0} (number : C → ℕ) (same : V → V → Bool) (always :
     asked None y = stays y.1
     asked (Some None) y = stays y.1
     asked (Some (Some z)) y = at_turn _ turn y.1 (calm_mine g.0 o (MadeForPlan number plan) m _ (λ n u. started_made number plan _ n u))
-  step_holds most root kind fail answer given (Confirm at r) given' turn o m x x' g = calm_bare g.0 o m turn.phase
-  step_holds most root kind fail answer given (CheckAbove p one r) given' turn o m x x' g = on_test (is_taken (h (number p.node)) p.version)
+  step_holds most why root kind fail answer given (Confirm at r) given' turn o m x x' g = calm_bare g.0 o m turn.phase
+  step_holds most why root kind fail answer given (CheckAbove p one r) given' turn o m x x' g = on_test (is_taken (h (number p.node)) p.version)
       (λ y. let z : (h' ≡ h) × (turn ≡ quiet (UpgradeOne one r)) = g.1.goes_on y in at_turn _ turn z.1 (calm_mine z.0 o (MadeForOne number one.change) m (UpgradeOne one r) (λ n u. u)))
       (λ y. let z : BackOne number h one.change h' × (turn ≡ again root) = g.1.goes_back y in at_turn _ turn z.1 (back_bare o (MadeForOne number one.change) m (all_one number i a h h' (key_bytes k) one.change x.2.made z.0) _))
-  step_holds most root kind fail answer given (UpgradeOne one r) given' turn o m x x' g = one_upgraded root one r g.1.0 turn o m x.1.1.made g.1.2
-  step_holds most root kind fail answer given (ChangeOne one r) given' turn o m x x' g =
+  step_holds most why root kind fail answer given (UpgradeOne one r) given' turn o m x x' g = one_upgraded root one r g.1.0 turn o m x.1.1.made g.1.2
+  step_holds most why root kind fail answer given (ChangeOne one r) given' turn o m x x' g =
       let P : Turn C V → Type 0 = λ z. Known number same always i a' h' k (key_bytes k) kind given' z.phase in
       let y : Holding i a' (number one.at.node) = subst P g.2 x' in
       at_turn _ turn g.2 (changes (λ n. n ≡ number one.at.node) (MadeForOne number one.change) o m (flags_one number (key_bytes k) given one one.change h h' g.1) (one_changed given one one.change y.linked g.1) (Unlock one.at.node r) (λ n e l. l))
-  step_holds most root kind fail answer given (UpgradeAbove two r) given' turn o m x x' g = above_upgraded root two r _ _ g.1.0 turn o m x.1.2.made g.1.2
-  step_holds most root kind fail answer given (UpgradeBoth two r) given' turn o m x x' g = both_upgraded two r _ _ g.1.0 turn o m x.1.2.made g.1.2
-  step_holds most root kind fail answer given (ChangeTwo two r) given' turn o m x x' g =
+  step_holds most why root kind fail answer given (UpgradeAbove two r) given' turn o m x x' g = above_upgraded root two r _ _ g.1.0 turn o m x.1.2.made g.1.2
+  step_holds most why root kind fail answer given (UpgradeBoth two r) given' turn o m x x' g = both_upgraded two r _ _ g.1.0 turn o m x.1.2.made g.1.2
+  step_holds most why root kind fail answer given (ChangeTwo two r) given' turn o m x x' g =
       let y : ((a' (number two.above.seat.node)).status ≡ Linked) × (((n : ℕ) → (n ≡ number two.above.seat.node) ⊎ (n ≡ number two.at.node) → LockedBy number turn.phase n)) = after_two two r two.change turn given' kind g.2 x' in
       changes (λ n. (n ≡ number two.above.seat.node) ⊎ (n ≡ number two.at.node)) (MadeForTwo number two.change) o m (flags_two number (key_bytes k) given two two.change h h' g.1)
       (two_changed given two two.change _ _ x.2.above.holding.linked y.0 x.2.made g.1) turn.phase (λ n e l. y.1 n l)
-  step_holds most root kind fail answer given (Obsolete n p r) given' turn o m x x' g =
+  step_holds most why root kind fail answer given (Obsolete n p r) given' turn o m x x' g =
       at_turn _ turn g.2 (changes (λ u. (u ≡ number p) ⊎ (u ≡ number n)) (λ _. ⊥) o m (marked_flags (number n) _ g.1 refl refl) (λ u y _. y) (Retire n p r) (λ u e l. l))
-  step_holds most root kind fail answer given (Retire n p r) given' turn o m x x' g =
+  step_holds most why root kind fail answer given (Retire n p r) given' turn o m x x' g =
       at_turn _ turn g.2 (changes (λ u. (u ≡ number p) ⊎ (u ≡ number n)) (λ _. ⊥) o m (marked_flags (number n) _ g.1 refl refl) (λ u y _. y) (Unlock p r) handed)
     where
       handed : (u : ℕ) → (a' u).owner ≡ Some i → (u ≡ number p) ⊎ (u ≡ number n) → u ≡ number p
@@ -542,12 +542,12 @@ module _ {C V : Type 0} (number : C → ℕ) (same : V → V → Bool) (always :
           let z : (h' (number n)).retired ≡ (h (number n)).retired = (let P : ℕ → Type 0 = λ v. (h' v).retired ≡ (h v).retired in subst P q y) in
           let v : (h' (number n)).retired ≡ true = rw g.1.after refl in
           absurd (let b : true ≡ false = sym v ∙ (z ∙ x.0.unretired) in cc)
-  step_holds most root kind fail answer given (UnlockBelow n p r) given' turn o m x x' g =
+  step_holds most why root kind fail answer given (UnlockBelow n p r) given' turn o m x x' g =
       at_turn _ turn g.2 (unlocks (number n) g.1 (λ u. (u ≡ number p) ⊎ (u ≡ number n)) o m (Unlock p r) (λ u y. elim y [
         | inl q ↦ inr q
         | inr q ↦ inl q
       ]))
-  step_holds most root kind fail answer given (Unlock n r) given' turn o m x x' g = at_turn _ turn g.2 (unlocks (number n) g.1 (λ u. u ≡ number n) o m Ended (λ u y. inl y))
-  step_holds most root kind fail answer given (Unwind n e) given' turn o m x x' g = unwound_holds root e turn g.2 (λ s. unlocks (number n) g.1 (λ u. u ≡ number n) o m s (λ u z. inl z))
-  step_holds most root kind fail answer given (Sweep s) given' turn o m x x' g = calm_bare g.0 o m turn.phase
-  step_holds most root kind fail answer given Ended given' turn o m x x' g = calm_bare g.0 o m turn.phase
+  step_holds most why root kind fail answer given (Unlock n r) given' turn o m x x' g = at_turn _ turn g.2 (unlocks (number n) g.1 (λ u. u ≡ number n) o m Ended (λ u y. inl y))
+  step_holds most why root kind fail answer given (Unwind n e) given' turn o m x x' g = unwound_holds root e turn g.2 (λ s. unlocks (number n) g.1 (λ u. u ≡ number n) o m s (λ u z. inl z))
+  step_holds most why root kind fail answer given (Sweep s) given' turn o m x x' g = calm_bare g.0 o m turn.phase
+  step_holds most why root kind fail answer given Ended given' turn o m x x' g = calm_bare g.0 o m turn.phase

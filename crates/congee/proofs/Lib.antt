@@ -82,3 +82,10 @@ pub mod SweepNames
 pub mod SweepFlights
 pub mod Seats
 pub mod RegionBytes
+pub mod Bounds
+pub mod Causes
+pub mod Lasting
+pub mod Giving
+pub mod Naming
+pub mod Leaving
+pub mod Renewing

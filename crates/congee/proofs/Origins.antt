@@ -6,6 +6,7 @@ use Rattle.std.specs.List.{All, Contains}
 use Rattle.std.proofs.lemmas.List.Elements.{All-from_recursion, recursion_from_All, All-weaker, All-contains_itself}
 use Rattle.judge.specs.declared.journal.Reply.{Reply}
 use Rattle.judge.specs.declared.journal.Reply.TheVariants as reply
+use Rattle.congee.specs.declared.base_node.NodeType.{NodeType}
 use Rattle.congee.specs.declared.child.Child.{Child}
 use Rattle.congee.specs.declared.child.Child.TheVariants as child
 use Rattle.congee.specs.declared.store.Reading.{Reading}
@@ -229,14 +230,14 @@ module _ {C : Type 0} (V : Type 0) (number : C → ℕ) (K : ℕ → Type 0) whe
     of_upgraded_both two r Exhausted t x e = at_turn t _ x.1 (e.0, tt)
 
     -- each step of the table
-    module _ (same : V → V → Bool) (always : Bool) (most i : ℕ) (a : ℕ → Note) (fail : Bool) (answer : Option (Option V)) (given given' : Option V) (turn : Turn C V) (w : Words a h)
+    module _ (same : V → V → Bool) (always : Bool) (most : ℕ) (why : NodeType → Refusal → Type 0) (i : ℕ) (a : ℕ → Note) (fail : Bool) (answer : Option (Option V)) (given given' : Option V) (turn : Turn C V) (w : Words a h)
         (hangs : (p b n : ℕ) → (a p).status ≡ Linked → (h p).children b ≡ Below n → K n) where
       -- a child that was read in a node whose lock word is the one taken
       found : (s : Site C) (c : Child C V) → Knows number a h (key_bytes k) s (hung number c) → is_taken (h (number s.at.node)) s.at.version ≡ true → (n : ℕ) → hung number c ≡ Below n → K n
       found s c m q n e = hangs (number s.at.node) (slice_index (key_bytes k) (length (h (number s.at.node)).prefix)) n
           (taken_linked a h w (number s.at.node) s.at.version m.fresh.seated.published q) ((m.fresh.holds q).child ∙ e)
 
-      pub step_names : (s : Phase C V) → Known number same always i a h k (key_bytes k) kind given s → PhaseStepped number same always most root (key_bytes k) kind fail answer given s h given' turn h' → Each K (names number s) → Leaves turn
+      pub step_names : (s : Phase C V) → Known number same always i a h k (key_bytes k) kind given s → PhaseStepped number same always most why root (key_bytes k) kind fail answer given s h given' turn h' → Each K (names number s) → Leaves turn
       step_names New m g e = at_turn turn (again root) g.2 (top, tt)
       step_names (Version p c) m g e = at_turn turn _ g.2 (of_version root top p c _ e.0 e.1)
       step_names (Read p at) m g e = at_turn turn _ g.2.2 (of_read root top p at g.2.0 e.0 e.1)
@@ -270,13 +271,13 @@ module _ {C : Type 0} (V : Type 0) (number : C → ℕ) (K : ℕ → Type 0) whe
       step_names Ended m g e = at_turn turn (quiet Ended) g.2 tt
 
 -- a step by the table gives the call names of known origin
-pub stepped_origin : {C V : Type 0} (number : C → ℕ) (same : V → V → Bool) (always : Bool) (most : ℕ) (m : Machine C V) (h : ℕ → Node V) (fail : Bool) (answer : Option (Option V)) (given' : Option V) (turn : Turn C V) (m' : Machine C V) (h' : ℕ → Node V)
-    → m'.phase ≡ turn.phase → PhaseStepped number same always most m.root (key_bytes m.key) m.kind fail answer m.given m.phase h given' turn h' → KeepsOrigin number same always m h m' h'
-stepped_origin {C} {V} number same always most m h fail answer given' turn m' h' e s i a z t w known =
+pub stepped_origin : {C V : Type 0} (number : C → ℕ) (same : V → V → Bool) (always : Bool) (most : ℕ) (why : NodeType → Refusal → Type 0) (m : Machine C V) (h : ℕ → Node V) (fail : Bool) (answer : Option (Option V)) (given' : Option V) (turn : Turn C V) (m' : Machine C V) (h' : ℕ → Node V)
+    → m'.phase ≡ turn.phase → PhaseStepped number same always most why m.root (key_bytes m.key) m.kind fail answer m.given m.phase h given' turn h' → KeepsOrigin number same always m h m' h'
+stepped_origin {C} {V} number same always most why m h fail answer given' turn m' h' e s i a z t w known =
     let had : List ℕ = names number m.phase in
     let K : ℕ → Type 0 = Comes (number m.root) had h h' in
     let P : Phase C V → Type 0 = λ x. All K (names number x) in
     subst P (sym e) (All-from_recursion K (names number turn.phase)
-    (step_names V number K m.root (Top refl) h h' (λ n x y. New_made x y) m.key m.kind same always most i a fail answer m.given given' turn w
+    (step_names V number K m.root (Top refl) h h' (λ n x y. New_made x y) m.key m.kind same always most why i a fail answer m.given given' turn w
     (λ p b n l e. Hangs p b (linked_in a h p t l) e)
     m.phase known s (recursion_from_All K had (All-weaker (Contains had) K (λ n c. Had c) had (All-contains_itself had)))))

@@ -2,6 +2,8 @@
 use Rattle.std.proofs.Common.{◌≡◌, ◌≢◌, ℕ, zero, suc, ◌⊎◌, inl, inr, Bool, true, List, [], ◌∷◌, refl, sym, ◌∙◌, ap, subst, arith}
 use Rattle.std.proofs.Math.ListN.{set}
 use Rattle.std.specs.Prelude.{Option, None, Some, slice_get}
+use Rattle.congee.specs.declared.base_node.NodeType.{NodeType}
+use Rattle.congee.specs.declared.store.Refusal.{Refusal}
 use Rattle.congee.specs.declared.phase.Kind.{Kind}
 use Rattle.congee.specs.declared.phase.Site.{Site}
 use Rattle.congee.specs.declared.phase.Single.{Single}
@@ -176,36 +178,36 @@ module _ {C V : Type 0} (number : C → ℕ) (same : V → V → Bool) (always :
   gone_taken t Ended x l g = absurd l
 
   -- it is marked, and then handed over
-  pub taken_on : (most : ℕ) (root : C) (fail : Bool) (answer : Option (Option V)) (s : Phase C V) (given' : Option V) (turn : Turn C V) (h' : ℕ → Node V) → PhaseStepped number same always most root (key_bytes k) kind fail answer given s h given' turn h'
+  pub taken_on : (most : ℕ) (why : NodeType → Refusal → Type 0) (root : C) (fail : Bool) (answer : Option (Option V)) (s : Phase C V) (given' : Option V) (turn : Turn C V) (h' : ℕ → Node V) → PhaseStepped number same always most why root (key_bytes k) kind fail answer given s h given' turn h'
       → TakenBy number s n → ((h' n).retired ≡ true) ⊎ TakenBy number turn.phase n
-  taken_on most root fail answer New given' turn h' g l = absurd l
-  taken_on most root fail answer (Version p n0) given' turn h' g l = absurd l
-  taken_on most root fail answer (Read p at) given' turn h' g l = absurd l
-  taken_on most root fail answer (Check s c) given' turn h' g l = absurd l
-  taken_on most root fail answer (CheckUncopied at) given' turn h' g l = absurd l
-  taken_on most root fail answer (CheckMiss p at common byte) given' turn h' g l = absurd l
-  taken_on most root fail answer (CheckDown p at c) given' turn h' g l = absurd l
-  taken_on most root fail answer (CheckOld p s v) given' turn h' g l = absurd l
-  taken_on most root fail answer (MakeLeaf s) given' turn h' g l = absurd l
-  taken_on most root fail answer (MakeGreater s p leaf) given' turn h' g l = absurd l
-  taken_on most root fail answer (MakeTop p at common byte) given' turn h' g l = absurd l
-  taken_on most root fail answer (MakeBeside p at common byte top) given' turn h' g l = absurd l
-  taken_on most root fail answer (AskOld s v) given' turn h' g l = absurd l
-  taken_on most root fail answer (AskNew plan) given' turn h' g l = absurd l
-  taken_on most root fail answer (Confirm at r) given' turn h' g l = absurd l
-  taken_on most root fail answer (CheckAbove p one r) given' turn h' g l = absurd l
-  taken_on most root fail answer (UpgradeOne one r) given' turn h' g l = absurd l
-  taken_on most root fail answer (ChangeOne one r) given' turn h' g l = absurd l
-  taken_on most root fail answer (UpgradeAbove two r) given' turn h' g l = absurd l
-  taken_on most root fail answer (UpgradeBoth two r) given' turn h' g l = absurd l
-  taken_on most root fail answer (ChangeTwo two r) given' turn h' g l = absurd l
-  taken_on most root fail answer (Obsolete m p r) given' turn h' g l = let P : Turn C V → Type 0 = λ y. TakenBy number y.phase n in inr (subst P (sym g.2) l)
-  taken_on most root fail answer (Retire m p r) given' turn h' g l = let P : ℕ → Type 0 = λ y. (h' y).retired ≡ true in inl (subst P (sym l) (rw g.1.after refl))
-  taken_on most root fail answer (UnlockBelow m p r) given' turn h' g l = absurd l
-  taken_on most root fail answer (Unlock m r) given' turn h' g l = absurd l
-  taken_on most root fail answer (Unwind m e) given' turn h' g l = absurd l
-  taken_on most root fail answer (Sweep s) given' turn h' g l = absurd l
-  taken_on most root fail answer Ended given' turn h' g l = absurd l
+  taken_on most why root fail answer New given' turn h' g l = absurd l
+  taken_on most why root fail answer (Version p n0) given' turn h' g l = absurd l
+  taken_on most why root fail answer (Read p at) given' turn h' g l = absurd l
+  taken_on most why root fail answer (Check s c) given' turn h' g l = absurd l
+  taken_on most why root fail answer (CheckUncopied at) given' turn h' g l = absurd l
+  taken_on most why root fail answer (CheckMiss p at common byte) given' turn h' g l = absurd l
+  taken_on most why root fail answer (CheckDown p at c) given' turn h' g l = absurd l
+  taken_on most why root fail answer (CheckOld p s v) given' turn h' g l = absurd l
+  taken_on most why root fail answer (MakeLeaf s) given' turn h' g l = absurd l
+  taken_on most why root fail answer (MakeGreater s p leaf) given' turn h' g l = absurd l
+  taken_on most why root fail answer (MakeTop p at common byte) given' turn h' g l = absurd l
+  taken_on most why root fail answer (MakeBeside p at common byte top) given' turn h' g l = absurd l
+  taken_on most why root fail answer (AskOld s v) given' turn h' g l = absurd l
+  taken_on most why root fail answer (AskNew plan) given' turn h' g l = absurd l
+  taken_on most why root fail answer (Confirm at r) given' turn h' g l = absurd l
+  taken_on most why root fail answer (CheckAbove p one r) given' turn h' g l = absurd l
+  taken_on most why root fail answer (UpgradeOne one r) given' turn h' g l = absurd l
+  taken_on most why root fail answer (ChangeOne one r) given' turn h' g l = absurd l
+  taken_on most why root fail answer (UpgradeAbove two r) given' turn h' g l = absurd l
+  taken_on most why root fail answer (UpgradeBoth two r) given' turn h' g l = absurd l
+  taken_on most why root fail answer (ChangeTwo two r) given' turn h' g l = absurd l
+  taken_on most why root fail answer (Obsolete m p r) given' turn h' g l = let P : Turn C V → Type 0 = λ y. TakenBy number y.phase n in inr (subst P (sym g.2) l)
+  taken_on most why root fail answer (Retire m p r) given' turn h' g l = let P : ℕ → Type 0 = λ y. (h' y).retired ≡ true in inl (subst P (sym l) (rw g.1.after refl))
+  taken_on most why root fail answer (UnlockBelow m p r) given' turn h' g l = absurd l
+  taken_on most why root fail answer (Unlock m r) given' turn h' g l = absurd l
+  taken_on most why root fail answer (Unwind m e) given' turn h' g l = absurd l
+  taken_on most why root fail answer (Sweep s) given' turn h' g l = absurd l
+  taken_on most why root fail answer Ended given' turn h' g l = absurd l
 
 module _ {C V : Type 0} (number : C → ℕ) (same : V → V → Bool) (always : Bool) (i : ℕ) (a : ℕ → Note) (h : ℕ → Node V) (a' : ℕ → Note) (h' : ℕ → Node V) (ms : List (Machine C V)) (m m' : Machine C V)
     (e : slice_get ms i ≡ Some m) (w : Words a h) (t : Tree a h) (w' : Words a' h') (t' : Tree a' h') (f : (n : ℕ) → Fares i (a n) (a' n) (h n) (h' n)) (s : Holdings number a h ms) where

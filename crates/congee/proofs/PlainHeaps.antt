@@ -5,13 +5,14 @@ use Rattle.std.proofs.Math.Seq.{take-append_seam}
 use Rattle.std.proofs.lemmas.List.{length-set, length-take-le, get_or-take}
 use Rattle.congee.specs.declared.child.Child.{Child}
 use Rattle.congee.specs.declared.plain_node.PlainNode.{PlainNode}
-use Rattle.congee.specs.Heap.{Node, is_taken}
+use Rattle.congee.specs.Heap.{Node, Stands, is_taken}
 use Rattle.congee.specs.declared.base_node.NodeType.{NodeType}
 use Rattle.congee.specs.declared.base_node.NodeType.TheVariants.{N4, N16, N48, N256}
 use Rattle.congee.specs.declared.store.Seen.{Seen}
 use Rattle.congee.specs.declared.store.Upgrade.TheVariants.{Locked, Failed}
 use Rattle.congee.specs.Forms.{capacity_of}
 use Rattle.congee.specs.Events.{hung, places, ChangeGives, TakeOverGives, NewNode, UpgradeGives, SeenTruly}
+use Rattle.congee.specs.Bounds.{Within}
 use Rattle.congee.specs.Plain.{count_of, child_at}
 use Rattle.congee.specs.PlainHeap.{node_of, heap_of, IsFresh, IsTruly, SameWord, HandsOver}
 use Rattle.congee.proofs.PlainLemmas.{child_set, child_beside, count_set, alone, lacking}
@@ -115,6 +116,7 @@ taken_over nodes i n x y x' y' from to hands h' ei en others = record {
   count = rw (en, from, hands.moved) refl;
   prefix = rw (en, to) hands.new.prefix_is;
   capacity = rw (en, to, hands.new.form_is) refl;
+  version = rw (en, to) hands.new.version_is;
   made = rw (en, to) refl;
   destroyed = rw (en, to) hands.new.destroyed_is;
   locked = rw (en, to) hands.new.locked_is;
@@ -187,6 +189,7 @@ new_node nodes nodes' name y form key size en es l f =
       blank = λ b. rw here (f.blank b);
       empty = rw here f.empty;
       capacity = rw (here, f.form_is) (places_of form);
+      version = rw here f.version_is;
       free = rw here f.unlocked;
       live = rw here f.live;
       made = rw here refl;
@@ -194,6 +197,14 @@ new_node nodes nodes' name y form key size en es l f =
       unretired = rw here f.unretired;
       others = λ m ne. rw es (heap_before nodes y m (λ e. ne (e ∙ sym en)));
     }
+
+-- a store with one new node is within any limit
+pub fresh_within : (x : PlainNode) (form : NodeType) (prefix : List ℕ) (most : ℕ) → IsFresh x form prefix → Within most (heap_of (x ∷ []))
+fresh_within x form prefix most f zero s = record {
+  low = let e : x.version ≡ 0 = f.version_is in omega (arith, e);
+  locked = λ l. let y : x.locked ≡ true = l in let z : true ≡ false = sym y ∙ f.unlocked in absurd cc;
+}
+fresh_within x form prefix most f (suc n) s = absurd (let z : false ≡ true = s.made in cc)
 
 differ : (a b : ℕ) → a ≢ b → (a == b) ≡ false
 differ a b ne = on_test (a == b) (λ t. absurd (ne (equal a b t))) (λ f. f)

@@ -235,6 +235,6 @@ known_kept number same always K i a h a' h' r k key kind given (Retire c p reply
 known_kept number same always K i a h a' h' r k key kind given (UnlockBelow c p reply) n m =
     (holding_kept K i a h a' h' r (number c) m.0, holding_kept K i a h a' h' r (number p) m.1, m.2)
 known_kept number same always K i a h a' h' r k key kind given (Unlock c reply) n m = holding_kept K i a h a' h' r (number c) m
-known_kept number same always K i a h a' h' r k key kind given (Unwind c e) n m = (m.0, holding_kept K i a h a' h' r (number c) m.1)
+known_kept number same always K i a h a' h' r k key kind given (Unwind c e) n m = (m.0, holding_kept K i a h a' h' r (number c) m.1, m.2)
 known_kept number same always K i a h a' h' r k key kind given (Sweep s) n m = sweep_known_kept number always K i a h a' h' r s n m
 known_kept number same always K i a h a' h' r k key kind given Ended n m = tt

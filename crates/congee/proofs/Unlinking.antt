@@ -2,6 +2,8 @@
 use Rattle.std.proofs.Common.{◌≡◌, ℕ, zero, suc, ◌<◌, ◌⊎◌, inl, inr, Bool, true, false, List, [], ◌∷◌, ◌++◌, length, refl, sym, ◌∙◌, ap, subst, arith}
 use Rattle.std.proofs.Math.ListN.{set}
 use Rattle.std.specs.Prelude.{Option, None, Some, slice_get}
+use Rattle.congee.specs.declared.base_node.NodeType.{NodeType}
+use Rattle.congee.specs.declared.store.Refusal.{Refusal}
 use Rattle.congee.specs.declared.phase.Kind.{Kind}
 use Rattle.congee.specs.declared.phase.Phase.{Phase}
 use Rattle.congee.specs.declared.phase.Phase.TheVariants.{ChangeOne, UpgradeBoth, ChangeTwo, Obsolete, Retire, UnlockBelow, Unlock, Unwind}
@@ -102,13 +104,13 @@ linked_after i x y p q f l u (Held j) e = let z : true ≡ false = sym u ∙ ap 
 linked_after i x y p q f l u Back e = let z : true ≡ false = sym u ∙ ap is_published e in absurd cc
 linked_after i x y p q f l u Destroyed e = let z : true ≡ false = sym u ∙ ap is_published e in absurd cc
 
-module _ {C V : Type 0} (number : C → ℕ) (same : V → V → Bool) (always : Bool) (most : ℕ) (i : ℕ) (a : ℕ → Note) (h : ℕ → Node V) (a' : ℕ → Note) (h' : ℕ → Node V) (ms : List (Machine C V)) (m m' : Machine C V)
+module _ {C V : Type 0} (number : C → ℕ) (same : V → V → Bool) (always : Bool) (most : ℕ) (why : NodeType → Refusal → Type 0) (i : ℕ) (a : ℕ → Note) (h : ℕ → Node V) (a' : ℕ → Note) (h' : ℕ → Node V) (ms : List (Machine C V)) (m m' : Machine C V)
     (e : slice_get ms i ≡ Some m) (w : Words a h) (t : Tree a h) (t' : Tree a' h') (f : (n : ℕ) → Fares i (a n) (a' n) (h n) (h' n))
     (pub_kept : (n : ℕ) → is_published (a n).status ≡ true → is_published (a' n).status ≡ true) (w' : Words a' h')
     (own_was : (n : ℕ) → (a n).owner ≡ Some i → LockedBy number m.phase n) (own_is : (n : ℕ) → (a' n).owner ≡ Some i → LockedBy number m'.phase n)
     (x : Known number same always i a h m.key (key_bytes m.key) m.kind m.given m.phase) (x' : Known number same always i a' h' m.key (key_bytes m.key) m.kind m'.given m'.phase)
     (root : C) (fail : Bool) (answer : Option (Option V)) (d : Turn C V) (dm : d.phase ≡ m'.phase)
-    (g : PhaseStepped number same always most root (key_bytes m.key) m.kind fail answer m.given m.phase h m'.given d h')
+    (g : PhaseStepped number same always most why root (key_bytes m.key) m.kind fail answer m.given m.phase h m'.given d h')
     (leaves : IsLeaving m.phase → IsLeaving m'.phase) (hands : StepHands number h ms i h' (set ms i m')) where
   -- what the call has taken out after the step was taken out before, or in the tree
   taken_from : (n : ℕ) → TakenBy number m'.phase n → TakenBy number m.phase n ⊎ ((a n).status ≡ Linked)
@@ -124,7 +126,7 @@ module _ {C V : Type 0} (number : C → ℕ) (same : V → V → Bool) (always :
 
   -- it stays in its hands until it is handed over
   taken_to : (n : ℕ) → TakenBy number m.phase n → ((h' n).retired ≡ true) ⊎ TakenBy number m'.phase n
-  taken_to n y = elim (taken_on number same always i a h m.key m.kind m.given n most root fail answer m.phase m'.given d h' g y) [
+  taken_to n y = elim (taken_on number same always i a h m.key m.kind m.given n most why root fail answer m.phase m'.given d h' g y) [
     | inl r ↦ inl r
     | inr r ↦ inr (let P : Phase C V → Type 0 = λ z. TakenBy number z n in subst P dm r)
   ]

@@ -1,5 +1,5 @@
 -- What the store wants of the nodes that a call's next step names, the call knows.
-use Rattle.std.proofs.Common.{◌≡◌, ◌≢◌, ℕ, ◌==◌, Bool, true, false, length, refl, sym, ◌∙◌, ap, subst, arith}
+use Rattle.std.proofs.Common.{◌≡◌, ◌≢◌, ℕ, ◌==◌, Bool, true, false, length, refl, sym, ◌∙◌, ap, subst, arith, inl, inr}
 use Rattle.std.specs.Prelude.{Option, None, Some, slice_index}
 use Rattle.congee.specs.declared.phase.Kind.{Kind}
 use Rattle.congee.specs.declared.phase.Site.{Site}
@@ -12,14 +12,28 @@ use Rattle.congee.specs.declared.phase.Two.{Two}
 use Rattle.congee.specs.declared.phase.Phase.{Phase}
 use Rattle.congee.specs.declared.phase.Phase.TheVariants.{New, Version, Read, Check, CheckUncopied, CheckMiss, CheckDown, CheckOld, MakeLeaf, MakeGreater, MakeTop, MakeBeside, AskOld, AskNew, Confirm, CheckAbove, UpgradeOne, ChangeOne, UpgradeAbove, UpgradeBoth, ChangeTwo, Obsolete, Retire, UnlockBelow, Unlock, Unwind, Sweep, Ended}
 use Rattle.congee.specs.Heap.{Node, Hung, Nothing, Below, Stands, child_for}
-use Rattle.congee.specs.Events.{MayChange, Parts}
+use Rattle.congee.specs.Events.{MayChange, HoldsAlike, Parts}
 use Rattle.congee.specs.Steps.{value_hung, MayBackOne, MayBackTwo, MayBackLeaf, Changeable, Blank, MayChangeOne, MayChangeTwo, MayStep}
 use Rattle.congee.specs.Keys.{key_bytes}
-use Rattle.congee.specs.Ledger.{Note, is_published, IsChild, Tree, Words}
+use Rattle.congee.specs.Ledger.{Note, Linked, is_published, IsChild, Tree, Words}
 use Rattle.congee.specs.Protocol.{Made, Holding, MadeOne, MadeTwo, MadeLeafFor, FitsOne, FitsTwo, OneLocked, TwoLocked, WantedTwo, PlacedTwo, Known}
+use Rattle.congee.proofs.Fits.{equal, same_test}
+use Rattle.congee.proofs.Graft.{on_test}
 use Rattle.congee.proofs.Touch.{owner_locked}
 use Rattle.congee.proofs.Change.{made_apart}
 use Rattle.congee.proofs.SweepWants.{sweep_wants}
+
+-- a node of the tree holds values where its prefix has seven bytes, and nodes where it is shorter
+pub holds_alike : {V : Type 0} (a : ℕ → Note) (h : ℕ → Node V) → Tree a h → (n : ℕ) → (a n).status ≡ Linked → HoldsAlike (h n)
+holds_alike {V} a h t n l = on_test (length (h n).prefix == 7) leaf inner where
+  leaf : (length (h n).prefix == 7) ≡ true → HoldsAlike (h n)
+  leaf e = inl (λ b c x.
+      let y : IsChild a h n b c = t.down n b c l x in
+      let long : length (h n).prefix ≡ 7 = equal (length (h n).prefix) 7 e in
+      absurd (omega (arith, y.longer, t.short c y.linked, long)))
+
+  inner : (length (h n).prefix == 7) ≡ false → HoldsAlike (h n)
+  inner e = inr (λ b v x. let y : (length (h n).prefix == 7) ≡ true = same_test (length (h n).prefix) 7 (t.leaves n b v l x) in let z : true ≡ false = sym y ∙ e in cc)
 
 module _ {C V : Type 0} (number : C → ℕ) (same : V → V → Bool) (always : Bool) (i : ℕ) (a : ℕ → Note) (h : ℕ → Node V) (k : ℕ) (t : Tree a h) (w : Words a h) where
   there : (n : ℕ) → is_published (a n).status ≡ true → Stands (h n)
@@ -116,6 +130,7 @@ module _ {C V : Type 0} (number : C → ℕ) (same : V → V → Bool) (always :
         apart_above two None q o (number c) _ q m,
         apart_at two None q o (number c) _ q m,
         two_apart two None q o,
+        holds_alike a h t (number two.at.node) (is_child two None q o).linked,
       )
   two_wants two (GrowLink c leaf byte) None q None e o f = f
   two_wants two (GrowLink c leaf byte) (Some x) q given e o f = absurd f
@@ -132,6 +147,7 @@ module _ {C V : Type 0} (number : C → ℕ) (same : V → V → Bool) (always :
         apart_above two None q o (number leaf) 7 0 m.1,
         apart_at two None q o (number leaf) 7 0 m.1,
         m.2,
+        holds_alike a h t (number two.at.node) (is_child two None q o).linked,
       )
   two_wants two (Split top leaf common byte) None q None e o f = f
   two_wants two (Split top leaf common byte) (Some x) q given e o f = absurd f

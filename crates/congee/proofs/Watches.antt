@@ -8,6 +8,8 @@ use Rattle.judge.specs.declared.journal.Reply.{Reply}
 use Rattle.judge.specs.declared.journal.Reply.TheVariants as reply
 use Rattle.judge.specs.Answer.{Pairs, set_at, answer}
 use Rattle.judge.proofs.Maps.{key_of, leaves, reply_on, get-set_at_here, get-set_at_apart, answer_at}
+use Rattle.congee.specs.declared.base_node.NodeType.{NodeType}
+use Rattle.congee.specs.declared.store.Refusal.{Refusal}
 use Rattle.congee.specs.declared.phase.Kind.{Kind}
 use Rattle.congee.specs.declared.phase.Kind.TheVariants.{Get, Insert, Remove, ComputePresent, ComputeInsert, Exchange}
 use Rattle.congee.specs.declared.phase.Phase.{Phase}
@@ -149,7 +151,7 @@ closed (reply.ComputePresent (Some x)) = tt
 closed (reply.ComputeInsert x) = tt
 closed (reply.Exchange x) = tt
 
-module _ {C V : Type 0} (number : C → ℕ) (same : V → V → Bool) (always : Bool) (most : ℕ) (i : ℕ) (a : ℕ → Note) (h : ℕ → Node V) (root : C) (k : ℕ) (kind : Kind V)
+module _ {C V : Type 0} (number : C → ℕ) (same : V → V → Bool) (always : Bool) (most : ℕ) (why : NodeType → Refusal → Type 0) (i : ℕ) (a : ℕ → Note) (h : ℕ → Node V) (root : C) (k : ℕ) (kind : Kind V)
     (fail : Bool) (told : Option (Option V)) (v v' : Option V) (t : Turn C V) (h' : ℕ → Node V) (p : k < 2 ^ 64) (m : Pairs V) (st : Standing h m) where
   abbrev pub Next : Flight V → Type 0
   Next f = (m' : Pairs V) × Standing h' m' × Watched same f m told t.step (flight_in k kind v' t.phase) m'
@@ -170,7 +172,7 @@ module _ {C V : Type 0} (number : C → ℕ) (same : V → V → Bool) (always :
   by_work r n x = by_state (heeding r) (closed r) n x
 
   -- every step
-  pub watched : (s : Phase C V) → IsOfPoint (flight_in k kind v s) → Known number same always i a h k (key_bytes k) kind v s → PhaseStepped number same always most root (key_bytes k) kind fail told v s h v' t h'
+  pub watched : (s : Phase C V) → IsOfPoint (flight_in k kind v s) → Known number same always i a h k (key_bytes k) kind v s → PhaseStepped number same always most why root (key_bytes k) kind fail told v s h v' t h'
       → Answers same k kind v h t h' → Next (flight_in k kind v s)
   watched New pf c g n = by_shape n (at number k kind v v' g.1 Unasked _ t g.2 (back number k kind v v' g.1 Unasked root))
   watched (Version above x) pf c g n = by_shape n (at number k kind v v' g.1 Unasked _ t g.2 (versions number k kind v v' g.1 Unasked root above x (version_of (h (number x)))))

@@ -1,5 +1,5 @@
 -- What each of the store's calls does to the nodes.
-use Rattle.std.specs.Prelude.{◌≡◌, ◌≢◌, ℕ, ◌+◌, ◌==◌, ◌&&◌, ◌<◌, ◌≤◌, not, Bool, true, false, List, length, slice_index, Result, Ok, Err, cond, ◌↔◌}
+use Rattle.std.specs.Prelude.{◌≡◌, ◌≢◌, ℕ, ◌+◌, ◌==◌, ◌&&◌, ◌<◌, ◌≤◌, ◌⊎◌, not, Bool, true, false, List, length, slice_index, Result, Ok, Err, cond, ◌↔◌}
 use Rattle.congee.specs.declared.child.Child.{Child}
 use Rattle.congee.specs.declared.child.Child.TheVariants as child
 use Rattle.congee.specs.declared.store.Reading.{Reading}
@@ -73,6 +73,7 @@ pub record NewNode {V : Type 0} (h : ℕ → Node V) (n : ℕ) (form : NodeType)
   pub blank : (b : ℕ) → (h' n).children b ≡ Nothing
   pub empty : (h' n).count ≡ 0
   pub capacity : (h' n).capacity ≡ places form
+  pub version : (h' n).version ≡ 0
   pub free : (h' n).locked ≡ false
   pub live : (h' n).obsolete ≡ false
   pub made : (h' n).made ≡ true
@@ -109,10 +110,21 @@ pub record ChangeGives {V : Type 0} (h : ℕ → Node V) (n b : ℕ) (x : Hung V
   pub count : (h' n).count + weight ((h n).children b) ≡ (h n).count + weight x
   pub others : (m : ℕ) → m ≢ n → h' m ≡ h m
 
--- an empty node with a place for each child of the old one, and for one more
+-- a node holds values alone, or nodes alone
+abbrev pub HoldsValues : {V : Type 0} → Node V → Type 0
+HoldsValues n = (b c : ℕ) → n.children b ≢ Below c
+
+abbrev pub HoldsNodes : {V : Type 0} → Node V → Type 0
+HoldsNodes {V} n = (b : ℕ) (v : V) → n.children b ≢ Holds v
+
+abbrev pub HoldsAlike : {V : Type 0} → Node V → Type 0
+HoldsAlike n = HoldsValues n ⊎ HoldsNodes n
+
+-- an empty node with a place for each child of the old one, which are alike, and for one more
 pub record TakesOver {V : Type 0} (old node : Node V) : Type 0 where
   pub empty : node.count ≡ 0
   pub room : old.count < node.capacity
+  pub alike : HoldsAlike old
 
 -- the children of node m go over into node c: its values are moved, its nodes stay in m too
 pub record TakeOverGives {V : Type 0} (h : ℕ → Node V) (m c : ℕ) (h' : ℕ → Node V) : Type 0 where
@@ -120,6 +132,7 @@ pub record TakeOverGives {V : Type 0} (h : ℕ → Node V) (m c : ℕ) (h' : ℕ
   pub count : (h' c).count ≡ (h m).count
   pub prefix : (h' c).prefix ≡ (h c).prefix
   pub capacity : (h' c).capacity ≡ (h c).capacity
+  pub version : (h' c).version ≡ (h c).version
   pub made : (h' c).made ≡ (h c).made
   pub destroyed : (h' c).destroyed ≡ (h c).destroyed
   pub locked : (h' c).locked ≡ (h c).locked

@@ -41,3 +41,7 @@ pub mod SweepEvents
 pub mod SweepSteps
 pub mod Seats
 pub mod SweepKnown
+pub mod Bounds
+pub mod Causes
+pub mod Leaving
+pub mod Seeing

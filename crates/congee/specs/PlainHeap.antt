@@ -1,8 +1,10 @@
 -- A plain list of nodes as the nodes of a tree.
-use Rattle.std.specs.Prelude.{◌≡◌, ℕ, ◌==◌, true, false, List, [], Option, None, Some, slice_get}
+use Rattle.std.specs.Prelude.{◌≡◌, ℕ, ◌==◌, ◌<◌, ◌≤◌, true, false, List, [], length, Option, None, Some, slice_get}
 use Rattle.congee.specs.Heap.{Node, Nothing}
 use Rattle.congee.specs.Events.{hung}
 use Rattle.congee.specs.declared.store.Seen.{Seen}
+use Rattle.congee.specs.declared.store.Refusal.{Refusal}
+use Rattle.congee.specs.declared.store.Refusal.TheVariants as refusal
 use Rattle.congee.specs.Forms.{capacity_of}
 use Rattle.congee.specs.Plain.{count_of, child_at, NamesStay}
 use Rattle.congee.specs.declared.base_node.NodeType.{NodeType}
@@ -37,6 +39,12 @@ node_of (Some n) = record {
 
 abbrev pub heap_of : List PlainNode → ℕ → Node ℕ
 heap_of nodes i = node_of (slice_get nodes i)
+
+-- a node more is refused for its place where the list has no room, and else for its memory
+abbrev pub refuses_in : List PlainNode → ℕ → Refusal → Type 0
+refuses_in nodes room refusal.Cells = room < length nodes
+refuses_in nodes room refusal.Memory = length nodes ≤ room
+refuses_in nodes room _ = ⊥
 
 -- a new node, with the key's first bytes as its prefix
 pub record IsFresh (n : PlainNode) (form : NodeType) (prefix : List ℕ) : Type 0 where

@@ -30,6 +30,11 @@ use Rattle.congee.specs.Protocol.{IsCall, HasGift, Asking, Known}
 use Rattle.congee.specs.Holdings.{Holdings, Rests, Apart}
 use Rattle.congee.specs.Handing.{Untouched, Handing, Unlinking, StepHands, StepTakes}
 use Rattle.congee.specs.Opening.{RootAlone, FreshRoot}
+use Rattle.congee.specs.Answers.{KeepsProtocol}
+use Rattle.congee.specs.Names.{KeepsOrigin}
+use Rattle.congee.specs.Causes.{IsCause}
+use Rattle.congee.specs.declared.base_node.NodeType.{NodeType}
+use Rattle.congee.specs.declared.store.Refusal.{Refusal}
 use Rattle.congee.specs.Keys.{key_bytes}
 
 -- a call's key, what it does there, and the value that it was given
@@ -60,6 +65,12 @@ IsBegin kind given _ = ⊥
 pub record IsNew {C V : Type 0} (m : Machine C V) : Type 0 where
   pub begins : IsBegin m.kind m.given m.phase
   pub key : m.key < 2 ^ 64
+
+-- a call on the root that has not begun, or that has ended
+pub record IsIdle {C V : Type 0} (number : C → ℕ) (m : Machine C V) : Type 0 where
+  pub root : number m.root ≡ 0
+  pub key : m.key < 2 ^ 64
+  pub state : IsNew m ⊎ (m.phase ≡ Ended)
 
 -- what a call has of its closure: no answer, an open question, or the answer to the question that it asked last
 pub data Question (V : Type 0) : Type 0 where
@@ -241,40 +252,42 @@ pub record Begins {C V : Type 0} (number : C → ℕ) (h : ℕ → Node V) (ms :
   pub root : (i : ℕ) (m : Machine C V) → slice_get ms i ≡ Some m → number m.root ≡ 0
   pub new : (i : ℕ) (m : Machine C V) → slice_get ms i ≡ Some m → IsNew m
 
--- each step is the next one of its call, on what the store answers and what came to it from outside
-abbrev pub NextAt : {C V : Type 0} → (C → ℕ) → (V → V → Bool) → Bool → (ℕ → Node V) → List (Machine C V) → Option (Machine C V) → Step C V → Move V → (ℕ → Node V) → List (Machine C V) → Type 0
-NextAt number same always h ms None s d h' ms' = (d ≡ record { decided = false; outcome = Running }) × (h' ≡ h) × (ms' ≡ ms)
-NextAt {C} {V} number same always h ms (Some m) s d h' ms' = (m' : Machine C V) × (most : ℕ) × Stepped number same always most m h s.noise.fail s.noise.answer m' h' d × (ms' ≡ set ms s.who m')
+-- each step is the next one of its call, on what the store answers and what came to it from outside; it refuses for its
+-- cause alone
+abbrev pub NextAt : {C V : Type 0} → (C → ℕ) → (V → V → Bool) → Bool → ℕ → (NodeType → Refusal → Type 0) → (ℕ → Node V) → List (Machine C V) → Option (Machine C V) → Step C V → Move V → (ℕ → Node V) → List (Machine C V) → Type 0
+NextAt number same always most why h ms None s d h' ms' = (d ≡ record { decided = false; outcome = Running }) × (h' ≡ h) × (ms' ≡ ms)
+NextAt {C} {V} number same always most why h ms (Some m) s d h' ms' = (m' : Machine C V) × Stepped number same always most why m h s.noise.fail s.noise.answer m' h' d
+    × IsCause why most always m.phase d.outcome × (ms' ≡ set ms s.who m')
 
-abbrev pub Nexts : {C V : Type 0} → (C → ℕ) → (V → V → Bool) → Bool → (ℕ → Node V) → List (Machine C V) → List (Step C V) → List (Move V) → (ℕ → Node V) → List (Machine C V) → Type 0
-Nexts number same always h ms [] [] h' ms' = (h' ≡ h) × (ms' ≡ ms)
-Nexts number same always h ms [] (d ∷ ds) h' ms' = ⊥
-Nexts number same always h ms (s ∷ ss) [] h' ms' = ⊥
-Nexts {C} {V} number same always h ms (s ∷ ss) (d ∷ ds) h' ms' = (h1 : ℕ → Node V) × (ms1 : List (Machine C V)) × NextAt number same always h ms (slice_get ms s.who) s d h1 ms1 × Nexts number same always h1 ms1 ss ds h' ms'
+abbrev pub Nexts : {C V : Type 0} → (C → ℕ) → (V → V → Bool) → Bool → ℕ → ((ℕ → Node V) → NodeType → Refusal → Type 0) → (ℕ → Node V) → List (Machine C V) → List (Step C V) → List (Move V) → (ℕ → Node V) → List (Machine C V) → Type 0
+Nexts number same always most why h ms [] [] h' ms' = (h' ≡ h) × (ms' ≡ ms)
+Nexts number same always most why h ms [] (d ∷ ds) h' ms' = ⊥
+Nexts number same always most why h ms (s ∷ ss) [] h' ms' = ⊥
+Nexts {C} {V} number same always most why h ms (s ∷ ss) (d ∷ ds) h' ms' = (h1 : ℕ → Node V) × (ms1 : List (Machine C V)) × NextAt number same always most (why h) h ms (slice_get ms s.who) s d h1 ms1 × Nexts number same always most why h1 ms1 ss ds h' ms'
 
 -- the same steps on nodes and map: after each of them that map stands in those nodes, and each call is watched so
-abbrev pub Chain : {C V : Type 0} → (C → ℕ) → (V → V → Bool) → Bool → (ℕ → Node V) → List (Machine C V) → List (Flight V) → Pairs V → List (Step C V) → List (Move V) → (ℕ → Node V) → List (Machine C V) → List (Flight V) → Pairs V → Type 0
-Chain number same always h ms fs m [] [] h' ms' fs' m' = (h' ≡ h) × (ms' ≡ ms) × (fs' ≡ fs) × (m' ≡ m)
-Chain number same always h ms fs m [] (d ∷ ds) h' ms' fs' m' = ⊥
-Chain number same always h ms fs m (s ∷ ss) [] h' ms' fs' m' = ⊥
-Chain {C} {V} number same always h ms fs m (s ∷ ss) (d ∷ ds) h' ms' fs' m' = (h1 : ℕ → Node V) × (ms1 : List (Machine C V)) × (fs1 : List (Flight V)) × (m1 : Pairs V) × Standing h1 m1 × Following ms1 fs1
-    × NextAt number same always h ms (slice_get ms s.who) s d h1 ms1 × WatchedAt same fs m (slice_get fs s.who) s d fs1 m1 × Chain number same always h1 ms1 fs1 m1 ss ds h' ms' fs' m'
+abbrev pub Chain : {C V : Type 0} → (C → ℕ) → (V → V → Bool) → Bool → ℕ → ((ℕ → Node V) → NodeType → Refusal → Type 0) → (ℕ → Node V) → List (Machine C V) → List (Flight V) → Pairs V → List (Step C V) → List (Move V) → (ℕ → Node V) → List (Machine C V) → List (Flight V) → Pairs V → Type 0
+Chain number same always most why h ms fs m [] [] h' ms' fs' m' = (h' ≡ h) × (ms' ≡ ms) × (fs' ≡ fs) × (m' ≡ m)
+Chain number same always most why h ms fs m [] (d ∷ ds) h' ms' fs' m' = ⊥
+Chain number same always most why h ms fs m (s ∷ ss) [] h' ms' fs' m' = ⊥
+Chain {C} {V} number same always most why h ms fs m (s ∷ ss) (d ∷ ds) h' ms' fs' m' = (h1 : ℕ → Node V) × (ms1 : List (Machine C V)) × (fs1 : List (Flight V)) × (m1 : Pairs V) × Standing h1 m1 × Following ms1 fs1
+    × NextAt number same always most (why h) h ms (slice_get ms s.who) s d h1 ms1 × WatchedAt same fs m (slice_get fs s.who) s d fs1 m1 × Chain number same always most why h1 ms1 fs1 m1 ss ds h' ms' fs' m'
 
 -- the calls answer as one map in the order of their steps, from the pairs that stood before to those that stand
 -- after it
-abbrev pub PlaysMap : {C V : Type 0} → (C → ℕ) → (V → V → Bool) → Bool → (ℕ → Node V) → List (Machine C V) → List (Step C V) → List (Move V) → (ℕ → Node V) → List (Machine C V) → Type 0
-PlaysMap {C} {V} number same always h ms steps moves h' ms' = (m : Pairs V) → Standing h m → (m' : Pairs V) × (fs' : List (Flight V)) × Standing h' m' × Following ms' fs' × Chain number same always h ms (map flight ms) m steps moves h' ms' fs' m'
+abbrev pub PlaysMap : {C V : Type 0} → (C → ℕ) → (V → V → Bool) → Bool → ℕ → ((ℕ → Node V) → NodeType → Refusal → Type 0) → (ℕ → Node V) → List (Machine C V) → List (Step C V) → List (Move V) → (ℕ → Node V) → List (Machine C V) → Type 0
+PlaysMap {C} {V} number same always most why h ms steps moves h' ms' = (m : Pairs V) → Standing h m → (m' : Pairs V) × (fs' : List (Flight V)) × Standing h' m' × Following ms' fs' × Chain number same always most why h ms (map flight ms) m steps moves h' ms' fs' m'
 
 -- and from the empty map, where a root stands alone
-abbrev pub FromRoot : {C V : Type 0} → (C → ℕ) → (V → V → Bool) → Bool → (ℕ → Node V) → List (Machine C V) → List (Step C V) → List (Move V) → (ℕ → Node V) → List (Machine C V) → Type 0
-FromRoot {C} {V} number same always h ms steps moves h' ms' = (m' : Pairs V) × (fs' : List (Flight V)) × Standing h' m' × Following ms' fs' × Chain number same always h ms (map flight ms) empty steps moves h' ms' fs' m'
+abbrev pub FromRoot : {C V : Type 0} → (C → ℕ) → (V → V → Bool) → Bool → ℕ → ((ℕ → Node V) → NodeType → Refusal → Type 0) → (ℕ → Node V) → List (Machine C V) → List (Step C V) → List (Move V) → (ℕ → Node V) → List (Machine C V) → Type 0
+FromRoot {C} {V} number same always most why h ms steps moves h' ms' = (m' : Pairs V) × (fs' : List (Flight V)) × Standing h' m' × Following ms' fs' × Chain number same always most why h ms (map flight ms) empty steps moves h' ms' fs' m'
 
-pub record Plays {C V : Type 0} (number : C → ℕ) (same : V → V → Bool) (always : Bool) (h : ℕ → Node V) (ms : List (Machine C V)) (steps : List (Step C V)) (moves : List (Move V))
+pub record Plays {C V : Type 0} (number : C → ℕ) (same : V → V → Bool) (always : Bool) (most : ℕ) (why : (ℕ → Node V) → NodeType → Refusal → Type 0) (h : ℕ → Node V) (ms : List (Machine C V)) (steps : List (Step C V)) (moves : List (Move V))
     (h' : ℕ → Node V) (ms' : List (Machine C V)) : Type 0 where
   pub protocol : Protocol number same always h' ms'
-  pub nexts : Nexts number same always h ms steps moves h' ms'
-  pub run : PlaysMap number same always h ms steps moves h' ms'
-  pub from_root : RootAlone h → FromRoot number same always h ms steps moves h' ms'
+  pub nexts : Nexts number same always most why h ms steps moves h' ms'
+  pub run : PlaysMap number same always most why h ms steps moves h' ms'
+  pub from_root : RootAlone h → FromRoot number same always most why h ms steps moves h' ms'
   pub apart : Apart number h' ms'
   pub by : ℕ → Option ℕ
   pub handing : Handing by h steps h' ms'
@@ -287,10 +300,21 @@ pub record Plays {C V : Type 0} (number : C → ℕ) (same : V → V → Bool) (
 abbrev pub StepMap : {C V : Type 0} → (V → V → Bool) → (ℕ → Node V) → List (Machine C V) → Step C V → Move V → (ℕ → Node V) → List (Machine C V) → Type 0
 StepMap {C} {V} same h ms s d h' ms' = (m : Pairs V) (fs : List (Flight V)) → Standing h m → Following ms fs → (m' : Pairs V) × (fs' : List (Flight V)) × Standing h' m' × Following ms' fs' × WatchedAt same fs m (slice_get fs s.who) s d fs' m'
 
-pub record StepPlays {C V : Type 0} (number : C → ℕ) (same : V → V → Bool) (always : Bool) (h : ℕ → Node V) (ms : List (Machine C V)) (s : Step C V) (d : Move V)
+-- the step of a call that is there: what it does, what it keeps, where its names come from, and why it refuses
+pub record IsMoved {C V : Type 0} (number : C → ℕ) (same : V → V → Bool) (always : Bool) (most : ℕ) (why : NodeType → Refusal → Type 0) (h : ℕ → Node V) (ms : List (Machine C V)) (m : Machine C V) (s : Step C V) (d : Move V)
+    (h' : ℕ → Node V) (ms' : List (Machine C V)) : Type 0 where
+  pub now : Machine C V
+  pub calls : ms' ≡ set ms s.who now
+  pub step : Stepped number same always most why m h s.noise.fail s.noise.answer now h' d
+  pub keeps : KeepsProtocol number same always m h now h' d
+  pub origin : KeepsOrigin number same always m h now h'
+  pub cause : IsCause why most always m.phase d.outcome
+
+pub record StepPlays {C V : Type 0} (number : C → ℕ) (same : V → V → Bool) (always : Bool) (most : ℕ) (why : NodeType → Refusal → Type 0) (h : ℕ → Node V) (ms : List (Machine C V)) (s : Step C V) (d : Move V)
     (h' : ℕ → Node V) (ms' : List (Machine C V)) : Type 0 where
   pub protocol : Protocol number same always h' ms'
-  pub next : NextAt number same always h ms (slice_get ms s.who) s d h' ms'
+  pub next : NextAt number same always most why h ms (slice_get ms s.who) s d h' ms'
+  pub moved : (m : Machine C V) → slice_get ms s.who ≡ Some m → IsMoved number same always most why h ms m s d h' ms'
   pub watched : StepMap same h ms s d h' ms'
   pub hands : StepHands number h ms s.who h' ms'
   pub untouched : Untouched h h'

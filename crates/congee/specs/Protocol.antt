@@ -5,6 +5,8 @@ use Rattle.judge.specs.declared.journal.Call.TheVariants as call
 use Rattle.judge.specs.declared.journal.Reply.{Reply}
 use Rattle.judge.proofs.Maps.{leaves, reply_on}
 use Rattle.congee.specs.declared.store.Seat.{Seat}
+use Rattle.congee.specs.declared.store.Refusal.{Refusal}
+use Rattle.congee.specs.declared.store.Refusal.TheVariants as refusal
 use Rattle.congee.specs.declared.phase.Kind.{Kind}
 use Rattle.congee.specs.declared.phase.Kind.TheVariants.{Get, Insert, Remove, ComputePresent, ComputeInsert, Exchange}
 use Rattle.congee.specs.declared.phase.Parent.{Parent}
@@ -219,6 +221,11 @@ abbrev pub Adding : {C : Type 0} → Double C → Type 0
 Adding Unlink = ⊥
 Adding _ = Unit {0}
 
+-- a lock was not had: its exchange failed, or no version is left for it
+abbrev pub IsFailure : Option Refusal → Type 0
+IsFailure None = Unit {0}
+IsFailure (Some e) = e ≡ refusal.Exhausted
+
 abbrev pub SeatedIf : {C V : Type 0} → (C → ℕ) → (ℕ → Note) → (ℕ → Node V) → Option (Seat C) → Type 0
 SeatedIf number a h None = Unit {0}
 SeatedIf number a h (Some p) = Seated a h (number p.node) p.version
@@ -265,7 +272,7 @@ Known number same always i a h k key kind given (Obsolete n p r) = TakenOut i a 
 Known number same always i a h k key kind given (Retire n p r) = TakenOut i a h (number p) (number n) × ((h (number n)).obsolete ≡ true)
 Known number same always i a h k key kind given (UnlockBelow n p r) = Holding i a (number n) × Holding i a (number p) × (number n ≢ number p)
 Known number same always i a h k key kind given (Unlock n r) = Holding i a (number n)
-Known number same always i a h k key kind given (Unwind n e) = HasGift kind given × Holding i a (number n)
+Known number same always i a h k key kind given (Unwind n e) = HasGift kind given × Holding i a (number n) × IsFailure e
 Known number same always i a h k key kind given (Sweep s) = SweepKnown number always a h s
 Known number same always i a h k key kind given Ended = Unit {0}
 

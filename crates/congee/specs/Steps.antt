@@ -1,5 +1,5 @@
 -- One step of a call on what the store answers: the next phase, and what the step reports.
-use Rattle.std.specs.Prelude.{◌≡◌, ◌≢◌, ℕ, ◌==◌, ◌<◌, ◌≤◌, ◌⊎◌, Bool, true, false, List, slice_index, Option, None, Some, Result, Ok, Err, cond}
+use Rattle.std.specs.Prelude.{◌≡◌, ◌≢◌, ℕ, ◌==◌, ◌<◌, ◌≤◌, ◌⊎◌, Bool, true, false, List, slice_index, Option, None, Some, Result, Ok, Err, IfErr, cond}
 use Rattle.std.proofs.Math.Dec.{ltb}
 use Rattle.judge.specs.declared.journal.Reply.{Reply}
 use Rattle.judge.specs.declared.journal.Reply.TheVariants as reply
@@ -38,7 +38,7 @@ use Rattle.congee.specs.declared.machine.Move.{Move}
 use Rattle.congee.specs.declared.turn.Turn.{Turn}
 use Rattle.congee.specs.declared.machine.Machine.{Machine}
 use Rattle.congee.specs.Heap.{Node, Hung, Nothing, Below, Holds, Stands, version_of, is_taken}
-use Rattle.congee.specs.Events.{ReadGives, SameBut, upgrade_gives, MakeGives, MayChange, ChangeGives, TakeOverGives, BackGives, ObsoleteGives, RetireGives, UnlockGives}
+use Rattle.congee.specs.Events.{ReadGives, SameBut, upgrade_gives, MakeGives, MayChange, ChangeGives, TakeOverGives, BackGives, ObsoleteGives, RetireGives, UnlockGives, HoldsAlike}
 use Rattle.congee.specs.Keys.{key_bytes}
 
 -- what a step leaves: it goes on, begins anew, answers in this step, ends with an answer given before, is refused,
@@ -331,72 +331,72 @@ swept s o = record { phase = Sweep s; step = record { decided = false; outcome =
 
 -- the step of a call in a phase: on the nodes, the closure's answer and the failing of an exchange, it gives the
 -- call's new value, what it leaves, and the nodes after it
-abbrev pub PhaseStepped : {C V : Type 0} → (C → ℕ) → (V → V → Bool) → Bool → ℕ → C → List ℕ → Kind V → Bool → Option (Option V)
+abbrev pub PhaseStepped : {C V : Type 0} → (C → ℕ) → (V → V → Bool) → Bool → ℕ → (NodeType → Refusal → Type 0) → C → List ℕ → Kind V → Bool → Option (Option V)
     → Option V → Phase C V → (ℕ → Node V) → Option V → Turn C V → (ℕ → Node V) → Type 0
-PhaseStepped number same always most root key kind fail answer new New h new' t h' =
+PhaseStepped number same always most why root key kind fail answer new New h new' t h' =
     (h' ≡ h) × (new' ≡ new) × (t ≡ again root)
-PhaseStepped number same always most root key kind fail answer new (Version above n) h new' t h' =
+PhaseStepped number same always most why root key kind fail answer new (Version above n) h new' t h' =
     (h' ≡ h) × (new' ≡ new) × (t ≡ after_version root above n (version_of (h (number n))))
-PhaseStepped {C} {V} number same always most root key kind fail answer new (Read above at) h new' t h' =
+PhaseStepped {C} {V} number same always most why root key kind fail answer new (Read above at) h new' t h' =
     (h' ≡ h) × (new' ≡ new) × ((r : Reading C V) × ReadGives number always (h (number at.node)) at.version key r × (t ≡ after_read root above at r))
-PhaseStepped number same always most root key kind fail answer new (Check s c) h new' t h' =
+PhaseStepped number same always most why root key kind fail answer new (Check s c) h new' t h' =
     (h' ≡ h) × (new' ≡ new) × IsIf (is_taken (h (number s.at.node)) s.at.version) root (IsChecked always same kind new s c) t
-PhaseStepped number same always most root key kind fail answer new (CheckUncopied at) h new' t h' =
+PhaseStepped number same always most why root key kind fail answer new (CheckUncopied at) h new' t h' =
     (h' ≡ h) × (new' ≡ new) × IsIf (is_taken (h (number at.node)) at.version) root (λ u. u ≡ refused refusal.Count) t
-PhaseStepped number same always most root key kind fail answer new (CheckMiss p at common byte) h new' t h' =
+PhaseStepped number same always most why root key kind fail answer new (CheckMiss p at common byte) h new' t h' =
     (h' ≡ h) × (new' ≡ new) × IsIf (is_taken (h (number p.seat.node)) p.seat.version) root (λ u. u ≡ after_miss kind p at common byte) t
-PhaseStepped number same always most root key kind fail answer new (CheckDown p at c) h new' t h' =
+PhaseStepped number same always most why root key kind fail answer new (CheckDown p at c) h new' t h' =
     (h' ≡ h) × (new' ≡ new) × IsIf (is_taken (h (number p.node)) p.version) root (λ u. u ≡ quiet (Version (Some at) c)) t
-PhaseStepped number same always most root key kind fail answer new (CheckOld p s v) h new' t h' =
+PhaseStepped number same always most why root key kind fail answer new (CheckOld p s v) h new' t h' =
     (h' ≡ h) × (new' ≡ new) × IsIf (is_taken (h (number p.node)) p.version) root (IsAtOld always same kind new s v) t
-PhaseStepped {C} {V} number same always most root key kind fail answer new (MakeLeaf s) h new' t h' =
-    (new' ≡ new) × ((r : Result C Refusal) × MadeLeaf number kind s h key r h' t)
-PhaseStepped {C} {V} number same always most root key kind fail answer new (MakeGreater s p leaf) h new' t h' =
-    (new' ≡ new) × ((r : Result C Refusal) × MadeGreater number kind s p leaf h key r h' t)
-PhaseStepped {C} {V} number same always most root key kind fail answer new (MakeTop p at common byte) h new' t h' =
-    (new' ≡ new) × ((r : Result C Refusal) × MadeTop number p at common byte h key r h' t)
-PhaseStepped {C} {V} number same always most root key kind fail answer new (MakeBeside p at common byte top) h new' t h' =
-    (new' ≡ new) × ((r : Result C Refusal) × MadeBeside number kind p at common byte top h key r h' t)
-PhaseStepped number same always most root key kind fail answer new (AskOld s v) h new' t h' =
+PhaseStepped {C} {V} number same always most why root key kind fail answer new (MakeLeaf s) h new' t h' =
+    (new' ≡ new) × ((r : Result C Refusal) × MadeLeaf number kind s h key r h' t × IfErr r (why N4))
+PhaseStepped {C} {V} number same always most why root key kind fail answer new (MakeGreater s p leaf) h new' t h' =
+    (new' ≡ new) × ((r : Result C Refusal) × MadeGreater number kind s p leaf h key r h' t × IfErr r (why (form_above s.count)))
+PhaseStepped {C} {V} number same always most why root key kind fail answer new (MakeTop p at common byte) h new' t h' =
+    (new' ≡ new) × ((r : Result C Refusal) × MadeTop number p at common byte h key r h' t × IfErr r (why N4))
+PhaseStepped {C} {V} number same always most why root key kind fail answer new (MakeBeside p at common byte top) h new' t h' =
+    (new' ≡ new) × ((r : Result C Refusal) × MadeBeside number kind p at common byte top h key r h' t × IfErr r (why N4))
+PhaseStepped number same always most why root key kind fail answer new (AskOld s v) h new' t h' =
     (h' ≡ h) × IsGiven always same kind s v answer new new' t
-PhaseStepped number same always most root key kind fail answer new (AskNew plan) h new' t h' =
+PhaseStepped number same always most why root key kind fail answer new (AskNew plan) h new' t h' =
     (h' ≡ h) × IsGivenNew plan answer new new' t
-PhaseStepped number same always most root key kind fail answer new (Confirm at r) h new' t h' =
+PhaseStepped number same always most why root key kind fail answer new (Confirm at r) h new' t h' =
     (h' ≡ h) × (new' ≡ new) × IsIf (is_taken (h (number at.node)) at.version) root (λ u. u ≡ answered r) t
-PhaseStepped number same always most root key kind fail answer new (CheckAbove p one r) h new' t h' =
+PhaseStepped number same always most why root key kind fail answer new (CheckAbove p one r) h new' t h' =
     (new' ≡ new) × IsCheckedAbove number root p one r h h' t
-PhaseStepped number same always most root key kind fail answer new (UpgradeOne one r) h new' t h' =
+PhaseStepped number same always most why root key kind fail answer new (UpgradeOne one r) h new' t h' =
     (new' ≡ new) × ((u : Upgrade) × (u ≡ upgrade_gives most (h (number one.at.node)) one.at.version fail) × UpgradedOne number root one r h u h' t)
-PhaseStepped number same always most root key kind fail answer new (ChangeOne one r) h new' t h' =
+PhaseStepped number same always most why root key kind fail answer new (ChangeOne one r) h new' t h' =
     (new' ≡ None) × ChangedOne number key new one one.change h h' × (t ≡ decided (Unlock one.at.node r))
-PhaseStepped number same always most root key kind fail answer new (UpgradeAbove two r) h new' t h' =
+PhaseStepped number same always most why root key kind fail answer new (UpgradeAbove two r) h new' t h' =
     (new' ≡ new) × ((u : Upgrade) × (u ≡ upgrade_gives most (h (number two.above.seat.node)) two.above.seat.version fail) × UpgradedAbove number root two r h u h' t)
-PhaseStepped number same always most root key kind fail answer new (UpgradeBoth two r) h new' t h' =
+PhaseStepped number same always most why root key kind fail answer new (UpgradeBoth two r) h new' t h' =
     (new' ≡ new) × ((u : Upgrade) × (u ≡ upgrade_gives most (h (number two.at.node)) two.at.version fail) × UpgradedBoth number two r h u h' t)
-PhaseStepped number same always most root key kind fail answer new (ChangeTwo two r) h new' t h' =
+PhaseStepped number same always most why root key kind fail answer new (ChangeTwo two r) h new' t h' =
     (new' ≡ None) × ChangedTwo number key new two two.change h h' × (t ≡ after_change two r two.change)
-PhaseStepped number same always most root key kind fail answer new (Obsolete n p r) h new' t h' =
+PhaseStepped number same always most why root key kind fail answer new (Obsolete n p r) h new' t h' =
     (new' ≡ new) × ObsoleteGives h (number n) h' × (t ≡ quiet (Retire n p r))
-PhaseStepped number same always most root key kind fail answer new (Retire n p r) h new' t h' =
+PhaseStepped number same always most why root key kind fail answer new (Retire n p r) h new' t h' =
     (new' ≡ new) × RetireGives h (number n) h' × (t ≡ quiet (Unlock p r))
-PhaseStepped number same always most root key kind fail answer new (UnlockBelow n p r) h new' t h' =
+PhaseStepped number same always most why root key kind fail answer new (UnlockBelow n p r) h new' t h' =
     (new' ≡ new) × UnlockGives h (number n) h' × (t ≡ quiet (Unlock p r))
-PhaseStepped number same always most root key kind fail answer new (Unlock n r) h new' t h' =
+PhaseStepped number same always most why root key kind fail answer new (Unlock n r) h new' t h' =
     (new' ≡ new) × UnlockGives h (number n) h' × (t ≡ finished r)
-PhaseStepped number same always most root key kind fail answer new (Unwind n e) h new' t h' =
+PhaseStepped number same always most why root key kind fail answer new (Unwind n e) h new' t h' =
     (new' ≡ new) × UnlockGives h (number n) h' × (t ≡ unwound root e)
-PhaseStepped {C} {V} number same always most root key kind fail answer new (Sweep s) h new' t h' =
+PhaseStepped {C} {V} number same always most why root key kind fail answer new (Sweep s) h new' t h' =
     (h' ≡ h) × (new' ≡ new) × ((s' : Scan C V) × (o : Told V) × SweepStepped number always root s h s' o × (t ≡ swept s' o))
-PhaseStepped number same always most root key kind fail answer new Ended h new' t h' =
+PhaseStepped number same always most why root key kind fail answer new Ended h new' t h' =
     (h' ≡ h) × (new' ≡ new) × (t ≡ quiet Ended)
 
 -- a step of a call
-pub record Stepped {C V : Type 0} (number : C → ℕ) (same : V → V → Bool) (always : Bool) (most : ℕ) (m : Machine C V) (h : ℕ → Node V)
+pub record Stepped {C V : Type 0} (number : C → ℕ) (same : V → V → Bool) (always : Bool) (most : ℕ) (why : NodeType → Refusal → Type 0) (m : Machine C V) (h : ℕ → Node V)
     (fail : Bool) (answer : Option (Option V)) (m' : Machine C V) (h' : ℕ → Node V) (d : Move V) : Type 0 where
   pub root : m'.root ≡ m.root
   pub key : m'.key ≡ m.key
   pub kind : m'.kind ≡ m.kind
-  pub step : PhaseStepped number same always most m.root (key_bytes m.key) m.kind fail answer m.given m.phase h m'.given (record { phase = m'.phase; step = d }) h'
+  pub step : PhaseStepped number same always most why m.root (key_bytes m.key) m.kind fail answer m.given m.phase h m'.given (record { phase = m'.phase; step = d }) h'
 
 -- a phase in which a call marks, hands over or unlocks a node, or has ended
 abbrev pub Leaves : {C V : Type 0} → Phase C V → Type 0
@@ -462,10 +462,12 @@ MayChangeTwo number key None two _ h = ⊥
 MayChangeTwo number key (Some v) two (Grow c) h = Changeable (h (number two.above.seat.node)) two.above.byte (Below (number c))
     × Stands (h (number two.at.node)) × Blank (h (number c)) (h (number two.at.node)).count
     × (number two.above.seat.node ≢ number c) × (number two.at.node ≢ number c) × (number two.above.seat.node ≢ number two.at.node)
+    × HoldsAlike (h (number two.at.node))
 MayChangeTwo number key (Some v) two (GrowLink c leaf byte) h = Changeable (h (number two.above.seat.node)) two.above.byte (Below (number c))
     × Stands (h (number two.at.node)) × Blank (h (number c)) (h (number two.at.node)).count × Blank (h (number leaf)) 0
     × (number two.above.seat.node ≢ number c) × (number two.at.node ≢ number c) × (number two.above.seat.node ≢ number two.at.node)
     × (number two.above.seat.node ≢ number leaf) × (number two.at.node ≢ number leaf) × (number c ≢ number leaf)
+    × HoldsAlike (h (number two.at.node))
 MayChangeTwo number key (Some v) two (Split top leaf common byte) h = Changeable (h (number two.above.seat.node)) two.above.byte (Below (number top))
     × Blank (h (number top)) 1 × Blank (h (number leaf)) 0 × (common < 7) × (byte ≢ slice_index key common)
     × (number two.above.seat.node ≢ number top) × (number two.above.seat.node ≢ number leaf) × (number top ≢ number leaf)

@@ -16,7 +16,7 @@ abbrev pub LeastTruly : {C V : Type 0} → (C → ℕ) → Node V → ℕ → �
 LeastTruly number n from last least.Nothing = (q : ℕ) → from ≤ q → q ≤ last → n.children q ≡ Nothing
 LeastTruly number n from last (least.Node byte c) = IsLeast n from last byte (Below (number c))
 LeastTruly number n from last (least.Value byte v) = IsLeast n from last byte (Holds v)
-LeastTruly number n from last least.Uncopied = Unit {0}
+LeastTruly {C} {V} number n from last least.Uncopied = (byte : ℕ) × (v : V) × IsLeast n from last byte (Holds v)
 
 -- a byte has eight bits, and a copy fails only where copies may
 abbrev pub IsAny : {C V : Type 0} → Bool → Least C V → Type 0

@@ -2,6 +2,8 @@
 ghost use Rattle.std.specs.Prelude.{◌≡◌};
 ghost use Rattle.std.specs.Vec.{vec_len};
 ghost use Rattle.std.proofs.Math.ListN.{take};
+ghost use Rattle.congee.specs.Bounds.{Within};
+ghost use Rattle.congee.specs.Causes.{RefusesAt};
 ghost use Rattle.congee.specs.Destroys.{Spares};
 ghost use Rattle.congee.specs.Play.{Begins, Protocol, Plays, StepPlays};
 
@@ -37,9 +39,13 @@ pub fn play<C: NodeName + Drop, P: Payload, S: Store<C, P>>(
     machines: &mut [Machine<C, P>],
     steps: Vec<Step<C, P>>,
 ) -> Played<P>
-    requires { Begins C.number (S.heap store.old) machines.old }
+    requires begins { Begins C.number (S.heap store.old) machines.old }
+    requires within { Within (S.version_max store.old) (S.heap store.old) }
     ensures done { result.done ≡ vec_len result.moves }
-    ensures run { Plays C.number P.same_as P.always_copies (S.heap store.old) machines.old (take result.done steps.items) result.moves.items (S.heap store.new) machines.new }
+    ensures limit { S.version_max store.new ≡ S.version_max store.old }
+    ensures rest { S.rest store.new ≡ S.rest store.old }
+    ensures within { Within (S.version_max store.new) (S.heap store.new) }
+    ensures run { Plays C.number P.same_as P.always_copies (S.version_max store.old) (RefusesAt S.heap S.version_max S.rest S.refuses store.old) (S.heap store.old) machines.old (take result.done steps.items) result.moves.items (S.heap store.new) machines.new }
     ensures spares { Spares C.number P.same_as P.always_copies (S.heap store.new) machines.new }
 {
     let mut moves = Vec::new(alloc);
@@ -61,9 +67,12 @@ pub fn step_of<C: NodeName + Drop, P: Payload, S: Store<C, P>>(
     machines: &mut [Machine<C, P>],
     step: Step<C, P>,
 ) -> Move<P>
-    requires { Protocol C.number P.same_as P.always_copies (S.heap store.old) machines.old }
-    ensures plays { StepPlays C.number P.same_as P.always_copies (S.heap store.old) machines.old step result (S.heap store.new) machines.new }
+    requires protocol { Protocol C.number P.same_as P.always_copies (S.heap store.old) machines.old }
+    requires within { Within (S.version_max store.old) (S.heap store.old) }
+    ensures limit { S.version_max store.new ≡ S.version_max store.old }
     ensures rest { S.rest store.new ≡ S.rest store.old }
+    ensures within { Within (S.version_max store.new) (S.heap store.new) }
+    ensures plays { StepPlays C.number P.same_as P.always_copies (S.version_max store.old) (S.refuses store.old) (S.heap store.old) machines.old step result (S.heap store.new) machines.new }
 {
     let Step { who, noise } = step;
     if who < machines.len() {

@@ -18,6 +18,7 @@ mod drainer;
 mod edit;
 mod index;
 mod indexed;
+mod laws;
 mod machine;
 mod masked;
 pub mod node16;

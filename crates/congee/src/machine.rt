@@ -1,17 +1,19 @@
 //! One call on a shared tree, as a machine that takes one step at a time.
-ghost use Rattle.std.specs.Prelude.{◌≡◌, ◌≢◌, ℕ, ◌+◌, ◌<◌, ◌≤◌, Bool, true, false, Option, None, Some, Result, List, [], ◌∷◌, ◌++◌};
+ghost use Rattle.std.specs.Prelude.{◌≡◌, ◌≢◌, ℕ, ◌+◌, ◌<◌, ◌≤◌, Bool, true, false, Option, None, Some, Result, IfErr, List, [], ◌∷◌, ◌++◌};
 ghost use Rattle.congee.specs.Heap.{Node, Nothing, Below, Stands, is_taken, version_of};
 ghost use Rattle.congee.specs.Answers.{KeepsProtocol};
 ghost use Rattle.congee.specs.Names.{KeepsOrigin};
 ghost use Rattle.congee.specs.Play.{begun, IsNew, Begins};
 ghost use Rattle.congee.specs.Opening.{RootAlone};
 ghost use Rattle.congee.specs.Keys.{key_bytes};
-ghost use Rattle.congee.specs.Steps.{quiet, answered, refused, decided, after_change, after_miss, IsIf, IsChecked, IsAtOld, Acts, Leaves, IsGiven, IsGivenNew, BackOne, BackTwo, BackLeaf, MadeLeaf, MadeGreater, MadeTop, MadeBeside, UpgradedOne, UpgradedAbove, UpgradedBoth, value_hung, ChangedOne, ChangedTwo, IsCheckedAbove, MayStep, MayBackOne, MayBackTwo, MayBackLeaf, MayChangeOne, MayChangeTwo, Changeable, Blank, PutsGreater, PutsFork, PhaseStepped, Stepped};
-ghost use Rattle.congee.specs.Events.{hung, upgrade_gives};
+ghost use Rattle.congee.specs.Steps.{quiet, answered, form_above, refused, decided, after_change, after_miss, IsIf, IsChecked, IsAtOld, Acts, Leaves, IsGiven, IsGivenNew, BackOne, BackTwo, BackLeaf, MadeLeaf, MadeGreater, MadeTop, MadeBeside, UpgradedOne, UpgradedAbove, UpgradedBoth, value_hung, ChangedOne, ChangedTwo, IsCheckedAbove, MayStep, MayBackOne, MayBackTwo, MayBackLeaf, MayChangeOne, MayChangeTwo, Changeable, Blank, PutsGreater, PutsFork, PhaseStepped, Stepped};
+ghost use Rattle.congee.specs.Events.{hung, upgrade_gives, HoldsAlike};
 ghost use Rattle.congee.specs.declared.store.Upgrade.{Upgrade};
 ghost use Rattle.congee.specs.declared.store.Refusal.{Refusal};
 ghost use Rattle.congee.specs.declared.store.Refusal.TheVariants as refusal;
 ghost use Rattle.congee.specs.declared.phase.Phase.TheVariants as phase;
+ghost use Rattle.congee.specs.declared.base_node.NodeType.TheVariants as base;
+ghost use Rattle.congee.specs.Bounds.{Within};
 
 use crate::base_node::NodeType;
 use crate::child::Child;
@@ -94,10 +96,12 @@ impl<C: NodeName, P: Payload> Machine<C, P> {
 
     /// The next step of the call.
     pub fn next<S: Store<C, P>>(&mut self, store: &mut S, mut noise: Noise<C, P>) -> Move<P>
-        requires { MayStep C.number (key_bytes self.old.key) self.old.given self.old.phase (S.heap store.old) }
+        requires may { MayStep C.number (key_bytes self.old.key) self.old.given self.old.phase (S.heap store.old) }
+        requires within { Within (S.version_max store.old) (S.heap store.old) }
         ensures limit { S.version_max store.new ≡ S.version_max store.old }
         ensures rest { S.rest store.new ≡ S.rest store.old }
-        ensures step { Stepped C.number P.same_as P.always_copies (S.version_max store.old) self.old (S.heap store.old) noise.fail noise.answer self.new (S.heap store.new) result }
+        ensures within { Within (S.version_max store.new) (S.heap store.new) }
+        ensures step { Stepped C.number P.same_as P.always_copies (S.version_max store.old) (S.refuses store.old) self.old (S.heap store.old) noise.fail noise.answer self.new (S.heap store.new) result }
         ensures keeps { KeepsProtocol C.number P.same_as P.always_copies self.old (S.heap store.old) self.new (S.heap store.new) result }
         ensures origin { KeepsOrigin C.number P.same_as P.always_copies self.old (S.heap store.old) self.new (S.heap store.new) }
     {
@@ -117,13 +121,14 @@ impl<C: NodeName, P: Payload> Machine<C, P> {
         phase: Phase<C, P>,
         noise: &mut Noise<C, P>,
     ) -> Turn<C, P>
-        requires { MayStep C.number (key_bytes self.old.key) self.old.given phase (S.heap store.old) }
+        requires may { MayStep C.number (key_bytes self.old.key) self.old.given phase (S.heap store.old) }
+        requires within { Within (S.version_max store.old) (S.heap store.old) }
         ensures root { self.new.root ≡ self.old.root }
         ensures key { self.new.key ≡ self.old.key }
         ensures kind { self.new.kind ≡ self.old.kind }
         ensures limit { S.version_max store.new ≡ S.version_max store.old }
         ensures rest { S.rest store.new ≡ S.rest store.old }
-        ensures step { PhaseStepped C.number P.same_as P.always_copies (S.version_max store.old) self.old.root (key_bytes self.old.key) self.old.kind noise.old.fail noise.old.answer self.old.given phase (S.heap store.old) self.new.given result (S.heap store.new) }
+        ensures step { PhaseStepped C.number P.same_as P.always_copies (S.version_max store.old) (S.refuses store.old) self.old.root (key_bytes self.old.key) self.old.kind noise.old.fail noise.old.answer self.old.given phase (S.heap store.old) self.new.given result (S.heap store.new) }
     {
         match phase {
             Phase::New => Turn::again(self.root),
@@ -159,12 +164,13 @@ impl<C: NodeName, P: Payload> Machine<C, P> {
     fn act<S: Store<C, P>>(&mut self, store: &mut S, phase: Phase<C, P>, fail: bool) -> Turn<C, P>
         requires may { MayStep C.number (key_bytes self.old.key) self.old.given phase (S.heap store.old) }
         requires acts { Acts phase }
+        requires within { Within (S.version_max store.old) (S.heap store.old) }
         ensures root { self.new.root ≡ self.old.root }
         ensures key { self.new.key ≡ self.old.key }
         ensures kind { self.new.kind ≡ self.old.kind }
         ensures limit { S.version_max store.new ≡ S.version_max store.old }
         ensures rest { S.rest store.new ≡ S.rest store.old }
-        ensures step { (answer : Option (Option P)) → PhaseStepped C.number P.same_as P.always_copies (S.version_max store.old) self.old.root (key_bytes self.old.key) self.old.kind fail answer self.old.given phase (S.heap store.old) self.new.given result (S.heap store.new) }
+        ensures step { (answer : Option (Option P)) → PhaseStepped C.number P.same_as P.always_copies (S.version_max store.old) (S.refuses store.old) self.old.root (key_bytes self.old.key) self.old.kind fail answer self.old.given phase (S.heap store.old) self.new.given result (S.heap store.new) }
     {
         match phase {
             Phase::MakeLeaf { site } => self.make_leaf(store, site),
@@ -198,9 +204,10 @@ impl<C: NodeName, P: Payload> Machine<C, P> {
     fn leave<S: Store<C, P>>(&self, store: &mut S, phase: Phase<C, P>) -> Turn<C, P>
         requires may { MayStep C.number (key_bytes self.now.key) self.now.given phase (S.heap store.old) }
         requires leaves { Leaves phase }
+        requires within { Within (S.version_max store.old) (S.heap store.old) }
         ensures limit { S.version_max store.new ≡ S.version_max store.old }
         ensures rest { S.rest store.new ≡ S.rest store.old }
-        ensures step { (fail : Bool) (answer : Option (Option P)) → PhaseStepped C.number P.same_as P.always_copies (S.version_max store.old) self.now.root (key_bytes self.now.key) self.now.kind fail answer self.now.given phase (S.heap store.old) self.now.given result (S.heap store.new) }
+        ensures step { (fail : Bool) (answer : Option (Option P)) → PhaseStepped C.number P.same_as P.always_copies (S.version_max store.old) (S.refuses store.old) self.now.root (key_bytes self.now.key) self.now.kind fail answer self.now.given phase (S.heap store.old) self.now.given result (S.heap store.new) }
     {
         match phase {
             Phase::Obsolete { node, above, reply } => {
@@ -322,7 +329,7 @@ impl<C: NodeName, P: Payload> Machine<C, P> {
     fn make_leaf<S: Store<C, P>>(&self, store: &mut S, site: Site<C>) -> Turn<C, P>
         ensures limit { S.version_max store.new ≡ S.version_max store.old }
         ensures rest { S.rest store.new ≡ S.rest store.old }
-        ensures made { ((r : Result C Refusal) × MadeLeaf C.number self.now.kind site (S.heap store.old) (key_bytes self.now.key) r (S.heap store.new) result) }
+        ensures made { ((r : Result C Refusal) × MadeLeaf C.number self.now.kind site (S.heap store.old) (key_bytes self.now.key) r (S.heap store.new) result × IfErr r (S.refuses store.old base.N4)) }
     {
         match store.make(NodeType::N4, &self.key.to_be_bytes(), 7) {
             Err(refusal) => Turn::refused(refusal),
@@ -341,7 +348,7 @@ impl<C: NodeName, P: Payload> Machine<C, P> {
         requires stands { MayBackLeaf C.number (S.heap store.old) leaf }
         ensures limit { S.version_max store.new ≡ S.version_max store.old }
         ensures rest { S.rest store.new ≡ S.rest store.old }
-        ensures made { ((r : Result C Refusal) × MadeGreater C.number self.now.kind site above leaf (S.heap store.old) (key_bytes self.now.key) r (S.heap store.new) result) }
+        ensures made { ((r : Result C Refusal) × MadeGreater C.number self.now.kind site above leaf (S.heap store.old) (key_bytes self.now.key) r (S.heap store.new) result × IfErr r (S.refuses store.old (form_above site.count))) }
     {
         let form = NodeType::above(site.count);
         match store.make(form, &self.key.to_be_bytes(), site.depth) {
@@ -375,7 +382,7 @@ impl<C: NodeName, P: Payload> Machine<C, P> {
         requires { common < 7 }
         ensures limit { S.version_max store.new ≡ S.version_max store.old }
         ensures rest { S.rest store.new ≡ S.rest store.old }
-        ensures made { ((r : Result C Refusal) × MadeTop C.number above at common byte (S.heap store.old) (key_bytes self.now.key) r (S.heap store.new) result) }
+        ensures made { ((r : Result C Refusal) × MadeTop C.number above at common byte (S.heap store.old) (key_bytes self.now.key) r (S.heap store.new) result × IfErr r (S.refuses store.old base.N4)) }
     {
         match store.make(NodeType::N4, &self.key.to_be_bytes(), common) {
             Err(refusal) => Turn::refused(refusal),
@@ -401,7 +408,7 @@ impl<C: NodeName, P: Payload> Machine<C, P> {
         requires { Stands (S.heap store.old (C.number top)) }
         ensures limit { S.version_max store.new ≡ S.version_max store.old }
         ensures rest { S.rest store.new ≡ S.rest store.old }
-        ensures made { ((r : Result C Refusal) × MadeBeside C.number self.now.kind above at common byte top (S.heap store.old) (key_bytes self.now.key) r (S.heap store.new) result) }
+        ensures made { ((r : Result C Refusal) × MadeBeside C.number self.now.kind above at common byte top (S.heap store.old) (key_bytes self.now.key) r (S.heap store.new) result × IfErr r (S.refuses store.old base.N4)) }
     {
         match store.make(NodeType::N4, &self.key.to_be_bytes(), 7) {
             Err(refusal) => {
@@ -654,6 +661,7 @@ fn put_greater<C: NodeName, P: Payload, S: Store<C, P>>(
     requires beside { C.number two.at.node ≢ C.number greater }
     requires apart { C.number two.above.seat.node ≢ C.number two.at.node }
     requires hangs { hung C.number child ≢ Nothing }
+    requires alike { HoldsAlike (S.heap store.old (C.number two.at.node)) }
     ensures limit { S.version_max store.new ≡ S.version_max store.old }
     ensures rest { S.rest store.new ≡ S.rest store.old }
     ensures put { PutsGreater C.number two greater byte (hung C.number child) (S.heap store.old) (S.heap store.new) }

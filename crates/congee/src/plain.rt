@@ -1,11 +1,13 @@
 //! A store that is a plain list of nodes, none of which is ever taken away.
 ghost use Rattle.std.specs.Prelude.{◌≡◌, ℕ, ◌+◌, ◌-◌, ◌^◌, ◌<◌, ◌≤◌, Bool, true, false, IfOk, map};
 ghost use Rattle.congee.specs.Opening.{RootAlone, FreshRoot};
+ghost use Rattle.congee.specs.Bounds.{Within};
 ghost use Rattle.congee.specs.Heap.{Node, Stands, is_taken};
 ghost use Rattle.congee.specs.Play.{Begins, begun};
 ghost use Rattle.std.specs.Vec.{vec_len};
 ghost use Rattle.congee.specs.Events.{hung, ReadGives, UpgradeGives, MayChange, ChangeGives};
 ghost use Rattle.congee.specs.SweepEvents.{LeastGives};
+ghost use Rattle.congee.specs.Seeing.{ReadSees, LeastSees};
 
 use crate::base_node::NodeType;
 use crate::child::Child;
@@ -18,6 +20,8 @@ use std::vec::Vec;
 
 impl NodeName for usize {
     ghost number = { λ n. n };
+
+    ghost tells = { λ c d e. e };
 }
 
 /// Nodes of words for one thread, each named by its place in the list. A node that is given back or retired stays
@@ -35,8 +39,10 @@ impl PlainStore {
 
     /// A store with a root alone, under the name 0, that nobody holds. So many nodes have room in it, the root not
     /// counted.
+    #[tactic(auto, using(crate::proofs::PlainHeaps::fresh_within))]
     pub fn new(alloc: Global, room: usize) -> Result<Self, AllocError>
-        ensures { IfOk result (λ s. FreshRoot (heap_of s.nodes.items)) }
+        ensures fresh { IfOk result (λ s. FreshRoot (heap_of s.nodes.items)) }
+        ensures within { IfOk result (λ s. Within (2 ^ 64 - 1) (heap_of s.nodes.items)) }
     {
         let root = PlainNode::new(alloc, NodeType::N256, &[0; 8], 0)?;
         let mut nodes = Vec::with_capacity(alloc, 1)?;
@@ -60,7 +66,7 @@ impl PlainStore {
 }
 
 impl Store<usize, u64> for PlainStore {
-    ghost use Rattle.congee.specs.PlainHeap.{heap_of};
+    ghost use Rattle.congee.specs.PlainHeap.{heap_of, refuses_in};
 
     ghost heap = { λ s. heap_of s.nodes.items };
 
@@ -70,7 +76,7 @@ impl Store<usize, u64> for PlainStore {
 
     ghost rest = { λ s. s.room };
 
-    ghost refuses = { λ s form e. Unit {0} };
+    ghost refuses = { λ s form e. refuses_in s.nodes.items s.room e };
 
     fn version(&self, node: usize) -> Option<u64> {
         let node = &self.nodes[node];
@@ -88,7 +94,8 @@ impl Store<usize, u64> for PlainStore {
         seen: Option<Seen<usize, u64>>,
     ) -> Reading<usize, u64>
         requires { Stands (heap_of self.now.nodes.items at.node) }
-        ensures { ReadGives (λ n. n) true (heap_of self.now.nodes.items at.node) at.version key.now result }
+        ensures gives { ReadGives (λ n. n) true (heap_of self.now.nodes.items at.node) at.version key.now result }
+        ensures sees { ReadSees (heap_of self.now.nodes.items at.node) at.version seen result }
     {
         self.nodes[at.node].read(at.version, key, seen)
     }
@@ -105,7 +112,8 @@ impl Store<usize, u64> for PlainStore {
         seen: Option<Seen<usize, u64>>,
     ) -> Least<usize, u64>
         requires { Stands (heap_of self.now.nodes.items at.node) }
-        ensures { LeastGives (λ n. n) true (heap_of self.now.nodes.items at.node) at.version from last result }
+        ensures gives { LeastGives (λ n. n) true (heap_of self.now.nodes.items at.node) at.version from last result }
+        ensures sees { LeastSees (heap_of self.now.nodes.items at.node) at.version seen result }
     {
         self.nodes[at.node].least(at.version, from, last, seen)
     }

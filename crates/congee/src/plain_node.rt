@@ -104,6 +104,7 @@ impl PlainNode {
     ghost use Rattle.std.specs.Prelude.{Some};
     ghost use Rattle.congee.specs.Heap.{is_taken};
     ghost use Rattle.congee.specs.SweepEvents.{IsAny, LeastTruly, LeastGives};
+    ghost use Rattle.congee.specs.Seeing.{IsSeen, ReadSees, LeastSees};
     ghost use Rattle.congee.specs.PlainHeap.{node_of, IsFresh, IsTruly, HandsOver};
 
     /// An empty node on the key's way.
@@ -158,6 +159,7 @@ impl PlainNode {
         ensures byte { result.byte ≡ byte }
         ensures fits { result.byte < 256 }
         ensures truly { is_taken (node_of (Some self.now)) version ≡ true → IsTruly self.now byte result }
+        ensures sees { is_taken (node_of (Some self.now)) version ≡ false → IsSeen seen result }
     {
         if self.is_at(version) {
             let count = self.count();
@@ -186,7 +188,8 @@ impl PlainNode {
         key: &[u8; 8],
         seen: Option<Seen<usize, u64>>,
     ) -> Reading<usize, u64>
-        ensures { ReadGives (λ n. n) true (node_of (Some self.now)) version key.now result }
+        ensures gives { ReadGives (λ n. n) true (node_of (Some self.now)) version key.now result }
+        ensures sees { ReadSees (node_of (Some self.now)) version seen result }
     {
         match first_difference(self.prefix.as_slice(), key) {
             Some(common) => Reading::Differs {
@@ -209,7 +212,8 @@ impl PlainNode {
         last: u8,
         seen: Option<Seen<usize, u64>>,
     ) -> Least<usize, u64>
-        ensures { LeastGives (λ n. n) true (node_of (Some self.now)) version from last result }
+        ensures gives { LeastGives (λ n. n) true (node_of (Some self.now)) version from last result }
+        ensures sees { LeastSees (node_of (Some self.now)) version seen result }
     {
         if self.is_at(version) {
             return self.least_child(from, last);

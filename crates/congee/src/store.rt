@@ -4,6 +4,7 @@ ghost use Rattle.congee.specs.Heap.{Node, Stands, version_of, is_taken};
 ghost use Rattle.congee.specs.Events.{hung, ReadGives, UpgradeGives, MayChange, ChangeGives, MakeGives, TakesOver, TakeOverGives, BackGives, ObsoleteGives, RetireGives, UnlockGives};
 ghost use Rattle.congee.specs.Regions.{IsRegion};
 ghost use Rattle.congee.specs.SweepEvents.{LeastGives};
+ghost use Rattle.congee.specs.Seeing.{ReadSees, LeastSees};
 ghost use Rattle.std.specs.Prelude.{IfErr};
 
 use crate::base_node::NodeType;
@@ -14,6 +15,9 @@ use judge::Payload;
 pub trait NodeName: Copy {
     /// The number of a name.
     ghost number: { Self → ℕ };
+
+    /// It tells the name.
+    ghost tells: { (c d : Self) → number c ≡ number d → c ≡ d };
 }
 
 /// A node, and the version of its lock word that was taken.
@@ -126,10 +130,12 @@ pub trait Store<C: NodeName, P: Payload> {
         ensures { result ≡ version_of (heap self.now (C.number node)) };
 
     /// Compares the key with the node's prefix, and looks at the key's byte there. Of a node whose lock word
-    /// isn't the one that was taken, what hangs at the byte, and whether it is full, are any.
+    /// isn't the one that was taken, what hangs at the byte, whether it is full and how many children it has are what
+    /// `seen` says: no child, not full and none where it says nothing.
     fn read(&self, at: Seat<C>, key: &[u8; 8], seen: Option<Seen<C, P>>) -> Reading<C, P>
         requires { Stands (heap self.now (C.number at.node)) }
-        ensures { ReadGives C.number P.always_copies (heap self.now (C.number at.node)) at.version key.now result };
+        ensures gives { ReadGives C.number P.always_copies (heap self.now (C.number at.node)) at.version key.now result }
+        ensures sees { ReadSees (heap self.now (C.number at.node)) at.version seen result };
 
     /// The keys that begin with the node's prefix, which is fixed when the node is made.
     fn region(&self, node: C) -> Region
@@ -137,10 +143,11 @@ pub trait Store<C: NodeName, P: Payload> {
         ensures { IsRegion (heap self.now (C.number node)).prefix result.base result.depth };
 
     /// What hangs at the least byte from `from` to `last` that has a child. Of a node whose lock word isn't the one
-    /// that was taken it is any.
+    /// that was taken it is what `seen` says.
     fn least(&self, at: Seat<C>, from: u16, last: u8, seen: Option<Seen<C, P>>) -> Least<C, P>
         requires { Stands (heap self.now (C.number at.node)) }
-        ensures { LeastGives C.number P.always_copies (heap self.now (C.number at.node)) at.version from last result };
+        ensures gives { LeastGives C.number P.always_copies (heap self.now (C.number at.node)) at.version from last result }
+        ensures sees { LeastSees (heap self.now (C.number at.node)) at.version seen result };
 
     /// Whether the node's lock word is the one that was taken.
     fn check(&self, at: Seat<C>) -> bool
@@ -179,8 +186,8 @@ pub trait Store<C: NodeName, P: Payload> {
         ensures rest { rest self.new ≡ rest self.old }
         ensures gives { ChangeGives (heap self.old) (C.number node) byte (hung C.number child) (heap self.new) };
 
-    /// Gives an empty node that isn't in reach yet the children of another one. Values are moved; the names of
-    /// nodes stay in the old node too.
+    /// Gives an empty node that isn't in reach yet the children of another one, which holds values alone or nodes
+    /// alone. Values are moved; the names of nodes stay in the old node too.
     fn take_over(&mut self, old: C, node: C)
         requires stands_old { Stands (heap self.old (C.number old)) }
         requires stands { Stands (heap self.old (C.number node)) }
@@ -213,10 +220,11 @@ pub trait Store<C: NodeName, P: Payload> {
         ensures rest { rest self.new ≡ rest self.old }
         ensures gives { RetireGives (heap self.old) (C.number node) (heap self.new) };
 
-    /// Raises the version of a locked node by one, and frees its lock.
+    /// Raises the version of a locked node by one, and frees its lock. No version rises past the greatest.
     fn unlock(&mut self, node: C)
         requires stands { Stands (heap self.old (C.number node)) }
         requires locked { (heap self.old (C.number node)).locked ≡ true }
+        requires within { (heap self.old (C.number node)).version < version_max self.old }
         ensures limit { version_max self.new ≡ version_max self.old }
         ensures rest { rest self.new ≡ rest self.old }
         ensures gives { UnlockGives (heap self.old) (C.number node) (heap self.new) };

@@ -29,7 +29,7 @@ pub returns-in-Version-clause-step : goal.returns-in-Version-clause-step
 returns-in-Version-clause-step g c = rw (c.in-Version.is, ← c.version.ensures) (refl, refl, c.after_version.ensures)
 
 pub returns-in-Read-clause-step : goal.returns-in-Read-clause-step
-returns-in-Read-clause-step g c = rw (c.in-Read.is, ← c.to_be_bytes.ensures) (refl, refl, (c.read-reading.result, c.read-reading.ensures, c.after_read.ensures))
+returns-in-Read-clause-step g c = rw (c.in-Read.is, ← c.to_be_bytes.ensures) (refl, refl, (c.read-reading.result, c.read-reading.ensures.gives, c.after_read.ensures))
 
 pub returns-in-Confirm-clause-step : goal.returns-in-Confirm-clause-step
 returns-in-Confirm-clause-step g c = rw c.in-Confirm.is (refl, refl, c.confirm.ensures)

@@ -2,8 +2,8 @@ use Rattle.std.proofs.Common.{◌≡◌, refl, arith}
 use Rattle.congee.proofs.PlainHeaps.{seen_truly}
 use Rattle.congee.proofs.plain_node.PlainNode.read.Goals as goal
 
-pub returns-in-None : goal.returns-in-None
-returns-in-None c = let e : c.as_slice.result.now ≡ c.args.self.now.prefix = c.as_slice.ensures.bytes in (
+pub returns-in-None-clause-gives : goal.returns-in-None-clause-gives
+returns-in-None-clause-gives c = let e : c.as_slice.result.now ≡ c.args.self.now.prefix = c.as_slice.ensures.bytes in (
   rw (← e) c.in-None.ensures,
   c.len-depth.ensures.count,
   c.len-depth.ensures.fits,

@@ -10,7 +10,7 @@ returns-in-Enter g c = at_stage g.C.NodeName.number g.P.Payload.always_copies c.
 
 pub returns-in-Look : goal.returns-in-Look
 returns-in-Look g c = at_stage g.C.NodeName.number g.P.Payload.always_copies c.args.root c.args.self.now (stage.Look c.in-Look.rung) (g.S.Store.heap c.args.store.now) (c.go.new.self, c.go.result)
-    (search rules) (c.least-found.result, (rw (← c.last_byte-last.ensures) c.least-found.ensures), c.go.ensures)
+    (search rules) (c.least-found.result, (rw (← c.last_byte-last.ensures) c.least-found.ensures.gives), c.go.ensures)
 
 pub returns-in-Check : goal.returns-in-Check
 returns-in-Check g c = at_stage g.C.NodeName.number g.P.Payload.always_copies c.args.root c.args.self.now (stage.Check c.in-Check.rung c.in-Check.found) (g.S.Store.heap c.args.store.now) (c.check.new.self, c.check.result)
