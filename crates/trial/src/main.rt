@@ -20,5 +20,5 @@ use std::process::ExitCode;
 fn main(rt: HostRuntime) -> ExitCode {
     let mut reader = rt.reader();
     let mut writer = io::writer(&rt);
-    ExitCode::from(run::run(rt.alloc(), &mut reader, &mut writer))
+    run::exit(rt.alloc(), &mut reader, &mut writer)
 }

@@ -2,6 +2,7 @@
 ghost use Rattle.std.specs.Prelude.{◌≡◌, ◌+◌, ◌<◌, ◌≤◌, ℕ, List, Option, [], length, take, drop, IsNone, IfSome};
 ghost use Rattle.std.specs.Prelude.{IfOk, IfErr, OnOk, OnErr, vec_len};
 ghost use Rattle.std.specs.Io.KnownBytes.{Appends, Consumes, IsAtEnd, Keeps};
+ghost use Rattle.std.specs.Process.{exit_status};
 ghost use Rattle.trial.specs.declared.end.End.{End};
 ghost use Rattle.trial.specs.Script.{status_of, input_max, read_max};
 ghost use Rattle.trial.specs.Going.{Going, Ends, Ran, IsFresh, IsWritten};
@@ -10,6 +11,7 @@ use crate::end::End;
 use crate::script::Script;
 use std::alloc::{AllocError, Global};
 use std::io::{Read, Write};
+use std::process::ExitCode;
 
 /// The most bytes of a script.
 const INPUT_MAX: u64 = 16_777_216;
@@ -192,4 +194,12 @@ pub fn run<R: Read, W: Write>(alloc: Global, reader: &mut R, writer: &mut W) -> 
         Ok(mut chunk) => Program::new(alloc).run(reader, writer, &mut chunk).status(),
         Err(_) => End::Memory.status(),
     }
+}
+
+/// What the process ends with: the exit status of `run`.
+pub fn exit<R: Read, W: Write>(alloc: Global, reader: &mut R, writer: &mut W) -> ExitCode
+    ensures { (end : End) × (exit_status result ≡ status_of end)
+        × Ran (R.remaining reader.old) (R.remaining reader.new) (W.contents writer.old) (W.contents writer.new) end }
+{
+    ExitCode::from(run(alloc, reader, writer))
 }

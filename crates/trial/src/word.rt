@@ -51,10 +51,12 @@ impl Word {
     pub fn of(word: &[u8]) -> Word
         ensures { Reads word.now result }
     {
-        match (number(word), Keyword::of(word)) {
-            (Some(n), _) => Word::Number(n),
-            (None, Some(key)) => Word::Key(key),
-            (None, None) => Word::Other,
+        if let Some(n) = number(word) {
+            return Word::Number(n);
+        }
+        match Keyword::of(word) {
+            Some(key) => Word::Key(key),
+            None => Word::Other,
         }
     }
 }

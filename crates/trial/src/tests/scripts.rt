@@ -1,8 +1,9 @@
 //! Scripts and the replies that they print.
 
-use crate::run::run;
+use crate::run::{exit, run};
 use std::alloc::Global;
 use std::io::{self, ErrorKind, Read, Write};
+use std::process::ExitCode;
 use std::test::Fail;
 
 // The status, and what was printed.
@@ -163,6 +164,50 @@ impl Read for Faulty<'_> {
     }
 }
 
+// Gives a script by seven bytes a read, fails at one of its reads, and goes on after it.
+#[derive(Drop)]
+struct Hiccup<'a> {
+    script: &'a [u8],
+    calls: u64,
+    failed: bool,
+}
+
+impl Read for Hiccup<'_> {
+    fn read(&mut self, buf: &mut [u8]) -> io::Result<usize> {
+        if self.calls == 0 && !self.failed {
+            self.failed = true;
+            return Err(io::Error::from(ErrorKind::Interrupted));
+        }
+        self.calls = self.calls.saturating_sub(1);
+        let n = buf.len().min(7).min(self.script.len());
+        buf[..n].copy_from_slice(&self.script[..n]);
+        self.script = &self.script[n..];
+        Ok(n)
+    }
+}
+
+// Takes what it is given, and fails at one of its flushes.
+#[derive(Drop)]
+struct Unflushed {
+    taken: Vec<u8>,
+    flushes: u64,
+}
+
+impl Write for Unflushed {
+    fn write(&mut self, buf: &[u8]) -> io::Result<usize> {
+        self.taken.extend_from_slice(buf)?;
+        Ok(buf.len())
+    }
+
+    fn flush(&mut self) -> io::Result<()> {
+        if self.flushes == 0 {
+            return Err(io::Error::from(ErrorKind::Interrupted));
+        }
+        self.flushes -= 1;
+        Ok(())
+    }
+}
+
 // Takes five bytes a write, and fails at one of its writes.
 #[derive(Drop)]
 struct Stuck {
@@ -223,5 +268,59 @@ fn each_write_may_fail(rt: HostRuntime) -> Result<(), Fail> {
         assert_eq!(rt; status, if whole { 0 } else { 1 }, "at {calls}");
         assert!(rt; REPLIES.starts_with(writer.taken.as_slice()), "at {calls}");
     }
+    Ok(())
+}
+
+#[test]
+fn a_read_that_fails_is_the_last(rt: HostRuntime) -> Result<(), Fail> {
+    for calls in 0..9 {
+        let mut reader = Hiccup {
+            script: SCRIPT,
+            calls,
+            failed: false,
+        };
+        let mut printed = Vec::new(rt.alloc());
+        assert_eq!(rt; run(rt.alloc(), &mut reader, &mut printed), 1, "at {calls}");
+        assert_eq!(rt;
+            reader.script.len() as u64,
+            SCRIPT.len() as u64 - (7 * calls).min(SCRIPT.len() as u64),
+            "at {calls}"
+        );
+        assert!(rt; REPLIES.starts_with(printed.as_slice()), "at {calls}");
+    }
+    Ok(())
+}
+
+#[test]
+fn a_flush_that_fails_ends_a_script(rt: HostRuntime) -> Result<(), Fail> {
+    let mut reader = SCRIPT;
+    let mut writer = Unflushed {
+        taken: Vec::new(rt.alloc()),
+        flushes: 0,
+    };
+    assert_eq!(rt; run(rt.alloc(), &mut reader, &mut writer), 1);
+    assert_eq!(rt; writer.taken.as_slice(), REPLIES);
+    Ok(())
+}
+
+#[test]
+fn the_program_tells_its_end(rt: HostRuntime) -> Result<(), Fail> {
+    let table: [(&[u8], u8); 3] = [(SCRIPT, 0), (b"reg\nget 1\n", 2), (b"0 round 0", 2)];
+    for (script, status) in table {
+        let mut reader = script;
+        let mut printed = Vec::new(rt.alloc());
+        let ended = exit(rt.alloc(), &mut reader, &mut printed);
+        assert_eq!(rt; ended, ExitCode::from(status));
+    }
+    let mut hiccup = Hiccup {
+        script: SCRIPT,
+        calls: 2,
+        failed: false,
+    };
+    let mut printed = Vec::new(rt.alloc());
+    assert_eq!(rt;
+        exit(rt.alloc(), &mut hiccup, &mut printed),
+        ExitCode::FAILURE
+    );
     Ok(())
 }
