@@ -1,3 +1,5 @@
+pub mod Sealing
+pub mod Tellings
 pub mod Acts
 pub mod CellWrites
 pub mod Endings

@@ -271,7 +271,7 @@ module _ {J : Type 0} where
 
   record First (w : ℕ) (op : Op) (p : Participant J) : Type 0 where
     pub on : outcome_at p.phase ≡ Running → IsOn op p
-    pub few : left_in w p.phase (length p.hand) ≤ w + 534
+    pub few : left_in w p.phase (length p.hand) ≤ w + 526
 
   first_pin : (w : ℕ) (p : Participant J) (b : Bool) → p.registered ≡ true → p.phase ≡ Idle → First w O.Pin (if b then record p { phase = Look } else record p { guards = p.guards + 1 })
   first_pin w p true reg is = record { on = λ r. (reg, refl); few = omega arith }
@@ -507,9 +507,9 @@ module _ {T J : Type 0} where
       let at : place (begun s who op) who ≡ begun_at op (place s who) = get_or-set_same s.table who (begun_at op (place s who)) blank lt in
       let f = first (length s.table) op (place s who) k.0 idle in
       let P : Participant J → Type 0 = λ p. outcome_at p.phase ≡ Running → IsOn op p in
-      let Q : Participant J → Type 0 = λ p. left_in (length (begun s who op).table) p.phase (length p.hand) ≤ length s.table + 534 in
+      let Q : Participant J → Type 0 = λ p. left_in (length (begun s who op).table) p.phase (length p.hand) ≤ length s.table + 526 in
       let S : Participant J → Type 0 = λ p. Secures op (place s who) p in
-      let few : left_in (length (begun s who op).table) (begun_at op (place s who)).phase (length (begun_at op (place s who)).hand) ≤ length s.table + 534 = rw (length-set s.table who (begun_at op (place s who))) f.few in
+      let few : left_in (length (begun s who op).table) (begun_at op (place s who)).phase (length (begun_at op (place s who)).hand) ≤ length s.table + 526 = rw (length-set s.table who (begun_at op (place s who))) f.few in
       (why, subst P (sym at) f.on is, subst Q (sym at) few, subst S (sym at) (begun_secures op (place s who)))
 
   begun_done : (s : State T J) (who : ℕ) (op : Op) (e : Option Fault) → refusal s who op ≡ e → IsOutcome s who (Begin op) e Done → Begins s who op Done (begun s who op)

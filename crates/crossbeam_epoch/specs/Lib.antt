@@ -18,3 +18,4 @@ pub mod FacePointer
 pub mod FaceQueue
 pub mod FaceSlots
 pub mod Roots
+pub mod Sealing

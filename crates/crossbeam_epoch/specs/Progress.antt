@@ -120,25 +120,25 @@ Secures _ p p' = Unit {0}
 
 -- steps that a collection takes at most, once it has taken so many bags
 abbrev pub left_after : ℕ → ℕ
-left_after bags = 1 + 66 * (8 - bags)
+left_after bags = 1 + 65 * (8 - bags)
 
 -- steps that a call takes at most from here on, in a table of so many places, with so many jobs in hand
 abbrev pub left_in : ℕ → Phase → ℕ → ℕ
 left_in places P.Idle hand = 0
-left_in places P.Look hand = places + 534
-left_in places (P.Publish seen) hand = places + 533
+left_in places P.Look hand = places + 526
+left_in places (P.Publish seen) hand = places + 525
 left_in places P.RepinLook hand = 2
 left_in places (P.RepinPublish seen) hand = 1
-left_in places P.Seal hand = places + 534
-left_in places (P.Queue seal) hand = places + 533
+left_in places P.Seal hand = places + 526
+left_in places (P.Queue seal) hand = places + 525
 left_in places P.ReleaseSeal hand = 2
 left_in places (P.ReleaseQueue seal) hand = 1
 left_in places (P.Secure n) hand = 3
 left_in places P.SecureSeal hand = 2
 left_in places (P.SecureQueue seal) hand = 1
-left_in places P.Load hand = places + 532
-left_in places (P.Inspect seen at) hand = (places - at) + 531
-left_in places (P.Advance seen) hand = 530
+left_in places P.Load hand = places + 524
+left_in places (P.Inspect seen at) hand = (places - at) + 523
+left_in places (P.Advance seen) hand = 522
 left_in places (P.Take answered bags) hand = left_after bags
 left_in places (P.Call answered bags seal) hand = hand + left_after bags
 
@@ -153,7 +153,7 @@ refusal s who op = if (place s who).registered then begin_fault op (place s who)
 abbrev pub Begins : {T J : Type 0} → State T J → ℕ → Op → Outcome → State T J → Type 0
 Begins s who op (Refused f) s' = (refusal s who op ≡ Some f) × (s' ≡ s)
 Begins s who op Done s' = (refusal s who op ≡ None) × ((place s' who).phase ≡ P.Idle)
-Begins s who op Running s' = (refusal s who op ≡ None) × IsOn op (place s' who) × (steps_left s' who ≤ length s.table + 534) × Secures op (place s who) (place s' who)
+Begins s who op Running s' = (refusal s who op ≡ None) × IsOn op (place s' who) × (steps_left s' who ≤ length s.table + 526) × Secures op (place s who) (place s' who)
 
 -- only these calls queue a bag of their own
 abbrev pub queues : Op → Bool

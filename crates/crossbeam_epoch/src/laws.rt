@@ -4,13 +4,14 @@ ghost use Rattle.std.specs.Prelude.{◌≡◌, ◌≢◌, ◌⊎◌, ◌<◌, �
 ghost use Rattle.crossbeam_epoch.specs.declared.names.Name.{Name};
 ghost use Rattle.crossbeam_epoch.specs.declared.names.Ptr.{Ptr};
 ghost use Rattle.crossbeam_epoch.specs.Machine.{State, place, opened, registered, deferred, after_deferral, with_store, with_roots, name_of};
-ghost use Rattle.crossbeam_epoch.specs.Store.{Store, Sets, IsNext, value_at, was_given, placed, replaced, emptied};
+ghost use Rattle.crossbeam_epoch.specs.Sealing.{IsSealing, TellsOnce, destructions};
+ghost use Rattle.crossbeam_epoch.specs.Store.{Store, Sets, IsNext, opened_store, value_at, was_given, placed, replaced, emptied};
 ghost use Rattle.crossbeam_epoch.specs.History.{Mark, IsGraceful, AreCalledLater, WasDeferred, Deferred, began, calls, deferrals};
 ghost use Rattle.crossbeam_epoch.specs.Fits.{Fits, held, jobs, weight};
 ghost use Rattle.crossbeam_epoch.specs.declared.report.Op.{Op};
 ghost use Rattle.crossbeam_epoch.specs.declared.report.Report.{Report};
 ghost use Rattle.crossbeam_epoch.specs.declared.report.Step.{Step};
-ghost use Rattle.crossbeam_epoch.specs.Steps.{after, marks, state_after, history_after, AreReports, IsReport};
+ghost use Rattle.crossbeam_epoch.specs.Steps.{after, marks, state_after, history_after, AreReports, IsReport, defer_fault};
 ghost use Rattle.crossbeam_epoch.specs.Log.{Noted, Stepped, Accepted, log_after, history_of, guards, Shows};
 ghost use Rattle.crossbeam_epoch.specs.Calls.{IsGoing, IsCall};
 ghost use Rattle.crossbeam_epoch.specs.Progress.{Orderly, Moves, Begins, IsOn, GoesOn, IsResting, Keeps, collects};
@@ -119,7 +120,29 @@ impl<T: Links + Pointable + Drop, J: Task> World<T, J> {
         ensures deferred { (s : State T J) (who : ℕ) (work : Work J) → who < length s.table → length (place s who).bag < 64 → Orderly s → Keeps s (deferred s who work) (λ f. f (record { ticket = s.next; work = work })) }
     {}
 
-    /// A call begins unless its first refusal stands. In flight it is at most 534 steps, and one for each place of the
+    /// No empty bag is queued, and no seal is past the epoch, after any list of steps and whatever calls came between them.
+    pub fn seals()
+        ensures opened { (limits : Limits) (roots : ℕ) → IsSealing {T = T} {J = J} (opened limits roots) }
+        ensures step { (h : List Mark) (s : State T J) (who : ℕ) (event : Event) (r : Report) → Fits h s → IsReport s who event r → IsSealing s → IsSealing (after s who event r.outcome) }
+        ensures run { (h : List Mark) (s : State T J) (steps : List Step) (reports : List Report) → Fits h s → AreReports s steps reports → IsSealing s → IsSealing (state_after s steps reports) }
+        ensures registered { (s : State T J) (n : ℕ) → n < length s.table → IsSealing s → IsSealing (registered s n) }
+        ensures deferred { (s : State T J) (who : ℕ) (work : Work J) → defer_fault s who ≡ None → IsSealing s → IsSealing (after_deferral s who work) }
+        ensures stored { (s : State T J) (st : Store T) (roots : List Ptr) → IsSealing s → IsSealing (with_roots (with_store s st) roots) }
+    {}
+
+    /// The destruction of a cell is told once at most, after any list of steps and whatever became of cells between them.
+    pub fn told()
+        ensures once { (h : List Mark) (st : Store T) (n : Name) → TellsOnce h st → destructions h n ≤ 1 }
+        ensures opened { (limits : Limits) → TellsOnce [] (opened_store {T = T} limits.cells limits.turn_max) }
+        ensures step { (h : List Mark) (s : State T J) (who : ℕ) (event : Event) (r : Report) → Orderly s → IsReport s who event r → TellsOnce h s.store → TellsOnce (marks s who event r h) (after s who event r.outcome).store }
+        ensures run { (h : List Mark) (s : State T J) (steps : List Step) (reports : List Report) → Orderly s → AreReports s steps reports → TellsOnce h s.store → Orderly (state_after s steps reports) × TellsOnce (history_after s steps reports h) (state_after s steps reports).store }
+        ensures placed { (h : List Mark) (st : Store T) (n : Name) (v : T) → IsNext st n → TellsOnce h st → TellsOnce h (placed st n v) }
+        ensures replaced { (h : List Mark) (st : Store T) (n : Name) (v : T) → is_some (value_at st n) ≡ true → TellsOnce h st → TellsOnce h (replaced st n.cell v) }
+        ensures given_back { (h : List Mark) (st : Store T) (n : Name) → is_some (value_at st n) ≡ true → TellsOnce h st → TellsOnce h (emptied st n.cell) }
+        ensures deferred { (h : List Mark) (st : Store T) (t : ℕ) (name : Option Name) → TellsOnce h st → TellsOnce (Deferred t name ∷ h) st }
+    {}
+
+    /// A call begins unless its first refusal stands. In flight it is at most 526 steps, and one for each place of the
     /// table, from its end, one less with each, and refused only for want of memory for its bag.
     pub fn progress()
         ensures begins { (s : State T J) (who : ℕ) (op : Op) (r : Report) → (place s who).phase ≡ Phase.Idle → IsReport s who (Event.Begin op) r → Begins s who op r.outcome (after s who (Event.Begin op) r.outcome) }

@@ -1,6 +1,6 @@
 //! The cells, and the values that stand in them.
 
-ghost use Rattle.std.specs.Prelude.{◌≡◌, ◌≢◌, ◌<◌, ℕ, true, is_some, vec_len, Some, None, MatchResult, MatchOption, IfOk, IfErr, slice_get, slice_set};
+ghost use Rattle.std.specs.Prelude.{◌≡◌, ◌≢◌, ◌<◌, ◌≤◌, [], ℕ, true, is_some, vec_len, Some, None, MatchResult, MatchOption, IfOk, IfErr, slice_get, slice_set};
 ghost use Rattle.crossbeam_epoch.specs.FaceSlots.{value_at, value_of, next_turn};
 ghost use Rattle.crossbeam_epoch.specs.declared.slots.Content.TheVariants.{Vacant, Stands, Lent};
 
@@ -37,7 +37,9 @@ pub struct Slots<T> {
 
 impl<T: Drop> Slots<T> {
     /// So many cells, whose room is made at once.
-    pub fn new(alloc: Global, cells: u32, turn_max: u32) -> Result<Slots<T>, AllocError> {
+    pub fn new(alloc: Global, cells: u32, turn_max: u32) -> Result<Slots<T>, AllocError>
+        ensures { IfOk result (λ s. (s.slots.items ≡ []) × (s.free.items ≡ []) × (s.cells ≡ cells) × (s.turn_max ≡ turn_max)) }
+    {
         let slots = Vec::with_capacity(alloc, cells as usize)?;
         let free = Vec::with_capacity(alloc, cells as usize)?;
         Ok(Slots {
@@ -120,10 +122,11 @@ impl<T: Drop> Slots<T> {
 
     /// Takes the value out for good, where it stands. The cell is free from then on, unless its turns are used up.
     pub fn remove(&mut self, name: Name) -> Option<Box<T>>
-        ensures { MatchOption result
+        ensures taken { MatchOption result
             ((value_of self.old.slots.items name ≡ None) × (self.new ≡ self.old))
             (λ b. (value_of self.old.slots.items name ≡ Some b.value)
             × (self.new.slots.items ≡ slice_set self.old.slots.items name.cell (record { turn = next_turn name.turn self.old.turn_max; content = Vacant }))) }
+        ensures spent { self.old.turn_max ≤ name.turn → self.new.free ≡ self.old.free }
     {
         if name.turn >= self.turn_max {
             return self.take(name, name.turn, Content::Vacant);

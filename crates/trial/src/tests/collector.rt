@@ -1,7 +1,8 @@
 //! Rows of the collector: calls in order, and beside each what it answers.
 
 use crossbeam_epoch::{
-    Event, Fault, Job, Limits, Links, Name, Op, OtherPointer, Outcome, Pointable, Ptr, Task, World,
+    Event, Fault, Job, Limits, Links, Name, Op, OtherPointer, Outcome, Pointable, Ptr, Step, Task,
+    World,
 };
 use std::alloc::{AllocError, Global};
 use std::marker::Send;
@@ -103,10 +104,16 @@ enum Act {
     Register,
     /// A whole call of a participant.
     Call(usize, Op),
+    /// A whole call by its own name: `flush` or `repin`.
+    Flush(usize),
+    Repin(usize),
     /// So many rounds of pin, flush and unpin of a participant.
     Rounds(usize, u32),
     /// So many deferrals of a job by a participant; the last one answers.
     Defer(usize, u32),
+    DeferUnchecked(usize),
+    /// Whether a participant has a free place: 1, or 0.
+    HasPlace(usize),
     DeferDestroy(usize, Name),
     Epoch,
     Waiting,
@@ -160,8 +167,12 @@ fn answer_of(world: &mut Jobs, act: Act) -> Answer {
     match act {
         Act::Register => register(world),
         Act::Call(who, op) => call(world, who, op),
+        Act::Flush(who) => ended(world.flush(who)),
+        Act::Repin(who) => ended(world.repin(who)),
         Act::Rounds(who, count) => rounds(world, who, count),
         Act::Defer(who, count) => defers(world, who, count),
+        Act::DeferUnchecked(who) => defer_unchecked(world, who),
+        Act::HasPlace(who) => Answer::Number(if world.has_place(who) { 1 } else { 0 }),
         Act::DeferDestroy(who, name) => defer_destroy(world, who, name),
         Act::Epoch => Answer::Number(world.epoch()),
         Act::Waiting => Answer::Number(world.waiting()),
@@ -223,6 +234,22 @@ fn defers(world: &mut Jobs, who: usize, count: u32) -> Answer {
         }
     }
     Answer::Done
+}
+
+fn defer_unchecked(world: &mut Jobs, who: usize) -> Answer {
+    match world.defer_unchecked(who, ()) {
+        Ok(ticket) => Answer::Number(ticket),
+        Err((fault, ())) => Answer::Refused(fault),
+    }
+}
+
+/// How a whole call ended.
+fn ended(outcome: Outcome) -> Answer {
+    match outcome {
+        Outcome::Running => Answer::Number(1000),
+        Outcome::Done => Answer::Done,
+        Outcome::Refused(fault) => Answer::Refused(fault),
+    }
 }
 
 fn defer_destroy(world: &mut Jobs, who: usize, name: Name) -> Answer {
@@ -329,6 +356,103 @@ fn full_bag_rows() -> [Row; 9] {
 fn a_full_bag_is_queued(rt: HostRuntime) -> Result<(), Fail> {
     let wrong = first_wrong_in_new(rt.alloc(), ample(1), &full_bag_rows())?;
     assert!(rt; wrong.is_none());
+    Ok(())
+}
+
+/// 2,177 jobs are 35 bags; each collection takes eight of them.
+fn many_bags_rows() -> [Row; 17] {
+    [
+        (Act::Register, Answer::Number(0)),
+        (Act::Call(0, Op::Pin), Answer::Done),
+        (Act::Defer(0, 2177), Answer::Done),
+        (Act::Call(0, Op::Unpin), Answer::Done),
+        (Act::Waiting, Answer::Number(2177)),
+        (Act::Rounds(0, 1), Answer::Done),
+        (Act::Waiting, Answer::Number(2177)),
+        (Act::Rounds(0, 1), Answer::Done),
+        (Act::Waiting, Answer::Number(1665)),
+        (Act::Rounds(0, 1), Answer::Done),
+        (Act::Waiting, Answer::Number(1153)),
+        (Act::Rounds(0, 1), Answer::Done),
+        (Act::Waiting, Answer::Number(641)),
+        (Act::Rounds(0, 1), Answer::Done),
+        (Act::Waiting, Answer::Number(129)),
+        (Act::Rounds(0, 1), Answer::Done),
+        (Act::Waiting, Answer::Number(0)),
+    ]
+}
+
+#[test]
+fn a_collection_takes_eight_bags(rt: HostRuntime) -> Result<(), Fail> {
+    let wrong = first_wrong_in_new(rt.alloc(), ample(1), &many_bags_rows())?;
+    assert!(rt; wrong.is_none());
+    Ok(())
+}
+
+/// A flush by its name seals the bag and collects; a repin by its name follows the epoch.
+fn whole_call_rows() -> [Row; 20] {
+    [
+        (Act::Register, Answer::Number(0)),
+        (Act::Flush(0), Answer::Refused(Fault::Unpinned)),
+        (Act::Repin(0), Answer::Refused(Fault::Unpinned)),
+        (Act::DeferUnchecked(0), Answer::Refused(Fault::Unpinned)),
+        (Act::HasPlace(0), Answer::Number(1)),
+        (Act::HasPlace(1), Answer::Number(0)),
+        (Act::Call(0, Op::Pin), Answer::Done),
+        (Act::Epoch, Answer::Number(1)),
+        (Act::Repin(0), Answer::Done),
+        (Act::DeferUnchecked(0), Answer::Number(0)),
+        (Act::Defer(0, 63), Answer::Done),
+        (Act::HasPlace(0), Answer::Number(0)),
+        (Act::Flush(0), Answer::Done),
+        (Act::HasPlace(0), Answer::Number(1)),
+        (Act::Epoch, Answer::Number(2)),
+        (Act::Waiting, Answer::Number(64)),
+        (Act::Repin(0), Answer::Done),
+        (Act::Flush(0), Answer::Done),
+        (Act::Epoch, Answer::Number(3)),
+        (Act::Waiting, Answer::Number(0)),
+    ]
+}
+
+#[test]
+fn whole_calls_by_their_names(rt: HostRuntime) -> Result<(), Fail> {
+    let wrong = first_wrong_in_new(rt.alloc(), ample(1), &whole_call_rows())?;
+    assert!(rt; wrong.is_none());
+    Ok(())
+}
+
+/// A first pin: look, publish, load, inspect, advance, take; then nothing is in flight.
+#[test]
+fn a_run_takes_every_step(rt: HostRuntime) -> Result<(), Fail> {
+    let mut world: Jobs = World::new(rt.alloc(), ample(1), 1)?;
+    world.register()?;
+    let pin = Step {
+        who: 0,
+        event: Event::Begin(Op::Pin),
+    };
+    let go = Step {
+        who: 0,
+        event: Event::Go,
+    };
+    let ran = world.run(rt.alloc(), &[pin, go, go, go, go, go, go, go]);
+    let running = Outcome::Running;
+    let expected = [
+        running,
+        running,
+        running,
+        running,
+        running,
+        running,
+        Outcome::Done,
+        Outcome::Refused(Fault::Idle),
+    ];
+    assert!(rt; ran.done == 8);
+    let mut right = ran.reports.len() == 8;
+    for (report, outcome) in ran.reports.iter().zip(expected.iter()) {
+        right &= report.outcome == *outcome && report.called.is_none();
+    }
+    assert!(rt; right && world.epoch() == 1 && world.is_pinned(0));
     Ok(())
 }
 
