@@ -204,6 +204,7 @@ impl<K: Word64, V: Word64, A: Allocator, D: Drop> Congee<K, V, A, D> {
     pub fn insert(&mut self, key: K, value: V) -> Result<Option<V>, OOMError>
         ensures answers { IfOk result (λ r. (before : Option ℕ) × (r ≡ option_map V.of_word before)
             × Answers nat_eq self.old self.new (call.Insert (K.word key) (V.word value)) (reply.Insert before)) }
+        ensures put { OnOk result (map.get self.new.pairs (K.word key) ≡ Some (V.word value)) }
         ensures keeps { Keeps A.charged_of A.limit_of self.old self.new }
         ensures unchanged { OnErr result (Unchanged self.old self.new) }
         ensures absent { OnErr result (map.get self.old.pairs (K.word key) ≡ None) }

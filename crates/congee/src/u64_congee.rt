@@ -50,6 +50,7 @@ impl<V: Word64, A: Allocator> U64Congee<V, A> {
     pub fn insert(&mut self, key: u64, value: V) -> Result<Option<V>, OOMError>
         ensures answers { IfOk result (λ r. (before : Option ℕ) × (r ≡ option_map V.of_word before)
             × Answers nat_eq self.old.tree self.new.tree (call.Insert key (V.word value)) (reply.Insert before)) }
+        ensures put { OnOk result (map.get self.new.tree.pairs key ≡ Some (V.word value)) }
         ensures keeps { Keeps A.charged_of A.limit_of self.old.tree self.new.tree }
         ensures unchanged { OnErr result (Unchanged self.old.tree self.new.tree) }
         ensures absent { OnErr result (map.get self.old.tree.pairs key ≡ None) }

@@ -58,3 +58,10 @@ returns-in-Ok-clause-bytes g c =
     let small : c.to_word.result < 2 ^ 64 = search rules in
     let w = ap (wants_at (heap_of c.self.inside.arena.nodes)) c.to_be_bytes-bytes.ensures ∙ sym (get_wants c.self.inside.arena.nodes c.to_word.result small) in
     rw (← c.self.view_is, ← c.to_word.ensures) (c.in-Ok.ensures.bytes ∙ ap (λ z. bytes_of c.self.inside.arena.nodes + gain_of z) w)
+
+pub returns-in-Ok-clause-put : goal.returns-in-Ok-clause-put
+returns-in-Ok-clause-put g c =
+    let small : c.to_word.result < 2 ^ 64 = search rules in
+    let Q : List ℕ → Type 0 = λ k. MapChange c.self.inside.arena.nodes c.insert.new.self.nodes k c.in-Ok.before (Some c.to_word-2.result) in
+    let change : MapChange c.self.inside.arena.nodes c.insert.new.self.nodes (key_bytes c.to_word.result) c.in-Ok.before (Some c.to_word-2.result) = subst Q c.to_be_bytes-bytes.ensures c.in-Ok.ensures.change in
+    rw (← c.to_word.ensures, ← c.to_word-2.ensures) (sym (get_pairs c.insert.new.self.nodes c.to_word.result small (Some c.to_word-2.result) (sym change.now)))
