@@ -38,6 +38,7 @@ pub mod Split
 pub mod Tables
 pub mod Tree
 pub mod Unlink
+pub mod Wanting
 pub mod Ways
 pub mod Touch
 pub mod Each

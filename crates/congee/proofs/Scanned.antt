@@ -1,6 +1,6 @@
 -- What the pair of the least key tells of a finite map.
 use Rattle.std.proofs.Common.{◌≡◌, ◌≢◌, ℕ, ◌≤◌, Bool, true, false, refl, sym, ap, ◌∙◌, arith}
-use Rattle.std.specs.Prelude.{Option, None, Some, MatchOption, IsTrue, ◌↔◌, is_some, not}
+use Rattle.std.specs.Prelude.{Option, None, Some, MatchOption, IsTrue, ◌↔◌, is_some, IsSome, not}
 use Rattle.std.specs.Ordering.{nat_cmp}
 use Rattle.std.specs.Cmp.{nat_cmp_total}
 use Rattle.std.specs.FinMap.{FinMap, get, empty, get-empty, same_map, nat_cmp-IsAntisymmetric}
@@ -19,3 +19,6 @@ module _ {V : Type 0} where
   empty_told m key value None false e h = absurd (cc e)
   empty_told m key value (Some r) true e h = absurd (cc e)
   empty_told m key value (Some r) false e h = (λ t. absurd (cc t), λ q. absurd (something_first m (key r) (value r) h q))
+
+  pub there_told : (o p : Option V) (b : Bool) → b ≡ is_some o → o ≡ p → IsTrue b ↔ IsSome p
+  there_told o p b t e = let u : b ≡ is_some p = t ∙ ap is_some e in (λ x. sym u ∙ x, λ x. u ∙ x)

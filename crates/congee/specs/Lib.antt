@@ -20,6 +20,8 @@ pub mod RoomLemmas
 pub mod Scan
 pub mod Sizes
 pub mod OwnedSteps
+pub mod Wanted
+pub mod Nearest
 pub mod Owners
 pub mod Table
 pub mod Events

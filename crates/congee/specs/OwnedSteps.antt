@@ -41,9 +41,9 @@ pub record Grows {P : Type 0} (s s' : Nodes P) (at : ℕ) (x : Node ℕ P) : Typ
   pub room : is_full_of node ≡ false
   pub updates : Updates s s' at (Some node)
 
--- why a node of so many bytes was refused
+-- why a node of so many bytes was refused: it doesn't fit the budget, or it does and there is no memory
 abbrev pub IsRefusal : ℕ → ℕ → ℕ → OOMError → Type 0
-IsRefusal charged wanted limit Memory = Unit {0}
+IsRefusal charged wanted limit Memory = charged + wanted ≤ limit
 IsRefusal charged wanted limit (Budget c w l) = (c ≡ charged) × (w ≡ wanted) × (l ≡ limit) × (limit < charged + wanted)
 
 -- a node that was made with this prefix, and has no children yet
@@ -73,11 +73,6 @@ pub record Forks {P : Type 0} (s s' : Nodes P) (name : ℕ) (prefix : List ℕ) 
 pub record IsHeld {P : Type 0} (s : Nodes P) (key : List ℕ) (at : ℕ) : Type 0 where
   pub value : P
   pub holds : child_for (heap_of s at) key ≡ Holds value
-
--- why no node was made: the budget is passed, by so much as was charged by then, or there is no memory
-abbrev pub IsOutOf : ℕ → ℕ → OOMError → Type 0
-IsOutOf charged limit Memory = Unit {0}
-IsOutOf charged limit (Budget c w l) = (charged ≤ c) × (l ≡ limit) × (limit < c + w)
 
 -- what stands at a key after an answer for a present key alone
 abbrev pub settled : {P : Type 0} → Option P → Option P → Option P

@@ -1,7 +1,6 @@
 -- The room that the nodes of an arena take.
 use Rattle.std.specs.Prelude.{ℕ, ◌+◌, List, [], ◌∷◌, Option, None, Some}
-use Rattle.congee.specs.Forms.{form_of, size_of, next_form}
-use Rattle.slab.specs.Slab.{get}
+use Rattle.congee.specs.Forms.{form_of, size_of}
 use Rattle.congee.specs.Arena.{Nodes}
 use Rattle.congee.specs.declared.base_node.Node.{Node}
 
@@ -18,11 +17,3 @@ module _ {P : Type 0} where
   -- the sum of the sizes of all nodes
   abbrev pub bytes_of : Nodes P → ℕ
   bytes_of s = bytes_in s.slots
-
-  -- the size of the form that a node grows to
-  abbrev pub next_bytes : Option (Node ℕ P) → ℕ
-  next_bytes None = 0
-  next_bytes (Some n) = size_of (next_form (form_of n))
-
-  abbrev pub next_size : Nodes P → ℕ → ℕ
-  next_size s at = next_bytes (get s at)

@@ -71,8 +71,10 @@ impl<P: Stored, A: Allocator> Arena<P, A> {
 
 impl<P: Stored, A: Allocator> Arena<P, A> {
     ghost use Rattle.congee.specs.Forms.{children_of, prefix_of, form_of, is_full_of, size_of};
+    ghost use Rattle.congee.specs.Arena.{heap_of};
     ghost use Rattle.congee.specs.OwnedSteps.{Sets, Makes, Grows, SameNodes, IsRefusal};
-    ghost use Rattle.congee.specs.Sizes.{bytes_of, next_size};
+    ghost use Rattle.congee.specs.Sizes.{bytes_of};
+    ghost use Rattle.congee.specs.Wanted.{IsRefusedOf, gain, room_for};
     ghost use Rattle.congee.specs.declared.base_node.Node.{Node as Form};
 
     // Puts a child under a free byte of a node that has room.
@@ -113,6 +115,7 @@ impl<P: Stored, A: Allocator> Arena<P, A> {
         requires { length prefix.now ≤ 7 }
         ensures made { IfOk result (λ name. Makes self.old.nodes self.new.nodes name prefix.now) }
         ensures charge { OnOk result (A.charged_of self.new.allocator ≡ A.charged_of self.old.allocator + 64) }
+        ensures fits { OnOk result (A.charged_of self.old.allocator + 64 ≤ A.limit_of self.old.allocator) }
         ensures same { OnErr result (SameNodes self.old.nodes self.new.nodes) }
         ensures unchanged { OnErr result (A.charged_of self.new.allocator ≡ A.charged_of self.old.allocator) }
         ensures limit { A.limit_of self.new.allocator ≡ A.limit_of self.old.allocator }
@@ -152,7 +155,8 @@ impl<P: Stored, A: Allocator> Arena<P, A> {
         ensures same { OnErr result (SameNodes self.old.nodes self.new.nodes) }
         ensures balance { A.charged_of self.new.allocator + bytes_of self.old.nodes ≡ A.charged_of self.old.allocator + bytes_of self.new.nodes }
         ensures limit { A.limit_of self.new.allocator ≡ A.limit_of self.old.allocator }
-        ensures refused { IfErr result (λ e. IsRefusal (A.charged_of self.old.allocator) (next_size self.old.nodes at) (A.limit_of self.old.allocator) e) }
+        ensures refused { IfErr result (λ e. IsRefusedOf (room_for (heap_of self.old.nodes at)) (A.charged_of self.old.allocator) (A.limit_of self.old.allocator) e) }
+        ensures grown { OnOk result (bytes_of self.new.nodes ≡ bytes_of self.old.nodes + gain (room_for (heap_of self.old.nodes at))) }
     {
         let node = &self.nodes[at];
         if !node.is_full() {

@@ -1,14 +1,15 @@
 //! The owned tree of words.
 ghost use Rattle.std.specs.Prelude.{◌≡◌, ◌+◌, ◌≤◌, ℕ, Option, None, Some, Ok, Err, IfOk, IfErr, IfSome, IfNone, OnOk, OnErr};
-ghost use Rattle.std.specs.Prelude.{IsTrue, ◌↔◌, nat_eq, length, take, drop, MatchOption};
+ghost use Rattle.std.specs.Prelude.{IsTrue, IsSome, ◌↔◌, nat_eq, length, take, drop, MatchOption};
 ghost use Rattle.std.specs.Option.{option_map};
 ghost use Rattle.std.specs.FinMap as map;
-ghost use Rattle.congee.specs.Bytes.{IsFirst};
+ghost use Rattle.congee.specs.Nearest.{Least, pair_by};
 ghost use Rattle.congee.specs.Content.{Answers, Keeps, Unchanged};
 ghost use Rattle.congee.specs.Drained.{Drained};
-ghost use Rattle.congee.specs.OwnedSteps.{IsOutOf, IsRefusal};
+ghost use Rattle.congee.specs.OwnedSteps.{IsRefusal};
 ghost use Rattle.congee.specs.Ranges.{by_bytes, in_range, keys_by};
-ghost use Rattle.congee.specs.Stats.{IsTally, root_alone};
+ghost use Rattle.congee.specs.Stats.{IsTally, capped, root_alone};
+ghost use Rattle.congee.specs.Wanted.{IsRefused, gain_of, freed_of, freed_by};
 ghost use Rattle.judge.specs.declared.journal.Call.TheVariants as call;
 ghost use Rattle.judge.specs.declared.journal.Reply.TheVariants as reply;
 
@@ -44,8 +45,9 @@ impl<K, V, A: Allocator, D> Model for Congee<K, V, A, D> {
     ghost use Rattle.congee.specs.Levels.{nodes_of};
     ghost use Rattle.congee.specs.Sizes.{bytes_of};
     ghost use Rattle.congee.specs.Table.{pairs_of};
+    ghost use Rattle.congee.specs.Wanted.{wants_of, lone_of};
 
-    ghost view = { λ t. record { pairs = pairs_of t.arena.nodes; nodes = nodes_of t.arena.nodes; bytes = bytes_of t.arena.nodes; allocator = t.arena.allocator; drainer = t.drainer } };
+    ghost view = { λ t. record { pairs = pairs_of t.arena.nodes; nodes = nodes_of t.arena.nodes; bytes = bytes_of t.arena.nodes; wants = wants_of t.arena.nodes; lone = lone_of t.arena.nodes; allocator = t.arena.allocator; drainer = t.drainer } };
 
     ghost invariant = { λ t. IsTree t.arena.nodes × (bytes_of t.arena.nodes ≤ A.charged_of t.arena.allocator) };
 }
@@ -76,6 +78,16 @@ fn number_of<V: Word64>(value: &Option<V>) -> Option<u64>
 {
     match value {
         Some(value) => Some(value.to_word()),
+        None => None,
+    }
+}
+
+// The pair of two numbers, if there is one.
+fn pair_of<K: Word64, V: Word64>(found: Option<(u64, u64)>) -> Option<(K, V)>
+    ensures { result ≡ option_map (pair_by K.of_word V.of_word) found }
+{
+    match found {
+        Some((key, value)) => Some((K::from_word(key), V::from_word(value))),
         None => None,
     }
 }
@@ -113,6 +125,8 @@ impl<K: Word64, V: Word64, A: Allocator, D: Drop> Congee<K, V, A, D> {
             (call.ComputePresent (K.word key.now) r.1) (reply.ComputePresent (Some (r.0, r.1)))) }
         ensures absent { IfNone result (Answers nat_eq self.old self.new
             (call.ComputePresent (K.word key.now) None) (reply.ComputePresent None)) }
+        ensures unchanged { IfNone result (Unchanged self.old self.new) }
+        ensures bytes { IfSome result (λ r. self.new.bytes + freed_by r.1 (map.get self.old.lone (K.word key.now)) ≡ self.old.bytes) }
         ensures keeps { Keeps A.charged_of A.limit_of self.old self.new }
     {
         let bytes = key.to_word().to_be_bytes();
@@ -136,7 +150,9 @@ impl<K: Word64, V: Word64, A: Allocator, D: Drop> Congee<K, V, A, D> {
             × Answers nat_eq self.old self.new (call.ComputeInsert (K.word key) value) (reply.ComputeInsert before)) }
         ensures keeps { Keeps A.charged_of A.limit_of self.old self.new }
         ensures unchanged { OnErr result (Unchanged self.old self.new) }
-        ensures refused { IfErr result (λ e. IsOutOf (A.charged_of self.old.allocator) (A.limit_of self.old.allocator) e) }
+        ensures absent { OnErr result (map.get self.old.pairs (K.word key) ≡ None) }
+        ensures refused { IfErr result (λ e. IsRefused (map.get self.old.wants (K.word key)) (A.charged_of self.old.allocator) (A.limit_of self.old.allocator) e) }
+        ensures bytes { OnOk result (self.new.bytes ≡ self.old.bytes + gain_of (map.get self.old.wants (K.word key))) }
     {
         let bytes = key.to_word().to_be_bytes();
         let old = self.arena.get(&bytes).copied();
@@ -161,6 +177,8 @@ impl<K: Word64, V: Word64, A: Allocator, D: Drop> Congee<K, V, A, D> {
         ensures other { IfErr result (λ r. (found : Option ℕ) × (r ≡ option_map V.of_word found)
             × Answers nat_eq self.old self.new
             (call.Exchange (K.word key.now) (V.word old.now) (option_map V.word new)) (reply.Exchange (Err found))) }
+        ensures unchanged { OnErr result (Unchanged self.old self.new) }
+        ensures bytes { OnOk result (self.new.bytes + freed_by new (map.get self.old.lone (K.word key.now)) ≡ self.old.bytes) }
         ensures keeps { Keeps A.charged_of A.limit_of self.old self.new }
     {
         let bytes = key.to_word().to_be_bytes();
@@ -186,9 +204,12 @@ impl<K: Word64, V: Word64, A: Allocator, D: Drop> Congee<K, V, A, D> {
     pub fn insert(&mut self, key: K, value: V) -> Result<Option<V>, OOMError>
         ensures answers { IfOk result (λ r. (before : Option ℕ) × (r ≡ option_map V.of_word before)
             × Answers nat_eq self.old self.new (call.Insert (K.word key) (V.word value)) (reply.Insert before)) }
+        ensures put { OnOk result (map.get self.new.pairs (K.word key) ≡ Some (V.word value)) }
         ensures keeps { Keeps A.charged_of A.limit_of self.old self.new }
         ensures unchanged { OnErr result (Unchanged self.old self.new) }
-        ensures refused { IfErr result (λ e. IsOutOf (A.charged_of self.old.allocator) (A.limit_of self.old.allocator) e) }
+        ensures absent { OnErr result (map.get self.old.pairs (K.word key) ≡ None) }
+        ensures refused { IfErr result (λ e. IsRefused (map.get self.old.wants (K.word key)) (A.charged_of self.old.allocator) (A.limit_of self.old.allocator) e) }
+        ensures bytes { OnOk result (self.new.bytes ≡ self.old.bytes + gain_of (map.get self.old.wants (K.word key))) }
     {
         let bytes = key.to_word().to_be_bytes();
         match self.arena.insert(self.alloc, &bytes, value.to_word()) {
@@ -201,6 +222,7 @@ impl<K: Word64, V: Word64, A: Allocator, D: Drop> Congee<K, V, A, D> {
     pub fn remove(&mut self, key: &K) -> Option<V>
         ensures answers { (before : Option ℕ) × (result ≡ option_map V.of_word before)
             × Answers nat_eq self.old self.new (call.Remove (K.word key.now)) (reply.Remove before) }
+        ensures bytes { self.new.bytes + freed_of (map.get self.old.lone (K.word key.now)) ≡ self.old.bytes }
         ensures keeps { Keeps A.charged_of A.limit_of self.old self.new }
     {
         let bytes = key.to_word().to_be_bytes();
@@ -227,6 +249,41 @@ impl<K: Word64, V: Word64, A: Allocator, D: Drop> Congee<K, V, A, D> {
         ensures { IsTrue result ↔ (self.now.pairs ≡ map.empty) }
     {
         self.arena.first().is_none()
+    }
+
+    /// How many keys have a value; a number past `u64::MAX` stays there. They are counted, so it goes over all of them.
+    pub fn len(&self) -> u64
+        ensures { result ≡ capped (map.len self.now.pairs) }
+    {
+        self.arena.count_pairs()
+    }
+
+    /// Whether the key has a value.
+    pub fn contains_key(&self, key: &K) -> bool
+        ensures { IsTrue result ↔ IsSome (map.get self.now.pairs (K.word key.now)) }
+    {
+        let bytes = key.to_word().to_be_bytes();
+        let found = self.arena.get(&bytes).copied();
+        found.is_some()
+    }
+
+    /// The pair of the least key.
+    pub fn first(&self) -> Option<(K, V)>
+        ensures { (found : Option (ℕ × ℕ)) × (result ≡ option_map (pair_by K.of_word V.of_word) found)
+            × Least self.now.pairs 0 found }
+    {
+        pair_of(self.arena.first_from(0))
+    }
+
+    /// The pair of the least key that is greater than this one, present or not. So a scan goes on past a full buffer.
+    pub fn next_after(&self, key: &K) -> Option<(K, V)>
+        ensures { (found : Option (ℕ × ℕ)) × (result ≡ option_map (pair_by K.of_word V.of_word) found)
+            × Least self.now.pairs (K.word key.now + 1) found }
+    {
+        match key.to_word().checked_add(1) {
+            Some(from) => pair_of(self.arena.first_from(from)),
+            None => None,
+        }
     }
 
     // Writes the pairs with start <= key < end into `out`, ascending, as many as fit, each key as its eight bytes.

@@ -1,11 +1,11 @@
 //! The owned tree of shared values.
-ghost use Rattle.std.specs.Prelude.{◌≡◌, ◌↔◌, ◌^◌, ◌-◌, None, Some, IsSome, IsTrue};
-ghost use Rattle.std.specs.Prelude.{IfOk, IfErr, IfSome, IfNone, OnErr};
+ghost use Rattle.std.specs.Prelude.{◌≡◌, ◌↔◌, ◌+◌, ◌^◌, ◌-◌, None, Some, IsSome, IsTrue};
+ghost use Rattle.std.specs.Prelude.{IfOk, IfErr, IfSome, IfNone, OnOk, OnErr};
 ghost use Rattle.std.specs.Option.{option_map};
 ghost use Rattle.std.specs.Arc.{arc_value};
 ghost use Rattle.std.specs.FinMap as map;
 ghost use Rattle.congee.specs.Owners.{Answers};
-ghost use Rattle.congee.specs.OwnedSteps.{IsOutOf};
+ghost use Rattle.congee.specs.Wanted.{IsRefused, gain_of, freed_of, freed_by};
 ghost use Rattle.congee.specs.Ranges.{keys_by};
 ghost use Rattle.judge.specs.declared.journal.Call.TheVariants as call;
 ghost use Rattle.judge.specs.declared.journal.Reply.TheVariants as reply;
@@ -55,8 +55,9 @@ impl<K, V: Drop> Model for CongeeArc<K, V> {
     ghost use Rattle.congee.specs.Arena.{IsTree};
     ghost use Rattle.congee.specs.Sizes.{bytes_of};
     ghost use Rattle.congee.specs.Table.{pairs_of};
+    ghost use Rattle.congee.specs.Wanted.{wants_of, lone_of};
 
-    ghost view = { λ t. record { pairs = pairs_of t.arena.nodes; bytes = bytes_of t.arena.nodes } };
+    ghost view = { λ t. record { pairs = pairs_of t.arena.nodes; bytes = bytes_of t.arena.nodes; wants = wants_of t.arena.nodes; lone = lone_of t.arena.nodes } };
 
     ghost invariant = { λ t. IsTree t.arena.nodes × (bytes_of t.arena.nodes ≡ t.arena.allocator.charged) };
 }
@@ -136,7 +137,9 @@ impl<K: Word64, V: Drop> CongeeArc<K, V> {
             (call.Insert (K.word key) (arc_value value)) (reply.Insert (option_map arc_value r))) }
         ensures back { IfErr result (λ e. arc_value e.1 ≡ arc_value value) }
         ensures unchanged { OnErr result (self.new ≡ self.old) }
-        ensures refused { IfErr result (λ e. IsOutOf self.old.bytes (2 ^ 64 - 1) e.0) }
+        ensures absent { OnErr result (map.get self.old.pairs (K.word key) ≡ None) }
+        ensures refused { IfErr result (λ e. IsRefused (map.get self.old.wants (K.word key)) self.old.bytes (2 ^ 64 - 1) e.0) }
+        ensures bytes { OnOk result (self.new.bytes ≡ self.old.bytes + gain_of (map.get self.old.wants (K.word key))) }
     {
         let bytes = key.to_word().to_be_bytes();
         match self
@@ -150,7 +153,8 @@ impl<K: Word64, V: Drop> CongeeArc<K, V> {
 
     /// Takes a key's value out.
     pub fn remove(&mut self, key: K) -> Option<Arc<V, Global>>
-        ensures { Answers self.old self.new (call.Remove (K.word key)) (reply.Remove (option_map arc_value result)) }
+        ensures answers { Answers self.old self.new (call.Remove (K.word key)) (reply.Remove (option_map arc_value result)) }
+        ensures bytes { self.new.bytes + freed_of (map.get self.old.lone (K.word key)) ≡ self.old.bytes }
     {
         let bytes = key.to_word().to_be_bytes();
         owner_of(self.arena.remove(&bytes))
@@ -168,9 +172,10 @@ impl<K: Word64, V: Drop> CongeeArc<K, V> {
         ensures present { IfOk result (λ r. IfSome r (λ old. (given : _) × (new : _) × (after : F)
             × (arc_value given ≡ arc_value old) × F.step f given new after
             × Answers self.old self.new (call.ComputePresent (K.word key) (option_map arc_value new))
-            (reply.ComputePresent (Some (arc_value old, option_map arc_value new))))) }
+            (reply.ComputePresent (Some (arc_value old, option_map arc_value new)))
+            × (self.new.bytes + freed_by new (map.get self.old.lone (K.word key)) ≡ self.old.bytes))) }
         ensures absent { IfOk result (λ r. IfNone r (Answers self.old self.new
-            (call.ComputePresent (K.word key) None) (reply.ComputePresent None))) }
+            (call.ComputePresent (K.word key) None) (reply.ComputePresent None) × (self.new ≡ self.old))) }
         ensures refused { OnErr result (IsSome (map.get self.old.pairs (K.word key))) }
         ensures unchanged { OnErr result (self.new ≡ self.old) }
     {

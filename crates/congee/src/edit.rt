@@ -1,5 +1,5 @@
 //! The changes at the end of a key's way: a value comes in, gives place to another, or goes.
-ghost use Rattle.std.specs.Prelude.{◌≡◌, ◌≢◌, ◌+◌, ℕ, length, slice_index, take, ◌<◌, ◌≤◌, Some, None, false, IfOk, IfErr, OnOk, OnErr};
+ghost use Rattle.std.specs.Prelude.{◌≡◌, ◌≢◌, ◌+◌, ℕ, [], ◌∷◌, length, slice_index, take, ◌<◌, ◌≤◌, Some, None, false, IfOk, IfErr, OnOk, OnErr};
 ghost use Rattle.std.specs.FinMap as map;
 ghost use Rattle.slab.specs.Slab.{Updates, get, ContainsKey};
 ghost use Rattle.congee.specs.Heap.{Below, Nothing, fits, child_for};
@@ -7,7 +7,8 @@ ghost use Rattle.congee.specs.Forms.{children_of, prefix_of};
 ghost use Rattle.congee.specs.Arena.{IsTree, OnWay, Hangs, heap_of};
 ghost use Rattle.congee.specs.Sizes.{bytes_of};
 ghost use Rattle.congee.specs.Changes.{MapChange, Parts, IsLeafOf};
-ghost use Rattle.congee.specs.OwnedSteps.{SameNodes, Fresh, Fills, Forks, IsHeld, IsOutOf};
+ghost use Rattle.congee.specs.OwnedSteps.{SameNodes, Fresh, Fills, Forks, IsHeld};
+ghost use Rattle.congee.specs.Wanted.{IsRefusedOf, gain, room_for, free_wants, size_by};
 ghost use Rattle.congee.specs.declared.base_node.Node.{Node as Form};
 
 use crate::allocator::{Allocator, OOMError};
@@ -71,7 +72,8 @@ impl<P: Stored, A: Allocator> Arena<P, A> {
         ensures change { OnOk result (MapChange self.old.nodes self.new.nodes key.now None (Some value)) }
         ensures same { OnErr result (SameNodes self.old.nodes self.new.nodes) }
         ensures back { IfErr result (λ e. e.1 ≡ value) }
-        ensures refused { IfErr result (λ e. IsOutOf (A.charged_of self.old.allocator) (A.limit_of self.old.allocator) e.0) }
+        ensures refused { IfErr result (λ e. IsRefusedOf (room_for (heap_of self.old.nodes at)) (A.charged_of self.old.allocator) (A.limit_of self.old.allocator) e.0) }
+        ensures bytes { OnOk result (bytes_of self.new.nodes ≡ bytes_of self.old.nodes + gain (room_for (heap_of self.old.nodes at))) }
         ensures balance { A.charged_of self.new.allocator + bytes_of self.old.nodes ≡ A.charged_of self.old.allocator + bytes_of self.new.nodes }
         ensures limit { A.limit_of self.new.allocator ≡ A.limit_of self.old.allocator }
     {
@@ -110,7 +112,8 @@ impl<P: Stored, A: Allocator> Arena<P, A> {
         ensures change { OnOk result (MapChange self.old.nodes self.new.nodes key.now None (Some value)) }
         ensures same { OnErr result (SameNodes self.old.nodes self.new.nodes) }
         ensures back { IfErr result (λ e. e.1 ≡ value) }
-        ensures refused { IfErr result (λ e. IsOutOf (A.charged_of self.old.allocator) (A.limit_of self.old.allocator) e.0) }
+        ensures refused { IfErr result (λ e. IsRefusedOf (64 ∷ room_for (heap_of self.old.nodes at)) (A.charged_of self.old.allocator) (A.limit_of self.old.allocator) e.0) }
+        ensures bytes { OnOk result (bytes_of self.new.nodes ≡ bytes_of self.old.nodes + gain (64 ∷ room_for (heap_of self.old.nodes at))) }
         ensures balance { A.charged_of self.new.allocator + bytes_of self.old.nodes ≡ A.charged_of self.old.allocator + bytes_of self.new.nodes }
         ensures limit { A.limit_of self.new.allocator ≡ A.limit_of self.old.allocator }
     {
@@ -144,7 +147,8 @@ impl<P: Stored, A: Allocator> Arena<P, A> {
         ensures change { OnOk result (MapChange self.old.nodes self.new.nodes key.now None (Some value)) }
         ensures same { OnErr result (SameNodes self.old.nodes self.new.nodes) }
         ensures back { IfErr result (λ e. e.1 ≡ value) }
-        ensures refused { IfErr result (λ e. IsOutOf (A.charged_of self.old.allocator) (A.limit_of self.old.allocator) e.0) }
+        ensures refused { IfErr result (λ e. IsRefusedOf (free_wants (heap_of self.old.nodes at)) (A.charged_of self.old.allocator) (A.limit_of self.old.allocator) e.0) }
+        ensures bytes { OnOk result (bytes_of self.new.nodes ≡ bytes_of self.old.nodes + gain (free_wants (heap_of self.old.nodes at))) }
         ensures balance { A.charged_of self.new.allocator + bytes_of self.old.nodes ≡ A.charged_of self.old.allocator + bytes_of self.new.nodes }
         ensures limit { A.limit_of self.new.allocator ≡ A.limit_of self.old.allocator }
     {
@@ -212,7 +216,8 @@ impl<P: Stored, A: Allocator> Arena<P, A> {
         ensures change { OnOk result (MapChange self.old.nodes self.new.nodes key.now None (Some value)) }
         ensures same { OnErr result (SameNodes self.old.nodes self.new.nodes) }
         ensures back { IfErr result (λ e. e.1 ≡ value) }
-        ensures refused { IfErr result (λ e. IsOutOf (A.charged_of self.old.allocator) (A.limit_of self.old.allocator) e.0) }
+        ensures refused { IfErr result (λ e. IsRefusedOf (64 ∷ 64 ∷ []) (A.charged_of self.old.allocator) (A.limit_of self.old.allocator) e.0) }
+        ensures bytes { OnOk result (bytes_of self.new.nodes ≡ bytes_of self.old.nodes + gain (64 ∷ 64 ∷ [])) }
         ensures balance { A.charged_of self.new.allocator + bytes_of self.old.nodes ≡ A.charged_of self.old.allocator + bytes_of self.new.nodes }
         ensures limit { A.limit_of self.new.allocator ≡ A.limit_of self.old.allocator }
     {
@@ -247,6 +252,7 @@ impl<P: Stored, A: Allocator> Arena<P, A> {
         ensures tree { IsTree self.new.nodes }
         ensures change { MapChange self.old.nodes self.new.nodes key.now (Some result) None }
         ensures balance { A.charged_of self.new.allocator + bytes_of self.old.nodes ≡ A.charged_of self.old.allocator + bytes_of self.new.nodes }
+        ensures charge { A.charged_of self.new.allocator + size_by (heap_of self.old.nodes at).capacity ≡ A.charged_of self.old.allocator }
         ensures limit { A.limit_of self.new.allocator ≡ A.limit_of self.old.allocator }
     {
         let byte = self.byte_at(at, key);

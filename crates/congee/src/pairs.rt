@@ -8,7 +8,8 @@ ghost use Rattle.congee.specs.Sizes.{bytes_of};
 ghost use Rattle.congee.specs.Stats.{root_alone};
 ghost use Rattle.congee.specs.Changes.{MapChange};
 ghost use Rattle.std.specs.Prelude.{List};
-ghost use Rattle.congee.specs.OwnedSteps.{SameNodes, IsOutOf, IsRefusal, settled};
+ghost use Rattle.congee.specs.OwnedSteps.{SameNodes, IsRefusal, settled};
+ghost use Rattle.congee.specs.Wanted.{IsRefused, gain_of, freed_of, freed_by, wants_at, lone_at};
 
 use crate::allocator::{Allocator, OOMError};
 use crate::arena::{Arena, Stored};
@@ -77,7 +78,9 @@ impl<P: Stored, A: Allocator> Arena<P, A> {
         ensures change { IfOk result (λ before. MapChange self.old.nodes self.new.nodes key.now before (Some value)) }
         ensures same { OnErr result (SameNodes self.old.nodes self.new.nodes) }
         ensures back { IfErr result (λ e. e.1 ≡ value) }
-        ensures refused { IfErr result (λ e. IsOutOf (A.charged_of self.old.allocator) (A.limit_of self.old.allocator) e.0) }
+        ensures absent { OnErr result (value_at (heap_of self.old.nodes) key.now ≡ None) }
+        ensures refused { IfErr result (λ e. IsRefused (wants_at (heap_of self.old.nodes) key.now) (A.charged_of self.old.allocator) (A.limit_of self.old.allocator) e.0) }
+        ensures bytes { OnOk result (bytes_of self.new.nodes ≡ bytes_of self.old.nodes + gain_of (wants_at (heap_of self.old.nodes) key.now)) }
         ensures balance { A.charged_of self.new.allocator + bytes_of self.old.nodes ≡ A.charged_of self.old.allocator + bytes_of self.new.nodes }
         ensures limit { A.limit_of self.new.allocator ≡ A.limit_of self.old.allocator }
     {
@@ -101,6 +104,7 @@ impl<P: Stored, A: Allocator> Arena<P, A> {
         requires covered { bytes_of self.old.nodes ≤ A.charged_of self.old.allocator }
         ensures tree { IsTree self.new.nodes }
         ensures change { MapChange self.old.nodes self.new.nodes key.now result None }
+        ensures bytes { bytes_of self.new.nodes + freed_of (lone_at (heap_of self.old.nodes) key.now) ≡ bytes_of self.old.nodes }
         ensures balance { A.charged_of self.new.allocator + bytes_of self.old.nodes ≡ A.charged_of self.old.allocator + bytes_of self.new.nodes }
         ensures limit { A.limit_of self.new.allocator ≡ A.limit_of self.old.allocator }
     {
@@ -123,6 +127,7 @@ impl<P: Stored, A: Allocator> Arena<P, A> {
         requires covered { bytes_of self.old.nodes ≤ A.charged_of self.old.allocator }
         ensures tree { IsTree self.new.nodes }
         ensures change { MapChange self.old.nodes self.new.nodes key.now result (settled result new) }
+        ensures bytes { bytes_of self.new.nodes + freed_by new (lone_at (heap_of self.old.nodes) key.now) ≡ bytes_of self.old.nodes }
         ensures balance { A.charged_of self.new.allocator + bytes_of self.old.nodes ≡ A.charged_of self.old.allocator + bytes_of self.new.nodes }
         ensures limit { A.limit_of self.new.allocator ≡ A.limit_of self.old.allocator }
     {

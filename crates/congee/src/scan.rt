@@ -5,6 +5,7 @@ ghost use Rattle.congee.specs.Heap.{fits};
 ghost use Rattle.congee.specs.Keys.{key_bytes};
 ghost use Rattle.congee.specs.Arena.{IsTree};
 ghost use Rattle.congee.specs.Bytes.{IsFirst};
+ghost use Rattle.congee.specs.Nearest.{Least};
 ghost use Rattle.congee.specs.Cursor.{IsCursor, IsAt, steps_left};
 ghost use Rattle.congee.specs.Table.{pairs_of};
 ghost use Rattle.congee.specs.Ranges.{by_bytes, in_range, keys_by};
@@ -149,6 +150,18 @@ impl<P: Stored, A: Allocator> Arena<P, A> {
 }
 
 impl<A: Allocator> Arena<u64, A> {
+    /// The pair of the least key from a number on.
+    pub(crate) fn first_from(&self, from: u64) -> Option<(u64, u64)>
+        requires { IsTree self.now.nodes }
+        ensures { Least (pairs_of self.now.nodes) from result }
+    {
+        let mut cursor = self.seek(from);
+        match self.next_along(&mut cursor) {
+            Some((key, value)) => Some((key, *value)),
+            None => None,
+        }
+    }
+
     /// Writes the pairs with start <= key < end, ascending, as many as fit, and gives their number.
     pub(crate) fn range(&self, start: u64, end: u64, out: &mut [(u64, u64)]) -> usize
         requires { IsTree self.now.nodes }

@@ -125,8 +125,12 @@ fn sum_of(info: NodeInfo, more: NodeInfo) -> NodeInfo {
 }
 
 impl LevelStats {
+    ghost use Rattle.congee.specs.Forms.{size_of};
+    ghost use Rattle.congee.specs.declared.base_node.NodeType.TheVariants.{N4, N16, N48, N256};
+
     fn node_count(&self) -> u128
-        ensures { result < 2 ^ 66 }
+        ensures small { result < 2 ^ 66 }
+        ensures sum { result ≡ self.now.n4.node_count + self.now.n16.node_count + self.now.n48.node_count + self.now.n256.node_count }
     {
         self.n4.node_count as u128
             + self.n16.node_count as u128
@@ -134,7 +138,9 @@ impl LevelStats {
             + self.n256.node_count as u128
     }
 
-    fn value_count(&self) -> u128 {
+    fn value_count(&self) -> u128
+        ensures { result ≡ self.now.n4.value_count + self.now.n16.value_count + self.now.n48.value_count + self.now.n256.value_count }
+    {
         self.n4.value_count as u128
             + self.n16.value_count as u128
             + self.n48.value_count as u128
@@ -142,7 +148,10 @@ impl LevelStats {
     }
 
     // In bytes.
-    fn memory_size(&self) -> u128 {
+    fn memory_size(&self) -> u128
+        ensures { result ≡ size_of N4 * self.now.n4.node_count + size_of N16 * self.now.n16.node_count
+            + size_of N48 * self.now.n48.node_count + size_of N256 * self.now.n256.node_count }
+    {
         64 * self.n4.node_count as u128
             + 168 * self.n16.node_count as u128
             + 672 * self.n48.node_count as u128
@@ -151,7 +160,8 @@ impl LevelStats {
 
     // The children by the places of their nodes' form, in parts of 768.
     fn filled(&self) -> u128
-        ensures { result < 2 ^ 73 }
+        ensures small { result < 2 ^ 73 }
+        ensures sum { result ≡ 192 * self.now.n4.value_count + 48 * self.now.n16.value_count + 16 * self.now.n48.value_count + 3 * self.now.n256.value_count }
     {
         192 * self.n4.value_count as u128
             + 48 * self.n16.value_count as u128
@@ -163,6 +173,8 @@ impl LevelStats {
 // How much of the places is taken, in hundredths, cut off; 0 where there are none.
 fn load(taken: u128, places: u128) -> u128
     requires { taken < 2 ^ 100 }
+    ensures none { places ≡ 0 → result ≡ 0 }
+    ensures cut_off { 0 < places → (result * places ≤ taken * 100) × (taken * 100 < (result + 1) * places) }
 {
     if places == 0 { 0 } else { taken * 100 / places }
 }

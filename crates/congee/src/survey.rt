@@ -37,8 +37,8 @@ impl<P: Stored, A: Allocator> Arena<P, A> {
         Ok(())
     }
 
-    // The number of pairs; one past `u64::MAX` stays there.
-    fn count_pairs(&self) -> u64
+    /// The number of pairs; one past `u64::MAX` stays there.
+    pub(crate) fn count_pairs(&self) -> u64
         requires { IsTree self.now.nodes }
         ensures { result ≡ capped (map.len (pairs_of self.now.nodes)) }
     {

@@ -1,9 +1,12 @@
-use Rattle.std.proofs.Common.{rules, ◌≡◌, length, arith, ap, ◌∙◌}
+use Rattle.std.proofs.Common.{rules, ◌≡◌, length, arith, ap, ◌∙◌, inl}
 use Rattle.slab.specs.Slab.{get}
 use Rattle.congee.specs.Sizes.{bytes_at}
 use Rattle.congee.specs.Forms.{size_of}
 use Rattle.congee.proofs.Sizes.{bytes_same, bytes_update, makes_bytes}
 use Rattle.congee.proofs.Moves.{made_fresh, made_roomy, roomy_stands, roomy_absent, roomy_room, leaf_added}
+use Rattle.congee.specs.Arena.{heap_of}
+use Rattle.congee.specs.Wanted.{gain, room_for}
+use Rattle.congee.proofs.Wanting.{made_same, refused_after}
 use Rattle.congee.proofs.arena.Arena.add_leaf.Goals as goal
 
 pub returns-in-Err-clause-balance : goal.returns-in-Err-clause-balance
@@ -63,3 +66,21 @@ returns-clause-balance g c =
     let m = makes_bytes c.args.self.now.nodes c.make.new.self.nodes c.in-Ok.leaf _ c.in-Ok.ensures.made in
     let a : g.A.Allocator.charged_of c.hang.new.self.allocator ≡ g.A.Allocator.charged_of c.make_room.new.self.allocator = ap g.A.Allocator.charged_of (c.hang.ensures.allocator ∙ c.fill_leaf.ensures.allocator) in
     omega (arith, a, b, m, c.in-Ok.ensures.charge, c.make_room.ensures.balance, c.fill_leaf.ensures.bytes)
+
+pub returns-in-Err-clause-refused : goal.returns-in-Err-clause-refused
+returns-in-Err-clause-refused g c = inl c.in-Err.ensures.refused
+
+pub returns-in-Err-make_room-clause-refused : goal.returns-in-Err-make_room-clause-refused
+returns-in-Err-make_room-clause-refused g c =
+    refused_after (heap_of c.args.self.now.nodes c.args.at) (heap_of c.make.new.self.nodes c.args.at) _ _ _ _ c.in-Err-make_room.e
+    (made_same c.args.self.now.nodes c.make.new.self.nodes c.args.at c.in-Ok.leaf _ c.requires.way.stands c.in-Ok.ensures.made)
+    c.in-Ok.ensures.charge c.make.ensures.limit c.in-Ok.ensures.fits c.in-Err-make_room.ensures.refused
+
+pub returns-clause-bytes : goal.returns-clause-bytes
+returns-clause-bytes g c =
+    let len : length c.args.key.now ≡ 8 = search rules in
+    let b = (leaf_added c.args.self.now.nodes c.make.new.self.nodes c.make_room.new.self.nodes c.fill_leaf.new.self.nodes c.hang.new.self.nodes c.args.key.now c.args.at c.in-Ok.leaf c.byte_at-byte.result c.args.value len c.requires.tree c.requires.way c.requires.free c.requires.inner c.in-Ok.ensures.made c.in_default.ensures.grows c.fill_leaf.ensures.fills c.byte_at-byte.ensures c.hang.ensures.node).1 in
+    let m = makes_bytes c.args.self.now.nodes c.make.new.self.nodes c.in-Ok.leaf _ c.in-Ok.ensures.made in
+    let e : gain (room_for (heap_of c.make.new.self.nodes c.args.at)) ≡ gain (room_for (heap_of c.args.self.now.nodes c.args.at)) =
+    ap (λ n. gain (room_for n)) (made_same c.args.self.now.nodes c.make.new.self.nodes c.args.at c.in-Ok.leaf _ c.requires.way.stands c.in-Ok.ensures.made) in
+    omega (arith, b, m, e, c.in_default.ensures.grown, c.fill_leaf.ensures.bytes)

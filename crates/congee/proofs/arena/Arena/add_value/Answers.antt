@@ -1,4 +1,4 @@
-use Rattle.std.proofs.Common.{rules, ◌≡◌, length, arith, ap}
+use Rattle.std.proofs.Common.{rules, ◌≡◌, length, arith, ap, ◌∙◌}
 use Rattle.congee.proofs.Moves.{grown_roomy, roomy_stands, roomy_absent, roomy_room, value_added}
 use Rattle.congee.proofs.arena.Arena.add_value.Goals as goal
 
@@ -30,3 +30,8 @@ returns-clause-balance g c =
     let b = (value_added c.args.self.now.nodes c.make_room.new.self.nodes c.hang.new.self.nodes c.args.key.now c.args.at c.byte_at-byte.result c.args.value len c.requires.tree c.requires.way c.requires.free c.requires.leaf c.in_default.ensures.grows c.byte_at-byte.ensures c.hang.ensures.node).1 in
     let a : g.A.Allocator.charged_of c.hang.new.self.allocator ≡ g.A.Allocator.charged_of c.make_room.new.self.allocator = ap g.A.Allocator.charged_of c.hang.ensures.allocator in
     omega (arith, a, b, c.make_room.ensures.balance)
+
+pub returns-clause-bytes : goal.returns-clause-bytes
+returns-clause-bytes g c =
+    let len : length c.args.key.now ≡ 8 = search rules in
+    (value_added c.args.self.now.nodes c.make_room.new.self.nodes c.hang.new.self.nodes c.args.key.now c.args.at c.byte_at-byte.result c.args.value len c.requires.tree c.requires.way c.requires.free c.requires.leaf c.in_default.ensures.grows c.byte_at-byte.ensures c.hang.ensures.node).1 ∙ c.in_default.ensures.grown

@@ -7,6 +7,9 @@ use Rattle.slab.specs.Slab.{get}
 use Rattle.congee.specs.Sizes.{bytes_at}
 use Rattle.congee.proofs.Sizes.{bytes_update}
 use Rattle.congee.proofs.Moves.{leaf_dropped, dropped_bytes}
+use Rattle.congee.specs.Arena.{heap_of}
+use Rattle.congee.specs.Wanted.{size_by}
+use Rattle.congee.proofs.Wanting.{dropped_size}
 use Rattle.congee.proofs.arena.Arena.drop_leaf.Goals as goal
 
 pub returns-clause-tree : goal.returns-clause-tree
@@ -46,3 +49,11 @@ drop-requires-2-room-T-Destruct g c κs within = let us : IsSmall (layout word) 
 
 pub drop-requires-3-room-T-Destruct : goal.drop-requires-3-room-T-Destruct
 drop-requires-3-room-T-Destruct g c κs within = let us : IsSmall (layout word) = search rules in node256_fits word g.row.P us g.met.P.Small.small
+
+pub returns-clause-charge : goal.returns-clause-charge
+returns-clause-charge g c =
+    let d : bytes_at (get c.unhang.new.self.nodes c.args.at) ≡ size_by (heap_of c.args.self.now.nodes c.args.at).capacity =
+    dropped_size c.args.self.now.nodes c.unhang-last.new.self.nodes c.unhang.new.self.nodes c.args.key.now c.args.above c.args.at c.byte_at-byte.result c.byte_at-up.result c.requires.tree c.requires.way c.requires.hangs c.unhang-last.ensures.node c.unhang.ensures.node in
+    let b : bytes_at (get c.unhang.new.self.nodes c.args.at) ≡ c.size-size.result = ap bytes_at c.remove.ensures.value ∙ search rules in
+    let a : g.A.Allocator.charged_of c.unhang.new.self.allocator ≡ g.A.Allocator.charged_of c.args.self.now.allocator = ap g.A.Allocator.charged_of (c.unhang.ensures.allocator ∙ c.unhang-last.ensures.allocator) in
+    omega (arith, d, b, a, c.deallocate.ensures.charged)

@@ -1,10 +1,13 @@
-use Rattle.std.proofs.Common.{rules, ◌≡◌, refl, sym, ap, ◌∙◌, arith, true, false, Some}
+use Rattle.std.proofs.Common.{rules, ◌≡◌, ◌+◌, refl, sym, ap, ◌∙◌, arith, true, false, Some}
 use Rattle.slab.specs.Slab.{get, with_value}
 use Rattle.slab.proofs.SlabLemmas.{Updates-with_value}
 use Rattle.congee.specs.Forms.{form_of, prefix_of, children_of, next_form, size_of, is_full_of}
+use Rattle.congee.specs.Arena.{heap_of, node_of}
 use Rattle.congee.specs.Sizes.{bytes_at}
+use Rattle.congee.specs.Wanted.{gain, net, room_for}
 use Rattle.congee.proofs.Sizes.{bytes_update, bytes_same, same_written}
 use Rattle.congee.proofs.Grown.{grown_room}
+use Rattle.congee.proofs.Wanting.{full_room, grown_by}
 use Rattle.congee.proofs.arena.Arena.make_room.Goals as goal
 
 pub returns-clause-grows : goal.returns-clause-grows
@@ -51,3 +54,15 @@ returns-then-is_err-clause-balance g c =
     let b = bytes_same c.args.self.now.nodes (with_value c.args.self.now.nodes c.args.at c.grow.new.self) (same_written c.args.self.now.nodes c.args.at c.index_mut.result.now c.grow.new.self c.requires.stands c.index_mut.ensures.value kept) in
     let z : c.size-then-is_err.result ≡ c.size.result = search rules in
     omega (arith, b, z, c.in_ok-allocate.ensures.ok, c.deallocate.ensures.charged)
+
+pub returns-clause-grown : goal.returns-clause-grown
+returns-clause-grown g c =
+    let x = c.index-node.result.now in
+    let f : form_of c.grow.new.self ≡ next_form (form_of c.index_mut.result.now) = search rules in
+    let u = bytes_update c.args.self.now.nodes (with_value c.args.self.now.nodes c.args.at c.grow.new.self) c.args.at (Some c.grow.new.self) (Updates-with_value c.args.self.now.nodes c.args.at c.grow.new.self c.requires.stands) in
+    let b : bytes_at (get c.args.self.now.nodes c.args.at) ≡ size_of (form_of x) = ap bytes_at c.index-node.ensures in
+    let one : c.index_mut.result.now ≡ x = (let z : Some c.index_mut.result.now ≡ Some c.index-node.result.now = sym c.index_mut.ensures.value ∙ c.index-node.ensures in cc) in
+    let n : size_of (form_of c.grow.new.self) ≡ size_of (next_form (form_of x)) = ap size_of f ∙ ap (λ y. size_of (next_form (form_of y))) one in
+    let full : is_full_of x ≡ true = search rules in
+    let w : gain (room_for (heap_of c.args.self.now.nodes c.args.at)) ≡ net (size_of (next_form (form_of x))) + 0 = ap (λ o. gain (room_for (node_of o))) c.index-node.ensures ∙ ap gain (full_room x full) in
+    omega (arith, u, b, n, w, grown_by x full)

@@ -1,4 +1,4 @@
-use Rattle.std.proofs.Common.{rules, refl, ◌≡◌, ◌≢◌, length, Some, arith, ap, get_or, ◌∙◌, sym, subst, ℕ, List, IsSome}
+use Rattle.std.proofs.Common.{rules, refl, inl, ◌≡◌, ◌≢◌, length, Some, arith, ap, get_or, ◌∙◌, sym, subst, ℕ, List, IsSome}
 use Rattle.slab.specs.Slab.{get, ContainsKey}
 use Rattle.congee.specs.Arena.{Nodes}
 use Rattle.congee.specs.OwnedSteps.{Makes, Fills, Forks}
@@ -7,6 +7,7 @@ use Rattle.congee.specs.Changes.{Parts}
 use Rattle.congee.specs.Forms.{size_of, prefix_of}
 use Rattle.congee.proofs.Sizes.{bytes_same, bytes_update, makes_bytes}
 use Rattle.congee.proofs.Moves.{Forking, forking_at, forking_present, fork_added, apart_of, fresh_made, node_at}
+use Rattle.congee.proofs.Wanting.{refused_second}
 use Rattle.congee.proofs.arena.Arena.split.Goals as goal
 
 pub returns-in-Err-clause-balance : goal.returns-in-Err-clause-balance
@@ -101,6 +102,34 @@ returns-clause-balance g c =
     let m2 = makes_bytes c.make.new.self.nodes c.make-2.new.self.nodes c.in-Ok-make.leaf _ c.in-Ok-make.ensures.made in
     let a : g.A.Allocator.charged_of c.swap.new.self.allocator ≡ g.A.Allocator.charged_of c.make-2.new.self.allocator = ap g.A.Allocator.charged_of (c.swap.ensures.allocator ∙ (c.fill_fork.ensures.allocator ∙ c.fill_leaf.ensures.allocator)) in
     omega (arith, a, r.1, m1, m2, c.in-Ok.ensures.charge, c.in-Ok-make.ensures.charge, c.fill_leaf.ensures.bytes, c.fill_fork.ensures.bytes)
+
+pub returns-clause-bytes : goal.returns-clause-bytes
+returns-clause-bytes g c =
+    let p1 : c.prefix.result.now ≡ prefix_of c.index.result.now = c.prefix.ensures.bytes in
+    let same : c.index-2.result.now ≡ c.index.result.now = (let z : Some c.index-2.result.now ≡ Some c.index.result.now = sym c.index-2.ensures ∙ c.index.ensures in cc) in
+    let p2 : c.prefix-2.result.now ≡ prefix_of c.index.result.now = c.prefix-2.ensures.bytes ∙ ap prefix_of same in
+    let Q : List ℕ → Type 0 = λ z. Parts c.args.key.now z c.first_apart-common.result in
+    let f : Forking c.args.self.now.nodes c.make.new.self.nodes c.make-2.new.self.nodes c.fill_leaf.new.self.nodes c.fill_fork.new.self.nodes c.args.key.now c.args.at c.first_apart-common.result c.in-Ok.over c.in-Ok-make.leaf (get_or c.prefix-2.result.now c.first_apart-common.result 0) c.args.below c.args.value = record {
+      lower = c.index.result.now;
+      stands = c.index.ensures;
+      parts = subst Q p1 c.first_apart-common.ensures;
+      other_is = ap (λ p. get_or p c.first_apart-common.result 0) p2;
+      over_made = c.in-Ok.ensures.made;
+      leaf_made = c.in-Ok-make.ensures.made;
+      fills = c.fill_leaf.ensures.fills;
+      forks = c.fill_fork.ensures.forks;
+    } in
+    let len : length c.args.key.now ≡ 8 = search rules in
+    let r = fork_added c.args.self.now.nodes c.make.new.self.nodes c.make-2.new.self.nodes c.fill_leaf.new.self.nodes c.fill_fork.new.self.nodes c.swap.new.self.nodes c.args.key.now c.args.at c.first_apart-common.result c.in-Ok.over c.in-Ok-make.leaf (get_or c.prefix-2.result.now c.first_apart-common.result 0) c.args.below c.byte_at-byte.result c.args.value len c.requires.tree c.requires.way c.requires.hangs c.requires.differs f c.byte_at-byte.ensures c.swap.ensures.node in
+    let m1 = makes_bytes c.args.self.now.nodes c.make.new.self.nodes c.in-Ok.over _ c.in-Ok.ensures.made in
+    let m2 = makes_bytes c.make.new.self.nodes c.make-2.new.self.nodes c.in-Ok-make.leaf _ c.in-Ok-make.ensures.made in
+    omega (arith, r.1, m1, m2, c.fill_leaf.ensures.bytes, c.fill_fork.ensures.bytes)
+
+pub returns-in-Err-clause-refused : goal.returns-in-Err-clause-refused
+returns-in-Err-clause-refused g c = inl c.in-Err.ensures.refused
+
+pub returns-in-Err-make-clause-refused : goal.returns-in-Err-make-clause-refused
+returns-in-Err-make-clause-refused g c = refused_second _ _ _ _ c.in-Err-make.e c.in-Ok.ensures.charge c.make.ensures.limit c.in-Ok.ensures.fits c.in-Err-make.ensures.refused
 
 pub fill_fork-requires-clause-fresh : goal.fill_fork-requires-clause-fresh
 fill_fork-requires-clause-fresh g c =

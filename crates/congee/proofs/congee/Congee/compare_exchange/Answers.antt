@@ -1,4 +1,4 @@
-use Rattle.std.proofs.Common.{rules, ◌≡◌, ◌≢◌, ◌<◌, ◌^◌, ap, subst, refl, sym, ◌∙◌, ℕ, List, Some, Ok, Err, true, false}
+use Rattle.std.proofs.Common.{rules, ◌≡◌, ◌≢◌, ◌<◌, ◌^◌, ◌+◌, ap, subst, refl, sym, ◌∙◌, ℕ, List, Some, Ok, Err, true, false}
 use Rattle.std.specs.Prelude.{nat_eq}
 use Rattle.std.specs.Option.{option_map}
 use Rattle.judge.specs.declared.journal.Call.TheVariants as call
@@ -10,6 +10,9 @@ use Rattle.congee.specs.Keys.{key_bytes}
 use Rattle.congee.specs.OwnedSteps.{settled}
 use Rattle.congee.proofs.Answered.{present_change, exchange_refused, exchange_done}
 use Rattle.congee.proofs.Tables.{answer_pairs}
+use Rattle.congee.specs.Sizes.{bytes_of}
+use Rattle.congee.specs.Wanted.{lone_at, freed_by}
+use Rattle.congee.proofs.Wanting.{get_lone, freed_map}
 use Rattle.congee.proofs.congee.Congee.compare_exchange.Goals as goal
 
 pub returns-then-not-holds-clause-other : goal.returns-then-not-holds-clause-other
@@ -33,3 +36,10 @@ returns-clause-ok g c =
     let a = answer_pairs nat_eq c.self.inside.arena.nodes c.settle.new.self.nodes (call.Exchange c.to_word.result c.to_word-old.result c.number_of-word.result) (reply.Exchange (Ok c.number_of-word.result))
     (exchange_done c.self.inside.arena.nodes c.settle.new.self.nodes c.to_word.result small c.to_word-old.result c.number_of-word.result (present_change c.self.inside.arena.nodes c.settle.new.self.nodes (key_bytes c.to_word.result) c.settle.result c.to_word-old.result c.number_of-word.result change v)) in
     (c.number_of-word.result, c.number_of-word.ensures, refl, rw (← c.self.view_is, ← c.to_word.ensures, ← c.to_word-old.ensures) a)
+
+pub returns-clause-bytes : goal.returns-clause-bytes
+returns-clause-bytes g c =
+    let small : c.to_word.result < 2 ^ 64 = search rules in
+    let w = ap (lone_at (heap_of c.self.inside.arena.nodes)) c.to_be_bytes-bytes.ensures ∙ sym (get_lone c.self.inside.arena.nodes c.to_word.result small) in
+    let f = ap (λ o. freed_by o (lone_at (heap_of c.self.inside.arena.nodes) c.to_be_bytes-bytes.result)) c.number_of-word.ensures ∙ freed_map g.V.Word64.word c.args.new _ in
+    rw (← c.self.view_is, ← c.to_word.ensures) (ap (λ z. bytes_of c.settle.new.self.nodes + z) (sym (f ∙ ap (freed_by c.args.new) w)) ∙ c.settle.ensures.bytes)

@@ -1,4 +1,4 @@
-use Rattle.std.proofs.Common.{rules, ◌≡◌, ◌<◌, ◌^◌, ap, subst, sym, ◌∙◌, ℕ, List, None, Some}
+use Rattle.std.proofs.Common.{rules, ◌≡◌, ◌<◌, ◌^◌, ◌+◌, ap, subst, sym, ◌∙◌, ℕ, List, None, Some}
 use Rattle.std.specs.Prelude.{nat_eq}
 use Rattle.judge.specs.declared.journal.Call.TheVariants as call
 use Rattle.judge.specs.declared.journal.Reply.TheVariants as reply
@@ -9,6 +9,9 @@ use Rattle.congee.specs.Keys.{key_bytes}
 use Rattle.congee.specs.OwnedSteps.{settled}
 use Rattle.congee.proofs.Answered.{answered_absent, answered_present, present_change}
 use Rattle.congee.proofs.Tables.{answer_pairs}
+use Rattle.congee.specs.Sizes.{bytes_of}
+use Rattle.congee.specs.Wanted.{lone_at, freed_by}
+use Rattle.congee.proofs.Wanting.{get_lone}
 use Rattle.congee.proofs.congee.Congee.compute_if_present.Goals as goal
 
 pub returns-in_default-clause-absent : goal.returns-in_default-clause-absent
@@ -28,3 +31,9 @@ returns-clause-present g c =
     let a = answer_pairs nat_eq c.self.inside.arena.nodes c.settle.new.self.nodes (call.ComputePresent c.to_word.result c.f-new.result) (reply.ComputePresent (Some (c.in-Some.old, c.f-new.result)))
     (answered_present nat_eq c.self.inside.arena.nodes c.settle.new.self.nodes c.to_word.result small c.in-Some.old c.f-new.result (present_change c.self.inside.arena.nodes c.settle.new.self.nodes (key_bytes c.to_word.result) c.settle.result c.in-Some.old c.f-new.result change v)) in
     rw (← c.self.view_is, ← c.to_word.ensures) a
+
+pub returns-clause-bytes : goal.returns-clause-bytes
+returns-clause-bytes g c =
+    let small : c.to_word.result < 2 ^ 64 = search rules in
+    let w = ap (lone_at (heap_of c.self.inside.arena.nodes)) c.to_be_bytes-bytes.ensures ∙ sym (get_lone c.self.inside.arena.nodes c.to_word.result small) in
+    rw (← c.self.view_is, ← c.to_word.ensures) (ap (λ z. bytes_of c.settle.new.self.nodes + freed_by c.f-new.result z) (sym w) ∙ c.settle.ensures.bytes)

@@ -1,4 +1,4 @@
-use Rattle.std.proofs.Common.{rules, ◌≡◌, ◌<◌, ◌^◌, ap, subst, sym, ◌∙◌, ℕ, List, Some, arith}
+use Rattle.std.proofs.Common.{rules, ◌≡◌, ◌<◌, ◌^◌, ◌+◌, ap, subst, sym, ◌∙◌, ℕ, List, None, Some, arith}
 use Rattle.std.specs.Prelude.{nat_eq, Option}
 use Rattle.std.specs.Option.{option_map}
 use Rattle.judge.specs.declared.journal.Call.TheVariants as call
@@ -10,8 +10,11 @@ use Rattle.congee.specs.Keys.{key_bytes}
 use Rattle.congee.proofs.Answered.{answered_compute}
 use Rattle.congee.proofs.Sizes.{bytes_same}
 use Rattle.congee.proofs.Surveys.{same_nodes}
-use Rattle.congee.proofs.Tables.{answer_pairs, same_pairs}
+use Rattle.congee.proofs.Tables.{answer_pairs, get_pairs, same_pairs}
 use Rattle.congee.proofs.Ways.{same_tree}
+use Rattle.congee.specs.Sizes.{bytes_of}
+use Rattle.congee.specs.Wanted.{wants_at, IsRefused, gain_of}
+use Rattle.congee.proofs.Wanting.{get_wants, same_wants, same_lone}
 use Rattle.congee.proofs.congee.Congee.compute_or_insert.Goals as goal
 
 pub returns-in-Ok-clause-answers : goal.returns-in-Ok-clause-answers
@@ -37,4 +40,25 @@ returns-clause-unchanged g c = rw (← c.self.view_is) (record {
   pairs = same_pairs c.self.inside.arena.nodes c.insert.new.self.nodes c.in-Err.ensures.same;
   nodes = same_nodes c.self.inside.arena.nodes c.insert.new.self.nodes c.in-Err.ensures.same;
   bytes = bytes_same c.self.inside.arena.nodes c.insert.new.self.nodes c.in-Err.ensures.same;
+  wants = same_wants c.self.inside.arena.nodes c.insert.new.self.nodes c.in-Err.ensures.same;
+  lone = same_lone c.self.inside.arena.nodes c.insert.new.self.nodes c.in-Err.ensures.same;
 })
+
+pub returns-clause-absent : goal.returns-clause-absent
+returns-clause-absent g c =
+    let small : c.to_word.result < 2 ^ 64 = search rules in
+    let v : None ≡ value_at (heap_of c.self.inside.arena.nodes) (key_bytes c.to_word.result) = sym c.in-Err.ensures.absent ∙ ap (value_at (heap_of c.self.inside.arena.nodes)) c.to_be_bytes-bytes.ensures in
+    rw (← c.self.view_is, ← c.to_word.ensures) (sym (get_pairs c.self.inside.arena.nodes c.to_word.result small None v))
+
+pub returns-clause-refused : goal.returns-clause-refused
+returns-clause-refused g c =
+    let small : c.to_word.result < 2 ^ 64 = search rules in
+    let w = ap (wants_at (heap_of c.self.inside.arena.nodes)) c.to_be_bytes-bytes.ensures ∙ sym (get_wants c.self.inside.arena.nodes c.to_word.result small) in
+    let Q : Option (List ℕ) → Type 0 = λ z. IsRefused z (g.A.Allocator.charged_of c.self.inside.arena.allocator) (g.A.Allocator.limit_of c.self.inside.arena.allocator) c.in-Err.e in
+    rw (← c.self.view_is, ← c.to_word.ensures) (subst Q w c.in-Err.ensures.refused)
+
+pub returns-in-Ok-clause-bytes : goal.returns-in-Ok-clause-bytes
+returns-in-Ok-clause-bytes g c =
+    let small : c.to_word.result < 2 ^ 64 = search rules in
+    let w = ap (wants_at (heap_of c.self.inside.arena.nodes)) c.to_be_bytes-bytes.ensures ∙ sym (get_wants c.self.inside.arena.nodes c.to_word.result small) in
+    rw (← c.self.view_is, ← c.to_word.ensures) (c.in-Ok.ensures.bytes ∙ ap (λ z. bytes_of c.self.inside.arena.nodes + gain_of z) w)

@@ -1,4 +1,4 @@
-use Rattle.std.proofs.Common.{rules, ◌<◌, ◌^◌, subst, ℕ, List, None}
+use Rattle.std.proofs.Common.{rules, ◌<◌, ◌^◌, ◌+◌, ap, sym, ◌∙◌, subst, ℕ, List, None}
 use Rattle.std.specs.Prelude.{nat_eq}
 use Rattle.judge.specs.declared.journal.Call.TheVariants as call
 use Rattle.judge.specs.declared.journal.Reply.TheVariants as reply
@@ -6,6 +6,10 @@ use Rattle.congee.specs.Changes.{MapChange}
 use Rattle.congee.specs.Keys.{key_bytes}
 use Rattle.congee.proofs.Answered.{answered_remove}
 use Rattle.congee.proofs.Tables.{answer_pairs}
+use Rattle.congee.specs.Arena.{heap_of}
+use Rattle.congee.specs.Sizes.{bytes_of}
+use Rattle.congee.specs.Wanted.{lone_at, freed_of}
+use Rattle.congee.proofs.Wanting.{get_lone}
 use Rattle.congee.proofs.congee.Congee.remove.Goals as goal
 
 pub returns-clause-answers : goal.returns-clause-answers
@@ -16,3 +20,9 @@ returns-clause-answers g c =
     let a = answer_pairs nat_eq c.self.inside.arena.nodes c.remove.new.self.nodes (call.Remove c.to_word.result) (reply.Remove c.remove.result)
     (answered_remove nat_eq c.self.inside.arena.nodes c.remove.new.self.nodes c.to_word.result small c.remove.result change) in
     (c.remove.result, c.word_of.ensures, rw (← c.self.view_is, ← c.to_word.ensures) a)
+
+pub returns-clause-bytes : goal.returns-clause-bytes
+returns-clause-bytes g c =
+    let small : c.to_word.result < 2 ^ 64 = search rules in
+    let w = ap (lone_at (heap_of c.self.inside.arena.nodes)) c.to_be_bytes-bytes.ensures ∙ sym (get_lone c.self.inside.arena.nodes c.to_word.result small) in
+    rw (← c.self.view_is, ← c.to_word.ensures) (ap (λ z. bytes_of c.remove.new.self.nodes + freed_of z) (sym w) ∙ c.remove.ensures.bytes)

@@ -1,4 +1,4 @@
-use Rattle.std.proofs.Common.{rules, ◌≡◌, ◌<◌, ◌^◌, ap, subst, sym, ◌∙◌, ℕ, List}
+use Rattle.std.proofs.Common.{rules, ◌≡◌, ◌<◌, ◌^◌, ◌+◌, refl, ap, subst, sym, ◌∙◌, ℕ, List}
 use Rattle.std.specs.Prelude.{None, Some}
 use Rattle.std.specs.Arc.{arc_value}
 use Rattle.std.specs.Option.{option_map}
@@ -13,6 +13,9 @@ use Rattle.congee.specs.OwnedSteps.{settled}
 use Rattle.congee.proofs.Answered.{answered_absent, answered_present, present_change}
 use Rattle.congee.proofs.OwnerLemmas.{if_some, is_there, on_error, same_some}
 use Rattle.congee.proofs.Tables.{answer_pairs, get_pairs}
+use Rattle.congee.specs.Sizes.{bytes_of}
+use Rattle.congee.specs.Wanted.{lone_at, freed_by}
+use Rattle.congee.proofs.Wanting.{get_lone, freed_map}
 use Rattle.congee.proofs.congee_arc.CongeeArc.compute_if_present.Goals as goal
 
 pub returns-in_err-given-in-Some-clause-refused : goal.returns-in_err-given-in-Some-clause-refused
@@ -28,7 +31,7 @@ returns-in-None-clause-absent g c =
     let v = c.in-None.ensures ∙ ap (value_at (heap_of c.self.inside.arena.nodes)) c.to_be_bytes-bytes.ensures in
     let a = answer_pairs never_same c.self.inside.arena.nodes c.self.inside.arena.nodes (call.ComputePresent c.to_word.result None) (reply.ComputePresent None)
     (answered_absent never_same c.self.inside.arena.nodes c.self.inside.arena.nodes c.to_word.result small None (sym v)) in
-    rw (← c.self.view_is, ← c.to_word.ensures) a
+    rw (← c.self.view_is, ← c.to_word.ensures) (a, refl)
 
 pub returns-clause-present : goal.returns-clause-present
 returns-clause-present g c =
@@ -43,5 +46,8 @@ returns-clause-present g c =
     (answered_present never_same nodes c.settle.new.self.nodes c.to_word.result small old new (present_change nodes c.settle.new.self.nodes (key_bytes c.to_word.result) c.settle.result old new change v)) in
     if_some c.owner_of.result _ (λ x is.
     let r : c.settle.result ≡ Some (arc_value x) = sym c.owner_of.ensures ∙ ap (option_map arc_value) is in
+    let w = ap (lone_at (heap_of c.self.inside.arena.nodes)) c.to_be_bytes-bytes.ensures ∙ sym (get_lone c.self.inside.arena.nodes c.to_word.result small) in
+    let f = ap (λ o. freed_by o (lone_at (heap_of nodes) c.to_be_bytes-bytes.result)) c.payload_of-new.ensures ∙ freed_map arc_value c.f.result _ in
+    let b = ap (λ z. bytes_of c.settle.new.self.nodes + z) (sym (f ∙ ap (freed_by c.f.result) w)) ∙ c.settle.ensures.bytes in
     let same : old ≡ arc_value x = same_some old (arc_value x) (v ∙ change.was ∙ r) in
-    (c.in_ok-given-in-Some.given, c.f.result, c.f.new.self, c.in_ok-given-in-Some.ensures ∙ same, search rules, rw (← c.self.view_is, ← c.to_word.ensures, ← c.payload_of-new.ensures, ← same) a))
+    (c.in_ok-given-in-Some.given, c.f.result, c.f.new.self, c.in_ok-given-in-Some.ensures ∙ same, search rules, rw (← c.self.view_is, ← c.to_word.ensures, ← c.payload_of-new.ensures, ← same) a, rw (← c.self.view_is, ← c.to_word.ensures) b))
