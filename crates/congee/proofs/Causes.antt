@@ -1,5 +1,5 @@
 -- A step refuses for its cause alone.
-use Rattle.std.proofs.Common.{◌≡◌, ℕ, ◌==◌, ◌⊎◌, Bool, true, false, cond, List, refl, sym, ◌∙◌, ap, subst, inl, inr, arith}
+use Rattle.std.proofs.Common.{◌≡◌, ℕ, ◌==◌, ◌⊎◌, Bool, true, false, cond, List, refl, sym, ◌∙◌, ap, subst, inl, inr}
 use Rattle.std.specs.Prelude.{Option, None, Some, Result, Ok, Err, IfErr}
 use Rattle.std.proofs.Math.Dec.{ltb}
 use Rattle.judge.specs.declared.journal.Reply.{Reply}
@@ -46,15 +46,15 @@ use Rattle.congee.specs.declared.sweep.Stage.TheVariants as stage
 use Rattle.congee.specs.declared.sweep.Sweep.{Sweep as Scan}
 use Rattle.congee.specs.declared.sweep.Told.{Told}
 use Rattle.congee.specs.declared.sweep.Told.TheVariants as told
-use Rattle.congee.specs.Heap.{Node, version_of, is_taken}
+use Rattle.congee.specs.Heap.{Node, is_taken}
 use Rattle.congee.specs.Events.{upgrade_gives}
 use Rattle.congee.specs.Ledger.{Note}
 use Rattle.congee.specs.Causes.{NoneLeft, Uncounted, Causes, IsCause}
 use Rattle.congee.specs.Protocol.{IsFailure, Known}
 use Rattle.congee.specs.SweepEvents.{IsAny}
 use Rattle.congee.specs.SweepKnown.{SweepKnownAt}
-use Rattle.congee.specs.SweepSteps.{is_outside, last_of, Swung, goes, over, left_to, left, entered, anew, begins, IsFollowed, SweptAt}
-use Rattle.congee.specs.Steps.{quiet, again, answered, finished, refused, decided, asking, Uncounted as Uncopied_turn, adds, asks_new, absent_reply, form_above, greater, after_version, after_read, down, started, ready, plan_here, unless_full, missing, absent, IsAsked, replaced, taken_out, emptied, is_same, IsAtOld, IsAdded, IsExchanged, IsPresent, IsChecked, IsIf, after_miss, IsGiven, IsGivenNew, MadeLeaf, MadeGreater, MadeTop, MadeBeside, UpgradedOne, UpgradedAbove, UpgradedBoth, after_change, unwound, outcome_of, swept, PhaseStepped}
+use Rattle.congee.specs.SweepSteps.{is_outside, last_of, Swung, left_to, entered, begins, IsFollowed, SweptAt}
+use Rattle.congee.specs.Steps.{again, refused, asking, Uncounted as Uncopied_turn, adds, asks_new, absent_reply, form_above, greater, after_version, after_read, down, started, ready, plan_here, unless_full, absent, IsAsked, replaced, taken_out, is_same, IsAtOld, IsAdded, IsExchanged, IsPresent, IsChecked, after_miss, IsGiven, IsGivenNew, MadeLeaf, MadeGreater, MadeTop, MadeBeside, UpgradedOne, UpgradedAbove, UpgradedBoth, after_change, unwound, outcome_of, PhaseStepped}
 use Rattle.congee.proofs.Fits.{equal}
 use Rattle.congee.proofs.Graft.{on_test}
 use Rattle.congee.proofs.Touch.{by_test}

@@ -5,7 +5,7 @@ use Rattle.std.proofs.Math.Seq.{take-append_seam}
 use Rattle.std.proofs.lemmas.List.{length-set, length-take-le, get_or-take}
 use Rattle.congee.specs.declared.child.Child.{Child}
 use Rattle.congee.specs.declared.plain_node.PlainNode.{PlainNode}
-use Rattle.congee.specs.Heap.{Node, Stands, is_taken}
+use Rattle.congee.specs.Heap.{Node, is_taken}
 use Rattle.congee.specs.declared.base_node.NodeType.{NodeType}
 use Rattle.congee.specs.declared.base_node.NodeType.TheVariants.{N4, N16, N48, N256}
 use Rattle.congee.specs.declared.store.Seen.{Seen}

@@ -1,19 +1,19 @@
 -- Calls that have not begun or have ended, and a call in the place of one that has ended.
-use Rattle.std.proofs.Common.{◌≡◌, ◌≢◌, ℕ, ◌<◌, ◌^◌, Bool, true, List, sym, ◌∙◌, ap, subst, inl, inr}
+use Rattle.std.proofs.Common.{◌≡◌, ℕ, Bool, true, List, sym, ◌∙◌, subst, inl, inr}
 use Rattle.std.proofs.Math.ListN.{set}
 use Rattle.std.proofs.lemmas.Bool.{cases_eq}
-use Rattle.std.specs.Prelude.{Option, None, Some, slice_get}
+use Rattle.std.specs.Prelude.{Some, slice_get}
 use Rattle.congee.specs.declared.phase.Phase.{Phase}
 use Rattle.congee.specs.declared.phase.Phase.TheVariants.{Ended}
 use Rattle.congee.specs.declared.machine.Machine.{Machine}
 use Rattle.congee.specs.Bounds.{Bounded, Within}
-use Rattle.congee.specs.Destroys.{Destroys, Lost}
+use Rattle.congee.specs.Destroys.{Destroys}
 use Rattle.congee.specs.Heap.{Node, Stands}
 use Rattle.congee.specs.Keys.{key_bytes}
 use Rattle.congee.specs.Ledger.{Note}
 use Rattle.congee.specs.Holdings.{LockedBy, MadeBy, TakenBy, Holdings}
 use Rattle.congee.specs.Opening.{FreshRoot}
-use Rattle.congee.specs.Play.{IsNew, IsIdle, EachKnown, ProtocolAt, Settled}
+use Rattle.congee.specs.Play.{IsNew, IsIdle, EachKnown, Settled}
 use Rattle.congee.specs.Protocol.{Known}
 use Rattle.congee.proofs.Owners.{get_set, set_apart}
 use Rattle.congee.proofs.Opening.{opened, opening_tree, opening_words, opening_rests}

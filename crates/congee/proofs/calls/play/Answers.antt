@@ -1,4 +1,4 @@
-use Rattle.std.proofs.Common.{refl, ◌∙◌, ap, rules}
+use Rattle.std.proofs.Common.{refl, ◌∙◌, ap}
 use Rattle.std.specs.Vec.{vec_len}
 use Rattle.congee.proofs.Turns.{progress_none, progress_more, progress_end}
 use Rattle.congee.proofs.Destroys.{spares}
