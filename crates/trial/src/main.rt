@@ -3,6 +3,7 @@
 
 mod command;
 mod end;
+mod examples;
 mod keyword;
 mod line;
 mod parser;

@@ -11,4 +11,5 @@ mod protocol;
 mod scripts;
 mod stats;
 mod threads;
+mod users;
 mod worlds;

@@ -43,7 +43,7 @@ const LEAF_THROUGH_ALL_FORMS: [Row; 3] = [
     Row::Get(49, Some(49)),
 ];
 
-const EMPTIED_INNER_NODE_STAYS: [Row; 8] = [
+const EMPTIED_INNER_NODE_STAYS: [Row; 9] = [
     Row::Insert(1, 1, None),
     Row::Insert(256, 2, None),
     Row::Charged(2296),
@@ -51,6 +51,7 @@ const EMPTIED_INNER_NODE_STAYS: [Row; 8] = [
     Row::Empty(false),
     Row::Remove(256, Some(2)),
     Row::Empty(true),
+    Row::Keys(&[]),
     Row::Charged(2168),
 ];
 
@@ -296,4 +297,39 @@ fn a_root_is_refused(rt: HostRuntime) {
         limit: 1024,
     };
     assert!(rt; refusal(rt.alloc(), 1024) == Some(refused));
+}
+
+// How often closures were asked after each of four calls: for an absent key alone where it is present, for an absent
+// key in any case, and the same for a present key.
+fn times_asked(alloc: Global) -> Result<[u64; 4], Fail> {
+    let mut tree: Tree<DefaultAllocator> = Congee::new(alloc, DefaultAllocator::new())?;
+    let mut asked = 0u64;
+    let mut times = [0u64; 4];
+    tree.compute_if_present(&1, |v| {
+        asked = asked.wrapping_add(1);
+        Some(v)
+    });
+    times[0] = asked;
+    tree.compute_or_insert(1, |_| {
+        asked = asked.wrapping_add(1);
+        7
+    })?;
+    times[1] = asked;
+    tree.compute_if_present(&1, |v| {
+        asked = asked.wrapping_add(1);
+        Some(v)
+    });
+    times[2] = asked;
+    tree.compute_or_insert(1, |_| {
+        asked = asked.wrapping_add(1);
+        8
+    })?;
+    times[3] = asked;
+    Ok(times)
+}
+
+#[test]
+fn a_closure_is_asked_once_where_it_must_answer(rt: HostRuntime) -> Result<(), Fail> {
+    assert!(rt; times_asked(rt.alloc())? == [0, 1, 2, 3]);
+    Ok(())
 }

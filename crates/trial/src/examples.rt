@@ -1,0 +1,3 @@
+//! Functions of users of the libraries, who have nothing but the contracts.
+
+pub mod owned;
