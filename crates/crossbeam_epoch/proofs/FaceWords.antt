@@ -1,6 +1,6 @@
 -- The words of a collector.
-use Rattle.std.proofs.Common.{◌≡◌, ℕ, ◌+◌, false, not, sym, ap, ◌∙◌, arith}
-use Rattle.std.specs.Prelude.{List, Some, nat_eq, slice_get, slice_set}
+use Rattle.std.proofs.Common.{◌≡◌, ℕ, ◌+◌, ◌<◌, ◌≤◌, false, not, sym, ap, ◌∙◌, arith}
+use Rattle.std.specs.Prelude.{List, Option, None, Some, IfSome, nat_eq, slice_get, slice_set}
 use Rattle.std.specs.List.{list_any}
 use Rattle.std.proofs.lemmas.Bool.{eqb-true, not-false, false_from_ne_true, false≢true}
 use Rattle.std.proofs.lemmas.List.Folds.{list_any_at}
@@ -27,3 +27,8 @@ passed_at epoch e p places at none =
 
 pub near_advanced : (s : Epochs) → list_any (holds_back s.epoch) s.places ≡ false → IsNear (record s { epoch = s.epoch + 1 })
 near_advanced s none p e at = let q = passed_at s.epoch e p s.places at none in (omega (arith, q), omega (arith, q))
+
+-- a bag whose seal is two behind an epoch that was answered was sealed before every pin that is at most one behind it
+pub sealed_before : {B : Type 0} (seal : B → ℕ) (taken : Option B) (seen epoch e : ℕ) → IfSome taken (λ b. seal b + 2 ≤ seen) → seen ≤ epoch → epoch ≤ e + 1 → IfSome taken (λ b. seal b < e)
+sealed_before seal None seen epoch e due le near = tt
+sealed_before seal (Some b) seen epoch e due le near = omega (arith, due, le, near)

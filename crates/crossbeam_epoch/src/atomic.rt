@@ -1,5 +1,6 @@
 //! Pointers that threads share.
 
+ghost use Rattle.std.specs.Bool.{MatchBool};
 ghost use Rattle.std.specs.Prelude.{◌≡◌, ◌≢◌, ◌⊎◌, ◌%◌, ◌<◌, true, MatchResult, IfErr, IfSome, IsErr};
 
 use crate::fault::Fault;
@@ -10,6 +11,7 @@ use crate::ordering::CompareAndSetOrdering;
 use crate::owned::Owned;
 use crate::pointer::Pointer;
 use crate::shared::Shared;
+use crate::task::Task;
 use std::alloc::Global;
 use std::fmt;
 use std::fmt::{Debug, Formatter};
@@ -75,11 +77,11 @@ impl<T: Pointable> From<Shared<'_, T>> for Atomic<T> {
 
 impl<T: Pointable + Drop> Atomic<T> {
     /// A pointer to a value that is boxed and placed. Refused as `Memory` or `CellsFull`; the value comes back.
-    pub fn new<R: Wait>(
+    pub fn new<R: Wait, J: Task>(
         rt: &R,
         alloc: Global,
         value: T,
-        guard: &Guard<'_, T>,
+        guard: &Guard<'_, T, J>,
     ) -> Result<Self, (Fault, T)>
         ensures { IfErr result (λ e. ((e.0 ≡ Fault.Memory) ⊎ (e.0 ≡ Fault.CellsFull)) × (e.1 ≡ value)) }
     {
@@ -91,11 +93,11 @@ impl<T: Pointable + Drop> Atomic<T> {
     }
 
     /// The same as `new`.
-    pub fn init<R: Wait>(
+    pub fn init<R: Wait, J: Task>(
         rt: &R,
         alloc: Global,
         value: T,
-        guard: &Guard<'_, T>,
+        guard: &Guard<'_, T, J>,
     ) -> Result<Self, (Fault, T)>
         ensures { IfErr result (λ e. ((e.0 ≡ Fault.Memory) ⊎ (e.0 ≡ Fault.CellsFull)) × (e.1 ≡ value)) }
     {
@@ -103,9 +105,9 @@ impl<T: Pointable + Drop> Atomic<T> {
     }
 
     /// A pointer to a value that is placed. Refused as `CellsFull`; the value comes back.
-    pub fn place<R: Wait>(
+    pub fn place<R: Wait, J: Task>(
         rt: &R,
-        guard: &Guard<'_, T>,
+        guard: &Guard<'_, T, J>,
         owned: Owned<T>,
     ) -> Result<Self, (Fault, Owned<T>)>
         ensures { IfErr result (λ e. (e.0 ≡ Fault.CellsFull) × (e.1 ≡ owned)) }
@@ -115,11 +117,11 @@ impl<T: Pointable + Drop> Atomic<T> {
     }
 
     /// The pointer.
-    pub fn load<'g, R: Wait>(
+    pub fn load<'g, R: Wait, J: Task>(
         &self,
         rt: &R,
         _order: Ordering,
-        _guard: &'g Guard<'_, T>,
+        _guard: &'g Guard<'_, T, J>,
     ) -> Shared<'g, T>
         ensures { result.link.tag < T.ALIGN }
     {
@@ -127,21 +129,21 @@ impl<T: Pointable + Drop> Atomic<T> {
     }
 
     /// The same as `load`.
-    pub fn load_consume<'g, R: Wait>(&self, rt: &R, guard: &'g Guard<'_, T>) -> Shared<'g, T>
+    pub fn load_consume<'g, R: Wait, J: Task>(&self, rt: &R, guard: &'g Guard<'_, T, J>) -> Shared<'g, T>
         ensures { result.link.tag < T.ALIGN }
     {
         self.load(rt, Ordering::Acquire, guard)
     }
 
     /// Writes a pointer. Refused as `CellsFull` or `Foreign`; it comes back.
-    pub fn store<R: Wait, P: Pointer<T>>(
+    pub fn store<R: Wait, J: Task, P: Pointer<T>>(
         &self,
         rt: &R,
         new: P,
         _order: Ordering,
-        guard: &Guard<'_, T>,
+        guard: &Guard<'_, T, J>,
     ) -> Result<(), (Fault, P)>
-        ensures refused { IfErr result (λ e. (e.0 ≡ P.refused_as) × (e.1 ≡ new)) }
+        ensures refused { IfErr result (λ e. (e.0 ≡ P.refused_as) × (P.is_refusable new guard.now.collector.now.id ≡ true) × (e.1 ≡ new)) }
         ensures foreign { P.leads_elsewhere new guard.now.collector.now.id ≡ true → IsErr result }
     {
         let word = new.enter(rt, guard)?;
@@ -150,14 +152,14 @@ impl<T: Pointable + Drop> Atomic<T> {
     }
 
     /// Writes a pointer, and gives the one before. Refused as `CellsFull` or `Foreign`; it comes back.
-    pub fn swap<'g, R: Wait, P: Pointer<T>>(
+    pub fn swap<'g, R: Wait, J: Task, P: Pointer<T>>(
         &self,
         rt: &R,
         new: P,
         _order: Ordering,
-        guard: &'g Guard<'_, T>,
+        guard: &'g Guard<'_, T, J>,
     ) -> Result<Shared<'g, T>, (Fault, P)>
-        ensures refused { MatchResult result (λ s. s.link.tag < T.ALIGN) (λ e. (e.0 ≡ P.refused_as) × (e.1 ≡ new)) }
+        ensures refused { MatchResult result (λ s. s.link.tag < T.ALIGN) (λ e. (e.0 ≡ P.refused_as) × (P.is_refusable new guard.now.collector.now.id ≡ true) × (e.1 ≡ new)) }
         ensures foreign { P.leads_elsewhere new guard.now.collector.now.id ≡ true → IsErr result }
     {
         let word = new.enter(rt, guard)?;
@@ -166,20 +168,22 @@ impl<T: Pointable + Drop> Atomic<T> {
 
     /// Writes `new` where the pointer has the cell and the tag of `current`, and gives what was written; else it gives
     /// the pointer and `new` back. Refused as `CellsFull` or `Foreign`; `new` comes back.
-    pub fn compare_exchange<'g, R: Wait, P: Pointer<T>>(
+    pub fn compare_exchange<'g, R: Wait, J: Task, P: Pointer<T>>(
         &self,
         rt: &R,
         current: Shared<'_, T>,
         new: P,
         _success: Ordering,
         _failure: Ordering,
-        guard: &'g Guard<'_, T>,
+        guard: &'g Guard<'_, T, J>,
     ) -> Result<Exchanged<'g, T, P>, (Fault, P)>
         ensures answer { MatchResult result
             (λ r. MatchResult r
             (λ s. (s.link.tag ≡ P.tag_bits new % T.ALIGN) × P.leads_to new guard.now.collector.now.id s.link.site)
             (λ e. (e.current.link ≢ current.entry.link) × (e.current.link.tag < T.ALIGN) × (e.new ≡ new)))
-            (λ e. e.1 ≡ new) }
+            (λ e. (e.1 ≡ new) × MatchBool (P.leads_elsewhere new guard.now.collector.now.id)
+            (e.0 ≡ Fault.Foreign)
+            ((e.0 ≡ P.refused_as) × (P.is_refusable new guard.now.collector.now.id ≡ true))) }
         ensures foreign { P.leads_elsewhere new guard.now.collector.now.id ≡ true → IfErr result (λ e. e.0 ≡ Fault.Foreign) × IsErr result }
     {
         if new.is_foreign(guard.collector.id()) {
@@ -190,58 +194,64 @@ impl<T: Pointable + Drop> Atomic<T> {
     }
 
     /// The same as `compare_exchange`; it is free to fail where they are equal too.
-    pub fn compare_exchange_weak<'g, R: Wait, P: Pointer<T>>(
+    pub fn compare_exchange_weak<'g, R: Wait, J: Task, P: Pointer<T>>(
         &self,
         rt: &R,
         current: Shared<'_, T>,
         new: P,
         success: Ordering,
         failure: Ordering,
-        guard: &'g Guard<'_, T>,
+        guard: &'g Guard<'_, T, J>,
     ) -> Result<Exchanged<'g, T, P>, (Fault, P)>
         ensures answer { MatchResult result
             (λ r. MatchResult r
             (λ s. (s.link.tag ≡ P.tag_bits new % T.ALIGN) × P.leads_to new guard.now.collector.now.id s.link.site)
             (λ e. (e.current.link ≢ current.entry.link) × (e.current.link.tag < T.ALIGN) × (e.new ≡ new)))
-            (λ e. e.1 ≡ new) }
+            (λ e. (e.1 ≡ new) × MatchBool (P.leads_elsewhere new guard.now.collector.now.id)
+            (e.0 ≡ Fault.Foreign)
+            ((e.0 ≡ P.refused_as) × (P.is_refusable new guard.now.collector.now.id ≡ true))) }
         ensures foreign { P.leads_elsewhere new guard.now.collector.now.id ≡ true → IfErr result (λ e. e.0 ≡ Fault.Foreign) × IsErr result }
     {
         self.compare_exchange(rt, current, new, success, failure, guard)
     }
 
     /// The same as `compare_exchange`, with one ordering.
-    pub fn compare_and_set<'g, R: Wait, O: CompareAndSetOrdering, P: Pointer<T>>(
+    pub fn compare_and_set<'g, R: Wait, J: Task, O: CompareAndSetOrdering, P: Pointer<T>>(
         &self,
         rt: &R,
         current: Shared<'_, T>,
         new: P,
         order: O,
-        guard: &'g Guard<'_, T>,
+        guard: &'g Guard<'_, T, J>,
     ) -> Result<Exchanged<'g, T, P>, (Fault, P)>
         ensures answer { MatchResult result
             (λ r. MatchResult r
             (λ s. (s.link.tag ≡ P.tag_bits new % T.ALIGN) × P.leads_to new guard.now.collector.now.id s.link.site)
             (λ e. (e.current.link ≢ current.entry.link) × (e.current.link.tag < T.ALIGN) × (e.new ≡ new)))
-            (λ e. e.1 ≡ new) }
+            (λ e. (e.1 ≡ new) × MatchBool (P.leads_elsewhere new guard.now.collector.now.id)
+            (e.0 ≡ Fault.Foreign)
+            ((e.0 ≡ P.refused_as) × (P.is_refusable new guard.now.collector.now.id ≡ true))) }
         ensures foreign { P.leads_elsewhere new guard.now.collector.now.id ≡ true → IfErr result (λ e. e.0 ≡ Fault.Foreign) × IsErr result }
     {
         self.compare_exchange(rt, current, new, order.success(), order.failure(), guard)
     }
 
     /// The same as `compare_exchange_weak`, with one ordering.
-    pub fn compare_and_set_weak<'g, R: Wait, O: CompareAndSetOrdering, P: Pointer<T>>(
+    pub fn compare_and_set_weak<'g, R: Wait, J: Task, O: CompareAndSetOrdering, P: Pointer<T>>(
         &self,
         rt: &R,
         current: Shared<'_, T>,
         new: P,
         order: O,
-        guard: &'g Guard<'_, T>,
+        guard: &'g Guard<'_, T, J>,
     ) -> Result<Exchanged<'g, T, P>, (Fault, P)>
         ensures answer { MatchResult result
             (λ r. MatchResult r
             (λ s. (s.link.tag ≡ P.tag_bits new % T.ALIGN) × P.leads_to new guard.now.collector.now.id s.link.site)
             (λ e. (e.current.link ≢ current.entry.link) × (e.current.link.tag < T.ALIGN) × (e.new ≡ new)))
-            (λ e. e.1 ≡ new) }
+            (λ e. (e.1 ≡ new) × MatchBool (P.leads_elsewhere new guard.now.collector.now.id)
+            (e.0 ≡ Fault.Foreign)
+            ((e.0 ≡ P.refused_as) × (P.is_refusable new guard.now.collector.now.id ≡ true))) }
         ensures foreign { P.leads_elsewhere new guard.now.collector.now.id ≡ true → IfErr result (λ e. e.0 ≡ Fault.Foreign) × IsErr result }
     {
         self.compare_exchange_weak(rt, current, new, order.success(), order.failure(), guard)
@@ -275,12 +285,12 @@ impl<T: Pointable + Drop> Atomic<T> {
     }
 
     /// Keeps the bits of the tag that stand in the number modulo `T::ALIGN` too, and gives the pointer before.
-    pub fn fetch_and<'g, R: Wait>(
+    pub fn fetch_and<'g, R: Wait, J: Task>(
         &self,
         rt: &R,
         tag: usize,
         _order: Ordering,
-        _guard: &'g Guard<'_, T>,
+        _guard: &'g Guard<'_, T, J>,
     ) -> Shared<'g, T>
         ensures { result.link.tag < T.ALIGN }
     {
@@ -288,12 +298,12 @@ impl<T: Pointable + Drop> Atomic<T> {
     }
 
     /// Adds the bits of the number modulo `T::ALIGN` to the tag, and gives the pointer before.
-    pub fn fetch_or<'g, R: Wait>(
+    pub fn fetch_or<'g, R: Wait, J: Task>(
         &self,
         rt: &R,
         tag: usize,
         _order: Ordering,
-        _guard: &'g Guard<'_, T>,
+        _guard: &'g Guard<'_, T, J>,
     ) -> Shared<'g, T>
         ensures { result.link.tag < T.ALIGN }
     {
@@ -301,12 +311,12 @@ impl<T: Pointable + Drop> Atomic<T> {
     }
 
     /// Flips the bits of the number modulo `T::ALIGN` in the tag, and gives the pointer before.
-    pub fn fetch_xor<'g, R: Wait>(
+    pub fn fetch_xor<'g, R: Wait, J: Task>(
         &self,
         rt: &R,
         tag: usize,
         _order: Ordering,
-        _guard: &'g Guard<'_, T>,
+        _guard: &'g Guard<'_, T, J>,
     ) -> Shared<'g, T>
         ensures { result.link.tag < T.ALIGN }
     {
@@ -314,7 +324,7 @@ impl<T: Pointable + Drop> Atomic<T> {
     }
 
     /// Takes the value out of its cell, which is destroyed. `None` as for `Shared::into_owned`.
-    pub fn into_owned<R: Wait>(self, rt: &R, guard: &Guard<'_, T>) -> Option<Owned<T>>
+    pub fn into_owned<R: Wait, J: Task>(self, rt: &R, guard: &Guard<'_, T, J>) -> Option<Owned<T>>
         ensures { IfSome result (λ o. o.tag < T.ALIGN) }
     {
         let Atomic { word } = self;
@@ -322,7 +332,7 @@ impl<T: Pointable + Drop> Atomic<T> {
     }
 
     /// The same as `into_owned`.
-    pub fn try_into_owned<R: Wait>(self, rt: &R, guard: &Guard<'_, T>) -> Option<Owned<T>>
+    pub fn try_into_owned<R: Wait, J: Task>(self, rt: &R, guard: &Guard<'_, T, J>) -> Option<Owned<T>>
         ensures { IfSome result (λ o. o.tag < T.ALIGN) }
     {
         self.into_owned(rt, guard)
@@ -344,18 +354,18 @@ fn ask<'g, T, F: FnMut(Shared<'g, T>) -> Option<Shared<'g, T>>>(
 }
 
 /// The step of a compare-and-exchange on the word that is held.
-fn exchange<'g, R: Wait, T: Pointable + Drop, P: Pointer<T>>(
+fn exchange<'g, R: Wait, J: Task, T: Pointable + Drop, P: Pointer<T>>(
     rt: &R,
     held: &mut Word<T>,
     current: Link,
     new: P,
-    guard: &'g Guard<'_, T>,
+    guard: &'g Guard<'_, T, J>,
 ) -> Result<Exchanged<'g, T, P>, (Fault, P)>
     ensures { MatchResult result
         (λ r. MatchResult r
         (λ s. (held.old.link ≡ current) × (s.link ≡ held.new.link) × (s.link.tag ≡ P.tag_bits new % T.ALIGN) × P.leads_to new guard.now.collector.now.id s.link.site)
         (λ e. (held.old.link ≢ current) × (e.current.link ≡ held.old.link) × (e.new ≡ new) × (held.new ≡ held.old)))
-        (λ e. (held.old.link ≡ current) × (e.0 ≡ P.refused_as) × (e.1 ≡ new) × (held.new ≡ held.old)) }
+        (λ e. (held.old.link ≡ current) × (e.0 ≡ P.refused_as) × (P.is_refusable new guard.now.collector.now.id ≡ true) × (e.1 ≡ new) × (held.new ≡ held.old)) }
 {
     let now = held.load();
     if now != current {

@@ -1,20 +1,20 @@
 //! The collector.
 
-ghost use Rattle.std.specs.Prelude.{◌≡◌, ◌<◌, ◌&&◌, ℕ, [], nat_eq, IfErr, MatchResult};
+ghost use Rattle.std.specs.Prelude.{◌≡◌, ◌<◌, ◌≤◌, ◌+◌, ◌&&◌, ℕ, [], nat_eq, IfErr, IfSome, MatchResult};
 ghost use Rattle.std.specs.Bool.{MatchBool};
 ghost use Rattle.crossbeam_epoch.specs.Limits.{within};
 
-use crate::deferred::{Deferred, Jobs};
+use crate::bag::{BAG, Bag, Work};
 use crate::epoch::Words;
-use crate::expired::ExpiredBag;
 use crate::fault::Fault;
 use crate::handle::LocalHandle;
 use crate::internal::Internal;
 use crate::limits::Limits;
 use crate::names::Name;
+use crate::places::Sealed;
 use crate::queue::{EXPIRY, Queue};
 use crate::slots::Slots;
-use crate::task::Task;
+use crate::task::{Job, Task};
 use crossbeam_utils::CachePadded;
 use std::alloc::{AllocError, Global};
 use std::fmt;
@@ -24,14 +24,15 @@ use std::sync::{Mutex, Wait};
 /// Bags that one collection takes at most.
 const BAGS: u8 = 8;
 
-/// An epoch-based garbage collector for values of one type (the source's `Collector`).
+/// An epoch-based garbage collector for values of one type (the source's `Collector`). What handles put off are jobs
+/// of the type J: boxed closures, or an enum of the user's own.
 #[derive(Drop)]
-pub struct Collector<T> {
+pub struct Collector<T, J: Task = Job> {
     id: u64,
-    internal: CachePadded<Mutex<Internal<T>>>,
+    internal: CachePadded<Mutex<Internal<T, J>>>,
 }
 
-impl<T: Drop> Collector<T> {
+impl<T: Drop, J: Task> Collector<T, J> {
     /// A collector with these limits. Its number tells it from others, so give each another one.
     /// Refused as `Limits`, also where `expiry` isn't 2, or as `Memory`.
     pub fn new<R: Wait>(_rt: &R, alloc: Global, limits: Limits, id: u64) -> Result<Self, Fault>
@@ -46,7 +47,7 @@ impl<T: Drop> Collector<T> {
         }
     }
 
-    fn make(alloc: Global, limits: Limits) -> Result<Internal<T>, AllocError> {
+    fn make(alloc: Global, limits: Limits) -> Result<Internal<T, J>, AllocError> {
         let words = Words::new(alloc, limits.participants, limits.epoch_max)?;
         let slots = Slots::new(alloc, limits.cells, limits.turn_max)?;
         Ok(Internal {
@@ -56,7 +57,7 @@ impl<T: Drop> Collector<T> {
         })
     }
 
-    fn with(id: u64, internal: Internal<T>) -> Self
+    fn with(id: u64, internal: Internal<T, J>) -> Self
         ensures { result.id ≡ id }
     {
         Collector {
@@ -73,15 +74,15 @@ impl<T: Drop> Collector<T> {
     }
 
     /// Whether both have one number.
-    pub fn same(&self, other: &Collector<T>) -> bool
+    pub fn same(&self, other: &Collector<T, J>) -> bool
         ensures { result ≡ nat_eq self.now.id other.now.id }
     {
         self.id == other.id
     }
 
     /// Takes the lowest free place of the table. Refused as `TableFull`.
-    pub fn register<R: Wait>(&self, rt: &R) -> Result<LocalHandle<'_, T>, Fault>
-        ensures { MatchResult result (λ h. (h.collector.now ≡ self.now) × (h.guards ≡ 0) × (h.bag.items ≡ [])) (λ e. e ≡ Fault.TableFull) }
+    pub fn register<R: Wait>(&self, rt: &R) -> Result<LocalHandle<'_, T, J>, Fault>
+        ensures { MatchResult result (λ h. (h.collector.now ≡ self.now) × (h.guards ≡ 0) × (h.bag ≡ [])) (λ e. e ≡ Fault.TableFull) }
     {
         match self.lock().lock(rt).words.claim() {
             Some(place) => Ok(LocalHandle::new(self, place)),
@@ -105,24 +106,18 @@ impl<T: Drop> Collector<T> {
             queue,
         } = internal;
         for bag in queue.into_bags() {
-            for job in bag.jobs {
-                match job {
-                    Deferred::Blank => {}
-                    Deferred::Destroy(name) => drop(slots.remove(name)),
-                    Deferred::Call(job) => job.run(),
-                }
-            }
+            call_left(&mut slots, bag.jobs);
         }
         Ok(())
     }
 
-    fn lock(&self) -> &Mutex<Internal<T>> {
+    fn lock(&self) -> &Mutex<Internal<T, J>> {
         &self.internal
     }
 }
 
 /// What handles, guards and pointers do under the lock, each in one hold.
-impl<T: Drop> Collector<T> {
+impl<T: Drop, J: Task> Collector<T, J> {
     pub(crate) fn pin<R: Wait>(&self, rt: &R, place: u32) -> u64 {
         self.lock().lock(rt).words.pin(place)
     }
@@ -139,7 +134,7 @@ impl<T: Drop> Collector<T> {
         self.lock().lock(rt).words.give_up(place);
     }
 
-    pub(crate) fn seal<R: Wait>(&self, rt: &R, jobs: Jobs) -> Result<(), Jobs>
+    pub(crate) fn seal<R: Wait>(&self, rt: &R, jobs: Bag<J>) -> Result<(), Bag<J>>
         ensures { IfErr result (λ j. j ≡ jobs) }
     {
         self.lock().lock(rt).seal(jobs)
@@ -169,7 +164,9 @@ impl<T: Drop> Collector<T> {
         self.lock().lock(rt).words.advance()
     }
 
-    fn take_expired<R: Wait>(&self, rt: &R, seen: u64) -> Option<ExpiredBag> {
+    fn take_expired<R: Wait>(&self, rt: &R, seen: u64) -> Option<Sealed<J>>
+        ensures { IfSome result (λ b. b.seal + 2 ≤ seen) }
+    {
         self.lock().lock(rt).take_expired(seen)
     }
 
@@ -178,25 +175,56 @@ impl<T: Drop> Collector<T> {
     pub(crate) fn collect<R: Wait>(&self, rt: &R) {
         let seen = self.advance(rt);
         for _ in 0..BAGS {
-            match self.take_expired(rt, seen) {
-                Some(bag) => self.call(rt, bag),
-                None => return,
+            if !self.call_expired(rt, seen) {
+                return;
             }
         }
     }
 
-    fn call<R: Wait>(&self, rt: &R, bag: ExpiredBag) {
-        for job in bag.jobs {
-            match job {
-                Deferred::Blank => {}
-                Deferred::Destroy(name) => drop(self.remove(rt, name)),
-                Deferred::Call(job) => job.run(),
+    /// Calls the jobs of the front bag, where it is expired, and tells whether it was.
+    fn call_expired<R: Wait>(&self, rt: &R, seen: u64) -> bool {
+        match self.take_expired(rt, seen) {
+            Some(bag) => {
+                self.call(rt, bag, seen);
+                true
+            }
+            None => false,
+        }
+    }
+
+    /// Calls the jobs of a bag whose seal is at least two behind the epoch that was seen.
+    fn call<R: Wait>(&self, rt: &R, bag: Sealed<J>, _seen: u64)
+        requires { bag.seal + 2 ≤ _seen }
+    {
+        let mut jobs = bag.jobs;
+        for _ in 0..BAG {
+            if jobs.is_empty() {
+                return;
+            }
+            match jobs.take_first().work {
+                Work::Blank => {}
+                Work::Remove(name) => drop(self.remove(rt, name)),
+                Work::Run(job) => job.run(),
             }
         }
     }
 }
 
-impl<T> Debug for Collector<T> {
+/// Calls the jobs of a bag that is left at the end.
+fn call_left<T: Drop, J: Task>(slots: &mut Slots<T>, mut jobs: Bag<J>) {
+    for _ in 0..BAG {
+        if jobs.is_empty() {
+            return;
+        }
+        match jobs.take_first().work {
+            Work::Blank => {}
+            Work::Remove(name) => drop(slots.remove(name)),
+            Work::Run(job) => job.run(),
+        }
+    }
+}
+
+impl<T, J: Task> Debug for Collector<T, J> {
     fn fmt<W: fmt::Write>(&self, f: &mut Formatter<W>) -> fmt::Result {
         f.debug_struct("Collector").finish()
     }

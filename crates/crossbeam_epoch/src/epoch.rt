@@ -1,6 +1,6 @@
 //! The words: the global epoch, and one word for each place of the table.
 
-ghost use Rattle.std.specs.Prelude.{◌≡◌, ◌-◌, length, MatchOption, IfOk, None, Some, true, position, count_by, slice_get};
+ghost use Rattle.std.specs.Prelude.{◌≡◌, ◌-◌, length, MatchOption, IfOk, None, Some, true, position, count_by, replicate, slice_get};
 ghost use Rattle.std.specs.List.{list_any};
 ghost use Rattle.crossbeam_epoch.specs.FaceEpoch.{IsNear, advanced, written, is_free, holds_back};
 
@@ -81,8 +81,7 @@ impl Model for Words {
 impl Words {
     /// Epoch 0, and so many free places.
     pub fn new(alloc: Global, places: u32, epoch_max: u64) -> Result<Words, AllocError>
-        ensures epoch { IfOk result (λ w. w.epoch ≡ 0) }
-        ensures places { IfOk result (λ w. length w.places ≡ places) }
+        ensures { IfOk result (λ w. w ≡ record { epoch = 0; epoch_max = epoch_max; places = replicate places Word.Free }) }
     {
         let places = Vec::from_elem(alloc, Word::Free, places as usize)?;
         Ok(Words {

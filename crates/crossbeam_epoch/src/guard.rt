@@ -3,6 +3,7 @@
 ghost use Rattle.std.specs.Prelude.{◌≡◌, IsSomeAnd};
 
 use crate::collector::Collector;
+use crate::task::{Job, Task};
 use crate::unguarded::Unprotected;
 use std::fmt;
 use std::fmt::{Debug, Formatter};
@@ -15,19 +16,19 @@ pub struct Seat {
     pub place: u32,
 }
 
-/// What a pointer's lifetime may rest on: a guard.
-pub trait Protects {}
-
-impl<T> Protects for Guard<'_, T> {}
-
 /// Keeps a participant pinned (the source's `Guard`). It is spent by `LocalHandle::unpin`, and can't be dropped.
-pub struct Guard<'c, T> {
-    pub(crate) collector: &'c Collector<T>,
+pub struct Guard<'c, T, J: Task = Job> {
+    pub(crate) collector: &'c Collector<T, J>,
     pub(crate) seat: Seat,
     pub(crate) epoch: u64,
 }
 
-impl<'c, T: Drop> Guard<'c, T> {
+/// What a pointer's lifetime may rest on: a guard.
+pub trait Protects {}
+
+impl<T, J: Task> Protects for Guard<'_, T, J> {}
+
+impl<'c, T: Drop, J: Task> Guard<'c, T, J> {
     /// An epoch that was read after the pin was published.
     pub fn pinned_at(&self) -> u64
         ensures { result ≡ self.now.epoch }
@@ -36,7 +37,7 @@ impl<'c, T: Drop> Guard<'c, T> {
     }
 
     /// The collector of its handle.
-    pub fn collector(&self) -> Option<&'c Collector<T>>
+    pub fn collector(&self) -> Option<&'c Collector<T, J>>
         ensures { IsSomeAnd result (λ c. c.now ≡ self.now.collector.now) }
     {
         Some(self.collector)
@@ -48,7 +49,7 @@ pub fn unprotected() -> Unprotected {
     Unprotected
 }
 
-impl<T> Debug for Guard<'_, T> {
+impl<T, J: Task> Debug for Guard<'_, T, J> {
     fn fmt<W: fmt::Write>(&self, f: &mut Formatter<W>) -> fmt::Result {
         f.debug_struct("Guard").finish()
     }

@@ -7,35 +7,36 @@ ghost use Rattle.crossbeam_epoch.specs.FaceHandle.{owns};
 ghost use Rattle.crossbeam_epoch.specs.FacePointer.{name_in};
 
 use crate::collector::Collector;
-use crate::deferred::{Deferred, JOBS, Jobs};
+use crate::bag::{Bag, Entry, Work};
 use crate::fault::Fault;
 use crate::guard::{Guard, Seat};
 use crate::names::{Name, Pointable};
 use crate::shared::Shared;
-use crate::task::Job;
+use crate::task::{Job, Task};
 use std::fmt;
 use std::fmt::{Debug, Formatter};
+use std::mem;
 use std::sync::Wait;
 
 /// A participant of a collector (the source's `LocalHandle`). It keeps the jobs that it defers until its bag is full.
 /// A handle that is dropped stays registered, and its unsealed jobs are never called: `release` it.
 #[derive(Drop)]
-pub struct LocalHandle<'c, T> {
-    collector: &'c Collector<T>,
+pub struct LocalHandle<'c, T, J: Task = Job> {
+    collector: &'c Collector<T, J>,
     seat: Seat,
     /// Guards that are out.
     guards: u16,
     /// The epoch of the guards that are out.
     epoch: u64,
-    bag: Jobs,
+    bag: Bag<J>,
 }
 
-impl<'c, T: Drop> LocalHandle<'c, T> {
+impl<'c, T: Drop, J: Task> LocalHandle<'c, T, J> {
     /// The handle of a place that was just taken.
-    pub(crate) fn new(collector: &'c Collector<T>, place: u32) -> Self
+    pub(crate) fn new(collector: &'c Collector<T, J>, place: u32) -> Self
         ensures collector { result.collector ≡ collector.entry }
         ensures guards { result.guards ≡ 0 }
-        ensures bag { result.bag.items ≡ [] }
+        ensures bag { result.bag ≡ [] }
     {
         LocalHandle {
             collector,
@@ -45,12 +46,12 @@ impl<'c, T: Drop> LocalHandle<'c, T> {
             },
             guards: 0,
             epoch: 0,
-            bag: Jobs::new(),
+            bag: Bag::new(),
         }
     }
 
     /// Its collector.
-    pub fn collector(&self) -> &'c Collector<T>
+    pub fn collector(&self) -> &'c Collector<T, J>
         ensures { result.now ≡ self.now.collector.now }
     {
         self.collector
@@ -64,7 +65,7 @@ impl<'c, T: Drop> LocalHandle<'c, T> {
     }
 
     /// Pins the participant; guards of one handle nest, and go in any order. Refused as `Count` with 65,535 guards out.
-    pub fn pin<R: Wait>(&mut self, rt: &R) -> Result<Guard<'c, T>, Fault>
+    pub fn pin<R: Wait>(&mut self, rt: &R) -> Result<Guard<'c, T, J>, Fault>
         ensures guard { IfOk result (λ g. (owns self.new.guards self.new.seat g.seat ≡ true) × (g.epoch ≡ self.new.epoch)) }
         ensures counted { MatchResult result
             (λ _. self.new ≡ record self.old { guards = self.old.guards + 1; epoch = self.new.epoch })
@@ -89,8 +90,8 @@ impl<'c, T: Drop> LocalHandle<'c, T> {
     pub fn unpin<'d, R: Wait>(
         &mut self,
         rt: &R,
-        guard: Guard<'d, T>,
-    ) -> Result<(), (Fault, Guard<'d, T>)>
+        guard: Guard<'d, T, J>,
+    ) -> Result<(), (Fault, Guard<'d, T, J>)>
         ensures { MatchResult result
             (λ _. (owns self.old.guards self.old.seat guard.entry.seat ≡ true) × (self.new ≡ record self.old { guards = self.old.guards - 1 }))
             (λ e. (owns self.old.guards self.old.seat guard.entry.seat ≡ false) × (e.0 ≡ Fault.Foreign) × (e.1 ≡ guard.entry) × (self.new ≡ self.old)) }
@@ -111,7 +112,7 @@ impl<'c, T: Drop> LocalHandle<'c, T> {
     }
 
     /// Whether the guard is one of this handle's.
-    fn owns(&self, guard: &Guard<'_, T>) -> bool
+    fn owns(&self, guard: &Guard<'_, T, J>) -> bool
         ensures { result ≡ owns self.now.guards self.now.seat guard.now.seat }
     {
         self.guards > 0 && guard.seat == self.seat
@@ -123,7 +124,7 @@ impl<'c, T: Drop> LocalHandle<'c, T> {
         ensures { MatchResult result
             (λ _. self.entry.guards ≡ 0)
             (λ e. (e.1 ≡ self.entry)
-            × MatchBool (nat_lt 0 self.entry.guards) (e.0 ≡ Fault.GuardOut) ((e.0 ≡ Fault.Memory) × (0 < length self.entry.bag.items))) }
+            × MatchBool (nat_lt 0 self.entry.guards) (e.0 ≡ Fault.GuardOut) ((e.0 ≡ Fault.Memory) × (0 < length self.entry.bag))) }
     {
         if self.guards > 0 {
             return Err((Fault::GuardOut, self));
@@ -144,13 +145,13 @@ impl<'c, T: Drop> LocalHandle<'c, T> {
 
     /// Seals the bag, unless it is empty.
     fn seal<R: Wait>(&mut self, rt: &R) -> Result<(), Fault>
-        ensures ok { OnOk result ((self.new.bag.items ≡ []) × (self.new ≡ record self.old { bag = self.new.bag })) }
-        ensures err { IfErr result (λ e. (e ≡ Fault.Memory) × (self.new ≡ self.old) × (0 < length self.old.bag.items)) }
+        ensures ok { OnOk result ((self.new.bag ≡ []) × (self.new ≡ record self.old { bag = self.new.bag })) }
+        ensures err { IfErr result (λ e. (e ≡ Fault.Memory) × (self.new ≡ self.old) × (0 < length self.old.bag)) }
     {
         if self.bag.is_empty() {
             return Ok(());
         }
-        let jobs = self.bag.take();
+        let jobs = mem::replace(&mut self.bag, Bag::new());
         match self.collector.seal(rt, jobs) {
             Ok(()) => Ok(()),
             Err(jobs) => {
@@ -163,10 +164,10 @@ impl<'c, T: Drop> LocalHandle<'c, T> {
     /// Makes a place in the bag: a full one is sealed.
     fn make_room<R: Wait>(&mut self, rt: &R) -> Result<(), Fault>
         ensures ok { OnOk result (self.new ≡ record self.old { bag = self.new.bag }) }
-        ensures bag { OnOk result (self.new.bag.items ≡ (if nat_lt (length self.old.bag.items) 64 then self.old.bag.items else [])) }
-        ensures err { IfErr result (λ e. (e ≡ Fault.Memory) × (self.new ≡ self.old) × (64 ≤ length self.old.bag.items)) }
+        ensures bag { OnOk result (self.new.bag ≡ (if nat_lt (length self.old.bag) 64 then self.old.bag else [])) }
+        ensures err { IfErr result (λ e. (e ≡ Fault.Memory) × (self.new ≡ self.old) × (64 ≤ length self.old.bag)) }
     {
-        if self.bag.len() < JOBS {
+        if !self.bag.is_full() {
             return Ok(());
         }
         self.seal(rt)
@@ -177,13 +178,13 @@ impl<'c, T: Drop> LocalHandle<'c, T> {
     pub fn defer<R: Wait>(
         &mut self,
         rt: &R,
-        guard: &Guard<'_, T>,
-        job: Job,
-    ) -> Result<(), (Fault, Job)>
+        guard: &Guard<'_, T, J>,
+        job: J,
+    ) -> Result<(), (Fault, J)>
         ensures ok { OnOk result ((owns self.old.guards self.old.seat guard.now.seat ≡ true) × (self.new ≡ record self.old { bag = self.new.bag })) }
-        ensures bag { OnOk result (self.new.bag.items ≡ (if nat_lt (length self.old.bag.items) 64 then self.old.bag.items else []) ++ Deferred.Call job ∷ []) }
+        ensures bag { OnOk result (self.new.bag ≡ (if nat_lt (length self.old.bag) 64 then self.old.bag else []) ++ record { ticket = 0; work = Work.Run job } ∷ []) }
         ensures err { IfErr result (λ e. (e.1 ≡ job) × (self.new ≡ self.old)
-            × MatchBool (owns self.old.guards self.old.seat guard.now.seat) ((e.0 ≡ Fault.Memory) × (64 ≤ length self.old.bag.items)) (e.0 ≡ Fault.Foreign)) }
+            × MatchBool (owns self.old.guards self.old.seat guard.now.seat) ((e.0 ≡ Fault.Memory) × (64 ≤ length self.old.bag)) (e.0 ≡ Fault.Foreign)) }
     {
         if !self.owns(guard) {
             return Err((Fault::Foreign, job));
@@ -191,7 +192,7 @@ impl<'c, T: Drop> LocalHandle<'c, T> {
         if let Err(fault) = self.make_room(rt) {
             return Err((fault, job));
         }
-        self.bag.push(Deferred::Call(job));
+        self.bag.push(deferral(Work::Run(job)));
         Ok(())
     }
 
@@ -199,23 +200,23 @@ impl<'c, T: Drop> LocalHandle<'c, T> {
     pub fn defer_unchecked<R: Wait>(
         &mut self,
         rt: &R,
-        guard: &Guard<'_, T>,
-        job: Job,
-    ) -> Result<(), (Fault, Job)>
+        guard: &Guard<'_, T, J>,
+        job: J,
+    ) -> Result<(), (Fault, J)>
         ensures ok { OnOk result ((owns self.old.guards self.old.seat guard.now.seat ≡ true) × (self.new ≡ record self.old { bag = self.new.bag })) }
-        ensures bag { OnOk result (self.new.bag.items ≡ (if nat_lt (length self.old.bag.items) 64 then self.old.bag.items else []) ++ Deferred.Call job ∷ []) }
+        ensures bag { OnOk result (self.new.bag ≡ (if nat_lt (length self.old.bag) 64 then self.old.bag else []) ++ record { ticket = 0; work = Work.Run job } ∷ []) }
         ensures err { IfErr result (λ e. (e.1 ≡ job) × (self.new ≡ self.old)
-            × MatchBool (owns self.old.guards self.old.seat guard.now.seat) ((e.0 ≡ Fault.Memory) × (64 ≤ length self.old.bag.items)) (e.0 ≡ Fault.Foreign)) }
+            × MatchBool (owns self.old.guards self.old.seat guard.now.seat) ((e.0 ≡ Fault.Memory) × (64 ≤ length self.old.bag)) (e.0 ≡ Fault.Foreign)) }
     {
         self.defer(rt, guard, job)
     }
 
     /// Seals the bag, unless it is empty, and collects. Refused as `Foreign`, or as `Memory`: then nothing was done.
-    pub fn flush<R: Wait>(&mut self, rt: &R, guard: &Guard<'_, T>) -> Result<(), Fault>
+    pub fn flush<R: Wait>(&mut self, rt: &R, guard: &Guard<'_, T, J>) -> Result<(), Fault>
         ensures ok { OnOk result ((owns self.old.guards self.old.seat guard.now.seat ≡ true)
-            × (self.new.bag.items ≡ []) × (self.new ≡ record self.old { bag = self.new.bag })) }
+            × (self.new.bag ≡ []) × (self.new ≡ record self.old { bag = self.new.bag })) }
         ensures err { IfErr result (λ e. (self.new ≡ self.old)
-            × MatchBool (owns self.old.guards self.old.seat guard.now.seat) ((e ≡ Fault.Memory) × (0 < length self.old.bag.items)) (e ≡ Fault.Foreign)) }
+            × MatchBool (owns self.old.guards self.old.seat guard.now.seat) ((e ≡ Fault.Memory) × (0 < length self.old.bag)) (e ≡ Fault.Foreign)) }
     {
         if !self.owns(guard) {
             return Err(Fault::Foreign);
@@ -226,7 +227,7 @@ impl<'c, T: Drop> LocalHandle<'c, T> {
     }
 
     /// Pins the participant anew, where this is its only guard. Refused as `Foreign`.
-    pub fn repin<R: Wait>(&mut self, rt: &R, guard: &mut Guard<'_, T>) -> Result<(), Fault>
+    pub fn repin<R: Wait>(&mut self, rt: &R, guard: &mut Guard<'_, T, J>) -> Result<(), Fault>
         ensures ok { OnOk result ((owns self.old.guards self.old.seat guard.old.seat ≡ true)
             × (self.new ≡ record self.old { epoch = self.new.epoch }) × (guard.new ≡ record guard.old { epoch = guard.new.epoch })) }
         ensures epoch { OnOk result (MatchBool (nat_eq self.old.guards 1)
@@ -249,12 +250,12 @@ impl<'c, T: Drop> LocalHandle<'c, T> {
     pub fn repin_after<R: Wait, O, F: FnOnce() -> O>(
         &mut self,
         rt: &R,
-        guard: &mut Guard<'_, T>,
+        guard: &mut Guard<'_, T, J>,
         f: F,
     ) -> Result<O, Fault>
     where
         F: Drop,
-        requires { F.IsAlwaysCallable f }
+        requires { F.pre f }
         ensures ok { IfOk result (λ o. (owns self.old.guards self.old.seat guard.old.seat ≡ true) × F.post f o) }
         ensures state { OnOk result ((self.new ≡ record self.old { epoch = self.new.epoch }) × (guard.new ≡ record guard.old { epoch = guard.new.epoch })) }
         ensures epoch { OnOk result (MatchBool (nat_eq self.old.guards 1)
@@ -277,22 +278,22 @@ impl<'c, T: Drop> LocalHandle<'c, T> {
     }
 }
 
-impl<T: Pointable + Drop> LocalHandle<'_, T> {
+impl<T: Pointable + Drop, J: Task> LocalHandle<'_, T, J> {
     /// Puts off the destruction of the value that the pointer leads to. Refused as `Foreign`, as `Unknown` for null,
     /// or as `Memory`; the pointer comes back.
     pub fn defer_destroy<'s, R: Wait>(
         &mut self,
         rt: &R,
-        guard: &Guard<'_, T>,
+        guard: &Guard<'_, T, J>,
         pointer: Shared<'s, T>,
     ) -> Result<(), (Fault, Shared<'s, T>)>
         ensures ok { OnOk result ((owns self.old.guards self.old.seat guard.now.seat ≡ true) × (self.new ≡ record self.old { bag = self.new.bag })) }
         ensures bag { OnOk result (MatchResult (name_in pointer.entry.link.site self.old.collector.now.id)
-            (λ n. self.new.bag.items ≡ (if nat_lt (length self.old.bag.items) 64 then self.old.bag.items else []) ++ Deferred.Destroy n ∷ [])
+            (λ n. self.new.bag ≡ (if nat_lt (length self.old.bag) 64 then self.old.bag else []) ++ record { ticket = 0; work = Work.Remove n } ∷ [])
             (λ e. ⊥)) }
         ensures err { IfErr result (λ e. (e.1 ≡ pointer.entry) × (self.new ≡ self.old)
             × MatchBool (owns self.old.guards self.old.seat guard.now.seat)
-            (MatchResult (name_in pointer.entry.link.site self.old.collector.now.id) (λ _. (e.0 ≡ Fault.Memory) × (64 ≤ length self.old.bag.items)) (λ f. e.0 ≡ f))
+            (MatchResult (name_in pointer.entry.link.site self.old.collector.now.id) (λ _. (e.0 ≡ Fault.Memory) × (64 ≤ length self.old.bag)) (λ f. e.0 ≡ f))
             (e.0 ≡ Fault.Foreign)) }
     {
         if !self.owns(guard) {
@@ -305,12 +306,19 @@ impl<T: Pointable + Drop> LocalHandle<'_, T> {
         if let Err(fault) = self.make_room(rt) {
             return Err((fault, pointer));
         }
-        self.bag.push(Deferred::Destroy(name));
+        self.bag.push(deferral(Work::Remove(name)));
         Ok(())
     }
 }
 
-impl<T> Debug for LocalHandle<'_, T> {
+/// A deferral, which has no ticket of its own.
+fn deferral<J>(work: Work<J>) -> Entry<J>
+    ensures { result ≡ record { ticket = 0; work = work } }
+{
+    Entry { ticket: 0, work }
+}
+
+impl<T, J: Task> Debug for LocalHandle<'_, T, J> {
     fn fmt<W: fmt::Write>(&self, f: &mut Formatter<W>) -> fmt::Result {
         f.debug_struct("LocalHandle").finish()
     }

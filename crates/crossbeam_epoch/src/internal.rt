@@ -5,26 +5,27 @@
 //! that was out at one of its deferrals is pinned at that epoch or an earlier one. While a guard is out the epoch stays
 //! at most one past the epoch of its pin, so a bag whose seal is two behind was filled after every guard that is out now.
 
-ghost use Rattle.std.specs.Prelude.{◌≡◌, ◌<◌, ◌++◌, ◌∷◌, [], ℕ, is_ok, if◌then◌else◌, IfErr, IfSome, Some, slice_get};
+ghost use Rattle.std.specs.Prelude.{◌≡◌, ◌<◌, ◌≤◌, ◌+◌, ◌++◌, ◌∷◌, [], ℕ, is_ok, if◌then◌else◌, IfErr, IfSome, Some, slice_get};
 ghost use Rattle.crossbeam_epoch.specs.declared.epoch.Word.TheVariants.{Pinned};
 
-use crate::deferred::Jobs;
+use crate::bag::Bag;
 use crate::epoch::Words;
-use crate::expired::ExpiredBag;
+use crate::places::Sealed;
 use crate::queue::Queue;
 use crate::slots::Slots;
+use crate::task::Task;
 
 /// The words, the cells and the queue of a collector.
 #[derive(Drop)]
-pub struct Internal<T> {
+pub struct Internal<T, J: Task> {
     pub words: Words,
     pub slots: Slots<T>,
-    pub queue: Queue,
+    pub queue: Queue<J>,
 }
 
-impl<T: Drop> Internal<T> {
+impl<T: Drop, J: Task> Internal<T, J> {
     /// Reads the epoch as the seal of these jobs, and queues them.
-    pub fn seal(&mut self, jobs: Jobs) -> Result<(), Jobs>
+    pub fn seal(&mut self, jobs: Bag<J>) -> Result<(), Bag<J>>
         ensures queue { self.new.queue.bags.items ≡ (if is_ok result
             then self.old.queue.bags.items ++ record { seal = self.old.words.epoch; jobs = jobs } ∷ []
             else self.old.queue.bags.items) }
@@ -38,7 +39,8 @@ impl<T: Drop> Internal<T> {
 
     /// Takes a bag that had expired when the epoch that was seen was answered. Its seal is below the epoch of every
     /// place that is pinned.
-    pub fn take_expired(&mut self, seen: u64) -> Option<ExpiredBag>
+    pub fn take_expired(&mut self, seen: u64) -> Option<Sealed<J>>
+        ensures due { IfSome result (λ b. b.seal + 2 ≤ seen) }
         ensures unblocked { (p e : ℕ) → slice_get self.old.words.places p ≡ Some (Pinned e) → IfSome result (λ b. b.seal < e) }
         ensures words { self.new.words ≡ self.old.words }
         ensures slots { self.new.slots ≡ self.old.slots }

@@ -4,18 +4,19 @@ ghost use Rattle.std.specs.Prelude.{◌≡◌};
 
 use crate::collector::Collector;
 use crate::names::Name;
+use crate::task::{Job, Task};
 use std::sync::Wait;
 
 /// A value that is lent to be read. It is spent by `back`, and can't be dropped.
-pub struct Lent<'g, T> {
-    collector: &'g Collector<T>,
+pub struct Lent<'g, T, J: Task = Job> {
+    collector: &'g Collector<T, J>,
     name: Name,
     value: Box<T>,
 }
 
-impl<'g, T: Drop> Lent<'g, T> {
+impl<'g, T: Drop, J: Task> Lent<'g, T, J> {
     /// The value that was taken out of this cell.
-    pub(crate) fn new(collector: &'g Collector<T>, name: Name, value: Box<T>) -> Self
+    pub(crate) fn new(collector: &'g Collector<T, J>, name: Name, value: Box<T>) -> Self
         ensures { result ≡ record { collector = collector.entry; name = name; value = value } }
     {
         Lent {
@@ -44,15 +45,15 @@ impl<'g, T: Drop> Lent<'g, T> {
 }
 
 /// A value that is lent to be changed. It is spent by `back`, and can't be dropped.
-pub struct LentMut<'g, T> {
-    collector: &'g Collector<T>,
+pub struct LentMut<'g, T, J: Task = Job> {
+    collector: &'g Collector<T, J>,
     name: Name,
     value: Box<T>,
 }
 
-impl<'g, T: Drop> LentMut<'g, T> {
+impl<'g, T: Drop, J: Task> LentMut<'g, T, J> {
     /// The value that was taken out of this cell.
-    pub(crate) fn new(collector: &'g Collector<T>, name: Name, value: Box<T>) -> Self
+    pub(crate) fn new(collector: &'g Collector<T, J>, name: Name, value: Box<T>) -> Self
         ensures { result ≡ record { collector = collector.entry; name = name; value = value } }
     {
         LentMut {

@@ -8,6 +8,7 @@ use crate::names::Pointable;
 use crate::pointer::Pointer;
 use crate::shared::Shared;
 use crate::tag::tag_of;
+use crate::task::Task;
 use std::alloc::Global;
 use std::ops::{Deref, DerefMut};
 use std::sync::Wait;
@@ -85,10 +86,10 @@ impl<T: Pointable> Owned<T> {
 
 impl<T: Pointable + Drop> Owned<T> {
     /// Places the value. Refused as `CellsFull`; it comes back.
-    pub fn into_shared<'g, R: Wait>(
+    pub fn into_shared<'g, R: Wait, J: Task>(
         self,
         rt: &R,
-        guard: &'g Guard<'_, T>,
+        guard: &'g Guard<'_, T, J>,
     ) -> Result<Shared<'g, T>, (Fault, Self)>
         ensures { MatchResult result (λ s. (s.link.tag ≡ self.tag % T.ALIGN) × IsSomeAnd s.link.site (λ x. x.collector ≡ guard.now.collector.now.id)) (λ e. (e.0 ≡ Fault.CellsFull) × (e.1 ≡ self)) }
     {

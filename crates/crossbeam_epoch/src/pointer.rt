@@ -9,6 +9,7 @@ use crate::link::{Link, Site, Word};
 use crate::names::Pointable;
 use crate::owned::Owned;
 use crate::shared::Shared;
+use crate::task::Task;
 use std::sync::Wait;
 
 /// A value with a tag, or a pointer to one (the source's `Pointer`).
@@ -25,20 +26,22 @@ pub trait Pointer<T: Pointable>: Sized {
 
     ghost refused_as: { Fault };
 
+    ghost is_refusable: { Self → ℕ → Bool };
+
     /// Whether it leads to a cell of another collector than this one.
     fn is_foreign(&self, collector: u64) -> bool
         ensures { result ≡ leads_elsewhere self.now collector };
 
-    /// The word that leads to it: a value is placed in a cell of the guard's collector. Refused as `Foreign`, or as
-    /// `CellsFull`; it comes back.
-    fn enter<R: Wait>(self, rt: &R, guard: &Guard<'_, T>) -> Result<Word<T>, (Fault, Self)>
-        ensures tag { MatchResult result (λ w. w.link.tag ≡ tag_bits self % T.ALIGN) (λ e. (e.0 ≡ refused_as) × (e.1 ≡ self)) }
+    /// The word that leads to it: a value is placed in a cell of the guard's collector. A pointer is refused as `Foreign`
+    /// where it leads elsewhere and nowhere else, a value as `CellsFull`; it comes back.
+    fn enter<R: Wait, J: Task>(self, rt: &R, guard: &Guard<'_, T, J>) -> Result<Word<T>, (Fault, Self)>
+        ensures tag { MatchResult result (λ w. w.link.tag ≡ tag_bits self % T.ALIGN) (λ e. (e.0 ≡ refused_as) × (is_refusable self guard.now.collector.now.id ≡ true) × (e.1 ≡ self)) }
         ensures site { IfOk result (λ w. leads_to self guard.now.collector.now.id w.link.site) }
         ensures elsewhere { leads_elsewhere self guard.now.collector.now.id ≡ true → IsErr result };
 }
 
 impl<T: Pointable + Drop> Pointer<T> for Owned<T> {
-    ghost use Rattle.std.specs.Prelude.{false, IsSomeAnd};
+    ghost use Rattle.std.specs.Prelude.{true, false, IsSomeAnd};
     ghost use Rattle.crossbeam_epoch.specs.declared.fault.Fault.TheVariants.{CellsFull};
 
     ghost tag_bits = { λ o. o.tag };
@@ -49,11 +52,13 @@ impl<T: Pointable + Drop> Pointer<T> for Owned<T> {
 
     ghost refused_as = { CellsFull };
 
+    ghost is_refusable = { λ _ _. true };
+
     fn is_foreign(&self, _collector: u64) -> bool {
         false
     }
 
-    fn enter<R: Wait>(self, rt: &R, guard: &Guard<'_, T>) -> Result<Word<T>, (Fault, Self)> {
+    fn enter<R: Wait, J: Task>(self, rt: &R, guard: &Guard<'_, T, J>) -> Result<Word<T>, (Fault, Self)> {
         let (value, tag) = self.into_parts();
         match guard.collector.place(rt, value) {
             Ok(name) => {
@@ -84,6 +89,8 @@ impl<'s, T: Pointable + Drop> Pointer<T> for Shared<'s, T> {
 
     ghost refused_as = { Foreign };
 
+    ghost is_refusable = { λ s id. is_foreign s.link.site id };
+
     fn is_foreign(&self, collector: u64) -> bool {
         match self.link().site {
             Some(site) => site.collector != collector,
@@ -91,7 +98,7 @@ impl<'s, T: Pointable + Drop> Pointer<T> for Shared<'s, T> {
         }
     }
 
-    fn enter<R: Wait>(self, _rt: &R, guard: &Guard<'_, T>) -> Result<Word<T>, (Fault, Self)> {
+    fn enter<R: Wait, J: Task>(self, _rt: &R, guard: &Guard<'_, T, J>) -> Result<Word<T>, (Fault, Self)> {
         if self.is_foreign(guard.collector.id()) {
             return Err((Fault::Foreign, self));
         }
@@ -112,6 +119,8 @@ impl<T: Pointable + Drop> Pointer<T> for Link {
 
     ghost refused_as = { Foreign };
 
+    ghost is_refusable = { λ l id. is_foreign l.site id };
+
     fn is_foreign(&self, collector: u64) -> bool {
         match self.site {
             Some(site) => site.collector != collector,
@@ -119,7 +128,7 @@ impl<T: Pointable + Drop> Pointer<T> for Link {
         }
     }
 
-    fn enter<R: Wait>(self, _rt: &R, guard: &Guard<'_, T>) -> Result<Word<T>, (Fault, Self)> {
+    fn enter<R: Wait, J: Task>(self, _rt: &R, guard: &Guard<'_, T, J>) -> Result<Word<T>, (Fault, Self)> {
         let place = guard.collector.id();
         match self.site {
             Some(site) if site.collector != place => Err((Fault::Foreign, self)),

@@ -1,32 +1,26 @@
 //! The queue of sealed bags.
 
-ghost use Rattle.std.specs.Prelude.{◌≡◌, ◌≤◌, ◌+◌, ◌∷◌, [], ◌++◌, is_ok, if◌then◌else◌, IfErr, MatchOption, false};
+ghost use Rattle.std.specs.Prelude.{◌≡◌, ◌≤◌, ◌+◌, ◌∷◌, [], ◌++◌, is_ok, if◌then◌else◌, IfErr, IfSome, MatchOption, false};
 ghost use Rattle.crossbeam_epoch.specs.FaceQueue.{is_due};
 
-use crate::deferred::Jobs;
-use crate::expired::ExpiredBag;
+use crate::bag::Bag;
+use crate::places::Sealed;
+use crate::task::Task;
 use std::alloc::Global;
 use std::collections::VecDeque;
 
 /// How far the epoch has to be past a bag's seal.
 pub const EXPIRY: u64 = 2;
 
-/// A full or flushed bag, with an epoch that was read after its last deferral.
-#[derive(Drop)]
-pub struct SealedBag {
-    pub seal: u64,
-    pub jobs: Jobs,
-}
-
 /// Sealed bags, the oldest in front.
 #[derive(Drop)]
-pub struct Queue {
-    bags: VecDeque<SealedBag>,
+pub struct Queue<J: Task> {
+    bags: VecDeque<Sealed<J>>,
 }
 
-impl Queue {
+impl<J: Task> Queue<J> {
     /// No bag.
-    pub fn new(alloc: Global) -> Queue
+    pub fn new(alloc: Global) -> Queue<J>
         ensures { result.bags.items ≡ [] }
     {
         Queue {
@@ -35,11 +29,11 @@ impl Queue {
     }
 
     /// Puts a bag behind the others, or hands its jobs back where there is no memory.
-    pub fn push(&mut self, seal: u64, jobs: Jobs) -> Result<(), Jobs>
+    pub fn push(&mut self, seal: u64, jobs: Bag<J>) -> Result<(), Bag<J>>
         ensures bags { self.new.bags.items ≡ (if is_ok result then self.old.bags.items ++ record { seal = seal; jobs = jobs } ∷ [] else self.old.bags.items) }
         ensures back { IfErr result (λ j. j ≡ jobs) }
     {
-        match self.bags.push_back(SealedBag { seal, jobs }) {
+        match self.bags.push_back(Sealed { seal, jobs }) {
             Ok(()) => Ok(()),
             Err(refused) => Err(refused.value.jobs),
         }
@@ -56,20 +50,20 @@ impl Queue {
     }
 
     /// Takes the front bag off, where the epoch that was seen is at least two past its seal.
-    pub fn pop_expired(&mut self, seen: u64) -> Option<ExpiredBag>
-        ensures { MatchOption result
+    pub fn pop_expired(&mut self, seen: u64) -> Option<Sealed<J>>
+        ensures due { IfSome result (λ b. b.seal + 2 ≤ seen) }
+        ensures bags { MatchOption result
             ((is_due (λ b. b.seal) self.old.bags.items seen ≡ false) × (self.new.bags.items ≡ self.old.bags.items))
-            (λ b. (b.seen ≡ seen) × (self.old.bags.items ≡ record { seal = b.seal; jobs = b.jobs } ∷ self.new.bags.items)) }
+            (λ b. self.old.bags.items ≡ b ∷ self.new.bags.items) }
     {
         if !self.is_due(seen) {
             return None;
         }
-        let SealedBag { seal, jobs } = self.bags.pop_front()?;
-        Some(ExpiredBag { seal, seen, jobs })
+        self.bags.pop_front()
     }
 
     /// Its bags, the oldest in front.
-    pub fn into_bags(self) -> VecDeque<SealedBag>
+    pub fn into_bags(self) -> VecDeque<Sealed<J>>
         ensures { result ≡ self.bags }
     {
         let Queue { bags } = self;

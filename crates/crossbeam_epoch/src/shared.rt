@@ -11,6 +11,7 @@ use crate::link::Link;
 use crate::names::{Name, Pointable};
 use crate::owned::Owned;
 use crate::tag::tag_of;
+use crate::task::Task;
 use std::marker::PhantomData;
 use std::sync::Wait;
 
@@ -85,7 +86,7 @@ impl<T: Pointable> Shared<'_, T> {
 
 impl<'g, T: Drop> Shared<'g, T> {
     /// The name of its value in this collector: `Unknown` for null, `Foreign` for another collector's.
-    pub(crate) fn name_in(&self, collector: &Collector<T>) -> Result<Name, Fault>
+    pub(crate) fn name_in<J: Task>(&self, collector: &Collector<T, J>) -> Result<Name, Fault>
         ensures { result ≡ name_in self.now.link.site collector.now.id }
     {
         match self.link.site {
@@ -99,7 +100,7 @@ impl<'g, T: Drop> Shared<'g, T> {
     }
 
     /// Lends the value. `None` for null, and where the value is destroyed, lent, or another collector's.
-    pub fn deref<R: Wait>(&self, rt: &R, guard: &'g Guard<'_, T>) -> Option<Lent<'g, T>>
+    pub fn deref<R: Wait, J: Task>(&self, rt: &R, guard: &'g Guard<'_, T, J>) -> Option<Lent<'g, T, J>>
         ensures { IfSome result (λ l. name_in self.now.link.site guard.now.collector.now.id ≡ Ok l.name) }
     {
         let name = self.name_in(guard.collector).ok()?;
@@ -108,14 +109,14 @@ impl<'g, T: Drop> Shared<'g, T> {
     }
 
     /// The same as `deref`.
-    pub fn as_ref<R: Wait>(&self, rt: &R, guard: &'g Guard<'_, T>) -> Option<Lent<'g, T>>
+    pub fn as_ref<R: Wait, J: Task>(&self, rt: &R, guard: &'g Guard<'_, T, J>) -> Option<Lent<'g, T, J>>
         ensures { IfSome result (λ l. name_in self.now.link.site guard.now.collector.now.id ≡ Ok l.name) }
     {
         self.deref(rt, guard)
     }
 
     /// Lends the value to be changed. `None` as for `deref`.
-    pub fn deref_mut<R: Wait>(&mut self, rt: &R, guard: &'g Guard<'_, T>) -> Option<LentMut<'g, T>>
+    pub fn deref_mut<R: Wait, J: Task>(&mut self, rt: &R, guard: &'g Guard<'_, T, J>) -> Option<LentMut<'g, T, J>>
         ensures same { self.new ≡ self.old }
         ensures name { IfSome result (λ l. name_in self.old.link.site guard.now.collector.now.id ≡ Ok l.name) }
     {
@@ -126,7 +127,7 @@ impl<'g, T: Drop> Shared<'g, T> {
 
     /// Takes the value out of its cell, which is destroyed. The value keeps the pointer's tag. `None` for null, and where
     /// the value is destroyed, lent, or another collector's.
-    pub fn into_owned<R: Wait>(self, rt: &R, guard: &Guard<'_, T>) -> Option<Owned<T>>
+    pub fn into_owned<R: Wait, J: Task>(self, rt: &R, guard: &Guard<'_, T, J>) -> Option<Owned<T>>
         ensures tag { IfSome result (λ o. o.tag ≡ self.entry.link.tag) }
         ensures here { IfSome result (λ _. is_ok (name_in self.entry.link.site guard.now.collector.now.id) ≡ true) }
     {
@@ -136,7 +137,7 @@ impl<'g, T: Drop> Shared<'g, T> {
     }
 
     /// The same as `into_owned`.
-    pub fn try_into_owned<R: Wait>(self, rt: &R, guard: &Guard<'_, T>) -> Option<Owned<T>>
+    pub fn try_into_owned<R: Wait, J: Task>(self, rt: &R, guard: &Guard<'_, T, J>) -> Option<Owned<T>>
         ensures tag { IfSome result (λ o. o.tag ≡ self.entry.link.tag) }
         ensures here { IfSome result (λ _. is_ok (name_in self.entry.link.site guard.now.collector.now.id) ≡ true) }
     {

@@ -7,7 +7,7 @@ use crate::collector::Collector;
 use crate::fault::Fault;
 use crate::names::Pointable;
 use crate::shared::Shared;
-use crate::task::{Job, Task};
+use crate::task::Task;
 use std::sync::Wait;
 
 /// Puts nothing off (the source's `unprotected`).
@@ -16,16 +16,16 @@ pub struct Unprotected;
 
 impl Unprotected {
     /// Calls the job at once.
-    pub fn defer<R: Wait>(&self, _rt: &R, job: Job) {
+    pub fn defer<R: Wait, J: Task>(&self, _rt: &R, job: J) {
         job.run();
     }
 
     /// Destroys the value at once. Refused as `Unknown` for null, or as `Foreign` for another collector's pointer, which
     /// comes back.
-    pub fn defer_destroy<'s, T: Pointable + Drop, R: Wait>(
+    pub fn defer_destroy<'s, T: Pointable + Drop, R: Wait, J: Task>(
         &self,
         rt: &R,
-        collector: &Collector<T>,
+        collector: &Collector<T, J>,
         pointer: Shared<'s, T>,
     ) -> Result<(), (Fault, Shared<'s, T>)>
         ensures { MatchResult (name_in pointer.entry.link.site collector.now.id)
@@ -48,7 +48,7 @@ impl Unprotected {
     pub fn repin<R: Wait>(&mut self, _rt: &R) {}
 
     /// None.
-    pub fn collector<T: Drop>(&self) -> Option<&Collector<T>>
+    pub fn collector<T: Drop, J: Task>(&self) -> Option<&Collector<T, J>>
         ensures { result ≡ None }
     {
         None
