@@ -129,7 +129,11 @@ impl<T: Pointable + Drop> Atomic<T> {
     }
 
     /// The same as `load`.
-    pub fn load_consume<'g, R: Wait, J: Task>(&self, rt: &R, guard: &'g Guard<'_, T, J>) -> Shared<'g, T>
+    pub fn load_consume<'g, R: Wait, J: Task>(
+        &self,
+        rt: &R,
+        guard: &'g Guard<'_, T, J>,
+    ) -> Shared<'g, T>
         ensures { result.link.tag < T.ALIGN }
     {
         self.load(rt, Ordering::Acquire, guard)
@@ -332,7 +336,11 @@ impl<T: Pointable + Drop> Atomic<T> {
     }
 
     /// The same as `into_owned`.
-    pub fn try_into_owned<R: Wait, J: Task>(self, rt: &R, guard: &Guard<'_, T, J>) -> Option<Owned<T>>
+    pub fn try_into_owned<R: Wait, J: Task>(
+        self,
+        rt: &R,
+        guard: &Guard<'_, T, J>,
+    ) -> Option<Owned<T>>
         ensures { IfSome result (λ o. o.tag < T.ALIGN) }
     {
         self.into_owned(rt, guard)

@@ -6,17 +6,16 @@ ghost use Rattle.std.specs.Bool.{MatchBool};
 ghost use Rattle.crossbeam_epoch.specs.FaceHandle.{owns};
 ghost use Rattle.crossbeam_epoch.specs.FacePointer.{name_in};
 
-use crate::collector::Collector;
 use crate::bag::{Bag, Entry, Work};
+use crate::collector::Collector;
 use crate::fault::Fault;
 use crate::guard::{Guard, Seat};
 use crate::names::{Name, Pointable};
 use crate::shared::Shared;
 use crate::task::{Job, Task};
-use std::fmt;
 use std::fmt::{Debug, Formatter};
-use std::mem;
 use std::sync::Wait;
+use std::{fmt, mem};
 
 /// A participant of a collector (the source's `LocalHandle`). It keeps the jobs that it defers until its bag is full.
 /// A handle that is dropped stays registered, and its unsealed jobs are never called: `release` it.

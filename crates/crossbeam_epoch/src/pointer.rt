@@ -34,7 +34,11 @@ pub trait Pointer<T: Pointable>: Sized {
 
     /// The word that leads to it: a value is placed in a cell of the guard's collector. A pointer is refused as `Foreign`
     /// where it leads elsewhere and nowhere else, a value as `CellsFull`; it comes back.
-    fn enter<R: Wait, J: Task>(self, rt: &R, guard: &Guard<'_, T, J>) -> Result<Word<T>, (Fault, Self)>
+    fn enter<R: Wait, J: Task>(
+        self,
+        rt: &R,
+        guard: &Guard<'_, T, J>,
+    ) -> Result<Word<T>, (Fault, Self)>
         ensures tag { MatchResult result (λ w. w.link.tag ≡ tag_bits self % T.ALIGN) (λ e. (e.0 ≡ refused_as) × (is_refusable self guard.now.collector.now.id ≡ true) × (e.1 ≡ self)) }
         ensures site { IfOk result (λ w. leads_to self guard.now.collector.now.id w.link.site) }
         ensures elsewhere { leads_elsewhere self guard.now.collector.now.id ≡ true → IsErr result };
@@ -58,7 +62,11 @@ impl<T: Pointable + Drop> Pointer<T> for Owned<T> {
         false
     }
 
-    fn enter<R: Wait, J: Task>(self, rt: &R, guard: &Guard<'_, T, J>) -> Result<Word<T>, (Fault, Self)> {
+    fn enter<R: Wait, J: Task>(
+        self,
+        rt: &R,
+        guard: &Guard<'_, T, J>,
+    ) -> Result<Word<T>, (Fault, Self)> {
         let (value, tag) = self.into_parts();
         match guard.collector.place(rt, value) {
             Ok(name) => {
@@ -98,7 +106,11 @@ impl<'s, T: Pointable + Drop> Pointer<T> for Shared<'s, T> {
         }
     }
 
-    fn enter<R: Wait, J: Task>(self, _rt: &R, guard: &Guard<'_, T, J>) -> Result<Word<T>, (Fault, Self)> {
+    fn enter<R: Wait, J: Task>(
+        self,
+        _rt: &R,
+        guard: &Guard<'_, T, J>,
+    ) -> Result<Word<T>, (Fault, Self)> {
         if self.is_foreign(guard.collector.id()) {
             return Err((Fault::Foreign, self));
         }
@@ -128,7 +140,11 @@ impl<T: Pointable + Drop> Pointer<T> for Link {
         }
     }
 
-    fn enter<R: Wait, J: Task>(self, _rt: &R, guard: &Guard<'_, T, J>) -> Result<Word<T>, (Fault, Self)> {
+    fn enter<R: Wait, J: Task>(
+        self,
+        _rt: &R,
+        guard: &Guard<'_, T, J>,
+    ) -> Result<Word<T>, (Fault, Self)> {
         let place = guard.collector.id();
         match self.site {
             Some(site) if site.collector != place => Err((Fault::Foreign, self)),

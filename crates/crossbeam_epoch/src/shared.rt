@@ -100,7 +100,11 @@ impl<'g, T: Drop> Shared<'g, T> {
     }
 
     /// Lends the value. `None` for null, and where the value is destroyed, lent, or another collector's.
-    pub fn deref<R: Wait, J: Task>(&self, rt: &R, guard: &'g Guard<'_, T, J>) -> Option<Lent<'g, T, J>>
+    pub fn deref<R: Wait, J: Task>(
+        &self,
+        rt: &R,
+        guard: &'g Guard<'_, T, J>,
+    ) -> Option<Lent<'g, T, J>>
         ensures { IfSome result (λ l. name_in self.now.link.site guard.now.collector.now.id ≡ Ok l.name) }
     {
         let name = self.name_in(guard.collector).ok()?;
@@ -109,14 +113,22 @@ impl<'g, T: Drop> Shared<'g, T> {
     }
 
     /// The same as `deref`.
-    pub fn as_ref<R: Wait, J: Task>(&self, rt: &R, guard: &'g Guard<'_, T, J>) -> Option<Lent<'g, T, J>>
+    pub fn as_ref<R: Wait, J: Task>(
+        &self,
+        rt: &R,
+        guard: &'g Guard<'_, T, J>,
+    ) -> Option<Lent<'g, T, J>>
         ensures { IfSome result (λ l. name_in self.now.link.site guard.now.collector.now.id ≡ Ok l.name) }
     {
         self.deref(rt, guard)
     }
 
     /// Lends the value to be changed. `None` as for `deref`.
-    pub fn deref_mut<R: Wait, J: Task>(&mut self, rt: &R, guard: &'g Guard<'_, T, J>) -> Option<LentMut<'g, T, J>>
+    pub fn deref_mut<R: Wait, J: Task>(
+        &mut self,
+        rt: &R,
+        guard: &'g Guard<'_, T, J>,
+    ) -> Option<LentMut<'g, T, J>>
         ensures same { self.new ≡ self.old }
         ensures name { IfSome result (λ l. name_in self.old.link.site guard.now.collector.now.id ≡ Ok l.name) }
     {
@@ -137,7 +149,11 @@ impl<'g, T: Drop> Shared<'g, T> {
     }
 
     /// The same as `into_owned`.
-    pub fn try_into_owned<R: Wait, J: Task>(self, rt: &R, guard: &Guard<'_, T, J>) -> Option<Owned<T>>
+    pub fn try_into_owned<R: Wait, J: Task>(
+        self,
+        rt: &R,
+        guard: &Guard<'_, T, J>,
+    ) -> Option<Owned<T>>
         ensures tag { IfSome result (λ o. o.tag ≡ self.entry.link.tag) }
         ensures here { IfSome result (λ _. is_ok (name_in self.entry.link.site guard.now.collector.now.id) ≡ true) }
     {
