@@ -1,3 +1,4 @@
 //! Functions of users of the libraries, who have nothing but the contracts.
 
 pub mod owned;
+pub(crate) mod stack;

@@ -3,6 +3,7 @@
 mod arcs;
 mod closing;
 mod collector;
+mod examples;
 mod face;
 mod forms;
 mod journals;
