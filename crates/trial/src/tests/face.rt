@@ -5,8 +5,8 @@ ghost use Rattle.crossbeam_epoch.specs.FaceHandle.{owns};
 
 use super::collector::adds;
 use crossbeam_epoch::{
-    Atomic, Collector, Exchanged, Fault, Guard, Job, Limits, Link, LocalHandle, Owned, Pointable,
-    Shared, unprotected,
+    Atomic, Collector, CompareAndSetOrdering, Exchanged, Fault, Guard, Job, Limits, Link,
+    LocalHandle, Owned, Pointable, Shared, unprotected,
 };
 use std::alloc::Global;
 use std::ops::DerefMut;
@@ -53,10 +53,11 @@ enum Case {
     AnAtomicIsWritten,
     AtomicsOfNewValues,
     APointerIsRefusedElsewhere,
+    ThereIsNothingToUpdate,
 }
 
 /// How many cells the collector has, and what is tried.
-const CASES: [(u32, Case); 10] = [
+const CASES: [(u32, Case); 11] = [
     (1, Case::GuardsNest),
     (1, Case::ARepinGoesOn),
     (1, Case::ACompareExchangeLooksAtTheTag),
@@ -67,6 +68,7 @@ const CASES: [(u32, Case); 10] = [
     (3, Case::AnAtomicIsWritten),
     (2, Case::AtomicsOfNewValues),
     (3, Case::APointerIsRefusedElsewhere),
+    (1, Case::ThereIsNothingToUpdate),
 ];
 
 #[test]
@@ -136,6 +138,7 @@ fn tries<R: Wait>(
         Case::AnAtomicIsWritten => writes(rt, alloc, &Atomic::null(), guard),
         Case::AtomicsOfNewValues => makes(rt, alloc, guard),
         Case::APointerIsRefusedElsewhere => refuses_elsewhere(rt, alloc, guard),
+        Case::ThereIsNothingToUpdate => Ok(stays_without_update(rt, guard)),
     }
 }
 
@@ -512,6 +515,17 @@ fn updates<R: Wait>(rt: &R, root: &Atomic<Item>, guard: &Guard<'_, Item>) -> boo
     }
 }
 
+/// Whether an update for which the closure gives nothing gives the pointer that stays.
+fn stays_without_update<R: Wait>(rt: &R, guard: &Guard<'_, Item>) -> bool {
+    let null: Shared<'_, Item> = Shared::null();
+    let root = Atomic::from(null.with_tag(1));
+    let given = match root.fetch_update(rt, SeqCst, SeqCst, guard, |_pointer| None) {
+        Ok(_before) => false,
+        Err(pointer) => pointer.tag() == 1,
+    };
+    given && root.load(rt, SeqCst, guard).tag() == 1
+}
+
 /// Whether a pointer of this collector is refused by another one.
 fn refuses_elsewhere<R: Wait>(
     rt: &R,
@@ -654,6 +668,70 @@ fn defers_unchecked<R: Wait>(
 }
 
 #[test]
+fn a_failure_loads_as_strongly_as_it_may(rt: HostRuntime) {
+    let rows = [
+        (Ordering::Relaxed, Ordering::Relaxed),
+        (Ordering::Release, Ordering::Relaxed),
+        (Ordering::Acquire, Ordering::Acquire),
+        (Ordering::AcqRel, Ordering::Acquire),
+        (SeqCst, SeqCst),
+    ];
+    for (order, failure) in rows {
+        assert!(rt; order.success() == order && order.failure() == failure);
+        let pair = (order, failure);
+        assert!(rt; pair.success() == order && pair.failure() == failure);
+    }
+}
+
+#[test]
+fn a_participant_is_unpinned_while_a_repin_waits(rt: HostRuntime) -> Result<(), Fail> {
+    let items: Collector<Item> = Collector::new(&rt, rt.alloc(), limits(1), 1)?;
+    let epochs = goes_on_meanwhile(&rt, &items)?;
+    assert_eq!(rt; epochs, (0, 2));
+    Ok(())
+}
+
+/// The epochs of a guard before and after a repin, during which another handle tries to advance twice.
+fn goes_on_meanwhile<R: Wait>(rt: &R, items: &Collector<Item>) -> Result<(u64, u64), Fault> {
+    let (mut zero, mut one) = two_handles(rt, items)?;
+    let mut guard = zero.pin(rt)?;
+    let before = guard.pinned_at();
+    let answer = zero.repin_after(rt, &mut guard, || {
+        one.collect(rt);
+        one.collect(rt);
+    });
+    let after = guard.pinned_at();
+    spend(rt, &mut zero, guard);
+    answer?;
+    Ok((before, after))
+}
+
+#[test]
+fn a_refused_end_keeps_the_jobs(rt: HostRuntime) -> Result<(), Fail> {
+    let sum = Arc::new(rt.alloc(), AtomicU64::new(0))?;
+    let job = adds(rt.alloc(), &sum, 1)?;
+    let items: Collector<Item> = Collector::new(&rt, rt.alloc(), limits(1), 1)?;
+    seals(&rt, &mut items.register(&rt)?, job)?;
+    let Err((_fault, back)) = items.end() else {
+        panic!(rt; "a handle is registered");
+    };
+    let before = sum.load(SeqCst);
+    rounds(&rt, &mut back.register(&rt)?, 3)?;
+    assert_eq!(rt; (before, sum.load(SeqCst)), (0, 1));
+    Ok(())
+}
+
+/// Defers the job under a pin, and flushes.
+fn seals<R: Wait>(rt: &R, handle: &mut LocalHandle<'_, Item>, job: Job) -> Result<(), Fault> {
+    let guard = handle.pin(rt)?;
+    let deferred = defer(rt, handle, &guard, job);
+    let flushed = handle.flush(rt, &guard);
+    spend(rt, handle, guard);
+    deferred?;
+    flushed
+}
+
+#[test]
 fn a_handle_keeps_its_collector(rt: HostRuntime) -> Result<(), Fail> {
     let items: Collector<Item> = Collector::new(&rt, rt.alloc(), limits(1), 2)?;
     drop(items.register(&rt)?);
@@ -738,12 +816,7 @@ fn goes<R: Wait>(
 
 /// Pins, defers the job, flushes, unpins, and goes ten rounds.
 fn defers<R: Wait>(rt: &R, handle: &mut LocalHandle<'_, Item>, job: Job) -> Result<(), Fault> {
-    let guard = handle.pin(rt)?;
-    let deferred = defer(rt, handle, &guard, job);
-    let flushed = handle.flush(rt, &guard);
-    spend(rt, handle, guard);
-    deferred?;
-    flushed?;
+    seals(rt, handle, job)?;
     rounds(rt, handle, 10)
 }
 
