@@ -5,7 +5,7 @@ ghost use Rattle.std.specs.Prelude.{◌≡◌, ◌-◌, true, MatchResult};
 ghost use Rattle.crossbeam_epoch.specs.FaceHandle.{owns};
 
 use crossbeam_epoch::{
-    Atomic, Collector, Fault, Guard, Link, LocalHandle, Owned, Pointable, Pointer, Shared, Task,
+    Atomic, Collector, Fault, Guard, Link, LocalHandle, Owned, Pointable, Shared, Task,
 };
 use std::alloc::Global;
 use std::sync::Wait;
@@ -133,12 +133,7 @@ impl Stack {
     }
 
     /// Takes this node off, where it is still on top and nobody else reads it now.
-    fn take<R: Wait, J: Task>(
-        &self,
-        rt: &R,
-        guard: &Guard<'_, Node, J>,
-        top: Link,
-    ) -> Option<u64> {
+    fn take<R: Wait, J: Task>(&self, rt: &R, guard: &Guard<'_, Node, J>, top: Link) -> Option<u64> {
         let Node { number, below } = read(rt, guard, top)?;
         let exchanged = self.head.compare_exchange(
             rt,
@@ -159,19 +154,13 @@ impl Stack {
 /// Whether a pointer leads to a cell of another collector than the guard's.
 fn is_elsewhere<J: Task>(top: Link, guard: &Guard<'_, Node, J>) -> bool {
     match guard.collector() {
-        Some(numbers) => top
-            .site
-            .is_some_and(|site| site.collector != numbers.id()),
+        Some(numbers) => top.site.is_some_and(|site| site.collector != numbers.id()),
         None => false,
     }
 }
 
 /// A copy of the node that stands there, where nobody else reads it now.
-fn read<R: Wait, J: Task>(
-    rt: &R,
-    guard: &Guard<'_, Node, J>,
-    top: Link,
-) -> Option<Node> {
+fn read<R: Wait, J: Task>(rt: &R, guard: &Guard<'_, Node, J>, top: Link) -> Option<Node> {
     let node: Shared<'_, Node> = Shared::of(top);
     let lent = node.deref(rt, guard)?;
     let copy = *lent.get();
