@@ -229,6 +229,17 @@ impl<K: Word64, V: Word64, A: Allocator, D: Drop> Congee<K, V, A, D> {
         word_of(self.arena.remove(&bytes))
     }
 
+    /// Takes every pair out, and every node but the root, whose bytes alone stay charged. The places that the nodes had
+    /// stay for those that come next.
+    pub fn clear(&mut self)
+        ensures empty { self.new.pairs ≡ map.empty }
+        ensures nodes { self.new.nodes ≡ root_alone }
+        ensures bytes { self.new.bytes ≡ 2104 }
+        ensures keeps { Keeps A.charged_of A.limit_of self.old self.new }
+    {
+        self.arena.clear();
+    }
+
     /// All keys, ascending. It is refused for want of memory alone.
     pub fn keys(&self) -> Result<Vec<K, Global>, AllocError>
         ensures { IfOk result (λ keys. keys.items ≡ keys_by K.of_word (map.entries self.now.pairs)) }

@@ -109,6 +109,17 @@ impl<V: Word64, A: Allocator> U64Congee<V, A> {
         self.tree.compute_or_insert(key, f)
     }
 
+    /// Takes every pair out, and every node but the root, whose bytes alone stay charged. The places that the nodes had
+    /// stay for those that come next.
+    pub fn clear(&mut self)
+        ensures empty { self.new.tree.pairs ≡ map.empty }
+        ensures nodes { self.new.tree.nodes ≡ root_alone }
+        ensures bytes { self.new.tree.bytes ≡ 2104 }
+        ensures keeps { Keeps A.charged_of A.limit_of self.old.tree self.new.tree }
+    {
+        self.tree.clear();
+    }
+
     /// All keys, ascending. It is refused for want of memory alone.
     pub fn keys(&self) -> Result<Vec<u64, Global>, AllocError>
         ensures { IfOk result (λ keys. keys.items ≡ keys_by (λ k. k) (map.entries self.now.tree.pairs)) }

@@ -29,6 +29,8 @@ enum Row {
     /// The pairs of the nearest keys below and above a key.
     Beside(u64, Option<(u64, u64)>, Option<(u64, u64)>),
     Empty(bool),
+    /// Everything goes.
+    Clear,
     Charged(u64),
 }
 
@@ -148,6 +150,24 @@ const NEIGHBOURS_ARE_FOUND: [Row; 17] = [
     Row::Ends(Some((0, 1)), Some((4294967296, 4))),
 ];
 
+const CLEARED_TREES_BEGIN_ANEW: [Row; 15] = [
+    Row::Clear,
+    Row::Charged(2104),
+    Row::Fill(1, 50),
+    Row::Insert(u64::MAX, 5, None),
+    Row::Clear,
+    Row::Empty(true),
+    Row::Keys(&[]),
+    Row::Ends(None, None),
+    Row::Get(7, None),
+    Row::Charged(2104),
+    Row::Insert(256, 2, None),
+    Row::Insert(7, 1, None),
+    Row::Keys(&[7, 256]),
+    Row::Beside(256, Some((7, 1)), None),
+    Row::Charged(2296),
+];
+
 const NO_ROOM_FOR_A_SECOND_LEAF: [Row; 3] = [
     Row::Insert(0, 100, None),
     Row::Refuse(
@@ -258,6 +278,10 @@ fn answers<A: Allocator>(tree: &mut Tree<A>, row: Row) -> Result<bool, Fail> {
         Row::Fill(start, end) => fills(tree, start, end)?,
         Row::Remove(k, value) => tree.remove(&k) == value,
         Row::Exchange(k, old, new, answer) => tree.compare_exchange(&k, &old, new) == answer,
+        Row::Clear => {
+            tree.clear();
+            true
+        }
         Row::Next(..) | Row::Drop(..) | Row::NextOr(..) => computes(tree, row)?,
         _ => shows(tree, row)?,
     })
@@ -301,6 +325,7 @@ fn each_call_answers(rt: HostRuntime) -> Result<(), Fail> {
     assert!(rt; holds_unlimited(rt.alloc(), &KEYS_COME_ASCENDING)?);
     assert!(rt; holds_unlimited(rt.alloc(), &NO_PAIR_HAS_NEIGHBOURS)?);
     assert!(rt; holds_unlimited(rt.alloc(), &NEIGHBOURS_ARE_FOUND)?);
+    assert!(rt; holds_unlimited(rt.alloc(), &CLEARED_TREES_BEGIN_ANEW)?);
     Ok(())
 }
 
