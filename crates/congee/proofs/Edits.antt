@@ -4,7 +4,7 @@ use Rattle.std.specs.Prelude.{Option, Some, None, is_some, cond}
 use Rattle.slab.specs.Slab.{get, Updates}
 use Rattle.congee.specs.Heap.{child_for}
 use Rattle.congee.specs.Ledger.{Linked, Gone, Note, Tree}
-use Rattle.congee.specs.Forms.{prefix_of}
+use Rattle.congee.specs.Forms.{prefix_of, form_of, capacity_of}
 use Rattle.congee.specs.Arena.{Nodes, hung, node_of, heap_of, ledger_of, IsTree, OnWay}
 use Rattle.congee.specs.Changes.{Differs, MapChange}
 use Rattle.congee.specs.declared.base_node.Node.{Node as Form}
@@ -35,6 +35,14 @@ module _ {P : Type 0} where
     | inr q ↦ ap is_some (u.others n q)
   ]
 
+  -- the root keeps its places where one node changes
+  pub wide_after : (s s' : Nodes P) (at : ℕ) (x y : Form ℕ P) → (heap_of s 0).capacity ≡ 256 → get s at ≡ Some x → get s' at ≡ Some y
+      → (capacity_of (form_of x) ≡ 256 → capacity_of (form_of y) ≡ 256) → (0 ≢ at → get s' 0 ≡ get s 0) → (heap_of s' 0).capacity ≡ 256
+  wide_after s s' at x y w was now keeps others = elim (same_or_not 0 at) [
+    | inl e ↦ (let Q : ℕ → Type 0 = λ n. (heap_of s n).capacity ≡ 256 in let R : ℕ → Type 0 = λ n. (heap_of s' n).capacity ≡ 256 in let b : capacity_of (form_of x) ≡ 256 = sym (ap (λ o. (node_of o).capacity) was) ∙ subst Q e w in subst R (sym e) (ap (λ o. (node_of o).capacity) now ∙ keeps b))
+    | inr ne ↦ ap (λ o. (node_of o).capacity) (others ne) ∙ w
+  ]
+
   -- what a leaf has for one key changes
   pub put_done : (s s' : Nodes P) (key : List ℕ) (at : ℕ) (x y : Form ℕ P) (old new : Option P) → length key ≡ 8 → IsTree s → OnWay s key at
       → get s at ≡ Some x → length (prefix_of x) ≡ 7 → child_for (heap_of s at) key ≡ put_child old
@@ -56,6 +64,6 @@ module _ {P : Type 0} where
       } in
       let m = put_map a (heap_of s) (heap_of s') at key old new len t.tree k in
       let T : (ℕ → Note) → Type 0 = λ b. Tree b (heap_of s') in (
-        record { parent = t.parent; tree = subst T (ledger_same s s' t.parent (taken_same s s' at x y e u)) (put_tree a (heap_of s) (heap_of s') at key old new t.tree k) },
+        record { parent = t.parent; tree = subst T (ledger_same s s' t.parent (taken_same s s' at x y e u)) (put_tree a (heap_of s) (heap_of s') at key old new t.tree k); wide = wide_after s s' at x y t.wide e u.changed d.wide (λ ne. u.others 0 ne) },
         record { was = m.0; now = m.1; others = m.2 },
       )

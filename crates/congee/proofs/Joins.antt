@@ -17,6 +17,7 @@ use Rattle.congee.proofs.Link.{Leaf, Links, link_tree, link_map}
 use Rattle.congee.proofs.Unlink.{Unlinks, unlink_tree, unlink_map}
 use Rattle.congee.proofs.Split.{Splits, split_tree, split_map}
 use Rattle.congee.proofs.Ways.{linked_of, is_child, short_prefix, below_stands}
+use Rattle.congee.proofs.Edits.{wide_after}
 
 -- the first bytes of a key are a prefix of it
 pub front_fits : (n : ℕ) (key : List ℕ) → n ≤ length key → fits (take n key) key ≡ true
@@ -63,6 +64,9 @@ parted_below p q key n f g l e parts = elim (cases_lt (length p) n) [
 module _ {P : Type 0} where
   vacant_not : (s : Nodes P) (parent : ℕ → ℕ) (n : ℕ) → get s n ≡ None → (ledger_of s parent n).status ≢ Linked
   vacant_not s parent n e h = let z : Gone ≡ Linked = rw e at h in cc
+
+  root_not : (s : Nodes P) (t : IsTree s) (n : ℕ) → get s n ≡ None → 0 ≢ n
+  root_not s t n e q = let Q : ℕ → Type 0 = λ y. (ledger_of s t.parent y).status ≡ Linked in vacant_not s t.parent n e (subst Q q t.tree.root)
 
   stands_some : (s : Nodes P) (n : ℕ) (x : Form ℕ P) → get s n ≡ Some x → ContainsKey s n
   stands_some s n x e = rw e refl
@@ -111,7 +115,7 @@ module _ {P : Type 0} where
         nodes = λ m nd na. ap node_of (k.others m nd na);
       } in
       let m = link_map a (heap_of s) a' (heap_of s') at d key v len t.tree links in (
-        record { parent = parent'; tree = link_tree a (heap_of s) a' (heap_of s') at d key v t.tree links },
+        record { parent = parent'; tree = link_tree a (heap_of s) a' (heap_of s') at d key v t.tree links; wide = wide_after s s' at k.before k.after t.wide k.was k.now k.differs.wide (λ ne. k.others 0 (root_not s t d k.vacant) ne) },
         record { was = m.0; now = m.1; others = m.2 },
       )
 
@@ -156,10 +160,11 @@ module _ {P : Type 0} where
         ];
       } in
       let m = unlink_map a (heap_of s) a' h' above at key v len t.tree goes in
+      let nr : 0 ≢ at = (λ q. let Q : ℕ → Type 0 = λ y. length (heap_of s y).prefix ≡ 7 in let y : length (heap_of s 0).prefix ≡ 7 = subst Q (sym q) seven in let z : length (heap_of s 0).prefix ≡ 0 = ap length t.tree.empty in absurd (omega (arith, y, z))) in
       let t' : Tree a' h' = unlink_tree a (heap_of s) a' h' above at key v t.tree goes in
       let agrees : (n : ℕ) → (a' n).status ≡ Linked → heap_of s' n ≡ h' n = λ n l. sym (elsewhere n (λ q. vacant_not s' t.parent at k.left (let Q : ℕ → Type 0 = λ y. (a' y).status ≡ Linked in subst Q q l))) in
       let same : (x : List ℕ) → value_at (heap_of s') x ≡ value_at h' x = λ x. agree_walk a' h' (heap_of s') agrees t' 8 0 x t'.root in (
-        record { parent = t.parent; tree = agree_tree a' h' (heap_of s') agrees t' },
+        record { parent = t.parent; tree = agree_tree a' h' (heap_of s') agrees t'; wide = wide_after s s' above k.before k.after t.wide k.was k.now k.differs.wide (λ ne. k.others 0 ne nr) },
         record { was = m.0; now = same key ∙ m.1; others = λ x lx ne. same x ∙ m.2 x lx ne },
       )
 
@@ -220,6 +225,6 @@ module _ {P : Type 0} where
         nodes = λ m nc nd na. ap node_of (k.others m nc nd na);
       } in
       let m = split_map a (heap_of s) a' (heap_of s') at b c d key v len t.tree splits in (
-        record { parent = parent'; tree = split_tree a (heap_of s) a' (heap_of s') at b c d key v t.tree splits },
+        record { parent = parent'; tree = split_tree a (heap_of s) a' (heap_of s') at b c d key v t.tree splits; wide = wide_after s s' at k.before k.after t.wide k.was k.now k.differs.wide (λ ne. k.others 0 (root_not s t c k.vacant_over) (root_not s t d k.vacant_leaf) ne) },
         record { was = m.0; now = m.1; others = m.2 },
       )

@@ -4,6 +4,7 @@ pub mod BitLemmas
 pub mod ByteLemmas
 pub mod ByteRanges
 pub mod ChainLemmas
+pub mod Clears
 pub mod Cursors
 pub mod Drains
 pub mod Edits

@@ -73,6 +73,18 @@ module _ {X : Type 0} where
     pub room_left : map.len moved < map.len m
     room_left = let some : IsSome (map.get kept b) = cc f.here in omega (arith, is.count, some_len kept b some)
 
+  -- the next child goes
+  pub one_gone : {m : map.FinMap nat_cmp X} {from b : ℕ} {x : X} → IsFirst m from b x → ((q : ℕ) → q < from → map.get m q ≡ None)
+      → (q : ℕ) → q < 1 + b → map.get (map.remove m b) q ≡ None
+  one_gone {m} {from} {b} f gone q l = elim (cases_eq q b) [
+    | inl e ↦ subst (λ k. map.get (map.remove m b) k ≡ None) (sym e) (get_cut_same m b)
+    | inr n ↦ get_cut_other m b q n ∙ elim (cases_lt q from) [ inl h ↦ gone q h | inr h ↦ f.before q h (omega (arith, n, l)) ]
+  ]
+
+  pub all_gone : (m : map.FinMap nat_cmp X) (from : ℕ) → ((q : ℕ) → q < from → map.get m q ≡ None) → ((q : ℕ) → from ≤ q → map.get m q ≡ None) → m ≡ map.empty
+  all_gone m from gone none =
+      map.same_map nat_cmp_total map.nat_cmp-IsAntisymmetric m map.empty (λ q. elim (cases_lt q from) [ inl h ↦ gone q h | inr h ↦ none q h ] ∙ sym (map.get-empty nat_cmp q))
+
   pub all_moved : (m kept moved : map.FinMap nat_cmp X) (from : ℕ) → IsMoved m kept moved from → ((q : ℕ) → from ≤ q → map.get kept q ≡ None) → (kept ≡ map.empty) × (moved ≡ m)
   all_moved m kept moved from is none = (
     map.same_map nat_cmp_total map.nat_cmp-IsAntisymmetric kept map.empty (λ q. elim (cases_lt q from) [ inl h ↦ is.gone q h | inr h ↦ none q h ] ∙ sym (map.get-empty nat_cmp q)),

@@ -7,7 +7,7 @@ use Rattle.std.specs.FinMap.{gets}
 use Rattle.std.specs.Cmp.{nat_cmp_total}
 use Rattle.slab.specs.Slab.{get, ContainsKey, Updates}
 use Rattle.congee.specs.Heap.{Below, Holds, Nothing, fits, child_for}
-use Rattle.congee.specs.Forms.{prefix_of, children_of, is_full_of, Becomes}
+use Rattle.congee.specs.Forms.{prefix_of, children_of, form_of, capacity_of, is_full_of, Becomes}
 use Rattle.congee.specs.Arena.{Nodes, hung, node_of, heap_of, IsTree, OnWay, Hangs}
 use Rattle.congee.specs.Sizes.{bytes_of}
 use Rattle.congee.specs.Changes.{Differs, MapChange, AddsLeaf, AddsFork, DropsLeaf, Parts}
@@ -77,6 +77,7 @@ module _ {P : Type 0} where
     prefix = b.prefix;
     here = ap (λ m. map.get m byte) b.children ∙ insert_at (children_of x) byte c;
     beside = λ q ne. ap (λ m. map.get m q) b.children ∙ insert_beside (children_of x) byte c q ne;
+    wide = λ w. ap capacity_of b.form ∙ w;
   }
 
   pub differs_remove : (x y : Form ℕ P) (byte : ℕ) → Becomes x y (map.remove (children_of x) byte) → Differs x y byte None
@@ -84,6 +85,7 @@ module _ {P : Type 0} where
     prefix = b.prefix;
     here = ap (λ m. map.get m byte) b.children ∙ remove_at (children_of x) byte;
     beside = λ q ne. ap (λ m. map.get m q) b.children ∙ remove_beside (children_of x) byte q ne;
+    wide = λ w. ap capacity_of b.form ∙ w;
   }
 
   pub updates_twice : (s s' s'' : Nodes P) (at : ℕ) (o p : Option (Form ℕ P)) → Updates s s' at o → Updates s' s'' at p → Updates s s'' at p
@@ -209,6 +211,7 @@ module _ {P : Type 0} where
     pub prefix : prefix_of node ≡ prefix_of before
     pub children : children_of node ≡ children_of before
     pub room : is_full_of node ≡ false
+    pub wide : capacity_of (form_of before) ≡ 256 → capacity_of (form_of node) ≡ 256
 
   pub roomy_stands : (s s' : Nodes P) (at : ℕ) → Roomy s s' at → ContainsKey s' at
   roomy_stands s s' at r = stands_at s' at r.node r.now
@@ -234,13 +237,14 @@ module _ {P : Type 0} where
         prefix = d.prefix ∙ r.prefix;
         here = d.here;
         beside = λ q ne. d.beside q ne ∙ ap (λ m. map.get m q) r.children;
+        wide = λ w. d.wide (r.wide w);
       })
 
   pub grown_roomy : (s s' : Nodes P) (at : ℕ) → ContainsKey s at → ((x : Form ℕ P) → get s at ≡ Some x → Grows s s' at x) → Roomy s s' at
   grown_roomy s s' at st g =
       let n = node_at s at st in
       let k = g n.0 n.1 in
-      record { before = n.0; was = n.1; node = k.node; now = k.updates.changed; prefix = k.prefixed; children = k.children; room = k.room }
+      record { before = n.0; was = n.1; node = k.node; now = k.updates.changed; prefix = k.prefixed; children = k.children; room = k.room; wide = k.wide }
 
   -- a value comes into a leaf
   pub value_added : (s s1 s2 : Nodes P) (key : List ℕ) (at byte : ℕ) (v : P) → length key ≡ 8 → IsTree s → OnWay s key at
@@ -269,7 +273,7 @@ module _ {P : Type 0} where
       let ne : at ≢ leaf = apart_of s0 at leaf n.0 n.1 m.vacant in
       let e1 : get s1 at ≡ Some n.0 = m.updates.others at ne ∙ n.1 in
       let k = g n.0 e1 in
-      record { before = n.0; was = n.1; node = k.node; now = f.updates.others at ne ∙ k.updates.changed; prefix = k.prefixed; children = k.children; room = k.room }
+      record { before = n.0; was = n.1; node = k.node; now = f.updates.others at ne ∙ k.updates.changed; prefix = k.prefixed; children = k.children; room = k.room; wide = k.wide }
 
   pub made_fresh : (s0 s1 s2 : Nodes P) (at leaf : ℕ) (p : List ℕ) → ContainsKey s0 at → Makes s0 s1 leaf p
       → ((x : Form ℕ P) → get s1 at ≡ Some x → Grows s1 s2 at x) → Fresh s2 leaf p

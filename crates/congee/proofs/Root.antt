@@ -5,7 +5,7 @@ use Rattle.std.specs.FinMap as map
 use Rattle.slab.specs.Slab.{get, Updates}
 use Rattle.congee.specs.Heap.{Nothing, Below, Holds, value_at}
 use Rattle.congee.specs.Ledger.{Linked, Gone}
-use Rattle.congee.specs.Forms.{form_of, prefix_of, children_of, size_of}
+use Rattle.congee.specs.Forms.{form_of, prefix_of, children_of, size_of, capacity_of}
 use Rattle.congee.specs.Sizes.{bytes_of, bytes_at}
 use Rattle.congee.specs.Arena.{Nodes, hung, node_of, heap_of, ledger_of, IsTree}
 use Rattle.congee.specs.declared.base_node.Node.{Node as Form}
@@ -13,7 +13,7 @@ use Rattle.congee.specs.declared.base_node.NodeType.TheVariants.{N256}
 use Rattle.congee.proofs.Tree.{same_or_not, finds}
 use Rattle.congee.proofs.Sizes.{bytes_update}
 
-module _ {P : Type 0} (s0 s : Nodes P) (root : Form ℕ P) (none : (n : ℕ) → get s0 n ≡ None) (puts : Updates s0 s 0 (Some root)) (prefix : prefix_of root ≡ []) (children : children_of root ≡ map.empty) where
+module _ {P : Type 0} (s0 s : Nodes P) (root : Form ℕ P) (none : (n : ℕ) → get s0 n ≡ None) (puts : Updates s0 s 0 (Some root)) (prefix : prefix_of root ≡ []) (children : children_of root ≡ map.empty) (form : form_of root ≡ N256) where
   root_is : heap_of s 0 ≡ node_of (Some root)
   root_is = ap node_of puts.changed
 
@@ -43,14 +43,15 @@ module _ {P : Type 0} (s0 s : Nodes P) (root : Form ℕ P) (none : (n : ℕ) →
       down = λ n b c l e. absurd (let z : Nothing ≡ Below c = sym (nothing_at n b l) ∙ e in cc);
       up = λ n l ne. absurd (ne (only n l));
     };
+    wide = rw root_is (ap capacity_of form);
   }
 
   pub root_empty : (key : List ℕ) → value_at (heap_of s) key ≡ None
   root_empty key = finds _ (heap_of s) root_tree.tree 0 key Nothing root_tree.tree.root (rw empty_prefix refl) (nothing _)
 
-  pub root_bytes : bytes_of s0 ≡ 0 → form_of root ≡ N256 → bytes_of s ≡ 2104
-  root_bytes z f =
+  pub root_bytes : bytes_of s0 ≡ 0 → bytes_of s ≡ 2104
+  root_bytes z =
       let u = bytes_update s0 s 0 (Some root) puts in
       let b : bytes_at (get s0 0) ≡ 0 = ap bytes_at (none 0) in
-      let r : size_of (form_of root) ≡ 2104 = ap size_of f in
+      let r : size_of (form_of root) ≡ 2104 = ap size_of form in
       omega (arith, u, b, r, z)

@@ -54,10 +54,11 @@ heap_of s n = node_of (get s n)
 abbrev pub ledger_of : {P : Type 0} → Nodes P → (ℕ → ℕ) → ℕ → Note
 ledger_of s parent n = record { status = cond (is_some (get s n)) Linked Gone; owner = None; parent = parent n }
 
--- the nodes are a tree
+-- the nodes are a tree, and the root has 256 places
 pub record IsTree {P : Type 0} (s : Nodes P) : Type 0 where
   pub parent : ℕ → ℕ
   pub tree : Tree (ledger_of s parent) (heap_of s)
+  pub wide : (heap_of s 0).capacity ≡ 256
 
 -- a node whose prefix the key has
 pub record OnWay {P : Type 0} (s : Nodes P) (key : List ℕ) (n : ℕ) : Type 0 where

@@ -9,6 +9,12 @@ pub record IsFirst {X : Type 0} (m : map.FinMap nat_cmp X) (from b : ℕ) (x : X
   pub here : map.get m b ≡ Some x
   pub before : (q : ℕ) → from ≤ q → q < b → map.get m q ≡ None
 
+-- x is the child of b, the greatest byte below `end` that has one
+pub record IsLast {X : Type 0} (m : map.FinMap nat_cmp X) (end b : ℕ) (x : X) : Type 0 where
+  pub below : b < end
+  pub here : map.get m b ≡ Some x
+  pub after : (q : ℕ) → b < q → q < end → map.get m q ≡ None
+
 -- the pairs whose byte lies from `start` to `end`, both included
 abbrev pub between : {X : Type 0} → ℕ → ℕ → List (ℕ × X) → List (ℕ × X)
 between start end [] = []

@@ -3,17 +3,18 @@ use Rattle.std.specs.Prelude.{◌≡◌, ◌≢◌, ℕ, ◌<◌, List, length, 
 use Rattle.slab.specs.Slab.{get}
 use Rattle.std.specs.FinMap as map
 use Rattle.congee.specs.Heap.{value_at}
-use Rattle.congee.specs.Forms.{prefix_of, children_of}
+use Rattle.congee.specs.Forms.{prefix_of, children_of, form_of, capacity_of}
 use Rattle.congee.specs.Arena.{Nodes, heap_of}
 use Rattle.congee.specs.declared.base_node.Node.{Node}
 use Rattle.congee.specs.declared.child.Child.{Child}
 use Rattle.congee.specs.declared.child.Child.TheVariants.{Node as Sub, Value}
 
--- node y is node x but for what hangs at one byte
+-- node y is node x but for what hangs at one byte; one of 256 places keeps them
 pub record Differs {P : Type 0} (x y : Node ℕ P) (byte : ℕ) (child : Option (Child ℕ P)) : Type 0 where
   pub prefix : prefix_of y ≡ prefix_of x
   pub here : map.get (children_of y) byte ≡ child
   pub beside : (b : ℕ) → b ≢ byte → map.get (children_of y) b ≡ map.get (children_of x) b
+  pub wide : capacity_of (form_of x) ≡ 256 → capacity_of (form_of y) ≡ 256
 
 -- the map in the nodes changes at one key alone
 pub record MapChange {P : Type 0} (s s' : Nodes P) (key : List ℕ) (before after : Option P) : Type 0 where

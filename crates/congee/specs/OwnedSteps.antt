@@ -3,7 +3,7 @@ use Rattle.std.specs.Prelude.{◌≡◌, ◌≢◌, ℕ, ◌+◌, ◌<◌, ◌�
 use Rattle.std.specs.Ordering.{nat_cmp}
 use Rattle.std.specs.FinMap as map
 use Rattle.slab.specs.Slab.{Updates, get}
-use Rattle.congee.specs.Forms.{Becomes, form_of, prefix_of, children_of, is_full_of}
+use Rattle.congee.specs.Forms.{Becomes, capacity_of, form_of, prefix_of, children_of, is_full_of}
 use Rattle.congee.specs.Heap.{Holds, child_for}
 use Rattle.congee.specs.Arena.{Nodes, heap_of}
 use Rattle.congee.specs.Changes.{IsLeafOf}
@@ -33,12 +33,13 @@ pub record Makes {P : Type 0} (s s' : Nodes P) (name : ℕ) (prefix : List ℕ) 
 abbrev pub SameNodes : {P : Type 0} → Nodes P → Nodes P → Type 0
 SameNodes s s' = (name : ℕ) → get s' name ≡ get s name
 
--- node x gets room for one more child
+-- node x gets room for one more child; one of 256 places keeps them
 pub record Grows {P : Type 0} (s s' : Nodes P) (at : ℕ) (x : Node ℕ P) : Type 0 where
   pub node : Node ℕ P
   pub prefixed : prefix_of node ≡ prefix_of x
   pub children : children_of node ≡ children_of x
   pub room : is_full_of node ≡ false
+  pub wide : capacity_of (form_of x) ≡ 256 → capacity_of (form_of node) ≡ 256
   pub updates : Updates s s' at (Some node)
 
 -- why a node of so many bytes was refused: it doesn't fit the budget, or it does and there is no memory

@@ -281,6 +281,17 @@ impl<C: Small, P: Small> Node<C, P> {
         }
     }
 
+    /// Takes every child out.
+    pub fn clear(&mut self)
+        ensures { Becomes self.old self.new map.empty }
+    {
+        let mut next = 0;
+        while let Some((byte, _)) = self.first_from(next) {
+            self.remove(byte);
+            next = 1 + byte as usize;
+        }
+    }
+
     /// Moves every child to `greater`, an empty node with room for them.
     pub fn move_to(&mut self, greater: &mut Node<C, P>)
         requires empty { children_of greater.old ≡ map.empty }

@@ -1,9 +1,9 @@
 //! The owned tree of words.
-ghost use Rattle.std.specs.Prelude.{◌≡◌, ◌+◌, ◌≤◌, ℕ, Option, None, Some, Ok, Err, IfOk, IfErr, IfSome, IfNone, OnOk, OnErr};
+ghost use Rattle.std.specs.Prelude.{◌≡◌, ◌+◌, ◌≤◌, ◌^◌, ℕ, Option, None, Some, Ok, Err, IfOk, IfErr, IfSome, IfNone, OnOk, OnErr};
 ghost use Rattle.std.specs.Prelude.{IsTrue, IsSome, ◌↔◌, nat_eq, length, take, drop, MatchOption};
 ghost use Rattle.std.specs.Option.{option_map};
 ghost use Rattle.std.specs.FinMap as map;
-ghost use Rattle.congee.specs.Nearest.{Least, pair_by};
+ghost use Rattle.congee.specs.Nearest.{Least, Greatest, pair_by};
 ghost use Rattle.congee.specs.Content.{Answers, Keeps, Unchanged};
 ghost use Rattle.congee.specs.Drained.{Drained};
 ghost use Rattle.congee.specs.OwnedSteps.{IsRefusal};
@@ -229,6 +229,17 @@ impl<K: Word64, V: Word64, A: Allocator, D: Drop> Congee<K, V, A, D> {
         word_of(self.arena.remove(&bytes))
     }
 
+    /// Takes every pair out, and every node but the root, whose bytes alone stay charged. The places that the nodes had
+    /// stay for those that come next.
+    pub fn clear(&mut self)
+        ensures empty { self.new.pairs ≡ map.empty }
+        ensures nodes { self.new.nodes ≡ root_alone }
+        ensures bytes { self.new.bytes ≡ 2104 }
+        ensures keeps { Keeps A.charged_of A.limit_of self.old self.new }
+    {
+        self.arena.clear();
+    }
+
     /// All keys, ascending. It is refused for want of memory alone.
     pub fn keys(&self) -> Result<Vec<K, Global>, AllocError>
         ensures { IfOk result (λ keys. keys.items ≡ keys_by K.of_word (map.entries self.now.pairs)) }
@@ -282,6 +293,25 @@ impl<K: Word64, V: Word64, A: Allocator, D: Drop> Congee<K, V, A, D> {
     {
         match key.to_word().checked_add(1) {
             Some(from) => pair_of(self.arena.first_from(from)),
+            None => None,
+        }
+    }
+
+    /// The pair of the greatest key.
+    pub fn last(&self) -> Option<(K, V)>
+        ensures { (found : Option (ℕ × ℕ)) × (result ≡ option_map (pair_by K.of_word V.of_word) found)
+            × Greatest self.now.pairs (2 ^ 64) found }
+    {
+        pair_of(self.arena.last_to(u64::MAX))
+    }
+
+    /// The pair of the greatest key that is less than this one, present or not.
+    pub fn next_before(&self, key: &K) -> Option<(K, V)>
+        ensures { (found : Option (ℕ × ℕ)) × (result ≡ option_map (pair_by K.of_word V.of_word) found)
+            × Greatest self.now.pairs (K.word key.now) found }
+    {
+        match key.to_word().checked_sub(1) {
+            Some(last) => pair_of(self.arena.last_to(last)),
             None => None,
         }
     }

@@ -5,7 +5,7 @@ ghost use Rattle.congee.specs.Heap.{fits};
 ghost use Rattle.congee.specs.Keys.{key_bytes};
 ghost use Rattle.congee.specs.Arena.{IsTree};
 ghost use Rattle.congee.specs.Bytes.{IsFirst};
-ghost use Rattle.congee.specs.Nearest.{Least};
+ghost use Rattle.congee.specs.Nearest.{Least, Greatest};
 ghost use Rattle.congee.specs.Cursor.{IsCursor, IsAt, steps_left};
 ghost use Rattle.congee.specs.Table.{pairs_of};
 ghost use Rattle.congee.specs.Ranges.{by_bytes, in_range, keys_by};
@@ -160,6 +160,27 @@ impl<A: Allocator> Arena<u64, A> {
             Some((key, value)) => Some((key, *value)),
             None => None,
         }
+    }
+
+    /// The pair of the greatest key up to a number, itself included. The numbers from the best key so far to the last one
+    /// that may have a pair are halved, so it takes at most 65 descents.
+    pub(crate) fn last_to(&self, last: u64) -> Option<(u64, u64)>
+        requires { IsTree self.now.nodes }
+        ensures { Greatest (pairs_of self.now.nodes) (last + 1) result }
+    {
+        let mut best = match self.first_from(0) {
+            Some(pair) if pair.0 <= last => pair,
+            _ => return None,
+        };
+        let mut end = last;
+        while best.0 < end {
+            let middle = end - (end - best.0) / 2;
+            match self.first_from(middle) {
+                Some(pair) if pair.0 <= end => best = pair,
+                _ => end = middle - 1,
+            }
+        }
+        Some(best)
     }
 
     /// Writes the pairs with start <= key < end, ascending, as many as fit, and gives their number.

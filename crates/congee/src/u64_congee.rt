@@ -1,9 +1,9 @@
 //! The owned tree whose keys are numbers.
-ghost use Rattle.std.specs.Prelude.{◌≡◌, ◌+◌, ◌↔◌, ℕ, Option, Some, None, IfOk, IfErr, IfSome, IfNone, IsSome, IsTrue, OnOk, OnErr, nat_eq, length, take, drop};
+ghost use Rattle.std.specs.Prelude.{◌≡◌, ◌+◌, ◌↔◌, ◌^◌, ℕ, Option, Some, None, IfOk, IfErr, IfSome, IfNone, IsSome, IsTrue, OnOk, OnErr, nat_eq, length, take, drop};
 ghost use Rattle.std.specs.Option.{option_map};
 ghost use Rattle.std.specs.FinMap as map;
 ghost use Rattle.congee.specs.Content.{Answers, Keeps, Unchanged};
-ghost use Rattle.congee.specs.Nearest.{Least, pair_by};
+ghost use Rattle.congee.specs.Nearest.{Least, Greatest, pair_by};
 ghost use Rattle.congee.specs.OwnedSteps.{IsRefusal};
 ghost use Rattle.congee.specs.Ranges.{by_bytes, in_range, keys_by};
 ghost use Rattle.congee.specs.Stats.{IsTally, capped, root_alone};
@@ -109,6 +109,17 @@ impl<V: Word64, A: Allocator> U64Congee<V, A> {
         self.tree.compute_or_insert(key, f)
     }
 
+    /// Takes every pair out, and every node but the root, whose bytes alone stay charged. The places that the nodes had
+    /// stay for those that come next.
+    pub fn clear(&mut self)
+        ensures empty { self.new.tree.pairs ≡ map.empty }
+        ensures nodes { self.new.tree.nodes ≡ root_alone }
+        ensures bytes { self.new.tree.bytes ≡ 2104 }
+        ensures keeps { Keeps A.charged_of A.limit_of self.old.tree self.new.tree }
+    {
+        self.tree.clear();
+    }
+
     /// All keys, ascending. It is refused for want of memory alone.
     pub fn keys(&self) -> Result<Vec<u64, Global>, AllocError>
         ensures { IfOk result (λ keys. keys.items ≡ keys_by (λ k. k) (map.entries self.now.tree.pairs)) }
@@ -159,6 +170,22 @@ impl<V: Word64, A: Allocator> U64Congee<V, A> {
             × Least self.now.tree.pairs (key + 1) found }
     {
         self.tree.next_after(&key)
+    }
+
+    /// The pair of the greatest key.
+    pub fn last(&self) -> Option<(u64, V)>
+        ensures { (found : Option (ℕ × ℕ)) × (result ≡ option_map (pair_by (λ k. k) V.of_word) found)
+            × Greatest self.now.tree.pairs (2 ^ 64) found }
+    {
+        self.tree.last()
+    }
+
+    /// The pair of the greatest key that is less than this one, present or not.
+    pub fn next_before(&self, key: u64) -> Option<(u64, V)>
+        ensures { (found : Option (ℕ × ℕ)) × (result ≡ option_map (pair_by (λ k. k) V.of_word) found)
+            × Greatest self.now.tree.pairs key found }
+    {
+        self.tree.next_before(&key)
     }
 
     /// The bytes that the allocator has charged.

@@ -24,7 +24,13 @@ enum Row {
     /// The pairs from the first key up to the second, in so many places.
     Range(u64, u64, usize, &'static [(u64, u64)]),
     Keys(&'static [u64]),
+    /// The pair of the least key and that of the greatest one.
+    Ends(Option<(u64, u64)>, Option<(u64, u64)>),
+    /// The pairs of the nearest keys below and above a key.
+    Beside(u64, Option<(u64, u64)>, Option<(u64, u64)>),
     Empty(bool),
+    /// Everything goes.
+    Clear,
     Charged(u64),
 }
 
@@ -115,6 +121,51 @@ const KEYS_COME_ASCENDING: [Row; 7] = [
     Row::Insert(0, 0, None),
     Row::Insert(256, 256, None),
     Row::Keys(&[0, 3, 256, 4294967295, u64::MAX]),
+];
+
+const NO_PAIR_HAS_NEIGHBOURS: [Row; 4] = [
+    Row::Ends(None, None),
+    Row::Beside(0, None, None),
+    Row::Beside(7, None, None),
+    Row::Beside(u64::MAX, None, None),
+];
+
+const NEIGHBOURS_ARE_FOUND: [Row; 17] = [
+    Row::Insert(256, 2, None),
+    Row::Ends(Some((256, 2)), Some((256, 2))),
+    Row::Beside(256, None, None),
+    Row::Beside(255, None, Some((256, 2))),
+    Row::Beside(257, Some((256, 2)), None),
+    Row::Insert(0, 1, None),
+    Row::Insert(259, 3, None),
+    Row::Insert(4294967296, 4, None),
+    Row::Insert(u64::MAX, 5, None),
+    Row::Ends(Some((0, 1)), Some((u64::MAX, 5))),
+    Row::Beside(0, None, Some((256, 2))),
+    Row::Beside(1, Some((0, 1)), Some((256, 2))),
+    Row::Beside(257, Some((256, 2)), Some((259, 3))),
+    Row::Beside(4294967295, Some((259, 3)), Some((4294967296, 4))),
+    Row::Beside(u64::MAX, Some((4294967296, 4)), None),
+    Row::Remove(u64::MAX, Some(5)),
+    Row::Ends(Some((0, 1)), Some((4294967296, 4))),
+];
+
+const CLEARED_TREES_BEGIN_ANEW: [Row; 15] = [
+    Row::Clear,
+    Row::Charged(2104),
+    Row::Fill(1, 50),
+    Row::Insert(u64::MAX, 5, None),
+    Row::Clear,
+    Row::Empty(true),
+    Row::Keys(&[]),
+    Row::Ends(None, None),
+    Row::Get(7, None),
+    Row::Charged(2104),
+    Row::Insert(256, 2, None),
+    Row::Insert(7, 1, None),
+    Row::Keys(&[7, 256]),
+    Row::Beside(256, Some((7, 1)), None),
+    Row::Charged(2296),
 ];
 
 const NO_ROOM_FOR_A_SECOND_LEAF: [Row; 3] = [
@@ -209,6 +260,10 @@ fn shows<A: Allocator>(tree: &Tree<A>, row: Row) -> Result<bool, Fail> {
     Ok(match row {
         Row::Range(start, end, places, pairs) => finds(tree, start, end, places, pairs),
         Row::Keys(keys) => tree.keys()?.as_slice() == keys,
+        Row::Ends(least, greatest) => tree.first() == least && tree.last() == greatest,
+        Row::Beside(k, below, above) => {
+            tree.next_before(&k) == below && tree.next_after(&k) == above
+        }
         Row::Empty(empty) => tree.is_empty() == empty,
         Row::Charged(bytes) => tree.charged() == bytes,
         _ => false,
@@ -223,6 +278,10 @@ fn answers<A: Allocator>(tree: &mut Tree<A>, row: Row) -> Result<bool, Fail> {
         Row::Fill(start, end) => fills(tree, start, end)?,
         Row::Remove(k, value) => tree.remove(&k) == value,
         Row::Exchange(k, old, new, answer) => tree.compare_exchange(&k, &old, new) == answer,
+        Row::Clear => {
+            tree.clear();
+            true
+        }
         Row::Next(..) | Row::Drop(..) | Row::NextOr(..) => computes(tree, row)?,
         _ => shows(tree, row)?,
     })
@@ -264,6 +323,9 @@ fn each_call_answers(rt: HostRuntime) -> Result<(), Fail> {
     assert!(rt; holds_unlimited(rt.alloc(), &RANGE_ENDS_WITH_ITS_PLACES)?);
     assert!(rt; holds_unlimited(rt.alloc(), &RANGE_STARTS_PAST_OTHER_PREFIXES)?);
     assert!(rt; holds_unlimited(rt.alloc(), &KEYS_COME_ASCENDING)?);
+    assert!(rt; holds_unlimited(rt.alloc(), &NO_PAIR_HAS_NEIGHBOURS)?);
+    assert!(rt; holds_unlimited(rt.alloc(), &NEIGHBOURS_ARE_FOUND)?);
+    assert!(rt; holds_unlimited(rt.alloc(), &CLEARED_TREES_BEGIN_ANEW)?);
     Ok(())
 }
 

@@ -6,7 +6,7 @@ use Rattle.congee.specs.Arena.{heap_of, node_of}
 use Rattle.congee.specs.Sizes.{bytes_at}
 use Rattle.congee.specs.Wanted.{gain, net, room_for}
 use Rattle.congee.proofs.Sizes.{bytes_update, bytes_same, same_written}
-use Rattle.congee.proofs.Grown.{grown_room}
+use Rattle.congee.proofs.Grown.{grown_room, grown_wide}
 use Rattle.congee.proofs.Wanting.{full_room, grown_by}
 use Rattle.congee.proofs.arena.Arena.make_room.Goals as goal
 
@@ -24,6 +24,7 @@ returns-clause-grows g c = λ x e.
       children = m ∙ ap children_of one;
       room = grown_room x c.grow.new.self (f ∙ ap (λ n. next_form (form_of n)) one) (m ∙ ap children_of one) (ap is_full_of (sym two) ∙ full);
       updates = Updates-with_value c.args.self.now.nodes c.args.at c.grow.new.self c.requires.stands;
+      wide = grown_wide x c.grow.new.self (f ∙ ap (λ n. next_form (form_of n)) one);
     }
 
 pub returns-clause-balance : goal.returns-clause-balance
@@ -41,7 +42,7 @@ pub returns-then-not-is_full-clause-grows : goal.returns-then-not-is_full-clause
 returns-then-not-is_full-clause-grows g c = λ x e.
     let room : is_full_of c.index-node.result.now ≡ false = search rules in
     let two : c.index-node.result.now ≡ x = (let z : Some c.index-node.result.now ≡ Some x = sym c.index-node.ensures ∙ e in cc) in
-    record { node = x; prefixed = refl; children = refl; room = ap is_full_of (sym two) ∙ room; updates = record { changed = e; others = λ m ne. refl } }
+    record { node = x; prefixed = refl; children = refl; room = ap is_full_of (sym two) ∙ room; wide = λ w. w; updates = record { changed = e; others = λ m ne. refl } }
 
 pub returns-then-is_err-clause-same : goal.returns-then-is_err-clause-same
 returns-then-is_err-clause-same g c =

@@ -18,7 +18,7 @@ returns-in-Ok-insert-clause-tree g c =
     let at : c.in-Ok-insert.field-0 ≡ 0 = c.in-Ok-insert.ensures.key ∙ c.new-nodes.ensures.first_key in
     let U : ℕ → Type 0 = λ k. Updates c.new-nodes.result c.insert.new.self k (Some c.in-Ok.root) in
     let puts : Updates c.new-nodes.result c.insert.new.self 0 (Some c.in-Ok.root) = subst U at c.in-Ok-insert.ensures.updates in
-    root_tree c.new-nodes.result c.insert.new.self c.in-Ok.root none puts c.in-Ok.ensures.prefix c.in-Ok.ensures.children
+    root_tree c.new-nodes.result c.insert.new.self c.in-Ok.root none puts c.in-Ok.ensures.prefix c.in-Ok.ensures.children c.in-Ok.ensures.form
 
 pub returns-in-Ok-insert-clause-empty : goal.returns-in-Ok-insert-clause-empty
 returns-in-Ok-insert-clause-empty g c =
@@ -26,7 +26,7 @@ returns-in-Ok-insert-clause-empty g c =
     let at : c.in-Ok-insert.field-0 ≡ 0 = c.in-Ok-insert.ensures.key ∙ c.new-nodes.ensures.first_key in
     let U : ℕ → Type 0 = λ k. Updates c.new-nodes.result c.insert.new.self k (Some c.in-Ok.root) in
     let puts : Updates c.new-nodes.result c.insert.new.self 0 (Some c.in-Ok.root) = subst U at c.in-Ok-insert.ensures.updates in
-    root_empty c.new-nodes.result c.insert.new.self c.in-Ok.root none puts c.in-Ok.ensures.prefix c.in-Ok.ensures.children
+    root_empty c.new-nodes.result c.insert.new.self c.in-Ok.root none puts c.in-Ok.ensures.prefix c.in-Ok.ensures.children c.in-Ok.ensures.form
 
 pub returns-in-Ok-insert-clause-bytes : goal.returns-in-Ok-insert-clause-bytes
 returns-in-Ok-insert-clause-bytes g c =
@@ -34,7 +34,7 @@ returns-in-Ok-insert-clause-bytes g c =
     let at : c.in-Ok-insert.field-0 ≡ 0 = c.in-Ok-insert.ensures.key ∙ c.new-nodes.ensures.first_key in
     let U : ℕ → Type 0 = λ k. Updates c.new-nodes.result c.insert.new.self k (Some c.in-Ok.root) in
     let puts : Updates c.new-nodes.result c.insert.new.self 0 (Some c.in-Ok.root) = subst U at c.in-Ok-insert.ensures.updates in
-    root_bytes c.new-nodes.result c.insert.new.self c.in-Ok.root none puts c.in-Ok.ensures.prefix c.in-Ok.ensures.children (ap bytes_in c.new-nodes.ensures.empty) c.in-Ok.ensures.form
+    root_bytes c.new-nodes.result c.insert.new.self c.in-Ok.root none puts c.in-Ok.ensures.prefix c.in-Ok.ensures.children c.in-Ok.ensures.form (ap bytes_in c.new-nodes.ensures.empty)
 
 pub returns-in-Ok-insert-clause-nodes : goal.returns-in-Ok-insert-clause-nodes
 returns-in-Ok-insert-clause-nodes g c =
@@ -42,5 +42,5 @@ returns-in-Ok-insert-clause-nodes g c =
     let at : c.in-Ok-insert.field-0 ≡ 0 = c.in-Ok-insert.ensures.key ∙ c.new-nodes.ensures.first_key in
     let U : ℕ → Type 0 = λ k. Updates c.new-nodes.result c.insert.new.self k (Some c.in-Ok.root) in
     let puts : Updates c.new-nodes.result c.insert.new.self 0 (Some c.in-Ok.root) = subst U at c.in-Ok-insert.ensures.updates in
-    let tree = root_tree c.new-nodes.result c.insert.new.self c.in-Ok.root none puts c.in-Ok.ensures.prefix c.in-Ok.ensures.children in
+    let tree = root_tree c.new-nodes.result c.insert.new.self c.in-Ok.root none puts c.in-Ok.ensures.prefix c.in-Ok.ensures.children c.in-Ok.ensures.form in
     root_nodes c.insert.new.self c.in-Ok.root tree puts.changed c.in-Ok.ensures.form c.in-Ok.ensures.children
