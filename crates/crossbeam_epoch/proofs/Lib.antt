@@ -2,6 +2,7 @@ pub mod Sealing
 pub mod Tellings
 pub mod Acts
 pub mod CellWrites
+pub mod Chains
 pub mod Endings
 pub mod FreeCells
 pub mod Goes

@@ -1,4 +1,5 @@
 pub mod Calls
+pub mod Chain
 pub mod Ending
 pub mod Fits
 pub mod Free

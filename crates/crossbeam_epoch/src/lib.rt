@@ -6,6 +6,7 @@ mod atomic;
 mod bag;
 mod calls;
 mod cells;
+mod chain;
 mod collect;
 mod collector;
 mod defer;

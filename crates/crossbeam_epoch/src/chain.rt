@@ -1,0 +1,135 @@
+//! The queue of sealed bags, as a chain of blocks.
+
+ghost use Rattle.std.specs.Prelude.{◌≡◌, ◌<◌, ◌++◌, ◌∷◌, [], true, MatchOption, OnOk, length, slice_index_or};
+ghost use Rattle.std.specs.VecDeque.{deque_len};
+ghost use Rattle.crossbeam_epoch.specs.Chain.{joined, AreFilled};
+
+use crate::places::Sealed;
+use std::alloc::{AllocError, Global};
+use std::collections::VecDeque;
+use std::marker::Model;
+use std::mem;
+
+/// The bags of a block.
+const BLOCK: usize = 32;
+
+/// Sealed bags, the oldest in front, in blocks of 32. They are taken from the first block and queued in the last one. A
+/// block is made when a bag is queued and the last one is full or there is none, and given up when its bags are taken.
+#[derive(Drop)]
+pub struct Chain<J> {
+    /// The first block, where it isn't the last one.
+    first: VecDeque<Sealed<J>>,
+    /// The blocks between the first and the last.
+    between: VecDeque<VecDeque<Sealed<J>>>,
+    last: VecDeque<Sealed<J>>,
+    alloc: Global,
+}
+
+impl<J> Model for Chain<J> {
+    ghost use Rattle.std.specs.Prelude.{◌≡◌, ◌++◌, [], nat_lt, ◌<◌};
+    ghost use Rattle.std.specs.VecDeque.{deque_len, deque_capacity};
+    ghost use Rattle.crossbeam_epoch.specs.Chain.{Chain as Bags, joined, AreFilled};
+    ghost use Rattle.crossbeam_epoch.specs.declared.places.Sealed.{Sealed};
+
+    ghost Value = { Bags (Sealed J) };
+
+    ghost view = { λ c. record {
+      items = c.first.items ++ (joined (λ q. q.items) c.between.items ++ c.last.items);
+      room = nat_lt (deque_len c.last) (deque_capacity c.last);
+    } };
+
+    ghost invariant = { λ c. AreFilled (λ q. deque_len q) c.between.items × (c.first.items ≡ [] → c.between.items ≡ []) };
+}
+
+impl<J: Drop> Chain<J> {
+    /// No bag, and no block.
+    pub fn new(alloc: Global) -> Chain<J>
+        ensures { result.items ≡ [] }
+    {
+        Chain {
+            first: VecDeque::new(alloc),
+            between: VecDeque::new(alloc),
+            last: VecDeque::new(alloc),
+            alloc,
+        }
+    }
+
+    /// Makes a block where the last one is full or there is none, so that the next bag needs no memory.
+    pub fn reserve(&mut self) -> Result<(), AllocError>
+        ensures items { self.new.items ≡ self.old.items }
+        ensures ok { OnOk result (self.new.room ≡ true) }
+    {
+        if self.last.len() < self.last.capacity() {
+            return Ok(());
+        }
+        let block = VecDeque::with_capacity(self.alloc, BLOCK)?;
+        if self.last.is_empty() {
+            self.last = block;
+        } else if self.first.is_empty() {
+            self.first = mem::replace(&mut self.last, block);
+        } else {
+            self.between.reserve(1)?;
+            self.between
+                .push_back_reserved(mem::replace(&mut self.last, block));
+        }
+        Ok(())
+    }
+
+    /// Queues a bag where there is room.
+    pub fn push_back_reserved(&mut self, bag: Sealed<J>)
+        requires room { self.old.room ≡ true }
+        ensures items { self.new.items ≡ self.old.items ++ bag ∷ [] }
+    {
+        self.last.push_back_reserved(bag);
+    }
+
+    /// The oldest bag.
+    pub fn front(&self) -> Option<&Sealed<J>>
+        ensures { MatchOption result (self.now.items ≡ []) (λ b. (0 < length self.now.items) × (b.now ≡ slice_index_or self.now.items 0 b.now)) }
+    {
+        match self.first.front() {
+            Some(bag) => Some(bag),
+            None => self.last.front(),
+        }
+    }
+
+    /// Takes the oldest bag off, and gives its block up where it was the last one there.
+    pub fn pop_front(&mut self) -> Option<Sealed<J>>
+        ensures items { MatchOption result ((self.old.items ≡ []) × (self.new.items ≡ [])) (λ b. self.old.items ≡ b ∷ self.new.items) }
+    {
+        let Some(bag) = self.first.pop_front() else {
+            return take_bag(&mut self.last, self.alloc);
+        };
+        if self.first.is_empty() {
+            self.first = take_block(&mut self.between, self.alloc);
+        }
+        Some(bag)
+    }
+}
+
+/// Takes the first bag of a block off, and gives the block up where no bag is left in it.
+fn take_bag<J: Drop>(block: &mut VecDeque<Sealed<J>>, alloc: Global) -> Option<Sealed<J>>
+    ensures items { MatchOption result ((block.old.items ≡ []) × (block.new.items ≡ [])) (λ b. block.old.items ≡ b ∷ block.new.items) }
+{
+    let taken = block.pop_front();
+    if block.is_empty() {
+        *block = VecDeque::new(alloc);
+    }
+    taken
+}
+
+/// Takes the first block off; an empty one where there is none.
+fn take_block<J: Drop>(
+    blocks: &mut VecDeque<VecDeque<Sealed<J>>>,
+    alloc: Global,
+) -> VecDeque<Sealed<J>>
+    requires filled { AreFilled (λ q. deque_len q) blocks.old.items }
+    ensures items { joined (λ q. q.items) blocks.old.items ≡ result.items ++ joined (λ q. q.items) blocks.new.items }
+    ensures filled { AreFilled (λ q. deque_len q) blocks.new.items }
+    ensures none { result.items ≡ [] → blocks.new.items ≡ [] }
+{
+    match blocks.pop_front() {
+        Some(block) => block,
+        None => VecDeque::new(alloc),
+    }
+}
