@@ -8,9 +8,9 @@ use Rattle.crossbeam_epoch.specs.declared.places.Sealed.{Sealed}
 use Rattle.crossbeam_epoch.specs.Machine.{State, place, blank}
 
 -- a reservation that didn't fail made room for one more
-pub one_more : {A E : Type 0} (r : Result A E) (failed : Bool) (n room : ℕ) → failed ≡ is_err r → failed ≡ false → OnOk r (n + 1 ≤ room) → n < room
-one_more (Ok x) failed n room is succeeded h = omega (arith, h)
-one_more (Err e) failed n room is succeeded h = absurd (cc (is, succeeded))
+pub room_made : {A E : Type 0} (r : Result A E) (failed room : Bool) → failed ≡ is_err r → failed ≡ false → OnOk r (room ≡ true) → room ≡ true
+room_made (Ok x) failed room is succeeded made = made
+room_made (Err e) failed room is succeeded made = absurd (cc (is, succeeded))
 
 -- one more place that was looked at is taken
 pub taken_next : {A : Type 0} (xs : List (Participant A)) (n : ℕ) (p : Participant A) → n < length xs → p ≡ get_or xs n p → p.registered ≡ true → ((q : ℕ) → q < n → (get_or xs q blank).registered ≡ true) → (q : ℕ) → q < n + 1 → (get_or xs q blank).registered ≡ true

@@ -111,7 +111,7 @@ impl<T: Links + Pointable + Drop, J: Task> World<T, J> {
         ensures ok { IfOk result (λ t. (t ≡ self.old.next) × (self.new ≡ deferred_anew self.old who work)) }
         ensures err { IfErr result (λ w. (w ≡ work) × (self.new ≡ self.old)) }
     {
-        if self.queue.reserve(1).is_err() {
+        if self.queue.reserve().is_err() {
             return Err(work);
         }
         let ticket = self.tickets.give();

@@ -6,6 +6,7 @@ ghost use Rattle.crossbeam_epoch.specs.Reach.{Moment, marks_of, Tells};
 
 use crate::bag::{Bag, Entry};
 use crate::cells::Cells;
+use crate::chain::Chain;
 use crate::collect::perform;
 use crate::fault::Fault;
 use crate::names::{Links, Pointable};
@@ -13,7 +14,6 @@ use crate::places::Sealed;
 use crate::task::Task;
 use crate::tickets::Tickets;
 use crate::world::World;
-use std::collections::VecDeque;
 
 impl<T: Links + Pointable + Drop, J: Task> World<T, J> {
     /// Calls every job that is left, and answers how many of those that waited it called; Registered(n), with the
@@ -54,7 +54,7 @@ impl<T: Links + Pointable + Drop, J: Task> World<T, J> {
 
 /// Calls the jobs of these bags, the front bag's first.
 fn call_bags<T: Drop, J: Task>(
-    mut queue: VecDeque<Sealed<J>>,
+    mut queue: Chain<J>,
     tickets: &mut Tickets,
     cells: &mut Cells<T>,
 )

@@ -76,7 +76,7 @@ impl<T: Links + Pointable + Drop, J: Task> World<T, J> {
         ensures done { result ≡ outcome_at next → self.new ≡ queued self.old who seal next }
         ensures refused { result ≡ Outcome.Refused Fault.Memory → self.new ≡ in_phase self.old who Phase.Idle }
     {
-        if self.queue.reserve(1).is_err() {
+        if self.queue.reserve().is_err() {
             self.participants[who].phase = Phase::Idle;
             return Outcome::Refused(Fault::Memory);
         }
@@ -92,7 +92,7 @@ impl<T: Links + Pointable + Drop, J: Task> World<T, J> {
         ensures done { result ≡ Outcome.Done → self.new ≡ left self.old who seal }
         ensures refused { result ≡ Outcome.Refused Fault.Memory → self.new ≡ in_phase self.old who Phase.Idle }
     {
-        if self.queue.reserve(1).is_err() {
+        if self.queue.reserve().is_err() {
             self.participants[who].phase = Phase::Idle;
             return Outcome::Refused(Fault::Memory);
         }

@@ -8,14 +8,14 @@ ghost use Rattle.crossbeam_epoch.specs.Reach.{Moment, Quiet, moment, Tells};
 
 use crate::bag::Bag;
 use crate::cells::Cells;
+use crate::chain::Chain;
 use crate::fault::Fault;
 use crate::limits::Limits;
 use crate::names::{Links, Pointable, Ptr};
-use crate::places::{Participant, Phase, Sealed};
+use crate::places::{Participant, Phase};
 use crate::task::Task;
 use crate::tickets::Tickets;
 use std::alloc::{AllocError, Global};
-use std::collections::VecDeque;
 use std::marker::Model;
 
 /// Epoch-based reclamation as a machine of atomic steps.
@@ -24,7 +24,7 @@ pub struct World<T, J> {
     pub(crate) limits: Limits,
     pub(crate) epoch: u64,
     pub(crate) participants: Vec<Participant<J>>,
-    pub(crate) queue: VecDeque<Sealed<J>>,
+    pub(crate) queue: Chain<J>,
     pub(crate) tickets: Tickets,
     pub(crate) cells: Cells<T>,
     pub(crate) roots: Vec<Ptr>,
@@ -73,7 +73,7 @@ impl<T: Links + Pointable + Drop, J: Task> World<T, J> {
             limits,
             epoch: 0,
             participants,
-            queue: VecDeque::new(alloc),
+            queue: Chain::new(alloc),
             tickets: Tickets::new(),
             cells,
             roots,

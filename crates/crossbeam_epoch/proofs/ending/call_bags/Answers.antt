@@ -1,6 +1,6 @@
 use Rattle.std.proofs.Common.{◌≡◌, ◌-◌, [], sym, ap, ◌∙◌, arith, length}
 use Rattle.crossbeam_epoch.specs.Ending.{jobs_of, after_jobs}
-use Rattle.crossbeam_epoch.proofs.Endings.{bag_less, bag_after, fewer_bags, none_left, given_is}
+use Rattle.crossbeam_epoch.proofs.Endings.{bag_less, bag_after, fewer_bags, given_is}
 use Rattle.crossbeam_epoch.proofs.ending.call_bags.Goals as goal
 
 pub loop-jobs-preserved : goal.loop-jobs-preserved
@@ -21,7 +21,7 @@ loop-jobs-smaller g c = fewer_bags c.in-Some.field-0 c.loop-jobs.queue.items c.p
 pub returns : goal.returns
 returns g c =
     let l = c.loop-jobs in
-    let none : l.queue.items ≡ [] = none_left l.queue.items c.pop_front.new.self.items c.in_default.ensures.items c.in_default.ensures.rest in
+    let none : l.queue.items ≡ [] = c.in_default.ensures.items.0 in
     let no_job : length (jobs_of l.queue.items) ≡ 0 = ap (λ q. length (jobs_of q)) none in
     let waits : l.tickets.waiting ≡ c.args.tickets.now.waiting - length (jobs_of c.args.queue.items) = omega (arith, no_job, l.invariant.waiting) in
     record {
