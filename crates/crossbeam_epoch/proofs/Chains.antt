@@ -1,13 +1,14 @@
 -- A queue in blocks: what its parts hold as one list.
-use Rattle.std.proofs.Common.{◌≡◌, ℕ, ◌<◌, Bool, true, false, List, [], ◌∷◌, ◌++◌, ◌==◌, Option, None, Some, refl, sym, ap, ◌∙◌, subst, arith, length}
-use Rattle.std.specs.Prelude.{MatchOption, nat_lt}
+use Rattle.std.proofs.Common.{◌≡◌, ℕ, zero, suc, ◌-◌, ◌<◌, Bool, true, false, List, [], ◌∷◌, ◌++◌, ◌==◌, Option, None, Some, refl, sym, ap, ◌∙◌, subst, arith, length}
+use Rattle.std.specs.Prelude.{MatchOption}
 use Rattle.std.proofs.lemmas.Bool.Decides.{nat_tests}
 use Rattle.std.proofs.lemmas.List.{append_assoc, append-nil, nil_from_length}
-use Rattle.crossbeam_epoch.specs.Chain.{joined, AreFilled}
+use Rattle.crossbeam_epoch.specs.Chain.{joined, AreFilled, refilled}
 
--- a length below a capacity is seen
-pub has_room : (len capacity n m : ℕ) → len ≡ n → capacity ≡ m → len < capacity → nat_lt n m ≡ true
-has_room len capacity n m is same lt = grind (arith, nat_tests)
+-- a length below a capacity leaves room
+pub has_room : (len capacity n m room : ℕ) → len ≡ n → capacity ≡ m → len < capacity → m - n ≡ room → room ≡ refilled room
+has_room len capacity n m zero is same lt free = absurd (omega (arith, is, same, lt, free))
+has_room len capacity n m (suc room) is same lt free = refl
 
 -- what was seen to be empty is
 pub nothing_in : {B : Type 0} (xs : List B) (empty : Bool) (n : ℕ) → n ≡ length xs → empty ≡ (n == 0) → empty ≡ true → xs ≡ []

@@ -1,16 +1,18 @@
 -- What a collector's state gives the calls of a step: an index within the table, room for a bag, a ticket that is left.
-use Rattle.std.proofs.Common.{◌≡◌, ℕ, ◌+◌, ◌-◌, ◌^◌, ◌<◌, ◌≤◌, arith, Bool, true, false, List, Result, Ok, Err, OnOk, sym, ◌∙◌, ap, subst, length, get_or}
+use Rattle.std.proofs.Common.{◌≡◌, ℕ, zero, suc, ◌+◌, ◌-◌, ◌^◌, ◌<◌, ◌≤◌, arith, Bool, true, false, List, Result, Ok, Err, OnOk, sym, ◌∙◌, ap, subst, length, get_or}
 use Rattle.std.specs.Result.{is_err}
 use Rattle.std.proofs.lemmas.List.{get_or_read}
 use borrow.Author.Count.{below_more}
 use Rattle.crossbeam_epoch.specs.declared.places.Participant.{Participant}
 use Rattle.crossbeam_epoch.specs.declared.places.Sealed.{Sealed}
+use Rattle.crossbeam_epoch.specs.Chain.{refilled}
 use Rattle.crossbeam_epoch.specs.Machine.{State, place, blank}
 
 -- a reservation that didn't fail made room for one more
-pub room_made : {A E : Type 0} (r : Result A E) (failed room : Bool) → failed ≡ is_err r → failed ≡ false → OnOk r (room ≡ true) → room ≡ true
-room_made (Ok x) failed room is succeeded made = made
-room_made (Err e) failed room is succeeded made = absurd (cc (is, succeeded))
+pub room_made : {A E : Type 0} (r : Result A E) (failed : Bool) (before room : ℕ) → failed ≡ is_err r → failed ≡ false → OnOk r (room ≡ refilled before) → 0 < room
+room_made (Ok x) failed zero room is succeeded made = omega (arith, made)
+room_made (Ok x) failed (suc n) room is succeeded made = omega (arith, made)
+room_made (Err e) failed before room is succeeded made = absurd (cc (is, succeeded))
 
 -- one more place that was looked at is taken
 pub taken_next : {A : Type 0} (xs : List (Participant A)) (n : ℕ) (p : Participant A) → n < length xs → p ≡ get_or xs n p → p.registered ≡ true → ((q : ℕ) → q < n → (get_or xs q blank).registered ≡ true) → (q : ℕ) → q < n + 1 → (get_or xs q blank).registered ≡ true

@@ -1,8 +1,8 @@
 //! The queue of sealed bags, as a chain of blocks.
 
-ghost use Rattle.std.specs.Prelude.{◌≡◌, ◌<◌, ◌++◌, ◌∷◌, [], true, MatchOption, OnOk, length, slice_index_or};
+ghost use Rattle.std.specs.Prelude.{◌≡◌, ◌<◌, ◌++◌, ◌∷◌, [], ◌-◌, MatchOption, OnOk, IsOk, length, slice_index_or};
 ghost use Rattle.std.specs.VecDeque.{deque_len};
-ghost use Rattle.crossbeam_epoch.specs.Chain.{joined, AreFilled};
+ghost use Rattle.crossbeam_epoch.specs.Chain.{joined, AreFilled, refilled};
 
 use crate::places::Sealed;
 use std::alloc::{AllocError, Global};
@@ -26,7 +26,7 @@ pub struct Chain<J> {
 }
 
 impl<J> Model for Chain<J> {
-    ghost use Rattle.std.specs.Prelude.{◌≡◌, ◌++◌, [], nat_lt, ◌<◌};
+    ghost use Rattle.std.specs.Prelude.{◌≡◌, ◌-◌, ◌++◌, []};
     ghost use Rattle.std.specs.VecDeque.{deque_len, deque_capacity};
     ghost use Rattle.crossbeam_epoch.specs.Chain.{Chain as Bags, joined, AreFilled};
     ghost use Rattle.crossbeam_epoch.specs.declared.places.Sealed.{Sealed};
@@ -35,7 +35,7 @@ impl<J> Model for Chain<J> {
 
     ghost view = { λ c. record {
       items = c.first.items ++ (joined (λ q. q.items) c.between.items ++ c.last.items);
-      room = nat_lt (deque_len c.last) (deque_capacity c.last);
+      room = deque_capacity c.last - deque_len c.last;
     } };
 
     ghost invariant = { λ c. AreFilled (λ q. deque_len q) c.between.items × (c.first.items ≡ [] → c.between.items ≡ []) };
@@ -57,7 +57,8 @@ impl<J: Drop> Chain<J> {
     /// Makes a block where the last one is full or there is none, so that the next bag needs no memory.
     pub fn reserve(&mut self) -> Result<(), AllocError>
         ensures items { self.new.items ≡ self.old.items }
-        ensures ok { OnOk result (self.new.room ≡ true) }
+        ensures ok { OnOk result (self.new.room ≡ refilled self.old.room) }
+        ensures spared { 0 < self.old.room → IsOk result }
     {
         if self.last.len() < self.last.capacity() {
             return Ok(());
@@ -77,8 +78,9 @@ impl<J: Drop> Chain<J> {
 
     /// Queues a bag where there is room.
     pub fn push_back_reserved(&mut self, bag: Sealed<J>)
-        requires room { self.old.room ≡ true }
+        requires room { 0 < self.old.room }
         ensures items { self.new.items ≡ self.old.items ++ bag ∷ [] }
+        ensures room { self.new.room ≡ self.old.room - 1 }
     {
         self.last.push_back_reserved(bag);
     }

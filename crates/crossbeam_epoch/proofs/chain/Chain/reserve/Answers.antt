@@ -5,7 +5,7 @@ use Rattle.crossbeam_epoch.proofs.Chains.{has_room, nothing_in, something_in, no
 use Rattle.crossbeam_epoch.proofs.chain.Chain.reserve.Goals as goal
 
 pub returns-then-len-capacity-clause-ok : goal.returns-then-len-capacity-clause-ok
-returns-then-len-capacity-clause-ok g c = sym (ap (λ v. v.room) c.self.view_is) ∙ has_room _ _ _ _ c.len.ensures c.capacity.ensures c.if-len-capacity.true
+returns-then-len-capacity-clause-ok g c = has_room _ _ _ _ _ c.len.ensures c.capacity.ensures c.if-len-capacity.true (ap (λ v. v.room) c.self.view_is)
 
 pub invariant_of-self-else-is_empty-2 : goal.invariant_of-self-else-is_empty-2
 invariant_of-self-else-is_empty-2 g c =

@@ -20,7 +20,7 @@ pub index_mut-requires : goal.index_mut-requires
 index_mut-requires g c = within c.args.self.now _ c.args.who _ c.self.view_is c.self.inside.participants.ok.0 c.requires.in_table
 
 pub push_back_reserved-requires : goal.push_back_reserved-requires
-push_back_reserved-requires g c = (g.met.J.Task.fits_sealed, room_made c.reserve.result c.is_err.result _ c.is_err.ensures.value c.if-is_err.false c.reserve.ensures.ok)
+push_back_reserved-requires g c = (g.met.J.Task.fits_sealed, room_made c.reserve.result c.is_err.result _ _ c.is_err.ensures.value c.if-is_err.false c.reserve.ensures.ok)
 
 pub returns-then-is_err : goal.returns-then-is_err
 returns-then-is_err g c = record { ok = tt; err = (refl, same_queue c.args.self.now _ c.reserve.new.self.items c.self.view_is c.reserve.ensures.items) }
