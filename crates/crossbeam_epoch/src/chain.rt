@@ -4,7 +4,7 @@ ghost use Rattle.std.specs.Prelude.{◌≡◌, ◌<◌, ◌++◌, ◌∷◌, [],
 ghost use Rattle.std.specs.VecDeque.{deque_len};
 ghost use Rattle.crossbeam_epoch.specs.Chain.{joined, AreFilled, refilled};
 
-use crate::places::Sealed;
+use crate::bag::Sealed;
 use std::alloc::{AllocError, Global};
 use std::collections::VecDeque;
 use std::marker::Model;
@@ -29,7 +29,7 @@ impl<J> Model for Chain<J> {
     ghost use Rattle.std.specs.Prelude.{◌≡◌, ◌-◌, ◌++◌, []};
     ghost use Rattle.std.specs.VecDeque.{deque_len, deque_capacity};
     ghost use Rattle.crossbeam_epoch.specs.Chain.{Chain as Bags, joined, AreFilled};
-    ghost use Rattle.crossbeam_epoch.specs.declared.places.Sealed.{Sealed};
+    ghost use Rattle.crossbeam_epoch.specs.declared.bag.Sealed.{Sealed};
 
     ghost Value = { Bags (Sealed J) };
 

@@ -10,8 +10,7 @@ returns-then-len-capacity-clause-ok g c = has_room _ _ _ _ _ c.len.ensures c.cap
 pub invariant_of-self-else-is_empty-2 : goal.invariant_of-self-else-is_empty-2
 invariant_of-self-else-is_empty-2 g c =
     let s = c.self.inside in
-    let some : 0 < deque_len s.last = something_in _ _ c.is_empty.ensures c.if-is_empty.false in
-    (
+    let some : 0 < deque_len s.last = something_in _ _ c.is_empty.ensures c.if-is_empty.false in (
       subst (λ qs. AreFilled (λ q. deque_len q) qs) (sym (c.push_back_reserved.ensures.items ∙ ap (λ qs. qs ++ c.replace-else-is_empty-2.result ∷ []) c.reserve.ensures.items)) (all_filled (λ q. deque_len q) s.between.items c.replace-else-is_empty-2.result c.self.invariant.0 (subst (λ q. 0 < deque_len q) (sym c.replace-else-is_empty-2.ensures.value) some)),
       λ none. absurd (not_nothing s.first.items (deque_len s.first) s.first.ok.0 (something_in _ _ c.is_empty-else-is_empty.ensures c.if-is_empty-2.false) none),
     )
