@@ -5,8 +5,8 @@ use Rattle.std.proofs.lemmas.Bool.{cases_eq, cases_lt, eq-eqb, ne_eqb}
 use Rattle.std.proofs.lemmas.Bool.Decides.{nat_tests}
 use Rattle.std.proofs.lemmas.List.{get_or_past}
 use Rattle.crossbeam_epoch.specs.declared.names.Name.{Name}
-use Rattle.crossbeam_epoch.specs.declared.cells.Cell.{Cell}
-use Rattle.crossbeam_epoch.specs.Store.{Store, fresh, cell_at, value_in, value_at, was_given, IsNext, emptied, replaced, placed, Sets}
+use Rattle.crossbeam_epoch.specs.declared.world.cells.Cell.{Cell}
+use Rattle.crossbeam_epoch.specs.World.Store.{Store, fresh, cell_at, value_in, value_at, was_given, IsNext, emptied, replaced, placed, Sets}
 use Rattle.crossbeam_epoch.proofs.Givens.{cell_itself}
 use Rattle.crossbeam_epoch.proofs.Told.{turn_of, usable_empty, cell_with}
 

@@ -10,15 +10,15 @@ use Rattle.std.proofs.lemmas.List.Elements.{Contains-append_cases}
 use Rattle.crossbeam_epoch.specs.declared.bag.Entry.{Entry}
 use Rattle.crossbeam_epoch.specs.declared.bag.Work.TheVariants.{Remove}
 use Rattle.crossbeam_epoch.specs.declared.names.Name.{Name}
-use Rattle.crossbeam_epoch.specs.declared.places.Participant.{Participant}
-use Rattle.crossbeam_epoch.specs.declared.places.Sealed.{Sealed}
-use Rattle.crossbeam_epoch.specs.Ending.{registered_below, registered_in, jobs_of, after_jobs, history_of_calls, IsEnded}
-use Rattle.crossbeam_epoch.specs.Fits.{Fits, IsTable, at_place, in_bag, has_ticket, one}
-use Rattle.crossbeam_epoch.specs.History.{Mark, Called, began, blocks, calls, IsGraceful, AreCalledLater, WasDeferred}
-use Rattle.crossbeam_epoch.specs.Machine.{State, place, blank, destroys, after_work}
-use Rattle.crossbeam_epoch.specs.Reach.{Moment, marks_of, Tells}
-use Rattle.crossbeam_epoch.specs.Store.{Store}
-use Rattle.crossbeam_epoch.specs.Tickets.{Given}
+use Rattle.crossbeam_epoch.specs.declared.world.participant.Participant.{Participant}
+use Rattle.crossbeam_epoch.specs.declared.bag.Sealed.{Sealed}
+use Rattle.crossbeam_epoch.specs.World.Ending.{registered_below, registered_in, jobs_of, after_jobs, history_of_calls, IsEnded}
+use Rattle.crossbeam_epoch.specs.World.Fits.{Fits, IsTable, at_place, in_bag, has_ticket, one}
+use Rattle.crossbeam_epoch.specs.World.History.{Mark, Called, began, blocks, times_called, IsGraceful, AreCalledLater, WasDeferred}
+use Rattle.crossbeam_epoch.specs.World.Machine.{State, place, blank, destroys, after_work}
+use Rattle.crossbeam_epoch.specs.World.Reach.{Moment, marks_of, Tells}
+use Rattle.crossbeam_epoch.specs.World.Store.{Store}
+use Rattle.crossbeam_epoch.specs.World.Tickets.{TicketCount}
 use Rattle.crossbeam_epoch.proofs.Jobs.{began_blocking, destroys_named}
 use Rattle.crossbeam_epoch.proofs.Moves.{none_in, contains_tail, unpinned_now}
 
@@ -37,7 +37,7 @@ none_blocks h q t none = by_value (blocks h q t) refl
     by_value true is = let b = began_blocking h q t is in absurd (cc (none, b.1))
 
 -- tickets by their parts
-pub given_is : (t : Given) (next waiting : ℕ) → t.next ≡ next → t.waiting ≡ waiting → t ≡ record { next = next; waiting = waiting }
+pub given_is : (t : TicketCount) (next waiting : ℕ) → t.next ≡ next → t.waiting ≡ waiting → t ≡ record { next = next; waiting = waiting }
 given_is t next waiting e f = λ k. record { next = e k; waiting = f k }
 
 module _ {J : Type 0} where
@@ -83,7 +83,7 @@ module _ {T J : Type 0} where
     | inr ge ↦ get_or_past s.table q blank ge
   ]
 
-  calls_over : (st : Store T) (jobs : List (Entry J)) (h : List Mark) (t : ℕ) → calls (history_of_calls st jobs h) t ≡ sum_by (has_ticket t) jobs + calls h t
+  calls_over : (st : Store T) (jobs : List (Entry J)) (h : List Mark) (t : ℕ) → times_called (history_of_calls st jobs h) t ≡ sum_by (has_ticket t) jobs + times_called h t
   calls_over st [] h t = omega arith
   calls_over st (e ∷ jobs) h t = let rest = calls_over (after_work st e.work) jobs (Called e.ticket (destroys st e.work) ∷ h) t in omega (arith, rest, sum_cons (has_ticket t) e jobs)
 

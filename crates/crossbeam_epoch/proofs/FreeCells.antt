@@ -5,9 +5,9 @@ use Rattle.std.proofs.lemmas.Bool.{cases_eq, cases_lt, eq-eqb, ne_eqb}
 use Rattle.std.proofs.lemmas.Bool.Decides.{nat_tests}
 use Rattle.std.proofs.lemmas.List.{length_push, get_or_push, get_or_append_left}
 use Rattle.std.proofs.lemmas.List.Sums.{sum_by-cons, sum_by-set, sum_by_push}
-use Rattle.crossbeam_epoch.specs.declared.cells.Cell.{Cell}
-use Rattle.crossbeam_epoch.specs.Store.{Store, fresh, is_usable, IsNext, placed}
-use Rattle.crossbeam_epoch.specs.Free.{FitsFree, is_open, is_open_at, busy, times}
+use Rattle.crossbeam_epoch.specs.declared.world.cells.Cell.{Cell}
+use Rattle.crossbeam_epoch.specs.World.Store.{Store, fresh, is_usable, IsNext, placed}
+use Rattle.crossbeam_epoch.specs.World.Free.{FitsFree, is_reusable, is_reusable_at, not_reusable, times}
 
 times_push : (i : ℕ) (free : List ℕ) (at : ℕ) → times i (free ++ at ∷ []) ≡ times i free + (if at == i then 1 else 0)
 times_push i free at = sum_by_push (λ x. if x == i then 1 else 0) free at
@@ -37,8 +37,8 @@ no_bit true = refl
 no_bit false = refl
 
 -- a cell of the list
-pub in_list : {T : Type 0} (cells : List (Cell T)) (rest : List ℕ) (at most turn_max : ℕ) → FitsFree cells (rest ++ at ∷ []) most turn_max → is_open_at cells turn_max at ≡ true
-in_list cells rest at most turn_max f = one_is_true (is_open_at cells turn_max at) (times at rest) (sym (times_push_same rest at) ∙ f.each at)
+pub in_list : {T : Type 0} (cells : List (Cell T)) (rest : List ℕ) (at most turn_max : ℕ) → FitsFree cells (rest ++ at ∷ []) most turn_max → is_reusable_at cells turn_max at ≡ true
+in_list cells rest at most turn_max f = one_is_true (is_reusable_at cells turn_max at) (times at rest) (sym (times_push_same rest at) ∙ f.each at)
 
 pub record Opens {T : Type 0} (cells : List (Cell T)) (at most turn_max : ℕ) : Type 0 where
   pub inside : at < length cells
@@ -53,21 +53,21 @@ opens cells rest at most turn_max f =
     let inside : at < length cells = grind (arith, nat_tests) in
     record { inside = inside; below = omega arith; empty = grind (arith, nat_tests); turns = grind (arith, nat_tests) }
 
-open_set_same : {T : Type 0} (cells : List (Cell T)) (at turn_max : ℕ) (c : Cell T) → at < length cells → is_open_at (set cells at c) turn_max at ≡ is_open turn_max c
-open_set_same cells at turn_max c lt = rw (length-set, get_or-set_same cells at c fresh lt) (inside (nat_lt at (length cells)) (is_open turn_max c) (grind (arith, nat_tests)))
+open_set_same : {T : Type 0} (cells : List (Cell T)) (at turn_max : ℕ) (c : Cell T) → at < length cells → is_reusable_at (set cells at c) turn_max at ≡ is_reusable turn_max c
+open_set_same cells at turn_max c lt = rw (length-set, get_or-set_same cells at c fresh lt) (inside (nat_lt at (length cells)) (is_reusable turn_max c) (grind (arith, nat_tests)))
   where
     inside : (a b : Bool) → a ≡ true → (a && b) ≡ b
     inside true b e = refl
     inside false b e = absurd (cc e)
 
-open_set_other : {T : Type 0} (cells : List (Cell T)) (at turn_max i : ℕ) (c : Cell T) → i ≢ at → is_open_at (set cells at c) turn_max i ≡ is_open_at cells turn_max i
+open_set_other : {T : Type 0} (cells : List (Cell T)) (at turn_max i : ℕ) (c : Cell T) → i ≢ at → is_reusable_at (set cells at c) turn_max i ≡ is_reusable_at cells turn_max i
 open_set_other cells at turn_max i c ne = rw (length-set, get_or-set_other cells at i c fresh ne) refl
 
 -- one cell changes, and the list with it
 pub fits_set : {T : Type 0} (cells : List (Cell T)) (free free' : List ℕ) (at most turn_max : ℕ) (c : Cell T)
     → at < length cells → FitsFree cells free most turn_max
-    → ((i : ℕ) → i ≢ at → times i free' ≡ times i free) → times at free' ≡ (if is_open turn_max c then 1 else 0)
-    → length free' + busy turn_max c ≡ length free + busy turn_max (get_or cells at fresh)
+    → ((i : ℕ) → i ≢ at → times i free' ≡ times i free) → times at free' ≡ (if is_reusable turn_max c then 1 else 0)
+    → length free' + not_reusable turn_max c ≡ length free + not_reusable turn_max (get_or cells at fresh)
     → FitsFree (set cells at c) free' most turn_max
 fits_set cells free free' at most turn_max c lt f same here long = record {
   each = λ i. elim (cases_eq i at) [
@@ -76,13 +76,13 @@ fits_set cells free free' at most turn_max c lt f same here long = record {
   ];
   room =
       let r = f.room in
-      let s = sum_by-set (busy turn_max) cells at c fresh lt in
+      let s = sum_by-set (not_reusable turn_max) cells at c fresh lt in
       let l = length-set cells at c in
       omega (arith, r, s, l, long);
   few = let l = f.few in rw length-set l;
 }
 
-some_busy : {T : Type 0} (turn_max turns : ℕ) (v : T) → is_open turn_max (record { turns = turns; value = Some v }) ≡ false
+some_busy : {T : Type 0} (turn_max turns : ℕ) (v : T) → is_reusable turn_max (record { turns = turns; value = Some v }) ≡ false
 some_busy turn_max turns v = refl
 
 -- a cell of the list is given a value
@@ -90,14 +90,14 @@ pub fits_used : {T : Type 0} (cells : List (Cell T)) (rest : List ℕ) (at most 
     → FitsFree cells (rest ++ at ∷ []) most turn_max → FitsFree (set cells at (record { turns = turns; value = Some v })) rest most turn_max
 fits_used cells rest at most turn_max turns v f =
     let o = opens cells rest at most turn_max f in
-    let is : is_open turn_max (get_or cells at fresh) ≡ true = grind (arith, nat_tests, o.empty, o.turns) in
+    let is : is_reusable turn_max (get_or cells at fresh) ≡ true = grind (arith, nat_tests, o.empty, o.turns) in
     let once = sym (times_push_same rest at) ∙ f.each at ∙ ap (λ (b : Bool). if b then 1 else 0) (in_list cells rest at most turn_max f) in
-    let free : busy turn_max (get_or cells at fresh) ≡ 0 = ap (λ (b : Bool). if b then 0 else 1) is in
+    let free : not_reusable turn_max (get_or cells at fresh) ≡ 0 = ap (λ (b : Bool). if b then 0 else 1) is in
     let long = length_push rest at in
     fits_set cells (rest ++ at ∷ []) rest at most turn_max (record { turns = turns; value = Some v }) o.inside f
     (λ i ne. sym (times_push_other i rest at ne)) (omega (arith, once)) (omega (arith, free, long))
 
-filled_closed : {T : Type 0} (cells : List (Cell T)) (at turn_max : ℕ) (v : T) → (get_or cells at fresh).value ≡ Some v → is_open turn_max (get_or cells at fresh) ≡ false
+filled_closed : {T : Type 0} (cells : List (Cell T)) (at turn_max : ℕ) (v : T) → (get_or cells at fresh).value ≡ Some v → is_reusable turn_max (get_or cells at fresh) ≡ false
 filled_closed cells at turn_max v is = ap (λ o. is_none o && nat_le (get_or cells at fresh).turns turn_max) is
 
 filled_free : {T : Type 0} (cells : List (Cell T)) (free : List ℕ) (at most turn_max : ℕ) (v : T) → FitsFree cells free most turn_max → (get_or cells at fresh).value ≡ Some v → times at free ≡ 0
@@ -109,7 +109,7 @@ pub fits_replaced : {T : Type 0} (cells : List (Cell T)) (free : List ℕ) (at m
     → at < length cells → FitsFree cells free most turn_max → (get_or cells at fresh).value ≡ Some v
     → FitsFree (set cells at (record { turns = turns; value = Some w })) free most turn_max
 fits_replaced cells free at most turn_max turns v w lt f is =
-    let full : busy turn_max (get_or cells at fresh) ≡ 1 = ap (λ (b : Bool). if b then 0 else 1) (filled_closed cells at turn_max v is) in
+    let full : not_reusable turn_max (get_or cells at fresh) ≡ 1 = ap (λ (b : Bool). if b then 0 else 1) (filled_closed cells at turn_max v is) in
     fits_set cells free free at most turn_max (record { turns = turns; value = Some w }) lt f
     (λ i ne. refl) (filled_free cells free at most turn_max v f is) (omega (arith, full))
 
@@ -119,10 +119,10 @@ pub fits_emptied : {T : Type 0} (cells : List (Cell T)) (free : List ℕ) (at mo
     → FitsFree (set cells at (record { turns = turns; value = None })) (free ++ at ∷ []) most turn_max
 fits_emptied {T} cells free at most turn_max turns v lt f is le =
     let c : Cell T = record { turns = turns; value = None } in
-    let open_now : is_open turn_max c ≡ true = grind (arith, nat_tests) in
-    let full : busy turn_max (get_or cells at fresh) ≡ 1 = ap (λ (b : Bool). if b then 0 else 1) (filled_closed cells at turn_max v is) in
-    let free_now : busy turn_max c ≡ 0 = ap (λ (b : Bool). if b then 0 else 1) open_now in
-    let one : bit (is_open turn_max c) ≡ 1 = ap bit open_now in
+    let open_now : is_reusable turn_max c ≡ true = grind (arith, nat_tests) in
+    let full : not_reusable turn_max (get_or cells at fresh) ≡ 1 = ap (λ (b : Bool). if b then 0 else 1) (filled_closed cells at turn_max v is) in
+    let free_now : not_reusable turn_max c ≡ 0 = ap (λ (b : Bool). if b then 0 else 1) open_now in
+    let one : bit (is_reusable turn_max c) ≡ 1 = ap bit open_now in
     let none = filled_free cells free at most turn_max v f is in
     let more = times_push_same free at in
     let long = length_push free at in
@@ -135,10 +135,10 @@ pub fits_spent : {T : Type 0} (cells : List (Cell T)) (free : List ℕ) (at most
     → FitsFree (set cells at (record { turns = turns; value = None })) free most turn_max
 fits_spent {T} cells free at most turn_max turns v lt f is gt =
     let c : Cell T = record { turns = turns; value = None } in
-    let spent : is_open turn_max c ≡ false = grind (arith, nat_tests) in
-    let full : busy turn_max (get_or cells at fresh) ≡ 1 = ap (λ (b : Bool). if b then 0 else 1) (filled_closed cells at turn_max v is) in
-    let full_now : busy turn_max c ≡ 1 = ap (λ (b : Bool). if b then 0 else 1) spent in
-    let zero_now : bit (is_open turn_max c) ≡ 0 = ap bit spent in
+    let spent : is_reusable turn_max c ≡ false = grind (arith, nat_tests) in
+    let full : not_reusable turn_max (get_or cells at fresh) ≡ 1 = ap (λ (b : Bool). if b then 0 else 1) (filled_closed cells at turn_max v is) in
+    let full_now : not_reusable turn_max c ≡ 1 = ap (λ (b : Bool). if b then 0 else 1) spent in
+    let zero_now : bit (is_reusable turn_max c) ≡ 0 = ap bit spent in
     fits_set cells free free at most turn_max c lt f (λ i ne. refl) (filled_free cells free at most turn_max v f is ∙ sym zero_now) (omega (arith, full, full_now))
 
 -- there is room in the list for a cell that has a value
@@ -147,10 +147,10 @@ pub room_for : {T : Type 0} (cells : List (Cell T)) (free : List ℕ) (at most t
 room_for {T} cells free at most turn_max v lt f is =
     let r = f.room in
     let few = f.few in
-    let s = sum_by-set (busy turn_max) cells at fresh fresh lt in
-    let full : busy turn_max (get_or cells at fresh) ≡ 1 = ap (λ (b : Bool). if b then 0 else 1) (filled_closed cells at turn_max v is) in
-    let open_first : is_open {T = T} turn_max fresh ≡ true = grind (arith, nat_tests) in
-    let fresh_open : busy {T = T} turn_max fresh ≡ 0 = ap (λ (b : Bool). if b then 0 else 1) open_first in
+    let s = sum_by-set (not_reusable turn_max) cells at fresh fresh lt in
+    let full : not_reusable turn_max (get_or cells at fresh) ≡ 1 = ap (λ (b : Bool). if b then 0 else 1) (filled_closed cells at turn_max v is) in
+    let open_first : is_reusable {T = T} turn_max fresh ≡ true = grind (arith, nat_tests) in
+    let fresh_open : not_reusable {T = T} turn_max fresh ≡ 0 = ap (λ (b : Bool). if b then 0 else 1) open_first in
     omega (arith, r, few, s, full, fresh_open)
 
 -- a cell is used for the first time
@@ -164,18 +164,18 @@ fits_pushed {T} cells most turn_max turns v f lt =
             let l = length_push cells c in
             let more : nat_lt i (length (cells ++ c ∷ [])) ≡ nat_lt i (length cells) = grind (arith, nat_tests) in
             (f.each i ∙ ap (λ (b : Bool). if b then 1 else 0)
-            (sym ((λ k. more k && is_open turn_max (get_or_append_left cells (c ∷ []) fresh i in_old k)))))
+            (sym ((λ k. more k && is_reusable turn_max (get_or_append_left cells (c ∷ []) fresh i in_old k)))))
         | inr past ↦ elim (cases_eq (length cells) i) [
-          | inl is ↦ sym (ap (λ (d : Cell T). if nat_lt i (length (cells ++ c ∷ [])) && is_open turn_max d then 1 else 0) (get_or_push cells c fresh i is) ∙ no_bit (nat_lt i (length (cells ++ c ∷ []))))
+          | inl is ↦ sym (ap (λ (d : Cell T). if nat_lt i (length (cells ++ c ∷ [])) && is_reusable turn_max d then 1 else 0) (get_or_push cells c fresh i is) ∙ no_bit (nat_lt i (length (cells ++ c ∷ []))))
           | inr ne ↦
               let l = length_push cells c in
               let out : nat_lt i (length (cells ++ c ∷ [])) ≡ false = grind (arith, nat_tests) in
-              sym (ap (λ (b : Bool). if b && is_open turn_max (get_or (cells ++ c ∷ []) i fresh) then 1 else 0) out)
+              sym (ap (λ (b : Bool). if b && is_reusable turn_max (get_or (cells ++ c ∷ []) i fresh) then 1 else 0) out)
         ]
       ];
       room =
           let r = f.room in
-          let s = sum_by_push (busy turn_max) cells c in
+          let s = sum_by_push (not_reusable turn_max) cells c in
           let l = length_push cells c in
           omega (arith, r, s, l);
       few = let l = length_push cells c in omega (arith, l, lt);
@@ -184,7 +184,7 @@ fits_pushed {T} cells most turn_max turns v f lt =
 -- an empty list of free cells, and no cell left
 pub none_usable : {T : Type 0} (cells : List (Cell T)) (most turn_max : ℕ) → FitsFree cells [] most turn_max → most ≤ length cells → (i : ℕ) → is_usable (record { cells = cells; most = most; turn_max = turn_max }) i ≡ false
 none_usable {T} cells most turn_max f le i =
-    let closed = none_is_false (is_open_at cells turn_max i) (sym (f.each i)) in
+    let closed = none_is_false (is_reusable_at cells turn_max i) (sym (f.each i)) in
     by_inside (nat_lt i most) (is_none (get_or cells i fresh).value) (nat_le (get_or cells i fresh).turns turn_max) (nat_lt i (length cells)) (grind (arith, nat_tests)) closed
   where
     by_inside : (a b d e : Bool) → (a ≡ true → e ≡ true) → (e && (b && d)) ≡ false → (a && b && d) ≡ false
@@ -201,7 +201,7 @@ none_usable {T} cells most turn_max f le i =
 -- nothing was used yet
 pub fits_none : {T : Type 0} (most turn_max : ℕ) → FitsFree {T = T} [] [] most turn_max
 fits_none {T} most turn_max = record {
-  each = λ i. let out : nat_lt i 0 ≡ false = grind (arith, nat_tests) in sym (ap (λ (b : Bool). bit (b && is_open {T = T} turn_max fresh)) out);
+  each = λ i. let out : nat_lt i 0 ≡ false = grind (arith, nat_tests) in sym (ap (λ (b : Bool). bit (b && is_reusable {T = T} turn_max fresh)) out);
   room = refl;
   few = omega arith;
 }
@@ -232,7 +232,7 @@ some_usable cells (x ∷ xs) most turn_max f e =
     let each = f.each x in
     let here : bit (x == x) ≡ 1 = ap bit (eq-eqb x x refl) in
     let sum = sum_by-cons (λ y. if y == x then 1 else 0) x xs in
-    let is : is_open_at cells turn_max x ≡ true = one_is_true (is_open_at cells turn_max x) (times x xs) (omega (arith, here, sum) ∙ each) in
+    let is : is_reusable_at cells turn_max x ≡ true = one_is_true (is_reusable_at cells turn_max x) (times x xs) (omega (arith, here, sum) ∙ each) in
     let few = f.few in
     (x, grind (arith, nat_tests))
 

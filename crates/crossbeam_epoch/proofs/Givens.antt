@@ -6,18 +6,18 @@ use Rattle.std.proofs.lemmas.Bool.Decides.{nat_tests}
 use Rattle.std.proofs.lemmas.List.{set_past, get_or_push}
 use Rattle.crossbeam_epoch.specs.declared.bag.Work.{Work}
 use Rattle.crossbeam_epoch.specs.declared.bag.Work.TheVariants.{Blank, Remove, Run}
-use Rattle.crossbeam_epoch.specs.declared.cells.Cell.{Cell}
+use Rattle.crossbeam_epoch.specs.declared.world.cells.Cell.{Cell}
 use Rattle.crossbeam_epoch.specs.declared.fault.Fault.TheVariants as F
 use Rattle.crossbeam_epoch.specs.declared.names.Name.{Name}
-use Rattle.crossbeam_epoch.specs.declared.places.Phase.{Phase}
-use Rattle.crossbeam_epoch.specs.declared.places.Phase.TheVariants.{Idle, Look, Publish, RepinLook, RepinPublish, Seal, Queue, ReleaseSeal, ReleaseQueue, Secure, SecureSeal, SecureQueue, Load, Inspect, Advance, Take, Call}
-use Rattle.crossbeam_epoch.specs.declared.report.Event.{Event}
-use Rattle.crossbeam_epoch.specs.declared.report.Event.TheVariants.{Begin, Go}
-use Rattle.crossbeam_epoch.specs.declared.report.Outcome.{Outcome}
-use Rattle.crossbeam_epoch.specs.declared.report.Outcome.TheVariants.{Running, Done, Refused}
-use Rattle.crossbeam_epoch.specs.Machine.{State, place, in_phase, is_due, taken, called_one, no_entry, after_work}
-use Rattle.crossbeam_epoch.specs.Steps.{after, gone, moved, needs_memory}
-use Rattle.crossbeam_epoch.specs.Store.{Store, fresh, cell_at, value_at, was_given, with_cell, emptied, replaced, placed, IsNext}
+use Rattle.crossbeam_epoch.specs.declared.world.participant.Phase.{Phase}
+use Rattle.crossbeam_epoch.specs.declared.world.participant.Phase.TheVariants.{Idle, Look, Publish, RepinLook, RepinPublish, Seal, Queue, ReleaseSeal, ReleaseQueue, Secure, SecureSeal, SecureQueue, Load, Inspect, Advance, Take, Call}
+use Rattle.crossbeam_epoch.specs.declared.world.report.Event.{Event}
+use Rattle.crossbeam_epoch.specs.declared.world.report.Event.TheVariants.{Begin, Go}
+use Rattle.crossbeam_epoch.specs.declared.world.report.Outcome.{Outcome}
+use Rattle.crossbeam_epoch.specs.declared.world.report.Outcome.TheVariants.{Running, Done, Refused}
+use Rattle.crossbeam_epoch.specs.World.Machine.{State, place, in_phase, is_due, taken, called_one, no_entry, after_work}
+use Rattle.crossbeam_epoch.specs.World.Steps.{after, gone, moved, needs_memory}
+use Rattle.crossbeam_epoch.specs.World.Store.{Store, fresh, cell_at, value_at, was_given, with_cell, emptied, replaced, placed, IsNext}
 
 module _ {T : Type 0} where
   -- names stay given

@@ -5,14 +5,14 @@ use Rattle.std.specs.List.{Contains, sum_by}
 use Rattle.std.proofs.lemmas.Bool.{cases_eq}
 use Rattle.std.proofs.lemmas.List.Sums.{sum_by-set}
 use Rattle.crossbeam_epoch.specs.declared.bag.Entry.{Entry}
-use Rattle.crossbeam_epoch.specs.declared.places.Participant.{Participant}
-use Rattle.crossbeam_epoch.specs.declared.places.Sealed.{Sealed}
-use Rattle.crossbeam_epoch.specs.declared.places.Phase.{Phase}
-use Rattle.crossbeam_epoch.specs.declared.places.Phase.TheVariants.{Idle, Look, Publish, RepinLook, RepinPublish, Seal, Queue, ReleaseSeal, ReleaseQueue, Secure, SecureSeal, SecureQueue, Load, Inspect, Advance, Take, Call}
-use Rattle.crossbeam_epoch.specs.History.{Mark, began, calls, deferrals, IsGraceful, AreCalledLater}
-use Rattle.crossbeam_epoch.specs.Machine.{State, place, blank}
-use Rattle.crossbeam_epoch.specs.Store.{Store}
-use Rattle.crossbeam_epoch.specs.Fits.{Fits, FitsAt, InPhase, IsSealed, IsCollecting, Bounds, AreAccepted, Once, at_place, in_bag, has_ticket, one}
+use Rattle.crossbeam_epoch.specs.declared.world.participant.Participant.{Participant}
+use Rattle.crossbeam_epoch.specs.declared.bag.Sealed.{Sealed}
+use Rattle.crossbeam_epoch.specs.declared.world.participant.Phase.{Phase}
+use Rattle.crossbeam_epoch.specs.declared.world.participant.Phase.TheVariants.{Idle, Look, Publish, RepinLook, RepinPublish, Seal, Queue, ReleaseSeal, ReleaseQueue, Secure, SecureSeal, SecureQueue, Load, Inspect, Advance, Take, Call}
+use Rattle.crossbeam_epoch.specs.World.History.{Mark, began, times_called, deferrals, IsGraceful, AreCalledLater}
+use Rattle.crossbeam_epoch.specs.World.Machine.{State, place, blank}
+use Rattle.crossbeam_epoch.specs.World.Store.{Store}
+use Rattle.crossbeam_epoch.specs.World.Fits.{Fits, FitsAt, InPhase, IsSealed, IsCollecting, Bounds, AreAccepted, Once, at_place, in_bag, has_ticket, one}
 use Rattle.crossbeam_epoch.proofs.Marks.{Goes}
 
 pub bounds_later : (b w : Option ℕ) (n m : ℕ) → Bounds b w n → n ≤ m → ((e : ℕ) → b ≡ Some e → m ≤ e + 1) → Bounds b w m
@@ -80,7 +80,7 @@ module _ {J : Type 0} where
 
 -- the actor's jobs move, and what comes in or goes out is marked
 pub record Carries {T J : Type 0} (h h' : List Mark) (s : State T J) (who : ℕ) (p : Participant J) (queue' : List (Sealed J)) (next' waiting' : ℕ) : Type 0 where
-  pub each : (t : ℕ) → (at_place (has_ticket t) p + sum_by (in_bag (has_ticket t)) queue') + (calls h' t + deferrals h t) ≡ (at_place (has_ticket t) (place s who) + sum_by (in_bag (has_ticket t)) s.queue) + (calls h t + deferrals h' t)
+  pub each : (t : ℕ) → (at_place (has_ticket t) p + sum_by (in_bag (has_ticket t)) queue') + (times_called h' t + deferrals h t) ≡ (at_place (has_ticket t) (place s who) + sum_by (in_bag (has_ticket t)) s.queue) + (times_called h t + deferrals h' t)
   pub tickets : (t : ℕ) → deferrals h' t ≡ (if nat_lt t next' then 1 else 0)
   pub count : (at_place one p + sum_by (in_bag one) queue') + s.waiting ≡ (at_place one (place s who) + sum_by (in_bag one) s.queue) + waiting'
 

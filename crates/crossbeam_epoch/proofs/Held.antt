@@ -6,16 +6,16 @@ use Rattle.std.proofs.lemmas.List.{get_or_read, get_or_past, get_or-set_same}
 use Rattle.crossbeam_epoch.specs.declared.bag.Work.{Work}
 use Rattle.crossbeam_epoch.specs.declared.fault.Fault.{Fault}
 use Rattle.crossbeam_epoch.specs.declared.fault.Fault.TheVariants.{Unknown}
-use Rattle.crossbeam_epoch.specs.declared.places.Participant.{Participant}
-use Rattle.crossbeam_epoch.specs.declared.places.Phase.{Phase}
-use Rattle.crossbeam_epoch.specs.declared.places.Phase.TheVariants.{Idle, Take, Call}
+use Rattle.crossbeam_epoch.specs.declared.world.participant.Participant.{Participant}
+use Rattle.crossbeam_epoch.specs.declared.world.participant.Phase.{Phase}
+use Rattle.crossbeam_epoch.specs.declared.world.participant.Phase.TheVariants.{Idle, Take, Call}
 use Rattle.crossbeam_epoch.specs.declared.bag.Entry.{Entry}
 use Rattle.crossbeam_epoch.specs.declared.names.Name.{Name}
-use Rattle.crossbeam_epoch.specs.Store.{Store}
-use Rattle.crossbeam_epoch.specs.declared.places.Sealed.{Sealed}
-use Rattle.crossbeam_epoch.specs.Machine.{State, is_due, took, taken, no_bag, no_entry, called, called_one, after_call, after_work, destroys, place, blank, with_place, in_phase, advanced, deferred, deferred_anew, after_deferral}
-use Rattle.crossbeam_epoch.specs.Steps.{called_by, called_entry, quiet_fault, or_count, defer_fault}
-use Rattle.crossbeam_epoch.specs.Tickets.{Given}
+use Rattle.crossbeam_epoch.specs.World.Store.{Store}
+use Rattle.crossbeam_epoch.specs.declared.bag.Sealed.{Sealed}
+use Rattle.crossbeam_epoch.specs.World.Machine.{State, is_due, took, taken, no_bag, no_entry, called, called_one, after_call, after_work, destroys, place, blank, with_place, in_phase, advanced, deferred, deferred_anew, after_deferral}
+use Rattle.crossbeam_epoch.specs.World.Steps.{called_by, called_entry, quiet_fault, or_count, defer_fault}
+use Rattle.crossbeam_epoch.specs.World.Tickets.{TicketCount}
 
 is_below : (a b : ℕ) → a < b → nat_lt a b ≡ true
 is_below a b lt = grind (arith, nat_tests)
@@ -97,7 +97,7 @@ module _ {T J : Type 0} where
       )
 
   -- the first job in hand is called
-  pub called_first : (s v : State T J) (who answered bags seal : ℕ) (old : Participant J) (rest : List (Entry J)) (e : Entry J) (phase : Phase) (given : Given) (store : Store T) (destroyed : Option Name) → v ≡ s → who < length s.table → old ≡ get_or v.table who old → (length old.hand == 0) ≡ false
+  pub called_first : (s v : State T J) (who answered bags seal : ℕ) (old : Participant J) (rest : List (Entry J)) (e : Entry J) (phase : Phase) (given : TicketCount) (store : Store T) (destroyed : Option Name) → v ≡ s → who < length s.table → old ≡ get_or v.table who old → (length old.hand == 0) ≡ false
       → e ≡ get_or old.hand 0 e → rest ≡ remove old.hand 0 → phase ≡ after_call (length rest) answered bags seal → given ≡ record { next = v.next; waiting = v.waiting - 1 } → store ≡ after_work v.store e.work → destroyed ≡ destroys v.store e.work
       → (record v { table = slice_set v.table who (record old { hand = rest; phase = phase }); next = given.next; waiting = given.waiting; store = store } ≡ called s who answered bags seal)
       × (Some (e.ticket, destroyed) ≡ called_by s.store (Call answered bags seal) (place s who).hand)
@@ -110,7 +110,7 @@ module _ {T J : Type 0} where
       ap (λ ph. record old { hand = rest; phase = ph }) goes
       ∙ ap (λ xs. record old { hand = xs; phase = after_call (length xs) answered bags seal }) others
       ∙ ap (λ (p : Participant J). record p { hand = remove p.hand 0; phase = after_call (length (remove p.hand 0)) answered bags seal }) at in (
-        ap (λ (y : Given). record v { table = slice_set v.table who x; next = y.next; waiting = y.waiting; store = store }) counts
+        ap (λ (y : TicketCount). record v { table = slice_set v.table who x; next = y.next; waiting = y.waiting; store = store }) counts
             ∙ ap (λ (y : Store T). record v { table = slice_set v.table who x; waiting = v.waiting - 1; store = y }) works
             ∙ ap (λ (y : State T J). record y { table = slice_set y.table who x; waiting = y.waiting - 1; store = after_work y.store e.work }) is
             ∙ ap (λ (y : Entry J). record s { table = slice_set s.table who x; waiting = s.waiting - 1; store = after_work s.store y.work }) front
@@ -148,22 +148,22 @@ module _ {T J : Type 0} where
       ∙ sym (ap (λ b. if b then record (in_phase s who (Take (seen + 1) 0)) { epoch = seen + 1 } else in_phase s who (Take seen 0)) (is_past seen s.limits.epoch_max (subst (λ (y : State T J). y.limits.epoch_max ≤ seen) is past)))
 
   -- a job in a bag that has a place
-  pub deferred_at : (s v : State T J) (who : ℕ) (x old : Participant J) (work : Work J) (ticket : ℕ) (given : Given) → v ≡ s → who < length s.table → old ≡ get_or v.table who old → ticket ≡ v.next → given ≡ record { next = v.next + 1; waiting = v.waiting + 1 }
+  pub deferred_at : (s v : State T J) (who : ℕ) (x old : Participant J) (work : Work J) (ticket : ℕ) (given : TicketCount) → v ≡ s → who < length s.table → old ≡ get_or v.table who old → ticket ≡ v.next → given ≡ record { next = v.next + 1; waiting = v.waiting + 1 }
       → x ≡ record old { bag = old.bag ++ record { ticket = ticket; work = work } ∷ [] } → record v { table = slice_set v.table who x; next = given.next; waiting = given.waiting } ≡ deferred s who work
   deferred_at s v who x old work ticket given is lt read number counts made =
-      ap (λ (y : Given). record v { table = slice_set v.table who x; next = y.next; waiting = y.waiting }) counts
+      ap (λ (y : TicketCount). record v { table = slice_set v.table who x; next = y.next; waiting = y.waiting }) counts
       ∙ ap (λ (y : State T J). record y { table = slice_set y.table who x; next = y.next + 1; waiting = y.waiting + 1 }) is
       ∙ ap (λ (p : Participant J). record s { table = slice_set s.table who p; next = s.next + 1; waiting = s.waiting + 1 })
       (made ∙ ap (λ (p : Participant J). record p { bag = p.bag ++ record { ticket = ticket; work = work } ∷ [] }) (held s v who old is lt read)
       ∙ ap (λ t. record (place s who) { bag = (place s who).bag ++ record { ticket = t; work = work } ∷ [] }) (number ∙ ap (λ (y : State T J). y.next) is))
 
   -- a job in a new bag; the old one is queued
-  pub anew_at : (s v : State T J) (who : ℕ) (x old : Participant J) (work : Work J) (ticket : ℕ) (given : Given) (queue : List (Sealed J)) → v ≡ s → who < length s.table → old ≡ get_or v.table who old → ticket ≡ v.next → given ≡ record { next = v.next + 1; waiting = v.waiting + 1 }
+  pub anew_at : (s v : State T J) (who : ℕ) (x old : Participant J) (work : Work J) (ticket : ℕ) (given : TicketCount) (queue : List (Sealed J)) → v ≡ s → who < length s.table → old ≡ get_or v.table who old → ticket ≡ v.next → given ≡ record { next = v.next + 1; waiting = v.waiting + 1 }
       → x ≡ record old { bag = record { ticket = ticket; work = work } ∷ [] } → queue ≡ v.queue ++ record { seal = v.epoch; jobs = old.bag } ∷ []
       → record v { table = slice_set v.table who x; queue = queue; next = given.next; waiting = given.waiting } ≡ deferred_anew s who work
   anew_at s v who x old work ticket given queue is lt read number counts made queued =
       let at : old ≡ place s who = held s v who old is lt read in
-      ap (λ (y : Given). record v { table = slice_set v.table who x; queue = queue; next = y.next; waiting = y.waiting }) counts
+      ap (λ (y : TicketCount). record v { table = slice_set v.table who x; queue = queue; next = y.next; waiting = y.waiting }) counts
       ∙ ap (λ q. record v { table = slice_set v.table who x; queue = q; next = v.next + 1; waiting = v.waiting + 1 }) queued
       ∙ ap (λ (y : State T J). record y { table = slice_set y.table who x; queue = y.queue ++ record { seal = y.epoch; jobs = old.bag } ∷ []; next = y.next + 1; waiting = y.waiting + 1 }) is
       ∙ ap (λ (p : Participant J). record s { table = slice_set s.table who x; queue = s.queue ++ record { seal = s.epoch; jobs = p.bag } ∷ []; next = s.next + 1; waiting = s.waiting + 1 }) at

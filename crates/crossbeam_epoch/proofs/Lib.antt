@@ -9,7 +9,7 @@ pub mod Held
 pub mod Givens
 pub mod Grace
 pub mod Jobs
-pub mod Leads
+pub mod Extends
 pub mod Logs
 pub mod Marks
 pub mod Moves
@@ -22,6 +22,6 @@ pub mod Told
 pub mod Undated
 pub mod Whole
 pub mod Within
-pub mod FaceTags
-pub mod FaceWords
+pub mod Tags
+pub mod Words
 pub mod RootCalls

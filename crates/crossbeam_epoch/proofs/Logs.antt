@@ -11,24 +11,24 @@ use Rattle.crossbeam_epoch.specs.declared.fault.Fault.TheVariants as F
 use Rattle.crossbeam_epoch.specs.declared.limits.Limits.{Limits}
 use Rattle.crossbeam_epoch.specs.declared.names.Name.{Name}
 use Rattle.crossbeam_epoch.specs.declared.names.Ptr.{Ptr}
-use Rattle.crossbeam_epoch.specs.declared.places.Participant.{Participant}
-use Rattle.crossbeam_epoch.specs.declared.places.Phase.{Phase}
-use Rattle.crossbeam_epoch.specs.declared.places.Phase.TheVariants.{Idle, Look, Publish, RepinLook, RepinPublish, Seal, Queue, ReleaseSeal, ReleaseQueue, Secure, SecureSeal, SecureQueue, Load, Inspect, Advance, Take, Call}
-use Rattle.crossbeam_epoch.specs.declared.report.Op.{Op}
-use Rattle.crossbeam_epoch.specs.declared.report.Op.TheVariants as O
-use Rattle.crossbeam_epoch.specs.declared.report.Event.{Event}
-use Rattle.crossbeam_epoch.specs.declared.report.Event.TheVariants.{Begin, Go}
-use Rattle.crossbeam_epoch.specs.declared.report.Step.{Step}
-use Rattle.crossbeam_epoch.specs.declared.report.Outcome.{Outcome}
-use Rattle.crossbeam_epoch.specs.declared.report.Outcome.TheVariants.{Running, Done, Refused}
-use Rattle.crossbeam_epoch.specs.declared.report.Report.{Report}
-use Rattle.crossbeam_epoch.specs.History.{Mark, Pinned, Repinned, Unpinned, Deferred, began, calls, deferrals, IsGraceful, AreCalledLater}
-use Rattle.crossbeam_epoch.specs.Fits.{Fits, Bounds, held}
-use Rattle.crossbeam_epoch.specs.Reach.{Moment, Tells, IsCareful, Visible, marks_of, moment, moments_after, step_act}
-use Rattle.crossbeam_epoch.specs.Store.{Store, value_at}
-use Rattle.crossbeam_epoch.specs.Log.{Noted, Stepped, Accepted, log_after, Flight, one_more, flight_after, flight, is_pin, is_repin, pins_next, repins_next, guards_after, guards, untold, publication, event_marks, history_of, undated, IsPastBy, IsPast, IsFlight, AgreesAt, Shows}
-use Rattle.crossbeam_epoch.specs.Machine.{State, place, blank, in_phase, published, is_at, relooked, repinned, secured, has_free, inspection, ends_advance, no_bag, taken, after_call, called_one, opened, registered, with_store, with_roots, deferred, deferred_anew, after_deferral, name_of}
-use Rattle.crossbeam_epoch.specs.Steps.{outcome_at, begin_fault, event_fault, fault, begun_at, begun, gone, moved, needs_memory, after, IsOutcome, IsReport, begin_marks, phase_marks, moved_marks, unless_refused, marks, state_after, history_after, AreReports}
+use Rattle.crossbeam_epoch.specs.declared.world.participant.Participant.{Participant}
+use Rattle.crossbeam_epoch.specs.declared.world.participant.Phase.{Phase}
+use Rattle.crossbeam_epoch.specs.declared.world.participant.Phase.TheVariants.{Idle, Look, Publish, RepinLook, RepinPublish, Seal, Queue, ReleaseSeal, ReleaseQueue, Secure, SecureSeal, SecureQueue, Load, Inspect, Advance, Take, Call}
+use Rattle.crossbeam_epoch.specs.declared.world.report.Op.{Op}
+use Rattle.crossbeam_epoch.specs.declared.world.report.Op.TheVariants as O
+use Rattle.crossbeam_epoch.specs.declared.world.report.Event.{Event}
+use Rattle.crossbeam_epoch.specs.declared.world.report.Event.TheVariants.{Begin, Go}
+use Rattle.crossbeam_epoch.specs.declared.world.report.Step.{Step}
+use Rattle.crossbeam_epoch.specs.declared.world.report.Outcome.{Outcome}
+use Rattle.crossbeam_epoch.specs.declared.world.report.Outcome.TheVariants.{Running, Done, Refused}
+use Rattle.crossbeam_epoch.specs.declared.world.report.Report.{Report}
+use Rattle.crossbeam_epoch.specs.World.History.{Mark, Pinned, Repinned, Unpinned, Deferred, began, times_called, deferrals, IsGraceful, AreCalledLater}
+use Rattle.crossbeam_epoch.specs.World.Fits.{Fits, Bounds, times_held}
+use Rattle.crossbeam_epoch.specs.World.Reach.{Moment, Tells, IsCareful, Visible, marks_of, moment, moments_after, step_act}
+use Rattle.crossbeam_epoch.specs.World.Store.{Store, value_at}
+use Rattle.crossbeam_epoch.specs.World.Log.{Noted, Stepped, Accepted, log_after, Flight, one_more, flight_after, flight, is_pin, is_repin, pins_next, repins_next, guards_after, guards, untold, publication, event_marks, history_of, undated, IsPastBy, IsPast, IsFlight, AgreesAt, Shows}
+use Rattle.crossbeam_epoch.specs.World.Machine.{State, place, blank, in_phase, published, is_at, relooked, repinned, secured, has_free, inspection, ends_advance, no_bag, taken, after_call, called_one, opened, registered, with_store, with_roots, deferred, deferred_anew, after_deferral, name_of}
+use Rattle.crossbeam_epoch.specs.World.Steps.{outcome_at, begin_fault, event_fault, fault, begun_at, begun, gone, moved, needs_memory, after, IsOutcome, IsReport, begin_marks, phase_marks, moved_marks, unless_refused, marks, state_after, history_after, AreReports}
 use Rattle.crossbeam_epoch.proofs.Reaches.{seen_stands}
 use Rattle.crossbeam_epoch.proofs.Told.{marks_act}
 use Rattle.crossbeam_epoch.proofs.Undated.{undated_began, undated_graceful, undated_calls, undated_deferrals, undated_later}
@@ -508,11 +508,11 @@ module _ {T J : Type 0} where
   log_later log h s w f = subst (λ g. AreCalledLater g) w.history (undated_later h f.later)
 
   pub log_once : (log : List Noted) (h : List Mark) (s : State T J) (t : ℕ) → Shows log h s → Fits h s
-      → (held s t + calls (history_of log) t ≡ deferrals (history_of log) t) × (deferrals (history_of log) t ≡ (if nat_lt t s.next then 1 else 0))
+      → (times_held s t + times_called (history_of log) t ≡ deferrals (history_of log) t) × (deferrals (history_of log) t ≡ (if nat_lt t s.next then 1 else 0))
   log_once log h s t w f =
-      let called : calls (history_of log) t ≡ calls h t = sym (ap (λ g. calls g t) w.history) ∙ undated_calls h t in
+      let called : times_called (history_of log) t ≡ times_called h t = sym (ap (λ g. times_called g t) w.history) ∙ undated_calls h t in
       let given : deferrals (history_of log) t ≡ deferrals h t = sym (ap (λ g. deferrals g t) w.history) ∙ undated_deferrals h t in
-      (ap (λ n. held s t + n) called ∙ f.once.each t ∙ sym given, given ∙ f.once.tickets t)
+      (ap (λ n. times_held s t + n) called ∙ f.once.each t ∙ sym given, given ∙ f.once.tickets t)
 
   pub log_pinned : (log : List Noted) (h : List Mark) (s : State T J) (q : ℕ) → Shows log h s → Fits h s
       → (is_some (place s q).word ≡ nat_lt 0 (guards log q)) × (is_some (began (history_of log) q) ≡ nat_lt 0 (guards log q))

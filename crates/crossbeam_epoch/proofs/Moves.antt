@@ -8,13 +8,13 @@ use Rattle.std.proofs.lemmas.List.{get_or_past}
 use Rattle.std.proofs.lemmas.List.Sums.{sum_by-append}
 use Rattle.std.proofs.lemmas.List.Elements.{Contains-push_cases, Contains-get_or}
 use Rattle.crossbeam_epoch.specs.declared.bag.Entry.{Entry}
-use Rattle.crossbeam_epoch.specs.declared.places.Participant.{Participant}
-use Rattle.crossbeam_epoch.specs.declared.places.Sealed.{Sealed}
-use Rattle.crossbeam_epoch.specs.declared.places.Phase.{Phase}
-use Rattle.crossbeam_epoch.specs.declared.places.Phase.TheVariants.{Idle, Look, Publish, RepinLook, RepinPublish, Seal, Queue, ReleaseSeal, ReleaseQueue, Secure, SecureSeal, SecureQueue, Load, Inspect, Advance, Take, Call}
-use Rattle.crossbeam_epoch.specs.History.{Mark, Pinned, Repinned, Unpinned, began, calls, deferrals}
-use Rattle.crossbeam_epoch.specs.Machine.{State, place, blank, with_place, in_phase, published, is_at, relooked, repinned, secured, has_free, advanced, queued, left, ends_advance, inspected, is_due, no_bag, taken, took}
-use Rattle.crossbeam_epoch.specs.Fits.{Fits, FitsAt, InPhase, IsSealed, IsCollecting, AreAccepted, Bounds, Began, Once, HandFits, at_place, in_bag, has_ticket, one}
+use Rattle.crossbeam_epoch.specs.declared.world.participant.Participant.{Participant}
+use Rattle.crossbeam_epoch.specs.declared.bag.Sealed.{Sealed}
+use Rattle.crossbeam_epoch.specs.declared.world.participant.Phase.{Phase}
+use Rattle.crossbeam_epoch.specs.declared.world.participant.Phase.TheVariants.{Idle, Look, Publish, RepinLook, RepinPublish, Seal, Queue, ReleaseSeal, ReleaseQueue, Secure, SecureSeal, SecureQueue, Load, Inspect, Advance, Take, Call}
+use Rattle.crossbeam_epoch.specs.World.History.{Mark, Pinned, Repinned, Unpinned, began, times_called, deferrals}
+use Rattle.crossbeam_epoch.specs.World.Machine.{State, place, blank, with_place, in_phase, published, is_at, relooked, repinned, secured, has_free, advanced, queued, released, ends_advance, inspected, is_due, no_bag, taken, took}
+use Rattle.crossbeam_epoch.specs.World.Fits.{Fits, FitsAt, InPhase, IsSealed, IsCollecting, AreAccepted, Bounds, Began, Once, HandFits, at_place, in_bag, has_ticket, one}
 use Rattle.crossbeam_epoch.proofs.Marks.{Goes, goes_none, goes_pinned, goes_repinned, goes_unpinned}
 use Rattle.crossbeam_epoch.proofs.Grace.{bounds_later, bounds_top, accepted_goes, sealed_goes, Carries, fits_put}
 
@@ -122,7 +122,7 @@ module _ {T J : Type 0} where
 
   -- the jobs of the actor stay where they are
   carries_stay : (h h' : List Mark) (s : State T J) (who : ℕ) (p : Participant J) → Once h s
-      → ((t : ℕ) → calls h' t ≡ calls h t) → ((t : ℕ) → deferrals h' t ≡ deferrals h t) → p.bag ≡ (place s who).bag → p.hand ≡ (place s who).hand
+      → ((t : ℕ) → times_called h' t ≡ times_called h t) → ((t : ℕ) → deferrals h' t ≡ deferrals h t) → p.bag ≡ (place s who).bag → p.hand ≡ (place s who).hand
       → Carries h h' s who p s.queue s.next s.waiting
   carries_stay h h' s who p o c d bag hand = record {
     each = λ t. let e = c t in let f = d t in let g : at_place (has_ticket t) p ≡ at_place (has_ticket t) (place s who) = rw (bag, hand) in omega arith;
@@ -327,7 +327,7 @@ module _ {T J : Type 0} where
       (queue_push h s.next s.queue b f.queued sealed)
       (carries_move h s who p (s.queue ++ b ∷ []) f.once (λ w. omega (arith, sum_by-append (in_bag w) s.queue (b ∷ []))))
 
-  pub fits_left : (h : List Mark) (s : State T J) (who seal : ℕ) → who < length s.table → (place s who).hand ≡ [] → began h who ≡ None → IsSealed h s.next (place s who).bag seal → Fits h s → Fits h (left s who seal)
+  pub fits_left : (h : List Mark) (s : State T J) (who seal : ℕ) → who < length s.table → (place s who).hand ≡ [] → began h who ≡ None → IsSealed h s.next (place s who).bag seal → Fits h s → Fits h (released s who seal)
   fits_left h s who seal in_table none ended sealed f =
       let old = place s who in
       let b : Sealed J = record { seal = seal; jobs = old.bag } in

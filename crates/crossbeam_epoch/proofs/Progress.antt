@@ -14,22 +14,22 @@ use Rattle.crossbeam_epoch.specs.declared.limits.Limits.{Limits}
 use Rattle.crossbeam_epoch.specs.declared.names.Name.{Name}
 use Rattle.crossbeam_epoch.specs.declared.fault.Fault.{Fault}
 use Rattle.crossbeam_epoch.specs.declared.fault.Fault.TheVariants as F
-use Rattle.crossbeam_epoch.specs.declared.places.Participant.{Participant}
-use Rattle.crossbeam_epoch.specs.declared.places.Sealed.{Sealed}
-use Rattle.crossbeam_epoch.specs.declared.places.Phase.{Phase}
-use Rattle.crossbeam_epoch.specs.declared.places.Phase.TheVariants.{Idle, Look, Publish, RepinLook, RepinPublish, Seal, Queue, ReleaseSeal, ReleaseQueue, Secure, SecureSeal, SecureQueue, Load, Inspect, Advance, Take, Call}
-use Rattle.crossbeam_epoch.specs.declared.report.Op.{Op}
-use Rattle.crossbeam_epoch.specs.declared.report.Op.TheVariants as O
-use Rattle.crossbeam_epoch.specs.declared.report.Event.{Event}
-use Rattle.crossbeam_epoch.specs.declared.report.Event.TheVariants.{Begin, Go}
-use Rattle.crossbeam_epoch.specs.declared.report.Outcome.{Outcome}
-use Rattle.crossbeam_epoch.specs.declared.report.Outcome.TheVariants.{Running, Done, Refused}
-use Rattle.crossbeam_epoch.specs.declared.report.Report.{Report}
-use Rattle.crossbeam_epoch.specs.Fits.{HandFits, at_place, in_bag, weight}
-use Rattle.crossbeam_epoch.specs.Machine.{State, place, blank, with_place, in_phase, published, relooked, repinned, secured, queued, left, inspection, is_due, no_bag, taken, after_call, called_one, no_entry, destroys, after_work, opened, registered, deferred}
-use Rattle.crossbeam_epoch.specs.Steps.{fault, event_fault, begun, gone, moved, needs_memory, after, called_entry, called_by, called_in, IsOutcome, IsReport}
-use Rattle.crossbeam_epoch.specs.Store.{Store, value_at, emptied}
-use Rattle.crossbeam_epoch.specs.Progress.{Orderly, Calls, EmptiesAt, Empties, Moves, Keeps, IsResting, collects}
+use Rattle.crossbeam_epoch.specs.declared.world.participant.Participant.{Participant}
+use Rattle.crossbeam_epoch.specs.declared.bag.Sealed.{Sealed}
+use Rattle.crossbeam_epoch.specs.declared.world.participant.Phase.{Phase}
+use Rattle.crossbeam_epoch.specs.declared.world.participant.Phase.TheVariants.{Idle, Look, Publish, RepinLook, RepinPublish, Seal, Queue, ReleaseSeal, ReleaseQueue, Secure, SecureSeal, SecureQueue, Load, Inspect, Advance, Take, Call}
+use Rattle.crossbeam_epoch.specs.declared.world.report.Op.{Op}
+use Rattle.crossbeam_epoch.specs.declared.world.report.Op.TheVariants as O
+use Rattle.crossbeam_epoch.specs.declared.world.report.Event.{Event}
+use Rattle.crossbeam_epoch.specs.declared.world.report.Event.TheVariants.{Begin, Go}
+use Rattle.crossbeam_epoch.specs.declared.world.report.Outcome.{Outcome}
+use Rattle.crossbeam_epoch.specs.declared.world.report.Outcome.TheVariants.{Running, Done, Refused}
+use Rattle.crossbeam_epoch.specs.declared.world.report.Report.{Report}
+use Rattle.crossbeam_epoch.specs.World.Fits.{HandFits, at_place, in_bag, weight}
+use Rattle.crossbeam_epoch.specs.World.Machine.{State, place, blank, with_place, in_phase, published, relooked, repinned, secured, queued, released, inspection, is_due, no_bag, taken, after_call, called_one, no_entry, destroys, after_work, opened, registered, deferred}
+use Rattle.crossbeam_epoch.specs.World.Steps.{fault, event_fault, begun, gone, moved, needs_memory, after, called_entry, called_by, called_in, IsOutcome, IsReport}
+use Rattle.crossbeam_epoch.specs.World.Store.{Store, value_at, emptied}
+use Rattle.crossbeam_epoch.specs.World.Progress.{Orderly, JobsAfter, EmptiesAt, Empties, Moves, KeepsCalls, IsResting, collects}
 use Rattle.crossbeam_epoch.proofs.Moves.{none_in, contains_tail, none_in_hand}
 use Rattle.crossbeam_epoch.proofs.Runs.{in_table, known, begin_idle, blank_at, blanks_weigh_none}
 
@@ -103,14 +103,14 @@ module _ {T J : Type 0} where
       by_standing true live e = (live, e)
       by_standing false gone e = e
 
-  empties : (s s' : State T J) (c : Option (ℕ × Option Name)) → Calls s c s' → Empties s.store c s'.store
+  empties : (s s' : State T J) (c : Option (ℕ × Option Name)) → JobsAfter s c s' → Empties s.store c s'.store
   empties s s' None j = j.0
   empties s s' (Some c) j = subst (λ (x : ℕ × Option Name). EmptiesAt s.store x.1 s'.store) (sym j.1) (emptied_by s.store s'.store j.0.work j.2)
 
   -- a place and the queue change
   moves_put : (s : State T J) (who : ℕ) (p : Participant J) (epoch' waiting' : ℕ) (queue' : List (Sealed J)) (store' : Store T) (c : Option (ℕ × Option Name))
       → who < length s.table → Orderly s → HandFits p.phase p.hand → length p.bag ≤ 64 → length p.hand ≤ 64 → ((b : Sealed J) → Contains queue' b → length b.jobs ≤ 64)
-      → Calls s c (record s { epoch = epoch'; waiting = waiting'; store = store'; queue = queue'; table = slice_set s.table who p })
+      → JobsAfter s c (record s { epoch = epoch'; waiting = waiting'; store = store'; queue = queue'; table = slice_set s.table who p })
       → Moves s who c (record s { epoch = epoch'; waiting = waiting'; store = store'; queue = queue'; table = slice_set s.table who p })
   moves_put s who p epoch' waiting' queue' store' c lt o fits bag hand queue jobs = record {
     orderly = record {
@@ -140,7 +140,7 @@ module _ {T J : Type 0} where
   -- the jobs move between a place and the queue
   stands : (s : State T J) (who : ℕ) (p : Participant J) (epoch' : ℕ) (queue' : List (Sealed J)) → who < length s.table
       → ((f : Entry J → ℕ) → at_place f p + sum_by (in_bag f) queue' ≡ at_place f (place s who) + sum_by (in_bag f) s.queue)
-      → Calls s None (record s { epoch = epoch'; queue = queue'; table = slice_set s.table who p })
+      → JobsAfter s None (record s { epoch = epoch'; queue = queue'; table = slice_set s.table who p })
   stands s who p epoch' queue' lt e = (refl, refl, λ f. let set = sum_by-set (at_place f) s.table who p blank lt in let is = e f in omega arith)
 
   -- the jobs stay where they are
@@ -164,7 +164,7 @@ module _ {T J : Type 0} where
       moves_put s who p s.epoch s.waiting (s.queue ++ b ∷ []) s.store None lt o (none_in_hand phase old.hand none) (omega arith) (o.held who) (small_push s.queue b o.sealed (o.bags who))
       (stands s who p s.epoch (s.queue ++ b ∷ []) lt (λ w. omega (arith, sum_by-append (in_bag w) s.queue (b ∷ []))))
 
-  moves_left : (s : State T J) (who seal : ℕ) → who < length s.table → Orderly s → (place s who).hand ≡ [] → Moves s who None (left s who seal)
+  moves_left : (s : State T J) (who seal : ℕ) → who < length s.table → Orderly s → (place s who).hand ≡ [] → Moves s who None (released s who seal)
   moves_left s who seal lt o none =
       let old = place s who in
       let b : Sealed J = record { seal = seal; jobs = old.bag } in
@@ -352,7 +352,7 @@ module _ {T J : Type 0} where
     idle = λ q. rw (blank_at limits.participants q) refl;
   }
 
-  kept : (s s' : State T J) (who : ℕ) → Moves s who None s' → (place s' who).phase ≡ (place s who).phase → Keeps s s' (λ f. 0)
+  kept : (s s' : State T J) (who : ℕ) → Moves s who None s' → (place s' who).phase ≡ (place s who).phase → KeepsCalls s s' (λ f. 0)
   kept s s' who m same = record {
     orderly = m.orderly;
     phases = λ q. elim (cases_eq q who) [
@@ -371,12 +371,12 @@ module _ {T J : Type 0} where
     sealed = λ b m. o.sealed b (subst (λ (xs : List (Sealed J)). Contains xs b) queue m);
   }
 
-  pub registered_keeps : (s : State T J) (n : ℕ) → n < length s.table → Orderly s → Keeps s (registered s n) (λ f. 0)
+  pub registered_keeps : (s : State T J) (n : ℕ) → n < length s.table → Orderly s → KeepsCalls s (registered s n) (λ f. 0)
   registered_keeps s n lt o =
       let p = record (place s n) { registered = true; pins = 0 } in
       kept s (registered s n) n (stays s n p s.epoch lt o (o.hands n) refl refl) (ap (λ (x : Participant J). x.phase) (get_or-set_same s.table n p blank lt))
 
-  pub deferred_keeps : (s : State T J) (who : ℕ) (work : Work J) → who < length s.table → length (place s who).bag < 64 → Orderly s → Keeps s (deferred s who work) (λ f. f (record { ticket = s.next; work = work }))
+  pub deferred_keeps : (s : State T J) (who : ℕ) (work : Work J) → who < length s.table → length (place s who).bag < 64 → Orderly s → KeepsCalls s (deferred s who work) (λ f. f (record { ticket = s.next; work = work }))
   deferred_keeps s who work lt room o =
       let old = place s who in
       let entry : Entry J = record { ticket = s.next; work = work } in

@@ -5,10 +5,10 @@ use Rattle.std.specs.List.{Contains}
 use Rattle.std.proofs.lemmas.Bool.{eq-eqb}
 use Rattle.crossbeam_epoch.specs.declared.names.Name.{Name}
 use Rattle.crossbeam_epoch.specs.declared.names.Ptr.{Ptr}
-use Rattle.crossbeam_epoch.specs.History.{Mark, Pinned, Repinned, Unpinned, Deferred, Called, began, blocks, deferrals, IsGraceful, WasDeferred, AreCalledLater}
-use Rattle.crossbeam_epoch.specs.Reach.{Act, Quiet, Marked, GivenBack, Moment, with_act, marks_of, InReach, from_cell, from_root, links_of, IsIn, WasIn, WasLive, mark_turns, turns, Visible, LeavesFirst, EntersLive, GivesUnseen, KeepsLinks, mark_ends, IsEnd, EndsTold, IsNow, IsCareful, Tells}
-use Rattle.crossbeam_epoch.specs.Machine.{State}
-use Rattle.crossbeam_epoch.specs.Store.{value_at}
+use Rattle.crossbeam_epoch.specs.World.History.{Mark, Pinned, Repinned, Unpinned, Deferred, Called, began, blocks, deferrals, IsGraceful, WasDeferred, AreCalledLater}
+use Rattle.crossbeam_epoch.specs.World.Reach.{Act, Quiet, Marked, GivenBack, Moment, with_act, marks_of, InReach, from_cell, from_root, links_of, IsIn, WasIn, WasLive, mark_changes_pin, changes_pin, Visible, LeavesFirst, EntersLive, GivesUnseen, KeepsLinks, mark_destroys, IsDestruction, DestructionsTold, IsNow, IsCareful, Tells}
+use Rattle.crossbeam_epoch.specs.World.Machine.{State}
+use Rattle.crossbeam_epoch.specs.World.Store.{value_at}
 
 steady : {A : Type 0} (c : Bool) (a y : A) → c ≡ false → (if c then a else y) ≡ y
 steady true a y e = absurd (cc e)
@@ -42,7 +42,7 @@ deferred_once (Deferred ticket name ∷ h) t n d = by_place (ticket == t) (eq-eq
     by_place false same d on = elim d [ inl here ↦ absurd (cc (same here.0)) | inr earlier ↦ (let le = on earlier in omega arith) ]
 deferred_once (Called ticket name ∷ h) t n d = deferred_once h t n d
 
-began_steady : (k : Mark) (h : List Mark) (p : ℕ) → mark_turns k p ≡ false → began (k ∷ h) p ≡ began h p
+began_steady : (k : Mark) (h : List Mark) (p : ℕ) → mark_changes_pin k p ≡ false → began (k ∷ h) p ≡ began h p
 began_steady (Pinned who epoch) h p e = steady (who == p) (Some epoch) (began h p) e
 began_steady (Repinned who epoch) h p e = steady (who == p) (Some epoch) (began h p) e
 began_steady (Unpinned who) h p e = steady (who == p) None (began h p) e
@@ -50,13 +50,13 @@ began_steady (Deferred ticket name) h p e = refl
 began_steady (Called ticket name) h p e = refl
 
 -- a stretch that an act doesn't turn goes on
-pub act_steady : (a : Act) (h : List Mark) (p : ℕ) → turns a p ≡ false → began (with_act a h) p ≡ began h p
+pub act_steady : (a : Act) (h : List Mark) (p : ℕ) → changes_pin a p ≡ false → began (with_act a h) p ≡ began h p
 act_steady Quiet h p e = refl
 act_steady (Marked k) h p e = began_steady k h p e
 act_steady (GivenBack name) h p e = refl
 
 -- a stretch that saw a cell blocks its removal
-blocked_mark : (k : Mark) (h : List Mark) (p t : ℕ) (n : Name) → mark_turns k p ≡ false → deferrals (k ∷ h) t ≤ 1 → is_some (began h p) ≡ true → WasDeferred (k ∷ h) t n
+blocked_mark : (k : Mark) (h : List Mark) (p t : ℕ) (n : Name) → mark_changes_pin k p ≡ false → deferrals (k ∷ h) t ≤ 1 → is_some (began h p) ≡ true → WasDeferred (k ∷ h) t n
     → (WasDeferred h t n → blocks h p t ≡ true) → blocks (k ∷ h) p t ≡ true
 blocked_mark (Pinned who epoch) h p t n e one pinned d on = steady (who == p) false (blocks h p t) e ∙ on d
 blocked_mark (Repinned who epoch) h p t n e one pinned d on = steady (who == p) false (blocks h p t) e ∙ on d
@@ -68,7 +68,7 @@ blocked_mark (Deferred ticket name) h p t n e one pinned d on = by_place (ticket
     by_place false same few d = elim d [ inl here ↦ absurd (cc (same here.0)) | inr earlier ↦ on earlier ]
 blocked_mark (Called ticket name) h p t n e one pinned d on = on d
 
-blocked_act : (a : Act) (h : List Mark) (p t : ℕ) (n : Name) → turns a p ≡ false → OneTicket (with_act a h) → is_some (began h p) ≡ true → WasDeferred (with_act a h) t n
+blocked_act : (a : Act) (h : List Mark) (p t : ℕ) (n : Name) → changes_pin a p ≡ false → OneTicket (with_act a h) → is_some (began h p) ≡ true → WasDeferred (with_act a h) t n
     → (WasDeferred h t n → blocks h p t ≡ true) → blocks (with_act a h) p t ≡ true
 blocked_act Quiet h p t n e one pinned d on = on d
 blocked_act (Marked k) h p t n e one pinned d on = blocked_mark k h p t n e (one t) pinned d on
@@ -90,14 +90,14 @@ record Called_now (a : Act) (h : List Mark) (n : Name) : Type 0 where
   still : WasDeferred (with_act a h) ticket n
   free : (q : ℕ) → blocks h q ticket ≡ false
 
-ended_mark : (k : Mark) (h : List Mark) (n : Name) → mark_ends k n → IsGraceful (k ∷ h) → AreCalledLater (k ∷ h) → Called_now (Marked k) h n
+ended_mark : (k : Mark) (h : List Mark) (n : Name) → mark_destroys k n → IsGraceful (k ∷ h) → AreCalledLater (k ∷ h) → Called_now (Marked k) h n
 ended_mark (Called ticket name) h n e g later = record { ticket = ticket; before = later.0 n e; still = later.0 n e; free = g.0 }
 ended_mark (Pinned who epoch) h n e g later = absurd e
 ended_mark (Repinned who epoch) h n e g later = absurd e
 ended_mark (Unpinned who) h n e g later = absurd e
 ended_mark (Deferred ticket name) h n e g later = absurd e
 
-ended : (a : Act) (h : List Mark) (n : Name) → IsEnd a n → IsGraceful (with_act a h) → AreCalledLater (with_act a h) → Called_now a h n ⊎ (a ≡ GivenBack n)
+ended : (a : Act) (h : List Mark) (n : Name) → IsDestruction a n → IsGraceful (with_act a h) → AreCalledLater (with_act a h) → Called_now a h n ⊎ (a ≡ GivenBack n)
 ended Quiet h n e g later = absurd e
 ended (Marked k) h n e g later = inl (ended_mark k h n e g later)
 ended (GivenBack name) h n e g later = inr (ap GivenBack e)
@@ -136,7 +136,7 @@ visible_was [] p n seen = seen
 visible_was (m ∷ h) p n seen = elim seen [ inl now ↦ inl now | inr before ↦ inr (visible_was h p n before.1) ]
 
 -- what is in reach isn't destroyed
-in_live : (m : Moment) (h : List Moment) (n : Name) → LeavesFirst (m ∷ h) → EntersLive (m ∷ h) → GivesUnseen (m ∷ h) → EndsTold (m ∷ h) → IsGraceful (marks_of (m ∷ h)) → AreCalledLater (marks_of (m ∷ h)) → IsIn m n → m.live n ≡ true
+in_live : (m : Moment) (h : List Moment) (n : Name) → LeavesFirst (m ∷ h) → EntersLive (m ∷ h) → GivesUnseen (m ∷ h) → DestructionsTold (m ∷ h) → IsGraceful (marks_of (m ∷ h)) → AreCalledLater (marks_of (m ∷ h)) → IsIn m n → m.live n ≡ true
 in_live m [] n leaves enters gives ends g later is = enters n is
 in_live m (b ∷ h) n leaves enters gives ends g later is = elim (enters.0 n is) [
   | inl live ↦ live
@@ -149,7 +149,7 @@ in_live m (b ∷ h) n leaves enters gives ends g later is = elim (enters.0 n is)
 ]
 
 -- what a stretch saw in reach isn't destroyed while it lasts
-pub visible_live : (m : Moment) (h : List Moment) (p : ℕ) (n : Name) → LeavesFirst (m ∷ h) → EntersLive (m ∷ h) → GivesUnseen (m ∷ h) → EndsTold (m ∷ h) → IsGraceful (marks_of (m ∷ h)) → AreCalledLater (marks_of (m ∷ h)) → OneTicket (marks_of (m ∷ h))
+pub visible_live : (m : Moment) (h : List Moment) (p : ℕ) (n : Name) → LeavesFirst (m ∷ h) → EntersLive (m ∷ h) → GivesUnseen (m ∷ h) → DestructionsTold (m ∷ h) → IsGraceful (marks_of (m ∷ h)) → AreCalledLater (marks_of (m ∷ h)) → OneTicket (marks_of (m ∷ h))
     → is_some (began (marks_of (m ∷ h)) p) ≡ true → Visible (m ∷ h) p n → m.live n ≡ true
 visible_live m [] p n leaves enters gives ends g later one pinned seen = elim seen [
   | inl now ↦ in_live m [] n leaves enters gives ends g later now
@@ -228,7 +228,7 @@ enters_next names m [] s now each e = absurd now
 enters_next names m (b ∷ h) s now each e = (λ n is. elim (each n is) [ inl live ↦ inl live | inr was ↦ inr (reach_now names b h s n now was) ], e)
 
 -- what stood and is destroyed at the next moment was destroyed by its act
-pub ended_by : {T J : Type 0} (names : T → List Name) (m : Moment) (h : List Moment) (s : State T J) (n : Name) → IsNow names h s → EndsTold (m ∷ h) → is_some (value_at s.store n) ≡ true → m.live n ≡ false → IsEnd m.act n
+pub ended_by : {T J : Type 0} (names : T → List Name) (m : Moment) (h : List Moment) (s : State T J) (n : Name) → IsNow names h s → DestructionsTold (m ∷ h) → is_some (value_at s.store n) ≡ true → m.live n ≡ false → IsDestruction m.act n
 ended_by names m [] s n now ends live gone = absurd now
 ended_by names m (b ∷ h) s n now ends live gone = ends.0 n (now.1 n ∙ live) gone
 

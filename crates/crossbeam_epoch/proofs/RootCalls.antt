@@ -4,13 +4,13 @@ use Rattle.std.specs.Prelude.{Result, Ok, Err, IfOk, IfErr, OnOk, MatchResult, s
 use Rattle.std.specs.List.{Contains}
 use Rattle.std.proofs.lemmas.List.Elements.{Contains-get_or}
 use Rattle.std.proofs.lemmas.Option.{get_or_from_slice_get, slice_get_within}
-use Rattle.crossbeam_epoch.specs.declared.exchanges.OtherPointer.{OtherPointer}
+use Rattle.crossbeam_epoch.specs.declared.world.exchanges.OtherPointer.{OtherPointer}
 use Rattle.crossbeam_epoch.specs.declared.fault.Fault.{Fault}
 use Rattle.crossbeam_epoch.specs.declared.fault.Fault.TheVariants as F
 use Rattle.crossbeam_epoch.specs.declared.names.Name.{Name}
 use Rattle.crossbeam_epoch.specs.declared.names.Ptr.{Ptr}
-use Rattle.crossbeam_epoch.specs.Machine.{State, null, with_roots}
-use Rattle.crossbeam_epoch.specs.Reach.{Quiet, Moment, moment, Tells, Visible}
+use Rattle.crossbeam_epoch.specs.World.Machine.{State, null, with_roots}
+use Rattle.crossbeam_epoch.specs.World.Reach.{Quiet, Moment, moment, Tells, Visible}
 use Rattle.crossbeam_epoch.proofs.Reaches.{root_seen}
 use Rattle.crossbeam_epoch.proofs.Told.{tells_roots}
 

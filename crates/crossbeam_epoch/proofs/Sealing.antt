@@ -12,24 +12,24 @@ use Rattle.crossbeam_epoch.specs.declared.fault.Fault.{Fault}
 use Rattle.crossbeam_epoch.specs.declared.fault.Fault.TheVariants as F
 use Rattle.crossbeam_epoch.specs.declared.limits.Limits.{Limits}
 use Rattle.crossbeam_epoch.specs.declared.names.Ptr.{Ptr}
-use Rattle.crossbeam_epoch.specs.declared.places.Participant.{Participant}
-use Rattle.crossbeam_epoch.specs.declared.places.Sealed.{Sealed}
-use Rattle.crossbeam_epoch.specs.declared.places.Phase.{Phase}
-use Rattle.crossbeam_epoch.specs.declared.places.Phase.TheVariants.{Idle, Look, Publish, RepinLook, RepinPublish, Seal, Queue, ReleaseSeal, ReleaseQueue, Secure, SecureSeal, SecureQueue, Load, Inspect, Advance, Take, Call}
-use Rattle.crossbeam_epoch.specs.declared.report.Op.{Op}
-use Rattle.crossbeam_epoch.specs.declared.report.Op.TheVariants as O
-use Rattle.crossbeam_epoch.specs.declared.report.Event.{Event}
-use Rattle.crossbeam_epoch.specs.declared.report.Event.TheVariants.{Begin, Go}
-use Rattle.crossbeam_epoch.specs.declared.report.Outcome.{Outcome}
-use Rattle.crossbeam_epoch.specs.declared.report.Outcome.TheVariants.{Running, Done, Refused}
-use Rattle.crossbeam_epoch.specs.declared.report.Report.{Report}
-use Rattle.crossbeam_epoch.specs.declared.report.Step.{Step}
-use Rattle.crossbeam_epoch.specs.Fits.{Fits}
-use Rattle.crossbeam_epoch.specs.History.{Mark}
-use Rattle.crossbeam_epoch.specs.Machine.{State, place, blank, with_place, in_phase, published, is_at, relooked, repinned, has_free, secured, inspection, ends_advance, is_due, taken, after_call, called_one, opened, registered, deferred, deferred_anew, after_deferral}
-use Rattle.crossbeam_epoch.specs.Steps.{fault, event_fault, begin_fault, when, begun, gone, moved, needs_memory, after, marks, state_after, AreReports, defer_fault, or_count, quiet_fault, IsOutcome, IsReport}
-use Rattle.crossbeam_epoch.specs.Store.{Store}
-use Rattle.crossbeam_epoch.specs.Sealing.{SealsAt, IsSealing}
+use Rattle.crossbeam_epoch.specs.declared.world.participant.Participant.{Participant}
+use Rattle.crossbeam_epoch.specs.declared.bag.Sealed.{Sealed}
+use Rattle.crossbeam_epoch.specs.declared.world.participant.Phase.{Phase}
+use Rattle.crossbeam_epoch.specs.declared.world.participant.Phase.TheVariants.{Idle, Look, Publish, RepinLook, RepinPublish, Seal, Queue, ReleaseSeal, ReleaseQueue, Secure, SecureSeal, SecureQueue, Load, Inspect, Advance, Take, Call}
+use Rattle.crossbeam_epoch.specs.declared.world.report.Op.{Op}
+use Rattle.crossbeam_epoch.specs.declared.world.report.Op.TheVariants as O
+use Rattle.crossbeam_epoch.specs.declared.world.report.Event.{Event}
+use Rattle.crossbeam_epoch.specs.declared.world.report.Event.TheVariants.{Begin, Go}
+use Rattle.crossbeam_epoch.specs.declared.world.report.Outcome.{Outcome}
+use Rattle.crossbeam_epoch.specs.declared.world.report.Outcome.TheVariants.{Running, Done, Refused}
+use Rattle.crossbeam_epoch.specs.declared.world.report.Report.{Report}
+use Rattle.crossbeam_epoch.specs.declared.world.report.Step.{Step}
+use Rattle.crossbeam_epoch.specs.World.Fits.{Fits}
+use Rattle.crossbeam_epoch.specs.World.History.{Mark}
+use Rattle.crossbeam_epoch.specs.World.Machine.{State, place, blank, with_place, in_phase, published, is_at, relooked, repinned, has_free, secured, inspection, ends_advance, is_due, taken, after_call, called_one, opened, registered, deferred, deferred_anew, after_deferral}
+use Rattle.crossbeam_epoch.specs.World.Steps.{fault, event_fault, begin_fault, when, begun, gone, moved, needs_memory, after, marks, state_after, AreReports, defer_fault, or_count, quiet_fault, IsOutcome, IsReport}
+use Rattle.crossbeam_epoch.specs.World.Store.{Store}
+use Rattle.crossbeam_epoch.specs.World.Sealing.{SealsAt, IsSealing}
 use Rattle.crossbeam_epoch.proofs.Moves.{none_in, contains_tail, top_now}
 use Rattle.crossbeam_epoch.proofs.Runs.{in_table, known, begin_idle, blank_at, fits_after}
 

@@ -5,18 +5,18 @@ use Rattle.std.proofs.lemmas.Bool.Decides.{nat_tests}
 use Rattle.std.proofs.lemmas.List.Elements.{Contains-get_or}
 use Rattle.crossbeam_epoch.specs.declared.fault.Fault.{Fault}
 use Rattle.crossbeam_epoch.specs.declared.fault.Fault.TheVariants as F
-use Rattle.crossbeam_epoch.specs.declared.places.Participant.{Participant}
-use Rattle.crossbeam_epoch.specs.declared.places.Phase.{Phase}
-use Rattle.crossbeam_epoch.specs.declared.places.Phase.TheVariants.{Idle, Look, Publish, RepinLook, RepinPublish, Seal, Queue, ReleaseSeal, ReleaseQueue, Secure, SecureSeal, SecureQueue, Load, Inspect, Advance, Take, Call}
-use Rattle.crossbeam_epoch.specs.declared.report.Op.{Op}
-use Rattle.crossbeam_epoch.specs.declared.report.Op.TheVariants as O
-use Rattle.crossbeam_epoch.specs.declared.report.Event.TheVariants.{Begin, Go}
-use Rattle.crossbeam_epoch.specs.declared.report.Outcome.{Outcome}
-use Rattle.crossbeam_epoch.specs.declared.report.Outcome.TheVariants.{Running, Done, Refused}
-use Rattle.crossbeam_epoch.specs.declared.report.Report.{Report}
-use Rattle.crossbeam_epoch.specs.Machine.{State, place, blank, in_phase, published, is_at, relooked, repinned, secured, has_free, inspection, ends_advance, is_due, no_bag, taken, after_call, called_one}
-use Rattle.crossbeam_epoch.specs.Steps.{fault, event_fault, begin_fault, outcome_at, begun_at, begun, gone, needs_memory, after, IsOutcome, IsReport}
-use Rattle.crossbeam_epoch.specs.Progress.{Orderly, Stage, Resting, Pinning, Repinning, Flushing, Releasing, Securing, Collecting, stage, comes_by, IsOn, Secures, left_in, refusal, Begins, queues, collects, GoesOn}
+use Rattle.crossbeam_epoch.specs.declared.world.participant.Participant.{Participant}
+use Rattle.crossbeam_epoch.specs.declared.world.participant.Phase.{Phase}
+use Rattle.crossbeam_epoch.specs.declared.world.participant.Phase.TheVariants.{Idle, Look, Publish, RepinLook, RepinPublish, Seal, Queue, ReleaseSeal, ReleaseQueue, Secure, SecureSeal, SecureQueue, Load, Inspect, Advance, Take, Call}
+use Rattle.crossbeam_epoch.specs.declared.world.report.Op.{Op}
+use Rattle.crossbeam_epoch.specs.declared.world.report.Op.TheVariants as O
+use Rattle.crossbeam_epoch.specs.declared.world.report.Event.TheVariants.{Begin, Go}
+use Rattle.crossbeam_epoch.specs.declared.world.report.Outcome.{Outcome}
+use Rattle.crossbeam_epoch.specs.declared.world.report.Outcome.TheVariants.{Running, Done, Refused}
+use Rattle.crossbeam_epoch.specs.declared.world.report.Report.{Report}
+use Rattle.crossbeam_epoch.specs.World.Machine.{State, place, blank, in_phase, published, is_at, relooked, repinned, secured, has_free, inspection, ends_advance, is_due, no_bag, taken, after_call, called_one}
+use Rattle.crossbeam_epoch.specs.World.Steps.{fault, event_fault, begin_fault, outcome_at, begun_at, begun, gone, needs_memory, after, IsOutcome, IsReport}
+use Rattle.crossbeam_epoch.specs.World.Progress.{Orderly, Stage, Resting, Pinning, Repinning, Flushing, Releasing, Securing, Collecting, stage, comes_by, IsOn, Secures, left_in, refusal, Begins, queues, collects, GoesOn}
 use Rattle.crossbeam_epoch.proofs.Progress.{one_less}
 use Rattle.crossbeam_epoch.proofs.Runs.{in_table, known}
 

@@ -6,19 +6,19 @@ use Rattle.std.proofs.lemmas.List.{get_or_past, set_past, length-replicate, get_
 use Rattle.crossbeam_epoch.specs.declared.bag.Work.{Work}
 use Rattle.crossbeam_epoch.specs.declared.fault.Fault.{Fault}
 use Rattle.crossbeam_epoch.specs.declared.fault.Fault.TheVariants as F
-use Rattle.crossbeam_epoch.specs.declared.places.Participant.{Participant}
-use Rattle.crossbeam_epoch.specs.declared.places.Phase.{Phase}
-use Rattle.crossbeam_epoch.specs.declared.places.Phase.TheVariants.{Idle, Look, Publish, RepinLook, RepinPublish, Seal, Queue, ReleaseSeal, ReleaseQueue, Secure, SecureSeal, SecureQueue, Load, Inspect, Advance, Take, Call}
-use Rattle.crossbeam_epoch.specs.declared.report.Event.{Event}
-use Rattle.crossbeam_epoch.specs.declared.report.Event.TheVariants.{Begin, Go}
-use Rattle.crossbeam_epoch.specs.declared.report.Op.{Op}
-use Rattle.crossbeam_epoch.specs.declared.report.Op.TheVariants as O
-use Rattle.crossbeam_epoch.specs.declared.report.Outcome.{Outcome}
-use Rattle.crossbeam_epoch.specs.declared.report.Outcome.TheVariants.{Running, Done, Refused}
-use Rattle.crossbeam_epoch.specs.declared.report.Report.{Report}
-use Rattle.crossbeam_epoch.specs.Fits.{IsTable}
-use Rattle.crossbeam_epoch.specs.Machine.{State, place, blank, no_bag, after_call, published, relooked, repinned, secured, inspection, in_phase, registered, is_due, taken, called_one, deferred, deferred_anew, after_deferral}
-use Rattle.crossbeam_epoch.specs.Steps.{after, gone, moved, begun_at, needs_memory, fault, event_fault, defer_fault, or_count, quiet_fault, IsOutcome, IsReport}
+use Rattle.crossbeam_epoch.specs.declared.world.participant.Participant.{Participant}
+use Rattle.crossbeam_epoch.specs.declared.world.participant.Phase.{Phase}
+use Rattle.crossbeam_epoch.specs.declared.world.participant.Phase.TheVariants.{Idle, Look, Publish, RepinLook, RepinPublish, Seal, Queue, ReleaseSeal, ReleaseQueue, Secure, SecureSeal, SecureQueue, Load, Inspect, Advance, Take, Call}
+use Rattle.crossbeam_epoch.specs.declared.world.report.Event.{Event}
+use Rattle.crossbeam_epoch.specs.declared.world.report.Event.TheVariants.{Begin, Go}
+use Rattle.crossbeam_epoch.specs.declared.world.report.Op.{Op}
+use Rattle.crossbeam_epoch.specs.declared.world.report.Op.TheVariants as O
+use Rattle.crossbeam_epoch.specs.declared.world.report.Outcome.{Outcome}
+use Rattle.crossbeam_epoch.specs.declared.world.report.Outcome.TheVariants.{Running, Done, Refused}
+use Rattle.crossbeam_epoch.specs.declared.world.report.Report.{Report}
+use Rattle.crossbeam_epoch.specs.World.Fits.{IsTable}
+use Rattle.crossbeam_epoch.specs.World.Machine.{State, place, blank, no_bag, after_call, published, relooked, repinned, secured, inspection, in_phase, registered, is_due, taken, called_one, deferred, deferred_anew, after_deferral}
+use Rattle.crossbeam_epoch.specs.World.Steps.{after, gone, moved, begun_at, needs_memory, fault, event_fault, defer_fault, or_count, quiet_fault, IsOutcome, IsReport}
 use Rattle.crossbeam_epoch.proofs.Runs.{known}
 
 module _ {J : Type 0} where

@@ -3,25 +3,25 @@ use Rattle.std.proofs.Common.{◌≡◌, ◌≢◌, ℕ, ◌+◌, ◌≤◌, Boo
 use Rattle.std.specs.Prelude.{if◌then◌else◌, is_some, nat_le}
 use Rattle.std.proofs.lemmas.Bool.{cases_eq, eq-eqb, ne_eqb}
 use Rattle.std.proofs.lemmas.List.{get_or_past}
-use Rattle.crossbeam_epoch.specs.declared.cells.Cell.{Cell}
+use Rattle.crossbeam_epoch.specs.declared.world.cells.Cell.{Cell}
 use Rattle.crossbeam_epoch.specs.declared.names.Name.{Name}
-use Rattle.crossbeam_epoch.specs.declared.places.Participant.{Participant}
-use Rattle.crossbeam_epoch.specs.declared.places.Phase.{Phase}
-use Rattle.crossbeam_epoch.specs.declared.places.Phase.TheVariants as P
-use Rattle.crossbeam_epoch.specs.declared.report.Op.{Op}
-use Rattle.crossbeam_epoch.specs.declared.report.Op.TheVariants as O
-use Rattle.crossbeam_epoch.specs.declared.report.Event.{Event}
-use Rattle.crossbeam_epoch.specs.declared.report.Event.TheVariants.{Begin, Go}
-use Rattle.crossbeam_epoch.specs.declared.report.Outcome.{Outcome}
-use Rattle.crossbeam_epoch.specs.declared.report.Outcome.TheVariants.{Running, Done, Refused}
-use Rattle.crossbeam_epoch.specs.declared.report.Report.{Report}
-use Rattle.crossbeam_epoch.specs.declared.report.Step.{Step}
-use Rattle.crossbeam_epoch.specs.History.{Mark, Unpinned}
-use Rattle.crossbeam_epoch.specs.Machine.{State, place}
-use Rattle.crossbeam_epoch.specs.Progress.{Orderly, Moves, EmptiesAt, Empties}
-use Rattle.crossbeam_epoch.specs.Steps.{begin_marks, phase_marks, moved_marks, unless_refused, after, marks, history_after, state_after, AreReports, IsReport}
-use Rattle.crossbeam_epoch.specs.Store.{Store, fresh, cell_at, value_in, value_at, was_given, IsNext, Sets, placed, emptied, replaced, opened_store}
-use Rattle.crossbeam_epoch.specs.Sealing.{is_name, tells_name, destructions, bit, TellsOnce}
+use Rattle.crossbeam_epoch.specs.declared.world.participant.Participant.{Participant}
+use Rattle.crossbeam_epoch.specs.declared.world.participant.Phase.{Phase}
+use Rattle.crossbeam_epoch.specs.declared.world.participant.Phase.TheVariants as P
+use Rattle.crossbeam_epoch.specs.declared.world.report.Op.{Op}
+use Rattle.crossbeam_epoch.specs.declared.world.report.Op.TheVariants as O
+use Rattle.crossbeam_epoch.specs.declared.world.report.Event.{Event}
+use Rattle.crossbeam_epoch.specs.declared.world.report.Event.TheVariants.{Begin, Go}
+use Rattle.crossbeam_epoch.specs.declared.world.report.Outcome.{Outcome}
+use Rattle.crossbeam_epoch.specs.declared.world.report.Outcome.TheVariants.{Running, Done, Refused}
+use Rattle.crossbeam_epoch.specs.declared.world.report.Report.{Report}
+use Rattle.crossbeam_epoch.specs.declared.world.report.Step.{Step}
+use Rattle.crossbeam_epoch.specs.World.History.{Mark, Unpinned}
+use Rattle.crossbeam_epoch.specs.World.Machine.{State, place}
+use Rattle.crossbeam_epoch.specs.World.Progress.{Orderly, Moves, EmptiesAt, Empties}
+use Rattle.crossbeam_epoch.specs.World.Steps.{begin_marks, phase_marks, moved_marks, unless_refused, after, marks, history_after, state_after, AreReports, IsReport}
+use Rattle.crossbeam_epoch.specs.World.Store.{Store, fresh, cell_at, value_in, value_at, was_given, IsNext, Sets, placed, emptied, replaced, opened_store}
+use Rattle.crossbeam_epoch.specs.World.Sealing.{is_name, counts_name, destructions, bit, DestroyedOnce}
 use Rattle.crossbeam_epoch.proofs.CellWrites.{placed_sets, emptied_sets, replaced_sets}
 use Rattle.crossbeam_epoch.proofs.Givens.{live_given}
 use Rattle.crossbeam_epoch.proofs.Progress.{moves}
@@ -56,7 +56,7 @@ named_apart m n ne = two_names m n (λ c t. ne (ap (λ i. record { cell = i; tur
 -- what a called job told
 abbrev told_by : Option (ℕ × Option Name) → Name → ℕ
 told_by None n = 0
-told_by (Some c) n = tells_name c.1 n
+told_by (Some c) n = counts_name c.1 n
 
 unpin_tells : (who : ℕ) (h : List Mark) (n : Name) (b : Bool) → destructions (if b then Unpinned who ∷ h else h) n ≤ destructions h n
 unpin_tells who h n true = omega arith
@@ -108,16 +108,16 @@ module _ {T : Type 0} where
   abbrev alive : Store T → Name → ℕ
   alive st n = bit (is_some (value_at st n))
 
-  at_same : (h : List Mark) (st st' : Store T) → st' ≡ st → TellsOnce h st → TellsOnce h st'
+  at_same : (h : List Mark) (st st' : Store T) → st' ≡ st → DestroyedOnce h st → DestroyedOnce h st'
   at_same h st st' e t = rw e t
 
   -- a cell that is emptied, and told so
-  told_gone : (h : List Mark) (st : Store T) (m n : Name) → is_some (value_at st m) ≡ true → TellsOnce h st → (tells_name (Some m) n + destructions h n) + alive (emptied st m.cell) n ≤ bit (was_given (emptied st m.cell) n)
+  told_gone : (h : List Mark) (st : Store T) (m n : Name) → is_some (value_at st m) ≡ true → DestroyedOnce h st → (counts_name (Some m) n + destructions h n) + alive (emptied st m.cell) n ≤ bit (was_given (emptied st m.cell) n)
   told_gone h st m n live t =
       let sets : Sets st m None (emptied st m.cell) = emptied_sets st m live in
       elim (same_or n m) [
         | inl is ↦ (
-            let P : Name → Type 0 = λ x. (tells_name (Some m) x + destructions h x) + alive (emptied st m.cell) x ≤ bit (was_given (emptied st m.cell) x) in
+            let P : Name → Type 0 = λ x. (counts_name (Some m) x + destructions h x) + alive (emptied st m.cell) x ≤ bit (was_given (emptied st m.cell) x) in
             let here : bit (is_name m m) ≡ 1 = ap bit (one_name m m refl) in
             let was : alive st m ≡ 1 = ap bit live in
             let none : alive (emptied st m.cell) m ≡ 0 = ap (λ (v : Option T). bit (is_some v)) sets.value in
@@ -134,7 +134,7 @@ module _ {T : Type 0} where
       ]
 
   -- a name that is placed was told of never
-  at_set : (h : List Mark) (st st' : Store T) (m : Name) (v : T) → Sets st m (Some v) st' → destructions h m ≡ 0 → TellsOnce h st → TellsOnce h st'
+  at_set : (h : List Mark) (st st' : Store T) (m : Name) (v : T) → Sets st m (Some v) st' → destructions h m ≡ 0 → DestroyedOnce h st → DestroyedOnce h st'
   at_set h st st' m v sets none t = λ n. elim (same_or n m) [
     | inl is ↦ (
         let P : Name → Type 0 = λ x. destructions h x + alive st' x ≤ bit (was_given st' x) in
@@ -148,16 +148,16 @@ module _ {T : Type 0} where
         omega (arith, same, given, le))
   ]
 
-  pub once_told : (h : List Mark) (st : Store T) (n : Name) → TellsOnce h st → destructions h n ≤ 1
+  pub once_told : (h : List Mark) (st : Store T) (n : Name) → DestroyedOnce h st → destructions h n ≤ 1
   once_told h st n t = let le = t n in let one = at_most (was_given st n) in omega (arith, le, one)
 
-  pub placed_once : (h : List Mark) (st : Store T) (m : Name) (v : T) → IsNext st m → was_given st m ≡ false → TellsOnce h st → TellsOnce h (placed st m v)
+  pub placed_once : (h : List Mark) (st : Store T) (m : Name) (v : T) → IsNext st m → was_given st m ≡ false → DestroyedOnce h st → DestroyedOnce h (placed st m v)
   placed_once h st m v next new t =
       let le = t m in
       let none : bit (was_given st m) ≡ 0 = ap bit new in
       at_set h st (placed st m v) m v (placed_sets st m v next) (omega (arith, le, none)) t
 
-  pub replaced_once : (h : List Mark) (st : Store T) (m : Name) (v : T) → is_some (value_at st m) ≡ true → TellsOnce h st → TellsOnce h (replaced st m.cell v)
+  pub replaced_once : (h : List Mark) (st : Store T) (m : Name) (v : T) → is_some (value_at st m) ≡ true → DestroyedOnce h st → DestroyedOnce h (replaced st m.cell v)
   replaced_once h st m v live t =
       let le = t m in
       let one : alive st m ≡ 1 = ap bit live in
@@ -165,7 +165,7 @@ module _ {T : Type 0} where
       at_set h st (replaced st m.cell v) m v (replaced_sets st m v live) (omega (arith, le, one, most)) t
 
   -- a value that is given back is told of no more than before
-  pub emptied_once : (h : List Mark) (st : Store T) (m : Name) → is_some (value_at st m) ≡ true → TellsOnce h st → TellsOnce h (emptied st m.cell)
+  pub emptied_once : (h : List Mark) (st : Store T) (m : Name) → is_some (value_at st m) ≡ true → DestroyedOnce h st → DestroyedOnce h (emptied st m.cell)
   emptied_once h st m live t = λ n. let le = told_gone h st m n live t in omega (arith, le)
 
   never_used : (t : ℕ) → value_in {T = T} fresh t ≡ None
@@ -175,25 +175,25 @@ module _ {T : Type 0} where
       by_turn true = refl
       by_turn false = refl
 
-  empties_once : (h : List Mark) (st st' : Store T) (c : Option (ℕ × Option Name)) (n : Name) → Empties st c st' → TellsOnce h st → (told_by c n + destructions h n) + alive st' n ≤ bit (was_given st' n)
+  empties_once : (h : List Mark) (st st' : Store T) (c : Option (ℕ × Option Name)) (n : Name) → Empties st c st' → DestroyedOnce h st → (told_by c n + destructions h n) + alive st' n ≤ bit (was_given st' n)
   empties_once h st st' None n e t = let le = at_same h st st' e t n in omega (arith, le)
   empties_once h st st' (Some c) n e t = by_name c.1 e
     where
-      by_name : (m : Option Name) → EmptiesAt st m st' → (tells_name m n + destructions h n) + alive st' n ≤ bit (was_given st' n)
+      by_name : (m : Option Name) → EmptiesAt st m st' → (counts_name m n + destructions h n) + alive st' n ≤ bit (was_given st' n)
       by_name None e = let le = at_same h st st' e t n in omega (arith, le)
       by_name (Some m) e = (
-          let P : Store T → Type 0 = λ x. (tells_name (Some m) n + destructions h n) + alive x n ≤ bit (was_given x n) in
+          let P : Store T → Type 0 = λ x. (counts_name (Some m) n + destructions h n) + alive x n ≤ bit (was_given x n) in
           subst P (sym e.1) (told_gone h st m n e.0 t))
 
 module _ {T J : Type 0} where
-  pub after_once : (h : List Mark) (s : State T J) (who : ℕ) (event : Event) (r : Report) → Orderly s → IsReport s who event r → TellsOnce h s.store → TellsOnce (marks s who event r h) (after s who event r.outcome).store
+  pub after_once : (h : List Mark) (s : State T J) (who : ℕ) (event : Event) (r : Report) → Orderly s → IsReport s who event r → DestroyedOnce h s.store → DestroyedOnce (marks s who event r h) (after s who event r.outcome).store
   after_once h s who event r o is t = λ n.
       let m : Moves s who r.called (after s who event r.outcome) = moves s who event r o is in
       let less = step_tells s who event r.outcome r.called h n in
       let le = empties_once h s.store (after s who event r.outcome).store r.called n m.cells t in
       omega (arith, less, le)
 
-  pub run_once : (h : List Mark) (s : State T J) (steps : List Step) (reports : List Report) → Orderly s → AreReports s steps reports → TellsOnce h s.store → TellsOnce (history_after s steps reports h) (state_after s steps reports).store
+  pub run_once : (h : List Mark) (s : State T J) (steps : List Step) (reports : List Report) → Orderly s → AreReports s steps reports → DestroyedOnce h s.store → DestroyedOnce (history_after s steps reports h) (state_after s steps reports).store
   run_once h s [] [] o are t = t
   run_once h s [] (r ∷ reports) o are t = absurd are
   run_once h s (step ∷ steps) [] o are t = t
@@ -206,7 +206,7 @@ module _ {T J : Type 0} where
   run_orderly s (step ∷ steps) [] o are = o
   run_orderly s (step ∷ steps) (r ∷ reports) o are = run_orderly (after s step.who step.event r.outcome) steps reports (moves s step.who step.event r o are.0).orderly are.1
 
-pub opened_once : (T : Type 0) (most turn_max : ℕ) → TellsOnce [] (opened_store {T = T} most turn_max)
+pub opened_once : (T : Type 0) (most turn_max : ℕ) → DestroyedOnce [] (opened_store {T = T} most turn_max)
 opened_once T most turn_max = λ n.
     let st : Store T = opened_store most turn_max in
     let p : cell_at st n.cell ≡ fresh = get_or_past [] n.cell fresh (omega arith) in

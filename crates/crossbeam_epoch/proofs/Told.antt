@@ -6,38 +6,38 @@ use Rattle.std.proofs.lemmas.List.{get_or_past, get_or_append_left, length_push}
 use Rattle.std.proofs.lemmas.Bool.Decides.{nat_tests}
 use Rattle.crossbeam_epoch.specs.declared.bag.Work.{Work}
 use Rattle.crossbeam_epoch.specs.declared.bag.Work.TheVariants.{Blank, Remove, Run}
-use Rattle.crossbeam_epoch.specs.declared.cells.Cell.{Cell}
+use Rattle.crossbeam_epoch.specs.declared.world.cells.Cell.{Cell}
 use Rattle.crossbeam_epoch.specs.declared.fault.Fault.{Fault}
 use Rattle.crossbeam_epoch.specs.declared.fault.Fault.TheVariants as F
 use Rattle.crossbeam_epoch.specs.declared.limits.Limits.{Limits}
 use Rattle.crossbeam_epoch.specs.declared.names.Name.{Name}
 use Rattle.crossbeam_epoch.specs.declared.names.Ptr.{Ptr}
-use Rattle.crossbeam_epoch.specs.declared.places.Participant.{Participant}
-use Rattle.crossbeam_epoch.specs.declared.places.Phase.{Phase}
-use Rattle.crossbeam_epoch.specs.declared.places.Phase.TheVariants.{Idle, Look, Publish, RepinLook, RepinPublish, Seal, Queue, ReleaseSeal, ReleaseQueue, Secure, SecureSeal, SecureQueue, Load, Inspect, Advance, Take, Call}
-use Rattle.crossbeam_epoch.specs.declared.report.Event.{Event}
-use Rattle.crossbeam_epoch.specs.declared.report.Event.TheVariants.{Begin, Go}
-use Rattle.crossbeam_epoch.specs.declared.report.Op.{Op}
-use Rattle.crossbeam_epoch.specs.declared.report.Op.TheVariants as O
-use Rattle.crossbeam_epoch.specs.declared.report.Outcome.{Outcome}
-use Rattle.crossbeam_epoch.specs.declared.report.Outcome.TheVariants.{Running, Done, Refused}
-use Rattle.crossbeam_epoch.specs.declared.report.Report.{Report}
-use Rattle.crossbeam_epoch.specs.declared.report.Step.{Step}
-use Rattle.crossbeam_epoch.specs.History.{Mark, Unpinned, Deferred}
-use Rattle.crossbeam_epoch.specs.Machine.{State, place, in_phase, is_due, taken, called_one, no_entry, destroys, after_work, opened, registered, with_store, with_roots, after_deferral, deferred, deferred_anew, name_of}
-use Rattle.crossbeam_epoch.specs.Store.{Store, fresh, cell_at, value_in, value_at, emptied, replaced, placed, with_cell, is_usable, IsNext, was_given}
-use Rattle.crossbeam_epoch.specs.Steps.{after, gone, needs_memory, called_by, called_entry, called_in, defer_fault, destroy_fault, IsReport, begin_marks, phase_marks, moved_marks, unless_refused, marks, state_after, AreReports}
-use Rattle.crossbeam_epoch.specs.Fits.{Fits, IsTable}
-use Rattle.crossbeam_epoch.specs.Reach.{Act, Quiet, Marked, Moment, WasLive, with_act, marks_of, IsEnd, moment, Tells, newest, step_act, moments_after, GivenBack}
+use Rattle.crossbeam_epoch.specs.declared.world.participant.Participant.{Participant}
+use Rattle.crossbeam_epoch.specs.declared.world.participant.Phase.{Phase}
+use Rattle.crossbeam_epoch.specs.declared.world.participant.Phase.TheVariants.{Idle, Look, Publish, RepinLook, RepinPublish, Seal, Queue, ReleaseSeal, ReleaseQueue, Secure, SecureSeal, SecureQueue, Load, Inspect, Advance, Take, Call}
+use Rattle.crossbeam_epoch.specs.declared.world.report.Event.{Event}
+use Rattle.crossbeam_epoch.specs.declared.world.report.Event.TheVariants.{Begin, Go}
+use Rattle.crossbeam_epoch.specs.declared.world.report.Op.{Op}
+use Rattle.crossbeam_epoch.specs.declared.world.report.Op.TheVariants as O
+use Rattle.crossbeam_epoch.specs.declared.world.report.Outcome.{Outcome}
+use Rattle.crossbeam_epoch.specs.declared.world.report.Outcome.TheVariants.{Running, Done, Refused}
+use Rattle.crossbeam_epoch.specs.declared.world.report.Report.{Report}
+use Rattle.crossbeam_epoch.specs.declared.world.report.Step.{Step}
+use Rattle.crossbeam_epoch.specs.World.History.{Mark, Unpinned, Deferred}
+use Rattle.crossbeam_epoch.specs.World.Machine.{State, place, in_phase, is_due, taken, called_one, no_entry, destroys, after_work, opened, registered, with_store, with_roots, after_deferral, deferred, deferred_anew, name_of}
+use Rattle.crossbeam_epoch.specs.World.Store.{Store, fresh, cell_at, value_in, value_at, emptied, replaced, placed, with_cell, is_usable, IsNext, was_given}
+use Rattle.crossbeam_epoch.specs.World.Steps.{after, gone, needs_memory, called_by, called_entry, called_in, defer_fault, destroy_fault, IsReport, begin_marks, phase_marks, moved_marks, unless_refused, marks, state_after, AreReports}
+use Rattle.crossbeam_epoch.specs.World.Fits.{Fits, IsTable}
+use Rattle.crossbeam_epoch.specs.World.Reach.{Act, Quiet, Marked, Moment, WasLive, with_act, marks_of, IsDestruction, moment, Tells, newest_act, step_act, moments_after, GivenBack}
 use Rattle.crossbeam_epoch.proofs.Runs.{fits_after, fits_opened, fits_place, fits_store, fits_roots, fits_deferral, fits_removal, no_destroy_fault}
 use Rattle.crossbeam_epoch.proofs.Givens.{Keeps, live_given, emptied_keeps, replaced_keeps, placed_keeps, after_keeps, next_new}
 use Rattle.crossbeam_epoch.proofs.Tables.{table_is, table_after, table_new, table_registered, table_deferral}
 
-unpin_act : (b : Bool) (who : ℕ) (h : List Mark) → with_act (newest (if b then Unpinned who ∷ [] else [])) h ≡ (if b then Unpinned who ∷ h else h)
+unpin_act : (b : Bool) (who : ℕ) (h : List Mark) → with_act (newest_act (if b then Unpinned who ∷ [] else [])) h ≡ (if b then Unpinned who ∷ h else h)
 unpin_act true who h = refl
 unpin_act false who h = refl
 
-begin_act : {J : Type 0} (who : ℕ) (p : Participant J) (op : Op) (h : List Mark) → with_act (newest (begin_marks who p op [])) h ≡ begin_marks who p op h
+begin_act : {J : Type 0} (who : ℕ) (p : Participant J) (op : Op) (h : List Mark) → with_act (newest_act (begin_marks who p op [])) h ≡ begin_marks who p op h
 begin_act who p O.Pin h = refl
 begin_act who p O.Unpin h = unpin_act (nat_le p.guards 1) who h
 begin_act who p O.Repin h = refl
@@ -45,7 +45,7 @@ begin_act who p O.Flush h = refl
 begin_act who p O.Release h = refl
 begin_act who p (O.Secure n) h = refl
 
-phase_act : (epoch who : ℕ) (phase : Phase) (c : Option (ℕ × Option Name)) (h : List Mark) → with_act (newest (phase_marks epoch who phase c [])) h ≡ phase_marks epoch who phase c h
+phase_act : (epoch who : ℕ) (phase : Phase) (c : Option (ℕ × Option Name)) (h : List Mark) → with_act (newest_act (phase_marks epoch who phase c [])) h ≡ phase_marks epoch who phase c h
 phase_act epoch who phase (Some c) h = refl
 phase_act epoch who Idle None h = refl
 phase_act epoch who Look None h = refl
@@ -171,11 +171,11 @@ module _ {T J : Type 0} where
   pub marks_act : (s : State T J) (who : ℕ) (event : Event) (r : Report) (h : List Mark) → with_act (step_act s who event r) h ≡ marks s who event r h
   marks_act s who event r h = by_outcome r.outcome
     where
-      by_event : (event : Event) → with_act (newest (moved_marks s who event r.called [])) h ≡ moved_marks s who event r.called h
+      by_event : (event : Event) → with_act (newest_act (moved_marks s who event r.called [])) h ≡ moved_marks s who event r.called h
       by_event (Begin op) = begin_act who (place s who) op h
       by_event Go = phase_act s.epoch who (place s who).phase r.called h
 
-      by_outcome : (o : Outcome) → with_act (newest (unless_refused o (moved_marks s who event r.called []) [])) h ≡ unless_refused o (moved_marks s who event r.called h) h
+      by_outcome : (o : Outcome) → with_act (newest_act (unless_refused o (moved_marks s who event r.called []) [])) h ≡ unless_refused o (moved_marks s who event r.called h) h
       by_outcome (Refused f) = refl
       by_outcome Running = by_event event
       by_outcome Done = by_event event
@@ -219,11 +219,11 @@ module _ {T J : Type 0} where
 
   by_empty : (s : State T J) (who answered bags seal : ℕ) (n : Name) (b : Bool) → lives s.store n ≡ true
       → lives (if b then in_phase s who Idle else called_one s who answered bags seal).store n ≡ false
-      → IsEnd (newest (phase_marks s.epoch who (Call answered bags seal) (if b then None else Some (called_entry s.store (slice_index_or (place s who).hand 0 no_entry))) [])) n
+      → IsDestruction (newest_act (phase_marks s.epoch who (Call answered bags seal) (if b then None else Some (called_entry s.store (slice_index_or (place s who).hand 0 no_entry))) [])) n
   by_empty s who answered bags seal n true live gone = absurd (cc (live, gone))
   by_empty s who answered bags seal n false live gone = work_ends s.store (slice_index_or (place s who).hand 0 no_entry).work n live gone
 
-  going_ends : (s : State T J) (who : ℕ) (phase : Phase) (n : Name) → lives s.store n ≡ true → lives (gone s who phase).store n ≡ false → IsEnd (newest (phase_marks s.epoch who phase (called_by s.store phase (place s who).hand) [])) n
+  going_ends : (s : State T J) (who : ℕ) (phase : Phase) (n : Name) → lives s.store n ≡ true → lives (gone s who phase).store n ≡ false → IsDestruction (newest_act (phase_marks s.epoch who phase (called_by s.store phase (place s who).hand) [])) n
   going_ends s who Idle n live gone = absurd (cc (live, gone))
   going_ends s who Look n live gone = absurd (cc (live, gone))
   going_ends s who (Publish seen) n live gone = absurd (cc (live, gone))
@@ -243,12 +243,12 @@ module _ {T J : Type 0} where
   going_ends s who (Call answered bags seal) n live gone = by_empty s who answered bags seal n (length (place s who).hand == 0) live gone
 
   moved_ends : (s : State T J) (who : ℕ) (event : Event) (n : Name) (o : Outcome) → called_in s who event o ≡ called_in s who event Running → lives s.store n ≡ true → lives (after s who event Running).store n ≡ false
-      → IsEnd (newest (moved_marks s who event (called_in s who event o) [])) n
+      → IsDestruction (newest_act (moved_marks s who event (called_in s who event o) [])) n
   moved_ends s who (Begin op) n o e live gone = absurd (cc (live, gone))
   moved_ends s who Go n o e live gone = rw e (going_ends s who (place s who).phase n live gone)
 
   outcome_ends : (s : State T J) (who : ℕ) (event : Event) (n : Name) (o : Outcome) → lives s.store n ≡ true → lives (after s who event o).store n ≡ false
-      → IsEnd (newest (unless_refused o (moved_marks s who event (called_in s who event o) []) [])) n
+      → IsDestruction (newest_act (unless_refused o (moved_marks s who event (called_in s who event o) []) [])) n
   outcome_ends s who event n (Refused f) live gone = same_ends s.store (after s who event (Refused f)).store n (refused_store s who event f) live gone
   outcome_ends s who event n Running live gone = moved_ends s who event n Running refl live gone
   outcome_ends s who event n Done live gone = moved_ends s who event n Done (by_event event) live gone
@@ -257,13 +257,13 @@ module _ {T J : Type 0} where
       by_event (Begin op) = refl
       by_event Go = refl
 
-  step_ends : (s : State T J) (who : ℕ) (event : Event) (r : Report) (n : Name) → IsReport s who event r → lives s.store n ≡ true → lives (after s who event r.outcome).store n ≡ false → IsEnd (step_act s who event r) n
+  step_ends : (s : State T J) (who : ℕ) (event : Event) (r : Report) (n : Name) → IsReport s who event r → lives s.store n ≡ true → lives (after s who event r.outcome).store n ≡ false → IsDestruction (step_act s who event r) n
   step_ends s who event r n is live gone =
-      subst (λ c. IsEnd (newest (unless_refused r.outcome (moved_marks s who event c []) [])) n) (sym is.job) (outcome_ends s who event n r.outcome live gone)
+      subst (λ c. IsDestruction (newest_act (unless_refused r.outcome (moved_marks s who event c []) [])) n) (sym is.job) (outcome_ends s who event n r.outcome live gone)
 
   -- a call or a step tells what it destroys
   pub tells_act : (names : T → List Name) (h : List Moment) (s s' : State T J) (act : Act) → Tells names h s → Fits (with_act act (marks_of h)) s'
-      → ((n : Name) → is_some (value_at s.store n) ≡ true → is_some (value_at s'.store n) ≡ false → IsEnd act n) → IsTable s'.limits.participants s'.table → Keeps s.store s'.store → Tells names (moment names act s' ∷ h) s'
+      → ((n : Name) → is_some (value_at s.store n) ≡ true → is_some (value_at s'.store n) ≡ false → IsDestruction act n) → IsTable s'.limits.participants s'.table → Keeps s.store s'.store → Tells names (moment names act s' ∷ h) s'
   tells_act names [] s s' act t f ends table keeps = absurd t.now
   tells_act names (b ∷ h) s s' act t f ends table keeps = record {
     fits = f;

@@ -2,8 +2,8 @@
 use Rattle.std.proofs.Common.{◌≡◌, ℕ, ◌+◌, Bool, true, false, List, [], ◌∷◌, ◌==◌, Option, Some, None, refl, ◌∙◌, ap, inl, inr}
 use Rattle.std.specs.Prelude.{if◌then◌else◌, is_some}
 use Rattle.crossbeam_epoch.specs.declared.names.Name.{Name}
-use Rattle.crossbeam_epoch.specs.History.{Mark, Pinned, Repinned, Unpinned, Deferred, Called, began, blocks, calls, deferrals, IsGraceful, WasDeferred, AreCalledLater}
-use Rattle.crossbeam_epoch.specs.Log.{untold, undated}
+use Rattle.crossbeam_epoch.specs.World.History.{Mark, Pinned, Repinned, Unpinned, Deferred, Called, began, blocks, times_called, deferrals, IsGraceful, WasDeferred, AreCalledLater}
+use Rattle.crossbeam_epoch.specs.World.Log.{untold, undated}
 
 some_by : (b : Bool) (m n : ℕ) (x y : Option ℕ) → is_some x ≡ is_some y → is_some (if b then Some m else x) ≡ is_some (if b then Some n else y)
 some_by true m n x y e = refl
@@ -37,7 +37,7 @@ undated_graceful (Unpinned who ∷ h) g = undated_graceful h g
 undated_graceful (Deferred ticket name ∷ h) g = undated_graceful h g
 undated_graceful (Called ticket name ∷ h) g = ((λ q. undated_blocks h q ticket ∙ g.0 q), undated_graceful h g.1)
 
-pub undated_calls : (h : List Mark) (t : ℕ) → calls (undated h) t ≡ calls h t
+pub undated_calls : (h : List Mark) (t : ℕ) → times_called (undated h) t ≡ times_called h t
 undated_calls [] t = refl
 undated_calls (Pinned who epoch ∷ h) t = undated_calls h t
 undated_calls (Repinned who epoch ∷ h) t = undated_calls h t

@@ -4,15 +4,15 @@ use Rattle.std.specs.Prelude.{MatchOption}
 use Rattle.std.specs.List.{Contains}
 use Rattle.std.proofs.lemmas.List.{length_push}
 use Rattle.std.proofs.lemmas.List.Elements.{Contains-push_cases}
-use Rattle.crossbeam_epoch.specs.declared.report.Event.{Event}
-use Rattle.crossbeam_epoch.specs.declared.report.Event.TheVariants.{Begin, Go}
-use Rattle.crossbeam_epoch.specs.declared.report.Op.{Op}
-use Rattle.crossbeam_epoch.specs.declared.report.Outcome.TheVariants.{Running}
-use Rattle.crossbeam_epoch.specs.declared.report.Report.{Report}
-use Rattle.crossbeam_epoch.specs.declared.report.Step.{Step}
-use Rattle.crossbeam_epoch.specs.Machine.{State}
-use Rattle.crossbeam_epoch.specs.Steps.{after, IsReport, state_after, AreReports}
-use Rattle.crossbeam_epoch.specs.Calls.{event_at, call_steps, EndsWith, IsCall, IsGoing}
+use Rattle.crossbeam_epoch.specs.declared.world.report.Event.{Event}
+use Rattle.crossbeam_epoch.specs.declared.world.report.Event.TheVariants.{Begin, Go}
+use Rattle.crossbeam_epoch.specs.declared.world.report.Op.{Op}
+use Rattle.crossbeam_epoch.specs.declared.world.report.Outcome.TheVariants.{Running}
+use Rattle.crossbeam_epoch.specs.declared.world.report.Report.{Report}
+use Rattle.crossbeam_epoch.specs.declared.world.report.Step.{Step}
+use Rattle.crossbeam_epoch.specs.World.Machine.{State}
+use Rattle.crossbeam_epoch.specs.World.Steps.{after, IsReport, state_after, AreReports}
+use Rattle.crossbeam_epoch.specs.World.Calls.{event_at, call_steps, EndsWith, IsCall, IsGoing}
 use Rattle.crossbeam_epoch.proofs.Runs.{state_more, legal_more}
 
 length_call : (who : ℕ) (op : Op) (n : ℕ) → length (call_steps who op n) ≡ n

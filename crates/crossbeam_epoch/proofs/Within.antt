@@ -3,9 +3,9 @@ use Rattle.std.proofs.Common.{◌≡◌, ℕ, ◌+◌, ◌-◌, ◌^◌, ◌<◌
 use Rattle.std.specs.Result.{is_err}
 use Rattle.std.proofs.lemmas.List.{get_or_read}
 use borrow.Author.Count.{below_more}
-use Rattle.crossbeam_epoch.specs.declared.places.Participant.{Participant}
-use Rattle.crossbeam_epoch.specs.declared.places.Sealed.{Sealed}
-use Rattle.crossbeam_epoch.specs.Machine.{State, place, blank}
+use Rattle.crossbeam_epoch.specs.declared.world.participant.Participant.{Participant}
+use Rattle.crossbeam_epoch.specs.declared.bag.Sealed.{Sealed}
+use Rattle.crossbeam_epoch.specs.World.Machine.{State, place, blank}
 
 -- a reservation that didn't fail made room for one more
 pub one_more : {A E : Type 0} (r : Result A E) (failed : Bool) (n room : ℕ) → failed ≡ is_err r → failed ≡ false → OnOk r (n + 1 ≤ room) → n < room

@@ -1,4 +1,4 @@
-//! Bags of deferred jobs.
+//! Bags of deferred jobs, and sealed bags.
 
 ghost use Rattle.std.specs.Prelude.{◌≡◌, ◌<◌, ◌≤◌, ◌++◌, ◌∷◌, [], length, remove, slice_index_or, nat_eq};
 
@@ -39,6 +39,14 @@ impl<J> Default for Entry<J> {
 #[derive(Drop)]
 pub struct Bag<J> {
     entries: ArrayVec<Entry<J>, 64>,
+}
+
+/// A bag in the queue.
+#[derive(Drop)]
+pub struct Sealed<J> {
+    /// An epoch read after the bag's last deferral.
+    pub seal: u64,
+    pub jobs: Bag<J>,
 }
 
 impl<J> Model for Bag<J> {

@@ -42,7 +42,7 @@ pub trait Links {
     ghost use Rattle.std.specs.Prelude.{List, ◌≡◌, slice_get};
     ghost use Rattle.std.specs.Mem.{FitsInMemory};
     ghost use Rattle.crossbeam_epoch.specs.declared.names.Name.{Name};
-    ghost use Rattle.crossbeam_epoch.specs.contracts.cells.Cell.{the_row};
+    ghost use Rattle.crossbeam_epoch.specs.contracts.world.cells.Cell.{the_row};
 
     ghost names: { Self → List Name };
 

@@ -3,8 +3,8 @@
 /// A job of the user's: it is run once, after its deferral is blocked by nobody.
 pub trait Task: Drop {
     ghost use Rattle.std.specs.Mem.{FitsInMemory};
-    ghost use Rattle.crossbeam_epoch.specs.contracts.places.Participant.{the_row};
-    ghost use Rattle.crossbeam_epoch.specs.contracts.places.Sealed.{the_row as sealed_row};
+    ghost use Rattle.crossbeam_epoch.specs.contracts.world.participant.Participant.{the_row};
+    ghost use Rattle.crossbeam_epoch.specs.contracts.bag.Sealed.{the_row as sealed_row};
 
     /// Runs the job.
     fn run(self);

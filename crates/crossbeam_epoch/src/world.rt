@@ -1,19 +1,36 @@
-//! The collector: the epoch, the table, the queue, the cells and the roots.
+//! Epoch-based reclamation as a machine of atomic steps: the epoch, the table, the queue, the cells and the roots.
+
+mod calls;
+mod cells;
+mod collect;
+mod defer;
+mod ending;
+mod exchanges;
+mod laws;
+mod participant;
+mod report;
+mod roots;
+mod steps;
+mod store;
+mod tickets;
 
 ghost use Rattle.std.specs.Prelude.{◌≡◌, ◌<◌, ℕ, List, [], ◌∷◌, IsTrue, true, false, IfOk, IfSome, MatchResult, length, unwrap_or, replicate, is_some, if◌then◌else◌, ◌&&◌};
 ghost use Rattle.std.specs.Result.{result_ok};
-ghost use Rattle.crossbeam_epoch.specs.Machine.{place, opened, registered, blank, null};
+ghost use Rattle.crossbeam_epoch.specs.World.Machine.{place, opened, registered, blank, null};
 ghost use Rattle.crossbeam_epoch.specs.Limits.{within};
-ghost use Rattle.crossbeam_epoch.specs.Reach.{Moment, Quiet, moment, Tells};
+ghost use Rattle.crossbeam_epoch.specs.World.Reach.{Moment, Quiet, moment, Tells};
 
-use crate::bag::Bag;
-use crate::cells::Cells;
+use crate::bag::{Bag, Sealed};
 use crate::fault::Fault;
 use crate::limits::Limits;
 use crate::names::{Links, Pointable, Ptr};
-use crate::places::{Participant, Phase, Sealed};
 use crate::task::Task;
-use crate::tickets::Tickets;
+use crate::world::cells::Cells;
+use crate::world::tickets::Tickets;
+pub use cells::Cell;
+pub use exchanges::OtherPointer;
+pub use participant::{Participant, Phase};
+pub use report::{Event, Op, Outcome, Ran, Report, Step};
 use std::alloc::{AllocError, Global};
 use std::collections::VecDeque;
 use std::marker::Model;
@@ -31,7 +48,7 @@ pub struct World<T, J> {
 }
 
 impl<T, J> Model for World<T, J> {
-    ghost use Rattle.crossbeam_epoch.specs.Machine.{State};
+    ghost use Rattle.crossbeam_epoch.specs.World.Machine.{State};
 
     ghost Value = { State T J };
 

@@ -5,17 +5,17 @@ use Rattle.std.proofs.lemmas.List.{length-set}
 use Rattle.std.proofs.lemmas.Nat.{mul-le}
 use Rattle.crossbeam_epoch.specs.declared.bag.Work.{Work}
 use Rattle.crossbeam_epoch.specs.declared.bag.Work.TheVariants.{Remove}
-use Rattle.crossbeam_epoch.specs.declared.cells.Cell.{Cell}
+use Rattle.crossbeam_epoch.specs.declared.world.cells.Cell.{Cell}
 use Rattle.crossbeam_epoch.specs.declared.names.Name.{Name}
 use Rattle.crossbeam_epoch.specs.declared.fault.Fault.{Fault}
-use Rattle.crossbeam_epoch.specs.declared.places.Participant.{Participant}
-use Rattle.crossbeam_epoch.specs.declared.places.Phase.{Phase}
-use Rattle.crossbeam_epoch.specs.declared.places.Phase.TheVariants.{Idle}
-use Rattle.crossbeam_epoch.specs.Fits.{weight}
-use Rattle.crossbeam_epoch.specs.Machine.{place, with_store, deferred}
-use Rattle.crossbeam_epoch.specs.Progress.{Orderly, Keeps}
-use Rattle.crossbeam_epoch.specs.Steps.{defer_fault, or_count, quiet_fault, when}
-use Rattle.crossbeam_epoch.specs.Store as S
+use Rattle.crossbeam_epoch.specs.declared.world.participant.Participant.{Participant}
+use Rattle.crossbeam_epoch.specs.declared.world.participant.Phase.{Phase}
+use Rattle.crossbeam_epoch.specs.declared.world.participant.Phase.TheVariants.{Idle}
+use Rattle.crossbeam_epoch.specs.World.Fits.{weight}
+use Rattle.crossbeam_epoch.specs.World.Machine.{place, with_store, deferred}
+use Rattle.crossbeam_epoch.specs.World.Progress.{Orderly, KeepsCalls}
+use Rattle.crossbeam_epoch.specs.World.Steps.{defer_fault, or_count, quiet_fault, when}
+use Rattle.crossbeam_epoch.specs.World.Store as S
 use Rattle.joint.specs.declared.refusal.Refusal.{Refusal}
 use Rattle.joint.specs.declared.slot.Slot.{Slot}
 use Rattle.joint.specs.Form.{size_of}
@@ -154,7 +154,7 @@ pub record Retired {V : Type 0} (t t' : Forest V) (at : Name) : Type 0 where
 
 -- what the collector promises of a deferral
 abbrev pub Defers : Type 0 → Type 0
-Defers V = (s : Clock V) (who : ℕ) (work : Work ⊤) → who < length s.table → length (place s who).bag < 64 → Orderly s → Keeps s (deferred s who work) (λ f. f (record { ticket = s.next; work = work }))
+Defers V = (s : Clock V) (who : ℕ) (work : Work ⊤) → who < length s.table → length (place s who).bag < 64 → Orderly s → KeepsCalls s (deferred s who work) (λ f. f (record { ticket = s.next; work = work }))
 
 pub retired : {V : Type 0} → Defers V → (t t' : Forest V) (at : Name) (s : Slot V) (k : Clock V) (who : ℕ) → Sound t → slot_at t at ≡ Some s → s.retired ≡ false
     → k ≡ with_store t.collector (written t.collector.store at.cell (Some (record { node = s.node; retired = true }))) → t'.collector ≡ deferred k who (Remove at) → who < length t.collector.table → length (place t.collector who).bag < 64

@@ -3,19 +3,19 @@ use Rattle.std.proofs.Common.{◌≡◌, ◌≢◌, ◌⊎◌, ℕ, suc, ◌<◌
 use Rattle.std.specs.Prelude.{⊤}
 use Rattle.std.specs.List.{sum_by}
 use Rattle.crossbeam_epoch.specs.declared.fault.Fault.{Fault}
-use Rattle.crossbeam_epoch.specs.declared.places.Phase.TheVariants as P
-use Rattle.crossbeam_epoch.specs.declared.report.Event.{Event}
-use Rattle.crossbeam_epoch.specs.declared.report.Event.TheVariants.{Begin, Go}
-use Rattle.crossbeam_epoch.specs.declared.report.Op.{Op}
-use Rattle.crossbeam_epoch.specs.declared.report.Op.TheVariants as O
-use Rattle.crossbeam_epoch.specs.declared.report.Outcome.{Outcome}
-use Rattle.crossbeam_epoch.specs.declared.report.Outcome.TheVariants.{Running, Done, Refused}
-use Rattle.crossbeam_epoch.specs.declared.report.Report.{Report}
-use Rattle.crossbeam_epoch.specs.Machine.{State, place}
-use Rattle.crossbeam_epoch.specs.Progress.{Orderly, Moves, Begins, Secures, refusal}
-use Rattle.crossbeam_epoch.specs.Steps.{after, IsReport}
-use Rattle.crossbeam_epoch.specs.Store.{Store}
-use Rattle.crossbeam_epoch.specs.Calls.{IsGoing, IsCall}
+use Rattle.crossbeam_epoch.specs.declared.world.participant.Phase.TheVariants as P
+use Rattle.crossbeam_epoch.specs.declared.world.report.Event.{Event}
+use Rattle.crossbeam_epoch.specs.declared.world.report.Event.TheVariants.{Begin, Go}
+use Rattle.crossbeam_epoch.specs.declared.world.report.Op.{Op}
+use Rattle.crossbeam_epoch.specs.declared.world.report.Op.TheVariants as O
+use Rattle.crossbeam_epoch.specs.declared.world.report.Outcome.{Outcome}
+use Rattle.crossbeam_epoch.specs.declared.world.report.Outcome.TheVariants.{Running, Done, Refused}
+use Rattle.crossbeam_epoch.specs.declared.world.report.Report.{Report}
+use Rattle.crossbeam_epoch.specs.World.Machine.{State, place}
+use Rattle.crossbeam_epoch.specs.World.Progress.{Orderly, Moves, Begins, Secures, refusal}
+use Rattle.crossbeam_epoch.specs.World.Steps.{after, IsReport}
+use Rattle.crossbeam_epoch.specs.World.Store.{Store}
+use Rattle.crossbeam_epoch.specs.World.Calls.{IsGoing, IsCall}
 use Rattle.joint.specs.declared.slot.Slot.{Slot}
 use Rattle.joint.specs.Collector.{IsIdle, IsWhole, IsCause, ended, Readies}
 use Rattle.joint.specs.Forest.{Forest, Clock, waits, waiting_size, IsCounted}

@@ -14,8 +14,8 @@ use Rattle.joint.specs.declared.steps.Done.TheVariants.{Get as Got, Insert as In
 use Rattle.joint.specs.declared.steps.Op.TheVariants.{Pin, Unpin, Repin, Flush, Release, Get, Insert}
 use Rattle.joint.specs.declared.limits.Limits.{Limits}
 use Rattle.joint.specs.Limits.{AreAllowed}
-use Rattle.crossbeam_epoch.specs.declared.report.Op.TheVariants as turn
-use Rattle.crossbeam_epoch.specs.Store as S
+use Rattle.crossbeam_epoch.specs.declared.world.report.Op.TheVariants as turn
+use Rattle.crossbeam_epoch.specs.World.Store as S
 use Rattle.joint.specs.Walk.{walk, top}
 use Rattle.joint.specs.Refusals.{of_guard}
 use Rattle.joint.specs.Forest.{heap, node_of, value_at, sizes, Adds}

@@ -6,14 +6,14 @@ use Rattle.std.proofs.lemmas.List.{length-set, length_push, length-replicate}
 use Rattle.std.proofs.lemmas.List.Sums.{sum_by-set, sum_by_push}
 use Rattle.std.proofs.lemmas.Bool.Decides.{nat_tests}
 use Rattle.crossbeam_epoch.specs.declared.bag.Entry.{Entry}
-use Rattle.crossbeam_epoch.specs.declared.cells.Cell.{Cell}
+use Rattle.crossbeam_epoch.specs.declared.world.cells.Cell.{Cell}
 use Rattle.crossbeam_epoch.specs.declared.limits.Limits.{Limits}
 use Rattle.crossbeam_epoch.specs.declared.names.Name.{Name}
-use Rattle.crossbeam_epoch.specs.Machine.{place}
-use Rattle.crossbeam_epoch.specs.Progress.{IsResting}
-use Rattle.crossbeam_epoch.specs.Store as S
-use Rattle.crossbeam_epoch.specs.Machine.{opened}
-use Rattle.crossbeam_epoch.specs.Fits.{weight}
+use Rattle.crossbeam_epoch.specs.World.Machine.{place}
+use Rattle.crossbeam_epoch.specs.World.Progress.{IsResting}
+use Rattle.crossbeam_epoch.specs.World.Store as S
+use Rattle.crossbeam_epoch.specs.World.Machine.{opened}
+use Rattle.crossbeam_epoch.specs.World.Fits.{weight}
 use Rattle.joint.specs.declared.slot.Slot.{Slot}
 use Rattle.joint.specs.declared.form.Form.{Form}
 use Rattle.joint.specs.declared.form.Form.TheVariants.{Node4, Node256}

@@ -1,9 +1,9 @@
 -- What stands in the cells after one of them is written.
 use Rattle.std.proofs.Common.{◌≡◌, ◌≢◌, ℕ, zero, suc, ◌+◌, ◌<◌, ◌==◌, ◌++◌, inl, inr, Bool, true, false, List, [], ◌∷◌, length, get_or, set, refl, sym, ◌∙◌, ap, arith, Option, Some, None, if◌then◌else◌, get_or-set_same, get_or-set_other}
 use Rattle.std.specs.Prelude.{nat_lt, nat_le, is_none, ◌&&◌}
-use Rattle.crossbeam_epoch.specs.declared.cells.Cell.{Cell}
+use Rattle.crossbeam_epoch.specs.declared.world.cells.Cell.{Cell}
 use Rattle.crossbeam_epoch.specs.declared.names.Name.{Name}
-use Rattle.crossbeam_epoch.specs.Store.{Store, cell_at, value_at, value_in, fresh, is_usable}
+use Rattle.crossbeam_epoch.specs.World.Store.{Store, cell_at, value_at, value_in, fresh, is_usable}
 use Rattle.joint.proofs.Edges.{tested, passes, fails}
 use Rattle.joint.proofs.Pairs.{same_or_not, one_name}
 

@@ -7,12 +7,12 @@ use Rattle.std.proofs.lemmas.List.Sums.{sum_by-set}
 use Rattle.std.proofs.lemmas.Bool.Decides.{nat_tests}
 use Rattle.crossbeam_epoch.specs.declared.bag.Work.{Work}
 use Rattle.crossbeam_epoch.specs.declared.bag.Work.TheVariants.{Blank, Remove, Run}
-use Rattle.crossbeam_epoch.specs.declared.cells.Cell.{Cell}
+use Rattle.crossbeam_epoch.specs.declared.world.cells.Cell.{Cell}
 use Rattle.crossbeam_epoch.specs.declared.names.Name.{Name}
-use Rattle.crossbeam_epoch.specs.Fits.{weight}
-use Rattle.crossbeam_epoch.specs.Machine.{after_work, destroys}
-use Rattle.crossbeam_epoch.specs.Progress.{Orderly, Moves}
-use Rattle.crossbeam_epoch.specs.Store as S
+use Rattle.crossbeam_epoch.specs.World.Fits.{weight}
+use Rattle.crossbeam_epoch.specs.World.Machine.{after_work, destroys}
+use Rattle.crossbeam_epoch.specs.World.Progress.{Orderly, Moves}
+use Rattle.crossbeam_epoch.specs.World.Store as S
 use Rattle.joint.specs.declared.slot.Slot.{Slot}
 use Rattle.joint.specs.declared.form.Form.{Form}
 use Rattle.joint.specs.Form.{size_of}

@@ -2,8 +2,8 @@
 use Rattle.std.proofs.Common.{◌≡◌, ℕ, ◌+◌, ◌-◌, ◌*◌, ◌≤◌, Bool, true, false, List, [], ◌∷◌, length, suc, get_or, refl, ◌∙◌, ap, arith, Option, Some, None, if◌then◌else◌}
 use Rattle.std.specs.List.{sum_by}
 use Rattle.std.proofs.lemmas.List.Sums.{sum_by-cons}
-use Rattle.crossbeam_epoch.specs.declared.cells.Cell.{Cell}
-use Rattle.crossbeam_epoch.specs.Store.{fresh}
+use Rattle.crossbeam_epoch.specs.declared.world.cells.Cell.{Cell}
+use Rattle.crossbeam_epoch.specs.World.Store.{fresh}
 use Rattle.joint.specs.declared.form.Form.{Form}
 use Rattle.joint.specs.declared.form.Form.TheVariants.{Node4, Node16, Node256}
 use Rattle.joint.specs.declared.slot.Slot.{Slot}

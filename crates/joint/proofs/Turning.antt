@@ -4,18 +4,18 @@ use Rattle.std.specs.Prelude.{is_none, nat_lt, nat_le, remove, ◌&&◌, Result,
 use Rattle.crossbeam_epoch.specs.declared.fault.Fault.{Fault}
 use Rattle.crossbeam_epoch.specs.declared.fault.Fault.TheVariants as F
 use Rattle.crossbeam_epoch.specs.declared.names.Name.{Name}
-use Rattle.crossbeam_epoch.specs.declared.places.Participant.{Participant}
-use Rattle.crossbeam_epoch.specs.declared.places.Phase.{Phase}
-use Rattle.crossbeam_epoch.specs.declared.places.Phase.TheVariants as P
-use Rattle.crossbeam_epoch.specs.declared.report.Event.TheVariants.{Begin, Go}
-use Rattle.crossbeam_epoch.specs.declared.report.Op.{Op}
-use Rattle.crossbeam_epoch.specs.declared.report.Op.TheVariants as O
-use Rattle.crossbeam_epoch.specs.declared.report.Outcome.{Outcome}
-use Rattle.crossbeam_epoch.specs.declared.report.Outcome.TheVariants.{Running, Done, Refused}
-use Rattle.crossbeam_epoch.specs.declared.report.Report.{Report}
-use Rattle.crossbeam_epoch.specs.Machine.{State, place, blank, with_place, in_phase, taken, called_one, registered, is_due, is_at, ends_advance}
-use Rattle.crossbeam_epoch.specs.Progress.{Orderly, Moves, Begins, GoesOn, IsOn, Secures, refusal, queues, collects, comes_by, stage, steps_left}
-use Rattle.crossbeam_epoch.specs.Steps.{after, gone, begun, begun_at, begin_fault, fault, outcome_at, needs_memory, given_up, IsOutcome, IsReport}
+use Rattle.crossbeam_epoch.specs.declared.world.participant.Participant.{Participant}
+use Rattle.crossbeam_epoch.specs.declared.world.participant.Phase.{Phase}
+use Rattle.crossbeam_epoch.specs.declared.world.participant.Phase.TheVariants as P
+use Rattle.crossbeam_epoch.specs.declared.world.report.Event.TheVariants.{Begin, Go}
+use Rattle.crossbeam_epoch.specs.declared.world.report.Op.{Op}
+use Rattle.crossbeam_epoch.specs.declared.world.report.Op.TheVariants as O
+use Rattle.crossbeam_epoch.specs.declared.world.report.Outcome.{Outcome}
+use Rattle.crossbeam_epoch.specs.declared.world.report.Outcome.TheVariants.{Running, Done, Refused}
+use Rattle.crossbeam_epoch.specs.declared.world.report.Report.{Report}
+use Rattle.crossbeam_epoch.specs.World.Machine.{State, place, blank, with_place, in_phase, taken, called_one, registered, is_due, is_at, ends_advance}
+use Rattle.crossbeam_epoch.specs.World.Progress.{Orderly, Moves, Begins, GoesOn, IsOn, Secures, refusal, queues, collects, comes_by, stage, steps_left}
+use Rattle.crossbeam_epoch.specs.World.Steps.{after, gone, begun, begun_at, begin_fault, fault, outcome_at, needs_memory, given_up, IsOutcome, IsReport}
 
 -- a call is about to queue its bag
 abbrev pub sealing : Phase → Bool

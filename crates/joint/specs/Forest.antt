@@ -4,14 +4,14 @@ use Rattle.std.specs.List.{sum_by}
 use Rattle.crossbeam_epoch.specs.declared.bag.Entry.{Entry}
 use Rattle.crossbeam_epoch.specs.declared.bag.Work.{Work}
 use Rattle.crossbeam_epoch.specs.declared.bag.Work.TheVariants.{Blank, Remove, Run}
-use Rattle.crossbeam_epoch.specs.declared.cells.Cell.{Cell}
+use Rattle.crossbeam_epoch.specs.declared.world.cells.Cell.{Cell}
 use Rattle.crossbeam_epoch.specs.declared.limits.Limits.{Limits}
 use Rattle.crossbeam_epoch.specs.declared.names.Name.{Name}
-use Rattle.crossbeam_epoch.specs.Fits.{weight}
-use Rattle.crossbeam_epoch.specs.Machine.{with_store, opened}
-use Rattle.crossbeam_epoch.specs.Machine as M
-use Rattle.crossbeam_epoch.specs.Progress.{Orderly}
-use Rattle.crossbeam_epoch.specs.Store as S
+use Rattle.crossbeam_epoch.specs.World.Fits.{weight}
+use Rattle.crossbeam_epoch.specs.World.Machine.{with_store, opened}
+use Rattle.crossbeam_epoch.specs.World.Machine as M
+use Rattle.crossbeam_epoch.specs.World.Progress.{Orderly}
+use Rattle.crossbeam_epoch.specs.World.Store as S
 use Rattle.joint.specs.declared.child.Child.{Child}
 use Rattle.joint.specs.declared.child.Edge.{Edge}
 use Rattle.joint.specs.declared.child.Child.TheVariants.{Node, Value}

@@ -17,10 +17,10 @@ use Rattle.joint.specs.declared.steps.Op.{Op}
 use Rattle.joint.specs.declared.steps.Op.TheVariants.{Pin, Unpin, Repin, Flush, Release, Get, Insert}
 use Rattle.joint.specs.Limits.{AreAllowed}
 use Rattle.crossbeam_epoch.specs.declared.fault.Fault.{Fault}
-use Rattle.crossbeam_epoch.specs.declared.report.Op.{Op as Turn}
-use Rattle.crossbeam_epoch.specs.declared.report.Op.TheVariants as turn
-use Rattle.crossbeam_epoch.specs.Machine.{place, registered}
-use Rattle.crossbeam_epoch.specs.Store.{is_usable}
+use Rattle.crossbeam_epoch.specs.declared.world.report.Op.{Op as Turn}
+use Rattle.crossbeam_epoch.specs.declared.world.report.Op.TheVariants as turn
+use Rattle.crossbeam_epoch.specs.World.Machine.{place, registered}
+use Rattle.crossbeam_epoch.specs.World.Store.{is_usable}
 use Rattle.joint.specs.Collector.{IsWhole}
 use Rattle.joint.specs.Refusals.{of_guard, refusal_of}
 use Rattle.joint.specs.Forest.{Forest, heap, value_at, sizes, plan, planted, Adds, Spares, Stands}

@@ -4,13 +4,13 @@ ghost use Rattle.std.specs.Prelude.{◌≡◌, ◌≢◌, ◌<◌, ◌≤◌, �
 ghost use Rattle.std.specs.Prelude.{false, is_some, slice_set, slice_index, slice_index_or, take};
 ghost use Rattle.std.specs.Option.{option_copied};
 ghost use Rattle.std.specs.List.{sum_by};
-ghost use Rattle.crossbeam_epoch.specs.Machine.{place as holder, registered, deferred, with_store};
+ghost use Rattle.crossbeam_epoch.specs.World.Machine.{place as holder, registered, deferred, with_store};
 ghost use Rattle.crossbeam_epoch.specs.declared.bag.Work.{Work};
 ghost use Rattle.crossbeam_epoch.specs.declared.names.Name.{Name};
-ghost use Rattle.crossbeam_epoch.specs.Store.{is_usable, IsNext, replaced};
-ghost use Rattle.crossbeam_epoch.specs.Store as S;
-ghost use Rattle.crossbeam_epoch.specs.Progress.{Orderly, Moves};
-ghost use Rattle.crossbeam_epoch.specs.Steps.{IsReport, after, defer_fault};
+ghost use Rattle.crossbeam_epoch.specs.World.Store.{is_usable, IsNext, replaced};
+ghost use Rattle.crossbeam_epoch.specs.World.Store as S;
+ghost use Rattle.crossbeam_epoch.specs.World.Progress.{Orderly, Moves};
+ghost use Rattle.crossbeam_epoch.specs.World.Steps.{IsReport, after, defer_fault};
 ghost use Rattle.joint.specs.Walk.{Body, walk, of_node, child_at, top};
 ghost use Rattle.joint.specs.Form.{size_of, capacity_of};
 ghost use Rattle.joint.specs.Forest.{Forest, Clock, heap, slot_at, is_retired, value_at, sizes, placed, planted, IsEdited, ShapeOf, Comes, Takes, Retires, Spares, Swaps, Edits};

@@ -3,8 +3,8 @@
 ghost use Rattle.std.specs.Prelude.{◌≡◌, ◌≢◌, ◌≤◌, ◌<◌, ◌+◌, ◌^◌, ℕ, MatchResult, IfOk, Some, None, true, false, length, OnErr, OnOk, IfErr, ◌⊎◌, []};
 ghost use Rattle.joint.specs.Form.{size_of};
 ghost use Rattle.std.specs.List.{sum_by};
-ghost use Rattle.crossbeam_epoch.specs.Machine.{place as holder};
-ghost use Rattle.crossbeam_epoch.specs.Store.{is_usable};
+ghost use Rattle.crossbeam_epoch.specs.World.Machine.{place as holder};
+ghost use Rattle.crossbeam_epoch.specs.World.Store.{is_usable};
 ghost use Rattle.joint.specs.Walk.{top};
 ghost use Rattle.joint.specs.Forest.{sizes, value_at, heap, plan, waits, waiting_size, cells_of, Takes, Comes};
 ghost use Rattle.joint.specs.Collector.{IsIdle};

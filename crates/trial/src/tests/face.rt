@@ -1,7 +1,7 @@
 //! Rows of the threaded face, and each of its calls.
 
 ghost use Rattle.std.specs.Prelude.{◌≡◌, ◌-◌, true};
-ghost use Rattle.crossbeam_epoch.specs.FaceHandle.{owns};
+ghost use Rattle.crossbeam_epoch.specs.Face.Handle.{owns};
 
 use super::collector::adds;
 use crossbeam_epoch::{

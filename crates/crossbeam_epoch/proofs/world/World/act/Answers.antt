@@ -1,6 +1,6 @@
 use Rattle.std.proofs.Common.{rules, ◌≡◌, sym, ◌∙◌, true, ◌<◌, length}
-use Rattle.crossbeam_epoch.specs.Machine.{place}
-use Rattle.crossbeam_epoch.specs.declared.places.Phase.TheVariants as P
+use Rattle.crossbeam_epoch.specs.World.Machine.{place}
+use Rattle.crossbeam_epoch.specs.declared.world.participant.Phase.TheVariants as P
 use Rattle.crossbeam_epoch.proofs.Goes.{begins, refuses}
 use Rattle.crossbeam_epoch.proofs.world.World.act.Goals as goal
 

@@ -1,6 +1,6 @@
 use Rattle.std.proofs.Common.{rules, ◌≡◌, arith, ap, sym, subst, ◌∙◌, ◌∷◌, [], ◌++◌, length, take}
 use Rattle.std.proofs.lemmas.List.{length_push}
-use Rattle.crossbeam_epoch.specs.Steps.{state_after, AreReports}
+use Rattle.crossbeam_epoch.specs.World.Steps.{state_after, AreReports}
 use Rattle.crossbeam_epoch.proofs.Runs.{run_more}
 use Rattle.crossbeam_epoch.proofs.world.World.act_all.Goals as goal
 use Rattle.crossbeam_epoch.proofs.world.World.act_all.Goals.{else-loop-step-test, then-loop-step-test+then-is_err}

@@ -1,5 +1,5 @@
 use Rattle.std.proofs.Common.{◌≡◌, length, take}
-use Rattle.crossbeam_epoch.specs.Steps.{state_after, AreReports}
+use Rattle.crossbeam_epoch.specs.World.Steps.{state_after, AreReports}
 use Rattle.crossbeam_epoch.proofs.world.World.act_all.Given as goal
 
 abbrev pub invariant-loop-step : goal.invariant-loop-step

@@ -1,4 +1,4 @@
-use Rattle.crossbeam_epoch.proofs.Leads.{leads_on}
+use Rattle.crossbeam_epoch.proofs.Extends.{leads_on}
 use Rattle.crossbeam_epoch.proofs.world.World.call.Goals as goal
 
 pub returns : goal.returns

@@ -1,5 +1,5 @@
 use Rattle.std.specs.Prelude.{◌%◌, slice_set, bit_and}
-use Rattle.crossbeam_epoch.specs.Roots.{root_at}
+use Rattle.crossbeam_epoch.specs.World.Roots.{root_at}
 use Rattle.crossbeam_epoch.proofs.RootCalls.{before_seen, tells_written}
 use Rattle.crossbeam_epoch.proofs.world.World.fetch_and.Goals as goal
 

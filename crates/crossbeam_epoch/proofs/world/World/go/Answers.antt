@@ -1,7 +1,7 @@
 use Rattle.std.proofs.Common.{◌≡◌, ℕ, refl, ◌∙◌, ap, []}
 use Rattle.std.proofs.lemmas.List.{get_or-set_same}
-use Rattle.crossbeam_epoch.specs.Machine.{place, in_phase, published, relooked, repinned, secured, blank, queued, left}
-use Rattle.crossbeam_epoch.specs.declared.places.Phase.TheVariants as P
+use Rattle.crossbeam_epoch.specs.World.Machine.{place, in_phase, published, relooked, repinned, secured, blank, queued, released}
+use Rattle.crossbeam_epoch.specs.declared.world.participant.Phase.TheVariants as P
 use Rattle.crossbeam_epoch.proofs.Goes.{goes_to, goes_queueing}
 use Rattle.crossbeam_epoch.proofs.world.World.go.Goals as goal
 
@@ -49,4 +49,4 @@ pub returns-in-SecureQueue : goal.returns-in-SecureQueue
 returns-in-SecureQueue g c = record { step = goes_queueing c.args.self.now c.queue-in-SecureQueue.new.self (queued c.args.self.now c.args.who c.in-SecureQueue.seal P.Idle) c.args.who (P.SecureQueue c.in-SecureQueue.seal) (record (place c.args.self.now c.args.who) { bag = []; phase = P.Idle }) c.queue-in-SecureQueue.result c.silent-in-SecureQueue.result c.requires.registered (c.requires.phase ∙ c.in-SecureQueue.is) refl refl refl refl (get_or-set_same c.args.self.now.table c.args.who (record (place c.args.self.now c.args.who) { bag = []; phase = P.Idle }) blank c.requires.in_table) c.queue-in-SecureQueue.ensures.outcome c.queue-in-SecureQueue.ensures.done c.queue-in-SecureQueue.ensures.refused c.silent-in-SecureQueue.ensures }
 
 pub returns-in-ReleaseQueue : goal.returns-in-ReleaseQueue
-returns-in-ReleaseQueue g c = record { step = goes_queueing c.args.self.now c.leave.new.self (left c.args.self.now c.args.who c.in-ReleaseQueue.seal) c.args.who (P.ReleaseQueue c.in-ReleaseQueue.seal) (blank) c.leave.result c.silent-in-ReleaseQueue.result c.requires.registered (c.requires.phase ∙ c.in-ReleaseQueue.is) refl refl refl refl (get_or-set_same c.args.self.now.table c.args.who (blank) blank c.requires.in_table) c.leave.ensures.outcome c.leave.ensures.done c.leave.ensures.refused c.silent-in-ReleaseQueue.ensures }
+returns-in-ReleaseQueue g c = record { step = goes_queueing c.args.self.now c.leave.new.self (released c.args.self.now c.args.who c.in-ReleaseQueue.seal) c.args.who (P.ReleaseQueue c.in-ReleaseQueue.seal) (blank) c.leave.result c.silent-in-ReleaseQueue.result c.requires.registered (c.requires.phase ∙ c.in-ReleaseQueue.is) refl refl refl refl (get_or-set_same c.args.self.now.table c.args.who (blank) blank c.requires.in_table) c.leave.ensures.outcome c.leave.ensures.done c.leave.ensures.refused c.silent-in-ReleaseQueue.ensures }

@@ -1,6 +1,6 @@
 use Rattle.std.proofs.Common.{refl, ap, ◌∙◌, inl, inr, ◌++◌, ◌∷◌, []}
-use Rattle.crossbeam_epoch.specs.Machine.{blank}
-use Rattle.crossbeam_epoch.specs.declared.places.Phase.TheVariants as P
+use Rattle.crossbeam_epoch.specs.World.Machine.{blank}
+use Rattle.crossbeam_epoch.specs.declared.world.participant.Phase.TheVariants as P
 use Rattle.crossbeam_epoch.proofs.Held.{placed_beside, queued_at}
 use Rattle.crossbeam_epoch.proofs.Within.{one_more, within}
 use Rattle.crossbeam_epoch.proofs.world.World.leave.Goals as goal

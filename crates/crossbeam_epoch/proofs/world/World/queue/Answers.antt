@@ -1,6 +1,6 @@
 use Rattle.std.proofs.Common.{refl, sym, ap, ◌∙◌, inl, inr, ◌++◌, ◌∷◌, []}
 use Rattle.crossbeam_epoch.specs.declared.fault.Fault.TheVariants.{Memory}
-use Rattle.crossbeam_epoch.specs.declared.places.Phase.TheVariants as P
+use Rattle.crossbeam_epoch.specs.declared.world.participant.Phase.TheVariants as P
 use Rattle.crossbeam_epoch.proofs.Goes.{no_refusal}
 use Rattle.crossbeam_epoch.proofs.Held.{placed_beside, queued_at}
 use Rattle.crossbeam_epoch.proofs.Within.{one_more, within}

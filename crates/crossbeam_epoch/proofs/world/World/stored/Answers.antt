@@ -1,9 +1,9 @@
 use Rattle.std.proofs.Common.{refl, sym, subst, List}
 use Rattle.std.specs.Prelude.{Ok}
-use Rattle.crossbeam_epoch.specs.Fits.{Fits}
-use Rattle.crossbeam_epoch.specs.History.{Mark}
-use Rattle.crossbeam_epoch.specs.Machine.{with_store, with_roots}
-use Rattle.crossbeam_epoch.specs.Reach.{marks_of}
+use Rattle.crossbeam_epoch.specs.World.Fits.{Fits}
+use Rattle.crossbeam_epoch.specs.World.History.{Mark}
+use Rattle.crossbeam_epoch.specs.World.Machine.{with_store, with_roots}
+use Rattle.crossbeam_epoch.specs.World.Reach.{marks_of}
 use Rattle.crossbeam_epoch.proofs.Progress.{orderly_beside}
 use Rattle.crossbeam_epoch.proofs.Runs.{fits_store, fits_roots}
 use Rattle.crossbeam_epoch.proofs.Told.{tells_act}

@@ -1,7 +1,7 @@
 use Rattle.std.proofs.Common.{◌≡◌, ◌≤◌, ◌+◌, ◌∙◌, ap, subst, refl, sym, ℕ, arith, rules, Option, None, Some, inl, inr, suc}
 use Rattle.std.proofs.lemmas.Grind.{common_steps}
 use Rattle.crossbeam_epoch.specs.declared.fault.Fault.{Fault}
-use Rattle.crossbeam_epoch.specs.declared.report.Event.TheVariants.{Go}
+use Rattle.crossbeam_epoch.specs.declared.world.report.Event.TheVariants.{Go}
 use Rattle.joint.specs.Collector.{IsWhole, IsIdle}
 use Rattle.joint.specs.Forest.{Forest, Clock, IsCounted}
 use Rattle.joint.proofs.Growth.{spared_same, spared_on}

@@ -1,6 +1,6 @@
 use Rattle.std.proofs.Common.{◌≡◌, ◌⊎◌, ◌+◌, Option, None}
-use Rattle.crossbeam_epoch.specs.declared.report.Report.{Report}
-use Rattle.crossbeam_epoch.specs.Calls.{IsGoing}
+use Rattle.crossbeam_epoch.specs.declared.world.report.Report.{Report}
+use Rattle.crossbeam_epoch.specs.World.Calls.{IsGoing}
 use Rattle.joint.specs.Forest.{sizes, Spares, IsCounted}
 use Rattle.joint.proofs.Flights.{Flight}
 use Rattle.joint.proofs.tree.Tree+u64.call.Given as goal

@@ -1,6 +1,6 @@
 use Rattle.std.proofs.Common.{◌≡◌, ◌≤◌, ◌∙◌, ap, subst, refl, ℕ, arith, Option}
 use Rattle.std.specs.Prelude.{is_some, vec_capacity}
-use Rattle.crossbeam_epoch.specs.Store as S
+use Rattle.crossbeam_epoch.specs.World.Store as S
 use Rattle.joint.specs.Walk.{Body}
 use Rattle.joint.specs.Forest.{Forest, Clock, Edits, CanChange, HangsIn}
 use Rattle.joint.proofs.Editing.{edits, edited, is_out, put_in}

@@ -1,7 +1,7 @@
 use Rattle.std.proofs.Common.{◌≡◌, ◌≤◌, ◌<◌, ◌+◌, ◌∙◌, ap, subst, sym, ℕ, arith, length}
 use Rattle.std.specs.Prelude.{vec_capacity}
-use Rattle.crossbeam_epoch.specs.Machine.{with_store}
-use Rattle.crossbeam_epoch.specs.Store as S
+use Rattle.crossbeam_epoch.specs.World.Machine.{with_store}
+use Rattle.crossbeam_epoch.specs.World.Store as S
 use Rattle.joint.specs.Form.{size_of}
 use Rattle.joint.specs.Forest.{Forest, Clock, Sound, with_form, placed, fresh, sizes}
 use Rattle.joint.proofs.Placing.{sound_placed, sizes_placed, next}

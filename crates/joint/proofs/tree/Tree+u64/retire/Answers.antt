@@ -1,8 +1,8 @@
 use Rattle.std.proofs.Common.{◌≡◌, ◌≤◌, ◌<◌, ◌+◌, ◌∙◌, ap, subst, refl, sym, ℕ, arith, length, false, true, None}
 use Rattle.std.specs.Prelude.{is_some, vec_capacity}
-use Rattle.crossbeam_epoch.specs.Machine.{place}
-use Rattle.crossbeam_epoch.specs.Steps.{defer_fault}
-use Rattle.crossbeam_epoch.specs.Store as S
+use Rattle.crossbeam_epoch.specs.World.Machine.{place}
+use Rattle.crossbeam_epoch.specs.World.Steps.{defer_fault}
+use Rattle.crossbeam_epoch.specs.World.Store as S
 use Rattle.joint.specs.declared.form.Form.TheVariants.{Node4}
 use Rattle.joint.specs.Form.{size_of}
 use Rattle.joint.specs.Refusals.{of_guard}

@@ -1,7 +1,7 @@
 use Rattle.std.proofs.Common.{◌≡◌, ◌≤◌, ◌-◌, ◌∙◌, ap, subst, refl, sym, ℕ, arith, Option}
 use Rattle.std.specs.Prelude.{vec_capacity}
 use Rattle.crossbeam_epoch.specs.declared.names.Name.{Name}
-use Rattle.crossbeam_epoch.specs.Progress.{Moves}
+use Rattle.crossbeam_epoch.specs.World.Progress.{Moves}
 use Rattle.joint.specs.declared.form.Form.TheVariants.{Node4}
 use Rattle.joint.specs.Form.{size_of}
 use Rattle.joint.specs.Forest.{Forest, Clock, form_at, sizes, Spares, IsCounted}

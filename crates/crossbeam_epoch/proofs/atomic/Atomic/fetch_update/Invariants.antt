@@ -1,4 +1,0 @@
-use Rattle.crossbeam_epoch.proofs.atomic.Atomic.fetch_update.Given as goal
-
-abbrev pub invariant-loop : goal.invariant-loop
-invariant-loop g l = goal.F-IsAlwaysCallable g l.f

@@ -1,0 +1,7 @@
+-- The calls for real threads.
+pub mod Epoch
+pub mod Handle
+pub mod Ordering
+pub mod Pointer
+pub mod Queue
+pub mod Slots

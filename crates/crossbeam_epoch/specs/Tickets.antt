@@ -1,8 +1,0 @@
--- The tickets that were given.
-use Rattle.std.specs.Prelude.{ℕ}
-
-pub record Given : Type 0 where
-  -- the next ticket; those below it were given
-  pub next : ℕ
-  -- how many jobs are deferred and not yet called
-  pub waiting : ℕ

@@ -1,0 +1,29 @@
+//! Epoch-based reclamation for real threads, under the names of `crossbeam-epoch`.
+
+mod atomic;
+mod collector;
+mod epoch;
+mod guard;
+mod handle;
+mod internal;
+mod lent;
+mod link;
+mod ordering;
+mod owned;
+mod pointer;
+mod queue;
+mod shared;
+mod slots;
+mod unguarded;
+
+pub use atomic::{Atomic, CompareAndSetError, CompareExchangeError, Exchanged};
+pub use collector::Collector;
+pub use guard::{Guard, unprotected};
+pub use handle::LocalHandle;
+pub use lent::{Lent, LentMut};
+pub use link::{Link, Site, Tagged};
+pub use ordering::CompareAndSetOrdering;
+pub use owned::Owned;
+pub use pointer::Pointer;
+pub use shared::Shared;
+pub use unguarded::Unprotected;

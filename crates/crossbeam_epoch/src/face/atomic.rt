@@ -1,0 +1,389 @@
+//! Pointers that threads share.
+
+ghost use Rattle.std.specs.Bool.{MatchBool};
+ghost use Rattle.std.specs.Prelude.{◌≡◌, ◌≢◌, ◌⊎◌, ◌%◌, ◌<◌, true, MatchResult, IfErr, IfSome, IsErr};
+
+use crate::face::guard::{Guard, Protects};
+use crate::face::link::{Link, Tagged};
+use crate::face::ordering::CompareAndSetOrdering;
+use crate::face::owned::Owned;
+use crate::face::pointer::Pointer;
+use crate::face::shared::Shared;
+use crate::fault::Fault;
+use crate::names::Pointable;
+use crate::task::Task;
+use std::alloc::Global;
+use std::fmt;
+use std::fmt::{Debug, Formatter};
+use std::sync::atomic::Ordering;
+use std::sync::{Mutex, Wait};
+
+/// A pointer that threads share, to a value in a cell of a collector (the source's `Atomic`).
+/// Each call is one step on it, whatever the ordering.
+#[derive(Drop)]
+pub struct Atomic<T: Pointable> {
+    tagged: Mutex<Tagged<T>>,
+}
+
+/// A compare-and-exchange that found another pointer: that one, and what was to be written.
+#[derive(Drop)]
+#[derive_where(Debug; P)]
+pub struct CompareExchangeError<'g, T, P> {
+    pub current: Shared<'g, T>,
+    pub new: P,
+}
+
+/// The error of `compare_and_set`.
+pub type CompareAndSetError<'g, T, P> = CompareExchangeError<'g, T, P>;
+
+/// What a compare-and-exchange answers that wasn't refused.
+pub type Exchanged<'g, T, P> = Result<Shared<'g, T>, CompareExchangeError<'g, T, P>>;
+
+impl<T: Pointable> Atomic<T> {
+    fn of(tagged: Tagged<T>) -> Self {
+        Atomic {
+            tagged: Mutex::new(tagged),
+        }
+    }
+
+    /// Null with tag 0.
+    pub fn null() -> Self {
+        Atomic::of(Tagged::new(Link::null()))
+    }
+
+    /// A pointer to where this one leads, with its tag.
+    pub fn from_shared(pointer: Shared<'_, T>) -> Self {
+        Atomic::of(Tagged::new(pointer.link()))
+    }
+}
+
+impl<T: Pointable> Debug for Atomic<T> {
+    fn fmt<W: fmt::Write>(&self, f: &mut Formatter<W>) -> fmt::Result {
+        f.debug_struct("Atomic").finish()
+    }
+}
+
+impl<T: Pointable> Default for Atomic<T> {
+    fn default() -> Self {
+        Atomic::null()
+    }
+}
+
+impl<T: Pointable> From<Shared<'_, T>> for Atomic<T> {
+    fn from(pointer: Shared<'_, T>) -> Self {
+        Atomic::from_shared(pointer)
+    }
+}
+
+impl<T: Pointable + Drop> Atomic<T> {
+    /// A pointer to a value that is boxed and placed. Refused as `Memory` or `CellsFull`; the value comes back.
+    pub fn new<R: Wait, J: Task>(
+        rt: &R,
+        alloc: Global,
+        value: T,
+        guard: &Guard<'_, T, J>,
+    ) -> Result<Self, (Fault, T)>
+        ensures { IfErr result (λ e. ((e.0 ≡ Fault.Memory) ⊎ (e.0 ≡ Fault.CellsFull)) × (e.1 ≡ value)) }
+    {
+        let owned = Owned::new(alloc, value)?;
+        match Atomic::place(rt, guard, owned) {
+            Ok(atomic) => Ok(atomic),
+            Err((fault, owned)) => Err((fault, Box::into_inner(owned.into_box()))),
+        }
+    }
+
+    /// The same as `new`.
+    pub fn init<R: Wait, J: Task>(
+        rt: &R,
+        alloc: Global,
+        value: T,
+        guard: &Guard<'_, T, J>,
+    ) -> Result<Self, (Fault, T)>
+        ensures { IfErr result (λ e. ((e.0 ≡ Fault.Memory) ⊎ (e.0 ≡ Fault.CellsFull)) × (e.1 ≡ value)) }
+    {
+        Atomic::new(rt, alloc, value, guard)
+    }
+
+    /// A pointer to a value that is placed. Refused as `CellsFull`; the value comes back.
+    pub fn place<R: Wait, J: Task>(
+        rt: &R,
+        guard: &Guard<'_, T, J>,
+        owned: Owned<T>,
+    ) -> Result<Self, (Fault, Owned<T>)>
+        ensures { IfErr result (λ e. (e.0 ≡ Fault.CellsFull) × (e.1 ≡ owned)) }
+    {
+        let tagged = owned.enter(rt, guard)?;
+        Ok(Atomic::of(tagged))
+    }
+
+    /// The pointer.
+    pub fn load<'g, R: Wait, J: Task>(
+        &self,
+        rt: &R,
+        _order: Ordering,
+        _guard: &'g Guard<'_, T, J>,
+    ) -> Shared<'g, T>
+        ensures { result.link.tag < T.ALIGN }
+    {
+        Shared::of(self.tagged.lock(rt).load())
+    }
+
+    /// The same as `load`.
+    pub fn load_consume<'g, R: Wait, J: Task>(
+        &self,
+        rt: &R,
+        guard: &'g Guard<'_, T, J>,
+    ) -> Shared<'g, T>
+        ensures { result.link.tag < T.ALIGN }
+    {
+        self.load(rt, Ordering::Acquire, guard)
+    }
+
+    /// Writes a pointer. Refused as `CellsFull` or `Foreign`; it comes back.
+    pub fn store<R: Wait, J: Task, P: Pointer<T>>(
+        &self,
+        rt: &R,
+        new: P,
+        _order: Ordering,
+        guard: &Guard<'_, T, J>,
+    ) -> Result<(), (Fault, P)>
+        ensures refused { IfErr result (λ e. (e.0 ≡ P.refused_as) × (P.is_refusable new guard.now.collector.now.id ≡ true) × (e.1 ≡ new)) }
+        ensures foreign { P.leads_elsewhere new guard.now.collector.now.id ≡ true → IsErr result }
+    {
+        let tagged = new.enter(rt, guard)?;
+        self.tagged.lock(rt).swap(tagged);
+        Ok(())
+    }
+
+    /// Writes a pointer, and gives the one before. Refused as `CellsFull` or `Foreign`; it comes back.
+    pub fn swap<'g, R: Wait, J: Task, P: Pointer<T>>(
+        &self,
+        rt: &R,
+        new: P,
+        _order: Ordering,
+        guard: &'g Guard<'_, T, J>,
+    ) -> Result<Shared<'g, T>, (Fault, P)>
+        ensures refused { MatchResult result (λ s. s.link.tag < T.ALIGN) (λ e. (e.0 ≡ P.refused_as) × (P.is_refusable new guard.now.collector.now.id ≡ true) × (e.1 ≡ new)) }
+        ensures foreign { P.leads_elsewhere new guard.now.collector.now.id ≡ true → IsErr result }
+    {
+        let tagged = new.enter(rt, guard)?;
+        Ok(Shared::of(self.tagged.lock(rt).swap(tagged)))
+    }
+
+    /// Writes `new` where the pointer has the cell and the tag of `current`, and gives what was written; else it gives
+    /// the pointer and `new` back. Refused as `CellsFull` or `Foreign`; `new` comes back.
+    pub fn compare_exchange<'g, R: Wait, J: Task, P: Pointer<T>>(
+        &self,
+        rt: &R,
+        current: Shared<'_, T>,
+        new: P,
+        _success: Ordering,
+        _failure: Ordering,
+        guard: &'g Guard<'_, T, J>,
+    ) -> Result<Exchanged<'g, T, P>, (Fault, P)>
+        ensures answer { MatchResult result
+            (λ r. MatchResult r
+            (λ s. (s.link.tag ≡ P.tag_bits new % T.ALIGN) × P.leads_to new guard.now.collector.now.id s.link.site)
+            (λ e. (e.current.link ≢ current.entry.link) × (e.current.link.tag < T.ALIGN) × (e.new ≡ new)))
+            (λ e. (e.1 ≡ new) × MatchBool (P.leads_elsewhere new guard.now.collector.now.id)
+            (e.0 ≡ Fault.Foreign)
+            ((e.0 ≡ P.refused_as) × (P.is_refusable new guard.now.collector.now.id ≡ true))) }
+        ensures foreign { P.leads_elsewhere new guard.now.collector.now.id ≡ true → IfErr result (λ e. e.0 ≡ Fault.Foreign) × IsErr result }
+    {
+        if new.is_foreign(guard.collector.id()) {
+            return Err((Fault::Foreign, new));
+        }
+        let mut held = self.tagged.lock(rt);
+        exchange(rt, &mut held, current.link(), new, guard)
+    }
+
+    /// The same as `compare_exchange`; it is free to fail where they are equal too.
+    pub fn compare_exchange_weak<'g, R: Wait, J: Task, P: Pointer<T>>(
+        &self,
+        rt: &R,
+        current: Shared<'_, T>,
+        new: P,
+        success: Ordering,
+        failure: Ordering,
+        guard: &'g Guard<'_, T, J>,
+    ) -> Result<Exchanged<'g, T, P>, (Fault, P)>
+        ensures answer { MatchResult result
+            (λ r. MatchResult r
+            (λ s. (s.link.tag ≡ P.tag_bits new % T.ALIGN) × P.leads_to new guard.now.collector.now.id s.link.site)
+            (λ e. (e.current.link ≢ current.entry.link) × (e.current.link.tag < T.ALIGN) × (e.new ≡ new)))
+            (λ e. (e.1 ≡ new) × MatchBool (P.leads_elsewhere new guard.now.collector.now.id)
+            (e.0 ≡ Fault.Foreign)
+            ((e.0 ≡ P.refused_as) × (P.is_refusable new guard.now.collector.now.id ≡ true))) }
+        ensures foreign { P.leads_elsewhere new guard.now.collector.now.id ≡ true → IfErr result (λ e. e.0 ≡ Fault.Foreign) × IsErr result }
+    {
+        self.compare_exchange(rt, current, new, success, failure, guard)
+    }
+
+    /// The same as `compare_exchange`, with one ordering.
+    pub fn compare_and_set<'g, R: Wait, J: Task, O: CompareAndSetOrdering, P: Pointer<T>>(
+        &self,
+        rt: &R,
+        current: Shared<'_, T>,
+        new: P,
+        order: O,
+        guard: &'g Guard<'_, T, J>,
+    ) -> Result<Exchanged<'g, T, P>, (Fault, P)>
+        ensures answer { MatchResult result
+            (λ r. MatchResult r
+            (λ s. (s.link.tag ≡ P.tag_bits new % T.ALIGN) × P.leads_to new guard.now.collector.now.id s.link.site)
+            (λ e. (e.current.link ≢ current.entry.link) × (e.current.link.tag < T.ALIGN) × (e.new ≡ new)))
+            (λ e. (e.1 ≡ new) × MatchBool (P.leads_elsewhere new guard.now.collector.now.id)
+            (e.0 ≡ Fault.Foreign)
+            ((e.0 ≡ P.refused_as) × (P.is_refusable new guard.now.collector.now.id ≡ true))) }
+        ensures foreign { P.leads_elsewhere new guard.now.collector.now.id ≡ true → IfErr result (λ e. e.0 ≡ Fault.Foreign) × IsErr result }
+    {
+        self.compare_exchange(rt, current, new, order.success(), order.failure(), guard)
+    }
+
+    /// The same as `compare_exchange_weak`, with one ordering.
+    pub fn compare_and_set_weak<'g, R: Wait, J: Task, O: CompareAndSetOrdering, P: Pointer<T>>(
+        &self,
+        rt: &R,
+        current: Shared<'_, T>,
+        new: P,
+        order: O,
+        guard: &'g Guard<'_, T, J>,
+    ) -> Result<Exchanged<'g, T, P>, (Fault, P)>
+        ensures answer { MatchResult result
+            (λ r. MatchResult r
+            (λ s. (s.link.tag ≡ P.tag_bits new % T.ALIGN) × P.leads_to new guard.now.collector.now.id s.link.site)
+            (λ e. (e.current.link ≢ current.entry.link) × (e.current.link.tag < T.ALIGN) × (e.new ≡ new)))
+            (λ e. (e.1 ≡ new) × MatchBool (P.leads_elsewhere new guard.now.collector.now.id)
+            (e.0 ≡ Fault.Foreign)
+            ((e.0 ≡ P.refused_as) × (P.is_refusable new guard.now.collector.now.id ≡ true))) }
+        ensures foreign { P.leads_elsewhere new guard.now.collector.now.id ≡ true → IfErr result (λ e. e.0 ≡ Fault.Foreign) × IsErr result }
+    {
+        self.compare_exchange_weak(rt, current, new, order.success(), order.failure(), guard)
+    }
+
+    /// Writes what `f` gives for the pointer, again where another thread wrote in between. Gives the pointer before,
+    /// or the one for which `f` gave `None`. `f` runs while no lock is held.
+    pub fn fetch_update<'g, R: Wait, G: Protects, F: FnMut(Shared<'g, T>) -> Option<Shared<'g, T>>>(
+        &self,
+        rt: &R,
+        _success: Ordering,
+        _failure: Ordering,
+        _guard: &'g G,
+        mut f: F,
+    ) -> Result<Shared<'g, T>, Shared<'g, T>>
+    where
+        F: Drop,
+        requires { F.IsAlwaysCallable f }
+        ensures { MatchResult result (λ s. s.link.tag < T.ALIGN) (λ s. s.link.tag < T.ALIGN) }
+    {
+        for _ in rt.forever() {
+            let before = self.tagged.lock(rt).load();
+            let Some(next) = ask(&mut f, before) else {
+                return Err(Shared::of(before));
+            };
+            if self.tagged.lock(rt).update(before, next) {
+                return Ok(Shared::of(before));
+            }
+        }
+        unreachable!()
+    }
+
+    /// Keeps the bits of the tag that stand in the number modulo `T::ALIGN` too, and gives the pointer before.
+    pub fn fetch_and<'g, R: Wait, J: Task>(
+        &self,
+        rt: &R,
+        tag: usize,
+        _order: Ordering,
+        _guard: &'g Guard<'_, T, J>,
+    ) -> Shared<'g, T>
+        ensures { result.link.tag < T.ALIGN }
+    {
+        Shared::of(self.tagged.lock(rt).fetch_and(tag))
+    }
+
+    /// Adds the bits of the number modulo `T::ALIGN` to the tag, and gives the pointer before.
+    pub fn fetch_or<'g, R: Wait, J: Task>(
+        &self,
+        rt: &R,
+        tag: usize,
+        _order: Ordering,
+        _guard: &'g Guard<'_, T, J>,
+    ) -> Shared<'g, T>
+        ensures { result.link.tag < T.ALIGN }
+    {
+        Shared::of(self.tagged.lock(rt).fetch_or(tag))
+    }
+
+    /// Flips the bits of the number modulo `T::ALIGN` in the tag, and gives the pointer before.
+    pub fn fetch_xor<'g, R: Wait, J: Task>(
+        &self,
+        rt: &R,
+        tag: usize,
+        _order: Ordering,
+        _guard: &'g Guard<'_, T, J>,
+    ) -> Shared<'g, T>
+        ensures { result.link.tag < T.ALIGN }
+    {
+        Shared::of(self.tagged.lock(rt).fetch_xor(tag))
+    }
+
+    /// Takes the value out of its cell, which is destroyed. `None` as for `Shared::into_owned`.
+    pub fn into_owned<R: Wait, J: Task>(self, rt: &R, guard: &Guard<'_, T, J>) -> Option<Owned<T>>
+        ensures { IfSome result (λ o. o.tag < T.ALIGN) }
+    {
+        let Atomic { tagged } = self;
+        Shared::of(tagged.into_inner().load()).into_owned(rt, guard)
+    }
+
+    /// The same as `into_owned`.
+    pub fn try_into_owned<R: Wait, J: Task>(
+        self,
+        rt: &R,
+        guard: &Guard<'_, T, J>,
+    ) -> Option<Owned<T>>
+        ensures { IfSome result (λ o. o.tag < T.ALIGN) }
+    {
+        self.into_owned(rt, guard)
+    }
+}
+
+/// What `f` gives for a pointer.
+fn ask<'g, T, F: FnMut(Shared<'g, T>) -> Option<Shared<'g, T>>>(
+    f: &mut F,
+    before: Link,
+) -> Option<Link>
+    requires { F.IsAlwaysCallable f.old }
+    ensures { F.IsAlwaysCallable f.new }
+{
+    match f(Shared::of(before)) {
+        Some(next) => Some(next.link()),
+        None => None,
+    }
+}
+
+/// The step of a compare-and-exchange on the pointer that is held.
+fn exchange<'g, R: Wait, J: Task, T: Pointable + Drop, P: Pointer<T>>(
+    rt: &R,
+    held: &mut Tagged<T>,
+    current: Link,
+    new: P,
+    guard: &'g Guard<'_, T, J>,
+) -> Result<Exchanged<'g, T, P>, (Fault, P)>
+    ensures { MatchResult result
+        (λ r. MatchResult r
+        (λ s. (held.old.link ≡ current) × (s.link ≡ held.new.link) × (s.link.tag ≡ P.tag_bits new % T.ALIGN) × P.leads_to new guard.now.collector.now.id s.link.site)
+        (λ e. (held.old.link ≢ current) × (e.current.link ≡ held.old.link) × (e.new ≡ new) × (held.new ≡ held.old)))
+        (λ e. (held.old.link ≡ current) × (e.0 ≡ P.refused_as) × (P.is_refusable new guard.now.collector.now.id ≡ true) × (e.1 ≡ new) × (held.new ≡ held.old)) }
+{
+    let now = held.load();
+    if now != current {
+        return Ok(Err(CompareExchangeError {
+            current: Shared::of(now),
+            new,
+        }));
+    }
+    let tagged = new.enter(rt, guard)?;
+    let link = tagged.load();
+    held.swap(tagged);
+    Ok(Ok(Shared::of(link)))
+}

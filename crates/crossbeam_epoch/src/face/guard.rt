@@ -1,0 +1,56 @@
+//! Guards.
+
+ghost use Rattle.std.specs.Prelude.{◌≡◌, IsSomeAnd};
+
+use crate::face::collector::Collector;
+use crate::face::unguarded::Unprotected;
+use crate::task::{Job, Task};
+use std::fmt;
+use std::fmt::{Debug, Formatter};
+
+/// A place of a collector's table.
+#[derive(Clone, Copy, PartialEq, Eq, Drop)]
+pub struct Seat {
+    /// The collector's identity number.
+    pub collector: u64,
+    pub place: u32,
+}
+
+/// Keeps a participant pinned (the source's `Guard`). It is spent by `LocalHandle::unpin`, and can't be dropped.
+pub struct Guard<'c, T, J: Task = Job> {
+    pub(crate) collector: &'c Collector<T, J>,
+    pub(crate) seat: Seat,
+    pub(crate) epoch: u64,
+}
+
+/// What a pointer's lifetime may rest on: a guard.
+pub trait Protects {}
+
+impl<T, J: Task> Protects for Guard<'_, T, J> {}
+
+impl<'c, T: Drop, J: Task> Guard<'c, T, J> {
+    /// An epoch that was read after the pin was published.
+    pub fn pinned_at(&self) -> u64
+        ensures { result ≡ self.now.epoch }
+    {
+        self.epoch
+    }
+
+    /// The collector of its handle.
+    pub fn collector(&self) -> Option<&'c Collector<T, J>>
+        ensures { IsSomeAnd result (λ c. c.now ≡ self.now.collector.now) }
+    {
+        Some(self.collector)
+    }
+}
+
+/// What puts nothing off, for a collector that nobody else uses.
+pub fn unprotected() -> Unprotected {
+    Unprotected
+}
+
+impl<T, J: Task> Debug for Guard<'_, T, J> {
+    fn fmt<W: fmt::Write>(&self, f: &mut Formatter<W>) -> fmt::Result {
+        f.debug_struct("Guard").finish()
+    }
+}

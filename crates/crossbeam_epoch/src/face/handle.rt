@@ -1,0 +1,324 @@
+//! Handles of participants.
+
+ghost use Rattle.std.specs.Prelude.{◌≡◌, ◌<◌, ◌≤◌, ◌+◌, ◌-◌, ◌++◌, ◌∷◌, [], true, false, nat_lt, nat_eq};
+ghost use Rattle.std.specs.Prelude.{length, if◌then◌else◌, MatchResult, IfOk, IfErr, OnOk};
+ghost use Rattle.std.specs.Bool.{MatchBool};
+ghost use Rattle.crossbeam_epoch.specs.Face.Handle.{owns};
+ghost use Rattle.crossbeam_epoch.specs.Face.Pointer.{name_in};
+
+use crate::bag::{Bag, Entry, Work};
+use crate::face::collector::Collector;
+use crate::face::guard::{Guard, Seat};
+use crate::face::shared::Shared;
+use crate::fault::Fault;
+use crate::names::{Name, Pointable};
+use crate::task::{Job, Task};
+use std::fmt::{Debug, Formatter};
+use std::sync::Wait;
+use std::{fmt, mem};
+
+/// A participant of a collector (the source's `LocalHandle`). It keeps the jobs that it defers until its bag is full.
+/// A handle that is dropped stays registered, and its unsealed jobs are never called: `release` it.
+#[derive(Drop)]
+pub struct LocalHandle<'c, T, J: Task = Job> {
+    collector: &'c Collector<T, J>,
+    seat: Seat,
+    /// Guards that are out.
+    guards: u16,
+    /// The epoch of the guards that are out.
+    epoch: u64,
+    bag: Bag<J>,
+}
+
+impl<'c, T: Drop, J: Task> LocalHandle<'c, T, J> {
+    /// The handle of a place that was just taken.
+    pub(crate) fn new(collector: &'c Collector<T, J>, place: u32) -> Self
+        ensures collector { result.collector ≡ collector.entry }
+        ensures guards { result.guards ≡ 0 }
+        ensures bag { result.bag ≡ [] }
+    {
+        LocalHandle {
+            collector,
+            seat: Seat {
+                collector: collector.id(),
+                place,
+            },
+            guards: 0,
+            epoch: 0,
+            bag: Bag::new(),
+        }
+    }
+
+    /// Its collector.
+    pub fn collector(&self) -> &'c Collector<T, J>
+        ensures { result.now ≡ self.now.collector.now }
+    {
+        self.collector
+    }
+
+    /// Whether a guard of it is out.
+    pub fn is_pinned<R: Wait>(&self, _rt: &R) -> bool
+        ensures { result ≡ nat_lt 0 self.now.guards }
+    {
+        self.guards != 0
+    }
+
+    /// Pins the participant; guards of one handle nest, and go in any order. Refused as `Count` with 65,535 guards out.
+    pub fn pin<R: Wait>(&mut self, rt: &R) -> Result<Guard<'c, T, J>, Fault>
+        ensures guard { IfOk result (λ g. (owns self.new.guards self.new.seat g.seat ≡ true) × (g.epoch ≡ self.new.epoch)) }
+        ensures counted { MatchResult result
+            (λ _. self.new ≡ record self.old { guards = self.old.guards + 1; epoch = self.new.epoch })
+            (λ e. (e ≡ Fault.Count) × (self.old.guards ≡ 65535) × (self.new ≡ self.old)) }
+        ensures nested { 0 < self.old.guards → self.new.epoch ≡ self.old.epoch }
+    {
+        if self.guards == u16::MAX {
+            return Err(Fault::Count);
+        }
+        if self.guards == 0 {
+            self.epoch = self.collector.pin(rt, self.seat.place);
+        }
+        self.guards += 1;
+        Ok(Guard {
+            collector: self.collector,
+            seat: self.seat,
+            epoch: self.epoch,
+        })
+    }
+
+    /// Spends a guard; the last one takes the pin away. Refused as `Foreign` for another handle's guard, which comes back.
+    pub fn unpin<'d, R: Wait>(
+        &mut self,
+        rt: &R,
+        guard: Guard<'d, T, J>,
+    ) -> Result<(), (Fault, Guard<'d, T, J>)>
+        ensures { MatchResult result
+            (λ _. (owns self.old.guards self.old.seat guard.entry.seat ≡ true) × (self.new ≡ record self.old { guards = self.old.guards - 1 }))
+            (λ e. (owns self.old.guards self.old.seat guard.entry.seat ≡ false) × (e.0 ≡ Fault.Foreign) × (e.1 ≡ guard.entry) × (self.new ≡ self.old)) }
+    {
+        if !self.owns(&guard) {
+            return Err((Fault::Foreign, guard));
+        }
+        let Guard {
+            collector: _,
+            seat: _,
+            epoch: _,
+        } = guard;
+        self.guards -= 1;
+        if self.guards == 0 {
+            self.collector.unpin(rt, self.seat.place);
+        }
+        Ok(())
+    }
+
+    /// Whether the guard is one of this handle's.
+    fn owns(&self, guard: &Guard<'_, T, J>) -> bool
+        ensures { result ≡ owns self.now.guards self.now.seat guard.now.seat }
+    {
+        self.guards > 0 && guard.seat == self.seat
+    }
+
+    /// Leaves the collector; what was deferred and not sealed yet is sealed. Refused as `GuardOut` while a guard is
+    /// out, or as `Memory`; the handle comes back.
+    pub fn release<R: Wait>(mut self, rt: &R) -> Result<(), (Fault, Self)>
+        ensures { MatchResult result
+            (λ _. self.entry.guards ≡ 0)
+            (λ e. (e.1 ≡ self.entry)
+            × MatchBool (nat_lt 0 self.entry.guards) (e.0 ≡ Fault.GuardOut) ((e.0 ≡ Fault.Memory) × (0 < length self.entry.bag))) }
+    {
+        if self.guards > 0 {
+            return Err((Fault::GuardOut, self));
+        }
+        if let Err(fault) = self.seal(rt) {
+            return Err((fault, self));
+        }
+        self.collector.release(rt, self.seat.place);
+        Ok(())
+    }
+
+    /// Tries to advance the epoch once, and calls the jobs of at most eight expired bags.
+    pub fn collect<R: Wait>(&mut self, rt: &R)
+        ensures { self.new ≡ self.old }
+    {
+        self.collector.collect(rt);
+    }
+
+    /// Seals the bag, unless it is empty.
+    fn seal<R: Wait>(&mut self, rt: &R) -> Result<(), Fault>
+        ensures ok { OnOk result ((self.new.bag ≡ []) × (self.new ≡ record self.old { bag = self.new.bag })) }
+        ensures err { IfErr result (λ e. (e ≡ Fault.Memory) × (self.new ≡ self.old) × (0 < length self.old.bag)) }
+    {
+        if self.bag.is_empty() {
+            return Ok(());
+        }
+        let jobs = mem::replace(&mut self.bag, Bag::new());
+        match self.collector.seal(rt, jobs) {
+            Ok(()) => Ok(()),
+            Err(jobs) => {
+                self.bag = jobs;
+                Err(Fault::Memory)
+            }
+        }
+    }
+
+    /// Makes a place in the bag: a full one is sealed.
+    fn make_room<R: Wait>(&mut self, rt: &R) -> Result<(), Fault>
+        ensures ok { OnOk result (self.new ≡ record self.old { bag = self.new.bag }) }
+        ensures bag { OnOk result (self.new.bag ≡ (if nat_lt (length self.old.bag) 64 then self.old.bag else [])) }
+        ensures err { IfErr result (λ e. (e ≡ Fault.Memory) × (self.new ≡ self.old) × (64 ≤ length self.old.bag)) }
+    {
+        if !self.bag.is_full() {
+            return Ok(());
+        }
+        self.seal(rt)
+    }
+
+    /// Puts a job off until no guard that is out now is left. Refused as `Foreign`, or as `Memory` where a full bag
+    /// can't be queued; the job comes back.
+    pub fn defer<R: Wait>(
+        &mut self,
+        rt: &R,
+        guard: &Guard<'_, T, J>,
+        job: J,
+    ) -> Result<(), (Fault, J)>
+        ensures ok { OnOk result ((owns self.old.guards self.old.seat guard.now.seat ≡ true) × (self.new ≡ record self.old { bag = self.new.bag })) }
+        ensures bag { OnOk result (self.new.bag ≡ (if nat_lt (length self.old.bag) 64 then self.old.bag else []) ++ record { ticket = 0; work = Work.Run job } ∷ []) }
+        ensures err { IfErr result (λ e. (e.1 ≡ job) × (self.new ≡ self.old)
+            × MatchBool (owns self.old.guards self.old.seat guard.now.seat) ((e.0 ≡ Fault.Memory) × (64 ≤ length self.old.bag)) (e.0 ≡ Fault.Foreign)) }
+    {
+        if !self.owns(guard) {
+            return Err((Fault::Foreign, job));
+        }
+        if let Err(fault) = self.make_room(rt) {
+            return Err((fault, job));
+        }
+        self.bag.push(deferral(Work::Run(job)));
+        Ok(())
+    }
+
+    /// The same as `defer`.
+    pub fn defer_unchecked<R: Wait>(
+        &mut self,
+        rt: &R,
+        guard: &Guard<'_, T, J>,
+        job: J,
+    ) -> Result<(), (Fault, J)>
+        ensures ok { OnOk result ((owns self.old.guards self.old.seat guard.now.seat ≡ true) × (self.new ≡ record self.old { bag = self.new.bag })) }
+        ensures bag { OnOk result (self.new.bag ≡ (if nat_lt (length self.old.bag) 64 then self.old.bag else []) ++ record { ticket = 0; work = Work.Run job } ∷ []) }
+        ensures err { IfErr result (λ e. (e.1 ≡ job) × (self.new ≡ self.old)
+            × MatchBool (owns self.old.guards self.old.seat guard.now.seat) ((e.0 ≡ Fault.Memory) × (64 ≤ length self.old.bag)) (e.0 ≡ Fault.Foreign)) }
+    {
+        self.defer(rt, guard, job)
+    }
+
+    /// Seals the bag, unless it is empty, and collects. Refused as `Foreign`, or as `Memory`: then nothing was done.
+    pub fn flush<R: Wait>(&mut self, rt: &R, guard: &Guard<'_, T, J>) -> Result<(), Fault>
+        ensures ok { OnOk result ((owns self.old.guards self.old.seat guard.now.seat ≡ true)
+            × (self.new.bag ≡ []) × (self.new ≡ record self.old { bag = self.new.bag })) }
+        ensures err { IfErr result (λ e. (self.new ≡ self.old)
+            × MatchBool (owns self.old.guards self.old.seat guard.now.seat) ((e ≡ Fault.Memory) × (0 < length self.old.bag)) (e ≡ Fault.Foreign)) }
+    {
+        if !self.owns(guard) {
+            return Err(Fault::Foreign);
+        }
+        self.seal(rt)?;
+        self.collect(rt);
+        Ok(())
+    }
+
+    /// Pins the participant anew, where this is its only guard. Refused as `Foreign`.
+    pub fn repin<R: Wait>(&mut self, rt: &R, guard: &mut Guard<'_, T, J>) -> Result<(), Fault>
+        ensures ok { OnOk result ((owns self.old.guards self.old.seat guard.old.seat ≡ true)
+            × (self.new ≡ record self.old { epoch = self.new.epoch }) × (guard.new ≡ record guard.old { epoch = guard.new.epoch })) }
+        ensures epoch { OnOk result (MatchBool (nat_eq self.old.guards 1)
+            (guard.new.epoch ≡ self.new.epoch)
+            ((self.new.epoch ≡ self.old.epoch) × (guard.new.epoch ≡ guard.old.epoch))) }
+        ensures err { IfErr result (λ e. (e ≡ Fault.Foreign) × (owns self.old.guards self.old.seat guard.old.seat ≡ false)
+            × (self.new ≡ self.old) × (guard.new ≡ guard.old)) }
+    {
+        if !self.owns(guard) {
+            return Err(Fault::Foreign);
+        }
+        if self.guards == 1 {
+            self.epoch = self.collector.repin(rt, self.seat.place);
+            guard.epoch = self.epoch;
+        }
+        Ok(())
+    }
+
+    /// Calls `f` while this guard doesn't pin the participant, and pins it anew. Refused as `Foreign`.
+    pub fn repin_after<R: Wait, O, F: FnOnce() -> O>(
+        &mut self,
+        rt: &R,
+        guard: &mut Guard<'_, T, J>,
+        f: F,
+    ) -> Result<O, Fault>
+    where
+        F: Drop,
+        requires { F.pre f }
+        ensures ok { IfOk result (λ o. (owns self.old.guards self.old.seat guard.old.seat ≡ true) × F.post f o) }
+        ensures state { OnOk result ((self.new ≡ record self.old { epoch = self.new.epoch }) × (guard.new ≡ record guard.old { epoch = guard.new.epoch })) }
+        ensures epoch { OnOk result (MatchBool (nat_eq self.old.guards 1)
+            (guard.new.epoch ≡ self.new.epoch)
+            ((self.new.epoch ≡ self.old.epoch) × (guard.new.epoch ≡ guard.old.epoch))) }
+        ensures err { IfErr result (λ e. (e ≡ Fault.Foreign) × (owns self.old.guards self.old.seat guard.old.seat ≡ false)
+            × (self.new ≡ self.old) × (guard.new ≡ guard.old)) }
+    {
+        if !self.owns(guard) {
+            return Err(Fault::Foreign);
+        }
+        if self.guards > 1 {
+            return Ok(f());
+        }
+        self.collector.unpin(rt, self.seat.place);
+        let answer = f();
+        self.epoch = self.collector.pin(rt, self.seat.place);
+        guard.epoch = self.epoch;
+        Ok(answer)
+    }
+}
+
+impl<T: Pointable + Drop, J: Task> LocalHandle<'_, T, J> {
+    /// Puts off the destruction of the value that the pointer leads to. Refused as `Foreign`, as `Unknown` for null,
+    /// or as `Memory`; the pointer comes back.
+    pub fn defer_destroy<'s, R: Wait>(
+        &mut self,
+        rt: &R,
+        guard: &Guard<'_, T, J>,
+        pointer: Shared<'s, T>,
+    ) -> Result<(), (Fault, Shared<'s, T>)>
+        ensures ok { OnOk result ((owns self.old.guards self.old.seat guard.now.seat ≡ true) × (self.new ≡ record self.old { bag = self.new.bag })) }
+        ensures bag { OnOk result (MatchResult (name_in pointer.entry.link.site self.old.collector.now.id)
+            (λ n. self.new.bag ≡ (if nat_lt (length self.old.bag) 64 then self.old.bag else []) ++ record { ticket = 0; work = Work.Remove n } ∷ [])
+            (λ e. ⊥)) }
+        ensures err { IfErr result (λ e. (e.1 ≡ pointer.entry) × (self.new ≡ self.old)
+            × MatchBool (owns self.old.guards self.old.seat guard.now.seat)
+            (MatchResult (name_in pointer.entry.link.site self.old.collector.now.id) (λ _. (e.0 ≡ Fault.Memory) × (64 ≤ length self.old.bag)) (λ f. e.0 ≡ f))
+            (e.0 ≡ Fault.Foreign)) }
+    {
+        if !self.owns(guard) {
+            return Err((Fault::Foreign, pointer));
+        }
+        let name = match pointer.name_in(self.collector) {
+            Ok(name) => name,
+            Err(fault) => return Err((fault, pointer)),
+        };
+        if let Err(fault) = self.make_room(rt) {
+            return Err((fault, pointer));
+        }
+        self.bag.push(deferral(Work::Remove(name)));
+        Ok(())
+    }
+}
+
+/// A deferral, which has no ticket of its own.
+fn deferral<J>(work: Work<J>) -> Entry<J>
+    ensures { result ≡ record { ticket = 0; work = work } }
+{
+    Entry { ticket: 0, work }
+}
+
+impl<T, J: Task> Debug for LocalHandle<'_, T, J> {
+    fn fmt<W: fmt::Write>(&self, f: &mut Formatter<W>) -> fmt::Result {
+        f.debug_struct("LocalHandle").finish()
+    }
+}

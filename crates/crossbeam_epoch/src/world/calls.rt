@@ -1,0 +1,203 @@
+//! Steps, runs of steps, and whole calls.
+
+ghost use Rattle.std.specs.Prelude.{◌≡◌, true, ◌<◌, ◌≤◌, List, ◌∷◌, length, take as first_of, vec_len, None, Some, ◌+◌};
+ghost use Rattle.crossbeam_epoch.specs.World.Machine.{place};
+ghost use Rattle.crossbeam_epoch.specs.World.Steps.{after, busy_fault, marks, IsReport, state_after, AreReports, history_after};
+ghost use Rattle.crossbeam_epoch.specs.declared.world.report.Report.{Report};
+ghost use Rattle.crossbeam_epoch.specs.World.Calls.{IsCall, Extends};
+ghost use Rattle.crossbeam_epoch.specs.World.Fits.{Fits};
+ghost use Rattle.crossbeam_epoch.specs.World.History.{Mark};
+ghost use Rattle.crossbeam_epoch.specs.World.Log.{Noted, Stepped, log_after, Shows};
+ghost use Rattle.crossbeam_epoch.specs.World.Reach.{Moment, moment, step_act, moments_after, Tells};
+
+use crate::fault::Fault;
+use crate::names::{Links, Pointable};
+use crate::task::Task;
+use crate::world::World;
+use crate::world::participant::Phase;
+use crate::world::report::{Event, Op, Outcome, Ran, Report, Step};
+use std::alloc::Global;
+
+/// The most steps of a whole call; a collection alone takes fewer than 800.
+const MOST: usize = 1000;
+
+impl<T: Links + Pointable + Drop, J: Task> World<T, J> {
+    /// One atomic step.
+    pub fn step(&mut self, who: usize, event: Event) -> Report
+        ensures report { IsReport self.old who event result }
+        ensures state { self.new ≡ after self.old who event result.outcome }
+        ensures told { (h : List Moment) → Tells T.names h self.old → Tells T.names (moment T.names (step_act self.old who event result) self.new ∷ h) self.new }
+        ensures shown { (log : List Noted) (h : List Mark) → Shows log h self.old → Shows (Stepped (record { who = who; event = event }) result ∷ log) (marks self.old who event result h) self.new }
+    {
+        self.act(who, event)
+    }
+
+    /// These steps, one after another, until there is no memory for a report.
+    pub fn run(&mut self, alloc: Global, steps: &[Step]) -> Ran
+        ensures done { result.done ≤ length steps.now }
+        ensures reports { vec_len result.reports ≡ result.done }
+        ensures legal { AreReports self.old (first_of result.done steps.now) result.reports.items }
+        ensures state { self.new ≡ state_after self.old (first_of result.done steps.now) result.reports.items }
+        ensures kept { (h : List Mark) → Fits h self.old → Fits (history_after self.old (first_of result.done steps.now) result.reports.items h) self.new }
+        ensures told { (h : List Moment) → Tells T.names h self.old → Tells T.names (moments_after T.names self.old (first_of result.done steps.now) result.reports.items h) self.new }
+        ensures shown { (log : List Noted) (h : List Mark) → Shows log h self.old → Shows (log_after (first_of result.done steps.now) result.reports.items log) (history_after self.old (first_of result.done steps.now) result.reports.items h) self.new }
+    {
+        self.act_all(alloc, steps)
+    }
+
+    /// A whole call, at most so many steps of it; answers its last report, none where `most` is 0.
+    pub fn call(&mut self, who: usize, op: Op, most: usize) -> Option<Report>
+        ensures call { (reports : List Report) × IsCall self.old who op most reports result self.new × Extends T.names self.old who op reports self.new }
+    {
+        self.act_out(who, op, most)
+    }
+
+    /// A whole flush: the bag is sealed and queued, and a collection follows. Running only if it isn't over after 1,000 steps.
+    pub fn flush(&mut self, who: usize) -> Outcome
+        ensures call { (reports : List Report) × (newest : Report) × IsCall self.old who Op.Flush 1000 reports (Some newest) self.new × (result ≡ newest.outcome) × Extends T.names self.old who Op.Flush reports self.new }
+    {
+        self.whole(who, Op::Flush)
+    }
+
+    /// A whole repin: a lone guard is pinned anew at the present epoch.
+    pub fn repin(&mut self, who: usize) -> Outcome
+        ensures call { (reports : List Report) × (newest : Report) × IsCall self.old who Op.Repin 1000 reports (Some newest) self.new × (result ≡ newest.outcome) × Extends T.names self.old who Op.Repin reports self.new }
+    {
+        self.whole(who, Op::Repin)
+    }
+
+    /// A whole leave: the bag is sealed and queued, and the place is free.
+    pub fn release(&mut self, who: usize) -> Outcome
+        ensures call { (reports : List Report) × (newest : Report) × IsCall self.old who Op.Release 1000 reports (Some newest) self.new × (result ≡ newest.outcome) × Extends T.names self.old who Op.Release reports self.new }
+    {
+        self.whole(who, Op::Release)
+    }
+
+    fn whole(&mut self, who: usize, op: Op) -> Outcome
+        ensures call { (reports : List Report) × (newest : Report) × IsCall self.old who op 1000 reports (Some newest) self.new × (result ≡ newest.outcome) × Extends T.names self.old who op reports self.new }
+    {
+        match self.call(who, op, MOST) {
+            Some(report) => report.outcome,
+            None => Outcome::Running,
+        }
+    }
+
+    fn act_out(&mut self, who: usize, op: Op, most: usize) -> Option<Report>
+        ensures call { (reports : List Report) × IsCall self.old who op most reports result self.new }
+    {
+        let mut newest = None;
+        let mut event = Event::Begin(op);
+        for _ in 0..most {
+            let report = self.act(who, event);
+            match report.outcome {
+                Outcome::Running => {}
+                _ => return Some(report),
+            }
+            newest = Some(report);
+            event = Event::Go;
+        }
+        newest
+    }
+
+    fn act_all(&mut self, alloc: Global, steps: &[Step]) -> Ran
+        ensures done { result.done ≤ length steps.now }
+        ensures reports { vec_len result.reports ≡ result.done }
+        ensures legal { AreReports self.old (first_of result.done steps.now) result.reports.items }
+        ensures state { self.new ≡ state_after self.old (first_of result.done steps.now) result.reports.items }
+    {
+        let mut reports = Vec::new(alloc);
+        for step in steps {
+            if reports.reserve(1).is_err() {
+                break;
+            }
+            let report = self.act(step.who, step.event);
+            reports.push_reserved(report);
+        }
+        Ran {
+            done: reports.len(),
+            reports,
+        }
+    }
+
+    /// One atomic step.
+    pub(crate) fn act(&mut self, who: usize, event: Event) -> Report
+        ensures report { IsReport self.old who event result }
+        ensures state { self.new ≡ after self.old who event result.outcome }
+    {
+        if !self.is_registered(who) {
+            return refused(Fault::Unknown);
+        }
+        let phase = self.phase_of(who);
+        match event {
+            Event::Begin(op) => match phase {
+                Phase::Idle => silent(self.begin(who, op)),
+                _ => refused(busy_fault(op)),
+            },
+            Event::Go => self.go(who, phase),
+        }
+    }
+
+    /// Where a participant's call stands.
+    fn phase_of(&self, who: usize) -> Phase
+        requires in_table { who < length self.now.table }
+        ensures { result ≡ (place self.now who).phase }
+    {
+        self.participants[who].phase
+    }
+
+    /// One step of the call in flight.
+    fn go(&mut self, who: usize, phase: Phase) -> Report
+        requires in_table { who < length self.old.table }
+        requires registered { (place self.old who).registered ≡ true }
+        requires phase { (place self.old who).phase ≡ phase }
+        ensures step { IsReport self.old who Event.Go result × (self.new ≡ after self.old who Event.Go result.outcome) }
+    {
+        let epoch = self.epoch;
+        match phase {
+            Phase::Idle => refused(Fault::Idle),
+            Phase::Look => silent(self.look(who, Phase::Publish(epoch))),
+            Phase::Publish(seen) => silent(self.publish(who, seen)),
+            Phase::RepinLook => silent(self.look_again(who)),
+            Phase::RepinPublish(seen) => silent(self.publish_again(who, seen)),
+            Phase::Seal => silent(self.look(who, Phase::Queue(epoch))),
+            Phase::Queue(seal) => silent(self.queue(who, seal, Phase::Load)),
+            Phase::ReleaseSeal => silent(self.look(who, Phase::ReleaseQueue(epoch))),
+            Phase::ReleaseQueue(seal) => silent(self.leave(who, seal)),
+            Phase::Secure(n) => silent(self.secure(who, n)),
+            Phase::SecureSeal => silent(self.look(who, Phase::SecureQueue(epoch))),
+            Phase::SecureQueue(seal) => silent(self.queue(who, seal, Phase::Idle)),
+            Phase::Load => silent(self.look(who, Phase::Inspect(epoch, 0))),
+            Phase::Inspect(seen, place) => silent(self.inspect(who, seen, place)),
+            Phase::Advance(seen) => silent(self.advance(who, seen)),
+            Phase::Take(answered, bags) => silent(self.take(who, answered, bags)),
+            Phase::Call(answered, bags, seal) => self.call_next(who, answered, bags, seal),
+        }
+    }
+}
+
+/// The refusal of a call that begins in mid-call.
+fn busy_fault(op: Op) -> Fault
+    ensures { result ≡ busy_fault op }
+{
+    match op {
+        Op::Pin | Op::Secure(_) => Fault::Busy,
+        Op::Unpin | Op::Repin | Op::Flush | Op::Release => Fault::InCall,
+    }
+}
+
+/// The report of a step that calls no job.
+fn silent(outcome: Outcome) -> Report
+    ensures { result ≡ record { called = None; outcome = outcome } }
+{
+    Report {
+        called: None,
+        outcome,
+    }
+}
+
+/// The report of a step that is refused.
+fn refused(fault: Fault) -> Report
+    ensures { result ≡ record { called = None; outcome = Outcome.Refused fault } }
+{
+    silent(Outcome::Refused(fault))
+}

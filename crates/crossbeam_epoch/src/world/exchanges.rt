@@ -1,0 +1,169 @@
+//! Exchanges and tag calls on the roots of a collector.
+
+ghost use Rattle.std.specs.Prelude.{◌≡◌, ◌≢◌, ◌%◌, ◌<◌, List, ◌∷◌, ℕ, length, Some, IfOk, OnOk, IfErr, MatchResult};
+ghost use Rattle.std.specs.Prelude.{slice_get, is_ok, nat_lt, ◌&&◌, bit_and, bit_or, bit_xor};
+ghost use Rattle.crossbeam_epoch.specs.World.Machine.{stands};
+ghost use Rattle.crossbeam_epoch.specs.World.Roots.{root_at, with_root, with_tag_at};
+ghost use Rattle.crossbeam_epoch.specs.declared.names.Name.{Name};
+ghost use Rattle.crossbeam_epoch.specs.World.Reach.{Moment, Quiet, moment, Tells, Visible};
+
+use crate::fault::Fault;
+use crate::names::{Links, Pointable, Ptr};
+use crate::tag::tag_of;
+use crate::task::Task;
+use crate::world::World;
+
+/// A compare-and-exchange of a root that held another pointer: that one, and what was to be written.
+#[derive(Clone, Copy, Debug, PartialEq, Eq, Drop)]
+pub struct OtherPointer {
+    pub current: Ptr,
+    pub new: Ptr,
+}
+
+impl<T: Links + Pointable + Drop, J: Task> World<T, J> {
+    /// Writes a pointer into a root, and gives the one before; Unknown where there is no such root, or the new
+    /// pointer's name is destroyed.
+    pub fn swap(&mut self, root: usize, new: Ptr) -> Result<Ptr, Fault>
+        ensures before { IfOk result (λ before. slice_get self.old.roots root ≡ Some before) }
+        ensures state { OnOk result (self.new ≡ with_root self.old root new) }
+        ensures err { IfErr result (λ e. (e ≡ Fault.Unknown) × (self.new ≡ self.old)) }
+        ensures fault { is_ok result ≡ (nat_lt root (length self.old.roots) && stands self.old.store new) }
+        ensures told { (h : List Moment) → Tells T.names h self.old → Tells T.names (moment T.names Quiet self.new ∷ h) self.new }
+        ensures seen { IfOk result (λ ptr. (h : List Moment) (p : ℕ) (n : Name) → Tells T.names h self.old → ptr.name ≡ Some n → Visible h p n) }
+    {
+        self.swap_root(root, new)
+    }
+
+    fn swap_root(&mut self, root: usize, new: Ptr) -> Result<Ptr, Fault>
+        ensures before { IfOk result (λ before. slice_get self.old.roots root ≡ Some before) }
+        ensures state { OnOk result (self.new ≡ with_root self.old root new) }
+        ensures err { IfErr result (λ e. (e ≡ Fault.Unknown) × (self.new ≡ self.old)) }
+        ensures fault { is_ok result ≡ (nat_lt root (length self.old.roots) && stands self.old.store new) }
+    {
+        let held = self.load(root)?;
+        self.store(root, new)?;
+        Ok(held)
+    }
+
+    /// Writes `new` into a root that holds the cell and the tag of `current`, and gives what was written; else it
+    /// gives what the root holds and `new` back. Unknown where there is no such root, or `new`'s name is destroyed.
+    pub fn compare_exchange(
+        &mut self,
+        root: usize,
+        current: Ptr,
+        new: Ptr,
+    ) -> Result<Result<Ptr, OtherPointer>, Fault>
+        ensures ok { IfOk result (λ r. MatchResult r
+            (λ written. (slice_get self.old.roots root ≡ Some current) × (written ≡ new) × (self.new ≡ with_root self.old root new))
+            (λ e. (slice_get self.old.roots root ≡ Some e.current) × (e.current ≢ current) × (e.new ≡ new) × (self.new ≡ self.old))) }
+        ensures err { IfErr result (λ e. (e ≡ Fault.Unknown) × (self.new ≡ self.old)) }
+        ensures fault { is_ok result ≡ (nat_lt root (length self.old.roots) && stands self.old.store new) }
+        ensures told { (h : List Moment) → Tells T.names h self.old → Tells T.names (moment T.names Quiet self.new ∷ h) self.new }
+        ensures seen { IfOk result (λ r. IfErr r (λ e. (h : List Moment) (p : ℕ) (n : Name) → Tells T.names h self.old → e.current.name ≡ Some n → Visible h p n)) }
+    {
+        self.exchange_root(root, current, new)
+    }
+
+    fn exchange_root(
+        &mut self,
+        root: usize,
+        current: Ptr,
+        new: Ptr,
+    ) -> Result<Result<Ptr, OtherPointer>, Fault>
+        ensures ok { IfOk result (λ r. MatchResult r
+            (λ written. (slice_get self.old.roots root ≡ Some current) × (written ≡ new) × (self.new ≡ with_root self.old root new))
+            (λ e. (slice_get self.old.roots root ≡ Some e.current) × (e.current ≢ current) × (e.new ≡ new) × (self.new ≡ self.old))) }
+        ensures err { IfErr result (λ e. (e ≡ Fault.Unknown) × (self.new ≡ self.old)) }
+        ensures fault { is_ok result ≡ (nat_lt root (length self.old.roots) && stands self.old.store new) }
+    {
+        let now = self.load(root)?;
+        if !self.has_standing(new) {
+            return Err(Fault::Unknown);
+        }
+        if now != current {
+            return Ok(Err(OtherPointer { current: now, new }));
+        }
+        self.store(root, new)?;
+        Ok(Ok(new))
+    }
+
+    /// Keeps the bits of a root's tag that stand in the number modulo `T::ALIGN` too, and gives the pointer before;
+    /// Unknown where there is no such root.
+    pub fn fetch_and(&mut self, root: usize, number: usize) -> Result<Ptr, Fault>
+        ensures before { IfOk result (λ before. slice_get self.old.roots root ≡ Some before) }
+        ensures state { OnOk result (self.new ≡ with_tag_at self.old root (bit_and (root_at self.old root).tag (number % T.ALIGN))) }
+        ensures err { IfErr result (λ e. (e ≡ Fault.Unknown) × (self.new ≡ self.old)) }
+        ensures fault { is_ok result ≡ nat_lt root (length self.old.roots) }
+        ensures told { (h : List Moment) → Tells T.names h self.old → Tells T.names (moment T.names Quiet self.new ∷ h) self.new }
+        ensures seen { IfOk result (λ ptr. (h : List Moment) (p : ℕ) (n : Name) → Tells T.names h self.old → ptr.name ≡ Some n → Visible h p n) }
+    {
+        self.and_tag(root, number)
+    }
+
+    fn and_tag(&mut self, root: usize, number: usize) -> Result<Ptr, Fault>
+        ensures before { IfOk result (λ before. slice_get self.old.roots root ≡ Some before) }
+        ensures state { OnOk result (self.new ≡ with_tag_at self.old root (bit_and (root_at self.old root).tag (number % T.ALIGN))) }
+        ensures err { IfErr result (λ e. (e ≡ Fault.Unknown) × (self.new ≡ self.old)) }
+        ensures fault { is_ok result ≡ nat_lt root (length self.old.roots) }
+    {
+        let before = self.held_at(root)?;
+        self.set_tag(root, before.tag & tag_of::<T>(number));
+        Ok(before)
+    }
+
+    /// Adds the bits of the number modulo `T::ALIGN` to a root's tag, and gives the pointer before; Unknown where
+    /// there is no such root.
+    pub fn fetch_or(&mut self, root: usize, number: usize) -> Result<Ptr, Fault>
+        ensures before { IfOk result (λ before. slice_get self.old.roots root ≡ Some before) }
+        ensures state { OnOk result (self.new ≡ with_tag_at self.old root (bit_or (root_at self.old root).tag (number % T.ALIGN))) }
+        ensures err { IfErr result (λ e. (e ≡ Fault.Unknown) × (self.new ≡ self.old)) }
+        ensures fault { is_ok result ≡ nat_lt root (length self.old.roots) }
+        ensures told { (h : List Moment) → Tells T.names h self.old → Tells T.names (moment T.names Quiet self.new ∷ h) self.new }
+        ensures seen { IfOk result (λ ptr. (h : List Moment) (p : ℕ) (n : Name) → Tells T.names h self.old → ptr.name ≡ Some n → Visible h p n) }
+    {
+        self.or_tag(root, number)
+    }
+
+    fn or_tag(&mut self, root: usize, number: usize) -> Result<Ptr, Fault>
+        ensures before { IfOk result (λ before. slice_get self.old.roots root ≡ Some before) }
+        ensures state { OnOk result (self.new ≡ with_tag_at self.old root (bit_or (root_at self.old root).tag (number % T.ALIGN))) }
+        ensures err { IfErr result (λ e. (e ≡ Fault.Unknown) × (self.new ≡ self.old)) }
+        ensures fault { is_ok result ≡ nat_lt root (length self.old.roots) }
+    {
+        let before = self.held_at(root)?;
+        self.set_tag(root, before.tag | tag_of::<T>(number));
+        Ok(before)
+    }
+
+    /// Flips the bits of the number modulo `T::ALIGN` in a root's tag, and gives the pointer before; Unknown where
+    /// there is no such root.
+    pub fn fetch_xor(&mut self, root: usize, number: usize) -> Result<Ptr, Fault>
+        ensures before { IfOk result (λ before. slice_get self.old.roots root ≡ Some before) }
+        ensures state { OnOk result (self.new ≡ with_tag_at self.old root (bit_xor (root_at self.old root).tag (number % T.ALIGN))) }
+        ensures err { IfErr result (λ e. (e ≡ Fault.Unknown) × (self.new ≡ self.old)) }
+        ensures fault { is_ok result ≡ nat_lt root (length self.old.roots) }
+        ensures told { (h : List Moment) → Tells T.names h self.old → Tells T.names (moment T.names Quiet self.new ∷ h) self.new }
+        ensures seen { IfOk result (λ ptr. (h : List Moment) (p : ℕ) (n : Name) → Tells T.names h self.old → ptr.name ≡ Some n → Visible h p n) }
+    {
+        self.xor_tag(root, number)
+    }
+
+    fn xor_tag(&mut self, root: usize, number: usize) -> Result<Ptr, Fault>
+        ensures before { IfOk result (λ before. slice_get self.old.roots root ≡ Some before) }
+        ensures state { OnOk result (self.new ≡ with_tag_at self.old root (bit_xor (root_at self.old root).tag (number % T.ALIGN))) }
+        ensures err { IfErr result (λ e. (e ≡ Fault.Unknown) × (self.new ≡ self.old)) }
+        ensures fault { is_ok result ≡ nat_lt root (length self.old.roots) }
+    {
+        let before = self.held_at(root)?;
+        self.set_tag(root, before.tag ^ tag_of::<T>(number));
+        Ok(before)
+    }
+
+    /// Writes the tag of a root.
+    fn set_tag(&mut self, root: usize, tag: u8)
+        requires { root < length self.old.roots }
+        ensures { self.new ≡ with_tag_at self.old root tag }
+    {
+        self.roots[root].tag = tag;
+    }
+}
