@@ -3,7 +3,7 @@ use Rattle.std.proofs.Common.{◌≡◌, ℕ, zero, suc, ◌-◌, ◌<◌, Bool,
 use Rattle.std.specs.Prelude.{MatchOption}
 use Rattle.std.proofs.lemmas.Bool.Decides.{nat_tests}
 use Rattle.std.proofs.lemmas.List.{append_assoc, append-nil, nil_from_length}
-use Rattle.crossbeam_epoch.specs.Chain.{joined, AreFilled, refilled}
+use Rattle.crossbeam_epoch.specs.World.Chain.{joined, AreFilled, refilled}
 
 -- a length below a capacity leaves room
 pub has_room : (len capacity n m room : ℕ) → len ≡ n → capacity ≡ m → len < capacity → m - n ≡ room → room ≡ refilled room

@@ -5,7 +5,7 @@ use Rattle.std.proofs.lemmas.List.{get_or_read}
 use borrow.Author.Count.{below_more}
 use Rattle.crossbeam_epoch.specs.declared.world.participant.Participant.{Participant}
 use Rattle.crossbeam_epoch.specs.declared.bag.Sealed.{Sealed}
-use Rattle.crossbeam_epoch.specs.Chain.{refilled}
+use Rattle.crossbeam_epoch.specs.World.Chain.{refilled}
 use Rattle.crossbeam_epoch.specs.World.Machine.{State, place, blank}
 
 -- a reservation that didn't fail made room for one more

@@ -1,4 +1,3 @@
-pub mod Chain
 pub mod Limits
 pub mod World
 pub mod Face

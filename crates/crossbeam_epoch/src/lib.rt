@@ -3,7 +3,6 @@
 #![tactic(auto)]
 
 mod bag;
-mod chain;
 mod face;
 mod fault;
 mod limits;

@@ -2,6 +2,7 @@
 
 mod calls;
 mod cells;
+mod chain;
 mod collect;
 mod defer;
 mod ending;
@@ -21,13 +22,12 @@ ghost use Rattle.crossbeam_epoch.specs.Limits.{within};
 ghost use Rattle.crossbeam_epoch.specs.World.Reach.{Moment, Quiet, moment, Tells};
 
 use crate::bag::Bag;
-use crate::chain::Chain;
 use crate::fault::Fault;
 use crate::limits::Limits;
 use crate::names::{Links, Pointable, Ptr};
 use crate::task::Task;
 use crate::world::cells::Cells;
-use crate::world::participant::{Participant, Phase};
+use crate::world::chain::Chain;
 use crate::world::tickets::Tickets;
 pub use cells::Cell;
 pub use exchanges::OtherPointer;

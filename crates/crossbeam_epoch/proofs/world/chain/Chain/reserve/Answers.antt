@@ -1,8 +1,8 @@
 use Rattle.std.proofs.Common.{◌≡◌, ◌++◌, ◌∷◌, [], ◌<◌, sym, ap, ◌∙◌, subst}
 use Rattle.std.specs.VecDeque.{deque_len}
-use Rattle.crossbeam_epoch.specs.Chain.{joined, AreFilled}
+use Rattle.crossbeam_epoch.specs.World.Chain.{joined, AreFilled}
 use Rattle.crossbeam_epoch.proofs.Chains.{has_room, nothing_in, something_in, not_nothing, moved, all_filled}
-use Rattle.crossbeam_epoch.proofs.chain.Chain.reserve.Goals as goal
+use Rattle.crossbeam_epoch.proofs.world.chain.Chain.reserve.Goals as goal
 
 pub returns-then-len-capacity-clause-ok : goal.returns-then-len-capacity-clause-ok
 returns-then-len-capacity-clause-ok g c = has_room _ _ _ _ _ c.len.ensures c.capacity.ensures c.if-len-capacity.true (ap (λ v. v.room) c.self.view_is)

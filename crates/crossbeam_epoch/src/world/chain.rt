@@ -2,7 +2,7 @@
 
 ghost use Rattle.std.specs.Prelude.{◌≡◌, ◌<◌, ◌++◌, ◌∷◌, [], ◌-◌, MatchOption, OnOk, IsOk, length, slice_index_or};
 ghost use Rattle.std.specs.VecDeque.{deque_len};
-ghost use Rattle.crossbeam_epoch.specs.Chain.{joined, AreFilled, refilled};
+ghost use Rattle.crossbeam_epoch.specs.World.Chain.{joined, AreFilled, refilled};
 
 use crate::bag::Sealed;
 use std::alloc::{AllocError, Global};
@@ -28,7 +28,7 @@ pub struct Chain<J> {
 impl<J> Model for Chain<J> {
     ghost use Rattle.std.specs.Prelude.{◌≡◌, ◌-◌, ◌++◌, []};
     ghost use Rattle.std.specs.VecDeque.{deque_len, deque_capacity};
-    ghost use Rattle.crossbeam_epoch.specs.Chain.{Chain as Bags, joined, AreFilled};
+    ghost use Rattle.crossbeam_epoch.specs.World.Chain.{Chain as Bags, joined, AreFilled};
     ghost use Rattle.crossbeam_epoch.specs.declared.bag.Sealed.{Sealed};
 
     ghost Value = { Bags (Sealed J) };
