@@ -389,6 +389,33 @@ fn a_collection_takes_eight_bags(rt: HostRuntime) -> Result<(), Fail> {
     Ok(())
 }
 
+/// How many bags after the first one were refused when 32 are queued from an empty queue, each asked for again once.
+fn refused_later(world: &mut Jobs) -> u32 {
+    let mut later = 0;
+    for job in 0..2049 {
+        if world.defer(0, ()).is_ok() {
+            continue;
+        }
+        if job > 64 || world.defer(0, ()).is_err() {
+            later += 1;
+        }
+    }
+    later
+}
+
+/// A block of 32 bags is made with the first of them, so the others need no memory.
+#[test]
+fn the_first_bag_of_a_block_alone_asks_for_memory(rt: HostRuntime) -> Result<(), Fail> {
+    let mut world: Jobs = World::new(rt.alloc(), ample(1), 0)?;
+    let rows = [
+        (Act::Register, Answer::Number(0)),
+        (Act::Call(0, Op::Pin), Answer::Done),
+    ];
+    assert!(rt; first_wrong(&mut world, &rows).is_none());
+    assert!(rt; refused_later(&mut world) == 0);
+    Ok(())
+}
+
 /// A flush by its name seals the bag and collects; a repin by its name follows the epoch.
 fn whole_call_rows() -> [Row; 20] {
     [
