@@ -176,7 +176,7 @@ impl<J> Participant<J> {
         ensures place { self.new ≡ secured n self.old }
         ensures outcome { result ≡ outcome_at self.new.phase }
     {
-        let free = self.bag.len() + n as usize <= BAG;
+        let free = self.bag.len() + usize::from(n) <= BAG;
         self.phase = if free { Phase::Idle } else { Phase::SecureSeal };
         outcome_at(self.phase)
     }
@@ -326,7 +326,7 @@ fn after_pin(pins: u8) -> Phase
 fn is_secured_size(n: u8) -> bool
     ensures { result ≡ (nat_lt 0 n && nat_le n 64) }
 {
-    n > 0 && n <= 64
+    n > 0 && usize::from(n) <= BAG
 }
 
 /// Whether the call goes on.
