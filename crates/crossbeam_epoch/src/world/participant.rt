@@ -216,7 +216,7 @@ impl<J> Participant<J> {
 
 impl<J: Drop> Participant<J> {
     /// A place that nobody holds.
-    pub fn blank() -> Participant<J>
+    pub(crate) fn blank() -> Participant<J>
         ensures { result ≡ blank }
     {
         Participant {
@@ -292,7 +292,7 @@ impl<J: Drop> Participant<J> {
     }
 
     /// A call begins at a place without a call in flight, or is refused.
-    pub fn begin(&mut self, op: Op) -> Outcome
+    pub(crate) fn begin(&mut self, op: Op) -> Outcome
         requires idle { self.old.phase ≡ Phase.Idle }
         ensures place { self.new ≡ place_or (begin_fault op self.old) (begun_at op self.old) self.old }
         ensures outcome { result ≡ outcome_or (begin_fault op self.old) (begun_at op self.old) }
