@@ -25,4 +25,3 @@ pub mod Whole
 pub mod Within
 pub mod Tags
 pub mod Words
-pub mod RootCalls

@@ -1,13 +1,15 @@
 -- What a guard may look at isn't destroyed.
 use Rattle.std.proofs.Common.{◌≡◌, ℕ, ◌+◌, ◌≤◌, ◌==◌, Bool, true, false, List, [], ◌∷◌, Some, None, refl, sym, ◌∙◌, ap, subst, inl, inr, ◌⊎◌, arith}
-use Rattle.std.specs.Prelude.{is_some, nat_lt, if◌then◌else◌}
+use Rattle.std.specs.Prelude.{is_some, nat_lt, slice_get, if◌then◌else◌}
 use Rattle.std.specs.List.{Contains}
 use Rattle.std.proofs.lemmas.Bool.{eq-eqb}
+use Rattle.std.proofs.lemmas.List.Elements.{Contains-get_or}
+use Rattle.std.proofs.lemmas.Option.{get_or_from_slice_get, slice_get_within}
 use Rattle.crossbeam_epoch.specs.declared.names.Name.{Name}
 use Rattle.crossbeam_epoch.specs.declared.names.Ptr.{Ptr}
 use Rattle.crossbeam_epoch.specs.World.History.{Mark, Pinned, Repinned, Unpinned, Deferred, Called, began, blocks, deferrals, IsGraceful, WasDeferred, AreCalledLater}
-use Rattle.crossbeam_epoch.specs.World.Reach.{Act, Quiet, Marked, GivenBack, Moment, with_act, marks_of, InReach, from_cell, from_root, links_of, IsIn, WasIn, WasLive, mark_changes_pin, changes_pin, Visible, LeavesFirst, EntersLive, GivesUnseen, KeepsLinks, mark_destroys, IsDestruction, DestructionsTold, IsNow, IsCareful, Tells}
-use Rattle.crossbeam_epoch.specs.World.Machine.{State}
+use Rattle.crossbeam_epoch.specs.World.Reach.{Act, Quiet, Marked, GivenBack, Moment, with_act, marks_of, InReach, from_cell, from_root, links_of, IsIn, WasIn, WasLive, mark_changes_pin, changes_pin, Visible, LeavesFirst, EntersLive, GivesUnseen, KeepsLinks, mark_destroys, IsDestruction, DestructionsTold, IsNow, IsCareful, Tells, InSight}
+use Rattle.crossbeam_epoch.specs.World.Machine.{State, null}
 use Rattle.crossbeam_epoch.specs.World.Store.{value_at}
 
 steady : {A : Type 0} (c : Bool) (a y : A) → c ≡ false → (if c then a else y) ≡ y
@@ -203,6 +205,13 @@ seen_link names (m ∷ h) s p c n t keeps seen holds = visible_link m h p c n ke
 pub root_seen : {T J : Type 0} (names : T → List Name) (h : List Moment) (s : State T J) (p : ℕ) (n : Name) (ptr : Ptr) → Tells names h s → Contains s.roots ptr → ptr.name ≡ Some n → Visible h p n
 root_seen names [] s p n ptr t holds is = absurd t.now
 root_seen names (m ∷ h) s p n ptr t holds is = inl (from_root ptr n (subst (λ (l : List Ptr). Contains l ptr) (sym t.now.0) holds) is)
+
+-- where a root leads every stretch may look
+pub root_sight : {T J : Type 0} (names : T → List Name) (s : State T J) (root : ℕ) (ptr : Ptr) → slice_get s.roots root ≡ Some ptr → InSight names s ptr
+root_sight names s root ptr is = λ h p n t named.
+    let lt = slice_get_within s.roots root ptr is in
+    let holds = subst (λ (x : Ptr). Contains s.roots x) (get_or_from_slice_get s.roots root ptr null is) (Contains-get_or s.roots root null lt) in
+    root_seen names h s p n ptr t holds named
 
 -- fewer links lead no further
 pub less_reach : (roots : List Ptr) (links less : Name → List Name) → ((c m : Name) → Contains (less c) m → Contains (links c) m) → {n : Name} → InReach roots less n → InReach roots links n

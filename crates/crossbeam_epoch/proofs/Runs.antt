@@ -1,13 +1,12 @@
 -- Any step, and so any list of steps, keeps what ties a history to its state.
 use Rattle.std.proofs.Common.{◌≡◌, ℕ, zero, suc, ◌+◌, ◌-◌, ◌<◌, ◌≤◌, Bool, true, false, List, [], ◌∷◌, ◌++◌, ◌==◌, Option, Some, None, refl, sym, ◌∙◌, ap, subst, inl, inr, length, arith, replicate, get_or, take}
-use Rattle.std.specs.Prelude.{if◌then◌else◌, is_none, is_some, nat_le, Result, Ok, Err, IfOk, OnOk, IfErr, OnErr, MatchResult, MatchOption}
+use Rattle.std.specs.Prelude.{if◌then◌else◌, is_none, is_some, nat_le}
 use Rattle.std.specs.List.{sum_by}
 use Rattle.std.proofs.lemmas.Bool.{cases_lt}
 use Rattle.std.proofs.lemmas.Bool.Decides.{nat_tests}
 use Rattle.std.proofs.lemmas.List.{set-get_or, get_or_past, set_past, length-replicate, get_or-replicate, take_more, length-take-le}
 use Rattle.crossbeam_epoch.specs.declared.bag.Entry.{Entry}
 use Rattle.crossbeam_epoch.specs.declared.bag.Work.{Work}
-use Rattle.crossbeam_epoch.specs.declared.bag.Work.TheVariants.{Remove}
 use Rattle.crossbeam_epoch.specs.declared.limits.Limits.{Limits}
 use Rattle.crossbeam_epoch.specs.declared.names.Name.{Name}
 use Rattle.crossbeam_epoch.specs.declared.names.Ptr.{Ptr}
@@ -26,8 +25,7 @@ use Rattle.crossbeam_epoch.specs.declared.world.report.Outcome.TheVariants.{Runn
 use Rattle.crossbeam_epoch.specs.declared.world.report.Report.{Report}
 use Rattle.crossbeam_epoch.specs.World.History.{Mark, Unpinned, Deferred}
 use Rattle.crossbeam_epoch.specs.World.Machine.{State, place, blank, with_place, in_phase, opened, registered, with_store, with_roots, name_of, after_deferral}
-use Rattle.crossbeam_epoch.specs.World.Steps.{quiet_fault, or_count, defer_fault, destroy_fault, when, outcome_at, outcome_or, place_or, begin_fault, event_fault, fault, begun_at, begun, gone, moved, needs_memory, after, called_by, called_in, IsOutcome, IsReport, begin_marks, phase_marks, moved_marks, unless_refused, marks, state_after, history_after, AreReports}
-use Rattle.crossbeam_epoch.specs.World.Store.{value_at}
+use Rattle.crossbeam_epoch.specs.World.Steps.{quiet_fault, or_count, defer_fault, when, outcome_at, outcome_or, place_or, begin_fault, event_fault, fault, begun_at, begun, gone, moved, needs_memory, after, called_by, called_in, IsOutcome, IsReport, begin_marks, phase_marks, moved_marks, unless_refused, marks, state_after, history_after, AreReports}
 use Rattle.crossbeam_epoch.specs.World.Fits.{Fits, HandFits, at_place, has_ticket, one}
 use Rattle.crossbeam_epoch.proofs.Moves.{fits_stay, fits_phase, fits_guards, fits_idle, fits_look, fits_relooked, fits_repinned, fits_seal, fits_release_seal, fits_secure_seal, fits_secured, fits_load, fits_inspected, fits_advanced, fits_published, fits_unpinned, fits_queued, fits_left, fits_gone, fits_took, unpinned_now, pinned_now, none_in, none_accepted}
 use Rattle.crossbeam_epoch.proofs.Jobs.{fits_called, call_marks, fits_after_deferral}
@@ -348,17 +346,12 @@ module _ {T J : Type 0} where
       let at = f.places n in
       fits_stay h s n (record (place s n) { registered = true; pins = 0 }) lt f (record { bounds = at.bounds; phase = at.phase; accepted = at.accepted; spare = at.spare }) refl refl
 
-  pub fits_place : (h : List Mark) (s s' : State T J) (r : Result ℕ Fault) → MatchResult r (λ n. s' ≡ registered s n) (λ e. (e ≡ F.TableFull) × (s' ≡ s)) → IfOk r (λ n. (n < length s.table) × ((place s n).registered ≡ false)) → Fits h s → Fits h s'
-  fits_place h s s' (Ok n) is free f = rw is (fits_registered h s n free.0 f)
-  fits_place h s s' (Err e) is free f = rw is.1 f
-
   -- the cells and roots change freely
   pub fits_store : (h : List Mark) (s s' : State T J) → s' ≡ with_store s s'.store → Fits h s → Fits h s'
   fits_store h s s' is f = rw is (record { graceful = f.graceful; later = f.later; wait = f.wait; places = f.places; queued = f.queued; once = record { each = f.once.each; tickets = f.once.tickets; count = f.once.count } })
 
-  pub fits_roots : (h : List Mark) (s s' : State T J) (r : Result (Unit {0}) Fault) (roots : List Ptr) → OnOk r (s' ≡ with_roots s roots) → IfErr r (λ e. (e ≡ F.Unknown) × (s' ≡ s)) → Fits h s → Fits h s'
-  fits_roots h s s' (Ok u) roots is back f = rw is (record { graceful = f.graceful; later = f.later; wait = f.wait; places = f.places; queued = f.queued; once = record { each = f.once.each; tickets = f.once.tickets; count = f.once.count } })
-  fits_roots h s s' (Err e) roots is back f = rw back.1 f
+  pub fits_roots : (h : List Mark) (s : State T J) (roots : List Ptr) → Fits h s → Fits h (with_roots s roots)
+  fits_roots h s roots f = record { graceful = f.graceful; later = f.later; wait = f.wait; places = f.places; queued = f.queued; once = record { each = f.once.each; tickets = f.once.tickets; count = f.once.count } }
 
   -- who may defer a job has a place and no call in flight
   pub fits_deferring : (h : List Mark) (s : State T J) (who : ℕ) (work : Work J) → defer_fault s who ≡ None → Fits h s → Fits (Deferred s.next (name_of work) ∷ h) (after_deferral s who work)
@@ -366,16 +359,3 @@ module _ {T J : Type 0} where
       let k = known (place s who).registered (or_count s.next (quiet_fault (place s who).phase (place s who))) e in
       let idle = quiet_idle (place s who).phase (place s who) (no_quiet s.next (quiet_fault (place s who).phase (place s who)) k.1) in
       fits_after_deferral h s who work (in_table s who k.0) idle f
-
-  pub fits_deferral : {X : Type 0} (h : List Mark) (s s' : State T J) (who : ℕ) (work : Work J) (back : X) (r : Result ℕ (Fault × X)) → IfOk r (λ t. t ≡ s.next) → OnOk r (s' ≡ after_deferral s who work) → IfErr r (λ e. (s' ≡ s) × (e.1 ≡ back))
-      → MatchResult r (λ t. defer_fault s who ≡ None) (λ e. MatchOption (defer_fault s who) ((e.0 ≡ F.Memory) × (length (place s who).bag ≡ 64)) (λ f. e.0 ≡ f)) → Fits h s
-      → MatchResult r (λ t. Fits (Deferred t (name_of work) ∷ h) s') (λ e. Fits h s')
-  fits_deferral h s s' who work back (Ok t) ticket on err none f = rw (ticket, on) (fits_deferring h s who work none f)
-  fits_deferral h s s' who work back (Err e) ticket on err none f = rw err.0 f
-
-  pub fits_removal : (h : List Mark) (s s' : State T J) (who : ℕ) (name : Name) (r : Result ℕ Fault) → IfOk r (λ t. t ≡ s.next) → OnOk r (s' ≡ after_deferral s who (Remove name)) → OnErr r (s' ≡ s)
-      → MatchResult r (λ t. destroy_fault s who name ≡ None) (λ e. MatchOption (destroy_fault s who name) ((e ≡ F.Memory) × (length (place s who).bag ≡ 64)) (λ f. e ≡ f)) → Fits h s
-      → MatchResult r (λ t. Fits (Deferred t (Some name) ∷ h) s') (λ e. Fits h s')
-  fits_removal h s s' who name (Ok t) ticket on err none f =
-      rw (ticket, on) (fits_deferring h s who (Remove name) (no_destroy_fault (is_some (value_at s.store name)) (defer_fault s who) none) f)
-  fits_removal h s s' who name (Err e) ticket on err none f = rw err f

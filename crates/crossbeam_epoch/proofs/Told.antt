@@ -1,6 +1,6 @@
 -- Each destruction is told by the act of its step or call.
 use Rattle.std.proofs.Common.{◌≡◌, ℕ, ◌+◌, ◌<◌, Bool, true, false, List, [], ◌∷◌, ◌==◌, Option, Some, None, refl, sym, ◌∙◌, ap, subst, inl, inr, length, arith, get_or, set, get_or-set_same, get_or-set_other, ◌++◌, ◌≤◌, ◌≢◌}
-use Rattle.std.specs.Prelude.{if◌then◌else◌, is_some, is_none, Result, Ok, Err, IfOk, IfErr, OnOk, OnErr, MatchResult, MatchOption, nat_le, nat_lt, slice_index_or, ◌&&◌}
+use Rattle.std.specs.Prelude.{if◌then◌else◌, is_some, is_none, Result, Ok, Err, IfOk, IfErr, nat_le, nat_lt, slice_index_or, ◌&&◌}
 use Rattle.std.proofs.lemmas.Bool.{cases_eq, cases_lt, eq-eqb}
 use Rattle.std.proofs.lemmas.List.{get_or_past, get_or_append_left, length_push}
 use Rattle.std.proofs.lemmas.Bool.Decides.{nat_tests}
@@ -26,10 +26,10 @@ use Rattle.crossbeam_epoch.specs.declared.world.report.Step.{Step}
 use Rattle.crossbeam_epoch.specs.World.History.{Mark, Unpinned, Deferred}
 use Rattle.crossbeam_epoch.specs.World.Machine.{State, place, in_phase, is_due, taken, called_one, no_entry, destroys, after_work, opened, registered, with_store, with_roots, after_deferral, deferred, deferred_anew, name_of}
 use Rattle.crossbeam_epoch.specs.World.Store.{Store, fresh, cell_at, value_in, value_at, emptied, replaced, placed, with_cell, is_usable, IsNext, was_given}
-use Rattle.crossbeam_epoch.specs.World.Steps.{after, gone, needs_memory, called_by, called_entry, called_in, defer_fault, destroy_fault, IsReport, begin_marks, phase_marks, moved_marks, unless_refused, marks, state_after, AreReports}
+use Rattle.crossbeam_epoch.specs.World.Steps.{after, gone, needs_memory, called_by, called_entry, called_in, defer_fault, IsReport, begin_marks, phase_marks, moved_marks, unless_refused, marks, state_after, AreReports}
 use Rattle.crossbeam_epoch.specs.World.Fits.{Fits, IsTable}
-use Rattle.crossbeam_epoch.specs.World.Reach.{Act, Quiet, Marked, Moment, WasLive, with_act, marks_of, IsDestruction, moment, Tells, newest_act, step_act, moments_after, GivenBack}
-use Rattle.crossbeam_epoch.proofs.Runs.{fits_after, fits_opened, fits_place, fits_store, fits_roots, fits_deferral, fits_removal, no_destroy_fault}
+use Rattle.crossbeam_epoch.specs.World.Reach.{Act, Quiet, Marked, Moment, WasLive, with_act, marks_of, IsDestruction, moment, Tells, NextMoment, newest_act, step_act, moments_after, GivenBack}
+use Rattle.crossbeam_epoch.proofs.Runs.{fits_after, fits_opened, fits_registered, fits_store, fits_roots, fits_deferring}
 use Rattle.crossbeam_epoch.proofs.Givens.{Keeps, live_given, emptied_keeps, replaced_keeps, placed_keeps, after_keeps, next_new}
 use Rattle.crossbeam_epoch.proofs.Tables.{table_is, table_after, table_new, table_registered, table_deferral}
 
@@ -296,16 +296,12 @@ module _ {T J : Type 0} where
   tells_same : (names : T → List Name) (h : List Moment) (s s' : State T J) (act : Act) → Tells names h s → Fits (with_act act (marks_of h)) s' → s'.store ≡ s.store → IsTable s'.limits.participants s'.table → Tells names (moment names act s' ∷ h) s'
   tells_same names h s s' act t f same table = tells_act names h s s' act t f (λ n live gone. same_ends s.store s'.store n same live gone) table (λ n given. ap (λ (x : Store T). was_given x n) same ∙ given)
 
-  pub tells_place : (names : T → List Name) (h : List Moment) (s s' : State T J) (r : Result ℕ Fault) → MatchResult r (λ n. s' ≡ registered s n) (λ e. (e ≡ F.TableFull) × (s' ≡ s)) → IfOk r (λ n. (n < length s.table) × ((place s n).registered ≡ false)) → Tells names h s → Tells names (moment names Quiet s' ∷ h) s'
-  tells_place names h s s' r is free t = tells_same names h s s' Quiet t (fits_place (marks_of h) s s' r is free t.fits) (by_result r is) (by_table r is)
-    where
-      by_table : (r : Result ℕ Fault) → MatchResult r (λ n. s' ≡ registered s n) (λ e. (e ≡ F.TableFull) × (s' ≡ s)) → IsTable s'.limits.participants s'.table
-      by_table (Ok n) is = table_is s' (registered s n) is (table_registered s n t.table)
-      by_table (Err e) is = table_is s' s is.1 t.table
+  -- a call that changes nothing
+  pub tells_still : (names : T → List Name) (s s' : State T J) → s' ≡ s → NextMoment names Quiet s s'
+  tells_still names s s' is = λ h t. tells_same names h s s' Quiet t (rw is t.fits) (ap (λ (x : State T J). x.store) is) (table_is s' s is t.table)
 
-      by_result : (r : Result ℕ Fault) → MatchResult r (λ n. s' ≡ registered s n) (λ e. (e ≡ F.TableFull) × (s' ≡ s)) → s'.store ≡ s.store
-      by_result (Ok n) is = ap (λ (x : State T J). x.store) is
-      by_result (Err e) is = ap (λ (x : State T J). x.store) is.1
+  pub tells_registered : (names : T → List Name) (s s' : State T J) (n : ℕ) → s' ≡ registered s n → n < length s.table → NextMoment names Quiet s s'
+  tells_registered names s s' n is lt = λ h t. tells_same names h s s' Quiet t (rw is (fits_registered (marks_of h) s n lt t.fits)) (ap (λ (x : State T J). x.store) is) (table_is s' (registered s n) is (table_registered s n t.table))
 
   deferral_store : (s : State T J) (who : ℕ) (work : Work J) → (after_deferral s who work).store ≡ s.store
   deferral_store s who work = by_full (length (place s who).bag == 64)
@@ -314,62 +310,61 @@ module _ {T J : Type 0} where
       by_full true = refl
       by_full false = refl
 
-  pub tells_deferral : {X : Type 0} (names : T → List Name) (h : List Moment) (s s' : State T J) (who : ℕ) (work : Work J) (back : X) (r : Result ℕ (Fault × X)) → IfOk r (λ t. t ≡ s.next) → OnOk r (s' ≡ after_deferral s who work) → IfErr r (λ e. (s' ≡ s) × (e.1 ≡ back))
-      → MatchResult r (λ t. defer_fault s who ≡ None) (λ e. MatchOption (defer_fault s who) ((e.0 ≡ F.Memory) × (length (place s who).bag ≡ 64)) (λ f. e.0 ≡ f)) → Tells names h s
-      → MatchResult r (λ t. Tells names (moment names (Marked (Deferred t (name_of work))) s' ∷ h) s') (λ e. Tells names (moment names Quiet s' ∷ h) s')
-  tells_deferral names h s s' who work back (Ok k) ticket on err none t =
-      tells_same names h s s' (Marked (Deferred k (name_of work))) t (fits_deferral (marks_of h) s s' who work back (Ok k) ticket on err none t.fits) (ap (λ (x : State T J). x.store) on ∙ deferral_store s who work) (table_is s' (after_deferral s who work) on (table_deferral s who work none t.table))
-  tells_deferral names h s s' who work back (Err e) ticket on err none t =
-      tells_same names h s s' Quiet t (fits_deferral (marks_of h) s s' who work back (Err e) ticket on err none t.fits) (ap (λ (x : State T J). x.store) err.0) (table_is s' s err.0 t.table)
+  pub tells_deferred : (names : T → List Name) (s s' : State T J) (who k : ℕ) (work : Work J) → s' ≡ after_deferral s who work → k ≡ s.next → defer_fault s who ≡ None → NextMoment names (Marked (Deferred k (name_of work))) s s'
+  tells_deferred names s s' who k work is ticket none = λ h t.
+      tells_same names h s s' (Marked (Deferred k (name_of work))) t (rw (ticket, is) (fits_deferring (marks_of h) s who work none t.fits))
+      (ap (λ (x : State T J). x.store) is ∙ deferral_store s who work) (table_is s' (after_deferral s who work) is (table_deferral s who work none t.table))
 
-  pub tells_removal : (names : T → List Name) (h : List Moment) (s s' : State T J) (who : ℕ) (name : Name) (r : Result ℕ Fault) → IfOk r (λ t. t ≡ s.next) → OnOk r (s' ≡ after_deferral s who (Remove name)) → OnErr r (s' ≡ s)
-      → MatchResult r (λ t. destroy_fault s who name ≡ None) (λ e. MatchOption (destroy_fault s who name) ((e ≡ F.Memory) × (length (place s who).bag ≡ 64)) (λ f. e ≡ f)) → Tells names h s
-      → MatchResult r (λ t. Tells names (moment names (Marked (Deferred t (Some name))) s' ∷ h) s') (λ e. Tells names (moment names Quiet s' ∷ h) s')
-  tells_removal names h s s' who name (Ok k) ticket on err none t =
-      tells_same names h s s' (Marked (Deferred k (Some name))) t (fits_removal (marks_of h) s s' who name (Ok k) ticket on err none t.fits) (ap (λ (x : State T J). x.store) on ∙ deferral_store s who (Remove name))
-      (table_is s' (after_deferral s who (Remove name)) on (table_deferral s who (Remove name) (no_destroy_fault (is_some (value_at s.store name)) (defer_fault s who) none) t.table))
-  tells_removal names h s s' who name (Err e) ticket on err none t =
-      tells_same names h s s' Quiet t (fits_removal (marks_of h) s s' who name (Err e) ticket on err none t.fits) (ap (λ (x : State T J). x.store) err) (table_is s' s err t.table)
+  pub tells_roots : (names : T → List Name) (s s' : State T J) (roots : List Ptr) → s' ≡ with_roots s roots → NextMoment names Quiet s s'
+  tells_roots names s s' roots is = λ h t. tells_same names h s s' Quiet t (rw is (fits_roots (marks_of h) s roots t.fits)) (ap (λ (x : State T J). x.store) is) (table_is s' (with_roots s roots) is t.table)
 
-  pub tells_roots : (names : T → List Name) (h : List Moment) (s s' : State T J) (r : Result (Unit {0}) Fault) (roots : List Ptr) → OnOk r (s' ≡ with_roots s roots) → IfErr r (λ e. (e ≡ F.Unknown) × (s' ≡ s)) → Tells names h s → Tells names (moment names Quiet s' ∷ h) s'
-  tells_roots names h s s' r roots on back t = tells_same names h s s' Quiet t (fits_roots (marks_of h) s s' r roots on back t.fits) (by_result r on back) (by_table r on back)
-    where
-      by_table : (r : Result (Unit {0}) Fault) → OnOk r (s' ≡ with_roots s roots) → IfErr r (λ e. (e ≡ F.Unknown) × (s' ≡ s)) → IsTable s'.limits.participants s'.table
-      by_table (Ok u) on back = table_is s' (with_roots s roots) on t.table
-      by_table (Err e) on back = table_is s' s back.1 t.table
+  -- a root is written
+  pub tells_write : (names : T → List Name) (s v : State T J) (roots : List Ptr) → v ≡ s → NextMoment names Quiet s (with_roots v roots)
+  tells_write names s v roots is = subst (λ (x : State T J). NextMoment names Quiet x (with_roots v roots)) is (tells_roots names v (with_roots v roots) roots refl)
 
-      by_result : (r : Result (Unit {0}) Fault) → OnOk r (s' ≡ with_roots s roots) → IfErr r (λ e. (e ≡ F.Unknown) × (s' ≡ s)) → s'.store ≡ s.store
-      by_result (Ok u) on back = ap (λ (x : State T J). x.store) on
-      by_result (Err e) on back = ap (λ (x : State T J). x.store) back.1
+  placed_told : (names : T → List Name) (s : State T J) (name : Name) (x : T) → IsNext s.store name → NextMoment names Quiet s (with_store s (placed s.store name x))
+  placed_told names s name x next = λ h t.
+      tells_act names h s (with_store s (placed s.store name x)) Quiet t (fits_store (marks_of h) s (with_store s (placed s.store name x)) refl t.fits)
+      (λ n live gone. absurd (cc (placed_lives s.store name n x next live, gone)))
+      t.table (placed_keeps s.store name x next (λ j ne. cell_with s.store name.cell j (record { turns = name.turn + 1; value = Some x }) next.near ne))
 
-  pub tells_placed : (names : T → List Name) (h : List Moment) (s s' : State T J) (v : T) (r : Result Name (Fault × T)) → IfOk r (λ name. IsNext s.store name × (s' ≡ with_store s (placed s.store name v))) → IfErr r (λ e. (e.0 ≡ F.CellsFull) × (e.1 ≡ v) × (s' ≡ s)) → Tells names h s → Tells names (moment names Quiet s' ∷ h) s'
-  tells_placed names h s s' v (Ok name) on back t =
-      tells_act names h s s' Quiet t (rw on.1 (fits_store (marks_of h) s (with_store s (placed s.store name v)) refl t.fits))
-      (λ n live gone. absurd (cc (placed_lives s.store name n v on.0 live, ap (λ (x : State T J). lives x.store n) on.1, gone)))
-      (table_is s' (with_store s (placed s.store name v)) on.1 t.table)
-      (rw on.1 (placed_keeps s.store name v on.0 (λ j ne. cell_with s.store name.cell j (record { turns = name.turn + 1; value = Some v }) on.0.near ne)))
-  tells_placed names h s s' v (Err e) on back t = tells_same names h s s' Quiet t (rw back.2 t.fits) (ap (λ (x : State T J). x.store) back.2) (table_is s' s back.2 t.table)
+  given_back_told : (names : T → List Name) (s : State T J) (name : Name) (x : T) → value_at s.store name ≡ Some x → NextMoment names (GivenBack name) s (with_store s (emptied s.store name.cell))
+  given_back_told names s name x stood = λ h t.
+      tells_act names h s (with_store s (emptied s.store name.cell)) (GivenBack name) t (fits_store (marks_of h) s (with_store s (emptied s.store name.cell)) refl t.fits)
+      (λ n live gone. emptied_gone s.store name n (ap is_some stood) live gone) t.table (emptied_keeps s.store name.cell)
 
-  pub tells_given_back : (names : T → List Name) (h : List Moment) (s s' : State T J) (name : Name) (r : Result T Fault) → IfOk r (λ v. (value_at s.store name ≡ Some v) × (s' ≡ with_store s (emptied s.store name.cell))) → IfErr r (λ e. (value_at s.store name ≡ None) × (e ≡ F.Unknown) × (s' ≡ s)) → Tells names h s
-      → MatchResult r (λ v. Tells names (moment names (GivenBack name) s' ∷ h) s') (λ e. Tells names (moment names Quiet s' ∷ h) s')
-  tells_given_back names h s s' name (Ok v) on back t =
-      tells_act names h s s' (GivenBack name) t (rw on.1 (fits_store (marks_of h) s (with_store s (emptied s.store name.cell)) refl t.fits))
-      (λ n live gone. emptied_gone s.store name n (ap is_some on.0) live (sym (ap (λ (x : State T J). lives x.store n) on.1) ∙ gone))
-      (table_is s' (with_store s (emptied s.store name.cell)) on.1 t.table) (rw on.1 (emptied_keeps s.store name.cell))
-  tells_given_back names h s s' name (Err e) on back t = tells_same names h s s' Quiet t (rw back.2 t.fits) (ap (λ (x : State T J). x.store) back.2) (table_is s' s back.2 t.table)
+  replaced_told : (names : T → List Name) (s : State T J) (i : ℕ) (x : T) → NextMoment names Quiet s (with_store s (replaced s.store i x))
+  replaced_told names s i x = λ h t.
+      tells_act names h s (with_store s (replaced s.store i x)) Quiet t (fits_store (marks_of h) s (with_store s (replaced s.store i x)) refl t.fits)
+      (λ n live gone. absurd (cc (replaced_lives s.store i n x live, gone))) t.table (replaced_keeps s.store i x)
 
-  pub tells_replaced : (names : T → List Name) (h : List Moment) (s s' : State T J) (name : Name) (w : T) (r : Result T (Fault × T)) → IfOk r (λ v. (value_at s.store name ≡ Some v) × (s' ≡ with_store s (replaced s.store name.cell w))) → IfErr r (λ e. (value_at s.store name ≡ None) × (e.0 ≡ F.Unknown) × (e.1 ≡ w) × (s' ≡ s)) → Tells names h s → Tells names (moment names Quiet s' ∷ h) s'
-  tells_replaced names h s s' name w (Ok v) on back t =
-      tells_act names h s s' Quiet t (rw on.1 (fits_store (marks_of h) s (with_store s (replaced s.store name.cell w)) refl t.fits))
-      (λ n live gone. absurd (cc (replaced_lives s.store name.cell n w live, ap (λ (x : State T J). lives x.store n) on.1, gone)))
-      (table_is s' (with_store s (replaced s.store name.cell w)) on.1 t.table) (rw on.1 (replaced_keeps s.store name.cell w))
-  tells_replaced names h s s' name w (Err e) on back t = tells_same names h s s' Quiet t (rw back.3 t.fits) (ap (λ (x : State T J). x.store) back.3) (table_is s' s back.3 t.table)
+  -- the cells change as they say, and nothing else
+  at_store : (names : T → List Name) (s v : State T J) (act : Act) (st st' : Store T) → v ≡ s → st' ≡ st → NextMoment names act v (with_store v st) → NextMoment names act s (with_store v st')
+  at_store names s v act st st' is same on = subst (λ (x : State T J). NextMoment names act x (with_store v st')) is (subst (λ (x : Store T). NextMoment names act v (with_store v x)) (sym same) on)
+
+  still_told : (names : T → List Name) (s : State T J) → NextMoment names Quiet s s
+  still_told names s = tells_still names s s refl
+
+  pub tells_placed : (names : T → List Name) (s v : State T J) (st : Store T) (x : T) (r : Result Name T) → v ≡ s → IfOk r (λ name. IsNext v.store name × (st ≡ placed v.store name x)) → IfErr r (λ y. (y ≡ x) × (st ≡ v.store)) → NextMoment names Quiet s (with_store v st)
+  tells_placed names s v st x (Ok name) is on back = at_store names s v Quiet (placed v.store name x) st is on.1 (placed_told names v name x on.0)
+  tells_placed names s v st x (Err y) is on back = at_store names s v Quiet v.store st is back.1 (still_told names v)
+
+  pub tells_given_back : (names : T → List Name) (s v : State T J) (st : Store T) (name : Name) (x : T) → v ≡ s → Some x ≡ value_at v.store name → st ≡ (if is_some (value_at v.store name) then emptied v.store name.cell else v.store) → NextMoment names (GivenBack name) s (with_store v st)
+  tells_given_back names s v st name x is stood cells =
+      at_store names s v (GivenBack name) (emptied v.store name.cell) st is (cells ∙ sym (ap (λ (o : Option T). if is_some o then emptied v.store name.cell else v.store) stood)) (given_back_told names v name x (sym stood))
+
+  pub tells_none_back : (names : T → List Name) (s v : State T J) (st : Store T) (name : Name) → v ≡ s → None ≡ value_at v.store name → st ≡ (if is_some (value_at v.store name) then emptied v.store name.cell else v.store) → NextMoment names Quiet s (with_store v st)
+  tells_none_back names s v st name is none cells =
+      at_store names s v Quiet v.store st is (cells ∙ sym (ap (λ (o : Option T). if is_some o then emptied v.store name.cell else v.store) none)) (still_told names v)
+
+  pub tells_replaced : (names : T → List Name) (s v : State T J) (st : Store T) (name : Name) (x : T) (r : Result T T) → v ≡ s → IfOk r (λ y. (value_at v.store name ≡ Some y) × (st ≡ replaced v.store name.cell x)) → IfErr r (λ y. (value_at v.store name ≡ None) × (y ≡ x) × (st ≡ v.store)) → NextMoment names Quiet s (with_store v st)
+  tells_replaced names s v st name x (Ok y) is on back = at_store names s v Quiet (replaced v.store name.cell x) st is on.1 (replaced_told names v name.cell x)
+  tells_replaced names s v st name x (Err y) is on back = at_store names s v Quiet v.store st is back.2 (still_told names v)
 
   pub opened_told : {E : Type 0} (names : T → List Name) (limits : Limits) (roots : ℕ) (r : Result (State T J) E) → IfOk r (λ s. s ≡ opened limits roots) → IfOk r (λ s. limits.expiry ≡ 2 → Tells names (moment names Quiet s ∷ []) s)
   opened_told names limits roots (Ok s) is = λ two. tells_opened names limits roots s is two
   opened_told names limits roots (Err e) is = tt
 
   -- a name that is placed was never live before
-  pub placed_new : (names : T → List Name) (s s' : State T J) (v : T) (r : Result Name (Fault × T)) → IfOk r (λ name. IsNext s.store name × (s' ≡ with_store s (placed s.store name v))) → IfOk r (λ name. (h : List Moment) → Tells names h s → WasLive h name → ⊥)
-  placed_new names s s' v (Ok name) on = λ h t was. next_new s.store name on.0 (t.given name was)
-  placed_new names s s' v (Err e) on = tt
+  pub placed_new : (names : T → List Name) (s : State T J) (name : Name) → IsNext s.store name → (h : List Moment) → Tells names h s → WasLive h name → ⊥
+  placed_new names s name next = λ h t was. next_new s.store name next (t.given name was)

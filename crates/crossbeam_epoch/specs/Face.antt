@@ -1,5 +1,6 @@
 -- The calls for real threads.
 pub mod Epoch
+pub mod Exchange
 pub mod Handle
 pub mod Ordering
 pub mod Pointer

@@ -9,6 +9,9 @@ use std::marker::Model;
 /// The places of a bag.
 pub const BAG: usize = 64;
 
+/// The most bags that one collection takes.
+pub(crate) const BAGS: u8 = 8;
+
 /// What an entry does when it is called. A blank fills a bag's free places.
 #[derive(Drop)]
 pub enum Work<J> {
@@ -35,10 +38,10 @@ impl<J> Default for Entry<J> {
     }
 }
 
-/// At most 64 jobs, in the order of deferral; it never allocates.
+/// At most `BAG` jobs, in the order of deferral; it never allocates.
 #[derive(Drop)]
 pub struct Bag<J> {
-    entries: ArrayVec<Entry<J>, 64>,
+    entries: ArrayVec<Entry<J>, BAG>,
 }
 
 /// A bag in the queue.

@@ -19,7 +19,7 @@ ghost use Rattle.std.specs.Prelude.{◌≡◌, ◌<◌, ℕ, List, [], ◌∷◌
 ghost use Rattle.std.specs.Result.{result_ok};
 ghost use Rattle.crossbeam_epoch.specs.World.Machine.{place, opened, registered, blank, null};
 ghost use Rattle.crossbeam_epoch.specs.Limits.{within};
-ghost use Rattle.crossbeam_epoch.specs.World.Reach.{Moment, Quiet, moment, Tells};
+ghost use Rattle.crossbeam_epoch.specs.World.Reach.{Quiet, moment, Tells, NextMoment};
 
 use crate::bag::Bag;
 use crate::fault::Fault;
@@ -81,6 +81,7 @@ impl<T: Links + Pointable + Drop, J: Task> World<T, J> {
         Ok(world)
     }
 
+    /// A collector with room for what these limits allow.
     fn with_room(alloc: Global, limits: Limits, roots: usize) -> Result<World<T, J>, AllocError>
         ensures state { IfOk result (λ w. w ≡ opened limits roots) }
     {
@@ -103,15 +104,7 @@ impl<T: Links + Pointable + Drop, J: Task> World<T, J> {
         ensures state { MatchResult result (λ n. self.new ≡ registered self.old n) (λ e. (e ≡ Fault.TableFull) × (self.new ≡ self.old)) }
         ensures free { IfOk result (λ n. (n < length self.old.table) × ((place self.old n).registered ≡ false)) }
         ensures lowest { (q : ℕ) → q < unwrap_or (result_ok result) (length self.old.table) → (place self.old q).registered ≡ true }
-        ensures told { (h : List Moment) → Tells T.names h self.old → Tells T.names (moment T.names Quiet self.new ∷ h) self.new }
-    {
-        self.take_place()
-    }
-
-    fn take_place(&mut self) -> Result<usize, Fault>
-        ensures state { MatchResult result (λ n. self.new ≡ registered self.old n) (λ e. (e ≡ Fault.TableFull) × (self.new ≡ self.old)) }
-        ensures free { IfOk result (λ n. (n < length self.old.table) × ((place self.old n).registered ≡ false)) }
-        ensures lowest { (q : ℕ) → q < unwrap_or (result_ok result) (length self.old.table) → (place self.old q).registered ≡ true }
+        ensures told { NextMoment T.names Quiet self.old self.new }
     {
         match self.free_place() {
             Some(n) => {

@@ -1,7 +1,12 @@
--- Whose a guard is.
-use Rattle.std.specs.Prelude.{ℕ, Bool, ◌&&◌, nat_lt, nat_eq}
+-- Whose a guard is, and the bag that a handle keeps.
+use Rattle.std.specs.Prelude.{ℕ, Bool, ◌&&◌, nat_lt, nat_eq, List, [], length, if◌then◌else◌}
+use Rattle.crossbeam_epoch.specs.declared.bag.Entry.{Entry}
 use Rattle.crossbeam_epoch.specs.declared.face.guard.Seat.{Seat}
 
 -- so many guards of a handle's seat are out, and a guard of this seat is one of them
 abbrev pub owns : ℕ → Seat → Seat → Bool
 owns guards handle guard = nat_lt 0 guards && nat_eq guard.collector handle.collector && nat_eq guard.place handle.place
+
+-- a bag that has a free place: this one, or a new one where this one is full
+abbrev pub with_room : {J : Type 0} → List (Entry J) → List (Entry J)
+with_room bag = if nat_lt (length bag) 64 then bag else []

@@ -158,6 +158,14 @@ pub record Tells {T J : Type 0} (names : T → List Name) (h : List Moment) (s :
   pub table : IsTable s.limits.participants s.table
   pub given : (n : Name) → WasLive h n → was_given s.store n ≡ true
 
+-- whatever moments led to a state lead, by this act, to the next
+abbrev pub NextMoment : {T J : Type 0} → (T → List Name) → Act → State T J → State T J → Type 0
+NextMoment names act s s' = (h : List Moment) → Tells names h s → Tells names (moment names act s' ∷ h) s'
+
+-- where a pointer leads every stretch may look
+abbrev pub InSight : {T J : Type 0} → (T → List Name) → State T J → Ptr → Type 0
+InSight names s ptr = (h : List Moment) (p : ℕ) (n : Name) → Tells names h s → ptr.name ≡ Some n → Visible h p n
+
 -- the act of a step: the mark that it adds
 abbrev pub newest_act : List Mark → Act
 newest_act [] = Quiet

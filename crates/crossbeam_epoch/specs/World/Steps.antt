@@ -1,5 +1,5 @@
 -- The machine: what each step answers and leaves.
-use Rattle.std.specs.Prelude.{◌≡◌, ℕ, ◌+◌, ◌==◌, nat_le, nat_lt, ◌&&◌, Bool, true, false, not, List, [], ◌∷◌, ◌-◌, ◌^◌, length, Option, Some, None, is_none, is_some, if◌then◌else◌, slice_index_or}
+use Rattle.std.specs.Prelude.{◌≡◌, ℕ, ◌+◌, ◌==◌, nat_le, nat_lt, ◌&&◌, Bool, true, false, not, List, [], ◌∷◌, ◌-◌, ◌^◌, length, Option, Some, None, is_none, is_some, if◌then◌else◌, slice_index_or, MatchOption}
 use Rattle.crossbeam_epoch.specs.declared.bag.Entry.{Entry}
 use Rattle.crossbeam_epoch.specs.declared.names.Name.{Name}
 use Rattle.crossbeam_epoch.specs.declared.world.participant.Participant.{Participant}
@@ -176,6 +176,10 @@ defer_fault s who = if (place s who).registered then or_count s.next (quiet_faul
 -- the fault of a cell's removal, Memory aside
 abbrev pub destroy_fault : {T J : Type 0} → State T J → ℕ → Name → Option Fault
 destroy_fault s who name = if is_some (value_at s.store name) then defer_fault s who else Some Unknown
+
+-- why a deferral is refused: its first fault, or the want of memory for a full bag
+abbrev pub IsDeferralFault : {T J : Type 0} → State T J → ℕ → Option Fault → Fault → Type 0
+IsDeferralFault s who first e = MatchOption first ((e ≡ Memory) × (length (place s who).bag ≡ 64)) (λ f. e ≡ f)
 
 -- what a begin marks: the last guard goes
 abbrev pub begin_marks : {J : Type 0} → ℕ → Participant J → Op → List Mark → List Mark

@@ -1,7 +1,7 @@
 //! Pointers that threads share.
 
-ghost use Rattle.std.specs.Bool.{MatchBool};
 ghost use Rattle.std.specs.Prelude.{◌≡◌, ◌≢◌, ◌⊎◌, ◌%◌, ◌<◌, true, MatchResult, IfErr, IfSome, IsErr};
+ghost use Rattle.crossbeam_epoch.specs.Face.Exchange.{IsExchange};
 
 use crate::face::guard::{Guard, Protects};
 use crate::face::link::{Link, Tagged};
@@ -40,6 +40,7 @@ pub type CompareAndSetError<'g, T, P> = CompareExchangeError<'g, T, P>;
 pub type Exchanged<'g, T, P> = Result<Shared<'g, T>, CompareExchangeError<'g, T, P>>;
 
 impl<T: Pointable> Atomic<T> {
+    /// A pointer that threads share from now on.
     fn of(tagged: Tagged<T>) -> Self {
         Atomic {
             tagged: Mutex::new(tagged),
@@ -181,13 +182,8 @@ impl<T: Pointable + Drop> Atomic<T> {
         _failure: Ordering,
         guard: &'g Guard<'_, T, J>,
     ) -> Result<Exchanged<'g, T, P>, (Fault, P)>
-        ensures answer { MatchResult result
-            (λ r. MatchResult r
-            (λ s. (s.link.tag ≡ P.tag_bits new % T.ALIGN) × P.leads_to new guard.now.collector.now.id s.link.site)
-            (λ e. (e.current.link ≢ current.entry.link) × (e.current.link.tag < T.ALIGN) × (e.new ≡ new)))
-            (λ e. (e.1 ≡ new) × MatchBool (P.leads_elsewhere new guard.now.collector.now.id)
-            (e.0 ≡ Fault.Foreign)
-            ((e.0 ≡ P.refused_as) × (P.is_refusable new guard.now.collector.now.id ≡ true))) }
+        ensures answer { IsExchange (P.tag_bits new % T.ALIGN) T.ALIGN (P.leads_to new guard.now.collector.now.id)
+            (P.leads_elsewhere new guard.now.collector.now.id) (P.is_refusable new guard.now.collector.now.id) P.refused_as current.entry.link new result }
         ensures foreign { P.leads_elsewhere new guard.now.collector.now.id ≡ true → IfErr result (λ e. e.0 ≡ Fault.Foreign) × IsErr result }
     {
         if new.is_foreign(guard.collector.id()) {
@@ -207,13 +203,8 @@ impl<T: Pointable + Drop> Atomic<T> {
         failure: Ordering,
         guard: &'g Guard<'_, T, J>,
     ) -> Result<Exchanged<'g, T, P>, (Fault, P)>
-        ensures answer { MatchResult result
-            (λ r. MatchResult r
-            (λ s. (s.link.tag ≡ P.tag_bits new % T.ALIGN) × P.leads_to new guard.now.collector.now.id s.link.site)
-            (λ e. (e.current.link ≢ current.entry.link) × (e.current.link.tag < T.ALIGN) × (e.new ≡ new)))
-            (λ e. (e.1 ≡ new) × MatchBool (P.leads_elsewhere new guard.now.collector.now.id)
-            (e.0 ≡ Fault.Foreign)
-            ((e.0 ≡ P.refused_as) × (P.is_refusable new guard.now.collector.now.id ≡ true))) }
+        ensures answer { IsExchange (P.tag_bits new % T.ALIGN) T.ALIGN (P.leads_to new guard.now.collector.now.id)
+            (P.leads_elsewhere new guard.now.collector.now.id) (P.is_refusable new guard.now.collector.now.id) P.refused_as current.entry.link new result }
         ensures foreign { P.leads_elsewhere new guard.now.collector.now.id ≡ true → IfErr result (λ e. e.0 ≡ Fault.Foreign) × IsErr result }
     {
         self.compare_exchange(rt, current, new, success, failure, guard)
@@ -228,13 +219,8 @@ impl<T: Pointable + Drop> Atomic<T> {
         order: O,
         guard: &'g Guard<'_, T, J>,
     ) -> Result<Exchanged<'g, T, P>, (Fault, P)>
-        ensures answer { MatchResult result
-            (λ r. MatchResult r
-            (λ s. (s.link.tag ≡ P.tag_bits new % T.ALIGN) × P.leads_to new guard.now.collector.now.id s.link.site)
-            (λ e. (e.current.link ≢ current.entry.link) × (e.current.link.tag < T.ALIGN) × (e.new ≡ new)))
-            (λ e. (e.1 ≡ new) × MatchBool (P.leads_elsewhere new guard.now.collector.now.id)
-            (e.0 ≡ Fault.Foreign)
-            ((e.0 ≡ P.refused_as) × (P.is_refusable new guard.now.collector.now.id ≡ true))) }
+        ensures answer { IsExchange (P.tag_bits new % T.ALIGN) T.ALIGN (P.leads_to new guard.now.collector.now.id)
+            (P.leads_elsewhere new guard.now.collector.now.id) (P.is_refusable new guard.now.collector.now.id) P.refused_as current.entry.link new result }
         ensures foreign { P.leads_elsewhere new guard.now.collector.now.id ≡ true → IfErr result (λ e. e.0 ≡ Fault.Foreign) × IsErr result }
     {
         self.compare_exchange(rt, current, new, order.success(), order.failure(), guard)
@@ -249,13 +235,8 @@ impl<T: Pointable + Drop> Atomic<T> {
         order: O,
         guard: &'g Guard<'_, T, J>,
     ) -> Result<Exchanged<'g, T, P>, (Fault, P)>
-        ensures answer { MatchResult result
-            (λ r. MatchResult r
-            (λ s. (s.link.tag ≡ P.tag_bits new % T.ALIGN) × P.leads_to new guard.now.collector.now.id s.link.site)
-            (λ e. (e.current.link ≢ current.entry.link) × (e.current.link.tag < T.ALIGN) × (e.new ≡ new)))
-            (λ e. (e.1 ≡ new) × MatchBool (P.leads_elsewhere new guard.now.collector.now.id)
-            (e.0 ≡ Fault.Foreign)
-            ((e.0 ≡ P.refused_as) × (P.is_refusable new guard.now.collector.now.id ≡ true))) }
+        ensures answer { IsExchange (P.tag_bits new % T.ALIGN) T.ALIGN (P.leads_to new guard.now.collector.now.id)
+            (P.leads_elsewhere new guard.now.collector.now.id) (P.is_refusable new guard.now.collector.now.id) P.refused_as current.entry.link new result }
         ensures foreign { P.leads_elsewhere new guard.now.collector.now.id ≡ true → IfErr result (λ e. e.0 ≡ Fault.Foreign) × IsErr result }
     {
         self.compare_exchange_weak(rt, current, new, order.success(), order.failure(), guard)

@@ -4,7 +4,7 @@ ghost use Rattle.std.specs.Prelude.{◌≡◌, ◌<◌, ◌≤◌, ◌+◌, ◌&
 ghost use Rattle.std.specs.Bool.{MatchBool};
 ghost use Rattle.crossbeam_epoch.specs.Limits.{within};
 
-use crate::bag::{BAG, Bag, Sealed, Work};
+use crate::bag::{BAG, BAGS, Bag, Sealed, Work};
 use crate::face::epoch::Words;
 use crate::face::handle::LocalHandle;
 use crate::face::internal::Internal;
@@ -19,9 +19,6 @@ use std::alloc::{AllocError, Global};
 use std::fmt;
 use std::fmt::{Debug, Formatter};
 use std::sync::{Mutex, Wait};
-
-/// Bags that one collection takes at most.
-const BAGS: u8 = 8;
 
 /// An epoch-based garbage collector for values of one type (the source's `Collector`). What handles put off are jobs
 /// of the type J: boxed closures, or an enum of the user's own.
@@ -46,6 +43,7 @@ impl<T: Drop, J: Task> Collector<T, J> {
         }
     }
 
+    /// What stands under the lock of a new collector.
     fn make(alloc: Global, limits: Limits) -> Result<Internal<T, J>, AllocError> {
         let words = Words::new(alloc, limits.participants, limits.epoch_max)?;
         let slots = Slots::new(alloc, limits.cells, limits.turn_max)?;
@@ -56,6 +54,7 @@ impl<T: Drop, J: Task> Collector<T, J> {
         })
     }
 
+    /// The collector of this number over what stands under its lock.
     fn with(id: u64, internal: Internal<T, J>) -> Self
         ensures { result.id ≡ id }
     {
@@ -110,6 +109,7 @@ impl<T: Drop, J: Task> Collector<T, J> {
         Ok(())
     }
 
+    /// Its lock.
     fn lock(&self) -> &Mutex<Internal<T, J>> {
         &self.internal
     }
@@ -117,59 +117,70 @@ impl<T: Drop, J: Task> Collector<T, J> {
 
 /// What handles, guards and pointers do under the lock, each in one hold.
 impl<T: Drop, J: Task> Collector<T, J> {
+    /// Pins a place, and answers an epoch that was read after it.
     pub(crate) fn pin<R: Wait>(&self, rt: &R, place: u32) -> u64 {
         self.lock().lock(rt).words.pin(place)
     }
 
+    /// Pins a place anew, and answers an epoch that was read after it.
     pub(crate) fn repin<R: Wait>(&self, rt: &R, place: u32) -> u64 {
         self.lock().lock(rt).words.repin(place)
     }
 
+    /// Takes the pin of a place away.
     pub(crate) fn unpin<R: Wait>(&self, rt: &R, place: u32) {
         self.lock().lock(rt).words.unpin(place);
     }
 
+    /// Gives a place up.
     pub(crate) fn release<R: Wait>(&self, rt: &R, place: u32) {
         self.lock().lock(rt).words.release(place);
     }
 
+    /// Seals and queues these jobs; hands them back where there is no memory.
     pub(crate) fn seal<R: Wait>(&self, rt: &R, jobs: Bag<J>) -> Result<(), Bag<J>>
         ensures { IfErr result (λ j. j ≡ jobs) }
     {
         self.lock().lock(rt).seal(jobs)
     }
 
+    /// Places a value in a free cell; hands it back where none is usable.
     pub(crate) fn place<R: Wait>(&self, rt: &R, value: Box<T>) -> Result<Name, Box<T>>
         ensures { IfErr result (λ v. v ≡ value) }
     {
         self.lock().lock(rt).slots.place(value)
     }
 
+    /// Takes a value out of its cell, which keeps its place.
     pub(crate) fn lend<R: Wait>(&self, rt: &R, name: Name) -> Option<Box<T>> {
         self.lock().lock(rt).slots.lend(name)
     }
 
+    /// Puts a value that was lent back; it comes back where its place isn't kept.
     pub(crate) fn put_back<R: Wait>(&self, rt: &R, name: Name, value: Box<T>) -> Result<(), Box<T>>
         ensures { IfErr result (λ v. v ≡ value) }
     {
         self.lock().lock(rt).slots.put_back(name, value)
     }
 
+    /// Takes a value out of its cell for good.
     pub(crate) fn remove<R: Wait>(&self, rt: &R, name: Name) -> Option<Box<T>> {
         self.lock().lock(rt).slots.remove(name)
     }
 
+    /// Tries to advance the epoch once, and answers it.
     fn advance<R: Wait>(&self, rt: &R) -> u64 {
         self.lock().lock(rt).words.advance()
     }
 
+    /// Takes the front bag off, where it is expired at the epoch that was seen.
     fn take_expired<R: Wait>(&self, rt: &R, seen: u64) -> Option<Sealed<J>>
         ensures { IfSome result (λ b. b.seal + 2 ≤ seen) }
     {
         self.lock().lock(rt).take_expired(seen)
     }
 
-    /// Tries to advance the epoch once, then calls the jobs of at most eight expired bags from the queue's front.
+    /// Tries to advance the epoch once, then calls the jobs of at most `BAGS` expired bags from the queue's front.
     /// No lock is held while a job runs.
     pub(crate) fn collect<R: Wait>(&self, rt: &R) {
         let seen = self.advance(rt);

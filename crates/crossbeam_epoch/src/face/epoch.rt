@@ -153,7 +153,7 @@ impl Words {
         self.look()
     }
 
-    /// Takes the pin away.
+    /// Takes the pin of a place away.
     pub fn unpin(&mut self, place: u32)
         ensures { self.new ≡ written self.old place Word.Unpinned }
     {

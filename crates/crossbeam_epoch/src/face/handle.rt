@@ -1,9 +1,9 @@
 //! Handles of participants.
 
 ghost use Rattle.std.specs.Prelude.{◌≡◌, ◌<◌, ◌≤◌, ◌+◌, ◌-◌, ◌++◌, ◌∷◌, [], true, false, nat_lt, nat_eq};
-ghost use Rattle.std.specs.Prelude.{length, if◌then◌else◌, MatchResult, IfOk, IfErr, OnOk};
+ghost use Rattle.std.specs.Prelude.{length, MatchResult, IfOk, IfErr, OnOk};
 ghost use Rattle.std.specs.Bool.{MatchBool};
-ghost use Rattle.crossbeam_epoch.specs.Face.Handle.{owns};
+ghost use Rattle.crossbeam_epoch.specs.Face.Handle.{owns, with_room};
 ghost use Rattle.crossbeam_epoch.specs.Face.Pointer.{name_in};
 
 use crate::bag::{Bag, Entry, Work};
@@ -163,7 +163,7 @@ impl<'c, T: Drop, J: Task> LocalHandle<'c, T, J> {
     /// Makes a place in the bag: a full one is sealed.
     fn make_room<R: Wait>(&mut self, rt: &R) -> Result<(), Fault>
         ensures ok { OnOk result (self.new ≡ record self.old { bag = self.new.bag }) }
-        ensures bag { OnOk result (self.new.bag ≡ (if nat_lt (length self.old.bag) 64 then self.old.bag else [])) }
+        ensures bag { OnOk result (self.new.bag ≡ with_room self.old.bag) }
         ensures err { IfErr result (λ e. (e ≡ Fault.Memory) × (self.new ≡ self.old) × (64 ≤ length self.old.bag)) }
     {
         if !self.bag.is_full() {
@@ -181,7 +181,7 @@ impl<'c, T: Drop, J: Task> LocalHandle<'c, T, J> {
         job: J,
     ) -> Result<(), (Fault, J)>
         ensures ok { OnOk result ((owns self.old.guards self.old.seat guard.now.seat ≡ true) × (self.new ≡ record self.old { bag = self.new.bag })) }
-        ensures bag { OnOk result (self.new.bag ≡ (if nat_lt (length self.old.bag) 64 then self.old.bag else []) ++ record { ticket = 0; work = Work.Run job } ∷ []) }
+        ensures bag { OnOk result (self.new.bag ≡ with_room self.old.bag ++ record { ticket = 0; work = Work.Run job } ∷ []) }
         ensures err { IfErr result (λ e. (e.1 ≡ job) × (self.new ≡ self.old)
             × MatchBool (owns self.old.guards self.old.seat guard.now.seat) ((e.0 ≡ Fault.Memory) × (64 ≤ length self.old.bag)) (e.0 ≡ Fault.Foreign)) }
     {
@@ -203,7 +203,7 @@ impl<'c, T: Drop, J: Task> LocalHandle<'c, T, J> {
         job: J,
     ) -> Result<(), (Fault, J)>
         ensures ok { OnOk result ((owns self.old.guards self.old.seat guard.now.seat ≡ true) × (self.new ≡ record self.old { bag = self.new.bag })) }
-        ensures bag { OnOk result (self.new.bag ≡ (if nat_lt (length self.old.bag) 64 then self.old.bag else []) ++ record { ticket = 0; work = Work.Run job } ∷ []) }
+        ensures bag { OnOk result (self.new.bag ≡ with_room self.old.bag ++ record { ticket = 0; work = Work.Run job } ∷ []) }
         ensures err { IfErr result (λ e. (e.1 ≡ job) × (self.new ≡ self.old)
             × MatchBool (owns self.old.guards self.old.seat guard.now.seat) ((e.0 ≡ Fault.Memory) × (64 ≤ length self.old.bag)) (e.0 ≡ Fault.Foreign)) }
     {
@@ -288,7 +288,7 @@ impl<T: Pointable + Drop, J: Task> LocalHandle<'_, T, J> {
     ) -> Result<(), (Fault, Shared<'s, T>)>
         ensures ok { OnOk result ((owns self.old.guards self.old.seat guard.now.seat ≡ true) × (self.new ≡ record self.old { bag = self.new.bag })) }
         ensures bag { OnOk result (MatchResult (name_in pointer.entry.link.site self.old.collector.now.id)
-            (λ n. self.new.bag ≡ (if nat_lt (length self.old.bag) 64 then self.old.bag else []) ++ record { ticket = 0; work = Work.Remove n } ∷ [])
+            (λ n. self.new.bag ≡ with_room self.old.bag ++ record { ticket = 0; work = Work.Remove n } ∷ [])
             (λ e. ⊥)) }
         ensures err { IfErr result (λ e. (e.1 ≡ pointer.entry) × (self.new ≡ self.old)
             × MatchBool (owns self.old.guards self.old.seat guard.now.seat)

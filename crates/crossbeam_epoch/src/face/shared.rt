@@ -130,11 +130,9 @@ impl<'g, T: Drop> Shared<'g, T> {
         guard: &'g Guard<'_, T, J>,
     ) -> Option<LentMut<'g, T, J>>
         ensures same { self.new ≡ self.old }
-        ensures name { IfSome result (λ l. name_in self.old.link.site guard.now.collector.now.id ≡ Ok l.name) }
+        ensures name { IfSome result (λ l. name_in self.old.link.site guard.now.collector.now.id ≡ Ok l.lent.name) }
     {
-        let name = self.name_in(guard.collector).ok()?;
-        let value = guard.collector.lend(rt, name)?;
-        Some(LentMut::new(guard.collector, name, value))
+        Some(LentMut::new(self.deref(rt, guard)?))
     }
 
     /// Takes the value out of its cell, which is destroyed. The value keeps the pointer's tag. `None` for null, and where

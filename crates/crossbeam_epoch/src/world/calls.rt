@@ -8,7 +8,7 @@ ghost use Rattle.crossbeam_epoch.specs.World.Calls.{IsCall, Extends};
 ghost use Rattle.crossbeam_epoch.specs.World.Fits.{Fits};
 ghost use Rattle.crossbeam_epoch.specs.World.History.{Mark};
 ghost use Rattle.crossbeam_epoch.specs.World.Log.{Noted, Stepped, log_after, Shows};
-ghost use Rattle.crossbeam_epoch.specs.World.Reach.{Moment, moment, step_act, moments_after, Tells};
+ghost use Rattle.crossbeam_epoch.specs.World.Reach.{Moment, step_act, moments_after, Tells, NextMoment};
 
 use crate::fault::Fault;
 use crate::names::{Links, Pointable};
@@ -26,10 +26,20 @@ impl<T: Links + Pointable + Drop, J: Task> World<T, J> {
     pub fn step(&mut self, who: usize, event: Event) -> Report
         ensures report { IsReport self.old who event result }
         ensures state { self.new ≡ after self.old who event result.outcome }
-        ensures told { (h : List Moment) → Tells T.names h self.old → Tells T.names (moment T.names (step_act self.old who event result) self.new ∷ h) self.new }
+        ensures told { NextMoment T.names (step_act self.old who event result) self.old self.new }
         ensures shown { (log : List Noted) (h : List Mark) → Shows log h self.old → Shows (Stepped (record { who = who; event = event }) result ∷ log) (marks self.old who event result h) self.new }
     {
-        self.act(who, event)
+        if !self.is_registered(who) {
+            return refused(Fault::Unknown);
+        }
+        let phase = self.phase_of(who);
+        match event {
+            Event::Begin(op) => match phase {
+                Phase::Idle => silent(self.begin(who, op)),
+                _ => refused(busy_fault(op)),
+            },
+            Event::Go => self.go(who, phase),
+        }
     }
 
     /// These steps, one after another, until there is no memory for a report.
@@ -42,14 +52,36 @@ impl<T: Links + Pointable + Drop, J: Task> World<T, J> {
         ensures told { (h : List Moment) → Tells T.names h self.old → Tells T.names (moments_after T.names self.old (first_of result.done steps.now) result.reports.items h) self.new }
         ensures shown { (log : List Noted) (h : List Mark) → Shows log h self.old → Shows (log_after (first_of result.done steps.now) result.reports.items log) (history_after self.old (first_of result.done steps.now) result.reports.items h) self.new }
     {
-        self.act_all(alloc, steps)
+        let mut reports = Vec::new(alloc);
+        for step in steps {
+            if reports.reserve(1).is_err() {
+                break;
+            }
+            let report = self.step(step.who, step.event);
+            reports.push_reserved(report);
+        }
+        Ran {
+            done: reports.len(),
+            reports,
+        }
     }
 
     /// A whole call, at most so many steps of it; answers its last report, none where `most` is 0.
     pub fn call(&mut self, who: usize, op: Op, most: usize) -> Option<Report>
         ensures call { (reports : List Report) × IsCall self.old who op most reports result self.new × Extends T.names self.old who op reports self.new }
     {
-        self.act_out(who, op, most)
+        let mut newest = None;
+        let mut event = Event::Begin(op);
+        for _ in 0..most {
+            let report = self.step(who, event);
+            match report.outcome {
+                Outcome::Running => {}
+                _ => return Some(report),
+            }
+            newest = Some(report);
+            event = Event::Go;
+        }
+        newest
     }
 
     /// A whole flush: the bag is sealed and queued, and a collection follows. Running only if it isn't over after 1,000 steps.
@@ -73,67 +105,13 @@ impl<T: Links + Pointable + Drop, J: Task> World<T, J> {
         self.whole(who, Op::Release)
     }
 
+    /// A whole call, at most `MOST` steps of it; answers how it stands after the last one.
     fn whole(&mut self, who: usize, op: Op) -> Outcome
         ensures call { (reports : List Report) × (newest : Report) × IsCall self.old who op 1000 reports (Some newest) self.new × (result ≡ newest.outcome) × Extends T.names self.old who op reports self.new }
     {
         match self.call(who, op, MOST) {
             Some(report) => report.outcome,
             None => Outcome::Running,
-        }
-    }
-
-    fn act_out(&mut self, who: usize, op: Op, most: usize) -> Option<Report>
-        ensures call { (reports : List Report) × IsCall self.old who op most reports result self.new }
-    {
-        let mut newest = None;
-        let mut event = Event::Begin(op);
-        for _ in 0..most {
-            let report = self.act(who, event);
-            match report.outcome {
-                Outcome::Running => {}
-                _ => return Some(report),
-            }
-            newest = Some(report);
-            event = Event::Go;
-        }
-        newest
-    }
-
-    fn act_all(&mut self, alloc: Global, steps: &[Step]) -> Ran
-        ensures done { result.done ≤ length steps.now }
-        ensures reports { vec_len result.reports ≡ result.done }
-        ensures legal { AreReports self.old (first_of result.done steps.now) result.reports.items }
-        ensures state { self.new ≡ state_after self.old (first_of result.done steps.now) result.reports.items }
-    {
-        let mut reports = Vec::new(alloc);
-        for step in steps {
-            if reports.reserve(1).is_err() {
-                break;
-            }
-            let report = self.act(step.who, step.event);
-            reports.push_reserved(report);
-        }
-        Ran {
-            done: reports.len(),
-            reports,
-        }
-    }
-
-    /// One atomic step.
-    pub(crate) fn act(&mut self, who: usize, event: Event) -> Report
-        ensures report { IsReport self.old who event result }
-        ensures state { self.new ≡ after self.old who event result.outcome }
-    {
-        if !self.is_registered(who) {
-            return refused(Fault::Unknown);
-        }
-        let phase = self.phase_of(who);
-        match event {
-            Event::Begin(op) => match phase {
-                Phase::Idle => silent(self.begin(who, op)),
-                _ => refused(busy_fault(op)),
-            },
-            Event::Go => self.go(who, phase),
         }
     }
 

@@ -4,7 +4,7 @@ ghost use Rattle.std.specs.Prelude.{◌≡◌, ◌<◌, length};
 ghost use Rattle.crossbeam_epoch.specs.World.Machine.{place, inspected, inspection, ends_advance, advanced, is_due, took, called, after_call, destroys, after_work};
 ghost use Rattle.crossbeam_epoch.specs.World.Steps.{outcome_at, called_by};
 
-use crate::bag::{Entry, Sealed, Work};
+use crate::bag::{BAGS, Entry, Sealed, Work};
 use crate::names::{Links, Name, Pointable};
 use crate::task::Task;
 use crate::world::World;
@@ -77,7 +77,7 @@ impl<T: Links + Pointable + Drop, J: Task> World<T, J> {
         ensures state { self.new ≡ took self.old who answered bags }
         ensures outcome { result ≡ outcome_at (place self.new who).phase }
     {
-        if bags >= 8 || !self.is_due(answered) {
+        if bags >= BAGS || !self.is_due(answered) {
             self.participants[who].phase = Phase::Idle;
             return Outcome::Done;
         }
@@ -121,7 +121,7 @@ fn after_call(left: usize, answered: u64, bags: u8, seal: u64) -> Phase
 {
     if left > 0 {
         Phase::Call(answered, bags, seal)
-    } else if bags < 8 {
+    } else if bags < BAGS {
         Phase::Take(answered, bags)
     } else {
         Phase::Idle

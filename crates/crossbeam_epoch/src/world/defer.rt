@@ -1,10 +1,10 @@
 //! Deferrals.
 
-ghost use Rattle.std.specs.Prelude.{◌≡◌, ◌<◌, List, ◌∷◌, length, IfOk, OnOk, OnErr, IfErr, MatchResult, MatchOption, None, Some, ◌^◌, ◌-◌, ◌==◌, ◌&&◌, not, true, false};
+ghost use Rattle.std.specs.Prelude.{◌≡◌, ◌<◌, List, ◌∷◌, length, IfOk, OnOk, OnErr, IfErr, MatchResult, None, Some, ◌^◌, ◌-◌, ◌==◌, ◌&&◌, not, true, false};
 ghost use Rattle.crossbeam_epoch.specs.World.Machine.{place, deferred, deferred_anew, after_deferral, name_of};
-ghost use Rattle.crossbeam_epoch.specs.World.Steps.{defer_fault, destroy_fault, quiet_fault};
+ghost use Rattle.crossbeam_epoch.specs.World.Steps.{defer_fault, destroy_fault, quiet_fault, IsDeferralFault};
 ghost use Rattle.crossbeam_epoch.specs.World.History.{Deferred};
-ghost use Rattle.crossbeam_epoch.specs.World.Reach.{Moment, Quiet, Marked, moment, Tells};
+ghost use Rattle.crossbeam_epoch.specs.World.Reach.{Quiet, Marked, NextMoment};
 
 use crate::bag::{Entry, Sealed, Work};
 use crate::fault::Fault;
@@ -18,17 +18,8 @@ impl<T: Links + Pointable + Drop, J: Task> World<T, J> {
         ensures ticket { IfOk result (λ t. t ≡ self.old.next) }
         ensures state { OnOk result (self.new ≡ after_deferral self.old who (Work.Run job)) }
         ensures back { IfErr result (λ e. (self.new ≡ self.old) × (e.1 ≡ job)) }
-        ensures fault { MatchResult result (λ t. defer_fault self.old who ≡ None) (λ e. MatchOption (defer_fault self.old who) ((e.0 ≡ Fault.Memory) × (length (place self.old who).bag ≡ 64)) (λ f. e.0 ≡ f)) }
-        ensures told { (h : List Moment) → Tells T.names h self.old → MatchResult result (λ t. Tells T.names (moment T.names (Marked (Deferred t None)) self.new ∷ h) self.new) (λ e. Tells T.names (moment T.names Quiet self.new ∷ h) self.new) }
-    {
-        self.put_off_job(who, job)
-    }
-
-    fn put_off_job(&mut self, who: usize, job: J) -> Result<u64, (Fault, J)>
-        ensures ticket { IfOk result (λ t. t ≡ self.old.next) }
-        ensures state { OnOk result (self.new ≡ after_deferral self.old who (Work.Run job)) }
-        ensures back { IfErr result (λ e. (self.new ≡ self.old) × (e.1 ≡ job)) }
-        ensures fault { MatchResult result (λ t. defer_fault self.old who ≡ None) (λ e. MatchOption (defer_fault self.old who) ((e.0 ≡ Fault.Memory) × (length (place self.old who).bag ≡ 64)) (λ f. e.0 ≡ f)) }
+        ensures fault { MatchResult result (λ t. defer_fault self.old who ≡ None) (λ e. IsDeferralFault self.old who (defer_fault self.old who) e.0) }
+        ensures told { MatchResult result (λ t. NextMoment T.names (Marked (Deferred t None)) self.old self.new) (λ e. NextMoment T.names Quiet self.old self.new) }
     {
         match self.put_off(who, Work::Run(job)) {
             Ok(ticket) => Ok(ticket),
@@ -45,8 +36,8 @@ impl<T: Links + Pointable + Drop, J: Task> World<T, J> {
         ensures ticket { IfOk result (λ t. t ≡ self.old.next) }
         ensures state { OnOk result (self.new ≡ after_deferral self.old who (Work.Run job)) }
         ensures back { IfErr result (λ e. (self.new ≡ self.old) × (e.1 ≡ job)) }
-        ensures fault { MatchResult result (λ t. defer_fault self.old who ≡ None) (λ e. MatchOption (defer_fault self.old who) ((e.0 ≡ Fault.Memory) × (length (place self.old who).bag ≡ 64)) (λ f. e.0 ≡ f)) }
-        ensures told { (h : List Moment) → Tells T.names h self.old → MatchResult result (λ t. Tells T.names (moment T.names (Marked (Deferred t None)) self.new ∷ h) self.new) (λ e. Tells T.names (moment T.names Quiet self.new ∷ h) self.new) }
+        ensures fault { MatchResult result (λ t. defer_fault self.old who ≡ None) (λ e. IsDeferralFault self.old who (defer_fault self.old who) e.0) }
+        ensures told { MatchResult result (λ t. NextMoment T.names (Marked (Deferred t None)) self.old self.new) (λ e. NextMoment T.names Quiet self.old self.new) }
     {
         self.defer(who, job)
     }
@@ -56,17 +47,8 @@ impl<T: Links + Pointable + Drop, J: Task> World<T, J> {
         ensures ticket { IfOk result (λ t. t ≡ self.old.next) }
         ensures state { OnOk result (self.new ≡ after_deferral self.old who (Work.Remove name)) }
         ensures back { OnErr result (self.new ≡ self.old) }
-        ensures fault { MatchResult result (λ t. destroy_fault self.old who name ≡ None) (λ e. MatchOption (destroy_fault self.old who name) ((e ≡ Fault.Memory) × (length (place self.old who).bag ≡ 64)) (λ f. e ≡ f)) }
-        ensures told { (h : List Moment) → Tells T.names h self.old → MatchResult result (λ t. Tells T.names (moment T.names (Marked (Deferred t (Some name))) self.new ∷ h) self.new) (λ e. Tells T.names (moment T.names Quiet self.new ∷ h) self.new) }
-    {
-        self.put_off_removal(who, name)
-    }
-
-    fn put_off_removal(&mut self, who: usize, name: Name) -> Result<u64, Fault>
-        ensures ticket { IfOk result (λ t. t ≡ self.old.next) }
-        ensures state { OnOk result (self.new ≡ after_deferral self.old who (Work.Remove name)) }
-        ensures back { OnErr result (self.new ≡ self.old) }
-        ensures fault { MatchResult result (λ t. destroy_fault self.old who name ≡ None) (λ e. MatchOption (destroy_fault self.old who name) ((e ≡ Fault.Memory) × (length (place self.old who).bag ≡ 64)) (λ f. e ≡ f)) }
+        ensures fault { MatchResult result (λ t. destroy_fault self.old who name ≡ None) (λ e. IsDeferralFault self.old who (destroy_fault self.old who name) e) }
+        ensures told { MatchResult result (λ t. NextMoment T.names (Marked (Deferred t (Some name))) self.old self.new) (λ e. NextMoment T.names Quiet self.old self.new) }
     {
         if self.cells.get(name).is_none() {
             return Err(Fault::Unknown);
@@ -89,7 +71,7 @@ impl<T: Links + Pointable + Drop, J: Task> World<T, J> {
         ensures ticket { IfOk result (λ t. t ≡ self.old.next) }
         ensures state { OnOk result (self.new ≡ after_deferral self.old who work) }
         ensures back { IfErr result (λ e. (self.new ≡ self.old) × (e.1 ≡ work)) }
-        ensures fault { MatchResult result (λ t. defer_fault self.old who ≡ None) (λ e. MatchOption (defer_fault self.old who) ((e.0 ≡ Fault.Memory) × (length (place self.old who).bag ≡ 64)) (λ f. e.0 ≡ f)) }
+        ensures fault { MatchResult result (λ t. defer_fault self.old who ≡ None) (λ e. IsDeferralFault self.old who (defer_fault self.old who) e.0) }
     {
         if let Some(fault) = self.defer_fault(who) {
             return Err((fault, work));

@@ -5,7 +5,7 @@ ghost use Rattle.std.specs.Prelude.{slice_get, is_ok, nat_lt, ◌&&◌, bit_and,
 ghost use Rattle.crossbeam_epoch.specs.World.Machine.{stands};
 ghost use Rattle.crossbeam_epoch.specs.World.Roots.{root_at, with_root, with_tag_at};
 ghost use Rattle.crossbeam_epoch.specs.declared.names.Name.{Name};
-ghost use Rattle.crossbeam_epoch.specs.World.Reach.{Moment, Quiet, moment, Tells, Visible};
+ghost use Rattle.crossbeam_epoch.specs.World.Reach.{Quiet, NextMoment, InSight};
 
 use crate::fault::Fault;
 use crate::names::{Links, Pointable, Ptr};
@@ -28,17 +28,8 @@ impl<T: Links + Pointable + Drop, J: Task> World<T, J> {
         ensures state { OnOk result (self.new ≡ with_root self.old root new) }
         ensures err { IfErr result (λ e. (e ≡ Fault.Unknown) × (self.new ≡ self.old)) }
         ensures fault { is_ok result ≡ (nat_lt root (length self.old.roots) && stands self.old.store new) }
-        ensures told { (h : List Moment) → Tells T.names h self.old → Tells T.names (moment T.names Quiet self.new ∷ h) self.new }
-        ensures seen { IfOk result (λ ptr. (h : List Moment) (p : ℕ) (n : Name) → Tells T.names h self.old → ptr.name ≡ Some n → Visible h p n) }
-    {
-        self.swap_root(root, new)
-    }
-
-    fn swap_root(&mut self, root: usize, new: Ptr) -> Result<Ptr, Fault>
-        ensures before { IfOk result (λ before. slice_get self.old.roots root ≡ Some before) }
-        ensures state { OnOk result (self.new ≡ with_root self.old root new) }
-        ensures err { IfErr result (λ e. (e ≡ Fault.Unknown) × (self.new ≡ self.old)) }
-        ensures fault { is_ok result ≡ (nat_lt root (length self.old.roots) && stands self.old.store new) }
+        ensures told { NextMoment T.names Quiet self.old self.new }
+        ensures seen { IfOk result (λ ptr. InSight T.names self.old ptr) }
     {
         let held = self.load(root)?;
         self.store(root, new)?;
@@ -58,23 +49,8 @@ impl<T: Links + Pointable + Drop, J: Task> World<T, J> {
             (λ e. (slice_get self.old.roots root ≡ Some e.current) × (e.current ≢ current) × (e.new ≡ new) × (self.new ≡ self.old))) }
         ensures err { IfErr result (λ e. (e ≡ Fault.Unknown) × (self.new ≡ self.old)) }
         ensures fault { is_ok result ≡ (nat_lt root (length self.old.roots) && stands self.old.store new) }
-        ensures told { (h : List Moment) → Tells T.names h self.old → Tells T.names (moment T.names Quiet self.new ∷ h) self.new }
-        ensures seen { IfOk result (λ r. IfErr r (λ e. (h : List Moment) (p : ℕ) (n : Name) → Tells T.names h self.old → e.current.name ≡ Some n → Visible h p n)) }
-    {
-        self.exchange_root(root, current, new)
-    }
-
-    fn exchange_root(
-        &mut self,
-        root: usize,
-        current: Ptr,
-        new: Ptr,
-    ) -> Result<Result<Ptr, OtherPointer>, Fault>
-        ensures ok { IfOk result (λ r. MatchResult r
-            (λ written. (slice_get self.old.roots root ≡ Some current) × (written ≡ new) × (self.new ≡ with_root self.old root new))
-            (λ e. (slice_get self.old.roots root ≡ Some e.current) × (e.current ≢ current) × (e.new ≡ new) × (self.new ≡ self.old))) }
-        ensures err { IfErr result (λ e. (e ≡ Fault.Unknown) × (self.new ≡ self.old)) }
-        ensures fault { is_ok result ≡ (nat_lt root (length self.old.roots) && stands self.old.store new) }
+        ensures told { NextMoment T.names Quiet self.old self.new }
+        ensures seen { IfOk result (λ r. IfErr r (λ e. InSight T.names self.old e.current)) }
     {
         let now = self.load(root)?;
         if !self.has_standing(new) {
@@ -94,19 +70,10 @@ impl<T: Links + Pointable + Drop, J: Task> World<T, J> {
         ensures state { OnOk result (self.new ≡ with_tag_at self.old root (bit_and (root_at self.old root).tag (number % T.ALIGN))) }
         ensures err { IfErr result (λ e. (e ≡ Fault.Unknown) × (self.new ≡ self.old)) }
         ensures fault { is_ok result ≡ nat_lt root (length self.old.roots) }
-        ensures told { (h : List Moment) → Tells T.names h self.old → Tells T.names (moment T.names Quiet self.new ∷ h) self.new }
-        ensures seen { IfOk result (λ ptr. (h : List Moment) (p : ℕ) (n : Name) → Tells T.names h self.old → ptr.name ≡ Some n → Visible h p n) }
+        ensures told { NextMoment T.names Quiet self.old self.new }
+        ensures seen { IfOk result (λ ptr. InSight T.names self.old ptr) }
     {
-        self.and_tag(root, number)
-    }
-
-    fn and_tag(&mut self, root: usize, number: usize) -> Result<Ptr, Fault>
-        ensures before { IfOk result (λ before. slice_get self.old.roots root ≡ Some before) }
-        ensures state { OnOk result (self.new ≡ with_tag_at self.old root (bit_and (root_at self.old root).tag (number % T.ALIGN))) }
-        ensures err { IfErr result (λ e. (e ≡ Fault.Unknown) × (self.new ≡ self.old)) }
-        ensures fault { is_ok result ≡ nat_lt root (length self.old.roots) }
-    {
-        let before = self.held_at(root)?;
+        let before = self.load(root)?;
         self.set_tag(root, before.tag & tag_of::<T>(number));
         Ok(before)
     }
@@ -118,19 +85,10 @@ impl<T: Links + Pointable + Drop, J: Task> World<T, J> {
         ensures state { OnOk result (self.new ≡ with_tag_at self.old root (bit_or (root_at self.old root).tag (number % T.ALIGN))) }
         ensures err { IfErr result (λ e. (e ≡ Fault.Unknown) × (self.new ≡ self.old)) }
         ensures fault { is_ok result ≡ nat_lt root (length self.old.roots) }
-        ensures told { (h : List Moment) → Tells T.names h self.old → Tells T.names (moment T.names Quiet self.new ∷ h) self.new }
-        ensures seen { IfOk result (λ ptr. (h : List Moment) (p : ℕ) (n : Name) → Tells T.names h self.old → ptr.name ≡ Some n → Visible h p n) }
+        ensures told { NextMoment T.names Quiet self.old self.new }
+        ensures seen { IfOk result (λ ptr. InSight T.names self.old ptr) }
     {
-        self.or_tag(root, number)
-    }
-
-    fn or_tag(&mut self, root: usize, number: usize) -> Result<Ptr, Fault>
-        ensures before { IfOk result (λ before. slice_get self.old.roots root ≡ Some before) }
-        ensures state { OnOk result (self.new ≡ with_tag_at self.old root (bit_or (root_at self.old root).tag (number % T.ALIGN))) }
-        ensures err { IfErr result (λ e. (e ≡ Fault.Unknown) × (self.new ≡ self.old)) }
-        ensures fault { is_ok result ≡ nat_lt root (length self.old.roots) }
-    {
-        let before = self.held_at(root)?;
+        let before = self.load(root)?;
         self.set_tag(root, before.tag | tag_of::<T>(number));
         Ok(before)
     }
@@ -142,19 +100,10 @@ impl<T: Links + Pointable + Drop, J: Task> World<T, J> {
         ensures state { OnOk result (self.new ≡ with_tag_at self.old root (bit_xor (root_at self.old root).tag (number % T.ALIGN))) }
         ensures err { IfErr result (λ e. (e ≡ Fault.Unknown) × (self.new ≡ self.old)) }
         ensures fault { is_ok result ≡ nat_lt root (length self.old.roots) }
-        ensures told { (h : List Moment) → Tells T.names h self.old → Tells T.names (moment T.names Quiet self.new ∷ h) self.new }
-        ensures seen { IfOk result (λ ptr. (h : List Moment) (p : ℕ) (n : Name) → Tells T.names h self.old → ptr.name ≡ Some n → Visible h p n) }
+        ensures told { NextMoment T.names Quiet self.old self.new }
+        ensures seen { IfOk result (λ ptr. InSight T.names self.old ptr) }
     {
-        self.xor_tag(root, number)
-    }
-
-    fn xor_tag(&mut self, root: usize, number: usize) -> Result<Ptr, Fault>
-        ensures before { IfOk result (λ before. slice_get self.old.roots root ≡ Some before) }
-        ensures state { OnOk result (self.new ≡ with_tag_at self.old root (bit_xor (root_at self.old root).tag (number % T.ALIGN))) }
-        ensures err { IfErr result (λ e. (e ≡ Fault.Unknown) × (self.new ≡ self.old)) }
-        ensures fault { is_ok result ≡ nat_lt root (length self.old.roots) }
-    {
-        let before = self.held_at(root)?;
+        let before = self.load(root)?;
         self.set_tag(root, before.tag ^ tag_of::<T>(number));
         Ok(before)
     }

@@ -176,7 +176,7 @@ impl<J> Participant<J> {
         ensures place { self.new ≡ secured n self.old }
         ensures outcome { result ≡ outcome_at self.new.phase }
     {
-        let free = self.bag.len() + n as usize <= BAG;
+        let free = self.bag.len() + usize::from(n) <= BAG;
         self.phase = if free { Phase::Idle } else { Phase::SecureSeal };
         outcome_at(self.phase)
     }
@@ -216,7 +216,7 @@ impl<J> Participant<J> {
 
 impl<J: Drop> Participant<J> {
     /// A place that nobody holds.
-    pub fn blank() -> Participant<J>
+    pub(crate) fn blank() -> Participant<J>
         ensures { result ≡ blank }
     {
         Participant {
@@ -292,7 +292,7 @@ impl<J: Drop> Participant<J> {
     }
 
     /// A call begins at a place without a call in flight, or is refused.
-    pub fn begin(&mut self, op: Op) -> Outcome
+    pub(crate) fn begin(&mut self, op: Op) -> Outcome
         requires idle { self.old.phase ≡ Phase.Idle }
         ensures place { self.new ≡ place_or (begin_fault op self.old) (begun_at op self.old) self.old }
         ensures outcome { result ≡ outcome_or (begin_fault op self.old) (begun_at op self.old) }
@@ -326,7 +326,7 @@ fn after_pin(pins: u8) -> Phase
 fn is_secured_size(n: u8) -> bool
     ensures { result ≡ (nat_lt 0 n && nat_le n 64) }
 {
-    n > 0 && n <= 64
+    n > 0 && usize::from(n) <= BAG
 }
 
 /// Whether the call goes on.

@@ -4,7 +4,7 @@ ghost use Rattle.std.specs.Prelude.{◌≡◌, ◌<◌, ◌≤◌, List, ◌∷�
 ghost use Rattle.crossbeam_epoch.specs.World.Machine.{with_roots, stands};
 ghost use Rattle.crossbeam_epoch.specs.World.Roots.{root_at};
 ghost use Rattle.crossbeam_epoch.specs.declared.names.Name.{Name};
-ghost use Rattle.crossbeam_epoch.specs.World.Reach.{Moment, Quiet, moment, Tells, Visible};
+ghost use Rattle.crossbeam_epoch.specs.World.Reach.{Quiet, NextMoment, InSight};
 
 use crate::fault::Fault;
 use crate::names::{Links, Pointable, Ptr};
@@ -15,18 +15,10 @@ impl<T: Links + Pointable + Drop, J: Task> World<T, J> {
     /// What a root holds; Unknown where there is no such root.
     pub fn load(&self, root: usize) -> Result<Ptr, Fault>
         ensures ok { IfOk result (λ p. slice_get self.now.roots root ≡ Some p) }
-        ensures err { IfErr result (λ e. (e ≡ Fault.Unknown) × (length self.now.roots ≤ root)) }
-        ensures seen { IfOk result (λ ptr. (h : List Moment) (p : ℕ) (n : Name) → Tells T.names h self.now → ptr.name ≡ Some n → Visible h p n) }
-    {
-        self.held_at(root)
-    }
-
-    /// What a root holds, as `load` has it.
-    pub(crate) fn held_at(&self, root: usize) -> Result<Ptr, Fault>
-        ensures ok { IfOk result (λ p. slice_get self.now.roots root ≡ Some p) }
         ensures held { IfOk result (λ p. (root_at self.now root ≡ p) × (root < length self.now.roots)) }
         ensures err { IfErr result (λ e. (e ≡ Fault.Unknown) × (length self.now.roots ≤ root)) }
         ensures fault { is_ok result ≡ nat_lt root (length self.now.roots) }
+        ensures seen { IfOk result (λ ptr. InSight T.names self.now ptr) }
     {
         if root >= self.roots.len() {
             return Err(Fault::Unknown);
@@ -38,15 +30,7 @@ impl<T: Links + Pointable + Drop, J: Task> World<T, J> {
     pub fn store(&mut self, root: usize, new: Ptr) -> Result<(), Fault>
         ensures ok { OnOk result (self.new ≡ with_roots self.old (slice_set self.old.roots root new)) }
         ensures err { IfErr result (λ e. (e ≡ Fault.Unknown) × (self.new ≡ self.old)) }
-        ensures told { (h : List Moment) → Tells T.names h self.old → Tells T.names (moment T.names Quiet self.new ∷ h) self.new }
-        ensures fault { is_ok result ≡ (nat_lt root (length self.old.roots) && stands self.old.store new) }
-    {
-        self.write_root(root, new)
-    }
-
-    fn write_root(&mut self, root: usize, new: Ptr) -> Result<(), Fault>
-        ensures ok { OnOk result (self.new ≡ with_roots self.old (slice_set self.old.roots root new)) }
-        ensures err { IfErr result (λ e. (e ≡ Fault.Unknown) × (self.new ≡ self.old)) }
+        ensures told { NextMoment T.names Quiet self.old self.new }
         ensures fault { is_ok result ≡ (nat_lt root (length self.old.roots) && stands self.old.store new) }
     {
         if root >= self.roots.len() || !self.has_standing(new) {

@@ -5,7 +5,7 @@ ghost use Rattle.std.specs.Option.{option_copied};
 ghost use Rattle.crossbeam_epoch.specs.World.Machine.{with_store};
 ghost use Rattle.crossbeam_epoch.specs.World.Store.{value_at, IsNext, placed, emptied, replaced, is_usable};
 ghost use Rattle.crossbeam_epoch.specs.declared.names.Name.{Name};
-ghost use Rattle.crossbeam_epoch.specs.World.Reach.{Moment, Quiet, GivenBack, moment, Tells, WasLive, KeepsLinks, Visible, links_of};
+ghost use Rattle.crossbeam_epoch.specs.World.Reach.{Moment, Quiet, GivenBack, Tells, WasLive, KeepsLinks, Visible, links_of, NextMoment};
 
 use crate::fault::Fault;
 use crate::names::{Links, Name, Pointable};
@@ -17,11 +17,14 @@ impl<T: Links + Pointable + Drop, J: Task> World<T, J> {
     pub fn place(&mut self, value: T) -> Result<Name, (Fault, T)>
         ensures ok { IfOk result (λ name. IsNext self.old.store name × (self.new ≡ with_store self.old (placed self.old.store name value))) }
         ensures back { IfErr result (λ e. (e.0 ≡ Fault.CellsFull) × (e.1 ≡ value) × (self.new ≡ self.old)) }
-        ensures told { (h : List Moment) → Tells T.names h self.old → Tells T.names (moment T.names Quiet self.new ∷ h) self.new }
+        ensures told { NextMoment T.names Quiet self.old self.new }
         ensures full { OnErr result ((i : ℕ) → is_usable self.old.store i ≡ false) }
         ensures fresh { IfOk result (λ name. (h : List Moment) → Tells T.names h self.old → WasLive h name → ⊥) }
     {
-        self.put_value(value)
+        match self.cells.place(value) {
+            Ok(name) => Ok(name),
+            Err(value) => Err((Fault::CellsFull, value)),
+        }
     }
 
     /// Whether some cell is usable, so that the next value is placed.
@@ -32,29 +35,11 @@ impl<T: Links + Pointable + Drop, J: Task> World<T, J> {
         self.cells.has_room()
     }
 
-    fn put_value(&mut self, value: T) -> Result<Name, (Fault, T)>
-        ensures ok { IfOk result (λ name. IsNext self.old.store name × (self.new ≡ with_store self.old (placed self.old.store name value))) }
-        ensures back { IfErr result (λ e. (e.0 ≡ Fault.CellsFull) × (e.1 ≡ value) × (self.new ≡ self.old)) }
-        ensures full { OnErr result ((i : ℕ) → is_usable self.old.store i ≡ false) }
-    {
-        match self.cells.place(value) {
-            Ok(name) => Ok(name),
-            Err(value) => Err((Fault::CellsFull, value)),
-        }
-    }
-
     /// Takes back the value of a cell that was never in reach; Unknown where the name is destroyed.
     pub fn give_back(&mut self, name: Name) -> Result<T, Fault>
         ensures ok { IfOk result (λ v. (value_at self.old.store name ≡ Some v) × (self.new ≡ with_store self.old (emptied self.old.store name.cell))) }
         ensures err { IfErr result (λ e. (value_at self.old.store name ≡ None) × (e ≡ Fault.Unknown) × (self.new ≡ self.old)) }
-        ensures told { (h : List Moment) → Tells T.names h self.old → MatchResult result (λ v. Tells T.names (moment T.names (GivenBack name) self.new ∷ h) self.new) (λ e. Tells T.names (moment T.names Quiet self.new ∷ h) self.new) }
-    {
-        self.take_value(name)
-    }
-
-    fn take_value(&mut self, name: Name) -> Result<T, Fault>
-        ensures ok { IfOk result (λ v. (value_at self.old.store name ≡ Some v) × (self.new ≡ with_store self.old (emptied self.old.store name.cell))) }
-        ensures err { IfErr result (λ e. (value_at self.old.store name ≡ None) × (e ≡ Fault.Unknown) × (self.new ≡ self.old)) }
+        ensures told { MatchResult result (λ v. NextMoment T.names (GivenBack name) self.old self.new) (λ e. NextMoment T.names Quiet self.old self.new) }
     {
         match self.cells.take(name) {
             Some(value) => Ok(value),
@@ -74,14 +59,7 @@ impl<T: Links + Pointable + Drop, J: Task> World<T, J> {
     pub fn replace(&mut self, name: Name, value: T) -> Result<T, (Fault, T)>
         ensures ok { IfOk result (λ v. (value_at self.old.store name ≡ Some v) × (self.new ≡ with_store self.old (replaced self.old.store name.cell value))) }
         ensures err { IfErr result (λ e. (value_at self.old.store name ≡ None) × (e.0 ≡ Fault.Unknown) × (e.1 ≡ value) × (self.new ≡ self.old)) }
-        ensures told { (h : List Moment) → Tells T.names h self.old → Tells T.names (moment T.names Quiet self.new ∷ h) self.new }
-    {
-        self.change_value(name, value)
-    }
-
-    fn change_value(&mut self, name: Name, value: T) -> Result<T, (Fault, T)>
-        ensures ok { IfOk result (λ v. (value_at self.old.store name ≡ Some v) × (self.new ≡ with_store self.old (replaced self.old.store name.cell value))) }
-        ensures err { IfErr result (λ e. (value_at self.old.store name ≡ None) × (e.0 ≡ Fault.Unknown) × (e.1 ≡ value) × (self.new ≡ self.old)) }
+        ensures told { NextMoment T.names Quiet self.old self.new }
     {
         match self.cells.replace(name, value) {
             Ok(old) => Ok(old),

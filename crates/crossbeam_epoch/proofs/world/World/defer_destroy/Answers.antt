@@ -1,5 +1,10 @@
-use Rattle.crossbeam_epoch.proofs.Told.{tells_removal}
+use Rattle.crossbeam_epoch.specs.declared.bag.Work.TheVariants.{Remove}
+use Rattle.crossbeam_epoch.proofs.Told.{tells_deferred, tells_still}
 use Rattle.crossbeam_epoch.proofs.world.World.defer_destroy.Goals as goal
+use Rattle.crossbeam_epoch.proofs.world.World.defer_destroy.Goals.{in-Ok, in-Err}
 
 pub returns-clause-told : goal.returns-clause-told
-returns-clause-told g c = λ h t. tells_removal g.T.Links.names h c.args.self.now c.put_off_removal.new.self c.args.who c.args.name c.put_off_removal.result c.put_off_removal.ensures.ticket c.put_off_removal.ensures.state c.put_off_removal.ensures.back c.put_off_removal.ensures.fault t
+returns-clause-told g c = elim c.match-put_off.branch [
+  | in-Ok w ↦ rw w.result-is (tells_deferred g.T.Links.names c.args.self.now c.put_off.new.self c.args.who _ (Remove c.args.name) w.in-Ok.ensures.state w.in-Ok.ensures.ticket w.in-Ok.ensures.fault)
+  | in-Err w ↦ rw w.result-is (tells_still g.T.Links.names c.args.self.now c.put_off.new.self w.in-Err.ensures.back.0)
+]

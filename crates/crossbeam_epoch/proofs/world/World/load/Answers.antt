@@ -1,5 +1,10 @@
-use Rattle.crossbeam_epoch.proofs.RootCalls.{before_seen}
+use Rattle.std.proofs.Common.{subst, ◌∙◌}
+use Rattle.std.proofs.lemmas.Option.{slice_get_read}
+use Rattle.crossbeam_epoch.specs.World.Reach.{InSight}
+use Rattle.crossbeam_epoch.proofs.Reaches.{root_sight}
 use Rattle.crossbeam_epoch.proofs.world.World.load.Goals as goal
 
 pub returns-clause-seen : goal.returns-clause-seen
-returns-clause-seen g c = before_seen g.T.Links.names c.args.self.now c.args.root c.held_at.result c.held_at.ensures.ok
+returns-clause-seen g c =
+    let there = slice_get_read c.self.inside.roots.items c.len.result c.args.root c.index.result.now (c.len.ensures ∙ c.self.inside.roots.ok.0) c.if-root-len.false c.index.ensures in
+    subst (λ s. InSight g.T.Links.names s c.index.result.now) c.self.view_is (root_sight g.T.Links.names _ c.args.root c.index.result.now there)

@@ -1,8 +1,14 @@
+use Rattle.std.proofs.Common.{subst}
+use Rattle.crossbeam_epoch.specs.World.Store.{IsNext}
 use Rattle.crossbeam_epoch.proofs.Told.{tells_placed, placed_new}
 use Rattle.crossbeam_epoch.proofs.world.World.place.Goals as goal
+use Rattle.crossbeam_epoch.proofs.world.World.place.Goals.{in-Ok, in-Err}
 
 pub returns-clause-told : goal.returns-clause-told
-returns-clause-told g c = λ h t. tells_placed g.T.Links.names h c.args.self.now c.put_value.new.self c.args.value c.put_value.result c.put_value.ensures.ok c.put_value.ensures.back t
+returns-clause-told g c = tells_placed g.T.Links.names c.args.self.now _ c.place.new.self c.args.value c.place.result c.self.view_is c.place.ensures.ok c.place.ensures.back
 
 pub returns-clause-fresh : goal.returns-clause-fresh
-returns-clause-fresh g c = placed_new g.T.Links.names c.args.self.now c.put_value.new.self c.args.value c.put_value.result c.put_value.ensures.ok
+returns-clause-fresh g c = elim c.match-place.branch [
+  | in-Ok w ↦ rw w.result-is (placed_new g.T.Links.names c.args.self.now w.in-Ok.name (subst (λ s. IsNext s.store w.in-Ok.name) c.self.view_is w.in-Ok.ensures.ok.0))
+  | in-Err w ↦ rw w.result-is tt
+]

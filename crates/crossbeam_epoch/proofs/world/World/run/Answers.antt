@@ -1,14 +1,40 @@
-use Rattle.std.proofs.Common.{take}
+use Rattle.std.proofs.Common.{rules, ◌≡◌, arith, ap, sym, subst, ◌∙◌, ◌∷◌, [], ◌++◌, length, take}
+use Rattle.std.proofs.lemmas.List.{length_push}
+use Rattle.crossbeam_epoch.specs.World.Steps.{state_after, AreReports}
+use Rattle.crossbeam_epoch.proofs.Runs.{fits_run, run_more}
 use Rattle.crossbeam_epoch.proofs.Logs.{shows_run}
-use Rattle.crossbeam_epoch.proofs.Runs.{fits_run}
 use Rattle.crossbeam_epoch.proofs.Told.{tells_run}
 use Rattle.crossbeam_epoch.proofs.world.World.run.Goals as goal
+use Rattle.crossbeam_epoch.proofs.world.World.run.Goals.{else-loop-step-test, then-loop-step-test+then-is_err}
 
-pub returns-clause-kept : goal.returns-clause-kept
-returns-clause-kept g c = λ h f. rw c.act_all.ensures.state (fits_run h c.args.self.now (take c.act_all.result.done c.args.steps.now) c.act_all.result.reports.items c.act_all.ensures.legal f)
+pub loop-step-preserved : goal.loop-step-preserved
+loop-step-preserved g c =
+    let more : c.push_reserved.new.self.items ≡ c.loop-step.reports.items ++ c.step-report.result ∷ [] = c.push_reserved.ensures.items ∙ ap (λ xs. xs ++ c.step-report.result ∷ []) c.reserve.ensures.items in
+    let on = run_more c.args.self.now c.args.steps.now c.loop-step.step-index _ c.loop-step.reports.items c.push_reserved.new.self.items c.step-report.result c.loop-step.self c.step-report.new.self
+    (omega arith) c.loop-step.invariant.count c.loop-step.invariant.legal c.loop-step.invariant.state c.step-report.ensures.report c.step-report.ensures.state more in
+    record { count = rw more (omega (arith, length_push c.loop-step.reports.items c.step-report.result)); legal = on.0; state = on.1 }
 
-pub returns-clause-told : goal.returns-clause-told
-returns-clause-told g c = λ h t. rw c.act_all.ensures.state (tells_run g.T.Links.names h c.args.self.now (take c.act_all.result.done c.args.steps.now) c.act_all.result.reports.items c.act_all.ensures.legal t)
-
-pub returns-clause-shown : goal.returns-clause-shown
-returns-clause-shown g c = λ log h w. rw c.act_all.ensures.state (shows_run log h c.args.self.now (take c.act_all.result.done c.args.steps.now) c.act_all.result.reports.items c.act_all.ensures.legal w)
+pub returns : goal.returns
+returns g c =
+    let l = c.loop-step in
+    let reports = c.loop-step-test.reports in
+    let same : reports.items ≡ l.reports.items = elim c.loop-step-test.branch [
+      | else-loop-step-test w ↦ ap (λ v. v.items) w.reports-is
+      | then-loop-step-test+then-is_err w ↦ ap (λ v. v.items) w.reports-is ∙ w.reserve.ensures.items
+    ] in
+    let counted : c.len.result ≡ length reports.items = search rules in
+    let long : c.len.result ≡ l.step-index = counted ∙ ap length same ∙ l.invariant.count in
+    let legal : AreReports c.args.self.now (take c.len.result c.args.steps.now) reports.items =
+    subst (λ n. AreReports c.args.self.now (take n c.args.steps.now) reports.items) (sym long) (subst (λ xs. AreReports c.args.self.now (take l.step-index c.args.steps.now) xs) (sym same) l.invariant.legal) in
+    let state : l.self ≡ state_after c.args.self.now (take c.len.result c.args.steps.now) reports.items =
+    l.invariant.state ∙ ap (λ xs. state_after c.args.self.now (take l.step-index c.args.steps.now) xs) (sym same) ∙ ap (λ n. state_after c.args.self.now (take n c.args.steps.now) reports.items) (sym long) in
+    let steps = take c.len.result c.args.steps.now in
+    record {
+      done = rw long l.auto.step-index-end;
+      reports = sym c.len.ensures;
+      legal = legal;
+      state = state;
+      kept = λ h f. rw state (fits_run h c.args.self.now steps reports.items legal f);
+      told = λ h t. rw state (tells_run g.T.Links.names h c.args.self.now steps reports.items legal t);
+      shown = λ log h w. rw state (shows_run log h c.args.self.now steps reports.items legal w);
+    }

@@ -1,5 +1,4 @@
 use Rattle.std.proofs.Common.{refl, sym, subst, List}
-use Rattle.std.specs.Prelude.{Ok}
 use Rattle.crossbeam_epoch.specs.World.Fits.{Fits}
 use Rattle.crossbeam_epoch.specs.World.History.{Mark}
 use Rattle.crossbeam_epoch.specs.World.Machine.{with_store, with_roots}
@@ -12,7 +11,7 @@ use Rattle.crossbeam_epoch.proofs.world.World.stored.Goals as goal
 pub returns : goal.returns
 returns g c = record {
   fits = λ h s st f. fits_store h s (with_store s st) refl f;
-  rooted = λ h s roots f. fits_roots h s (with_roots s roots) (Ok tt) roots refl tt f;
+  rooted = λ h s roots f. fits_roots h s roots f;
   orderly = λ s st roots o. orderly_beside s (with_roots (with_store s st) roots) refl refl o;
   told = λ h s st act t same ends keeps. tells_act g.T.Links.names h s (with_store s st) act t (subst (λ (x : List Mark). Fits x (with_store s st)) (sym same) (fits_store (marks_of h) s (with_store s st) refl t.fits)) ends t.table keeps;
 }

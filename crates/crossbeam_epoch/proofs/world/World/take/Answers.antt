@@ -8,7 +8,7 @@ use Rattle.crossbeam_epoch.specs.World.Steps.{outcome_at}
 use Rattle.crossbeam_epoch.proofs.Held.{placed_at, took_first, written_at}
 use Rattle.crossbeam_epoch.proofs.Within.{within}
 use Rattle.crossbeam_epoch.proofs.world.World.take.Goals as goal
-use Rattle.crossbeam_epoch.proofs.world.World.take.Goals.{then-bags-ge8-via-then-bags-ge8, then-bags-ge8-via-else-bags-ge8+then-not-is_due}
+use Rattle.crossbeam_epoch.proofs.world.World.take.Goals.{then-bags-ge-BAGS-via-then-bags-ge-BAGS, then-bags-ge-BAGS-via-else-bags-ge-BAGS+then-not-is_due}
 
 one_bag_more : (n : ℕ) → n < 8 → n + 1 < 256
 one_bag_more n lt = omega (arith, lt)
@@ -26,7 +26,7 @@ took_none s v who answered bags old is lt read none =
 
 pub returns : goal.returns
 returns g c = record {
-  state = took_first c.args.self.now _ c.args.who c.args.answered c.args.bags c.call_from.new.self c.index_mut-2.result.now c.in-Some.field-0 c.pop_front.new.self.items c.self.view_is c.requires.in_table c.index_mut-2.ensures.value c.in-Some.ensures.items c.call_from.ensures (sym c.is_due.ensures ∙ c.if-not-is_due.false) c.if-bags-ge8.false;
+  state = took_first c.args.self.now _ c.args.who c.args.answered c.args.bags c.call_from.new.self c.index_mut-2.result.now c.in-Some.field-0 c.pop_front.new.self.items c.self.view_is c.requires.in_table c.index_mut-2.ensures.value c.in-Some.ensures.items c.call_from.ensures (sym c.is_due.ensures ∙ c.if-not-is_due.false) c.if-bags-ge-BAGS.false;
   outcome = sym (ap (λ p. outcome_at p.phase) (written_at c.args.self.now _ c.args.who c.call_from.new.self c.self.view_is c.requires.in_table) ∙ ap (λ p. outcome_at p.phase) c.call_from.ensures);
 }
 
@@ -38,14 +38,14 @@ index_mut-requires-2 g c = within c.args.self.now _ c.args.who _ c.self.view_is 
 
 pub overflow_add-bags : goal.overflow_add-bags
 overflow_add-bags g c =
-    let fits : c.args.bags + 1 < 256 = one_bag_more c.args.bags c.if-bags-ge8.false in
+    let fits : c.args.bags + 1 < 256 = one_bag_more c.args.bags c.if-bags-ge-BAGS.false in
     search (rules, fits)
 
-pub returns-then-bags-ge8 : goal.returns-then-bags-ge8
-returns-then-bags-ge8 g c =
-    let none : (is_due c.args.self.now c.args.answered && nat_lt c.args.bags 8) ≡ false = elim c.then-bags-ge8.branch [
-      | then-bags-ge8-via-then-bags-ge8 w ↦ no_turn (is_due c.args.self.now c.args.answered) c.args.bags w.if-bags-ge8.true
-      | then-bags-ge8-via-else-bags-ge8+then-not-is_due w ↦ none_due (is_due c.args.self.now c.args.answered) (nat_lt c.args.bags 8) (sym w.is_due.ensures ∙ w.if-not-is_due.true)
+pub returns-then-bags-ge-BAGS : goal.returns-then-bags-ge-BAGS
+returns-then-bags-ge-BAGS g c =
+    let none : (is_due c.args.self.now c.args.answered && nat_lt c.args.bags 8) ≡ false = elim c.then-bags-ge-BAGS.branch [
+      | then-bags-ge-BAGS-via-then-bags-ge-BAGS w ↦ no_turn (is_due c.args.self.now c.args.answered) c.args.bags w.if-bags-ge-BAGS.true
+      | then-bags-ge-BAGS-via-else-bags-ge-BAGS+then-not-is_due w ↦ none_due (is_due c.args.self.now c.args.answered) (nat_lt c.args.bags 8) (sym w.is_due.ensures ∙ w.if-not-is_due.true)
     ] in
     let old = c.index_mut.result.now in
     record {

@@ -1,6 +1,6 @@
 use Rattle.std.proofs.Common.{◌≡◌, length, take}
 use Rattle.crossbeam_epoch.specs.World.Steps.{state_after, AreReports}
-use Rattle.crossbeam_epoch.proofs.world.World.act_all.Given as goal
+use Rattle.crossbeam_epoch.proofs.world.World.run.Given as goal
 
 abbrev pub invariant-loop-step : goal.invariant-loop-step
 invariant-loop-step g l = record {

@@ -1,5 +1,5 @@
 use Rattle.crossbeam_epoch.specs.World.Calls.{IsGoing}
-use Rattle.crossbeam_epoch.proofs.world.World.act_out.Given as goal
+use Rattle.crossbeam_epoch.proofs.world.World.call.Given as goal
 
 abbrev pub invariant-loop : goal.invariant-loop
 invariant-loop g l = IsGoing l.fn.self l.fn.who l.fn.op l.counter l.newest l.event l.self

@@ -1,0 +1,20 @@
+-- What a compare-and-exchange answers.
+use Rattle.std.specs.Prelude.{◌≡◌, ◌≢◌, ◌<◌, ℕ, Bool, true, Option, Result, MatchResult}
+use Rattle.std.specs.Bool.{MatchBool}
+use Rattle.crossbeam_epoch.specs.declared.face.atomic.CompareExchangeError.{CompareExchangeError}
+use Rattle.crossbeam_epoch.specs.declared.face.link.Link.{Link}
+use Rattle.crossbeam_epoch.specs.declared.face.link.Site.{Site}
+use Rattle.crossbeam_epoch.specs.declared.face.shared.Shared.{Shared}
+use Rattle.crossbeam_epoch.specs.declared.fault.Fault.{Fault}
+use Rattle.crossbeam_epoch.specs.declared.fault.Fault.TheVariants.{Foreign}
+
+-- it wrote a pointer with this tag that leads where the new one does; or it found another pointer than the one before, whose
+-- tag is below the alignment; or it was refused, as Foreign where the new pointer leads to another collector. What it didn't
+-- write comes back
+abbrev pub IsExchange : {T P : Type 0} → (tag align : ℕ) → (leads : Option Site → Type 0) → (elsewhere refusable : Bool) → (cause : Fault) → (before : Link) → (new : P) → Result (Result (Shared T) (CompareExchangeError T P)) (Fault × P) → Type 0
+IsExchange tag align leads elsewhere refusable cause before new r =
+    MatchResult r
+    (λ x. MatchResult x
+    (λ s. (s.link.tag ≡ tag) × leads s.link.site)
+    (λ e. (e.current.link ≢ before) × (e.current.link.tag < align) × (e.new ≡ new)))
+    (λ e. (e.1 ≡ new) × MatchBool elsewhere (e.0 ≡ Foreign) ((e.0 ≡ cause) × (refusable ≡ true)))
