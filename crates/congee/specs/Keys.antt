@@ -10,6 +10,6 @@ abbrev pub key_bytes : ℕ → List ℕ
 key_bytes k = to_be_bytes w64 k
 
 -- the pairs that stand in the tree
-pub record Standing {V : Type 0} (h : ℕ → Node V) (m : FinMap nat_cmp V) : Type 0 where
+pub record IsMapOf {V : Type 0} (h : ℕ → Node V) (m : FinMap nat_cmp V) : Type 0 where
   pub at : (k : ℕ) → k < 2 ^ 64 → get m k ≡ value_at h (key_bytes k)
   pub none_beyond : (k : ℕ) → 2 ^ 64 ≤ k → get m k ≡ None

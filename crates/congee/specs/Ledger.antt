@@ -70,6 +70,6 @@ pub record WordAt {V : Type 0} (x : Note) (n : Node V) : Type 0 where
   pub unretired : x.status ≡ Linked → n.retired ≡ false
 
 -- of every node; and the root has 256 places
-pub record Words {V : Type 0} (a : ℕ → Note) (h : ℕ → Node V) : Type 0 where
+pub record LockWords {V : Type 0} (a : ℕ → Note) (h : ℕ → Node V) : Type 0 where
   pub each : (n : ℕ) → WordAt (a n) (h n)
   pub wide : (h 0).capacity ≡ 256

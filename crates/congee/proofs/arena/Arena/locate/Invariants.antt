@@ -1,9 +1,0 @@
-use Rattle.std.proofs.Common.{◌-◌, length}
-use Rattle.congee.specs.Arena.{heap_of, Reached}
-use Rattle.congee.proofs.arena.Arena.locate.Given as goal
-
-abbrev pub invariant-loop-below : goal.invariant-loop-below
-invariant-loop-below g l = Reached l.self.nodes l.key l.above l.at
-
-abbrev pub decreases-loop-below : goal.decreases-loop-below
-decreases-loop-below g l = 8 - length (heap_of l.self.nodes l.at).prefix

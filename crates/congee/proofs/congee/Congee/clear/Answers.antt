@@ -1,5 +1,0 @@
-use Rattle.congee.proofs.Tables.{pairs_empty}
-use Rattle.congee.proofs.congee.Congee.clear.Goals as goal
-
-pub returns-clause-empty : goal.returns-clause-empty
-returns-clause-empty g c = pairs_empty c.clear.new.self.nodes c.clear.ensures.empty

@@ -1,5 +1,0 @@
-use Rattle.congee.proofs.Tables.{pairs_empty}
-use Rattle.congee.proofs.congee.Congee.new_with_drainer.Goals as goal
-
-pub returns-clause-empty : goal.returns-clause-empty
-returns-clause-empty g c = pairs_empty c.in_ok-arena.arena.nodes c.in_ok-arena.ensures.empty

@@ -1,0 +1,10 @@
+use Rattle.std.proofs.Common.{sym, subst, IsSome}
+use Rattle.std.specs.FinMap as map
+use Rattle.congee.proofs.lemmas.forms.MaskLemmas.{count_fits, is_byte}
+use Rattle.congee.proofs.forms.masked.Masked.len.Goals as goal
+
+pub returns-clause-fits : goal.returns-clause-fits
+returns-clause-fits g c = count_fits c.self.invariant
+
+pub returns-clause-bytes : goal.returns-clause-bytes
+returns-clause-bytes g c = λ b h. is_byte c.self.invariant b (subst (λ m. IsSome (map.get m b)) (sym c.self.view_is) h)

@@ -1,6 +1,0 @@
-use Rattle.std.proofs.Common.{◌≡◌, ℕ, ◌≤◌, ◌<◌}
-use Rattle.congee.specs.Index.{place_of}
-use Rattle.congee.proofs.index.Index.first_from.Given as goal
-
-abbrev pub invariant-loop-byte : goal.invariant-loop-byte
-invariant-loop-byte l = (b : ℕ) → l.from ≤ b → b < l.byte → place_of l.self b ≡ 48

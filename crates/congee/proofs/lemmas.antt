@@ -1,0 +1,11 @@
+pub mod Fits
+pub mod Graft
+pub mod Keys
+pub mod Link
+pub mod Orders
+pub mod Split
+pub mod Tree
+pub mod Unlink
+pub mod forms
+pub mod owned
+pub mod protocol

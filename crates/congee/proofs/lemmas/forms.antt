@@ -1,0 +1,16 @@
+pub mod BetweenLemmas
+pub mod BitLemmas
+pub mod ByteLemmas
+pub mod ChainLemmas
+pub mod Entries
+pub mod EntryLemmas
+pub mod Full
+pub mod Grown
+pub mod IndexLemmas
+pub mod PackedPrefixes
+pub mod MapLemmas
+pub mod MaskLemmas
+pub mod MoveLemmas
+pub mod OffsetLemmas
+pub mod Prefixes
+pub mod SortedLemmas

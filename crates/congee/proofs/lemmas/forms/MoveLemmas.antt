@@ -1,0 +1,107 @@
+-- Children that move from one node to another, in the order of their bytes.
+use Rattle.std.proofs.Common.{◌≡◌, ◌≢◌, ℕ, ◌<◌, ◌≤◌, ◌+◌, true, false, eqb, cond, None, Some, IsSome, refl, inl, inr, sym, ap, ◌∙◌, subst, arith}
+use Rattle.std.proofs.lemmas.Bool.Decides.{nat_tests}
+use Rattle.std.proofs.lemmas.Bool.{cases_lt, cases_eq}
+use Rattle.std.specs.Ordering.{nat_cmp}
+use Rattle.std.specs.Cmp.{nat_cmp_total}
+use Rattle.std.specs.FinMap as map
+use Rattle.congee.specs.declared.forms.base_node.Node.{Node}
+use Rattle.congee.specs.declared.forms.base_node.Node.TheVariants.{N4, N16, N48, N256}
+use Rattle.congee.specs.forms.Bytes.{IsFirst}
+use Rattle.congee.specs.forms.Forms.{capacity_of, form_of, prefix_of, children_of, is_full_of}
+use Rattle.congee.proofs.lemmas.forms.MapLemmas.{same_is, len_new, len_less, some_len}
+
+-- the children below `from` have moved from m, which left `kept`, to `moved`
+pub record HaveMoved {X : Type 0} (m kept moved : map.FinMap nat_cmp X) (from : ℕ) : Type 0 where
+  pub below : (q : ℕ) → q < from → map.get moved q ≡ map.get m q
+  pub gone : (q : ℕ) → q < from → map.get kept q ≡ None
+  pub above : (q : ℕ) → from ≤ q → map.get kept q ≡ map.get m q
+  pub free : (q : ℕ) → from ≤ q → map.get moved q ≡ None
+  pub count : map.len moved + map.len kept ≡ map.len m
+
+eq_same : (k : ℕ) → eqb k k ≡ true
+eq_same k = grind (arith, nat_tests)
+
+eq_other : (q k : ℕ) → q ≢ k → eqb q k ≡ false
+eq_other q k n = grind (arith, nat_tests, n)
+
+module _ {X : Type 0} where
+  pub none_moved : (m : map.FinMap nat_cmp X) → HaveMoved m m map.empty 0
+  none_moved m = record {
+    below = λ q l. absurd (omega arith);
+    gone = λ q l. absurd (omega arith);
+    above = λ q l. refl;
+    free = λ q l. map.get-empty nat_cmp q;
+    count = omega (arith, map.len-empty nat_cmp X);
+  }
+
+  get_put_same : (m : map.FinMap nat_cmp X) (k : ℕ) (x : X) → map.get (map.insert m k x) k ≡ Some x
+  get_put_same m k x = map.get-insert nat_cmp_total m k x k ∙ ap (λ t. cond t (Some x) (map.get m k)) (same_is k k ∙ eq_same k)
+
+  get_put_other : (m : map.FinMap nat_cmp X) (k q : ℕ) (x : X) → q ≢ k → map.get (map.insert m k x) q ≡ map.get m q
+  get_put_other m k q x n = map.get-insert nat_cmp_total m k x q ∙ ap (λ t. cond t (Some x) (map.get m q)) (same_is q k ∙ eq_other q k n)
+
+  get_cut_same : (m : map.FinMap nat_cmp X) (k : ℕ) → map.get (map.remove m k) k ≡ None
+  get_cut_same m k = map.get-remove nat_cmp_total m k k ∙ ap (λ t. cond t None (map.get m k)) (same_is k k ∙ eq_same k)
+
+  get_cut_other : (m : map.FinMap nat_cmp X) (k q : ℕ) → q ≢ k → map.get (map.remove m k) q ≡ map.get m q
+  get_cut_other m k q n = map.get-remove nat_cmp_total m k q ∙ ap (λ t. cond t None (map.get m q)) (same_is q k ∙ eq_other q k n)
+
+  module _ {m kept moved : map.FinMap nat_cmp X} {from b : ℕ} {x : X} (is : HaveMoved m kept moved from) (f : IsFirst kept from b x) where
+    -- the next child moves
+    pub one_moved : HaveMoved m (map.remove kept b) (map.insert moved b x) (b + 1)
+    one_moved = record {
+      below = λ q l. elim (cases_eq q b) [
+        | inl e ↦ subst (λ k. map.get (map.insert moved b x) k ≡ map.get m k) (sym e) (get_put_same moved b x ∙ sym f.here ∙ is.above b f.past)
+        | inr n ↦ get_put_other moved b q x n ∙ elim (cases_lt q from) [
+          | inl h ↦ is.below q h
+          | inr h ↦ is.free q h ∙ sym (sym (is.above q h) ∙ f.before q h (omega (arith, n)))
+        ]
+      ];
+      gone = λ q l. elim (cases_eq q b) [
+        | inl e ↦ subst (λ k. map.get (map.remove kept b) k ≡ None) (sym e) (get_cut_same kept b)
+        | inr n ↦ get_cut_other kept b q n ∙ elim (cases_lt q from) [ inl h ↦ is.gone q h | inr h ↦ f.before q h (omega (arith, n)) ]
+      ];
+      above = λ q l. get_cut_other kept b q (omega arith) ∙ is.above q (omega (arith, f.past));
+      free = λ q l. get_put_other moved b q x (omega arith) ∙ is.free q (omega (arith, f.past));
+      count = omega (arith, is.count, len_new moved b x (is.free b f.past), len_less kept b some_here);
+    }
+      where
+        some_here : IsSome (map.get kept b)
+        some_here = let e = f.here in cc e
+
+    pub room_left : map.len moved < map.len m
+    room_left = let some : IsSome (map.get kept b) = cc f.here in omega (arith, is.count, some_len kept b some)
+
+  -- the next child goes
+  pub one_gone : {m : map.FinMap nat_cmp X} {from b : ℕ} {x : X} → IsFirst m from b x → ((q : ℕ) → q < from → map.get m q ≡ None)
+      → (q : ℕ) → q < 1 + b → map.get (map.remove m b) q ≡ None
+  one_gone {m} {from} {b} f gone q l = elim (cases_eq q b) [
+    | inl e ↦ subst (λ k. map.get (map.remove m b) k ≡ None) (sym e) (get_cut_same m b)
+    | inr n ↦ get_cut_other m b q n ∙ elim (cases_lt q from) [ inl h ↦ gone q h | inr h ↦ f.before q h (omega (arith, n, l)) ]
+  ]
+
+  pub all_gone : (m : map.FinMap nat_cmp X) (from : ℕ) → ((q : ℕ) → q < from → map.get m q ≡ None) → ((q : ℕ) → from ≤ q → map.get m q ≡ None) → m ≡ map.empty
+  all_gone m from gone none =
+      map.same_map nat_cmp_total map.nat_cmp-IsAntisymmetric m map.empty (λ q. elim (cases_lt q from) [ inl h ↦ gone q h | inr h ↦ none q h ] ∙ sym (map.get-empty nat_cmp q))
+
+  pub all_moved : (m kept moved : map.FinMap nat_cmp X) (from : ℕ) → HaveMoved m kept moved from → ((q : ℕ) → from ≤ q → map.get kept q ≡ None) → (kept ≡ map.empty) × (moved ≡ m)
+  all_moved m kept moved from is none = (
+    map.same_map nat_cmp_total map.nat_cmp-IsAntisymmetric kept map.empty (λ q. elim (cases_lt q from) [ inl h ↦ is.gone q h | inr h ↦ none q h ] ∙ sym (map.get-empty nat_cmp q)),
+    map.same_map nat_cmp_total map.nat_cmp-IsAntisymmetric moved m (λ q. elim (cases_lt q from) [ inl h ↦ is.below q h | inr h ↦ is.free q h ∙ sym (sym (is.above q h) ∙ none q h) ]),
+  )
+
+-- what a loop that moves the children of `old` to `empty` has made of both
+pub record IsMoving {C P : Type 0} (old empty kept moved : Node C P) (from : ℕ) : Type 0 where
+  pub kept_form : form_of kept ≡ form_of old
+  pub kept_prefix : prefix_of kept ≡ prefix_of old
+  pub moved_form : form_of moved ≡ form_of empty
+  pub moved_prefix : prefix_of moved ≡ prefix_of empty
+  pub children : HaveMoved (children_of old) (children_of kept) (children_of moved) from
+
+module _ {C P : Type 0} where
+  pub has_room : (n : Node C P) → map.len (children_of n) < capacity_of (form_of n) → is_full_of n ≡ false
+  has_room (N4 n) l = grind (arith, nat_tests, l)
+  has_room (N16 n) l = grind (arith, nat_tests, l)
+  has_room (N48 n) l = grind (arith, nat_tests, l)
+  has_room (N256 n) l = refl

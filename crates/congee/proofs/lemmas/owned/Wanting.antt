@@ -1,0 +1,255 @@
+-- What an insertion makes and a removal takes, by the last node on the key's way.
+use Rattle.std.proofs.Common.{rules, ◌≡◌, ◌≢◌, ℕ, zero, suc, ◌+◌, ◌<◌, ◌≤◌, ◌^◌, ◌⊎◌, inl, inr, Bool, true, false, cond, List, [], ◌∷◌, length, get_or, refl, sym, ap, subst, ◌∙◌, arith}
+use Rattle.std.specs.Prelude.{Option, None, Some, ◌==◌}
+use Rattle.std.proofs.lemmas.Bool.Decides.{eqb_tells}
+use Rattle.std.specs.Option.{option_map}
+use Rattle.std.specs.FinMap as map
+use Rattle.slab.specs.Slab.{get, ContainsKey}
+use Rattle.congee.specs.Heap.{Hung, Nothing, Below, Holds, Node, fits, child_for}
+use Rattle.congee.specs.Ledger.{Linked, Note, IsChild, HasParent, Tree}
+use Rattle.congee.specs.forms.Forms.{form_of, children_of, size_of, next_form, is_full_of}
+use Rattle.congee.specs.owned.Arena.{Nodes, heap_of, node_of, IsTree, OnWay, Hangs}
+use Rattle.congee.specs.Keys.{key_bytes}
+use Rattle.congee.specs.owned.OwnedSteps.{SameNodes, Sets, Makes, IsRefusal}
+use Rattle.congee.specs.owned.Place.{Located, EndsAt}
+use Rattle.congee.specs.declared.owned.place.Place.{Place}
+use Rattle.congee.specs.declared.owned.place.Spot.{Spot}
+use Rattle.congee.specs.declared.owned.place.Spot.TheVariants.{Held, Free, Apart}
+use Rattle.congee.specs.declared.allocator.OOMError.{OOMError}
+use Rattle.congee.specs.owned.Sizes.{bytes_at}
+use Rattle.congee.specs.owned.Table.{table}
+use Rattle.congee.specs.owned.Wanted.{size_by, grown_size, net, gain, at_end, descend, room_for, free_wants, last_wants, wants_at, last_lone, lone_at, wants_of, lone_of, freed_of, freed_by, IsRefusedOf}
+use Rattle.congee.specs.declared.forms.base_node.Node.{Node as Form}
+use Rattle.congee.specs.declared.forms.base_node.Node.TheVariants.{N4, N16, N48, N256}
+use Rattle.congee.proofs.lemmas.Fits.{fits_trans, fits_byte}
+use Rattle.congee.proofs.lemmas.owned.Tables.{table_below}
+use Rattle.congee.proofs.lemmas.Tree.{same_or_not}
+use Rattle.congee.proofs.lemmas.owned.Ways.{linked_of, above_apart}
+use Rattle.congee.proofs.lemmas.owned.Moves.{node_at, apart_of}
+use Rattle.congee.proofs.lemmas.owned.Answered.{located_held}
+
+module _ {V X : Type 0} (apart : X) (last : Node V → Hung V → X) where
+  end_same : (f g : ℕ → X) (n : Node V) (x : Hung V) → ((c : ℕ) → x ≡ Below c → f c ≡ g c) → at_end last n f x ≡ at_end last n g x
+  end_same f g n Nothing e = refl
+  end_same f g n (Below c) e = e c refl
+  end_same f g n (Holds v) e = refl
+
+  pick : (b : Bool) (x y : X) → x ≡ y → cond b x apart ≡ cond b y apart
+  pick b x y e = ap (λ z. cond b z apart) e
+
+  stable : (a : ℕ → Note) (h : ℕ → Node V) → Tree a h → (f g n : ℕ) (key : List ℕ) → (a n).status ≡ Linked
+      → 8 ≤ f + length (h n).prefix → 8 ≤ g + length (h n).prefix → descend apart last h f n key ≡ descend apart last h g n key
+  stable a h t zero g n key l p q = absurd (omega (arith, t.short n l))
+  stable a h t (suc f) zero n key l p q = absurd (omega (arith, t.short n l))
+  stable a h t (suc f) (suc g) n key l p q =
+      pick (fits (h n).prefix key) _ _ (end_same (λ c. descend apart last h f c key) (λ c. descend apart last h g c key) (h n) (child_for (h n) key)
+      (λ c e. let i : IsChild a h n (get_or key (length (h n).prefix) 0) c = t.down n _ c l e in
+      stable a h t f g c key i.linked (omega (arith, i.longer)) (omega (arith, i.longer))))
+
+  -- from a node on whose prefix the key has
+  enter : (h : ℕ → Node V) (f n : ℕ) (key : List ℕ) (x : Hung V) → fits (h n).prefix key ≡ true → child_for (h n) key ≡ x
+      → descend apart last h (suc f) n key ≡ at_end last (h n) (λ c. descend apart last h f c key) x
+  enter h f n key x p e = rw (p, e) refl
+
+  lead_up : (a : ℕ → Note) (h : ℕ → Node V) → Tree a h → (p b n : ℕ) (key : List ℕ) → (a p).status ≡ Linked → (h p).children b ≡ Below n
+      → fits (h n).prefix key ≡ true → (fits (h p).prefix key ≡ true → descend apart last h 8 0 key ≡ descend apart last h 8 p key) → descend apart last h 8 0 key ≡ descend apart last h 8 n key
+  lead_up a h t p b n key l e f before =
+      let i : IsChild a h p b n = t.down p b n l e in
+      let g : fits (h p).prefix key ≡ true = fits_trans (h p).prefix (h n).prefix key i.fitted f in
+      let same : get_or key (length (h p).prefix) 0 ≡ b = fits_byte (h n).prefix key (length (h p).prefix) f i.longer ∙ i.byte in
+      let x : (h p).children (get_or key (length (h p).prefix) 0) ≡ Below n = rw same e in
+      before g ∙ (enter h 7 p key (Below n) g x ∙ stable a h t 7 8 n key i.linked (omega (arith, i.longer)) (omega arith))
+
+  -- the way of a key leads through each linked node whose prefix it has
+  lead : (a : ℕ → Note) (h : ℕ → Node V) → Tree a h → (d n : ℕ) (key : List ℕ) → length (h n).prefix ≤ d → (a n).status ≡ Linked
+      → fits (h n).prefix key ≡ true → descend apart last h 8 0 key ≡ descend apart last h 8 n key
+  lead a h t zero n key d l f =
+      elim (same_or_not n 0) [
+        | inl e ↦ rw e refl
+        | inr ne ↦ let u : HasParent a h n = t.up n l ne in
+            let i : IsChild a h (a n).parent u.byte n = t.down (a n).parent u.byte n u.linked u.holds in absurd (omega (arith, i.longer))
+      ]
+  lead a h t (suc d) n key le l f =
+      elim (same_or_not n 0) [
+        | inl e ↦ rw e refl
+        | inr ne ↦ let u : HasParent a h n = t.up n l ne in
+            let i : IsChild a h (a n).parent u.byte n = t.down (a n).parent u.byte n u.linked u.holds in
+            let small : length (h (a n).parent).prefix ≤ d = omega (arith, i.longer) in
+            lead_up a h t (a n).parent u.byte n key u.linked u.holds f (λ g. lead a h t d (a n).parent key small u.linked g)
+      ]
+
+  pub ends : (s : Nodes V) (key : List ℕ) (n : ℕ) (x : Hung V) → IsTree s → OnWay s key n → child_for (heap_of s n) key ≡ x
+      → descend apart last (heap_of s) 8 0 key ≡ at_end last (heap_of s n) (λ c. descend apart last (heap_of s) 7 c key) x
+  ends s key n x t w e =
+      let l = linked_of s t.parent n w.stands in
+      lead _ (heap_of s) t.tree (length (heap_of s n).prefix) n key (omega arith) l w.fitted ∙ enter (heap_of s) 7 n key x w.fitted e
+
+  -- no node there has the key's prefix
+  pub ends_apart : (s : Nodes V) (key : List ℕ) (n c : ℕ) → IsTree s → OnWay s key n → child_for (heap_of s n) key ≡ Below c → fits (heap_of s c).prefix key ≡ false
+      → descend apart last (heap_of s) 8 0 key ≡ apart
+  ends_apart s key n c t w e f = ends s key n (Below c) t w e ∙ rw f refl
+
+pub freed_absent : {Y : Type 0} (o : Option Y) (size : Option ℕ) → size ≡ None → freed_by o size ≡ 0
+freed_absent None size e = ap freed_of e
+freed_absent (Some y) size e = refl
+
+pub freed_map : {Y Z : Type 0} (f : Y → Z) (o : Option Y) (size : Option ℕ) → freed_by (option_map f o) size ≡ freed_by o size
+freed_map f None size = refl
+freed_map f (Some y) size = refl
+
+-- a refusal of the second of two least nodes
+pub refused_second : (c c' l l' : ℕ) (e : OOMError) → c' ≡ c + 64 → l' ≡ l → c + 64 ≤ l → IsRefusal c' 64 l' e → IsRefusedOf (64 ∷ 64 ∷ []) c l e
+refused_second c c' l l' e ec el f r =
+    let Q2 : ℕ → Type 0 = λ z. IsRefusal z 64 l' e in
+    let Q3 : ℕ → Type 0 = λ z. IsRefusal (c + 64) 64 z e in
+    inr (f, inl (subst Q3 el (subst Q2 ec r)))
+
+module _ {P : Type 0} where
+  pub wants_free : (s : Nodes P) (key : List ℕ) (n : ℕ) → IsTree s → OnWay s key n → child_for (heap_of s n) key ≡ Nothing → wants_at (heap_of s) key ≡ Some (free_wants (heap_of s n))
+  unfolding wants_at
+  wants_free s key n t w e = ends (Some (64 ∷ 64 ∷ [])) last_wants s key n Nothing t w e
+
+  pub wants_held : (s : Nodes P) (key : List ℕ) (n : ℕ) (v : P) → IsTree s → OnWay s key n → child_for (heap_of s n) key ≡ Holds v → wants_at (heap_of s) key ≡ None
+  unfolding wants_at
+  wants_held s key n v t w e = ends (Some (64 ∷ 64 ∷ [])) last_wants s key n (Holds v) t w e
+
+  pub wants_apart : (s : Nodes P) (key : List ℕ) (n c : ℕ) → IsTree s → OnWay s key n → child_for (heap_of s n) key ≡ Below c → fits (heap_of s c).prefix key ≡ false
+      → wants_at (heap_of s) key ≡ Some (64 ∷ 64 ∷ [])
+  unfolding wants_at
+  wants_apart s key n c t w e f = ends_apart (Some (64 ∷ 64 ∷ [])) last_wants s key n c t w e f
+
+  pub lone_free : (s : Nodes P) (key : List ℕ) (n : ℕ) → IsTree s → OnWay s key n → child_for (heap_of s n) key ≡ Nothing → lone_at (heap_of s) key ≡ None
+  unfolding lone_at
+  lone_free s key n t w e = ends None last_lone s key n Nothing t w e
+
+  pub lone_held : (s : Nodes P) (key : List ℕ) (n : ℕ) (v : P) → IsTree s → OnWay s key n → child_for (heap_of s n) key ≡ Holds v
+      → lone_at (heap_of s) key ≡ last_lone (heap_of s n) (Holds v)
+  unfolding lone_at
+  lone_held s key n v t w e = ends None last_lone s key n (Holds v) t w e
+
+  pub lone_apart : (s : Nodes P) (key : List ℕ) (n c : ℕ) → IsTree s → OnWay s key n → child_for (heap_of s n) key ≡ Below c → fits (heap_of s c).prefix key ≡ false
+      → lone_at (heap_of s) key ≡ None
+  unfolding lone_at
+  lone_apart s key n c t w e f = ends_apart None last_lone s key n c t w e f
+
+  -- the room of a node of a form
+  pub full_room : (x : Form ℕ P) → is_full_of x ≡ true → room_for (node_of (Some x)) ≡ size_of (next_form (form_of x)) ∷ []
+  full_room (N4 n) e = rw e refl
+  full_room (N16 n) e = rw e refl
+  full_room (N48 n) e = rw e refl
+  full_room (N256 n) e = absurd (cc e)
+
+  pub roomy_none : (x : Form ℕ P) → is_full_of x ≡ false → room_for (node_of (Some x)) ≡ []
+  roomy_none (N4 n) e = rw e refl
+  roomy_none (N16 n) e = rw e refl
+  roomy_none (N48 n) e = rw e refl
+  roomy_none (N256 n) e = refl
+
+  pub grown_by : (x : Form ℕ P) → is_full_of x ≡ true → size_of (form_of x) + net (size_of (next_form (form_of x))) ≡ size_of (next_form (form_of x))
+  grown_by (N4 n) e = refl
+  grown_by (N16 n) e = refl
+  grown_by (N48 n) e = refl
+  grown_by (N256 n) e = absurd (cc e)
+
+  pub sized : (x : Form ℕ P) → size_by (node_of (Some x)).capacity ≡ size_of (form_of x)
+  sized (N4 n) = refl
+  sized (N16 n) = refl
+  sized (N48 n) = refl
+  sized (N256 n) = refl
+
+  -- the size of a leaf that was emptied and taken from the node above it
+  pub dropped_size : (s0 s1 s2 : Nodes P) (key : List ℕ) (above at byte up : ℕ) → IsTree s0 → OnWay s0 key at → Hangs s0 key above at
+      → ((x : Form ℕ P) → get s0 at ≡ Some x → Sets s0 s1 at x (map.remove (children_of x) byte))
+      → ((x : Form ℕ P) → get s1 above ≡ Some x → Sets s1 s2 above x (map.remove (children_of x) up)) → bytes_at (get s2 at) ≡ size_by (heap_of s0 at).capacity
+  dropped_size s0 s1 s2 key above at byte up t w hangs sets1 sets2 =
+      let l = node_at s0 at w.stands in
+      let n = node_at s0 above hangs.way.stands in
+      let j = sets1 l.0 l.1 in
+      let ne = above_apart s0 t key above at hangs in
+      let e1 : get s1 above ≡ Some n.0 = j.updates.others above ne ∙ n.1 in
+      let k = sets2 n.0 e1 in
+      let e2 : get s2 at ≡ Some j.node = k.updates.others at (λ q. ne (sym q)) ∙ j.updates.changed in
+      ap bytes_at e2 ∙ (ap size_of j.becomes.form ∙ (sym (sized l.0) ∙ ap (λ o. size_by (node_of o).capacity) (sym l.1)))
+
+  pub free_inner : (n : Node P) → length n.prefix ≢ 7 → free_wants n ≡ 64 ∷ room_for n
+  free_inner n ne =
+      let f : (length n.prefix == 7) ≡ false = elim (eqb_tells (length n.prefix) 7) [ inl q ↦ absurd (ne q.1) | inr q ↦ q.0 ] in
+      ap (λ b. cond b (room_for n) (64 ∷ room_for n)) f
+
+  -- a node as it was before another was made
+  pub made_same : (s s1 : Nodes P) (at leaf : ℕ) (p : List ℕ) → ContainsKey s at → Makes s s1 leaf p → heap_of s1 at ≡ heap_of s at
+  made_same s s1 at leaf p st m =
+      let n = node_at s at st in
+      ap node_of (m.updates.others at (apart_of s at leaf n.0 n.1 m.vacant))
+
+  -- a refusal after a leaf was made
+  pub refused_after : (n n' : Node P) (c c' l l' : ℕ) (e : OOMError) → n' ≡ n → c' ≡ c + 64 → l' ≡ l → c + 64 ≤ l → IsRefusedOf (room_for n') c' l' e → IsRefusedOf (64 ∷ room_for n) c l e
+  refused_after n n' c c' l l' e en ec el f r =
+      let Q1 : Node P → Type 0 = λ z. IsRefusedOf (room_for z) c' l' e in
+      let Q2 : ℕ → Type 0 = λ z. IsRefusedOf (room_for n) z l' e in
+      let Q3 : ℕ → Type 0 = λ z. IsRefusedOf (room_for n) (c + 64) z e in
+      inr (f, subst Q3 el (subst Q2 ec (subst Q1 en r)))
+
+  -- what the end of a key's way tells of its insertion
+  pub located_wants_held : (s : Nodes P) (key : List ℕ) (p : Place) → IsTree s → Located s key p → p.spot ≡ Held → wants_at (heap_of s) key ≡ None
+  located_wants_held s key p t l e =
+      let h = located_held s key p t l e in
+      wants_held s key p.at h.value t l.reached.way h.holds
+
+  pub located_wants_free : (s : Nodes P) (key : List ℕ) (p : Place) → IsTree s → Located s key p → p.spot ≡ Free → wants_at (heap_of s) key ≡ Some (free_wants (heap_of s p.at))
+  located_wants_free s key p t l e =
+      let E : Spot → Type 0 = λ x. EndsAt s key p.at x in
+      wants_free s key p.at t l.reached.way (subst E e l.ends)
+
+  pub located_wants_apart : (s : Nodes P) (key : List ℕ) (p : Place) (c : ℕ) → IsTree s → Located s key p → p.spot ≡ Apart c → wants_at (heap_of s) key ≡ Some (64 ∷ 64 ∷ [])
+  located_wants_apart s key p c t l e =
+      let E : Spot → Type 0 = λ x. EndsAt s key p.at x in
+      let d : EndsAt s key p.at (Apart c) = subst E e l.ends in
+      wants_apart s key p.at c t l.reached.way d.0 d.1
+
+  -- and of its removal
+  pub located_lone_free : (s : Nodes P) (key : List ℕ) (p : Place) → IsTree s → Located s key p → p.spot ≡ Free → lone_at (heap_of s) key ≡ None
+  located_lone_free s key p t l e =
+      let E : Spot → Type 0 = λ x. EndsAt s key p.at x in
+      lone_free s key p.at t l.reached.way (subst E e l.ends)
+
+  pub located_lone_apart : (s : Nodes P) (key : List ℕ) (p : Place) (c : ℕ) → IsTree s → Located s key p → p.spot ≡ Apart c → lone_at (heap_of s) key ≡ None
+  located_lone_apart s key p c t l e =
+      let E : Spot → Type 0 = λ x. EndsAt s key p.at x in
+      let d : EndsAt s key p.at (Apart c) = subst E e l.ends in
+      lone_apart s key p.at c t l.reached.way d.0 d.1
+
+  pub lone_one : (s : Nodes P) (key : List ℕ) (p : Place) (x : Form ℕ P) → IsTree s → Located s key p → p.spot ≡ Held → get s p.at ≡ Some x → map.len (children_of x) ≡ 1
+      → freed_of (lone_at (heap_of s) key) ≡ size_by (heap_of s p.at).capacity
+  lone_one s key p x t l e g one =
+      let h = located_held s key p t l e in
+      let n : (heap_of s p.at).count ≡ 1 = ap (λ o. (node_of o).count) g ∙ one in
+      ap freed_of (lone_held s key p.at h.value t l.reached.way h.holds ∙ ap (λ k. cond (k == 1) (Some (size_by (heap_of s p.at).capacity)) None) n)
+
+  pub lone_many : (s : Nodes P) (key : List ℕ) (p : Place) (x : Form ℕ P) → IsTree s → Located s key p → p.spot ≡ Held → get s p.at ≡ Some x → map.len (children_of x) ≢ 1
+      → freed_of (lone_at (heap_of s) key) ≡ 0
+  lone_many s key p x t l e g many =
+      let h = located_held s key p t l e in
+      let n : (heap_of s p.at).count ≡ map.len (children_of x) = ap (λ o. (node_of o).count) g in
+      let f : ((heap_of s p.at).count == 1) ≡ false = ap (λ k. k == 1) n ∙ elim (eqb_tells (map.len (children_of x)) 1) [ inl q ↦ absurd (many q.1) | inr q ↦ q.0 ] in
+      ap freed_of (lone_held s key p.at h.value t l.reached.way h.holds ∙ ap (λ b. cond b (Some (size_by (heap_of s p.at).capacity)) None) f)
+
+  pub get_wants : (s : Nodes P) (k : ℕ) → k < 2 ^ 64 → map.get (wants_of s) k ≡ wants_at (heap_of s) (key_bytes k)
+  unfolding wants_of
+  get_wants s k small = table_below (λ k. wants_at (heap_of s) (key_bytes k)) (2 ^ 64) k small
+
+  pub get_lone : (s : Nodes P) (k : ℕ) → k < 2 ^ 64 → map.get (lone_of s) k ≡ lone_at (heap_of s) (key_bytes k)
+  unfolding lone_of
+  get_lone s k small = table_below (λ k. lone_at (heap_of s) (key_bytes k)) (2 ^ 64) k small
+
+  pub same_wants : (s s' : Nodes P) → SameNodes s s' → wants_of s' ≡ wants_of s
+  unfolding wants_of
+  same_wants s s' e =
+      let h : heap_of s' ≡ heap_of s = λ i n. ap node_of (e n) i in
+      ap (λ g. table (λ k. wants_at g (key_bytes k)) (2 ^ 64)) h
+
+  pub same_lone : (s s' : Nodes P) → SameNodes s s' → lone_of s' ≡ lone_of s
+  unfolding lone_of
+  same_lone s s' e =
+      let h : heap_of s' ≡ heap_of s = λ i n. ap node_of (e n) i in
+      ap (λ g. table (λ k. lone_at g (key_bytes k)) (2 ^ 64)) h

@@ -1,0 +1,85 @@
+-- The way of a key through an arena.
+use Rattle.std.proofs.Common.{rules, ◌≡◌, ◌≢◌, ℕ, ◌<◌, ◌≤◌, ◌-◌, true, List, length, get_or, refl, sym, ap, ◌∙◌, arith}
+use Rattle.std.specs.Prelude.{Option, Some, None, is_some, cond, IsSome}
+use Rattle.slab.specs.Slab.{get, ContainsKey}
+use Rattle.congee.specs.Heap.{Below, fits, child_for}
+use Rattle.congee.specs.Ledger.{Linked, Gone, IsChild}
+use Rattle.std.specs.FinMap as map
+use Rattle.congee.specs.forms.Forms.{prefix_of, children_of}
+use Rattle.congee.specs.declared.forms.base_node.Node.{Node as Form}
+use Rattle.congee.specs.owned.OwnedSteps.{SameNodes}
+use Rattle.congee.specs.owned.Arena.{Nodes, hung_in, node_of, heap_of, ledger_of, IsTree, Hangs, Reached}
+use Rattle.congee.specs.declared.forms.child.Child.{Child}
+
+module _ {P : Type 0} where
+  -- what a node has for a key
+  pub child_is : (s : Nodes P) (key : List ℕ) (n : ℕ) (x : Form ℕ P) (r : Option (Child ℕ P))
+      → get s n ≡ Some x → r ≡ map.get (children_of x) (get_or key (length (prefix_of x)) 0) → child_for (heap_of s n) key ≡ hung_in r
+  child_is s key n x r e f = rw (e, f) refl
+
+  pub prefix_is : (s : Nodes P) (n : ℕ) (x : Form ℕ P) → get s n ≡ Some x → (heap_of s n).prefix ≡ prefix_of x
+  prefix_is s n x e = rw e refl
+
+  -- a place is a node of the tree exactly where it has a node
+  pub linked_of : (s : Nodes P) (parent : ℕ → ℕ) (n : ℕ) → ContainsKey s n → (ledger_of s parent n).status ≡ Linked
+  linked_of s parent n h = of (get s n) h
+    where
+      of : (o : Option (Form ℕ P)) → IsSome o → cond (is_some o) Linked Gone ≡ Linked
+      of None h = absurd (cc h)
+      of (Some x) h = refl
+
+  pub stands_of : (s : Nodes P) (parent : ℕ → ℕ) (n : ℕ) → (ledger_of s parent n).status ≡ Linked → ContainsKey s n
+  stands_of s parent n h = of (get s n) h
+    where
+      of : (o : Option (Form ℕ P)) → cond (is_some o) Linked Gone ≡ Linked → IsSome o
+      of None h = absurd (let z : Gone ≡ Linked = h in cc)
+      of (Some x) h = search rules
+
+  -- the root
+  pub root_reached : (s : Nodes P) (key : List ℕ) → IsTree s → Reached s key 0 0
+  root_reached s key t = record {
+    way = record { stands = stands_of s t.parent 0 t.tree.root; fitted = rw t.tree.empty refl };
+    hangs = λ ne. absurd (ne refl);
+  }
+
+  pub is_child : (s : Nodes P) (t : IsTree s) (n c : ℕ) (key : List ℕ) → ContainsKey s n → child_for (heap_of s n) key ≡ Below c
+      → IsChild (ledger_of s t.parent) (heap_of s) n (get_or key (length (heap_of s n).prefix) 0) c
+  is_child s t n c key h e = t.tree.down n _ c (linked_of s t.parent n h) e
+
+  pub below_stands : (s : Nodes P) → IsTree s → (n c : ℕ) (key : List ℕ) → ContainsKey s n → child_for (heap_of s n) key ≡ Below c → ContainsKey s c
+  below_stands s t n c key h e = stands_of s t.parent c (is_child s t n c key h e).linked
+
+  pub short_prefix : (s : Nodes P) → IsTree s → (n : ℕ) → ContainsKey s n → length (heap_of s n).prefix ≤ 7
+  short_prefix s t n h = t.tree.short n (linked_of s t.parent n h)
+
+  -- one node further
+  pub reached_below : (s : Nodes P) → IsTree s → (key : List ℕ) (above n c : ℕ) → Reached s key above n
+      → child_for (heap_of s n) key ≡ Below c → fits (heap_of s c).prefix key ≡ true → Reached s key n c
+  reached_below s t key above n c r e f = record {
+    way = record { stands = below_stands s t n c key r.way.stands e; fitted = f };
+    hangs = λ ne. record { way = r.way; child = e };
+  }
+
+  pub falls : (s : Nodes P) → IsTree s → (key : List ℕ) (n c : ℕ) → ContainsKey s n → child_for (heap_of s n) key ≡ Below c
+      → 8 - length (heap_of s c).prefix < 8 - length (heap_of s n).prefix
+  falls s t key n c h e = let i = is_child s t n c key h e in omega (arith, i.longer, short_prefix s t c (below_stands s t n c key h e))
+
+  -- no blank hangs anywhere
+  pub no_blank : (s : Nodes P) → IsTree s → (key : List ℕ) (n : ℕ) → ContainsKey s n → child_for (heap_of s n) key ≡ Below 0 → ⊥
+  no_blank s t key n h e =
+      let i = is_child s t n 0 key h e in
+      let z : length (heap_of s 0).prefix ≡ 0 = ap length t.tree.empty in
+      absurd (omega (arith, i.longer, z))
+
+  pub above_apart : (s : Nodes P) → IsTree s → (key : List ℕ) (above n : ℕ) → Hangs s key above n → above ≢ n
+  above_apart s t key above n h q =
+      let i = is_child s t above n key h.way.stands h.child in
+      let z : length (heap_of s above).prefix ≡ length (heap_of s n).prefix = ap (λ y. length (heap_of s y).prefix) q in
+      absurd (omega (arith, i.longer, z))
+
+  -- nodes that are the same are the same tree
+  pub same_tree : (s s' : Nodes P) → SameNodes s s' → IsTree s → IsTree s'
+  same_tree s s' e t =
+      let h : heap_of s ≡ heap_of s' = λ i n. ap node_of (sym (e n)) i in
+      let a : ledger_of s t.parent ≡ ledger_of s' t.parent = λ i n. ap (λ o. record { status = cond (is_some o) Linked Gone; owner = None; parent = t.parent n }) (sym (e n)) i in
+      record { parent = t.parent; tree = rw (← h, ← a) t.tree; wide = ap (λ o. (node_of o).capacity) (e 0) ∙ t.wide }

@@ -1,0 +1,186 @@
+-- What a call knows after it made a node.
+use Rattle.std.proofs.Common.{◌≡◌, ◌≢◌, ℕ, suc, ◌<◌, Bool, true, false, List, get_or, refl, sym, ◌∙◌, ap, subst, arith}
+use Rattle.std.proofs.Math.Dec.{ltb}
+use Rattle.std.proofs.lemmas.Bool.Decides.{nat_tests}
+use Rattle.std.specs.Prelude.{Option, None, Some, Result, Ok, Err}
+use Rattle.congee.specs.declared.forms.base_node.NodeType.{NodeType}
+use Rattle.congee.specs.declared.forms.base_node.NodeType.TheVariants.{N4}
+use Rattle.congee.specs.declared.protocol.store.Seat.{Seat}
+use Rattle.congee.specs.declared.protocol.store.Refusal.{Refusal}
+use Rattle.congee.specs.declared.protocol.phase.Kind.{Kind}
+use Rattle.congee.specs.declared.protocol.phase.Parent.{Parent}
+use Rattle.congee.specs.declared.protocol.phase.Site.{Site}
+use Rattle.congee.specs.declared.protocol.phase.Single.TheVariants.{Link}
+use Rattle.congee.specs.declared.protocol.phase.Plan.TheVariants.{Above}
+use Rattle.congee.specs.declared.protocol.phase.Phase.TheVariants.{MakeLeaf, MakeGreater, MakeTop, MakeBeside}
+use Rattle.congee.specs.declared.protocol.turn.Turn.{Turn}
+use Rattle.congee.specs.Heap.{Node, Hung, Nothing}
+use Rattle.congee.specs.protocol.Events.{NewNode, Parts, places}
+use Rattle.congee.specs.protocol.Steps.{refused, form_above, greater, MadeLeaf, MadeGreater, MadeTop, MadeBeside}
+use Rattle.congee.specs.Keys.{key_bytes}
+use Rattle.congee.specs.Ledger.{Note, is_published, Tree, LockWords}
+use Rattle.congee.specs.protocol.Protocol.{Seated, ChildOf, IsAbove, Sees, Knows, Made, MadeLeafFor, PlanKnown, Known, Effect}
+use Rattle.congee.specs.protocol.Answers.{SameMap, AnswersIf}
+use Rattle.congee.proofs.lemmas.protocol.Rely.{knows_kept, child_kept, seated_kept}
+use Rattle.congee.specs.protocol.Names.{name_above}
+use Rattle.congee.proofs.lemmas.protocol.Each.{each_any}
+use Rattle.congee.proofs.lemmas.protocol.Touch.{by_test}
+use Rattle.congee.proofs.lemmas.protocol.Words.{KeepsMap, making, make_still}
+use Rattle.congee.proofs.lemmas.protocol.Locks.{Kept, own_rely}
+use Rattle.congee.proofs.lemmas.protocol.Makes.{Backed, back_none, back_node, made_new, made_before}
+use Rattle.congee.proofs.lemmas.protocol.Sound.{Sound, fresh_map}
+use Rattle.congee.proofs.lemmas.protocol.Plans.{ready_sound, unless_full_sound}
+
+room_above : (n : ℕ) → n < 256 → n < places (form_above n)
+room_above n l = by_test (λ (f : NodeType). n < places f) (ltb n 4) _ _ (λ q. grind (arith, nat_tests))
+    (λ _. by_test (λ (f : NodeType). n < places f) (ltb n 16) _ _ (λ q. grind (arith, nat_tests))
+    (λ _. by_test (λ (f : NodeType). n < places f) (ltb n 48) _ _ (λ q. grind (arith, nat_tests)) (λ _. l)))
+
+module _ {C V : Type 0} (number : C → ℕ) (same : V → V → Bool) (always : Bool) (i : ℕ) (a : ℕ → Note) (h : ℕ → Node V) (k : ℕ) (kind : Kind V) (given : Option V) where
+  answers_after : (b : Bool) (turn : Turn C V) (h' h'' : ℕ → Node V) → SameMap h h' → AnswersIf b same k kind given h' turn h'' → AnswersIf b same k kind given h turn h''
+  answers_after true turn h' h'' e x = (
+    x.0,
+    x.1,
+    record {
+      found = x.2.found;
+      after = x.2.after;
+      settles = x.2.settles;
+      before = sym (e (key_bytes k) refl) ∙ x.2.before;
+      now = x.2.now;
+      rest = λ y l ne. x.2.rest y l ne ∙ e y l;
+    },
+  )
+  answers_after false turn h' h'' e x = λ y l. x y l ∙ e y l
+
+  -- a turn after a step that left the map
+  pub kept_after : (given' : Option V) (turn : Turn C V) (a' : ℕ → Note) (h' : ℕ → Node V) → KeepsMap i a h a' h' → Sound number same always i k kind given h' given' turn a' h' → Kept number same always i a h k kind given given' turn h'
+  kept_after given' turn a' h' e s = record { notes = a'; effect = e.effect; sound = record { known = s.known; answer = answers_after turn.step.decided turn h' h' e.map s.answer } }
+
+  pub kept_at : (given' : Option V) (x y : Turn C V) (h' : ℕ → Node V) → y ≡ x → Kept number same always i a h k kind given given' x h' → Kept number same always i a h k kind given given' y h'
+  kept_at given' x y h' e m = let P : Turn C V → Type 0 = λ z. Kept number same always i a h k kind given given' z h' in subst P (sym e) m
+
+  pub refused_back : (h' : ℕ → Node V) (e : Refusal) → Backed i a h h' → Kept number same always i a h k kind given given (refused e) h'
+  refused_back h' e b = record { notes = b.notes; effect = b.still.effect; sound = record { known = tt; answer = b.still.map } }
+
+module _ {C V : Type 0} (number : C → ℕ) (same : V → V → Bool) (always : Bool) (i : ℕ) (a : ℕ → Note) (h : ℕ → Node V) (k : ℕ) (kind : Kind V) (given : Option V)
+    (t : Tree a h) (w : LockWords a h) where
+  knows_after : (a' : ℕ → Note) (h' : ℕ → Node V) → Effect i a h a' h' → (s : Site C) (x : Hung V) → Knows number a h (key_bytes k) s x → Knows number a' h' (key_bytes k) s x
+  knows_after a' h' e s x m = knows_kept number (key_bytes k) (λ _. Unit {0}) (suc i) a h a' h' (own_rely i a h a' h' e) s x (each_any (name_above number s.above)) tt m
+
+  child_after : (a' : ℕ → Note) (h' : ℕ → Node V) → Effect i a h a' h' → (p : Parent C) (n : ℕ) → ChildOf number a h (key_bytes k) p n → ChildOf number a' h' (key_bytes k) p n
+  child_after a' h' e p n m = child_kept number (key_bytes k) (λ _. Unit {0}) (suc i) a h a' h' (own_rely i a h a' h' e) p n tt m
+
+  seated_after : (a' : ℕ → Note) (h' : ℕ → Node V) → Effect i a h a' h' → (n v : ℕ) → Seated a h n v → Seated a' h' n v
+  seated_after a' h' e n v m = seated_kept (λ _. Unit {0}) (suc i) a h a' h' (own_rely i a h a' h' e) n v tt m
+
+  pub leaf_made : (s : Site C) (turn : Turn C V) (h' : ℕ → Node V) (r : Result C Refusal) → Known number same always i a h k (key_bytes k) kind given (MakeLeaf s) → MadeLeaf number kind s h (key_bytes k) r h' turn
+      → Kept number same always i a h k kind given given turn h'
+  leaf_made s turn h' (Err e) m g = kept_at number same always i a h k kind given given _ turn h' g.1 (refused_back number same always i a h k kind given h' e (back_none i a h h' t w g.0))
+  leaf_made s turn h' (Ok c) m g =
+      let e : KeepsMap i a h (making a i (number c)) h' = make_still i a h (number c) N4 (key_bytes k) 7 h' t w g.0 in
+      let leaf : Made i (making a i (number c)) h' (key_bytes k) (number c) 7 0 = made_new i a h (number c) N4 (key_bytes k) 7 0 h' g.0 (omega arith) in
+      kept_at number same always i a h k kind given given _ turn h' g.1
+      (kept_after number same always i a h k kind given given _ (making a i (number c)) h' e
+      (unless_full_sound number same always i (making a i (number c)) h' k e.effect.tree e.effect.words kind given s (Some c) (Link c) s.full s.above refl refl m.3 m.4 m.0
+      (knows_after _ h' e.effect s Nothing m.1) (m.2, leaf) m.2 leaf))
+
+  greater_known : (a' : ℕ → Note) (h' : ℕ → Node V) (s : Site C) (p : Parent C) (leaf : Option C) (c : C) → s.above ≡ Some p → Knows number a' h' (key_bytes k) s Nothing → MadeLeafFor number i a' h' (key_bytes k) s leaf
+      → ((d : C) → leaf ≡ Some d → number c ≢ number d) → Made i a' h' (key_bytes k) (number c) s.depth s.count → PlanKnown number i a' h' (key_bytes k) (Above (record { above = p; at = s.at; change = greater s leaf c }))
+  greater_known a' h' s p None c ep m l ne made = (
+    (
+      s.count,
+      record {
+        above = (let P : Option (Parent C) → Type 0 = λ x. IsAbove number a' h' (key_bytes k) x (number s.at.node) in subst P ep m.above);
+        placed = (m.fitted, sym m.depth ∙ l);
+        fresh = fresh_map a' h' (number s.at.node) s.at.version (Sees (key_bytes k) s Nothing) _ (λ z. (z.child, z.count)) m.fresh;
+        made = (let P : ℕ → Type 0 = λ x. Made i a' h' (key_bytes k) (number c) x s.count in subst P m.depth made);
+      },
+    ),
+    tt,
+  )
+  greater_known a' h' s p (Some leaf) c ep m l ne made = (
+    (
+      s.count,
+      record {
+        above = (let P : Option (Parent C) → Type 0 = λ x. IsAbove number a' h' (key_bytes k) x (number s.at.node) in subst P ep m.above);
+        placed = (m.fitted, (let P : ℕ → Type 0 = λ x. x < 7 in subst P m.depth l.0), m.byte);
+        fresh = fresh_map a' h' (number s.at.node) s.at.version (Sees (key_bytes k) s Nothing) _ (λ z. (z.child, z.count)) m.fresh;
+        made = ((let P : ℕ → Type 0 = λ x. Made i a' h' (key_bytes k) (number c) x s.count in subst P m.depth made), l.1, ne leaf refl);
+      },
+    ),
+    tt,
+  )
+
+  leaf_before : (c : C) (form : NodeType) (size : ℕ) (h' : ℕ → Node V) (s : Site C) (leaf : Option C) → NewNode h (number c) form (key_bytes k) size h' → MadeLeafFor number i a h (key_bytes k) s leaf
+      → MadeLeafFor number i (making a i (number c)) h' (key_bytes k) s leaf
+  leaf_before c form size h' s None g l = l
+  leaf_before c form size h' s (Some leaf) g l = (l.0, (made_before i a h (number c) form (key_bytes k) size h' g (number leaf) 7 0 l.1).1)
+
+  leaf_other : (c : C) (form : NodeType) (size : ℕ) (h' : ℕ → Node V) (s : Site C) (leaf : Option C) → NewNode h (number c) form (key_bytes k) size h' → MadeLeafFor number i a h (key_bytes k) s leaf
+      → (d : C) → leaf ≡ Some d → number c ≢ number d
+  leaf_other c form size h' s None g l d e = absurd cc
+  leaf_other c form size h' s (Some leaf) g l d e = λ q.
+      let z : leaf ≡ d = cc in
+      (made_before i a h (number c) form (key_bytes k) size h' g (number leaf) 7 0 l.1).0 (ap number z ∙ sym q)
+
+  pub greater_made : (s : Site C) (p : Parent C) (leaf : Option C) (turn : Turn C V) (h' : ℕ → Node V) (r : Result C Refusal) → Known number same always i a h k (key_bytes k) kind given (MakeGreater s p leaf)
+      → MadeGreater number kind s p leaf h (key_bytes k) r h' turn → Kept number same always i a h k kind given given turn h'
+  greater_made s p None turn h' (Err e) m g = kept_at number same always i a h k kind given given _ turn h' g.1 (refused_back number same always i a h k kind given h' e (back_none i a h h' t w g.0))
+  greater_made s p (Some leaf) turn h' (Err e) m g = kept_at number same always i a h k kind given given _ turn h' g.1 (refused_back number same always i a h k kind given h' e (back_node i a h (key_bytes k) (number leaf) 7 0 h' t w m.3.1 g.0))
+  greater_made s p leaf turn h' (Ok c) m g =
+      let e : KeepsMap i a h (making a i (number c)) h' = make_still i a h (number c) (form_above s.count) (key_bytes k) s.depth h' t w g.0 in
+      let new : Made i (making a i (number c)) h' (key_bytes k) (number c) s.depth s.count = made_new i a h (number c) (form_above s.count) (key_bytes k) s.depth s.count h' g.0 (room_above s.count m.5) in
+      kept_at number same always i a h k kind given given _ turn h' g.1
+      (kept_after number same always i a h k kind given given _ (making a i (number c)) h' e
+      (ready_sound number same always i (making a i (number c)) h' k e.effect.tree e.effect.words kind given _ m.4 m.0
+      (greater_known _ h' s p leaf c m.2 (knows_after _ h' e.effect s Nothing m.1) (leaf_before c _ s.depth h' s leaf g.0 m.3) (leaf_other c _ s.depth h' s leaf g.0 m.3) new)))
+
+  parts_after : (a' : ℕ → Note) (h' : ℕ → Node V) → Effect i a h a' h' → (n common : ℕ) → is_published (a n).status ≡ true → Parts (h n).prefix (key_bytes k) common → Parts (h' n).prefix (key_bytes k) common
+  parts_after a' h' e n common pu q = let P : List ℕ → Type 0 = λ y. Parts y (key_bytes k) common in subst P (sym ((own_rely i a h a' h' e).prefix n tt pu)) q
+
+  byte_after : (a' : ℕ → Note) (h' : ℕ → Node V) → Effect i a h a' h' → (n common byte : ℕ) → is_published (a n).status ≡ true → byte ≡ get_or (h n).prefix common 0 → byte ≡ get_or (h' n).prefix common 0
+  byte_after a' h' e n common byte pu q = let P : List ℕ → Type 0 = λ y. byte ≡ get_or y common 0 in subst P (sym ((own_rely i a h a' h' e).prefix n tt pu)) q
+
+  pub top_made : (p : Parent C) (at : Seat C) (common byte : ℕ) (turn : Turn C V) (h' : ℕ → Node V) (r : Result C Refusal) → Known number same always i a h k (key_bytes k) kind given (MakeTop p at common byte)
+      → MadeTop number p at common byte h (key_bytes k) r h' turn → Kept number same always i a h k kind given given turn h'
+  top_made p at common byte turn h' (Err e) m g = kept_at number same always i a h k kind given given _ turn h' g.1 (refused_back number same always i a h k kind given h' e (back_none i a h h' t w g.0))
+  top_made p at common byte turn h' (Ok c) m g =
+      let e : KeepsMap i a h (making a i (number c)) h' = make_still i a h (number c) N4 (key_bytes k) common h' t w g.0 in
+      kept_at number same always i a h k kind given given _ turn h' g.1 (record {
+        notes = making a i (number c);
+        effect = e.effect;
+        sound = record {
+          known = (
+            m.0,
+            child_after _ h' e.effect p (number at.node) m.1,
+            seated_after _ h' e.effect (number at.node) at.version m.2,
+            parts_after _ h' e.effect (number at.node) common m.2.published m.3,
+            byte_after _ h' e.effect (number at.node) common byte m.2.published m.4,
+            m.5,
+            made_new i a h (number c) N4 (key_bytes k) common 1 h' g.0 (omega arith),
+          );
+          answer = e.map;
+        };
+      })
+
+  pub beside_made : (p : Parent C) (at : Seat C) (common byte : ℕ) (top : C) (turn : Turn C V) (h' : ℕ → Node V) (r : Result C Refusal) → Known number same always i a h k (key_bytes k) kind given (MakeBeside p at common byte top)
+      → MadeBeside number kind p at common byte top h (key_bytes k) r h' turn → Kept number same always i a h k kind given given turn h'
+  beside_made p at common byte top turn h' (Err e) m g = kept_at number same always i a h k kind given given _ turn h' g.1 (refused_back number same always i a h k kind given h' e (back_node i a h (key_bytes k) (number top) common 1 h' t w m.6 g.0))
+  beside_made p at common byte top turn h' (Ok c) m g =
+      let e : KeepsMap i a h (making a i (number c)) h' = make_still i a h (number c) N4 (key_bytes k) 7 h' t w g.0 in
+      let old : (number top ≢ number c) × Made i (making a i (number c)) h' (key_bytes k) (number top) common 1 = made_before i a h (number c) N4 (key_bytes k) 7 h' g.0 (number top) common 1 m.6 in
+      let seat : Seated (making a i (number c)) h' (number at.node) at.version = seated_after _ h' e.effect (number at.node) at.version m.2 in
+      kept_at number same always i a h k kind given given _ turn h' g.1
+      (kept_after number same always i a h k kind given given _ (making a i (number c)) h' e
+      (ready_sound number same always i (making a i (number c)) h' k e.effect.tree e.effect.words kind given _ m.5 m.0 (
+        (
+          0,
+          record {
+            above = child_after _ h' e.effect p (number at.node) m.1;
+            placed = (parts_after _ h' e.effect (number at.node) common m.2.published m.3, byte_after _ h' e.effect (number at.node) common byte m.2.published m.4);
+            fresh = record { seated = seat; holds = λ _. tt };
+            made = (old.1, made_new i a h (number c) N4 (key_bytes k) 7 0 h' g.0 (omega arith), old.0);
+          },
+        ),
+        tt,
+      )))

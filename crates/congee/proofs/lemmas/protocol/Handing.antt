@@ -1,0 +1,500 @@
+-- Each step of a call hands over no node, or the one that the call took out.
+use Rattle.std.proofs.Common.{◌≡◌, ◌≢◌, ℕ, ◌+◌, ◌==◌, ◌⊎◌, inl, inr, ◌&&◌, Bool, true, false, cond, List, [], ◌∷◌, ◌++◌, refl, sym, ◌∙◌, ap, subst}
+use Rattle.std.proofs.Math.ListN.{set}
+use Rattle.std.specs.Prelude.{Option, None, Some, Result, Ok, Err, slice_get}
+use Rattle.judge.specs.declared.journal.Reply.{Reply}
+use Rattle.congee.specs.declared.forms.base_node.NodeType.{NodeType}
+use Rattle.congee.specs.declared.protocol.store.Seat.{Seat}
+use Rattle.congee.specs.declared.protocol.store.Refusal.{Refusal}
+use Rattle.congee.specs.declared.protocol.store.Upgrade.{Upgrade}
+use Rattle.congee.specs.declared.protocol.store.Upgrade.TheVariants.{Locked, Failed, Exhausted}
+use Rattle.congee.specs.declared.protocol.phase.Kind.{Kind}
+use Rattle.congee.specs.declared.protocol.phase.Parent.{Parent}
+use Rattle.congee.specs.declared.protocol.phase.Site.{Site}
+use Rattle.congee.specs.declared.protocol.phase.Single.{Single}
+use Rattle.congee.specs.declared.protocol.phase.Single.TheVariants.{Set, Link}
+use Rattle.congee.specs.declared.protocol.phase.One.{One}
+use Rattle.congee.specs.declared.protocol.phase.Double.{Double}
+use Rattle.congee.specs.declared.protocol.phase.Double.TheVariants.{Unlink, Grow, GrowLink, Split}
+use Rattle.congee.specs.declared.protocol.phase.Two.{Two}
+use Rattle.congee.specs.declared.protocol.phase.Phase.{Phase}
+use Rattle.congee.specs.declared.protocol.phase.Phase.TheVariants.{New, Version, Read, Check, CheckUncopied, CheckMiss, CheckDown, CheckOld, MakeLeaf, MakeGreater, MakeTop, MakeBeside, AskOld, AskNew, Confirm, CheckAbove, UpgradeOne, ChangeOne, UpgradeAbove, UpgradeBoth, ChangeTwo, Obsolete, Retire, UnlockBelow, Unlock, Unwind, Sweep, Ended}
+use Rattle.congee.specs.declared.protocol.turn.Turn.{Turn}
+use Rattle.congee.specs.declared.protocol.machine.Machine.{Machine}
+use Rattle.congee.specs.declared.protocol.run.Step.{Step}
+use Rattle.congee.specs.Heap.{Node, Hung, Stands, is_taken}
+use Rattle.congee.specs.protocol.Events.{SameBut, upgrade_gives, NewNode, ChangeGives, TakeOverGives, BackGives}
+use Rattle.congee.specs.protocol.Steps.{BackOne, BackTwo, BackLeaf, MadeLeaf, MadeGreater, MadeTop, MadeBeside, UpgradedOne, UpgradedAbove, UpgradedBoth, ChangedOne, ChangedTwo, PhaseStepped}
+use Rattle.congee.specs.Keys.{key_bytes}
+use Rattle.congee.specs.Ledger.{Note, Linked, Gone, is_published, Tree, LockWords}
+use Rattle.congee.specs.protocol.Protocol.{Made, MadeOne, MadeTwo, MadeLeafFor, Known}
+use Rattle.congee.specs.protocol.Holdings.{TakenBy}
+use Rattle.congee.specs.protocol.Handing.{is_waiting, Leads, IsOut, HandsNothing, HandsNode, HandsAt, Hands, IsLeaving, Leaving, Untouched, Handing, StepHands}
+use Rattle.congee.proofs.lemmas.Graft.{on_test}
+use Rattle.congee.proofs.lemmas.Fits.{same_test, other_test}
+use Rattle.congee.proofs.lemmas.Tree.{same_or_not}
+use Rattle.congee.proofs.lemmas.protocol.Touch.{taken_linked}
+use Rattle.congee.proofs.lemmas.protocol.Locks.{locked_taken}
+use Rattle.congee.proofs.lemmas.protocol.Owners.{set_here, set_apart}
+
+-- what no path leads to
+pub leads_linked : {V : Type 0} (a : ℕ → Note) (h : ℕ → Node V) → Tree a h → (path : List ℕ) (n c : ℕ) → (a n).status ≡ Linked → Leads h n path c → (a c).status ≡ Linked
+leads_linked a h t [] n c l e = let P : ℕ → Type 0 = λ x. (a x).status ≡ Linked in subst P e l
+leads_linked a h t (b ∷ path) n c l e = leads_linked a h t path e.0 c (t.down n b e.0 l e.1).linked e.2
+
+pub unlinked_out : {V : Type 0} (a : ℕ → Note) (h : ℕ → Node V) (n : ℕ) → Tree a h → ((a n).status ≡ Linked → ⊥) → IsOut h n
+unlinked_out a h n t u path e = u (leads_linked a h t path 0 n t.root e)
+
+-- whether a node waits
+and_not : (b c : Bool) → c ≡ false → (b && c) ≡ false
+and_not true c e = e
+and_not false c e = refl
+
+and_left : (b c : Bool) → (b && c) ≡ true → b ≡ true
+and_left true c e = refl
+and_left false c e = absurd cc
+
+module _ {V : Type 0} where
+  unretired_idle : (n : Node V) → n.retired ≡ false → is_waiting n ≡ false
+  unretired_idle n e = rw e refl
+
+  unmade_idle : (n : Node V) → n.made ≡ false → is_waiting n ≡ false
+  unmade_idle n e = and_not n.retired _ (rw e refl)
+
+  destroyed_idle : (n : Node V) → n.destroyed ≡ true → is_waiting n ≡ false
+  destroyed_idle n e = and_not n.retired _ (and_not n.made _ (rw e refl))
+
+  alike : (n m : Node V) → n.retired ≡ m.retired → n.made ≡ m.made → n.destroyed ≡ m.destroyed → is_waiting n ≡ is_waiting m
+  alike n m r e d = rw (r, e, d) refl
+
+-- what waits in reach of the calls: nothing
+linked_idle : {V : Type 0} (a : ℕ → Note) (h : ℕ → Node V) (n : ℕ) → LockWords a h → (a n).status ≡ Linked → is_waiting (h n) ≡ false
+linked_idle a h n w l = unretired_idle (h n) ((w.each n).unretired l)
+
+made_idle : {V : Type 0} (i : ℕ) (a : ℕ → Note) (h : ℕ → Node V) (key : List ℕ) (c size least : ℕ) → Made i a h key c size least → is_waiting (h c) ≡ false
+made_idle i a h key c size least m = unretired_idle (h c) m.unretired
+
+-- what a call hands over has left the tree, so no path leads to what waits
+pub waiting_out : {V : Type 0} (a : ℕ → Note) (h : ℕ → Node V) (n : ℕ) → Tree a h → LockWords a h → is_waiting (h n) ≡ true → IsOut h n
+waiting_out a h n t w e = unlinked_out a h n t (λ l. let z : true ≡ false = sym e ∙ linked_idle a h n w l in cc)
+
+-- each node is as it was, or doesn't wait, before and after
+abbrev pub SparesWaiting : {V : Type 0} → (ℕ → Node V) → (ℕ → Node V) → Type 0
+SparesWaiting h h' = (n : ℕ) → (h' n ≡ h n) ⊎ ((is_waiting (h n) ≡ false) × (is_waiting (h' n) ≡ false))
+
+module _ {V : Type 0} where
+  still_idle : (h h' : ℕ → Node V) (n : ℕ) → SparesWaiting h h' → is_waiting (h n) ≡ false → is_waiting (h' n) ≡ false
+  still_idle h h' n s e = elim (s n) [
+    | inl q ↦ ap is_waiting q ∙ e
+    | inr q ↦ q.1
+  ]
+
+  spares_same : (h h' : ℕ → Node V) → h' ≡ h → SparesWaiting h h'
+  spares_same h h' e = let P : (ℕ → Node V) → Type 0 = λ g. SparesWaiting h g in subst P (sym e) (λ n. inl refl)
+
+  spares_then : (h h1 h2 : ℕ → Node V) → SparesWaiting h h1 → SparesWaiting h1 h2 → SparesWaiting h h2
+  spares_then h h1 h2 f g n = elim (f n) [
+    | inl p ↦ elim (g n) [
+      | inl q ↦ inl (q ∙ p)
+      | inr q ↦ inr (sym (ap is_waiting p) ∙ q.0, q.1)
+    ]
+    | inr p ↦ inr (p.0, still_idle h1 h2 n g p.1)
+  ]
+
+  spares_one : (h h' : ℕ → Node V) (c : ℕ) → is_waiting (h c) ≡ false → is_waiting (h' c) ≡ false → ((n : ℕ) → n ≢ c → h' n ≡ h n) → SparesWaiting h h'
+  spares_one h h' c b e o n = elim (same_or_not n c) [
+    | inl q ↦ (let P : ℕ → Type 0 = λ y. (is_waiting (h y) ≡ false) × (is_waiting (h' y) ≡ false) in inr (subst P (sym q) (b, e)))
+    | inr ne ↦ inl (o n ne)
+  ]
+
+  spares_but : (h h' : ℕ → Node V) (c : ℕ) (x : Node V) → is_waiting (h c) ≡ false → is_waiting x ≡ false → SameBut h c x h' → SparesWaiting h h'
+  spares_but h h' c x b e g = spares_one h h' c b (ap is_waiting g.after ∙ e) g.others
+
+  spares_back : (h h' : ℕ → Node V) (c : ℕ) → is_waiting (h c) ≡ false → BackGives h c h' → SparesWaiting h h'
+  spares_back h h' c b g = spares_one h h' c b (destroyed_idle (h' c) g.gone) g.others
+
+  spares_new : (h h' : ℕ → Node V) (c : ℕ) (form : NodeType) (key : List ℕ) (size : ℕ) → NewNode h c form key size h' → SparesWaiting h h'
+  spares_new h h' c form key size g = spares_one h h' c (unmade_idle (h c) g.unmade) (unretired_idle (h' c) g.unretired) g.others
+
+  spares_change : (h h' : ℕ → Node V) (c b : ℕ) (x : Hung V) → is_waiting (h c) ≡ false → ChangeGives h c b x h' → SparesWaiting h h'
+  spares_change h h' c b x e g = spares_one h h' c e (alike (h' c) (h c) g.retired g.made g.destroyed ∙ e) g.others
+
+  spares_take : (h h' : ℕ → Node V) (m c : ℕ) → is_waiting (h m) ≡ false → is_waiting (h c) ≡ false → TakeOverGives h m c h' → SparesWaiting h h'
+  spares_take h h' m c em ec g n = elim (same_or_not n c) [
+    | inl q ↦ (let P : ℕ → Type 0 = λ y. (is_waiting (h y) ≡ false) × (is_waiting (h' y) ≡ false) in inr (subst P (sym q) (ec, alike (h' c) (h c) g.retired g.made g.destroyed ∙ ec)))
+    | inr nc ↦ elim (same_or_not n m) [
+      | inl q ↦ (let P : ℕ → Type 0 = λ y. (is_waiting (h y) ≡ false) × (is_waiting (h' y) ≡ false) in inr (subst P (sym q) (em, alike (h' m) (h m) g.retired_old g.made_old g.destroyed_old ∙ em)))
+      | inr nm ↦ inl (g.others n nc nm)
+    ]
+  ]
+
+module _ {C V : Type 0} (number : C → ℕ) (i : ℕ) (a : ℕ → Note) (h : ℕ → Node V) (h' : ℕ → Node V) (key : List ℕ) where
+  idle_made : (c size least : ℕ) → Made i a h key c size least → is_waiting (h c) ≡ false
+  idle_made c size least m = made_idle i a h key c size least m
+
+  -- made nodes go back
+  back_one : (change : Single C) → MadeOne number i a h key change → BackOne number h change h' → SparesWaiting h h'
+  back_one Set m g = spares_same h h' g
+  back_one (Link leaf) m g = spares_back h h' (number leaf) (idle_made (number leaf) 7 0 m) g
+
+  back_leaf : (leaf : Option C) (s : Site C) → MadeLeafFor number i a h key s leaf → BackLeaf number h leaf h' → SparesWaiting h h'
+  back_leaf None s m g = spares_same h h' g
+  back_leaf (Some leaf) s m g = spares_back h h' (number leaf) (idle_made (number leaf) 7 0 m.1) g
+
+  back_both : (c size least d : ℕ) (h1 : ℕ → Node V) → Made i a h key c size least → Made i a h key d 7 0 → BackGives h d h1 → BackGives h1 c h' → SparesWaiting h h'
+  back_both c size least d h1 mc md g k =
+      let s : SparesWaiting h h1 = spares_back h h1 d (idle_made d 7 0 md) g in
+      spares_then h h1 h' s (spares_back h1 h' c (still_idle h h1 c s (idle_made c size least mc)) k)
+
+  back_two : (change : Double C) (size q : ℕ) → MadeTwo number i a h key change size q → BackTwo number h change h' → SparesWaiting h h'
+  back_two Unlink size q m g = spares_same h h' g
+  back_two (Grow c) size q m g = spares_back h h' (number c) (idle_made (number c) size q m) g
+  back_two (GrowLink c leaf byte) size q m g = back_both (number c) size q (number leaf) g.0 m.0 m.1 g.1 g.2
+  back_two (Split top leaf common byte) size q m g = back_both (number top) common 1 (number leaf) g.0 m.0 m.1 g.1 g.2
+
+  -- nodes are changed
+  changed_one : (new : Option V) (one : One C) (change : Single C) → is_waiting (h (number one.at.node)) ≡ false → MadeOne number i a h key change → ChangedOne number key new one change h h' → SparesWaiting h h'
+  changed_one new one Set e m g = spares_change h h' _ _ _ e g
+  changed_one new one (Link leaf) e m g =
+      let s : SparesWaiting h g.0 = spares_change h g.0 (number leaf) _ _ (idle_made (number leaf) 7 0 m) g.1 in
+      spares_then h g.0 h' s (spares_change g.0 h' (number one.at.node) _ _ (still_idle h g.0 (number one.at.node) s e) g.2)
+
+  changed_two : (new : Option V) (two : Two C) (change : Double C) (size q : ℕ) → is_waiting (h (number two.above.seat.node)) ≡ false → is_waiting (h (number two.at.node)) ≡ false → MadeTwo number i a h key change size q
+      → ChangedTwo number key new two change h h' → SparesWaiting h h'
+  changed_two new two Unlink size q e f m g = spares_change h h' _ _ _ e g
+  changed_two new two (Grow c) size q e f m g =
+      let p : ℕ = number two.above.seat.node in
+      let ec : is_waiting (h (number c)) ≡ false = idle_made (number c) size q m in
+      let s1 : SparesWaiting h g.0 = spares_take h g.0 (number two.at.node) (number c) f ec g.2 in
+      let s2 : SparesWaiting h g.1 = spares_then h g.0 g.1 s1 (spares_change g.0 g.1 (number c) _ _ (still_idle h g.0 (number c) s1 ec) g.3) in
+      spares_then h g.1 h' s2 (spares_change g.1 h' (number two.above.seat.node) _ _ (still_idle h g.1 (number two.above.seat.node) s2 e) g.4)
+  changed_two new two (GrowLink c leaf byte) size q e f m g =
+      let ec : is_waiting (h (number c)) ≡ false = idle_made (number c) size q m.0 in
+      let s1 : SparesWaiting h g.0 = spares_change h g.0 (number leaf) _ _ (idle_made (number leaf) 7 0 m.1) g.3 in
+      let s2 : SparesWaiting h g.1 = spares_then h g.0 g.1 s1 (spares_take g.0 g.1 (number two.at.node) (number c) (still_idle h g.0 (number two.at.node) s1 f) (still_idle h g.0 (number c) s1 ec) g.4) in
+      let s3 : SparesWaiting h g.2 = spares_then h g.1 g.2 s2 (spares_change g.1 g.2 (number c) _ _ (still_idle h g.1 (number c) s2 ec) g.5) in
+      spares_then h g.2 h' s3 (spares_change g.2 h' (number two.above.seat.node) _ _ (still_idle h g.2 (number two.above.seat.node) s3 e) g.6)
+  changed_two new two (Split top leaf common byte) size q e f m g =
+      let ec : is_waiting (h (number top)) ≡ false = idle_made (number top) common 1 m.0 in
+      let s1 : SparesWaiting h g.0 = spares_change h g.0 (number leaf) _ _ (idle_made (number leaf) 7 0 m.1) g.3 in
+      let s2 : SparesWaiting h g.1 = spares_then h g.0 g.1 s1 (spares_change g.0 g.1 (number top) _ _ (still_idle h g.0 (number top) s1 ec) g.4) in
+      let s3 : SparesWaiting h g.2 = spares_then h g.1 g.2 s2 (spares_change g.1 g.2 (number top) _ _ (still_idle h g.1 (number top) s2 ec) g.5) in
+      spares_then h g.2 h' s3 (spares_change g.2 h' (number two.above.seat.node) _ _ (still_idle h g.2 (number two.above.seat.node) s3 e) g.6)
+
+  -- nodes are made
+  leaf_made : (kind : Kind V) (s : Site C) (r : Result C Refusal) (turn : Turn C V) → MadeLeaf number kind s h key r h' turn → SparesWaiting h h'
+  leaf_made kind s (Ok leaf) turn g = spares_new h h' _ _ _ _ g.0
+  leaf_made kind s (Err e) turn g = spares_same h h' g.0
+
+  greater_made : (kind : Kind V) (s : Site C) (p : Parent C) (leaf : Option C) (r : Result C Refusal) (turn : Turn C V) → MadeLeafFor number i a h key s leaf → MadeGreater number kind s p leaf h key r h' turn → SparesWaiting h h'
+  greater_made kind s p leaf (Ok c) turn m g = spares_new h h' _ _ _ _ g.0
+  greater_made kind s p leaf (Err e) turn m g = back_leaf leaf s m g.0
+
+  top_made : (p : Parent C) (at : Seat C) (common byte : ℕ) (r : Result C Refusal) (turn : Turn C V) → MadeTop number p at common byte h key r h' turn → SparesWaiting h h'
+  top_made p at common byte (Ok top) turn g = spares_new h h' _ _ _ _ g.0
+  top_made p at common byte (Err e) turn g = spares_same h h' g.0
+
+  beside_made : (kind : Kind V) (p : Parent C) (at : Seat C) (common byte : ℕ) (top : C) (r : Result C Refusal) (turn : Turn C V) → Made i a h key (number top) common 1 → MadeBeside number kind p at common byte top h key r h' turn → SparesWaiting h h'
+  beside_made kind p at common byte top (Ok leaf) turn m g = spares_new h h' _ _ _ _ g.0
+  beside_made kind p at common byte top (Err e) turn m g = spares_back h h' (number top) (idle_made (number top) common 1 m) g.0
+
+  -- a node is locked
+  locked_spares : (most n v : ℕ) (fail : Bool) → LockWords a h → is_published (a n).status ≡ true → Locked ≡ upgrade_gives most (h n) v fail → SameBut h n (record (h n) { locked = true }) h' → SparesWaiting h h'
+  locked_spares most n v fail w p e g =
+      let q : is_waiting (h n) ≡ false = linked_idle a h n w (taken_linked a h w n v p (locked_taken most (h n) v fail e)) in spares_but h h' n _ q q g
+
+  one_upgraded : (root : C) (one : One C) (r : Reply V) (most : ℕ) (fail : Bool) (u : Upgrade) (turn : Turn C V) → LockWords a h → is_published (a (number one.at.node)).status ≡ true → MadeOne number i a h key one.change
+      → u ≡ upgrade_gives most (h (number one.at.node)) one.at.version fail → UpgradedOne number root one r h u h' turn → SparesWaiting h h'
+  one_upgraded root one r most fail Locked turn w p m e g = locked_spares most (number one.at.node) one.at.version fail w p e g.0
+  one_upgraded root one r most fail Failed turn w p m e g = back_one one.change m g.0
+  one_upgraded root one r most fail Exhausted turn w p m e g = back_one one.change m g.0
+
+  above_upgraded : (root : C) (two : Two C) (r : Reply V) (size q most : ℕ) (fail : Bool) (u : Upgrade) (turn : Turn C V) → LockWords a h → is_published (a (number two.above.seat.node)).status ≡ true → MadeTwo number i a h key two.change size q
+      → u ≡ upgrade_gives most (h (number two.above.seat.node)) two.above.seat.version fail → UpgradedAbove number root two r h u h' turn → SparesWaiting h h'
+  above_upgraded root two r size q most fail Locked turn w p m e g = locked_spares most (number two.above.seat.node) two.above.seat.version fail w p e g.0
+  above_upgraded root two r size q most fail Failed turn w p m e g = back_two two.change size q m g.0
+  above_upgraded root two r size q most fail Exhausted turn w p m e g = back_two two.change size q m g.0
+
+  both_upgraded : (two : Two C) (r : Reply V) (size q most : ℕ) (fail : Bool) (u : Upgrade) (turn : Turn C V) → LockWords a h → is_published (a (number two.at.node)).status ≡ true → MadeTwo number i a h key two.change size q
+      → u ≡ upgrade_gives most (h (number two.at.node)) two.at.version fail → UpgradedBoth number two r h u h' turn → SparesWaiting h h'
+  both_upgraded two r size q most fail Locked turn w p m e g = locked_spares most (number two.at.node) two.at.version fail w p e g.0
+  both_upgraded two r size q most fail Failed turn w p m e g = back_two two.change size q m g.0
+  both_upgraded two r size q most fail Exhausted turn w p m e g = back_two two.change size q m g.0
+
+-- the call hands node n over, in its last step but one
+pub record Gives {C V : Type 0} (number : C → ℕ) (h : ℕ → Node V) (s : Phase C V) (n : ℕ) (h' : ℕ → Node V) (s' : Phase C V) : Type 0 where
+  pub taken : TakenBy number s n
+  pub was : IsLeaving s → ⊥
+  pub is : IsLeaving s'
+  pub marked : (h n).obsolete ≡ true
+  pub out : IsOut h n
+  pub before : is_waiting (h n) ≡ false
+  pub after : is_waiting (h' n) ≡ true
+  pub others : (m : ℕ) → m ≢ n → h' m ≡ h m
+
+module _ {C V : Type 0} (number : C → ℕ) (same : V → V → Bool) (always : Bool) (i : ℕ) (a : ℕ → Note) (h : ℕ → Node V) (h' : ℕ → Node V) (k : ℕ)
+    (w : LockWords a h) (t : Tree a h) where
+  unlock_spares : (n : ℕ) → (a n).status ≡ Linked → SameBut h n (record (h n) { version = (h n).version + 1; locked = false }) h' → SparesWaiting h h'
+  unlock_spares n l g = let q : is_waiting (h n) ≡ false = linked_idle a h n w l in spares_but h h' n _ q q g
+
+  -- every step
+  pub step_hands : (most : ℕ) (why : NodeType → Refusal → Type 0) (root : C) (kind : Kind V) (fail : Bool) (answer : Option (Option V)) (given : Option V) (s : Phase C V) (given' : Option V) (turn : Turn C V)
+      → Known number same always i a h k (key_bytes k) kind given s → PhaseStepped number same always most why root (key_bytes k) kind fail answer given s h given' turn h'
+      → SparesWaiting h h' ⊎ ((n : ℕ) × Gives number h s n h' turn.phase)
+  step_hands most why root kind fail answer given New given' turn x g = inl (spares_same h h' g.0)
+  step_hands most why root kind fail answer given (Version p n) given' turn x g = inl (spares_same h h' g.0)
+  step_hands most why root kind fail answer given (Read p at) given' turn x g = inl (spares_same h h' g.0)
+  step_hands most why root kind fail answer given (Check s c) given' turn x g = inl (spares_same h h' g.0)
+  step_hands most why root kind fail answer given (CheckUncopied at) given' turn x g = inl (spares_same h h' g.0)
+  step_hands most why root kind fail answer given (CheckMiss p at common byte) given' turn x g = inl (spares_same h h' g.0)
+  step_hands most why root kind fail answer given (CheckDown p at c) given' turn x g = inl (spares_same h h' g.0)
+  step_hands most why root kind fail answer given (CheckOld p s v) given' turn x g = inl (spares_same h h' g.0)
+  step_hands most why root kind fail answer given (MakeLeaf s) given' turn x g = inl (leaf_made number i a h h' (key_bytes k) kind s g.1.0 turn g.1.1)
+  step_hands most why root kind fail answer given (MakeGreater s p leaf) given' turn x g = inl (greater_made number i a h h' (key_bytes k) kind s p leaf g.1.0 turn x.3 g.1.1)
+  step_hands most why root kind fail answer given (MakeTop p at common byte) given' turn x g = inl (top_made number i a h h' (key_bytes k) p at common byte g.1.0 turn g.1.1)
+  step_hands most why root kind fail answer given (MakeBeside p at common byte top) given' turn x g = inl (beside_made number i a h h' (key_bytes k) kind p at common byte top g.1.0 turn x.6 g.1.1)
+  step_hands most why root kind fail answer given (AskOld s v) given' turn x g = inl (spares_same h h' g.0)
+  step_hands most why root kind fail answer given (AskNew plan) given' turn x g = inl (spares_same h h' g.0)
+  step_hands most why root kind fail answer given (Confirm at r) given' turn x g = inl (spares_same h h' g.0)
+  step_hands most why root kind fail answer given (CheckAbove p one r) given' turn x g = inl (on_test (is_taken (h (number p.node)) p.version)
+      (λ y. spares_same h h' (g.1.goes_on y).0)
+      (λ y. back_one number i a h h' (key_bytes k) one.change x.2.made (g.1.goes_back y).0))
+  step_hands most why root kind fail answer given (UpgradeOne one r) given' turn x g =
+      inl (one_upgraded number i a h h' (key_bytes k) root one r most fail g.1.0 turn w x.1.1.fresh.seated.published x.1.1.made g.1.1 g.1.2)
+  step_hands most why root kind fail answer given (ChangeOne one r) given' turn x g =
+      inl (changed_one number i a h h' (key_bytes k) given one one.change (linked_idle a h (number one.at.node) w x.1.holding.linked) x.1.made g.1)
+  step_hands most why root kind fail answer given (UpgradeAbove two r) given' turn x g =
+      inl (above_upgraded number i a h h' (key_bytes k) root two r _ _ most fail g.1.0 turn w x.1.2.above.fresh.seated.published x.1.2.made g.1.1 g.1.2)
+  step_hands most why root kind fail answer given (UpgradeBoth two r) given' turn x g =
+      inl (both_upgraded number i a h h' (key_bytes k) two r _ _ most fail g.1.0 turn w x.1.2.fresh.seated.published x.1.2.made g.1.1 g.1.2)
+  step_hands most why root kind fail answer given (ChangeTwo two r) given' turn x g =
+      inl (changed_two number i a h h' (key_bytes k) given two two.change _ _ (linked_idle a h (number two.above.seat.node) w x.2.above.holding.linked)
+      (linked_idle a h (number two.at.node) w (t.down (number two.above.seat.node) _ (number two.at.node) x.2.above.holding.linked x.2.above.child).linked) x.2.made g.1)
+  step_hands most why root kind fail answer given (Obsolete n p r) given' turn x g =
+      let q : is_waiting (h (number n)) ≡ false = unretired_idle (h (number n)) x.unretired in inl (spares_but h h' (number n) _ q q g.1)
+  step_hands most why root kind fail answer given (Retire n p r) given' turn x g = inr (
+    number n,
+    record {
+      taken = refl;
+      was = λ l. l;
+      is = (let P : Turn C V → Type 0 = λ z. IsLeaving z.phase in subst P (sym g.2) tt);
+      marked = x.1;
+      out = unlinked_out a h (number n) t (λ l. let z : Linked ≡ Gone = sym l ∙ x.0.gone in cc);
+      before = unretired_idle (h (number n)) x.0.unretired;
+      after = (let s : Stands (h (number n)) = (w.each (number n)).stands (ap is_published x.0.gone) in rw (g.1.after, s.made, s.kept) refl);
+      others = g.1.others;
+    },
+  )
+  step_hands most why root kind fail answer given (UnlockBelow n p r) given' turn x g = inl (unlock_spares (number n) x.0.linked g.1)
+  step_hands most why root kind fail answer given (Unlock n r) given' turn x g = inl (unlock_spares (number n) x.linked g.1)
+  step_hands most why root kind fail answer given (Unwind n e) given' turn x g = inl (unlock_spares (number n) x.1.linked g.1)
+  step_hands most why root kind fail answer given (Sweep s) given' turn x g = inl (spares_same h h' g.0)
+  step_hands most why root kind fail answer given Ended given' turn x g = inl (spares_same h h' g.0)
+
+  -- a call that is leaving goes on to leave
+  pub leaves_on : (most : ℕ) (why : NodeType → Refusal → Type 0) (root : C) (kind : Kind V) (fail : Bool) (answer : Option (Option V)) (given : Option V) (s : Phase C V) (given' : Option V) (turn : Turn C V)
+      → PhaseStepped number same always most why root (key_bytes k) kind fail answer given s h given' turn h' → IsLeaving s → IsLeaving turn.phase
+  leaves_on most why root kind fail answer given (Unlock n r) given' turn g l = let P : Turn C V → Type 0 = λ z. IsLeaving z.phase in subst P (sym g.2) tt
+  leaves_on most why root kind fail answer given Ended given' turn g l = let P : Turn C V → Type 0 = λ z. IsLeaving z.phase in subst P (sym g.2) tt
+  leaves_on most why root kind fail answer given _ given' turn g l = absurd l
+
+-- what the calls have handed over, with one node more
+unfoldable pub giving : (ℕ → Option ℕ) → ℕ → ℕ → ℕ → Option ℕ
+giving by i n j = cond (j == i) (Some n) (by j)
+
+pub giving_here : (by : ℕ → Option ℕ) (i n : ℕ) → giving by i n i ≡ Some n
+unfolding giving
+giving_here by i n = rw (same_test i i refl) refl
+
+pub giving_apart : (by : ℕ → Option ℕ) (i n j : ℕ) → j ≢ i → giving by i n j ≡ by j
+unfolding giving
+giving_apart by i n j e = rw (other_test j i e) refl
+
+pub none_if : (o : Option ℕ) → ((n : ℕ) → o ≡ Some n → ⊥) → o ≡ None
+none_if None f = refl
+none_if (Some n) f = absurd (f n refl)
+
+-- one step of the calls
+module _ {C V : Type 0} (number : C → ℕ) (h : ℕ → Node V) (ms : List (Machine C V)) (i : ℕ) (m m' : Machine C V) (h' : ℕ → Node V) (e : slice_get ms i ≡ Some m) where
+  leaves_at : (by : ℕ → Option ℕ) → Leaving by ms → (n : ℕ) → by i ≡ Some n → IsLeaving m.phase
+  leaves_at by l n q =
+      let x : (k : Machine C V) × (slice_get ms i ≡ Some k) × IsLeaving k.phase = l i n q in
+      let z : x.0 ≡ m = (let y : Some x.0 ≡ Some m = sym x.1 ∙ e in cc) in
+      let P : Machine C V → Type 0 = λ y. IsLeaving y.phase in subst P z x.2
+
+  abbrev At : ℕ → Type 0
+  At j = (k : Machine C V) × (slice_get (set ms i m') j ≡ Some k) × IsLeaving k.phase
+
+  leaves_here : (j : ℕ) → j ≡ i → IsLeaving m'.phase → At j
+  leaves_here j q x = subst At (sym q) (m', set_here ms i m' m e, x)
+
+  leaves_apart : (by : ℕ → Option ℕ) → Leaving by ms → (j n : ℕ) → j ≢ i → by j ≡ Some n → At j
+  leaves_apart by l j n ne q = let x : (k : Machine C V) × (slice_get ms j ≡ Some k) × IsLeaving k.phase = l j n q in (x.0, set_apart ms i j m' x.0 ne x.1, x.2)
+
+  hands_nothing : (IsLeaving m.phase → IsLeaving m'.phase) → SparesWaiting h h' → StepHands number h ms i h' (set ms i m')
+  hands_nothing f s by l = (
+    by,
+    inl (record {
+      calls = λ j. refl;
+      nodes = λ n. elim (s n) [
+        | inl q ↦ ap is_waiting q
+        | inr q ↦ q.1 ∙ sym q.0
+      ];
+    }),
+    (λ j n q. elim (same_or_not j i) [
+      | inl y ↦ leaves_here j y (f (leaves_at by l n (let P : ℕ → Type 0 = λ z. by z ≡ Some n in subst P y q)))
+      | inr ne ↦ leaves_apart by l j n ne q
+    ]),
+    (λ j n q. inl q),
+  )
+
+  hands_node : (n : ℕ) → Gives number h m.phase n h' m'.phase → StepHands number h ms i h' (set ms i m')
+  hands_node n g by l = (
+    giving by i n,
+    inr (
+      n,
+      record {
+        first = none_if (by i) (λ c q. g.was (leaves_at by l c q));
+        now = giving_here by i n;
+        others = λ j ne. giving_apart by i n j ne;
+        marked = g.marked;
+        out = g.out;
+        before = g.before;
+        after = g.after;
+        nodes = λ c ne. ap is_waiting (g.others c ne);
+      },
+    ),
+    (λ j c q. elim (same_or_not j i) [
+      | inl y ↦ leaves_here j y g.is
+      | inr ne ↦ leaves_apart by l j c ne (sym (giving_apart by i n j ne) ∙ q)
+    ]),
+    (λ j c q. elim (same_or_not j i) [
+      | inl y ↦ inr (taker n g by j c y q)
+      | inr ne ↦ inl (sym (giving_apart by i n j ne) ∙ q)
+    ]),
+  ) where
+    taker : (n : ℕ) → Gives number h m.phase n h' m'.phase → (by : ℕ → Option ℕ) → (j c : ℕ) → j ≡ i → giving by i n j ≡ Some c → (k : Machine C V) × (slice_get ms j ≡ Some k) × TakenBy number k.phase c
+    taker n g by j c y q =
+        let P : ℕ → Type 0 = λ z. giving by i n z ≡ Some c in
+        let z : Some n ≡ Some c = sym (giving_here by i n) ∙ subst P y q in
+        let u : n ≡ c = cc in
+        let Q : ℕ → Type 0 = λ z. TakenBy number m.phase z in
+        let R : ℕ → Type 0 = λ z. slice_get ms z ≡ Some m in
+        (m, subst R (sym y) e, subst Q u g.taken)
+
+  -- what waits is left alone
+  spared : SparesWaiting h h' → Untouched h h'
+  spared s n x = elim (s n) [
+    | inl q ↦ q
+    | inr q ↦ absurd (let z : true ≡ false = sym x ∙ q.0 in cc)
+  ]
+
+  given_apart : (n : ℕ) → Gives number h m.phase n h' m'.phase → Untouched h h'
+  given_apart n g c x = g.others c (λ q. let y : is_waiting (h c) ≡ false = (let P : ℕ → Type 0 = λ z. is_waiting (h z) ≡ false in subst P (sym q) g.before) in let z : true ≡ false = sym x ∙ y in cc)
+
+  pub stepped_hands : (IsLeaving m.phase → IsLeaving m'.phase) → SparesWaiting h h' ⊎ ((n : ℕ) × Gives number h m.phase n h' m'.phase) → StepHands number h ms i h' (set ms i m')
+  stepped_hands f (inl s) = hands_nothing f s
+  stepped_hands f (inr g) = hands_node g.0 g.1
+
+  pub stepped_apart : SparesWaiting h h' ⊎ ((n : ℕ) × Gives number h m.phase n h' m'.phase) → Untouched h h'
+  stepped_apart (inl s) = spared s
+  stepped_apart (inr g) = given_apart g.0 g.1
+
+-- a call that isn't there hands nothing over
+abbrev pub idle_hands : {C V : Type 0} (number : C → ℕ) (h : ℕ → Node V) (ms : List (Machine C V)) (i : ℕ) → StepHands number h ms i h ms
+idle_hands number h ms i = λ by l. (by, inl (record { calls = λ j. refl; nodes = λ n. refl }), l, (λ j n q. inl q))
+
+-- steps, one after another
+hands_more : {C V : Type 0} (by : ℕ → Option ℕ) (h : ℕ → Node V) (ss : List (Step C V)) (by1 : ℕ → Option ℕ) (h1 : ℕ → Node V) (s : Step C V) (by2 : ℕ → Option ℕ) (h2 : ℕ → Node V)
+    → Hands by h ss by1 h1 → HandsAt by1 h1 s.who by2 h2 → Hands by h (ss ++ s ∷ []) by2 h2
+hands_more by h [] by1 h1 s by2 h2 r q =
+    let P : (ℕ → Option ℕ) → Type 0 = λ x. HandsAt x h s.who by2 h2 in
+    let Q : (ℕ → Node _) → Type 0 = λ x. HandsAt by1 x s.who by2 h2 in
+    (by2, h2, subst P r.0 (subst Q r.1 q), (refl, refl))
+hands_more by h (x ∷ ss) by1 h1 s by2 h2 r q = (r.0, r.1, r.2, hands_more r.0 r.1 ss by1 h1 s by2 h2 r.3 q)
+
+pub handing_none : {C V : Type 0} (h : ℕ → Node V) (ms : List (Machine C V)) (a : ℕ → Note) → Tree a h → LockWords a h → Handing (λ _. None) h [] h ms
+handing_none h ms a t w = record {
+  run = (refl, refl);
+  leaving = λ i n q. absurd cc;
+  once = λ i j n q r. absurd cc;
+  new = λ i n q. absurd cc;
+  all = λ n x. inl x;
+  out = λ n x. waiting_out a h n t w x;
+  untouched = λ n x. refl;
+}
+
+module _ {C V : Type 0} (by : ℕ → Option ℕ) (h0 : ℕ → Node V) (ss : List (Step C V)) (h : ℕ → Node V) (ms : List (Machine C V)) (s : Step C V) (by' : ℕ → Option ℕ) (h' : ℕ → Node V) (ms' : List (Machine C V))
+    (p : Handing by h0 ss h ms) (a' : ℕ → Note) (t : Tree a' h') (w : LockWords a' h') (u : Untouched h h') (l : Leaving by' ms') where
+  more_nothing : HandsNothing by h by' h' → Handing by' h0 (ss ++ s ∷ []) h' ms'
+  more_nothing x = record {
+    run = hands_more (λ _. None) h0 ss by h s by' h' p.run (inl x);
+    leaving = l;
+    once = λ i j n q r. p.once i j n (sym (x.calls i) ∙ q) (sym (x.calls j) ∙ r);
+    new = λ i n q. let y : (is_waiting (h0 n) ≡ false) × (is_waiting (h n) ≡ true) = p.new i n (sym (x.calls i) ∙ q) in (y.0, x.nodes n ∙ y.1);
+    all = λ n q. elim (p.all n (sym (x.nodes n) ∙ q)) [
+      | inl y ↦ inl y
+      | inr y ↦ inr (y.0, x.calls y.0 ∙ y.1)
+    ];
+    out = λ n y. waiting_out a' h' n t w y;
+    untouched = λ n y. u n (ap is_waiting (p.untouched n y) ∙ y) ∙ p.untouched n y;
+  }
+
+  module _ (n : ℕ) (x : HandsNode by h s.who n by' h') where
+    -- who hands over one node more
+    one_more : (i c : ℕ) → by' i ≡ Some c → ((i ≡ s.who) × (c ≡ n)) ⊎ (by i ≡ Some c)
+    one_more i c q = elim (same_or_not i s.who) [
+      | inl y ↦ (let P : ℕ → Type 0 = λ z. by' z ≡ Some c in let z : Some c ≡ Some n = sym (subst P y q) ∙ x.now in inl (y, cc))
+      | inr ne ↦ inr (sym (x.others i ne) ∙ q)
+    ]
+
+    -- nobody handed it over before
+    not_yet : (i c : ℕ) → by i ≡ Some c → c ≡ n → ⊥
+    not_yet i c q y =
+        let z : is_waiting (h c) ≡ true = (p.new i c q).1 in
+        let b : is_waiting (h c) ≡ false = (let P : ℕ → Type 0 = λ v. is_waiting (h v) ≡ false in subst P (sym y) x.before) in
+        let v : true ≡ false = sym z ∙ b in cc
+
+    -- it didn't wait at first, else it would still wait
+    at_first : (b : Bool) → is_waiting (h0 n) ≡ b → is_waiting (h0 n) ≡ false
+    at_first false e = e
+    at_first true e = absurd (let y : is_waiting (h n) ≡ true = ap is_waiting (p.untouched n e) ∙ e in let z : true ≡ false = sym y ∙ x.before in cc)
+
+    fresh : (c : ℕ) → c ≡ n → (is_waiting (h0 c) ≡ false) × (is_waiting (h' c) ≡ true)
+    fresh c y = let P : ℕ → Type 0 = λ z. (is_waiting (h0 z) ≡ false) × (is_waiting (h' z) ≡ true) in subst P (sym y) (at_first (is_waiting (h0 n)) refl, x.after)
+
+    not_who : (i c : ℕ) → by i ≡ Some c → i ≢ s.who
+    not_who i c q z = let P : ℕ → Type 0 = λ k. by k ≡ Some c in let v : None ≡ Some c = sym x.first ∙ subst P z q in cc
+
+    more_node : Handing by' h0 (ss ++ s ∷ []) h' ms'
+    more_node = record {
+      run = hands_more (λ _. None) h0 ss by h s by' h' p.run (inr (n, x));
+      leaving = l;
+      once = λ i j c q r. elim (one_more i c q) [
+        | inl y ↦ elim (one_more j c r) [
+          | inl z ↦ y.0 ∙ sym z.0
+          | inr z ↦ absurd (not_yet j c z y.1)
+        ]
+        | inr y ↦ elim (one_more j c r) [
+          | inl z ↦ absurd (not_yet i c y z.1)
+          | inr z ↦ p.once i j c y z
+        ]
+      ];
+      new = λ i c q. elim (one_more i c q) [
+        | inl y ↦ fresh c y.1
+        | inr y ↦ (let z : (is_waiting (h0 c) ≡ false) × (is_waiting (h c) ≡ true) = p.new i c y in (z.0, ap is_waiting (u c z.1) ∙ z.1))
+      ];
+      all = λ c q. elim (same_or_not c n) [
+        | inl y ↦ inr (s.who, (let P : ℕ → Type 0 = λ z. by' s.who ≡ Some z in subst P (sym y) x.now))
+        | inr ne ↦ elim (p.all c (sym (x.nodes c ne) ∙ q)) [
+          | inl y ↦ inl y
+          | inr y ↦ inr (y.0, x.others y.0 (not_who y.0 c y.1) ∙ y.1)
+        ]
+      ];
+      out = λ c y. waiting_out a' h' c t w y;
+      untouched = λ c y. u c (ap is_waiting (p.untouched c y) ∙ y) ∙ p.untouched c y;
+    }
+
+  pub handing_more : HandsAt by h s.who by' h' → Handing by' h0 (ss ++ s ∷ []) h' ms'
+  handing_more (inl x) = more_nothing x
+  handing_more (inr x) = more_node x.0 x.1

@@ -1,0 +1,157 @@
+-- Each name of a call is of a node that is or was in reach, or of one that it made.
+use Rattle.std.proofs.Common.{◌≡◌, ℕ, suc, Bool, true, List, [], ◌∷◌, refl, sym, ap, subst, inl, inr, ◌⊎◌}
+use Rattle.std.specs.Prelude.{Option, None, Some}
+use Rattle.std.specs.List.{Contains}
+use Rattle.std.proofs.lemmas.List.Elements.{All-from_recursion, All-contains}
+use Rattle.congee.specs.declared.protocol.store.Seat.{Seat}
+use Rattle.congee.specs.declared.protocol.phase.Kind.{Kind}
+use Rattle.congee.specs.declared.protocol.phase.Parent.{Parent}
+use Rattle.congee.specs.declared.protocol.phase.Site.{Site}
+use Rattle.congee.specs.declared.protocol.phase.Single.{Single}
+use Rattle.congee.specs.declared.protocol.phase.Single.TheVariants.{Set, Link}
+use Rattle.congee.specs.declared.protocol.phase.One.{One}
+use Rattle.congee.specs.declared.protocol.phase.Double.{Double}
+use Rattle.congee.specs.declared.protocol.phase.Double.TheVariants.{Unlink, Grow, GrowLink, Split}
+use Rattle.congee.specs.declared.protocol.phase.Two.{Two}
+use Rattle.congee.specs.declared.protocol.phase.Plan.{Plan}
+use Rattle.congee.specs.declared.protocol.phase.Plan.TheVariants.{Here, Above}
+use Rattle.congee.specs.declared.protocol.phase.Phase.{Phase}
+use Rattle.congee.specs.declared.protocol.phase.Phase.TheVariants.{New, Version, Read, Check, CheckUncopied, CheckMiss, CheckDown, CheckOld, MakeLeaf, MakeGreater, MakeTop, MakeBeside, AskOld, AskNew, Confirm, CheckAbove, UpgradeOne, ChangeOne, UpgradeAbove, UpgradeBoth, ChangeTwo, Obsolete, Retire, UnlockBelow, Unlock, Unwind, Sweep, Ended}
+use Rattle.congee.specs.declared.protocol.sweep.Rung.{Rung}
+use Rattle.congee.specs.declared.protocol.sweep.Stage.{Stage}
+use Rattle.congee.specs.declared.protocol.sweep.Stage.TheVariants as stage
+use Rattle.congee.specs.declared.protocol.sweep.Sweep.{Sweep as Scan}
+use Rattle.congee.specs.protocol.SweepSteps.{rungs_of}
+use Rattle.congee.specs.protocol.SweepKnown.{RungsKnown, SweepKnownAt, names_rungs, names_sweep_at, names_sweep}
+use Rattle.congee.specs.Heap.{Node, Hung, Below, child_for}
+use Rattle.congee.specs.Ledger.{Note, Linked, is_published, Tree}
+use Rattle.congee.specs.protocol.Protocol.{Known, Knows, ChildOf, IsAbove, SeatedIf, PlanKnown}
+use Rattle.congee.specs.protocol.Holdings.{LockedBy, MadeBy, MadeForOne, MadeForTwo, MadeForPlan, IsMade}
+use Rattle.congee.specs.protocol.Names.{name_above, name_seated, name_made, names_for_one, names_for_two, names_site, names_one, names_two, names_plan, names}
+use Rattle.congee.proofs.lemmas.protocol.Each.{Each, both}
+
+each_weaker : (K L : ℕ → Type 0) → ((n : ℕ) → K n → L n) → (xs : List ℕ) → Each K xs → Each L xs
+each_weaker K L f [] e = tt
+each_weaker K L f (x ∷ xs) e = (f x e.0, each_weaker K L f xs e.1)
+
+module _ {C V : Type 0} (number : C → ℕ) (same : V → V → Bool) (always : Bool) (i : ℕ) (a : ℕ → Note) (h : ℕ → Node V) (key : List ℕ) where
+  abbrev In : ℕ → Type 0
+  In n = is_published (a n).status ≡ true
+
+  abbrev Or : (ℕ → Type 0) → ℕ → Type 0
+  Or M n = In n ⊎ M n
+
+  tree_in : (n : ℕ) → (a n).status ≡ Linked → In n
+  tree_in n e = ap is_published e
+
+  above_in : (p : Option (Parent C)) (n : ℕ) → IsAbove number a h key p n → Each In (name_above number p)
+  above_in None n x = tt
+  above_in (Some p) n x = (x.fresh.seated.published, tt)
+
+  site_in : (s : Site C) (x : Hung V) → Knows number a h key s x → Each In (names_site number s)
+  site_in s x k = (k.fresh.seated.published, above_in s.above (number s.at.node) k.above)
+
+  seated_in : (p : Option (Seat C)) → SeatedIf number a h p → Each In (name_seated number p)
+  seated_in None x = tt
+  seated_in (Some p) x = (x.published, tt)
+
+  up : (M : ℕ → Type 0) (xs : List ℕ) → Each In xs → Each (Or M) xs
+  up M xs e = each_weaker In (Or M) (λ n x. inl x) xs e
+
+  for_one : (change : Single C) → Each (Or (MadeForOne number change)) (names_for_one number change)
+  for_one Set = tt
+  for_one (Link leaf) = (inr refl, tt)
+
+  for_two : (change : Double C) → Each (Or (MadeForTwo number change)) (names_for_two number change)
+  for_two Unlink = tt
+  for_two (Grow c) = (inr refl, tt)
+  for_two (GrowLink c leaf byte) = (inr (inl refl), (inr (inr refl), tt))
+  for_two (Split top leaf common byte) = (inr (inl refl), (inr (inr refl), tt))
+
+  one_in : (one : One C) → In (number one.at.node) → Each (Or (MadeForOne number one.change)) (names_one number one)
+  one_in one at = (inl at, for_one one.change)
+
+  two_in : (two : Two C) → In (number two.above.seat.node) → In (number two.at.node) → Each (Or (MadeForTwo number two.change)) (names_two number two)
+  two_in two p at = (inl p, (inl at, for_two two.change))
+
+  plan_in : (plan : Plan C) → PlanKnown number i a h key plan → Each (Or (MadeForPlan number plan)) (names_plan number plan)
+  plan_in (Here check one) x = both (Or (MadeForOne number one.change)) (name_seated number check) (names_one number one) (up _ (name_seated number check) (seated_in check x.0)) (one_in one x.1.fresh.seated.published)
+  plan_in (Above two) x = two_in two x.0.1.above.fresh.seated.published x.0.1.fresh.seated.published
+
+  made_in : (leaf : Option C) → Each (Or (IsMade number leaf)) (name_made number leaf)
+  made_in None = tt
+  made_in (Some leaf) = (inr refl, tt)
+
+  parent_in : (s : Site C) (p : Parent C) (x : Hung V) → Knows number a h key s x → s.above ≡ Some p → In (number p.seat.node)
+  parent_in s p x k e =
+      let P : Option (Parent C) → Type 0 = λ o. IsAbove number a h key o (number s.at.node) in
+      let c : ChildOf number a h key p (number s.at.node) = subst P e k.above in
+      c.fresh.seated.published
+
+  rungs_in : (end above : ℕ) (rs : List (Rung C)) → RungsKnown number a h end above rs → Each In (names_rungs number rs)
+  rungs_in end above [] x = tt
+  rungs_in end above (r ∷ rs) x = (x.0.seated.published, rungs_in end (suc above) rs x.1)
+
+  sweep_at : (s : Scan C V) (x : Stage C V) → SweepKnownAt number always a h s x → Each In (names_sweep_at number s x)
+  sweep_at s stage.New x = tt
+  sweep_at s (stage.Enter n y) x = (x.1, rungs_in s.end 0 (rungs_of s.above) x.0.rungs)
+  sweep_at s (stage.Look r) x = (x.1.seated.published, rungs_in s.end 0 (rungs_of s.above) x.0.rungs)
+  sweep_at s (stage.Check r y) x = (x.1.seated.published, rungs_in s.end 0 (rungs_of s.above) x.0.rungs)
+  sweep_at s stage.Full x = tt
+  sweep_at s stage.Over x = tt
+
+  module _ (t : Tree a h) (k : ℕ) where
+    below_in : (p n : ℕ) → (a p).status ≡ Linked → child_for (h p) key ≡ Below n → In n
+    below_in p n l e = tree_in n (t.down p _ n l e).linked
+
+    names_known : (kind : Kind V) (given : Option V) (s : Phase C V) → Known number same always i a h k key kind given s → Each (Or (MadeBy number s)) (names number s)
+    names_known kind given New x = tt
+    names_known kind given (Version p c) x = (inl x.2, up _ (name_above number p) (above_in p (number c) x.1))
+    names_known kind given (Read p at) x = (inl x.2.published, up _ (name_above number p) (above_in p (number at.node) x.1))
+    names_known kind given (Check s c) x = up _ (names_site number s) (site_in s _ x.1)
+    names_known kind given (CheckUncopied at) x = (inl x.1.published, tt)
+    names_known kind given (CheckMiss p at common byte) x = (inl x.1.fresh.seated.published, (inl x.2.published, tt))
+    names_known kind given (CheckDown p at c) x = (inl x.1.published, (inl x.2.fresh.seated.published, (inl x.3, tt)))
+    names_known kind given (CheckOld p s v) x = (inl x.1.published, up _ (names_site number s) (site_in s _ x.2))
+    names_known kind given (MakeLeaf s) x = up _ (names_site number s) (site_in s _ x.1)
+    names_known kind given (MakeGreater s p leaf) x = (inl (parent_in s p _ x.1 x.2), both (Or (IsMade number leaf)) (name_made number leaf) (names_site number s) (made_in leaf) (up _ (names_site number s) (site_in s _ x.1)))
+    names_known kind given (MakeTop p at common byte) x = (inl x.1.fresh.seated.published, (inl x.2.published, tt))
+    names_known kind given (MakeBeside p at common byte top) x = (inl x.1.fresh.seated.published, (inl x.2.published, (inr refl, tt)))
+    names_known kind given (AskOld s v) x = up _ (names_site number s) (site_in s _ x.1)
+    names_known kind given (AskNew plan) x = plan_in plan x.0
+    names_known kind given (Confirm at r) x = (inl x.1.1.fresh.seated.published, tt)
+    names_known kind given (CheckAbove p one r) x = (inl x.1.published, one_in one x.2.fresh.seated.published)
+    names_known kind given (UpgradeOne one r) x = one_in one x.1.1.fresh.seated.published
+    names_known kind given (ChangeOne one r) x = one_in one (tree_in _ x.1.holding.linked)
+    names_known kind given (UpgradeAbove two r) x = two_in two x.1.2.above.fresh.seated.published x.1.2.fresh.seated.published
+    names_known kind given (UpgradeBoth two r) x = two_in two (tree_in _ x.1.2.above.holding.linked) x.1.2.fresh.seated.published
+    names_known kind given (ChangeTwo two r) x = two_in two (tree_in _ x.2.above.holding.linked) (below_in _ _ x.2.above.holding.linked x.2.above.child)
+    names_known kind given (Obsolete n p r) x = (inl (ap is_published x.gone), (inl (tree_in _ x.above.linked), tt))
+    names_known kind given (Retire n p r) x = (inl (ap is_published x.0.gone), (inl (tree_in _ x.0.above.linked), tt))
+    names_known kind given (UnlockBelow n p r) x = (inl (tree_in _ x.0.linked), (inl (tree_in _ x.1.linked), tt))
+    names_known kind given (Unlock n r) x = (inl (tree_in _ x.linked), tt)
+    names_known kind given (Unwind n e) x = (inl (tree_in _ x.1.linked), tt)
+    names_known kind given (Sweep s) x = up _ (names_sweep number s) (sweep_at s s.stage x)
+    names_known kind given Ended x = tt
+
+    pub named : (kind : Kind V) (given : Option V) (s : Phase C V) → Known number same always i a h k key kind given s → (n : ℕ) → Contains (names number s) n → (is_published (a n).status ≡ true) ⊎ MadeBy number s n
+    named kind given s x n c = All-contains (Or (MadeBy number s)) (names number s) n (All-from_recursion (Or (MadeBy number s)) (names number s) (names_known kind given s x)) c
+
+    at : (n c : ℕ) → n ≡ c → In c → In n
+    at n c e x = subst In (sym e) x
+
+    -- a lock is of a node that is or was in reach
+    pub locked_in : (kind : Kind V) (given : Option V) (s : Phase C V) → Known number same always i a h k key kind given s → (n : ℕ) → LockedBy number s n → is_published (a n).status ≡ true
+    locked_in kind given (ChangeOne one r) x n l = at n _ l (tree_in _ x.1.holding.linked)
+    locked_in kind given (UpgradeBoth two r) x n l = at n _ l (tree_in _ x.1.2.above.holding.linked)
+    locked_in kind given (ChangeTwo two r) x n (inl l) = at n _ l (tree_in _ x.2.above.holding.linked)
+    locked_in kind given (ChangeTwo two r) x n (inr l) = at n _ l (below_in _ _ x.2.above.holding.linked x.2.above.child)
+    locked_in kind given (Obsolete m p r) x n (inl l) = at n _ l (tree_in _ x.above.linked)
+    locked_in kind given (Obsolete m p r) x n (inr l) = at n _ l (ap is_published x.gone)
+    locked_in kind given (Retire m p r) x n (inl l) = at n _ l (tree_in _ x.0.above.linked)
+    locked_in kind given (Retire m p r) x n (inr l) = at n _ l (ap is_published x.0.gone)
+    locked_in kind given (UnlockBelow m p r) x n (inl l) = at n _ l (tree_in _ x.1.linked)
+    locked_in kind given (UnlockBelow m p r) x n (inr l) = at n _ l (tree_in _ x.0.linked)
+    locked_in kind given (Unlock m r) x n l = at n _ l (tree_in _ x.linked)
+    locked_in kind given (Unwind m e) x n l = at n _ l (tree_in _ x.1.linked)
+    locked_in kind given _ x n l = absurd l

@@ -1,0 +1,283 @@
+-- Where the names of a next phase come from: each step of the table gives the call a name that it had, the root's,
+-- that of a node just made, or that of a child which the check of its parent found.
+use Rattle.std.proofs.Common.{◌≡◌, ℕ, ◌==◌, ◌⊎◌, inl, inr, Bool, true, false, List, length, refl, sym, ◌∙◌, subst}
+use Rattle.std.specs.Prelude.{Option, None, Some, Result, Ok, Err, slice_index}
+use Rattle.std.specs.List.{All, Contains}
+use Rattle.std.proofs.lemmas.List.Elements.{All-from_recursion, recursion_from_All, All-weaker, All-contains_itself}
+use Rattle.judge.specs.declared.journal.Reply.{Reply}
+use Rattle.judge.specs.declared.journal.Reply.TheVariants as reply
+use Rattle.congee.specs.declared.forms.base_node.NodeType.{NodeType}
+use Rattle.congee.specs.declared.forms.child.Child.{Child}
+use Rattle.congee.specs.declared.forms.child.Child.TheVariants as child
+use Rattle.congee.specs.declared.protocol.store.Reading.{Reading}
+use Rattle.congee.specs.declared.protocol.store.Reading.TheVariants.{Differs, Fits, Uncopied}
+use Rattle.congee.specs.declared.protocol.store.Seat.{Seat}
+use Rattle.congee.specs.declared.protocol.store.Upgrade.{Upgrade}
+use Rattle.congee.specs.declared.protocol.store.Upgrade.TheVariants.{Locked, Failed, Exhausted}
+use Rattle.congee.specs.declared.protocol.store.Refusal.{Refusal}
+use Rattle.congee.specs.declared.protocol.store.Refusal.TheVariants as refusal
+use Rattle.congee.specs.declared.protocol.phase.Kind.{Kind}
+use Rattle.congee.specs.declared.protocol.phase.Kind.TheVariants.{Get, Insert, Remove, ComputePresent, ComputeInsert, Exchange}
+use Rattle.congee.specs.declared.protocol.phase.Parent.{Parent}
+use Rattle.congee.specs.declared.protocol.phase.Site.{Site}
+use Rattle.congee.specs.declared.protocol.phase.Single.{Single}
+use Rattle.congee.specs.declared.protocol.phase.Single.TheVariants.{Set, Link}
+use Rattle.congee.specs.declared.protocol.phase.One.{One}
+use Rattle.congee.specs.declared.protocol.phase.Double.{Double}
+use Rattle.congee.specs.declared.protocol.phase.Double.TheVariants.{Unlink, Grow, GrowLink, Split}
+use Rattle.congee.specs.declared.protocol.phase.Two.{Two}
+use Rattle.congee.specs.declared.protocol.phase.Plan.{Plan}
+use Rattle.congee.specs.declared.protocol.phase.Plan.TheVariants.{Here, Above}
+use Rattle.congee.specs.declared.protocol.phase.Phase.{Phase}
+use Rattle.congee.specs.declared.protocol.phase.Phase.TheVariants.{New, Version, Read, Check, CheckUncopied, CheckMiss, CheckDown, CheckOld, MakeLeaf, MakeGreater, MakeTop, MakeBeside, AskOld, AskNew, Confirm, CheckAbove, UpgradeOne, ChangeOne, UpgradeAbove, UpgradeBoth, ChangeTwo, Obsolete, Retire, UnlockBelow, Unlock, Unwind, Sweep, Ended}
+use Rattle.congee.specs.declared.protocol.turn.Turn.{Turn}
+use Rattle.congee.specs.declared.protocol.machine.Machine.{Machine}
+use Rattle.congee.specs.Heap.{Node, Below, is_taken}
+use Rattle.congee.specs.protocol.Events.{hung}
+use Rattle.congee.specs.protocol.Steps.{quiet, swept, again, answered, finished, refused, decided, CopyFailed, adds, asks_new, absent_reply, seat_above, after_version, after_read, down, started, ready, plan_here, unless_full, absent, IsAsked, replaced, taken_out, emptied, is_same, IsAtOld, IsAdded, IsExchanged, IsPresent, IsChecked, after_miss, IsGiven, IsGivenNew, MadeLeaf, greater, MadeGreater, MadeTop, MadeBeside, UpgradedOne, UpgradedAbove, UpgradedBoth, after_change, unwound, PhaseStepped}
+use Rattle.congee.specs.Keys.{key_bytes}
+use Rattle.congee.specs.Ledger.{Note, Linked, LockWords}
+use Rattle.congee.specs.protocol.Protocol.{Knows, Known}
+use Rattle.congee.specs.protocol.Names.{name_above, name_seated, name_made, names_for_one, names_for_two, names_site, names_one, names_two, names_plan, names, Comes, Had, Top, New_made, Hangs, KeepsOrigin}
+use Rattle.congee.proofs.lemmas.protocol.Each.{Each, both, left, right}
+use Rattle.congee.proofs.lemmas.Graft.{on_test}
+use Rattle.congee.proofs.lemmas.protocol.Touch.{by_test, taken_linked}
+use Rattle.congee.proofs.lemmas.protocol.SweepNames.{sweep_names}
+use Rattle.congee.proofs.lemmas.protocol.Unlinking.{linked_in}
+
+-- the names of a next phase all have what the names before it, the root's and the new ones have
+module _ {C : Type 0} (V : Type 0) (number : C → ℕ) (K : ℕ → Type 0) where
+  abbrev Leaves : Turn C V → Type 0
+  Leaves t = Each K (names number t.phase)
+
+  at_turn : (t u : Turn C V) → t ≡ u → Leaves u → Leaves t
+  at_turn t u e l = subst Leaves (sym e) l
+
+  seated : (p : Option (Parent C)) → Each K (name_above number p) → Each K (name_seated number (seat_above p))
+  seated None e = tt
+  seated (Some p) e = e
+
+  of_version : (root : C) → K (number root) → (p : Option (Parent C)) (c : C) (v : Option ℕ) → K (number c) → Each K (name_above number p) → Leaves (after_version root p c v)
+  of_version root r p c None k e = (r, tt)
+  of_version root r p c (Some v) k e = (k, e)
+
+  of_read : (root : C) → K (number root) → (p : Option (Parent C)) (at : Seat C) (x : Reading C V) → K (number at.node) → Each K (name_above number p) → Leaves (after_read root p at x)
+  of_read root r None at (Differs common byte) k e = (r, tt)
+  of_read root r (Some p) at (Differs common byte) k e = (e.0, (k, tt))
+  of_read root r None at (Fits depth s) k e = (k, e)
+  of_read root r (Some p) at (Fits depth s) k e = (k, e)
+  of_read root r None at Uncopied k e = (k, tt)
+  of_read root r (Some p) at Uncopied k e = (k, tt)
+
+  of_down : (b : Bool) (s : Site C) (p : Option (Parent C)) (c : C) → K (number s.at.node) → Each K (name_above number p) → K (number c) → Leaves (down b s p c)
+  of_down false s p c k e n = (n, (k, tt))
+  of_down true s None c k e n = (n, (k, tt))
+  of_down true s (Some p) c k e n = (e.0, (k, (n, tt)))
+
+  of_started : (plan : Plan C) (r : Reply V) → Each K (names_plan number plan) → Leaves (started plan r)
+  of_started (Here None one) r e = e
+  of_started (Here (Some p) one) r e = e
+  of_started (Above two) r e = e
+
+  of_ready : (kind : Kind V) (plan : Plan C) → Each K (names_plan number plan) → Leaves (ready kind plan)
+  of_ready kind plan e = by_test Leaves (asks_new kind) _ _ (λ _. e) (λ _. of_started plan (absent_reply kind) e)
+
+  of_here : (kind : Kind V) (s : Site C) (change : Single C) → Each K (names_site number s) → Each K (names_for_one number change) → Leaves (ready kind (plan_here s change))
+  of_here kind s change e f = of_ready kind (plan_here s change) (both K (name_seated number (seat_above s.above)) _ (seated s.above e.1) (e.0, f))
+
+  of_unless_full : (kind : Kind V) (s : Site C) (full : Bool) (p : Option (Parent C)) (leaf : Option C) (change : Single C) → Each K (names_site number s) → Each K (name_above number p) → Each K (name_made number leaf)
+      → Each K (names_for_one number change) → Leaves (unless_full kind s full p leaf change)
+  of_unless_full kind s true (Some p) leaf change e f l m = (f.0, both K (name_made number leaf) (names_site number s) l e)
+  of_unless_full kind s true None leaf change e f l m = of_here kind s change e m
+  of_unless_full kind s false p leaf change e f l m = of_here kind s change e m
+
+  of_absent : (kind : Kind V) (s : Site C) → Each K (names_site number s) → Leaves (absent kind s)
+  of_absent kind s e = by_test Leaves (adds kind) _ _
+      (λ _. by_test Leaves (s.depth == 7) _ _ (λ _. of_unless_full kind s s.full s.above None Set e e.1 tt tt) (λ _. e))
+      (λ _. tt)
+
+  of_asked : (always : Bool) (s : Site C) (v : V) (t : Turn C V) → IsAsked always s v t → Each K (names_site number s) → Leaves t
+  of_asked always s v t (inl x) e = at_turn t _ x e
+  of_asked always s v t (inr x) e = at_turn t (refused refusal.Count) x.1 tt
+
+  of_replaced : (s : Site C) (same : Bool) (r : Reply V) → Each K (names_site number s) → Leaves (replaced s same r)
+  of_replaced s true r e = (e.0, tt)
+  of_replaced s false r e = (e.0, tt)
+
+  of_taken_out : (s : Site C) (alone : Bool) (p : Option (Parent C)) (r : Reply V) → Each K (names_site number s) → Each K (name_above number p) → Leaves (taken_out s alone p r)
+  of_taken_out s true (Some p) r e f = (f.0, (e.0, tt))
+  of_taken_out s true None r e f = (e.0, tt)
+  of_taken_out s false p r e f = (e.0, tt)
+
+  of_emptied : (s : Site C) (r : Reply V) → Each K (names_site number s) → Leaves (emptied s r)
+  of_emptied s r e = of_taken_out s (s.count == 1) s.above r e e.1
+
+  of_old : (always : Bool) (same : V → V → Bool) (kind : Kind V) (new : Option V) (s : Site C) (v : V) (t : Turn C V) → IsAtOld always same kind new s v t → Each K (names_site number s) → Leaves t
+  of_old always same Insert new s v t x e = at_turn t _ x (of_replaced s (is_same same v new) (reply.Insert (Some v)) e)
+  of_old always same Get new s v t x e = of_asked always s v t x e
+  of_old always same Remove new s v t x e = of_asked always s v t x e
+  of_old always same ComputePresent new s v t x e = of_asked always s v t x e
+  of_old always same ComputeInsert new s v t x e = of_asked always s v t x e
+  of_old always same (Exchange old) new s v t x e = of_asked always s v t x e
+
+  of_added : (always : Bool) (same : V → V → Bool) (kind : Kind V) (new : Option V) (s : Site C) (p : Option (Parent C)) (v : V) (t : Turn C V) → IsAdded always same kind new s p v t → Each K (names_site number s)
+      → Each K (name_above number p) → Leaves t
+  of_added always same kind new s None v t x e f = of_old always same kind new s v t x e
+  of_added always same kind new s (Some p) v t x e f = at_turn t _ x (f.0, e)
+
+  of_exchanged : (always : Bool) (same : V → V → Bool) (new : Option V) (s : Site C) (v : V) (t : Turn C V) → IsExchanged always same new s v t → Each K (names_site number s) → Leaves t
+  of_exchanged always same None s v t x e = at_turn t _ x (of_emptied s _ e)
+  of_exchanged always same (Some w) s v t (inl x) e = at_turn t _ x (of_replaced s (same v w) _ e)
+  of_exchanged always same (Some w) s v t (inr x) e = at_turn t (refused refusal.Count) x.1 tt
+
+  of_present : (always : Bool) (same : V → V → Bool) (kind : Kind V) (new : Option V) (s : Site C) (v : V) (t : Turn C V) → IsPresent always same kind new s v t → Each K (names_site number s) → Leaves t
+  of_present always same Get new s v t x e = at_turn t _ x tt
+  of_present always same Insert new s v t x e = of_added always same Insert new s s.above v t x e e.1
+  of_present always same Remove new s v t x e = at_turn t _ x (of_emptied s _ e)
+  of_present always same ComputePresent new s v t x e = of_asked always s v t x e
+  of_present always same ComputeInsert new s v t x e = of_added always same ComputeInsert new s s.above v t x e e.1
+  of_present always same (Exchange old) new s v t x e = on_test (same v old)
+      (λ q. of_exchanged always same new s v t (x.0 q) e)
+      (λ q. at_turn t _ (x.1 q) (e.0, tt))
+
+  -- where the check found the node that the read saw
+  of_checked : (always : Bool) (same : V → V → Bool) (kind : Kind V) (new : Option V) (s : Site C) (c : Child C V) (t : Turn C V) → IsChecked always same kind new s c t → Each K (names_site number s)
+      → ((n : ℕ) → hung number c ≡ Below n → K n) → Leaves t
+  of_checked always same kind new s child.Blank t x e f = at_turn t _ x (of_absent kind s e)
+  of_checked always same kind new s (child.Node c) t x e f = at_turn t _ x (of_down (adds kind) s s.above c e.0 e.1 (f (number c) refl))
+  of_checked always same kind new s (child.Value v) t x e f = of_present always same kind new s v t x e
+
+  of_if : (root : C) → K (number root) → (taken : Bool) (T : Type 0) (t : Turn C V) → (taken ≡ true → T) × (taken ≡ false → t ≡ again root) → (taken ≡ true → T → Leaves t) → Leaves t
+  of_if root r taken T t x f = on_test taken (λ q. f q (x.0 q)) (λ q. at_turn t _ (x.1 q) (r, tt))
+
+  of_miss : (kind : Kind V) (p : Parent C) (at : Seat C) (common byte : ℕ) → K (number p.seat.node) → K (number at.node) → Leaves (after_miss kind p at common byte)
+  of_miss kind p at common byte k l = by_test Leaves (adds kind) _ _ (λ _. (k, (l, tt))) (λ _. tt)
+
+  of_either : (always : Bool) (s : Site C) (same : Bool) (r : Reply V) (t : Turn C V) → (t ≡ replaced s same r) ⊎ CopyFailed always t → Each K (names_site number s) → Leaves t
+  of_either always s same r t (inl x) e = at_turn t _ x (of_replaced s same r e)
+  of_either always s same r t (inr x) e = at_turn t (refused refusal.Count) x.1 tt
+
+  of_given : (always : Bool) (same : V → V → Bool) (kind : Kind V) (s : Site C) (v : V) (answer : Option (Option V)) (new new' : Option V) (t : Turn C V) → IsGiven always same kind s v answer new new' t
+      → Each K (names_site number s) → Leaves t
+  of_given always same kind s v None new new' t x e = of_asked always s v t x.1 e
+  of_given always same ComputeInsert s v (Some None) new new' t x e = of_asked always s v t x.1 e
+  of_given always same ComputeInsert s v (Some (Some w)) new new' t x e = at_turn t _ x.1 (of_replaced s (same v w) _ e)
+  of_given always same Get s v (Some None) new new' t x e = at_turn t _ x.1 (of_emptied s _ e)
+  of_given always same Insert s v (Some None) new new' t x e = at_turn t _ x.1 (of_emptied s _ e)
+  of_given always same Remove s v (Some None) new new' t x e = at_turn t _ x.1 (of_emptied s _ e)
+  of_given always same ComputePresent s v (Some None) new new' t x e = at_turn t _ x.1 (of_emptied s _ e)
+  of_given always same (Exchange old) s v (Some None) new new' t x e = at_turn t _ x.1 (of_emptied s _ e)
+  of_given always same Get s v (Some (Some w)) new new' t x e = of_either always s (same v w) _ t x.1 e
+  of_given always same Insert s v (Some (Some w)) new new' t x e = of_either always s (same v w) _ t x.1 e
+  of_given always same Remove s v (Some (Some w)) new new' t x e = of_either always s (same v w) _ t x.1 e
+  of_given always same ComputePresent s v (Some (Some w)) new new' t x e = of_either always s (same v w) _ t x.1 e
+  of_given always same (Exchange old) s v (Some (Some w)) new new' t x e = of_either always s (same v w) _ t x.1 e
+
+  of_new : (plan : Plan C) (answer : Option (Option V)) (new new' : Option V) (t : Turn C V) → IsGivenNew plan answer new new' t → Each K (names_plan number plan) → Leaves t
+  of_new plan None new new' t x e = at_turn t _ x.1 e
+  of_new plan (Some None) new new' t x e = at_turn t _ x.1 e
+  of_new plan (Some (Some v)) new new' t x e = at_turn t _ x.1 (of_started plan _ e)
+
+  of_greater : (s : Site C) (leaf : Option C) (c : C) → Each K (name_made number leaf) → K (number c) → Each K (names_for_two number (greater s leaf c))
+  of_greater s None c e k = (k, tt)
+  of_greater s (Some leaf) c e k = (k, e)
+
+  of_change : (two : Two C) (r : Reply V) (change : Double C) → K (number two.above.seat.node) → K (number two.at.node) → Leaves (after_change two r change)
+  of_change two r Unlink k l = (l, (k, tt))
+  of_change two r (Grow c) k l = (l, (k, tt))
+  of_change two r (GrowLink c leaf byte) k l = (l, (k, tt))
+  of_change two r (Split top leaf common byte) k l = (l, (k, tt))
+
+  of_unwound : (root : C) → K (number root) → (e : Option Refusal) → Leaves (unwound root e)
+  of_unwound root r None = (r, tt)
+  of_unwound root r (Some e) = tt
+
+  -- steps that make a node, or lock one
+  module _ (root : C) (top : K (number root)) (h h' : ℕ → Node V) (fresh : (n : ℕ) → (h n).made ≡ false → (h' n).made ≡ true → K n) (k : ℕ) (kind : Kind V) where
+    of_leaf : (s : Site C) (r : Result C Refusal) (t : Turn C V) → MadeLeaf number kind s h (key_bytes k) r h' t → Each K (names_site number s) → Leaves t
+    of_leaf s (Ok leaf) t x e =
+        let k : K (number leaf) = fresh (number leaf) x.0.unmade x.0.made in
+        at_turn t _ x.1 (of_unless_full kind s s.full s.above (Some leaf) (Link leaf) e e.1 (k, tt) (k, tt))
+    of_leaf s (Err e') t x e = at_turn t (refused e') x.1 tt
+
+    of_made_greater : (s : Site C) (p : Parent C) (leaf : Option C) (r : Result C Refusal) (t : Turn C V) → MadeGreater number kind s p leaf h (key_bytes k) r h' t → K (number p.seat.node) → Each K (name_made number leaf)
+        → Each K (names_site number s) → Leaves t
+    of_made_greater s p leaf (Ok c) t x k l e = at_turn t _ x.1 (of_ready kind _ (k, (e.0, of_greater s leaf c l (fresh (number c) x.0.unmade x.0.made))))
+    of_made_greater s p leaf (Err e') t x k l e = at_turn t (refused e') x.1 tt
+
+    of_made_top : (p : Parent C) (at : Seat C) (common byte : ℕ) (r : Result C Refusal) (t : Turn C V) → MadeTop number p at common byte h (key_bytes k) r h' t → K (number p.seat.node) → K (number at.node) → Leaves t
+    of_made_top p at common byte (Ok c) t x k l = at_turn t _ x.1 (k, (l, (fresh (number c) x.0.unmade x.0.made, tt)))
+    of_made_top p at common byte (Err e') t x k l = at_turn t (refused e') x.1 tt
+
+    of_made_beside : (p : Parent C) (at : Seat C) (common byte : ℕ) (c : C) (r : Result C Refusal) (t : Turn C V) → MadeBeside number kind p at common byte c h (key_bytes k) r h' t → K (number p.seat.node) → K (number at.node)
+        → K (number c) → Leaves t
+    of_made_beside p at common byte c (Ok leaf) t x k l m = at_turn t _ x.1 (of_ready kind _ (k, (l, (m, (fresh (number leaf) x.0.unmade x.0.made, tt)))))
+    of_made_beside p at common byte c (Err e') t x k l m = at_turn t (refused e') x.1 tt
+
+    of_upgraded_one : (one : One C) (r : Reply V) (u : Upgrade) (t : Turn C V) → UpgradedOne number root one r h u h' t → Each K (names_one number one) → Leaves t
+    of_upgraded_one one r Locked t x e = at_turn t _ x.1 e
+    of_upgraded_one one r Failed t x e = at_turn t _ x.1 (top, tt)
+    of_upgraded_one one r Exhausted t x e = at_turn t (refused refusal.Exhausted) x.1 tt
+
+    of_upgraded_above : (two : Two C) (r : Reply V) (u : Upgrade) (t : Turn C V) → UpgradedAbove number root two r h u h' t → Each K (names_two number two) → Leaves t
+    of_upgraded_above two r Locked t x e = at_turn t _ x.1 e
+    of_upgraded_above two r Failed t x e = at_turn t _ x.1 (top, tt)
+    of_upgraded_above two r Exhausted t x e = at_turn t (refused refusal.Exhausted) x.1 tt
+
+    of_upgraded_both : (two : Two C) (r : Reply V) (u : Upgrade) (t : Turn C V) → UpgradedBoth number two r h u h' t → Each K (names_two number two) → Leaves t
+    of_upgraded_both two r Locked t x e = at_turn t _ x.1 e
+    of_upgraded_both two r Failed t x e = at_turn t _ x.1 (e.0, tt)
+    of_upgraded_both two r Exhausted t x e = at_turn t _ x.1 (e.0, tt)
+
+    -- each step of the table
+    module _ (same : V → V → Bool) (always : Bool) (most : ℕ) (why : NodeType → Refusal → Type 0) (i : ℕ) (a : ℕ → Note) (fail : Bool) (answer : Option (Option V)) (given given' : Option V) (turn : Turn C V) (w : LockWords a h)
+        (hangs : (p b n : ℕ) → (a p).status ≡ Linked → (h p).children b ≡ Below n → K n) where
+      -- a child that was read in a node whose lock word is the one taken
+      found : (s : Site C) (c : Child C V) → Knows number a h (key_bytes k) s (hung number c) → is_taken (h (number s.at.node)) s.at.version ≡ true → (n : ℕ) → hung number c ≡ Below n → K n
+      found s c m q n e = hangs (number s.at.node) (slice_index (key_bytes k) (length (h (number s.at.node)).prefix)) n
+          (taken_linked a h w (number s.at.node) s.at.version m.fresh.seated.published q) ((m.fresh.holds q).child ∙ e)
+
+      pub step_names : (s : Phase C V) → Known number same always i a h k (key_bytes k) kind given s → PhaseStepped number same always most why root (key_bytes k) kind fail answer given s h given' turn h' → Each K (names number s) → Leaves turn
+      step_names New m g e = at_turn turn (again root) g.2 (top, tt)
+      step_names (Version p c) m g e = at_turn turn _ g.2 (of_version root top p c _ e.0 e.1)
+      step_names (Read p at) m g e = at_turn turn _ g.2.2 (of_read root top p at g.2.0 e.0 e.1)
+      step_names (Check s c) m g e = of_if root top _ _ turn g.2 (λ y x. of_checked always same kind given s c turn x e (found s c m.1 y))
+      step_names (CheckUncopied at) m g e = of_if root top _ _ turn g.2 (λ y x. at_turn turn (refused refusal.Count) x tt)
+      step_names (CheckMiss p at common byte) m g e = of_if root top _ _ turn g.2 (λ y x. at_turn turn _ x (of_miss kind p at common byte e.0 e.1.0))
+      step_names (CheckDown p at c) m g e = of_if root top _ _ turn g.2 (λ y x. at_turn turn (quiet (Version (Some at) c)) x (e.1.1.0, (e.1.0, tt)))
+      step_names (CheckOld p s v) m g e = of_if root top _ _ turn g.2 (λ y x. of_old always same kind given s v turn x e.1)
+      step_names (MakeLeaf s) m g e = of_leaf s g.1.0 turn g.1.1 e
+      step_names (MakeGreater s p leaf) m g e = of_made_greater s p leaf g.1.0 turn g.1.1 e.0
+          (left K (name_made number leaf) (names_site number s) e.1) (right K (name_made number leaf) (names_site number s) e.1)
+      step_names (MakeTop p at common byte) m g e = of_made_top p at common byte g.1.0 turn g.1.1 e.0 e.1.0
+      step_names (MakeBeside p at common byte c) m g e = of_made_beside p at common byte c g.1.0 turn g.1.1 e.0 e.1.0 e.1.1.0
+      step_names (AskOld s v) m g e = of_given always same kind s v answer given given' turn g.1 e
+      step_names (AskNew plan) m g e = of_new plan answer given given' turn g.1 e
+      step_names (Confirm at r) m g e = of_if root top _ _ turn g.2 (λ y x. at_turn turn (answered r) x tt)
+      step_names (CheckAbove p one r) m g e = on_test (is_taken (h (number p.node)) p.version)
+          (λ y. at_turn turn (quiet (UpgradeOne one r)) (g.1.goes_on y).1 e.1)
+          (λ y. at_turn turn (again root) (g.1.goes_back y).1 (top, tt))
+      step_names (UpgradeOne one r) m g e = of_upgraded_one one r g.1.0 turn g.1.2 e
+      step_names (ChangeOne one r) m g e = at_turn turn (decided (Unlock one.at.node r)) g.2 (e.0, tt)
+      step_names (UpgradeAbove two r) m g e = of_upgraded_above two r g.1.0 turn g.1.2 e
+      step_names (UpgradeBoth two r) m g e = of_upgraded_both two r g.1.0 turn g.1.2 e
+      step_names (ChangeTwo two r) m g e = at_turn turn _ g.2 (of_change two r two.change e.0 e.1.0)
+      step_names (Obsolete n p r) m g e = at_turn turn (quiet (Retire n p r)) g.2 e
+      step_names (Retire n p r) m g e = at_turn turn (quiet (Unlock p r)) g.2 (e.1.0, tt)
+      step_names (UnlockBelow n p r) m g e = at_turn turn (quiet (Unlock p r)) g.2 (e.1.0, tt)
+      step_names (Unlock n r) m g e = at_turn turn (finished r) g.2 tt
+      step_names (Unwind n r) m g e = at_turn turn _ g.2 (of_unwound root top r)
+      step_names (Sweep s) m g e = at_turn turn (swept g.2.0 g.2.1) g.2.3 (sweep_names number always a h K root top hangs w s (g.2.0, g.2.1) m g.2.2 e)
+      step_names Ended m g e = at_turn turn (quiet Ended) g.2 tt
+
+-- a step by the table gives the call names of known origin
+pub stepped_origin : {C V : Type 0} (number : C → ℕ) (same : V → V → Bool) (always : Bool) (most : ℕ) (why : NodeType → Refusal → Type 0) (m : Machine C V) (h : ℕ → Node V) (fail : Bool) (answer : Option (Option V)) (given' : Option V) (turn : Turn C V) (m' : Machine C V) (h' : ℕ → Node V)
+    → m'.phase ≡ turn.phase → PhaseStepped number same always most why m.root (key_bytes m.key) m.kind fail answer m.given m.phase h given' turn h' → KeepsOrigin number same always m h m' h'
+stepped_origin {C} {V} number same always most why m h fail answer given' turn m' h' e s i a z t w known =
+    let had : List ℕ = names number m.phase in
+    let K : ℕ → Type 0 = Comes (number m.root) had h h' in
+    let P : Phase C V → Type 0 = λ x. All K (names number x) in
+    subst P (sym e) (All-from_recursion K (names number turn.phase)
+    (step_names V number K m.root (Top refl) h h' (λ n x y. New_made x y) m.key m.kind same always most why i a fail answer m.given given' turn w
+    (λ p b n l e. Hangs p b (linked_in a h p t l) e)
+    m.phase known s (recursion_from_All K had (All-weaker (Contains had) K (λ n c. Had c) had (All-contains_itself had)))))

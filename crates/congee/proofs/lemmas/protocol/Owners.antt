@@ -1,0 +1,281 @@
+-- What all calls hold, after a step of one of them.
+use Rattle.std.proofs.Common.{◌≡◌, ◌≢◌, ℕ, zero, suc, ◌⊎◌, inl, inr, Bool, true, List, [], ◌∷◌, refl, sym, ◌∙◌, ap, subst, arith}
+use Rattle.std.proofs.Math.ListN.{set}
+use Rattle.std.specs.Prelude.{Option, None, Some, slice_get}
+use Rattle.congee.specs.declared.forms.base_node.NodeType.{NodeType}
+use Rattle.congee.specs.declared.protocol.store.Refusal.{Refusal}
+use Rattle.congee.specs.declared.protocol.phase.Kind.{Kind}
+use Rattle.congee.specs.declared.protocol.phase.Site.{Site}
+use Rattle.congee.specs.declared.protocol.phase.Single.{Single}
+use Rattle.congee.specs.declared.protocol.phase.Single.TheVariants.{Set, Link}
+use Rattle.congee.specs.declared.protocol.phase.Double.{Double}
+use Rattle.congee.specs.declared.protocol.phase.Double.TheVariants.{Unlink, Grow, GrowLink, Split}
+use Rattle.congee.specs.declared.protocol.phase.Plan.{Plan}
+use Rattle.congee.specs.declared.protocol.phase.Plan.TheVariants.{Here, Above}
+use Rattle.congee.specs.declared.protocol.phase.Phase.{Phase}
+use Rattle.congee.specs.declared.protocol.phase.Phase.TheVariants.{New, Version, Read, Check, CheckUncopied, CheckMiss, CheckDown, CheckOld, MakeLeaf, MakeGreater, MakeTop, MakeBeside, AskOld, AskNew, Confirm, CheckAbove, UpgradeOne, ChangeOne, UpgradeAbove, UpgradeBoth, ChangeTwo, Obsolete, Retire, UnlockBelow, Unlock, Unwind, Sweep, Ended}
+use Rattle.congee.specs.declared.protocol.turn.Turn.{Turn}
+use Rattle.congee.specs.declared.protocol.machine.Machine.{Machine}
+use Rattle.congee.specs.Heap.{Node}
+use Rattle.congee.specs.protocol.Steps.{PhaseStepped}
+use Rattle.congee.specs.Keys.{key_bytes}
+use Rattle.congee.specs.Ledger.{Note, Unmade, Held, Linked, Gone, Tree, LockWords}
+use Rattle.congee.specs.protocol.Protocol.{Made, MadeOne, MadeTwo, MadeLeafFor, PlanKnown, Fares, Known}
+use Rattle.congee.specs.protocol.Holdings.{LockedBy, MadeForOne, MadeForTwo, MadeForPlan, IsMade, MadeBy, TakenBy, Holdings}
+use Rattle.congee.proofs.lemmas.Tree.{same_or_not}
+use Rattle.congee.proofs.lemmas.protocol.Holdings.{Holds_now}
+
+pub get_set : {A : Type 0} → (xs : List A) (i j : ℕ) (x y : A) → slice_get (set xs i x) j ≡ Some y → ((j ≡ i) × (x ≡ y)) ⊎ ((j ≢ i) × (slice_get xs j ≡ Some y))
+get_set [] i j x y e = absurd cc
+get_set (z ∷ xs) zero zero x y e = inl (refl, cc)
+get_set (z ∷ xs) zero (suc j) x y e = inr ((λ q. absurd (omega arith)), e)
+get_set (z ∷ xs) (suc i) zero x y e = inr ((λ q. absurd (omega arith)), e)
+get_set (z ∷ xs) (suc i) (suc j) x y e = elim (get_set xs i j x y e) [
+  | inl p ↦ inl (ap suc p.0, p.1)
+  | inr p ↦ inr ((λ q. p.0 (omega arith)), p.1)
+]
+
+pub set_here : {A : Type 0} → (xs : List A) (i : ℕ) (x y : A) → slice_get xs i ≡ Some y → slice_get (set xs i x) i ≡ Some x
+set_here [] i x y e = absurd cc
+set_here (z ∷ xs) zero x y e = refl
+set_here (z ∷ xs) (suc i) x y e = set_here xs i x y e
+
+pub set_apart : {A : Type 0} → (xs : List A) (i j : ℕ) (x y : A) → j ≢ i → slice_get xs j ≡ Some y → slice_get (set xs i x) j ≡ Some y
+set_apart [] i j x y ne e = absurd cc
+set_apart (z ∷ xs) zero zero x y ne e = absurd (ne refl)
+set_apart (z ∷ xs) zero (suc j) x y ne e = e
+set_apart (z ∷ xs) (suc i) zero x y ne e = e
+set_apart (z ∷ xs) (suc i) (suc j) x y ne e = set_apart xs i j x y (λ q. ne (ap suc q)) e
+
+-- what a call knows to hold
+module _ {C V : Type 0} (number : C → ℕ) (same : V → V → Bool) (always : Bool) (i : ℕ) (a : ℕ → Note) (h : ℕ → Node V) (k : ℕ) (kind : Kind V) (given : Option V) (n : ℕ) where
+  made_at : (c size least : ℕ) → Made i a h (key_bytes k) c size least → n ≡ c → (a n).status ≡ Held i
+  made_at c size least m q = let P : ℕ → Type 0 = λ y. (a y).status ≡ Held i in subst P (sym q) m.held
+
+  one_held : (change : Single C) → MadeOne number i a h (key_bytes k) change → MadeForOne number change n → (a n).status ≡ Held i
+  one_held Set m x = absurd x
+  one_held (Link leaf) m x = made_at (number leaf) 7 0 m x
+
+  two_held : (change : Double C) (size q : ℕ) → MadeTwo number i a h (key_bytes k) change size q → MadeForTwo number change n → (a n).status ≡ Held i
+  two_held Unlink size q m x = absurd x
+  two_held (Grow c) size q m x = made_at (number c) size q m x
+  two_held (GrowLink c leaf byte) size q m (inl x) = made_at (number c) size q m.0 x
+  two_held (GrowLink c leaf byte) size q m (inr x) = made_at (number leaf) 7 0 m.1 x
+  two_held (Split top leaf common byte) size q m (inl x) = made_at (number top) common 1 m.0 x
+  two_held (Split top leaf common byte) size q m (inr x) = made_at (number leaf) 7 0 m.1 x
+
+  plan_held : (plan : Plan C) → PlanKnown number i a h (key_bytes k) plan → MadeForPlan number plan n → (a n).status ≡ Held i
+  plan_held (Here check one) m x = one_held one.change m.1.made x
+  plan_held (Above two) m x = two_held two.change _ _ m.0.1.made x
+
+  leaf_held : (leaf : Option C) (s : Site C) → MadeLeafFor number i a h (key_bytes k) s leaf → IsMade number leaf n → (a n).status ≡ Held i
+  leaf_held None s m x = absurd x
+  leaf_held (Some leaf) s m x = made_at (number leaf) 7 0 m.1 x
+
+  pub made_held : (s : Phase C V) → Known number same always i a h k (key_bytes k) kind given s → MadeBy number s n → (a n).status ≡ Held i
+  made_held New x l = absurd l
+  made_held (Version p n0) x l = absurd l
+  made_held (Read p at) x l = absurd l
+  made_held (Check s c) x l = absurd l
+  made_held (CheckUncopied at) x l = absurd l
+  made_held (CheckMiss p at common byte) x l = absurd l
+  made_held (CheckDown p at c) x l = absurd l
+  made_held (CheckOld p s v) x l = absurd l
+  made_held (MakeLeaf s) x l = absurd l
+  made_held (MakeGreater s p leaf) x l = leaf_held leaf s x.3 l
+  made_held (MakeTop p at common byte) x l = absurd l
+  made_held (MakeBeside p at common byte top) x l = made_at (number top) common 1 x.6 l
+  made_held (AskOld s v) x l = absurd l
+  made_held (AskNew plan) x l = plan_held plan x.0 l
+  made_held (Confirm at r) x l = absurd l
+  made_held (CheckAbove p one r) x l = one_held one.change x.2.made l
+  made_held (UpgradeOne one r) x l = one_held one.change x.1.1.made l
+  made_held (ChangeOne one r) x l = one_held one.change x.1.made l
+  made_held (UpgradeAbove two r) x l = two_held two.change _ _ x.1.2.made l
+  made_held (UpgradeBoth two r) x l = two_held two.change _ _ x.1.2.made l
+  made_held (ChangeTwo two r) x l = two_held two.change _ _ x.2.made l
+  made_held (Obsolete m p r) x l = absurd l
+  made_held (Retire m p r) x l = absurd l
+  made_held (UnlockBelow m p r) x l = absurd l
+  made_held (Unlock m r) x l = absurd l
+  made_held (Unwind m e) x l = absurd l
+  made_held (Sweep s) x l = absurd l
+  made_held Ended x l = absurd l
+
+  owned_at : (m : ℕ) → (a m).owner ≡ Some i → n ≡ m → (a n).owner ≡ Some i
+  owned_at m o q = let P : ℕ → Type 0 = λ y. (a y).owner ≡ Some i in subst P (sym q) o
+
+  pub locks_owned : (s : Phase C V) → Known number same always i a h k (key_bytes k) kind given s → LockedBy number s n → (a n).owner ≡ Some i
+  locks_owned New x l = absurd l
+  locks_owned (Version p n0) x l = absurd l
+  locks_owned (Read p at) x l = absurd l
+  locks_owned (Check s c) x l = absurd l
+  locks_owned (CheckUncopied at) x l = absurd l
+  locks_owned (CheckMiss p at common byte) x l = absurd l
+  locks_owned (CheckDown p at c) x l = absurd l
+  locks_owned (CheckOld p s v) x l = absurd l
+  locks_owned (MakeLeaf s) x l = absurd l
+  locks_owned (MakeGreater s p leaf) x l = absurd l
+  locks_owned (MakeTop p at common byte) x l = absurd l
+  locks_owned (MakeBeside p at common byte top) x l = absurd l
+  locks_owned (AskOld s v) x l = absurd l
+  locks_owned (AskNew plan) x l = absurd l
+  locks_owned (Confirm at r) x l = absurd l
+  locks_owned (CheckAbove p one r) x l = absurd l
+  locks_owned (UpgradeOne one r) x l = absurd l
+  locks_owned (ChangeOne one r) x l = owned_at (number one.at.node) x.1.holding.owner l
+  locks_owned (UpgradeAbove two r) x l = absurd l
+  locks_owned (UpgradeBoth two r) x l = owned_at (number two.above.seat.node) x.1.2.above.holding.owner l
+  locks_owned (ChangeTwo two r) x (inl l) = owned_at (number two.above.seat.node) x.2.above.holding.owner l
+  locks_owned (ChangeTwo two r) x (inr l) = owned_at (number two.at.node) x.2.owner l
+  locks_owned (Obsolete m p r) x (inl l) = owned_at (number p) x.above.owner l
+  locks_owned (Obsolete m p r) x (inr l) = owned_at (number m) x.owner l
+  locks_owned (Retire m p r) x (inl l) = owned_at (number p) x.0.above.owner l
+  locks_owned (Retire m p r) x (inr l) = owned_at (number m) x.0.owner l
+  locks_owned (UnlockBelow m p r) x (inl l) = owned_at (number p) x.1.owner l
+  locks_owned (UnlockBelow m p r) x (inr l) = owned_at (number m) x.0.owner l
+  locks_owned (Unlock m r) x l = owned_at (number m) x.owner l
+  locks_owned (Unwind m e) x l = owned_at (number m) x.1.owner l
+  locks_owned (Sweep s) x l = absurd l
+  locks_owned Ended x l = absurd l
+
+  linked_gone : (m : ℕ) → (a m).status ≡ Linked → n ≡ m → (a n).status ≡ Gone → ⊥
+  linked_gone m l q g = let y : (a n).status ≡ Linked = (let P : ℕ → Type 0 = λ y. (a y).status ≡ Linked in subst P (sym q) l) in let z : Linked ≡ Gone = sym y ∙ g in cc
+
+  -- a locked node that left the tree is the one that the call took out
+  pub gone_taken : Tree a h → (s : Phase C V) → Known number same always i a h k (key_bytes k) kind given s → LockedBy number s n → (a n).status ≡ Gone → TakenBy number s n
+  gone_taken t New x l g = absurd l
+  gone_taken t (Version p n0) x l g = absurd l
+  gone_taken t (Read p at) x l g = absurd l
+  gone_taken t (Check s c) x l g = absurd l
+  gone_taken t (CheckUncopied at) x l g = absurd l
+  gone_taken t (CheckMiss p at common byte) x l g = absurd l
+  gone_taken t (CheckDown p at c) x l g = absurd l
+  gone_taken t (CheckOld p s v) x l g = absurd l
+  gone_taken t (MakeLeaf s) x l g = absurd l
+  gone_taken t (MakeGreater s p leaf) x l g = absurd l
+  gone_taken t (MakeTop p at common byte) x l g = absurd l
+  gone_taken t (MakeBeside p at common byte top) x l g = absurd l
+  gone_taken t (AskOld s v) x l g = absurd l
+  gone_taken t (AskNew plan) x l g = absurd l
+  gone_taken t (Confirm at r) x l g = absurd l
+  gone_taken t (CheckAbove p one r) x l g = absurd l
+  gone_taken t (UpgradeOne one r) x l g = absurd l
+  gone_taken t (ChangeOne one r) x l g = linked_gone (number one.at.node) x.1.holding.linked l g
+  gone_taken t (UpgradeAbove two r) x l g = absurd l
+  gone_taken t (UpgradeBoth two r) x l g = linked_gone (number two.above.seat.node) x.1.2.above.holding.linked l g
+  gone_taken t (ChangeTwo two r) x (inl l) g = linked_gone (number two.above.seat.node) x.2.above.holding.linked l g
+  gone_taken t (ChangeTwo two r) x (inr l) g = linked_gone (number two.at.node) (t.down (number two.above.seat.node) _ (number two.at.node) x.2.above.holding.linked x.2.above.child).linked l g
+  gone_taken t (Obsolete m p r) x (inl l) g = absurd (linked_gone (number p) x.above.linked l g)
+  gone_taken t (Obsolete m p r) x (inr l) g = l
+  gone_taken t (Retire m p r) x (inl l) g = absurd (linked_gone (number p) x.0.above.linked l g)
+  gone_taken t (Retire m p r) x (inr l) g = l
+  gone_taken t (UnlockBelow m p r) x (inl l) g = linked_gone (number p) x.1.linked l g
+  gone_taken t (UnlockBelow m p r) x (inr l) g = linked_gone (number m) x.0.linked l g
+  gone_taken t (Unlock m r) x l g = linked_gone (number m) x.linked l g
+  gone_taken t (Unwind m e) x l g = linked_gone (number m) x.1.linked l g
+  gone_taken t (Sweep s) x l g = absurd l
+  gone_taken t Ended x l g = absurd l
+
+  -- it is marked, and then handed over
+  pub taken_on : (most : ℕ) (why : NodeType → Refusal → Type 0) (root : C) (fail : Bool) (answer : Option (Option V)) (s : Phase C V) (given' : Option V) (turn : Turn C V) (h' : ℕ → Node V) → PhaseStepped number same always most why root (key_bytes k) kind fail answer given s h given' turn h'
+      → TakenBy number s n → ((h' n).retired ≡ true) ⊎ TakenBy number turn.phase n
+  taken_on most why root fail answer New given' turn h' g l = absurd l
+  taken_on most why root fail answer (Version p n0) given' turn h' g l = absurd l
+  taken_on most why root fail answer (Read p at) given' turn h' g l = absurd l
+  taken_on most why root fail answer (Check s c) given' turn h' g l = absurd l
+  taken_on most why root fail answer (CheckUncopied at) given' turn h' g l = absurd l
+  taken_on most why root fail answer (CheckMiss p at common byte) given' turn h' g l = absurd l
+  taken_on most why root fail answer (CheckDown p at c) given' turn h' g l = absurd l
+  taken_on most why root fail answer (CheckOld p s v) given' turn h' g l = absurd l
+  taken_on most why root fail answer (MakeLeaf s) given' turn h' g l = absurd l
+  taken_on most why root fail answer (MakeGreater s p leaf) given' turn h' g l = absurd l
+  taken_on most why root fail answer (MakeTop p at common byte) given' turn h' g l = absurd l
+  taken_on most why root fail answer (MakeBeside p at common byte top) given' turn h' g l = absurd l
+  taken_on most why root fail answer (AskOld s v) given' turn h' g l = absurd l
+  taken_on most why root fail answer (AskNew plan) given' turn h' g l = absurd l
+  taken_on most why root fail answer (Confirm at r) given' turn h' g l = absurd l
+  taken_on most why root fail answer (CheckAbove p one r) given' turn h' g l = absurd l
+  taken_on most why root fail answer (UpgradeOne one r) given' turn h' g l = absurd l
+  taken_on most why root fail answer (ChangeOne one r) given' turn h' g l = absurd l
+  taken_on most why root fail answer (UpgradeAbove two r) given' turn h' g l = absurd l
+  taken_on most why root fail answer (UpgradeBoth two r) given' turn h' g l = absurd l
+  taken_on most why root fail answer (ChangeTwo two r) given' turn h' g l = absurd l
+  taken_on most why root fail answer (Obsolete m p r) given' turn h' g l = let P : Turn C V → Type 0 = λ y. TakenBy number y.phase n in inr (subst P (sym g.2) l)
+  taken_on most why root fail answer (Retire m p r) given' turn h' g l = let P : ℕ → Type 0 = λ y. (h' y).retired ≡ true in inl (subst P (sym l) (rw g.1.after refl))
+  taken_on most why root fail answer (UnlockBelow m p r) given' turn h' g l = absurd l
+  taken_on most why root fail answer (Unlock m r) given' turn h' g l = absurd l
+  taken_on most why root fail answer (Unwind m e) given' turn h' g l = absurd l
+  taken_on most why root fail answer (Sweep s) given' turn h' g l = absurd l
+  taken_on most why root fail answer Ended given' turn h' g l = absurd l
+
+module _ {C V : Type 0} (number : C → ℕ) (same : V → V → Bool) (always : Bool) (i : ℕ) (a : ℕ → Note) (h : ℕ → Node V) (a' : ℕ → Note) (h' : ℕ → Node V) (ms : List (Machine C V)) (m m' : Machine C V)
+    (e : slice_get ms i ≡ Some m) (w : LockWords a h) (t : Tree a h) (w' : LockWords a' h') (t' : Tree a' h') (f : (n : ℕ) → Fares i (a n) (a' n) (h n) (h' n)) (s : Holdings number a h ms) where
+  -- the machine at its place
+  mine_is : (k : Machine C V) → slice_get ms i ≡ Some k → k ≡ m
+  mine_is k g = let z : Some k ≡ Some m = sym g ∙ e in cc
+
+  pub own_before : (n : ℕ) → (a n).owner ≡ Some i → LockedBy number m.phase n
+  own_before n o =
+      let x : (k : Machine C V) × (slice_get ms i ≡ Some k) × LockedBy number k.phase n = s.owned n i o in
+      let P : Machine C V → Type 0 = λ y. LockedBy number y.phase n in subst P (mine_is x.0 x.1) x.2
+
+  pub mine_before : (n : ℕ) → (a n).status ≡ Held i → MadeBy number m.phase n
+  mine_before n o =
+      let x : (k : Machine C V) × (slice_get ms i ≡ Some k) × MadeBy number k.phase n = s.held n i o in
+      let P : Machine C V → Type 0 = λ y. MadeBy number y.phase n in subst P (mine_is x.0 x.1) x.2
+
+  abbrev At : (Machine C V → Type 0) → ℕ → Type 0
+  At P j = (k : Machine C V) × (slice_get (set ms i m') j ≡ Some k) × P k
+
+  here : (P : Machine C V → Type 0) → P m' → At P i
+  here P x = (m', set_here ms i m' m e, x)
+
+  here_at : (P : Machine C V → Type 0) (j : ℕ) → j ≡ i → P m' → At P j
+  here_at P j q x = subst (At P) (sym q) (here P x)
+
+  there : (P : Machine C V → Type 0) (j : ℕ) → j ≢ i → (k : Machine C V) → slice_get ms j ≡ Some k → P k → At P j
+  there P j ne k g x = (k, set_apart ms i j m' k ne g, x)
+
+  pub held_after : Holds_now number same always i a h a' h' (key_bytes m.key) w w' t' f m'.phase
+      → ((n : ℕ) → LockedBy number m'.phase n → (a' n).status ≡ Gone → TakenBy number m'.phase n) → ((n : ℕ) → TakenBy number m.phase n → ((h' n).retired ≡ true) ⊎ TakenBy number m'.phase n)
+      → Holdings number a' h' (set ms i m')
+  held_after now taken on = record {
+    owned = λ n j o. elim (same_or_not j i) [
+      | inl q ↦ here_at (λ k. LockedBy number k.phase n) j q (now.own n (let P : ℕ → Type 0 = λ y. (a' n).owner ≡ Some y in subst P q o))
+      | inr ne ↦ elim ((f n).owner j o) [
+        | inl x ↦ (let y : (k : Machine C V) × (slice_get ms j ≡ Some k) × LockedBy number k.phase n = s.owned n j x in there (λ k. LockedBy number k.phase n) j ne y.0 y.1 y.2)
+        | inr x ↦ absurd (ne x.0)
+      ]
+    ];
+    held = λ n j o. elim (same_or_not j i) [
+      | inl q ↦ here_at (λ k. MadeBy number k.phase n) j q (now.mine n (let P : ℕ → Type 0 = λ y. (a' n).status ≡ Held y in subst P q o))
+      | inr ne ↦ elim ((f n).held j o) [
+        | inl x ↦ (let y : (k : Machine C V) × (slice_get ms j ≡ Some k) × MadeBy number k.phase n = s.held n j x.0 in there (λ k. MadeBy number k.phase n) j ne y.0 y.1 y.2)
+        | inr x ↦ absurd (ne x.0)
+      ]
+    ];
+    locked = λ n l o. elim ((f n).locked l o) [
+      | inl x ↦ (i, x)
+      | inr x ↦ (let y : (j : ℕ) × ((a n).owner ≡ Some j) = s.locked n x.0 x.1 in (y.0, x.2 ∙ y.1))
+    ];
+    gone = λ n g. elim ((f n).gone g) [
+      | inl x ↦ (let y : At (λ k. TakenBy number k.phase n) i = here (λ k. TakenBy number k.phase n) (taken n (now.own n x) g) in inr (i, y.0, y.1, y.2))
+      | inr x ↦ elim (s.gone n x.0) [
+        | inl r ↦ inl (x.1 r)
+        | inr y ↦ elim (same_or_not y.0 i) [
+          | inl q ↦ (let z : slice_get ms i ≡ Some y.1 = (let P : ℕ → Type 0 = λ j. slice_get ms j ≡ Some y.1 in subst P q y.2) in
+              let P : Machine C V → Type 0 = λ k. TakenBy number k.phase n in elim (on n (subst P (mine_is y.1 z) y.3)) [
+                | inl r ↦ inl r
+                | inr b ↦ (let u : At P i = here P b in inr (i, u.0, u.1, u.2))
+              ])
+          | inr ne ↦ (let u : At (λ k. TakenBy number k.phase n) y.0 = there (λ k. TakenBy number k.phase n) y.0 ne y.1 y.2 y.3 in inr (y.0, u.0, u.1, u.2))
+        ]
+      ]
+    ];
+    spent = λ n g. elim ((f n).spent g) [
+      | inl x ↦ x
+      | inr x ↦ x.1 ∙ s.spent n x.0
+    ];
+    unmade = λ n g. let x : ((a n).status ≡ Unmade) × ((h' n).made ≡ (h n).made) = (f n).unmade g in x.1 ∙ s.unmade n x.0;
+  }

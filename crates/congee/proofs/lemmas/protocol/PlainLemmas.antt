@@ -1,0 +1,122 @@
+-- The places of a plain node.
+use Rattle.std.proofs.Common.{◌≡◌, ◌≢◌, ℕ, zero, suc, ◌<◌, ◌≤◌, ◌+◌, List, [], ◌∷◌, ◌++◌, length, get_or, set, take, drop, refl, ◌∙◌, ap, subst, arith, inl, inr, cond, ◌↔◌}
+use Rattle.std.proofs.lemmas.List.Sums.{sum_by_push, sum_by-cons, sum_by-set, count_by-le-length}
+use Rattle.std.proofs.Math.Seq.{take-append_seam}
+use Rattle.std.proofs.lemmas.Bool.{cases_lt}
+use Rattle.congee.specs.declared.forms.child.Child.{Child}
+use Rattle.congee.specs.declared.forms.child.Child.TheVariants.{Blank, Node, Value}
+use Rattle.congee.specs.Heap.{Nothing, Below}
+use Rattle.congee.specs.protocol.Events.{hung, weight}
+use Rattle.congee.specs.protocol.Plain.{is_there, count_of, child_at, NamesStay}
+
+pub count_blank : (xs : List (Child ℕ ℕ)) → count_of xs ≡ 0 → count_of (xs ++ Blank ∷ []) ≡ 0
+count_blank xs e = sum_by_push (λ x. cond (is_there x) 1 0) xs Blank ∙ rw e refl
+
+pub blank_more : (xs : List (Child ℕ ℕ)) → ((b : ℕ) → child_at xs b ≡ Nothing) → (b : ℕ) → child_at (xs ++ Blank ∷ []) b ≡ Nothing
+blank_more [] e zero = refl
+blank_more [] e (suc b) = refl
+blank_more (x ∷ xs) e zero = e 0
+blank_more (x ∷ xs) e (suc b) = blank_more xs (λ k. e (suc k)) b
+
+pub past : (xs : List (Child ℕ ℕ)) (b : ℕ) → length xs ≤ b → child_at xs b ≡ Nothing
+past [] b l = refl
+past (x ∷ xs) zero l = absurd (omega arith)
+past (x ∷ xs) (suc b) l = past xs b (omega arith)
+
+pub same_hung : (x y : Child ℕ ℕ) → x ≡ y → hung (λ n. n) x ≡ hung (λ n. n) y
+same_hung x y e = ap (λ z. hung (λ n. n) z) e
+
+pub child_is : (xs : List (Child ℕ ℕ)) (b : ℕ) (x : Child ℕ ℕ) → b < length xs → x ≡ get_or xs b x → hung (λ n. n) x ≡ child_at xs b
+child_is [] b x l e = absurd (omega arith)
+child_is (y ∷ xs) zero x l e = ap (λ z. hung (λ n. n) z) e
+child_is (y ∷ xs) (suc b) x l e = child_is xs b x (omega arith) e
+
+pub child_set : (xs : List (Child ℕ ℕ)) (i : ℕ) (x : Child ℕ ℕ) → i < length xs → child_at (set xs i x) i ≡ hung (λ n. n) x
+child_set [] i x l = absurd (omega arith)
+child_set (y ∷ xs) zero x l = refl
+child_set (y ∷ xs) (suc i) x l = child_set xs i x (omega arith)
+
+pub child_beside : (xs : List (Child ℕ ℕ)) (i : ℕ) (x : Child ℕ ℕ) (b : ℕ) → b ≢ i → child_at (set xs i x) b ≡ child_at xs b
+child_beside [] i x b ne = refl
+child_beside (y ∷ xs) zero x zero ne = absurd (ne refl)
+child_beside (y ∷ xs) zero x (suc b) ne = refl
+child_beside (y ∷ xs) (suc i) x zero ne = refl
+child_beside (y ∷ xs) (suc i) x (suc b) ne = child_beside xs i x b (λ e. ne (ap suc e))
+
+pub weight_is : (x : Child ℕ ℕ) → weight (hung (λ n. n) x) ≡ cond (is_there x) 1 0
+weight_is Blank = refl
+weight_is (Node c) = refl
+weight_is (Value v) = refl
+
+pub count_set : (xs : List (Child ℕ ℕ)) (i : ℕ) (x : Child ℕ ℕ) → i < length xs
+    → count_of (set xs i x) + weight (child_at xs i) ≡ count_of xs + weight (hung (λ n. n) x)
+count_set xs i x l = rw (weight_is x, weight_is (get_or xs i Blank)) (sum_by-set (λ y. cond (is_there y) 1 0) xs i x Blank l)
+
+count_cons : (x : Child ℕ ℕ) (xs : List (Child ℕ ℕ)) → count_of (x ∷ xs) ≡ weight (hung (λ n. n) x) + count_of xs
+count_cons x xs = rw (weight_is x) (sum_by-cons (λ y. cond (is_there y) 1 0) x xs)
+
+there : (x : Child ℕ ℕ) → hung (λ n. n) x ≢ Nothing → weight (hung (λ n. n) x) ≡ 1
+there Blank ne = absurd (ne refl)
+there (Node c) ne = refl
+there (Value v) ne = refl
+
+at_most : (x : Child ℕ ℕ) → weight (hung (λ n. n) x) ≤ 1
+at_most Blank = omega arith
+at_most (Node c) = omega arith
+at_most (Value v) = omega arith
+
+empty_at : (x : Child ℕ ℕ) → weight (hung (λ n. n) x) ≡ 0 → hung (λ n. n) x ≡ Nothing
+empty_at Blank e = refl
+empty_at (Node c) e = absurd (omega (arith, e))
+empty_at (Value v) e = absurd (omega (arith, e))
+
+pub none_there : (xs : List (Child ℕ ℕ)) → count_of xs ≡ 0 → (b : ℕ) → child_at xs b ≡ Nothing
+none_there [] e b = refl
+none_there (x ∷ xs) e zero = empty_at x (omega (arith, e, count_cons x xs))
+none_there (x ∷ xs) e (suc b) = none_there xs (omega (arith, e, count_cons x xs)) b
+
+some_there : (xs : List (Child ℕ ℕ)) (b : ℕ) → child_at xs b ≢ Nothing → 1 ≤ count_of xs
+some_there [] b ne = absurd (ne refl)
+some_there (x ∷ xs) zero ne = omega (arith, there x ne, count_cons x xs)
+some_there (x ∷ xs) (suc b) ne = omega (arith, some_there xs b ne, count_cons x xs)
+
+-- a node with one child has nothing else
+pub alone : (xs : List (Child ℕ ℕ)) (i : ℕ) → count_of xs ≡ 1 → child_at xs i ≢ Nothing → (b : ℕ) → b ≢ i → child_at xs b ≡ Nothing
+alone [] i e ne b d = refl
+alone (x ∷ xs) zero e ne zero d = absurd (d refl)
+alone (x ∷ xs) zero e ne (suc b) d = none_there xs (omega (arith, e, there x ne, count_cons x xs)) b
+alone (x ∷ xs) (suc i) e ne zero d = empty_at x (omega (arith, e, some_there xs i ne, count_cons x xs))
+alone (x ∷ xs) (suc i) e ne (suc b) d = alone xs i (omega (arith, e, some_there xs i ne, count_cons x xs, count_by-le-length is_there (x ∷ xs))) ne b (λ q. d (ap suc q))
+
+-- a node that lacks a byte has fewer children than places
+pub lacking : (xs : List (Child ℕ ℕ)) (i : ℕ) → i < length xs → child_at xs i ≡ Nothing → count_of xs < length xs
+lacking [] i l e = absurd (omega arith)
+lacking (x ∷ xs) zero l e = (let w : weight (hung (λ n. n) x) ≡ 0 = ap weight e in omega (arith, w, count_cons x xs, count_by-le-length is_there xs))
+lacking (x ∷ xs) (suc i) l e = omega (arith, lacking xs i (omega arith) e, at_most x, count_cons x xs)
+
+-- the names below a bound are copied
+abbrev pub NamesBelow : ℕ → List (Child ℕ ℕ) → List (Child ℕ ℕ) → Type 0
+NamesBelow i from to = (b d : ℕ) → b < i → (child_at to b ≡ Below d) ↔ (child_at from b ≡ Below d)
+
+pub child_any : (xs : List (Child ℕ ℕ)) (b : ℕ) (z : Child ℕ ℕ) → b < length xs → hung (λ n. n) (get_or xs b z) ≡ child_at xs b
+child_any [] b z l = absurd (omega arith)
+child_any (y ∷ xs) zero z l = refl
+child_any (y ∷ xs) (suc b) z l = child_any xs b z (omega arith)
+
+pub names_go : (from to : List (Child ℕ ℕ)) (i : ℕ) (z x : Child ℕ ℕ) → length from ≡ length to → i < length from
+    → NamesBelow i from to → ((d : ℕ) → (hung (λ n. n) x ≡ Below d) ↔ (hung (λ n. n) (get_or from i z) ≡ Below d)) → NamesBelow (i + 1) from (set to i x)
+names_go from to i z x same l before name b d bound = elim (cases_lt b i) [
+  | inl lt ↦ rw (child_beside to i x b (λ e. absurd (omega (arith, lt, e)))) (before b d lt)
+  | inr ge ↦ (let e : i ≡ b = omega (arith, bound, ge) in let P : ℕ → Type 0 = λ y. (child_at (set to i x) y ≡ Below d) ↔ (child_at from y ≡ Below d) in
+      subst P e (rw (child_set to i x (omega (arith, l, same)), ← child_any from i z l) (name d)))
+]
+
+pub names_end : (from to : List (Child ℕ ℕ)) → length from ≡ length to → NamesBelow (length from) from to → NamesStay from to
+names_end from to same below b d = elim (cases_lt b (length from)) [
+  | inl lt ↦ below b d lt
+  | inr ge ↦ rw (past from b ge, past to b (omega (arith, ge, same))) ((λ e. e), (λ e. e))
+]
+
+-- a list that is written over as a whole
+pub all_written : (to xs : List (Child ℕ ℕ)) (size : ℕ) → size ≡ length to → take size (to ++ drop (length to) xs) ≡ to
+all_written to xs size e = rw e (take-append_seam to (drop (length to) xs))

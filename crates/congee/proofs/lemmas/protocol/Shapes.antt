@@ -1,0 +1,280 @@
+-- What a step of the table may be: before the call took effect it goes on, asks, is refused, answers at once, or
+-- takes effect with the reply that it will give.
+use Rattle.std.proofs.Common.{◌≡◌, ℕ, ◌==◌, ◌⊎◌, inl, inr, Bool, true, false, List, refl, sym, ◌∙◌, ap, subst}
+use Rattle.std.specs.Prelude.{Option, None, Some, Result, Ok, Err}
+use Rattle.judge.specs.declared.journal.Reply.{Reply}
+use Rattle.judge.specs.declared.journal.Reply.TheVariants as reply
+use Rattle.congee.specs.declared.forms.child.Child.{Child}
+use Rattle.congee.specs.declared.forms.child.Child.TheVariants as child
+use Rattle.congee.specs.declared.protocol.store.Reading.{Reading}
+use Rattle.congee.specs.declared.protocol.store.Reading.TheVariants.{Differs, Fits, Uncopied}
+use Rattle.congee.specs.declared.protocol.store.Seat.{Seat}
+use Rattle.congee.specs.declared.protocol.store.Upgrade.{Upgrade}
+use Rattle.congee.specs.declared.protocol.store.Upgrade.TheVariants.{Locked, Failed, Exhausted}
+use Rattle.congee.specs.declared.protocol.store.Refusal.{Refusal}
+use Rattle.congee.specs.declared.protocol.store.Refusal.TheVariants as refusal
+use Rattle.congee.specs.declared.protocol.phase.Kind.{Kind}
+use Rattle.congee.specs.declared.protocol.phase.Kind.TheVariants.{Get, Insert, Remove, ComputePresent, ComputeInsert, Exchange}
+use Rattle.congee.specs.declared.protocol.phase.Parent.{Parent}
+use Rattle.congee.specs.declared.protocol.phase.Site.{Site}
+use Rattle.congee.specs.declared.protocol.phase.Single.{Single}
+use Rattle.congee.specs.declared.protocol.phase.Single.TheVariants.{Set, Link}
+use Rattle.congee.specs.declared.protocol.phase.One.{One}
+use Rattle.congee.specs.declared.protocol.phase.Double.{Double}
+use Rattle.congee.specs.declared.protocol.phase.Double.TheVariants.{Unlink, Grow, GrowLink, Split}
+use Rattle.congee.specs.declared.protocol.phase.Two.{Two}
+use Rattle.congee.specs.declared.protocol.phase.Plan.{Plan}
+use Rattle.congee.specs.declared.protocol.phase.Plan.TheVariants.{Here, Above}
+use Rattle.congee.specs.declared.protocol.phase.Phase.{Phase}
+use Rattle.congee.specs.declared.protocol.phase.Phase.TheVariants.{Version, Read, Check, CheckUncopied, CheckMiss, CheckDown, CheckOld, MakeLeaf, MakeGreater, MakeTop, MakeBeside, AskOld, AskNew, Confirm, CheckAbove, UpgradeOne, ChangeOne, UpgradeAbove, UpgradeBoth, ChangeTwo, Unwind}
+use Rattle.congee.specs.declared.protocol.turn.Turn.{Turn}
+use Rattle.congee.specs.Heap.{Node}
+use Rattle.congee.specs.protocol.Steps.{quiet, again, answered, refused, decided, asking, adds, asks_new, absent_reply, after_version, after_read, down, started, ready, plan_here, unless_full, missing, absent, CopyFailed, IsAsked, replaced, taken_out, emptied, is_same, IsAtOld, IsAdded, IsExchanged, IsPresent, IsChecked, after_miss, IsGiven, IsGivenNew, MadeLeaf, MadeGreater, MadeTop, MadeBeside, UpgradedOne, UpgradedAbove, UpgradedBoth, after_change, unwound}
+use Rattle.congee.specs.protocol.Protocol.{Asking}
+use Rattle.congee.specs.protocol.Answers.{reply_in}
+use Rattle.congee.specs.protocol.Play.{Question, Unasked, Asked, Replied, Pending, Decided, heard, resolved, Carries, heeding, flight_in}
+use Rattle.congee.proofs.lemmas.Graft.{on_test}
+use Rattle.congee.proofs.lemmas.protocol.Touch.{by_test}
+
+-- the call may go to work on its value, or give that reply: it has its closure's answer to a question about what it found, or no closure
+abbrev pub Ripe : {V : Type 0} → Reply V → Question V → Type 0
+Ripe r q = Carries q (heeding r)
+
+-- a call that is at work may
+pub ripe_at_work : {V : Type 0} (r : Reply V) → Ripe r (heeding r)
+ripe_at_work (reply.Get x) = tt
+ripe_at_work (reply.Insert x) = tt
+ripe_at_work (reply.Remove x) = tt
+ripe_at_work (reply.ComputePresent None) = tt
+ripe_at_work (reply.ComputePresent (Some x)) = refl
+ripe_at_work (reply.ComputeInsert x) = refl
+ripe_at_work (reply.Exchange x) = tt
+
+-- one that puts its value at an absent key without a question has no closure
+ripe_new : {V : Type 0} (kind : Kind V) (q : Question V) → adds kind ≡ true → asks_new kind ≡ false → Ripe (absent_reply kind) q
+ripe_new Get q e f = tt
+ripe_new Insert q e f = tt
+ripe_new Remove q e f = tt
+ripe_new ComputePresent q e f = absurd cc
+ripe_new ComputeInsert q e f = absurd cc
+ripe_new (Exchange x) q e f = tt
+
+-- a call that asks for an absent key has a closure
+asks_for : {V : Type 0} (kind : Kind V) → asks_new kind ≡ true → Asking kind
+asks_for Get e = absurd cc
+asks_for Insert e = absurd cc
+asks_for Remove e = absurd cc
+asks_for ComputePresent e = tt
+asks_for ComputeInsert e = tt
+asks_for (Exchange x) e = absurd cc
+
+pub fair_absent : {V : Type 0} (kind : Kind V) (q : Question V) → adds kind ≡ false → Ripe (absent_reply kind) q
+fair_absent Get q e = tt
+fair_absent Insert q e = tt
+fair_absent Remove q e = tt
+fair_absent ComputePresent q e = tt
+fair_absent ComputeInsert q e = absurd cc
+fair_absent (Exchange x) q e = tt
+
+-- `v` was the call's value, `v1` is it after an answer, and v' is what the machine has after the step; q is what the
+-- call has of its closure
+pub data StepShape {C V : Type 0} (k : ℕ) (kind : Kind V) (v v1 v' : Option V) (q : Question V) (t : Turn C V) : Type 0 where
+  GoesOn : (s : Phase C V) (q' : Question V) → t ≡ quiet s → flight_in k kind v' s ≡ Pending k kind v1 q' → Carries q q' → StepShape k kind v v1 v' q t
+  Wonders : (s : Phase C V) (o : Option V) → t ≡ asking s o → Asking kind → flight_in k kind v' s ≡ Pending k kind v1 (Asked o) → StepShape k kind v v1 v' q t
+  Stops : (e : Refusal) → t ≡ refused e → StepShape k kind v v1 v' q t
+  Replies : (r : Reply V) → t ≡ answered r → v1 ≡ v → Ripe r q → StepShape k kind v v1 v' q t
+  Takes : (s : Phase C V) (r : Reply V) → t ≡ decided s → flight_in k kind v' s ≡ Decided r → reply_in s ≡ Some r → v1 ≡ v → Ripe r q → StepShape k kind v v1 v' q t
+
+-- where a step of the call may lead, whatever its value is after an answer
+module _ {C V : Type 0} (k : ℕ) (v v1 v' : Option V) (e : v' ≡ v1) (q : Question V) where
+  on : (kind : Kind V) (s : Phase C V) → flight_in k kind v' s ≡ Pending k kind v' Unasked → StepShape k kind v v1 v' q (quiet s)
+  on kind s f = GoesOn s Unasked refl (f ∙ ap (λ x. Pending k kind x Unasked) e) tt
+
+  works : (kind : Kind V) (r : Reply V) (s : Phase C V) → Ripe r q → flight_in k kind v' s ≡ Pending k kind v' (heeding r) → StepShape k kind v v1 v' q (quiet s)
+  works kind r s c f = GoesOn s (heeding r) refl (f ∙ ap (λ x. Pending k kind x (heeding r)) e) c
+
+  wonders : (kind : Kind V) (s : Phase C V) (o : Option V) → Asking kind → flight_in k kind v' s ≡ Pending k kind v' (Asked o) → StepShape k kind v v1 v' q (asking s o)
+  wonders kind s o w f = Wonders s o refl w (f ∙ ap (λ x. Pending k kind x (Asked o)) e)
+
+  to : (kind : Kind V) (x y : Turn C V) → y ≡ x → StepShape k kind v v1 v' q x → StepShape k kind v v1 v' q y
+  to kind x y p s = subst (λ (z : Turn C V). StepShape k kind v v1 v' q z) (sym p) s
+
+  anew : (kind : Kind V) (root : C) → StepShape k kind v v1 v' q (again root)
+  anew kind root = on kind (Version None root) refl
+
+  stopped : (kind : Kind V) (r : Refusal) → StepShape {C = C} k kind v v1 v' q (refused r)
+  stopped kind r = Stops r refl
+
+  starts : (kind : Kind V) (plan : Plan C) (r : Reply V) → Ripe r q → StepShape k kind v v1 v' q (started plan r)
+  starts kind (Here None one) r c = works kind r (UpgradeOne one r) c refl
+  starts kind (Here (Some p) one) r c = works kind r (CheckAbove p one r) c refl
+  starts kind (Above two) r c = works kind r (UpgradeAbove two r) c refl
+
+  readies : (kind : Kind V) (plan : Plan C) → adds kind ≡ true → StepShape k kind v v1 v' q (ready kind plan)
+  readies kind plan w = by_test (λ (z : Turn C V). StepShape k kind v v1 v' q z) (asks_new kind) _ _ (λ p. wonders kind (AskNew plan) None (asks_for kind p) refl)
+      (λ n. starts kind plan (absent_reply kind) (ripe_new kind q w n))
+
+  unless : (kind : Kind V) (s : Site C) (full : Bool) (above : Option (Parent C)) (leaf : Option C) (change : Single C) → adds kind ≡ true → StepShape k kind v v1 v' q (unless_full kind s full above leaf change)
+  unless kind s true (Some p) leaf change w = on kind (MakeGreater s p leaf) refl
+  unless kind s true None leaf change w = readies kind (plan_here s change) w
+  unless kind s false above leaf change w = readies kind (plan_here s change) w
+
+  misses : (kind : Kind V) (s : Site C) → adds kind ≡ true → StepShape k kind v v1 v' q (missing kind s)
+  misses kind s w = by_test (λ (z : Turn C V). StepShape k kind v v1 v' q z) (s.depth == 7) _ _ (λ _. unless kind s s.full s.above None Set w) (λ _. on kind (MakeLeaf s) refl)
+
+  replaces : (kind : Kind V) (s : Site C) (b : Bool) (r : Reply V) → Ripe r q → StepShape k kind v v1 v' q (replaced s b r)
+  replaces kind s b r c = by_test (λ (z : Turn C V). StepShape k kind v v1 v' q z) b _ _ (λ _. works kind r (Confirm s.at r) c refl) (λ _. works kind r (UpgradeOne _ r) c refl)
+
+  takes_out : (kind : Kind V) (s : Site C) (b : Bool) (above : Option (Parent C)) (r : Reply V) → Ripe r q → StepShape k kind v v1 v' q (taken_out s b above r)
+  takes_out kind s true (Some p) r c = works kind r (UpgradeAbove _ r) c refl
+  takes_out kind s true None r c = works kind r (UpgradeOne _ r) c refl
+  takes_out kind s false above r c = works kind r (UpgradeOne _ r) c refl
+
+  empties : (kind : Kind V) (s : Site C) (r : Reply V) → Ripe r q → StepShape k kind v v1 v' q (emptied s r)
+  empties kind s r c = takes_out kind s (s.count == 1) s.above r c
+
+  uncounted : (kind : Kind V) (always : Bool) (x t : Turn C V) → (t ≡ x) ⊎ CopyFailed always t → StepShape k kind v v1 v' q x → StepShape k kind v v1 v' q t
+  uncounted kind always x t (inl p) s = to kind x t p s
+  uncounted kind always x t (inr p) s = to kind (refused refusal.Count) t p.1 (stopped kind refusal.Count)
+
+  asks : (kind : Kind V) (always : Bool) (s : Site C) (old : V) (t : Turn C V) → Asking kind → IsAsked always s old t → StepShape k kind v v1 v' q t
+  asks kind always s old t w x = uncounted kind always (asking (AskOld s old) (Some old)) t x (wonders kind (AskOld s old) (Some old) w refl)
+
+  pub at_old : (always : Bool) (same : V → V → Bool) (kind : Kind V) (new : Option V) (s : Site C) (old : V) (t : Turn C V) → adds kind ≡ true → IsAtOld always same kind new s old t → StepShape k kind v v1 v' q t
+  at_old always same Insert new s old t w x = to Insert _ t x (replaces Insert s (is_same same old new) (reply.Insert (Some old)) tt)
+  at_old always same Get new s old t w x = absurd cc
+  at_old always same Remove new s old t w x = absurd cc
+  at_old always same ComputePresent new s old t w x = absurd cc
+  at_old always same ComputeInsert new s old t w x = asks ComputeInsert always s old t tt x
+  at_old always same (Exchange u) new s old t w x = absurd cc
+
+  adds_at : (always : Bool) (same : V → V → Bool) (kind : Kind V) (new : Option V) (s : Site C) (above : Option (Parent C)) (old : V) (t : Turn C V) → adds kind ≡ true → IsAdded always same kind new s above old t → StepShape k kind v v1 v' q t
+  adds_at always same kind new s None old t w x = at_old always same kind new s old t w x
+  adds_at always same kind new s (Some p) old t w x = to kind _ t x (on kind (CheckOld p.seat s old) refl)
+
+  exchanges : (always : Bool) (same : V → V → Bool) (w : V) (new : Option V) (s : Site C) (old : V) (t : Turn C V) → IsExchanged always same new s old t → StepShape k (Exchange w) v v1 v' q t
+  exchanges always same w None s old t x = to (Exchange w) _ t x (empties (Exchange w) s (reply.Exchange (Ok None)) tt)
+  exchanges always same w (Some u) s old t x = uncounted (Exchange w) always _ t x (replaces (Exchange w) s (same old u) (reply.Exchange (Ok (Some u))) tt)
+
+  downs : (kind : Kind V) (b : Bool) (s : Site C) (above : Option (Parent C)) (c : C) → StepShape k kind v v1 v' q (down b s above c)
+  downs kind false s above c = on kind (Version _ c) refl
+  downs kind true s None c = on kind (Version _ c) refl
+  downs kind true s (Some p) c = on kind (CheckDown p.seat _ c) refl
+
+-- before an answer was wanted
+pub presents : {C V : Type 0} (k : ℕ) (v v' : Option V) (e : v' ≡ v) (q : Question V) (always : Bool) (same : V → V → Bool) (kind : Kind V) (new : Option V) (s : Site C) (old : V) (t : Turn C V)
+    → IsPresent always same kind new s old t → StepShape k kind v v v' q t
+presents k v v' e q always same Get new s old t x = to k v v v' e q Get _ t x (Replies (reply.Get (Some old)) refl refl tt)
+presents k v v' e q always same Insert new s old t x = adds_at k v v v' e q always same Insert new s s.above old t refl x
+presents k v v' e q always same Remove new s old t x = to k v v v' e q Remove _ t x (empties k v v v' e q Remove s (reply.Remove (Some old)) tt)
+presents k v v' e q always same ComputePresent new s old t x = asks k v v v' e q ComputePresent always s old t tt x
+presents k v v' e q always same ComputeInsert new s old t x = adds_at k v v v' e q always same ComputeInsert new s s.above old t refl x
+presents k v v' e q always same (Exchange w) new s old t x = on_test (same old w) (λ p. exchanges k v v v' e q always same w new s old t (x.0 p))
+    (λ p. to k v v v' e q (Exchange w) _ t (x.1 p) (works k v v v' e q (Exchange w) (reply.Exchange (Err (Some old))) (Confirm s.at (reply.Exchange (Err (Some old)))) tt refl))
+
+module _ {C V : Type 0} (number : C → ℕ) (k : ℕ) (kind : Kind V) (v v' : Option V) (e : v' ≡ v) (q : Question V) where
+  pub go : (s : Phase C V) → flight_in k kind v' s ≡ Pending k kind v' Unasked → StepShape k kind v v v' q (quiet s)
+  go s f = on k v v v' e q kind s f
+
+  pub goes_to_work : (r : Reply V) (s : Phase C V) → Ripe r q → flight_in k kind v' s ≡ Pending k kind v' (heeding r) → StepShape k kind v v v' q (quiet s)
+  goes_to_work r s c f = works k v v v' e q kind r s c f
+
+  pub back : (root : C) → StepShape k kind v v v' q (again root)
+  back root = anew k v v v' e q kind root
+
+  pub at : (x y : Turn C V) → y ≡ x → StepShape k kind v v v' q x → StepShape k kind v v v' q y
+  at x y p s = to k v v v' e q kind x y p s
+
+  pub answers : (r : Reply V) → Ripe r q → StepShape {C = C} k kind v v v' q (answered r)
+  answers r f = Replies r refl refl f
+
+  absents : (s : Site C) → StepShape k kind v v v' q (absent kind s)
+  absents s = by_test (λ (z : Turn C V). StepShape k kind v v v' q z) (adds kind) _ _ (λ w. misses k v v v' e q kind s w) (λ w. answers (absent_reply kind) (fair_absent kind q w))
+
+  pub checks : (always : Bool) (same : V → V → Bool) (new : Option V) (s : Site C) (c : Child C V) (t : Turn C V) → IsChecked always same kind new s c t → StepShape k kind v v v' q t
+  checks always same new s child.Blank t x = at _ t x (absents s)
+  checks always same new s (child.Node c) t x = at _ t x (downs k v v v' e q kind (adds kind) s s.above c)
+  checks always same new s (child.Value old) t x = presents k v v' e q always same kind new s old t x
+
+  pub reads : (root : C) (above : Option (Parent C)) (seat : Seat C) (r : Reading C V) → StepShape k kind v v v' q (after_read root above seat r)
+  reads root None seat (Differs common byte) = back root
+  reads root (Some p) seat (Differs common byte) = go (CheckMiss p seat common byte) refl
+  reads root above seat (Fits depth s) = go (Check _ s.child) refl
+  reads root above seat Uncopied = go (CheckUncopied seat) refl
+
+  pub versions : (root : C) (above : Option (Parent C)) (n : C) (o : Option ℕ) → StepShape k kind v v v' q (after_version root above n o)
+  versions root above n None = back root
+  versions root above n (Some x) = go (Read above _) refl
+
+  pub if_taken : (taken : Bool) (root : C) (T : Type 0) (t : Turn C V) → (taken ≡ true → T) × (taken ≡ false → t ≡ again root) → (T → StepShape k kind v v v' q t) → StepShape k kind v v v' q t
+  if_taken taken root T t x f = on_test taken (λ p. f (x.0 p)) (λ p. at _ t (x.1 p) (back root))
+
+  pub misses_at : (p : Parent C) (seat : Seat C) (common byte : ℕ) → StepShape k kind v v v' q (after_miss kind p seat common byte)
+  misses_at p seat common byte = by_test (λ (z : Turn C V). StepShape k kind v v v' q z) (adds kind) _ _ (λ _. go (MakeTop p seat common byte) refl) (λ w. answers (absent_reply kind) (fair_absent kind q w))
+
+  pub halts : (r : Refusal) (t : Turn C V) → t ≡ refused r → StepShape k kind v v v' q t
+  halts r t p = Stops r p
+
+  pub leaf_made : (s : Site C) (h : ℕ → Node V) (key : List ℕ) (r : Result C Refusal) (h' : ℕ → Node V) (t : Turn C V) → adds kind ≡ true → MadeLeaf number kind s h key r h' t → StepShape k kind v v v' q t
+  leaf_made s h key (Ok leaf) h' t w x = at _ t x.1 (unless k v v v' e q kind s s.full s.above (Some leaf) (Link leaf) w)
+  leaf_made s h key (Err r) h' t w x = halts r t x.1
+
+  pub greater_made : (s : Site C) (p : Parent C) (leaf : Option C) (h : ℕ → Node V) (key : List ℕ) (r : Result C Refusal) (h' : ℕ → Node V) (t : Turn C V) → adds kind ≡ true → MadeGreater number kind s p leaf h key r h' t → StepShape k kind v v v' q t
+  greater_made s p leaf h key (Ok c) h' t w x = at _ t x.1 (readies k v v v' e q kind _ w)
+  greater_made s p leaf h key (Err r) h' t w x = halts r t x.1
+
+  pub top_made : (p : Parent C) (seat : Seat C) (common byte : ℕ) (h : ℕ → Node V) (key : List ℕ) (r : Result C Refusal) (h' : ℕ → Node V) (t : Turn C V) → MadeTop number p seat common byte h key r h' t → StepShape k kind v v v' q t
+  top_made p seat common byte h key (Ok top) h' t x = at _ t x.1 (go (MakeBeside p seat common byte top) refl)
+  top_made p seat common byte h key (Err r) h' t x = halts r t x.1
+
+  pub beside_made : (p : Parent C) (seat : Seat C) (common byte : ℕ) (top : C) (h : ℕ → Node V) (key : List ℕ) (r : Result C Refusal) (h' : ℕ → Node V) (t : Turn C V) → adds kind ≡ true → MadeBeside number kind p seat common byte top h key r h' t
+      → StepShape k kind v v v' q t
+  beside_made p seat common byte top h key (Ok leaf) h' t w x = at _ t x.1 (readies k v v v' e q kind _ w)
+  beside_made p seat common byte top h key (Err r) h' t w x = halts r t x.1
+
+  pub one_upgraded : (root : C) (one : One C) (r : Reply V) (h : ℕ → Node V) (u : Upgrade) (h' : ℕ → Node V) (t : Turn C V) → Ripe r q → UpgradedOne number root one r h u h' t → StepShape k kind v v v' q t
+  one_upgraded root one r h Locked h' t c x = at _ t x.1 (goes_to_work r (ChangeOne one r) c refl)
+  one_upgraded root one r h Failed h' t c x = at _ t x.1 (back root)
+  one_upgraded root one r h Exhausted h' t c x = halts refusal.Exhausted t x.1
+
+  pub above_upgraded : (root : C) (two : Two C) (r : Reply V) (h : ℕ → Node V) (u : Upgrade) (h' : ℕ → Node V) (t : Turn C V) → Ripe r q → UpgradedAbove number root two r h u h' t → StepShape k kind v v v' q t
+  above_upgraded root two r h Locked h' t c x = at _ t x.1 (goes_to_work r (UpgradeBoth two r) c refl)
+  above_upgraded root two r h Failed h' t c x = at _ t x.1 (back root)
+  above_upgraded root two r h Exhausted h' t c x = halts refusal.Exhausted t x.1
+
+  pub both_upgraded : (two : Two C) (r : Reply V) (h : ℕ → Node V) (u : Upgrade) (h' : ℕ → Node V) (t : Turn C V) → Ripe r q → UpgradedBoth number two r h u h' t → StepShape k kind v v v' q t
+  both_upgraded two r h Locked h' t c x = at _ t x.1 (goes_to_work r (ChangeTwo two r) c refl)
+  both_upgraded two r h Failed h' t c x = at _ t x.1 (go (Unwind _ None) refl)
+  both_upgraded two r h Exhausted h' t c x = at _ t x.1 (go (Unwind _ (Some refusal.Exhausted)) refl)
+
+  pub unwinds : (root : C) (o : Option Refusal) (t : Turn C V) → t ≡ unwound root o → StepShape k kind v v v' q t
+  unwinds root None t x = at _ t x (back root)
+  unwinds root (Some r) t x = halts r t x
+
+-- a change takes effect
+pub change_shape : {C V : Type 0} (k : ℕ) (kind : Kind V) (v v' : Option V) (two : Two C) (r : Reply V) (change : Double C) (t : Turn C V) → t ≡ after_change two r change → StepShape k kind v v v' (heeding r) t
+change_shape k kind v v' two r Unlink t x = Takes _ r x refl refl refl (ripe_at_work r)
+change_shape k kind v v' two r (Grow c) t x = Takes _ r x refl refl refl (ripe_at_work r)
+change_shape k kind v v' two r (GrowLink c leaf byte) t x = Takes _ r x refl refl refl (ripe_at_work r)
+change_shape k kind v v' two r (Split top leaf common byte) t x = Takes _ r x refl refl refl (ripe_at_work r)
+
+-- the closure's answer
+pub given_shape : {C V : Type 0} (always : Bool) (same : V → V → Bool) (k : ℕ) (kind : Kind V) (s : Site C) (old : V) (told : Option (Option V)) (v v' : Option V) (t : Turn C V)
+    → Asking kind → IsGiven always same kind s old told v v' t → StepShape k kind v (heard kind (Asked (Some old)) told v) v' (resolved kind (Asked (Some old)) told) t
+given_shape always same k kind s old None v v' t w x = asks k v v v' x.0 (Asked (Some old)) kind always s old t w x.1
+given_shape always same k ComputeInsert s old (Some None) v v' t w x = asks k v v v' x.0 (Asked (Some old)) ComputeInsert always s old t tt x.1
+given_shape always same k ComputeInsert s old (Some (Some y)) v v' t w x = to k v (Some y) v' x.0 (Replied (Some old)) ComputeInsert _ t x.1 (replaces k v (Some y) v' x.0 (Replied (Some old)) ComputeInsert s (same old y) _ refl)
+given_shape always same k ComputePresent s old (Some None) v v' t w x = to k v None v' x.0 (Replied (Some old)) ComputePresent _ t x.1 (empties k v None v' x.0 (Replied (Some old)) ComputePresent s _ refl)
+given_shape always same k ComputePresent s old (Some (Some y)) v v' t w x = uncounted k v (Some y) v' x.0 (Replied (Some old)) ComputePresent always _ t x.1 (replaces k v (Some y) v' x.0 (Replied (Some old)) ComputePresent s (same old y) _ refl)
+given_shape always same k Get s old (Some o) v v' t w x = absurd w
+given_shape always same k Insert s old (Some o) v v' t w x = absurd w
+given_shape always same k Remove s old (Some o) v v' t w x = absurd w
+given_shape always same k (Exchange y) s old (Some o) v v' t w x = absurd w
+
+given_new_shape : {C V : Type 0} (k : ℕ) (plan : Plan C) (told : Option (Option V)) (v v' : Option V) (t : Turn C V) → IsGivenNew plan told v v' t → StepShape k ComputeInsert v (heard ComputeInsert (Asked None) told v) v' (resolved ComputeInsert (Asked None) told) t
+given_new_shape k plan None v v' t x = to k v v v' x.0 (Asked None) ComputeInsert _ t x.1 (wonders k v v v' x.0 (Asked None) ComputeInsert (AskNew plan) None tt refl)
+given_new_shape k plan (Some None) v v' t x = to k v v v' x.0 (Asked None) ComputeInsert _ t x.1 (wonders k v v v' x.0 (Asked None) ComputeInsert (AskNew plan) None tt refl)
+given_new_shape k plan (Some (Some y)) v v' t x = to k v (Some y) v' x.0 (Replied None) ComputeInsert _ t x.1 (starts k v (Some y) v' x.0 (Replied None) ComputeInsert plan _ refl)
+
+pub given_new_shape_at : {C V : Type 0} (k : ℕ) (kind : Kind V) (plan : Plan C) (told : Option (Option V)) (v v' : Option V) (t : Turn C V) → kind ≡ ComputeInsert → IsGivenNew plan told v v' t → StepShape k kind v (heard kind (Asked None) told v) v' (resolved kind (Asked None) told) t
+given_new_shape_at {C} {V} k kind plan told v v' t e x = let P : Kind V → Type 0 = λ y. StepShape k y v (heard y (Asked None) told v) v' (resolved y (Asked None) told) t in subst P (sym e) (given_new_shape k plan told v v' t x)

@@ -1,0 +1,86 @@
+-- Where the names of a scan come from.
+use Rattle.std.proofs.Common.{◌≡◌, ℕ, ◌+◌, ◌==◌, inl, inr, Bool, cond, List, [], ◌∷◌, ◌++◌, sym, ap, subst, arith}
+use Rattle.std.specs.Prelude.{Option, None, Some}
+use Rattle.std.proofs.lemmas.Bool.{cases_lt}
+use Rattle.congee.specs.declared.protocol.store.Region.{Region}
+use Rattle.congee.specs.declared.protocol.store.Least.{Least}
+use Rattle.congee.specs.declared.protocol.store.Least.TheVariants as least
+use Rattle.congee.specs.declared.protocol.store.Refusal.TheVariants as refusal
+use Rattle.congee.specs.declared.protocol.sweep.Rung.{Rung}
+use Rattle.congee.specs.declared.protocol.sweep.Stage.{Stage}
+use Rattle.congee.specs.declared.protocol.sweep.Stage.TheVariants as stage
+use Rattle.congee.specs.declared.protocol.sweep.Sweep.{Sweep}
+use Rattle.congee.specs.declared.protocol.sweep.Told.TheVariants as told
+use Rattle.congee.specs.Heap.{Node, Below, version_of, is_taken}
+use Rattle.congee.specs.Ledger.{Note, Linked, LockWords}
+use Rattle.congee.specs.protocol.SweepEvents.{LeastTruly}
+use Rattle.congee.specs.protocol.SweepSteps.{is_outside, first_byte, last_byte, rungs_of, pushed, popped, moved, sweep_at, Swung, goes, over, anew, left_to, left, entered, filled, IsFollowed, begins, SweptAt}
+use Rattle.congee.specs.protocol.SweepKnown.{RungKnown, WayKnown, SweepKnownAt, SweepKnown, names_rungs, names_sweep_at, names_sweep}
+use Rattle.congee.proofs.lemmas.protocol.Each.{Each}
+use Rattle.congee.proofs.lemmas.Graft.{on_test}
+use Rattle.congee.proofs.lemmas.protocol.Touch.{taken_linked}
+use Rattle.congee.proofs.lemmas.protocol.SweepBytes.{low_yes, low_no}
+use Rattle.congee.proofs.lemmas.protocol.SweepWays.{pick_false, pick_true, path_pushed, path_empty, path_last}
+
+module _ {C V : Type 0} (number : C → ℕ) (always : Bool) (a : ℕ → Note) (h : ℕ → Node V) (K : ℕ → Type 0) (root : C) (top : K (number root))
+    (hangs : (p b n : ℕ) → (a p).status ≡ Linked → (h p).children b ≡ Below n → K n) (w : LockWords a h) where
+  abbrev Has : Swung C V → Type 0
+  Has u = Each K (names_sweep number u.0)
+
+  has_as : (u v : Swung C V) → v ≡ u → Has u → Has v
+  has_as u v e o = subst Has (sym e) o
+
+  names_longer : (xs : List (Rung C)) (r : Rung C) → Each K (names_rungs number xs) → K (number r.at.node) → Each K (names_rungs number (xs ++ r ∷ []))
+  names_longer [] r e k = (k, tt)
+  names_longer (x ∷ xs) r e k = (e.0, names_longer xs r e.1 k)
+
+  names_shorter : (xs : List (Rung C)) (r : Rung C) → Each K (names_rungs number (xs ++ r ∷ [])) → Each K (names_rungs number xs) × K (number r.at.node)
+  names_shorter [] r e = (tt, e.0)
+  names_shorter (x ∷ xs) r e = let y = names_shorter xs r e.1 in ((e.0, y.0), y.1)
+
+  anew_has : (s : Sweep C V) → Has (anew root s)
+  anew_has s = (top, subst (λ xs. Each K (names_rungs number xs)) (sym (path_empty s.above)) tt)
+
+  left_has : (s : Sweep C V) → WayKnown number a h s → Each K (names_rungs number (rungs_of s.above)) → Has (left s)
+  left_has s k e = elim (path_last s.above k.fits) [
+    | inl x ↦ has_as (over s (told.Done s.count)) (left s) (ap (left_to s) x.0) tt
+    | inr x ↦ (let y = names_shorter (rungs_of (popped s.above)) x.0 (subst (λ xs. Each K (names_rungs number xs)) x.2 e) in has_as (goes s (popped s.above) (stage.Look x.0)) (left s) (ap (left_to s) x.1) (y.1, y.0))
+  ]
+
+  entered_has : (s : Sweep C V) (n : C) (x : Region) (o : Option ℕ) → WayKnown number a h s → K (number n) → Each K (names_rungs number (rungs_of s.above)) → Has (entered root s n x o)
+  entered_has s n x None k y e = anew_has s
+  entered_has s n x (Some v) k y e = on_test (is_outside s.start s.end x)
+      (λ out. has_as (left s) (entered root s n x (Some v)) (pick_true (is_outside s.start s.end x) (left s) (goes s s.above (stage.Look (record { at = record { node = n; version = v }; region = x; from = first_byte s.start x }))) out) (left_has s k e))
+      (λ ins. has_as (goes s s.above (stage.Look (record { at = record { node = n; version = v }; region = x; from = first_byte s.start x }))) (entered root s n x (Some v)) (pick_false (is_outside s.start s.end x) (left s) (goes s s.above (stage.Look (record { at = record { node = n; version = v }; region = x; from = first_byte s.start x }))) ins) (y, e))
+
+  followed_has : (s : Sweep C V) (r : Rung C) (found : Least C V) (u : Swung C V) → WayKnown number a h s → RungKnown number a h s.end s.above.len r → K (number r.at.node) → Each K (names_rungs number (rungs_of s.above))
+      → (a (number r.at.node)).status ≡ Linked → LeastTruly number (h (number r.at.node)) r.from (last_byte s.end r.region) found → IsFollowed number h s r found u → Has u
+  followed_has s r least.Nothing u k q y e l truly f = has_as (left s) u f (left_has s k e)
+  followed_has s r (least.Node byte c) u k q y e l truly f = has_as (goes s (pushed s.above (moved r byte)) (stage.Enter c f.0)) u f.2 (
+    hangs (number r.at.node) byte (number c) l truly.here,
+    subst (λ xs. Each K (names_rungs number xs)) (sym (path_pushed s.above (moved r byte) (let d = q.deep in let sh = q.region.short in omega (arith, d, sh)))) (names_longer (rungs_of s.above) (moved r byte) e y),
+  )
+  followed_has s r (least.Value byte v) u k q y e l truly f = has_as (filled s r byte v) u f (on_test (s.count + 1 == s.size)
+      (λ full. has_as (sweep_at s (s.count + 1) s.above stage.Full, told.Found s.count (r.region.base + byte) v) (filled s r byte v)
+      (ap (λ x. (sweep_at s (s.count + 1) s.above x, told.Found s.count (r.region.base + byte) v)) (pick_true (s.count + 1 == s.size) stage.Full (stage.Look (moved r byte)) full)) tt)
+      (λ free. has_as (sweep_at s (s.count + 1) s.above (stage.Look (moved r byte)), told.Found s.count (r.region.base + byte) v) (filled s r byte v)
+      (ap (λ x. (sweep_at s (s.count + 1) s.above x, told.Found s.count (r.region.base + byte) v)) (pick_false (s.count + 1 == s.size) stage.Full (stage.Look (moved r byte)) free)) (y, e)))
+  followed_has s r least.Uncopied u k q y e l truly f = has_as (over s (told.Refused refusal.Count)) u f tt
+
+  has_at : (s : Sweep C V) (x : Stage C V) (u : Swung C V) → SweepKnownAt number always a h s x → SweptAt number always root s x h u → Each K (names_sweep_at number s x) → Has u
+  has_at s stage.New u k f e = has_as (begins root s) u f (elim (cases_lt s.start s.end) [
+    | inr ge ↦ has_as (over s (told.Done 0)) (begins root s) (low_no s.start s.end (cond (s.size == 0) (over s (told.Done 0)) (anew root s)) (over s (told.Done 0)) ge) tt
+    | inl lt ↦ has_as (cond (s.size == 0) (over s (told.Done 0)) (anew root s)) (begins root s) (low_yes s.start s.end (cond (s.size == 0) (over s (told.Done 0)) (anew root s)) (over s (told.Done 0)) lt) (on_test (s.size == 0)
+        (λ y. has_as (over s (told.Done 0)) (cond (s.size == 0) (over s (told.Done 0)) (anew root s)) (pick_true (s.size == 0) (over s (told.Done 0)) (anew root s) y) tt)
+        (λ n. has_as (anew root s) (cond (s.size == 0) (over s (told.Done 0)) (anew root s)) (pick_false (s.size == 0) (over s (told.Done 0)) (anew root s) n) (anew_has s)))
+  ])
+  has_at s (stage.Enter n x) u k f e = has_as (entered root s n x (version_of (h (number n)))) u f (entered_has s n x (version_of (h (number n))) k.0 e.0 e.1)
+  has_at s (stage.Look r) u k f e = has_as (goes s s.above (stage.Check r f.0)) u f.2 e
+  has_at s (stage.Check r found) u k f e = on_test (is_taken (h (number r.at.node)) r.at.version)
+      (λ y. followed_has s r found u k.0 k.1 e.0 e.1 (taken_linked a h w (number r.at.node) r.at.version k.1.seated.published y) (k.3.holds y) (f.goes_on y))
+      (λ n. has_as (anew root s) u (f.goes_back n) (anew_has s))
+  has_at s stage.Full u k f e = has_as (over s (told.Done s.count)) u f tt
+  has_at s stage.Over u k f e = has_as (over s told.Running) u f tt
+
+  pub sweep_names : (s : Sweep C V) (u : Swung C V) → SweepKnown number always a h s → SweptAt number always root s s.stage h u → Each K (names_sweep number s) → Each K (names_sweep number u.0)
+  sweep_names s u k f e = has_at s s.stage u k f e

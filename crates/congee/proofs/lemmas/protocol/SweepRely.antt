@@ -1,0 +1,46 @@
+-- The steps of others keep what a scan knows.
+use Rattle.std.proofs.Common.{◌≡◌, ℕ, suc, Bool, true, List, [], ◌∷◌, sym, subst}
+use Rattle.congee.specs.declared.protocol.store.Region.{Region}
+use Rattle.congee.specs.declared.protocol.sweep.Rung.{Rung}
+use Rattle.congee.specs.declared.protocol.sweep.Stage.{Stage}
+use Rattle.congee.specs.declared.protocol.sweep.Stage.TheVariants as stage
+use Rattle.congee.specs.declared.protocol.sweep.Sweep.{Sweep}
+use Rattle.congee.specs.Heap.{Node}
+use Rattle.congee.specs.Ledger.{Note, is_published}
+use Rattle.congee.specs.protocol.Protocol.{Rely}
+use Rattle.congee.specs.protocol.Regions.{IsRegion}
+use Rattle.congee.specs.protocol.SweepSteps.{rungs_of}
+use Rattle.congee.specs.protocol.SweepKnown.{RungKnown, RungsKnown, WayKnown, SweepKnownAt, SweepKnown, names_rungs, names_sweep_at, names_sweep}
+use Rattle.congee.proofs.lemmas.protocol.Each.{Each}
+use Rattle.congee.proofs.lemmas.protocol.Seats.{seated_kept, fresh_kept}
+
+module _ {C V : Type 0} (number : C → ℕ) (always : Bool) (K : ℕ → Type 0) (i : ℕ) (a : ℕ → Note) (h : ℕ → Node V) (a' : ℕ → Note) (h' : ℕ → Node V) (r : Rely K i a h a' h') where
+  region_kept : (n : ℕ) (x : Region) → K n → is_published (a n).status ≡ true → IsRegion (h n).prefix x.base x.depth → IsRegion (h' n).prefix x.base x.depth
+  region_kept n x k p q = subst (λ y. IsRegion y x.base x.depth) (sym (r.prefix n k p)) q
+
+  rung_kept : (end above : ℕ) (x : Rung C) → K (number x.at.node) → RungKnown number a h end above x → RungKnown number a' h' end above x
+  rung_kept end above x k g = record {
+    seated = seated_kept K i a h a' h' r (number x.at.node) x.at.version k g.seated;
+    region = region_kept (number x.at.node) x.region k g.seated.published g.region;
+    deep = g.deep;
+    within = g.within;
+    bound = g.bound;
+  }
+
+  rungs_kept : (end above : ℕ) (xs : List (Rung C)) → Each K (names_rungs number xs) → RungsKnown number a h end above xs → RungsKnown number a' h' end above xs
+  rungs_kept end above [] k g = tt
+  rungs_kept end above (x ∷ xs) k g = (rung_kept end above x k.0 g.0, rungs_kept end (suc above) xs k.1 g.1)
+
+  way_kept : (s : Sweep C V) → Each K (names_rungs number (rungs_of s.above)) → WayKnown number a h s → WayKnown number a' h' s
+  way_kept s k g = record { range = g.range; bound = g.bound; room = g.room; fits = g.fits; rungs = rungs_kept s.end 0 (rungs_of s.above) k g.rungs }
+
+  kept_at : (s : Sweep C V) (x : Stage C V) → Each K (names_sweep_at number s x) → SweepKnownAt number always a h s x → SweepKnownAt number always a' h' s x
+  kept_at s stage.New k g = g
+  kept_at s (stage.Enter n x) k g = (way_kept s k.1 g.0, r.published (number n) k.0 g.1, region_kept (number n) x k.0 g.1 g.2, g.3)
+  kept_at s (stage.Look x) k g = (way_kept s k.1 g.0, rung_kept s.end s.above.len x k.0 g.1)
+  kept_at s (stage.Check x f) k g = (way_kept s k.1 g.0, rung_kept s.end s.above.len x k.0 g.1, g.2, fresh_kept K i a h a' h' r (number x.at.node) x.at.version _ k.0 g.3)
+  kept_at s stage.Full k g = tt
+  kept_at s stage.Over k g = tt
+
+  pub sweep_known_kept : (s : Sweep C V) → Each K (names_sweep number s) → SweepKnown number always a h s → SweepKnown number always a' h' s
+  sweep_known_kept s k g = kept_at s s.stage k g

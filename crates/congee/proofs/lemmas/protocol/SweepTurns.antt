@@ -1,0 +1,325 @@
+-- A scan's step keeps what the scan knows, settles more keys, and at its end tells what the scan promises.
+use Rattle.std.proofs.Common.{◌≡◌, ◌≢◌, ℕ, suc, ◌<◌, ◌≤◌, ◌+◌, ◌*◌, ◌-◌, ◌^◌, ◌==◌, ◌⊎◌, inl, inr, Bool, true, false, cond, List, [], ◌∷◌, ◌++◌, length, take, refl, sym, ap, ◌∙◌, subst, arith}
+use Rattle.std.specs.Prelude.{None, Some}
+use Rattle.std.specs.Ordering.{nat_cmp}
+use Rattle.std.specs.FinMap.{FinMap}
+use Rattle.std.proofs.lemmas.Bool.{cases_lt}
+use Rattle.std.proofs.lemmas.List.{length-take-le}
+use Rattle.congee.specs.declared.protocol.store.Region.{Region}
+use Rattle.congee.specs.declared.protocol.store.Least.{Least}
+use Rattle.congee.specs.declared.protocol.store.Least.TheVariants as least
+use Rattle.congee.specs.declared.protocol.store.Refusal.TheVariants as refusal
+use Rattle.congee.specs.declared.protocol.sweep.Rung.{Rung}
+use Rattle.congee.specs.declared.protocol.sweep.Stage.{Stage}
+use Rattle.congee.specs.declared.protocol.sweep.Stage.TheVariants as stage
+use Rattle.congee.specs.declared.protocol.sweep.Sweep.{Sweep}
+use Rattle.congee.specs.declared.protocol.sweep.Told.TheVariants as told
+use Rattle.congee.specs.Heap.{Node, version_of, is_taken, is_free}
+use Rattle.congee.specs.Keys.{IsMapOf}
+use Rattle.congee.specs.Ledger.{Note, Linked, is_published, Tree, LockWords}
+use Rattle.congee.specs.protocol.Regions.{span, IsRegion, start_at}
+use Rattle.congee.specs.protocol.Sweeps.{Lacked, IsScan, Swept, written}
+use Rattle.congee.specs.protocol.SweepEvents.{LeastTruly, IsAny}
+use Rattle.congee.specs.protocol.SweepSteps.{whole, is_outside, first_byte, last_byte, rungs_of, pushed, popped, moved, sweep_at, Swung, goes, over, anew, left_to, left, entered, filled, IsFollowed, begins, SweptAt}
+use Rattle.congee.specs.protocol.SweepKnown.{RungKnown, RungsKnown, WayKnown, SweepKnownAt, SweepKnown, end_of, start_of, Gap, IsWay, Under, Aimed, TracksAt, Tracks, placed, Tells, SameCall}
+use Rattle.congee.proofs.lemmas.Fits.{equal, same_test}
+use Rattle.congee.proofs.lemmas.Graft.{on_test}
+use Rattle.congee.proofs.lemmas.protocol.Touch.{taken_linked}
+use Rattle.congee.proofs.lemmas.protocol.Regions.{span_pos, whole as all_bytes, start_mono}
+use Rattle.congee.proofs.lemmas.protocol.Sweeps.{sweep_none, sweep_later, sweep_on, sweep_found, sweep_ends, sweep_full, written_counts}
+use Rattle.congee.proofs.lemmas.protocol.SweepBytes.{low_yes, low_no, last_within, outside, inside_end, first_small, first_before, first_aims}
+use Rattle.congee.proofs.lemmas.protocol.SweepWays.{pick_false, pick_true, path_pushed, path_empty, path_last, path_count, way_later, way_longer, way_shorter, rungs_longer, rungs_shorter}
+use Rattle.congee.proofs.lemmas.protocol.SweepKept.{lacks_bytes, lacks_rest, has_value, child_deeper, child_after, child_before, lacks_beside}
+
+differ : (x y : ℕ) → (x == y) ≡ false → x ≢ y
+differ x y f e = let t : (x == y) ≡ true = same_test x y e in let z : true ≡ false = sym t ∙ f in absurd cc
+
+module _ {C V : Type 0} (number : C → ℕ) (always : Bool) (a : ℕ → Note) (h : ℕ → Node V) (t : Tree a h) (w : LockWords a h) (m : FinMap nat_cmp V) (st : IsMapOf h m)
+    (states : List (FinMap nat_cmp V)) (places : List (ℕ × V)) (root : C) (z : number root ≡ 0) where
+  -- what a step leaves
+  abbrev pub Out : Sweep C V → Swung C V → Type 0
+  Out s u = SweepKnown number always a h u.0 × Tracks u.0 (m ∷ states) (placed places u.1) × Tells s (m ∷ states) places u.0.stage u.1 × SameCall s u.0
+
+  out_as : (s : Sweep C V) (u v : Swung C V) → v ≡ u → Out s u → Out s v
+  out_as s u v e o = subst (λ x. Out s x) (sym e) o
+
+  under_later : (s : Sweep C V) (x : Region) (upto : ℕ) → Under s states places x upto → Under s (m ∷ states) places x upto
+  under_later s x upto u = record {
+    counted = u.counted;
+    way = way_later s.start s.end m states (rungs_of s.above) x u.way;
+    swept = sweep_later s.start s.end s.size upto m states (take s.count places) u.swept;
+  }
+
+  aimed_later : (s : Sweep C V) (r : Rung C) → Aimed s states places r → Aimed s (m ∷ states) places r
+  aimed_later s r u = record { under = under_later s r.region (start_of r) u.under; aim = u.aim }
+
+  under_on : (s : Sweep C V) (x : Region) (upto to : ℕ) → upto ≤ to → ((k : ℕ) → s.start ≤ k → k < s.end → upto ≤ k → k < to → Lacked (m ∷ states) k) → Under s (m ∷ states) places x upto → Under s (m ∷ states) places x to
+  under_on s x upto to l gap u = record {
+    counted = u.counted;
+    way = u.way;
+    swept = sweep_on s.start s.end s.size upto to (m ∷ states) (take s.count places) l gap u.swept;
+  }
+
+  -- another next step
+  way_at : (s : Sweep C V) (x : Stage C V) → WayKnown number a h s → WayKnown number a h (sweep_at s s.count s.above x)
+  way_at s x k = record { range = k.range; bound = k.bound; room = k.room; fits = k.fits; rungs = k.rungs }
+
+  under_at : (s : Sweep C V) (x : Stage C V) (y : Region) (upto : ℕ) → Under s (m ∷ states) places y upto → Under (sweep_at s s.count s.above x) (m ∷ states) places y upto
+  under_at s x y upto u = record { counted = u.counted; way = u.way; swept = u.swept }
+
+  aimed_at : (s : Sweep C V) (x : Stage C V) (r : Rung C) → Aimed s (m ∷ states) places r → Aimed (sweep_at s s.count s.above x) (m ∷ states) places r
+  aimed_at s x r u = record { under = under_at s x r.region (start_of r) u.under; aim = u.aim }
+
+  take_none : (xs : List (ℕ × V)) → take 0 xs ≡ []
+  take_none [] = refl
+  take_none (x ∷ xs) = refl
+
+  -- the scan begins anew
+  anew_out : (s : Sweep C V) → s.start < s.end → s.end < 2 ^ 64 → 0 < s.size → Out s (anew root s)
+  anew_out s lt b room =
+      let none = path_empty s.above in
+      let P : List (Rung C) → Type 0 = λ xs. RungsKnown number a h s.end 0 xs in
+      let Q : List (Rung C) → Type 0 = λ xs. IsWay s.start s.end (m ∷ states) xs whole in
+      let R : List (ℕ × V) → Type 0 = λ xs. Swept s.start s.end s.size 0 (m ∷ states) xs in
+      let U : ℕ → Type 0 = λ n. is_published (a n).status ≡ true in
+      let W : ℕ → Type 0 = λ n. IsRegion (h n).prefix 0 0 in (
+        (
+          record { range = lt; bound = b; room = room; fits = omega arith; rungs = subst P (sym none) tt },
+          subst U (sym z) (ap is_published t.root),
+          subst W (sym z) (record { depth_is = sym (ap length t.empty); short = omega arith; small = omega arith; fitted = rw t.empty refl; even = refl }),
+          omega arith,
+        ),
+        record { counted = omega arith; way = subst Q (sym none) (omega (arith, b)); swept = subst R (sym (take_none places)) (sweep_none s.start s.end s.size 0 (m ∷ states) (omega arith)) },
+        tt,
+        record { start_is = refl; end_is = refl; size_is = refl },
+      )
+
+  -- a node is left, with its keys settled
+  left_out : (s : Sweep C V) (x : Region) → WayKnown number a h s → Under s (m ∷ states) places x (end_of x) → Out s (left s)
+  left_out s x k u = elim (path_last s.above k.fits) [
+    | inl e ↦ (
+        let Q : List (Rung C) → Type 0 = λ xs. IsWay s.start s.end (m ∷ states) xs x in
+        let ends : s.end ≤ end_of x = subst Q e.1 u.way in
+        out_as s (over s (told.Done s.count)) (left s) (ap (left_to s) e.0) (tt, tt, (u.counted, sweep_ends s.start s.end s.size (end_of x) (m ∷ states) (take s.count places) ends u.swept, refl), record { start_is = refl; end_is = refl; size_is = refl })
+        )
+    | inr e ↦ (
+        let r : Rung C = e.0 in
+        let Q : List (Rung C) → Type 0 = λ xs. IsWay s.start s.end (m ∷ states) xs x in
+        let P : List (Rung C) → Type 0 = λ xs. RungsKnown number a h s.end 0 xs in
+        let way = way_shorter s.start s.end (m ∷ states) (rungs_of (popped s.above)) r x (subst Q e.2 u.way) in
+        let rungs = rungs_shorter number a h s.end 0 (rungs_of (popped s.above)) r (subst P e.2 k.rungs) in
+        let counts = path_count (popped s.above) (let f = k.fits in omega (arith, f)) in
+        let count : 0 + length (rungs_of (popped s.above)) ≡ s.above.len - 1 = omega (arith, counts) in
+        out_as s (goes s (popped s.above) (stage.Look r)) (left s) (ap (left_to s) e.1) (
+          (
+            record { range = k.range; bound = k.bound; room = k.room; fits = (let f = k.fits in omega (arith, f)); rungs = rungs.0 },
+            subst (λ n. RungKnown number a h s.end n r) count rungs.1,
+          ),
+          record {
+            under = record {
+              counted = u.counted;
+              way = way.0;
+              swept = sweep_on s.start s.end s.size (end_of x) (start_of r) (m ∷ states) (take s.count places) way.1.inside way.1.lacked u.swept;
+            };
+            aim = (let g = way.1.aim in omega (arith, g));
+          },
+          tt,
+          record { start_is = refl; end_is = refl; size_is = refl },
+        )
+        )
+  ]
+
+  -- a node's version is taken
+  entered_out : (s : Sweep C V) (n : C) (x : Region) → SweepKnownAt number always a h s (stage.Enter n x) → Under s (m ∷ states) places x x.base → Out s (entered root s n x (version_of (h (number n))))
+  entered_out s n x k u = on_test (is_free (h (number n)))
+      (λ free. out_as s (entered root s n x (Some (h (number n)).version)) (entered root s n x (version_of (h (number n)))) (ap (entered root s n x) (pick_true (is_free (h (number n))) (Some (h (number n)).version) None free))
+      (on_test (is_outside s.start s.end x)
+      (λ out. out_as s (left s) (entered root s n x (Some (h (number n)).version)) (pick_true (is_outside s.start s.end x) (left s) (seen (h (number n)).version) out)
+      (left_out s x k.0 (under_on s x x.base (end_of x) (omega arith) (λ q lo hi at un. absurd (outside x s.start s.end q k.2.short out lo hi at un)) u)))
+      (λ ins. out_as s (seen (h (number n)).version) (entered root s n x (Some (h (number n)).version)) (pick_false (is_outside s.start s.end x) (left s) (seen (h (number n)).version) ins) (
+        (
+          way_at s _ k.0,
+          record {
+            seated = record { published = k.1; up = omega arith };
+            region = k.2;
+            deep = k.3;
+            within = inside_end x s.start s.end ins;
+            bound = (let f = first_small x s.start in omega (arith, f));
+          },
+        ),
+        record {
+          under = under_at s _ x _ (under_on s x x.base (start_at x.base x.depth (first_byte s.start x)) (omega arith) (λ q lo hi at un. absurd (first_before x s.start s.end q ins lo at un)) u);
+          aim = first_aims x s.start s.end ins;
+        },
+        tt,
+        record { start_is = refl; end_is = refl; size_is = refl },
+      ))))
+      (λ held. out_as s (anew root s) (entered root s n x (version_of (h (number n)))) (ap (entered root s n x) (pick_false (is_free (h (number n))) (Some (h (number n)).version) None held))
+      (anew_out s k.0.range k.0.bound (let r = k.0.room in omega (arith, r))))
+    where
+      seen : ℕ → Swung C V
+      seen v = goes s s.above (stage.Look (record { at = record { node = n; version = v }; region = x; from = first_byte s.start x }))
+
+  -- the check after a read succeeded
+  followed_out : (s : Sweep C V) (r : Rung C) (found : Least C V) (u : Swung C V) → WayKnown number a h s → RungKnown number a h s.end s.above.len r → IsAny always found
+      → (a (number r.at.node)).status ≡ Linked → LeastTruly number (h (number r.at.node)) r.from (last_byte s.end r.region) found → Aimed s (m ∷ states) places r → IsFollowed number h s r found u → Out s u
+  followed_out s r least.Nothing u k q any l truly tr e = out_as s (left s) u e (left_out s r.region k (
+      let all = all_bytes (h (number r.at.node)).prefix r.region.base r.region.depth q.region in
+      let up = start_mono (h (number r.at.node)).prefix r.region.base r.region.depth q.region r.from 256 q.bound in
+      let low : r.region.base ≤ start_of r = omega arith in
+      under_on s r.region (start_of r) (end_of r.region) (omega (arith, up, all)) (λ y lo hi at un.
+      lacks_rest a h t m st states (number r.at.node) r.region.base r.region.depth l q.region r.region refl refl r.from s.end y (let b = k.bound in omega (arith, hi, b)) (omega (arith, low, at)) un hi at truly) tr.under))
+  followed_out s r (least.Node byte c) u k q small l truly tr e =
+      let x : Region = e.0 in
+      let n : ℕ = number r.at.node in
+      let base : ℕ = r.region.base in
+      let depth : ℕ = r.region.depth in
+      let deeper = child_deeper a h t n base depth l q.region byte (number c) x truly.here e.1 in
+      let after = child_after a h t n base depth l q.region byte (number c) x truly.here e.1 in
+      let before = child_before a h t n base depth l q.region byte (number c) x truly.here e.1 in
+      let all = all_bytes (h n).prefix base depth q.region in
+      let up = start_mono (h n).prefix base depth q.region (byte + 1) 256 (omega (arith, small)) in
+      let past = start_mono (h n).prefix base depth q.region r.from byte truly.past in
+      let pos = span_pos (depth + 1) in
+      let more : (byte + 1) * span (depth + 1) ≡ byte * span (depth + 1) + span (depth + 1) = omega arith in
+      let low : base ≤ start_of r = omega arith in
+      let un = tr.under in
+      let aim = tr.aim in
+      let posx = span_pos x.depth in
+      let counts = path_count s.above k.fits in
+      let count : 0 + length (rungs_of s.above) ≡ s.above.len = omega (arith, counts) in
+      let path : rungs_of (pushed s.above (moved r byte)) ≡ rungs_of s.above ++ moved r byte ∷ [] = path_pushed s.above (moved r byte) (let d = q.deep in let sh = q.region.short in omega (arith, d, sh)) in
+      let P : List (Rung C) → Type 0 = λ xs. RungsKnown number a h s.end 0 xs in
+      let Q : List (Rung C) → Type 0 = λ xs. IsWay s.start s.end (m ∷ states) xs x in
+      let gap : Gap s.start s.end (m ∷ states) (moved r byte) x = record {
+        inside = before;
+        aim = omega (arith, aim, past, more);
+        lacked = λ y lo hi at to. lacks_beside a h t m st states n base depth l q.region byte (number c) x small truly.here e.1 y (let b = k.bound in omega (arith, hi, b)) (omega (arith, after, at, posx)) to (inr at);
+      } in
+      out_as s (goes s (pushed s.above (moved r byte)) (stage.Enter c x)) u e.2 (
+        (
+          record {
+            range = k.range;
+            bound = k.bound;
+            room = k.room;
+            fits = (let d = q.deep in let sh = q.region.short in omega (arith, d, sh));
+            rungs = subst P (sym path) (rungs_longer number a h s.end 0 (rungs_of s.above) (moved r byte) k.rungs (subst (λ i. RungKnown number a h s.end i (moved r byte)) (sym count) (record {
+              seated = q.seated;
+              region = q.region;
+              deep = q.deep;
+              within = q.within;
+              bound = omega (arith, small);
+            })));
+          },
+          ap is_published (t.down n byte (number c) l truly.here).linked,
+          e.1,
+          (let d = q.deep in omega (arith, d, deeper)),
+        ),
+        record {
+          counted = un.counted;
+          way = subst Q (sym path) (way_longer s.start s.end (m ∷ states) (rungs_of s.above) (moved r byte) x un.way gap);
+          swept = sweep_on s.start s.end s.size (start_of r) x.base (m ∷ states) (take s.count places) (omega (arith, past, after)) (λ y lo hi at to.
+              let b : y < 2 ^ 64 = (let g = k.bound in omega (arith, hi, g)) in
+              elim (cases_lt y (start_at base depth byte)) [
+                | inl lt ↦ lacks_bytes a h t m st states n base depth l q.region r.from byte y b (omega (arith, low, at)) (omega (arith, to, before, up, all)) at lt truly.before
+                | inr ge ↦ lacks_beside a h t m st states n base depth l q.region byte (number c) x small truly.here e.1 y b ge (omega (arith, to, before, posx)) (inl to)
+              ]) un.swept;
+        },
+        tt,
+        record { start_is = refl; end_is = refl; size_is = refl },
+      )
+  followed_out s r (least.Value byte v) u k q small l truly tr e =
+      let n : ℕ = number r.at.node in
+      let base : ℕ = r.region.base in
+      let depth : ℕ = r.region.depth in
+      let val = has_value a h t m st states n base depth l q.region byte v small truly.here in
+      let one : span (depth + 1) ≡ 1 = ap (λ d. span (d + 1)) val.0 in
+      let here : start_at base depth byte ≡ base + byte = ap (λ y. base + byte * y) one ∙ omega arith in
+      let next : start_of (moved r byte) ≡ base + byte + 1 = ap (λ y. base + (byte + 1) * y) one ∙ omega arith in
+      let from : start_of r ≡ base + r.from = ap (λ y. base + r.from * y) one ∙ omega arith in
+      let last : start_at base depth (last_byte s.end r.region) ≡ base + last_byte s.end r.region = ap (λ y. base + last_byte s.end r.region * y) one ∙ omega arith in
+      let lw = last_within r.region s.end q.within in
+      let past = truly.past in
+      let within = truly.within in
+      let aim = tr.aim in
+      let un = tr.under in
+      let key : ℕ = base + byte in
+      let lo : s.start ≤ base + byte = omega (arith, aim, one, from, past) in
+      let hi : base + byte < s.end = omega (arith, lw, last, within) in
+      let room : length (take s.count places) < s.size = (let c = length-take-le s.count places un.counted in let r = k.room in omega (arith, c, r)) in
+      let all = all_bytes (h n).prefix base depth q.region in
+      let up = start_mono (h n).prefix base depth q.region (byte + 1) 256 (omega (arith, small)) in
+      let low : base ≤ start_of r = omega arith in
+      let swept : Swept s.start s.end s.size (base + byte + 1) (m ∷ states) (take s.count places ++ (base + byte, v) ∷ []) = sweep_found s.start s.end s.size (start_of r) (base + byte) v (m ∷ states) (take s.count places) lo hi (omega (arith, from, past)) room (inl val.2)
+      (λ y l1 h1 at to. lacks_bytes a h t m st states n base depth l q.region r.from byte y (let g = k.bound in omega (arith, h1, g)) (omega (arith, low, at)) (omega (arith, to, up, all, next)) at (omega (arith, to, here)) truly.before) un.swept in
+      let put = written_counts places s.count (base + byte, v) un.counted in
+      let S : List (ℕ × V) → Type 0 = λ xs. Swept s.start s.end s.size (base + byte + 1) (m ∷ states) xs in
+      let suc_is : suc s.count ≡ s.count + 1 = omega arith in
+      let T : ℕ → Type 0 = λ i. Swept s.start s.end s.size (base + byte + 1) (m ∷ states) (take i (written places s.count (base + byte, v))) in
+      let all_swept : Swept s.start s.end s.size (base + byte + 1) (m ∷ states) (take (s.count + 1) (written places s.count (base + byte, v))) = subst T suc_is (subst S (sym put.0) swept) in
+      let counted : s.count + 1 ≤ length (written places s.count (base + byte, v)) = (let p = put.1 in omega (arith, p)) in
+      out_as s (filled s r byte v) u e (on_test (s.count + 1 == s.size)
+      (λ full. out_as s (sweep_at s (s.count + 1) s.above stage.Full, told.Found s.count (base + byte) v) (filled s r byte v)
+      (ap (λ x. (sweep_at s (s.count + 1) s.above x, told.Found s.count (base + byte) v)) (pick_true (s.count + 1 == s.size) stage.Full (stage.Look (moved r byte)) full))
+      (tt, record { counted = counted; all = equal (s.count + 1) s.size full; upto = base + byte + 1; swept = all_swept }, un.counted, record { start_is = refl; end_is = refl; size_is = refl }))
+      (λ free. out_as s (sweep_at s (s.count + 1) s.above (stage.Look (moved r byte)), told.Found s.count (base + byte) v) (filled s r byte v)
+      (ap (λ x. (sweep_at s (s.count + 1) s.above x, told.Found s.count (base + byte) v)) (pick_false (s.count + 1 == s.size) stage.Full (stage.Look (moved r byte)) free)) (
+        (
+          record {
+            range = k.range;
+            bound = k.bound;
+            room = (let ne : s.count + 1 ≢ s.size = differ (s.count + 1) s.size free in let r = k.room in let d = cases_lt (s.count + 1) s.size in elim d [ inl x ↦ x | inr x ↦ absurd (ne (omega (arith, x, r))) ]);
+            fits = k.fits;
+            rungs = k.rungs;
+          },
+          record { seated = q.seated; region = q.region; deep = q.deep; within = q.within; bound = omega (arith, small) },
+        ),
+        record {
+          under = record {
+            counted = counted;
+            way = un.way;
+            swept = subst (λ i. Swept s.start s.end s.size i (m ∷ states) (take (s.count + 1) (written places s.count (base + byte, v)))) (sym next) all_swept;
+          };
+          aim = omega (arith, lo, next);
+        },
+        un.counted,
+        record { start_is = refl; end_is = refl; size_is = refl },
+      )))
+  followed_out s r least.Uncopied u k q any l truly tr e = out_as s (over s (told.Refused refusal.Count)) u e (tt, tt, refl, record { start_is = refl; end_is = refl; size_is = refl })
+
+  -- a call on an empty range, or without a place
+  nothing_out : (s : Sweep C V) → (s.end ≤ s.start) ⊎ (s.size ≡ 0) → Out s (over s (told.Done 0))
+  nothing_out s none =
+      let R : List (ℕ × V) → Type 0 = λ xs. IsScan s.start s.end s.size (m ∷ states) xs in (
+        tt,
+        tt,
+        (
+          omega arith,
+          subst R (sym (take_none places)) (record {
+            rises = tt;
+            few = omega arith;
+            within = tt;
+            stood = tt;
+            complete = λ k lo hi th. elim none [ inl e ↦ absurd (omega (arith, lo, hi, e)) | inr e ↦ inr (sym e, tt) ];
+          }),
+          refl,
+        ),
+        record { start_is = refl; end_is = refl; size_is = refl },
+      )
+
+  -- every step
+  pub stepped_out : (s : Sweep C V) (x : Stage C V) (u : Swung C V) → SweepKnownAt number always a h s x → TracksAt s states places x → SweptAt number always root s x h u → Out s u
+  stepped_out s stage.New u k tr e = out_as s (begins root s) u e (elim (cases_lt s.start s.end) [
+    | inr ge ↦ out_as s (over s (told.Done 0)) (begins root s) (low_no s.start s.end (cond (s.size == 0) (over s (told.Done 0)) (anew root s)) (over s (told.Done 0)) ge) (nothing_out s (inl ge))
+    | inl lt ↦ out_as s (cond (s.size == 0) (over s (told.Done 0)) (anew root s)) (begins root s) (low_yes s.start s.end (cond (s.size == 0) (over s (told.Done 0)) (anew root s)) (over s (told.Done 0)) lt) (on_test (s.size == 0)
+        (λ y. out_as s (over s (told.Done 0)) (cond (s.size == 0) (over s (told.Done 0)) (anew root s)) (pick_true (s.size == 0) (over s (told.Done 0)) (anew root s) y) (nothing_out s (inr (equal s.size 0 y))))
+        (λ n. out_as s (anew root s) (cond (s.size == 0) (over s (told.Done 0)) (anew root s)) (pick_false (s.size == 0) (over s (told.Done 0)) (anew root s) n)
+        (anew_out s lt k (let ne : s.size ≢ 0 = differ s.size 0 n in elim (cases_lt 0 s.size) [ inl l ↦ l | inr l ↦ absurd (ne (omega (arith, l))) ]))))
+  ])
+  stepped_out s (stage.Enter n x) u k tr e = out_as s (entered root s n x (version_of (h (number n)))) u e (entered_out s n x k (under_later s x x.base tr))
+  stepped_out s (stage.Look r) u k tr e = out_as s (goes s s.above (stage.Check r e.0)) u e.2 ((way_at s _ k.0, k.1, e.1.0, record { seated = k.1.seated; holds = e.1.1 }), aimed_at s _ r (aimed_later s r tr), tt, record { start_is = refl; end_is = refl; size_is = refl })
+  stepped_out s (stage.Check r found) u k tr e = on_test (is_taken (h (number r.at.node)) r.at.version)
+      (λ y. followed_out s r found u k.0 k.1 k.2 (taken_linked a h w (number r.at.node) r.at.version k.1.seated.published y) (k.3.holds y) (aimed_later s r tr) (e.goes_on y))
+      (λ n. out_as s (anew root s) u (e.goes_back n) (anew_out s k.0.range k.0.bound (let r = k.0.room in omega (arith, r))))
+  stepped_out s stage.Full u k tr e = out_as s (over s (told.Done s.count)) u e (tt, tt, (tr.counted, sweep_full s.start s.end s.size tr.upto (m ∷ states) (take s.count places) (length-take-le s.count places tr.counted ∙ tr.all) (sweep_later s.start s.end s.size tr.upto m states (take s.count places) tr.swept), refl), record { start_is = refl; end_is = refl; size_is = refl })
+  stepped_out s stage.Over u k tr e = out_as s (over s told.Running) u e (tt, tt, tt, record { start_is = refl; end_is = refl; size_is = refl })

@@ -1,0 +1,45 @@
+-- What a scan knows is what its next step wants.
+use Rattle.std.proofs.Common.{◌≡◌, ℕ, Bool, ap, ◌∙◌, arith}
+use Rattle.congee.specs.declared.protocol.store.Least.{Least}
+use Rattle.congee.specs.declared.protocol.store.Least.TheVariants as least
+use Rattle.congee.specs.declared.protocol.sweep.Rung.{Rung}
+use Rattle.congee.specs.declared.protocol.sweep.Stage.{Stage}
+use Rattle.congee.specs.declared.protocol.sweep.Stage.TheVariants as stage
+use Rattle.congee.specs.declared.protocol.sweep.Sweep.{Sweep}
+use Rattle.congee.specs.Heap.{Node}
+use Rattle.congee.specs.Ledger.{Note, Linked, is_published, Tree, LockWords}
+use Rattle.congee.specs.protocol.Regions.{span}
+use Rattle.congee.specs.protocol.SweepEvents.{LeastTruly, IsAny}
+use Rattle.congee.specs.protocol.SweepSteps.{last_byte, MayFollow, MaySweepAt, MaySweep}
+use Rattle.congee.specs.protocol.SweepKnown.{RungKnown, SweepKnownAt, SweepKnown}
+use Rattle.congee.proofs.lemmas.protocol.Touch.{taken_linked}
+use Rattle.congee.proofs.lemmas.protocol.SweepBytes.{region_top}
+
+module _ {C V : Type 0} (number : C → ℕ) (always : Bool) (a : ℕ → Note) (h : ℕ → Node V) (t : Tree a h) (w : LockWords a h) where
+  may_follow : (s : Sweep C V) (r : Rung C) (x : Least C V) → RungKnown number a h s.end s.above.len r → IsAny always x → (a (number r.at.node)).status ≡ Linked
+      → LeastTruly number (h (number r.at.node)) r.from (last_byte s.end r.region) x → MayFollow number h r x
+  may_follow s r least.Nothing k any l e = tt
+  may_follow s r (least.Node byte c) k any l e = ((w.each (number c)).stands (ap is_published (t.down (number r.at.node) byte (number c) l e.here).linked), any)
+  may_follow s r (least.Value byte v) k any l e =
+      let q = k.region in
+      let seven : r.region.depth ≡ 7 = q.depth_is ∙ t.leaves (number r.at.node) byte v l e.here in
+      let all : span r.region.depth ≡ 256 = ap span seven in
+      let top = region_top (h (number r.at.node)).prefix r.region.base r.region.depth q in
+      (omega (arith, top, all, any), any)
+  may_follow s r least.Uncopied k any l e = tt
+
+  wants_at : (s : Sweep C V) (x : Stage C V) → SweepKnownAt number always a h s x → MaySweepAt number s x h
+  wants_at s stage.New k = tt
+  wants_at s (stage.Enter n x) k = ((w.each (number n)).stands k.1, k.2.short, k.0.fits)
+  wants_at s (stage.Look r) k = ((w.each (number r.at.node)).stands k.1.seated.published, k.1.region.short, k.1.within)
+  wants_at s (stage.Check r x) k = (
+    (w.each (number r.at.node)).stands k.1.seated.published,
+    (let d = k.1.deep in let q = k.1.region.short in omega (arith, d, q)),
+    k.0.room,
+    (λ y. may_follow s r x k.1 k.2 (taken_linked a h w (number r.at.node) r.at.version k.1.seated.published y) (k.3.holds y)),
+  )
+  wants_at s stage.Full k = tt
+  wants_at s stage.Over k = tt
+
+  pub sweep_wants : (s : Sweep C V) → SweepKnown number always a h s → MaySweep number s h
+  sweep_wants s k = wants_at s s.stage k

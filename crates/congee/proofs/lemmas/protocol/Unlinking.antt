@@ -1,0 +1,352 @@
+-- What a step takes out of the tree: nothing, or the node that its call then hands over.
+use Rattle.std.proofs.Common.{◌≡◌, ℕ, zero, suc, ◌<◌, ◌⊎◌, inl, inr, Bool, true, false, List, [], ◌∷◌, ◌++◌, length, refl, sym, ◌∙◌, ap, subst, arith}
+use Rattle.std.proofs.Math.ListN.{set}
+use Rattle.std.specs.Prelude.{Option, None, Some, slice_get}
+use Rattle.congee.specs.declared.forms.base_node.NodeType.{NodeType}
+use Rattle.congee.specs.declared.protocol.store.Refusal.{Refusal}
+use Rattle.congee.specs.declared.protocol.phase.Kind.{Kind}
+use Rattle.congee.specs.declared.protocol.phase.Phase.{Phase}
+use Rattle.congee.specs.declared.protocol.phase.Phase.TheVariants.{ChangeOne, UpgradeBoth, ChangeTwo, Obsolete, Retire, UnlockBelow, Unlock, Unwind}
+use Rattle.congee.specs.declared.protocol.turn.Turn.{Turn}
+use Rattle.congee.specs.declared.protocol.machine.Machine.{Machine}
+use Rattle.congee.specs.declared.protocol.run.Step.{Step}
+use Rattle.congee.specs.Heap.{Node, Below, Stands}
+use Rattle.congee.specs.protocol.Steps.{PhaseStepped}
+use Rattle.congee.specs.Keys.{key_bytes}
+use Rattle.congee.specs.Ledger.{Note, Status, Unmade, Held, Linked, Gone, Back, Destroyed, is_published, is_spent, IsChild, HasParent, Tree, LockWords}
+use Rattle.congee.specs.protocol.Protocol.{Fares, TakenOut, Known}
+use Rattle.congee.specs.protocol.Holdings.{LockedBy, MadeBy, TakenBy, Holdings}
+use Rattle.congee.specs.protocol.Handing.{is_waiting, Leads, InTree, HandsAt, IsLeaving, Leaving, TakesAt, Leaves, Due, Accounted, Unlinking, StepHands, StepTakes}
+use Rattle.congee.proofs.lemmas.Tree.{same_or_not}
+use Rattle.congee.proofs.lemmas.protocol.Owners.{get_set, set_here, set_apart, gone_taken, taken_on}
+use Rattle.congee.proofs.lemmas.protocol.Handing.{leads_linked, unlinked_out, giving, giving_here, giving_apart, none_if}
+
+-- a path leads to each node of the tree
+leads_more : {V : Type 0} (h : ℕ → Node V) (path : List ℕ) (m p b n : ℕ) → Leads h m path p → (h p).children b ≡ Below n → Leads h m (path ++ b ∷ []) n
+leads_more h [] m p b n e c = (n, (let P : ℕ → Type 0 = λ x. (h x).children b ≡ Below n in subst P (sym e) c), refl)
+leads_more h (x ∷ path) m p b n e c = (e.0, e.1, leads_more h path e.0 p b n e.2 c)
+
+reached : {V : Type 0} (a : ℕ → Note) (h : ℕ → Node V) → Tree a h → (f n : ℕ) → length (h n).prefix < f → (a n).status ≡ Linked → InTree h n
+reached a h t zero n lt l = absurd (omega (arith, lt))
+reached a h t (suc f) n lt l = elim (same_or_not n 0) [
+  | inl q ↦ ([], sym q)
+  | inr ne ↦ (let u : HasParent a h n = t.up n l ne in
+      let c : IsChild a h (a n).parent u.byte n = t.down (a n).parent u.byte n u.linked u.holds in
+      let r : InTree h (a n).parent = reached a h t f (a n).parent (omega (arith, lt, c.longer)) u.linked in
+      (r.0 ++ u.byte ∷ [], leads_more h r.0 0 (a n).parent u.byte n r.1 u.holds))
+]
+
+pub linked_in : {V : Type 0} (a : ℕ → Note) (h : ℕ → Node V) (n : ℕ) → Tree a h → (a n).status ≡ Linked → InTree h n
+linked_in a h n t l = reached a h t (suc (length (h n).prefix)) n (omega arith) l
+
+in_linked : {V : Type 0} (a : ℕ → Note) (h : ℕ → Node V) (n : ℕ) → Tree a h → InTree h n → (a n).status ≡ Linked
+in_linked a h n t x = leads_linked a h t x.0 0 n t.root x.1
+
+-- what a call has taken out
+one_taken : {C V : Type 0} (number : C → ℕ) (s : Phase C V) → ((n : ℕ) × TakenBy number s n × ((c : ℕ) → TakenBy number s c → c ≡ n)) ⊎ ((c : ℕ) → TakenBy number s c → ⊥)
+one_taken number (Obsolete m p r) = inl (number m, refl, (λ c q. q))
+one_taken number (Retire m p r) = inl (number m, refl, (λ c q. q))
+one_taken number _ = inr (λ c q. q)
+
+taken_once : {C V : Type 0} (number : C → ℕ) (s : Phase C V) (n c : ℕ) → TakenBy number s n → TakenBy number s c → c ≡ n
+taken_once number s n c x y = elim (one_taken number s) [
+  | inl z ↦ z.2 c y ∙ sym (z.2 n x)
+  | inr z ↦ absurd (z n x)
+]
+
+taken_locked : {C V : Type 0} (number : C → ℕ) (s : Phase C V) (n : ℕ) → TakenBy number s n → LockedBy number s n
+taken_locked number (Obsolete m p r) n x = inr x
+taken_locked number (Retire m p r) n x = inr x
+taken_locked number _ n x = absurd x
+
+not_leaving : {C V : Type 0} (number : C → ℕ) (s : Phase C V) (n : ℕ) → TakenBy number s n → IsLeaving s → ⊥
+not_leaving number (Obsolete m p r) n x l = l
+not_leaving number (Retire m p r) n x l = l
+not_leaving number _ n x l = x
+
+module _ {C V : Type 0} (number : C → ℕ) (same : V → V → Bool) (always : Bool) (i : ℕ) (a : ℕ → Note) (h : ℕ → Node V) (k : ℕ) (kind : Kind V) (given : Option V) where
+  out_at : (p m n : ℕ) → n ≡ m → TakenOut i a h p m → ((a n).status ≡ Gone) × ((a n).owner ≡ Some i) × ((h n).retired ≡ false)
+  out_at p m n q x = let P : ℕ → Type 0 = λ y. ((a y).status ≡ Gone) × ((a y).owner ≡ Some i) × ((h y).retired ≡ false) in subst P (sym q) (x.gone, x.owner, x.unretired)
+
+  taken_gone : (s : Phase C V) (n : ℕ) → Known number same always i a h k (key_bytes k) kind given s → TakenBy number s n → ((a n).status ≡ Gone) × ((a n).owner ≡ Some i) × ((h n).retired ≡ false)
+  taken_gone (Obsolete m p r) n x y = out_at (number p) (number m) n y x
+  taken_gone (Retire m p r) n x y = out_at (number p) (number m) n y x.0
+  taken_gone _ n x y = absurd y
+
+  linked_at : (m n : ℕ) → n ≡ m → (a m).status ≡ Linked → (a n).status ≡ Linked
+  linked_at m n q x = let P : ℕ → Type 0 = λ y. (a y).status ≡ Linked in subst P (sym q) x
+
+  -- a locked node is in the tree, or the one that was taken out
+  locked_linked : Tree a h → (s : Phase C V) (n : ℕ) → Known number same always i a h k (key_bytes k) kind given s → LockedBy number s n → ((a n).status ≡ Linked) ⊎ TakenBy number s n
+  locked_linked t (ChangeOne one r) n x l = inl (linked_at (number one.at.node) n l x.1.holding.linked)
+  locked_linked t (UpgradeBoth two r) n x l = inl (linked_at (number two.above.seat.node) n l x.1.2.above.holding.linked)
+  locked_linked t (ChangeTwo two r) n x (inl l) = inl (linked_at (number two.above.seat.node) n l x.2.above.holding.linked)
+  locked_linked t (ChangeTwo two r) n x (inr l) = inl (linked_at (number two.at.node) n l (t.down (number two.above.seat.node) _ (number two.at.node) x.2.above.holding.linked x.2.above.child).linked)
+  locked_linked t (Obsolete m p r) n x (inl l) = inl (linked_at (number p) n l x.above.linked)
+  locked_linked t (Obsolete m p r) n x (inr l) = inr l
+  locked_linked t (Retire m p r) n x (inl l) = inl (linked_at (number p) n l x.0.above.linked)
+  locked_linked t (Retire m p r) n x (inr l) = inr l
+  locked_linked t (UnlockBelow m p r) n x (inl l) = inl (linked_at (number p) n l x.1.linked)
+  locked_linked t (UnlockBelow m p r) n x (inr l) = inl (linked_at (number m) n l x.0.linked)
+  locked_linked t (Unlock m r) n x l = inl (linked_at (number m) n l x.linked)
+  locked_linked t (Unwind m e) n x l = inl (linked_at (number m) n l x.1.linked)
+  locked_linked t _ n x l = absurd l
+
+-- a node of the tree stays in it, or leaves it under the lock of the call
+linked_after : {V : Type 0} (i : ℕ) (x y : Note) (p q : Node V) → Fares i x y p q → x.status ≡ Linked → is_published y.status ≡ true → (s : Status) → y.status ≡ s → (y.status ≡ Linked) ⊎ ((y.status ≡ Gone) × (y.owner ≡ Some i))
+linked_after i x y p q f l u Linked e = inl e
+linked_after i x y p q f l u Gone e = elim (f.gone e) [
+  | inl o ↦ inr (e, o)
+  | inr o ↦ absurd (let z : Linked ≡ Gone = sym l ∙ o.0 in cc)
+]
+linked_after i x y p q f l u Unmade e = let z : true ≡ false = sym u ∙ ap is_published e in absurd cc
+linked_after i x y p q f l u (Held j) e = let z : true ≡ false = sym u ∙ ap is_published e in absurd cc
+linked_after i x y p q f l u Back e = let z : true ≡ false = sym u ∙ ap is_published e in absurd cc
+linked_after i x y p q f l u Destroyed e = let z : true ≡ false = sym u ∙ ap is_published e in absurd cc
+
+module _ {C V : Type 0} (number : C → ℕ) (same : V → V → Bool) (always : Bool) (most : ℕ) (why : NodeType → Refusal → Type 0) (i : ℕ) (a : ℕ → Note) (h : ℕ → Node V) (a' : ℕ → Note) (h' : ℕ → Node V) (ms : List (Machine C V)) (m m' : Machine C V)
+    (e : slice_get ms i ≡ Some m) (w : LockWords a h) (t : Tree a h) (t' : Tree a' h') (f : (n : ℕ) → Fares i (a n) (a' n) (h n) (h' n))
+    (pub_kept : (n : ℕ) → is_published (a n).status ≡ true → is_published (a' n).status ≡ true) (w' : LockWords a' h')
+    (own_was : (n : ℕ) → (a n).owner ≡ Some i → LockedBy number m.phase n) (own_is : (n : ℕ) → (a' n).owner ≡ Some i → LockedBy number m'.phase n)
+    (x : Known number same always i a h m.key (key_bytes m.key) m.kind m.given m.phase) (x' : Known number same always i a' h' m.key (key_bytes m.key) m.kind m'.given m'.phase)
+    (root : C) (fail : Bool) (answer : Option (Option V)) (d : Turn C V) (dm : d.phase ≡ m'.phase)
+    (g : PhaseStepped number same always most why root (key_bytes m.key) m.kind fail answer m.given m.phase h m'.given d h')
+    (leaves : IsLeaving m.phase → IsLeaving m'.phase) (hands : StepHands number h ms i h' (set ms i m')) where
+  -- what the call has taken out after the step was taken out before, or in the tree
+  taken_from : (n : ℕ) → TakenBy number m'.phase n → TakenBy number m.phase n ⊎ ((a n).status ≡ Linked)
+  taken_from n y =
+      let z : ((a' n).status ≡ Gone) × ((a' n).owner ≡ Some i) × ((h' n).retired ≡ false) = taken_gone number same always i a' h' m.key m.kind m'.given m'.phase n x' y in
+      elim ((f n).owner i z.1) [
+        | inl o ↦ elim (locked_linked number same always i a h m.key m.kind m.given t m.phase n x (own_was n o)) [
+          | inl l ↦ inr l
+          | inr q ↦ inl q
+        ]
+        | inr o ↦ absurd (let v : Linked ≡ Gone = sym o.2 ∙ z.0 in cc)
+      ]
+
+  -- it stays in its hands until it is handed over
+  taken_to : (n : ℕ) → TakenBy number m.phase n → ((h' n).retired ≡ true) ⊎ TakenBy number m'.phase n
+  taken_to n y = elim (taken_on number same always i a h m.key m.kind m.given n most why root fail answer m.phase m'.given d h' g y) [
+    | inl r ↦ inl r
+    | inr r ↦ inr (let P : Phase C V → Type 0 = λ z. TakenBy number z n in subst P dm r)
+  ]
+
+  -- the nodes of the tree stay in it, but for one that the call takes out
+  stays : (n : ℕ) → InTree h n → InTree h' n ⊎ (TakenBy number m'.phase n × ((a n).status ≡ Linked))
+  stays n y =
+      let l : (a n).status ≡ Linked = in_linked a h n t y in
+      elim (linked_after i (a n) (a' n) (h n) (h' n) (f n) l (pub_kept n (ap is_published l)) (a' n).status refl) [
+        | inl z ↦ inl (linked_in a' h' n t' z)
+        | inr z ↦ inr (gone_taken number same always i a' h' m.key m.kind m'.given n t' m'.phase x' (own_is n z.1) z.0, l)
+      ]
+
+  not_gone : (n : ℕ) → TakenBy number m.phase n → (a n).status ≡ Linked → ⊥
+  not_gone n y l = let z : Linked ≡ Gone = sym l ∙ (taken_gone number same always i a h m.key m.kind m.given m.phase n x y).0 in cc
+
+  at_place : (k : Machine C V) → slice_get ms i ≡ Some k → k ≡ m
+  at_place k q = let z : Some k ≡ Some m = sym q ∙ e in cc
+
+  mine_at : (j n : ℕ) → j ≡ i → (k : Machine C V) → slice_get ms j ≡ Some k → TakenBy number k.phase n → TakenBy number m.phase n
+  mine_at j n q k s y =
+      let P : ℕ → Type 0 = λ z. slice_get ms z ≡ Some k in
+      let Q : Machine C V → Type 0 = λ z. TakenBy number z.phase n in subst Q (at_place k (subst P q s)) y
+
+  abbrev Has : ℕ → ℕ → Type 0
+  Has j n = (k : Machine C V) × (slice_get (set ms i m') j ≡ Some k) × TakenBy number k.phase n
+
+  has_here : (j n : ℕ) → j ≡ i → TakenBy number m'.phase n → Has j n
+  has_here j n q y = let P : ℕ → Type 0 = λ z. Has z n in subst P (sym q) (m', set_here ms i m' m e, y)
+
+  module _ (by took : ℕ → Option ℕ) (l : Leaving by ms) (u : Due number by took ms) where
+    -- a node that goes out of the call's hands was handed over by it
+    handed_now : (n : ℕ) → TakenBy number m.phase n → (h' n).retired ≡ true → (by' : ℕ → Option ℕ) → HandsAt by h i by' h'
+        → ((j c : ℕ) → by' j ≡ Some c → (by j ≡ Some c) ⊎ ((k : Machine C V) × (slice_get ms j ≡ Some k) × TakenBy number k.phase c)) → by' i ≡ Some n
+    handed_now n y r by' (inl z) from =
+        let o : ((a n).status ≡ Gone) × ((a n).owner ≡ Some i) × ((h n).retired ≡ false) = taken_gone number same always i a h m.key m.kind m.given m.phase n x y in
+        let s : Stands (h' n) = (w'.each n).stands (pub_kept n (ap is_published o.0)) in
+        let b : is_waiting (h' n) ≡ true = rw (r, s.made, s.kept) refl in
+        let c : is_waiting (h n) ≡ false = rw o.2 refl in
+        absurd (let v : true ≡ false = sym b ∙ (z.nodes n ∙ c) in cc)
+    handed_now n y r by' (inr z) from = elim (from i z.0 z.1.now) [
+      | inl q ↦ absurd (let v : None ≡ Some z.0 = sym z.1.first ∙ q in cc)
+      | inr q ↦ (let v : z.0 ≡ n = taken_once number m.phase n z.0 y (mine_at i z.0 refl q.0 q.1 q.2) in
+          let P : ℕ → Type 0 = λ b. by' i ≡ Some b in subst P v z.1.now)
+    ]
+
+    -- what was handed over stays handed over
+    given_on : (by' : ℕ → Option ℕ) → HandsAt by h i by' h' → (j n : ℕ) → by j ≡ Some n → by' j ≡ Some n
+    given_on by' (inl z) j n q = z.calls j ∙ q
+    given_on by' (inr z) j n q = z.1.others j (λ b. let P : ℕ → Type 0 = λ c. by c ≡ Some n in let v : None ≡ Some n = sym z.1.first ∙ subst P b q in cc) ∙ q
+
+    -- a call that took out no node has none in its hands
+    idle_took : ((c : ℕ) → TakenBy number m.phase c → ⊥) → (n : ℕ) → TakenBy number m'.phase n → took i ≡ None
+    idle_took empty n y = none_if (took i) (λ c q. elim (u.due i c q) [
+      | inl b ↦ (let z : (k : Machine C V) × (slice_get ms i ≡ Some k) × IsLeaving k.phase = l i c b in
+          let P : Machine C V → Type 0 = λ v. IsLeaving v.phase in not_leaving number m'.phase n y (leaves (subst P (at_place z.0 z.1) z.2)))
+      | inr b ↦ empty c (mine_at i c refl b.0 b.1 b.2)
+    ])
+
+    -- what is due after the step, of the calls that took what they had taken before
+    due_on : (took' : ℕ → Option ℕ) → ((j n : ℕ) → took j ≡ Some n → took' j ≡ Some n) → ((j n : ℕ) → took' j ≡ Some n → (took j ≡ Some n) ⊎ ((j ≡ i) × TakenBy number m'.phase n)) → ((n : ℕ) → TakenBy number m'.phase n → took' i ≡ Some n)
+        → Due number (hands by l).0 took' (set ms i m')
+    due_on took' on from mine = record {
+      handed = λ j n q. elim ((hands by l).3 j n q) [
+        | inl b ↦ on j n (u.handed j n b)
+        | inr b ↦ on j n (u.held j n b.0 b.1 b.2)
+      ];
+      due = λ j n q. elim (from j n q) [
+        | inl b ↦ due_was j n (u.due j n b)
+        | inr b ↦ inr (has_here j n b.0 b.1)
+      ];
+      held = λ j n k q y. elim (get_set ms i j m' k q) [
+        | inl b ↦ (let P : Machine C V → Type 0 = λ z. TakenBy number z.phase n in
+            let Q : ℕ → Type 0 = λ z. took' z ≡ Some n in subst Q (sym b.0) (mine n (subst P (sym b.1) y)))
+        | inr b ↦ on j n (u.held j n k b.1 y)
+      ];
+    } where
+      due_was : (j n : ℕ) → (by j ≡ Some n) ⊎ ((k : Machine C V) × (slice_get ms j ≡ Some k) × TakenBy number k.phase n) → ((hands by l).0 j ≡ Some n) ⊎ Has j n
+      due_was j n (inl b) = inl (given_on (hands by l).0 (hands by l).1 j n b)
+      due_was j n (inr b) = elim (same_or_not j i) [
+        | inl q ↦ elim (taken_to n (mine_at j n q b.0 b.1 b.2)) [
+          | inl r ↦ inl (let P : ℕ → Type 0 = λ z. (hands by l).0 z ≡ Some n in subst P (sym q) (handed_now n (mine_at j n q b.0 b.1 b.2) r (hands by l).0 (hands by l).1 (hands by l).3))
+          | inr r ↦ inr (has_here j n q r)
+        ]
+        | inr ne ↦ inr (b.0, set_apart ms i j m' b.0 ne b.1, b.2)
+      ]
+
+    takes_nothing : ((n : ℕ) → TakenBy number m'.phase n → TakenBy number m.phase n) → (took' : ℕ → Option ℕ) × TakesAt took h i took' h' × Due number (hands by l).0 took' (set ms i m')
+    takes_nothing old = (
+      took,
+      inl (record {
+        calls = λ j. refl;
+        tree = λ n y. elim (stays n y) [
+          | inl z ↦ z
+          | inr z ↦ absurd (not_gone n (old n z.0) z.1)
+        ];
+      }),
+      due_on took (λ j n q. q) (λ j n q. inl q) (λ n y. u.held i n m e (old n y)),
+    )
+
+    takes_node : (n : ℕ) → TakenBy number m'.phase n → (a n).status ≡ Linked → (took' : ℕ → Option ℕ) × TakesAt took h i took' h' × Due number (hands by l).0 took' (set ms i m')
+    takes_node n y lk = (
+      giving took i n,
+      inr (
+        n,
+        record {
+          first = first;
+          now = giving_here took i n;
+          others = λ j ne. giving_apart took i n j ne;
+          was = linked_in a h n t lk;
+          out = unlinked_out a' h' n t' (λ z. let v : Linked ≡ Gone = sym z ∙ (taken_gone number same always i a' h' m.key m.kind m'.given m'.phase n x' y).0 in cc);
+          tree = λ c ne z. elim (stays c z) [
+            | inl b ↦ b
+            | inr b ↦ absurd (ne (taken_once number m'.phase n c y b.0))
+          ];
+        },
+      ),
+      due_on (giving took i n)
+          (λ j c q. giving_apart took i n j (λ z. let P : ℕ → Type 0 = λ b. took b ≡ Some c in let v : None ≡ Some c = sym first ∙ subst P z q in cc) ∙ q)
+          (λ j c q. elim (same_or_not j i) [
+            | inl z ↦ (let P : ℕ → Type 0 = λ b. giving took i n b ≡ Some c in
+                let v : Some n ≡ Some c = sym (giving_here took i n) ∙ subst P z q in
+                let b : n ≡ c = cc in
+                let Q : ℕ → Type 0 = λ k. TakenBy number m'.phase k in inr (z, subst Q b y))
+            | inr ne ↦ inl (sym (giving_apart took i n j ne) ∙ q)
+          ])
+          (λ c z. let P : ℕ → Type 0 = λ b. giving took i n i ≡ Some b in subst P (sym (taken_once number m'.phase n c y z)) (giving_here took i n)),
+    ) where
+      -- a node in the tree isn't what the call had in its hands
+      first : took i ≡ None
+      first = idle_took (λ c z. elim (taken_to c z) [
+        | inl r ↦ still_there c z r
+        | inr r ↦ (let P : ℕ → Type 0 = λ b. TakenBy number m.phase b in not_gone n (subst P (taken_once number m'.phase n c y r) z) lk)
+      ]) n y where
+        -- it was handed over, and the call is leaving
+        still_there : (c : ℕ) → TakenBy number m.phase c → (h' c).retired ≡ true → ⊥
+        still_there c z r =
+            let b : (hands by l).0 i ≡ Some c = handed_now c z r (hands by l).0 (hands by l).1 (hands by l).3 in
+            let v : (k : Machine C V) × (slice_get (set ms i m') i ≡ Some k) × IsLeaving k.phase = (hands by l).2 i c b in
+            let s : Some v.0 ≡ Some m' = sym v.1 ∙ set_here ms i m' m e in
+            let q : v.0 ≡ m' = cc in
+            let P : Machine C V → Type 0 = λ b. IsLeaving b.phase in not_leaving number m'.phase n y (subst P q v.2)
+
+  -- every step
+  pub step_takes : StepTakes number h ms i h' (set ms i m') hands
+  step_takes by took l u = elim (one_taken number m'.phase) [
+    | inl z ↦ elim (taken_from z.0 z.1) [
+      | inl q ↦ takes_nothing by took l u (λ n y. let P : ℕ → Type 0 = λ b. TakenBy number m.phase b in subst P (sym (z.2 n y)) q)
+      | inr q ↦ takes_node by took l u z.0 z.1 q
+    ]
+    | inr z ↦ takes_nothing by took l u (λ n y. absurd (z n y))
+  ]
+
+-- a call that isn't there takes nothing out
+pub idle_takes : {C V : Type 0} (number : C → ℕ) (h : ℕ → Node V) (ms : List (Machine C V)) (i : ℕ) (hands : StepHands number h ms i h ms)
+    → ((by : ℕ → Option ℕ) (l : Leaving by ms) → (j : ℕ) → (hands by l).0 j ≡ by j) → StepTakes number h ms i h ms hands
+idle_takes number h ms i hands same by took l u = (
+  took,
+  inl (record { calls = λ j. refl; tree = λ n y. y }),
+  record {
+    handed = λ j n q. u.handed j n (sym (same by l j) ∙ q);
+    due = λ j n q. elim (u.due j n q) [
+      | inl b ↦ inl (same by l j ∙ b)
+      | inr b ↦ inr b
+    ];
+    held = u.held;
+  },
+)
+
+-- no node is lost
+accounts : {C V : Type 0} (number : C → ℕ) (a : ℕ → Note) (h : ℕ → Node V) (ms : List (Machine C V)) → Tree a h → Holdings number a h ms → (n : ℕ) → Stands (h n) → (s : Status) → (a n).status ≡ s
+    → (InTree h n ⊎ (is_waiting (h n) ≡ true)) ⊎ ((i : ℕ) × (m : Machine C V) × (slice_get ms i ≡ Some m) × (MadeBy number m.phase n ⊎ TakenBy number m.phase n))
+accounts number a h ms t o n s Linked e = inl (inl (linked_in a h n t e))
+accounts {C} {V} number a h ms t o n s (Held i) e = let x : (m : Machine C V) × (slice_get ms i ≡ Some m) × MadeBy number m.phase n = o.held n i e in inr (i, x.0, x.1, inl x.2)
+accounts number a h ms t o n s Gone e = elim (o.gone n e) [
+  | inl r ↦ inl (inr (rw (r, s.made, s.kept) refl))
+  | inr x ↦ inr (x.0, x.1, x.2, inr x.3)
+]
+accounts number a h ms t o n s Unmade e = absurd (let z : true ≡ false = sym s.made ∙ o.unmade n e in cc)
+accounts number a h ms t o n s Back e = absurd (let z : true ≡ false = sym (o.spent n (ap is_spent e)) ∙ s.kept in cc)
+accounts number a h ms t o n s Destroyed e = absurd (let z : true ≡ false = sym (o.spent n (ap is_spent e)) ∙ s.kept in cc)
+
+pub accounted : {C V : Type 0} (number : C → ℕ) (a : ℕ → Note) (h : ℕ → Node V) (ms : List (Machine C V)) → Tree a h → Holdings number a h ms → Accounted number h ms
+accounted number a h ms t o n s = accounts number a h ms t o n s (a n).status refl
+
+-- steps, one after another
+leaves_more : {C V : Type 0} (took by : ℕ → Option ℕ) (h : ℕ → Node V) (ss : List (Step C V)) (took1 by1 : ℕ → Option ℕ) (h1 : ℕ → Node V) (s : Step C V) (took2 by2 : ℕ → Option ℕ) (h2 : ℕ → Node V)
+    → Leaves took by h ss took1 by1 h1 → TakesAt took1 h1 s.who took2 h2 → HandsAt by1 h1 s.who by2 h2 → ((i n : ℕ) → by2 i ≡ Some n → took1 i ≡ Some n) → Leaves took by h (ss ++ s ∷ []) took2 by2 h2
+leaves_more {C} {V} took by h [] took1 by1 h1 s took2 by2 h2 r q b o =
+    let A : (ℕ → Node V) → Type 0 = λ x. TakesAt took1 x s.who took2 h2 in
+    let B : (ℕ → Node V) → Type 0 = λ x. HandsAt by1 x s.who by2 h2 in
+    let P : (ℕ → Option ℕ) → Type 0 = λ x. TakesAt x h s.who took2 h2 in
+    let Q : (ℕ → Option ℕ) → Type 0 = λ x. HandsAt x h s.who by2 h2 in
+    let R : (ℕ → Option ℕ) → Type 0 = λ x. (i n : ℕ) → by2 i ≡ Some n → x i ≡ Some n in
+    (took2, by2, h2, subst P r.0 (subst A r.2 q), subst Q r.1 (subst B r.2 b), subst R r.0 o, (refl, refl, refl))
+leaves_more took by h (x ∷ ss) took1 by1 h1 s took2 by2 h2 r q b o = (r.0, r.1, r.2, r.3, r.4, r.5, leaves_more r.0 r.1 r.2 ss took1 by1 h1 s took2 by2 h2 r.6 q b o)
+
+pub unlinking_more : {C V : Type 0} (number : C → ℕ) (by : ℕ → Option ℕ) (h0 : ℕ → Node V) (ss : List (Step C V)) (h : ℕ → Node V) (ms : List (Machine C V)) (s : Step C V) (h' : ℕ → Node V) (ms' : List (Machine C V))
+    (l : Leaving by ms) (hands : StepHands number h ms s.who h' ms') → StepTakes number h ms s.who h' ms' hands → Unlinking number by h0 ss h ms → Accounted number h' ms'
+    → Unlinking number (hands by l).0 h0 (ss ++ s ∷ []) h' ms'
+unlinking_more {C} {V} number by h0 ss h ms s h' ms' l hands takes u o =
+    let x : (took' : ℕ → Option ℕ) × TakesAt u.0 h s.who took' h' × Due number (hands by l).0 took' ms' = takes by u.0 l u.2 in (
+      x.0,
+      leaves_more (λ _. None) (λ _. None) h0 ss u.0 by h s x.0 (hands by l).0 h' u.1 x.1 (hands by l).1 (λ i n q. elim ((hands by l).3 i n q) [
+        | inl b ↦ u.2.handed i n b
+        | inr b ↦ u.2.held i n b.0 b.1 b.2
+      ]),
+      x.2,
+      o,
+    )
+
+pub unlinking_none : {C V : Type 0} (number : C → ℕ) (h : ℕ → Node V) (ms : List (Machine C V)) → ((i n : ℕ) (m : Machine C V) → slice_get ms i ≡ Some m → TakenBy number m.phase n → ⊥) → Accounted number h ms
+    → Unlinking number (λ _. None) h [] h ms
+unlinking_none number h ms empty o = (
+  (λ _. None),
+  (refl, refl, refl),
+  record {
+    handed = λ i n q. q;
+    due = λ i n q. absurd cc;
+    held = λ i n m q y. absurd (empty i n m q y);
+  },
+  o,
+)

@@ -1,0 +1,196 @@
+-- What the store wants of the nodes that a call's next step names, the call knows.
+use Rattle.std.proofs.Common.{◌≡◌, ◌≢◌, ℕ, ◌==◌, Bool, true, false, length, refl, sym, ◌∙◌, ap, subst, arith, inl, inr}
+use Rattle.std.specs.Prelude.{Option, None, Some, slice_index}
+use Rattle.congee.specs.declared.protocol.phase.Kind.{Kind}
+use Rattle.congee.specs.declared.protocol.phase.Site.{Site}
+use Rattle.congee.specs.declared.protocol.phase.Single.{Single}
+use Rattle.congee.specs.declared.protocol.phase.Single.TheVariants.{Set, Link}
+use Rattle.congee.specs.declared.protocol.phase.One.{One}
+use Rattle.congee.specs.declared.protocol.phase.Double.{Double}
+use Rattle.congee.specs.declared.protocol.phase.Double.TheVariants.{Unlink, Grow, GrowLink, Split}
+use Rattle.congee.specs.declared.protocol.phase.Two.{Two}
+use Rattle.congee.specs.declared.protocol.phase.Phase.{Phase}
+use Rattle.congee.specs.declared.protocol.phase.Phase.TheVariants.{New, Version, Read, Check, CheckUncopied, CheckMiss, CheckDown, CheckOld, MakeLeaf, MakeGreater, MakeTop, MakeBeside, AskOld, AskNew, Confirm, CheckAbove, UpgradeOne, ChangeOne, UpgradeAbove, UpgradeBoth, ChangeTwo, Obsolete, Retire, UnlockBelow, Unlock, Unwind, Sweep, Ended}
+use Rattle.congee.specs.Heap.{Node, Hung, Nothing, Below, Stands, child_for}
+use Rattle.congee.specs.protocol.Events.{MayChange, HoldsAlike, Parts}
+use Rattle.congee.specs.protocol.Steps.{value_hung, MayBackOne, MayBackTwo, MayBackLeaf, Changeable, Blank, MayChangeOne, MayChangeTwo, MayStep}
+use Rattle.congee.specs.Keys.{key_bytes}
+use Rattle.congee.specs.Ledger.{Note, Linked, is_published, IsChild, Tree, LockWords}
+use Rattle.congee.specs.protocol.Protocol.{Made, Holding, MadeOne, MadeTwo, MadeLeafFor, FitsOne, FitsTwo, OneLocked, TwoLocked, WantedTwo, PlacedTwo, Known}
+use Rattle.congee.proofs.lemmas.Fits.{equal, same_test}
+use Rattle.congee.proofs.lemmas.Graft.{on_test}
+use Rattle.congee.proofs.lemmas.protocol.Touch.{owner_locked}
+use Rattle.congee.proofs.lemmas.protocol.Change.{made_apart}
+use Rattle.congee.proofs.lemmas.protocol.SweepWants.{sweep_wants}
+
+-- a node of the tree holds values where its prefix has seven bytes, and nodes where it is shorter
+pub holds_alike : {V : Type 0} (a : ℕ → Note) (h : ℕ → Node V) → Tree a h → (n : ℕ) → (a n).status ≡ Linked → HoldsAlike (h n)
+holds_alike {V} a h t n l = on_test (length (h n).prefix == 7) leaf inner where
+  leaf : (length (h n).prefix == 7) ≡ true → HoldsAlike (h n)
+  leaf e = inl (λ b c x.
+      let y : IsChild a h n b c = t.down n b c l x in
+      let long : length (h n).prefix ≡ 7 = equal (length (h n).prefix) 7 e in
+      absurd (omega (arith, y.longer, t.short c y.linked, long)))
+
+  inner : (length (h n).prefix == 7) ≡ false → HoldsAlike (h n)
+  inner e = inr (λ b v x. let y : (length (h n).prefix == 7) ≡ true = same_test (length (h n).prefix) 7 (t.leaves n b v l x) in let z : true ≡ false = sym y ∙ e in cc)
+
+module _ {C V : Type 0} (number : C → ℕ) (same : V → V → Bool) (always : Bool) (i : ℕ) (a : ℕ → Note) (h : ℕ → Node V) (k : ℕ) (t : Tree a h) (w : LockWords a h) where
+  there : (n : ℕ) → is_published (a n).status ≡ true → Stands (h n)
+  there n p = (w.each n).stands p
+
+  made_there : (c size least : ℕ) → Made i a h (key_bytes k) c size least → Stands (h c)
+  made_there c size least m = record { made = m.made; kept = m.kept }
+
+  blank : (c size least : ℕ) → Made i a h (key_bytes k) c size least → Blank (h c) least
+  blank c size least m = record { stands = made_there c size least m; empty = m.empty; blank = m.blank; room = m.room }
+
+  held_there : (n : ℕ) → Holding i a n → Stands (h n) × ((h n).locked ≡ true)
+  held_there n o = (there n (ap is_published o.linked), owner_locked a h w n i o.owner)
+
+  back_leaf : (s : Site C) (leaf : Option C) → MadeLeafFor number i a h (key_bytes k) s leaf → MayBackLeaf number h leaf
+  back_leaf s None m = tt
+  back_leaf s (Some leaf) m = made_there (number leaf) 7 0 m.1
+
+  may_back_one : (change : Single C) → MadeOne number i a h (key_bytes k) change → MayBackOne number h change
+  may_back_one Set m = tt
+  may_back_one (Link leaf) m = made_there (number leaf) 7 0 m
+
+  may_back_two : (change : Double C) (size q : ℕ) → MadeTwo number i a h (key_bytes k) change size q → MayBackTwo number h change
+  may_back_two Unlink size q m = tt
+  may_back_two (Grow c) size q m = made_there (number c) size q m
+  may_back_two (GrowLink c leaf byte) size q m = (made_there (number leaf) 7 0 m.1, made_there (number c) size q m.0, m.2)
+  may_back_two (Split top leaf common byte) size q m = (made_there (number leaf) 7 0 m.1, made_there (number top) common 1 m.0, m.2)
+
+  -- what hangs at the call's byte of a node
+  at_byte : (n b : ℕ) (x : Hung V) → b ≡ slice_index (key_bytes k) (length (h n).prefix) → child_for (h n) (key_bytes k) ≡ x → (h n).children b ≡ x
+  at_byte n b x e f = ap (h n).children e ∙ f
+
+  set_room : (n b : ℕ) (x : Hung V) (given : Option V) → (h n).children b ≡ x → (x ≡ Nothing → ((h n).count == (h n).capacity) ≡ false) → FitsOne {C = C} Set x given → MayChange (h n) b (value_hung given)
+  set_room n b x None e r f = λ z. f.1 (sym e ∙ z)
+  set_room n b x (Some v) e r f = λ z. r (sym e ∙ z)
+
+  one_wants : (one : One C) (change : Single C) (x : Hung V) (given : Option V) → one.change ≡ change → OneLocked number i a h (key_bytes k) one x → FitsOne change x given → MadeOne number i a h (key_bytes k) change → MayChangeOne number given one change h
+  one_wants one Set x given c o f m =
+      let n : ℕ = number one.at.node in
+      let e : (h (number one.at.node)).children one.byte ≡ x = at_byte (number one.at.node) one.byte x o.placed.byte o.wanted.child in
+      let s : Stands (h (number one.at.node)) × ((h (number one.at.node)).locked ≡ true) = held_there (number one.at.node) o.holding in
+      record { stands = s.0; locked = s.1; room = set_room (number one.at.node) one.byte x given e o.wanted.room f }
+  one_wants one (Link leaf) x None c o f m = f
+  one_wants one (Link leaf) x (Some v) c o f m =
+      let s : Stands (h (number one.at.node)) × ((h (number one.at.node)).locked ≡ true) = held_there (number one.at.node) o.holding in (
+        record { stands = s.0; locked = s.1; room = λ _. o.wanted.room f },
+        blank (number leaf) 7 0 m,
+        (λ e. made_apart i a h (key_bytes k) (number leaf) 7 0 (number one.at.node) m (ap is_published o.holding.linked) (sym e)),
+      )
+
+  module _ (two : Two C) (found : Option V) (q : ℕ) (o : TwoLocked number i a h (key_bytes k) two found q) where
+    hangs : (h (number two.above.seat.node)).children two.above.byte ≡ Below (number two.at.node)
+    hangs = at_byte (number two.above.seat.node) two.above.byte (Below (number two.at.node)) o.above.byte o.above.child
+
+    is_child : IsChild a h (number two.above.seat.node) two.above.byte (number two.at.node)
+    is_child = t.down (number two.above.seat.node) two.above.byte (number two.at.node) o.above.holding.linked hangs
+
+    at_published : is_published (a (number two.at.node)).status ≡ true
+    at_published = ap is_published is_child.linked
+
+    above_published : is_published (a (number two.above.seat.node)).status ≡ true
+    above_published = ap is_published o.above.holding.linked
+
+    two_apart : number two.above.seat.node ≢ number two.at.node
+    two_apart e = let z : length (h (number two.above.seat.node)).prefix ≡ length (h (number two.at.node)).prefix = ap (λ y. length (h y).prefix) e in absurd (omega (arith, is_child.longer))
+
+    apart_above : (c size least : ℕ) → Made i a h (key_bytes k) c size least → number two.above.seat.node ≢ c
+    apart_above c size least m e = made_apart i a h (key_bytes k) c size least (number two.above.seat.node) m above_published (sym e)
+
+    apart_at : (c size least : ℕ) → Made i a h (key_bytes k) c size least → number two.at.node ≢ c
+    apart_at c size least m e = made_apart i a h (key_bytes k) c size least (number two.at.node) m at_published (sym e)
+
+    put_above : (c : ℕ) → Changeable (h (number two.above.seat.node)) two.above.byte (Below c)
+    put_above c = let s : Stands (h (number two.above.seat.node)) × ((h (number two.above.seat.node)).locked ≡ true) = held_there (number two.above.seat.node) o.above.holding in
+        record { stands = s.0; locked = s.1; room = λ z. absurd (let y : Below (number two.at.node) ≡ Nothing = sym hangs ∙ z in cc) }
+
+    take_above : Changeable (h (number two.above.seat.node)) two.above.byte Nothing
+    take_above = let s : Stands (h (number two.above.seat.node)) × ((h (number two.above.seat.node)).locked ≡ true) = held_there (number two.above.seat.node) o.above.holding in
+        record { stands = s.0; locked = s.1; room = λ z. let y : Below (number two.at.node) ≡ Nothing = sym hangs ∙ z in cc }
+
+    counted : (c size : ℕ) → (h (number two.at.node)).count ≡ q → Made i a h (key_bytes k) c size q → Blank (h c) (h (number two.at.node)).count
+    counted c size e m = let P : ℕ → Type 0 = λ x. Blank (h c) x in subst P (sym e) (blank c size q m)
+
+  two_wants : (two : Two C) (change : Double C) (found : Option V) (q : ℕ) (given : Option V) → two.change ≡ change → TwoLocked number i a h (key_bytes k) two found q → FitsTwo change found given → MayChangeTwo number (key_bytes k) given two change h
+  two_wants two Unlink found q given e o f = take_above two found q o
+  two_wants two (Grow c) None q None e o f = f
+  two_wants two (Grow c) (Some x) q given e o f = absurd f
+  two_wants two (Grow c) None q (Some v) e o f =
+      let m : Made i a h (key_bytes k) (number c) (length (h (number two.at.node)).prefix) q = (let P : Double C → Type 0 = λ y. MadeTwo number i a h (key_bytes k) y (length (h (number two.at.node)).prefix) q in subst P e o.made) in
+      let g : (child_for (h (number two.at.node)) (key_bytes k) ≡ Nothing) × ((h (number two.at.node)).count ≡ q) = (let P : Double C → Type 0 = λ y. WantedTwo {C = C} {V = V} (key_bytes k) y None q (h (number two.at.node)) in subst P e o.wanted) in (
+        put_above two None q o (number c),
+        there (number two.at.node) (at_published two None q o),
+        counted two None q o (number c) _ g.1 m,
+        apart_above two None q o (number c) _ q m,
+        apart_at two None q o (number c) _ q m,
+        two_apart two None q o,
+        holds_alike a h t (number two.at.node) (is_child two None q o).linked,
+      )
+  two_wants two (GrowLink c leaf byte) None q None e o f = f
+  two_wants two (GrowLink c leaf byte) (Some x) q given e o f = absurd f
+  two_wants two (GrowLink c leaf byte) None q (Some v) e o f =
+      let m : MadeTwo number i a h (key_bytes k) (GrowLink c leaf byte) (length (h (number two.at.node)).prefix) q = (let P : Double C → Type 0 = λ y. MadeTwo number i a h (key_bytes k) y (length (h (number two.at.node)).prefix) q in subst P e o.made) in
+      let g : (child_for (h (number two.at.node)) (key_bytes k) ≡ Nothing) × ((h (number two.at.node)).count ≡ q) = (let P : Double C → Type 0 = λ y. WantedTwo {C = C} {V = V} (key_bytes k) y None q (h (number two.at.node)) in subst P e o.wanted) in (
+        put_above two None q o (number c),
+        there (number two.at.node) (at_published two None q o),
+        counted two None q o (number c) _ g.1 m.0,
+        blank (number leaf) 7 0 m.1,
+        apart_above two None q o (number c) _ q m.0,
+        apart_at two None q o (number c) _ q m.0,
+        two_apart two None q o,
+        apart_above two None q o (number leaf) 7 0 m.1,
+        apart_at two None q o (number leaf) 7 0 m.1,
+        m.2,
+        holds_alike a h t (number two.at.node) (is_child two None q o).linked,
+      )
+  two_wants two (Split top leaf common byte) None q None e o f = f
+  two_wants two (Split top leaf common byte) (Some x) q given e o f = absurd f
+  two_wants two (Split top leaf common byte) None q (Some v) e o f =
+      let m : MadeTwo number i a h (key_bytes k) (Split top leaf common byte) (length (h (number two.at.node)).prefix) q = (let P : Double C → Type 0 = λ y. MadeTwo number i a h (key_bytes k) y (length (h (number two.at.node)).prefix) q in subst P e o.made) in
+      let g : Parts (h (number two.at.node)).prefix (key_bytes k) common × (byte ≡ slice_index (h (number two.at.node)).prefix common) = (let P : Double C → Type 0 = λ y. PlacedTwo (key_bytes k) y (h (number two.at.node)).prefix in subst P e o.placed) in (
+        put_above two None q o (number top),
+        blank (number top) common 1 m.0,
+        blank (number leaf) 7 0 m.1,
+        g.0.seventh,
+        (λ z. g.0.apart (sym g.1 ∙ z)),
+        apart_above two None q o (number top) common 1 m.0,
+        apart_above two None q o (number leaf) 7 0 m.1,
+        m.2,
+      )
+
+  -- a call that knows what its phase says may step
+  pub wants : (kind : Kind V) (given : Option V) (s : Phase C V) → Known number same always i a h k (key_bytes k) kind given s → MayStep number (key_bytes k) given s h
+  wants kind given New m = tt
+  wants kind given (Version p n) m = there (number n) m.2
+  wants kind given (Read p at) m = there (number at.node) m.2.published
+  wants kind given (Check s c) m = there (number s.at.node) m.1.fresh.seated.published
+  wants kind given (CheckUncopied at) m = there (number at.node) m.1.published
+  wants kind given (CheckMiss p at common byte) m = there (number p.seat.node) m.1.fresh.seated.published
+  wants kind given (CheckDown p at c) m = there (number p.node) m.1.published
+  wants kind given (CheckOld p s v) m = there (number p.node) m.1.published
+  wants kind given (MakeLeaf s) m = tt
+  wants kind given (MakeGreater s p leaf) m = (m.1.short, back_leaf s leaf m.3)
+  wants kind given (MakeTop p at common byte) m = m.3.seventh
+  wants kind given (MakeBeside p at common byte top) m = made_there (number top) common 1 m.6
+  wants kind given (AskOld s v) m = tt
+  wants kind given (AskNew plan) m = tt
+  wants kind given (Confirm at r) m = there (number at.node) m.1.1.fresh.seated.published
+  wants kind given (CheckAbove p one r) m = (there (number p.node) m.1.published, may_back_one one.change m.2.made)
+  wants kind given (UpgradeOne one r) m = (there (number one.at.node) m.1.1.fresh.seated.published, may_back_one one.change m.1.1.made)
+  wants kind given (ChangeOne one r) m = one_wants one one.change m.0 given refl m.1 m.2 m.1.made
+  wants kind given (UpgradeAbove two r) m = (there (number two.above.seat.node) m.1.2.above.fresh.seated.published, may_back_two two.change _ _ m.1.2.made)
+  wants kind given (UpgradeBoth two r) m = (there (number two.at.node) m.1.2.fresh.seated.published, may_back_two two.change _ _ m.1.2.made)
+  wants kind given (ChangeTwo two r) m = two_wants two two.change m.0 m.1 given refl m.2 m.3
+  wants kind given (Obsolete n p r) m = (there (number n) (ap is_published m.gone), owner_locked a h w (number n) i m.owner)
+  wants kind given (Retire n p r) m = (there (number n) (ap is_published m.0.gone), m.1, m.0.unretired)
+  wants kind given (UnlockBelow n p r) m = held_there (number n) m.0
+  wants kind given (Unlock n r) m = held_there (number n) m
+  wants kind given (Unwind n e) m = held_there (number n) m.1
+  wants kind given (Sweep s) m = sweep_wants number always a h t w s m
+  wants kind given Ended m = tt

@@ -1,5 +1,0 @@
-use Rattle.congee.proofs.Owners.{made_held}
-use Rattle.congee.proofs.machine.Machine.holds.Goals as goal
-
-pub returns : goal.returns
-returns g c = λ i a h k kind given n s. made_held _ _ _ i a h k kind given n s

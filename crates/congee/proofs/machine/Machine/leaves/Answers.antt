@@ -1,5 +1,0 @@
-use Rattle.congee.proofs.Leaving.{step_leaves}
-use Rattle.congee.proofs.machine.Machine.leaves.Goals as goal
-
-pub returns : goal.returns
-returns g c = λ s i a h h' ms m m' d fail answer. step_leaves _ _ _ _ _ i a h h' ms m m' d fail answer

@@ -1,5 +1,0 @@
-use Rattle.congee.proofs.Turns.{may_step}
-use Rattle.congee.proofs.machine.Machine.may_step.Goals as goal
-
-pub returns : goal.returns
-returns g c = λ h ms i m. may_step _ _ _ h ms i m

@@ -1,5 +1,0 @@
-use Rattle.congee.proofs.Renewing.{opened_idle}
-use Rattle.congee.proofs.machine.Machine.opens.Goals as goal
-
-pub returns : goal.returns
-returns g c = λ h ms. opened_idle _ _ _ h ms

@@ -1,0 +1,73 @@
+use Rattle.std.proofs.Common.{◌≡◌, ◌+◌, ◌-◌, ◌∷◌, ◌++◌, length, take, sym, ap, ◌∙◌, arith}
+use Rattle.std.specs.FinMap as map
+use Rattle.std.proofs.lemmas.List.{length-set}
+use Rattle.congee.specs.Keys.{key_bytes}
+use Rattle.congee.specs.owned.Table.{pairs_of}
+use Rattle.congee.specs.owned.Ranges.{by_bytes, in_range}
+use Rattle.congee.proofs.lemmas.owned.ByteRanges.{take_by_bytes, count_by_bytes}
+use Rattle.congee.proofs.lemmas.owned.RangeLemmas.{range_none, range_first, pair_written, rest_kept, range_ended, counted, none_told}
+use Rattle.congee.proofs.lemmas.owned.ByteRanges.{no_room_left}
+use Rattle.congee.proofs.owned.scan.Arena+u64+A.range_by_bytes.Goals as goal
+
+pub loop-count-preserved : goal.loop-count-preserved
+loop-count-preserved g c =
+    let m = (pairs_of c.args.self.now.nodes) in
+    let i = c.loop-count.invariant in
+    let from = i.from in
+    let found = c.in-Some.ensures.first from i.at in
+    let first = range_first m from c.args.end c.in-Some.number c.in-Some.value.now found.0 c.if-number-end.true in
+    let bytes : c.to_be_bytes.result ≡ key_bytes c.in-Some.number = c.to_be_bytes.ensures in
+    let same = length-set c.loop-count.out c.loop-count.count (c.to_be_bytes.result, c.in-Some.value.now) in
+    let pairs : take c.loop-count.count c.loop-count.out ++ take (length c.args.out.now - c.loop-count.count) ((c.to_be_bytes.result, c.in-Some.value.now) ∷ by_bytes (in_range (c.in-Some.number + 1) c.args.end (map.entries m))) ≡ take (length c.args.out.now) (by_bytes (in_range c.args.start c.args.end (map.entries m))) =
+    ap (λ b. take c.loop-count.count c.loop-count.out ++ take (length c.args.out.now - c.loop-count.count) ((b, c.in-Some.value.now) ∷ by_bytes (in_range (c.in-Some.number + 1) c.args.end (map.entries m)))) bytes
+    ∙ ap (λ r. take c.loop-count.count c.loop-count.out ++ take (length c.args.out.now - c.loop-count.count) (by_bytes r)) (sym first) ∙ i.pairs in record {
+      way = c.next_along.ensures.cursor;
+      within = omega (arith, same, c.loop-count-test.true);
+      long = same ∙ i.long;
+      rest = rest_kept c.loop-count.out c.args.out.now c.loop-count.count (c.to_be_bytes.result, c.in-Some.value.now) c.loop-count-test.true i.rest;
+      from = c.in-Some.number + 1;
+      at = found.1;
+      pairs = pair_written c.loop-count.out c.loop-count.count (length c.args.out.now) (c.to_be_bytes.result, c.in-Some.value.now) (by_bytes (in_range (c.in-Some.number + 1) c.args.end (map.entries m))) (take (length c.args.out.now) (by_bytes (in_range c.args.start c.args.end (map.entries m)))) c.loop-count-test.true (sym i.long) pairs;
+    }
+
+pub returns-in_default-clause-pairs : goal.returns-in_default-clause-pairs
+returns-in_default-clause-pairs g c =
+    let i = c.loop-count.invariant in
+    let from = i.from in
+    let m = (pairs_of c.args.self.now.nodes) in
+    range_ended c.loop-count.out (by_bytes (in_range from c.args.end (map.entries m))) (take (length c.args.out.now) (by_bytes (in_range c.args.start c.args.end (map.entries m)))) c.loop-count.count (length c.args.out.now - c.loop-count.count) i.pairs
+    (ap by_bytes (range_none m from c.args.end (λ q lo hi. (c.in-Some.ensures.first from i.at).0.before q lo (omega (arith, hi, c.if-number-end.false)))))
+    ∙ take_by_bytes (length c.args.out.now) (in_range c.args.start c.args.end (map.entries m))
+
+pub returns-in_default-clause-count : goal.returns-in_default-clause-count
+returns-in_default-clause-count g c =
+    let all = take (length c.args.out.now) (in_range c.args.start c.args.end (map.entries (pairs_of c.args.self.now.nodes))) in
+    counted c.loop-count.out (by_bytes all) c.loop-count.count c.loop-count.invariant.within (returns-in_default-clause-pairs g c) ∙ count_by_bytes all
+
+pub returns-in_default-2-clause-pairs : goal.returns-in_default-2-clause-pairs
+returns-in_default-2-clause-pairs g c =
+    let i = c.loop-count.invariant in
+    let from = i.from in
+    let m = (pairs_of c.args.self.now.nodes) in
+    range_ended c.loop-count.out (by_bytes (in_range from c.args.end (map.entries m))) (take (length c.args.out.now) (by_bytes (in_range c.args.start c.args.end (map.entries m)))) c.loop-count.count (length c.args.out.now - c.loop-count.count) i.pairs
+    (ap by_bytes (range_none m from c.args.end (λ q lo hi. none_told c.next_along.result _ _ c.in_default.is (c.next_along.ensures.first from i.at) q lo)))
+    ∙ take_by_bytes (length c.args.out.now) (in_range c.args.start c.args.end (map.entries m))
+
+pub returns-in_default-2-clause-count : goal.returns-in_default-2-clause-count
+returns-in_default-2-clause-count g c =
+    let all = take (length c.args.out.now) (in_range c.args.start c.args.end (map.entries (pairs_of c.args.self.now.nodes))) in
+    counted c.loop-count.out (by_bytes all) c.loop-count.count c.loop-count.invariant.within (returns-in_default-2-clause-pairs g c) ∙ count_by_bytes all
+
+pub returns-clause-pairs : goal.returns-clause-pairs
+returns-clause-pairs g c =
+    let i = c.loop-count.invariant in
+    let from = i.from in
+    let all = in_range c.args.start c.args.end (map.entries (pairs_of c.args.self.now.nodes)) in
+    no_room_left c.loop-count.out (by_bytes (in_range from c.args.end (map.entries (pairs_of c.args.self.now.nodes)))) (take (length c.args.out.now) (by_bytes all)) c.loop-count.count (length c.args.out.now - c.loop-count.count)
+    (omega (arith, i.long, c.loop-count-test.false)) i.pairs
+    ∙ take_by_bytes (length c.args.out.now) all
+
+pub returns-clause-count : goal.returns-clause-count
+returns-clause-count g c =
+    let all = take (length c.args.out.now) (in_range c.args.start c.args.end (map.entries (pairs_of c.args.self.now.nodes))) in
+    counted c.loop-count.out (by_bytes all) c.loop-count.count c.loop-count.invariant.within (returns-clause-pairs g c) ∙ count_by_bytes all

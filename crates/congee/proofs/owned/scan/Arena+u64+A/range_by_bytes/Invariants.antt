@@ -1,0 +1,20 @@
+use Rattle.std.proofs.Common.{length, ℕ, ◌-◌, ◌≡◌, ◌≤◌, ◌++◌, take, drop}
+use Rattle.std.specs.FinMap as map
+use Rattle.congee.specs.owned.Cursor.{IsAt, IsCursor}
+use Rattle.congee.specs.owned.Table.{pairs_of}
+use Rattle.congee.specs.owned.Ranges.{by_bytes, in_range}
+use Rattle.congee.proofs.owned.scan.Arena+u64+A.range_by_bytes.Given as goal
+
+abbrev pub invariant-loop-count : goal.invariant-loop-count
+invariant-loop-count g l = record {
+  way : IsCursor l.self.nodes l.cursor.items;
+  within : l.count ≤ length l.out;
+  long : length l.out ≡ length l.fn.out;
+  rest : drop l.count l.out ≡ drop l.count l.fn.out;
+  from : ℕ;
+  at : IsAt l.self.nodes l.cursor.items from;
+  pairs : take l.count l.out ++ take (length l.fn.out - l.count) (by_bytes (in_range from l.end (map.entries (pairs_of l.self.nodes)))) ≡ take (length l.fn.out) (by_bytes (in_range l.start l.end (map.entries (pairs_of l.self.nodes))));
+}
+
+abbrev pub decreases-loop-count : goal.decreases-loop-count
+decreases-loop-count g l = length l.initial.out - l.count

@@ -1,7 +1,0 @@
-use Rattle.std.proofs.Common.{ℕ, ◌≡◌, ◌<◌, ◌↔◌}
-use Rattle.congee.specs.Heap.{Below}
-use Rattle.congee.specs.Plain.{child_at}
-use Rattle.congee.proofs.plain_node.copy_names.Given as goal
-
-abbrev pub invariant-loop-i : goal.invariant-loop-i
-invariant-loop-i l = (b d : ℕ) → b < l.i → (child_at l.to b ≡ Below d) ↔ (child_at l.from b ≡ Below d)

@@ -1,0 +1,33 @@
+use Rattle.std.proofs.Common.{refl, ◌∙◌, ap}
+use Rattle.std.specs.Vec.{vec_len}
+use Rattle.congee.proofs.lemmas.protocol.Turns.{progress_none, progress_more, progress_end}
+use Rattle.congee.proofs.lemmas.protocol.Destroys.{spares}
+use Rattle.congee.proofs.protocol.run.play.Goals as goal
+use Rattle.congee.proofs.protocol.run.play.Goals.{in-Some+then-is_err, in_default}
+
+pub loop-step-init : goal.loop-step-init
+loop-step-init g c = record {
+  limit = refl;
+  rest = refl;
+  within = c.requires.within;
+  progress = progress_none _ _ _ _ _ _ _ _ _ _ _ c.into_iter-rest.ensures.rest c.new-moves.ensures.len c.new-moves.ensures.items c.requires.begins;
+}
+
+pub loop-step-preserved : goal.loop-step-preserved
+loop-step-preserved g c = record {
+  limit = c.step_of-moved.ensures.limit ∙ c.loop-step.invariant.limit;
+  rest = c.step_of-moved.ensures.rest ∙ c.loop-step.invariant.rest;
+  within = c.step_of-moved.ensures.within;
+  progress = progress_more _ _ _ _ _ _ _ _ _ _ _ _ _ _ _ _ _ _ _ _ _ _ _ c.loop-step.invariant.progress c.in-Some.ensures.items c.reserve.ensures.len c.push_reserved.ensures.len c.reserve.ensures.items c.push_reserved.ensures.items
+      (λ form e y. (c.loop-step.store, refl, c.loop-step.invariant.limit, c.loop-step.invariant.rest, y))
+      (rw c.loop-step.invariant.limit at c.step_of-moved.ensures.plays);
+}
+
+pub returns-clause-run : goal.returns-clause-run
+returns-clause-run g c = elim c.match-next.branch [
+  | in-Some+then-is_err w ↦ progress_end _ _ _ _ _ _ _ _ _ _ _ _ _ _ _ c.loop-step.invariant.progress (c.len-done.ensures ∙ (ap (λ v. vec_len v) w.moves-is ∙ w.reserve.ensures.len)) (ap (λ v. v.items) w.moves-is ∙ w.reserve.ensures.items)
+  | in_default w ↦ progress_end _ _ _ _ _ _ _ _ _ _ _ _ _ _ _ c.loop-step.invariant.progress (c.len-done.ensures ∙ ap (λ v. vec_len v) w.moves-is) (ap (λ v. v.items) w.moves-is)
+]
+
+pub returns-clause-spares : goal.returns-clause-spares
+returns-clause-spares g c = spares _ _ _ _ _

@@ -1,5 +1,0 @@
-use Rattle.congee.proofs.SortedLemmas.{no_pairs}
-use Rattle.congee.proofs.sorted.Sorted.new.Goals as goal
-
-pub returns : goal.returns
-returns g c = no_pairs c.new.result.items c.new-2.result.items c.new.ensures

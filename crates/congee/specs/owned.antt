@@ -1,0 +1,16 @@
+pub mod Arena
+pub mod Changes
+pub mod Content
+pub mod Cursor
+pub mod Drained
+pub mod Levels
+pub mod Owned
+pub mod Place
+pub mod Ranges
+pub mod Sizes
+pub mod OwnedSteps
+pub mod Wanted
+pub mod Nearest
+pub mod Owners
+pub mod Table
+pub mod Stats

@@ -1,0 +1,47 @@
+-- What contracts see of an owned tree.
+use Rattle.std.specs.Prelude.{◌≡◌, ℕ, ◌+◌, Bool, List, refl}
+use Rattle.std.specs.Ordering.{nat_cmp}
+use Rattle.std.specs.FinMap as map
+use Rattle.std.specs.Coded.{Coded, code_by, coded×, coded_ℕ, coded_list}
+use Rattle.congee.specs.owned.Stats.{Shape, shape_code}
+use Rattle.judge.specs.Answer.{answer}
+use Rattle.judge.specs.declared.journal.Call.{Call}
+use Rattle.judge.specs.declared.journal.Reply.{Reply}
+
+-- the pairs, the nodes, the sum of their sizes in bytes, for each absent key the sizes of the nodes that its insertion
+-- makes, each key that is alone in its leaf with the leaf's size, the budget that the nodes are charged to, and the drainer
+pub record Content (V A D : Type 0) : Type 0 where
+  pub pairs : map.FinMap nat_cmp V
+  pub nodes : List Shape
+  pub bytes : ℕ
+  pub wants : map.FinMap nat_cmp (List ℕ)
+  pub lone : map.FinMap nat_cmp ℕ
+  pub allocator : A
+  pub drainer : D
+
+abbrev pub content_code : {V A D : Type 0} → Coded V → Coded A → Coded D → Coded (Content V A D)
+content_code {V} {A} {D} v a d =
+    code_by
+    (map.FinMap nat_cmp V × (List Shape × (ℕ × (map.FinMap nat_cmp (List ℕ) × (map.FinMap nat_cmp ℕ × (A × D))))))
+    (coded× (map.code coded_ℕ v) (coded× (coded_list shape_code) (coded× coded_ℕ (coded× (map.code coded_ℕ (coded_list coded_ℕ)) (coded× (map.code coded_ℕ coded_ℕ) (coded× a d))))))
+    (λ c. (c.pairs, (c.nodes, (c.bytes, (c.wants, (c.lone, (c.allocator, c.drainer)))))))
+    (λ p. record { pairs = p.0; nodes = p.1.0; bytes = p.1.1.0; wants = p.1.1.1.0; lone = p.1.1.1.1.0; allocator = p.1.1.1.1.1.0; drainer = p.1.1.1.1.1.1 })
+    (λ _. refl)
+
+-- the call on the tree is the one on its map
+abbrev pub Answers : {V A D : Type 0} → (V → V → Bool) → Content V A D → Content V A D → Call V → Reply V → Type 0
+Answers same old new call reply = answer same old.pairs call ≡ (reply, new.pairs)
+
+-- the charge moved as the nodes' sizes did; limit and drainer are as before
+pub record KeepsCharge {V A D : Type 0} (charged limit : A → ℕ) (old new : Content V A D) : Type 0 where
+  pub balance : charged new.allocator + old.bytes ≡ charged old.allocator + new.bytes
+  pub same_limit : limit new.allocator ≡ limit old.allocator
+  pub drainer : new.drainer ≡ old.drainer
+
+-- a refused call leaves the pairs, the nodes, their sizes, and what later calls make and take
+pub record Unchanged {V A D : Type 0} (old new : Content V A D) : Type 0 where
+  pub pairs : new.pairs ≡ old.pairs
+  pub nodes : new.nodes ≡ old.nodes
+  pub bytes : new.bytes ≡ old.bytes
+  pub wants : new.wants ≡ old.wants
+  pub lone : new.lone ≡ old.lone

@@ -1,0 +1,34 @@
+-- What contracts see of a tree of owners.
+use Rattle.std.specs.Prelude.{◌≡◌, ℕ, Bool, false, List, refl}
+use Rattle.std.specs.Ordering.{nat_cmp}
+use Rattle.std.specs.FinMap as map
+use Rattle.std.specs.Coded.{Coded, code_by, coded×, coded_ℕ, coded_list}
+use Rattle.judge.specs.Answer.{answer}
+use Rattle.judge.specs.declared.journal.Call.{Call}
+use Rattle.judge.specs.declared.journal.Reply.{Reply}
+
+-- each key's number with the value that its owner shares, the sum of the sizes of the nodes in bytes, which is what is
+-- charged, for each absent key the sizes of the nodes that its insertion makes, and each key that is alone in its leaf
+-- with the leaf's size
+pub record Owners (V : Type 0) : Type 0 where
+  pub pairs : map.FinMap nat_cmp V
+  pub bytes : ℕ
+  pub wants : map.FinMap nat_cmp (List ℕ)
+  pub lone : map.FinMap nat_cmp ℕ
+
+abbrev pub owners_code : {V : Type 0} → Coded V → Coded (Owners V)
+owners_code {V} v =
+    code_by
+    (map.FinMap nat_cmp V × (ℕ × (map.FinMap nat_cmp (List ℕ) × map.FinMap nat_cmp ℕ)))
+    (coded× (map.code coded_ℕ v) (coded× coded_ℕ (coded× (map.code coded_ℕ (coded_list coded_ℕ)) (map.code coded_ℕ coded_ℕ))))
+    (λ c. (c.pairs, (c.bytes, (c.wants, c.lone))))
+    (λ p. record { pairs = p.0; bytes = p.1.0; wants = p.1.1.0; lone = p.1.1.1 })
+    (λ _. refl)
+
+-- no two owners are known to share equal values
+abbrev pub never_same : {V : Type 0} → V → V → Bool
+never_same v w = false
+
+-- the call on the tree is the one on its map
+abbrev pub OwnerAnswers : {V : Type 0} → Owners V → Owners V → Call V → Reply V → Type 0
+OwnerAnswers old new call reply = answer never_same old.pairs call ≡ (reply, new.pairs)

@@ -1,0 +1,17 @@
+-- Where a key's way through the tree ends.
+use Rattle.std.specs.Prelude.{◌≡◌, ℕ, false, List}
+use Rattle.congee.specs.Heap.{Nothing, Below, Holds, fits, child_for}
+use Rattle.congee.specs.owned.Arena.{Nodes, heap_of, Reached}
+use Rattle.congee.specs.declared.owned.place.Place.{Place}
+use Rattle.congee.specs.declared.owned.place.Spot.{Spot}
+use Rattle.congee.specs.declared.owned.place.Spot.TheVariants.{Held, Free, Apart}
+
+-- what the last node has for the key
+abbrev pub EndsAt : {P : Type 0} → Nodes P → List ℕ → ℕ → Spot → Type 0
+EndsAt {P} s key n Held = (v : P) × (child_for (heap_of s n) key ≡ Holds v)
+EndsAt s key n Free = child_for (heap_of s n) key ≡ Nothing
+EndsAt s key n (Apart c) = (child_for (heap_of s n) key ≡ Below c) × (fits (heap_of s c).prefix key ≡ false)
+
+pub record Located {P : Type 0} (s : Nodes P) (key : List ℕ) (p : Place) : Type 0 where
+  pub reached : Reached s key p.above p.at
+  pub ends : EndsAt s key p.at p.spot

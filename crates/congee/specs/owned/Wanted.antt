@@ -1,0 +1,100 @@
+-- The nodes that an insertion makes, and the leaf that a removal takes.
+use Rattle.std.specs.Prelude.{ℕ, zero, suc, ◌+◌, ◌≤◌, ◌<◌, ◌≡◌, ◌==◌, ◌&&◌, ◌⊎◌, not, cond, List, [], ◌∷◌, ◌^◌, length, Option, None, Some}
+use Rattle.std.specs.Ordering.{nat_cmp}
+use Rattle.std.specs.FinMap.{FinMap}
+use Rattle.congee.specs.Heap.{Node, Hung, Nothing, Below, Holds, fits, child_for}
+use Rattle.congee.specs.owned.Arena.{Nodes, heap_of}
+use Rattle.congee.specs.Keys.{key_bytes}
+use Rattle.congee.specs.owned.Table.{table}
+use Rattle.congee.specs.owned.OwnedSteps.{IsRefusal}
+use Rattle.congee.specs.declared.allocator.OOMError.{OOMError}
+
+-- the size of a node of so many places, in bytes
+abbrev pub size_by : ℕ → ℕ
+size_by capacity = cond (capacity == 4) 64 (cond (capacity == 16) 168 (cond (capacity == 48) 672 2104))
+
+-- the size of the form that a full node of so many places grows to
+abbrev pub grown_size : ℕ → ℕ
+grown_size capacity = cond (capacity == 4) 168 (cond (capacity == 16) 672 2104)
+
+-- by how much the sizes of the nodes grow where one of this size is made: it is a least one, or takes the place of one
+-- of the form before
+abbrev pub net : ℕ → ℕ
+net size = cond (size == 64) 64 (cond (size == 168) 104 (cond (size == 672) 504 1432))
+
+-- the same for several
+abbrev pub gain : List ℕ → ℕ
+gain [] = 0
+gain (size ∷ sizes) = net size + gain sizes
+
+abbrev pub gain_of : Option (List ℕ) → ℕ
+gain_of None = 0
+gain_of (Some sizes) = gain sizes
+
+abbrev pub freed_of : Option ℕ → ℕ
+freed_of None = 0
+freed_of (Some size) = size
+
+-- what a leaf gives back where an answer takes its only value out
+abbrev pub freed_by : {Y : Type 0} → Option Y → Option ℕ → ℕ
+freed_by None size = freed_of size
+freed_by (Some y) size = 0
+
+-- why the first of these nodes wasn't made, or a later one, which is charged after those before it
+abbrev pub IsRefusedOf : List ℕ → ℕ → ℕ → OOMError → Type 0
+IsRefusedOf [] charged limit e = ⊥
+IsRefusedOf (size ∷ sizes) charged limit e = IsRefusal charged size limit e ⊎ ((charged + size ≤ limit) × IsRefusedOf sizes (charged + size) limit e)
+
+-- why an insertion was refused; where it makes no nodes it never is
+abbrev pub IsRefused : Option (List ℕ) → ℕ → ℕ → OOMError → Type 0
+IsRefused None charged limit e = ⊥
+IsRefused (Some sizes) charged limit e = IsRefusedOf sizes charged limit e
+
+module _ {P X : Type 0} where
+  abbrev pub at_end : (Node P → Hung P → X) → Node P → (ℕ → X) → Hung P → X
+  at_end last n go Nothing = last n Nothing
+  at_end last n go (Below c) = go c
+  at_end last n go (Holds v) = last n (Holds v)
+
+  -- what the last node on a key's way gives with what it has for the key, or `apart` where it leads to a node whose
+  -- prefix the key lacks
+  abbrev pub descend : X → (Node P → Hung P → X) → (ℕ → Node P) → ℕ → ℕ → List ℕ → X
+  descend apart last h zero n key = apart
+  descend apart last h (suc f) n key = cond (fits (h n).prefix key) (at_end last (h n) (λ c. descend apart last h f c key) (child_for (h n) key)) apart
+
+module _ {P : Type 0} where
+  -- a node without room for a further child makes one of the next form; a node of 256 places always has room
+  abbrev pub room_for : Node P → List ℕ
+  room_for n = cond (not (n.capacity == 256) && (n.count == n.capacity)) (grown_size n.capacity ∷ []) []
+
+  -- a key's value needs room in a leaf, and in another node a leaf and room for it
+  abbrev pub free_wants : Node P → List ℕ
+  free_wants n = cond (length n.prefix == 7) (room_for n) (64 ∷ room_for n)
+
+  abbrev pub last_wants : Node P → Hung P → Option (List ℕ)
+  last_wants n Nothing = Some (free_wants n)
+  last_wants n (Below c) = None
+  last_wants n (Holds v) = None
+
+  -- the sizes of the nodes that an insertion of the key makes, one after the other; none where the key is present.
+  -- Where the key parts from a node's prefix, a node over that one and a leaf
+  unfoldable pub wants_at : (ℕ → Node P) → List ℕ → Option (List ℕ)
+  wants_at h key = descend (Some (64 ∷ 64 ∷ [])) last_wants h 8 0 key
+
+  -- a leaf with one value
+  abbrev pub last_lone : Node P → Hung P → Option ℕ
+  last_lone n Nothing = None
+  last_lone n (Below c) = None
+  last_lone n (Holds v) = cond (n.count == 1) (Some (size_by n.capacity)) None
+
+  -- the size of the key's leaf, where the key is alone in it
+  unfoldable pub lone_at : (ℕ → Node P) → List ℕ → Option ℕ
+  lone_at h key = descend None last_lone h 8 0 key
+
+  -- for each absent key of 64 bits the sizes of the nodes that its insertion makes
+  unfoldable pub wants_of : Nodes P → FinMap nat_cmp (List ℕ)
+  wants_of s = table (λ k. wants_at (heap_of s) (key_bytes k)) (2 ^ 64)
+
+  -- each key of 64 bits that is alone in its leaf, with the leaf's size
+  unfoldable pub lone_of : Nodes P → FinMap nat_cmp ℕ
+  lone_of s = table (λ k. lone_at (heap_of s) (key_bytes k)) (2 ^ 64)

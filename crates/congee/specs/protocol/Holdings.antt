@@ -1,0 +1,84 @@
+-- Which locks and nodes a call holds between its steps, and that nobody holds any other.
+use Rattle.std.specs.Prelude.{◌≡◌, ◌≢◌, ℕ, ◌⊎◌, true, false, List, [], Option, None, Some, slice_get}
+use Rattle.congee.specs.declared.protocol.phase.Single.{Single}
+use Rattle.congee.specs.declared.protocol.phase.Single.TheVariants.{Set, Link}
+use Rattle.congee.specs.declared.protocol.phase.Double.{Double}
+use Rattle.congee.specs.declared.protocol.phase.Double.TheVariants.{Unlink, Grow, GrowLink, Split}
+use Rattle.congee.specs.declared.protocol.phase.Plan.{Plan}
+use Rattle.congee.specs.declared.protocol.phase.Plan.TheVariants.{Here, Above}
+use Rattle.congee.specs.declared.protocol.phase.Phase.{Phase}
+use Rattle.congee.specs.declared.protocol.phase.Phase.TheVariants.{MakeGreater, MakeBeside, AskNew, CheckAbove, UpgradeOne, ChangeOne, UpgradeAbove, UpgradeBoth, ChangeTwo, Obsolete, Retire, UnlockBelow, Unlock, Unwind}
+use Rattle.congee.specs.declared.protocol.machine.Machine.{Machine}
+use Rattle.congee.specs.Heap.{Node}
+use Rattle.congee.specs.Ledger.{Note, Unmade, Held, Linked, Gone, is_spent}
+
+-- the call holds the lock of node n
+abbrev pub LockedBy : {C V : Type 0} → (C → ℕ) → Phase C V → ℕ → Type 0
+LockedBy number (ChangeOne one r) n = n ≡ number one.at.node
+LockedBy number (UpgradeBoth two r) n = n ≡ number two.above.seat.node
+LockedBy number (ChangeTwo two r) n = (n ≡ number two.above.seat.node) ⊎ (n ≡ number two.at.node)
+LockedBy number (Obsolete m p r) n = (n ≡ number p) ⊎ (n ≡ number m)
+LockedBy number (Retire m p r) n = (n ≡ number p) ⊎ (n ≡ number m)
+LockedBy number (UnlockBelow m p r) n = (n ≡ number p) ⊎ (n ≡ number m)
+LockedBy number (Unlock m r) n = n ≡ number m
+LockedBy number (Unwind m e) n = n ≡ number m
+LockedBy number _ n = ⊥
+
+-- node n was made for the change
+abbrev pub MadeForOne : {C : Type 0} → (C → ℕ) → Single C → ℕ → Type 0
+MadeForOne number Set n = ⊥
+MadeForOne number (Link leaf) n = n ≡ number leaf
+
+abbrev pub MadeForTwo : {C : Type 0} → (C → ℕ) → Double C → ℕ → Type 0
+MadeForTwo number Unlink n = ⊥
+MadeForTwo number (Grow c) n = n ≡ number c
+MadeForTwo number (GrowLink c leaf byte) n = (n ≡ number c) ⊎ (n ≡ number leaf)
+MadeForTwo number (Split top leaf common byte) n = (n ≡ number top) ⊎ (n ≡ number leaf)
+
+abbrev pub MadeForPlan : {C : Type 0} → (C → ℕ) → Plan C → ℕ → Type 0
+MadeForPlan number (Here check one) n = MadeForOne number one.change n
+MadeForPlan number (Above two) n = MadeForTwo number two.change n
+
+abbrev pub IsMade : {C : Type 0} → (C → ℕ) → Option C → ℕ → Type 0
+IsMade number None n = ⊥
+IsMade number (Some c) n = n ≡ number c
+
+-- the call has made node n, and has neither hung it nor given it back
+abbrev pub MadeBy : {C V : Type 0} → (C → ℕ) → Phase C V → ℕ → Type 0
+MadeBy number (MakeGreater s p leaf) n = IsMade number leaf n
+MadeBy number (MakeBeside p at common byte top) n = n ≡ number top
+MadeBy number (AskNew plan) n = MadeForPlan number plan n
+MadeBy number (CheckAbove p one r) n = MadeForOne number one.change n
+MadeBy number (UpgradeOne one r) n = MadeForOne number one.change n
+MadeBy number (ChangeOne one r) n = MadeForOne number one.change n
+MadeBy number (UpgradeAbove two r) n = MadeForTwo number two.change n
+MadeBy number (UpgradeBoth two r) n = MadeForTwo number two.change n
+MadeBy number (ChangeTwo two r) n = MadeForTwo number two.change n
+MadeBy number _ n = ⊥
+
+-- the call has taken node n out of the tree, and has not yet handed it over
+abbrev pub TakenBy : {C V : Type 0} → (C → ℕ) → Phase C V → ℕ → Type 0
+TakenBy number (Obsolete m p r) n = n ≡ number m
+TakenBy number (Retire m p r) n = n ≡ number m
+TakenBy number _ n = ⊥
+
+-- every lock in the tree, every made node that isn't in the tree and every node that left it and wasn't handed over
+-- is that of a call between its steps; a call that has ended has none. Each other node isn't made, is in the tree, was
+-- handed over, or was given back
+pub record Holdings {C V : Type 0} (number : C → ℕ) (a : ℕ → Note) (h : ℕ → Node V) (ms : List (Machine C V)) : Type 0 where
+  pub owned : (n i : ℕ) → (a n).owner ≡ Some i → (m : Machine C V) × (slice_get ms i ≡ Some m) × LockedBy number m.phase n
+  pub held : (n i : ℕ) → (a n).status ≡ Held i → (m : Machine C V) × (slice_get ms i ≡ Some m) × MadeBy number m.phase n
+  pub locked : (n : ℕ) → (a n).status ≡ Linked → (h n).locked ≡ true → (i : ℕ) × ((a n).owner ≡ Some i)
+  pub gone : (n : ℕ) → (a n).status ≡ Gone → ((h n).retired ≡ true) ⊎ ((i : ℕ) × (m : Machine C V) × (slice_get ms i ≡ Some m) × TakenBy number m.phase n)
+  pub spent : (n : ℕ) → is_spent (a n).status ≡ true → (h n).destroyed ≡ true
+  pub unmade : (n : ℕ) → (a n).status ≡ Unmade → (h n).made ≡ false
+
+-- no call is under way, and nobody holds anything
+abbrev pub Rests : {C V : Type 0} → (C → ℕ) → (ℕ → Note) → (ℕ → Node V) → Type 0
+Rests {C} {V} number a h = Holdings {C = C} {V = V} number a h []
+
+-- what a call holds is its own: no two calls hold one lock or one made node
+pub record Apart {C V : Type 0} (number : C → ℕ) (h : ℕ → Node V) (ms : List (Machine C V)) : Type 0 where
+  pub locked : (i n : ℕ) (m : Machine C V) → slice_get ms i ≡ Some m → LockedBy number m.phase n → (h n).locked ≡ true
+  pub locks : (i j n : ℕ) (m k : Machine C V) → i ≢ j → slice_get ms i ≡ Some m → slice_get ms j ≡ Some k → LockedBy number m.phase n → LockedBy number k.phase n → ⊥
+  pub nodes : (i j n : ℕ) (m k : Machine C V) → i ≢ j → slice_get ms i ≡ Some m → slice_get ms j ≡ Some k → MadeBy number m.phase n → MadeBy number k.phase n → ⊥

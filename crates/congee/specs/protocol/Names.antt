@@ -1,0 +1,106 @@
+-- The names of nodes that a call has between its steps, and where each of them comes from.
+use Rattle.std.specs.Prelude.{◌≡◌, ℕ, Bool, true, false, List, [], ◌∷◌, ◌++◌, Option, None, Some}
+use Rattle.std.specs.List.{All, Contains}
+use Rattle.congee.specs.declared.protocol.store.Seat.{Seat}
+use Rattle.congee.specs.declared.protocol.phase.Parent.{Parent}
+use Rattle.congee.specs.declared.protocol.phase.Site.{Site}
+use Rattle.congee.specs.declared.protocol.phase.Single.{Single}
+use Rattle.congee.specs.declared.protocol.phase.Single.TheVariants.{Set, Link}
+use Rattle.congee.specs.declared.protocol.phase.One.{One}
+use Rattle.congee.specs.declared.protocol.phase.Double.{Double}
+use Rattle.congee.specs.declared.protocol.phase.Double.TheVariants.{Unlink, Grow, GrowLink, Split}
+use Rattle.congee.specs.declared.protocol.phase.Two.{Two}
+use Rattle.congee.specs.declared.protocol.phase.Plan.{Plan}
+use Rattle.congee.specs.declared.protocol.phase.Plan.TheVariants.{Here, Above}
+use Rattle.congee.specs.declared.protocol.phase.Phase.{Phase}
+use Rattle.congee.specs.declared.protocol.phase.Phase.TheVariants.{New, Version, Read, Check, CheckUncopied, CheckMiss, CheckDown, CheckOld, MakeLeaf, MakeGreater, MakeTop, MakeBeside, AskOld, AskNew, Confirm, CheckAbove, UpgradeOne, ChangeOne, UpgradeAbove, UpgradeBoth, ChangeTwo, Obsolete, Retire, UnlockBelow, Unlock, Unwind, Sweep, Ended}
+use Rattle.congee.specs.declared.protocol.machine.Machine.{Machine}
+use Rattle.congee.specs.Heap.{Node, Below}
+use Rattle.congee.specs.protocol.Handing.{InTree}
+use Rattle.congee.specs.Keys.{key_bytes}
+use Rattle.congee.specs.Ledger.{Note, Tree, LockWords}
+use Rattle.congee.specs.protocol.Protocol.{Known}
+use Rattle.congee.specs.protocol.SweepKnown.{names_sweep}
+
+-- the node above, a node with its version, a made leaf, where there is one
+abbrev pub name_above : {C : Type 0} → (C → ℕ) → Option (Parent C) → List ℕ
+name_above number None = []
+name_above number (Some p) = number p.seat.node ∷ []
+
+abbrev pub name_seated : {C : Type 0} → (C → ℕ) → Option (Seat C) → List ℕ
+name_seated number None = []
+name_seated number (Some p) = number p.node ∷ []
+
+abbrev pub name_made : {C : Type 0} → (C → ℕ) → Option C → List ℕ
+name_made number None = []
+name_made number (Some c) = number c ∷ []
+
+-- the nodes made for a change
+abbrev pub names_for_one : {C : Type 0} → (C → ℕ) → Single C → List ℕ
+names_for_one number Set = []
+names_for_one number (Link leaf) = number leaf ∷ []
+
+abbrev pub names_for_two : {C : Type 0} → (C → ℕ) → Double C → List ℕ
+names_for_two number Unlink = []
+names_for_two number (Grow c) = number c ∷ []
+names_for_two number (GrowLink c leaf byte) = number c ∷ number leaf ∷ []
+names_for_two number (Split top leaf common byte) = number top ∷ number leaf ∷ []
+
+-- a node as it was read, and a change
+abbrev pub names_site : {C : Type 0} → (C → ℕ) → Site C → List ℕ
+names_site number s = number s.at.node ∷ name_above number s.above
+
+abbrev pub names_one : {C : Type 0} → (C → ℕ) → One C → List ℕ
+names_one number one = number one.at.node ∷ names_for_one number one.change
+
+abbrev pub names_two : {C : Type 0} → (C → ℕ) → Two C → List ℕ
+names_two number two = number two.above.seat.node ∷ number two.at.node ∷ names_for_two number two.change
+
+abbrev pub names_plan : {C : Type 0} → (C → ℕ) → Plan C → List ℕ
+names_plan number (Here check one) = name_seated number check ++ names_one number one
+names_plan number (Above two) = names_two number two
+
+-- the names that a call has in a phase: the nodes that it looks at, has locked, has made. What a read found at a
+-- node isn't among them before the check that follows
+abbrev pub names : {C V : Type 0} → (C → ℕ) → Phase C V → List ℕ
+names number New = []
+names number (Version p c) = number c ∷ name_above number p
+names number (Read p at) = number at.node ∷ name_above number p
+names number (Check s c) = names_site number s
+names number (CheckUncopied at) = number at.node ∷ []
+names number (CheckMiss p at common byte) = number p.seat.node ∷ number at.node ∷ []
+names number (CheckDown p at c) = number p.node ∷ number at.seat.node ∷ number c ∷ []
+names number (CheckOld p s v) = number p.node ∷ names_site number s
+names number (MakeLeaf s) = names_site number s
+names number (MakeGreater s p leaf) = number p.seat.node ∷ name_made number leaf ++ names_site number s
+names number (MakeTop p at common byte) = number p.seat.node ∷ number at.node ∷ []
+names number (MakeBeside p at common byte top) = number p.seat.node ∷ number at.node ∷ number top ∷ []
+names number (AskOld s v) = names_site number s
+names number (AskNew plan) = names_plan number plan
+names number (Confirm at r) = number at.node ∷ []
+names number (CheckAbove p one r) = number p.node ∷ names_one number one
+names number (UpgradeOne one r) = names_one number one
+names number (ChangeOne one r) = names_one number one
+names number (UpgradeAbove two r) = names_two number two
+names number (UpgradeBoth two r) = names_two number two
+names number (ChangeTwo two r) = names_two number two
+names number (Obsolete n p r) = number n ∷ number p ∷ []
+names number (Retire n p r) = number n ∷ number p ∷ []
+names number (UnlockBelow n p r) = number n ∷ number p ∷ []
+names number (Unlock n r) = number n ∷ []
+names number (Unwind n e) = number n ∷ []
+names number (Sweep s) = names_sweep number s
+names number Ended = []
+
+-- where a call has a name from after a step: it had it before; it is the root's; the step made the node; or the node
+-- hangs, at this step, in a node of the tree
+pub data Comes {V : Type 0} (top : ℕ) (had : List ℕ) (h h' : ℕ → Node V) (n : ℕ) : Type 0 where
+  Had : Contains had n → Comes top had h h' n
+  Top : n ≡ top → Comes top had h h' n
+  New_made : (h n).made ≡ false → (h' n).made ≡ true → Comes top had h h' n
+  Hangs : (p b : ℕ) → InTree h p → (h p).children b ≡ Below n → Comes top had h h' n
+
+-- each name of the next phase, whichever call it is, as long as others keep what it knows
+abbrev pub KeepsOrigin : {C V : Type 0} → (C → ℕ) → (V → V → Bool) → Bool → Machine C V → (ℕ → Node V) → Machine C V → (ℕ → Node V) → Type 0
+KeepsOrigin number same always m h m' h' = (i : ℕ) (a : ℕ → Note) → number m.root ≡ 0 → Tree a h → LockWords a h
+    → Known number same always i a h m.key (key_bytes m.key) m.kind m.given m.phase → All (Comes (number m.root) (names number m.phase) h h') (names number m'.phase)

@@ -1,0 +1,307 @@
+-- What a call knows of the tree between its steps, as long as others may step.
+use Rattle.std.specs.Prelude.{◌≡◌, ◌≢◌, ℕ, ◌==◌, ◌<◌, ◌≤◌, ◌⊎◌, Bool, true, false, List, length, slice_index, Option, None, Some}
+use Rattle.judge.specs.declared.journal.Call.{Call}
+use Rattle.judge.specs.declared.journal.Call.TheVariants as call
+use Rattle.judge.specs.declared.journal.Reply.{Reply}
+use Rattle.judge.proofs.Maps.{leaves, reply_on}
+use Rattle.congee.specs.declared.protocol.store.Seat.{Seat}
+use Rattle.congee.specs.declared.protocol.store.Refusal.{Refusal}
+use Rattle.congee.specs.declared.protocol.store.Refusal.TheVariants as refusal
+use Rattle.congee.specs.declared.protocol.phase.Kind.{Kind}
+use Rattle.congee.specs.declared.protocol.phase.Kind.TheVariants.{Get, Insert, Remove, ComputePresent, ComputeInsert, Exchange}
+use Rattle.congee.specs.declared.protocol.phase.Parent.{Parent}
+use Rattle.congee.specs.declared.protocol.phase.Site.{Site}
+use Rattle.congee.specs.declared.protocol.phase.Single.{Single}
+use Rattle.congee.specs.declared.protocol.phase.Single.TheVariants.{Set, Link}
+use Rattle.congee.specs.declared.protocol.phase.One.{One}
+use Rattle.congee.specs.declared.protocol.phase.Double.{Double}
+use Rattle.congee.specs.declared.protocol.phase.Double.TheVariants.{Unlink, Grow, GrowLink, Split}
+use Rattle.congee.specs.declared.protocol.phase.Two.{Two}
+use Rattle.congee.specs.declared.protocol.phase.Plan.{Plan}
+use Rattle.congee.specs.declared.protocol.phase.Plan.TheVariants.{Here, Above}
+use Rattle.congee.specs.declared.protocol.phase.Phase.{Phase}
+use Rattle.congee.specs.declared.protocol.phase.Phase.TheVariants.{New, Version, Read, Check, CheckUncopied, CheckMiss, CheckDown, CheckOld, MakeLeaf, MakeGreater, MakeTop, MakeBeside, AskOld, AskNew, Confirm, CheckAbove, UpgradeOne, ChangeOne, UpgradeAbove, UpgradeBoth, ChangeTwo, Obsolete, Retire, UnlockBelow, Unlock, Unwind, Sweep, Ended}
+use Rattle.congee.specs.Heap.{Node, Hung, Nothing, Below, Holds, fits, child_for, is_taken}
+use Rattle.congee.specs.protocol.Events.{hung, Parts}
+use Rattle.congee.specs.protocol.Steps.{adds}
+use Rattle.congee.specs.protocol.SweepKnown.{SweepKnown}
+pub use Rattle.congee.specs.protocol.Seats.{Seated, Fresh}
+use Rattle.congee.specs.Ledger.{Note, Unmade, Held, Linked, Gone, is_published, is_spent, Tree, LockWords}
+
+-- node n was read in the node above, at the byte
+pub record ChildOf {C V : Type 0} (number : C → ℕ) (a : ℕ → Note) (h : ℕ → Node V) (key : List ℕ) (p : Parent C) (n : ℕ) : Type 0 where
+  pub fitted : fits (h (number p.seat.node)).prefix key ≡ true
+  pub byte : p.byte ≡ slice_index key (length (h (number p.seat.node)).prefix)
+  pub fresh : Fresh a h (number p.seat.node) p.seat.version (λ m. child_for m key ≡ Below n)
+
+-- nothing is above the root
+abbrev pub IsAbove : {C V : Type 0} → (C → ℕ) → (ℕ → Note) → (ℕ → Node V) → List ℕ → Option (Parent C) → ℕ → Type 0
+IsAbove number a h key None n = n ≡ 0
+IsAbove number a h key (Some p) n = ChildOf number a h key p n
+
+-- what a read saw is true of the node
+pub record Sees {C V : Type 0} (key : List ℕ) (s : Site C) (x : Hung V) (n : Node V) : Type 0 where
+  pub child : child_for n key ≡ x
+  pub count : n.count ≡ s.count
+  pub full : x ≡ Nothing → s.full ≡ (n.count == n.capacity)
+  pub alone : n.count ≡ 1 → x ≢ Nothing → (b : ℕ) → b ≢ slice_index key (length n.prefix) → n.children b ≡ Nothing
+  pub room : x ≡ Nothing → n.count < 256
+
+-- the node at hand, with what hangs at the key's byte there
+pub record Knows {C V : Type 0} (number : C → ℕ) (a : ℕ → Note) (h : ℕ → Node V) (key : List ℕ) (s : Site C) (x : Hung V) : Type 0 where
+  pub above : IsAbove number a h key s.above (number s.at.node)
+  pub fitted : fits (h (number s.at.node)).prefix key ≡ true
+  pub depth : s.depth ≡ length (h (number s.at.node)).prefix
+  pub short : s.depth ≤ 7
+  pub byte : s.byte ≡ slice_index key (length (h (number s.at.node)).prefix)
+  pub fresh : Fresh a h (number s.at.node) s.at.version (Sees key s x)
+
+-- a node that call i has made, empty, on the key's way, with room for more children than `least`
+pub record Made {V : Type 0} (i : ℕ) (a : ℕ → Note) (h : ℕ → Node V) (key : List ℕ) (c size least : ℕ) : Type 0 where
+  pub held : (a c).status ≡ Held i
+  pub unowned : (a c).owner ≡ None
+  pub fitted : fits (h c).prefix key ≡ true
+  pub long : length (h c).prefix ≡ size
+  pub blank : (b : ℕ) → (h c).children b ≡ Nothing
+  pub empty : (h c).count ≡ 0
+  pub room : least < (h c).capacity
+  pub made : (h c).made ≡ true
+  pub kept : (h c).destroyed ≡ false
+  pub unretired : (h c).retired ≡ false
+  pub unlocked : (h c).locked ≡ false
+
+-- a node of the tree whose lock call i holds
+pub record Holding (i : ℕ) (a : ℕ → Note) (n : ℕ) : Type 0 where
+  pub owner : (a n).owner ≡ Some i
+  pub linked : (a n).status ≡ Linked
+
+-- the change of one node: where it stands on the key's way, what the node holds, and what was made for it
+abbrev pub IsLeafAt : {C : Type 0} → Single C → ℕ → Type 0
+IsLeafAt Set size = size ≡ 7
+IsLeafAt (Link leaf) size = size < 7
+
+pub record PlacedOne {C : Type 0} (key : List ℕ) (change : Single C) (b : ℕ) (p : List ℕ) : Type 0 where
+  pub fitted : fits p key ≡ true
+  pub byte : b ≡ slice_index key (length p)
+  pub size : IsLeafAt change (length p)
+
+pub record WantedOne {V : Type 0} (key : List ℕ) (x : Hung V) (n : Node V) : Type 0 where
+  pub child : child_for n key ≡ x
+  pub room : x ≡ Nothing → (n.count == n.capacity) ≡ false
+
+abbrev pub MadeOne : {C V : Type 0} → (C → ℕ) → ℕ → (ℕ → Note) → (ℕ → Node V) → List ℕ → Single C → Type 0
+MadeOne number i a h key Set = Unit {0}
+MadeOne number i a h key (Link leaf) = Made i a h key (number leaf) 7 0
+
+-- nothing or a value
+abbrev pub IsValue : {V : Type 0} → Hung V → Type 0
+IsValue Nothing = Unit {0}
+IsValue (Below c) = ⊥
+IsValue (Holds v) = Unit {0}
+
+abbrev pub value_in : {V : Type 0} → Hung V → Option V
+value_in Nothing = None
+value_in (Below c) = None
+value_in (Holds v) = Some v
+
+-- what stands before the change, beside the new value
+abbrev pub FitsOne : {C V : Type 0} → Single C → Hung V → Option V → Type 0
+FitsOne Set x None = IsValue x × (x ≢ Nothing)
+FitsOne Set x (Some v) = IsValue x
+FitsOne (Link leaf) x None = ⊥
+FitsOne (Link leaf) x (Some v) = x ≡ Nothing
+
+pub record OneKnown {C V : Type 0} (number : C → ℕ) (i : ℕ) (a : ℕ → Note) (h : ℕ → Node V) (key : List ℕ) (one : One C) (x : Hung V) : Type 0 where
+  pub placed : PlacedOne key one.change one.byte (h (number one.at.node)).prefix
+  pub fresh : Fresh a h (number one.at.node) one.at.version (WantedOne key x)
+  pub made : MadeOne number i a h key one.change
+
+pub record OneLocked {C V : Type 0} (number : C → ℕ) (i : ℕ) (a : ℕ → Note) (h : ℕ → Node V) (key : List ℕ) (one : One C) (x : Hung V) : Type 0 where
+  pub holding : Holding i a (number one.at.node)
+  pub placed : PlacedOne key one.change one.byte (h (number one.at.node)).prefix
+  pub wanted : WantedOne key x (h (number one.at.node))
+  pub made : MadeOne number i a h key one.change
+
+-- the change of the node above, likewise
+abbrev pub PlacedTwo : {C : Type 0} → List ℕ → Double C → List ℕ → Type 0
+PlacedTwo key Unlink p = (fits p key ≡ true) × (length p ≡ 7)
+PlacedTwo key (Grow c) p = (fits p key ≡ true) × (length p ≡ 7)
+PlacedTwo key (GrowLink c leaf byte) p = (fits p key ≡ true) × (length p < 7) × (byte ≡ slice_index key (length p))
+PlacedTwo key (Split top leaf common byte) p = Parts p key common × (byte ≡ slice_index p common)
+
+-- what the node at hand holds: the value that goes with it, or nothing, and how many children
+abbrev pub WantedTwo : {C V : Type 0} → List ℕ → Double C → Option V → ℕ → Node V → Type 0
+WantedTwo key Unlink None q n = ⊥
+WantedTwo key Unlink (Some v) q n = (child_for n key ≡ Holds v) × ((b : ℕ) → b ≢ slice_index key (length n.prefix) → n.children b ≡ Nothing)
+WantedTwo key (Grow c) found q n = (child_for n key ≡ Nothing) × (n.count ≡ q)
+WantedTwo key (GrowLink c leaf byte) found q n = (child_for n key ≡ Nothing) × (n.count ≡ q)
+WantedTwo key (Split top leaf common byte) found q n = Unit {0}
+
+abbrev pub MadeTwo : {C V : Type 0} → (C → ℕ) → ℕ → (ℕ → Note) → (ℕ → Node V) → List ℕ → Double C → ℕ → ℕ → Type 0
+MadeTwo number i a h key Unlink size q = Unit {0}
+MadeTwo number i a h key (Grow c) size q = Made i a h key (number c) size q
+MadeTwo number i a h key (GrowLink c leaf byte) size q = Made i a h key (number c) size q × Made i a h key (number leaf) 7 0 × (number c ≢ number leaf)
+MadeTwo number i a h key (Split top leaf common byte) size q = Made i a h key (number top) common 1 × Made i a h key (number leaf) 7 0 × (number top ≢ number leaf)
+
+-- an unlinking has found a value and puts none; the other changes have found none and put one
+abbrev pub FitsTwo : {C V : Type 0} → Double C → Option V → Option V → Type 0
+FitsTwo Unlink None given = ⊥
+FitsTwo Unlink (Some v) None = Unit {0}
+FitsTwo Unlink (Some v) (Some w) = ⊥
+FitsTwo _ None None = ⊥
+FitsTwo _ None (Some w) = Unit {0}
+FitsTwo _ (Some v) given = ⊥
+
+pub record TwoKnown {C V : Type 0} (number : C → ℕ) (i : ℕ) (a : ℕ → Note) (h : ℕ → Node V) (key : List ℕ) (two : Two C) (found : Option V) (q : ℕ) : Type 0 where
+  pub above : ChildOf number a h key two.above (number two.at.node)
+  pub placed : PlacedTwo key two.change (h (number two.at.node)).prefix
+  pub fresh : Fresh a h (number two.at.node) two.at.version (WantedTwo key two.change found q)
+  pub made : MadeTwo number i a h key two.change (length (h (number two.at.node)).prefix) q
+
+-- the node above is locked, and holds the node at hand
+pub record AboveLocked {C V : Type 0} (number : C → ℕ) (i : ℕ) (a : ℕ → Note) (h : ℕ → Node V) (key : List ℕ) (p : Parent C) (n : ℕ) : Type 0 where
+  pub holding : Holding i a (number p.seat.node)
+  pub fitted : fits (h (number p.seat.node)).prefix key ≡ true
+  pub byte : p.byte ≡ slice_index key (length (h (number p.seat.node)).prefix)
+  pub child : child_for (h (number p.seat.node)) key ≡ Below n
+
+pub record HalfLocked {C V : Type 0} (number : C → ℕ) (i : ℕ) (a : ℕ → Note) (h : ℕ → Node V) (key : List ℕ) (two : Two C) (found : Option V) (q : ℕ) : Type 0 where
+  pub above : AboveLocked number i a h key two.above (number two.at.node)
+  pub placed : PlacedTwo key two.change (h (number two.at.node)).prefix
+  pub fresh : Fresh a h (number two.at.node) two.at.version (WantedTwo key two.change found q)
+  pub made : MadeTwo number i a h key two.change (length (h (number two.at.node)).prefix) q
+
+pub record TwoLocked {C V : Type 0} (number : C → ℕ) (i : ℕ) (a : ℕ → Note) (h : ℕ → Node V) (key : List ℕ) (two : Two C) (found : Option V) (q : ℕ) : Type 0 where
+  pub above : AboveLocked number i a h key two.above (number two.at.node)
+  pub owner : (a (number two.at.node)).owner ≡ Some i
+  pub placed : PlacedTwo key two.change (h (number two.at.node)).prefix
+  pub wanted : WantedTwo key two.change found q (h (number two.at.node))
+  pub made : MadeTwo number i a h key two.change (length (h (number two.at.node)).prefix) q
+
+-- a node that the call took out, still locked by it, and the node above
+pub record TakenOut {V : Type 0} (i : ℕ) (a : ℕ → Note) (h : ℕ → Node V) (p n : ℕ) : Type 0 where
+  pub above : Holding i a p
+  pub owner : (a n).owner ≡ Some i
+  pub gone : (a n).status ≡ Gone
+  pub unretired : (h n).retired ≡ false
+
+-- the call that the map answers: the one that began, with the last answer of its closure; for a key found absent,
+-- a call on a present key alone has none
+abbrev pub IsCall : {V : Type 0} → ℕ → Kind V → Option V → Option V → Call V → Type 0
+IsCall k Get given found c = c ≡ call.Get k
+IsCall k Insert None found c = ⊥
+IsCall k Insert (Some v) found c = c ≡ call.Insert k v
+IsCall k Remove given found c = c ≡ call.Remove k
+IsCall k ComputePresent given None c = c ≡ call.ComputePresent k None
+IsCall k ComputePresent given (Some v) c = c ≡ call.ComputePresent k given
+IsCall k ComputeInsert None found c = ⊥
+IsCall k ComputeInsert (Some v) found c = c ≡ call.ComputeInsert k v
+IsCall k (Exchange old) given found c = c ≡ call.Exchange k old given
+
+-- where `found` stands at the key, the call's reply is r, and `after` stands there after it
+pub record Settles {V : Type 0} (same : V → V → Bool) (k : ℕ) (kind : Kind V) (given found : Option V) (r : Reply V) (after : Option V) : Type 0 where
+  pub call : Call V
+  pub is_call : IsCall k kind given found call
+  pub reply : reply_on same call found ≡ r
+  pub left : leaves same call found ≡ after
+
+-- the value that an insertion was given is there until it takes effect
+abbrev pub HasGift : {V : Type 0} → Kind V → Option V → Type 0
+HasGift {V} Insert given = (v : V) × (given ≡ Some v)
+HasGift Remove given = given ≡ None
+HasGift _ given = Unit {0}
+
+abbrev pub Asking : {V : Type 0} → Kind V → Type 0
+Asking ComputePresent = Unit {0}
+Asking ComputeInsert = Unit {0}
+Asking _ = ⊥
+
+-- a plan that waits for the closure's answer
+abbrev pub Adding : {C : Type 0} → Double C → Type 0
+Adding Unlink = ⊥
+Adding _ = Unit {0}
+
+-- a lock was not had: its exchange failed, or no version is left for it
+abbrev pub IsFailure : Option Refusal → Type 0
+IsFailure None = Unit {0}
+IsFailure (Some e) = e ≡ refusal.Exhausted
+
+abbrev pub SeatedIf : {C V : Type 0} → (C → ℕ) → (ℕ → Note) → (ℕ → Node V) → Option (Seat C) → Type 0
+SeatedIf number a h None = Unit {0}
+SeatedIf number a h (Some p) = Seated a h (number p.node) p.version
+
+abbrev pub PlanKnown : {C V : Type 0} → (C → ℕ) → ℕ → (ℕ → Note) → (ℕ → Node V) → List ℕ → Plan C → Type 0
+PlanKnown number i a h key (Here check one) = SeatedIf number a h check × OneKnown number i a h key one Nothing
+PlanKnown number i a h key (Above two) = ((q : ℕ) × TwoKnown number i a h key two None q) × Adding two.change
+
+abbrev pub MadeLeafFor : {C V : Type 0} → (C → ℕ) → ℕ → (ℕ → Note) → (ℕ → Node V) → List ℕ → Site C → Option C → Type 0
+MadeLeafFor number i a h key s None = s.depth ≡ 7
+MadeLeafFor number i a h key s (Some leaf) = (s.depth < 7) × Made i a h key (number leaf) 7 0
+
+pub record Confirmed {C V : Type 0} (number : C → ℕ) (a : ℕ → Note) (h : ℕ → Node V) (key : List ℕ) (at : Seat C) (v : V) : Type 0 where
+  pub fitted : fits (h (number at.node)).prefix key ≡ true
+  pub fresh : Fresh a h (number at.node) at.version (λ m. child_for m key ≡ Holds v)
+
+-- what call i knows in each phase
+abbrev pub Known : {C V : Type 0} → (C → ℕ) → (V → V → Bool) → Bool → ℕ → (ℕ → Note) → (ℕ → Node V) → ℕ → List ℕ → Kind V → Option V → Phase C V → Type 0
+Known number same always i a h k key kind given New = HasGift kind given
+Known number same always i a h k key kind given (Version above n) = HasGift kind given × IsAbove number a h key above (number n) × (is_published (a (number n)).status ≡ true)
+Known number same always i a h k key kind given (Read above at) = HasGift kind given × IsAbove number a h key above (number at.node) × Seated a h (number at.node) at.version
+Known number same always i a h k key kind given (Check s c) = HasGift kind given × Knows number a h key s (hung number c)
+Known number same always i a h k key kind given (CheckUncopied at) = HasGift kind given × Seated a h (number at.node) at.version × (always ≡ false)
+Known number same always i a h k key kind given (CheckMiss p at common byte) = HasGift kind given × ChildOf number a h key p (number at.node) × Seated a h (number at.node) at.version
+    × Parts (h (number at.node)).prefix key common × (byte ≡ slice_index (h (number at.node)).prefix common)
+Known number same always i a h k key kind given (CheckDown p at c) = HasGift kind given × Seated a h (number p.node) p.version × ChildOf number a h key at (number c) × (is_published (a (number c)).status ≡ true)
+Known number same always i a h k key kind given (CheckOld p s v) = HasGift kind given × Seated a h (number p.node) p.version × Knows number a h key s (Holds v) × (adds kind ≡ true) × (s.depth ≡ 7)
+Known number same always i a h k key kind given (MakeLeaf s) = HasGift kind given × Knows number a h key s Nothing × (s.depth < 7) × (adds kind ≡ true) × (s.count < 256)
+Known number same always i a h k key kind given (MakeGreater s p leaf) = HasGift kind given × Knows number a h key s Nothing × (s.above ≡ Some p) × MadeLeafFor number i a h key s leaf × (adds kind ≡ true) × (s.count < 256)
+Known number same always i a h k key kind given (MakeTop p at common byte) = HasGift kind given × ChildOf number a h key p (number at.node) × Seated a h (number at.node) at.version
+    × Parts (h (number at.node)).prefix key common × (byte ≡ slice_index (h (number at.node)).prefix common) × (adds kind ≡ true)
+Known number same always i a h k key kind given (MakeBeside p at common byte top) = HasGift kind given × ChildOf number a h key p (number at.node) × Seated a h (number at.node) at.version
+    × Parts (h (number at.node)).prefix key common × (byte ≡ slice_index (h (number at.node)).prefix common) × (adds kind ≡ true) × Made i a h key (number top) common 1
+Known number same always i a h k key kind given (AskOld s v) = HasGift kind given × Knows number a h key s (Holds v) × Asking kind × (s.depth ≡ 7)
+Known number same always i a h k key kind given (AskNew plan) = PlanKnown number i a h key plan × (kind ≡ ComputeInsert)
+Known {C} {V} number same always i a h k key kind given (Confirm at r) = HasGift kind given × ((v : V) × Confirmed number a h key at v × Settles same k kind given (Some v) r (Some v))
+Known number same always i a h k key kind given (CheckAbove p one r) = HasGift kind given × Seated a h (number p.node) p.version × OneKnown number i a h key one Nothing × FitsOne one.change Nothing given × Settles same k kind given None r given
+Known {C} {V} number same always i a h k key kind given (UpgradeOne one r) = HasGift kind given × ((x : Hung V) × OneKnown number i a h key one x × FitsOne one.change x given × Settles same k kind given (value_in x) r given)
+Known {C} {V} number same always i a h k key kind given (ChangeOne one r) = (x : Hung V) × OneLocked number i a h key one x × FitsOne one.change x given × Settles same k kind given (value_in x) r given
+Known {C} {V} number same always i a h k key kind given (UpgradeAbove two r) = HasGift kind given × ((found : Option V) × (q : ℕ) × TwoKnown number i a h key two found q × FitsTwo two.change found given × Settles same k kind given found r given)
+Known {C} {V} number same always i a h k key kind given (UpgradeBoth two r) = HasGift kind given × ((found : Option V) × (q : ℕ) × HalfLocked number i a h key two found q × FitsTwo two.change found given × Settles same k kind given found r given)
+Known {C} {V} number same always i a h k key kind given (ChangeTwo two r) = (found : Option V) × (q : ℕ) × TwoLocked number i a h key two found q × FitsTwo two.change found given × Settles same k kind given found r given
+Known number same always i a h k key kind given (Obsolete n p r) = TakenOut i a h (number p) (number n)
+Known number same always i a h k key kind given (Retire n p r) = TakenOut i a h (number p) (number n) × ((h (number n)).obsolete ≡ true)
+Known number same always i a h k key kind given (UnlockBelow n p r) = Holding i a (number n) × Holding i a (number p) × (number n ≢ number p)
+Known number same always i a h k key kind given (Unlock n r) = Holding i a (number n)
+Known number same always i a h k key kind given (Unwind n e) = HasGift kind given × Holding i a (number n) × IsFailure e
+Known number same always i a h k key kind given (Sweep s) = SweepKnown number always a h s
+Known number same always i a h k key kind given Ended = Unit {0}
+
+-- what call i may count on over a step of others, as far as the nodes of K go: a word that was taken and still
+-- stands names the very node that it was taken of, and what the call has locked or made stays as it is
+pub record Rely {V : Type 0} (K : ℕ → Type 0) (i : ℕ) (a : ℕ → Note) (h : ℕ → Node V) (a' : ℕ → Note) (h' : ℕ → Node V) : Type 0 where
+  pub version : (n : ℕ) → K n → is_published (a n).status ≡ true → (h n).version ≤ (h' n).version
+  pub prefix : (n : ℕ) → K n → is_published (a n).status ≡ true → (h' n).prefix ≡ (h n).prefix
+  pub published : (n : ℕ) → K n → is_published (a n).status ≡ true → is_published (a' n).status ≡ true
+  pub word : (n v : ℕ) → K n → is_published (a n).status ≡ true → v ≤ (h n).version → is_taken (h' n) v ≡ true → h' n ≡ h n
+  pub mine : (n : ℕ) → (a n).owner ≡ Some i → (h' n ≡ h n) × ((a' n).status ≡ (a n).status) × ((a' n).owner ≡ (a n).owner)
+  pub held : (n : ℕ) → (a n).status ≡ Held i → (h' n ≡ h n) × (a' n ≡ a n)
+
+-- how one node fares in a step of call i, with its note: only call i takes its lock, of a node in the tree, or makes
+-- it; a made node stays as it is until it is hung or given back; it leaves the tree under the lock of call i, and is
+-- handed over once;
+-- in the tree it is locked by its owner alone
+pub record Fares {V : Type 0} (i : ℕ) (x y : Note) (p q : Node V) : Type 0 where
+  pub owner : (j : ℕ) → y.owner ≡ Some j → (x.owner ≡ Some j) ⊎ ((j ≡ i) × (p.locked ≡ false) × (y.status ≡ Linked))
+  pub handed : (j : ℕ) → y.owner ≡ Some j → q.retired ≡ p.retired
+  pub held : (j : ℕ) → y.status ≡ Held j → ((x.status ≡ Held j) × (q ≡ p)) ⊎ ((j ≡ i) × (p.made ≡ false))
+  pub gone : y.status ≡ Gone → (y.owner ≡ Some i) ⊎ ((x.status ≡ Gone) × (p.retired ≡ true → q.retired ≡ true))
+  pub locked : y.status ≡ Linked → q.locked ≡ true → (y.owner ≡ Some i) ⊎ ((x.status ≡ Linked) × (p.locked ≡ true) × (y.owner ≡ x.owner))
+  pub spent : is_spent y.status ≡ true → (q.destroyed ≡ true) ⊎ ((is_spent x.status ≡ true) × (q.destroyed ≡ p.destroyed))
+  pub unmade : y.status ≡ Unmade → (x.status ≡ Unmade) × (q.made ≡ p.made)
+
+-- what a step of call i leaves: the tree, the words, and what the others count on
+pub record Effect {V : Type 0} (i : ℕ) (a : ℕ → Note) (h : ℕ → Node V) (a' : ℕ → Note) (h' : ℕ → Node V) : Type 0 where
+  pub tree : Tree a' h'
+  pub words : LockWords a' h'
+  pub others : (j : ℕ) → j ≢ i → Rely (λ _. Unit {0}) j a h a' h'
+  pub fares : (n : ℕ) → Fares i (a n) (a' n) (h n) (h' n)

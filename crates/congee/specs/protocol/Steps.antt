@@ -1,0 +1,504 @@
+-- One step of a call on what the store answers: the next phase, and what the step reports.
+use Rattle.std.specs.Prelude.{◌≡◌, ◌≢◌, ℕ, ◌==◌, ◌<◌, ◌≤◌, ◌⊎◌, Bool, true, false, List, slice_index, Option, None, Some, Result, Ok, Err, IfErr, cond}
+use Rattle.std.proofs.Math.Dec.{ltb}
+use Rattle.judge.specs.declared.journal.Reply.{Reply}
+use Rattle.judge.specs.declared.journal.Reply.TheVariants as reply
+use Rattle.congee.specs.declared.forms.base_node.NodeType.{NodeType}
+use Rattle.congee.specs.declared.forms.base_node.NodeType.TheVariants.{N4, N16, N48, N256}
+use Rattle.congee.specs.declared.forms.child.Child.{Child}
+use Rattle.congee.specs.declared.forms.child.Child.TheVariants as child
+use Rattle.congee.specs.declared.protocol.store.Reading.{Reading}
+use Rattle.congee.specs.declared.protocol.store.Reading.TheVariants.{Differs, Fits, Uncopied}
+use Rattle.congee.specs.declared.protocol.store.Seat.{Seat}
+use Rattle.congee.specs.declared.protocol.store.Upgrade.{Upgrade}
+use Rattle.congee.specs.declared.protocol.store.Upgrade.TheVariants.{Locked, Failed, Exhausted}
+use Rattle.congee.specs.declared.protocol.store.Refusal.{Refusal}
+use Rattle.congee.specs.declared.protocol.store.Refusal.TheVariants as refusal
+use Rattle.congee.specs.declared.protocol.phase.Kind.{Kind}
+use Rattle.congee.specs.declared.protocol.phase.Kind.TheVariants.{Get, Insert, Remove, ComputePresent, ComputeInsert, Exchange}
+use Rattle.congee.specs.declared.protocol.phase.Parent.{Parent}
+use Rattle.congee.specs.declared.protocol.phase.Site.{Site}
+use Rattle.congee.specs.declared.protocol.phase.Single.{Single}
+use Rattle.congee.specs.declared.protocol.phase.Single.TheVariants.{Set, Link}
+use Rattle.congee.specs.declared.protocol.phase.One.{One}
+use Rattle.congee.specs.declared.protocol.phase.Double.{Double}
+use Rattle.congee.specs.declared.protocol.phase.Double.TheVariants.{Unlink, Grow, GrowLink, Split}
+use Rattle.congee.specs.declared.protocol.phase.Two.{Two}
+use Rattle.congee.specs.declared.protocol.phase.Plan.{Plan}
+use Rattle.congee.specs.declared.protocol.phase.Plan.TheVariants.{Here, Above}
+use Rattle.congee.specs.declared.protocol.phase.Phase.{Phase}
+use Rattle.congee.specs.declared.protocol.phase.Phase.TheVariants.{New, Version, Read, Check, CheckUncopied, CheckMiss, CheckDown, CheckOld, MakeLeaf, MakeGreater, MakeTop, MakeBeside, AskOld, AskNew, Confirm, CheckAbove, UpgradeOne, ChangeOne, UpgradeAbove, UpgradeBoth, ChangeTwo, Obsolete, Retire, UnlockBelow, Unlock, Unwind, Sweep, Ended}
+use Rattle.congee.specs.declared.protocol.machine.Outcome.{Outcome}
+use Rattle.congee.specs.declared.protocol.machine.Outcome.TheVariants.{Running, Asks, Found, Done, Scanned, Refused}
+use Rattle.congee.specs.declared.protocol.sweep.Sweep.{Sweep as Scan}
+use Rattle.congee.specs.declared.protocol.sweep.Told.{Told}
+use Rattle.congee.specs.declared.protocol.sweep.Told.TheVariants as told
+use Rattle.congee.specs.protocol.SweepSteps.{SweepStepped, MaySweep}
+use Rattle.congee.specs.declared.protocol.machine.Move.{Move}
+use Rattle.congee.specs.declared.protocol.turn.Turn.{Turn}
+use Rattle.congee.specs.declared.protocol.machine.Machine.{Machine}
+use Rattle.congee.specs.Heap.{Node, Hung, Nothing, Below, Holds, Stands, version_of, is_taken}
+use Rattle.congee.specs.protocol.Events.{ReadGives, SameBut, upgrade_gives, MakeGives, MayChange, ChangeGives, TakeOverGives, BackGives, ObsoleteGives, RetireGives, UnlockGives, HoldsAlike}
+use Rattle.congee.specs.Keys.{key_bytes}
+
+-- what a step leaves: it goes on, begins anew, answers in this step, ends with an answer given before, is refused,
+-- takes effect and goes on, or asks
+abbrev pub quiet : {C V : Type 0} → Phase C V → Turn C V
+quiet s = record { phase = s; step = record { decided = false; outcome = Running } }
+
+abbrev pub again : {C V : Type 0} → C → Turn C V
+again root = quiet (Version None root)
+
+abbrev pub answered : {C V : Type 0} → Reply V → Turn C V
+answered r = record { phase = Ended; step = record { decided = true; outcome = Done r } }
+
+abbrev pub finished : {C V : Type 0} → Reply V → Turn C V
+finished r = record { phase = Ended; step = record { decided = false; outcome = Done r } }
+
+abbrev pub refused : {C V : Type 0} → Refusal → Turn C V
+refused e = record { phase = Ended; step = record { decided = false; outcome = Refused e } }
+
+abbrev pub decided : {C V : Type 0} → Phase C V → Turn C V
+decided s = record { phase = s; step = record { decided = true; outcome = Running } }
+
+abbrev pub asking : {C V : Type 0} → Phase C V → Option V → Turn C V
+asking s o = record { phase = s; step = record { decided = false; outcome = Asks o } }
+
+-- whether the call puts a value at an absent key
+abbrev pub adds : {V : Type 0} → Kind V → Bool
+adds Get = false
+adds Insert = true
+adds Remove = false
+adds ComputePresent = false
+adds ComputeInsert = true
+adds (Exchange old) = false
+
+-- whether the closure is asked for an absent key
+abbrev pub asks_new : {V : Type 0} → Kind V → Bool
+asks_new Get = false
+asks_new Insert = false
+asks_new Remove = false
+asks_new ComputePresent = false
+asks_new ComputeInsert = true
+asks_new (Exchange old) = false
+
+-- the reply where the key is absent
+abbrev pub absent_reply : {V : Type 0} → Kind V → Reply V
+absent_reply Get = reply.Get None
+absent_reply Insert = reply.Insert None
+absent_reply Remove = reply.Remove None
+absent_reply ComputePresent = reply.ComputePresent None
+absent_reply ComputeInsert = reply.ComputeInsert None
+absent_reply (Exchange old) = reply.Exchange (Err None)
+
+-- the form with a place for more than so many children
+abbrev pub form_above : ℕ → NodeType
+form_above n = cond (ltb n 4) N4 (cond (ltb n 16) N16 (cond (ltb n 48) N48 N256))
+
+abbrev pub seat_above : {C : Type 0} → Option (Parent C) → Option (Seat C)
+seat_above None = None
+seat_above (Some p) = Some p.seat
+
+abbrev pub after_version : {C V : Type 0} → C → Option (Parent C) → C → Option ℕ → Turn C V
+after_version root above n None = again root
+after_version root above n (Some v) = quiet (Read above (record { node = n; version = v }))
+
+abbrev pub after_read : {C V : Type 0} → C → Option (Parent C) → Seat C → Reading C V → Turn C V
+after_read root None at (Differs common byte) = again root
+after_read root (Some p) at (Differs common byte) = quiet (CheckMiss p at common byte)
+after_read root above at (Fits depth s) = quiet (Check (record { above = above; at = at; depth = depth; byte = s.byte; count = s.count; full = s.full }) s.child)
+after_read root above at Uncopied = quiet (CheckUncopied at)
+
+-- a child is followed; an insertion first checks the node above
+abbrev pub down : {C V : Type 0} → Bool → Site C → Option (Parent C) → C → Turn C V
+down false s above c = quiet (Version (Some (record { seat = s.at; byte = s.byte })) c)
+down true s None c = quiet (Version (Some (record { seat = s.at; byte = s.byte })) c)
+down true s (Some p) c = quiet (CheckDown p.seat (record { seat = s.at; byte = s.byte }) c)
+
+-- the nodes are made: what was planned begins, after the closure's answer where one is wanted
+abbrev pub started : {C V : Type 0} → Plan C → Reply V → Turn C V
+started (Here None one) r = quiet (UpgradeOne one r)
+started (Here (Some p) one) r = quiet (CheckAbove p one r)
+started (Above two) r = quiet (UpgradeAbove two r)
+
+abbrev pub ready : {C V : Type 0} → Kind V → Plan C → Turn C V
+ready kind plan = cond (asks_new kind) (asking (AskNew plan) None) (started plan (absent_reply kind))
+
+abbrev pub plan_here : {C : Type 0} → Site C → Single C → Plan C
+plan_here s change = Here (seat_above s.above) (record { at = s.at; byte = s.byte; change = change })
+
+-- a full node gives way to a greater one; the root is never full
+abbrev pub unless_full : {C V : Type 0} → Kind V → Site C → Bool → Option (Parent C) → Option C → Single C → Turn C V
+unless_full kind s true (Some p) leaf change = quiet (MakeGreater s p leaf)
+unless_full kind s true None leaf change = ready kind (plan_here s change)
+unless_full kind s false above leaf change = ready kind (plan_here s change)
+
+-- an insertion's key is absent at the node
+abbrev pub missing : {C V : Type 0} → Kind V → Site C → Turn C V
+missing kind s = cond (s.depth == 7) (unless_full kind s s.full s.above None Set) (quiet (MakeLeaf s))
+
+abbrev pub absent : {C V : Type 0} → Kind V → Site C → Turn C V
+absent kind s = cond (adds kind) (missing kind s) (answered (absent_reply kind))
+
+-- the value's copy failed, where copies may
+abbrev pub CopyFailed : {C V : Type 0} → Bool → Turn C V → Type 0
+CopyFailed always t = (always ≡ false) × (t ≡ refused refusal.Count)
+
+-- the closure is asked for a value that stands
+abbrev pub IsAsked : {C V : Type 0} → Bool → Site C → V → Turn C V → Type 0
+IsAsked always s v t = (t ≡ asking (AskOld s v) (Some v)) ⊎ CopyFailed always t
+
+-- the same value again is confirmed, and another one comes in its place
+abbrev pub replaced : {C V : Type 0} → Site C → Bool → Reply V → Turn C V
+replaced s same r = cond same (quiet (Confirm s.at r)) (quiet (UpgradeOne (record { at = s.at; byte = s.byte; change = Set }) r))
+
+-- the value goes, and with its last value the leaf
+abbrev pub taken_out : {C V : Type 0} → Site C → Bool → Option (Parent C) → Reply V → Turn C V
+taken_out s true (Some p) r = quiet (UpgradeAbove (record { above = p; at = s.at; change = Unlink }) r)
+taken_out s true None r = quiet (UpgradeOne (record { at = s.at; byte = s.byte; change = Set }) r)
+taken_out s false above r = quiet (UpgradeOne (record { at = s.at; byte = s.byte; change = Set }) r)
+
+abbrev pub emptied : {C V : Type 0} → Site C → Reply V → Turn C V
+emptied s r = taken_out s (s.count == 1) s.above r
+
+-- whether the value that stands is the new one
+abbrev pub is_same : {V : Type 0} → (V → V → Bool) → V → Option V → Bool
+is_same same v None = false
+is_same same v (Some w) = same v w
+
+-- an insertion stands at a value
+abbrev pub IsAtOld : {C V : Type 0} → Bool → (V → V → Bool) → Kind V → Option V → Site C → V → Turn C V → Type 0
+IsAtOld always same Insert new s v t = t ≡ replaced s (is_same same v new) (reply.Insert (Some v))
+IsAtOld always same _ new s v t = IsAsked always s v t
+
+abbrev pub IsAdded : {C V : Type 0} → Bool → (V → V → Bool) → Kind V → Option V → Site C → Option (Parent C) → V → Turn C V → Type 0
+IsAdded always same kind new s None v t = IsAtOld always same kind new s v t
+IsAdded always same kind new s (Some p) v t = t ≡ quiet (CheckOld p.seat s v)
+
+-- an exchange found the old value, and has a copy of the new one for its reply
+abbrev pub IsExchanged : {C V : Type 0} → Bool → (V → V → Bool) → Option V → Site C → V → Turn C V → Type 0
+IsExchanged always same None s v t = t ≡ emptied s (reply.Exchange (Ok None))
+IsExchanged always same (Some w) s v t = (t ≡ replaced s (same v w) (reply.Exchange (Ok (Some w)))) ⊎ CopyFailed always t
+
+abbrev pub IsCompared : {C V : Type 0} → Bool → Bool → (V → V → Bool) → Option V → Site C → V → Turn C V → Type 0
+IsCompared found always same new s v t = (found ≡ true → IsExchanged always same new s v t) × (found ≡ false → t ≡ quiet (Confirm s.at (reply.Exchange (Err (Some v)))))
+
+-- a call stands at a value
+abbrev pub IsPresent : {C V : Type 0} → Bool → (V → V → Bool) → Kind V → Option V → Site C → V → Turn C V → Type 0
+IsPresent always same Get new s v t = t ≡ answered (reply.Get (Some v))
+IsPresent always same Insert new s v t = IsAdded always same Insert new s s.above v t
+IsPresent always same Remove new s v t = t ≡ emptied s (reply.Remove (Some v))
+IsPresent always same ComputePresent new s v t = IsAsked always s v t
+IsPresent always same ComputeInsert new s v t = IsAdded always same ComputeInsert new s s.above v t
+IsPresent always same (Exchange old) new s v t = IsCompared (same v old) always same new s v t
+
+-- the check after a read succeeded
+abbrev pub IsChecked : {C V : Type 0} → Bool → (V → V → Bool) → Kind V → Option V → Site C → Child C V → Turn C V → Type 0
+IsChecked always same kind new s child.Blank t = t ≡ absent kind s
+IsChecked always same kind new s (child.Node c) t = t ≡ down (adds kind) s s.above c
+IsChecked always same kind new s (child.Value v) t = IsPresent always same kind new s v t
+
+-- a check that decides by its outcome: what follows where it succeeds, and else the call begins anew
+abbrev pub IsIf : {C V : Type 0} → Bool → C → (Turn C V → Type 0) → Turn C V → Type 0
+IsIf taken root Then t = (taken ≡ true → Then t) × (taken ≡ false → t ≡ again root)
+
+abbrev pub after_miss : {C V : Type 0} → Kind V → Parent C → Seat C → ℕ → ℕ → Turn C V
+after_miss kind p at common byte = cond (adds kind) (quiet (MakeTop p at common byte)) (answered (absent_reply kind))
+
+-- the answer to the closure's question about a value that stands: the new value, and what follows
+abbrev pub IsGiven : {C V : Type 0} → Bool → (V → V → Bool) → Kind V → Site C → V → Option (Option V) → Option V → Option V → Turn C V → Type 0
+IsGiven always same kind s v None new new' t = (new' ≡ new) × IsAsked always s v t
+IsGiven always same ComputeInsert s v (Some None) new new' t = (new' ≡ new) × IsAsked always s v t
+IsGiven always same ComputeInsert s v (Some (Some x)) new new' t = (new' ≡ Some x) × (t ≡ replaced s (same v x) (reply.ComputeInsert (Some v)))
+IsGiven always same _ s v (Some None) new new' t = (new' ≡ None) × (t ≡ emptied s (reply.ComputePresent (Some (v, None))))
+IsGiven always same _ s v (Some (Some x)) new new' t = (new' ≡ Some x) × ((t ≡ replaced s (same v x) (reply.ComputePresent (Some (v, Some x)))) ⊎ CopyFailed always t)
+
+-- and about an absent key
+abbrev pub IsGivenNew : {C V : Type 0} → Plan C → Option (Option V) → Option V → Option V → Turn C V → Type 0
+IsGivenNew plan (Some (Some x)) new new' t = (new' ≡ Some x) × (t ≡ started plan (reply.ComputeInsert None))
+IsGivenNew plan _ new new' t = (new' ≡ new) × (t ≡ asking (AskNew plan) None)
+
+-- the made nodes of a change go back
+abbrev pub BackOne : {C V : Type 0} → (C → ℕ) → (ℕ → Node V) → Single C → (ℕ → Node V) → Type 0
+BackOne number h Set h' = h' ≡ h
+BackOne number h (Link leaf) h' = BackGives h (number leaf) h'
+
+abbrev pub BackTwo : {C V : Type 0} → (C → ℕ) → (ℕ → Node V) → Double C → (ℕ → Node V) → Type 0
+BackTwo number h Unlink h' = h' ≡ h
+BackTwo number h (Grow c) h' = BackGives h (number c) h'
+BackTwo {C} {V} number h (GrowLink c leaf byte) h' = (h1 : ℕ → Node V) × BackGives h (number leaf) h1 × BackGives h1 (number c) h'
+BackTwo {C} {V} number h (Split top leaf common byte) h' = (h1 : ℕ → Node V) × BackGives h (number leaf) h1 × BackGives h1 (number top) h'
+
+abbrev pub BackLeaf : {C V : Type 0} → (C → ℕ) → (ℕ → Node V) → Option C → (ℕ → Node V) → Type 0
+BackLeaf number h None h' = h' ≡ h
+BackLeaf number h (Some leaf) h' = BackGives h (number leaf) h'
+
+-- a node was made or not
+abbrev pub MadeLeaf : {C V : Type 0} → (C → ℕ) → Kind V → Site C → (ℕ → Node V) → List ℕ → Result C Refusal → (ℕ → Node V) → Turn C V → Type 0
+MadeLeaf number kind s h key (Ok leaf) h' t = MakeGives number h N4 key 7 (Ok leaf) h' × (t ≡ unless_full kind s s.full s.above (Some leaf) (Link leaf))
+MadeLeaf number kind s h key (Err e) h' t = (h' ≡ h) × (t ≡ refused e)
+
+abbrev pub greater : {C : Type 0} → Site C → Option C → C → Double C
+greater s None c = Grow c
+greater s (Some leaf) c = GrowLink c leaf s.byte
+
+abbrev pub MadeGreater : {C V : Type 0} → (C → ℕ) → Kind V → Site C → Parent C → Option C → (ℕ → Node V) → List ℕ → Result C Refusal → (ℕ → Node V) → Turn C V → Type 0
+MadeGreater number kind s p leaf h key (Ok c) h' t = MakeGives number h (form_above s.count) key s.depth (Ok c) h'
+    × (t ≡ ready kind (Above (record { above = p; at = s.at; change = greater s leaf c })))
+MadeGreater number kind s p leaf h key (Err e) h' t = BackLeaf number h leaf h' × (t ≡ refused e)
+
+abbrev pub MadeTop : {C V : Type 0} → (C → ℕ) → Parent C → Seat C → ℕ → ℕ → (ℕ → Node V) → List ℕ → Result C Refusal → (ℕ → Node V) → Turn C V → Type 0
+MadeTop number p at common byte h key (Ok top) h' t = MakeGives number h N4 key common (Ok top) h' × (t ≡ quiet (MakeBeside p at common byte top))
+MadeTop number p at common byte h key (Err e) h' t = (h' ≡ h) × (t ≡ refused e)
+
+abbrev pub MadeBeside : {C V : Type 0} → (C → ℕ) → Kind V → Parent C → Seat C → ℕ → ℕ → C → (ℕ → Node V) → List ℕ → Result C Refusal → (ℕ → Node V) → Turn C V → Type 0
+MadeBeside number kind p at common byte top h key (Ok leaf) h' t = MakeGives number h N4 key 7 (Ok leaf) h'
+    × (t ≡ ready kind (Above (record { above = p; at = at; change = Split top leaf common byte })))
+MadeBeside number kind p at common byte top h key (Err e) h' t = BackGives h (number top) h' × (t ≡ refused e)
+
+-- the check before one node is changed: the node made goes back where it fails
+pub record IsCheckedAbove {C V : Type 0} (number : C → ℕ) (root : C) (p : Seat C) (one : One C) (r : Reply V) (h h' : ℕ → Node V) (t : Turn C V) : Type 0 where
+  pub goes_on : is_taken (h (number p.node)) p.version ≡ true → (h' ≡ h) × (t ≡ quiet (UpgradeOne one r))
+  pub goes_back : is_taken (h (number p.node)) p.version ≡ false → BackOne number h one.change h' × (t ≡ again root)
+
+-- an upgrade's outcome: the nodes made go back where it failed or is refused
+abbrev pub UpgradedOne : {C V : Type 0} → (C → ℕ) → C → One C → Reply V → (ℕ → Node V) → Upgrade → (ℕ → Node V) → Turn C V → Type 0
+UpgradedOne number root one r h Locked h' t = SameBut h (number one.at.node) (record (h (number one.at.node)) { locked = true }) h' × (t ≡ quiet (ChangeOne one r))
+UpgradedOne number root one r h Failed h' t = BackOne number h one.change h' × (t ≡ again root)
+UpgradedOne number root one r h Exhausted h' t = BackOne number h one.change h' × (t ≡ refused refusal.Exhausted)
+
+abbrev pub UpgradedAbove : {C V : Type 0} → (C → ℕ) → C → Two C → Reply V → (ℕ → Node V) → Upgrade → (ℕ → Node V) → Turn C V → Type 0
+UpgradedAbove number root two r h Locked h' t = SameBut h (number two.above.seat.node) (record (h (number two.above.seat.node)) { locked = true }) h' × (t ≡ quiet (UpgradeBoth two r))
+UpgradedAbove number root two r h Failed h' t = BackTwo number h two.change h' × (t ≡ again root)
+UpgradedAbove number root two r h Exhausted h' t = BackTwo number h two.change h' × (t ≡ refused refusal.Exhausted)
+
+abbrev pub UpgradedBoth : {C V : Type 0} → (C → ℕ) → Two C → Reply V → (ℕ → Node V) → Upgrade → (ℕ → Node V) → Turn C V → Type 0
+UpgradedBoth number two r h Locked h' t = SameBut h (number two.at.node) (record (h (number two.at.node)) { locked = true }) h' × (t ≡ quiet (ChangeTwo two r))
+UpgradedBoth number two r h Failed h' t = BackTwo number h two.change h' × (t ≡ quiet (Unwind two.above.seat.node None))
+UpgradedBoth number two r h Exhausted h' t = BackTwo number h two.change h' × (t ≡ quiet (Unwind two.above.seat.node (Some refusal.Exhausted)))
+
+-- the value that the call puts there
+abbrev pub value_hung : {V : Type 0} → Option V → Hung V
+value_hung None = Nothing
+value_hung (Some v) = Holds v
+
+-- the change of one node, and of the node above; a node that comes into reach is filled before
+abbrev pub ChangedOne : {C V : Type 0} → (C → ℕ) → List ℕ → Option V → One C → Single C → (ℕ → Node V) → (ℕ → Node V) → Type 0
+ChangedOne number key new one Set h h' = ChangeGives h (number one.at.node) one.byte (value_hung new) h'
+ChangedOne {C} {V} number key new one (Link leaf) h h' = (h1 : ℕ → Node V) × ChangeGives h (number leaf) (slice_index key 7) (value_hung new) h1
+    × ChangeGives h1 (number one.at.node) one.byte (Below (number leaf)) h'
+
+-- a greater node with one more child comes in the place of the node at hand
+abbrev pub PutsGreater : {C V : Type 0} → (C → ℕ) → Two C → C → ℕ → Hung V → (ℕ → Node V) → (ℕ → Node V) → Type 0
+PutsGreater {C} {V} number two c byte x h h' = (h1 : ℕ → Node V) × (h2 : ℕ → Node V) × TakeOverGives h (number two.at.node) (number c) h1
+    × ChangeGives h1 (number c) byte x h2 × ChangeGives h2 (number two.above.seat.node) two.above.byte (Below (number c)) h'
+
+-- a node over the one at hand and a new leaf comes in its place
+abbrev pub PutsFork : {C V : Type 0} → (C → ℕ) → Two C → C → ℕ → ℕ → C → (ℕ → Node V) → (ℕ → Node V) → Type 0
+PutsFork {C} {V} number two top byte new_byte leaf h h' = (h1 : ℕ → Node V) × (h2 : ℕ → Node V) × ChangeGives h (number top) byte (Below (number two.at.node)) h1
+    × ChangeGives h1 (number top) new_byte (Below (number leaf)) h2 × ChangeGives h2 (number two.above.seat.node) two.above.byte (Below (number top)) h'
+
+abbrev pub ChangedTwo : {C V : Type 0} → (C → ℕ) → List ℕ → Option V → Two C → Double C → (ℕ → Node V) → (ℕ → Node V) → Type 0
+ChangedTwo number key new two Unlink h h' = ChangeGives h (number two.above.seat.node) two.above.byte Nothing h'
+ChangedTwo {C} {V} number key new two (Grow c) h h' = (h1 : ℕ → Node V) × (h2 : ℕ → Node V) × TakeOverGives h (number two.at.node) (number c) h1
+    × ChangeGives h1 (number c) (slice_index key 7) (value_hung new) h2 × ChangeGives h2 (number two.above.seat.node) two.above.byte (Below (number c)) h'
+ChangedTwo {C} {V} number key new two (GrowLink c leaf byte) h h' = (h1 : ℕ → Node V) × (h2 : ℕ → Node V) × (h3 : ℕ → Node V)
+    × ChangeGives h (number leaf) (slice_index key 7) (value_hung new) h1 × TakeOverGives h1 (number two.at.node) (number c) h2
+    × ChangeGives h2 (number c) byte (Below (number leaf)) h3 × ChangeGives h3 (number two.above.seat.node) two.above.byte (Below (number c)) h'
+ChangedTwo {C} {V} number key new two (Split top leaf common byte) h h' = (h1 : ℕ → Node V) × (h2 : ℕ → Node V) × (h3 : ℕ → Node V)
+    × ChangeGives h (number leaf) (slice_index key 7) (value_hung new) h1 × ChangeGives h1 (number top) byte (Below (number two.at.node)) h2
+    × ChangeGives h2 (number top) (slice_index key common) (Below (number leaf)) h3 × ChangeGives h3 (number two.above.seat.node) two.above.byte (Below (number top)) h'
+
+abbrev pub after_change : {C V : Type 0} → Two C → Reply V → Double C → Turn C V
+after_change two r Unlink = decided (Obsolete two.at.node two.above.seat.node r)
+after_change two r (Grow c) = decided (Obsolete two.at.node two.above.seat.node r)
+after_change two r (GrowLink c leaf byte) = decided (Obsolete two.at.node two.above.seat.node r)
+after_change two r (Split top leaf common byte) = decided (UnlockBelow two.at.node two.above.seat.node r)
+
+abbrev pub unwound : {C V : Type 0} → C → Option Refusal → Turn C V
+unwound root None = again root
+unwound root (Some e) = refused e
+
+-- what a scan's step tells, as a report
+abbrev pub outcome_of : {V : Type 0} → Told V → Outcome V
+outcome_of told.Running = Running
+outcome_of (told.Found place key v) = Found place key v
+outcome_of (told.Done count) = Scanned count
+outcome_of (told.Refused e) = Refused e
+
+abbrev pub swept : {C V : Type 0} → Scan C V → Told V → Turn C V
+swept s o = record { phase = Sweep s; step = record { decided = false; outcome = outcome_of o } }
+
+-- the step of a call in a phase: on the nodes, the closure's answer and the failing of an exchange, it gives the
+-- call's new value, what it leaves, and the nodes after it
+abbrev pub PhaseStepped : {C V : Type 0} → (C → ℕ) → (V → V → Bool) → Bool → ℕ → (NodeType → Refusal → Type 0) → C → List ℕ → Kind V → Bool → Option (Option V)
+    → Option V → Phase C V → (ℕ → Node V) → Option V → Turn C V → (ℕ → Node V) → Type 0
+PhaseStepped number same always most why root key kind fail answer new New h new' t h' =
+    (h' ≡ h) × (new' ≡ new) × (t ≡ again root)
+PhaseStepped number same always most why root key kind fail answer new (Version above n) h new' t h' =
+    (h' ≡ h) × (new' ≡ new) × (t ≡ after_version root above n (version_of (h (number n))))
+PhaseStepped {C} {V} number same always most why root key kind fail answer new (Read above at) h new' t h' =
+    (h' ≡ h) × (new' ≡ new) × ((r : Reading C V) × ReadGives number always (h (number at.node)) at.version key r × (t ≡ after_read root above at r))
+PhaseStepped number same always most why root key kind fail answer new (Check s c) h new' t h' =
+    (h' ≡ h) × (new' ≡ new) × IsIf (is_taken (h (number s.at.node)) s.at.version) root (IsChecked always same kind new s c) t
+PhaseStepped number same always most why root key kind fail answer new (CheckUncopied at) h new' t h' =
+    (h' ≡ h) × (new' ≡ new) × IsIf (is_taken (h (number at.node)) at.version) root (λ u. u ≡ refused refusal.Count) t
+PhaseStepped number same always most why root key kind fail answer new (CheckMiss p at common byte) h new' t h' =
+    (h' ≡ h) × (new' ≡ new) × IsIf (is_taken (h (number p.seat.node)) p.seat.version) root (λ u. u ≡ after_miss kind p at common byte) t
+PhaseStepped number same always most why root key kind fail answer new (CheckDown p at c) h new' t h' =
+    (h' ≡ h) × (new' ≡ new) × IsIf (is_taken (h (number p.node)) p.version) root (λ u. u ≡ quiet (Version (Some at) c)) t
+PhaseStepped number same always most why root key kind fail answer new (CheckOld p s v) h new' t h' =
+    (h' ≡ h) × (new' ≡ new) × IsIf (is_taken (h (number p.node)) p.version) root (IsAtOld always same kind new s v) t
+PhaseStepped {C} {V} number same always most why root key kind fail answer new (MakeLeaf s) h new' t h' =
+    (new' ≡ new) × ((r : Result C Refusal) × MadeLeaf number kind s h key r h' t × IfErr r (why N4))
+PhaseStepped {C} {V} number same always most why root key kind fail answer new (MakeGreater s p leaf) h new' t h' =
+    (new' ≡ new) × ((r : Result C Refusal) × MadeGreater number kind s p leaf h key r h' t × IfErr r (why (form_above s.count)))
+PhaseStepped {C} {V} number same always most why root key kind fail answer new (MakeTop p at common byte) h new' t h' =
+    (new' ≡ new) × ((r : Result C Refusal) × MadeTop number p at common byte h key r h' t × IfErr r (why N4))
+PhaseStepped {C} {V} number same always most why root key kind fail answer new (MakeBeside p at common byte top) h new' t h' =
+    (new' ≡ new) × ((r : Result C Refusal) × MadeBeside number kind p at common byte top h key r h' t × IfErr r (why N4))
+PhaseStepped number same always most why root key kind fail answer new (AskOld s v) h new' t h' =
+    (h' ≡ h) × IsGiven always same kind s v answer new new' t
+PhaseStepped number same always most why root key kind fail answer new (AskNew plan) h new' t h' =
+    (h' ≡ h) × IsGivenNew plan answer new new' t
+PhaseStepped number same always most why root key kind fail answer new (Confirm at r) h new' t h' =
+    (h' ≡ h) × (new' ≡ new) × IsIf (is_taken (h (number at.node)) at.version) root (λ u. u ≡ answered r) t
+PhaseStepped number same always most why root key kind fail answer new (CheckAbove p one r) h new' t h' =
+    (new' ≡ new) × IsCheckedAbove number root p one r h h' t
+PhaseStepped number same always most why root key kind fail answer new (UpgradeOne one r) h new' t h' =
+    (new' ≡ new) × ((u : Upgrade) × (u ≡ upgrade_gives most (h (number one.at.node)) one.at.version fail) × UpgradedOne number root one r h u h' t)
+PhaseStepped number same always most why root key kind fail answer new (ChangeOne one r) h new' t h' =
+    (new' ≡ None) × ChangedOne number key new one one.change h h' × (t ≡ decided (Unlock one.at.node r))
+PhaseStepped number same always most why root key kind fail answer new (UpgradeAbove two r) h new' t h' =
+    (new' ≡ new) × ((u : Upgrade) × (u ≡ upgrade_gives most (h (number two.above.seat.node)) two.above.seat.version fail) × UpgradedAbove number root two r h u h' t)
+PhaseStepped number same always most why root key kind fail answer new (UpgradeBoth two r) h new' t h' =
+    (new' ≡ new) × ((u : Upgrade) × (u ≡ upgrade_gives most (h (number two.at.node)) two.at.version fail) × UpgradedBoth number two r h u h' t)
+PhaseStepped number same always most why root key kind fail answer new (ChangeTwo two r) h new' t h' =
+    (new' ≡ None) × ChangedTwo number key new two two.change h h' × (t ≡ after_change two r two.change)
+PhaseStepped number same always most why root key kind fail answer new (Obsolete n p r) h new' t h' =
+    (new' ≡ new) × ObsoleteGives h (number n) h' × (t ≡ quiet (Retire n p r))
+PhaseStepped number same always most why root key kind fail answer new (Retire n p r) h new' t h' =
+    (new' ≡ new) × RetireGives h (number n) h' × (t ≡ quiet (Unlock p r))
+PhaseStepped number same always most why root key kind fail answer new (UnlockBelow n p r) h new' t h' =
+    (new' ≡ new) × UnlockGives h (number n) h' × (t ≡ quiet (Unlock p r))
+PhaseStepped number same always most why root key kind fail answer new (Unlock n r) h new' t h' =
+    (new' ≡ new) × UnlockGives h (number n) h' × (t ≡ finished r)
+PhaseStepped number same always most why root key kind fail answer new (Unwind n e) h new' t h' =
+    (new' ≡ new) × UnlockGives h (number n) h' × (t ≡ unwound root e)
+PhaseStepped {C} {V} number same always most why root key kind fail answer new (Sweep s) h new' t h' =
+    (h' ≡ h) × (new' ≡ new) × ((s' : Scan C V) × (o : Told V) × SweepStepped number always root s h s' o × (t ≡ swept s' o))
+PhaseStepped number same always most why root key kind fail answer new Ended h new' t h' =
+    (h' ≡ h) × (new' ≡ new) × (t ≡ quiet Ended)
+
+-- a step of a call
+pub record Stepped {C V : Type 0} (number : C → ℕ) (same : V → V → Bool) (always : Bool) (most : ℕ) (why : NodeType → Refusal → Type 0) (m : Machine C V) (h : ℕ → Node V)
+    (fail : Bool) (answer : Option (Option V)) (m' : Machine C V) (h' : ℕ → Node V) (d : Move V) : Type 0 where
+  pub root : m'.root ≡ m.root
+  pub key : m'.key ≡ m.key
+  pub kind : m'.kind ≡ m.kind
+  pub step : PhaseStepped number same always most why m.root (key_bytes m.key) m.kind fail answer m.given m.phase h m'.given (record { phase = m'.phase; step = d }) h'
+
+-- a phase in which a call marks, hands over or unlocks a node, or has ended
+abbrev pub IsReleasing : {C V : Type 0} → Phase C V → Type 0
+IsReleasing (Obsolete n p r) = Unit {0}
+IsReleasing (Retire n p r) = Unit {0}
+IsReleasing (UnlockBelow n p r) = Unit {0}
+IsReleasing (Unlock n r) = Unit {0}
+IsReleasing (Unwind n e) = Unit {0}
+IsReleasing Ended = Unit {0}
+IsReleasing _ = ⊥
+
+-- one in which it may make, lock or change nodes, or one of these
+abbrev pub Acts : {C V : Type 0} → Phase C V → Type 0
+Acts (MakeLeaf s) = Unit {0}
+Acts (MakeGreater s p leaf) = Unit {0}
+Acts (MakeTop p at common byte) = Unit {0}
+Acts (MakeBeside p at common byte top) = Unit {0}
+Acts (CheckAbove p one r) = Unit {0}
+Acts (UpgradeOne one r) = Unit {0}
+Acts (ChangeOne one r) = Unit {0}
+Acts (UpgradeAbove two r) = Unit {0}
+Acts (UpgradeBoth two r) = Unit {0}
+Acts (ChangeTwo two r) = Unit {0}
+Acts s = IsReleasing s
+
+-- what the store wants of the made nodes that may go back
+abbrev pub MayBackOne : {C V : Type 0} → (C → ℕ) → (ℕ → Node V) → Single C → Type 0
+MayBackOne number h Set = Unit {0}
+MayBackOne number h (Link leaf) = Stands (h (number leaf))
+
+abbrev pub MayBackTwo : {C V : Type 0} → (C → ℕ) → (ℕ → Node V) → Double C → Type 0
+MayBackTwo number h Unlink = Unit {0}
+MayBackTwo number h (Grow c) = Stands (h (number c))
+MayBackTwo number h (GrowLink c leaf byte) = Stands (h (number leaf)) × Stands (h (number c)) × (number c ≢ number leaf)
+MayBackTwo number h (Split top leaf common byte) = Stands (h (number leaf)) × Stands (h (number top)) × (number top ≢ number leaf)
+
+abbrev pub MayBackLeaf : {C V : Type 0} → (C → ℕ) → (ℕ → Node V) → Option C → Type 0
+MayBackLeaf number h None = Unit {0}
+MayBackLeaf number h (Some leaf) = Stands (h (number leaf))
+
+-- a node that a call may change
+pub record Changeable {V : Type 0} (n : Node V) (b : ℕ) (x : Hung V) : Type 0 where
+  pub stands : Stands n
+  pub locked : n.locked ≡ true
+  pub room : MayChange n b x
+
+-- an empty node with so many places at least
+pub record Blank {V : Type 0} (n : Node V) (least : ℕ) : Type 0 where
+  pub stands : Stands n
+  pub empty : n.count ≡ 0
+  pub blank : (b : ℕ) → n.children b ≡ Nothing
+  pub room : least < n.capacity
+
+abbrev pub MayChangeOne : {C V : Type 0} → (C → ℕ) → Option V → One C → Single C → (ℕ → Node V) → Type 0
+MayChangeOne number new one Set h = Changeable (h (number one.at.node)) one.byte (value_hung new)
+MayChangeOne number None one (Link leaf) h = ⊥
+MayChangeOne number (Some v) one (Link leaf) h = Changeable (h (number one.at.node)) one.byte (Below (number leaf)) × Blank (h (number leaf)) 0 × (number one.at.node ≢ number leaf)
+
+-- what the change of the node above wants
+abbrev pub MayChangeTwo : {C V : Type 0} → (C → ℕ) → List ℕ → Option V → Two C → Double C → (ℕ → Node V) → Type 0
+MayChangeTwo number key new two Unlink h = Changeable (h (number two.above.seat.node)) two.above.byte Nothing
+MayChangeTwo number key None two _ h = ⊥
+MayChangeTwo number key (Some v) two (Grow c) h = Changeable (h (number two.above.seat.node)) two.above.byte (Below (number c))
+    × Stands (h (number two.at.node)) × Blank (h (number c)) (h (number two.at.node)).count
+    × (number two.above.seat.node ≢ number c) × (number two.at.node ≢ number c) × (number two.above.seat.node ≢ number two.at.node)
+    × HoldsAlike (h (number two.at.node))
+MayChangeTwo number key (Some v) two (GrowLink c leaf byte) h = Changeable (h (number two.above.seat.node)) two.above.byte (Below (number c))
+    × Stands (h (number two.at.node)) × Blank (h (number c)) (h (number two.at.node)).count × Blank (h (number leaf)) 0
+    × (number two.above.seat.node ≢ number c) × (number two.at.node ≢ number c) × (number two.above.seat.node ≢ number two.at.node)
+    × (number two.above.seat.node ≢ number leaf) × (number two.at.node ≢ number leaf) × (number c ≢ number leaf)
+    × HoldsAlike (h (number two.at.node))
+MayChangeTwo number key (Some v) two (Split top leaf common byte) h = Changeable (h (number two.above.seat.node)) two.above.byte (Below (number top))
+    × Blank (h (number top)) 1 × Blank (h (number leaf)) 0 × (common < 7) × (byte ≢ slice_index key common)
+    × (number two.above.seat.node ≢ number top) × (number two.above.seat.node ≢ number leaf) × (number top ≢ number leaf)
+
+-- what the store wants of the nodes that the next step names
+abbrev pub MayStep : {C V : Type 0} → (C → ℕ) → List ℕ → Option V → Phase C V → (ℕ → Node V) → Type 0
+MayStep number key new (Version above n) h = Stands (h (number n))
+MayStep number key new (Read above at) h = Stands (h (number at.node))
+MayStep number key new (Check s c) h = Stands (h (number s.at.node))
+MayStep number key new (CheckUncopied at) h = Stands (h (number at.node))
+MayStep number key new (CheckMiss p at common byte) h = Stands (h (number p.seat.node))
+MayStep number key new (CheckDown p at c) h = Stands (h (number p.node))
+MayStep number key new (CheckOld p s v) h = Stands (h (number p.node))
+MayStep number key new (MakeGreater s p leaf) h = (s.depth ≤ 7) × MayBackLeaf number h leaf
+MayStep number key new (MakeTop p at common byte) h = common < 7
+MayStep number key new (MakeBeside p at common byte top) h = Stands (h (number top))
+MayStep number key new (Confirm at r) h = Stands (h (number at.node))
+MayStep number key new (CheckAbove p one r) h = Stands (h (number p.node)) × MayBackOne number h one.change
+MayStep number key new (UpgradeOne one r) h = Stands (h (number one.at.node)) × MayBackOne number h one.change
+MayStep number key new (ChangeOne one r) h = MayChangeOne number new one one.change h
+MayStep number key new (UpgradeAbove two r) h = Stands (h (number two.above.seat.node)) × MayBackTwo number h two.change
+MayStep number key new (UpgradeBoth two r) h = Stands (h (number two.at.node)) × MayBackTwo number h two.change
+MayStep number key new (ChangeTwo two r) h = MayChangeTwo number key new two two.change h
+MayStep number key new (Obsolete n p r) h = Stands (h (number n)) × ((h (number n)).locked ≡ true)
+MayStep number key new (Retire n p r) h = Stands (h (number n)) × ((h (number n)).obsolete ≡ true) × ((h (number n)).retired ≡ false)
+MayStep number key new (UnlockBelow n p r) h = Stands (h (number n)) × ((h (number n)).locked ≡ true)
+MayStep number key new (Unlock n r) h = Stands (h (number n)) × ((h (number n)).locked ≡ true)
+MayStep number key new (Unwind n e) h = Stands (h (number n)) × ((h (number n)).locked ≡ true)
+MayStep number key new New h = Unit {0}
+MayStep number key new (MakeLeaf s) h = Unit {0}
+MayStep number key new (AskOld s v) h = Unit {0}
+MayStep number key new (AskNew plan) h = Unit {0}
+MayStep number key new (Sweep s) h = MaySweep number s h
+MayStep number key new Ended h = Unit {0}

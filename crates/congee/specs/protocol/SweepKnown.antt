@@ -1,0 +1,139 @@
+-- What a scan knows of the tree between its steps, as long as others may step, and what it has settled.
+use Rattle.std.specs.Prelude.{◌≡◌, ℕ, suc, ◌+◌, ◌<◌, ◌≤◌, ◌^◌, Bool, true, List, [], ◌∷◌, length, take}
+use Rattle.std.specs.Ordering.{nat_cmp}
+use Rattle.std.specs.FinMap.{FinMap}
+use Rattle.congee.specs.declared.protocol.store.Region.{Region}
+use Rattle.congee.specs.declared.protocol.sweep.Rung.{Rung}
+use Rattle.congee.specs.declared.protocol.sweep.Stage.{Stage}
+use Rattle.congee.specs.declared.protocol.sweep.Stage.TheVariants as stage
+use Rattle.congee.specs.declared.protocol.sweep.Sweep.{Sweep}
+use Rattle.congee.specs.declared.protocol.sweep.Told.{Told}
+use Rattle.congee.specs.declared.protocol.sweep.Told.TheVariants as told
+use Rattle.congee.specs.Heap.{Node}
+use Rattle.congee.specs.Ledger.{Note, is_published}
+use Rattle.congee.specs.protocol.Seats.{Seated, Fresh}
+use Rattle.congee.specs.protocol.Regions.{span, IsRegion, start_at}
+use Rattle.congee.specs.protocol.Sweeps.{Lacked, IsScan, Swept, written}
+use Rattle.congee.specs.protocol.SweepEvents.{IsAny, LeastTruly}
+use Rattle.congee.specs.protocol.SweepSteps.{rungs_of, last_byte}
+
+-- a node on the way, with so many above it: its keys are those of the region, and the first comes before the range's end
+pub record RungKnown {C V : Type 0} (number : C → ℕ) (a : ℕ → Note) (h : ℕ → Node V) (end above : ℕ) (r : Rung C) : Type 0 where
+  pub seated : Seated a h (number r.at.node) r.at.version
+  pub region : IsRegion (h (number r.at.node)).prefix r.region.base r.region.depth
+  pub deep : above ≤ r.region.depth
+  pub within : r.region.base < end
+  pub bound : r.from ≤ 256
+
+abbrev pub RungsKnown : {C V : Type 0} → (C → ℕ) → (ℕ → Note) → (ℕ → Node V) → ℕ → ℕ → List (Rung C) → Type 0
+RungsKnown number a h end above [] = Unit {0}
+RungsKnown number a h end above (r ∷ rest) = RungKnown number a h end above r × RungsKnown number a h end (suc above) rest
+
+-- the way of a scan, with a place for what it finds next
+pub record WayKnown {C V : Type 0} (number : C → ℕ) (a : ℕ → Note) (h : ℕ → Node V) (s : Sweep C V) : Type 0 where
+  pub range : s.start < s.end
+  pub bound : s.end < 2 ^ 64
+  pub room : s.count < s.size
+  pub fits : s.above.len ≤ 8
+  pub rungs : RungsKnown number a h s.end 0 (rungs_of s.above)
+
+-- what the scan knows before each step
+abbrev pub SweepKnownAt : {C V : Type 0} → (C → ℕ) → Bool → (ℕ → Note) → (ℕ → Node V) → Sweep C V → Stage C V → Type 0
+SweepKnownAt number always a h s stage.New = s.end < 2 ^ 64
+SweepKnownAt number always a h s (stage.Enter n x) = WayKnown number a h s × (is_published (a (number n)).status ≡ true) × IsRegion (h (number n)).prefix x.base x.depth × (s.above.len ≤ x.depth)
+SweepKnownAt number always a h s (stage.Look r) = WayKnown number a h s × RungKnown number a h s.end s.above.len r
+SweepKnownAt number always a h s (stage.Check r x) = WayKnown number a h s × RungKnown number a h s.end s.above.len r × IsAny always x
+    × Fresh a h (number r.at.node) r.at.version (λ n. LeastTruly number n r.from (last_byte s.end r.region) x)
+SweepKnownAt number always a h s stage.Full = Unit {0}
+SweepKnownAt number always a h s stage.Over = Unit {0}
+
+abbrev pub SweepKnown : {C V : Type 0} → (C → ℕ) → Bool → (ℕ → Note) → (ℕ → Node V) → Sweep C V → Type 0
+SweepKnown number always a h s = SweepKnownAt number always a h s s.stage
+
+-- the names that it has
+abbrev pub names_rungs : {C : Type 0} → (C → ℕ) → List (Rung C) → List ℕ
+names_rungs number [] = []
+names_rungs number (r ∷ rest) = number r.at.node ∷ names_rungs number rest
+
+abbrev pub names_sweep_at : {C V : Type 0} → (C → ℕ) → Sweep C V → Stage C V → List ℕ
+names_sweep_at number s stage.New = []
+names_sweep_at number s (stage.Enter n x) = number n ∷ names_rungs number (rungs_of s.above)
+names_sweep_at number s (stage.Look r) = number r.at.node ∷ names_rungs number (rungs_of s.above)
+names_sweep_at number s (stage.Check r x) = number r.at.node ∷ names_rungs number (rungs_of s.above)
+names_sweep_at number s stage.Full = []
+names_sweep_at number s stage.Over = []
+
+abbrev pub names_sweep : {C V : Type 0} → (C → ℕ) → Sweep C V → List ℕ
+names_sweep number s = names_sweep_at number s s.stage
+
+-- the first number past the keys below a node, and the least key that a node on the way has yet to look at
+abbrev pub end_of : Region → ℕ
+end_of x = x.base + span x.depth
+
+abbrev pub start_of : {C : Type 0} → Rung C → ℕ
+start_of r = start_at r.region.base r.region.depth r.from
+
+-- a node was read below another one, and each key of the range between the node's last and the next one that the node
+-- above has to look at was lacking in some map
+pub record Gap {C V : Type 0} (start end : ℕ) (states : List (FinMap nat_cmp V)) (r : Rung C) (x : Region) : Type 0 where
+  pub inside : end_of x ≤ start_of r
+  pub aim : start < start_of r
+  pub lacked : (k : ℕ) → start ≤ k → k < end → end_of x ≤ k → k < start_of r → Lacked states k
+
+abbrev pub LeadsOn : {C V : Type 0} → ℕ → ℕ → List (FinMap nat_cmp V) → Rung C → List (Rung C) → Region → Type 0
+LeadsOn start end states r [] x = Gap start end states r x
+LeadsOn start end states r (q ∷ rest) x = Gap start end states r q.region × LeadsOn start end states q rest x
+
+-- nothing of the range is past the keys of the first node
+abbrev pub IsWay : {C V : Type 0} → ℕ → ℕ → List (FinMap nat_cmp V) → List (Rung C) → Region → Type 0
+IsWay start end states [] x = end ≤ end_of x
+IsWay start end states (r ∷ rest) x = (end ≤ end_of r.region) × LeadsOn start end states r rest x
+
+-- a scan at a region, with the keys below a number settled by what it found
+pub record Under {C V : Type 0} (s : Sweep C V) (states : List (FinMap nat_cmp V)) (places : List (ℕ × V)) (x : Region) (upto : ℕ) : Type 0 where
+  pub counted : s.count ≤ length places
+  pub way : IsWay s.start s.end states (rungs_of s.above) x
+  pub swept : Swept s.start s.end s.size upto states (take s.count places)
+
+pub record Aimed {C V : Type 0} (s : Sweep C V) (states : List (FinMap nat_cmp V)) (places : List (ℕ × V)) (r : Rung C) : Type 0 where
+  pub under : Under s states places r.region (start_of r)
+  pub aim : s.start < start_of r + span (r.region.depth + 1)
+
+pub record IsFull {C V : Type 0} (s : Sweep C V) (states : List (FinMap nat_cmp V)) (places : List (ℕ × V)) : Type 0 where
+  pub counted : s.count ≤ length places
+  pub all : s.count ≡ s.size
+  pub upto : ℕ
+  pub swept : Swept s.start s.end s.size upto states (take s.count places)
+
+-- what the scan has settled before each step, by the maps that stood at its own steps so far, and what its caller has of
+-- the places
+abbrev pub TracksAt : {C V : Type 0} → Sweep C V → List (FinMap nat_cmp V) → List (ℕ × V) → Stage C V → Type 0
+TracksAt s states places stage.New = Unit {0}
+TracksAt s states places (stage.Enter n x) = Under s states places x x.base
+TracksAt s states places (stage.Look r) = Aimed s states places r
+TracksAt s states places (stage.Check r x) = Aimed s states places r
+TracksAt s states places stage.Full = IsFull s states places
+TracksAt s states places stage.Over = Unit {0}
+
+abbrev pub Tracks : {C V : Type 0} → Sweep C V → List (FinMap nat_cmp V) → List (ℕ × V) → Type 0
+Tracks s states places = TracksAt s states places s.stage
+
+-- what the caller has after a step
+abbrev pub placed : {V : Type 0} → List (ℕ × V) → Told V → List (ℕ × V)
+placed places told.Running = places
+placed places (told.Found place k v) = written places place (k, v)
+placed places (told.Done count) = places
+placed places (told.Refused e) = places
+
+-- a scan that is done has told what it promises, and has ended
+abbrev pub Tells : {C V : Type 0} → Sweep C V → List (FinMap nat_cmp V) → List (ℕ × V) → Stage C V → Told V → Type 0
+Tells s states places x told.Running = Unit {0}
+Tells s states places x (told.Found place k v) = place ≤ length places
+Tells s states places x (told.Done count) = (count ≤ length places) × IsScan s.start s.end s.size states (take count places) × (x ≡ stage.Over)
+Tells s states places x (told.Refused e) = x ≡ stage.Over
+
+-- the same range and places
+pub record SameCall {C V : Type 0} (s s' : Sweep C V) : Type 0 where
+  pub start_is : s'.start ≡ s.start
+  pub end_is : s'.end ≡ s.end
+  pub size_is : s'.size ≡ s.size

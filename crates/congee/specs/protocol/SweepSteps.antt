@@ -1,0 +1,155 @@
+-- One step of a scan on what the store answers.
+use Rattle.std.specs.Prelude.{◌≡◌, ℕ, ◌+◌, ◌*◌, ◌-◌, ◌/◌, ◌^◌, ◌==◌, ◌<◌, ◌≤◌, Bool, true, false, List, [], ◌∷◌, take, Option, None, Some, cond, slice_get}
+use Rattle.std.proofs.Math.Dec.{ltb}
+use Rattle.congee.specs.declared.protocol.store.Region.{Region}
+use Rattle.congee.specs.declared.protocol.store.Least.{Least}
+use Rattle.congee.specs.declared.protocol.store.Least.TheVariants as least
+use Rattle.congee.specs.declared.protocol.store.Refusal.TheVariants as refusal
+use Rattle.congee.specs.declared.protocol.sweep.Rung.{Rung}
+use Rattle.congee.specs.declared.protocol.sweep.Path.{Path}
+use Rattle.congee.specs.declared.protocol.sweep.Stage.{Stage}
+use Rattle.congee.specs.declared.protocol.sweep.Stage.TheVariants as stage
+use Rattle.congee.specs.declared.protocol.sweep.Sweep.{Sweep}
+use Rattle.congee.specs.declared.protocol.sweep.Told.{Told}
+use Rattle.congee.specs.declared.protocol.sweep.Told.TheVariants as told
+use Rattle.congee.specs.Heap.{Node, Stands, version_of, is_taken}
+use Rattle.congee.specs.protocol.Regions.{IsRegion}
+use Rattle.congee.specs.protocol.SweepEvents.{LeastGives}
+
+-- how many keys are below each byte of a node
+abbrev pub width : ℕ → ℕ
+width depth = 2 ^ (8 * (7 - depth))
+
+abbrev pub whole : Region
+whole = record { base = 0; depth = 0 }
+
+-- no key of the range begins with the prefix
+abbrev pub is_outside : ℕ → ℕ → Region → Bool
+is_outside start end x = cond (ltb x.base end) (cond (ltb x.base start) (ltb 255 ((start - x.base) / width x.depth)) false) true
+
+-- the least byte, and the greatest, that a key of the range has after the prefix
+abbrev pub first_byte : ℕ → Region → ℕ
+first_byte start x = cond (ltb x.base start) (cond (ltb 255 ((start - x.base) / width x.depth)) 255 ((start - x.base) / width x.depth)) 0
+
+abbrev pub last_byte : ℕ → Region → ℕ
+last_byte end x = cond (ltb 255 ((end - 1 - x.base) / width x.depth)) 255 ((end - 1 - x.base) / width x.depth)
+
+-- the places of the nodes above
+abbrev pub slots : {C : Type 0} → Path C → List (Rung C)
+slots p = p.first ∷ p.second ∷ p.third ∷ p.fourth ∷ p.fifth ∷ p.sixth ∷ p.seventh ∷ p.eighth ∷ []
+
+abbrev pub put_rung : {C : Type 0} → ℕ → Rung C → Path C → Path C
+put_rung i r p = cond (i == 0) (record p { first = r }) (cond (i == 1) (record p { second = r }) (cond (i == 2) (record p { third = r }) (cond (i == 3) (record p { fourth = r }) (cond (i == 4) (record p { fifth = r }) (cond (i == 5) (record p { sixth = r }) (cond (i == 6) (record p { seventh = r }) (record p { eighth = r })))))))
+
+-- the nodes above
+abbrev pub rungs_of : {C : Type 0} → Path C → List (Rung C)
+rungs_of p = take p.len (slots p)
+
+abbrev pub pushed : {C : Type 0} → Path C → Rung C → Path C
+pushed p r = record (put_rung p.len r p) { len = p.len + 1 }
+
+abbrev pub popped : {C : Type 0} → Path C → Path C
+popped p = record p { len = p.len - 1 }
+
+abbrev pub cleared : {C : Type 0} → Path C → Path C
+cleared p = record p { len = 0 }
+
+abbrev pub last_of : {C : Type 0} → Path C → Option (Rung C)
+last_of p = cond (p.len == 0) None (slice_get (slots p) (p.len - 1))
+
+abbrev pub moved : {C : Type 0} → Rung C → ℕ → Rung C
+moved r byte = record { at = r.at; region = r.region; from = byte + 1 }
+
+-- a scan with so many places filled, on this way, before this step
+abbrev pub sweep_at : {C V : Type 0} → Sweep C V → ℕ → Path C → Stage C V → Sweep C V
+sweep_at s count above x = record { start = s.start; end = s.end; size = s.size; count = count; above = above; stage = x }
+
+abbrev pub root_rung : {C : Type 0} → C → Rung C
+root_rung root = record { at = record { node = root; version = 0 }; region = whole; from = 0 }
+
+-- a scan before its begin; no place above is taken
+abbrev pub new_sweep : {C V : Type 0} → C → ℕ → ℕ → ℕ → Sweep C V
+new_sweep root start end size = record {
+  start = start;
+  end = end;
+  size = size;
+  count = 0;
+  above = record { first = root_rung root; second = root_rung root; third = root_rung root; fourth = root_rung root; fifth = root_rung root; sixth = root_rung root; seventh = root_rung root; eighth = root_rung root; len = 0 };
+  stage = stage.New;
+}
+
+-- what a step leaves
+abbrev pub Swung : Type 0 → Type 0 → Type 0
+Swung C V = Sweep C V × Told V
+
+abbrev pub goes : {C V : Type 0} → Sweep C V → Path C → Stage C V → Swung C V
+goes s above x = (sweep_at s s.count above x, told.Running)
+
+abbrev pub over : {C V : Type 0} → Sweep C V → Told V → Swung C V
+over s t = (sweep_at s s.count s.above stage.Over, t)
+
+abbrev pub anew : {C V : Type 0} → C → Sweep C V → Swung C V
+anew root s = (sweep_at s 0 (cleared s.above) (stage.Enter root whole), told.Running)
+
+-- a node is left: the one above goes on, and above the root nothing does
+abbrev pub left_to : {C V : Type 0} → Sweep C V → Option (Rung C) → Swung C V
+left_to s None = over s (told.Done s.count)
+left_to s (Some r) = goes s (popped s.above) (stage.Look r)
+
+abbrev pub left : {C V : Type 0} → Sweep C V → Swung C V
+left s = left_to s (last_of s.above)
+
+abbrev pub entered : {C V : Type 0} → C → Sweep C V → C → Region → Option ℕ → Swung C V
+entered root s n x None = anew root s
+entered root s n x (Some v) = cond (is_outside s.start s.end x) (left s)
+    (goes s s.above (stage.Look (record { at = record { node = n; version = v }; region = x; from = first_byte s.start x })))
+
+abbrev pub filled : {C V : Type 0} → Sweep C V → Rung C → ℕ → V → Swung C V
+filled s r byte v = (
+  sweep_at s (s.count + 1) s.above (cond (s.count + 1 == s.size) stage.Full (stage.Look (moved r byte))),
+  told.Found s.count (r.region.base + byte) v,
+)
+
+-- the check after a read succeeded
+abbrev pub IsFollowed : {C V : Type 0} → (C → ℕ) → (ℕ → Node V) → Sweep C V → Rung C → Least C V → Swung C V → Type 0
+IsFollowed number h s r least.Nothing u = u ≡ left s
+IsFollowed number h s r (least.Node byte c) u = (x : Region) × IsRegion (h (number c)).prefix x.base x.depth × (u ≡ goes s (pushed s.above (moved r byte)) (stage.Enter c x))
+IsFollowed number h s r (least.Value byte v) u = u ≡ filled s r byte v
+IsFollowed number h s r least.Uncopied u = u ≡ over s (told.Refused refusal.Count)
+
+pub record IsFollowedIf {C V : Type 0} (taken : Bool) (number : C → ℕ) (h : ℕ → Node V) (root : C) (s : Sweep C V) (r : Rung C) (x : Least C V) (u : Swung C V) : Type 0 where
+  pub goes_on : taken ≡ true → IsFollowed number h s r x u
+  pub goes_back : taken ≡ false → u ≡ anew root s
+
+abbrev pub begins : {C V : Type 0} → C → Sweep C V → Swung C V
+begins root s = cond (ltb s.start s.end) (cond (s.size == 0) (over s (told.Done 0)) (anew root s)) (over s (told.Done 0))
+
+-- the step of a scan
+abbrev pub SweptAt : {C V : Type 0} → (C → ℕ) → Bool → C → Sweep C V → Stage C V → (ℕ → Node V) → Swung C V → Type 0
+SweptAt number always root s stage.New h u = u ≡ begins root s
+SweptAt number always root s (stage.Enter n x) h u = u ≡ entered root s n x (version_of (h (number n)))
+SweptAt {C} {V} number always root s (stage.Look r) h u = (x : Least C V) × LeastGives number always (h (number r.at.node)) r.at.version r.from (last_byte s.end r.region) x × (u ≡ goes s s.above (stage.Check r x))
+SweptAt number always root s (stage.Check r x) h u = IsFollowedIf (is_taken (h (number r.at.node)) r.at.version) number h root s r x u
+SweptAt number always root s stage.Full h u = u ≡ over s (told.Done s.count)
+SweptAt number always root s stage.Over h u = u ≡ over s told.Running
+
+abbrev pub SweepStepped : {C V : Type 0} → (C → ℕ) → Bool → C → Sweep C V → (ℕ → Node V) → Sweep C V → Told V → Type 0
+SweepStepped number always root s h s' t = SweptAt number always root s s.stage h (s', t)
+
+-- what the step wants
+abbrev pub MayFollow : {C V : Type 0} → (C → ℕ) → (ℕ → Node V) → Rung C → Least C V → Type 0
+MayFollow number h r least.Nothing = Unit {0}
+MayFollow number h r (least.Node byte c) = Stands (h (number c)) × (byte < 256)
+MayFollow number h r (least.Value byte v) = (r.region.base + byte < 2 ^ 64) × (byte < 256)
+MayFollow number h r least.Uncopied = Unit {0}
+
+abbrev pub MaySweepAt : {C V : Type 0} → (C → ℕ) → Sweep C V → Stage C V → (ℕ → Node V) → Type 0
+MaySweepAt number s stage.New h = Unit {0}
+MaySweepAt number s (stage.Enter n x) h = Stands (h (number n)) × (x.depth ≤ 7) × (s.above.len ≤ 8)
+MaySweepAt number s (stage.Look r) h = Stands (h (number r.at.node)) × (r.region.depth ≤ 7) × (r.region.base < s.end)
+MaySweepAt number s (stage.Check r x) h = Stands (h (number r.at.node)) × (s.above.len < 8) × (s.count < s.size) × (is_taken (h (number r.at.node)) r.at.version ≡ true → MayFollow number h r x)
+MaySweepAt number s stage.Full h = Unit {0}
+MaySweepAt number s stage.Over h = Unit {0}
+
+abbrev pub MaySweep : {C V : Type 0} → (C → ℕ) → Sweep C V → (ℕ → Node V) → Type 0
+MaySweep number s h = MaySweepAt number s s.stage h

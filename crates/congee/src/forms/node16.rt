@@ -1,0 +1,11 @@
+//! A node of at most 16 children.
+use crate::forms::child::Child;
+use crate::forms::prefix::Prefix;
+use crate::forms::sorted::Sorted;
+
+/// At most 16 children, in arrays that rise by byte.
+#[derive(Drop)]
+pub struct Node16<C, P> {
+    pub(crate) prefix: Prefix,
+    pub(crate) children: Sorted<Child<C, P>, 16>,
+}

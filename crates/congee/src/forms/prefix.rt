@@ -1,0 +1,66 @@
+//! The bytes that lead to a node.
+ghost use Rattle.std.specs.Prelude.{◌≡◌, ◌≤◌, length};
+ghost use Rattle.congee.specs.Heap.{fits};
+
+use std::marker::Model;
+
+/// The longest prefix, in bytes.
+pub const MAX_PREFIX_LEN: usize = 7;
+
+/// The first bytes of every key below a node, at most seven, in one word with their number: it stands in the last place.
+#[derive(Drop)]
+pub(crate) struct Prefix {
+    bytes: [u8; 8],
+}
+
+impl Model for Prefix {
+    ghost use Rattle.std.specs.Prelude.{ℕ, List, take, slice_index, length, ◌≡◌, ◌≤◌, ◌<◌};
+    ghost use Rattle.std.specs.Coded.{coded_ℕ, coded_list};
+
+    ghost Value = { List ℕ };
+
+    ghost coded = { coded_list coded_ℕ };
+
+    ghost view = { λ p. take (slice_index p.bytes 7) p.bytes };
+
+    ghost invariant = { λ p. (length p.bytes ≡ 8) × (slice_index p.bytes 7 ≤ 7) × ((i : ℕ) → slice_index p.bytes i < 256) };
+}
+
+impl Prefix {
+    /// A prefix of these bytes.
+    pub(crate) fn new(bytes: &[u8]) -> Self
+        requires fits { length bytes.now ≤ 7 }
+        ensures { result ≡ bytes.now }
+    {
+        let mut word = [0; 8];
+        for i in 0..bytes.len() {
+            word[i] = bytes[i];
+        }
+        word[7] = bytes.len() as u8;
+        Prefix { bytes: word }
+    }
+
+    /// How many bytes it has.
+    pub(crate) fn len(&self) -> usize
+        ensures count { result ≡ length self.now }
+        ensures fits { result ≤ 7 }
+    {
+        self.bytes[7] as usize
+    }
+
+    /// Its bytes.
+    pub(crate) fn as_slice(&self) -> &[u8]
+        ensures bytes { result.now ≡ self.now }
+        ensures fits { length result.now ≤ 7 }
+    {
+        &self.bytes[..self.len()]
+    }
+
+    /// Whether it is the beginning of the key.
+    pub(crate) fn is_prefix_of(&self, key: &[u8; 8]) -> bool
+        ensures { result ≡ fits self.now key.now }
+    {
+        let rest = 8 * (7 - self.len() as u32);
+        (u64::from_be_bytes(*key) >> 8) >> rest == (u64::from_be_bytes(self.bytes) >> 8) >> rest
+    }
+}

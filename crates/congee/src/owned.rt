@@ -1,0 +1,19 @@
+//! Trees of one owner. Their nodes stand in an `arena`, children by name; `congee` has the tree itself.
+mod arena;
+mod close;
+mod congee;
+mod congee_arc;
+mod drainer;
+mod edit;
+mod pairs;
+mod place;
+mod scan;
+mod stats;
+mod survey;
+mod u64_congee;
+
+pub use congee::Congee;
+pub use congee_arc::{CongeeArc, Count};
+pub use drainer::{Calls, Drainer, NoDrain};
+pub use stats::{LevelStats, NodeInfo, NodeStats};
+pub use u64_congee::U64Congee;

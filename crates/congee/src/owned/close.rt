@@ -1,0 +1,79 @@
+//! The end of an owned tree, or of what is in it: its pairs are handed on or go, and its nodes come off the budget.
+ghost use Rattle.std.specs.Prelude.{◌≡◌, ◌+◌, ◌≤◌, ℕ, List, None};
+ghost use Rattle.std.specs.FinMap as map;
+ghost use Rattle.congee.specs.owned.Arena.{IsTree, heap_of};
+ghost use Rattle.congee.specs.owned.Drained.{Drained};
+ghost use Rattle.congee.specs.Heap.{value_at};
+ghost use Rattle.congee.specs.owned.Levels.{nodes_of};
+ghost use Rattle.congee.specs.owned.Sizes.{bytes_of};
+ghost use Rattle.congee.specs.owned.Stats.{root_alone};
+ghost use Rattle.congee.specs.owned.Table.{pairs_of};
+
+use crate::allocator::Allocator;
+use crate::forms::base_node::Node;
+use crate::owned::arena::{Arena, Stored};
+use crate::owned::drainer::Drainer;
+use crate::owned::scan::beginning;
+use judge::Word64;
+use slab::Slab;
+
+// Takes the nodes' bytes off the budget.
+fn take_off<P: Stored, A: Allocator>(nodes: &Slab<Node<usize, P>>, allocator: &mut A)
+    requires covered { bytes_of nodes.now ≤ A.charged_of allocator.old }
+    ensures charge { A.charged_of allocator.new + bytes_of nodes.now ≡ A.charged_of allocator.old }
+    ensures limit { A.limit_of allocator.new ≡ A.limit_of allocator.old }
+{
+    for (_, node) in nodes.iter() {
+        allocator.deallocate(node.size());
+    }
+}
+
+impl<P: Stored, A: Allocator> Arena<P, A> {
+    // Takes every pair out, and every node but the root, whose bytes alone stay charged.
+    pub(crate) fn clear(&mut self)
+        requires tree { IsTree self.old.nodes }
+        requires covered { bytes_of self.old.nodes ≤ A.charged_of self.old.allocator }
+        ensures tree { IsTree self.new.nodes }
+        ensures empty { (key : List ℕ) → value_at (heap_of self.new.nodes) key ≡ None }
+        ensures nodes { nodes_of self.new.nodes ≡ root_alone }
+        ensures bytes { bytes_of self.new.nodes ≡ 2104 }
+        ensures balance { A.charged_of self.new.allocator + bytes_of self.old.nodes ≡ A.charged_of self.old.allocator + bytes_of self.new.nodes }
+        ensures limit { A.limit_of self.new.allocator ≡ A.limit_of self.old.allocator }
+    {
+        let mut root = self.nodes.remove(0);
+        take_off(&self.nodes, &mut self.allocator);
+        self.nodes.clear();
+        root.clear();
+        self.nodes.insert_reserved(root);
+    }
+
+    // Drops the nodes, and gives the allocator back with their bytes taken off.
+    pub(crate) fn release(self) -> A
+        requires covered { bytes_of self.nodes ≤ A.charged_of self.allocator }
+        ensures charge { A.charged_of result + bytes_of self.nodes ≡ A.charged_of self.allocator }
+        ensures limit { A.limit_of result ≡ A.limit_of self.allocator }
+    {
+        let Arena {
+            nodes,
+            mut allocator,
+        } = self;
+        take_off(&nodes, &mut allocator);
+        allocator
+    }
+}
+
+impl<A: Allocator> Arena<u64, A> {
+    // Hands each pair to the drainer, ascending.
+    pub(crate) fn drain<K: Word64, V: Word64, D: Drainer<K, V>>(&self, drainer: D) -> D
+        requires tree { IsTree self.now.nodes }
+        requires ready { D.can_drain drainer }
+        ensures { Drained D.drains K.of_word V.of_word drainer (map.entries (pairs_of self.now.nodes)) result }
+    {
+        let mut drainer = drainer;
+        let mut cursor = beginning();
+        while let Some((key, value)) = self.next_along(&mut cursor) {
+            drainer.drain(K::from_word(key), V::from_word(*value));
+        }
+        drainer
+    }
+}

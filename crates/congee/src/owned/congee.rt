@@ -1,0 +1,373 @@
+//! The owned tree of words.
+ghost use Rattle.std.specs.Prelude.{◌≡◌, ◌+◌, ◌≤◌, ◌^◌, ℕ, Option, None, Some, Ok, Err, IfOk, IfErr, IfSome, IfNone, OnOk, OnErr};
+ghost use Rattle.std.specs.Prelude.{IsTrue, IsSome, ◌↔◌, nat_eq, length, take, drop, MatchOption};
+ghost use Rattle.std.specs.Option.{option_map};
+ghost use Rattle.std.specs.FinMap as map;
+ghost use Rattle.congee.specs.owned.Nearest.{IsLeast, IsGreatest, pair_by};
+ghost use Rattle.congee.specs.owned.Content.{Answers, KeepsCharge, Unchanged};
+ghost use Rattle.congee.specs.owned.Drained.{Drained};
+ghost use Rattle.congee.specs.owned.OwnedSteps.{IsRefusal};
+ghost use Rattle.congee.specs.owned.Ranges.{by_bytes, in_range, keys_by};
+ghost use Rattle.congee.specs.owned.Stats.{IsTally, capped, root_alone};
+ghost use Rattle.congee.specs.owned.Wanted.{IsRefused, gain_of, freed_of, freed_by};
+ghost use Rattle.judge.specs.declared.journal.Call.TheVariants as call;
+ghost use Rattle.judge.specs.declared.journal.Reply.TheVariants as reply;
+
+use crate::allocator::{Allocator, DefaultAllocator, OOMError};
+use crate::owned::arena::Arena;
+use crate::owned::drainer::{Drainer, NoDrain};
+use crate::owned::stats::NodeStats;
+use judge::Word64;
+use std::alloc::{AllocError, Global};
+use std::marker::{Model, PhantomData};
+
+/// An ordered map from words to words for one thread: an adaptive radix tree over the keys' eight bytes.
+///
+/// `A` is the budget that its nodes are charged to, `D` what takes the pairs where the tree is closed.
+#[derive(Drop)]
+pub struct Congee<K, V, A: Allocator = DefaultAllocator, D = NoDrain> {
+    arena: Arena<u64, A>,
+    drainer: D,
+    alloc: Global,
+    words: PhantomData<(K, V)>,
+}
+
+impl<K, V, A: Allocator, D> Model for Congee<K, V, A, D> {
+    ghost use Rattle.std.specs.Prelude.{ℕ, ◌≤◌};
+    ghost use Rattle.std.specs.Coded.{coded_ℕ};
+    ghost use Rattle.congee.specs.owned.Content.{Content, content_code};
+
+    ghost Value = { Content ℕ A D };
+
+    ghost coded = { content_code coded_ℕ A.code D.code };
+
+    ghost use Rattle.congee.specs.owned.Arena.{IsTree};
+    ghost use Rattle.congee.specs.owned.Levels.{nodes_of};
+    ghost use Rattle.congee.specs.owned.Sizes.{bytes_of};
+    ghost use Rattle.congee.specs.owned.Table.{pairs_of};
+    ghost use Rattle.congee.specs.owned.Wanted.{wants_of, lone_of};
+
+    ghost view = { λ t. record { pairs = pairs_of t.arena.nodes; nodes = nodes_of t.arena.nodes; bytes = bytes_of t.arena.nodes; wants = wants_of t.arena.nodes; lone = lone_of t.arena.nodes; allocator = t.arena.allocator; drainer = t.drainer } };
+
+    ghost invariant = { λ t. IsTree t.arena.nodes × (bytes_of t.arena.nodes ≤ A.charged_of t.arena.allocator) };
+}
+
+// The value of a number, if there is one.
+fn word_of<V: Word64>(number: Option<u64>) -> Option<V>
+    ensures { result ≡ option_map V.of_word number }
+{
+    match number {
+        Some(number) => Some(V::from_word(number)),
+        None => None,
+    }
+}
+
+// Whether the number is there.
+fn holds(found: Option<u64>, number: u64) -> bool
+    ensures { IsTrue result ↔ (found ≡ Some number) }
+{
+    match found {
+        Some(value) => value == number,
+        None => false,
+    }
+}
+
+// The number of a value, if there is one.
+fn number_of<V: Word64>(value: &Option<V>) -> Option<u64>
+    ensures { result ≡ option_map V.word value.now }
+{
+    match value {
+        Some(value) => Some(value.to_word()),
+        None => None,
+    }
+}
+
+// The pair of two numbers, if there is one.
+fn pair_of<K: Word64, V: Word64>(found: Option<(u64, u64)>) -> Option<(K, V)>
+    ensures { result ≡ option_map (pair_by K.of_word V.of_word) found }
+{
+    match found {
+        Some((key, value)) => Some((K::from_word(key), V::from_word(value))),
+        None => None,
+    }
+}
+
+impl<K: Word64, V: Word64, A: Allocator, D: Drop> Congee<K, V, A, D> {
+    /// An empty tree over the allocator, which its root is charged to. A refused call drops both.
+    pub fn new_with_drainer(alloc: Global, allocator: A, drainer: D) -> Result<Self, OOMError>
+        ensures empty { IfOk result (λ t. t.pairs ≡ map.empty) }
+        ensures nodes { IfOk result (λ t. t.nodes ≡ root_alone) }
+        ensures root { IfOk result (λ t. t.bytes ≡ 2104) }
+        ensures charged { IfOk result (λ t. A.charged_of t.allocator ≡ A.charged_of allocator + 2104) }
+        ensures limit { IfOk result (λ t. A.limit_of t.allocator ≡ A.limit_of allocator) }
+        ensures drainer { IfOk result (λ t. t.drainer ≡ drainer) }
+        ensures refused { IfErr result (λ e. IsRefusal (A.charged_of allocator) 2104 (A.limit_of allocator) e) }
+    {
+        let arena = Arena::new(alloc, allocator)?;
+        Ok(Congee {
+            arena,
+            drainer,
+            alloc,
+            words: PhantomData,
+        })
+    }
+
+    /// Puts the answer of `f` at a key that is present, or takes the key out where the answer is `None`.
+    /// Gives the value before and the answer.
+    pub fn compute_if_present<F: FnMut(u64) -> Option<u64>>(
+        &mut self,
+        key: &K,
+        mut f: F,
+    ) -> Option<(u64, Option<u64>)>
+        requires { F.IsAlwaysCallable f }
+        ensures asked { IfSome result (λ r. (after : F) × F.step f r.0 r.1 after) }
+        ensures present { IfSome result (λ r. Answers nat_eq self.old self.new
+            (call.ComputePresent (K.word key.now) r.1) (reply.ComputePresent (Some (r.0, r.1)))) }
+        ensures absent { IfNone result (Answers nat_eq self.old self.new
+            (call.ComputePresent (K.word key.now) None) (reply.ComputePresent None)) }
+        ensures unchanged { IfNone result (Unchanged self.old self.new) }
+        ensures bytes { IfSome result (λ r. self.new.bytes + freed_by r.1 (map.get self.old.lone (K.word key.now)) ≡ self.old.bytes) }
+        ensures keeps { KeepsCharge A.charged_of A.limit_of self.old self.new }
+    {
+        let bytes = key.to_word().to_be_bytes();
+        let Some(old) = self.arena.get(&bytes).copied() else {
+            return None;
+        };
+        let new = f(old);
+        self.arena.settle(&bytes, new);
+        Some((old, new))
+    }
+
+    /// Puts the answer of `f` at a key, present or not, and gives the value before. A refused call changes nothing.
+    pub fn compute_or_insert<F: FnMut(Option<u64>) -> u64>(
+        &mut self,
+        key: K,
+        mut f: F,
+    ) -> Result<Option<V>, OOMError>
+        requires { F.IsAlwaysCallable f }
+        ensures answers { IfOk result (λ r. (before : Option ℕ) × (value : ℕ)
+            × (r ≡ option_map V.of_word before) × (after : F) × F.step f before value after
+            × Answers nat_eq self.old self.new (call.ComputeInsert (K.word key) value) (reply.ComputeInsert before)) }
+        ensures keeps { KeepsCharge A.charged_of A.limit_of self.old self.new }
+        ensures unchanged { OnErr result (Unchanged self.old self.new) }
+        ensures absent { OnErr result (map.get self.old.pairs (K.word key) ≡ None) }
+        ensures refused { IfErr result (λ e. IsRefused (map.get self.old.wants (K.word key)) (A.charged_of self.old.allocator) (A.limit_of self.old.allocator) e) }
+        ensures bytes { OnOk result (self.new.bytes ≡ self.old.bytes + gain_of (map.get self.old.wants (K.word key))) }
+    {
+        let bytes = key.to_word().to_be_bytes();
+        let old = self.arena.get(&bytes).copied();
+        let value = f(old);
+        match self.arena.insert(self.alloc, &bytes, value) {
+            Ok(before) => Ok(word_of(before)),
+            Err((e, _)) => Err(e),
+        }
+    }
+
+    /// Where the key has the old value, puts the new one there, or takes the key out at `None`.
+    /// Another value, or none, is the error.
+    pub fn compare_exchange(
+        &mut self,
+        key: &K,
+        old: &V,
+        new: Option<V>,
+    ) -> Result<Option<V>, Option<V>>
+        ensures ok { IfOk result (λ r. (word : Option ℕ) × (word ≡ option_map V.word new) × (r ≡ new)
+            × Answers nat_eq self.old self.new
+            (call.Exchange (K.word key.now) (V.word old.now) word) (reply.Exchange (Ok word))) }
+        ensures other { IfErr result (λ r. (found : Option ℕ) × (r ≡ option_map V.of_word found)
+            × Answers nat_eq self.old self.new
+            (call.Exchange (K.word key.now) (V.word old.now) (option_map V.word new)) (reply.Exchange (Err found))) }
+        ensures unchanged { OnErr result (Unchanged self.old self.new) }
+        ensures bytes { OnOk result (self.new.bytes + freed_by new (map.get self.old.lone (K.word key.now)) ≡ self.old.bytes) }
+        ensures keeps { KeepsCharge A.charged_of A.limit_of self.old self.new }
+    {
+        let bytes = key.to_word().to_be_bytes();
+        let old = old.to_word();
+        let found = self.arena.get(&bytes).copied();
+        if !holds(found, old) {
+            return Err(word_of(found));
+        }
+        let word = number_of(&new);
+        self.arena.settle(&bytes, word);
+        Ok(new)
+    }
+
+    /// The value at a key.
+    pub fn get(&self, key: &K) -> Option<V>
+        ensures { result ≡ option_map V.of_word (map.get self.now.pairs (K.word key.now)) }
+    {
+        let key = key.to_word().to_be_bytes();
+        word_of(self.arena.get(&key).copied())
+    }
+
+    /// Puts a value at a key, and gives the one before. A refused call changes nothing.
+    pub fn insert(&mut self, key: K, value: V) -> Result<Option<V>, OOMError>
+        ensures answers { IfOk result (λ r. (before : Option ℕ) × (r ≡ option_map V.of_word before)
+            × Answers nat_eq self.old self.new (call.Insert (K.word key) (V.word value)) (reply.Insert before)) }
+        ensures put { OnOk result (map.get self.new.pairs (K.word key) ≡ Some (V.word value)) }
+        ensures keeps { KeepsCharge A.charged_of A.limit_of self.old self.new }
+        ensures unchanged { OnErr result (Unchanged self.old self.new) }
+        ensures absent { OnErr result (map.get self.old.pairs (K.word key) ≡ None) }
+        ensures refused { IfErr result (λ e. IsRefused (map.get self.old.wants (K.word key)) (A.charged_of self.old.allocator) (A.limit_of self.old.allocator) e) }
+        ensures bytes { OnOk result (self.new.bytes ≡ self.old.bytes + gain_of (map.get self.old.wants (K.word key))) }
+    {
+        let bytes = key.to_word().to_be_bytes();
+        match self.arena.insert(self.alloc, &bytes, value.to_word()) {
+            Ok(before) => Ok(word_of(before)),
+            Err((e, _)) => Err(e),
+        }
+    }
+
+    /// Takes a key's value out.
+    pub fn remove(&mut self, key: &K) -> Option<V>
+        ensures answers { (before : Option ℕ) × (result ≡ option_map V.of_word before)
+            × Answers nat_eq self.old self.new (call.Remove (K.word key.now)) (reply.Remove before) }
+        ensures bytes { self.new.bytes + freed_of (map.get self.old.lone (K.word key.now)) ≡ self.old.bytes }
+        ensures keeps { KeepsCharge A.charged_of A.limit_of self.old self.new }
+    {
+        let bytes = key.to_word().to_be_bytes();
+        word_of(self.arena.remove(&bytes))
+    }
+
+    /// Takes every pair out, and every node but the root, whose bytes alone stay charged. The places that the nodes had
+    /// stay for those that come next.
+    pub fn clear(&mut self)
+        ensures empty { self.new.pairs ≡ map.empty }
+        ensures nodes { self.new.nodes ≡ root_alone }
+        ensures bytes { self.new.bytes ≡ 2104 }
+        ensures keeps { KeepsCharge A.charged_of A.limit_of self.old self.new }
+    {
+        self.arena.clear();
+    }
+
+    /// All keys, ascending. It is refused for want of memory alone.
+    pub fn keys(&self) -> Result<Vec<K, Global>, AllocError>
+        ensures { IfOk result (λ keys. keys.items ≡ keys_by K.of_word (map.entries self.now.pairs)) }
+    {
+        self.arena.keys(self.alloc)
+    }
+
+    /// How many nodes of each form stand on each level and how many children they have, and how many pairs there are.
+    /// The root is level 0. It is refused for want of memory alone.
+    pub fn stats(&self) -> Result<NodeStats, AllocError>
+        ensures { IfOk result (λ stats. IsTally stats self.now.nodes (map.len self.now.pairs)) }
+    {
+        self.arena.stats(self.alloc)
+    }
+
+    /// Whether no key has a value.
+    pub fn is_empty(&self) -> bool
+        ensures { IsTrue result ↔ (self.now.pairs ≡ map.empty) }
+    {
+        self.arena.first().is_none()
+    }
+
+    /// How many keys have a value; a number past `u64::MAX` stays there. They are counted, so it goes over all of them.
+    pub fn len(&self) -> u64
+        ensures { result ≡ capped (map.len self.now.pairs) }
+    {
+        self.arena.count_pairs()
+    }
+
+    /// Whether the key has a value.
+    pub fn contains_key(&self, key: &K) -> bool
+        ensures { IsTrue result ↔ IsSome (map.get self.now.pairs (K.word key.now)) }
+    {
+        let bytes = key.to_word().to_be_bytes();
+        let found = self.arena.get(&bytes).copied();
+        found.is_some()
+    }
+
+    /// The pair of the least key.
+    pub fn first(&self) -> Option<(K, V)>
+        ensures { (found : Option (ℕ × ℕ)) × (result ≡ option_map (pair_by K.of_word V.of_word) found)
+            × IsLeast self.now.pairs 0 found }
+    {
+        pair_of(self.arena.first_from(0))
+    }
+
+    /// The pair of the least key that is greater than this one, present or not. So a scan goes on past a full buffer.
+    pub fn next_after(&self, key: &K) -> Option<(K, V)>
+        ensures { (found : Option (ℕ × ℕ)) × (result ≡ option_map (pair_by K.of_word V.of_word) found)
+            × IsLeast self.now.pairs (K.word key.now + 1) found }
+    {
+        match key.to_word().checked_add(1) {
+            Some(from) => pair_of(self.arena.first_from(from)),
+            None => None,
+        }
+    }
+
+    /// The pair of the greatest key.
+    pub fn last(&self) -> Option<(K, V)>
+        ensures { (found : Option (ℕ × ℕ)) × (result ≡ option_map (pair_by K.of_word V.of_word) found)
+            × IsGreatest self.now.pairs (2 ^ 64) found }
+    {
+        pair_of(self.arena.last_to(u64::MAX))
+    }
+
+    /// The pair of the greatest key that is less than this one, present or not.
+    pub fn next_before(&self, key: &K) -> Option<(K, V)>
+        ensures { (found : Option (ℕ × ℕ)) × (result ≡ option_map (pair_by K.of_word V.of_word) found)
+            × IsGreatest self.now.pairs (K.word key.now) found }
+    {
+        match key.to_word().checked_sub(1) {
+            Some(last) => pair_of(self.arena.last_to(last)),
+            None => None,
+        }
+    }
+
+    // Writes the pairs with start <= key < end into `out`, ascending, as many as fit, each key as its eight bytes.
+    pub(crate) fn range_by_bytes(&self, start: u64, end: u64, out: &mut [([u8; 8], u64)]) -> usize
+        ensures pairs { take result out.new ≡ by_bytes (take (length out.old) (in_range start end (map.entries self.now.pairs))) }
+        ensures count { result ≡ length (take (length out.old) (in_range start end (map.entries self.now.pairs))) }
+        ensures past { drop result out.new ≡ drop result out.old }
+    {
+        self.arena.range_by_bytes(start, end, out)
+    }
+
+    /// Writes the pairs with start <= key < end into `out`, ascending, as many as fit, and gives their number.
+    /// The places past them stay as they were.
+    pub fn range(&self, start: &K, end: &K, out: &mut [(u64, u64)]) -> usize
+        ensures pairs { take result out.new ≡ take (length out.old) (in_range (K.word start.now) (K.word end.now) (map.entries self.now.pairs)) }
+        ensures count { result ≡ length (take (length out.old) (in_range (K.word start.now) (K.word end.now) (map.entries self.now.pairs))) }
+        ensures past { drop result out.new ≡ drop result out.old }
+    {
+        self.arena.range(start.to_word(), end.to_word(), out)
+    }
+
+    /// The bytes that the allocator has charged.
+    pub fn charged(&self) -> u64
+        ensures { result ≡ A.charged_of self.now.allocator }
+    {
+        self.arena.allocator.charged()
+    }
+}
+
+impl<K: Word64, V: Word64, A: Allocator> Congee<K, V, A, NoDrain> {
+    /// An empty tree over the allocator, which its root is charged to. A refused call drops the allocator.
+    pub fn new(alloc: Global, allocator: A) -> Result<Self, OOMError>
+        ensures empty { IfOk result (λ t. t.pairs ≡ map.empty) }
+        ensures nodes { IfOk result (λ t. t.nodes ≡ root_alone) }
+        ensures root { IfOk result (λ t. t.bytes ≡ 2104) }
+        ensures charged { IfOk result (λ t. A.charged_of t.allocator ≡ A.charged_of allocator + 2104) }
+        ensures limit { IfOk result (λ t. A.limit_of t.allocator ≡ A.limit_of allocator) }
+        ensures refused { IfErr result (λ e. IsRefusal (A.charged_of allocator) 2104 (A.limit_of allocator) e) }
+    {
+        Congee::new_with_drainer(alloc, allocator, NoDrain)
+    }
+}
+
+impl<K: Word64, V: Word64, A: Allocator, D: Drainer<K, V>> Congee<K, V, A, D> {
+    /// Hands each pair to the drainer, ascending by key, and drops the nodes. Gives the allocator and the drainer back:
+    /// the nodes' bytes are off the charge, so it is the one with which the allocator came in.
+    pub fn close(self) -> (A, D)
+        requires { D.can_drain self.drainer }
+        ensures drained { Drained D.drains K.of_word V.of_word self.drainer (map.entries self.pairs) result.1 }
+        ensures charged { A.charged_of result.0 + self.bytes ≡ A.charged_of self.allocator }
+        ensures limit { A.limit_of result.0 ≡ A.limit_of self.allocator }
+    {
+        let Congee { arena, drainer, .. } = self;
+        let drainer = arena.drain::<K, V, D>(drainer);
+        (arena.release(), drainer)
+    }
+}

@@ -1,0 +1,193 @@
+//! The owned tree of shared values.
+ghost use Rattle.std.specs.Prelude.{◌≡◌, ◌↔◌, ◌+◌, ◌^◌, ◌-◌, None, Some, IsSome, IsTrue};
+ghost use Rattle.std.specs.Prelude.{IfOk, IfErr, IfSome, IfNone, OnOk, OnErr};
+ghost use Rattle.std.specs.Option.{option_map};
+ghost use Rattle.std.specs.Arc.{arc_value};
+ghost use Rattle.std.specs.FinMap as map;
+ghost use Rattle.congee.specs.owned.Owners.{OwnerAnswers};
+ghost use Rattle.congee.specs.owned.Wanted.{IsRefused, gain_of, freed_of, freed_by};
+ghost use Rattle.congee.specs.owned.Ranges.{keys_by};
+ghost use Rattle.judge.specs.declared.journal.Call.TheVariants as call;
+ghost use Rattle.judge.specs.declared.journal.Reply.TheVariants as reply;
+
+use crate::allocator::{DefaultAllocator, OOMError};
+use crate::forms::child::Small;
+use crate::owned::arena::{Arena, Stored};
+use judge::{ArcPayload, Payload, Word64};
+use std::alloc::{AllocError, Global};
+use std::marker::{Model, PhantomData};
+use std::sync::Arc;
+use thiserror::Error;
+
+/// No more owners of a value can be counted.
+#[derive(Clone, Copy, PartialEq, Eq, Debug, Drop, Error)]
+#[error("No more owners of the value can be counted!")]
+pub struct Count;
+
+impl<V: Drop> Small for ArcPayload<V> {
+    ghost use Rattle.std.proofs.Common.{rules};
+
+    ghost small = { Prim.search rules };
+}
+
+impl<V: Drop> Stored for ArcPayload<V> {
+    ghost use Rattle.std.proofs.Common.{rules};
+
+    ghost fits = { Prim.search rules };
+}
+
+/// An ordered map from words to shared values for one thread: an adaptive radix tree over the keys' eight bytes.
+#[derive(Drop)]
+pub struct CongeeArc<K, V: Drop> {
+    arena: Arena<ArcPayload<V>, DefaultAllocator>,
+    alloc: Global,
+    words: PhantomData<K>,
+}
+
+impl<K, V: Drop> Model for CongeeArc<K, V> {
+    ghost use Rattle.std.specs.Prelude.{◌≡◌};
+    ghost use Rattle.congee.specs.owned.Owners.{Owners, owners_code};
+
+    ghost Value = { Owners V };
+
+    ghost coded = { owners_code V.code };
+
+    ghost use Rattle.congee.specs.owned.Arena.{IsTree};
+    ghost use Rattle.congee.specs.owned.Sizes.{bytes_of};
+    ghost use Rattle.congee.specs.owned.Table.{pairs_of};
+    ghost use Rattle.congee.specs.owned.Wanted.{wants_of, lone_of};
+
+    ghost view = { λ t. record { pairs = pairs_of t.arena.nodes; bytes = bytes_of t.arena.nodes; wants = wants_of t.arena.nodes; lone = lone_of t.arena.nodes } };
+
+    ghost invariant = { λ t. IsTree t.arena.nodes × (bytes_of t.arena.nodes ≡ t.arena.allocator.charged) };
+}
+
+// The owner in a payload, if there is one.
+fn owner_of<V>(payload: Option<ArcPayload<V>>) -> Option<Arc<V, Global>>
+    ensures { option_map arc_value result ≡ payload }
+{
+    payload.map(ArcPayload::into_arc)
+}
+
+// An owner as a payload, if there is one.
+fn payload_of<V>(owner: Option<Arc<V, Global>>) -> Option<ArcPayload<V>>
+    ensures { result ≡ option_map arc_value owner }
+{
+    owner.map(ArcPayload::new)
+}
+
+// One more owner of the value.
+fn another_owner<V: Drop>(payload: &ArcPayload<V>) -> Result<Arc<V, Global>, Count>
+    ensures { IfOk result (λ owner. arc_value owner ≡ payload.now) }
+{
+    match payload.copy() {
+        Some(copied) => Ok(copied.into_arc()),
+        None => Err(Count),
+    }
+}
+
+impl<K: Word64, V: Drop> CongeeArc<K, V> {
+    /// An empty tree. It is refused for want of memory alone.
+    pub fn new(alloc: Global) -> Result<Self, OOMError>
+        ensures empty { IfOk result (λ t. t.pairs ≡ map.empty) }
+        ensures root { IfOk result (λ t. t.bytes ≡ 2104) }
+        ensures refused { IfErr result (λ e. e ≡ OOMError.Memory) }
+    {
+        let arena = Arena::new(alloc, DefaultAllocator::new())?;
+        Ok(CongeeArc {
+            arena,
+            alloc,
+            words: PhantomData,
+        })
+    }
+
+    /// Whether no key has a value.
+    pub fn is_empty(&self) -> bool
+        ensures { IsTrue result ↔ (self.now.pairs ≡ map.empty) }
+    {
+        self.arena.first().is_none()
+    }
+
+    /// All keys, ascending. It is refused for want of memory alone.
+    pub fn keys(&self) -> Result<Vec<K, Global>, AllocError>
+        ensures { IfOk result (λ keys. keys.items ≡ keys_by K.of_word (map.entries self.now.pairs)) }
+    {
+        self.arena.keys(self.alloc)
+    }
+
+    /// One more owner of the value at a key. It is refused where a value is there that can't have one more.
+    pub fn get(&self, key: K) -> Result<Option<Arc<V, Global>>, Count>
+        ensures value { IfOk result (λ r. option_map arc_value r ≡ map.get self.now.pairs (K.word key)) }
+        ensures refused { OnErr result (IsSome (map.get self.now.pairs (K.word key))) }
+    {
+        let bytes = key.to_word().to_be_bytes();
+        match self.arena.get(&bytes) {
+            Some(payload) => Ok(Some(another_owner(payload)?)),
+            None => Ok(None),
+        }
+    }
+
+    /// Puts a value at a key, and gives the one before. A refused call changes nothing, and the value comes back.
+    pub fn insert(
+        &mut self,
+        key: K,
+        value: Arc<V, Global>,
+    ) -> Result<Option<Arc<V, Global>>, (OOMError, Arc<V, Global>)>
+        ensures answers { IfOk result (λ r. OwnerAnswers self.old self.new
+            (call.Insert (K.word key) (arc_value value)) (reply.Insert (option_map arc_value r))) }
+        ensures back { IfErr result (λ e. arc_value e.1 ≡ arc_value value) }
+        ensures unchanged { OnErr result (self.new ≡ self.old) }
+        ensures absent { OnErr result (map.get self.old.pairs (K.word key) ≡ None) }
+        ensures refused { IfErr result (λ e. IsRefused (map.get self.old.wants (K.word key)) self.old.bytes (2 ^ 64 - 1) e.0) }
+        ensures bytes { OnOk result (self.new.bytes ≡ self.old.bytes + gain_of (map.get self.old.wants (K.word key))) }
+    {
+        let bytes = key.to_word().to_be_bytes();
+        match self
+            .arena
+            .insert(self.alloc, &bytes, ArcPayload::new(value))
+        {
+            Ok(before) => Ok(owner_of(before)),
+            Err((e, payload)) => Err((e, payload.into_arc())),
+        }
+    }
+
+    /// Takes a key's value out.
+    pub fn remove(&mut self, key: K) -> Option<Arc<V, Global>>
+        ensures answers { OwnerAnswers self.old self.new (call.Remove (K.word key)) (reply.Remove (option_map arc_value result)) }
+        ensures bytes { self.new.bytes + freed_of (map.get self.old.lone (K.word key)) ≡ self.old.bytes }
+    {
+        let bytes = key.to_word().to_be_bytes();
+        owner_of(self.arena.remove(&bytes))
+    }
+
+    /// Puts the answer of `f` at a key that is present, or takes the key out where the answer is `None`.
+    /// Gives the value before. It is refused where a value is there that can't have one more owner, and changes
+    /// nothing then.
+    pub fn compute_if_present<F: FnMut(Arc<V, Global>) -> Option<Arc<V, Global>>>(
+        &mut self,
+        key: K,
+        mut f: F,
+    ) -> Result<Option<Arc<V, Global>>, Count>
+        requires { F.IsAlwaysCallable f }
+        ensures present { IfOk result (λ r. IfSome r (λ old. (given : _) × (new : _) × (after : F)
+            × (arc_value given ≡ arc_value old) × F.step f given new after
+            × OwnerAnswers self.old self.new (call.ComputePresent (K.word key) (option_map arc_value new))
+            (reply.ComputePresent (Some (arc_value old, option_map arc_value new)))
+            × (self.new.bytes + freed_by new (map.get self.old.lone (K.word key)) ≡ self.old.bytes))) }
+        ensures absent { IfOk result (λ r. IfNone r (OwnerAnswers self.old self.new
+            (call.ComputePresent (K.word key) None) (reply.ComputePresent None) × (self.new ≡ self.old))) }
+        ensures refused { OnErr result (IsSome (map.get self.old.pairs (K.word key))) }
+        ensures unchanged { OnErr result (self.new ≡ self.old) }
+    {
+        let bytes = key.to_word().to_be_bytes();
+        let given = match self.arena.get(&bytes) {
+            Some(payload) => another_owner(payload)?,
+            None => return Ok(None),
+        };
+        let new = payload_of(f(given));
+        Ok(owner_of(self.arena.settle(&bytes, new)))
+    }
+
+    /// Drops each value that stands.
+    pub fn close(self) {}
+}

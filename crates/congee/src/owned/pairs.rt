@@ -1,0 +1,145 @@
+//! The calls on an arena as those on a map.
+ghost use Rattle.std.specs.Prelude.{◌≡◌, ◌+◌, ℕ, length, ◌≤◌, Some, None, IfOk, IfErr, OnOk, OnErr};
+ghost use Rattle.std.specs.Option.{option_copied};
+ghost use Rattle.congee.specs.Heap.{value_at};
+ghost use Rattle.congee.specs.owned.Arena.{IsTree, heap_of};
+ghost use Rattle.congee.specs.owned.Levels.{nodes_of};
+ghost use Rattle.congee.specs.owned.Sizes.{bytes_of};
+ghost use Rattle.congee.specs.owned.Stats.{root_alone};
+ghost use Rattle.congee.specs.owned.Changes.{MapChange};
+ghost use Rattle.std.specs.Prelude.{List};
+ghost use Rattle.congee.specs.owned.OwnedSteps.{SameNodes, IsRefusal, settled};
+ghost use Rattle.congee.specs.owned.Wanted.{IsRefused, gain_of, freed_of, freed_by, wants_at, lone_at};
+
+use crate::allocator::{Allocator, OOMError};
+use crate::forms::base_node::{Node, NodeType};
+use crate::forms::child::Child;
+use crate::owned::arena::{Arena, Stored};
+use crate::owned::place::Spot;
+use slab::Slab;
+use std::alloc::Global;
+
+impl<P: Stored, A: Allocator> Arena<P, A> {
+    /// A root alone, charged to the allocator.
+    pub(crate) fn new(alloc: Global, allocator: A) -> Result<Self, OOMError>
+        ensures tree { IfOk result (λ t. IsTree t.nodes) }
+        ensures empty { IfOk result (λ t. (key : List ℕ) → value_at (heap_of t.nodes) key ≡ None) }
+        ensures nodes { IfOk result (λ t. nodes_of t.nodes ≡ root_alone) }
+        ensures bytes { IfOk result (λ t. bytes_of t.nodes ≡ 2104) }
+        ensures charged { IfOk result (λ t. A.charged_of t.allocator ≡ A.charged_of allocator + 2104) }
+        ensures limit { IfOk result (λ t. A.limit_of t.allocator ≡ A.limit_of allocator) }
+        ensures refused { IfErr result (λ e. IsRefusal (A.charged_of allocator) 2104 (A.limit_of allocator) e) }
+    {
+        let mut allocator = allocator;
+        allocator.allocate(NodeType::N256.size())?;
+        let Ok(root) = Node::new(alloc, NodeType::N256, &[]) else {
+            return Err(OOMError::Memory);
+        };
+        let mut nodes = Slab::new(alloc);
+        match nodes.insert(root) {
+            Ok(_) => Ok(Arena { nodes, allocator }),
+            Err(_) => Err(OOMError::Memory),
+        }
+    }
+
+    /// The value at a key.
+    pub(crate) fn get(&self, key: &[u8; 8]) -> Option<&P>
+        requires { IsTree self.now.nodes }
+        ensures { option_copied result ≡ value_at (heap_of self.now.nodes) key.now }
+    {
+        let mut at = 0usize;
+        loop {
+            let node = &self.nodes[at];
+            match node.get_child(key[node.prefix().len()]) {
+                None => return None,
+                Some(Child::Blank) => unreachable!(),
+                Some(Child::Value(value)) => return Some(value),
+                Some(Child::Node(below)) => {
+                    let below = *below;
+                    if !self.nodes[below].is_prefix_of(key) {
+                        return None;
+                    }
+                    at = below;
+                }
+            }
+        }
+    }
+
+    /// Puts a value at a key, and gives the one before. A refused value comes back.
+    pub(crate) fn insert(
+        &mut self,
+        alloc: Global,
+        key: &[u8; 8],
+        value: P,
+    ) -> Result<Option<P>, (OOMError, P)>
+        requires tree { IsTree self.old.nodes }
+        requires covered { bytes_of self.old.nodes ≤ A.charged_of self.old.allocator }
+        ensures tree { OnOk result (IsTree self.new.nodes) }
+        ensures change { IfOk result (λ before. MapChange self.old.nodes self.new.nodes key.now before (Some value)) }
+        ensures same { OnErr result (SameNodes self.old.nodes self.new.nodes) }
+        ensures back { IfErr result (λ e. e.1 ≡ value) }
+        ensures absent { OnErr result (value_at (heap_of self.old.nodes) key.now ≡ None) }
+        ensures refused { IfErr result (λ e. IsRefused (wants_at (heap_of self.old.nodes) key.now) (A.charged_of self.old.allocator) (A.limit_of self.old.allocator) e.0) }
+        ensures bytes { OnOk result (bytes_of self.new.nodes ≡ bytes_of self.old.nodes + gain_of (wants_at (heap_of self.old.nodes) key.now)) }
+        ensures balance { A.charged_of self.new.allocator + bytes_of self.old.nodes ≡ A.charged_of self.old.allocator + bytes_of self.new.nodes }
+        ensures limit { A.limit_of self.new.allocator ≡ A.limit_of self.old.allocator }
+    {
+        let place = self.locate(key);
+        match place.spot {
+            Spot::Held => Ok(Some(self.replace(place.at, key, value))),
+            Spot::Free => {
+                self.add(alloc, place.at, key, value)?;
+                Ok(None)
+            }
+            Spot::Apart(below) => {
+                self.split(alloc, place.at, below, key, value)?;
+                Ok(None)
+            }
+        }
+    }
+
+    /// Takes a key's value out.
+    pub(crate) fn remove(&mut self, key: &[u8; 8]) -> Option<P>
+        requires tree { IsTree self.old.nodes }
+        requires covered { bytes_of self.old.nodes ≤ A.charged_of self.old.allocator }
+        ensures tree { IsTree self.new.nodes }
+        ensures change { MapChange self.old.nodes self.new.nodes key.now result None }
+        ensures bytes { bytes_of self.new.nodes + freed_of (lone_at (heap_of self.old.nodes) key.now) ≡ bytes_of self.old.nodes }
+        ensures balance { A.charged_of self.new.allocator + bytes_of self.old.nodes ≡ A.charged_of self.old.allocator + bytes_of self.new.nodes }
+        ensures limit { A.limit_of self.new.allocator ≡ A.limit_of self.old.allocator }
+    {
+        let place = self.locate(key);
+        match place.spot {
+            Spot::Held => {
+                if self.nodes[place.at].len() == 1 {
+                    return Some(self.drop_leaf(place.above, place.at, key));
+                }
+                Some(self.take_value(place.at, key))
+            }
+            Spot::Free => None,
+            Spot::Apart(_) => None,
+        }
+    }
+
+    /// Where the key has a value, puts the new one in its place or takes it out, and gives the one before.
+    pub(crate) fn settle(&mut self, key: &[u8; 8], new: Option<P>) -> Option<P>
+        requires tree { IsTree self.old.nodes }
+        requires covered { bytes_of self.old.nodes ≤ A.charged_of self.old.allocator }
+        ensures tree { IsTree self.new.nodes }
+        ensures change { MapChange self.old.nodes self.new.nodes key.now result (settled result new) }
+        ensures bytes { bytes_of self.new.nodes + freed_by new (lone_at (heap_of self.old.nodes) key.now) ≡ bytes_of self.old.nodes }
+        ensures balance { A.charged_of self.new.allocator + bytes_of self.old.nodes ≡ A.charged_of self.old.allocator + bytes_of self.new.nodes }
+        ensures limit { A.limit_of self.new.allocator ≡ A.limit_of self.old.allocator }
+    {
+        let value = match new {
+            None => return self.remove(key),
+            Some(value) => value,
+        };
+        let place = self.locate(key);
+        match place.spot {
+            Spot::Held => Some(self.replace(place.at, key, value)),
+            Spot::Free => None,
+            Spot::Apart(_) => None,
+        }
+    }
+}

@@ -1,0 +1,227 @@
+//! The pairs of an arena by ascending keys.
+ghost use Rattle.std.specs.Prelude.{◌≡◌, ◌+◌, ◌^◌, ℕ, ◌<◌, ◌≤◌, [], ◌∷◌, length, take, drop, slice_index, None, OnSome, IfOk, true, MatchOption};
+ghost use Rattle.std.specs.FinMap as map;
+ghost use Rattle.congee.specs.Heap.{fits};
+ghost use Rattle.congee.specs.Keys.{key_bytes};
+ghost use Rattle.congee.specs.owned.Arena.{IsTree};
+ghost use Rattle.congee.specs.forms.Bytes.{IsFirst};
+ghost use Rattle.congee.specs.owned.Nearest.{IsLeast, IsGreatest};
+ghost use Rattle.congee.specs.owned.Cursor.{IsCursor, IsAt, steps_left};
+ghost use Rattle.congee.specs.owned.Table.{pairs_of};
+ghost use Rattle.congee.specs.owned.Ranges.{by_bytes, in_range, keys_by};
+
+use crate::allocator::Allocator;
+use crate::forms::child::Child;
+use crate::owned::arena::{Arena, Stored};
+use crate::owned::edit::first_apart;
+use arrayvec::ArrayVec;
+use judge::Word64;
+use std::alloc::{AllocError, Global};
+
+/// A node on a scan's way, and the least of its bytes that the scan has yet to look at: 256 where none is left.
+#[derive(Clone, Copy, Default)]
+pub(crate) struct Branch {
+    node: usize,
+    from: usize,
+}
+
+/// The nodes of a scan's way from the root down, each below the one before.
+pub(crate) type Cursor = ArrayVec<Branch, 8>;
+
+/// The cursor before every pair.
+pub(crate) fn beginning() -> Cursor
+    ensures { result.items ≡ record { node = 0; from = 0 } ∷ [] }
+{
+    let mut cursor = Cursor::new();
+    cursor.push(Branch { node: 0, from: 0 });
+    cursor
+}
+
+// The key of a leaf's pair: the leaf's prefix, and the byte.
+fn key_of(prefix: &[u8], byte: u8) -> u64
+    requires { length prefix.now ≡ 7 }
+    ensures begins { fits prefix.now (key_bytes result) ≡ true }
+    ensures ends { slice_index (key_bytes result) 7 ≡ byte }
+{
+    let mut bytes = [byte; 8];
+    for i in 0..7 {
+        bytes[i] = prefix[i];
+    }
+    u64::from_be_bytes(bytes)
+}
+
+impl<P: Stored, A: Allocator> Arena<P, A> {
+    /// The cursor before the pair of the least key from a number on.
+    pub(crate) fn seek(&self, key: u64) -> Cursor
+        requires { IsTree self.now.nodes }
+        ensures cursor { IsCursor self.now.nodes result.items }
+        ensures at { IsAt self.now.nodes result.items key }
+    {
+        let bytes = key.to_be_bytes();
+        let mut cursor = Cursor::new();
+        let mut at = 0;
+        loop {
+            let node = &self.nodes[at];
+            let depth = node.prefix().len();
+            let mut from = bytes[depth] as usize;
+            let below = match node.get_child(bytes[depth]) {
+                None => {
+                    cursor.push(Branch { node: at, from });
+                    return cursor;
+                }
+                Some(Child::Blank) => unreachable!(),
+                Some(Child::Value(_)) => {
+                    cursor.push(Branch { node: at, from });
+                    return cursor;
+                }
+                Some(Child::Node(below)) => *below,
+            };
+            if !self.nodes[below].is_prefix_of(&bytes) {
+                let prefix = self.nodes[below].prefix();
+                let apart = first_apart(&bytes, prefix);
+                if prefix[apart] < bytes[apart] {
+                    from += 1;
+                }
+                cursor.push(Branch { node: at, from });
+                return cursor;
+            }
+            cursor.push(Branch {
+                node: at,
+                from: from + 1,
+            });
+            at = below;
+        }
+    }
+
+    /// The next pair. The cursor is past it then.
+    pub(crate) fn next_along(&self, cursor: &mut Cursor) -> Option<(u64, &P)>
+        requires tree { IsTree self.now.nodes }
+        requires cursor { IsCursor self.now.nodes cursor.old.items }
+        ensures cursor { IsCursor self.now.nodes cursor.new.items }
+        ensures less { OnSome result (steps_left 8 cursor.new.items < steps_left 8 cursor.old.items) }
+        ensures first { (from : ℕ) → IsAt self.now.nodes cursor.old.items from
+            → MatchOption result ((q : ℕ) → from ≤ q → map.get (pairs_of self.now.nodes) q ≡ None)
+            (λ r. IsFirst (pairs_of self.now.nodes) from r.0 r.1.now × IsAt self.now.nodes cursor.new.items (r.0 + 1)) }
+    {
+        while let Some(Branch { node: at, from }) = cursor.pop() {
+            let node = &self.nodes[at];
+            let Some((byte, child)) = node.first_from(from) else {
+                continue;
+            };
+            cursor.push(Branch {
+                node: at,
+                from: byte as usize + 1,
+            });
+            match child {
+                Child::Blank => unreachable!(),
+                Child::Value(value) => return Some((key_of(node.prefix(), byte), value)),
+                Child::Node(below) => cursor.push(Branch {
+                    node: *below,
+                    from: 0,
+                }),
+            }
+        }
+        None
+    }
+
+    /// The pair of the least key.
+    pub(crate) fn first(&self) -> Option<(u64, &P)>
+        requires { IsTree self.now.nodes }
+        ensures { MatchOption result ((q : ℕ) → 0 ≤ q → map.get (pairs_of self.now.nodes) q ≡ None)
+            (λ r. IsFirst (pairs_of self.now.nodes) 0 r.0 r.1.now) }
+    {
+        self.next_along(&mut beginning())
+    }
+
+    /// All keys, ascending.
+    pub(crate) fn keys<K: Word64>(&self, alloc: Global) -> Result<Vec<K, Global>, AllocError>
+        requires { IsTree self.now.nodes }
+        ensures { IfOk result (λ keys. keys.items ≡ keys_by K.of_word (map.entries (pairs_of self.now.nodes))) }
+    {
+        let mut keys = Vec::new(alloc);
+        let mut cursor = beginning();
+        while let Some((key, _)) = self.next_along(&mut cursor) {
+            if keys.push(K::from_word(key)).is_err() {
+                return Err(AllocError);
+            }
+        }
+        Ok(keys)
+    }
+}
+
+impl<A: Allocator> Arena<u64, A> {
+    /// The pair of the least key from a number on.
+    pub(crate) fn first_from(&self, from: u64) -> Option<(u64, u64)>
+        requires { IsTree self.now.nodes }
+        ensures { IsLeast (pairs_of self.now.nodes) from result }
+    {
+        let mut cursor = self.seek(from);
+        match self.next_along(&mut cursor) {
+            Some((key, value)) => Some((key, *value)),
+            None => None,
+        }
+    }
+
+    /// The pair of the greatest key up to a number, itself included. The numbers from the best key so far to the last one
+    /// that may have a pair are halved, so it takes at most 65 descents.
+    pub(crate) fn last_to(&self, last: u64) -> Option<(u64, u64)>
+        requires { IsTree self.now.nodes }
+        ensures { IsGreatest (pairs_of self.now.nodes) (last + 1) result }
+    {
+        let mut best = match self.first_from(0) {
+            Some(pair) if pair.0 <= last => pair,
+            _ => return None,
+        };
+        let mut end = last;
+        while best.0 < end {
+            let middle = end - (end - best.0) / 2;
+            match self.first_from(middle) {
+                Some(pair) if pair.0 <= end => best = pair,
+                _ => end = middle - 1,
+            }
+        }
+        Some(best)
+    }
+
+    /// Writes the pairs with start <= key < end, ascending, as many as fit, and gives their number.
+    pub(crate) fn range(&self, start: u64, end: u64, out: &mut [(u64, u64)]) -> usize
+        requires { IsTree self.now.nodes }
+        ensures pairs { take result out.new ≡ take (length out.old) (in_range start end (map.entries (pairs_of self.now.nodes))) }
+        ensures count { result ≡ length (take (length out.old) (in_range start end (map.entries (pairs_of self.now.nodes)))) }
+        ensures past { drop result out.new ≡ drop result out.old }
+    {
+        let mut cursor = self.seek(start);
+        let mut count = 0;
+        while count < out.len() {
+            match self.next_along(&mut cursor) {
+                Some((key, value)) if key < end => {
+                    out[count] = (key, *value);
+                    count += 1;
+                }
+                _ => return count,
+            }
+        }
+        count
+    }
+
+    /// The same, with each key as its eight bytes, the highest first.
+    pub(crate) fn range_by_bytes(&self, start: u64, end: u64, out: &mut [([u8; 8], u64)]) -> usize
+        requires { IsTree self.now.nodes }
+        ensures pairs { take result out.new ≡ by_bytes (take (length out.old) (in_range start end (map.entries (pairs_of self.now.nodes)))) }
+        ensures count { result ≡ length (take (length out.old) (in_range start end (map.entries (pairs_of self.now.nodes)))) }
+        ensures past { drop result out.new ≡ drop result out.old }
+    {
+        let mut cursor = self.seek(start);
+        let mut count = 0;
+        while count < out.len() {
+            match self.next_along(&mut cursor) {
+                Some((number, value)) if number < end => {
+                    out[count] = (number.to_be_bytes(), *value);
+                    count += 1;
+                }
+                _ => return count,
+            }
+        }
+        count
+    }
+}

@@ -1,0 +1,63 @@
+//! How the nodes of an arena are spread over levels and forms.
+ghost use Rattle.std.specs.Prelude.{◌≡◌, ℕ, ◌≤◌, ◌<◌, ◌++◌, ◌^◌, List, length, vec_len, IfOk, OnOk};
+ghost use Rattle.std.specs.FinMap as map;
+ghost use Rattle.slab.specs.Slab.{get, ContainsKey};
+ghost use Rattle.congee.specs.owned.Arena.{IsTree, heap_of};
+ghost use Rattle.congee.specs.owned.Levels.{nodes_from, nodes_of};
+ghost use Rattle.congee.specs.owned.Stats.{IsTally, Shape, capped};
+ghost use Rattle.congee.specs.owned.Table.{pairs_of};
+
+use crate::allocator::Allocator;
+use crate::forms::child::Child;
+use crate::owned::arena::{Arena, Stored};
+use crate::owned::scan::beginning;
+use crate::owned::stats::NodeStats;
+use std::alloc::{AllocError, Global};
+
+impl<P: Stored, A: Allocator> Arena<P, A> {
+    // Counts a node on a level, and the nodes below it.
+    fn count_from(&self, at: usize, level: usize, stats: &mut NodeStats) -> Result<(), AllocError>
+        requires tree { IsTree self.now.nodes }
+        requires stands { ContainsKey self.now.nodes at }
+        requires level { level ≤ length (heap_of self.now.nodes at).prefix }
+        requires next { level ≤ vec_len stats.old.levels }
+        ensures counted { OnOk result ((seen : List Shape) → IsTally stats.old seen 0
+            → IsTally stats.new (seen ++ nodes_from (get self.now.nodes) 8 level at) 0) }
+        ensures levels { OnOk result (vec_len stats.old.levels ≤ vec_len stats.new.levels) }
+    {
+        let node = &self.nodes[at];
+        stats.count(level, node.node_type(), node.len() as u64)?;
+        let mut from = 0;
+        while let Some((byte, child)) = node.first_from(from) {
+            if let Child::Node(below) = child {
+                self.count_from(*below, level + 1, stats)?;
+            }
+            from = byte as usize + 1;
+        }
+        Ok(())
+    }
+
+    /// The number of pairs; one past `u64::MAX` stays there.
+    pub(crate) fn count_pairs(&self) -> u64
+        requires { IsTree self.now.nodes }
+        ensures { result ≡ capped (map.len (pairs_of self.now.nodes)) }
+    {
+        let mut count = 0u64;
+        let mut cursor = beginning();
+        while self.next_along(&mut cursor).is_some() {
+            count = count.saturating_add(1);
+        }
+        count
+    }
+
+    /// How the nodes are spread, and how many pairs they hold.
+    pub(crate) fn stats(&self, alloc: Global) -> Result<NodeStats, AllocError>
+        requires { IsTree self.now.nodes }
+        ensures { IfOk result (λ stats. IsTally stats (nodes_of self.now.nodes) (map.len (pairs_of self.now.nodes))) }
+    {
+        let mut stats = NodeStats::new(alloc);
+        self.count_from(0, 0, &mut stats)?;
+        stats.kv_pairs = self.count_pairs();
+        Ok(stats)
+    }
+}

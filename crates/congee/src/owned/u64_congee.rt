@@ -1,0 +1,216 @@
+//! The owned tree whose keys are numbers.
+ghost use Rattle.std.specs.Prelude.{◌≡◌, ◌+◌, ◌↔◌, ◌^◌, ℕ, Option, Some, None, IfOk, IfErr, IfSome, IfNone, IsSome, IsTrue, OnOk, OnErr, nat_eq, length, take, drop};
+ghost use Rattle.std.specs.Option.{option_map};
+ghost use Rattle.std.specs.FinMap as map;
+ghost use Rattle.congee.specs.owned.Content.{Answers, KeepsCharge, Unchanged};
+ghost use Rattle.congee.specs.owned.Nearest.{IsLeast, IsGreatest, pair_by};
+ghost use Rattle.congee.specs.owned.OwnedSteps.{IsRefusal};
+ghost use Rattle.congee.specs.owned.Ranges.{by_bytes, in_range, keys_by};
+ghost use Rattle.congee.specs.owned.Stats.{IsTally, capped, root_alone};
+ghost use Rattle.congee.specs.owned.Wanted.{IsRefused, gain_of, freed_of, freed_by};
+ghost use Rattle.judge.specs.declared.journal.Call.TheVariants as call;
+ghost use Rattle.judge.specs.declared.journal.Reply.TheVariants as reply;
+
+use crate::allocator::{Allocator, DefaultAllocator, OOMError};
+use crate::owned::congee::Congee;
+use crate::owned::drainer::NoDrain;
+use crate::owned::stats::NodeStats;
+use judge::Word64;
+use std::alloc::{AllocError, Global};
+
+/// An ordered map from 64-bit numbers to words for one thread.
+#[derive(Drop)]
+pub struct U64Congee<V, A: Allocator = DefaultAllocator> {
+    tree: Congee<u64, V, A, NoDrain>,
+}
+
+impl<V: Word64, A: Allocator> U64Congee<V, A> {
+    /// An empty tree over the allocator, which its root is charged to. A refused call drops the allocator.
+    pub fn new(alloc: Global, allocator: A) -> Result<Self, OOMError>
+        ensures empty { IfOk result (λ t. t.tree.pairs ≡ map.empty) }
+        ensures nodes { IfOk result (λ t. t.tree.nodes ≡ root_alone) }
+        ensures root { IfOk result (λ t. t.tree.bytes ≡ 2104) }
+        ensures charged { IfOk result (λ t. A.charged_of t.tree.allocator ≡ A.charged_of allocator + 2104) }
+        ensures limit { IfOk result (λ t. A.limit_of t.tree.allocator ≡ A.limit_of allocator) }
+        ensures refused { IfErr result (λ e. IsRefusal (A.charged_of allocator) 2104 (A.limit_of allocator) e) }
+    {
+        Ok(U64Congee {
+            tree: Congee::new(alloc, allocator)?,
+        })
+    }
+
+    /// The value at a key.
+    pub fn get(&self, key: u64) -> Option<V>
+        ensures { result ≡ option_map V.of_word (map.get self.now.tree.pairs key) }
+    {
+        self.tree.get(&key)
+    }
+
+    /// Puts a value at a key, and gives the one before. A refused call changes nothing.
+    pub fn insert(&mut self, key: u64, value: V) -> Result<Option<V>, OOMError>
+        ensures answers { IfOk result (λ r. (before : Option ℕ) × (r ≡ option_map V.of_word before)
+            × Answers nat_eq self.old.tree self.new.tree (call.Insert key (V.word value)) (reply.Insert before)) }
+        ensures put { OnOk result (map.get self.new.tree.pairs key ≡ Some (V.word value)) }
+        ensures keeps { KeepsCharge A.charged_of A.limit_of self.old.tree self.new.tree }
+        ensures unchanged { OnErr result (Unchanged self.old.tree self.new.tree) }
+        ensures absent { OnErr result (map.get self.old.tree.pairs key ≡ None) }
+        ensures refused { IfErr result (λ e. IsRefused (map.get self.old.tree.wants key) (A.charged_of self.old.tree.allocator) (A.limit_of self.old.tree.allocator) e) }
+        ensures bytes { OnOk result (self.new.tree.bytes ≡ self.old.tree.bytes + gain_of (map.get self.old.tree.wants key)) }
+    {
+        self.tree.insert(key, value)
+    }
+
+    /// Takes a key's value out.
+    pub fn remove(&mut self, key: u64) -> Option<V>
+        ensures answers { (before : Option ℕ) × (result ≡ option_map V.of_word before)
+            × Answers nat_eq self.old.tree self.new.tree (call.Remove key) (reply.Remove before) }
+        ensures bytes { self.new.tree.bytes + freed_of (map.get self.old.tree.lone key) ≡ self.old.tree.bytes }
+        ensures keeps { KeepsCharge A.charged_of A.limit_of self.old.tree self.new.tree }
+    {
+        self.tree.remove(&key)
+    }
+
+    /// Puts the answer of `f` at a key that is present, or takes the key out where the answer is `None`.
+    /// Gives the value before and the answer.
+    pub fn compute_if_present<F: FnMut(u64) -> Option<u64>>(
+        &mut self,
+        key: u64,
+        f: F,
+    ) -> Option<(u64, Option<u64>)>
+        requires { F.IsAlwaysCallable f }
+        ensures asked { IfSome result (λ r. (after : F) × F.step f r.0 r.1 after) }
+        ensures present { IfSome result (λ r. Answers nat_eq self.old.tree self.new.tree
+            (call.ComputePresent key r.1) (reply.ComputePresent (Some (r.0, r.1)))) }
+        ensures absent { IfNone result (Answers nat_eq self.old.tree self.new.tree
+            (call.ComputePresent key None) (reply.ComputePresent None)) }
+        ensures unchanged { IfNone result (Unchanged self.old.tree self.new.tree) }
+        ensures bytes { IfSome result (λ r. self.new.tree.bytes + freed_by r.1 (map.get self.old.tree.lone key) ≡ self.old.tree.bytes) }
+        ensures keeps { KeepsCharge A.charged_of A.limit_of self.old.tree self.new.tree }
+    {
+        self.tree.compute_if_present(&key, f)
+    }
+
+    /// Puts the answer of `f` at a key, present or not, and gives the value before. A refused call changes nothing.
+    pub fn compute_or_insert<F: FnMut(Option<u64>) -> u64>(
+        &mut self,
+        key: u64,
+        f: F,
+    ) -> Result<Option<V>, OOMError>
+        requires { F.IsAlwaysCallable f }
+        ensures answers { IfOk result (λ r. (before : Option ℕ) × (value : ℕ)
+            × (r ≡ option_map V.of_word before) × (after : F) × F.step f before value after
+            × Answers nat_eq self.old.tree self.new.tree (call.ComputeInsert key value) (reply.ComputeInsert before)) }
+        ensures keeps { KeepsCharge A.charged_of A.limit_of self.old.tree self.new.tree }
+        ensures unchanged { OnErr result (Unchanged self.old.tree self.new.tree) }
+        ensures absent { OnErr result (map.get self.old.tree.pairs key ≡ None) }
+        ensures refused { IfErr result (λ e. IsRefused (map.get self.old.tree.wants key) (A.charged_of self.old.tree.allocator) (A.limit_of self.old.tree.allocator) e) }
+        ensures bytes { OnOk result (self.new.tree.bytes ≡ self.old.tree.bytes + gain_of (map.get self.old.tree.wants key)) }
+    {
+        self.tree.compute_or_insert(key, f)
+    }
+
+    /// Takes every pair out, and every node but the root, whose bytes alone stay charged. The places that the nodes had
+    /// stay for those that come next.
+    pub fn clear(&mut self)
+        ensures empty { self.new.tree.pairs ≡ map.empty }
+        ensures nodes { self.new.tree.nodes ≡ root_alone }
+        ensures bytes { self.new.tree.bytes ≡ 2104 }
+        ensures keeps { KeepsCharge A.charged_of A.limit_of self.old.tree self.new.tree }
+    {
+        self.tree.clear();
+    }
+
+    /// All keys, ascending. It is refused for want of memory alone.
+    pub fn keys(&self) -> Result<Vec<u64, Global>, AllocError>
+        ensures { IfOk result (λ keys. keys.items ≡ keys_by (λ k. k) (map.entries self.now.tree.pairs)) }
+    {
+        self.tree.keys()
+    }
+
+    /// How many nodes of each form stand on each level and how many children they have, and how many pairs there are.
+    /// The root is level 0. It is refused for want of memory alone.
+    pub fn stats(&self) -> Result<NodeStats, AllocError>
+        ensures { IfOk result (λ stats. IsTally stats self.now.tree.nodes (map.len self.now.tree.pairs)) }
+    {
+        self.tree.stats()
+    }
+
+    /// Whether no key has a value.
+    pub fn is_empty(&self) -> bool
+        ensures { IsTrue result ↔ (self.now.tree.pairs ≡ map.empty) }
+    {
+        self.tree.is_empty()
+    }
+
+    /// How many keys have a value; a number past `u64::MAX` stays there. They are counted, so it goes over all of them.
+    pub fn len(&self) -> u64
+        ensures { result ≡ capped (map.len self.now.tree.pairs) }
+    {
+        self.tree.len()
+    }
+
+    /// Whether the key has a value.
+    pub fn contains_key(&self, key: u64) -> bool
+        ensures { IsTrue result ↔ IsSome (map.get self.now.tree.pairs key) }
+    {
+        self.tree.contains_key(&key)
+    }
+
+    /// The pair of the least key.
+    pub fn first(&self) -> Option<(u64, V)>
+        ensures { (found : Option (ℕ × ℕ)) × (result ≡ option_map (pair_by (λ k. k) V.of_word) found)
+            × IsLeast self.now.tree.pairs 0 found }
+    {
+        self.tree.first()
+    }
+
+    /// The pair of the least key that is greater than this one, present or not. So a scan goes on past a full buffer.
+    pub fn next_after(&self, key: u64) -> Option<(u64, V)>
+        ensures { (found : Option (ℕ × ℕ)) × (result ≡ option_map (pair_by (λ k. k) V.of_word) found)
+            × IsLeast self.now.tree.pairs (key + 1) found }
+    {
+        self.tree.next_after(&key)
+    }
+
+    /// The pair of the greatest key.
+    pub fn last(&self) -> Option<(u64, V)>
+        ensures { (found : Option (ℕ × ℕ)) × (result ≡ option_map (pair_by (λ k. k) V.of_word) found)
+            × IsGreatest self.now.tree.pairs (2 ^ 64) found }
+    {
+        self.tree.last()
+    }
+
+    /// The pair of the greatest key that is less than this one, present or not.
+    pub fn next_before(&self, key: u64) -> Option<(u64, V)>
+        ensures { (found : Option (ℕ × ℕ)) × (result ≡ option_map (pair_by (λ k. k) V.of_word) found)
+            × IsGreatest self.now.tree.pairs key found }
+    {
+        self.tree.next_before(&key)
+    }
+
+    /// The bytes that the allocator has charged.
+    pub fn charged(&self) -> u64
+        ensures { result ≡ A.charged_of self.now.tree.allocator }
+    {
+        self.tree.charged()
+    }
+
+    /// Writes the pairs with start <= key < end into `out`, ascending, as many as fit, each key as its eight bytes, the
+    /// highest first. Gives their number. The places past them stay as they were.
+    pub fn range(&self, start: u64, end: u64, out: &mut [([u8; 8], u64)]) -> usize
+        ensures pairs { take result out.new ≡ by_bytes (take (length out.old) (in_range start end (map.entries self.now.tree.pairs))) }
+        ensures count { result ≡ length (take (length out.old) (in_range start end (map.entries self.now.tree.pairs))) }
+        ensures past { drop result out.new ≡ drop result out.old }
+    {
+        self.tree.range_by_bytes(start, end, out)
+    }
+
+    /// Drops the pairs and the nodes. Gives the allocator back with the charge with which it came in.
+    pub fn close(self) -> A
+        ensures charged { A.charged_of result + self.tree.bytes ≡ A.charged_of self.tree.allocator }
+        ensures limit { A.limit_of result ≡ A.limit_of self.tree.allocator }
+    {
+        let (allocator, _) = self.tree.close();
+        allocator
+    }
+}

@@ -1,0 +1,42 @@
+//! The protocol of a call on a shared tree: optimistic lock coupling, a step at a time, over any `store` of nodes.
+//!
+//! A lock word has a version, a lock and a mark. A call takes a node's version, reads the node, and checks that the
+//! word is still the one taken; what was read is true at that check, and the call follows it, takes effect, or makes
+//! what it needs. Before it changes a node it locks it, by one exchange from the version that it took; letting go
+//! raises the version. Where a check or an exchange fails, what was made goes back, a lock that is held is let go in
+//! the next step, and the call begins anew at the root. Two locks are taken from the upper node down.
+//!
+//! A `machine` is one call. Its `phase` is the next step; `turn` says where the store's answer leads. The ways on:
+//!
+//! | The call finds | Its phases |
+//! |---|---|
+//! | its way | `Version`, `Read`, `Check`, and for an insertion `CheckDown`, at each node |
+//! | a node whose prefix differs | `CheckMiss`; an insertion splits: `MakeTop`, `MakeBeside`, `AskNew`, `UpgradeAbove`, `UpgradeBelow`, `ChangeTwo`, `UnlockBelow`, `Unlock` |
+//! | no child, room for one | `MakeLeaf` below an inner node, `AskNew`, `CheckAbove`, `UpgradeOne`, `ChangeOne`, `Unlock` |
+//! | no child, no room: growth | `MakeLeaf` below an inner node, `MakeGreater`, `AskNew`, `UpgradeAbove`, `UpgradeBelow`, `ChangeTwo`, `Obsolete`, `Retire`, `Unlock` |
+//! | a value, and keeps it | `CheckOld` for an insertion, `AskOld`, `Confirm` |
+//! | a value, and puts another or none | `CheckOld`, `AskOld`, `UpgradeOne`, `ChangeOne`, `Unlock` |
+//! | the leaf's last value, and takes it | `AskOld`, `UpgradeAbove`, `UpgradeBelow`, `ChangeTwo`, `Obsolete`, `Retire`, `Unlock` |
+//! | the lower lock not free | `Unwind`, then anew, or refused |
+//!
+//! Only a call with a closure asks. A scan is one phase, `Sweep`, with stages of its own in `sweep`.
+mod laws;
+mod machine;
+mod op;
+mod phase;
+mod plain;
+mod plain_node;
+mod run;
+mod store;
+mod sweep;
+mod turn;
+
+pub use machine::{Machine, Move, Noise, Outcome};
+pub use op::Op;
+pub use phase::{Double, Kind, One, Parent, Phase, Plan, Single, Site, Two};
+pub use plain::PlainStore;
+pub use plain_node::PlainNode;
+pub use run::{Played, Step, play, step_of};
+pub use store::{Least, NodeName, Reading, Refusal, Region, Seat, Seen, Store, Upgrade};
+pub use sweep::{Path, Rung, Stage, Sweep, Told};
+pub use turn::Turn;

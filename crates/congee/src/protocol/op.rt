@@ -1,0 +1,65 @@
+//! The calls on one key, as they begin.
+ghost use Rattle.std.specs.Prelude.{◌≡◌, ◌<◌, ◌^◌, Option};
+ghost use Rattle.congee.specs.declared.protocol.phase.Kind.{Kind};
+ghost use Rattle.congee.specs.protocol.Protocol.{HasGift};
+ghost use Rattle.congee.specs.protocol.Play.{parts, first_phase, IsBegin};
+
+use crate::protocol::phase::{Kind, Phase};
+use crate::protocol::store::NodeName;
+use crate::protocol::sweep::Sweep;
+
+/// A call on one key, before its closure has answered anything.
+#[derive(Drop)]
+pub enum Op<P> {
+    /// Looks the key up.
+    Get(u64),
+    /// Puts the value at the key.
+    Insert(u64, P),
+    /// Takes the key out.
+    Remove(u64),
+    /// Where the key is present, puts the closure's answer there, or takes the key out.
+    ComputePresent(u64),
+    /// Puts the closure's answer at the key, present or not.
+    ComputeInsert(u64),
+    /// Where the key has the old value, puts the new one there, or takes the key out at `None`.
+    Exchange(u64, P, Option<P>),
+    /// Finds the pairs of the keys from the first number to before the second, ascending, for so many places at most.
+    Range(u64, u64, usize),
+}
+
+impl<P> Op<P> {
+    /// The first step of the call.
+    pub(crate) fn first_phase<C: NodeName>(&self, root: C) -> Phase<C, P>
+        ensures phase { result ≡ first_phase root self.now }
+        ensures begins { (kind : Kind P) (given : Option P) → HasGift kind given → IsBegin kind given result }
+    {
+        match self {
+            Op::Range(start, end, size) => Phase::Sweep {
+                sweep: Sweep::new(root, *start, *end, *size),
+            },
+            Op::Get(_) => Phase::New,
+            Op::Insert(_, _) => Phase::New,
+            Op::Remove(_) => Phase::New,
+            Op::ComputePresent(_) => Phase::New,
+            Op::ComputeInsert(_) => Phase::New,
+            Op::Exchange(_, _, _) => Phase::New,
+        }
+    }
+
+    /// The key, what the call does there, and the value that it was given.
+    pub(crate) fn parts(self) -> (u64, Kind<P>, Option<P>)
+        ensures parts { result ≡ parts self }
+        ensures gift { HasGift result.1 result.2 }
+        ensures key { result.0 < 2 ^ 64 }
+    {
+        match self {
+            Op::Get(key) => (key, Kind::Get, None),
+            Op::Insert(key, value) => (key, Kind::Insert, Some(value)),
+            Op::Remove(key) => (key, Kind::Remove, None),
+            Op::ComputePresent(key) => (key, Kind::ComputePresent, None),
+            Op::ComputeInsert(key) => (key, Kind::ComputeInsert, None),
+            Op::Exchange(key, old, new) => (key, Kind::Exchange { old }, new),
+            Op::Range(start, _, _) => (start, Kind::Get, None),
+        }
+    }
+}

@@ -1,0 +1,324 @@
+//! Where a call stands between two of its steps.
+
+ghost use Rattle.std.specs.Prelude.{◌≡◌};
+ghost use Rattle.congee.specs.protocol.Steps.{plan_here, greater};
+
+use crate::forms::child::Child;
+use crate::protocol::store::{NodeName, Refusal, Seat};
+use crate::protocol::sweep::Sweep;
+use judge::Reply;
+
+/// What a call does with its key.
+#[derive(Drop)]
+pub enum Kind<P> {
+    /// Looks it up.
+    Get,
+    /// Puts a value there.
+    Insert,
+    /// Takes it out.
+    Remove,
+    /// Where it is present, puts what its closure answers there, or takes it out.
+    ComputePresent,
+    /// Puts what its closure answers there.
+    ComputeInsert,
+    /// Where it has the old value, puts another one there, or takes it out.
+    Exchange { old: P },
+}
+
+/// The node above the one at hand, and the byte at which that hangs in it.
+#[derive(Clone, Copy)]
+pub struct Parent<C: NodeName> {
+    /// The node above.
+    pub seat: Seat<C>,
+    /// The byte.
+    pub byte: u8,
+}
+
+/// The node at hand as it was read, on the way of the call's key; nothing is above the root.
+#[derive(Clone, Copy)]
+pub struct Site<C: NodeName> {
+    /// The node above.
+    pub above: Option<Parent<C>>,
+    /// The node.
+    pub at: Seat<C>,
+    /// The length of its prefix, in bytes.
+    pub depth: usize,
+    /// The key's byte there.
+    pub byte: u8,
+    /// How many children it has.
+    pub count: u16,
+    /// Whether it has no place for one more.
+    pub full: bool,
+}
+
+/// What the change of one locked node puts at the key's byte there.
+#[derive(Clone, Copy)]
+pub enum Single<C: NodeName> {
+    /// The call's new value, or nothing.
+    Set,
+    /// A new leaf with the value.
+    Link { leaf: C },
+}
+
+/// A change of one node.
+#[derive(Clone, Copy)]
+pub struct One<C: NodeName> {
+    /// The node.
+    pub at: Seat<C>,
+    /// The key's byte there.
+    pub byte: u8,
+    /// What comes there.
+    pub change: Single<C>,
+}
+
+/// What the change of the node above puts in place of the node at hand, with both locked.
+#[derive(Clone, Copy)]
+pub enum Double<C: NodeName> {
+    /// Nothing: the leaf has no other value.
+    Unlink,
+    /// A greater leaf with the value.
+    Grow {
+        node: C,
+    },
+    /// A greater node with a new leaf, at the key's byte, that has the value.
+    GrowLink {
+        node: C,
+        leaf: C,
+        byte: u8,
+    },
+    /// A node above the one at hand and a new leaf with the value. So many bytes of the prefix are the key's, and
+    /// the next one of it is `byte`.
+    Split {
+        top: C,
+        leaf: C,
+        common: usize,
+        byte: u8,
+    },
+}
+
+/// A change of the node above.
+#[derive(Clone, Copy)]
+pub struct Two<C: NodeName> {
+    /// The node above.
+    pub above: Parent<C>,
+    /// The node at hand.
+    pub at: Seat<C>,
+    /// What comes in its place.
+    pub change: Double<C>,
+}
+
+/// What an insertion that found its key absent will do, its nodes made.
+#[derive(Clone, Copy)]
+pub enum Plan<C: NodeName> {
+    /// Changes one node; the node above is checked first, where there is one.
+    Here { check: Option<Seat<C>>, one: One<C> },
+    /// Changes the node above.
+    Above { two: Two<C> },
+}
+
+/// The next step of a call, with what the steps before found out for it.
+#[derive(Drop)]
+pub enum Phase<C: NodeName, P> {
+    /// The call's begin.
+    New,
+    /// Takes the version of the root or of a child.
+    Version {
+        above: Option<Parent<C>>,
+        node: C,
+    },
+    /// Reads the node.
+    Read {
+        above: Option<Parent<C>>,
+        at: Seat<C>,
+    },
+    /// Checks the node after the read.
+    Check {
+        site: Site<C>,
+        child: Child<C, P>,
+    },
+    /// Checks the node whose value couldn't be copied.
+    CheckUncopied {
+        at: Seat<C>,
+    },
+    /// Checks the node above one whose prefix differs from the key.
+    CheckMiss {
+        above: Parent<C>,
+        at: Seat<C>,
+        common: usize,
+        byte: u8,
+    },
+    /// An insertion's check of the node above, before it follows a child.
+    CheckDown {
+        above: Seat<C>,
+        at: Parent<C>,
+        node: C,
+    },
+    /// An insertion's check of the node above, at a value.
+    CheckOld {
+        above: Seat<C>,
+        site: Site<C>,
+        old: P,
+    },
+    /// Makes the leaf for the key.
+    MakeLeaf {
+        site: Site<C>,
+    },
+    /// Makes the greater node that takes the place of a full one.
+    MakeGreater {
+        site: Site<C>,
+        above: Parent<C>,
+        leaf: Option<C>,
+    },
+    /// Makes the node that comes above the one at hand.
+    MakeTop {
+        above: Parent<C>,
+        at: Seat<C>,
+        common: usize,
+        byte: u8,
+    },
+    /// Makes the leaf beside the one at hand.
+    MakeBeside {
+        above: Parent<C>,
+        at: Seat<C>,
+        common: usize,
+        byte: u8,
+        top: C,
+    },
+    /// Takes the closure's answer for a value that stands.
+    AskOld {
+        site: Site<C>,
+        old: P,
+    },
+    /// Takes the closure's answer for an absent key.
+    AskNew {
+        plan: Plan<C>,
+    },
+    /// Checks the node once more, where the call leaves the value as it is.
+    Confirm {
+        at: Seat<C>,
+        reply: Reply<P>,
+    },
+    /// Checks the node above before one node is changed.
+    CheckAbove {
+        above: Seat<C>,
+        one: One<C>,
+        reply: Reply<P>,
+    },
+    /// Locks the one node.
+    UpgradeOne {
+        one: One<C>,
+        reply: Reply<P>,
+    },
+    /// Changes the one node.
+    ChangeOne {
+        one: One<C>,
+        reply: Reply<P>,
+    },
+    /// Locks the node above.
+    UpgradeAbove {
+        two: Two<C>,
+        reply: Reply<P>,
+    },
+    /// Locks the node at hand, the node above being locked.
+    UpgradeBoth {
+        two: Two<C>,
+        reply: Reply<P>,
+    },
+    /// Changes the node above, with both locked.
+    ChangeTwo {
+        two: Two<C>,
+        reply: Reply<P>,
+    },
+    /// Marks the node that was taken out.
+    Obsolete {
+        node: C,
+        above: C,
+        reply: Reply<P>,
+    },
+    /// Hands it over for destruction.
+    Retire {
+        node: C,
+        above: C,
+        reply: Reply<P>,
+    },
+    /// Unlocks the node below a split.
+    UnlockBelow {
+        node: C,
+        above: C,
+        reply: Reply<P>,
+    },
+    /// Unlocks the last node.
+    Unlock {
+        node: C,
+        reply: Reply<P>,
+    },
+    /// Unlocks the node above after the node at hand couldn't be locked; then begins anew, or is refused.
+    Unwind {
+        node: C,
+        refusal: Option<Refusal>,
+    },
+    /// A scan's step.
+    Sweep {
+        sweep: Sweep<C, P>,
+    },
+    /// The call has ended.
+    Ended,
+}
+
+impl<C: NodeName> Site<C> {
+    /// A change of the node.
+    pub(crate) fn one(self, change: Single<C>) -> One<C>
+        ensures { result ≡ record { at = self.at; byte = self.byte; change = change } }
+    {
+        One {
+            at: self.at,
+            byte: self.byte,
+            change,
+        }
+    }
+
+    /// A change of the node, after a check of the one above.
+    pub(crate) fn plan(self, change: Single<C>) -> Plan<C>
+        ensures { result ≡ plan_here self change }
+    {
+        let above = self.above;
+        let check = match above {
+            None => None,
+            Some(above) => Some(above.seat),
+        };
+        Plan::Here {
+            check,
+            one: self.one(change),
+        }
+    }
+
+    /// The change by a greater node, with a new leaf where one was made.
+    pub(crate) fn greater(self, leaf: Option<C>, node: C) -> Double<C>
+        ensures { result ≡ greater self leaf node }
+    {
+        match leaf {
+            None => Double::Grow { node },
+            Some(leaf) => Double::GrowLink {
+                node,
+                leaf,
+                byte: self.byte,
+            },
+        }
+    }
+}
+
+impl<C: NodeName> Two<C> {
+    /// The node above.
+    pub(crate) fn parent(&self) -> C
+        ensures { result ≡ self.now.above.seat.node }
+    {
+        self.above.seat.node
+    }
+
+    /// The node above, and its version.
+    pub(crate) fn seat_above(&self) -> Seat<C>
+        ensures { result ≡ self.now.above.seat }
+    {
+        self.above.seat
+    }
+}

@@ -1,0 +1,399 @@
+//! A scan of a tree that others change meanwhile, as a machine that takes one step at a time.
+ghost use Rattle.std.specs.Prelude.{◌≡◌, ◌+◌, ◌<◌, ◌≤◌, ◌==◌, length, true, false, cond};
+ghost use Rattle.congee.specs.Heap.{Stands, is_taken};
+ghost use Rattle.congee.specs.protocol.Regions.{IsRegion};
+ghost use Rattle.congee.specs.declared.protocol.sweep.Stage.TheVariants as stage;
+ghost use Rattle.congee.specs.protocol.SweepSteps.{whole, is_outside, first_byte, last_byte, pushed, popped, last_of, moved, goes, over, anew, left, entered, filled, begins, new_sweep, IsFollowed, IsFollowedIf, SweepStepped, MayFollow, MaySweep};
+
+use crate::protocol::store::{Least, NodeName, Refusal, Region, Seat, Seen, Store};
+use judge::Payload;
+use std::mem;
+
+/// A node on a scan's way, and the least of its bytes that the scan has yet to look at: 256 where none is left.
+#[derive(Clone, Copy)]
+pub struct Rung<C: NodeName> {
+    /// The node.
+    pub at: Seat<C>,
+    /// The keys below it.
+    pub region: Region,
+    /// The byte.
+    pub from: u16,
+}
+
+/// The nodes above the one at hand, from the root down.
+#[derive(Drop)]
+pub struct Path<C: NodeName> {
+    /// The root, where it is taken.
+    pub first: Rung<C>,
+    /// The next place.
+    pub second: Rung<C>,
+    /// The next place.
+    pub third: Rung<C>,
+    /// The next place.
+    pub fourth: Rung<C>,
+    /// The next place.
+    pub fifth: Rung<C>,
+    /// The next place.
+    pub sixth: Rung<C>,
+    /// The next place.
+    pub seventh: Rung<C>,
+    /// The next place.
+    pub eighth: Rung<C>,
+    /// How many of the places are taken.
+    pub len: usize,
+}
+
+/// The next step of a scan.
+#[derive(Drop)]
+pub enum Stage<C: NodeName, P> {
+    /// The call's begin.
+    New,
+    /// Takes the version of the root or of a child.
+    Enter { node: C, region: Region },
+    /// Reads the node.
+    Look { rung: Rung<C> },
+    /// Checks the node after the read.
+    Check { rung: Rung<C>, found: Least<C, P> },
+    /// Answers with every place filled.
+    Full,
+    /// The call has ended.
+    Over,
+}
+
+/// What a step of a scan tells.
+#[derive(Drop)]
+pub enum Told<P> {
+    /// The scan goes on.
+    Running,
+    /// The pair comes to the place.
+    Found { place: usize, key: u64, value: P },
+    /// The scan has ended, with so many places filled.
+    Done { count: usize },
+    /// The scan has ended without an answer.
+    Refused(Refusal),
+}
+
+/// A scan of the keys from `start` to before `end`, into so many places at most.
+#[derive(Drop)]
+pub struct Sweep<C: NodeName, P> {
+    /// The least key.
+    pub start: u64,
+    /// The first key past the range.
+    pub end: u64,
+    /// How many places there are.
+    pub size: usize,
+    /// How many of them are filled.
+    pub count: usize,
+    /// The nodes above the one at hand.
+    pub above: Path<C>,
+    /// The next step.
+    pub stage: Stage<C, P>,
+}
+
+impl Region {
+    /// The keys below the root.
+    pub(crate) fn whole() -> Self
+        ensures { result ≡ whole }
+    {
+        Region { base: 0, depth: 0 }
+    }
+
+    /// The keys that begin with a prefix.
+    pub fn of(prefix: &[u8]) -> Self
+        requires { length prefix.now ≤ 7 }
+        ensures { IsRegion prefix.now result.base result.depth }
+    {
+        let mut bytes = [0; 8];
+        for i in 0..prefix.len() {
+            bytes[i] = prefix[i];
+        }
+        Region {
+            base: u64::from_be_bytes(bytes),
+            depth: prefix.len(),
+        }
+    }
+
+    /// Whether no key of the range is among them.
+    fn is_outside(self, start: u64, end: u64) -> bool
+        requires { self.depth ≤ 7 }
+        ensures { result ≡ is_outside start end self }
+    {
+        if self.base < end {
+            if self.base < start {
+                (start - self.base) >> (8 * (7 - self.depth as u32)) > 255
+            } else {
+                false
+            }
+        } else {
+            true
+        }
+    }
+
+    /// The least byte that a key of the range has after the prefix.
+    fn first_byte(self, start: u64) -> u8
+        requires { self.depth ≤ 7 }
+        ensures { result ≡ first_byte start self }
+    {
+        if self.base < start {
+            let byte = (start - self.base) >> (8 * (7 - self.depth as u32));
+            if byte > 255 { 255 } else { byte as u8 }
+        } else {
+            0
+        }
+    }
+
+    /// The greatest one.
+    fn last_byte(self, end: u64) -> u8
+        requires depth { self.depth ≤ 7 }
+        requires within { self.base < end }
+        ensures { result ≡ last_byte end self }
+    {
+        let byte = (end - 1 - self.base) >> (8 * (7 - self.depth as u32));
+        if byte > 255 { 255 } else { byte as u8 }
+    }
+}
+
+impl<C: NodeName> Path<C> {
+    fn push(&mut self, rung: Rung<C>)
+        requires { self.old.len < 8 }
+        ensures { self.new ≡ pushed self.old rung }
+    {
+        match self.len {
+            0 => self.first = rung,
+            1 => self.second = rung,
+            2 => self.third = rung,
+            3 => self.fourth = rung,
+            4 => self.fifth = rung,
+            5 => self.sixth = rung,
+            6 => self.seventh = rung,
+            _ => self.eighth = rung,
+        }
+        self.len += 1;
+    }
+
+    fn last(&self) -> Option<Rung<C>>
+        requires { self.now.len ≤ 8 }
+        ensures { result ≡ last_of self.now }
+    {
+        match self.len {
+            0 => None,
+            1 => Some(self.first),
+            2 => Some(self.second),
+            3 => Some(self.third),
+            4 => Some(self.fourth),
+            5 => Some(self.fifth),
+            6 => Some(self.sixth),
+            7 => Some(self.seventh),
+            _ => Some(self.eighth),
+        }
+    }
+}
+
+impl<C: NodeName> Rung<C> {
+    fn moved(self, byte: u8) -> Self
+        ensures { result ≡ moved self byte }
+    {
+        Rung {
+            from: byte as u16 + 1,
+            ..self
+        }
+    }
+}
+
+impl<C: NodeName, P> Sweep<C, P> {
+    /// A scan before its begin.
+    pub(crate) fn new(root: C, start: u64, end: u64, size: usize) -> Self
+        ensures { result ≡ new_sweep root start end size }
+    {
+        let first = Rung {
+            at: Seat {
+                node: root,
+                version: 0,
+            },
+            region: Region::whole(),
+            from: 0,
+        };
+        Sweep {
+            start,
+            end,
+            size,
+            count: 0,
+            above: Path {
+                first,
+                second: first,
+                third: first,
+                fourth: first,
+                fifth: first,
+                sixth: first,
+                seventh: first,
+                eighth: first,
+                len: 0,
+            },
+            stage: Stage::New,
+        }
+    }
+}
+
+impl<C: NodeName, P: Payload> Sweep<C, P> {
+    /// The next step.
+    pub(crate) fn step<S: Store<C, P>>(
+        &mut self,
+        store: &S,
+        root: C,
+        seen: &mut Option<Seen<C, P>>,
+    ) -> Told<P>
+        requires { MaySweep C.number self.old (S.heap store.now) }
+        ensures { SweepStepped C.number P.always_copies root self.old (S.heap store.now) self.new result }
+    {
+        match mem::replace(&mut self.stage, Stage::Over) {
+            Stage::New => self.begin(root),
+            Stage::Enter { node, region } => self.enter(root, node, region, store.version(node)),
+            Stage::Look { rung } => {
+                let last = rung.region.last_byte(self.end);
+                let found = store.least(rung.at, rung.from, last, seen.take());
+                self.go(Stage::Check { rung, found })
+            }
+            Stage::Check { rung, found } => self.check(store, root, rung, found),
+            Stage::Full => Told::Done { count: self.count },
+            Stage::Over => Told::Running,
+        }
+    }
+
+    /// Goes on with this step.
+    fn go(&mut self, stage: Stage<C, P>) -> Told<P>
+        ensures { (self.new, result) ≡ goes self.old self.old.above stage }
+    {
+        drop(mem::replace(&mut self.stage, stage));
+        Told::Running
+    }
+
+    /// Where a pair was found: every place is filled, or this node is looked at.
+    fn next_place(&self, rung: Rung<C>) -> Stage<C, P>
+        ensures { result ≡ cond (self.now.count == self.now.size) stage.Full (stage.Look rung) }
+    {
+        if self.count == self.size {
+            Stage::Full
+        } else {
+            Stage::Look { rung }
+        }
+    }
+
+    /// Ends so.
+    fn stop(&mut self, told: Told<P>) -> Told<P>
+        ensures { (self.new, result) ≡ over self.old told }
+    {
+        drop(mem::replace(&mut self.stage, Stage::Over));
+        told
+    }
+
+    /// Begins anew at the root.
+    fn again(&mut self, root: C) -> Told<P>
+        ensures { (self.new, result) ≡ anew root self.old }
+    {
+        self.count = 0;
+        self.above.len = 0;
+        self.go(Stage::Enter {
+            node: root,
+            region: Region::whole(),
+        })
+    }
+
+    fn begin(&mut self, root: C) -> Told<P>
+        ensures { (self.new, result) ≡ begins root self.old }
+    {
+        if self.start < self.end {
+            if self.size == 0 {
+                self.stop(Told::Done { count: 0 })
+            } else {
+                self.again(root)
+            }
+        } else {
+            self.stop(Told::Done { count: 0 })
+        }
+    }
+
+    /// Leaves the node at hand.
+    fn leave(&mut self) -> Told<P>
+        requires { self.old.above.len ≤ 8 }
+        ensures { (self.new, result) ≡ left self.old }
+    {
+        match self.above.last() {
+            None => {
+                let count = self.count;
+                self.stop(Told::Done { count })
+            }
+            Some(rung) => {
+                self.above.len -= 1;
+                self.go(Stage::Look { rung })
+            }
+        }
+    }
+
+    fn enter(&mut self, root: C, node: C, region: Region, version: Option<u64>) -> Told<P>
+        requires depth { region.depth ≤ 7 }
+        requires fits { self.old.above.len ≤ 8 }
+        ensures { (self.new, result) ≡ entered root self.old node region version }
+    {
+        match version {
+            None => self.again(root),
+            Some(version) => {
+                if region.is_outside(self.start, self.end) {
+                    self.leave()
+                } else {
+                    let from = region.first_byte(self.start) as u16;
+                    let at = Seat { node, version };
+                    self.go(Stage::Look {
+                        rung: Rung { at, region, from },
+                    })
+                }
+            }
+        }
+    }
+
+    fn check<S: Store<C, P>>(
+        &mut self,
+        store: &S,
+        root: C,
+        rung: Rung<C>,
+        found: Least<C, P>,
+    ) -> Told<P>
+        requires stands { Stands (S.heap store.now (C.number rung.at.node)) }
+        requires fits { self.old.above.len < 8 }
+        requires room { self.old.count < self.old.size }
+        requires may { is_taken (S.heap store.now (C.number rung.at.node)) rung.at.version ≡ true → MayFollow C.number (S.heap store.now) rung found }
+        ensures { IsFollowedIf (is_taken (S.heap store.now (C.number rung.at.node)) rung.at.version) C.number (S.heap store.now) root self.old rung found (self.new, result) }
+    {
+        if store.check(rung.at) {
+            self.follow(store, rung, found)
+        } else {
+            drop(found);
+            self.again(root)
+        }
+    }
+
+    /// The check after the read succeeded.
+    fn follow<S: Store<C, P>>(&mut self, store: &S, rung: Rung<C>, found: Least<C, P>) -> Told<P>
+        requires fits { self.old.above.len < 8 }
+        requires room { self.old.count < self.old.size }
+        requires may { MayFollow C.number (S.heap store.now) rung found }
+        ensures { IsFollowed C.number (S.heap store.now) self.old rung found (self.new, result) }
+    {
+        match found {
+            Least::Nothing => self.leave(),
+            Least::Node { byte, node } => {
+                let region = store.region(node);
+                self.above.push(rung.moved(byte));
+                self.go(Stage::Enter { node, region })
+            }
+            Least::Value { byte, value } => {
+                let place = self.count;
+                let key = rung.region.base + byte as u64;
+                self.count += 1;
+                let next = self.next_place(rung.moved(byte));
+                drop(mem::replace(&mut self.stage, next));
+                Told::Found { place, key, value }
+            }
+            Least::Uncopied => self.stop(Told::Refused(Refusal::Count)),
+        }
+    }
+}
