@@ -10,8 +10,8 @@ ghost use Rattle.congee.specs.owned.Stats.{root_alone};
 ghost use Rattle.congee.specs.owned.Table.{pairs_of};
 
 use crate::allocator::Allocator;
-use crate::owned::arena::{Arena, Stored};
 use crate::forms::base_node::Node;
+use crate::owned::arena::{Arena, Stored};
 use crate::owned::drainer::Drainer;
 use crate::owned::scan::beginning;
 use judge::Word64;

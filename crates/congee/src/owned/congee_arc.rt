@@ -11,8 +11,8 @@ ghost use Rattle.judge.specs.declared.journal.Call.TheVariants as call;
 ghost use Rattle.judge.specs.declared.journal.Reply.TheVariants as reply;
 
 use crate::allocator::{DefaultAllocator, OOMError};
-use crate::owned::arena::{Arena, Stored};
 use crate::forms::child::Small;
+use crate::owned::arena::{Arena, Stored};
 use judge::{ArcPayload, Payload, Word64};
 use std::alloc::{AllocError, Global};
 use std::marker::{Model, PhantomData};

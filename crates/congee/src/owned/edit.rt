@@ -12,8 +12,8 @@ ghost use Rattle.congee.specs.owned.Wanted.{IsRefusedOf, gain, room_for, free_wa
 ghost use Rattle.congee.specs.declared.forms.base_node.Node.{Node as Form};
 
 use crate::allocator::{Allocator, OOMError};
-use crate::owned::arena::{Arena, Stored};
 use crate::forms::child::Child;
+use crate::owned::arena::{Arena, Stored};
 use std::alloc::Global;
 
 // The first place where a key and a prefix that it lacks differ.

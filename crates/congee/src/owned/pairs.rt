@@ -12,9 +12,9 @@ ghost use Rattle.congee.specs.owned.OwnedSteps.{SameNodes, IsRefusal, settled};
 ghost use Rattle.congee.specs.owned.Wanted.{IsRefused, gain_of, freed_of, freed_by, wants_at, lone_at};
 
 use crate::allocator::{Allocator, OOMError};
-use crate::owned::arena::{Arena, Stored};
 use crate::forms::base_node::{Node, NodeType};
 use crate::forms::child::Child;
+use crate::owned::arena::{Arena, Stored};
 use crate::owned::place::Spot;
 use slab::Slab;
 use std::alloc::Global;

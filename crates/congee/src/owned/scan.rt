@@ -11,8 +11,8 @@ ghost use Rattle.congee.specs.owned.Table.{pairs_of};
 ghost use Rattle.congee.specs.owned.Ranges.{by_bytes, in_range, keys_by};
 
 use crate::allocator::Allocator;
-use crate::owned::arena::{Arena, Stored};
 use crate::forms::child::Child;
+use crate::owned::arena::{Arena, Stored};
 use crate::owned::edit::first_apart;
 use arrayvec::ArrayVec;
 use judge::Word64;

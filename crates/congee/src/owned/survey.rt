@@ -8,8 +8,8 @@ ghost use Rattle.congee.specs.owned.Stats.{IsTally, Shape, capped};
 ghost use Rattle.congee.specs.owned.Table.{pairs_of};
 
 use crate::allocator::Allocator;
-use crate::owned::arena::{Arena, Stored};
 use crate::forms::child::Child;
+use crate::owned::arena::{Arena, Stored};
 use crate::owned::scan::beginning;
 use crate::owned::stats::NodeStats;
 use std::alloc::{AllocError, Global};

@@ -14,7 +14,9 @@ use crate::forms::child::Child;
 use crate::protocol::machine::Machine;
 use crate::protocol::op::Op;
 use crate::protocol::plain_node::PlainNode;
-use crate::protocol::store::{Least, NodeName, Reading, Refusal, Region, Seat, Seen, Store, Upgrade};
+use crate::protocol::store::{
+    Least, NodeName, Reading, Refusal, Region, Seat, Seen, Store, Upgrade,
+};
 use std::alloc::{AllocError, Global};
 use std::vec::Vec;
 
