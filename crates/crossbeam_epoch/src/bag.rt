@@ -1,6 +1,7 @@
 //! Bags of deferred jobs, and sealed bags.
 
 ghost use Rattle.std.specs.Prelude.{◌≡◌, ◌<◌, ◌≤◌, ◌++◌, ◌∷◌, [], length, remove, slice_index_or, nat_eq};
+ghost use Rattle.crossbeam_epoch.specs.Limits.{bag_places};
 
 use crate::names::Name;
 use arrayvec::ArrayVec;
@@ -54,20 +55,21 @@ pub struct Sealed<J> {
 
 impl<J> Model for Bag<J> {
     ghost use Rattle.std.specs.Prelude.{List, ◌≤◌, length};
+    ghost use Rattle.crossbeam_epoch.specs.Limits.{bag_places};
     ghost use Rattle.crossbeam_epoch.specs.declared.bag.Entry.{Entry};
 
     ghost Value = { List (Entry J) };
 
     ghost view = { λ b. b.entries.items };
 
-    ghost invariant = { λ b. length b.entries.items ≤ 64 };
+    ghost invariant = { λ b. length b.entries.items ≤ bag_places };
 }
 
 impl<J> Bag<J> {
     /// Whether no place is free.
     pub fn is_full(&self) -> bool
-        ensures value { result ≡ nat_eq (length self.now) 64 }
-        ensures fits { length self.now ≤ 64 }
+        ensures value { result ≡ nat_eq (length self.now) bag_places }
+        ensures fits { length self.now ≤ bag_places }
     {
         self.entries.is_full()
     }
@@ -82,7 +84,7 @@ impl<J> Bag<J> {
     /// The number of jobs.
     pub fn len(&self) -> usize
         ensures value { result ≡ length self.now }
-        ensures fits { result ≤ 64 }
+        ensures fits { result ≤ bag_places }
     {
         self.entries.len()
     }
@@ -100,7 +102,7 @@ impl<J: Drop> Bag<J> {
 
     /// Puts a job behind the others.
     pub fn push(&mut self, entry: Entry<J>)
-        requires { length self.old < 64 }
+        requires { length self.old < bag_places }
         ensures { self.new ≡ self.old ++ entry ∷ [] }
     {
         self.entries.push(entry);

@@ -2,6 +2,7 @@
 use Rattle.std.specs.Prelude.{ℕ, Bool, ◌&&◌, nat_lt, nat_eq, List, [], length, if◌then◌else◌}
 use Rattle.crossbeam_epoch.specs.declared.bag.Entry.{Entry}
 use Rattle.crossbeam_epoch.specs.declared.face.guard.Seat.{Seat}
+use Rattle.crossbeam_epoch.specs.Limits.{bag_places}
 
 -- so many guards of a handle's seat are out, and a guard of this seat is one of them
 abbrev pub owns : ℕ → Seat → Seat → Bool
@@ -9,4 +10,4 @@ owns guards handle guard = nat_lt 0 guards && nat_eq guard.collector handle.coll
 
 -- a bag that has a free place: this one, or a new one where this one is full
 abbrev pub with_room : {J : Type 0} → List (Entry J) → List (Entry J)
-with_room bag = if nat_lt (length bag) 64 then bag else []
+with_room bag = if nat_lt (length bag) bag_places then bag else []

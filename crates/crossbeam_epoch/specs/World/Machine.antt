@@ -11,6 +11,7 @@ use Rattle.crossbeam_epoch.specs.declared.bag.Sealed.{Sealed}
 use Rattle.crossbeam_epoch.specs.declared.world.participant.Phase.{Phase}
 use Rattle.crossbeam_epoch.specs.declared.world.participant.Phase.TheVariants.{Idle, RepinPublish, Load, Inspect, Advance, Take, Call, SecureSeal}
 use Rattle.crossbeam_epoch.specs.World.Store.{Store, value_at, emptied, opened_store}
+use Rattle.crossbeam_epoch.specs.Limits.{bag_places, most_bags}
 
 pub record State (T J : Type 0) : Type 0 where
   pub limits : Limits
@@ -78,7 +79,7 @@ repinned seen p = record p { word = Some seen; phase = Idle }
 
 -- whether so many places of a bag are free
 abbrev pub has_free : {J : Type 0} → List (Entry J) → ℕ → Bool
-has_free bag n = nat_le (length bag + n) 64
+has_free bag n = nat_le (length bag + n) bag_places
 
 -- a securing looks at the bag
 abbrev pub secured : {J : Type 0} → ℕ → Participant J → Participant J
@@ -136,11 +137,11 @@ taken s who answered bags =
     }
 
 abbrev pub took : {T J : Type 0} → State T J → ℕ → ℕ → ℕ → State T J
-took s who answered bags = if is_due s answered && nat_lt bags 8 then taken s who answered bags else in_phase s who Idle
+took s who answered bags = if is_due s answered && nat_lt bags most_bags then taken s who answered bags else in_phase s who Idle
 
 -- where a collection goes on after a call that leaves so many jobs in hand
 abbrev pub after_call : ℕ → ℕ → ℕ → ℕ → Phase
-after_call rest answered bags seal = if nat_lt 0 rest then Call answered bags seal else if nat_lt bags 8 then Take answered bags else Idle
+after_call rest answered bags seal = if nat_lt 0 rest then Call answered bags seal else if nat_lt bags most_bags then Take answered bags else Idle
 
 -- no job
 abbrev pub no_entry : {J : Type 0} → Entry J
@@ -200,7 +201,7 @@ deferred_anew s who work =
     }
 
 abbrev pub after_deferral : {T J : Type 0} → State T J → ℕ → Work J → State T J
-after_deferral s who work = if length (place s who).bag == 64 then deferred_anew s who work else deferred s who work
+after_deferral s who work = if length (place s who).bag == bag_places then deferred_anew s who work else deferred s who work
 
 -- a root that holds null
 abbrev pub null : Ptr

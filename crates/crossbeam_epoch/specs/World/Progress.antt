@@ -17,13 +17,14 @@ use Rattle.crossbeam_epoch.specs.World.Fits.{HandFits, weight}
 use Rattle.crossbeam_epoch.specs.World.Machine.{State, place, after_work}
 use Rattle.crossbeam_epoch.specs.World.Steps.{called_entry, begin_fault}
 use Rattle.crossbeam_epoch.specs.World.Store.{Store, value_at, emptied}
+use Rattle.crossbeam_epoch.specs.Limits.{bag_places, most_bags}
 
 -- what holds of a collector between any two steps: only a collection that calls has jobs in hand, and no bag has more than 64
 pub record Orderly {T J : Type 0} (s : State T J) : Type 0 where
   pub hands : (q : ℕ) → HandFits (place s q).phase (place s q).hand
-  pub bags : (q : ℕ) → length (place s q).bag ≤ 64
-  pub held : (q : ℕ) → length (place s q).hand ≤ 64
-  pub sealed : (b : Sealed J) → Contains s.queue b → length b.jobs ≤ 64
+  pub bags : (q : ℕ) → length (place s q).bag ≤ bag_places
+  pub held : (q : ℕ) → length (place s q).hand ≤ bag_places
+  pub sealed : (b : Sealed J) → Contains s.queue b → length b.jobs ≤ bag_places
 
 -- no job was called and every job stands as before, or this one was called, and stands no longer
 abbrev pub JobsAfter : {T J : Type 0} → State T J → Option (ℕ × Option Name) → State T J → Type 0
@@ -115,12 +116,12 @@ collects _ = false
 
 -- a securing leaves the participant's pin, and at its end so many places are free
 abbrev pub Secures : {J : Type 0} → Op → Participant J → Participant J → Type 0
-Secures (Secure n) p p' = (p'.word ≡ p.word) × (p'.registered ≡ p.registered) × (p'.phase ≡ P.Idle → n ≤ 64 → length p'.bag + n ≤ 64)
+Secures (Secure n) p p' = (p'.word ≡ p.word) × (p'.registered ≡ p.registered) × (p'.phase ≡ P.Idle → n ≤ bag_places → length p'.bag + n ≤ bag_places)
 Secures _ p p' = Unit {0}
 
 -- steps that a collection takes at most, once it has taken so many bags
 abbrev pub left_after : ℕ → ℕ
-left_after bags = 1 + 65 * (8 - bags)
+left_after bags = 1 + 65 * (most_bags - bags)
 
 -- steps that a call takes at most from here on, in a table of so many places, with so many jobs in hand
 abbrev pub left_in : ℕ → Phase → ℕ → ℕ

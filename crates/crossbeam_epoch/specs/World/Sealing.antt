@@ -8,6 +8,7 @@ use Rattle.crossbeam_epoch.specs.declared.bag.Sealed.{Sealed}
 use Rattle.crossbeam_epoch.specs.World.History.{Mark, Pinned, Repinned, Unpinned, Deferred, Called}
 use Rattle.crossbeam_epoch.specs.World.Machine.{State, place}
 use Rattle.crossbeam_epoch.specs.World.Store.{Store, value_at, was_given}
+use Rattle.crossbeam_epoch.specs.Limits.{bag_places}
 
 -- a call seals only a bag that has a job, under an epoch that was
 abbrev pub SealsAt : ℕ → ℕ → Phase → Type 0
@@ -15,7 +16,7 @@ SealsAt epoch bag P.Seal = 0 < bag
 SealsAt epoch bag (P.Queue seal) = (0 < bag) × (seal ≤ epoch)
 SealsAt epoch bag P.ReleaseSeal = 0 < bag
 SealsAt epoch bag (P.ReleaseQueue seal) = (0 < bag) × (seal ≤ epoch)
-SealsAt epoch bag (P.Secure n) = n ≤ 64
+SealsAt epoch bag (P.Secure n) = n ≤ bag_places
 SealsAt epoch bag P.SecureSeal = 0 < bag
 SealsAt epoch bag (P.SecureQueue seal) = (0 < bag) × (seal ≤ epoch)
 SealsAt epoch bag _ = Unit {0}

@@ -20,6 +20,7 @@ use Rattle.crossbeam_epoch.specs.World.History as H
 use Rattle.crossbeam_epoch.specs.World.History.{Mark}
 use Rattle.crossbeam_epoch.specs.World.Machine.{State, blank, place, with_place, in_phase, published, relooked, repinned, advanced, queued, released, secured, inspected, took, called, destroys, no_entry}
 use Rattle.crossbeam_epoch.specs.World.Store.{Store, value_at}
+use Rattle.crossbeam_epoch.specs.Limits.{bag_places}
 
 abbrev pub when : Bool → Fault → Option Fault
 when b f = if b then Some f else None
@@ -31,7 +32,7 @@ begin_fault Unpin p = when (is_none p.word) Unpinned
 begin_fault Repin p = when (is_none p.word) Unpinned
 begin_fault Flush p = when (is_none p.word) Unpinned
 begin_fault Release p = when (is_some p.word) GuardOut
-begin_fault (Secure n) p = if is_none p.word then Some Unpinned else when (not (nat_lt 0 n && nat_le n 64)) Limits
+begin_fault (Secure n) p = if is_none p.word then Some Unpinned else when (not (nat_lt 0 n && nat_le n bag_places)) Limits
 
 -- the fault of a call that begins in mid-call
 abbrev pub busy_fault : Op → Fault
@@ -179,7 +180,7 @@ destroy_fault s who name = if is_some (value_at s.store name) then defer_fault s
 
 -- why a deferral is refused: its first fault, or the want of memory for a full bag
 abbrev pub IsDeferralFault : {T J : Type 0} → State T J → ℕ → Option Fault → Fault → Type 0
-IsDeferralFault s who first e = MatchOption first ((e ≡ Memory) × (length (place s who).bag ≡ 64)) (λ f. e ≡ f)
+IsDeferralFault s who first e = MatchOption first ((e ≡ Memory) × (length (place s who).bag ≡ bag_places)) (λ f. e ≡ f)
 
 -- what a begin marks: the last guard goes
 abbrev pub begin_marks : {J : Type 0} → ℕ → Participant J → Op → List Mark → List Mark

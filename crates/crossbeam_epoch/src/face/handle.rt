@@ -5,6 +5,7 @@ ghost use Rattle.std.specs.Prelude.{length, MatchResult, IfOk, IfErr, OnOk};
 ghost use Rattle.std.specs.Bool.{MatchBool};
 ghost use Rattle.crossbeam_epoch.specs.Face.Handle.{owns, with_room};
 ghost use Rattle.crossbeam_epoch.specs.Face.Pointer.{name_in};
+ghost use Rattle.crossbeam_epoch.specs.Limits.{bag_places};
 
 use crate::bag::{Bag, Entry, Work};
 use crate::face::collector::Collector;
@@ -164,7 +165,7 @@ impl<'c, T: Drop, J: Task> LocalHandle<'c, T, J> {
     fn make_room<R: Wait>(&mut self, rt: &R) -> Result<(), Fault>
         ensures ok { OnOk result (self.new ≡ record self.old { bag = self.new.bag }) }
         ensures bag { OnOk result (self.new.bag ≡ with_room self.old.bag) }
-        ensures err { IfErr result (λ e. (e ≡ Fault.Memory) × (self.new ≡ self.old) × (64 ≤ length self.old.bag)) }
+        ensures err { IfErr result (λ e. (e ≡ Fault.Memory) × (self.new ≡ self.old) × (bag_places ≤ length self.old.bag)) }
     {
         if !self.bag.is_full() {
             return Ok(());
@@ -183,7 +184,7 @@ impl<'c, T: Drop, J: Task> LocalHandle<'c, T, J> {
         ensures ok { OnOk result ((owns self.old.guards self.old.seat guard.now.seat ≡ true) × (self.new ≡ record self.old { bag = self.new.bag })) }
         ensures bag { OnOk result (self.new.bag ≡ with_room self.old.bag ++ record { ticket = 0; work = Work.Run job } ∷ []) }
         ensures err { IfErr result (λ e. (e.1 ≡ job) × (self.new ≡ self.old)
-            × MatchBool (owns self.old.guards self.old.seat guard.now.seat) ((e.0 ≡ Fault.Memory) × (64 ≤ length self.old.bag)) (e.0 ≡ Fault.Foreign)) }
+            × MatchBool (owns self.old.guards self.old.seat guard.now.seat) ((e.0 ≡ Fault.Memory) × (bag_places ≤ length self.old.bag)) (e.0 ≡ Fault.Foreign)) }
     {
         if !self.owns(guard) {
             return Err((Fault::Foreign, job));
@@ -205,7 +206,7 @@ impl<'c, T: Drop, J: Task> LocalHandle<'c, T, J> {
         ensures ok { OnOk result ((owns self.old.guards self.old.seat guard.now.seat ≡ true) × (self.new ≡ record self.old { bag = self.new.bag })) }
         ensures bag { OnOk result (self.new.bag ≡ with_room self.old.bag ++ record { ticket = 0; work = Work.Run job } ∷ []) }
         ensures err { IfErr result (λ e. (e.1 ≡ job) × (self.new ≡ self.old)
-            × MatchBool (owns self.old.guards self.old.seat guard.now.seat) ((e.0 ≡ Fault.Memory) × (64 ≤ length self.old.bag)) (e.0 ≡ Fault.Foreign)) }
+            × MatchBool (owns self.old.guards self.old.seat guard.now.seat) ((e.0 ≡ Fault.Memory) × (bag_places ≤ length self.old.bag)) (e.0 ≡ Fault.Foreign)) }
     {
         self.defer(rt, guard, job)
     }
@@ -292,7 +293,7 @@ impl<T: Pointable + Drop, J: Task> LocalHandle<'_, T, J> {
             (λ e. ⊥)) }
         ensures err { IfErr result (λ e. (e.1 ≡ pointer.entry) × (self.new ≡ self.old)
             × MatchBool (owns self.old.guards self.old.seat guard.now.seat)
-            (MatchResult (name_in pointer.entry.link.site self.old.collector.now.id) (λ _. (e.0 ≡ Fault.Memory) × (64 ≤ length self.old.bag)) (λ f. e.0 ≡ f))
+            (MatchResult (name_in pointer.entry.link.site self.old.collector.now.id) (λ _. (e.0 ≡ Fault.Memory) × (bag_places ≤ length self.old.bag)) (λ f. e.0 ≡ f))
             (e.0 ≡ Fault.Foreign)) }
     {
         if !self.owns(guard) {

@@ -5,6 +5,7 @@ ghost use Rattle.crossbeam_epoch.specs.World.Machine.{place, deferred, deferred_
 ghost use Rattle.crossbeam_epoch.specs.World.Steps.{defer_fault, destroy_fault, quiet_fault, IsDeferralFault};
 ghost use Rattle.crossbeam_epoch.specs.World.History.{Deferred};
 ghost use Rattle.crossbeam_epoch.specs.World.Reach.{Quiet, Marked, NextMoment};
+ghost use Rattle.crossbeam_epoch.specs.Limits.{bag_places};
 
 use crate::bag::{Entry, Sealed, Work};
 use crate::fault::Fault;
@@ -61,7 +62,7 @@ impl<T: Links + Pointable + Drop, J: Task> World<T, J> {
 
     /// Whether a participant has a free place in its bag, so that its next deferral needs no memory; false where there is no such participant.
     pub fn has_place(&self, who: usize) -> bool
-        ensures { result ≡ ((place self.now who).registered && not (length (place self.now who).bag == 64)) }
+        ensures { result ≡ ((place self.now who).registered && not (length (place self.now who).bag == bag_places)) }
     {
         self.is_registered(who) && !self.participants[who].bag.is_full()
     }
@@ -107,7 +108,7 @@ impl<T: Links + Pointable + Drop, J: Task> World<T, J> {
     /// Puts a job into a bag that has a place.
     fn put(&mut self, who: usize, work: Work<J>) -> u64
         requires in_table { who < length self.old.table }
-        requires room { length (place self.old who).bag < 64 }
+        requires room { length (place self.old who).bag < bag_places }
         requires few { self.old.next < 2 ^ 64 - 1 }
         ensures ticket { result ≡ self.old.next }
         ensures state { self.new ≡ deferred self.old who work }
@@ -120,9 +121,9 @@ impl<T: Links + Pointable + Drop, J: Task> World<T, J> {
     /// Whether a participant's bag has no free place.
     fn is_bag_full(&self, who: usize) -> bool
         requires in_table { who < length self.now.table }
-        ensures value { result ≡ (length (place self.now who).bag == 64) }
-        ensures room { result ≡ false → length (place self.now who).bag < 64 }
-        ensures full { result ≡ true → length (place self.now who).bag ≡ 64 }
+        ensures value { result ≡ (length (place self.now who).bag == bag_places) }
+        ensures room { result ≡ false → length (place self.now who).bag < bag_places }
+        ensures full { result ≡ true → length (place self.now who).bag ≡ bag_places }
     {
         self.participants[who].bag.is_full()
     }

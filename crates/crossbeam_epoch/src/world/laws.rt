@@ -16,6 +16,7 @@ ghost use Rattle.crossbeam_epoch.specs.World.Log.{Noted, Stepped, Accepted, log_
 ghost use Rattle.crossbeam_epoch.specs.World.Calls.{IsGoing, IsCall};
 ghost use Rattle.crossbeam_epoch.specs.World.Progress.{Orderly, Moves, Begins, IsOn, GoesOn, IsResting, KeepsCalls, collects};
 ghost use Rattle.crossbeam_epoch.specs.World.Reach.{Act, Moment, with_act, marks_of, moment, moments_after, step_act, InReach, IsIn, WasIn, WasLive, changes_pin, IsBy, IsDestruction, IsNow, EntersLive, DestructionsTold, Tells, IsCareful, KeepsLinks, Visible, links_of};
+ghost use Rattle.crossbeam_epoch.specs.Limits.{bag_places};
 
 use crate::bag::{Entry, Work};
 use crate::limits::Limits;
@@ -117,7 +118,7 @@ impl<T: Links + Pointable + Drop, J: Task> World<T, J> {
         ensures opened { (limits : Limits) (roots : ℕ) → IsResting {T = T} {J = J} (opened limits roots) }
         ensures empty { (limits : Limits) (roots : ℕ) (f : Entry J → ℕ) → weight f (opened {T = T} limits roots) ≡ 0 }
         ensures registered { (s : State T J) (n : ℕ) → n < length s.table → Orderly s → KeepsCalls s (registered s n) (λ f. 0) }
-        ensures deferred { (s : State T J) (who : ℕ) (work : Work J) → who < length s.table → length (place s who).bag < 64 → Orderly s → KeepsCalls s (deferred s who work) (λ f. f (record { ticket = s.next; work = work })) }
+        ensures deferred { (s : State T J) (who : ℕ) (work : Work J) → who < length s.table → length (place s who).bag < bag_places → Orderly s → KeepsCalls s (deferred s who work) (λ f. f (record { ticket = s.next; work = work })) }
     {}
 
     /// No empty bag is queued, and no seal is past the epoch, after any list of steps and whatever calls came between them.

@@ -3,6 +3,7 @@
 ghost use Rattle.std.specs.Prelude.{◌≡◌, ◌+◌, ◌∷◌, [], ◌==◌, ◌&&◌, nat_le, nat_lt, if◌then◌else◌};
 ghost use Rattle.crossbeam_epoch.specs.World.Machine.{blank, ends_advance, is_at, published, relooked, repinned, secured};
 ghost use Rattle.crossbeam_epoch.specs.World.Steps.{begin_fault, begun_at, outcome_at, outcome_or, place_or, quiet_fault};
+ghost use Rattle.crossbeam_epoch.specs.Limits.{bag_places};
 
 use crate::bag::{BAG, Bag, Entry};
 use crate::fault::Fault;
@@ -324,7 +325,7 @@ fn after_pin(pins: u8) -> Phase
 
 /// Whether a securing may be for so many places.
 fn is_secured_size(n: u8) -> bool
-    ensures { result ≡ (nat_lt 0 n && nat_le n 64) }
+    ensures { result ≡ (nat_lt 0 n && nat_le n bag_places) }
 {
     n > 0 && usize::from(n) <= BAG
 }
