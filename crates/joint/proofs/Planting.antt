@@ -1,7 +1,11 @@
 -- A node comes into a cell, and then under the root.
 use Rattle.std.proofs.Common.{◌≡◌, ◌≢◌, ℕ, ◌<◌, ◌==◌, inl, inr, Bool, true, false, List, [], length, get_or, refl, sym, ◌∙◌, ap, subst, arith, Option, Some, None, if◌then◌else◌}
-use Rattle.std.specs.Prelude.{is_some}
+use Rattle.std.specs.Prelude.{is_some, nat_lt, nat_le, ◌&&◌, ◌≤◌}
+use Rattle.std.proofs.lemmas.Bool.Decides.{nat_tests}
+use Rattle.crossbeam_epoch.specs.declared.limits.Limits.{Limits}
 use Rattle.crossbeam_epoch.specs.declared.names.Name.{Name}
+use Rattle.crossbeam_epoch.specs.World.Machine.{State, opened}
+use Rattle.crossbeam_epoch.specs.World.Store.{is_usable}
 use Rattle.joint.specs.declared.child.Child.{Child}
 use Rattle.joint.specs.declared.child.Child.TheVariants.{Node, Value}
 use Rattle.joint.specs.declared.plan.Plan.TheVariants.{Link, Grow}
@@ -211,3 +215,9 @@ free_to_grow {V} t key leaf s pl =
     let l : IsLeaf (heap t) (is_retired t) (get_or key 0 0) leaf = leaf_at (heap t) (is_retired t) s _ leaf f.at in
     let F : Option (Body V) → Type 0 = λ y. IsFree y (get_or key 7 0) in
     subst F (sym l.stands) (with_grow leaf l.body _ f.way)
+
+-- a new collector has a usable cell
+pub some_usable : {T J : Type 0} (s : State T J) (limits : Limits) → s ≡ opened limits 0 → 1 ≤ limits.cells → is_usable s.store 0 ≡ false → ⊥
+some_usable {T} {J} s limits is some none =
+    let full : (nat_lt 0 limits.cells && true && nat_le 0 limits.turn_max) ≡ false = subst (λ (x : State T J). is_usable x.store 0 ≡ false) is none in
+    grind (arith, nat_tests)

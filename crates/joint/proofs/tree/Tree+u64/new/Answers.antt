@@ -3,6 +3,7 @@ use Rattle.std.proofs.lemmas.Grind.{common_steps}
 use Rattle.joint.specs.Forest.{Forest, Sound, planted}
 use Rattle.joint.specs.Collector.{IsIdle}
 use Rattle.joint.proofs.Placing.{sound_planted, idle_planted}
+use Rattle.joint.proofs.Planting.{some_usable}
 use Rattle.joint.proofs.tree.Tree+u64.new.Goals as goal
 
 pub invariant_of-result : goal.invariant_of-result
@@ -19,3 +20,6 @@ returns-clause-idle c =
     let e : t ≡ planted c.args.limits = first_of (search rules, grind (arith, common_steps)) in
     let P : Forest ℕ → Type 0 = λ w. IsIdle w.collector in
     subst P (sym e) (idle_planted c.args.limits (c.order.ensures.opened c.args.limits 0))
+
+pub unreachable-requires : goal.unreachable-requires
+unreachable-requires c = some_usable c.in-Ok.collector c.args.limits c.in-Ok.ensures.state c.requires.some_cell (c.in-Err.ensures.full 0)
