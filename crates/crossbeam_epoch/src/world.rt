@@ -1,4 +1,23 @@
 //! Epoch-based reclamation as a machine of atomic steps: the epoch, the table, the queue, the cells and the roots.
+//!
+//! A participant that is pinned has published an epoch in its place of the table, and may look at what is in reach. What
+//! has left reach is deferred: the job goes into the participant's bag, under a ticket. A full bag, or a flushed one, is
+//! sealed with the epoch as it is then, and queued. A collection looks at every place; where nobody is pinned at another
+//! epoch than the one that it loaded it advances the epoch by one. Then it takes bags whose seal is `expiry` behind, the
+//! oldest first, eight at most, and calls their jobs, one a step; the job of a removal destroys its cell.
+//!
+//! Why that is safe with an `expiry` of two: while a participant stays pinned the epoch rises at most once, since an
+//! advance passes only places that are pinned at the epoch loaded. A job that it blocks was deferred while it was
+//! pinned, so the seal is no older than its epoch, and the bag isn't two behind before it has unpinned.
+//!
+//! | The step | Its file |
+//! |---|---|
+//! | look, publish, seal, queue, leave, secure | `steps`, on a place of the table (`participant`) |
+//! | load, inspect, advance, take, call | `collect` |
+//! | a step of any call, a whole call, a list of steps | `calls`, with what is told of it in `report` |
+//! | a deferral, the end | `defer`, `ending` |
+//! | cells and roots | `store` over `cells`; `roots` and `exchanges` |
+//! | what follows over any steps | `laws` |
 
 mod calls;
 mod cells;
