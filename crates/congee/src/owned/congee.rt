@@ -322,11 +322,12 @@ impl<K: Word64, V: Word64, A: Allocator, D: Drop> Congee<K, V, A, D> {
         ensures count { result ≡ length (take (length out.old) (in_range start end (map.entries self.now.pairs))) }
         ensures past { drop result out.new ≡ drop result out.old }
     {
-        self.arena.range_by_bytes(start, end, out)
+        self.arena.range(start, end, out)
     }
 
     /// Writes the pairs with start <= key < end into `out`, ascending, as many as fit, and gives their number.
     /// The places past them stay as they were.
+    #[tactic(auto, using(crate::proofs::lemmas::owned::EntryRanges::same_entries))]
     pub fn range(&self, start: &K, end: &K, out: &mut [(u64, u64)]) -> usize
         ensures pairs { take result out.new ≡ take (length out.old) (in_range (K.word start.now) (K.word end.now) (map.entries self.now.pairs)) }
         ensures count { result ≡ length (take (length out.old) (in_range (K.word start.now) (K.word end.now) (map.entries self.now.pairs))) }
