@@ -121,15 +121,15 @@ impl<P: Stored, A: Allocator> Arena<P, A> {
         ensures limit { A.limit_of self.new.allocator ≡ A.limit_of self.old.allocator }
         ensures refused { IfErr result (λ e. IsRefusal (A.charged_of self.old.allocator) 64 (A.limit_of self.old.allocator) e) }
     {
-        self.allocator.allocate(64)?;
+        self.allocator.allocate(NodeType::N4.size())?;
         if self.nodes.reserve(1).is_err() {
-            self.allocator.deallocate(64);
+            self.allocator.deallocate(NodeType::N4.size());
             return Err(OOMError::Memory);
         }
         match Node::new(alloc, NodeType::N4, prefix) {
             Ok(node) => Ok(self.nodes.insert_reserved(node)),
             Err(_) => {
-                self.allocator.deallocate(64);
+                self.allocator.deallocate(NodeType::N4.size());
                 Err(OOMError::Memory)
             }
         }
@@ -144,7 +144,7 @@ impl<P: Stored, A: Allocator> Arena<P, A> {
         ensures limit { A.limit_of self.new.allocator ≡ A.limit_of self.old.allocator }
     {
         self.nodes.remove(name);
-        self.allocator.deallocate(64);
+        self.allocator.deallocate(NodeType::N4.size());
     }
 
     // Gives a node room for one more child: a full one takes its next form, which is charged before the old one is taken off.

@@ -13,6 +13,7 @@ ghost use Rattle.congee.specs.declared.forms.base_node.Node.{Node as Form};
 
 use crate::allocator::{Allocator, OOMError};
 use crate::forms::child::Child;
+use crate::forms::prefix::MAX_PREFIX_LEN;
 use crate::owned::arena::{Arena, Stored};
 use std::alloc::Global;
 
@@ -117,7 +118,7 @@ impl<P: Stored, A: Allocator> Arena<P, A> {
         ensures balance { A.charged_of self.new.allocator + bytes_of self.old.nodes ≡ A.charged_of self.old.allocator + bytes_of self.new.nodes }
         ensures limit { A.limit_of self.new.allocator ≡ A.limit_of self.old.allocator }
     {
-        let leaf = match self.make(alloc, &key[..7]) {
+        let leaf = match self.make(alloc, &key[..MAX_PREFIX_LEN]) {
             Ok(leaf) => leaf,
             Err(e) => return Err((e, value)),
         };
@@ -152,7 +153,7 @@ impl<P: Stored, A: Allocator> Arena<P, A> {
         ensures balance { A.charged_of self.new.allocator + bytes_of self.old.nodes ≡ A.charged_of self.old.allocator + bytes_of self.new.nodes }
         ensures limit { A.limit_of self.new.allocator ≡ A.limit_of self.old.allocator }
     {
-        if self.nodes[at].prefix().len() == 7 {
+        if self.nodes[at].prefix().len() == MAX_PREFIX_LEN {
             self.add_value(alloc, at, key, value)
         } else {
             self.add_leaf(alloc, at, key, value)
@@ -227,7 +228,7 @@ impl<P: Stored, A: Allocator> Arena<P, A> {
             Ok(over) => over,
             Err(e) => return Err((e, value)),
         };
-        let leaf = match self.make(alloc, &key[..7]) {
+        let leaf = match self.make(alloc, &key[..MAX_PREFIX_LEN]) {
             Ok(leaf) => leaf,
             Err(e) => {
                 self.give_back(over);

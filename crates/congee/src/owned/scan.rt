@@ -184,7 +184,7 @@ impl<A: Allocator> Arena<u64, A> {
     }
 
     /// Writes the pairs with start <= key < end, ascending, as many as fit, and gives their number.
-    pub(crate) fn range<E: Entry>(&self, start: u64, end: u64, out: &mut [E]) -> usize
+    pub(crate) fn range<E: Listed>(&self, start: u64, end: u64, out: &mut [E]) -> usize
         requires { IsTree self.now.nodes }
         ensures pairs { take result out.new ≡ entries_by E.entry (take (length out.old) (in_range start end (map.entries (pairs_of self.now.nodes)))) }
         ensures count { result ≡ length (take (length out.old) (in_range start end (map.entries (pairs_of self.now.nodes)))) }
@@ -206,7 +206,7 @@ impl<A: Allocator> Arena<u64, A> {
 }
 
 /// A pair as the caller of a scan has it in its slice.
-pub(crate) trait Entry: Copy {
+pub(crate) trait Listed: Copy {
     /// What stands for a key and its value.
     ghost entry: { ℕ → ℕ → Self };
 
@@ -216,7 +216,7 @@ pub(crate) trait Entry: Copy {
 }
 
 /// The key as a number.
-impl Entry for (u64, u64) {
+impl Listed for (u64, u64) {
     ghost entry = { λ key value. (key, value) };
 
     fn of(key: u64, value: u64) -> Self {
@@ -225,7 +225,7 @@ impl Entry for (u64, u64) {
 }
 
 /// The key as its eight bytes, the highest first.
-impl Entry for ([u8; 8], u64) {
+impl Listed for ([u8; 8], u64) {
     ghost entry = { λ key value. (key_bytes key, value) };
 
     fn of(key: u64, value: u64) -> Self {

@@ -17,6 +17,7 @@ ghost use Rattle.congee.specs.protocol.Bounds.{Within};
 
 use crate::forms::base_node::NodeType;
 use crate::forms::child::Child;
+use crate::forms::prefix::MAX_PREFIX_LEN;
 use crate::protocol::op::Op;
 use crate::protocol::phase::{Double, Kind, One, Parent, Phase, Plan, Single, Site, Two};
 use crate::protocol::store::{NodeName, Refusal, Seat, Seen, Store, Upgrade};
@@ -335,7 +336,7 @@ impl<C: NodeName, P: Payload> Machine<C, P> {
         ensures rest { S.rest store.new ≡ S.rest store.old }
         ensures made { ((r : Result C Refusal) × MadeLeaf C.number self.now.kind site (S.heap store.old) (key_bytes self.now.key) r (S.heap store.new) result × IfErr r (S.refuses store.old base.N4)) }
     {
-        match store.make(NodeType::N4, &self.key.to_be_bytes(), 7) {
+        match store.make(NodeType::N4, &self.key.to_be_bytes(), MAX_PREFIX_LEN) {
             Err(refusal) => Turn::refused(refusal),
             Ok(leaf) => Turn::unless_full(&self.kind, site, Some(leaf), Single::Link { leaf }),
         }
@@ -417,7 +418,7 @@ impl<C: NodeName, P: Payload> Machine<C, P> {
         ensures rest { S.rest store.new ≡ S.rest store.old }
         ensures made { ((r : Result C Refusal) × MadeBeside C.number self.now.kind above at common byte top (S.heap store.old) (key_bytes self.now.key) r (S.heap store.new) result × IfErr r (S.refuses store.old base.N4)) }
     {
-        match store.make(NodeType::N4, &self.key.to_be_bytes(), 7) {
+        match store.make(NodeType::N4, &self.key.to_be_bytes(), MAX_PREFIX_LEN) {
             Err(refusal) => {
                 store.give_back(top);
                 Turn::refused(refusal)

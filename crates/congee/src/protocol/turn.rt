@@ -4,6 +4,7 @@ ghost use Rattle.congee.specs.protocol.Steps.{quiet, again, answered, finished, 
 
 use crate::forms::base_node::NodeType;
 use crate::forms::child::Child;
+use crate::forms::prefix::MAX_PREFIX_LEN;
 use crate::protocol::machine::{Move, Outcome};
 use crate::protocol::phase::{Double, Kind, Parent, Phase, Plan, Single, Site, Two};
 use crate::protocol::store::{NodeName, Reading, Refusal, Seat};
@@ -305,7 +306,7 @@ impl<C: NodeName, P: Payload> Turn<C, P> {
     {
         if !kind.adds() {
             Turn::answered(kind.absent_reply())
-        } else if site.depth == 7 {
+        } else if site.depth == MAX_PREFIX_LEN {
             Turn::unless_full(kind, site, None, Single::Set)
         } else {
             Turn::quiet(Phase::MakeLeaf { site })
