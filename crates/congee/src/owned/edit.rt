@@ -17,7 +17,7 @@ use crate::forms::prefix::MAX_PREFIX_LEN;
 use crate::owned::arena::{Arena, Stored};
 use std::alloc::Global;
 
-// The first place where a key and a prefix that it lacks differ.
+/// The first place where a key and a prefix that it lacks differ.
 pub(crate) fn first_apart(key: &[u8; 8], prefix: &[u8]) -> usize
     requires short { length prefix.now ≤ 7 }
     requires differs { fits prefix.now key.now ≡ false }
@@ -31,7 +31,7 @@ pub(crate) fn first_apart(key: &[u8; 8], prefix: &[u8]) -> usize
 }
 
 impl<P: Stored, A: Allocator> Arena<P, A> {
-    // The key's byte at a node.
+    /// The key's byte at a node.
     fn byte_at(&self, at: usize, key: &[u8; 8]) -> u8
         requires { ContainsKey self.now.nodes at }
         ensures { result ≡ slice_index key.now (length (heap_of self.now.nodes at).prefix) }
@@ -39,7 +39,7 @@ impl<P: Stored, A: Allocator> Arena<P, A> {
         key[self.nodes[at].prefix().len()]
     }
 
-    // Puts another value in the place of the key's.
+    /// Puts another value in the place of the key's.
     pub(crate) fn replace(&mut self, at: usize, key: &[u8; 8], value: P) -> P
         requires tree { IsTree self.old.nodes }
         requires way { OnWay self.old.nodes key.now at }
@@ -56,7 +56,7 @@ impl<P: Stored, A: Allocator> Arena<P, A> {
         }
     }
 
-    // Puts a value into a leaf that has none for the key, or hands it back.
+    /// Puts a value into a leaf that has none for the key, or hands it back.
     pub(crate) fn add_value(
         &mut self,
         alloc: Global,
@@ -86,7 +86,7 @@ impl<P: Stored, A: Allocator> Arena<P, A> {
         Ok(())
     }
 
-    // Gives a node that was just made the key's value.
+    /// Gives a node that was just made the key's value.
     fn fill_leaf(&mut self, name: usize, key: &[u8; 8], value: P)
         requires fresh { FreshNode self.old.nodes name (take 7 key.now) }
         ensures fills { Fills self.old.nodes self.new.nodes name key.now value }
@@ -96,7 +96,7 @@ impl<P: Stored, A: Allocator> Arena<P, A> {
         self.hang(name, key[7], Child::Value(value));
     }
 
-    // Hangs a leaf for the key below an inner node that has nothing for it, or hands the value back.
+    /// Hangs a leaf for the key below an inner node that has nothing for it, or hands the value back.
     pub(crate) fn add_leaf(
         &mut self,
         alloc: Global,
@@ -132,7 +132,7 @@ impl<P: Stored, A: Allocator> Arena<P, A> {
         Ok(())
     }
 
-    // Puts a value in below a node that has nothing for the key, or hands it back.
+    /// Puts a value in below a node that has nothing for the key, or hands it back.
     pub(crate) fn add(
         &mut self,
         alloc: Global,
@@ -160,7 +160,7 @@ impl<P: Stored, A: Allocator> Arena<P, A> {
         }
     }
 
-    // Takes a value out of a leaf that has others.
+    /// Takes a value out of a leaf that has others.
     pub(crate) fn take_value(&mut self, at: usize, key: &[u8; 8]) -> P
         requires tree { IsTree self.old.nodes }
         requires way { OnWay self.old.nodes key.now at }
@@ -177,7 +177,7 @@ impl<P: Stored, A: Allocator> Arena<P, A> {
         }
     }
 
-    // Gives a node that was just made a leaf for the key, and beside it the node that parts from the key there.
+    /// Gives a node that was just made a leaf for the key, and beside it the node that parts from the key there.
     fn fill_fork(
         &mut self,
         name: usize,
@@ -198,8 +198,8 @@ impl<P: Stored, A: Allocator> Arena<P, A> {
         self.hang(name, other, Child::Node(below));
     }
 
-    // Hangs a node of the bytes that the key shares with the child `below` over that child and a leaf for the key,
-    // or hands the value back.
+    /// Hangs a node of the bytes that the key shares with the child `below` over that child and a leaf for the key,
+    /// or hands the value back.
     pub(crate) fn split(
         &mut self,
         alloc: Global,
@@ -242,7 +242,7 @@ impl<P: Stored, A: Allocator> Arena<P, A> {
         Ok(())
     }
 
-    // Takes a leaf's only value out, and the leaf with it.
+    /// Takes a leaf's only value out, and the leaf with it.
     pub(crate) fn drop_leaf(&mut self, above: usize, at: usize, key: &[u8; 8]) -> P
         requires tree { IsTree self.old.nodes }
         requires way { OnWay self.old.nodes key.now at }

@@ -37,7 +37,7 @@ pub(crate) fn beginning() -> Cursor
     cursor
 }
 
-// The key of a leaf's pair: the leaf's prefix, and the byte.
+/// The key of a leaf's pair: the leaf's prefix, and the byte.
 fn key_of(prefix: &[u8], byte: u8) -> u64
     requires { length prefix.now ≡ 7 }
     ensures begins { fits prefix.now (key_bytes result) ≡ true }
