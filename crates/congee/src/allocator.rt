@@ -72,7 +72,7 @@ pub trait Allocator: Drop {
         ensures { result ≡ limit_of self.now };
 }
 
-// Charges the bytes where they stay within the limit.
+/// Charges the bytes where they stay within the limit.
 fn charge(charged: &mut u64, size: u64, limit: u64) -> Result<(), OOMError>
     ensures ok { OnOk result (charged.new ≡ charged.old + size) }
     ensures fits { OnOk result (charged.old + size ≤ limit) }

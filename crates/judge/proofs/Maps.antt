@@ -1,15 +1,12 @@
 -- Look-ups in the map after a call, and maps that look-ups tell apart.
-use Rattle.std.proofs.Common.{◌≡◌, ◌≢◌, ℕ, Bool, true, false, cond, Option, None, Some, Ok, Err, refl, sym, ap, subst, ◌∙◌, eqb, arith}
+use Rattle.std.proofs.Common.{◌≡◌, ◌≢◌, ℕ, Bool, true, false, cond, Option, None, Some, refl, sym, ap, subst, ◌∙◌, eqb, arith}
 use Rattle.std.proofs.lemmas.Bool.Decides.{nat_tests}
 use Rattle.std.specs.Ordering.{nat_cmp, eq_by_cmp}
 use Rattle.std.specs.Cmp.{nat_cmp_total}
 use Rattle.std.specs.FinMap.{get, insert, remove, get-insert, get-remove, same_map, nat_cmp-IsAntisymmetric}
-use Rattle.judge.specs.Answer.{Pairs, set_at, present_answer, exchange_answer, answer}
-pub use Rattle.judge.specs.Effect.{key_of, exchange_leaves, present_leaves, leaves, exchange_reply, present_reply, reply_on}
+use Rattle.judge.specs.Answer.{Pairs, set_at, key_of, leaves, reply_on, answer}
 use Rattle.judge.specs.declared.journal.Call.{Call}
-use Rattle.judge.specs.declared.journal.Call.TheVariants.{Get, Insert, Remove, ComputePresent, ComputeInsert, Exchange}
 use Rattle.judge.specs.declared.journal.Reply.{Reply}
-use Rattle.judge.specs.declared.journal.Reply.TheVariants as reply
 
 here : (k : ℕ) → eq_by_cmp nat_cmp k k ≡ true
 here k = grind (arith, nat_tests)
@@ -67,29 +64,7 @@ remove-absent m k at_k = set_at-standing m k None at_k
 pair_up : {A B : Type 0} (a b : A) (c d : B) → a ≡ b → c ≡ d → ◌≡◌ {A = A × B} (a, c) (b, d)
 pair_up a b c d e f = λ i. (e i, f i)
 
-present_set : {P : Type 0} (m : Pairs P) (k : ℕ) (a o : Option P) → get m k ≡ o → present_answer m k a o ≡ (present_reply a o, set_at m k (present_leaves a o))
-present_set m k a None at_k = pair_up _ _ _ _ refl (sym (remove-absent m k at_k))
-present_set m k a (Some v) at_k = refl
-
-exchange_test : {P : Type 0} (b : Bool) (m : Pairs P) (k : ℕ) (new : Option P) (v : P) → get m k ≡ Some v → ◌≡◌ {A = Reply P × Pairs P} (cond b (reply.Exchange (Ok new), set_at m k new) (reply.Exchange (Err (Some v)), m)) (cond b (reply.Exchange (Ok new)) (reply.Exchange (Err (Some v))), set_at m k (cond b new (Some v)))
-exchange_test true m k new v at_k = refl
-exchange_test false m k new v at_k = pair_up _ _ _ _ refl (sym (insert-standing m k v at_k))
-
-exchange_set : {P : Type 0} (same : P → P → Bool) (m : Pairs P) (k : ℕ) (old : P) (new o : Option P) → get m k ≡ o → exchange_answer same m k old new o ≡ (exchange_reply same old new o, set_at m k (exchange_leaves same old new o))
-exchange_set same m k old new None at_k = pair_up _ _ _ _ refl (sym (remove-absent m k at_k))
-exchange_set same m k old new (Some v) at_k = exchange_test (same v old) m k new v at_k
-
--- a call reads and sets its own key alone
-pub answer-set_at : {P : Type 0} (same : P → P → Bool) (m : Pairs P) (c : Call P) → answer same m c ≡ (reply_on same c (get m (key_of c)), set_at m (key_of c) (leaves same c (get m (key_of c))))
-answer-set_at same m (Get k) = pair_up _ _ _ _ refl (sym (set_at-standing m k (get m k) refl))
-answer-set_at same m (Insert k v) = refl
-answer-set_at same m (Remove k) = refl
-answer-set_at same m (ComputePresent k a) = present_set m k a (get m k) refl
-answer-set_at same m (ComputeInsert k a) = refl
-answer-set_at same m (Exchange k old new) = exchange_set same m k old new (get m k) refl
-
 -- a map that differs from m as the call asks, at the call's key alone, is the call's next map
 pub answer_at : {P : Type 0} (same : P → P → Bool) (m n : Pairs P) (c : Call P) (found : Option P) → get m (key_of c) ≡ found → get n (key_of c) ≡ leaves same c found → ((q : ℕ) → q ≢ key_of c → get n q ≡ get m q) → answer same m c ≡ (reply_on same c found, n)
 answer_at same m n c found was now other =
-    answer-set_at same m c
-    ∙ pair_up _ _ _ _ (ap (reply_on same c) was) (ap (λ o. set_at m (key_of c) (leaves same c o)) was ∙ sym (is_set_at m n (key_of c) (leaves same c found) now other))
+    pair_up _ _ _ _ (ap (reply_on same c) was) (ap (λ o. set_at m (key_of c) (leaves same c o)) was ∙ sym (is_set_at m n (key_of c) (leaves same c found) now other))

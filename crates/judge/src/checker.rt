@@ -32,7 +32,7 @@ pub fn check(alloc: Global, journal: &[Entry<u64>]) -> Result<Verdict, AllocErro
     Ok(Verdict::Legal)
 }
 
-// Makes the call on the standing pairs, and gives its reply.
+/// Makes the call on the standing pairs, and gives its reply.
 fn reply_to(standing: &mut Standing, call: &Call<u64>) -> Result<Reply<u64>, AllocError>
     ensures reply { IfOk result (λ reply. reply ≡ (answer nat_eq standing.old call.now).0) }
     ensures next { OnOk result (standing.new ≡ (answer nat_eq standing.old call.now).1) }

@@ -1,5 +1,5 @@
 pub mod Answered
-pub mod ByteRanges
+pub mod EntryRanges
 pub mod Clears
 pub mod Cursors
 pub mod Drains

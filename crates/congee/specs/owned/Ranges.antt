@@ -12,7 +12,11 @@ abbrev pub keys_by : {K X : Type 0} → (ℕ → K) → List (ℕ × X) → List
 keys_by of_word [] = []
 keys_by of_word ((k, x) ∷ r) = of_word k ∷ keys_by of_word r
 
+-- the pairs, each as what stands for it
+abbrev pub entries_by : {X E : Type 0} → (ℕ → X → E) → List (ℕ × X) → List E
+entries_by entry [] = []
+entries_by entry ((k, x) ∷ r) = entry k x ∷ entries_by entry r
+
 -- the pairs, each key as its eight bytes
 abbrev pub by_bytes : {X : Type 0} → List (ℕ × X) → List (List ℕ × X)
-by_bytes [] = []
-by_bytes ((k, x) ∷ r) = (key_bytes k, x) ∷ by_bytes r
+by_bytes es = entries_by (λ k x. (key_bytes k, x)) es

@@ -1,5 +1,5 @@
 -- The nodes that an insertion makes, and the leaf that a removal takes.
-use Rattle.std.specs.Prelude.{ℕ, zero, suc, ◌+◌, ◌≤◌, ◌<◌, ◌≡◌, ◌==◌, ◌&&◌, ◌⊎◌, not, cond, List, [], ◌∷◌, ◌^◌, length, Option, None, Some}
+use Rattle.std.specs.Prelude.{ℕ, zero, suc, ◌+◌, ◌≤◌, ◌==◌, ◌&&◌, ◌⊎◌, not, cond, List, [], ◌∷◌, ◌^◌, length, Option, None, Some}
 use Rattle.std.specs.Ordering.{nat_cmp}
 use Rattle.std.specs.FinMap.{FinMap}
 use Rattle.congee.specs.Heap.{Node, Hung, Nothing, Below, Holds, fits, child_for}

@@ -41,7 +41,7 @@ told_or later (Done r) = Some r
 told_or later _ = later
 
 abbrev pub told : {C V : Type 0} → Turn C V → Option (Reply V)
-told t = told_or (reply_in t.phase) t.step.outcome
+told t = told_or (reply_in t.phase) t.report.outcome
 
 -- a step that decides answers, and each other step leaves the map
 abbrev pub AnswersIf : {C V : Type 0} → Bool → (V → V → Bool) → ℕ → Kind V → Option V → (ℕ → Node V) → Turn C V → (ℕ → Node V) → Type 0
@@ -49,7 +49,7 @@ AnswersIf {C} {V} true same k kind given h t h' = (r : Reply V) × (told t ≡ S
 AnswersIf false same k kind given h t h' = SameMap h h'
 
 abbrev pub StepAnswers : {C V : Type 0} → (V → V → Bool) → ℕ → Kind V → Option V → (ℕ → Node V) → Turn C V → (ℕ → Node V) → Type 0
-StepAnswers same k kind given h t h' = AnswersIf t.step.decided same k kind given h t h'
+StepAnswers same k kind given h t h' = AnswersIf t.report.decided same k kind given h t h'
 
 -- a step of call i: the tree stands after it, the other calls may count on what they know, this one knows what its
 -- next phase says, and the step answers as the map
@@ -58,7 +58,7 @@ pub record Keeps {C V : Type 0} (number : C → ℕ) (same : V → V → Bool) (
   pub notes : ℕ → Note
   pub effect : Effect i a h notes h'
   pub known : Known number same always i notes h' m'.key (key_bytes m'.key) m'.kind m'.given m'.phase
-  pub answer : StepAnswers same m.key m.kind m.given h (record { phase = m'.phase; step = d }) h'
+  pub answer : StepAnswers same m.key m.kind m.given h (record { phase = m'.phase; report = d }) h'
 
 -- whichever call it is, and whatever others do in between, as long as they keep what it knows
 abbrev pub KeepsProtocol : {C V : Type 0} → (C → ℕ) → (V → V → Bool) → Bool → Machine C V → (ℕ → Node V) → Machine C V → (ℕ → Node V) → Move V → Type 0

@@ -7,7 +7,7 @@ use Rattle.congee.specs.declared.protocol.phase.Double.TheVariants.{Unlink, Grow
 use Rattle.congee.specs.declared.protocol.phase.Plan.{Plan}
 use Rattle.congee.specs.declared.protocol.phase.Plan.TheVariants.{Here, Above}
 use Rattle.congee.specs.declared.protocol.phase.Phase.{Phase}
-use Rattle.congee.specs.declared.protocol.phase.Phase.TheVariants.{MakeGreater, MakeBeside, AskNew, CheckAbove, UpgradeOne, ChangeOne, UpgradeAbove, UpgradeBoth, ChangeTwo, Obsolete, Retire, UnlockBelow, Unlock, Unwind}
+use Rattle.congee.specs.declared.protocol.phase.Phase.TheVariants.{MakeGreater, MakeBeside, AskNew, CheckAbove, UpgradeOne, ChangeOne, UpgradeAbove, UpgradeBelow, ChangeTwo, Obsolete, Retire, UnlockBelow, Unlock, Unwind}
 use Rattle.congee.specs.declared.protocol.machine.Machine.{Machine}
 use Rattle.congee.specs.Heap.{Node}
 use Rattle.congee.specs.Ledger.{Note, Unmade, Held, Linked, Gone, is_spent}
@@ -15,7 +15,7 @@ use Rattle.congee.specs.Ledger.{Note, Unmade, Held, Linked, Gone, is_spent}
 -- the call holds the lock of node n
 abbrev pub LockedBy : {C V : Type 0} → (C → ℕ) → Phase C V → ℕ → Type 0
 LockedBy number (ChangeOne one r) n = n ≡ number one.at.node
-LockedBy number (UpgradeBoth two r) n = n ≡ number two.above.seat.node
+LockedBy number (UpgradeBelow two r) n = n ≡ number two.above.seat.node
 LockedBy number (ChangeTwo two r) n = (n ≡ number two.above.seat.node) ⊎ (n ≡ number two.at.node)
 LockedBy number (Obsolete m p r) n = (n ≡ number p) ⊎ (n ≡ number m)
 LockedBy number (Retire m p r) n = (n ≡ number p) ⊎ (n ≡ number m)
@@ -52,7 +52,7 @@ MadeBy number (CheckAbove p one r) n = MadeForOne number one.change n
 MadeBy number (UpgradeOne one r) n = MadeForOne number one.change n
 MadeBy number (ChangeOne one r) n = MadeForOne number one.change n
 MadeBy number (UpgradeAbove two r) n = MadeForTwo number two.change n
-MadeBy number (UpgradeBoth two r) n = MadeForTwo number two.change n
+MadeBy number (UpgradeBelow two r) n = MadeForTwo number two.change n
 MadeBy number (ChangeTwo two r) n = MadeForTwo number two.change n
 MadeBy number _ n = ⊥
 

@@ -13,7 +13,7 @@ use Rattle.congee.specs.declared.protocol.phase.Two.{Two}
 use Rattle.congee.specs.declared.protocol.phase.Plan.{Plan}
 use Rattle.congee.specs.declared.protocol.phase.Plan.TheVariants.{Here, Above}
 use Rattle.congee.specs.declared.protocol.phase.Phase.{Phase}
-use Rattle.congee.specs.declared.protocol.phase.Phase.TheVariants.{New, Version, Read, Check, CheckUncopied, CheckMiss, CheckDown, CheckOld, MakeLeaf, MakeGreater, MakeTop, MakeBeside, AskOld, AskNew, Confirm, CheckAbove, UpgradeOne, ChangeOne, UpgradeAbove, UpgradeBoth, ChangeTwo, Obsolete, Retire, UnlockBelow, Unlock, Unwind, Sweep, Ended}
+use Rattle.congee.specs.declared.protocol.phase.Phase.TheVariants.{New, Version, Read, Check, CheckUncopied, CheckMiss, CheckDown, CheckOld, MakeLeaf, MakeGreater, MakeTop, MakeBeside, AskOld, AskNew, Confirm, CheckAbove, UpgradeOne, ChangeOne, UpgradeAbove, UpgradeBelow, ChangeTwo, Obsolete, Retire, UnlockBelow, Unlock, Unwind, Sweep, Ended}
 use Rattle.congee.specs.declared.protocol.machine.Machine.{Machine}
 use Rattle.congee.specs.Heap.{Node, Below}
 use Rattle.congee.specs.protocol.Handing.{InTree}
@@ -82,7 +82,7 @@ names number (CheckAbove p one r) = number p.node ∷ names_one number one
 names number (UpgradeOne one r) = names_one number one
 names number (ChangeOne one r) = names_one number one
 names number (UpgradeAbove two r) = names_two number two
-names number (UpgradeBoth two r) = names_two number two
+names number (UpgradeBelow two r) = names_two number two
 names number (ChangeTwo two r) = names_two number two
 names number (Obsolete n p r) = number n ∷ number p ∷ []
 names number (Retire n p r) = number n ∷ number p ∷ []

@@ -1,6 +1,5 @@
 -- What any number of calls do, stepped in any order: each is watched from its begin to its end, beside the map.
-use Rattle.std.specs.Prelude.{◌≡◌, ℕ, ◌<◌, ◌≤◌, ◌^◌, ◌⊎◌, Bool, true, false, List, [], ◌∷◌, length, take, map, Option, None, Some, slice_get}
-use Rattle.std.proofs.Math.ListN.{set}
+use Rattle.std.specs.Prelude.{set, ◌≡◌, ℕ, ◌<◌, ◌≤◌, ◌^◌, ◌⊎◌, Bool, true, false, List, [], ◌∷◌, length, take, map, Option, None, Some, slice_get}
 use Rattle.std.specs.FinMap.{get, empty}
 use Rattle.judge.specs.declared.journal.Call.{Call}
 use Rattle.judge.specs.declared.journal.Reply.{Reply}
@@ -11,7 +10,7 @@ use Rattle.congee.specs.declared.protocol.op.Op.TheVariants as op
 use Rattle.congee.specs.declared.protocol.phase.Kind.{Kind}
 use Rattle.congee.specs.declared.protocol.phase.Kind.TheVariants.{Get, Insert, Remove, ComputePresent, ComputeInsert, Exchange}
 use Rattle.congee.specs.declared.protocol.phase.Phase.{Phase}
-use Rattle.congee.specs.declared.protocol.phase.Phase.TheVariants.{New, AskOld, AskNew, Confirm, CheckAbove, UpgradeOne, ChangeOne, UpgradeAbove, UpgradeBoth, ChangeTwo, Obsolete, Retire, UnlockBelow, Unlock, Sweep, Ended}
+use Rattle.congee.specs.declared.protocol.phase.Phase.TheVariants.{New, AskOld, AskNew, Confirm, CheckAbove, UpgradeOne, ChangeOne, UpgradeAbove, UpgradeBelow, ChangeTwo, Obsolete, Retire, UnlockBelow, Unlock, Sweep, Ended}
 use Rattle.congee.specs.declared.protocol.machine.Outcome.{Outcome}
 use Rattle.congee.specs.declared.protocol.machine.Outcome.TheVariants.{Running, Asks, Found, Done, Scanned, Refused}
 use Rattle.congee.specs.declared.protocol.machine.Move.{Move}
@@ -188,7 +187,7 @@ flight_in k kind v (CheckAbove p one r) = Pending k kind v (heeding r)
 flight_in k kind v (UpgradeOne one r) = Pending k kind v (heeding r)
 flight_in k kind v (ChangeOne one r) = Pending k kind v (heeding r)
 flight_in k kind v (UpgradeAbove two r) = Pending k kind v (heeding r)
-flight_in k kind v (UpgradeBoth two r) = Pending k kind v (heeding r)
+flight_in k kind v (UpgradeBelow two r) = Pending k kind v (heeding r)
 flight_in k kind v (ChangeTwo two r) = Pending k kind v (heeding r)
 flight_in k kind v (Obsolete n p r) = Decided r
 flight_in k kind v (Retire n p r) = Decided r

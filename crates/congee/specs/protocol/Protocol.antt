@@ -3,7 +3,7 @@ use Rattle.std.specs.Prelude.{◌≡◌, ◌≢◌, ℕ, ◌==◌, ◌<◌, ◌�
 use Rattle.judge.specs.declared.journal.Call.{Call}
 use Rattle.judge.specs.declared.journal.Call.TheVariants as call
 use Rattle.judge.specs.declared.journal.Reply.{Reply}
-use Rattle.judge.proofs.Maps.{leaves, reply_on}
+use Rattle.judge.specs.Answer.{leaves, reply_on}
 use Rattle.congee.specs.declared.protocol.store.Seat.{Seat}
 use Rattle.congee.specs.declared.protocol.store.Refusal.{Refusal}
 use Rattle.congee.specs.declared.protocol.store.Refusal.TheVariants as refusal
@@ -20,7 +20,7 @@ use Rattle.congee.specs.declared.protocol.phase.Two.{Two}
 use Rattle.congee.specs.declared.protocol.phase.Plan.{Plan}
 use Rattle.congee.specs.declared.protocol.phase.Plan.TheVariants.{Here, Above}
 use Rattle.congee.specs.declared.protocol.phase.Phase.{Phase}
-use Rattle.congee.specs.declared.protocol.phase.Phase.TheVariants.{New, Version, Read, Check, CheckUncopied, CheckMiss, CheckDown, CheckOld, MakeLeaf, MakeGreater, MakeTop, MakeBeside, AskOld, AskNew, Confirm, CheckAbove, UpgradeOne, ChangeOne, UpgradeAbove, UpgradeBoth, ChangeTwo, Obsolete, Retire, UnlockBelow, Unlock, Unwind, Sweep, Ended}
+use Rattle.congee.specs.declared.protocol.phase.Phase.TheVariants.{New, Version, Read, Check, CheckUncopied, CheckMiss, CheckDown, CheckOld, MakeLeaf, MakeGreater, MakeTop, MakeBeside, AskOld, AskNew, Confirm, CheckAbove, UpgradeOne, ChangeOne, UpgradeAbove, UpgradeBelow, ChangeTwo, Obsolete, Retire, UnlockBelow, Unlock, Unwind, Sweep, Ended}
 use Rattle.congee.specs.Heap.{Node, Hung, Nothing, Below, Holds, fits, child_for, is_taken}
 use Rattle.congee.specs.protocol.Events.{hung, Parts}
 use Rattle.congee.specs.protocol.Steps.{adds}
@@ -266,7 +266,7 @@ Known number same always i a h k key kind given (CheckAbove p one r) = HasGift k
 Known {C} {V} number same always i a h k key kind given (UpgradeOne one r) = HasGift kind given × ((x : Hung V) × OneKnown number i a h key one x × FitsOne one.change x given × Settles same k kind given (value_in x) r given)
 Known {C} {V} number same always i a h k key kind given (ChangeOne one r) = (x : Hung V) × OneLocked number i a h key one x × FitsOne one.change x given × Settles same k kind given (value_in x) r given
 Known {C} {V} number same always i a h k key kind given (UpgradeAbove two r) = HasGift kind given × ((found : Option V) × (q : ℕ) × TwoKnown number i a h key two found q × FitsTwo two.change found given × Settles same k kind given found r given)
-Known {C} {V} number same always i a h k key kind given (UpgradeBoth two r) = HasGift kind given × ((found : Option V) × (q : ℕ) × HalfLocked number i a h key two found q × FitsTwo two.change found given × Settles same k kind given found r given)
+Known {C} {V} number same always i a h k key kind given (UpgradeBelow two r) = HasGift kind given × ((found : Option V) × (q : ℕ) × HalfLocked number i a h key two found q × FitsTwo two.change found given × Settles same k kind given found r given)
 Known {C} {V} number same always i a h k key kind given (ChangeTwo two r) = (found : Option V) × (q : ℕ) × TwoLocked number i a h key two found q × FitsTwo two.change found given × Settles same k kind given found r given
 Known number same always i a h k key kind given (Obsolete n p r) = TakenOut i a h (number p) (number n)
 Known number same always i a h k key kind given (Retire n p r) = TakenOut i a h (number p) (number n) × ((h (number n)).obsolete ≡ true)

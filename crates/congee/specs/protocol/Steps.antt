@@ -1,6 +1,5 @@
 -- One step of a call on what the store answers: the next phase, and what the step reports.
-use Rattle.std.specs.Prelude.{◌≡◌, ◌≢◌, ℕ, ◌==◌, ◌<◌, ◌≤◌, ◌⊎◌, Bool, true, false, List, slice_index, Option, None, Some, Result, Ok, Err, IfErr, cond}
-use Rattle.std.proofs.Math.Dec.{ltb}
+use Rattle.std.specs.Prelude.{ltb, ◌≡◌, ◌≢◌, ℕ, ◌==◌, ◌<◌, ◌≤◌, ◌⊎◌, Bool, true, false, List, slice_index, Option, None, Some, Result, Ok, Err, IfErr, cond}
 use Rattle.judge.specs.declared.journal.Reply.{Reply}
 use Rattle.judge.specs.declared.journal.Reply.TheVariants as reply
 use Rattle.congee.specs.declared.forms.base_node.NodeType.{NodeType}
@@ -27,7 +26,7 @@ use Rattle.congee.specs.declared.protocol.phase.Two.{Two}
 use Rattle.congee.specs.declared.protocol.phase.Plan.{Plan}
 use Rattle.congee.specs.declared.protocol.phase.Plan.TheVariants.{Here, Above}
 use Rattle.congee.specs.declared.protocol.phase.Phase.{Phase}
-use Rattle.congee.specs.declared.protocol.phase.Phase.TheVariants.{New, Version, Read, Check, CheckUncopied, CheckMiss, CheckDown, CheckOld, MakeLeaf, MakeGreater, MakeTop, MakeBeside, AskOld, AskNew, Confirm, CheckAbove, UpgradeOne, ChangeOne, UpgradeAbove, UpgradeBoth, ChangeTwo, Obsolete, Retire, UnlockBelow, Unlock, Unwind, Sweep, Ended}
+use Rattle.congee.specs.declared.protocol.phase.Phase.TheVariants.{New, Version, Read, Check, CheckUncopied, CheckMiss, CheckDown, CheckOld, MakeLeaf, MakeGreater, MakeTop, MakeBeside, AskOld, AskNew, Confirm, CheckAbove, UpgradeOne, ChangeOne, UpgradeAbove, UpgradeBelow, ChangeTwo, Obsolete, Retire, UnlockBelow, Unlock, Unwind, Sweep, Ended}
 use Rattle.congee.specs.declared.protocol.machine.Outcome.{Outcome}
 use Rattle.congee.specs.declared.protocol.machine.Outcome.TheVariants.{Running, Asks, Found, Done, Scanned, Refused}
 use Rattle.congee.specs.declared.protocol.sweep.Sweep.{Sweep as Scan}
@@ -44,25 +43,25 @@ use Rattle.congee.specs.Keys.{key_bytes}
 -- what a step leaves: it goes on, begins anew, answers in this step, ends with an answer given before, is refused,
 -- takes effect and goes on, or asks
 abbrev pub quiet : {C V : Type 0} → Phase C V → Turn C V
-quiet s = record { phase = s; step = record { decided = false; outcome = Running } }
+quiet s = record { phase = s; report = record { decided = false; outcome = Running } }
 
 abbrev pub again : {C V : Type 0} → C → Turn C V
 again root = quiet (Version None root)
 
 abbrev pub answered : {C V : Type 0} → Reply V → Turn C V
-answered r = record { phase = Ended; step = record { decided = true; outcome = Done r } }
+answered r = record { phase = Ended; report = record { decided = true; outcome = Done r } }
 
 abbrev pub finished : {C V : Type 0} → Reply V → Turn C V
-finished r = record { phase = Ended; step = record { decided = false; outcome = Done r } }
+finished r = record { phase = Ended; report = record { decided = false; outcome = Done r } }
 
 abbrev pub refused : {C V : Type 0} → Refusal → Turn C V
-refused e = record { phase = Ended; step = record { decided = false; outcome = Refused e } }
+refused e = record { phase = Ended; report = record { decided = false; outcome = Refused e } }
 
 abbrev pub decided : {C V : Type 0} → Phase C V → Turn C V
-decided s = record { phase = s; step = record { decided = true; outcome = Running } }
+decided s = record { phase = s; report = record { decided = true; outcome = Running } }
 
 abbrev pub asking : {C V : Type 0} → Phase C V → Option V → Turn C V
-asking s o = record { phase = s; step = record { decided = false; outcome = Asks o } }
+asking s o = record { phase = s; report = record { decided = false; outcome = Asks o } }
 
 -- whether the call puts a value at an absent key
 abbrev pub adds : {V : Type 0} → Kind V → Bool
@@ -268,14 +267,14 @@ UpgradedOne number root one r h Failed h' t = BackOne number h one.change h' × 
 UpgradedOne number root one r h Exhausted h' t = BackOne number h one.change h' × (t ≡ refused refusal.Exhausted)
 
 abbrev pub UpgradedAbove : {C V : Type 0} → (C → ℕ) → C → Two C → Reply V → (ℕ → Node V) → Upgrade → (ℕ → Node V) → Turn C V → Type 0
-UpgradedAbove number root two r h Locked h' t = SameBut h (number two.above.seat.node) (record (h (number two.above.seat.node)) { locked = true }) h' × (t ≡ quiet (UpgradeBoth two r))
+UpgradedAbove number root two r h Locked h' t = SameBut h (number two.above.seat.node) (record (h (number two.above.seat.node)) { locked = true }) h' × (t ≡ quiet (UpgradeBelow two r))
 UpgradedAbove number root two r h Failed h' t = BackTwo number h two.change h' × (t ≡ again root)
 UpgradedAbove number root two r h Exhausted h' t = BackTwo number h two.change h' × (t ≡ refused refusal.Exhausted)
 
-abbrev pub UpgradedBoth : {C V : Type 0} → (C → ℕ) → Two C → Reply V → (ℕ → Node V) → Upgrade → (ℕ → Node V) → Turn C V → Type 0
-UpgradedBoth number two r h Locked h' t = SameBut h (number two.at.node) (record (h (number two.at.node)) { locked = true }) h' × (t ≡ quiet (ChangeTwo two r))
-UpgradedBoth number two r h Failed h' t = BackTwo number h two.change h' × (t ≡ quiet (Unwind two.above.seat.node None))
-UpgradedBoth number two r h Exhausted h' t = BackTwo number h two.change h' × (t ≡ quiet (Unwind two.above.seat.node (Some refusal.Exhausted)))
+abbrev pub UpgradedBelow : {C V : Type 0} → (C → ℕ) → Two C → Reply V → (ℕ → Node V) → Upgrade → (ℕ → Node V) → Turn C V → Type 0
+UpgradedBelow number two r h Locked h' t = SameBut h (number two.at.node) (record (h (number two.at.node)) { locked = true }) h' × (t ≡ quiet (ChangeTwo two r))
+UpgradedBelow number two r h Failed h' t = BackTwo number h two.change h' × (t ≡ quiet (Unwind two.above.seat.node None))
+UpgradedBelow number two r h Exhausted h' t = BackTwo number h two.change h' × (t ≡ quiet (Unwind two.above.seat.node (Some refusal.Exhausted)))
 
 -- the value that the call puts there
 abbrev pub value_hung : {V : Type 0} → Option V → Hung V
@@ -327,7 +326,7 @@ outcome_of (told.Done count) = Scanned count
 outcome_of (told.Refused e) = Refused e
 
 abbrev pub swept : {C V : Type 0} → Scan C V → Told V → Turn C V
-swept s o = record { phase = Sweep s; step = record { decided = false; outcome = outcome_of o } }
+swept s o = record { phase = Sweep s; report = record { decided = false; outcome = outcome_of o } }
 
 -- the step of a call in a phase: on the nodes, the closure's answer and the failing of an exchange, it gives the
 -- call's new value, what it leaves, and the nodes after it
@@ -371,8 +370,8 @@ PhaseStepped number same always most why root key kind fail answer new (ChangeOn
     (new' ≡ None) × ChangedOne number key new one one.change h h' × (t ≡ decided (Unlock one.at.node r))
 PhaseStepped number same always most why root key kind fail answer new (UpgradeAbove two r) h new' t h' =
     (new' ≡ new) × ((u : Upgrade) × (u ≡ upgrade_gives most (h (number two.above.seat.node)) two.above.seat.version fail) × UpgradedAbove number root two r h u h' t)
-PhaseStepped number same always most why root key kind fail answer new (UpgradeBoth two r) h new' t h' =
-    (new' ≡ new) × ((u : Upgrade) × (u ≡ upgrade_gives most (h (number two.at.node)) two.at.version fail) × UpgradedBoth number two r h u h' t)
+PhaseStepped number same always most why root key kind fail answer new (UpgradeBelow two r) h new' t h' =
+    (new' ≡ new) × ((u : Upgrade) × (u ≡ upgrade_gives most (h (number two.at.node)) two.at.version fail) × UpgradedBelow number two r h u h' t)
 PhaseStepped number same always most why root key kind fail answer new (ChangeTwo two r) h new' t h' =
     (new' ≡ None) × ChangedTwo number key new two two.change h h' × (t ≡ after_change two r two.change)
 PhaseStepped number same always most why root key kind fail answer new (Obsolete n p r) h new' t h' =
@@ -396,7 +395,7 @@ pub record Stepped {C V : Type 0} (number : C → ℕ) (same : V → V → Bool)
   pub root : m'.root ≡ m.root
   pub key : m'.key ≡ m.key
   pub kind : m'.kind ≡ m.kind
-  pub step : PhaseStepped number same always most why m.root (key_bytes m.key) m.kind fail answer m.given m.phase h m'.given (record { phase = m'.phase; step = d }) h'
+  pub step : PhaseStepped number same always most why m.root (key_bytes m.key) m.kind fail answer m.given m.phase h m'.given (record { phase = m'.phase; report = d }) h'
 
 -- a phase in which a call marks, hands over or unlocks a node, or has ended
 abbrev pub IsReleasing : {C V : Type 0} → Phase C V → Type 0
@@ -418,7 +417,7 @@ Acts (CheckAbove p one r) = Unit {0}
 Acts (UpgradeOne one r) = Unit {0}
 Acts (ChangeOne one r) = Unit {0}
 Acts (UpgradeAbove two r) = Unit {0}
-Acts (UpgradeBoth two r) = Unit {0}
+Acts (UpgradeBelow two r) = Unit {0}
 Acts (ChangeTwo two r) = Unit {0}
 Acts s = IsReleasing s
 
@@ -489,7 +488,7 @@ MayStep number key new (CheckAbove p one r) h = Stands (h (number p.node)) × Ma
 MayStep number key new (UpgradeOne one r) h = Stands (h (number one.at.node)) × MayBackOne number h one.change
 MayStep number key new (ChangeOne one r) h = MayChangeOne number new one one.change h
 MayStep number key new (UpgradeAbove two r) h = Stands (h (number two.above.seat.node)) × MayBackTwo number h two.change
-MayStep number key new (UpgradeBoth two r) h = Stands (h (number two.at.node)) × MayBackTwo number h two.change
+MayStep number key new (UpgradeBelow two r) h = Stands (h (number two.at.node)) × MayBackTwo number h two.change
 MayStep number key new (ChangeTwo two r) h = MayChangeTwo number key new two two.change h
 MayStep number key new (Obsolete n p r) h = Stands (h (number n)) × ((h (number n)).locked ≡ true)
 MayStep number key new (Retire n p r) h = Stands (h (number n)) × ((h (number n)).obsolete ≡ true) × ((h (number n)).retired ≡ false)

@@ -1,6 +1,5 @@
 -- One step of a scan on what the store answers.
-use Rattle.std.specs.Prelude.{◌≡◌, ℕ, ◌+◌, ◌*◌, ◌-◌, ◌/◌, ◌^◌, ◌==◌, ◌<◌, ◌≤◌, Bool, true, false, List, [], ◌∷◌, take, Option, None, Some, cond, slice_get}
-use Rattle.std.proofs.Math.Dec.{ltb}
+use Rattle.std.specs.Prelude.{ltb, ◌≡◌, ℕ, ◌+◌, ◌*◌, ◌-◌, ◌/◌, ◌^◌, ◌==◌, ◌<◌, ◌≤◌, Bool, true, false, List, [], ◌∷◌, take, Option, None, Some, cond, slice_get}
 use Rattle.congee.specs.declared.protocol.store.Region.{Region}
 use Rattle.congee.specs.declared.protocol.store.Least.{Least}
 use Rattle.congee.specs.declared.protocol.store.Least.TheVariants as least

@@ -36,7 +36,7 @@ impl Mask {
         self.bytes[byte as usize / 8] &= !(1 << (byte as u32 % 8));
     }
 
-    // The least byte from `from` on whose bit is set.
+    /// The least byte from `from` on whose bit is set.
     fn first_from(&self, from: usize) -> Option<u8>
         ensures { MatchOption result ((b : ℕ) → from ≤ b → b < 256 → bit_of self.now.bytes b ≡ 0)
             (λ r. (from ≤ r) × (bit_of self.now.bytes r ≡ 1) × ((b : ℕ) → from ≤ b → b < r → bit_of self.now.bytes b ≡ 0)) }

@@ -30,7 +30,7 @@ impl<X, const N: usize> Model for Sorted<X, N> {
     ghost invariant = { λ s. IsSorted s.keys.items s.children.items };
 }
 
-// The place of the first byte that is at least `byte`.
+/// The place of the first byte that is at least `byte`.
 fn place_of<const N: usize>(keys: &ArrayVec<u8, N>, byte: usize) -> usize
     ensures fits { length keys.now.items ≤ N }
     ensures within { result ≤ length keys.now.items }

@@ -31,7 +31,7 @@ impl<P: Stored, A: Allocator> Arena<P, A> {
     ghost use Rattle.congee.specs.owned.Place.{Located};
     ghost use Rattle.congee.specs.owned.Arena.{IsTree};
 
-    // The end of a key's way from the root.
+    /// The end of a key's way from the root.
     pub(crate) fn locate(&self, key: &[u8; 8]) -> Place
         requires { IsTree self.now.nodes }
         ensures { Located self.now.nodes key.now result }
@@ -77,7 +77,7 @@ impl<P: Stored, A: Allocator> Arena<P, A> {
     ghost use Rattle.congee.specs.owned.Wanted.{IsRefusedOf, gain, room_for};
     ghost use Rattle.congee.specs.declared.forms.base_node.Node.{Node as Form};
 
-    // Puts a child under a free byte of a node that has room.
+    /// Puts a child under a free byte of a node that has room.
     pub(crate) fn hang(&mut self, at: usize, byte: u8, child: Child<usize, P>)
         requires stands { ContainsKey self.old.nodes at }
         requires absent { (x : Form ℕ P) → get self.old.nodes at ≡ Some x → map.get (children_of x) byte ≡ None }
@@ -88,7 +88,7 @@ impl<P: Stored, A: Allocator> Arena<P, A> {
         self.nodes[at].insert(byte, child);
     }
 
-    // Puts another child in the place of one.
+    /// Puts another child in the place of one.
     pub(crate) fn swap(&mut self, at: usize, byte: u8, child: Child<usize, P>) -> Child<usize, P>
         requires stands { ContainsKey self.old.nodes at }
         requires present { (x : Form ℕ P) → get self.old.nodes at ≡ Some x → IsSome (map.get (children_of x) byte) }
@@ -99,7 +99,7 @@ impl<P: Stored, A: Allocator> Arena<P, A> {
         self.nodes[at].change(byte, child)
     }
 
-    // Takes a child out.
+    /// Takes a child out.
     pub(crate) fn unhang(&mut self, at: usize, byte: u8) -> Child<usize, P>
         requires stands { ContainsKey self.old.nodes at }
         requires present { (x : Form ℕ P) → get self.old.nodes at ≡ Some x → IsSome (map.get (children_of x) byte) }
@@ -110,7 +110,7 @@ impl<P: Stored, A: Allocator> Arena<P, A> {
         self.nodes[at].remove(byte)
     }
 
-    // Makes a least node that hangs nowhere yet, and charges it.
+    /// Makes a least node that hangs nowhere yet, and charges it.
     pub(crate) fn make(&mut self, alloc: Global, prefix: &[u8]) -> Result<usize, OOMError>
         requires { length prefix.now ≤ 7 }
         ensures made { IfOk result (λ name. Makes self.old.nodes self.new.nodes name prefix.now) }
@@ -121,21 +121,21 @@ impl<P: Stored, A: Allocator> Arena<P, A> {
         ensures limit { A.limit_of self.new.allocator ≡ A.limit_of self.old.allocator }
         ensures refused { IfErr result (λ e. IsRefusal (A.charged_of self.old.allocator) 64 (A.limit_of self.old.allocator) e) }
     {
-        self.allocator.allocate(64)?;
+        self.allocator.allocate(NodeType::N4.size())?;
         if self.nodes.reserve(1).is_err() {
-            self.allocator.deallocate(64);
+            self.allocator.deallocate(NodeType::N4.size());
             return Err(OOMError::Memory);
         }
         match Node::new(alloc, NodeType::N4, prefix) {
             Ok(node) => Ok(self.nodes.insert_reserved(node)),
             Err(_) => {
-                self.allocator.deallocate(64);
+                self.allocator.deallocate(NodeType::N4.size());
                 Err(OOMError::Memory)
             }
         }
     }
 
-    // Gives a made node back that hangs nowhere.
+    /// Gives a made node back that hangs nowhere.
     pub(crate) fn give_back(&mut self, name: usize)
         requires stands { ContainsKey self.old.nodes name }
         requires charged { 64 ≤ A.charged_of self.old.allocator }
@@ -144,10 +144,10 @@ impl<P: Stored, A: Allocator> Arena<P, A> {
         ensures limit { A.limit_of self.new.allocator ≡ A.limit_of self.old.allocator }
     {
         self.nodes.remove(name);
-        self.allocator.deallocate(64);
+        self.allocator.deallocate(NodeType::N4.size());
     }
 
-    // Gives a node room for one more child: a full one takes its next form, which is charged before the old one is taken off.
+    /// Gives a node room for one more child: a full one takes its next form, which is charged before the old one is taken off.
     pub(crate) fn make_room(&mut self, alloc: Global, at: usize) -> Result<(), OOMError>
         requires stands { ContainsKey self.old.nodes at }
         requires covered { bytes_of self.old.nodes ≤ A.charged_of self.old.allocator }

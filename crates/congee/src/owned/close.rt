@@ -17,7 +17,7 @@ use crate::owned::scan::beginning;
 use judge::Word64;
 use slab::Slab;
 
-// Takes the nodes' bytes off the budget.
+/// Takes the nodes' bytes off the budget.
 fn take_off<P: Stored, A: Allocator>(nodes: &Slab<Node<usize, P>>, allocator: &mut A)
     requires covered { bytes_of nodes.now ≤ A.charged_of allocator.old }
     ensures charge { A.charged_of allocator.new + bytes_of nodes.now ≡ A.charged_of allocator.old }
@@ -29,7 +29,7 @@ fn take_off<P: Stored, A: Allocator>(nodes: &Slab<Node<usize, P>>, allocator: &m
 }
 
 impl<P: Stored, A: Allocator> Arena<P, A> {
-    // Takes every pair out, and every node but the root, whose bytes alone stay charged.
+    /// Takes every pair out, and every node but the root, whose bytes alone stay charged.
     pub(crate) fn clear(&mut self)
         requires tree { IsTree self.old.nodes }
         requires covered { bytes_of self.old.nodes ≤ A.charged_of self.old.allocator }
@@ -47,7 +47,7 @@ impl<P: Stored, A: Allocator> Arena<P, A> {
         self.nodes.insert_reserved(root);
     }
 
-    // Drops the nodes, and gives the allocator back with their bytes taken off.
+    /// Drops the nodes, and gives the allocator back with their bytes taken off.
     pub(crate) fn release(self) -> A
         requires covered { bytes_of self.nodes ≤ A.charged_of self.allocator }
         ensures charge { A.charged_of result + bytes_of self.nodes ≡ A.charged_of self.allocator }
@@ -63,7 +63,7 @@ impl<P: Stored, A: Allocator> Arena<P, A> {
 }
 
 impl<A: Allocator> Arena<u64, A> {
-    // Hands each pair to the drainer, ascending.
+    /// Hands each pair to the drainer, ascending.
     pub(crate) fn drain<K: Word64, V: Word64, D: Drainer<K, V>>(&self, drainer: D) -> D
         requires tree { IsTree self.now.nodes }
         requires ready { D.can_drain drainer }

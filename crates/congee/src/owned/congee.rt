@@ -52,7 +52,7 @@ impl<K, V, A: Allocator, D> Model for Congee<K, V, A, D> {
     ghost invariant = { λ t. IsTree t.arena.nodes × (bytes_of t.arena.nodes ≤ A.charged_of t.arena.allocator) };
 }
 
-// The value of a number, if there is one.
+/// The value of a number, if there is one.
 fn word_of<V: Word64>(number: Option<u64>) -> Option<V>
     ensures { result ≡ option_map V.of_word number }
 {
@@ -62,7 +62,7 @@ fn word_of<V: Word64>(number: Option<u64>) -> Option<V>
     }
 }
 
-// Whether the number is there.
+/// Whether the number is there.
 fn holds(found: Option<u64>, number: u64) -> bool
     ensures { IsTrue result ↔ (found ≡ Some number) }
 {
@@ -72,7 +72,7 @@ fn holds(found: Option<u64>, number: u64) -> bool
     }
 }
 
-// The number of a value, if there is one.
+/// The number of a value, if there is one.
 fn number_of<V: Word64>(value: &Option<V>) -> Option<u64>
     ensures { result ≡ option_map V.word value.now }
 {
@@ -82,7 +82,7 @@ fn number_of<V: Word64>(value: &Option<V>) -> Option<u64>
     }
 }
 
-// The pair of two numbers, if there is one.
+/// The pair of two numbers, if there is one.
 fn pair_of<K: Word64, V: Word64>(found: Option<(u64, u64)>) -> Option<(K, V)>
     ensures { result ≡ option_map (pair_by K.of_word V.of_word) found }
 {
@@ -316,17 +316,18 @@ impl<K: Word64, V: Word64, A: Allocator, D: Drop> Congee<K, V, A, D> {
         }
     }
 
-    // Writes the pairs with start <= key < end into `out`, ascending, as many as fit, each key as its eight bytes.
+    /// Writes the pairs with start <= key < end into `out`, ascending, as many as fit, each key as its eight bytes.
     pub(crate) fn range_by_bytes(&self, start: u64, end: u64, out: &mut [([u8; 8], u64)]) -> usize
         ensures pairs { take result out.new ≡ by_bytes (take (length out.old) (in_range start end (map.entries self.now.pairs))) }
         ensures count { result ≡ length (take (length out.old) (in_range start end (map.entries self.now.pairs))) }
         ensures past { drop result out.new ≡ drop result out.old }
     {
-        self.arena.range_by_bytes(start, end, out)
+        self.arena.range(start, end, out)
     }
 
     /// Writes the pairs with start <= key < end into `out`, ascending, as many as fit, and gives their number.
     /// The places past them stay as they were.
+    #[tactic(auto, using(crate::proofs::lemmas::owned::EntryRanges::same_entries))]
     pub fn range(&self, start: &K, end: &K, out: &mut [(u64, u64)]) -> usize
         ensures pairs { take result out.new ≡ take (length out.old) (in_range (K.word start.now) (K.word end.now) (map.entries self.now.pairs)) }
         ensures count { result ≡ length (take (length out.old) (in_range (K.word start.now) (K.word end.now) (map.entries self.now.pairs))) }

@@ -62,21 +62,21 @@ impl<K, V: Drop> Model for CongeeArc<K, V> {
     ghost invariant = { λ t. IsTree t.arena.nodes × (bytes_of t.arena.nodes ≡ t.arena.allocator.charged) };
 }
 
-// The owner in a payload, if there is one.
+/// The owner in a payload, if there is one.
 fn owner_of<V>(payload: Option<ArcPayload<V>>) -> Option<Arc<V, Global>>
     ensures { option_map arc_value result ≡ payload }
 {
     payload.map(ArcPayload::into_arc)
 }
 
-// An owner as a payload, if there is one.
+/// An owner as a payload, if there is one.
 fn payload_of<V>(owner: Option<Arc<V, Global>>) -> Option<ArcPayload<V>>
     ensures { result ≡ option_map arc_value owner }
 {
     owner.map(ArcPayload::new)
 }
 
-// One more owner of the value.
+/// One more owner of the value.
 fn another_owner<V: Drop>(payload: &ArcPayload<V>) -> Result<Arc<V, Global>, Count>
     ensures { IfOk result (λ owner. arc_value owner ≡ payload.now) }
 {

@@ -13,10 +13,11 @@ ghost use Rattle.congee.specs.declared.forms.base_node.Node.{Node as Form};
 
 use crate::allocator::{Allocator, OOMError};
 use crate::forms::child::Child;
+use crate::forms::prefix::MAX_PREFIX_LEN;
 use crate::owned::arena::{Arena, Stored};
 use std::alloc::Global;
 
-// The first place where a key and a prefix that it lacks differ.
+/// The first place where a key and a prefix that it lacks differ.
 pub(crate) fn first_apart(key: &[u8; 8], prefix: &[u8]) -> usize
     requires short { length prefix.now ≤ 7 }
     requires differs { fits prefix.now key.now ≡ false }
@@ -30,7 +31,7 @@ pub(crate) fn first_apart(key: &[u8; 8], prefix: &[u8]) -> usize
 }
 
 impl<P: Stored, A: Allocator> Arena<P, A> {
-    // The key's byte at a node.
+    /// The key's byte at a node.
     fn byte_at(&self, at: usize, key: &[u8; 8]) -> u8
         requires { ContainsKey self.now.nodes at }
         ensures { result ≡ slice_index key.now (length (heap_of self.now.nodes at).prefix) }
@@ -38,7 +39,7 @@ impl<P: Stored, A: Allocator> Arena<P, A> {
         key[self.nodes[at].prefix().len()]
     }
 
-    // Puts another value in the place of the key's.
+    /// Puts another value in the place of the key's.
     pub(crate) fn replace(&mut self, at: usize, key: &[u8; 8], value: P) -> P
         requires tree { IsTree self.old.nodes }
         requires way { OnWay self.old.nodes key.now at }
@@ -55,7 +56,7 @@ impl<P: Stored, A: Allocator> Arena<P, A> {
         }
     }
 
-    // Puts a value into a leaf that has none for the key, or hands it back.
+    /// Puts a value into a leaf that has none for the key, or hands it back.
     pub(crate) fn add_value(
         &mut self,
         alloc: Global,
@@ -85,7 +86,7 @@ impl<P: Stored, A: Allocator> Arena<P, A> {
         Ok(())
     }
 
-    // Gives a node that was just made the key's value.
+    /// Gives a node that was just made the key's value.
     fn fill_leaf(&mut self, name: usize, key: &[u8; 8], value: P)
         requires fresh { FreshNode self.old.nodes name (take 7 key.now) }
         ensures fills { Fills self.old.nodes self.new.nodes name key.now value }
@@ -95,7 +96,7 @@ impl<P: Stored, A: Allocator> Arena<P, A> {
         self.hang(name, key[7], Child::Value(value));
     }
 
-    // Hangs a leaf for the key below an inner node that has nothing for it, or hands the value back.
+    /// Hangs a leaf for the key below an inner node that has nothing for it, or hands the value back.
     pub(crate) fn add_leaf(
         &mut self,
         alloc: Global,
@@ -117,7 +118,7 @@ impl<P: Stored, A: Allocator> Arena<P, A> {
         ensures balance { A.charged_of self.new.allocator + bytes_of self.old.nodes ≡ A.charged_of self.old.allocator + bytes_of self.new.nodes }
         ensures limit { A.limit_of self.new.allocator ≡ A.limit_of self.old.allocator }
     {
-        let leaf = match self.make(alloc, &key[..7]) {
+        let leaf = match self.make(alloc, &key[..MAX_PREFIX_LEN]) {
             Ok(leaf) => leaf,
             Err(e) => return Err((e, value)),
         };
@@ -131,7 +132,7 @@ impl<P: Stored, A: Allocator> Arena<P, A> {
         Ok(())
     }
 
-    // Puts a value in below a node that has nothing for the key, or hands it back.
+    /// Puts a value in below a node that has nothing for the key, or hands it back.
     pub(crate) fn add(
         &mut self,
         alloc: Global,
@@ -152,14 +153,14 @@ impl<P: Stored, A: Allocator> Arena<P, A> {
         ensures balance { A.charged_of self.new.allocator + bytes_of self.old.nodes ≡ A.charged_of self.old.allocator + bytes_of self.new.nodes }
         ensures limit { A.limit_of self.new.allocator ≡ A.limit_of self.old.allocator }
     {
-        if self.nodes[at].prefix().len() == 7 {
+        if self.nodes[at].prefix().len() == MAX_PREFIX_LEN {
             self.add_value(alloc, at, key, value)
         } else {
             self.add_leaf(alloc, at, key, value)
         }
     }
 
-    // Takes a value out of a leaf that has others.
+    /// Takes a value out of a leaf that has others.
     pub(crate) fn take_value(&mut self, at: usize, key: &[u8; 8]) -> P
         requires tree { IsTree self.old.nodes }
         requires way { OnWay self.old.nodes key.now at }
@@ -176,7 +177,7 @@ impl<P: Stored, A: Allocator> Arena<P, A> {
         }
     }
 
-    // Gives a node that was just made a leaf for the key, and beside it the node that parts from the key there.
+    /// Gives a node that was just made a leaf for the key, and beside it the node that parts from the key there.
     fn fill_fork(
         &mut self,
         name: usize,
@@ -197,8 +198,8 @@ impl<P: Stored, A: Allocator> Arena<P, A> {
         self.hang(name, other, Child::Node(below));
     }
 
-    // Hangs a node of the bytes that the key shares with the child `below` over that child and a leaf for the key,
-    // or hands the value back.
+    /// Hangs a node of the bytes that the key shares with the child `below` over that child and a leaf for the key,
+    /// or hands the value back.
     pub(crate) fn split(
         &mut self,
         alloc: Global,
@@ -227,7 +228,7 @@ impl<P: Stored, A: Allocator> Arena<P, A> {
             Ok(over) => over,
             Err(e) => return Err((e, value)),
         };
-        let leaf = match self.make(alloc, &key[..7]) {
+        let leaf = match self.make(alloc, &key[..MAX_PREFIX_LEN]) {
             Ok(leaf) => leaf,
             Err(e) => {
                 self.give_back(over);
@@ -241,7 +242,7 @@ impl<P: Stored, A: Allocator> Arena<P, A> {
         Ok(())
     }
 
-    // Takes a leaf's only value out, and the leaf with it.
+    /// Takes a leaf's only value out, and the leaf with it.
     pub(crate) fn drop_leaf(&mut self, above: usize, at: usize, key: &[u8; 8]) -> P
         requires tree { IsTree self.old.nodes }
         requires way { OnWay self.old.nodes key.now at }

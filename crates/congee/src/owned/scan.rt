@@ -8,7 +8,7 @@ ghost use Rattle.congee.specs.forms.Bytes.{IsFirst};
 ghost use Rattle.congee.specs.owned.Nearest.{IsLeast, IsGreatest};
 ghost use Rattle.congee.specs.owned.Cursor.{IsCursor, IsAt, steps_left};
 ghost use Rattle.congee.specs.owned.Table.{pairs_of};
-ghost use Rattle.congee.specs.owned.Ranges.{by_bytes, in_range, keys_by};
+ghost use Rattle.congee.specs.owned.Ranges.{entries_by, in_range, keys_by};
 
 use crate::allocator::Allocator;
 use crate::forms::child::Child;
@@ -37,7 +37,7 @@ pub(crate) fn beginning() -> Cursor
     cursor
 }
 
-// The key of a leaf's pair: the leaf's prefix, and the byte.
+/// The key of a leaf's pair: the leaf's prefix, and the byte.
 fn key_of(prefix: &[u8], byte: u8) -> u64
     requires { length prefix.now ≡ 7 }
     ensures begins { fits prefix.now (key_bytes result) ≡ true }
@@ -184,9 +184,9 @@ impl<A: Allocator> Arena<u64, A> {
     }
 
     /// Writes the pairs with start <= key < end, ascending, as many as fit, and gives their number.
-    pub(crate) fn range(&self, start: u64, end: u64, out: &mut [(u64, u64)]) -> usize
+    pub(crate) fn range<E: Listed>(&self, start: u64, end: u64, out: &mut [E]) -> usize
         requires { IsTree self.now.nodes }
-        ensures pairs { take result out.new ≡ take (length out.old) (in_range start end (map.entries (pairs_of self.now.nodes))) }
+        ensures pairs { take result out.new ≡ entries_by E.entry (take (length out.old) (in_range start end (map.entries (pairs_of self.now.nodes)))) }
         ensures count { result ≡ length (take (length out.old) (in_range start end (map.entries (pairs_of self.now.nodes)))) }
         ensures past { drop result out.new ≡ drop result out.old }
     {
@@ -195,7 +195,7 @@ impl<A: Allocator> Arena<u64, A> {
         while count < out.len() {
             match self.next_along(&mut cursor) {
                 Some((key, value)) if key < end => {
-                    out[count] = (key, *value);
+                    out[count] = E::of(key, *value);
                     count += 1;
                 }
                 _ => return count,
@@ -203,25 +203,32 @@ impl<A: Allocator> Arena<u64, A> {
         }
         count
     }
+}
 
-    /// The same, with each key as its eight bytes, the highest first.
-    pub(crate) fn range_by_bytes(&self, start: u64, end: u64, out: &mut [([u8; 8], u64)]) -> usize
-        requires { IsTree self.now.nodes }
-        ensures pairs { take result out.new ≡ by_bytes (take (length out.old) (in_range start end (map.entries (pairs_of self.now.nodes)))) }
-        ensures count { result ≡ length (take (length out.old) (in_range start end (map.entries (pairs_of self.now.nodes)))) }
-        ensures past { drop result out.new ≡ drop result out.old }
-    {
-        let mut cursor = self.seek(start);
-        let mut count = 0;
-        while count < out.len() {
-            match self.next_along(&mut cursor) {
-                Some((number, value)) if number < end => {
-                    out[count] = (number.to_be_bytes(), *value);
-                    count += 1;
-                }
-                _ => return count,
-            }
-        }
-        count
+/// A pair as the caller of a scan has it in its slice.
+pub(crate) trait Listed: Copy {
+    /// What stands for a key and its value.
+    ghost entry: { ℕ → ℕ → Self };
+
+    /// The key and the value, as one.
+    fn of(key: u64, value: u64) -> Self
+        ensures { result ≡ entry key value };
+}
+
+/// The key as a number.
+impl Listed for (u64, u64) {
+    ghost entry = { λ key value. (key, value) };
+
+    fn of(key: u64, value: u64) -> Self {
+        (key, value)
+    }
+}
+
+/// The key as its eight bytes, the highest first.
+impl Listed for ([u8; 8], u64) {
+    ghost entry = { λ key value. (key_bytes key, value) };
+
+    fn of(key: u64, value: u64) -> Self {
+        (key.to_be_bytes(), value)
     }
 }

@@ -47,7 +47,7 @@ const EMPTY_LEVEL: LevelStats = LevelStats {
 impl NodeInfo {
     ghost use Rattle.congee.specs.owned.Stats.{capped_info, one_more};
 
-    // Counts one more node with its children.
+    /// Counts one more node with its children.
     fn count(&mut self, children: u64)
         ensures { self.new ≡ capped_info (one_more children self.old) }
     {
@@ -60,7 +60,7 @@ impl LevelStats {
     ghost use Rattle.congee.specs.owned.Stats.{capped_info, info_of, one_more};
     ghost use Rattle.congee.specs.declared.forms.base_node.NodeType.{NodeType};
 
-    // Counts one more node with its children.
+    /// Counts one more node with its children.
     fn count(&mut self, form: NodeType, children: u64)
         ensures here { info_of form self.new ≡ capped_info (one_more children (info_of form self.old)) }
         ensures others { (f : NodeType) → (f ≡ form → ⊥) → info_of f self.new ≡ info_of f self.old }
@@ -104,7 +104,7 @@ impl NodeStats {
         Ok(())
     }
 
-    // The levels taken together; a sum past `u64::MAX` stays there.
+    /// The levels taken together; a sum past `u64::MAX` stays there.
     fn total(&self) -> LevelStats {
         let mut total = EMPTY_LEVEL;
         for level in &self.levels {
@@ -147,7 +147,7 @@ impl LevelStats {
             + self.n256.value_count as u128
     }
 
-    // In bytes.
+    /// In bytes.
     fn memory_size(&self) -> u128
         ensures { result ≡ size_of N4 * self.now.n4.node_count + size_of N16 * self.now.n16.node_count
             + size_of N48 * self.now.n48.node_count + size_of N256 * self.now.n256.node_count }
@@ -158,7 +158,7 @@ impl LevelStats {
             + 2104 * self.n256.node_count as u128
     }
 
-    // The children by the places of their nodes' form, in parts of 768.
+    /// The children by the places of their nodes' form, in parts of 768.
     fn filled(&self) -> u128
         ensures small { result < 2 ^ 73 }
         ensures sum { result ≡ 192 * self.now.n4.value_count + 48 * self.now.n16.value_count + 16 * self.now.n48.value_count + 3 * self.now.n256.value_count }
@@ -170,7 +170,7 @@ impl LevelStats {
     }
 }
 
-// How much of the places is taken, in hundredths, cut off; 0 where there are none.
+/// How much of the places is taken, in hundredths, cut off; 0 where there are none.
 fn load(taken: u128, places: u128) -> u128
     requires { taken < 2 ^ 100 }
     ensures none { places ≡ 0 → result ≡ 0 }

@@ -6,7 +6,7 @@ ghost use Rattle.congee.specs.protocol.Names.{KeepsOrigin};
 ghost use Rattle.congee.specs.protocol.Play.{begun, IsNew, Begins};
 ghost use Rattle.congee.specs.protocol.Opening.{RootAlone};
 ghost use Rattle.congee.specs.Keys.{key_bytes};
-ghost use Rattle.congee.specs.protocol.Steps.{quiet, answered, form_above, refused, decided, after_change, after_miss, IsIf, IsChecked, IsAtOld, Acts, IsReleasing, IsGiven, IsGivenNew, BackOne, BackTwo, BackLeaf, MadeLeaf, MadeGreater, MadeTop, MadeBeside, UpgradedOne, UpgradedAbove, UpgradedBoth, value_hung, ChangedOne, ChangedTwo, IsCheckedAbove, MayStep, MayBackOne, MayBackTwo, MayBackLeaf, MayChangeOne, MayChangeTwo, Changeable, Blank, PutsGreater, PutsFork, PhaseStepped, Stepped};
+ghost use Rattle.congee.specs.protocol.Steps.{quiet, answered, form_above, refused, decided, after_change, after_miss, IsIf, IsChecked, IsAtOld, Acts, IsReleasing, IsGiven, IsGivenNew, BackOne, BackTwo, BackLeaf, MadeLeaf, MadeGreater, MadeTop, MadeBeside, UpgradedOne, UpgradedAbove, UpgradedBelow, value_hung, ChangedOne, ChangedTwo, IsCheckedAbove, MayStep, MayBackOne, MayBackTwo, MayBackLeaf, MayChangeOne, MayChangeTwo, Changeable, Blank, PutsGreater, PutsFork, PhaseStepped, Stepped};
 ghost use Rattle.congee.specs.protocol.Events.{hung, upgrade_gives, HoldsAlike};
 ghost use Rattle.congee.specs.declared.protocol.store.Upgrade.{Upgrade};
 ghost use Rattle.congee.specs.declared.protocol.store.Refusal.{Refusal};
@@ -17,6 +17,7 @@ ghost use Rattle.congee.specs.protocol.Bounds.{Within};
 
 use crate::forms::base_node::NodeType;
 use crate::forms::child::Child;
+use crate::forms::prefix::MAX_PREFIX_LEN;
 use crate::protocol::op::Op;
 use crate::protocol::phase::{Double, Kind, One, Parent, Phase, Plan, Single, Site, Two};
 use crate::protocol::store::{NodeName, Refusal, Seat, Seen, Store, Upgrade};
@@ -111,7 +112,7 @@ impl<C: NodeName, P: Payload> Machine<C, P> {
         // which the checker goes through at each branch.
         drop(noise);
         drop(std::mem::replace(&mut self.phase, turn.phase));
-        turn.step
+        turn.report
     }
 
     /// The step of a phase: of one that looks at nodes or takes an answer, or a later one.
@@ -156,6 +157,7 @@ impl<C: NodeName, P: Payload> Machine<C, P> {
                 let told = sweep.step(store, self.root, &mut noise.seen);
                 Turn::swept(sweep, told)
             }
+            // The phases that make, lock or change nodes, and the later ones: each has its arm there.
             phase => self.act(store, phase, noise.fail),
         }
     }
@@ -194,8 +196,9 @@ impl<C: NodeName, P: Payload> Machine<C, P> {
             Phase::UpgradeOne { one, reply } => self.upgrade_one(store, one, reply, fail),
             Phase::ChangeOne { one, reply } => self.change_one(store, one, reply),
             Phase::UpgradeAbove { two, reply } => { self.upgrade_above(store, two, reply, fail) }
-            Phase::UpgradeBoth { two, reply } => upgrade_both(store, two, reply, fail),
+            Phase::UpgradeBelow { two, reply } => upgrade_below(store, two, reply, fail),
             Phase::ChangeTwo { two, reply } => self.change_two(store, two, reply),
+            // The phases after the change: each has its arm there.
             phase => self.leave(store, phase),
         }
     }
@@ -230,6 +233,7 @@ impl<C: NodeName, P: Payload> Machine<C, P> {
                 store.unlock(node);
                 Turn::unwound(self.root, refusal)
             }
+            // A call that has ended stays so; what is no phase after a change doesn't come here.
             phase => Turn::quiet(phase),
         }
     }
@@ -326,17 +330,19 @@ impl<C: NodeName, P: Payload> Machine<C, P> {
         }
     }
 
+    /// Makes the leaf for the key, and plans to hang it; a full node gives way to a greater one first.
     fn make_leaf<S: Store<C, P>>(&self, store: &mut S, site: Site<C>) -> Turn<C, P>
         ensures limit { S.version_max store.new ≡ S.version_max store.old }
         ensures rest { S.rest store.new ≡ S.rest store.old }
         ensures made { ((r : Result C Refusal) × MadeLeaf C.number self.now.kind site (S.heap store.old) (key_bytes self.now.key) r (S.heap store.new) result × IfErr r (S.refuses store.old base.N4)) }
     {
-        match store.make(NodeType::N4, &self.key.to_be_bytes(), 7) {
+        match store.make(NodeType::N4, &self.key.to_be_bytes(), MAX_PREFIX_LEN) {
             Err(refusal) => Turn::refused(refusal),
             Ok(leaf) => Turn::unless_full(&self.kind, site, Some(leaf), Single::Link { leaf }),
         }
     }
 
+    /// Makes the greater node that takes a full one's place; where it can't be made, the leaf goes back.
     fn make_greater<S: Store<C, P>>(
         &self,
         store: &mut S,
@@ -371,6 +377,7 @@ impl<C: NodeName, P: Payload> Machine<C, P> {
         }
     }
 
+    /// Makes the node with the common prefix that comes above the one at hand.
     fn make_top<S: Store<C, P>>(
         &self,
         store: &mut S,
@@ -396,6 +403,7 @@ impl<C: NodeName, P: Payload> Machine<C, P> {
         }
     }
 
+    /// Makes the key's leaf beside the node at hand; where it can't be made, the node above goes back.
     fn make_beside<S: Store<C, P>>(
         &self,
         store: &mut S,
@@ -410,7 +418,7 @@ impl<C: NodeName, P: Payload> Machine<C, P> {
         ensures rest { S.rest store.new ≡ S.rest store.old }
         ensures made { ((r : Result C Refusal) × MadeBeside C.number self.now.kind above at common byte top (S.heap store.old) (key_bytes self.now.key) r (S.heap store.new) result × IfErr r (S.refuses store.old base.N4)) }
     {
-        match store.make(NodeType::N4, &self.key.to_be_bytes(), 7) {
+        match store.make(NodeType::N4, &self.key.to_be_bytes(), MAX_PREFIX_LEN) {
             Err(refusal) => {
                 store.give_back(top);
                 Turn::refused(refusal)
@@ -432,6 +440,7 @@ impl<C: NodeName, P: Payload> Machine<C, P> {
         }
     }
 
+    /// Takes the closure's answer for the value that stands; without one it is asked again.
     fn take_answer(&mut self, site: Site<C>, old: P, answer: Option<Option<P>>) -> Turn<C, P>
         ensures root { self.new.root ≡ self.old.root }
         ensures key { self.new.key ≡ self.old.key }
@@ -466,6 +475,7 @@ impl<C: NodeName, P: Payload> Machine<C, P> {
         }
     }
 
+    /// Takes the closure's answer for an absent key; without a value it is asked again.
     fn take_new(&mut self, plan: Plan<C>, answer: Option<Option<P>>) -> Turn<C, P>
         ensures root { self.new.root ≡ self.old.root }
         ensures key { self.new.key ≡ self.old.key }
@@ -481,6 +491,7 @@ impl<C: NodeName, P: Payload> Machine<C, P> {
         }
     }
 
+    /// Checks the node above before one node is changed.
     fn check_above<S: Store<C, P>>(
         &self,
         store: &mut S,
@@ -497,12 +508,12 @@ impl<C: NodeName, P: Payload> Machine<C, P> {
         if store.check(above) {
             Turn::quiet(Phase::UpgradeOne { one, reply })
         } else {
-            drop(reply);
-            back_one(store, one.change);
+            give_up_one(store, one.change, reply);
             Turn::again(self.root)
         }
     }
 
+    /// Locks the one node that the call changes.
     fn upgrade_one<S: Store<C, P>>(
         &self,
         store: &mut S,
@@ -519,18 +530,17 @@ impl<C: NodeName, P: Payload> Machine<C, P> {
         match store.upgrade(one.at, fail) {
             Upgrade::Locked => Turn::quiet(Phase::ChangeOne { one, reply }),
             Upgrade::Failed => {
-                drop(reply);
-                back_one(store, one.change);
+                give_up_one(store, one.change, reply);
                 Turn::again(self.root)
             }
             Upgrade::Exhausted => {
-                drop(reply);
-                back_one(store, one.change);
+                give_up_one(store, one.change, reply);
                 Turn::refused(Refusal::Exhausted)
             }
         }
     }
 
+    /// Locks the node above, the first of two.
     fn upgrade_above<S: Store<C, P>>(
         &self,
         store: &mut S,
@@ -545,20 +555,19 @@ impl<C: NodeName, P: Payload> Machine<C, P> {
         ensures upgraded { ((u : Upgrade) × (u ≡ upgrade_gives (S.version_max store.old) (S.heap store.old (C.number two.above.seat.node)) two.above.seat.version fail) × UpgradedAbove C.number self.now.root two reply (S.heap store.old) u (S.heap store.new) result) }
     {
         match store.upgrade(two.seat_above(), fail) {
-            Upgrade::Locked => Turn::quiet(Phase::UpgradeBoth { two, reply }),
+            Upgrade::Locked => Turn::quiet(Phase::UpgradeBelow { two, reply }),
             Upgrade::Failed => {
-                drop(reply);
-                back_two(store, two.change);
+                give_up_two(store, two.change, reply);
                 Turn::again(self.root)
             }
             Upgrade::Exhausted => {
-                drop(reply);
-                back_two(store, two.change);
+                give_up_two(store, two.change, reply);
                 Turn::refused(Refusal::Exhausted)
             }
         }
     }
 
+    /// Changes the one locked node, a new leaf being filled before: the call takes effect.
     fn change_one<S: Store<C, P>>(
         &mut self,
         store: &mut S,
@@ -588,6 +597,7 @@ impl<C: NodeName, P: Payload> Machine<C, P> {
         Turn::decided(Phase::Unlock { node, reply })
     }
 
+    /// Changes the node above, with both locked: the call takes effect.
     fn change_two<S: Store<C, P>>(
         &mut self,
         store: &mut S,
@@ -707,26 +717,36 @@ fn value_child<C: NodeName, P: Payload>(new: Option<P>) -> Child<C, P>
     }
 }
 
-/// Gives back the node that was made for the change of one node.
-fn back_one<C: NodeName, P: Payload, S: Store<C, P>>(store: &mut S, change: Single<C>)
+/// Gives up the change of one node: the node that was made for it goes back, and the reply is dropped.
+fn give_up_one<C: NodeName, P: Payload, S: Store<C, P>>(
+    store: &mut S,
+    change: Single<C>,
+    reply: Reply<P>,
+)
     requires { MayBackOne C.number (S.heap store.old) change }
     ensures limit { S.version_max store.new ≡ S.version_max store.old }
     ensures rest { S.rest store.new ≡ S.rest store.old }
     ensures back { BackOne C.number (S.heap store.old) change (S.heap store.new) }
 {
+    drop(reply);
     match change {
         Single::Set => {}
         Single::Link { leaf } => store.give_back(leaf),
     }
 }
 
-/// Gives back the nodes that were made for the change of the node above.
-fn back_two<C: NodeName, P: Payload, S: Store<C, P>>(store: &mut S, change: Double<C>)
+/// Gives up the change of the node above: the nodes that were made for it go back, and the reply is dropped.
+fn give_up_two<C: NodeName, P: Payload, S: Store<C, P>>(
+    store: &mut S,
+    change: Double<C>,
+    reply: Reply<P>,
+)
     requires { MayBackTwo C.number (S.heap store.old) change }
     ensures limit { S.version_max store.new ≡ S.version_max store.old }
     ensures rest { S.rest store.new ≡ S.rest store.old }
     ensures back { BackTwo C.number (S.heap store.old) change (S.heap store.new) }
 {
+    drop(reply);
     match change {
         Double::Unlink => {}
         Double::Grow { node } => store.give_back(node),
@@ -742,7 +762,7 @@ fn back_two<C: NodeName, P: Payload, S: Store<C, P>>(store: &mut S, change: Doub
 }
 
 /// Locks the node at hand, where the node above is locked.
-fn upgrade_both<C: NodeName, P: Payload, S: Store<C, P>>(
+fn upgrade_below<C: NodeName, P: Payload, S: Store<C, P>>(
     store: &mut S,
     two: Two<C>,
     reply: Reply<P>,
@@ -752,22 +772,20 @@ fn upgrade_both<C: NodeName, P: Payload, S: Store<C, P>>(
     requires made { MayBackTwo C.number (S.heap store.old) two.change }
     ensures limit { S.version_max store.new ≡ S.version_max store.old }
     ensures rest { S.rest store.new ≡ S.rest store.old }
-    ensures upgraded { ((u : Upgrade) × (u ≡ upgrade_gives (S.version_max store.old) (S.heap store.old (C.number two.at.node)) two.at.version fail) × UpgradedBoth C.number two reply (S.heap store.old) u (S.heap store.new) result) }
+    ensures upgraded { ((u : Upgrade) × (u ≡ upgrade_gives (S.version_max store.old) (S.heap store.old (C.number two.at.node)) two.at.version fail) × UpgradedBelow C.number two reply (S.heap store.old) u (S.heap store.new) result) }
 {
     let node = two.parent();
     match store.upgrade(two.at, fail) {
         Upgrade::Locked => Turn::quiet(Phase::ChangeTwo { two, reply }),
         Upgrade::Failed => {
-            drop(reply);
-            back_two(store, two.change);
+            give_up_two(store, two.change, reply);
             Turn::quiet(Phase::Unwind {
                 node,
                 refusal: None,
             })
         }
         Upgrade::Exhausted => {
-            drop(reply);
-            back_two(store, two.change);
+            give_up_two(store, two.change, reply);
             Turn::quiet(Phase::Unwind {
                 node,
                 refusal: Some(Refusal::Exhausted),

@@ -220,7 +220,7 @@ pub enum Phase<C: NodeName, P> {
         reply: Reply<P>,
     },
     /// Locks the node at hand, the node above being locked.
-    UpgradeBoth {
+    UpgradeBelow {
         two: Two<C>,
         reply: Reply<P>,
     },

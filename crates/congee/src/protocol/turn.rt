@@ -4,6 +4,7 @@ ghost use Rattle.congee.specs.protocol.Steps.{quiet, again, answered, finished, 
 
 use crate::forms::base_node::NodeType;
 use crate::forms::child::Child;
+use crate::forms::prefix::MAX_PREFIX_LEN;
 use crate::protocol::machine::{Move, Outcome};
 use crate::protocol::phase::{Double, Kind, Parent, Phase, Plan, Single, Site, Two};
 use crate::protocol::store::{NodeName, Reading, Refusal, Seat};
@@ -15,23 +16,25 @@ use judge::{Payload, Reply};
 pub struct Turn<C: NodeName, P> {
     /// The next step.
     pub phase: Phase<C, P>,
-    /// The report.
-    pub step: Move<P>,
+    /// What the step did, as it is told to the caller.
+    pub report: Move<P>,
 }
 
 impl<C: NodeName, P> Turn<C, P> {
+    /// The call goes on.
     pub(crate) fn quiet(phase: Phase<C, P>) -> Self
         ensures { result ≡ quiet phase }
     {
         Turn {
             phase,
-            step: Move {
+            report: Move {
                 decided: false,
                 outcome: Outcome::Running,
             },
         }
     }
 
+    /// The call begins anew at the root.
     pub(crate) fn again(root: C) -> Self
         ensures { result ≡ again root }
     {
@@ -41,60 +44,65 @@ impl<C: NodeName, P> Turn<C, P> {
         })
     }
 
+    /// The call takes effect in this step, and ends with its reply.
     pub(crate) fn answered(reply: Reply<P>) -> Self
         ensures { result ≡ answered reply }
     {
         Turn {
             phase: Phase::Ended,
-            step: Move {
+            report: Move {
                 decided: true,
                 outcome: Outcome::Done(reply),
             },
         }
     }
 
+    /// The call ends with the reply of a step before.
     pub(crate) fn finished(reply: Reply<P>) -> Self
         ensures { result ≡ finished reply }
     {
         Turn {
             phase: Phase::Ended,
-            step: Move {
+            report: Move {
                 decided: false,
                 outcome: Outcome::Done(reply),
             },
         }
     }
 
+    /// The call ends without a reply.
     pub(crate) fn refused(refusal: Refusal) -> Self
         ensures { result ≡ refused refusal }
     {
         Turn {
             phase: Phase::Ended,
-            step: Move {
+            report: Move {
                 decided: false,
                 outcome: Outcome::Refused(refusal),
             },
         }
     }
 
+    /// The call takes effect in this step, and goes on.
     pub(crate) fn decided(phase: Phase<C, P>) -> Self
         ensures { result ≡ decided phase }
     {
         Turn {
             phase,
-            step: Move {
+            report: Move {
                 decided: true,
                 outcome: Outcome::Running,
             },
         }
     }
 
+    /// The closure is asked, for this value or for an absent key.
     pub(crate) fn asking(phase: Phase<C, P>, value: Option<P>) -> Self
         ensures { result ≡ asking phase value }
     {
         Turn {
             phase,
-            step: Move {
+            report: Move {
                 decided: false,
                 outcome: Outcome::Asks(value),
             },
@@ -109,7 +117,7 @@ impl<C: NodeName, P> Turn<C, P> {
     {
         Turn {
             phase: Phase::Sweep { sweep },
-            step: Move {
+            report: Move {
                 decided: false,
                 outcome: told.outcome(),
             },
@@ -245,7 +253,7 @@ impl<C: NodeName, P: Payload> Turn<C, P> {
                 at: here,
                 node,
             }),
-            _ => Turn::quiet(Phase::Version {
+            (true, None) | (false, _) => Turn::quiet(Phase::Version {
                 above: Some(here),
                 node,
             }),
@@ -288,7 +296,7 @@ impl<C: NodeName, P: Payload> Turn<C, P> {
     {
         match (site.full, site.above) {
             (true, Some(above)) => Turn::quiet(Phase::MakeGreater { site, above, leaf }),
-            _ => Turn::ready(kind, site.plan(change)),
+            (true, None) | (false, _) => Turn::ready(kind, site.plan(change)),
         }
     }
 
@@ -298,7 +306,7 @@ impl<C: NodeName, P: Payload> Turn<C, P> {
     {
         if !kind.adds() {
             Turn::answered(kind.absent_reply())
-        } else if site.depth == 7 {
+        } else if site.depth == MAX_PREFIX_LEN {
             Turn::unless_full(kind, site, None, Single::Set)
         } else {
             Turn::quiet(Phase::MakeLeaf { site })
@@ -342,7 +350,7 @@ impl<C: NodeName, P: Payload> Turn<C, P> {
                 },
                 reply,
             }),
-            _ => Turn::quiet(Phase::UpgradeOne {
+            (true, None) | (false, _) => Turn::quiet(Phase::UpgradeOne {
                 one: site.one(Single::Set),
                 reply,
             }),
@@ -361,7 +369,11 @@ impl<C: NodeName, P: Payload> Turn<C, P> {
                 };
                 Turn::replaced(site, same, Reply::Insert(Some(old)))
             }
-            _ => Turn::asked(site, old),
+            Kind::ComputeInsert
+            | Kind::Get
+            | Kind::Remove
+            | Kind::ComputePresent
+            | Kind::Exchange { .. } => Turn::asked(site, old),
         }
     }
 
@@ -466,7 +478,9 @@ impl<C: NodeName, P: Payload> Turn<C, P> {
         let node = at.node;
         match change {
             Double::Split { .. } => Turn::decided(Phase::UnlockBelow { node, above, reply }),
-            _ => Turn::decided(Phase::Obsolete { node, above, reply }),
+            Double::Unlink | Double::Grow { .. } | Double::GrowLink { .. } => {
+                Turn::decided(Phase::Obsolete { node, above, reply })
+            }
         }
     }
 

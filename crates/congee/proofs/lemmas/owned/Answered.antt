@@ -2,11 +2,10 @@
 use Rattle.std.proofs.Common.{◌≡◌, ◌≢◌, ℕ, ◌<◌, ◌^◌, Bool, true, false, List, length, refl, sym, ap, subst, ◌∙◌, arith}
 use Rattle.std.specs.Prelude.{Option, None, Some, Ok, Err, nat_eq}
 use Rattle.congee.proofs.lemmas.Fits.{same_test, other_test}
-use Rattle.std.specs.FinMap as map
 use Rattle.judge.specs.Answer.{Pairs, set_at}
 use Rattle.judge.specs.declared.journal.Call.TheVariants as call
 use Rattle.judge.specs.declared.journal.Reply.TheVariants as reply
-use Rattle.judge.proofs.Maps.{get-insert_here, get-insert_apart, get-remove_here, get-remove_apart}
+use Rattle.judge.proofs.Maps.{get-set_at_here, get-set_at_apart, set_at-standing}
 use Rattle.congee.specs.Heap.{Holds, Nothing, Below, fits, child_for, value_at}
 use Rattle.congee.specs.Keys.{key_bytes}
 use Rattle.congee.specs.owned.Arena.{Nodes, node_of, heap_of, IsTree, OnWay, Hangs}
@@ -64,56 +63,57 @@ module _ {P : Type 0} where
       rw h at st
 
   module _ (same : P → P → Bool) (s s' : Nodes P) (k : ℕ) (small : k < 2 ^ 64) where
+    -- the map with what the change leaves at the key
+    changed : (before after : Option P) → MapChange s s' (key_bytes k) before after → (m : Pairs P) → HoldsPairs s m → HoldsPairs s' (set_at m k after)
+    changed before after c m st = standing_changed (heap_of s) (heap_of s') m (set_at m k after) k small c.others (get-set_at_here m k after ∙ sym c.now) (λ q ne. get-set_at_apart m k after q ne) st
+
+    -- the map with what stands at the key is the map
+    unchanged : (o : Option P) → value_at (heap_of s) (key_bytes k) ≡ o → (m : Pairs P) → HoldsPairs s m → HoldsPairs s (set_at m k o)
+    unchanged o e m st = rw (set_at-standing m k o (st.at k small ∙ e)) st
+
     pub answered_get : (o : Option P) → value_at (heap_of s) (key_bytes k) ≡ o → Answered same s s (call.Get k) (reply.Get o)
-    answered_get o e = record { replies = λ m st. ap reply.Get (st.at k small ∙ e); leaves = λ m st. st }
-
-    inserted : (before : Option P) (v : P) → MapChange s s' (key_bytes k) before (Some v) → (m : Pairs P) → HoldsPairs s m → HoldsPairs s' (map.insert m k v)
-    inserted before v c m st = standing_changed (heap_of s) (heap_of s') m (map.insert m k v) k small c.others (get-insert_here m k v ∙ sym c.now) (λ q ne. get-insert_apart m k v q ne) st
-
-    removed : (before : Option P) → MapChange s s' (key_bytes k) before None → (m : Pairs P) → HoldsPairs s m → HoldsPairs s' (map.remove m k)
-    removed before c m st = standing_changed (heap_of s) (heap_of s') m (map.remove m k) k small c.others (get-remove_here m k ∙ sym c.now) (λ q ne. get-remove_apart m k q ne) st
+    answered_get o e = record {
+      replies = λ m st. ap reply.Get (st.at k small ∙ e);
+      leaves = λ m st. rw (st.at k small ∙ e) (unchanged o e m st);
+    }
 
     pub answered_insert : (before : Option P) (v : P) → MapChange s s' (key_bytes k) before (Some v) → Answered same s s' (call.Insert k v) (reply.Insert before)
-    answered_insert before v c = record { replies = λ m st. ap reply.Insert (st.at k small ∙ c.was); leaves = inserted before v c }
+    answered_insert before v c = record { replies = λ m st. ap reply.Insert (st.at k small ∙ c.was); leaves = changed before (Some v) c }
 
     pub answered_remove : (before : Option P) → MapChange s s' (key_bytes k) before None → Answered same s s' (call.Remove k) (reply.Remove before)
-    answered_remove before c = record { replies = λ m st. ap reply.Remove (st.at k small ∙ c.was); leaves = removed before c }
-
-    settled_stands : (before : P) (new : Option P) → MapChange s s' (key_bytes k) (Some before) new → (m : Pairs P) → HoldsPairs s m → HoldsPairs s' (set_at m k new)
-    settled_stands before None c m st = removed (Some before) c m st
-    settled_stands before (Some v) c m st = inserted (Some before) v c m st
+    answered_remove before c = record { replies = λ m st. ap reply.Remove (st.at k small ∙ c.was); leaves = changed before None c }
 
     pub answered_present : (old : P) (new : Option P) → MapChange s s' (key_bytes k) (Some old) new → Answered same s s' (call.ComputePresent k new) (reply.ComputePresent (Some (old, new)))
     answered_present old new c = record {
       replies = λ m st. rw (st.at k small ∙ c.was) refl;
-      leaves = λ m st. rw (st.at k small ∙ c.was) (settled_stands old new c m st);
+      leaves = λ m st. rw (st.at k small ∙ c.was) (changed (Some old) new c m st);
     }
 
     pub answered_absent : (new : Option P) → value_at (heap_of s) (key_bytes k) ≡ None → Answered same s s (call.ComputePresent k new) (reply.ComputePresent None)
     answered_absent new e = record {
       replies = λ m st. rw (st.at k small ∙ e) refl;
-      leaves = λ m st. rw (st.at k small ∙ e) st;
+      leaves = λ m st. rw (st.at k small ∙ e) (unchanged None e m st);
     }
 
     pub answered_compute : (before : Option P) (v : P) → MapChange s s' (key_bytes k) before (Some v) → Answered same s s' (call.ComputeInsert k v) (reply.ComputeInsert before)
-    answered_compute before v c = record { replies = λ m st. ap reply.ComputeInsert (st.at k small ∙ c.was); leaves = inserted before v c }
+    answered_compute before v c = record { replies = λ m st. ap reply.ComputeInsert (st.at k small ∙ c.was); leaves = changed before (Some v) c }
 
     pub exchanged : (old found : P) (new : Option P) → same found old ≡ true → MapChange s s' (key_bytes k) (Some found) new → Answered same s s' (call.Exchange k old new) (reply.Exchange (Ok new))
     exchanged old found new e c = record {
       replies = λ m st. rw (st.at k small ∙ c.was, e) refl;
-      leaves = λ m st. rw (st.at k small ∙ c.was, e) (settled_stands found new c m st);
+      leaves = λ m st. rw (st.at k small ∙ c.was, e) (changed (Some found) new c m st);
     }
 
     pub exchange_other : (old found : P) (new : Option P) → same found old ≡ false → value_at (heap_of s) (key_bytes k) ≡ Some found → Answered same s s (call.Exchange k old new) (reply.Exchange (Err (Some found)))
     exchange_other old found new e v = record {
       replies = λ m st. rw (st.at k small ∙ v, e) refl;
-      leaves = λ m st. rw (st.at k small ∙ v, e) st;
+      leaves = λ m st. rw (st.at k small ∙ v, e) (unchanged (Some found) v m st);
     }
 
     pub exchange_absent : (old : P) (new : Option P) → value_at (heap_of s) (key_bytes k) ≡ None → Answered same s s (call.Exchange k old new) (reply.Exchange (Err None))
     exchange_absent old new v = record {
       replies = λ m st. rw (st.at k small ∙ v) refl;
-      leaves = λ m st. rw (st.at k small ∙ v) st;
+      leaves = λ m st. rw (st.at k small ∙ v) (unchanged None v m st);
     }
 
   -- a change by an answer for a present key, at a key that is present

@@ -23,7 +23,7 @@ use Rattle.congee.proofs.lemmas.owned.Answered.{at_free, at_apart, at_held}
 use Rattle.congee.proofs.lemmas.Fits.{fits_byte, fits_trans, same_key}
 use Rattle.congee.proofs.lemmas.Graft.{on_test}
 use Rattle.congee.proofs.lemmas.Keys.{key_length}
-use Rattle.congee.proofs.lemmas.Orders.{less}
+use Rattle.congee.proofs.lemmas.Orders.{less, byte_small}
 use Rattle.congee.proofs.lemmas.owned.Tables.{pairs_stand}
 use Rattle.congee.proofs.lemmas.owned.Ways.{linked_of, stands_of, short_prefix, below_stands, root_reached}
 
@@ -537,3 +537,19 @@ module _ {P : Type 0} (s : Nodes P) (t : IsTree s) where
             (λ j lt. fits_byte (heap_of s below).prefix (key_bytes q) j g (omega (arith, lt, parts.within)) ∙ sym (parts.same j lt)) (omega (arith, lt, there)) in
             absurd (omega (arith, n, l)))
       ])
+
+-- the byte of a key at a node
+pub record IsByte {P : Type 0} (s : Nodes P) (at key b : ℕ) : Type 0 where
+  pub byte : b ≡ get_or (key_bytes key) (length (heap_of s at).prefix) 0
+  pub low : b < 256
+
+-- the byte at a node, and what hangs there, as they are read with the key's bytes and the node's prefix
+module _ {P : Type 0} (s : Nodes P) (at key : ℕ) (ks : List ℕ) (bytes : ks ≡ key_bytes key) where
+  pub byte_read : IsTree s → ContainsKey s at → (p : List ℕ) → p ≡ (heap_of s at).prefix → IsByte s at key (get_or ks (length p) 0)
+  byte_read t stands p prefix =
+      let byte : get_or ks (length p) 0 ≡ get_or (key_bytes key) (length (heap_of s at).prefix) 0 =
+      ap (λ y. get_or y (length p) 0) bytes ∙ ap (λ q. get_or (key_bytes key) (length q) 0) prefix in
+      record { byte = byte; low = omega (arith, byte, byte_small key (length (heap_of s at).prefix) (omega (arith, short_prefix s t at stands))) }
+
+  pub child_read : (x : Hung P) → child_for (heap_of s at) ks ≡ x → child_for (heap_of s at) (key_bytes key) ≡ x
+  child_read x h = subst (λ y. child_for (heap_of s at) y ≡ x) bytes h

@@ -1,5 +1,5 @@
 -- What an insertion makes and a removal takes, by the last node on the key's way.
-use Rattle.std.proofs.Common.{rules, ◌≡◌, ◌≢◌, ℕ, zero, suc, ◌+◌, ◌<◌, ◌≤◌, ◌^◌, ◌⊎◌, inl, inr, Bool, true, false, cond, List, [], ◌∷◌, length, get_or, refl, sym, ap, subst, ◌∙◌, arith}
+use Rattle.std.proofs.Common.{◌≡◌, ◌≢◌, ℕ, zero, suc, ◌+◌, ◌<◌, ◌≤◌, ◌^◌, inl, inr, Bool, true, false, cond, List, [], ◌∷◌, length, get_or, refl, sym, ap, subst, ◌∙◌, arith}
 use Rattle.std.specs.Prelude.{Option, None, Some, ◌==◌}
 use Rattle.std.proofs.lemmas.Bool.Decides.{eqb_tells}
 use Rattle.std.specs.Option.{option_map}
@@ -18,7 +18,7 @@ use Rattle.congee.specs.declared.owned.place.Spot.TheVariants.{Held, Free, Apart
 use Rattle.congee.specs.declared.allocator.OOMError.{OOMError}
 use Rattle.congee.specs.owned.Sizes.{bytes_at}
 use Rattle.congee.specs.owned.Table.{table}
-use Rattle.congee.specs.owned.Wanted.{size_by, grown_size, net, gain, at_end, descend, room_for, free_wants, last_wants, wants_at, last_lone, lone_at, wants_of, lone_of, freed_of, freed_by, IsRefusedOf}
+use Rattle.congee.specs.owned.Wanted.{size_by, net, at_end, descend, room_for, free_wants, last_wants, wants_at, last_lone, lone_at, wants_of, lone_of, freed_of, freed_by, IsRefusedOf}
 use Rattle.congee.specs.declared.forms.base_node.Node.{Node as Form}
 use Rattle.congee.specs.declared.forms.base_node.Node.TheVariants.{N4, N16, N48, N256}
 use Rattle.congee.proofs.lemmas.Fits.{fits_trans, fits_byte}

@@ -19,12 +19,12 @@ use Rattle.congee.specs.declared.protocol.phase.Double.{Double}
 use Rattle.congee.specs.declared.protocol.phase.Double.TheVariants.{Unlink, Grow, GrowLink, Split}
 use Rattle.congee.specs.declared.protocol.phase.Two.{Two}
 use Rattle.congee.specs.declared.protocol.phase.Phase.{Phase}
-use Rattle.congee.specs.declared.protocol.phase.Phase.TheVariants.{MakeLeaf, MakeGreater, MakeTop, MakeBeside, CheckAbove, UpgradeOne, ChangeOne, UpgradeAbove, UpgradeBoth, ChangeTwo, Obsolete, Retire, UnlockBelow, Unlock, Unwind}
+use Rattle.congee.specs.declared.protocol.phase.Phase.TheVariants.{MakeLeaf, MakeGreater, MakeTop, MakeBeside, CheckAbove, UpgradeOne, ChangeOne, UpgradeAbove, UpgradeBelow, ChangeTwo, Obsolete, Retire, UnlockBelow, Unlock, Unwind}
 use Rattle.congee.specs.declared.protocol.turn.Turn.{Turn}
 use Rattle.congee.specs.Heap.{Node, Hung, Stands, is_taken}
 use Rattle.congee.specs.protocol.Bounds.{Bounded, Within}
 use Rattle.congee.specs.protocol.Events.{SameBut, NewNode, ChangeGives, TakeOverGives, BackGives, UnlockGives, upgrade_gives}
-use Rattle.congee.specs.protocol.Steps.{BackOne, BackTwo, BackLeaf, MadeLeaf, MadeGreater, MadeTop, MadeBeside, UpgradedOne, UpgradedAbove, UpgradedBoth, ChangedOne, ChangedTwo, PhaseStepped, MayStep}
+use Rattle.congee.specs.protocol.Steps.{BackOne, BackTwo, BackLeaf, MadeLeaf, MadeGreater, MadeTop, MadeBeside, UpgradedOne, UpgradedAbove, UpgradedBelow, ChangedOne, ChangedTwo, PhaseStepped, MayStep}
 use Rattle.congee.proofs.lemmas.Fits.{equal, both_true}
 use Rattle.congee.proofs.lemmas.Graft.{on_test}
 use Rattle.congee.proofs.lemmas.protocol.Locks.{locked_taken}
@@ -131,7 +131,7 @@ module _ {C V : Type 0} (number : C → ℕ) (most : ℕ) (h h' : ℕ → Node V
   above_upgraded root two r fail Failed t s e g = two_back two.change g.0
   above_upgraded root two r fail Exhausted t s e g = two_back two.change g.0
 
-  both_upgraded : (two : Two C) (r : Reply V) (fail : Bool) (u : Upgrade) (t : Turn C V) → Stands (h (number two.at.node)) → u ≡ upgrade_gives most (h (number two.at.node)) two.at.version fail → UpgradedBoth number two r h u h' t → Within most h'
+  both_upgraded : (two : Two C) (r : Reply V) (fail : Bool) (u : Upgrade) (t : Turn C V) → Stands (h (number two.at.node)) → u ≡ upgrade_gives most (h (number two.at.node)) two.at.version fail → UpgradedBelow number two r h u h' t → Within most h'
   both_upgraded two r fail Locked t s e g = locks most h h' (number two.at.node) two.at.version fail s e g.0 w
   both_upgraded two r fail Failed t s e g = two_back two.change g.0
   both_upgraded two r fail Exhausted t s e g = two_back two.change g.0
@@ -159,7 +159,7 @@ module _ {C V : Type 0} (number : C → ℕ) (most : ℕ) (h h' : ℕ → Node V
   step_within same_as always why root key kind fail answer new (UpgradeOne one r) new' t may g = one_upgraded root one r fail g.1.0 t may.0 g.1.1 g.1.2
   step_within same_as always why root key kind fail answer new (ChangeOne one r) new' t may g = one_changed key new one one.change g.1
   step_within same_as always why root key kind fail answer new (UpgradeAbove two r) new' t may g = above_upgraded root two r fail g.1.0 t may.0 g.1.1 g.1.2
-  step_within same_as always why root key kind fail answer new (UpgradeBoth two r) new' t may g = both_upgraded two r fail g.1.0 t may.0 g.1.1 g.1.2
+  step_within same_as always why root key kind fail answer new (UpgradeBelow two r) new' t may g = both_upgraded two r fail g.1.0 t may.0 g.1.1 g.1.2
   step_within same_as always why root key kind fail answer new (ChangeTwo two r) new' t may g = two_changed key new two two.change g.1
   step_within same_as always why root key kind fail answer new (Obsolete n p r) new' t may g = let b : Bounded most (h (number n)) = w (number n) may.0 in but most h h' (number n) _ (record { low = b.low; locked = b.locked }) g.1 w
   step_within same_as always why root key kind fail answer new (Retire n p r) new' t may g = let b : Bounded most (h (number n)) = w (number n) may.0 in but most h h' (number n) _ (record { low = b.low; locked = b.locked }) g.1 w

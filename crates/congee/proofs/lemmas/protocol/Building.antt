@@ -54,7 +54,7 @@ module _ {C V : Type 0} (number : C → ℕ) (same : V → V → Bool) (always :
 
   -- a turn after a step that left the map
   pub kept_after : (given' : Option V) (turn : Turn C V) (a' : ℕ → Note) (h' : ℕ → Node V) → KeepsMap i a h a' h' → Sound number same always i k kind given h' given' turn a' h' → Kept number same always i a h k kind given given' turn h'
-  kept_after given' turn a' h' e s = record { notes = a'; effect = e.effect; sound = record { known = s.known; answer = answers_after turn.step.decided turn h' h' e.map s.answer } }
+  kept_after given' turn a' h' e s = record { notes = a'; effect = e.effect; sound = record { known = s.known; answer = answers_after turn.report.decided turn h' h' e.map s.answer } }
 
   pub kept_at : (given' : Option V) (x y : Turn C V) (h' : ℕ → Node V) → y ≡ x → Kept number same always i a h k kind given given' x h' → Kept number same always i a h k kind given given' y h'
   kept_at given' x y h' e m = let P : Turn C V → Type 0 = λ z. Kept number same always i a h k kind given given' z h' in subst P (sym e) m

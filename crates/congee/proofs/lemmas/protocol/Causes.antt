@@ -31,7 +31,7 @@ use Rattle.congee.specs.declared.protocol.phase.Two.{Two}
 use Rattle.congee.specs.declared.protocol.phase.Plan.{Plan}
 use Rattle.congee.specs.declared.protocol.phase.Plan.TheVariants.{Here, Above}
 use Rattle.congee.specs.declared.protocol.phase.Phase.{Phase}
-use Rattle.congee.specs.declared.protocol.phase.Phase.TheVariants.{New, Version, Read, Check, CheckUncopied, CheckMiss, CheckDown, CheckOld, MakeLeaf, MakeGreater, MakeTop, MakeBeside, AskOld, AskNew, Confirm, CheckAbove, UpgradeOne, ChangeOne, UpgradeAbove, UpgradeBoth, ChangeTwo, Obsolete, Retire, UnlockBelow, Unlock, Unwind, Sweep, Ended}
+use Rattle.congee.specs.declared.protocol.phase.Phase.TheVariants.{New, Version, Read, Check, CheckUncopied, CheckMiss, CheckDown, CheckOld, MakeLeaf, MakeGreater, MakeTop, MakeBeside, AskOld, AskNew, Confirm, CheckAbove, UpgradeOne, ChangeOne, UpgradeAbove, UpgradeBelow, ChangeTwo, Obsolete, Retire, UnlockBelow, Unlock, Unwind, Sweep, Ended}
 use Rattle.congee.specs.declared.protocol.machine.Outcome.{Outcome}
 use Rattle.congee.specs.declared.protocol.machine.Outcome.TheVariants.{Running, Asks, Found, Done, Scanned, Refused}
 use Rattle.congee.specs.declared.protocol.machine.Move.{Move}
@@ -54,7 +54,7 @@ use Rattle.congee.specs.protocol.Protocol.{IsFailure, Known}
 use Rattle.congee.specs.protocol.SweepEvents.{IsAny}
 use Rattle.congee.specs.protocol.SweepKnown.{SweepKnownAt}
 use Rattle.congee.specs.protocol.SweepSteps.{is_outside, last_of, Swung, left_to, entered, begins, IsFollowed, SweptAt}
-use Rattle.congee.specs.protocol.Steps.{again, refused, asking, CopyFailed as Uncopied_turn, adds, asks_new, absent_reply, form_above, greater, after_version, after_read, down, started, ready, plan_here, unless_full, absent, IsAsked, replaced, taken_out, is_same, IsAtOld, IsAdded, IsExchanged, IsPresent, IsChecked, after_miss, IsGiven, IsGivenNew, MadeLeaf, MadeGreater, MadeTop, MadeBeside, UpgradedOne, UpgradedAbove, UpgradedBoth, after_change, unwound, outcome_of, PhaseStepped}
+use Rattle.congee.specs.protocol.Steps.{again, refused, asking, CopyFailed as Uncopied_turn, adds, asks_new, absent_reply, form_above, greater, after_version, after_read, down, started, ready, plan_here, unless_full, absent, IsAsked, replaced, taken_out, is_same, IsAtOld, IsAdded, IsExchanged, IsPresent, IsChecked, after_miss, IsGiven, IsGivenNew, MadeLeaf, MadeGreater, MadeTop, MadeBeside, UpgradedOne, UpgradedAbove, UpgradedBelow, after_change, unwound, outcome_of, PhaseStepped}
 use Rattle.congee.proofs.lemmas.Fits.{equal}
 use Rattle.congee.proofs.lemmas.Graft.{on_test}
 use Rattle.congee.proofs.lemmas.protocol.Touch.{by_test}
@@ -62,7 +62,7 @@ use Rattle.congee.proofs.lemmas.protocol.Touch.{by_test}
 -- where a step may refuse for nothing but a refusal of Q
 module _ (C V : Type 0) (Q : Refusal → Type 0) where
   abbrev Only : Turn C V → Type 0
-  Only t = (e : Refusal) → t.step.outcome ≡ Refused e → Q e
+  Only t = (e : Refusal) → t.report.outcome ≡ Refused e → Q e
 
   to : (x y : Turn C V) → y ≡ x → Only x → Only y
   to x y p f = subst (λ (z : Turn C V). Only z) (sym p) f
@@ -253,19 +253,19 @@ module _ {C V : Type 0} (number : C → ℕ) (same : V → V → Bool) (always :
   count : always ≡ false → Uncounted always refusal.Count
   count p = record { count = refl; may_fail = p }
 
-  leaf_made : (s : Site C) (r : Result C Refusal) (t : Turn C V) → MadeLeaf number kind s h key r h' t → (e : Refusal) → t.step.outcome ≡ Refused e → r ≡ Err e
+  leaf_made : (s : Site C) (r : Result C Refusal) (t : Turn C V) → MadeLeaf number kind s h key r h' t → (e : Refusal) → t.report.outcome ≡ Refused e → r ≡ Err e
   leaf_made s (Ok c) t g e p = absurd (to C V (λ _. ⊥) _ t g.1 (unless C V (λ _. ⊥) kind s s.full s.above (Some c) (Link c)) e p)
   leaf_made s (Err r) t g e p = to C V (λ x. ◌≡◌ {A = Result C Refusal} (Err r) (Err x)) _ t g.1 (stops C V (λ x. ◌≡◌ {A = Result C Refusal} (Err r) (Err x)) r refl) e p
 
-  greater_made : (s : Site C) (above : Parent C) (leaf : Option C) (r : Result C Refusal) (t : Turn C V) → MadeGreater number kind s above leaf h key r h' t → (e : Refusal) → t.step.outcome ≡ Refused e → r ≡ Err e
+  greater_made : (s : Site C) (above : Parent C) (leaf : Option C) (r : Result C Refusal) (t : Turn C V) → MadeGreater number kind s above leaf h key r h' t → (e : Refusal) → t.report.outcome ≡ Refused e → r ≡ Err e
   greater_made s above leaf (Ok c) t g e p = absurd (to C V (λ _. ⊥) _ t g.1 (readies C V (λ _. ⊥) kind (Above (record { above = above; at = s.at; change = greater s leaf c }))) e p)
   greater_made s above leaf (Err r) t g e p = to C V (λ x. ◌≡◌ {A = Result C Refusal} (Err r) (Err x)) _ t g.1 (stops C V (λ x. ◌≡◌ {A = Result C Refusal} (Err r) (Err x)) r refl) e p
 
-  top_made : (above : Parent C) (at : Seat C) (common byte : ℕ) (r : Result C Refusal) (t : Turn C V) → MadeTop number above at common byte h key r h' t → (e : Refusal) → t.step.outcome ≡ Refused e → r ≡ Err e
+  top_made : (above : Parent C) (at : Seat C) (common byte : ℕ) (r : Result C Refusal) (t : Turn C V) → MadeTop number above at common byte h key r h' t → (e : Refusal) → t.report.outcome ≡ Refused e → r ≡ Err e
   top_made above at common byte (Ok c) t g e p = absurd (to C V (λ _. ⊥) _ t g.1 (runs C V (λ _. ⊥)) e p)
   top_made above at common byte (Err r) t g e p = to C V (λ x. ◌≡◌ {A = Result C Refusal} (Err r) (Err x)) _ t g.1 (stops C V (λ x. ◌≡◌ {A = Result C Refusal} (Err r) (Err x)) r refl) e p
 
-  beside_made : (above : Parent C) (at : Seat C) (common byte : ℕ) (top : C) (r : Result C Refusal) (t : Turn C V) → MadeBeside number kind above at common byte top h key r h' t → (e : Refusal) → t.step.outcome ≡ Refused e → r ≡ Err e
+  beside_made : (above : Parent C) (at : Seat C) (common byte : ℕ) (top : C) (r : Result C Refusal) (t : Turn C V) → MadeBeside number kind above at common byte top h key r h' t → (e : Refusal) → t.report.outcome ≡ Refused e → r ≡ Err e
   beside_made above at common byte top (Ok c) t g e p = absurd (to C V (λ _. ⊥) _ t g.1 (readies C V (λ _. ⊥) kind (Above (record { above = above; at = at; change = Split top c common byte }))) e p)
   beside_made above at common byte top (Err r) t g e p = to C V (λ x. ◌≡◌ {A = Result C Refusal} (Err r) (Err x)) _ t g.1 (stops C V (λ x. ◌≡◌ {A = Result C Refusal} (Err r) (Err x)) r refl) e p
 
@@ -285,7 +285,7 @@ module _ {C V : Type 0} (number : C → ℕ) (same : V → V → Bool) (always :
   above_upgraded two r Failed t q g = to C V _ _ t g.1 (runs C V _)
   above_upgraded two r Exhausted t q g = to C V _ _ t g.1 (stops C V _ refusal.Exhausted (none_left (h (number two.above.seat.node)) two.above.seat.version q))
 
-  both_upgraded : (two : Two C) (r : Reply V) (u : Upgrade) (t : Turn C V) → UpgradedBoth number two r h u h' t → Only C V (λ _. ⊥) t
+  both_upgraded : (two : Two C) (r : Reply V) (u : Upgrade) (t : Turn C V) → UpgradedBelow number two r h u h' t → Only C V (λ _. ⊥) t
   both_upgraded two r Locked t g = to C V _ _ t g.1 (runs C V _)
   both_upgraded two r Failed t g = to C V _ _ t g.1 (runs C V _)
   both_upgraded two r Exhausted t g = to C V _ _ t g.1 (runs C V _)
@@ -314,14 +314,14 @@ module _ {C V : Type 0} (number : C → ℕ) (same : V → V → Bool) (always :
   only new (UpgradeOne one r) new' t x g = one_upgraded one r g.1.0 t g.1.1 g.1.2
   only new (ChangeOne one r) new' t x g = to C V _ _ t g.2 (runs C V _)
   only new (UpgradeAbove two r) new' t x g = above_upgraded two r g.1.0 t g.1.1 g.1.2
-  only new (UpgradeBoth two r) new' t x g = both_upgraded two r g.1.0 t g.1.2
+  only new (UpgradeBelow two r) new' t x g = both_upgraded two r g.1.0 t g.1.2
   only new (ChangeTwo two r) new' t x g = to C V _ _ t g.2 (changes C V _ two r two.change)
   only new (Obsolete n p r) new' t x g = to C V _ _ t g.2 (runs C V _)
   only new (Retire n p r) new' t x g = to C V _ _ t g.2 (runs C V _)
   only new (UnlockBelow n p r) new' t x g = to C V _ _ t g.2 (runs C V _)
   only new (Unlock n r) new' t x g = to C V _ _ t g.2 (answers C V _ r)
   only new (Unwind n e) new' t x g = unwinds e t x.2 g.2
-  only new (Sweep s) new' t x g = λ e p. told_cause number always root s g.2.1 (told_swept number always root s a h s.stage (g.2.0, g.2.1) x g.2.2) e (sym (ap (λ (u : Turn C V). u.step.outcome) g.2.3) ∙ p)
+  only new (Sweep s) new' t x g = λ e p. told_cause number always root s g.2.1 (told_swept number always root s a h s.stage (g.2.0, g.2.1) x g.2.2) e (sym (ap (λ (u : Turn C V). u.report.outcome) g.2.3) ∙ p)
   only new Ended new' t x g = to C V _ _ t g.2 (runs C V _)
 
   by_outcome : (s : Phase C V) (o : Outcome V) → ((e : Refusal) → o ≡ Refused e → By s e) → IsCause why most always s o
@@ -332,8 +332,8 @@ module _ {C V : Type 0} (number : C → ℕ) (same : V → V → Bool) (always :
   by_outcome s (Scanned n) f = tt
   by_outcome s (Refused e) f = f e refl
 
-  pub caused : (new : Option V) (s : Phase C V) (new' : Option V) (t : Turn C V) → Known number same always i a h k key kind new s → PhaseStepped number same always most why root key kind fail answer new s h new' t h' → IsCause why most always s t.step.outcome
-  caused new s new' t x g = by_outcome s t.step.outcome (only new s new' t x g)
+  pub caused : (new : Option V) (s : Phase C V) (new' : Option V) (t : Turn C V) → Known number same always i a h k key kind new s → PhaseStepped number same always most why root key kind fail answer new s h new' t h' → IsCause why most always s t.report.outcome
+  caused new s new' t x g = by_outcome s t.report.outcome (only new s new' t x g)
 
 -- what a store says of its refusals, said more weakly
 module _ {C V : Type 0} (number : C → ℕ) (same : V → V → Bool) (always : Bool) (most : ℕ) (near far : NodeType → Refusal → Type 0) where
@@ -369,7 +369,7 @@ module _ {C V : Type 0} (number : C → ℕ) (same : V → V → Bool) (always :
       root = g.1.root;
       key = g.1.key;
       kind = g.1.kind;
-      step = step_weaker m.root (key_bytes m.key) m.kind s.noise.fail s.noise.answer m.given m.phase h g.0.given (record { phase = g.0.phase; step = d }) h' f g.1.step;
+      step = step_weaker m.root (key_bytes m.key) m.kind s.noise.fail s.noise.answer m.given m.phase h g.0.given (record { phase = g.0.phase; report = d }) h' f g.1.step;
     },
     is_weaker m.phase d.outcome f g.2,
     g.3,

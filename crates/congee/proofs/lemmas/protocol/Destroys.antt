@@ -10,7 +10,7 @@ use Rattle.congee.specs.declared.protocol.phase.Double.TheVariants.{Unlink, Grow
 use Rattle.congee.specs.declared.protocol.phase.Plan.{Plan}
 use Rattle.congee.specs.declared.protocol.phase.Plan.TheVariants.{Here, Above}
 use Rattle.congee.specs.declared.protocol.phase.Phase.{Phase}
-use Rattle.congee.specs.declared.protocol.phase.Phase.TheVariants.{New, Version, Read, Check, CheckUncopied, CheckMiss, CheckDown, CheckOld, MakeLeaf, MakeGreater, MakeTop, MakeBeside, AskOld, AskNew, Confirm, CheckAbove, UpgradeOne, ChangeOne, UpgradeAbove, UpgradeBoth, ChangeTwo, Obsolete, Retire, UnlockBelow, Unlock, Unwind, Sweep, Ended}
+use Rattle.congee.specs.declared.protocol.phase.Phase.TheVariants.{New, Version, Read, Check, CheckUncopied, CheckMiss, CheckDown, CheckOld, MakeLeaf, MakeGreater, MakeTop, MakeBeside, AskOld, AskNew, Confirm, CheckAbove, UpgradeOne, ChangeOne, UpgradeAbove, UpgradeBelow, ChangeTwo, Obsolete, Retire, UnlockBelow, Unlock, Unwind, Sweep, Ended}
 use Rattle.congee.specs.declared.protocol.machine.Machine.{Machine}
 use Rattle.congee.specs.Heap.{Node, walk}
 use Rattle.congee.specs.Keys.{key_bytes}
@@ -71,7 +71,7 @@ module _ {C : Type 0} (number : C → ℕ) (K : ℕ → Type 0) (n : ℕ) where
     made_named (UpgradeOne one r) e x = one_named one.change e.1 x
     made_named (ChangeOne one r) e x = one_named one.change e.1 x
     made_named (UpgradeAbove two r) e x = two_named two.change e.1.1 x
-    made_named (UpgradeBoth two r) e x = two_named two.change e.1.1 x
+    made_named (UpgradeBelow two r) e x = two_named two.change e.1.1 x
     made_named (ChangeTwo two r) e x = two_named two.change e.1.1 x
     made_named (Obsolete m p r) e x = absurd x
     made_named (Retire m p r) e x = absurd x
@@ -101,7 +101,7 @@ module _ {C : Type 0} (number : C → ℕ) (K : ℕ → Type 0) (n : ℕ) where
     locked_named (UpgradeOne one r) e x = absurd x
     locked_named (ChangeOne one r) e x = at_name one.at.node x e.0
     locked_named (UpgradeAbove two r) e x = absurd x
-    locked_named (UpgradeBoth two r) e x = at_name two.above.seat.node x e.0
+    locked_named (UpgradeBelow two r) e x = at_name two.above.seat.node x e.0
     locked_named (ChangeTwo two r) e (inl x) = at_name two.above.seat.node x e.0
     locked_named (ChangeTwo two r) e (inr x) = at_name two.at.node x e.1.0
     locked_named (Obsolete m p r) e (inl x) = at_name p x e.1.0

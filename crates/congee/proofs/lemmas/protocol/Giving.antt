@@ -18,11 +18,11 @@ use Rattle.congee.specs.declared.protocol.phase.Double.{Double}
 use Rattle.congee.specs.declared.protocol.phase.Double.TheVariants.{Unlink, Grow, GrowLink, Split}
 use Rattle.congee.specs.declared.protocol.phase.Two.{Two}
 use Rattle.congee.specs.declared.protocol.phase.Phase.{Phase}
-use Rattle.congee.specs.declared.protocol.phase.Phase.TheVariants.{MakeLeaf, MakeGreater, MakeTop, MakeBeside, CheckAbove, UpgradeOne, ChangeOne, UpgradeAbove, UpgradeBoth, ChangeTwo, Obsolete, Retire, UnlockBelow, Unlock, Unwind}
+use Rattle.congee.specs.declared.protocol.phase.Phase.TheVariants.{MakeLeaf, MakeGreater, MakeTop, MakeBeside, CheckAbove, UpgradeOne, ChangeOne, UpgradeAbove, UpgradeBelow, ChangeTwo, Obsolete, Retire, UnlockBelow, Unlock, Unwind}
 use Rattle.congee.specs.declared.protocol.turn.Turn.{Turn}
 use Rattle.congee.specs.Heap.{Node, Stands, is_taken}
 use Rattle.congee.specs.protocol.Events.{SameBut, BackGives}
-use Rattle.congee.specs.protocol.Steps.{BackOne, BackTwo, BackLeaf, MadeLeaf, MadeGreater, MadeTop, MadeBeside, UpgradedOne, UpgradedAbove, UpgradedBoth, ChangedOne, ChangedTwo, PhaseStepped}
+use Rattle.congee.specs.protocol.Steps.{BackOne, BackTwo, BackLeaf, MadeLeaf, MadeGreater, MadeTop, MadeBeside, UpgradedOne, UpgradedAbove, UpgradedBelow, ChangedOne, ChangedTwo, PhaseStepped}
 use Rattle.congee.specs.protocol.Holdings.{MadeForOne, MadeForTwo, IsMade, MadeBy}
 use Rattle.congee.proofs.lemmas.Graft.{on_test}
 use Rattle.congee.proofs.lemmas.protocol.Lasting.{stands_changed, stands_over}
@@ -101,7 +101,7 @@ module _ {C V : Type 0} (number : C → ℕ) (h h' : ℕ → Node V) where
   above_upgraded root two r Failed t g = two_back two.change g.0
   above_upgraded root two r Exhausted t g = two_back two.change g.0
 
-  both_upgraded : (two : Two C) (r : Reply V) (u : Upgrade) (t : Turn C V) → UpgradedBoth number two r h u h' t → Loses (MadeForTwo number two.change) h h'
+  both_upgraded : (two : Two C) (r : Reply V) (u : Upgrade) (t : Turn C V) → UpgradedBelow number two r h u h' t → Loses (MadeForTwo number two.change) h h'
   both_upgraded two r Locked t g = loses_but _ h h' (number two.at.node) _ refl refl g.0
   both_upgraded two r Failed t g = two_back two.change g.0
   both_upgraded two r Exhausted t g = two_back two.change g.0
@@ -127,7 +127,7 @@ module _ {C V : Type 0} (number : C → ℕ) (h h' : ℕ → Node V) where
   step_loses same always most why root key kind fail answer new (UpgradeOne one r) new' t g = one_upgraded root one r g.1.0 t g.1.2
   step_loses same always most why root key kind fail answer new (ChangeOne one r) new' t g = one_changed _ key new one one.change g.1
   step_loses same always most why root key kind fail answer new (UpgradeAbove two r) new' t g = above_upgraded root two r g.1.0 t g.1.2
-  step_loses same always most why root key kind fail answer new (UpgradeBoth two r) new' t g = both_upgraded two r g.1.0 t g.1.2
+  step_loses same always most why root key kind fail answer new (UpgradeBelow two r) new' t g = both_upgraded two r g.1.0 t g.1.2
   step_loses same always most why root key kind fail answer new (ChangeTwo two r) new' t g = two_changed _ key new two two.change g.1
   step_loses same always most why root key kind fail answer new (Obsolete n p r) new' t g = loses_but _ h h' (number n) _ refl refl g.1
   step_loses same always most why root key kind fail answer new (Retire n p r) new' t g = loses_but _ h h' (number n) _ refl refl g.1

@@ -18,13 +18,13 @@ use Rattle.congee.specs.declared.protocol.phase.Double.{Double}
 use Rattle.congee.specs.declared.protocol.phase.Double.TheVariants.{Unlink, Grow, GrowLink, Split}
 use Rattle.congee.specs.declared.protocol.phase.Two.{Two}
 use Rattle.congee.specs.declared.protocol.phase.Phase.{Phase}
-use Rattle.congee.specs.declared.protocol.phase.Phase.TheVariants.{New, Version, Read, Check, CheckUncopied, CheckMiss, CheckDown, CheckOld, MakeLeaf, MakeGreater, MakeTop, MakeBeside, AskOld, AskNew, Confirm, CheckAbove, UpgradeOne, ChangeOne, UpgradeAbove, UpgradeBoth, ChangeTwo, Obsolete, Retire, UnlockBelow, Unlock, Unwind, Sweep, Ended}
+use Rattle.congee.specs.declared.protocol.phase.Phase.TheVariants.{New, Version, Read, Check, CheckUncopied, CheckMiss, CheckDown, CheckOld, MakeLeaf, MakeGreater, MakeTop, MakeBeside, AskOld, AskNew, Confirm, CheckAbove, UpgradeOne, ChangeOne, UpgradeAbove, UpgradeBelow, ChangeTwo, Obsolete, Retire, UnlockBelow, Unlock, Unwind, Sweep, Ended}
 use Rattle.congee.specs.declared.protocol.turn.Turn.{Turn}
 use Rattle.congee.specs.declared.protocol.machine.Machine.{Machine}
 use Rattle.congee.specs.declared.protocol.run.Step.{Step}
 use Rattle.congee.specs.Heap.{Node, Hung, Stands, is_taken}
 use Rattle.congee.specs.protocol.Events.{SameBut, upgrade_gives, NewNode, ChangeGives, TakeOverGives, BackGives}
-use Rattle.congee.specs.protocol.Steps.{BackOne, BackTwo, BackLeaf, MadeLeaf, MadeGreater, MadeTop, MadeBeside, UpgradedOne, UpgradedAbove, UpgradedBoth, ChangedOne, ChangedTwo, PhaseStepped}
+use Rattle.congee.specs.protocol.Steps.{BackOne, BackTwo, BackLeaf, MadeLeaf, MadeGreater, MadeTop, MadeBeside, UpgradedOne, UpgradedAbove, UpgradedBelow, ChangedOne, ChangedTwo, PhaseStepped}
 use Rattle.congee.specs.Keys.{key_bytes}
 use Rattle.congee.specs.Ledger.{Note, Linked, Gone, is_published, Tree, LockWords}
 use Rattle.congee.specs.protocol.Protocol.{Made, MadeOne, MadeTwo, MadeLeafFor, Known}
@@ -216,7 +216,7 @@ module _ {C V : Type 0} (number : C → ℕ) (i : ℕ) (a : ℕ → Note) (h : �
   above_upgraded root two r size q most fail Exhausted turn w p m e g = back_two two.change size q m g.0
 
   both_upgraded : (two : Two C) (r : Reply V) (size q most : ℕ) (fail : Bool) (u : Upgrade) (turn : Turn C V) → LockWords a h → is_published (a (number two.at.node)).status ≡ true → MadeTwo number i a h key two.change size q
-      → u ≡ upgrade_gives most (h (number two.at.node)) two.at.version fail → UpgradedBoth number two r h u h' turn → SparesWaiting h h'
+      → u ≡ upgrade_gives most (h (number two.at.node)) two.at.version fail → UpgradedBelow number two r h u h' turn → SparesWaiting h h'
   both_upgraded two r size q most fail Locked turn w p m e g = locked_spares most (number two.at.node) two.at.version fail w p e g.0
   both_upgraded two r size q most fail Failed turn w p m e g = back_two two.change size q m g.0
   both_upgraded two r size q most fail Exhausted turn w p m e g = back_two two.change size q m g.0
@@ -265,7 +265,7 @@ module _ {C V : Type 0} (number : C → ℕ) (same : V → V → Bool) (always :
       inl (changed_one number i a h h' (key_bytes k) given one one.change (linked_idle a h (number one.at.node) w x.1.holding.linked) x.1.made g.1)
   step_hands most why root kind fail answer given (UpgradeAbove two r) given' turn x g =
       inl (above_upgraded number i a h h' (key_bytes k) root two r _ _ most fail g.1.0 turn w x.1.2.above.fresh.seated.published x.1.2.made g.1.1 g.1.2)
-  step_hands most why root kind fail answer given (UpgradeBoth two r) given' turn x g =
+  step_hands most why root kind fail answer given (UpgradeBelow two r) given' turn x g =
       inl (both_upgraded number i a h h' (key_bytes k) two r _ _ most fail g.1.0 turn w x.1.2.fresh.seated.published x.1.2.made g.1.1 g.1.2)
   step_hands most why root kind fail answer given (ChangeTwo two r) given' turn x g =
       inl (changed_two number i a h h' (key_bytes k) given two two.change _ _ (linked_idle a h (number two.above.seat.node) w x.2.above.holding.linked)

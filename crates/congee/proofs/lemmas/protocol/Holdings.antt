@@ -19,11 +19,11 @@ use Rattle.congee.specs.declared.protocol.phase.Two.{Two}
 use Rattle.congee.specs.declared.protocol.phase.Plan.{Plan}
 use Rattle.congee.specs.declared.protocol.phase.Plan.TheVariants.{Here, Above}
 use Rattle.congee.specs.declared.protocol.phase.Phase.{Phase}
-use Rattle.congee.specs.declared.protocol.phase.Phase.TheVariants.{New, Version, Read, Check, CheckUncopied, CheckMiss, CheckDown, CheckOld, MakeLeaf, MakeGreater, MakeTop, MakeBeside, AskOld, AskNew, Confirm, CheckAbove, UpgradeOne, ChangeOne, UpgradeAbove, UpgradeBoth, ChangeTwo, Obsolete, Retire, UnlockBelow, Unlock, Unwind, Sweep, Ended}
+use Rattle.congee.specs.declared.protocol.phase.Phase.TheVariants.{New, Version, Read, Check, CheckUncopied, CheckMiss, CheckDown, CheckOld, MakeLeaf, MakeGreater, MakeTop, MakeBeside, AskOld, AskNew, Confirm, CheckAbove, UpgradeOne, ChangeOne, UpgradeAbove, UpgradeBelow, ChangeTwo, Obsolete, Retire, UnlockBelow, Unlock, Unwind, Sweep, Ended}
 use Rattle.congee.specs.declared.protocol.turn.Turn.{Turn}
 use Rattle.congee.specs.Heap.{Node, Hung, Below, is_taken}
 use Rattle.congee.specs.protocol.Events.{SameBut, NewNode, ChangeGives, TakeOverGives, BackGives}
-use Rattle.congee.specs.protocol.Steps.{quiet, again, decided, asking, asks_new, absent_reply, started, ready, plan_here, unless_full, unwound, greater, after_change, BackOne, BackTwo, BackLeaf, MadeLeaf, MadeGreater, MadeTop, MadeBeside, UpgradedOne, UpgradedAbove, UpgradedBoth, ChangedOne, ChangedTwo, IsGivenNew, PhaseStepped}
+use Rattle.congee.specs.protocol.Steps.{quiet, again, decided, asking, asks_new, absent_reply, started, ready, plan_here, unless_full, unwound, greater, after_change, BackOne, BackTwo, BackLeaf, MadeLeaf, MadeGreater, MadeTop, MadeBeside, UpgradedOne, UpgradedAbove, UpgradedBelow, ChangedOne, ChangedTwo, IsGivenNew, PhaseStepped}
 use Rattle.congee.specs.Keys.{key_bytes}
 use Rattle.congee.specs.Ledger.{Note, Unmade, Held, Linked, is_published, Tree, LockWords}
 use Rattle.congee.specs.protocol.Protocol.{Made, Holding, MadeOne, MadeTwo, MadeLeafFor, Fares, Known}
@@ -379,7 +379,7 @@ module _ {C V : Type 0} (number : C → ℕ) (same : V → V → Bool) (always :
   one_upgraded root one r Exhausted turn o m l g = at_turn _ turn g.1 (back_bare o (MadeForOne number one.change) m (all_one number i a h h' (key_bytes k) one.change l g.0) _)
 
   above_upgraded : (root : C) (two : Two C) (r : Reply V) (size q : ℕ) (u : Upgrade) (turn : Turn C V) → Own (λ _. ⊥) → Mine (MadeForTwo number two.change) → MadeTwo number i a h (key_bytes k) two.change size q → UpgradedAbove number root two r h u h' turn → Now turn.phase
-  above_upgraded root two r size q Locked turn o m l g = at_turn _ turn g.1 (lock_holds (λ _. ⊥) (MadeForTwo number two.change) (number two.above.seat.node) g.0 o m (UpgradeBoth two r) (only (number two.above.seat.node)) (λ n x. x))
+  above_upgraded root two r size q Locked turn o m l g = at_turn _ turn g.1 (lock_holds (λ _. ⊥) (MadeForTwo number two.change) (number two.above.seat.node) g.0 o m (UpgradeBelow two r) (only (number two.above.seat.node)) (λ n x. x))
   above_upgraded root two r size q Failed turn o m l g = at_turn _ turn g.1 (back_bare o (MadeForTwo number two.change) m (all_two number i a h h' (key_bytes k) two.change size q l g.0) _)
   above_upgraded root two r size q Exhausted turn o m l g = at_turn _ turn g.1 (back_bare o (MadeForTwo number two.change) m (all_two number i a h h' (key_bytes k) two.change size q l g.0) _)
 
@@ -390,7 +390,7 @@ module _ {C V : Type 0} (number : C → ℕ) (same : V → V → Bool) (always :
     mine = λ n x. absurd (bare_back M m g n x);
   }
 
-  both_upgraded : (two : Two C) (r : Reply V) (size q : ℕ) (u : Upgrade) (turn : Turn C V) → Own (λ n. n ≡ number two.above.seat.node) → Mine (MadeForTwo number two.change) → MadeTwo number i a h (key_bytes k) two.change size q → UpgradedBoth number two r h u h' turn
+  both_upgraded : (two : Two C) (r : Reply V) (size q : ℕ) (u : Upgrade) (turn : Turn C V) → Own (λ n. n ≡ number two.above.seat.node) → Mine (MadeForTwo number two.change) → MadeTwo number i a h (key_bytes k) two.change size q → UpgradedBelow number two r h u h' turn
       → Now turn.phase
   both_upgraded two r size q Locked turn o m l g = at_turn _ turn g.1 (lock_holds (λ n. n ≡ number two.above.seat.node) (MadeForTwo number two.change) (number two.at.node) g.0 o m (ChangeTwo two r) (λ n x. x) (λ n x. x))
   both_upgraded two r size q Failed turn o m l g = at_turn _ turn g.1 (back_locked two.above.seat.node None (MadeForTwo number two.change) o m (all_two number i a h h' (key_bytes k) two.change size q l g.0))
@@ -525,7 +525,7 @@ module _ {C V : Type 0} (number : C → ℕ) (same : V → V → Bool) (always :
       let y : Holding i a' (number one.at.node) = subst P g.2 x' in
       at_turn _ turn g.2 (changes (λ n. n ≡ number one.at.node) (MadeForOne number one.change) o m (flags_one number (key_bytes k) given one one.change h h' g.1) (one_changed given one one.change y.linked g.1) (Unlock one.at.node r) (λ n e l. l))
   step_holds most why root kind fail answer given (UpgradeAbove two r) given' turn o m x x' g = above_upgraded root two r _ _ g.1.0 turn o m x.1.2.made g.1.2
-  step_holds most why root kind fail answer given (UpgradeBoth two r) given' turn o m x x' g = both_upgraded two r _ _ g.1.0 turn o m x.1.2.made g.1.2
+  step_holds most why root kind fail answer given (UpgradeBelow two r) given' turn o m x x' g = both_upgraded two r _ _ g.1.0 turn o m x.1.2.made g.1.2
   step_holds most why root kind fail answer given (ChangeTwo two r) given' turn o m x x' g =
       let y : ((a' (number two.above.seat.node)).status ≡ Linked) × (((n : ℕ) → (n ≡ number two.above.seat.node) ⊎ (n ≡ number two.at.node) → LockedBy number turn.phase n)) = after_two two r two.change turn given' kind g.2 x' in
       changes (λ n. (n ≡ number two.above.seat.node) ⊎ (n ≡ number two.at.node)) (MadeForTwo number two.change) o m (flags_two number (key_bytes k) given two two.change h h' g.1)

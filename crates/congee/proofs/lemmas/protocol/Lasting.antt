@@ -18,11 +18,11 @@ use Rattle.congee.specs.declared.protocol.phase.Double.{Double}
 use Rattle.congee.specs.declared.protocol.phase.Double.TheVariants.{Unlink, Grow, GrowLink, Split}
 use Rattle.congee.specs.declared.protocol.phase.Two.{Two}
 use Rattle.congee.specs.declared.protocol.phase.Phase.{Phase}
-use Rattle.congee.specs.declared.protocol.phase.Phase.TheVariants.{MakeLeaf, MakeGreater, MakeTop, MakeBeside, CheckAbove, UpgradeOne, ChangeOne, UpgradeAbove, UpgradeBoth, ChangeTwo, Obsolete, Retire, UnlockBelow, Unlock, Unwind}
+use Rattle.congee.specs.declared.protocol.phase.Phase.TheVariants.{MakeLeaf, MakeGreater, MakeTop, MakeBeside, CheckAbove, UpgradeOne, ChangeOne, UpgradeAbove, UpgradeBelow, ChangeTwo, Obsolete, Retire, UnlockBelow, Unlock, Unwind}
 use Rattle.congee.specs.declared.protocol.turn.Turn.{Turn}
 use Rattle.congee.specs.Heap.{Node, Hung, Stands, is_taken}
 use Rattle.congee.specs.protocol.Events.{SameBut, ChangeGives, TakeOverGives, BackGives}
-use Rattle.congee.specs.protocol.Steps.{BackOne, BackTwo, BackLeaf, MadeLeaf, MadeGreater, MadeTop, MadeBeside, UpgradedOne, UpgradedAbove, UpgradedBoth, ChangedOne, ChangedTwo, PhaseStepped, MayStep, MayBackOne, MayBackTwo, MayBackLeaf, MayChangeOne, MayChangeTwo}
+use Rattle.congee.specs.protocol.Steps.{BackOne, BackTwo, BackLeaf, MadeLeaf, MadeGreater, MadeTop, MadeBeside, UpgradedOne, UpgradedAbove, UpgradedBelow, ChangedOne, ChangedTwo, PhaseStepped, MayStep, MayBackOne, MayBackTwo, MayBackLeaf, MayChangeOne, MayChangeTwo}
 use Rattle.congee.proofs.lemmas.Graft.{on_test}
 
 pub record StillAt {V : Type 0} (p q : Node V) : Type 0 where
@@ -145,7 +145,7 @@ module _ {C V : Type 0} (number : C → ℕ) (h h' : ℕ → Node V) where
   above_upgraded root two r Failed t s may g = two_back two.change may g.0
   above_upgraded root two r Exhausted t s may g = two_back two.change may g.0
 
-  both_upgraded : (two : Two C) (r : Reply V) (u : Upgrade) (t : Turn C V) → Stands (h (number two.at.node)) → MayBackTwo number h two.change → UpgradedBoth number two r h u h' t → Still h h'
+  both_upgraded : (two : Two C) (r : Reply V) (u : Upgrade) (t : Turn C V) → Stands (h (number two.at.node)) → MayBackTwo number h two.change → UpgradedBelow number two r h u h' t → Still h h'
   both_upgraded two r Locked t s may g = locked (number two.at.node) s g.0
   both_upgraded two r Failed t s may g = two_back two.change may g.0
   both_upgraded two r Exhausted t s may g = two_back two.change may g.0
@@ -203,7 +203,7 @@ module _ {C V : Type 0} (number : C → ℕ) (h h' : ℕ → Node V) where
   step_still same always most why root key kind fail answer new (UpgradeOne one r) new' t may g = one_upgraded root one r g.1.0 t may.0 may.1 g.1.2
   step_still same always most why root key kind fail answer new (ChangeOne one r) new' t may g = one_changed key new one one.change may g.1
   step_still same always most why root key kind fail answer new (UpgradeAbove two r) new' t may g = above_upgraded root two r g.1.0 t may.0 may.1 g.1.2
-  step_still same always most why root key kind fail answer new (UpgradeBoth two r) new' t may g = both_upgraded two r g.1.0 t may.0 may.1 g.1.2
+  step_still same always most why root key kind fail answer new (UpgradeBelow two r) new' t may g = both_upgraded two r g.1.0 t may.0 may.1 g.1.2
   step_still same always most why root key kind fail answer new (ChangeTwo two r) new' t may g = two_changed key new two two.change may g.1
   step_still same always most why root key kind fail answer new (Obsolete n p r) new' t may g = still_but h h' (number n) _ may.0 may.0.made g.1
   step_still same always most why root key kind fail answer new (Retire n p r) new' t may g = still_but h h' (number n) _ may.0 may.0.made g.1

@@ -25,7 +25,7 @@ pub step_leaves : {C V : Type 0} (number : C → ℕ) (same : V → V → Bool) 
 step_leaves {C} {V} number same always most why i a h h' ms m m' d fail answer p hold at k st =
     let whole : Protocol number same always h ms = record { notes = a; tree = p.tree; words = p.words; each = p.each } in
     let may : MayStep number (key_bytes m.key) m.given m.phase h = may_step number same always h ms i m whole at in
-    let still : Still h h' = step_still number h h' same always most why m.root (key_bytes m.key) m.kind fail answer m.given m.phase m'.given (record { phase = m'.phase; step = d }) may st.step in
+    let still : Still h h' = step_still number h h' same always most why m.root (key_bytes m.key) m.kind fail answer m.given m.phase m'.given (record { phase = m'.phase; report = d }) may st.step in
     record {
       dead = λ n made gone. (still n made).dead gone;
       used = λ n made. (still n made).used;
@@ -41,5 +41,5 @@ step_leaves {C} {V} number same always most why i a h h' ms m m' d fail answer p
       ];
       named = λ n c. named number same always i k.notes h' (key_bytes m'.key) k.effect.tree m'.key m'.kind m'.given m'.phase k.known n c;
       mine = λ n made. made_held number same always i k.notes h' m'.key m'.kind m'.given n m'.phase k.known made;
-      lost = step_loses number h h' same always most why m.root (key_bytes m.key) m.kind fail answer m.given m.phase m'.given (record { phase = m'.phase; step = d }) st.step;
+      lost = step_loses number h h' same always most why m.root (key_bytes m.key) m.kind fail answer m.given m.phase m'.given (record { phase = m'.phase; report = d }) st.step;
     }

@@ -12,7 +12,7 @@ use Rattle.congee.specs.declared.protocol.phase.Double.{Double}
 use Rattle.congee.specs.declared.protocol.phase.Double.TheVariants.{Unlink, Grow, GrowLink, Split}
 use Rattle.congee.specs.declared.protocol.phase.Two.{Two}
 use Rattle.congee.specs.declared.protocol.phase.Phase.{Phase}
-use Rattle.congee.specs.declared.protocol.phase.Phase.TheVariants.{UpgradeOne, ChangeOne, UpgradeAbove, UpgradeBoth, ChangeTwo, Obsolete, Retire, UnlockBelow, Unlock, Unwind}
+use Rattle.congee.specs.declared.protocol.phase.Phase.TheVariants.{UpgradeOne, ChangeOne, UpgradeAbove, UpgradeBelow, ChangeTwo, Obsolete, Retire, UnlockBelow, Unlock, Unwind}
 use Rattle.congee.specs.declared.protocol.turn.Turn.{Turn}
 use Rattle.congee.specs.Heap.{Node, Below, child_for, is_taken}
 use Rattle.congee.specs.protocol.Events.{SameBut, upgrade_gives, ObsoleteGives, RetireGives, UnlockGives}
@@ -126,7 +126,7 @@ module _ {C V : Type 0} (number : C → ℕ) (same : V → V → Bool) (always :
       )
 
   pub lock_above : (two : Two C) (r : Reply V) (h' : ℕ → Node V) → Known number same always i a h k (key_bytes k) kind given (UpgradeAbove two r) → is_taken (h (number two.above.seat.node)) two.above.seat.version ≡ true
-      → SameBut h (number two.above.seat.node) (record (h (number two.above.seat.node)) { locked = true }) h' → Kept number same always i a h k kind given given (quiet (UpgradeBoth two r)) h'
+      → SameBut h (number two.above.seat.node) (record (h (number two.above.seat.node)) { locked = true }) h' → Kept number same always i a h k kind given given (quiet (UpgradeBelow two r)) h'
   lock_above two r h' m q g =
       let x : TwoKnown number i a h (key_bytes k) two m.1.0 m.1.1 = m.1.2 in
       let c : ChildOf number a h (key_bytes k) two.above (number two.at.node) = x.above in
@@ -136,7 +136,7 @@ module _ {C V : Type 0} (number : C → ℕ) (same : V → V → Bool) (always :
       let on : OnOne a h (own a (number two.above.seat.node) (Some i)) h' (number two.above.seat.node) = record { published = c.fresh.seated.published; nodes = g.others; notes = noted_other a (number two.above.seat.node) _ } in
       let pre : (h' (number two.at.node)).prefix ≡ (h (number two.at.node)).prefix = own_prefix i a h _ h' e.effect (number two.at.node) x.fresh.seated.published in
       let hung : child_for (h (number two.above.seat.node)) (key_bytes k) ≡ Below (number two.at.node) = c.fresh.holds q in
-      still_kept (own a (number two.above.seat.node) (Some i)) h' (UpgradeBoth two r) e (
+      still_kept (own a (number two.above.seat.node) (Some i)) h' (UpgradeBelow two r) e (
         m.0,
         (
           m.1.0,
@@ -163,7 +163,7 @@ module _ {C V : Type 0} (number : C → ℕ) (same : V → V → Bool) (always :
       let c : IsChild a h p (get_or (key_bytes k) (length (h p).prefix) 0) n = t.down p _ n l e in
       let z : length (h p).prefix ≡ length (h n).prefix = ap (λ y. length (h y).prefix) q in absurd (omega (arith, c.longer))
 
-  pub lock_both : (two : Two C) (r : Reply V) (h' : ℕ → Node V) → Known number same always i a h k (key_bytes k) kind given (UpgradeBoth two r) → is_taken (h (number two.at.node)) two.at.version ≡ true
+  pub lock_both : (two : Two C) (r : Reply V) (h' : ℕ → Node V) → Known number same always i a h k (key_bytes k) kind given (UpgradeBelow two r) → is_taken (h (number two.at.node)) two.at.version ≡ true
       → SameBut h (number two.at.node) (record (h (number two.at.node)) { locked = true }) h' → Kept number same always i a h k kind given given (quiet (ChangeTwo two r)) h'
   lock_both two r h' m q g =
       let x : HalfLocked number i a h (key_bytes k) two m.1.0 m.1.1 = m.1.2 in

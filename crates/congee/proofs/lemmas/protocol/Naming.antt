@@ -16,7 +16,7 @@ use Rattle.congee.specs.declared.protocol.phase.Two.{Two}
 use Rattle.congee.specs.declared.protocol.phase.Plan.{Plan}
 use Rattle.congee.specs.declared.protocol.phase.Plan.TheVariants.{Here, Above}
 use Rattle.congee.specs.declared.protocol.phase.Phase.{Phase}
-use Rattle.congee.specs.declared.protocol.phase.Phase.TheVariants.{New, Version, Read, Check, CheckUncopied, CheckMiss, CheckDown, CheckOld, MakeLeaf, MakeGreater, MakeTop, MakeBeside, AskOld, AskNew, Confirm, CheckAbove, UpgradeOne, ChangeOne, UpgradeAbove, UpgradeBoth, ChangeTwo, Obsolete, Retire, UnlockBelow, Unlock, Unwind, Sweep, Ended}
+use Rattle.congee.specs.declared.protocol.phase.Phase.TheVariants.{New, Version, Read, Check, CheckUncopied, CheckMiss, CheckDown, CheckOld, MakeLeaf, MakeGreater, MakeTop, MakeBeside, AskOld, AskNew, Confirm, CheckAbove, UpgradeOne, ChangeOne, UpgradeAbove, UpgradeBelow, ChangeTwo, Obsolete, Retire, UnlockBelow, Unlock, Unwind, Sweep, Ended}
 use Rattle.congee.specs.declared.protocol.sweep.Rung.{Rung}
 use Rattle.congee.specs.declared.protocol.sweep.Stage.{Stage}
 use Rattle.congee.specs.declared.protocol.sweep.Stage.TheVariants as stage
@@ -124,7 +124,7 @@ module _ {C V : Type 0} (number : C → ℕ) (same : V → V → Bool) (always :
     names_known kind given (UpgradeOne one r) x = one_in one x.1.1.fresh.seated.published
     names_known kind given (ChangeOne one r) x = one_in one (tree_in _ x.1.holding.linked)
     names_known kind given (UpgradeAbove two r) x = two_in two x.1.2.above.fresh.seated.published x.1.2.fresh.seated.published
-    names_known kind given (UpgradeBoth two r) x = two_in two (tree_in _ x.1.2.above.holding.linked) x.1.2.fresh.seated.published
+    names_known kind given (UpgradeBelow two r) x = two_in two (tree_in _ x.1.2.above.holding.linked) x.1.2.fresh.seated.published
     names_known kind given (ChangeTwo two r) x = two_in two (tree_in _ x.2.above.holding.linked) (below_in _ _ x.2.above.holding.linked x.2.above.child)
     names_known kind given (Obsolete n p r) x = (inl (ap is_published x.gone), (inl (tree_in _ x.above.linked), tt))
     names_known kind given (Retire n p r) x = (inl (ap is_published x.0.gone), (inl (tree_in _ x.0.above.linked), tt))
@@ -143,7 +143,7 @@ module _ {C V : Type 0} (number : C → ℕ) (same : V → V → Bool) (always :
     -- a lock is of a node that is or was in reach
     pub locked_in : (kind : Kind V) (given : Option V) (s : Phase C V) → Known number same always i a h k key kind given s → (n : ℕ) → LockedBy number s n → is_published (a n).status ≡ true
     locked_in kind given (ChangeOne one r) x n l = at n _ l (tree_in _ x.1.holding.linked)
-    locked_in kind given (UpgradeBoth two r) x n l = at n _ l (tree_in _ x.1.2.above.holding.linked)
+    locked_in kind given (UpgradeBelow two r) x n l = at n _ l (tree_in _ x.1.2.above.holding.linked)
     locked_in kind given (ChangeTwo two r) x n (inl l) = at n _ l (tree_in _ x.2.above.holding.linked)
     locked_in kind given (ChangeTwo two r) x n (inr l) = at n _ l (below_in _ _ x.2.above.holding.linked x.2.above.child)
     locked_in kind given (Obsolete m p r) x n (inl l) = at n _ l (tree_in _ x.above.linked)

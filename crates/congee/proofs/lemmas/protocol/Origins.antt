@@ -29,12 +29,12 @@ use Rattle.congee.specs.declared.protocol.phase.Two.{Two}
 use Rattle.congee.specs.declared.protocol.phase.Plan.{Plan}
 use Rattle.congee.specs.declared.protocol.phase.Plan.TheVariants.{Here, Above}
 use Rattle.congee.specs.declared.protocol.phase.Phase.{Phase}
-use Rattle.congee.specs.declared.protocol.phase.Phase.TheVariants.{New, Version, Read, Check, CheckUncopied, CheckMiss, CheckDown, CheckOld, MakeLeaf, MakeGreater, MakeTop, MakeBeside, AskOld, AskNew, Confirm, CheckAbove, UpgradeOne, ChangeOne, UpgradeAbove, UpgradeBoth, ChangeTwo, Obsolete, Retire, UnlockBelow, Unlock, Unwind, Sweep, Ended}
+use Rattle.congee.specs.declared.protocol.phase.Phase.TheVariants.{New, Version, Read, Check, CheckUncopied, CheckMiss, CheckDown, CheckOld, MakeLeaf, MakeGreater, MakeTop, MakeBeside, AskOld, AskNew, Confirm, CheckAbove, UpgradeOne, ChangeOne, UpgradeAbove, UpgradeBelow, ChangeTwo, Obsolete, Retire, UnlockBelow, Unlock, Unwind, Sweep, Ended}
 use Rattle.congee.specs.declared.protocol.turn.Turn.{Turn}
 use Rattle.congee.specs.declared.protocol.machine.Machine.{Machine}
 use Rattle.congee.specs.Heap.{Node, Below, is_taken}
 use Rattle.congee.specs.protocol.Events.{hung}
-use Rattle.congee.specs.protocol.Steps.{quiet, swept, again, answered, finished, refused, decided, CopyFailed, adds, asks_new, absent_reply, seat_above, after_version, after_read, down, started, ready, plan_here, unless_full, absent, IsAsked, replaced, taken_out, emptied, is_same, IsAtOld, IsAdded, IsExchanged, IsPresent, IsChecked, after_miss, IsGiven, IsGivenNew, MadeLeaf, greater, MadeGreater, MadeTop, MadeBeside, UpgradedOne, UpgradedAbove, UpgradedBoth, after_change, unwound, PhaseStepped}
+use Rattle.congee.specs.protocol.Steps.{quiet, swept, again, answered, finished, refused, decided, CopyFailed, adds, asks_new, absent_reply, seat_above, after_version, after_read, down, started, ready, plan_here, unless_full, absent, IsAsked, replaced, taken_out, emptied, is_same, IsAtOld, IsAdded, IsExchanged, IsPresent, IsChecked, after_miss, IsGiven, IsGivenNew, MadeLeaf, greater, MadeGreater, MadeTop, MadeBeside, UpgradedOne, UpgradedAbove, UpgradedBelow, after_change, unwound, PhaseStepped}
 use Rattle.congee.specs.Keys.{key_bytes}
 use Rattle.congee.specs.Ledger.{Note, Linked, LockWords}
 use Rattle.congee.specs.protocol.Protocol.{Knows, Known}
@@ -224,7 +224,7 @@ module _ {C : Type 0} (V : Type 0) (number : C → ℕ) (K : ℕ → Type 0) whe
     of_upgraded_above two r Failed t x e = at_turn t _ x.1 (top, tt)
     of_upgraded_above two r Exhausted t x e = at_turn t (refused refusal.Exhausted) x.1 tt
 
-    of_upgraded_both : (two : Two C) (r : Reply V) (u : Upgrade) (t : Turn C V) → UpgradedBoth number two r h u h' t → Each K (names_two number two) → Leaves t
+    of_upgraded_both : (two : Two C) (r : Reply V) (u : Upgrade) (t : Turn C V) → UpgradedBelow number two r h u h' t → Each K (names_two number two) → Leaves t
     of_upgraded_both two r Locked t x e = at_turn t _ x.1 e
     of_upgraded_both two r Failed t x e = at_turn t _ x.1 (e.0, tt)
     of_upgraded_both two r Exhausted t x e = at_turn t _ x.1 (e.0, tt)
@@ -260,7 +260,7 @@ module _ {C : Type 0} (V : Type 0) (number : C → ℕ) (K : ℕ → Type 0) whe
       step_names (UpgradeOne one r) m g e = of_upgraded_one one r g.1.0 turn g.1.2 e
       step_names (ChangeOne one r) m g e = at_turn turn (decided (Unlock one.at.node r)) g.2 (e.0, tt)
       step_names (UpgradeAbove two r) m g e = of_upgraded_above two r g.1.0 turn g.1.2 e
-      step_names (UpgradeBoth two r) m g e = of_upgraded_both two r g.1.0 turn g.1.2 e
+      step_names (UpgradeBelow two r) m g e = of_upgraded_both two r g.1.0 turn g.1.2 e
       step_names (ChangeTwo two r) m g e = at_turn turn _ g.2 (of_change two r two.change e.0 e.1.0)
       step_names (Obsolete n p r) m g e = at_turn turn (quiet (Retire n p r)) g.2 e
       step_names (Retire n p r) m g e = at_turn turn (quiet (Unlock p r)) g.2 (e.1.0, tt)

@@ -13,7 +13,7 @@ use Rattle.congee.specs.declared.protocol.phase.Double.TheVariants.{Unlink, Grow
 use Rattle.congee.specs.declared.protocol.phase.Plan.{Plan}
 use Rattle.congee.specs.declared.protocol.phase.Plan.TheVariants.{Here, Above}
 use Rattle.congee.specs.declared.protocol.phase.Phase.{Phase}
-use Rattle.congee.specs.declared.protocol.phase.Phase.TheVariants.{New, Version, Read, Check, CheckUncopied, CheckMiss, CheckDown, CheckOld, MakeLeaf, MakeGreater, MakeTop, MakeBeside, AskOld, AskNew, Confirm, CheckAbove, UpgradeOne, ChangeOne, UpgradeAbove, UpgradeBoth, ChangeTwo, Obsolete, Retire, UnlockBelow, Unlock, Unwind, Sweep, Ended}
+use Rattle.congee.specs.declared.protocol.phase.Phase.TheVariants.{New, Version, Read, Check, CheckUncopied, CheckMiss, CheckDown, CheckOld, MakeLeaf, MakeGreater, MakeTop, MakeBeside, AskOld, AskNew, Confirm, CheckAbove, UpgradeOne, ChangeOne, UpgradeAbove, UpgradeBelow, ChangeTwo, Obsolete, Retire, UnlockBelow, Unlock, Unwind, Sweep, Ended}
 use Rattle.congee.specs.declared.protocol.turn.Turn.{Turn}
 use Rattle.congee.specs.declared.protocol.machine.Machine.{Machine}
 use Rattle.congee.specs.Heap.{Node}
@@ -92,7 +92,7 @@ module _ {C V : Type 0} (number : C → ℕ) (same : V → V → Bool) (always :
   made_held (UpgradeOne one r) x l = one_held one.change x.1.1.made l
   made_held (ChangeOne one r) x l = one_held one.change x.1.made l
   made_held (UpgradeAbove two r) x l = two_held two.change _ _ x.1.2.made l
-  made_held (UpgradeBoth two r) x l = two_held two.change _ _ x.1.2.made l
+  made_held (UpgradeBelow two r) x l = two_held two.change _ _ x.1.2.made l
   made_held (ChangeTwo two r) x l = two_held two.change _ _ x.2.made l
   made_held (Obsolete m p r) x l = absurd l
   made_held (Retire m p r) x l = absurd l
@@ -125,7 +125,7 @@ module _ {C V : Type 0} (number : C → ℕ) (same : V → V → Bool) (always :
   locks_owned (UpgradeOne one r) x l = absurd l
   locks_owned (ChangeOne one r) x l = owned_at (number one.at.node) x.1.holding.owner l
   locks_owned (UpgradeAbove two r) x l = absurd l
-  locks_owned (UpgradeBoth two r) x l = owned_at (number two.above.seat.node) x.1.2.above.holding.owner l
+  locks_owned (UpgradeBelow two r) x l = owned_at (number two.above.seat.node) x.1.2.above.holding.owner l
   locks_owned (ChangeTwo two r) x (inl l) = owned_at (number two.above.seat.node) x.2.above.holding.owner l
   locks_owned (ChangeTwo two r) x (inr l) = owned_at (number two.at.node) x.2.owner l
   locks_owned (Obsolete m p r) x (inl l) = owned_at (number p) x.above.owner l
@@ -163,7 +163,7 @@ module _ {C V : Type 0} (number : C → ℕ) (same : V → V → Bool) (always :
   gone_taken t (UpgradeOne one r) x l g = absurd l
   gone_taken t (ChangeOne one r) x l g = linked_gone (number one.at.node) x.1.holding.linked l g
   gone_taken t (UpgradeAbove two r) x l g = absurd l
-  gone_taken t (UpgradeBoth two r) x l g = linked_gone (number two.above.seat.node) x.1.2.above.holding.linked l g
+  gone_taken t (UpgradeBelow two r) x l g = linked_gone (number two.above.seat.node) x.1.2.above.holding.linked l g
   gone_taken t (ChangeTwo two r) x (inl l) g = linked_gone (number two.above.seat.node) x.2.above.holding.linked l g
   gone_taken t (ChangeTwo two r) x (inr l) g = linked_gone (number two.at.node) (t.down (number two.above.seat.node) _ (number two.at.node) x.2.above.holding.linked x.2.above.child).linked l g
   gone_taken t (Obsolete m p r) x (inl l) g = absurd (linked_gone (number p) x.above.linked l g)
@@ -199,7 +199,7 @@ module _ {C V : Type 0} (number : C → ℕ) (same : V → V → Bool) (always :
   taken_on most why root fail answer (UpgradeOne one r) given' turn h' g l = absurd l
   taken_on most why root fail answer (ChangeOne one r) given' turn h' g l = absurd l
   taken_on most why root fail answer (UpgradeAbove two r) given' turn h' g l = absurd l
-  taken_on most why root fail answer (UpgradeBoth two r) given' turn h' g l = absurd l
+  taken_on most why root fail answer (UpgradeBelow two r) given' turn h' g l = absurd l
   taken_on most why root fail answer (ChangeTwo two r) given' turn h' g l = absurd l
   taken_on most why root fail answer (Obsolete m p r) given' turn h' g l = let P : Turn C V → Type 0 = λ y. TakenBy number y.phase n in inr (subst P (sym g.2) l)
   taken_on most why root fail answer (Retire m p r) given' turn h' g l = let P : ℕ → Type 0 = λ y. (h' y).retired ≡ true in inl (subst P (sym l) (rw g.1.after refl))

@@ -48,8 +48,8 @@ settle_compute same k v = record { call = call.ComputeInsert k v; is_call = refl
 
 module _ {C V : Type 0} (number : C → ℕ) (same : V → V → Bool) (always : Bool) (i : ℕ) (a : ℕ → Note) (h : ℕ → Node V) (k : ℕ) (t : Tree a h) (w : LockWords a h) where
   -- a turn that doesn't decide
-  known_only : (kind : Kind V) (given given' : Option V) (turn : Turn C V) → turn.step.decided ≡ false → Known number same always i a h k (key_bytes k) kind given' turn.phase → Sound number same always i k kind given h given' turn a h
-  known_only kind given given' turn e m = record { known = m; answer = by_decided turn.step.decided e }
+  known_only : (kind : Kind V) (given given' : Option V) (turn : Turn C V) → turn.report.decided ≡ false → Known number same always i a h k (key_bytes k) kind given' turn.phase → Sound number same always i k kind given h given' turn a h
+  known_only kind given given' turn e m = record { known = m; answer = by_decided turn.report.decided e }
     where
       by_decided : (b : Bool) → b ≡ false → AnswersIf b same k kind given h turn h
       by_decided true z = absurd cc

@@ -13,7 +13,7 @@ use Rattle.congee.specs.declared.protocol.phase.Plan.{Plan}
 use Rattle.congee.specs.declared.protocol.phase.Plan.TheVariants.{Here, Above}
 use Rattle.congee.specs.declared.protocol.phase.Kind.{Kind}
 use Rattle.congee.specs.declared.protocol.phase.Phase.{Phase}
-use Rattle.congee.specs.declared.protocol.phase.Phase.TheVariants.{New, Version, Read, Check, CheckUncopied, CheckMiss, CheckDown, CheckOld, MakeLeaf, MakeGreater, MakeTop, MakeBeside, AskOld, AskNew, Confirm, CheckAbove, UpgradeOne, ChangeOne, UpgradeAbove, UpgradeBoth, ChangeTwo, Obsolete, Retire, UnlockBelow, Unlock, Unwind, Sweep, Ended}
+use Rattle.congee.specs.declared.protocol.phase.Phase.TheVariants.{New, Version, Read, Check, CheckUncopied, CheckMiss, CheckDown, CheckOld, MakeLeaf, MakeGreater, MakeTop, MakeBeside, AskOld, AskNew, Confirm, CheckAbove, UpgradeOne, ChangeOne, UpgradeAbove, UpgradeBelow, ChangeTwo, Obsolete, Retire, UnlockBelow, Unlock, Unwind, Sweep, Ended}
 use Rattle.congee.specs.declared.protocol.store.Seat.{Seat}
 use Rattle.congee.specs.Heap.{Node, Hung}
 use Rattle.congee.specs.protocol.Events.{hung, Parts}
@@ -225,7 +225,7 @@ known_kept number same always K i a h a' h' r k key kind given (ChangeOne one re
     (m.0, one_locked_kept number key K i a h a' h' r one _ m.1, m.2, m.3)
 known_kept number same always K i a h a' h' r k key kind given (UpgradeAbove two reply) n m =
     (m.0, (m.1.0, m.1.1, two_kept number key K i a h a' h' r two _ _ n.0 n.1.0 m.1.2, m.1.3, m.1.4))
-known_kept number same always K i a h a' h' r k key kind given (UpgradeBoth two reply) n m =
+known_kept number same always K i a h a' h' r k key kind given (UpgradeBelow two reply) n m =
     (m.0, (m.1.0, m.1.1, half_kept number key K i a h a' h' r two _ _ n.1.0 m.1.2, m.1.3, m.1.4))
 known_kept number same always K i a h a' h' r k key kind given (ChangeTwo two reply) n m =
     (m.0, m.1, two_locked_kept number key K i a h a' h' r two _ _ m.2, m.3, m.4)

@@ -26,10 +26,10 @@ use Rattle.congee.specs.declared.protocol.phase.Two.{Two}
 use Rattle.congee.specs.declared.protocol.phase.Plan.{Plan}
 use Rattle.congee.specs.declared.protocol.phase.Plan.TheVariants.{Here, Above}
 use Rattle.congee.specs.declared.protocol.phase.Phase.{Phase}
-use Rattle.congee.specs.declared.protocol.phase.Phase.TheVariants.{Version, Read, Check, CheckUncopied, CheckMiss, CheckDown, CheckOld, MakeLeaf, MakeGreater, MakeTop, MakeBeside, AskOld, AskNew, Confirm, CheckAbove, UpgradeOne, ChangeOne, UpgradeAbove, UpgradeBoth, ChangeTwo, Unwind}
+use Rattle.congee.specs.declared.protocol.phase.Phase.TheVariants.{Version, Read, Check, CheckUncopied, CheckMiss, CheckDown, CheckOld, MakeLeaf, MakeGreater, MakeTop, MakeBeside, AskOld, AskNew, Confirm, CheckAbove, UpgradeOne, ChangeOne, UpgradeAbove, UpgradeBelow, ChangeTwo, Unwind}
 use Rattle.congee.specs.declared.protocol.turn.Turn.{Turn}
 use Rattle.congee.specs.Heap.{Node}
-use Rattle.congee.specs.protocol.Steps.{quiet, again, answered, refused, decided, asking, adds, asks_new, absent_reply, after_version, after_read, down, started, ready, plan_here, unless_full, missing, absent, CopyFailed, IsAsked, replaced, taken_out, emptied, is_same, IsAtOld, IsAdded, IsExchanged, IsPresent, IsChecked, after_miss, IsGiven, IsGivenNew, MadeLeaf, MadeGreater, MadeTop, MadeBeside, UpgradedOne, UpgradedAbove, UpgradedBoth, after_change, unwound}
+use Rattle.congee.specs.protocol.Steps.{quiet, again, answered, refused, decided, asking, adds, asks_new, absent_reply, after_version, after_read, down, started, ready, plan_here, unless_full, missing, absent, CopyFailed, IsAsked, replaced, taken_out, emptied, is_same, IsAtOld, IsAdded, IsExchanged, IsPresent, IsChecked, after_miss, IsGiven, IsGivenNew, MadeLeaf, MadeGreater, MadeTop, MadeBeside, UpgradedOne, UpgradedAbove, UpgradedBelow, after_change, unwound}
 use Rattle.congee.specs.protocol.Protocol.{Asking}
 use Rattle.congee.specs.protocol.Answers.{reply_in}
 use Rattle.congee.specs.protocol.Play.{Question, Unasked, Asked, Replied, Pending, Decided, heard, resolved, Carries, heeding, flight_in}
@@ -238,11 +238,11 @@ module _ {C V : Type 0} (number : C → ℕ) (k : ℕ) (kind : Kind V) (v v' : O
   one_upgraded root one r h Exhausted h' t c x = halts refusal.Exhausted t x.1
 
   pub above_upgraded : (root : C) (two : Two C) (r : Reply V) (h : ℕ → Node V) (u : Upgrade) (h' : ℕ → Node V) (t : Turn C V) → Ripe r q → UpgradedAbove number root two r h u h' t → StepShape k kind v v v' q t
-  above_upgraded root two r h Locked h' t c x = at _ t x.1 (goes_to_work r (UpgradeBoth two r) c refl)
+  above_upgraded root two r h Locked h' t c x = at _ t x.1 (goes_to_work r (UpgradeBelow two r) c refl)
   above_upgraded root two r h Failed h' t c x = at _ t x.1 (back root)
   above_upgraded root two r h Exhausted h' t c x = halts refusal.Exhausted t x.1
 
-  pub both_upgraded : (two : Two C) (r : Reply V) (h : ℕ → Node V) (u : Upgrade) (h' : ℕ → Node V) (t : Turn C V) → Ripe r q → UpgradedBoth number two r h u h' t → StepShape k kind v v v' q t
+  pub both_upgraded : (two : Two C) (r : Reply V) (h : ℕ → Node V) (u : Upgrade) (h' : ℕ → Node V) (t : Turn C V) → Ripe r q → UpgradedBelow number two r h u h' t → StepShape k kind v v v' q t
   both_upgraded two r h Locked h' t c x = at _ t x.1 (goes_to_work r (ChangeTwo two r) c refl)
   both_upgraded two r h Failed h' t c x = at _ t x.1 (go (Unwind _ None) refl)
   both_upgraded two r h Exhausted h' t c x = at _ t x.1 (go (Unwind _ (Some refusal.Exhausted)) refl)

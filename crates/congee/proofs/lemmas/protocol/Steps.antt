@@ -11,11 +11,11 @@ use Rattle.congee.specs.declared.protocol.phase.Kind.{Kind}
 use Rattle.congee.specs.declared.protocol.phase.One.{One}
 use Rattle.congee.specs.declared.protocol.phase.Two.{Two}
 use Rattle.congee.specs.declared.protocol.phase.Phase.{Phase}
-use Rattle.congee.specs.declared.protocol.phase.Phase.TheVariants.{New, Version, Read, Check, CheckUncopied, CheckMiss, CheckDown, CheckOld, MakeLeaf, MakeGreater, MakeTop, MakeBeside, AskOld, AskNew, Confirm, CheckAbove, UpgradeOne, ChangeOne, UpgradeAbove, UpgradeBoth, ChangeTwo, Obsolete, Retire, UnlockBelow, Unlock, Unwind, Sweep, Ended}
+use Rattle.congee.specs.declared.protocol.phase.Phase.TheVariants.{New, Version, Read, Check, CheckUncopied, CheckMiss, CheckDown, CheckOld, MakeLeaf, MakeGreater, MakeTop, MakeBeside, AskOld, AskNew, Confirm, CheckAbove, UpgradeOne, ChangeOne, UpgradeAbove, UpgradeBelow, ChangeTwo, Obsolete, Retire, UnlockBelow, Unlock, Unwind, Sweep, Ended}
 use Rattle.congee.specs.declared.protocol.turn.Turn.{Turn}
 use Rattle.congee.specs.Heap.{Node, Nothing, Holds, child_for, is_taken, is_free}
 use Rattle.congee.specs.protocol.Events.{upgrade_gives}
-use Rattle.congee.specs.protocol.Steps.{quiet, swept, again, refused, adds, absent_reply, UpgradedOne, UpgradedAbove, UpgradedBoth, PhaseStepped, Stepped}
+use Rattle.congee.specs.protocol.Steps.{quiet, swept, again, refused, adds, absent_reply, UpgradedOne, UpgradedAbove, UpgradedBelow, PhaseStepped, Stepped}
 use Rattle.congee.specs.Keys.{key_bytes}
 use Rattle.congee.specs.Ledger.{Note, is_published, Tree, LockWords}
 use Rattle.congee.specs.declared.protocol.machine.Machine.{Machine}
@@ -91,8 +91,8 @@ module _ {C V : Type 0} (number : C → ℕ) (same : V → V → Bool) (always :
   upgraded_above root z most fail two r turn h' Exhausted m e g = kept_at number same always i a h k kind given given _ turn h' g.1
       (refused_back number same always i a h k kind given h' refusal.Exhausted (back_two number i a h (key_bytes k) two.change _ _ h' t w m.1.2.made g.0))
 
-  upgraded_both : (most : ℕ) (fail : Bool) (two : Two C) (r : Reply V) (turn : Turn C V) (h' : ℕ → Node V) (u : Upgrade) → Known number same always i a h k (key_bytes k) kind given (UpgradeBoth two r)
-      → u ≡ upgrade_gives most (h (number two.at.node)) two.at.version fail → UpgradedBoth number two r h u h' turn → Kept number same always i a h k kind given given turn h'
+  upgraded_both : (most : ℕ) (fail : Bool) (two : Two C) (r : Reply V) (turn : Turn C V) (h' : ℕ → Node V) (u : Upgrade) → Known number same always i a h k (key_bytes k) kind given (UpgradeBelow two r)
+      → u ≡ upgrade_gives most (h (number two.at.node)) two.at.version fail → UpgradedBelow number two r h u h' turn → Kept number same always i a h k kind given given turn h'
   upgraded_both most fail two r turn h' Locked m e g = kept_at number same always i a h k kind given given _ turn h' g.1
       (lock_both number same always i a h k kind given t w two r h' m (locked_taken most (h (number two.at.node)) two.at.version fail e) g.0)
   upgraded_both most fail two r turn h' Failed m e g = kept_at number same always i a h k kind given given _ turn h' g.1
@@ -154,7 +154,7 @@ step_kept number same always most why law i a h root z k kind fail answer given 
     (changed_one number same always i a h k kind t w one r given given' h' m g.1)
 step_kept number same always most why law i a h root z k kind fail answer given (UpgradeAbove two r) given' turn h' t w m g = given_at number same always i a h k kind given t w given' turn h' g.0
     (upgraded_above number same always i a h k kind given t w root z most fail two r turn h' g.1.0 m g.1.1 g.1.2)
-step_kept number same always most why law i a h root z k kind fail answer given (UpgradeBoth two r) given' turn h' t w m g = given_at number same always i a h k kind given t w given' turn h' g.0
+step_kept number same always most why law i a h root z k kind fail answer given (UpgradeBelow two r) given' turn h' t w m g = given_at number same always i a h k kind given t w given' turn h' g.0
     (upgraded_both number same always i a h k kind given t w most fail two r turn h' g.1.0 m g.1.1 g.1.2)
 step_kept number same always most why law i a h root z k kind fail answer given (ChangeTwo two r) given' turn h' t w m g = kept_at number same always i a h k kind given given' _ turn h' g.2
     (changed_two number same always i a h k kind t w two r given given' h' m g.1)
@@ -178,8 +178,8 @@ pub stepped_keeps : {C V : Type 0} (number : C → ℕ) (same : V → V → Bool
     → (m : Machine C V) (h : ℕ → Node V) (fail : Bool) (answer : Option (Option V)) (m' : Machine C V) (h' : ℕ → Node V) (d : Move V)
     → Stepped number same always most why m h fail answer m' h' d → KeepsProtocol number same always m h m' h' d
 stepped_keeps {C} {V} number same always most why law m h fail answer m' h' d s i a z t w known =
-    let r : Kept number same always i a h m.key m.kind m.given m'.given (record { phase = m'.phase; step = d }) h'
-    = step_kept number same always most why law i a h m.root z m.key m.kind fail answer m.given m.phase m'.given (record { phase = m'.phase; step = d }) h' t w known s.step in
+    let r : Kept number same always i a h m.key m.kind m.given m'.given (record { phase = m'.phase; report = d }) h'
+    = step_kept number same always most why law i a h m.root z m.key m.kind fail answer m.given m.phase m'.given (record { phase = m'.phase; report = d }) h' t w known s.step in
     let P : ℕ → Kind V → Type 0 = λ x y. Known number same always i r.notes h' x (key_bytes x) y m'.given m'.phase in
     let Q : ℕ → Type 0 = λ x. P x m.kind in
     let R : Kind V → Type 0 = λ y. P m'.key y in

@@ -93,15 +93,15 @@ module _ {C V : Type 0} (number : C → ℕ) (same : V → V → Bool) (always :
         },
         (λ s.
             let own : (n : ℕ) → (a n).owner ≡ Some i → LockedBy number m.phase n = own_before number same always i a h r.notes h' ms m m' e p.words p.tree r.effect.words r.effect.tree r.effect.fares s in
-            let now : Now_after i a h r.notes h' m m' p.words p.tree r.effect.words r.effect.tree r.effect.fares = step_holds number same always i a h r.notes h' m.key p.words p.tree r.effect.words r.effect.tree r.effect.fares most why m.root m.kind fail answer m.given m.phase m'.given (record { phase = m'.phase; step = d })
+            let now : Now_after i a h r.notes h' m m' p.words p.tree r.effect.words r.effect.tree r.effect.fares = step_holds number same always i a h r.notes h' m.key p.words p.tree r.effect.words r.effect.tree r.effect.fares most why m.root m.kind fail answer m.given m.phase m'.given (record { phase = m'.phase; report = d })
             own
             (mine_before number same always i a h r.notes h' ms m m' e p.words p.tree r.effect.words r.effect.tree r.effect.fares s) o.known known g.step in (
               held_after number same always i a h r.notes h' ms m m' e p.words p.tree r.effect.words r.effect.tree r.effect.fares s now
                   (λ n l x. gone_taken number same always i r.notes h' m.key m.kind m'.given n r.effect.tree m'.phase known l x)
-                  (λ n l. taken_on number same always i a h m.key m.kind m.given n most why m.root fail answer m.phase m'.given (record { phase = m'.phase; step = d }) h' g.step l),
+                  (λ n l. taken_on number same always i a h m.key m.kind m.given n most why m.root fail answer m.phase m'.given (record { phase = m'.phase; report = d }) h' g.step l),
               (λ hands. step_takes number same always most why i a h r.notes h' ms m m' e p.words p.tree r.effect.tree r.effect.fares
-                  (λ n q. (own_rely i a h r.notes h' r.effect).published n tt q) r.effect.words own now.own o.known known m.root fail answer (record { phase = m'.phase; step = d }) refl g.step
-                  (leaves_on number same always i a h h' m.key p.words p.tree most why m.root m.kind fail answer m.given m.phase m'.given (record { phase = m'.phase; step = d }) g.step) hands),
+                  (λ n q. (own_rely i a h r.notes h' r.effect).published n tt q) r.effect.words own now.own o.known known m.root fail answer (record { phase = m'.phase; report = d }) refl g.step
+                  (leaves_on number same always i a h h' m.key p.words p.tree most why m.root m.kind fail answer m.given m.phase m'.given (record { phase = m'.phase; report = d }) g.step) hands),
             )),
       )
 
@@ -114,11 +114,11 @@ module _ {C V : Type 0} (number : C → ℕ) (same : V → V → Bool) (always :
 
   -- how the step is watched: of a point call, or of a scan
   watched_as : (most : ℕ) (why : NodeType → Refusal → Type 0) (h : ℕ → Node V) (m m' : Machine C V) (h' : ℕ → Node V) (d : Move V) (i : ℕ) (fail : Bool) (answer : Option (Option V)) (a : ℕ → Note) (t : Tree a h) (w : LockWords a h)
-      → EachKnown number same always a h i m → Stepped number same always most why m h fail answer m' h' d → StepAnswers same m.key m.kind m.given h (record { phase = m'.phase; step = d }) h'
+      → EachKnown number same always a h i m → Stepped number same always most why m h fail answer m' h' d → StepAnswers same m.key m.kind m.given h (record { phase = m'.phase; report = d }) h'
       → (pairs : Pairs V) (f : Flight V) → IsMapOf h pairs → Follows m f → (m1 : Pairs V) × (f1 : Flight V) × IsMapOf h' m1 × Follows m' f1 × Watched same f pairs answer d f1 m1
   watched_as most why h m m' h' d i fail answer a t w o g n pairs f st (inl x) =
       let y : (m1 : Pairs V) × IsMapOf h' m1 × Watched same (flight m) pairs answer d (flight_in m.key m.kind m'.given m'.phase) m1
-      = watched number same always most why i a h m.root m.key m.kind fail answer m.given m'.given (record { phase = m'.phase; step = d }) h' o.key pairs st m.phase (subst IsOfPoint x.1 x.0) o.known g.step n in
+      = watched number same always most why i a h m.root m.key m.kind fail answer m.given m'.given (record { phase = m'.phase; report = d }) h' o.key pairs st m.phase (subst IsOfPoint x.1 x.0) o.known g.step n in
       let P : ℕ → Kind V → Type 0 = λ u v. Watched same (flight m) pairs answer d (flight_in u v m'.given m'.phase) y.0 in
       let Q : ℕ → Type 0 = λ u. P u m.kind in
       let R : Kind V → Type 0 = λ v. P m'.key v in
@@ -127,14 +127,14 @@ module _ {C V : Type 0} (number : C → ℕ) (same : V → V → Bool) (always :
       (y.0, flight m', y.1, inl (point_stays same (flight m) pairs answer d (flight m') y.0 (subst IsOfPoint x.1 x.0) v, refl), subst S (sym x.1) v)
   watched_as most why h m m' h' d i fail answer a t w o g n pairs f st (inr x) =
       let s : Scan C V = x.0 in
-      let P : Phase C V → Type 0 = λ y. PhaseStepped number same always most why m.root (key_bytes m.key) m.kind fail answer m.given y h m'.given (record { phase = m'.phase; step = d }) h' in
-      let step : PhaseStepped number same always most why m.root (key_bytes m.key) m.kind fail answer m.given (Sweep s) h m'.given (record { phase = m'.phase; step = d }) h' = subst P x.1 g.step in
+      let P : Phase C V → Type 0 = λ y. PhaseStepped number same always most why m.root (key_bytes m.key) m.kind fail answer m.given y h m'.given (record { phase = m'.phase; report = d }) h' in
+      let step : PhaseStepped number same always most why m.root (key_bytes m.key) m.kind fail answer m.given (Sweep s) h m'.given (record { phase = m'.phase; report = d }) h' = subst P x.1 g.step in
       let K : Phase C V → Type 0 = λ y. Known number same always i a h m.key (key_bytes m.key) m.kind m.given y in
       let y = scan_watched number same always a h t w pairs st m.root o.root answer s step.2.0 step.2.1 f x.2 (subst K x.1 o.known) step.2.2 in
-      let is : ◌≡◌ {A = Turn C V} (record { phase = m'.phase; step = d }) (swept step.2.0 step.2.1) = step.2.3 in
+      let is : ◌≡◌ {A = Turn C V} (record { phase = m'.phase; report = d }) (swept step.2.0 step.2.1) = step.2.3 in
       let H : (ℕ → Node V) → Type 0 = λ u. IsMapOf u pairs in
       let D : Move V → Type 0 = λ u. Watched same f pairs answer u y.0 pairs in
-      (pairs, y.0, subst H (sym step.0) st, inr (step.2.0, ap (λ (u : Turn C V). u.phase) is, y.2), subst D (sym (ap (λ (u : Turn C V). u.step) is)) y.1)
+      (pairs, y.0, subst H (sym step.0) st, inr (step.2.0, ap (λ (u : Turn C V). u.phase) is, y.2), subst D (sym (ap (λ (u : Turn C V). u.report) is)) y.1)
 
   -- the step of one call
   pub turned : (most : ℕ) (why : NodeType → Refusal → Type 0) (h : ℕ → Node V) (ms : List (Machine C V)) (s : Step C V) (m m' : Machine C V) (h' : ℕ → Node V) (d : Move V)
@@ -143,7 +143,7 @@ module _ {C V : Type 0} (number : C → ℕ) (same : V → V → Bool) (always :
   turned most why h ms s m m' h' d p e g keeps origin =
       let o : EachKnown number same always p.notes h s.who m = p.each s.who m e in
       let r : Keeps number same always s.who p.notes m h m' h' d = keeps s.who p.notes o.root p.tree p.words o.known in
-      let t : Turn C V = record { phase = m'.phase; step = d } in
+      let t : Turn C V = record { phase = m'.phase; report = d } in
       let does : Does h m h' m' = step_hands number same always s.who p.notes h h' m.key p.words p.tree most why m.root m.kind s.noise.fail s.noise.answer m.given m.phase m'.given t o.known g.step in
       let hands : StepHands number h ms s.who h' (set ms s.who m') = stepped_hands number h ms s.who m m' h' e
       (leaves_on number same always s.who p.notes h h' m.key p.words p.tree most why m.root m.kind s.noise.fail s.noise.answer m.given m.phase m'.given t g.step) does in

@@ -6,7 +6,7 @@ use Rattle.congee.specs.declared.forms.base_node.NodeType.{NodeType}
 use Rattle.congee.specs.declared.protocol.store.Refusal.{Refusal}
 use Rattle.congee.specs.declared.protocol.phase.Kind.{Kind}
 use Rattle.congee.specs.declared.protocol.phase.Phase.{Phase}
-use Rattle.congee.specs.declared.protocol.phase.Phase.TheVariants.{ChangeOne, UpgradeBoth, ChangeTwo, Obsolete, Retire, UnlockBelow, Unlock, Unwind}
+use Rattle.congee.specs.declared.protocol.phase.Phase.TheVariants.{ChangeOne, UpgradeBelow, ChangeTwo, Obsolete, Retire, UnlockBelow, Unlock, Unwind}
 use Rattle.congee.specs.declared.protocol.turn.Turn.{Turn}
 use Rattle.congee.specs.declared.protocol.machine.Machine.{Machine}
 use Rattle.congee.specs.declared.protocol.run.Step.{Step}
@@ -79,7 +79,7 @@ module _ {C V : Type 0} (number : C → ℕ) (same : V → V → Bool) (always :
   -- a locked node is in the tree, or the one that was taken out
   locked_linked : Tree a h → (s : Phase C V) (n : ℕ) → Known number same always i a h k (key_bytes k) kind given s → LockedBy number s n → ((a n).status ≡ Linked) ⊎ TakenBy number s n
   locked_linked t (ChangeOne one r) n x l = inl (linked_at (number one.at.node) n l x.1.holding.linked)
-  locked_linked t (UpgradeBoth two r) n x l = inl (linked_at (number two.above.seat.node) n l x.1.2.above.holding.linked)
+  locked_linked t (UpgradeBelow two r) n x l = inl (linked_at (number two.above.seat.node) n l x.1.2.above.holding.linked)
   locked_linked t (ChangeTwo two r) n x (inl l) = inl (linked_at (number two.above.seat.node) n l x.2.above.holding.linked)
   locked_linked t (ChangeTwo two r) n x (inr l) = inl (linked_at (number two.at.node) n l (t.down (number two.above.seat.node) _ (number two.at.node) x.2.above.holding.linked x.2.above.child).linked)
   locked_linked t (Obsolete m p r) n x (inl l) = inl (linked_at (number p) n l x.above.linked)

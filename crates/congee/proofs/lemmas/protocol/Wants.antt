@@ -10,7 +10,7 @@ use Rattle.congee.specs.declared.protocol.phase.Double.{Double}
 use Rattle.congee.specs.declared.protocol.phase.Double.TheVariants.{Unlink, Grow, GrowLink, Split}
 use Rattle.congee.specs.declared.protocol.phase.Two.{Two}
 use Rattle.congee.specs.declared.protocol.phase.Phase.{Phase}
-use Rattle.congee.specs.declared.protocol.phase.Phase.TheVariants.{New, Version, Read, Check, CheckUncopied, CheckMiss, CheckDown, CheckOld, MakeLeaf, MakeGreater, MakeTop, MakeBeside, AskOld, AskNew, Confirm, CheckAbove, UpgradeOne, ChangeOne, UpgradeAbove, UpgradeBoth, ChangeTwo, Obsolete, Retire, UnlockBelow, Unlock, Unwind, Sweep, Ended}
+use Rattle.congee.specs.declared.protocol.phase.Phase.TheVariants.{New, Version, Read, Check, CheckUncopied, CheckMiss, CheckDown, CheckOld, MakeLeaf, MakeGreater, MakeTop, MakeBeside, AskOld, AskNew, Confirm, CheckAbove, UpgradeOne, ChangeOne, UpgradeAbove, UpgradeBelow, ChangeTwo, Obsolete, Retire, UnlockBelow, Unlock, Unwind, Sweep, Ended}
 use Rattle.congee.specs.Heap.{Node, Hung, Nothing, Below, Stands, child_for}
 use Rattle.congee.specs.protocol.Events.{MayChange, HoldsAlike, Parts}
 use Rattle.congee.specs.protocol.Steps.{value_hung, MayBackOne, MayBackTwo, MayBackLeaf, Changeable, Blank, MayChangeOne, MayChangeTwo, MayStep}
@@ -185,7 +185,7 @@ module _ {C V : Type 0} (number : C → ℕ) (same : V → V → Bool) (always :
   wants kind given (UpgradeOne one r) m = (there (number one.at.node) m.1.1.fresh.seated.published, may_back_one one.change m.1.1.made)
   wants kind given (ChangeOne one r) m = one_wants one one.change m.0 given refl m.1 m.2 m.1.made
   wants kind given (UpgradeAbove two r) m = (there (number two.above.seat.node) m.1.2.above.fresh.seated.published, may_back_two two.change _ _ m.1.2.made)
-  wants kind given (UpgradeBoth two r) m = (there (number two.at.node) m.1.2.fresh.seated.published, may_back_two two.change _ _ m.1.2.made)
+  wants kind given (UpgradeBelow two r) m = (there (number two.at.node) m.1.2.fresh.seated.published, may_back_two two.change _ _ m.1.2.made)
   wants kind given (ChangeTwo two r) m = two_wants two two.change m.0 m.1 given refl m.2 m.3
   wants kind given (Obsolete n p r) m = (there (number n) (ap is_published m.gone), owner_locked a h w (number n) i m.owner)
   wants kind given (Retire n p r) m = (there (number n) (ap is_published m.0.gone), m.1, m.0.unretired)

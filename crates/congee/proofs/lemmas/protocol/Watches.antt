@@ -6,14 +6,14 @@ use Rattle.judge.specs.declared.journal.Call.{Call}
 use Rattle.judge.specs.declared.journal.Call.TheVariants as call
 use Rattle.judge.specs.declared.journal.Reply.{Reply}
 use Rattle.judge.specs.declared.journal.Reply.TheVariants as reply
-use Rattle.judge.specs.Answer.{Pairs, set_at, answer}
-use Rattle.judge.proofs.Maps.{key_of, leaves, reply_on, get-set_at_here, get-set_at_apart, answer_at}
+use Rattle.judge.specs.Answer.{Pairs, set_at, key_of, leaves, reply_on, answer}
+use Rattle.judge.proofs.Maps.{get-set_at_here, get-set_at_apart, answer_at}
 use Rattle.congee.specs.declared.forms.base_node.NodeType.{NodeType}
 use Rattle.congee.specs.declared.protocol.store.Refusal.{Refusal}
 use Rattle.congee.specs.declared.protocol.phase.Kind.{Kind}
 use Rattle.congee.specs.declared.protocol.phase.Kind.TheVariants.{Get, Insert, Remove, ComputePresent, ComputeInsert, Exchange}
 use Rattle.congee.specs.declared.protocol.phase.Phase.{Phase}
-use Rattle.congee.specs.declared.protocol.phase.Phase.TheVariants.{New, Version, Read, Check, CheckUncopied, CheckMiss, CheckDown, CheckOld, MakeLeaf, MakeGreater, MakeTop, MakeBeside, AskOld, AskNew, Confirm, CheckAbove, UpgradeOne, ChangeOne, UpgradeAbove, UpgradeBoth, ChangeTwo, Obsolete, Retire, UnlockBelow, Unlock, Unwind, Sweep, Ended}
+use Rattle.congee.specs.declared.protocol.phase.Phase.TheVariants.{New, Version, Read, Check, CheckUncopied, CheckMiss, CheckDown, CheckOld, MakeLeaf, MakeGreater, MakeTop, MakeBeside, AskOld, AskNew, Confirm, CheckAbove, UpgradeOne, ChangeOne, UpgradeAbove, UpgradeBelow, ChangeTwo, Obsolete, Retire, UnlockBelow, Unlock, Unwind, Sweep, Ended}
 use Rattle.congee.specs.declared.protocol.turn.Turn.{Turn}
 use Rattle.congee.specs.Heap.{Node, is_taken, version_of}
 use Rattle.congee.specs.protocol.Steps.{quiet, answered, finished, decided, PhaseStepped}
@@ -88,7 +88,7 @@ heeds same k (Exchange x) given found c q r i e f = tt
 
 module _ {C V : Type 0} (same : V → V → Bool) (k : ℕ) (kind : Kind V) (v v1 v' : Option V) (q : Question V) (h h' : ℕ → Node V) (m : Pairs V) (p : k < 2 ^ 64) (s : IsMapOf h m) where
   abbrev pub Out : Turn C V → Type 0
-  Out t = (m' : Pairs V) × IsMapOf h' m' × PendingMoves same k kind v1 q m t.step.decided t.step.outcome (flight_in k kind v' t.phase) m'
+  Out t = (m' : Pairs V) × IsMapOf h' m' × PendingMoves same k kind v1 q m t.report.decided t.report.outcome (flight_in k kind v' t.phase) m'
 
   abbrev pub Then : Turn C V → Type 0
   Then t = StepAnswers same k kind v h t h' → Out t
@@ -119,21 +119,21 @@ module _ {C V : Type 0} (same : V → V → Bool) (k : ℕ) (kind : Kind V) (v v
 module _ {C V : Type 0} (same : V → V → Bool) (k : ℕ) (kind : Kind V) (v v1 v' : Option V) (h h' : ℕ → Node V) (m : Pairs V) (p : k < 2 ^ 64) (s : IsMapOf h m) where
   -- a call that took effect goes on with its reply
   pub settled : (r : Reply V) (st : Phase C V) (t : Turn C V) → t ≡ quiet st → flight_in k kind v' st ≡ Decided r → StepAnswers same k kind v h t h'
-      → (m' : Pairs V) × IsMapOf h' m' × Watched same (Decided r) m None t.step (flight_in k kind v' t.phase) m'
+      → (m' : Pairs V) × IsMapOf h' m' × Watched same (Decided r) m None t.report (flight_in k kind v' t.phase) m'
   settled r st t e f =
-      let P : Turn C V → Type 0 = λ z. StepAnswers same k kind v h z h' → (m' : Pairs V) × IsMapOf h' m' × Watched same (Decided r) m None z.step (flight_in k kind v' z.phase) m' in
+      let P : Turn C V → Type 0 = λ z. StepAnswers same k kind v h z h' → (m' : Pairs V) × IsMapOf h' m' × Watched same (Decided r) m None z.report (flight_in k kind v' z.phase) m' in
       subst P (sym e) (λ x. (m, standing_same h h' m x s, (refl, f, refl)))
 
   pub ends : (r : Reply V) (t : Turn C V) → t ≡ finished r → StepAnswers same k kind v h t h'
-      → (m' : Pairs V) × IsMapOf h' m' × Watched same (Decided r) m None t.step (flight_in k kind v' t.phase) m'
+      → (m' : Pairs V) × IsMapOf h' m' × Watched same (Decided r) m None t.report (flight_in k kind v' t.phase) m'
   ends r t e =
-      let P : Turn C V → Type 0 = λ z. StepAnswers same k kind v h z h' → (m' : Pairs V) × IsMapOf h' m' × Watched same (Decided r) m None z.step (flight_in k kind v' z.phase) m' in
+      let P : Turn C V → Type 0 = λ z. StepAnswers same k kind v h z h' → (m' : Pairs V) × IsMapOf h' m' × Watched same (Decided r) m None z.report (flight_in k kind v' z.phase) m' in
       subst P (sym e) (λ x. (m, standing_same h h' m x s, (refl, (refl, refl), refl)))
 
   pub rests : (t : Turn C V) → t ≡ quiet Ended → StepAnswers same k kind v h t h'
-      → (m' : Pairs V) × IsMapOf h' m' × Watched same Over m None t.step (flight_in k kind v' t.phase) m'
+      → (m' : Pairs V) × IsMapOf h' m' × Watched same Over m None t.report (flight_in k kind v' t.phase) m'
   rests t e =
-      let P : Turn C V → Type 0 = λ z. StepAnswers same k kind v h z h' → (m' : Pairs V) × IsMapOf h' m' × Watched same Over m None z.step (flight_in k kind v' z.phase) m' in
+      let P : Turn C V → Type 0 = λ z. StepAnswers same k kind v h z h' → (m' : Pairs V) × IsMapOf h' m' × Watched same Over m None z.report (flight_in k kind v' z.phase) m' in
       subst P (sym e) (λ x. (m, standing_same h h' m x s, (refl, refl, refl)))
 
 -- no question is open
@@ -154,7 +154,7 @@ closed (reply.Exchange x) = tt
 module _ {C V : Type 0} (number : C → ℕ) (same : V → V → Bool) (always : Bool) (most : ℕ) (why : NodeType → Refusal → Type 0) (i : ℕ) (a : ℕ → Note) (h : ℕ → Node V) (root : C) (k : ℕ) (kind : Kind V)
     (fail : Bool) (told : Option (Option V)) (v v' : Option V) (t : Turn C V) (h' : ℕ → Node V) (p : k < 2 ^ 64) (m : Pairs V) (st : IsMapOf h m) where
   abbrev pub Next : Flight V → Type 0
-  Next f = (m' : Pairs V) × IsMapOf h' m' × Watched same f m told t.step (flight_in k kind v' t.phase) m'
+  Next f = (m' : Pairs V) × IsMapOf h' m' × Watched same f m told t.report (flight_in k kind v' t.phase) m'
 
   by_shape : StepAnswers same k kind v h t h' → StepShape k kind v v v' Unasked t → Next (Pending k kind v Unasked)
   by_shape n x = from_shape same k kind v v v' Unasked h h' m p st t x n
@@ -195,7 +195,7 @@ module _ {C V : Type 0} (number : C → ℕ) (same : V → V → Bool) (always :
   watched (UpgradeOne one r) pf c g n = by_work r n (one_upgraded number k kind v v' g.0 (heeding r) root one r h g.1.0 h' t (ripe_at_work r) g.1.2)
   watched (ChangeOne one r) pf c g n = by_work r n (Takes (Unlock one.at.node r) r g.2 refl refl refl (ripe_at_work r))
   watched (UpgradeAbove two r) pf c g n = by_work r n (above_upgraded number k kind v v' g.0 (heeding r) root two r h g.1.0 h' t (ripe_at_work r) g.1.2)
-  watched (UpgradeBoth two r) pf c g n = by_work r n (both_upgraded number k kind v v' g.0 (heeding r) two r h g.1.0 h' t (ripe_at_work r) g.1.2)
+  watched (UpgradeBelow two r) pf c g n = by_work r n (both_upgraded number k kind v v' g.0 (heeding r) two r h g.1.0 h' t (ripe_at_work r) g.1.2)
   watched (ChangeTwo two r) pf c g n = by_work r n (change_shape k kind v v' two r two.change t g.2)
   watched (Obsolete x q r) pf c g n = settled same k kind v v v' h h' m p st r (Retire x q r) t g.2 refl n
   watched (Retire x q r) pf c g n = settled same k kind v v v' h h' m p st r (Unlock q r) t g.2 refl n

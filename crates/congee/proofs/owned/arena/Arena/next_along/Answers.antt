@@ -59,7 +59,6 @@ push-requires g c =
     let n = c.in-Some.field-0.node in
     let f = c.in-Some.field-0.from in
     let way : IsCursor s (xs ++ step n f ∷ []) = subst (IsCursor s) c.in-Some.ensures.items c.loop-at.invariant.0 in
-    let last = last_of s t xs (step n f) way in
     let few = few_before s t xs (step n f) way in
     (omega arith, few)
 
@@ -72,7 +71,6 @@ unreachable-requires g c =
     let f = c.in-Some.field-0.from in
     let way : IsCursor s (xs ++ step n f ∷ []) = subst (IsCursor s) c.in-Some.ensures.items c.loop-at.invariant.0 in
     let last = last_of s t xs (step n f) way in
-    let few = few_before s t xs (step n f) way in
     let node : get s n ≡ Some c.index-node.result.now = search rules in
     nothing_blank s t n c.in-Some-first_from.byte last.stands (child_there s n c.in-Some-first_from.byte c.index-node.result.now c.in-Some-first_from.child.now Blank node c.in-Some-first_from.ensures.here c.in-Blank.is)
 
@@ -85,7 +83,6 @@ key_of-requires g c =
     let f = c.in-Some.field-0.from in
     let way : IsCursor s (xs ++ step n f ∷ []) = subst (IsCursor s) c.in-Some.ensures.items c.loop-at.invariant.0 in
     let last = last_of s t xs (step n f) way in
-    let few = few_before s t xs (step n f) way in
     let node : get s n ≡ Some c.index-node.result.now = search rules in
     let b = c.in-Some-first_from.byte in
     let child : (heap_of s n).children b ≡ Holds c.in-Value.value = child_there s n b c.index-node.result.now c.in-Some-first_from.child.now (Value c.in-Value.value) node c.in-Some-first_from.ensures.here c.in-Value.is in
@@ -94,13 +91,11 @@ key_of-requires g c =
 pub returns-in-Value-clause-cursor : goal.returns-in-Value-clause-cursor
 returns-in-Value-clause-cursor g c =
     let s = c.args.self.now.nodes in
-    let t = c.requires.tree in
     let xs = c.pop.new.self.items in
     let n = c.in-Some.field-0.node in
     let f = c.in-Some.field-0.from in
     let way : IsCursor s (xs ++ step n f ∷ []) = subst (IsCursor s) c.in-Some.ensures.items c.loop-at.invariant.0 in
     let b = c.in-Some-first_from.byte in
-    let past : f ≤ b = c.in-Some-first_from.ensures.past in
     let byte : b < 256 = search rules in
     let small : b + 1 ≤ 256 = omega (arith, byte) in
     subst (IsCursor s) (sym c.push.ensures.items) (cursor_moved s xs n f (b + 1) small way)
@@ -113,7 +108,6 @@ returns-in-Value-clause-less g c =
     let n = c.in-Some.field-0.node in
     let f = c.in-Some.field-0.from in
     let way : IsCursor s (xs ++ step n f ∷ []) = subst (IsCursor s) c.in-Some.ensures.items c.loop-at.invariant.0 in
-    let last = last_of s t xs (step n f) way in
     let few = few_before s t xs (step n f) way in
     let b = c.in-Some-first_from.byte in
     let past : f ≤ b = c.in-Some-first_from.ensures.past in
@@ -133,12 +127,9 @@ returns-in-Value-clause-first g c =
     let f = c.in-Some.field-0.from in
     let way : IsCursor s (xs ++ step n f ∷ []) = subst (IsCursor s) c.in-Some.ensures.items c.loop-at.invariant.0 in
     let last = last_of s t xs (step n f) way in
-    let few = few_before s t xs (step n f) way in
     let node : get s n ≡ Some c.index-node.result.now = search rules in
     let b = c.in-Some-first_from.byte in
     let past : f ≤ b = c.in-Some-first_from.ensures.past in
-    let byte : b < 256 = search rules in
-    let small : b + 1 ≤ 256 = omega (arith, byte) in
     let child : (heap_of s n).children b ≡ Holds c.in-Value.value = child_there s n b c.index-node.result.now c.in-Some-first_from.child.now (Value c.in-Value.value) node c.in-Some-first_from.ensures.here c.in-Value.is in
     let same : SameAhead s c.args.cursor.now.items (xs ++ step n f ∷ []) = subst (SameAhead s c.args.cursor.now.items) c.in-Some.ensures.items c.loop-at.invariant.1.0 in
     let prefix : c.prefix.result.now ≡ (heap_of s n).prefix = c.prefix.ensures.bytes ∙ sym (prefix_is s n c.index-node.result.now node) in
