@@ -389,18 +389,16 @@ fn a_collection_takes_eight_bags(rt: HostRuntime) -> Result<(), Fail> {
     Ok(())
 }
 
-/// How many bags after the first one were refused when 32 are queued from an empty queue, each asked for again once.
-fn refused_later(world: &mut Jobs) -> u32 {
-    let mut later = 0;
+/// Whether a bag after the first one is refused when 32 are queued from an empty queue. A first one that is refused is
+/// asked for again.
+fn refuses_later_bags(world: &mut Jobs) -> bool {
     for job in 0..2049 {
-        if world.defer(0, ()).is_ok() {
-            continue;
-        }
-        if job > 64 || world.defer(0, ()).is_err() {
-            later += 1;
+        let refused = world.defer(0, ()).is_err();
+        if refused && (job > 64 || world.defer(0, ()).is_err()) {
+            return true;
         }
     }
-    later
+    false
 }
 
 /// A block of 32 bags is made with the first of them, so the others need no memory.
@@ -412,7 +410,7 @@ fn the_first_bag_of_a_block_alone_asks_for_memory(rt: HostRuntime) -> Result<(),
         (Act::Call(0, Op::Pin), Answer::Done),
     ];
     assert!(rt; first_wrong(&mut world, &rows).is_none());
-    assert!(rt; refused_later(&mut world) == 0);
+    assert!(rt; !refuses_later_bags(&mut world));
     Ok(())
 }
 
