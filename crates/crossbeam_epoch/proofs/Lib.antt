@@ -21,6 +21,7 @@ pub mod Tables
 pub mod Stages
 pub mod Told
 pub mod Undated
+pub mod Updates
 pub mod Whole
 pub mod Within
 pub mod Tags

@@ -1,5 +1,5 @@
--- What a compare-and-exchange answers.
-use Rattle.std.specs.Prelude.{◌≡◌, ◌≢◌, ◌<◌, ℕ, Bool, true, Option, Result, MatchResult}
+-- What a compare-and-exchange answers, and an update.
+use Rattle.std.specs.Prelude.{◌≡◌, ◌≢◌, ◌<◌, ℕ, Bool, true, false, Option, Some, IfSome, Result, MatchResult}
 use Rattle.std.specs.Bool.{MatchBool}
 use Rattle.crossbeam_epoch.specs.declared.face.atomic.CompareExchangeError.{CompareExchangeError}
 use Rattle.crossbeam_epoch.specs.declared.face.link.Link.{Link}
@@ -18,3 +18,11 @@ IsExchange tag align leads elsewhere refusable cause before new r =
     (λ s. (s.link.tag ≡ tag) × leads s.link.site)
     (λ e. (e.current.link ≢ before) × (e.current.link.tag < align) × (e.new ≡ new)))
     (λ e. (e.1 ≡ new) × MatchBool elsewhere (e.0 ≡ Foreign) ((e.0 ≡ cause) × (refusable ≡ true)))
+
+-- the closure gave a pointer to write for this one
+abbrev pub GaveNext : {F S : Type 0} → (F → S → Option S → F → Type 0) → (S → Bool) → S → Type 0
+GaveNext {F} {S} step elsewhere s = (before : F) × (after : F) × (next : S) × step before s (Some next) after × (elsewhere next ≡ false)
+
+-- it gave none for this one, or one that leads to another collector
+abbrev pub GaveNone : {F S : Type 0} → (F → S → Option S → F → Type 0) → (S → Bool) → S → Type 0
+GaveNone {F} {S} step elsewhere s = (before : F) × (after : F) × (given : Option S) × step before s given after × IfSome given (λ n. elsewhere n ≡ true)

@@ -1,9 +1,10 @@
 //! Pointers that threads share.
 
-ghost use Rattle.std.specs.Prelude.{◌≡◌, ◌≢◌, ◌⊎◌, ◌%◌, ◌<◌, true, MatchResult, IfErr, IfSome, IsErr};
-ghost use Rattle.crossbeam_epoch.specs.Face.Exchange.{IsExchange};
+ghost use Rattle.std.specs.Prelude.{◌≡◌, ◌≢◌, ◌⊎◌, ◌%◌, ◌<◌, true, MatchResult, IfErr, IfSome, IsErr, MatchOption};
+ghost use Rattle.crossbeam_epoch.specs.Face.Exchange.{IsExchange, GaveNext, GaveNone};
+ghost use Rattle.crossbeam_epoch.specs.Face.Pointer.{is_foreign};
 
-use crate::face::guard::{Guard, Protects};
+use crate::face::guard::Guard;
 use crate::face::link::{Link, Tagged};
 use crate::face::ordering::CompareAndSetOrdering;
 use crate::face::owned::Owned;
@@ -243,23 +244,26 @@ impl<T: Pointable + Drop> Atomic<T> {
     }
 
     /// Writes what `f` gives for the pointer, again where another thread wrote in between. Gives the pointer before,
-    /// or the one for which `f` gave `None`. `f` runs while no lock is held.
-    pub fn fetch_update<'g, R: Wait, G: Protects, F: FnMut(Shared<'g, T>) -> Option<Shared<'g, T>>>(
+    /// or the one for which `f` gave `None`; a pointer to another collector's cell counts as `None`, and isn't written.
+    /// `f` runs while no lock is held.
+    pub fn fetch_update<'g, R: Wait, J: Task, F: FnMut(Shared<'g, T>) -> Option<Shared<'g, T>>>(
         &self,
         rt: &R,
         _success: Ordering,
         _failure: Ordering,
-        _guard: &'g G,
+        guard: &'g Guard<'_, T, J>,
         mut f: F,
     ) -> Result<Shared<'g, T>, Shared<'g, T>>
     where
         F: Drop,
         requires { F.IsAlwaysCallable f }
-        ensures { MatchResult result (λ s. s.link.tag < T.ALIGN) (λ s. s.link.tag < T.ALIGN) }
+        ensures tag { MatchResult result (λ s. s.link.tag < T.ALIGN) (λ s. s.link.tag < T.ALIGN) }
+        ensures asked { MatchResult result (GaveNext F.step (λ s. is_foreign s.link.site guard.now.collector.now.id)) (GaveNone F.step (λ s. is_foreign s.link.site guard.now.collector.now.id)) }
     {
+        let collector = guard.collector.id();
         for _ in rt.forever() {
             let before = self.tagged.lock(rt).load();
-            let Some(next) = ask(&mut f, before) else {
+            let Some(next) = ask(&mut f, Shared::of(before), collector) else {
                 return Err(Shared::of(before));
             };
             if self.tagged.lock(rt).update(before, next) {
@@ -328,16 +332,19 @@ impl<T: Pointable + Drop> Atomic<T> {
     }
 }
 
-/// What `f` gives for a pointer.
-fn ask<'g, T, F: FnMut(Shared<'g, T>) -> Option<Shared<'g, T>>>(
+/// What `f` gives for a pointer, where it leads to no cell of another collector than this one.
+fn ask<'g, T: Pointable + Drop, F: FnMut(Shared<'g, T>) -> Option<Shared<'g, T>>>(
     f: &mut F,
-    before: Link,
+    before: Shared<'g, T>,
+    collector: u64,
 ) -> Option<Link>
     requires { F.IsAlwaysCallable f.old }
-    ensures { F.IsAlwaysCallable f.new }
+    ensures callable { F.IsAlwaysCallable f.new }
+    ensures asked { MatchOption result (GaveNone F.step (λ s. is_foreign s.link.site collector) before.entry) (λ _. GaveNext F.step (λ s. is_foreign s.link.site collector) before.entry) }
 {
-    match f(Shared::of(before)) {
-        Some(next) => Some(next.link()),
+    match f(before) {
+        Some(next) if !next.is_foreign(collector) => Some(next.link()),
+        Some(_) => None,
         None => None,
     }
 }

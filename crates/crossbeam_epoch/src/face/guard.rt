@@ -23,11 +23,6 @@ pub struct Guard<'c, T, J: Task = Job> {
     pub(crate) epoch: u64,
 }
 
-/// What a pointer's lifetime may rest on: a guard.
-pub trait Protects {}
-
-impl<T, J: Task> Protects for Guard<'_, T, J> {}
-
 impl<'c, T: Drop, J: Task> Guard<'c, T, J> {
     /// An epoch that was read after the pin was published.
     pub fn pinned_at(&self) -> u64

@@ -546,6 +546,17 @@ fn refuses<R: Wait>(rt: &R, other: &Collector<Item>, link: Link) -> Result<bool,
     Ok(refused)
 }
 
+/// Whether an update for which the closure gives this pointer writes nothing.
+fn writes_nothing_of<R: Wait>(
+    rt: &R,
+    root: &Atomic<Item>,
+    link: Link,
+    guard: &Guard<'_, Item>,
+) -> bool {
+    let given = root.fetch_update(rt, SeqCst, SeqCst, guard, |_pointer| Some(Shared::of(link)));
+    given.is_err() && root.load(rt, SeqCst, guard).is_null()
+}
+
 /// Whether a pointer of one collector is refused under a guard of another.
 fn is_foreign<R: Wait>(rt: &R, link: Link, theirs: &Guard<'_, Item>) -> bool {
     let root: Atomic<Item> = Atomic::null();
@@ -554,7 +565,8 @@ fn is_foreign<R: Wait>(rt: &R, link: Link, theirs: &Guard<'_, Item>) -> bool {
         Err((fault, back)) => fault == Fault::Foreign && back == link,
     };
     let exchanged = exchange(rt, &root, Link::null(), link, theirs).is_none();
-    refused && exchanged && number_there(rt, link, theirs).is_none()
+    let kept = writes_nothing_of(rt, &root, link, theirs);
+    refused && exchanged && kept && number_there(rt, link, theirs).is_none()
 }
 
 /// Whether two values that are boxed and placed are read and taken out again.
