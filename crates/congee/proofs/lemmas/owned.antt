@@ -4,6 +4,7 @@ pub mod Clears
 pub mod Cursors
 pub mod Drains
 pub mod Edits
+pub mod Filled
 pub mod Joins
 pub mod Moves
 pub mod OwnerLemmas

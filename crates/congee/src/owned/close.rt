@@ -8,6 +8,7 @@ ghost use Rattle.congee.specs.owned.Levels.{nodes_of};
 ghost use Rattle.congee.specs.owned.Sizes.{bytes_of};
 ghost use Rattle.congee.specs.owned.Stats.{root_alone};
 ghost use Rattle.congee.specs.owned.Table.{pairs_of};
+ghost use Rattle.congee.specs.owned.Wanted.{WantsLeaf, wants_of};
 
 use crate::allocator::Allocator;
 use crate::forms::base_node::Node;
@@ -36,6 +37,7 @@ impl<P: Stored, A: Allocator> Arena<P, A> {
         ensures tree { IsTree self.new.nodes }
         ensures empty { (key : List ℕ) → value_at (heap_of self.new.nodes) key ≡ None }
         ensures nodes { nodes_of self.new.nodes ≡ root_alone }
+        ensures wants { WantsLeaf (wants_of self.new.nodes) }
         ensures bytes { bytes_of self.new.nodes ≡ 2104 }
         ensures balance { A.charged_of self.new.allocator + bytes_of self.old.nodes ≡ A.charged_of self.old.allocator + bytes_of self.new.nodes }
         ensures limit { A.limit_of self.new.allocator ≡ A.limit_of self.old.allocator }

@@ -165,6 +165,7 @@ impl<P: Stored, A: Allocator> Arena<P, A> {
         requires tree { IsTree self.old.nodes }
         requires way { OnWay self.old.nodes key.now at }
         requires held { IsHeld self.old.nodes key.now at }
+        requires others { (x : Form ℕ P) → get self.old.nodes at ≡ Some x → map.len (children_of x) ≢ 1 }
         ensures tree { IsTree self.new.nodes }
         ensures change { MapChange self.old.nodes self.new.nodes key.now (Some result) None }
         ensures bytes { bytes_of self.new.nodes ≡ bytes_of self.old.nodes }

@@ -9,7 +9,7 @@ ghost use Rattle.congee.specs.owned.Stats.{root_alone};
 ghost use Rattle.congee.specs.owned.Changes.{MapChange};
 ghost use Rattle.std.specs.Prelude.{List};
 ghost use Rattle.congee.specs.owned.OwnedSteps.{SameNodes, IsRefusal, settled};
-ghost use Rattle.congee.specs.owned.Wanted.{IsRefused, gain_of, freed_of, freed_by, wants_at, lone_at};
+ghost use Rattle.congee.specs.owned.Wanted.{IsRefused, WantsLeaf, gain_of, freed_of, freed_by, wants_at, wants_of, lone_at};
 
 use crate::allocator::{Allocator, OOMError};
 use crate::forms::base_node::{Node, NodeType};
@@ -25,6 +25,7 @@ impl<P: Stored, A: Allocator> Arena<P, A> {
         ensures tree { IfOk result (λ t. IsTree t.nodes) }
         ensures empty { IfOk result (λ t. (key : List ℕ) → value_at (heap_of t.nodes) key ≡ None) }
         ensures nodes { IfOk result (λ t. nodes_of t.nodes ≡ root_alone) }
+        ensures wants { IfOk result (λ t. WantsLeaf (wants_of t.nodes)) }
         ensures bytes { IfOk result (λ t. bytes_of t.nodes ≡ 2104) }
         ensures charged { IfOk result (λ t. A.charged_of t.allocator ≡ A.charged_of allocator + 2104) }
         ensures limit { IfOk result (λ t. A.limit_of t.allocator ≡ A.limit_of allocator) }

@@ -154,6 +154,7 @@ impl Region {
 }
 
 impl<C: NodeName> Path<C> {
+    /// Puts a rung at the end. Fewer than eight are there, so the last arm is the eighth place.
     fn push(&mut self, rung: Rung<C>)
         requires { self.old.len < 8 }
         ensures { self.new ≡ pushed self.old rung }
@@ -171,6 +172,7 @@ impl<C: NodeName> Path<C> {
         self.len += 1;
     }
 
+    /// The last rung. At most eight are there, so the last arm is the eighth.
     fn last(&self) -> Option<Rung<C>>
         requires { self.now.len ≤ 8 }
         ensures { result ≡ last_of self.now }
@@ -190,6 +192,7 @@ impl<C: NodeName> Path<C> {
 }
 
 impl<C: NodeName> Rung<C> {
+    /// The same node, with the bytes up to this one behind.
     fn moved(self, byte: u8) -> Self
         ensures { result ≡ moved self byte }
     {
@@ -298,6 +301,7 @@ impl<C: NodeName, P: Payload> Sweep<C, P> {
         })
     }
 
+    /// Begins at the root. Where the range is empty, or there is no place, the scan is over.
     fn begin(&mut self, root: C) -> Told<P>
         ensures { (self.new, result) ≡ begins root self.old }
     {
@@ -329,6 +333,8 @@ impl<C: NodeName, P: Payload> Sweep<C, P> {
         }
     }
 
+    /// Looks at a node that has this version, or leaves it where no key below it is in the range. One that is locked or
+    /// was taken out has none, and the scan begins anew.
     fn enter(&mut self, root: C, node: C, region: Region, version: Option<u64>) -> Told<P>
         requires depth { region.depth ≤ 7 }
         requires fits { self.old.above.len ≤ 8 }
@@ -350,6 +356,7 @@ impl<C: NodeName, P: Payload> Sweep<C, P> {
         }
     }
 
+    /// Checks the node that was read. What a changed node gave is dropped, and the scan begins anew.
     fn check<S: Store<C, P>>(
         &mut self,
         store: &S,
