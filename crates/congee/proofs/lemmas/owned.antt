@@ -8,6 +8,7 @@ pub mod Filled
 pub mod Joins
 pub mod Moves
 pub mod OwnerLemmas
+pub mod Popped
 pub mod Puts
 pub mod RangeLemmas
 pub mod Root

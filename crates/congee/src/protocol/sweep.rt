@@ -1,10 +1,11 @@
 //! A scan of a tree that others change meanwhile, as a machine that takes one step at a time.
-ghost use Rattle.std.specs.Prelude.{◌≡◌, ◌+◌, ◌<◌, ◌≤◌, ◌==◌, length, true, false, cond};
+ghost use Rattle.std.specs.Prelude.{◌≡◌, ◌+◌, ◌*◌, ◌-◌, ◌<◌, ◌≤◌, ◌==◌, length, true, false, cond};
 ghost use Rattle.congee.specs.Heap.{Stands, is_taken};
 ghost use Rattle.congee.specs.protocol.Regions.{IsRegion};
 ghost use Rattle.congee.specs.declared.protocol.sweep.Stage.TheVariants as stage;
 ghost use Rattle.congee.specs.protocol.SweepSteps.{whole, is_outside, first_byte, last_byte, pushed, popped, last_of, moved, goes, over, anew, left, entered, filled, begins, new_sweep, IsFollowed, IsFollowedIf, SweepStepped, MayFollow, MaySweep};
 
+use crate::forms::prefix::MAX_PREFIX_LEN;
 use crate::protocol::store::{Least, NodeName, Refusal, Region, Seat, Seen, Store};
 use judge::Payload;
 use std::mem;
@@ -113,6 +114,14 @@ impl Region {
         }
     }
 
+    /// How many bits a key has behind the byte after the prefix.
+    fn shift(self) -> u32
+        requires { self.depth ≤ 7 }
+        ensures { result ≡ 8 * (7 - self.depth) }
+    {
+        8 * (MAX_PREFIX_LEN - self.depth) as u32
+    }
+
     /// Whether no key of the range is among them.
     fn is_outside(self, start: u64, end: u64) -> bool
         requires { self.depth ≤ 7 }
@@ -120,7 +129,7 @@ impl Region {
     {
         if self.base < end {
             if self.base < start {
-                (start - self.base) >> (8 * (7 - self.depth as u32)) > 255
+                (start - self.base) >> self.shift() > 255
             } else {
                 false
             }
@@ -135,7 +144,7 @@ impl Region {
         ensures { result ≡ first_byte start self }
     {
         if self.base < start {
-            let byte = (start - self.base) >> (8 * (7 - self.depth as u32));
+            let byte = (start - self.base) >> self.shift();
             if byte > 255 { 255 } else { byte as u8 }
         } else {
             0
@@ -148,7 +157,7 @@ impl Region {
         requires within { self.base < end }
         ensures { result ≡ last_byte end self }
     {
-        let byte = (end - 1 - self.base) >> (8 * (7 - self.depth as u32));
+        let byte = (end - 1 - self.base) >> self.shift();
         if byte > 255 { 255 } else { byte as u8 }
     }
 }
