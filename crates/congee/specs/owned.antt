@@ -1,5 +1,6 @@
 pub mod Arena
 pub mod Changes
+pub mod Charge
 pub mod Content
 pub mod Cursor
 pub mod Drained

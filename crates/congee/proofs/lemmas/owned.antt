@@ -4,9 +4,11 @@ pub mod Clears
 pub mod Cursors
 pub mod Drains
 pub mod Edits
+pub mod Filled
 pub mod Joins
 pub mod Moves
 pub mod OwnerLemmas
+pub mod Popped
 pub mod Puts
 pub mod RangeLemmas
 pub mod Root

@@ -1,11 +1,14 @@
 -- The room that nodes take: what stands in a box fits in memory.
-use Rattle.std.proofs.Common.{ℕ, zero, suc, ◌≤◌, ◌<◌, ◌+◌, ◌*◌, ◌-◌, ◌%◌, ◌^◌, [], arith}
-use Rattle.std.proofs.Math.Nat.{max-le}
+use Rattle.std.specs.Prelude.{ℕ, zero, suc, ◌≤◌, ◌<◌, ◌+◌, ◌*◌, ◌-◌, ◌%◌, ◌^◌, [], max}
+use native.Mathlib.Omega.{arith}
 use mir.Syntax.{Ty, Tys, Tyss, w8, w16, w64, ty_int, ty_ptr, ty_unit, ty_array, ty_struct, ty_enum, tnil, tcons, ttnil, ttcons}
 use denote.Param.{layout}
 use denote.RattleType.{RattleType}
 use prog.Memory.{size, align, aligns, alignss, end_of, endss, up}
 use Rattle.congee.specs.forms.Room.{IsSmall}
+
+max_le : {a b n : ℕ} → a ≤ n → b ≤ n → max a b ≤ n
+max_le p q = omega (arith, p, q)
 
 mod_le : (a k : ℕ) → a % k ≤ a
 mod_le a zero = omega arith
@@ -32,7 +35,7 @@ no_fields = record { ends = λ e. omega arith; aligned = omega arith }
 field : {τ : Ty} {τs : Tys} {n m : ℕ} → Within τ n → Fields τs m → Fields (tcons τ τs) (65536 + n + m)
 field {τ} {τs} {n} {m} w f = record {
   ends = λ e. let u = up_le (align τ) e w.aligned in let r = f.ends (up (align τ) e + size τ) in omega (arith, w.bytes);
-  aligned = max-le w.aligned f.aligned;
+  aligned = max_le w.aligned f.aligned;
 }
 
 struct : {τs : Tys} {n : ℕ} → Fields τs n → Within (ty_struct [] τs) (n + 65536)
@@ -46,8 +49,8 @@ no_cases = record { ends = omega arith; aligned = omega arith }
 
 case : {τs : Tys} {τss : Tyss} {n m : ℕ} → Fields τs n → Cases τss m → Cases (ttcons τs τss) (1 + n + m)
 case {τs} {τss} {n} {m} f c = record {
-  ends = max-le (omega (arith, f.ends 1)) (omega (arith, c.ends));
-  aligned = max-le f.aligned c.aligned;
+  ends = max_le (omega (arith, f.ends 1)) (omega (arith, c.ends));
+  aligned = max_le f.aligned c.aligned;
 }
 
 enum : {τss : Tyss} {n : ℕ} → Cases τss n → Within (ty_enum [] τss) (n + 65536)

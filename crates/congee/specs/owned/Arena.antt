@@ -1,5 +1,5 @@
 -- The nodes of an owned tree, which stand in a slab, as a tree.
-use Rattle.std.specs.Prelude.{◌≡◌, ◌≢◌, ℕ, true, false, List, [], Option, None, Some, is_some, cond}
+use Rattle.std.specs.Prelude.{◌≡◌, ◌≢◌, ◌<◌, ℕ, true, false, List, [], length, Option, None, Some, is_some, cond}
 use Rattle.std.specs.FinMap as map
 use Rattle.slab.specs.Slab.{Slab, get, ContainsKey}
 use Rattle.congee.specs.Heap.{Node, Hung, Nothing, Below, Holds, fits, child_for}
@@ -54,11 +54,16 @@ heap_of s n = node_of (get s n)
 abbrev pub ledger_of : {P : Type 0} → Nodes P → (ℕ → ℕ) → ℕ → Note
 ledger_of s parent n = record { status = cond (is_some (get s n)) Linked Gone; owner = None; parent = parent n }
 
--- the nodes are a tree, and the root has 256 places
+-- a node with a prefix of seven bytes is a leaf; the one at a place has a value
+abbrev pub IsFilled : {P : Type 0} → Option (Form ℕ P) → Type 0
+IsFilled {P} o = (x : Form ℕ P) → o ≡ Some x → length (prefix_of x) ≡ 7 → 0 < map.len (children_of x)
+
+-- the nodes are a tree, the root has 256 places, and no leaf is empty
 pub record IsTree {P : Type 0} (s : Nodes P) : Type 0 where
   pub parent : ℕ → ℕ
   pub tree : Tree (ledger_of s parent) (heap_of s)
   pub wide : (heap_of s 0).capacity ≡ 256
+  pub filled : (n : ℕ) → IsFilled (get s n)
 
 -- a node whose prefix the key has
 pub record OnWay {P : Type 0} (s : Nodes P) (key : List ℕ) (n : ℕ) : Type 0 where

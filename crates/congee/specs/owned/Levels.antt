@@ -1,16 +1,16 @@
 -- The nodes of an owned tree, each with its level.
-use Rattle.std.specs.Prelude.{ℕ, zero, suc, ◌+◌, List, [], ◌∷◌, ◌++◌, Option, None, Some}
+use Rattle.std.specs.Prelude.{ℕ, zero, suc, ◌+◌, List, [], ◌∷◌, ◌++◌, length, Option, None, Some}
 use Rattle.std.specs.FinMap as map
 use Rattle.slab.specs.Slab.{get}
 use Rattle.congee.specs.Heap.{Hung, Nothing, Below, Holds}
 use Rattle.congee.specs.owned.Arena.{Nodes, hung_in}
-use Rattle.congee.specs.forms.Forms.{form_of, children_of}
+use Rattle.congee.specs.forms.Forms.{form_of, prefix_of, children_of}
 use Rattle.congee.specs.owned.Stats.{Shape}
 use Rattle.congee.specs.declared.forms.base_node.Node.{Node as Form}
 
 module _ {P : Type 0} where
   abbrev pub shape_of : ℕ → Form ℕ P → Shape
-  shape_of level x = record { level = level; form = form_of x; children = map.len (children_of x) }
+  shape_of level x = record { level = level; form = form_of x; prefix = length (prefix_of x); children = map.len (children_of x) }
 
   -- what `go` gives for the node that hangs at a byte, if one does
   abbrev pub under_byte : (ℕ → List Shape) → Hung P → List Shape

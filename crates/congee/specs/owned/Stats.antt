@@ -1,5 +1,5 @@
 -- How many nodes and children a tree has by level and form.
-use Rattle.std.specs.Prelude.{◌≡◌, ℕ, zero, suc, ◌+◌, ◌-◌, ◌^◌, ◌&&◌, Bool, true, false, cond, nat_eq, List, [], ◌∷◌, min, max, vec_len, slice_index_or, refl}
+use Rattle.std.specs.Prelude.{◌≡◌, ℕ, zero, suc, ◌+◌, ◌-◌, ◌<◌, ◌^◌, ◌&&◌, Bool, true, false, cond, nat_eq, List, [], ◌∷◌, min, max, vec_len, slice_index_or, refl}
 use Rattle.std.specs.Coded.{Coded, code_by, coded×, coded_ℕ}
 use Rattle.congee.specs.declared.forms.base_node.NodeType.{NodeType}
 use Rattle.congee.specs.declared.forms.base_node.NodeType.TheVariants.{N4, N16, N48, N256}
@@ -43,15 +43,17 @@ pub record Counts (old new : NodeStats) (level : ℕ) (form : NodeType) (childre
   pub levels : vec_len new.levels ≡ max (vec_len old.levels) (level + 1)
   pub pairs : new.kv_pairs ≡ old.kv_pairs
 
--- a node: its level, its form and how many children it has
+-- a node: its level, its form, how many bytes its prefix has, which are seven where it is a leaf, and how many children
+-- it has
 pub record Shape : Type 0 where
   pub level : ℕ
   pub form : NodeType
+  pub prefix : ℕ
   pub children : ℕ
 
 -- a root without children
 abbrev pub root_alone : List Shape
-root_alone = record { level = 0; form = N256; children = 0 } ∷ []
+root_alone = record { level = 0; form = N256; prefix = 0; children = 0 } ∷ []
 
 abbrev number_of : NodeType → ℕ
 number_of N4 = 0
@@ -74,11 +76,11 @@ numbered_back N256 = refl
 abbrev pub shape_code : Coded Shape
 shape_code =
     code_by
-    (ℕ × (ℕ × ℕ))
-    (coded× coded_ℕ (coded× coded_ℕ coded_ℕ))
-    (λ s. (s.level, (number_of s.form, s.children)))
-    (λ p. record { level = p.0; form = numbered p.1.0; children = p.1.1 })
-    (λ s i. record { level = s.level; form = numbered_back s.form i; children = s.children })
+    (ℕ × (ℕ × (ℕ × ℕ)))
+    (coded× coded_ℕ (coded× coded_ℕ (coded× coded_ℕ coded_ℕ)))
+    (λ s. (s.level, (number_of s.form, (s.prefix, s.children))))
+    (λ p. record { level = p.0; form = numbered p.1.0; prefix = p.1.1.0; children = p.1.1.1 })
+    (λ s i. record { level = s.level; form = numbered_back s.form i; prefix = s.prefix; children = s.children })
 
 abbrev pub is_form : NodeType → NodeType → Bool
 is_form N4 N4 = true
@@ -86,6 +88,10 @@ is_form N16 N16 = true
 is_form N48 N48 = true
 is_form N256 N256 = true
 is_form _ _ = false
+
+-- a leaf has a value
+abbrev pub HasValue : Shape → Type 0
+HasValue node = node.prefix ≡ 7 → 0 < node.children
 
 -- whether a node has this level and form
 abbrev pub is_at : Shape → ℕ → NodeType → Bool

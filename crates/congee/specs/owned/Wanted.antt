@@ -1,7 +1,7 @@
 -- The nodes that an insertion makes, and the leaf that a removal takes.
-use Rattle.std.specs.Prelude.{ℕ, zero, suc, ◌+◌, ◌≤◌, ◌==◌, ◌&&◌, ◌⊎◌, not, cond, List, [], ◌∷◌, ◌^◌, length, Option, None, Some}
+use Rattle.std.specs.Prelude.{◌≡◌, ℕ, zero, suc, ◌+◌, ◌≤◌, ◌<◌, ◌==◌, ◌&&◌, ◌⊎◌, not, cond, List, [], ◌∷◌, ◌^◌, length, Option, None, Some}
 use Rattle.std.specs.Ordering.{nat_cmp}
-use Rattle.std.specs.FinMap.{FinMap}
+use Rattle.std.specs.FinMap.{FinMap, get}
 use Rattle.congee.specs.Heap.{Node, Hung, Nothing, Below, Holds, fits, child_for}
 use Rattle.congee.specs.owned.Arena.{Nodes, heap_of}
 use Rattle.congee.specs.Keys.{key_bytes}
@@ -16,6 +16,10 @@ size_by capacity = cond (capacity == 4) 64 (cond (capacity == 16) 168 (cond (cap
 -- the size of the form that a full node of so many places grows to
 abbrev pub grown_size : ℕ → ℕ
 grown_size capacity = cond (capacity == 4) 168 (cond (capacity == 16) 672 2104)
+
+-- the insertion of any key makes a leaf alone
+abbrev pub WantsLeaf : FinMap nat_cmp (List ℕ) → Type 0
+WantsLeaf wants = (k : ℕ) → k < 2 ^ 64 → get wants k ≡ Some (64 ∷ [])
 
 -- by how much the sizes of the nodes grow where one of this size is made: it is a least one, or takes the place of one
 -- of the form before

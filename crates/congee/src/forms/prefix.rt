@@ -36,7 +36,7 @@ impl Prefix {
         for i in 0..bytes.len() {
             word[i] = bytes[i];
         }
-        word[7] = bytes.len() as u8;
+        word[MAX_PREFIX_LEN] = bytes.len() as u8;
         Prefix { bytes: word }
     }
 
@@ -45,7 +45,7 @@ impl Prefix {
         ensures count { result ≡ length self.now }
         ensures fits { result ≤ 7 }
     {
-        self.bytes[7] as usize
+        self.bytes[MAX_PREFIX_LEN] as usize
     }
 
     /// Its bytes.
@@ -60,7 +60,7 @@ impl Prefix {
     pub(crate) fn is_prefix_of(&self, key: &[u8; 8]) -> bool
         ensures { result ≡ fits self.now key.now }
     {
-        let rest = 8 * (7 - self.len() as u32);
+        let rest = 8 * (MAX_PREFIX_LEN - self.len()) as u32;
         (u64::from_be_bytes(*key) >> 8) >> rest == (u64::from_be_bytes(self.bytes) >> 8) >> rest
     }
 }

@@ -73,8 +73,8 @@ impl<P: Stored, A: Allocator> Arena<P, A> {
     ghost use Rattle.congee.specs.forms.Forms.{children_of, prefix_of, form_of, is_full_of, size_of};
     ghost use Rattle.congee.specs.owned.Arena.{heap_of};
     ghost use Rattle.congee.specs.owned.OwnedSteps.{Sets, Makes, MakesRoom, SameNodes, IsRefusal};
-    ghost use Rattle.congee.specs.owned.Sizes.{bytes_of};
-    ghost use Rattle.congee.specs.owned.Wanted.{IsRefusedOf, gain, room_for};
+    ghost use Rattle.congee.specs.owned.Charge.{Balances, Covers, Grows, IsRefusedBy, KeepsLimit};
+    ghost use Rattle.congee.specs.owned.Wanted.{room_for};
     ghost use Rattle.congee.specs.declared.forms.base_node.Node.{Node as Form};
 
     /// Puts a child under a free byte of a node that has room.
@@ -118,7 +118,7 @@ impl<P: Stored, A: Allocator> Arena<P, A> {
         ensures fits { OnOk result (A.charged_of self.old.allocator + 64 ≤ A.limit_of self.old.allocator) }
         ensures same { OnErr result (SameNodes self.old.nodes self.new.nodes) }
         ensures unchanged { OnErr result (A.charged_of self.new.allocator ≡ A.charged_of self.old.allocator) }
-        ensures limit { A.limit_of self.new.allocator ≡ A.limit_of self.old.allocator }
+        ensures limit { KeepsLimit A.limit_of self.old self.new }
         ensures refused { IfErr result (λ e. IsRefusal (A.charged_of self.old.allocator) 64 (A.limit_of self.old.allocator) e) }
     {
         self.allocator.allocate(NodeType::N4.size())?;
@@ -141,7 +141,7 @@ impl<P: Stored, A: Allocator> Arena<P, A> {
         requires charged { 64 ≤ A.charged_of self.old.allocator }
         ensures gone { Updates self.old.nodes self.new.nodes name None }
         ensures charge { A.charged_of self.new.allocator + 64 ≡ A.charged_of self.old.allocator }
-        ensures limit { A.limit_of self.new.allocator ≡ A.limit_of self.old.allocator }
+        ensures limit { KeepsLimit A.limit_of self.old self.new }
     {
         self.nodes.remove(name);
         self.allocator.deallocate(NodeType::N4.size());
@@ -150,13 +150,13 @@ impl<P: Stored, A: Allocator> Arena<P, A> {
     /// Gives a node room for one more child: a full one takes its next form, which is charged before the old one is taken off.
     pub(crate) fn make_room(&mut self, alloc: Global, at: usize) -> Result<(), OOMError>
         requires stands { ContainsKey self.old.nodes at }
-        requires covered { bytes_of self.old.nodes ≤ A.charged_of self.old.allocator }
+        requires covered { Covers A.charged_of self.old }
         ensures grows { OnOk result ((x : Form ℕ P) → get self.old.nodes at ≡ Some x → MakesRoom self.old.nodes self.new.nodes at x) }
         ensures same { OnErr result (SameNodes self.old.nodes self.new.nodes) }
-        ensures balance { A.charged_of self.new.allocator + bytes_of self.old.nodes ≡ A.charged_of self.old.allocator + bytes_of self.new.nodes }
-        ensures limit { A.limit_of self.new.allocator ≡ A.limit_of self.old.allocator }
-        ensures refused { IfErr result (λ e. IsRefusedOf (room_for (heap_of self.old.nodes at)) (A.charged_of self.old.allocator) (A.limit_of self.old.allocator) e) }
-        ensures grown { OnOk result (bytes_of self.new.nodes ≡ bytes_of self.old.nodes + gain (room_for (heap_of self.old.nodes at))) }
+        ensures balance { Balances A.charged_of self.old self.new }
+        ensures limit { KeepsLimit A.limit_of self.old self.new }
+        ensures refused { IfErr result (λ e. IsRefusedBy A.charged_of A.limit_of self.old (room_for (heap_of self.old.nodes at)) e) }
+        ensures grown { OnOk result (Grows self.old self.new (room_for (heap_of self.old.nodes at))) }
     {
         let node = &self.nodes[at];
         if !node.is_full() {

@@ -5,9 +5,11 @@ ghost use Rattle.congee.specs.owned.Arena.{IsTree, heap_of};
 ghost use Rattle.congee.specs.owned.Drained.{Drained};
 ghost use Rattle.congee.specs.Heap.{value_at};
 ghost use Rattle.congee.specs.owned.Levels.{nodes_of};
+ghost use Rattle.congee.specs.owned.Charge.{Balances, Covers, KeepsLimit};
 ghost use Rattle.congee.specs.owned.Sizes.{bytes_of};
 ghost use Rattle.congee.specs.owned.Stats.{root_alone};
 ghost use Rattle.congee.specs.owned.Table.{pairs_of};
+ghost use Rattle.congee.specs.owned.Wanted.{WantsLeaf, wants_of};
 
 use crate::allocator::Allocator;
 use crate::forms::base_node::Node;
@@ -32,13 +34,14 @@ impl<P: Stored, A: Allocator> Arena<P, A> {
     /// Takes every pair out, and every node but the root, whose bytes alone stay charged.
     pub(crate) fn clear(&mut self)
         requires tree { IsTree self.old.nodes }
-        requires covered { bytes_of self.old.nodes ≤ A.charged_of self.old.allocator }
+        requires covered { Covers A.charged_of self.old }
         ensures tree { IsTree self.new.nodes }
         ensures empty { (key : List ℕ) → value_at (heap_of self.new.nodes) key ≡ None }
         ensures nodes { nodes_of self.new.nodes ≡ root_alone }
+        ensures wants { WantsLeaf (wants_of self.new.nodes) }
         ensures bytes { bytes_of self.new.nodes ≡ 2104 }
-        ensures balance { A.charged_of self.new.allocator + bytes_of self.old.nodes ≡ A.charged_of self.old.allocator + bytes_of self.new.nodes }
-        ensures limit { A.limit_of self.new.allocator ≡ A.limit_of self.old.allocator }
+        ensures balance { Balances A.charged_of self.old self.new }
+        ensures limit { KeepsLimit A.limit_of self.old self.new }
     {
         let mut root = self.nodes.remove(0);
         take_off(&self.nodes, &mut self.allocator);

@@ -2,14 +2,15 @@
 ghost use Rattle.std.specs.Prelude.{◌≡◌, ◌+◌, ◌≤◌, ◌^◌, ℕ, Option, None, Some, Ok, Err, IfOk, IfErr, IfSome, IfNone, OnOk, OnErr};
 ghost use Rattle.std.specs.Prelude.{IsTrue, IsSome, ◌↔◌, nat_eq, length, take, drop, MatchOption};
 ghost use Rattle.std.specs.Option.{option_map};
+ghost use Rattle.std.specs.List.{All};
 ghost use Rattle.std.specs.FinMap as map;
 ghost use Rattle.congee.specs.owned.Nearest.{IsLeast, IsGreatest, pair_by};
 ghost use Rattle.congee.specs.owned.Content.{Answers, KeepsCharge, Unchanged};
 ghost use Rattle.congee.specs.owned.Drained.{Drained};
 ghost use Rattle.congee.specs.owned.OwnedSteps.{IsRefusal};
 ghost use Rattle.congee.specs.owned.Ranges.{by_bytes, in_range, keys_by};
-ghost use Rattle.congee.specs.owned.Stats.{IsTally, capped, root_alone};
-ghost use Rattle.congee.specs.owned.Wanted.{IsRefused, gain_of, freed_of, freed_by};
+ghost use Rattle.congee.specs.owned.Stats.{HasValue, IsTally, capped, root_alone};
+ghost use Rattle.congee.specs.owned.Wanted.{IsRefused, WantsLeaf, gain_of, freed_of, freed_by};
 ghost use Rattle.judge.specs.declared.journal.Call.TheVariants as call;
 ghost use Rattle.judge.specs.declared.journal.Reply.TheVariants as reply;
 
@@ -97,6 +98,7 @@ impl<K: Word64, V: Word64, A: Allocator, D: Drop> Congee<K, V, A, D> {
     pub fn new_with_drainer(alloc: Global, allocator: A, drainer: D) -> Result<Self, OOMError>
         ensures empty { IfOk result (λ t. t.pairs ≡ map.empty) }
         ensures nodes { IfOk result (λ t. t.nodes ≡ root_alone) }
+        ensures wants { IfOk result (λ t. WantsLeaf t.wants) }
         ensures root { IfOk result (λ t. t.bytes ≡ 2104) }
         ensures charged { IfOk result (λ t. A.charged_of t.allocator ≡ A.charged_of allocator + 2104) }
         ensures limit { IfOk result (λ t. A.limit_of t.allocator ≡ A.limit_of allocator) }
@@ -234,6 +236,7 @@ impl<K: Word64, V: Word64, A: Allocator, D: Drop> Congee<K, V, A, D> {
     pub fn clear(&mut self)
         ensures empty { self.new.pairs ≡ map.empty }
         ensures nodes { self.new.nodes ≡ root_alone }
+        ensures wants { WantsLeaf self.new.wants }
         ensures bytes { self.new.bytes ≡ 2104 }
         ensures keeps { KeepsCharge A.charged_of A.limit_of self.old self.new }
     {
@@ -336,6 +339,13 @@ impl<K: Word64, V: Word64, A: Allocator, D: Drop> Congee<K, V, A, D> {
         self.arena.range(start.to_word(), end.to_word(), out)
     }
 
+    /// Each leaf of the tree has a value.
+    pub fn leaves_hold(&self)
+        ensures { All HasValue self.now.nodes }
+    {
+        self.arena.leaves_hold();
+    }
+
     /// The bytes that the allocator has charged.
     pub fn charged(&self) -> u64
         ensures { result ≡ A.charged_of self.now.allocator }
@@ -349,6 +359,7 @@ impl<K: Word64, V: Word64, A: Allocator> Congee<K, V, A, NoDrain> {
     pub fn new(alloc: Global, allocator: A) -> Result<Self, OOMError>
         ensures empty { IfOk result (λ t. t.pairs ≡ map.empty) }
         ensures nodes { IfOk result (λ t. t.nodes ≡ root_alone) }
+        ensures wants { IfOk result (λ t. WantsLeaf t.wants) }
         ensures root { IfOk result (λ t. t.bytes ≡ 2104) }
         ensures charged { IfOk result (λ t. A.charged_of t.allocator ≡ A.charged_of allocator + 2104) }
         ensures limit { IfOk result (λ t. A.limit_of t.allocator ≡ A.limit_of allocator) }

@@ -5,7 +5,7 @@ ghost use Rattle.std.specs.Option.{option_map};
 ghost use Rattle.std.specs.Arc.{arc_value};
 ghost use Rattle.std.specs.FinMap as map;
 ghost use Rattle.congee.specs.owned.Owners.{OwnerAnswers};
-ghost use Rattle.congee.specs.owned.Wanted.{IsRefused, gain_of, freed_of, freed_by};
+ghost use Rattle.congee.specs.owned.Wanted.{IsRefused, WantsLeaf, gain_of, freed_of, freed_by};
 ghost use Rattle.congee.specs.owned.Ranges.{keys_by};
 ghost use Rattle.judge.specs.declared.journal.Call.TheVariants as call;
 ghost use Rattle.judge.specs.declared.journal.Reply.TheVariants as reply;
@@ -91,6 +91,7 @@ impl<K: Word64, V: Drop> CongeeArc<K, V> {
     pub fn new(alloc: Global) -> Result<Self, OOMError>
         ensures empty { IfOk result (λ t. t.pairs ≡ map.empty) }
         ensures root { IfOk result (λ t. t.bytes ≡ 2104) }
+        ensures wants { IfOk result (λ t. WantsLeaf t.wants) }
         ensures refused { IfErr result (λ e. e ≡ OOMError.Memory) }
     {
         let arena = Arena::new(alloc, DefaultAllocator::new())?;

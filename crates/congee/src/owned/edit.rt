@@ -5,10 +5,11 @@ ghost use Rattle.slab.specs.Slab.{Updates, get, ContainsKey};
 ghost use Rattle.congee.specs.Heap.{Below, Nothing, fits, child_for};
 ghost use Rattle.congee.specs.forms.Forms.{children_of, prefix_of};
 ghost use Rattle.congee.specs.owned.Arena.{IsTree, OnWay, Hangs, heap_of};
+ghost use Rattle.congee.specs.owned.Charge.{Balances, Covers, Grows, IsRefusedBy, KeepsLimit};
 ghost use Rattle.congee.specs.owned.Sizes.{bytes_of};
 ghost use Rattle.congee.specs.owned.Changes.{MapChange, DiffersAt, IsLeafOf};
 ghost use Rattle.congee.specs.owned.OwnedSteps.{SameNodes, FreshNode, Fills, Forks, IsHeld};
-ghost use Rattle.congee.specs.owned.Wanted.{IsRefusedOf, gain, room_for, free_wants, size_by};
+ghost use Rattle.congee.specs.owned.Wanted.{room_for, free_wants, size_by};
 ghost use Rattle.congee.specs.declared.forms.base_node.Node.{Node as Form};
 
 use crate::allocator::{Allocator, OOMError};
@@ -68,15 +69,15 @@ impl<P: Stored, A: Allocator> Arena<P, A> {
         requires way { OnWay self.old.nodes key.now at }
         requires free { child_for (heap_of self.old.nodes at) key.now ≡ Nothing }
         requires leaf { length (heap_of self.old.nodes at).prefix ≡ 7 }
-        requires covered { bytes_of self.old.nodes ≤ A.charged_of self.old.allocator }
+        requires covered { Covers A.charged_of self.old }
         ensures tree { OnOk result (IsTree self.new.nodes) }
         ensures change { OnOk result (MapChange self.old.nodes self.new.nodes key.now None (Some value)) }
         ensures same { OnErr result (SameNodes self.old.nodes self.new.nodes) }
         ensures back { IfErr result (λ e. e.1 ≡ value) }
-        ensures refused { IfErr result (λ e. IsRefusedOf (room_for (heap_of self.old.nodes at)) (A.charged_of self.old.allocator) (A.limit_of self.old.allocator) e.0) }
-        ensures bytes { OnOk result (bytes_of self.new.nodes ≡ bytes_of self.old.nodes + gain (room_for (heap_of self.old.nodes at))) }
-        ensures balance { A.charged_of self.new.allocator + bytes_of self.old.nodes ≡ A.charged_of self.old.allocator + bytes_of self.new.nodes }
-        ensures limit { A.limit_of self.new.allocator ≡ A.limit_of self.old.allocator }
+        ensures refused { IfErr result (λ e. IsRefusedBy A.charged_of A.limit_of self.old (room_for (heap_of self.old.nodes at)) e.0) }
+        ensures bytes { OnOk result (Grows self.old self.new (room_for (heap_of self.old.nodes at))) }
+        ensures balance { Balances A.charged_of self.old self.new }
+        ensures limit { KeepsLimit A.limit_of self.old self.new }
     {
         if let Err(e) = self.make_room(alloc, at) {
             return Err((e, value));
@@ -108,15 +109,15 @@ impl<P: Stored, A: Allocator> Arena<P, A> {
         requires way { OnWay self.old.nodes key.now at }
         requires free { child_for (heap_of self.old.nodes at) key.now ≡ Nothing }
         requires inner { length (heap_of self.old.nodes at).prefix < 7 }
-        requires covered { bytes_of self.old.nodes ≤ A.charged_of self.old.allocator }
+        requires covered { Covers A.charged_of self.old }
         ensures tree { OnOk result (IsTree self.new.nodes) }
         ensures change { OnOk result (MapChange self.old.nodes self.new.nodes key.now None (Some value)) }
         ensures same { OnErr result (SameNodes self.old.nodes self.new.nodes) }
         ensures back { IfErr result (λ e. e.1 ≡ value) }
-        ensures refused { IfErr result (λ e. IsRefusedOf (64 ∷ room_for (heap_of self.old.nodes at)) (A.charged_of self.old.allocator) (A.limit_of self.old.allocator) e.0) }
-        ensures bytes { OnOk result (bytes_of self.new.nodes ≡ bytes_of self.old.nodes + gain (64 ∷ room_for (heap_of self.old.nodes at))) }
-        ensures balance { A.charged_of self.new.allocator + bytes_of self.old.nodes ≡ A.charged_of self.old.allocator + bytes_of self.new.nodes }
-        ensures limit { A.limit_of self.new.allocator ≡ A.limit_of self.old.allocator }
+        ensures refused { IfErr result (λ e. IsRefusedBy A.charged_of A.limit_of self.old (64 ∷ room_for (heap_of self.old.nodes at)) e.0) }
+        ensures bytes { OnOk result (Grows self.old self.new (64 ∷ room_for (heap_of self.old.nodes at))) }
+        ensures balance { Balances A.charged_of self.old self.new }
+        ensures limit { KeepsLimit A.limit_of self.old self.new }
     {
         let leaf = match self.make(alloc, &key[..MAX_PREFIX_LEN]) {
             Ok(leaf) => leaf,
@@ -143,15 +144,15 @@ impl<P: Stored, A: Allocator> Arena<P, A> {
         requires tree { IsTree self.old.nodes }
         requires way { OnWay self.old.nodes key.now at }
         requires free { child_for (heap_of self.old.nodes at) key.now ≡ Nothing }
-        requires covered { bytes_of self.old.nodes ≤ A.charged_of self.old.allocator }
+        requires covered { Covers A.charged_of self.old }
         ensures tree { OnOk result (IsTree self.new.nodes) }
         ensures change { OnOk result (MapChange self.old.nodes self.new.nodes key.now None (Some value)) }
         ensures same { OnErr result (SameNodes self.old.nodes self.new.nodes) }
         ensures back { IfErr result (λ e. e.1 ≡ value) }
-        ensures refused { IfErr result (λ e. IsRefusedOf (free_wants (heap_of self.old.nodes at)) (A.charged_of self.old.allocator) (A.limit_of self.old.allocator) e.0) }
-        ensures bytes { OnOk result (bytes_of self.new.nodes ≡ bytes_of self.old.nodes + gain (free_wants (heap_of self.old.nodes at))) }
-        ensures balance { A.charged_of self.new.allocator + bytes_of self.old.nodes ≡ A.charged_of self.old.allocator + bytes_of self.new.nodes }
-        ensures limit { A.limit_of self.new.allocator ≡ A.limit_of self.old.allocator }
+        ensures refused { IfErr result (λ e. IsRefusedBy A.charged_of A.limit_of self.old (free_wants (heap_of self.old.nodes at)) e.0) }
+        ensures bytes { OnOk result (Grows self.old self.new (free_wants (heap_of self.old.nodes at))) }
+        ensures balance { Balances A.charged_of self.old self.new }
+        ensures limit { KeepsLimit A.limit_of self.old self.new }
     {
         if self.nodes[at].prefix().len() == MAX_PREFIX_LEN {
             self.add_value(alloc, at, key, value)
@@ -165,6 +166,7 @@ impl<P: Stored, A: Allocator> Arena<P, A> {
         requires tree { IsTree self.old.nodes }
         requires way { OnWay self.old.nodes key.now at }
         requires held { IsHeld self.old.nodes key.now at }
+        requires others { (x : Form ℕ P) → get self.old.nodes at ≡ Some x → map.len (children_of x) ≢ 1 }
         ensures tree { IsTree self.new.nodes }
         ensures change { MapChange self.old.nodes self.new.nodes key.now (Some result) None }
         ensures bytes { bytes_of self.new.nodes ≡ bytes_of self.old.nodes }
@@ -217,10 +219,10 @@ impl<P: Stored, A: Allocator> Arena<P, A> {
         ensures change { OnOk result (MapChange self.old.nodes self.new.nodes key.now None (Some value)) }
         ensures same { OnErr result (SameNodes self.old.nodes self.new.nodes) }
         ensures back { IfErr result (λ e. e.1 ≡ value) }
-        ensures refused { IfErr result (λ e. IsRefusedOf (64 ∷ 64 ∷ []) (A.charged_of self.old.allocator) (A.limit_of self.old.allocator) e.0) }
-        ensures bytes { OnOk result (bytes_of self.new.nodes ≡ bytes_of self.old.nodes + gain (64 ∷ 64 ∷ [])) }
-        ensures balance { A.charged_of self.new.allocator + bytes_of self.old.nodes ≡ A.charged_of self.old.allocator + bytes_of self.new.nodes }
-        ensures limit { A.limit_of self.new.allocator ≡ A.limit_of self.old.allocator }
+        ensures refused { IfErr result (λ e. IsRefusedBy A.charged_of A.limit_of self.old (64 ∷ 64 ∷ []) e.0) }
+        ensures bytes { OnOk result (Grows self.old self.new (64 ∷ 64 ∷ [])) }
+        ensures balance { Balances A.charged_of self.old self.new }
+        ensures limit { KeepsLimit A.limit_of self.old self.new }
     {
         let common = first_apart(key, self.nodes[below].prefix());
         let other = self.nodes[below].prefix()[common];
@@ -249,12 +251,12 @@ impl<P: Stored, A: Allocator> Arena<P, A> {
         requires held { IsHeld self.old.nodes key.now at }
         requires hangs { Hangs self.old.nodes key.now above at }
         requires last { (x : Form ℕ P) → get self.old.nodes at ≡ Some x → map.len (children_of x) ≡ 1 }
-        requires covered { bytes_of self.old.nodes ≤ A.charged_of self.old.allocator }
+        requires covered { Covers A.charged_of self.old }
         ensures tree { IsTree self.new.nodes }
         ensures change { MapChange self.old.nodes self.new.nodes key.now (Some result) None }
-        ensures balance { A.charged_of self.new.allocator + bytes_of self.old.nodes ≡ A.charged_of self.old.allocator + bytes_of self.new.nodes }
+        ensures balance { Balances A.charged_of self.old self.new }
         ensures charge { A.charged_of self.new.allocator + size_by (heap_of self.old.nodes at).capacity ≡ A.charged_of self.old.allocator }
-        ensures limit { A.limit_of self.new.allocator ≡ A.limit_of self.old.allocator }
+        ensures limit { KeepsLimit A.limit_of self.old self.new }
     {
         let byte = self.byte_at(at, key);
         let last = self.unhang(at, byte);

@@ -4,12 +4,13 @@ ghost use Rattle.std.specs.Option.{option_copied};
 ghost use Rattle.congee.specs.Heap.{value_at};
 ghost use Rattle.congee.specs.owned.Arena.{IsTree, heap_of};
 ghost use Rattle.congee.specs.owned.Levels.{nodes_of};
+ghost use Rattle.congee.specs.owned.Charge.{Balances, Covers, KeepsLimit};
 ghost use Rattle.congee.specs.owned.Sizes.{bytes_of};
 ghost use Rattle.congee.specs.owned.Stats.{root_alone};
 ghost use Rattle.congee.specs.owned.Changes.{MapChange};
 ghost use Rattle.std.specs.Prelude.{List};
 ghost use Rattle.congee.specs.owned.OwnedSteps.{SameNodes, IsRefusal, settled};
-ghost use Rattle.congee.specs.owned.Wanted.{IsRefused, gain_of, freed_of, freed_by, wants_at, lone_at};
+ghost use Rattle.congee.specs.owned.Wanted.{IsRefused, WantsLeaf, gain_of, freed_of, freed_by, wants_at, wants_of, lone_at};
 
 use crate::allocator::{Allocator, OOMError};
 use crate::forms::base_node::{Node, NodeType};
@@ -25,6 +26,7 @@ impl<P: Stored, A: Allocator> Arena<P, A> {
         ensures tree { IfOk result (λ t. IsTree t.nodes) }
         ensures empty { IfOk result (λ t. (key : List ℕ) → value_at (heap_of t.nodes) key ≡ None) }
         ensures nodes { IfOk result (λ t. nodes_of t.nodes ≡ root_alone) }
+        ensures wants { IfOk result (λ t. WantsLeaf (wants_of t.nodes)) }
         ensures bytes { IfOk result (λ t. bytes_of t.nodes ≡ 2104) }
         ensures charged { IfOk result (λ t. A.charged_of t.allocator ≡ A.charged_of allocator + 2104) }
         ensures limit { IfOk result (λ t. A.limit_of t.allocator ≡ A.limit_of allocator) }
@@ -73,7 +75,7 @@ impl<P: Stored, A: Allocator> Arena<P, A> {
         value: P,
     ) -> Result<Option<P>, (OOMError, P)>
         requires tree { IsTree self.old.nodes }
-        requires covered { bytes_of self.old.nodes ≤ A.charged_of self.old.allocator }
+        requires covered { Covers A.charged_of self.old }
         ensures tree { OnOk result (IsTree self.new.nodes) }
         ensures change { IfOk result (λ before. MapChange self.old.nodes self.new.nodes key.now before (Some value)) }
         ensures same { OnErr result (SameNodes self.old.nodes self.new.nodes) }
@@ -81,8 +83,8 @@ impl<P: Stored, A: Allocator> Arena<P, A> {
         ensures absent { OnErr result (value_at (heap_of self.old.nodes) key.now ≡ None) }
         ensures refused { IfErr result (λ e. IsRefused (wants_at (heap_of self.old.nodes) key.now) (A.charged_of self.old.allocator) (A.limit_of self.old.allocator) e.0) }
         ensures bytes { OnOk result (bytes_of self.new.nodes ≡ bytes_of self.old.nodes + gain_of (wants_at (heap_of self.old.nodes) key.now)) }
-        ensures balance { A.charged_of self.new.allocator + bytes_of self.old.nodes ≡ A.charged_of self.old.allocator + bytes_of self.new.nodes }
-        ensures limit { A.limit_of self.new.allocator ≡ A.limit_of self.old.allocator }
+        ensures balance { Balances A.charged_of self.old self.new }
+        ensures limit { KeepsLimit A.limit_of self.old self.new }
     {
         let place = self.locate(key);
         match place.spot {
@@ -101,12 +103,12 @@ impl<P: Stored, A: Allocator> Arena<P, A> {
     /// Takes a key's value out.
     pub(crate) fn remove(&mut self, key: &[u8; 8]) -> Option<P>
         requires tree { IsTree self.old.nodes }
-        requires covered { bytes_of self.old.nodes ≤ A.charged_of self.old.allocator }
+        requires covered { Covers A.charged_of self.old }
         ensures tree { IsTree self.new.nodes }
         ensures change { MapChange self.old.nodes self.new.nodes key.now result None }
         ensures bytes { bytes_of self.new.nodes + freed_of (lone_at (heap_of self.old.nodes) key.now) ≡ bytes_of self.old.nodes }
-        ensures balance { A.charged_of self.new.allocator + bytes_of self.old.nodes ≡ A.charged_of self.old.allocator + bytes_of self.new.nodes }
-        ensures limit { A.limit_of self.new.allocator ≡ A.limit_of self.old.allocator }
+        ensures balance { Balances A.charged_of self.old self.new }
+        ensures limit { KeepsLimit A.limit_of self.old self.new }
     {
         let place = self.locate(key);
         match place.spot {
@@ -124,12 +126,12 @@ impl<P: Stored, A: Allocator> Arena<P, A> {
     /// Where the key has a value, puts the new one in its place or takes it out, and gives the one before.
     pub(crate) fn settle(&mut self, key: &[u8; 8], new: Option<P>) -> Option<P>
         requires tree { IsTree self.old.nodes }
-        requires covered { bytes_of self.old.nodes ≤ A.charged_of self.old.allocator }
+        requires covered { Covers A.charged_of self.old }
         ensures tree { IsTree self.new.nodes }
         ensures change { MapChange self.old.nodes self.new.nodes key.now result (settled result new) }
         ensures bytes { bytes_of self.new.nodes + freed_by new (lone_at (heap_of self.old.nodes) key.now) ≡ bytes_of self.old.nodes }
-        ensures balance { A.charged_of self.new.allocator + bytes_of self.old.nodes ≡ A.charged_of self.old.allocator + bytes_of self.new.nodes }
-        ensures limit { A.limit_of self.new.allocator ≡ A.limit_of self.old.allocator }
+        ensures balance { Balances A.charged_of self.old self.new }
+        ensures limit { KeepsLimit A.limit_of self.old self.new }
     {
         let value = match new {
             None => return self.remove(key),

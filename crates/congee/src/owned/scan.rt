@@ -12,6 +12,7 @@ ghost use Rattle.congee.specs.owned.Ranges.{entries_by, in_range, keys_by};
 
 use crate::allocator::Allocator;
 use crate::forms::child::Child;
+use crate::forms::prefix::MAX_PREFIX_LEN;
 use crate::owned::arena::{Arena, Stored};
 use crate::owned::edit::first_apart;
 use arrayvec::ArrayVec;
@@ -44,7 +45,7 @@ fn key_of(prefix: &[u8], byte: u8) -> u64
     ensures ends { slice_index (key_bytes result) 7 ≡ byte }
 {
     let mut bytes = [byte; 8];
-    for i in 0..7 {
+    for i in 0..MAX_PREFIX_LEN {
         bytes[i] = prefix[i];
     }
     u64::from_be_bytes(bytes)

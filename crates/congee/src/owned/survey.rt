@@ -1,10 +1,11 @@
 //! How the nodes of an arena are spread over levels and forms.
 ghost use Rattle.std.specs.Prelude.{◌≡◌, ℕ, ◌≤◌, ◌<◌, ◌++◌, ◌^◌, List, length, vec_len, IfOk, OnOk};
 ghost use Rattle.std.specs.FinMap as map;
+ghost use Rattle.std.specs.List.{All};
 ghost use Rattle.slab.specs.Slab.{get, ContainsKey};
 ghost use Rattle.congee.specs.owned.Arena.{IsTree, heap_of};
 ghost use Rattle.congee.specs.owned.Levels.{nodes_from, nodes_of};
-ghost use Rattle.congee.specs.owned.Stats.{IsTally, Shape, capped};
+ghost use Rattle.congee.specs.owned.Stats.{HasValue, IsTally, Shape, capped};
 ghost use Rattle.congee.specs.owned.Table.{pairs_of};
 
 use crate::allocator::Allocator;
@@ -36,6 +37,13 @@ impl<P: Stored, A: Allocator> Arena<P, A> {
         }
         Ok(())
     }
+
+    /// Each leaf has a value.
+    #[tactic(auto, using(crate::proofs::lemmas::owned::Filled::leaves_filled))]
+    pub(crate) fn leaves_hold(&self)
+        requires { IsTree self.now.nodes }
+        ensures { All HasValue (nodes_of self.now.nodes) }
+    {}
 
     /// The number of pairs; one past `u64::MAX` stays there.
     pub(crate) fn count_pairs(&self) -> u64

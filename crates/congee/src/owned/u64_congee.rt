@@ -1,13 +1,14 @@
 //! The owned tree whose keys are numbers.
 ghost use Rattle.std.specs.Prelude.{◌≡◌, ◌+◌, ◌↔◌, ◌^◌, ℕ, Option, Some, None, IfOk, IfErr, IfSome, IfNone, IsSome, IsTrue, OnOk, OnErr, nat_eq, length, take, drop};
 ghost use Rattle.std.specs.Option.{option_map};
+ghost use Rattle.std.specs.List.{All};
 ghost use Rattle.std.specs.FinMap as map;
 ghost use Rattle.congee.specs.owned.Content.{Answers, KeepsCharge, Unchanged};
 ghost use Rattle.congee.specs.owned.Nearest.{IsLeast, IsGreatest, pair_by};
 ghost use Rattle.congee.specs.owned.OwnedSteps.{IsRefusal};
 ghost use Rattle.congee.specs.owned.Ranges.{by_bytes, in_range, keys_by};
-ghost use Rattle.congee.specs.owned.Stats.{IsTally, capped, root_alone};
-ghost use Rattle.congee.specs.owned.Wanted.{IsRefused, gain_of, freed_of, freed_by};
+ghost use Rattle.congee.specs.owned.Stats.{HasValue, IsTally, capped, root_alone};
+ghost use Rattle.congee.specs.owned.Wanted.{IsRefused, WantsLeaf, gain_of, freed_of, freed_by};
 ghost use Rattle.judge.specs.declared.journal.Call.TheVariants as call;
 ghost use Rattle.judge.specs.declared.journal.Reply.TheVariants as reply;
 
@@ -29,6 +30,7 @@ impl<V: Word64, A: Allocator> U64Congee<V, A> {
     pub fn new(alloc: Global, allocator: A) -> Result<Self, OOMError>
         ensures empty { IfOk result (λ t. t.tree.pairs ≡ map.empty) }
         ensures nodes { IfOk result (λ t. t.tree.nodes ≡ root_alone) }
+        ensures wants { IfOk result (λ t. WantsLeaf t.tree.wants) }
         ensures root { IfOk result (λ t. t.tree.bytes ≡ 2104) }
         ensures charged { IfOk result (λ t. A.charged_of t.tree.allocator ≡ A.charged_of allocator + 2104) }
         ensures limit { IfOk result (λ t. A.limit_of t.tree.allocator ≡ A.limit_of allocator) }
@@ -114,6 +116,7 @@ impl<V: Word64, A: Allocator> U64Congee<V, A> {
     pub fn clear(&mut self)
         ensures empty { self.new.tree.pairs ≡ map.empty }
         ensures nodes { self.new.tree.nodes ≡ root_alone }
+        ensures wants { WantsLeaf self.new.tree.wants }
         ensures bytes { self.new.tree.bytes ≡ 2104 }
         ensures keeps { KeepsCharge A.charged_of A.limit_of self.old.tree self.new.tree }
     {
@@ -186,6 +189,13 @@ impl<V: Word64, A: Allocator> U64Congee<V, A> {
             × IsGreatest self.now.tree.pairs key found }
     {
         self.tree.next_before(&key)
+    }
+
+    /// Each leaf of the tree has a value.
+    pub fn leaves_hold(&self)
+        ensures { All HasValue self.now.tree.nodes }
+    {
+        self.tree.leaves_hold();
     }
 
     /// The bytes that the allocator has charged.

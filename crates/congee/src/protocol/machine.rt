@@ -455,6 +455,7 @@ impl<C: NodeName, P: Payload> Machine<C, P> {
                 self.given = Some(value);
                 Turn::replaced(site, same, Reply::ComputeInsert(Some(old)))
             }
+            // the two computes alone ask, so from here on it is the one of a present key
             (_, Some(None)) => {
                 self.given = None;
                 Turn::emptied(site, Reply::ComputePresent(Some((old, None))))
@@ -487,6 +488,7 @@ impl<C: NodeName, P: Payload> Machine<C, P> {
                 self.given = Some(value);
                 Turn::started(plan, Reply::ComputeInsert(None))
             }
+            // without a value it isn't answered, and asks again
             _ => Turn::asking(Phase::AskNew { plan }, None),
         }
     }

@@ -1,10 +1,11 @@
 //! A scan of a tree that others change meanwhile, as a machine that takes one step at a time.
-ghost use Rattle.std.specs.Prelude.{◌≡◌, ◌+◌, ◌<◌, ◌≤◌, ◌==◌, length, true, false, cond};
+ghost use Rattle.std.specs.Prelude.{◌≡◌, ◌+◌, ◌*◌, ◌-◌, ◌<◌, ◌≤◌, ◌==◌, length, true, false, cond};
 ghost use Rattle.congee.specs.Heap.{Stands, is_taken};
 ghost use Rattle.congee.specs.protocol.Regions.{IsRegion};
 ghost use Rattle.congee.specs.declared.protocol.sweep.Stage.TheVariants as stage;
 ghost use Rattle.congee.specs.protocol.SweepSteps.{whole, is_outside, first_byte, last_byte, pushed, popped, last_of, moved, goes, over, anew, left, entered, filled, begins, new_sweep, IsFollowed, IsFollowedIf, SweepStepped, MayFollow, MaySweep};
 
+use crate::forms::prefix::MAX_PREFIX_LEN;
 use crate::protocol::store::{Least, NodeName, Refusal, Region, Seat, Seen, Store};
 use judge::Payload;
 use std::mem;
@@ -113,6 +114,14 @@ impl Region {
         }
     }
 
+    /// How many bits a key has behind the byte after the prefix.
+    fn shift(self) -> u32
+        requires { self.depth ≤ 7 }
+        ensures { result ≡ 8 * (7 - self.depth) }
+    {
+        8 * (MAX_PREFIX_LEN - self.depth) as u32
+    }
+
     /// Whether no key of the range is among them.
     fn is_outside(self, start: u64, end: u64) -> bool
         requires { self.depth ≤ 7 }
@@ -120,7 +129,7 @@ impl Region {
     {
         if self.base < end {
             if self.base < start {
-                (start - self.base) >> (8 * (7 - self.depth as u32)) > 255
+                (start - self.base) >> self.shift() > 255
             } else {
                 false
             }
@@ -135,7 +144,7 @@ impl Region {
         ensures { result ≡ first_byte start self }
     {
         if self.base < start {
-            let byte = (start - self.base) >> (8 * (7 - self.depth as u32));
+            let byte = (start - self.base) >> self.shift();
             if byte > 255 { 255 } else { byte as u8 }
         } else {
             0
@@ -148,12 +157,13 @@ impl Region {
         requires within { self.base < end }
         ensures { result ≡ last_byte end self }
     {
-        let byte = (end - 1 - self.base) >> (8 * (7 - self.depth as u32));
+        let byte = (end - 1 - self.base) >> self.shift();
         if byte > 255 { 255 } else { byte as u8 }
     }
 }
 
 impl<C: NodeName> Path<C> {
+    /// Puts a rung at the end. Fewer than eight are there, so the last arm is the eighth place.
     fn push(&mut self, rung: Rung<C>)
         requires { self.old.len < 8 }
         ensures { self.new ≡ pushed self.old rung }
@@ -171,6 +181,7 @@ impl<C: NodeName> Path<C> {
         self.len += 1;
     }
 
+    /// The last rung. At most eight are there, so the last arm is the eighth.
     fn last(&self) -> Option<Rung<C>>
         requires { self.now.len ≤ 8 }
         ensures { result ≡ last_of self.now }
@@ -190,6 +201,7 @@ impl<C: NodeName> Path<C> {
 }
 
 impl<C: NodeName> Rung<C> {
+    /// The same node, with the bytes up to this one behind.
     fn moved(self, byte: u8) -> Self
         ensures { result ≡ moved self byte }
     {
@@ -298,6 +310,7 @@ impl<C: NodeName, P: Payload> Sweep<C, P> {
         })
     }
 
+    /// Begins at the root. Where the range is empty, or there is no place, the scan is over.
     fn begin(&mut self, root: C) -> Told<P>
         ensures { (self.new, result) ≡ begins root self.old }
     {
@@ -329,6 +342,8 @@ impl<C: NodeName, P: Payload> Sweep<C, P> {
         }
     }
 
+    /// Looks at a node that has this version, or leaves it where no key below it is in the range. One that is locked or
+    /// was taken out has none, and the scan begins anew.
     fn enter(&mut self, root: C, node: C, region: Region, version: Option<u64>) -> Told<P>
         requires depth { region.depth ≤ 7 }
         requires fits { self.old.above.len ≤ 8 }
@@ -350,6 +365,7 @@ impl<C: NodeName, P: Payload> Sweep<C, P> {
         }
     }
 
+    /// Checks the node that was read. What a changed node gave is dropped, and the scan begins anew.
     fn check<S: Store<C, P>>(
         &mut self,
         store: &S,

@@ -8,6 +8,7 @@ use Rattle.congee.specs.forms.Forms.{form_of, prefix_of, capacity_of, size_of, B
 use Rattle.congee.specs.owned.Sizes.{bytes_of, bytes_at, bytes_in}
 use Rattle.congee.specs.owned.Levels.{nodes_of}
 use Rattle.congee.specs.owned.Stats.{root_alone}
+use Rattle.congee.specs.owned.Wanted.{WantsLeaf, wants_of}
 use Rattle.congee.specs.owned.Arena.{Nodes, node_of, heap_of, IsTree}
 use Rattle.congee.specs.declared.forms.base_node.Node.{Node as Form}
 use Rattle.congee.specs.declared.forms.base_node.NodeType.{NodeType}
@@ -15,6 +16,7 @@ use Rattle.congee.specs.declared.forms.base_node.NodeType.TheVariants.{N4, N16, 
 use Rattle.congee.proofs.lemmas.owned.Root.{root_tree, root_empty, root_bytes}
 use Rattle.congee.proofs.lemmas.owned.Sizes.{bytes_update}
 use Rattle.congee.proofs.lemmas.owned.Surveys.{root_nodes}
+use Rattle.congee.proofs.lemmas.owned.Wanting.{wants_leaf}
 
 wide_form : (f : NodeType) → capacity_of f ≡ 256 → f ≡ N256
 wide_form N4 e = absurd (omega (arith, e))
@@ -32,6 +34,7 @@ module _ {P : Type 0} where
     pub empty : (key : List ℕ) → value_at (heap_of s) key ≡ None
     pub nodes : nodes_of s ≡ root_alone
     pub bytes : bytes_of s ≡ 2104
+    pub wants : WantsLeaf (wants_of s)
 
   pub root_left : (s0 s1 s : Nodes P) (x y : Form ℕ P) (n : ℕ) → IsTree s0 → get s0 0 ≡ Some x → Becomes x y map.empty → s1.slots ≡ [] → n ≡ 0 → Updates s1 s n (Some y) → RootLeft s
   root_left s0 s1 s x y n t e b z at u =
@@ -46,6 +49,7 @@ module _ {P : Type 0} where
         empty = root_empty s1 s y none puts prefix b.children form;
         nodes = root_nodes s y tree puts.changed form b.children;
         bytes = root_bytes s1 s y none puts prefix b.children form (ap bytes_in z);
+        wants = wants_leaf s y tree puts.changed form b.children;
       }
 
   -- the root's bytes, beside those of the others

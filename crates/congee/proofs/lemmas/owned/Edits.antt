@@ -5,13 +5,14 @@ use Rattle.slab.specs.Slab.{get, Updates}
 use Rattle.congee.specs.Heap.{child_for}
 use Rattle.congee.specs.Ledger.{Linked, Gone, Note, Tree}
 use Rattle.congee.specs.forms.Forms.{prefix_of, form_of, capacity_of}
-use Rattle.congee.specs.owned.Arena.{Nodes, hung_in, node_of, heap_of, ledger_of, IsTree, OnWay}
+use Rattle.congee.specs.owned.Arena.{Nodes, hung_in, node_of, heap_of, ledger_of, IsFilled, IsTree, OnWay}
 use Rattle.congee.specs.owned.Changes.{Differs, MapChange}
 use Rattle.congee.specs.declared.forms.base_node.Node.{Node as Form}
 use Rattle.congee.specs.declared.forms.child.Child.{Child}
 use Rattle.congee.specs.declared.forms.child.Child.TheVariants.{Value}
 use Rattle.congee.proofs.lemmas.Tree.{same_or_not}
 use Rattle.congee.proofs.lemmas.owned.Puts.{Puts, put_child, put_tree, put_map}
+use Rattle.congee.proofs.lemmas.owned.Filled.{filled_at}
 use Rattle.congee.proofs.lemmas.owned.Ways.{linked_of}
 
 module _ {P : Type 0} where
@@ -43,12 +44,19 @@ module _ {P : Type 0} where
     | inr ne ↦ ap (λ o. (node_of o).capacity) (others ne) ∙ w
   ]
 
+  -- no leaf is empty after a change of one node
+  filled_after : (s s' : Nodes P) (at : ℕ) (y : Form ℕ P) → IsTree s → Updates s s' at (Some y) → IsFilled (Some y) → (n : ℕ) → IsFilled (get s' n)
+  filled_after s s' at y t u filled n = elim (same_or_not n at) [
+    | inl e ↦ filled_at s' n at (Some y) e u.changed filled
+    | inr ne ↦ subst IsFilled (sym (u.others n ne)) (t.filled n)
+  ]
+
   -- what a leaf has for one key changes
   pub put_done : (s s' : Nodes P) (key : List ℕ) (at : ℕ) (x y : Form ℕ P) (old new : Option P) → length key ≡ 8 → IsTree s → OnWay s key at
       → get s at ≡ Some x → length (prefix_of x) ≡ 7 → child_for (heap_of s at) key ≡ put_child old
-      → Differs x y (get_or key (length (prefix_of x)) 0) (child_of new) → Updates s s' at (Some y)
+      → Differs x y (get_or key (length (prefix_of x)) 0) (child_of new) → IsFilled (Some y) → Updates s s' at (Some y)
       → IsTree s' × MapChange s s' key old new
-  put_done s s' key at x y old new len t w e seven before d u =
+  put_done s s' key at x y old new len t w e seven before d filled u =
       let hx : heap_of s at ≡ node_of (Some x) = ap node_of e in
       let hy : heap_of s' at ≡ node_of (Some y) = ap node_of u.changed in
       let a = ledger_of s t.parent in
@@ -64,6 +72,6 @@ module _ {P : Type 0} where
       } in
       let m = put_map a (heap_of s) (heap_of s') at key old new len t.tree k in
       let T : (ℕ → Note) → Type 0 = λ b. Tree b (heap_of s') in (
-        record { parent = t.parent; tree = subst T (ledger_same s s' t.parent (taken_same s s' at x y e u)) (put_tree a (heap_of s) (heap_of s') at key old new t.tree k); wide = wide_after s s' at x y t.wide e u.changed d.wide (λ ne. u.others 0 ne) },
+        record { parent = t.parent; tree = subst T (ledger_same s s' t.parent (taken_same s s' at x y e u)) (put_tree a (heap_of s) (heap_of s') at key old new t.tree k); wide = wide_after s s' at x y t.wide e u.changed d.wide (λ ne. u.others 0 ne); filled = filled_after s s' at y t u filled },
         record { was = m.0; now = m.1; others = m.2 },
       )

@@ -7,7 +7,7 @@ use Rattle.slab.specs.Slab.{get, ContainsKey}
 use Rattle.congee.specs.Heap.{Node, Below, Nothing, fits, child_for, walk, value_at}
 use Rattle.congee.specs.Ledger.{Linked, Gone, Note, Tree, IsChild, HasParent}
 use Rattle.congee.specs.forms.Forms.{prefix_of}
-use Rattle.congee.specs.owned.Arena.{Nodes, hung_in, node_of, heap_of, ledger_of, IsTree, OnWay, Hangs}
+use Rattle.congee.specs.owned.Arena.{Nodes, hung_in, node_of, heap_of, ledger_of, IsFilled, IsTree, OnWay, Hangs}
 use Rattle.congee.specs.owned.Changes.{MapChange, IsLeafOf, AddsLeaf, AddsFork, DropsLeaf, DiffersAt}
 use Rattle.congee.specs.declared.forms.base_node.Node.{Node as Form}
 use Rattle.congee.proofs.lemmas.Fits.{same_test, other_test, fits_byte}
@@ -18,6 +18,7 @@ use Rattle.congee.proofs.lemmas.Unlink.{Unlinks, unlink_tree, unlink_map}
 use Rattle.congee.proofs.lemmas.Split.{Splits, split_tree, split_map}
 use Rattle.congee.proofs.lemmas.owned.Ways.{linked_of, is_child, short_prefix, below_stands}
 use Rattle.congee.proofs.lemmas.owned.Edits.{wide_after}
+use Rattle.congee.proofs.lemmas.owned.Filled.{filled_at, filled_some, filled_none, filled_with}
 
 -- the first bytes of a key are a prefix of it
 pub front_fits : (n : ℕ) (key : List ℕ) → n ≤ length key → fits (take n key) key ≡ true
@@ -85,6 +86,39 @@ module _ {P : Type 0} where
         empty = λ c ne. let ne' : c ≢ get_or key 7 0 = rw (h, seven) at ne in rw h (ap hung_in (l.beside c ne'));
       }
 
+  -- no leaf is empty after any of the three
+  add_filled : (s s' : Nodes P) (key : List ℕ) (at leaf : ℕ) (v : P) → IsTree s → AddsLeaf s s' key at leaf v → (n : ℕ) → IsFilled (get s' n)
+  add_filled s s' key at d v t k n = elim (same_or_not n d) [
+    | inl e ↦ filled_at s' n d (Some k.made) e k.taken (filled_with k.made _ _ k.has.value)
+    | inr nd ↦ elim (same_or_not n at) [
+      | inl e ↦ filled_at s' n at (Some k.after) e k.now (filled_with k.after _ _ k.differs.here)
+      | inr na ↦ subst IsFilled (sym (k.others n nd na)) (t.filled n)
+    ]
+  ]
+
+  drop_filled : (s s' : Nodes P) (key : List ℕ) (above at : ℕ) (v : P) → IsTree s → (k : DropsLeaf s s' key above at v) → length (prefix_of k.before) < 7
+      → (n : ℕ) → IsFilled (get s' n)
+  drop_filled s s' key above at v t k inner n = elim (same_or_not n at) [
+    | inl e ↦ filled_at s' n at None e k.left filled_none
+    | inr na ↦ elim (same_or_not n above) [
+      | inl e ↦ filled_at s' n above (Some k.after) e k.now (filled_some k.after (λ seven. let p : length (prefix_of k.after) ≡ length (prefix_of k.before) = ap length k.differs.prefix in absurd (omega (arith, p, seven, inner))))
+      | inr ne ↦ subst IsFilled (sym (k.others n ne na)) (t.filled n)
+    ]
+  ]
+
+  fork_filled : (s s' : Nodes P) (key : List ℕ) (at below common over leaf : ℕ) (v : P) → IsTree s → AddsFork s s' key at below common over leaf v
+      → (n : ℕ) → IsFilled (get s' n)
+  fork_filled s s' key at b common c d v t k n = elim (same_or_not n c) [
+    | inl e ↦ filled_at s' n c (Some k.fork) e k.taken_over (filled_with k.fork _ _ k.new_child)
+    | inr nc ↦ elim (same_or_not n d) [
+      | inl e ↦ filled_at s' n d (Some k.made) e k.taken_leaf (filled_with k.made _ _ k.has.value)
+      | inr nd ↦ elim (same_or_not n at) [
+        | inl e ↦ filled_at s' n at (Some k.after) e k.now (filled_with k.after _ _ k.differs.here)
+        | inr na ↦ subst IsFilled (sym (k.others n nc nd na)) (t.filled n)
+      ]
+    ]
+  ]
+
   pub add_leaf_done : (s s' : Nodes P) (key : List ℕ) (at leaf : ℕ) (v : P) → length key ≡ 8 → IsTree s → OnWay s key at
       → length (heap_of s at).prefix < 7 → child_for (heap_of s at) key ≡ Nothing → AddsLeaf s s' key at leaf v
       → IsTree s' × MapChange s s' key None (Some v)
@@ -115,7 +149,7 @@ module _ {P : Type 0} where
         nodes = λ m nd na. ap node_of (k.others m nd na);
       } in
       let m = link_map a (heap_of s) a' (heap_of s') at d key v len t.tree links in (
-        record { parent = parent'; tree = link_tree a (heap_of s) a' (heap_of s') at d key v t.tree links; wide = wide_after s s' at k.before k.after t.wide k.was k.now k.differs.wide (λ ne. k.others 0 (root_not s t d k.vacant) ne) },
+        record { parent = parent'; tree = link_tree a (heap_of s) a' (heap_of s') at d key v t.tree links; wide = wide_after s s' at k.before k.after t.wide k.was k.now k.differs.wide (λ ne. k.others 0 (root_not s t d k.vacant) ne); filled = add_filled s s' key at d v t k },
         record { was = m.0; now = m.1; others = m.2 },
       )
 
@@ -135,6 +169,7 @@ module _ {P : Type 0} where
         empty = λ c ne. let ne' : c ≢ get_or key (length (prefix_of k.last)) 0 = rw hl at ne in rw hl (ap hung_in (k.beside c ne'));
       } in
       let i : IsChild a (heap_of s) above (get_or key (length (heap_of s above).prefix) 0) at = is_child s t above at key hangs.way.stands hangs.child in
+      let inner : length (prefix_of k.before) < 7 = (let p : length (heap_of s above).prefix ≡ length (prefix_of k.before) = rw hx refl in let l = i.longer in omega (arith, p, l, seven)) in
       let apart : above ≢ at = (λ q. let z : length (heap_of s above).prefix ≡ length (heap_of s at).prefix = ap (λ y. length (heap_of s y).prefix) q in absurd (omega (arith, i.longer))) in
       let h' : ℕ → Node P = λ x. cond (x == at) (heap_of s at) (heap_of s' x) in
       let elsewhere : (x : ℕ) → x ≢ at → h' x ≡ heap_of s' x = λ x ne. rw (other_test x at ne) refl in
@@ -164,7 +199,7 @@ module _ {P : Type 0} where
       let t' : Tree a' h' = unlink_tree a (heap_of s) a' h' above at key v t.tree goes in
       let agrees : (n : ℕ) → (a' n).status ≡ Linked → heap_of s' n ≡ h' n = λ n l. sym (elsewhere n (λ q. vacant_not s' t.parent at k.left (let Q : ℕ → Type 0 = λ y. (a' y).status ≡ Linked in subst Q q l))) in
       let same : (x : List ℕ) → value_at (heap_of s') x ≡ value_at h' x = λ x. agree_walk a' h' (heap_of s') agrees t' 8 0 x t'.root in (
-        record { parent = t.parent; tree = agree_tree a' h' (heap_of s') agrees t'; wide = wide_after s s' above k.before k.after t.wide k.was k.now k.differs.wide (λ ne. k.others 0 ne nr) },
+        record { parent = t.parent; tree = agree_tree a' h' (heap_of s') agrees t'; wide = wide_after s s' above k.before k.after t.wide k.was k.now k.differs.wide (λ ne. k.others 0 ne nr); filled = drop_filled s s' key above at v t k inner },
         record { was = m.0; now = same key ∙ m.1; others = λ x lx ne. same x ∙ m.2 x lx ne },
       )
 
@@ -225,6 +260,6 @@ module _ {P : Type 0} where
         nodes = λ m nc nd na. ap node_of (k.others m nc nd na);
       } in
       let m = split_map a (heap_of s) a' (heap_of s') at b c d key v len t.tree splits in (
-        record { parent = parent'; tree = split_tree a (heap_of s) a' (heap_of s') at b c d key v t.tree splits; wide = wide_after s s' at k.before k.after t.wide k.was k.now k.differs.wide (λ ne. k.others 0 (root_not s t c k.vacant_over) (root_not s t d k.vacant_leaf) ne) },
+        record { parent = parent'; tree = split_tree a (heap_of s) a' (heap_of s') at b c d key v t.tree splits; wide = wide_after s s' at k.before k.after t.wide k.was k.now k.differs.wide (λ ne. k.others 0 (root_not s t c k.vacant_over) (root_not s t d k.vacant_leaf) ne); filled = fork_filled s s' key at b n c d v t k },
         record { was = m.0; now = m.1; others = m.2 },
       )

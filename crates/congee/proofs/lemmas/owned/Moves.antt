@@ -8,7 +8,7 @@ use Rattle.std.specs.Cmp.{nat_cmp_total}
 use Rattle.slab.specs.Slab.{get, ContainsKey, Updates}
 use Rattle.congee.specs.Heap.{Below, Holds, Nothing, fits, child_for}
 use Rattle.congee.specs.forms.Forms.{prefix_of, children_of, form_of, capacity_of, is_full_of, Becomes}
-use Rattle.congee.specs.owned.Arena.{Nodes, hung_in, node_of, heap_of, IsTree, OnWay, Hangs}
+use Rattle.congee.specs.owned.Arena.{Nodes, hung_in, node_of, heap_of, IsFilled, IsTree, OnWay, Hangs}
 use Rattle.congee.specs.owned.Sizes.{bytes_of}
 use Rattle.congee.specs.owned.Changes.{Differs, MapChange, AddsLeaf, AddsFork, DropsLeaf, DiffersAt}
 use Rattle.congee.specs.owned.OwnedSteps.{Sets, Makes, MakesRoom, FreshNode, Fills, Forks, IsHeld}
@@ -17,6 +17,7 @@ use Rattle.congee.specs.declared.forms.base_node.NodeType.TheVariants.{N4}
 use Rattle.congee.specs.declared.forms.child.Child.{Child}
 use Rattle.congee.specs.declared.forms.child.Child.TheVariants.{Blank, Node as Sub, Value}
 use Rattle.congee.proofs.lemmas.owned.Puts.{put_child}
+use Rattle.congee.proofs.lemmas.owned.Filled.{filled_some, filled_with, has_further}
 use Rattle.congee.proofs.lemmas.owned.Ways.{linked_of, above_apart}
 use Rattle.congee.proofs.lemmas.owned.Sizes.{sets_bytes}
 use Rattle.congee.proofs.lemmas.forms.Full.{full_at, full_is}
@@ -94,15 +95,15 @@ module _ {P : Type 0} where
   -- what a leaf has for the key changes
   pub leaf_edit : (s s' : Nodes P) (key : List ℕ) (at : ℕ) (x y : Form ℕ P) (old new : Option P) → length key ≡ 8 → IsTree s → OnWay s key at
       → get s at ≡ Some x → length (heap_of s at).prefix ≡ 7 → map.get (children_of x) (get_or key (length (heap_of s at).prefix) 0) ≡ child_of old
-      → Differs x y (get_or key (length (heap_of s at).prefix) 0) (child_of new) → Updates s s' at (Some y)
+      → Differs x y (get_or key (length (heap_of s at).prefix) 0) (child_of new) → IsFilled (Some y) → Updates s s' at (Some y)
       → IsTree s' × MapChange s s' key old new
-  leaf_edit s s' key at x y old new len t w e seven was d u =
+  leaf_edit s s' key at x y old new len t w e seven was d filled u =
       let hx : heap_of s at ≡ node_of (Some x) = ap node_of e in
       let p : (heap_of s at).prefix ≡ prefix_of x = ap (λ n. n.prefix) hx in
       let was' : map.get (children_of x) (get_or key (length (prefix_of x)) 0) ≡ child_of old = rw p at was in
       put_done s s' key at x y old new len t w e (rw p at seven)
       (rw hx (ap hung_in was' ∙ plain old))
-      (rw p at d) u
+      (rw p at d) filled u
     where
       plain : (o : Option P) → hung_in (child_of o) ≡ put_child o
       plain None = refl
@@ -167,23 +168,26 @@ module _ {P : Type 0} where
       let W : ℕ → Type 0 = λ z. map.get (children_of n.0) z ≡ Some (Value old) in
       let D : ℕ → Type 0 = λ z. Differs n.0 k.node z (Some (Value new)) in (
         leaf_edit s s' key at n.0 k.node (Some old) (Some new) len t w n.1 (held_seven s key at t w h) (subst W b (sym (was n.0 n.1)))
-            (subst D b (differs_insert n.0 k.node byte (Value new) k.becomes)) k.updates,
+            (subst D b (differs_insert n.0 k.node byte (Value new) k.becomes))
+            (filled_with k.node byte (Value new) (differs_insert n.0 k.node byte (Value new) k.becomes).here) k.updates,
         sets_bytes s s' at n.0 _ n.1 k,
       )
 
   -- the key's value goes, others stay
   pub taken : (s s' : Nodes P) (key : List ℕ) (at byte : ℕ) (old : P) → length key ≡ 8 → IsTree s → OnWay s key at → IsHeld s key at
+      → ((x : Form ℕ P) → get s at ≡ Some x → map.len (children_of x) ≢ 1)
       → byte ≡ get_or key (length (heap_of s at).prefix) 0
       → ((x : Form ℕ P) → get s at ≡ Some x → Some (Value old) ≡ map.get (children_of x) byte)
       → ((x : Form ℕ P) → get s at ≡ Some x → Sets s s' at x (map.remove (children_of x) byte))
       → (IsTree s' × MapChange s s' key (Some old) None) × (bytes_of s' ≡ bytes_of s)
-  taken s s' key at byte old len t w h b was node =
+  taken s s' key at byte old len t w h others b was node =
       let n = node_at s at w.stands in
       let k = node n.0 n.1 in
       let W : ℕ → Type 0 = λ z. map.get (children_of n.0) z ≡ Some (Value old) in
-      let D : ℕ → Type 0 = λ z. Differs n.0 k.node z None in (
+      let D : ℕ → Type 0 = λ z. Differs n.0 k.node z None in
+      let more : 0 < map.len (children_of k.node) = subst (λ m. 0 < map.len m) (sym k.becomes.children) (has_further (children_of n.0) byte (Value old) (sym (was n.0 n.1)) (others n.0 n.1)) in (
         leaf_edit s s' key at n.0 k.node (Some old) None len t w n.1 (held_seven s key at t w h) (subst W b (sym (was n.0 n.1)))
-            (subst D b (differs_remove n.0 k.node byte k.becomes)) k.updates,
+            (subst D b (differs_remove n.0 k.node byte k.becomes)) (filled_some k.node (λ _. more)) k.updates,
         sets_bytes s s' at n.0 _ n.1 k,
       )
 
@@ -260,7 +264,7 @@ module _ {P : Type 0} where
       let k = sets r.node r.now in
       let p : (heap_of s at).prefix ≡ prefix_of r.before = prefix_at s at r.before r.was in
       let d = roomy_differs s s1 s2 key at byte (Value v) r b k in (
-        leaf_edit s s2 key at r.before k.node None (Some v) len t w r.was seven (rw p (free_is s key at r.before r.was f)) (rw p d)
+        leaf_edit s s2 key at r.before k.node None (Some v) len t w r.was seven (rw p (free_is s key at r.before r.was f)) (rw p d) (filled_with k.node _ (Value v) d.here)
             (updates_twice s s1 s2 at _ _ k0.updates k.updates),
         sets_bytes s1 s2 at r.node _ r.now k,
       )

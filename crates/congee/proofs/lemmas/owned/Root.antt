@@ -7,10 +7,11 @@ use Rattle.congee.specs.Heap.{Nothing, Below, Holds, value_at}
 use Rattle.congee.specs.Ledger.{Linked, Gone}
 use Rattle.congee.specs.forms.Forms.{form_of, prefix_of, children_of, size_of, capacity_of}
 use Rattle.congee.specs.owned.Sizes.{bytes_of, bytes_at}
-use Rattle.congee.specs.owned.Arena.{Nodes, hung_in, node_of, heap_of, ledger_of, IsTree}
+use Rattle.congee.specs.owned.Arena.{Nodes, hung_in, node_of, heap_of, ledger_of, IsFilled, IsTree}
 use Rattle.congee.specs.declared.forms.base_node.Node.{Node as Form}
 use Rattle.congee.specs.declared.forms.base_node.NodeType.TheVariants.{N256}
 use Rattle.congee.proofs.lemmas.Tree.{same_or_not, finds}
+use Rattle.congee.proofs.lemmas.owned.Filled.{filled_at, filled_some, filled_none}
 use Rattle.congee.proofs.lemmas.owned.Sizes.{bytes_update}
 
 module _ {P : Type 0} (s0 s : Nodes P) (root : Form ℕ P) (none : (n : ℕ) → get s0 n ≡ None) (puts : Updates s0 s 0 (Some root)) (prefix : prefix_of root ≡ []) (children : children_of root ≡ map.empty) (form : form_of root ≡ N256) where
@@ -44,6 +45,10 @@ module _ {P : Type 0} (s0 s : Nodes P) (root : Form ℕ P) (none : (n : ℕ) →
       up = λ n l ne. absurd (ne (only n l));
     };
     wide = rw root_is (ap capacity_of form);
+    filled = λ n. elim (same_or_not n 0) [
+      | inl e ↦ filled_at s n 0 (Some root) e puts.changed (filled_some root (λ seven. let z : length (prefix_of root) ≡ 0 = ap length prefix in absurd (omega (arith, z, seven))))
+      | inr ne ↦ subst IsFilled (sym (puts.others n ne ∙ none n)) filled_none
+    ];
   }
 
   pub root_empty : (key : List ℕ) → value_at (heap_of s) key ≡ None

@@ -9,8 +9,8 @@ use Rattle.slab.specs.Slab.{get, ContainsKey}
 use Rattle.congee.specs.forms.Bytes.{IsFirst}
 use Rattle.congee.specs.Heap.{Hung, Nothing, Below, Holds}
 use Rattle.congee.specs.Ledger.{IsChild}
-use Rattle.congee.specs.forms.Forms.{form_of, children_of}
-use Rattle.congee.specs.owned.Arena.{Nodes, hung_in, heap_of, ledger_of, IsTree}
+use Rattle.congee.specs.forms.Forms.{form_of, prefix_of, children_of}
+use Rattle.congee.specs.owned.Arena.{Nodes, hung_in, node_of, heap_of, ledger_of, IsTree}
 use Rattle.congee.specs.owned.Stats.{capped, no_nodes, info_at, Counts, Shape, IsTally, root_alone}
 use Rattle.congee.specs.owned.Levels.{shape_of, under_byte, under_bytes, with_node, nodes_from, nodes_of}
 use Rattle.congee.specs.owned.OwnedSteps.{SameNodes}
@@ -171,10 +171,11 @@ module _ {P : Type 0} (s : Nodes P) where
   pub root_nodes : (root : Form ℕ P) → IsTree s → get s 0 ≡ Some root → form_of root ≡ N256 → children_of root ≡ map.empty → nodes_of s ≡ root_alone
   unfolding nodes_of under_bytes
   root_nodes root t e f c =
+      let empty : prefix_of root ≡ [] = sym (ap (λ o. (node_of o).prefix) e) ∙ t.tree.empty in
       let nothing : (q : ℕ) → at_bytes root q ≡ Nothing = λ q. ap hung_in (ap (λ m. map.get m q) c ∙ map.get-empty _ q) in
       nodes_at t 0 0 root (stands_of s t.parent 0 t.tree.root) e
       ∙ ap (λ l. shape_of 0 root ∷ l) (none_more (next 0) (at_bytes root) 0 256 (omega arith) (λ q lo hi. nothing q))
-      ∙ rw (f, c, map.len-empty nat_cmp (Child ℕ P)) refl
+      ∙ rw (f, c, empty, map.len-empty nat_cmp (Child ℕ P)) refl
 
   pub none_counted : (stats : NodeStats) → ((level : ℕ) (form : NodeType) → info_at stats level form ≡ no_nodes) → vec_len stats.levels ≡ 0 → stats.kv_pairs ≡ 0 → IsTally stats [] 0
   none_counted stats infos levels pairs = record { infos = infos; levels = levels; kv_pairs = pairs }

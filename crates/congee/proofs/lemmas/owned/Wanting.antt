@@ -7,8 +7,8 @@ use Rattle.std.specs.FinMap as map
 use Rattle.slab.specs.Slab.{get, ContainsKey}
 use Rattle.congee.specs.Heap.{Hung, Nothing, Below, Holds, Node, fits, child_for}
 use Rattle.congee.specs.Ledger.{Linked, Note, IsChild, HasParent, Tree}
-use Rattle.congee.specs.forms.Forms.{form_of, children_of, size_of, next_form, is_full_of}
-use Rattle.congee.specs.owned.Arena.{Nodes, heap_of, node_of, IsTree, OnWay, Hangs}
+use Rattle.congee.specs.forms.Forms.{form_of, prefix_of, children_of, size_of, next_form, is_full_of}
+use Rattle.congee.specs.owned.Arena.{Nodes, hung_in, heap_of, node_of, IsTree, OnWay, Hangs}
 use Rattle.congee.specs.Keys.{key_bytes}
 use Rattle.congee.specs.owned.OwnedSteps.{SameNodes, Sets, Makes, IsRefusal}
 use Rattle.congee.specs.owned.Place.{Located, EndsAt}
@@ -18,9 +18,10 @@ use Rattle.congee.specs.declared.owned.place.Spot.TheVariants.{Held, Free, Apart
 use Rattle.congee.specs.declared.allocator.OOMError.{OOMError}
 use Rattle.congee.specs.owned.Sizes.{bytes_at}
 use Rattle.congee.specs.owned.Table.{table}
-use Rattle.congee.specs.owned.Wanted.{size_by, net, at_end, descend, room_for, free_wants, last_wants, wants_at, last_lone, lone_at, wants_of, lone_of, freed_of, freed_by, IsRefusedOf}
+use Rattle.congee.specs.owned.Wanted.{size_by, net, at_end, descend, room_for, free_wants, last_wants, wants_at, last_lone, lone_at, wants_of, lone_of, freed_of, freed_by, IsRefusedOf, WantsLeaf}
 use Rattle.congee.specs.declared.forms.base_node.Node.{Node as Form}
 use Rattle.congee.specs.declared.forms.base_node.Node.TheVariants.{N4, N16, N48, N256}
+use Rattle.congee.specs.declared.forms.base_node.NodeType.TheVariants.{N256 as T256}
 use Rattle.congee.proofs.lemmas.Fits.{fits_trans, fits_byte}
 use Rattle.congee.proofs.lemmas.owned.Tables.{table_below}
 use Rattle.congee.proofs.lemmas.Tree.{same_or_not}
@@ -131,6 +132,17 @@ module _ {P : Type 0} where
       → lone_at (heap_of s) key ≡ None
   unfolding lone_at
   lone_apart s key n c t w e f = ends_apart None last_lone s key n c t w e f
+
+  -- in a tree whose root has no children
+  pub wants_leaf : (s : Nodes P) (root : Form ℕ P) → IsTree s → get s 0 ≡ Some root → form_of root ≡ T256 → children_of root ≡ map.empty → WantsLeaf (wants_of s)
+  unfolding wants_of
+  wants_leaf s root t e f c k l =
+      let r : heap_of s 0 ≡ node_of (Some root) = ap node_of e in
+      let empty : prefix_of root ≡ [] = sym (ap (λ n. n.prefix) r) ∙ t.tree.empty in
+      let way : OnWay s (key_bytes k) 0 = record { stands = rw e refl; fitted = rw t.tree.empty refl } in
+      let nothing : child_for (heap_of s 0) (key_bytes k) ≡ Nothing = rw r (ap hung_in (ap (λ m. map.get m (get_or (key_bytes k) (length (prefix_of root)) 0)) c ∙ map.get-empty _ _)) in
+      let leaf : free_wants (heap_of s 0) ≡ 64 ∷ [] = rw (r, empty, f) refl in
+      table_below (λ k. wants_at (heap_of s) (key_bytes k)) (2 ^ 64) k l ∙ (wants_free s (key_bytes k) 0 t way nothing ∙ ap Some leaf)
 
   -- the room of a node of a form
   pub full_room : (x : Form ℕ P) → is_full_of x ≡ true → room_for (node_of (Some x)) ≡ size_of (next_form (form_of x)) ∷ []

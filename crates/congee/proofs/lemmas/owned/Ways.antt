@@ -1,5 +1,5 @@
 -- The way of a key through an arena.
-use Rattle.std.proofs.Common.{rules, ◌≡◌, ◌≢◌, ℕ, ◌<◌, ◌≤◌, ◌-◌, true, List, length, get_or, refl, sym, ap, ◌∙◌, arith}
+use Rattle.std.proofs.Common.{rules, ◌≡◌, ◌≢◌, ℕ, ◌<◌, ◌≤◌, ◌-◌, true, List, length, get_or, refl, sym, ap, subst, ◌∙◌, arith}
 use Rattle.std.specs.Prelude.{Option, Some, None, is_some, cond, IsSome}
 use Rattle.slab.specs.Slab.{get, ContainsKey}
 use Rattle.congee.specs.Heap.{Below, fits, child_for}
@@ -8,7 +8,7 @@ use Rattle.std.specs.FinMap as map
 use Rattle.congee.specs.forms.Forms.{prefix_of, children_of}
 use Rattle.congee.specs.declared.forms.base_node.Node.{Node as Form}
 use Rattle.congee.specs.owned.OwnedSteps.{SameNodes}
-use Rattle.congee.specs.owned.Arena.{Nodes, hung_in, node_of, heap_of, ledger_of, IsTree, Hangs, Reached}
+use Rattle.congee.specs.owned.Arena.{Nodes, hung_in, node_of, heap_of, ledger_of, IsFilled, IsTree, Hangs, Reached}
 use Rattle.congee.specs.declared.forms.child.Child.{Child}
 
 module _ {P : Type 0} where
@@ -82,4 +82,4 @@ module _ {P : Type 0} where
   same_tree s s' e t =
       let h : heap_of s ≡ heap_of s' = λ i n. ap node_of (sym (e n)) i in
       let a : ledger_of s t.parent ≡ ledger_of s' t.parent = λ i n. ap (λ o. record { status = cond (is_some o) Linked Gone; owner = None; parent = t.parent n }) (sym (e n)) i in
-      record { parent = t.parent; tree = rw (← h, ← a) t.tree; wide = ap (λ o. (node_of o).capacity) (e 0) ∙ t.wide }
+      record { parent = t.parent; tree = rw (← h, ← a) t.tree; wide = ap (λ o. (node_of o).capacity) (e 0) ∙ t.wide; filled = λ n. subst IsFilled (sym (e n)) (t.filled n) }

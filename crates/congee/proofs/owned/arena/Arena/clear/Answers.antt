@@ -14,6 +14,9 @@ returns-clause-nodes g c = (root_left c.args.self.now.nodes c.clear.new.self c.i
 pub returns-clause-bytes : goal.returns-clause-bytes
 returns-clause-bytes g c = (root_left c.args.self.now.nodes c.clear.new.self c.insert_reserved.new.self c.remove-root.result c.clear-2.new.self c.insert_reserved.result c.requires.tree c.remove-root.ensures.value c.clear-2.ensures c.clear.ensures.empty (c.insert_reserved.ensures.key ∙ c.clear.ensures.first_key) c.insert_reserved.ensures.updates).bytes
 
+pub returns-clause-wants : goal.returns-clause-wants
+returns-clause-wants g c = (root_left c.args.self.now.nodes c.clear.new.self c.insert_reserved.new.self c.remove-root.result c.clear-2.new.self c.insert_reserved.result c.requires.tree c.remove-root.ensures.value c.clear-2.ensures c.clear.ensures.empty (c.insert_reserved.ensures.key ∙ c.clear.ensures.first_key) c.insert_reserved.ensures.updates).wants
+
 pub returns-clause-balance : goal.returns-clause-balance
 returns-clause-balance g c =
     let left = (root_left c.args.self.now.nodes c.clear.new.self c.insert_reserved.new.self c.remove-root.result c.clear-2.new.self c.insert_reserved.result c.requires.tree c.remove-root.ensures.value c.clear-2.ensures c.clear.ensures.empty (c.insert_reserved.ensures.key ∙ c.clear.ensures.first_key) c.insert_reserved.ensures.updates).bytes in
