@@ -15,3 +15,4 @@ pub mod Placing
 pub mod Editing
 pub mod Turning
 pub mod Flights
+pub mod lemmas

@@ -5,3 +5,4 @@ pub mod Collector
 pub mod Refusals
 pub mod Forest
 pub mod Machine
+pub mod shared

@@ -9,6 +9,7 @@ mod node;
 mod plan;
 mod prefix;
 mod refusal;
+pub mod shared;
 mod slot;
 mod steps;
 mod tree;

@@ -1,0 +1,118 @@
+-- No step destroys a node in use: what goes waited and had no name in a call, or its worker's own call had made it.
+use Rattle.std.proofs.Common.{◌≡◌, ◌<◌, ◌≤◌, ℕ, arith, Bool, true, false, List, [], ◌∷◌, refl, sym, ◌∙◌, ap, subst, inl, inr, ◌⊎◌}
+use Rattle.std.specs.Prelude.{Option, None, Some, length, slice_get, if◌then◌else◌}
+use Rattle.std.specs.List.{Contains}
+use Rattle.std.proofs.lemmas.Bool.{false≢true}
+use Rattle.std.proofs.lemmas.List.Elements.{All-contains}
+use Rattle.std.proofs.lemmas.Option.{slice_get_within, slice_get_cases}
+use Rattle.crossbeam_epoch.specs.declared.fault.Fault.{Fault}
+use Rattle.crossbeam_epoch.specs.declared.fault.Fault.TheVariants as fault
+use Rattle.congee.specs.declared.protocol.machine.Machine.{Machine}
+use Rattle.congee.specs.declared.protocol.machine.Noise.{Noise}
+use Rattle.congee.specs.declared.protocol.op.Op.{Op as Point}
+use Rattle.congee.specs.declared.protocol.op.Op.TheVariants as point
+use Rattle.congee.specs.protocol.Answers.{Keeps}
+use Rattle.congee.specs.protocol.Destroys.{Destroys, Lost}
+use Rattle.congee.specs.Heap.{Node, Stands}
+use Rattle.congee.specs.protocol.Holdings.{Holdings}
+use Rattle.congee.specs.protocol.Leaving.{StepLeaves}
+use Rattle.congee.specs.Ledger.{Note}
+use Rattle.congee.specs.protocol.Names.{names}
+use Rattle.congee.specs.protocol.Play.{EachKnown, ProtocolAt, Settled}
+use Rattle.joint.specs.declared.shared.call.Call.{Call}
+use Rattle.joint.specs.declared.shared.call.Call.TheVariants.{Idle, Collecting, Securing, Walking}
+use Rattle.joint.specs.declared.shared.id.Id.{Id}
+use Rattle.joint.specs.declared.shared.steps.Event.{Event}
+use Rattle.joint.specs.declared.shared.steps.Event.TheVariants.{Register, Begin, Go}
+use Rattle.joint.specs.declared.shared.steps.Report.{Report}
+use Rattle.joint.specs.declared.shared.steps.Target.{Target}
+use Rattle.joint.specs.declared.shared.steps.Target.TheVariants as target
+use Rattle.joint.specs.shared.Forest.{Forest, nodes, Refuses}
+use Rattle.joint.specs.shared.Laws.{LeavesLaw}
+use Rattle.joint.specs.shared.Reports.{target}
+use Rattle.joint.specs.shared.Runs.{Taken, AreTaken, AllSpare}
+use Rattle.joint.specs.shared.View.{id_number}
+use Rattle.joint.specs.shared.Whole.{Whole, Holds, misuse, Walks, BeginsAt, BeginsOnTree, GoesAt, Proceeds, Does, SparesUsed}
+
+-- what a step of the collector destroys waited, and no call has its name
+collected_spares : {V : Type 0} (h h' : ℕ → Node V) (ms : List (Machine Id V)) (n : ℕ) → Destroys id_number h ms h' → Stands (h n)
+    → Stands (h' n) ⊎ (((h n).retired ≡ true) × ((i : ℕ) (m : Machine Id V) → slice_get ms i ≡ Some m → Contains (names id_number m.phase) n → ⊥))
+collected_spares {V} h h' ms n d st = elim (d.each n) [
+  | inl e ↦ inl (let P : Node V → Type 0 = λ x. Stands x in subst P (sym e) st)
+  | inr lost ↦ inr (
+    lost.handed,
+    (λ i m at c.
+        let P : ℕ → Type 0 = λ k. h' k ≡ h k in
+        let e : h' n ≡ h n = All-contains P (names id_number m.phase) n (d.named i m at) c in
+        let q : false ≡ true = sym st.kept ∙ (sym (ap (λ x. x.destroyed) e) ∙ lost.destroyed) in false≢true q),
+  )
+]
+
+module _ {V : Type 0} (same : V → V → Bool) (always : Bool) (leaves : (s : Forest V) → LeavesLaw {C = Id} {V = V} id_number same always s.version_max (Refuses s)) where
+  module _ (s s' : Whole V) (w : ℕ) (holds : Holds same always s) where
+    as_before : nodes s'.forest ≡ nodes s.forest → SparesUsed s w s'
+    as_before e n st = inl (let P : (ℕ → Node V) → Type 0 = λ h. Stands (h n) in subst P (sym e) st)
+
+    unchanged : s' ≡ s → SparesUsed s w s'
+    unchanged e = as_before (ap (λ y. nodes y.forest) e)
+
+    by_collector : Destroys id_number (nodes s.forest) s.machines (nodes s'.forest) → SparesUsed s w s'
+    by_collector d n st = elim (collected_spares (nodes s.forest) (nodes s'.forest) s.machines n d st) [
+      | inl x ↦ inl x
+      | inr x ↦ inr (inl (record { waits = x.0; unnamed = x.1 }))
+    ]
+
+    machine_at : (k : Call V) → slice_get s.calls w ≡ Some k → (x : Machine Id V) × (slice_get s.machines w ≡ Some x)
+    machine_at k e = elim (slice_get_cases s.machines w).1 [
+      | inl x ↦ (x.0, x.2)
+      | inr x ↦ absurd (let l : w < length s.calls = slice_get_within s.calls w k e in omega (arith, x.0, l, holds.0.machines))
+    ]
+
+    -- a call gives back what it had made alone
+    walks : (noise : Noise Id V) (r : Report V) → slice_get s.calls w ≡ Some Walking → Walks same always s w noise r s' → SparesUsed s w s'
+    walks noise r e k n st =
+        let x : (x : Machine Id V) × (slice_get s.machines w ≡ Some x) = machine_at Walking e in
+        let moved = k.step.plays.moved x.0 x.1 in
+        let settled : Settled id_number same always (nodes s.forest) s.machines = holds.0.safe.sound.sound.settled in
+        let known : EachKnown id_number same always settled.0 (nodes s.forest) w x.0 = settled.1.each w x.0 x.1 in
+        let keeps : Keeps id_number same always w settled.0 x.0 (nodes s.forest) moved.now (nodes s'.forest) k.move = moved.keeps w settled.0 known.root settled.1.tree settled.1.words known.known in
+        let left : StepLeaves id_number w settled.0 keeps.notes (nodes s.forest) (nodes s'.forest) x.0 moved.now =
+        leaves s.forest w settled.0 (nodes s.forest) (nodes s'.forest) s.machines x.0 moved.now k.move noise.fail noise.answer settled.1 settled.2 x.1 keeps moved.step in
+        elim (left.lost n st) [
+          | inl y ↦ inl y
+          | inr y ↦ inr (inr (x.0, x.1, y))
+        ]
+
+    begins_tree : (op : Point V) (r : Report V) → BeginsOnTree same always s w op r s' → SparesUsed s w s'
+    begins_tree (point.Get k) r x = as_before (ap (λ y. nodes y.forest) x.state)
+    begins_tree (point.Range start end size) r x = as_before (ap (λ y. nodes y.forest) x.state)
+    begins_tree (point.Insert k v) r x = by_collector x.step.destroys
+    begins_tree (point.Remove k) r x = by_collector x.step.destroys
+    begins_tree (point.ComputePresent k) r x = by_collector x.step.destroys
+    begins_tree (point.ComputeInsert k) r x = by_collector x.step.destroys
+    begins_tree (point.Exchange k old new) r x = by_collector x.step.destroys
+
+    begins : (t : Target V) (r : Report V) → BeginsAt same always s w t r s' → SparesUsed s w s'
+    begins (target.Collector op) r x = by_collector x.step.destroys
+    begins (target.Tree op) r x = begins_tree op r x
+
+    goes : (k : Option (Call V)) (noise : Noise Id V) (r : Report V) → slice_get s.calls w ≡ k → GoesAt same always s w k noise r s' → SparesUsed s w s'
+    goes None noise r e x = absurd x
+    goes (Some Idle) noise r e x = absurd x
+    goes (Some (Collecting op)) noise r e x = by_collector x.step.destroys
+    goes (Some (Securing op)) noise r e x = by_collector x.step.collected.destroys
+    goes (Some Walking) noise r e x = walks noise r e x
+
+    proceeds : (event : Event V) (r : Report V) → Proceeds same always s w event r s' → SparesUsed s w s'
+    proceeds Register r (inl x) = as_before (ap (λ y. nodes y.forest) x.1.state)
+    proceeds Register r (inr x) = unchanged x.state
+    proceeds (Begin op) r x = begins (target op) r x
+    proceeds (Go noise) r x = goes (slice_get s.calls w) noise r refl x
+
+    pub step_spares : (event : Event V) (o : Option Fault) (r : Report V) → Does same always s w event o r s' → SparesUsed s w s'
+    step_spares event None r x = proceeds event r x
+    step_spares event (Some f) r x = unchanged x.1
+
+  pub all_spare : (s : Whole V) (taken : List (Taken V)) → Holds same always s → AreTaken same always s taken → AllSpare s taken
+  all_spare s [] h x = tt
+  all_spare s (t ∷ ts) h x = (step_spares s t.after t.step.worker h t.step.event (misuse s t.step.worker t.step.event) t.report x.0.does, all_spare t.after ts x.0.holds x.1)

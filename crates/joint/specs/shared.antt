@@ -1,0 +1,25 @@
+-- The machine of tree and collector.
+pub mod Altering
+pub mod Beginning
+pub mod Calling
+pub mod Forest
+pub mod Heap
+pub mod Intact
+pub mod Laws
+pub mod Limits
+pub mod Machines
+pub mod MapCode
+pub mod NameLemmas
+pub mod Names
+pub mod Opening
+pub mod Refusals
+pub mod Reports
+pub mod Runs
+pub mod Slots
+pub mod Solid
+pub mod Sound
+pub mod Tallies
+pub mod Ties
+pub mod View
+pub mod Whereabouts
+pub mod Whole

@@ -1,0 +1,25 @@
+//! What a worker is about between two of its steps.
+
+use congee::Op;
+
+/// A worker's call in flight.
+#[derive(Drop)]
+pub enum Call<P> {
+    /// There is none.
+    Idle,
+    /// A call on the collector.
+    Collecting(crossbeam_epoch::Op),
+    /// A writing call, while a place for a node that it may hand over is made free.
+    Securing(Op<P>),
+    /// A call on the tree.
+    Walking,
+}
+
+/// What a call in flight is about.
+#[derive(Clone, Copy, Drop)]
+pub enum Stage {
+    Idle,
+    Collecting(crossbeam_epoch::Op),
+    Securing,
+    Walking,
+}

@@ -1,0 +1,125 @@
+//! The index and its collector, one step at a time.
+
+ghost use Rattle.std.specs.Prelude.{◌≡◌, ◌⊎◌, take, IfOk, IfErr};
+ghost use Rattle.std.specs.FinMap.{empty};
+ghost use Rattle.std.specs.Vec.{vec_len};
+ghost use Rattle.judge.specs.Answer.{Pairs};
+ghost use Rattle.congee.specs.Keys.{IsMapOf};
+ghost use Rattle.joint.specs.shared.Forest.{nodes, waiting, waiting_bytes, IsCharged};
+ghost use Rattle.joint.specs.shared.Opening.{IsOpened, IsUnopened};
+ghost use Rattle.joint.specs.shared.Runs.{Flights, AreInFlight, IsRun, RunsMap, AllSpare, IsFresh, no_flights};
+ghost use Rattle.joint.specs.shared.Whereabouts.{AllSomewhere};
+ghost use Rattle.joint.specs.shared.Whole.{Holds, IsStep};
+ghost use Rattle.joint.specs.declared.shared.refusal.Refusal.TheVariants as refusal;
+
+use crate::shared::engine::Engine;
+use crate::shared::laws::{runs_spare, whereabouts};
+use crate::shared::limits::Limits;
+use crate::shared::refusal::Refusal;
+use crate::shared::steps::{Ran, Report, Step};
+use congee::{Allocator, Payload, Small};
+use std::alloc::Global;
+use std::marker::Model;
+use std::vec::Vec;
+
+/// An index whose removed nodes are reclaimed. Its workers register, pin, and then call; a call of each may be in flight.
+#[derive(Drop)]
+pub struct World<P: Payload + Small, A: Allocator> {
+    engine: Engine<P, A>,
+}
+
+impl<P: Payload + Small, A: Allocator> Model for World<P, A> {
+    ghost use Rattle.std.specs.Coded.{codes};
+    ghost use Rattle.joint.specs.shared.MapCode.{map_code};
+    ghost use Rattle.joint.specs.shared.Whole.{Whole, Holds};
+
+    ghost Value = { Whole P };
+
+    ghost coded = { Prim.hlevel (codes, map_code) };
+
+    ghost view = { λ w. record { forest = w.engine.nodes; machines = w.engine.machines.items; calls = w.engine.calls.items } };
+
+    ghost invariant = { λ w. Holds P.same_as P.always_copies (record { forest = w.engine.nodes; machines = w.engine.machines.items; calls = w.engine.calls.items }) };
+}
+
+impl<P: Payload + Small, A: Allocator> World<P, A> {
+    /// An index with a root alone, charged to the allocator, and a place for each worker there may be. Refused as Limits
+    /// where one is out of its range, as Budget where the allocator refuses the root, and as Memory.
+    pub fn new(alloc: Global, limits: Limits, allocator: A) -> Result<Self, Refusal>
+        ensures opened { IfOk result (λ w. IsOpened limits (A.charged_of allocator) (A.limit_of allocator) w.forest) }
+        ensures fresh { IfOk result (λ w. IsFresh w) }
+        ensures cause { IfErr result (λ e. IsUnopened limits (A.charged_of allocator) (A.limit_of allocator) e ⊎ (e ≡ refusal.Memory)) }
+    {
+        let engine = Engine::new(alloc, limits, allocator)?;
+        Ok(World { engine })
+    }
+
+    /// What holds in every state: tree, calls and collector are sound, the charge is that of the nodes that aren't destroyed,
+    /// and each node that was made is held by the call that made it, in the tree, waiting for its destruction, or destroyed.
+    pub fn sound(&self)
+        ensures holds { Holds P.same_as P.always_copies self.now }
+        ensures somewhere { AllSomewhere self.now }
+    {
+        whereabouts::<P>();
+        let _ = &self.engine;
+    }
+
+    /// One step.
+    pub fn step(&mut self, step: Step<P>) -> Report<P>
+        ensures { IsStep P.same_as P.always_copies self.old step result self.new }
+    {
+        self.engine.step(step)
+    }
+
+    /// These steps, one after another, until there is no memory for a report.
+    pub fn run(&mut self, alloc: Global, steps: Vec<Step<P>>) -> Ran<P>
+        ensures done { result.done ≡ vec_len result.reports }
+        ensures run { IsRun P.same_as P.always_copies self.old (take result.done steps.items) result.reports.items self.new }
+        ensures map { (fs : Flights P) (m : Pairs P) → IsMapOf (nodes self.old.forest) m → AreInFlight self.old fs → RunsMap P.same_as fs m (take result.done steps.items) result.reports.items self.new }
+        ensures fresh { IsFresh self.old → RunsMap P.same_as no_flights empty (take result.done steps.items) result.reports.items self.new }
+        ensures spares { (run : IsRun P.same_as P.always_copies self.old (take result.done steps.items) result.reports.items self.new) → AllSpare self.old run.taken }
+    {
+        runs_spare::<P, A>();
+        self.sound();
+        self.take_all(alloc, steps)
+    }
+
+    fn take_all(&mut self, alloc: Global, steps: Vec<Step<P>>) -> Ran<P>
+        ensures done { result.done ≡ vec_len result.reports }
+        ensures run { IsRun P.same_as P.always_copies self.old (take result.done steps.items) result.reports.items self.new }
+    {
+        let mut reports = Vec::new(alloc);
+        let mut rest = steps.into_iter();
+        while let Some(step) = rest.next() {
+            if reports.reserve(1).is_err() {
+                break;
+            }
+            let report = self.step(step);
+            reports.push_reserved(report);
+        }
+        let done = reports.len();
+        Ran { reports, done }
+    }
+
+    /// The bytes charged to the allocator.
+    pub fn charged(&self) -> u64
+        ensures value { result ≡ self.now.forest.charge }
+        ensures sum { IsCharged self.now.forest }
+    {
+        self.engine.nodes.charged()
+    }
+
+    /// The nodes that were handed over and aren't destroyed yet.
+    pub fn waiting(&self) -> u64
+        ensures { result ≡ waiting self.now.forest.collector.store }
+    {
+        self.engine.nodes.waiting()
+    }
+
+    /// Their sizes, in bytes.
+    pub fn waiting_bytes(&self) -> u64
+        ensures { result ≡ waiting_bytes self.now.forest.collector.store }
+    {
+        self.engine.nodes.waiting_bytes()
+    }
+}
