@@ -56,9 +56,9 @@ module _ {V : Type 0} (same : V → V → Bool) (always : Bool) where
         goes = go_more c.reports q r c.last g c.goes;
         last = last_snoc c.reports q r c.last;
       } where
-    last_snoc : (qs : List (Report V)) (last x : Report V) → last_of qs ≡ Some last → last_of (qs ++ x ∷ []) ≡ Some x
-    last_snoc [] last x e = refl
-    last_snoc (p ∷ qs) last x e = last_more p qs x
+        last_snoc : (qs : List (Report V)) (last x : Report V) → last_of qs ≡ Some last → last_of (qs ++ x ∷ []) ≡ Some x
+        last_snoc [] last x e = refl
+        last_snoc (p ∷ qs) last x e = last_more p qs x
 
   -- a call of no steps
   pub calling_none : (s : Whole V) (who : ℕ) (op : Op V) (most : ℕ) → most ≡ 0 → IsCalled same always s who op most None s

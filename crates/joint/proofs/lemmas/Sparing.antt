@@ -1,24 +1,21 @@
 -- No step destroys a node in use: what goes waited and had no name in a call, or its worker's own call had made it.
-use Rattle.std.proofs.Common.{◌≡◌, ◌<◌, ◌≤◌, ℕ, arith, Bool, true, false, List, [], ◌∷◌, refl, sym, ◌∙◌, ap, subst, inl, inr, ◌⊎◌}
-use Rattle.std.specs.Prelude.{Option, None, Some, length, slice_get, if◌then◌else◌}
+use Rattle.std.proofs.Common.{◌≡◌, ◌<◌, ℕ, arith, Bool, true, false, List, [], ◌∷◌, refl, sym, ◌∙◌, ap, subst, inl, inr, ◌⊎◌}
+use Rattle.std.specs.Prelude.{Option, None, Some, length, slice_get}
 use Rattle.std.specs.List.{Contains}
 use Rattle.std.proofs.lemmas.Bool.{false≢true}
 use Rattle.std.proofs.lemmas.List.Elements.{All-contains}
 use Rattle.std.proofs.lemmas.Option.{slice_get_within, slice_get_cases}
 use Rattle.crossbeam_epoch.specs.declared.fault.Fault.{Fault}
-use Rattle.crossbeam_epoch.specs.declared.fault.Fault.TheVariants as fault
 use Rattle.congee.specs.declared.protocol.machine.Machine.{Machine}
 use Rattle.congee.specs.declared.protocol.machine.Noise.{Noise}
 use Rattle.congee.specs.declared.protocol.op.Op.{Op as Point}
 use Rattle.congee.specs.declared.protocol.op.Op.TheVariants as point
 use Rattle.congee.specs.protocol.Answers.{Keeps}
-use Rattle.congee.specs.protocol.Destroys.{Destroys, Lost}
+use Rattle.congee.specs.protocol.Destroys.{Destroys}
 use Rattle.congee.specs.Heap.{Node, Stands}
-use Rattle.congee.specs.protocol.Holdings.{Holdings}
 use Rattle.congee.specs.protocol.Leaving.{StepLeaves}
-use Rattle.congee.specs.Ledger.{Note}
 use Rattle.congee.specs.protocol.Names.{names}
-use Rattle.congee.specs.protocol.Play.{EachKnown, ProtocolAt, Settled}
+use Rattle.congee.specs.protocol.Play.{EachKnown, Settled}
 use Rattle.joint.specs.declared.shared.call.Call.{Call}
 use Rattle.joint.specs.declared.shared.call.Call.TheVariants.{Idle, Collecting, Securing, Walking}
 use Rattle.joint.specs.declared.shared.id.Id.{Id}

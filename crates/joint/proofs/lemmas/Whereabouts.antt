@@ -1,18 +1,18 @@
 -- Each node that was made is in one place, by the ledger of the calls.
-use Rattle.std.proofs.Common.{◌≡◌, ℕ, Bool, true, false, refl, sym, ◌∙◌, ap, subst, inl, inr, ◌⊎◌}
-use Rattle.std.specs.Prelude.{List, Some, slice_get}
+use Rattle.std.proofs.Common.{◌≡◌, ℕ, Bool, true, false, refl, sym, ◌∙◌, ap, inl, inr, ◌⊎◌}
+use Rattle.std.specs.Prelude.{Some, slice_get}
 use Rattle.std.proofs.lemmas.Bool.{cases_Bool, false≢true}
 use Rattle.congee.specs.declared.protocol.machine.Machine.{Machine}
-use Rattle.congee.specs.protocol.Handing.{InTree, Leads}
+use Rattle.congee.specs.protocol.Handing.{InTree}
 use Rattle.congee.specs.Heap.{Stands}
-use Rattle.congee.specs.protocol.Holdings.{Holdings, MadeBy, TakenBy}
+use Rattle.congee.specs.protocol.Holdings.{Holdings, MadeBy}
 use Rattle.congee.specs.Ledger.{Note, Status, Unmade, Held, Linked, Gone, Back, Destroyed, is_published, is_spent}
 use Rattle.congee.specs.protocol.Play.{EachKnown, ProtocolAt, Settled}
 use Rattle.joint.specs.declared.shared.id.Id.{Id}
 use Rattle.joint.specs.shared.Forest.{nodes}
 use Rattle.joint.specs.shared.Laws.{CallLaws}
 use Rattle.joint.specs.shared.View.{id_number}
-use Rattle.joint.specs.shared.Whereabouts.{IsHeld, IsInTree, IsWaiting, IsDestroyed, IsSomewhere, IsTakenBy, AllSomewhere}
+use Rattle.joint.specs.shared.Whereabouts.{IsHeld, IsInTree, IsWaiting, IsDestroyed, IsSomewhere, IsTakenBy}
 use Rattle.joint.specs.shared.Whole.{Whole, Holds, IsHeldBy}
 
 module _ {V : Type 0} (same : V → V → Bool) (always : Bool) (laws : CallLaws {C = Id} {V = V} id_number same always) (s : Whole V) (holds : Holds same always s) (n : ℕ) (made : (nodes s.forest n).made ≡ true) where

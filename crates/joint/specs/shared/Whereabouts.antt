@@ -3,7 +3,7 @@ use Rattle.std.specs.Prelude.{◌≡◌, ℕ, true, Some, slice_get, ◌⊎◌}
 use Rattle.congee.specs.declared.protocol.machine.Machine.{Machine}
 use Rattle.congee.specs.protocol.Handing.{InTree, IsOut}
 use Rattle.congee.specs.Heap.{Stands}
-use Rattle.congee.specs.protocol.Holdings.{MadeBy, TakenBy}
+use Rattle.congee.specs.protocol.Holdings.{TakenBy}
 use Rattle.joint.specs.declared.shared.id.Id.{Id}
 use Rattle.joint.specs.shared.Forest.{nodes}
 use Rattle.joint.specs.shared.View.{id_number}

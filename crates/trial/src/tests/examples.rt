@@ -1,9 +1,15 @@
 //! The examples, run.
 
 use super::face::limits;
+use crate::examples::shared::runs_as_one_map;
 use crate::examples::stack::{Node, Stack, pops, sum_of_two};
+use congee::Noise;
 use crossbeam_epoch::Collector;
+use joint::shared::{Done, Event, Op, Outcome, Report, Step};
+use judge::Reply;
+use std::alloc::{AllocError, Global};
 use std::test::Fail;
+use std::vec::Vec;
 
 #[test]
 fn two_threads_share_a_stack(rt: HostRuntime) -> Result<(), Fail> {
@@ -20,5 +26,71 @@ fn the_last_number_is_popped_first(rt: HostRuntime) -> Result<(), Fail> {
     let numbers: Collector<Node, ()> = Collector::new(&rt, rt.alloc(), limits(3), 1)?;
     let popped = pops(&rt, rt.alloc(), &numbers, [1, 2, 3])?;
     assert_eq!(rt; popped, [Some(3), Some(2), Some(1), None]);
+    Ok(())
+}
+
+/// A step of the worker's call in flight, with nothing from outside.
+fn go(worker: u32) -> Step<u64> {
+    Step {
+        worker,
+        event: Event::Go(Noise {
+            fail: false,
+            seen: None,
+            answer: None,
+        }),
+    }
+}
+
+fn begin(worker: u32, op: Op<u64>) -> Step<u64> {
+    Step {
+        worker,
+        event: Event::Begin(op),
+    }
+}
+
+/// Two workers come and pin; then so many steps of each, one after the other, of an insertion of the one and a look-up of
+/// the other; then a look-up alone.
+fn schedule(alloc: Global) -> Result<Vec<Step<u64>>, AllocError> {
+    let mut steps = Vec::with_capacity(alloc, 120)?;
+    for worker in 0..2 {
+        steps.push(Step {
+            worker,
+            event: Event::Register,
+        })?;
+        steps.push(begin(worker, Op::Pin))?;
+        for _ in 0..20 {
+            steps.push(go(worker))?;
+        }
+    }
+    steps.push(begin(0, Op::Insert(7, 70)))?;
+    steps.push(begin(1, Op::Get(7)))?;
+    for _ in 0..20 {
+        steps.push(go(0))?;
+        steps.push(go(1))?;
+    }
+    steps.push(begin(1, Op::Get(7)))?;
+    for _ in 0..20 {
+        steps.push(go(1))?;
+    }
+    Ok(steps)
+}
+
+/// How many reports end a call with this reply.
+fn count_of(reports: &[Report<u64>], reply: Reply<u64>) -> usize {
+    reports
+        .iter()
+        .filter(|report| report.outcome == Outcome::Done(Done::Reply(reply)))
+        .count()
+}
+
+#[test]
+fn two_calls_in_flight_answer_as_one_map(rt: HostRuntime) -> Result<(), Fail> {
+    let steps = schedule(rt.alloc())?;
+    let taken = steps.len();
+    let ran = runs_as_one_map(rt.alloc(), steps)?;
+    assert_eq!(rt; ran.done, taken);
+    assert_eq!(rt; count_of(&ran.reports, Reply::Insert(None)), 1);
+    assert_eq!(rt; count_of(&ran.reports, Reply::Get(None)), 1);
+    assert_eq!(rt; count_of(&ran.reports, Reply::Get(Some(70))), 1);
     Ok(())
 }

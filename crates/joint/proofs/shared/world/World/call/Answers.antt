@@ -1,6 +1,6 @@
-use Rattle.std.proofs.Common.{◌≡◌, Bool, true, arith, subst}
+use Rattle.std.proofs.Common.{◌≡◌, true, arith, subst}
 use Rattle.joint.specs.declared.shared.steps.Step.{Step}
-use Rattle.joint.specs.shared.Calling.{goes_on, next_step}
+use Rattle.joint.specs.shared.Calling.{goes_on}
 use Rattle.joint.specs.shared.Whole.{IsStep}
 use Rattle.joint.proofs.lemmas.Calling.{calling_first, calling_more, calling_none}
 use Rattle.joint.proofs.shared.world.World.call.Goals as goal

@@ -1,4 +1,4 @@
-use Rattle.std.proofs.Common.{refl, ◌∙◌, ap}
+use Rattle.std.proofs.Common.{◌∙◌, ap}
 use Rattle.std.specs.Vec.{vec_len}
 use Rattle.joint.proofs.lemmas.Running.{progress_none, progress_more, progress_end}
 use Rattle.joint.proofs.shared.world.World.take_all.Goals as goal
