@@ -27,7 +27,6 @@ pub mod Reaching
 pub mod Registered
 pub mod Registering
 pub mod Retiring
-pub mod Rooms
 pub mod Running
 pub mod Runs
 pub mod Secured

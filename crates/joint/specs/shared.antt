@@ -19,6 +19,7 @@ pub mod Slots
 pub mod Solid
 pub mod Sound
 pub mod Tallies
+pub mod RoomLemmas
 pub mod Ties
 pub mod View
 pub mod Whereabouts

@@ -17,9 +17,28 @@ use congee::{Child, Node, NodeType, Payload, Small};
 use crossbeam_epoch::{Links, Name, Pointable};
 use std::alloc::{AllocError, Global};
 
+/// A payload whose nodes fit in memory.
+///
+/// Each payload is one; a user has nothing to prove.
+pub trait Housed: Small {
+    ghost use Rattle.std.specs.Mem.{FitsInMemory};
+    ghost use Rattle.congee.specs.contracts.forms.base_node.Node.{the_row as node_row};
+    ghost use Rattle.joint.specs.contracts.shared.id.Id.{the_row as id_row};
+
+    ghost fits_node: { FitsInMemory (node_row id_row Self.row) };
+}
+
+impl<P: Small> Housed for P {
+    ghost use Rattle.congee.specs.forms.RoomLemmas.{any_node_fits};
+    ghost use Rattle.joint.specs.contracts.shared.id.Id.{the_row as id_row};
+    ghost use Rattle.joint.specs.shared.RoomLemmas.{small_id};
+
+    ghost fits_node = { any_node_fits id_row P.row small_id P.small };
+}
+
 /// A node in its cell, with its lock word.
 #[derive(Drop)]
-pub struct Slot<P: Small> {
+pub struct Slot<P: Housed> {
     /// There is none only while the node is out to be changed.
     pub node: Option<Box<Node<Id, P>>>,
     pub word: Word,

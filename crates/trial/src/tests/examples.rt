@@ -87,10 +87,12 @@ fn count_of(reports: &[Report<u64>], reply: Reply<u64>) -> usize {
 fn two_calls_in_flight_answer_as_one_map(rt: HostRuntime) -> Result<(), Fail> {
     let steps = schedule(rt.alloc())?;
     let taken = steps.len();
-    let ran = runs_as_one_map(rt.alloc(), steps)?;
+    let (index, ran) = runs_as_one_map(rt.alloc(), steps)?;
     assert_eq!(rt; ran.done, taken);
     assert_eq!(rt; count_of(&ran.reports, Reply::Insert(None)), 1);
     assert_eq!(rt; count_of(&ran.reports, Reply::Get(None)), 1);
     assert_eq!(rt; count_of(&ran.reports, Reply::Get(Some(70))), 1);
+    // The root of 256 places and a leaf of 4.
+    assert_eq!(rt; index.charged(), 2104 + 64);
     Ok(())
 }

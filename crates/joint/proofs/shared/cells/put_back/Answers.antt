@@ -1,6 +1,6 @@
 use Rattle.congee.specs.forms.RoomLemmas.{any_node_fits}
 use Rattle.joint.specs.contracts.shared.id.Id.{the_row}
-use Rattle.joint.proofs.lemmas.Rooms.{small_id}
+use Rattle.joint.specs.shared.RoomLemmas.{small_id}
 use Rattle.joint.proofs.shared.cells.put_back.Goals as goal
 
 pub drop-requires-room-T-Destruct : goal.drop-requires-room-T-Destruct

@@ -1,6 +1,6 @@
 use Rattle.congee.specs.forms.RoomLemmas.{any_node_fits}
 use Rattle.joint.specs.contracts.shared.id.Id.{the_row}
-use Rattle.joint.proofs.lemmas.Rooms.{small_id}
+use Rattle.joint.specs.shared.RoomLemmas.{small_id}
 use Rattle.joint.proofs.lemmas.Totals.{emptied_empties}
 use Rattle.joint.proofs.shared.cells.take_away.Goals as goal
 

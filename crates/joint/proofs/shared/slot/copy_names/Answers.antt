@@ -1,6 +1,6 @@
 use Rattle.congee.specs.forms.RoomLemmas.{any_node_fits}
 use Rattle.joint.specs.contracts.shared.id.Id.{the_row}
-use Rattle.joint.proofs.lemmas.Rooms.{small_id}
+use Rattle.joint.specs.shared.RoomLemmas.{small_id}
 use Rattle.joint.proofs.lemmas.Copying.{copy_begins, copy_room, copy_goes, copy_ends, no_value}
 use Rattle.joint.proofs.shared.slot.copy_names.Goals as goal
 

@@ -1,7 +1,7 @@
 use Rattle.congee.specs.forms.RoomLemmas.{any_node_fits}
 use Rattle.joint.specs.contracts.shared.id.Id.{the_row}
 use Rattle.joint.proofs.lemmas.Hanging.{present, room_in, no_word}
-use Rattle.joint.proofs.lemmas.Rooms.{small_id}
+use Rattle.joint.specs.shared.RoomLemmas.{small_id}
 use Rattle.joint.proofs.shared.slot.hang.Goals as goal
 
 pub remove-requires : goal.remove-requires

@@ -1,6 +1,6 @@
 use Rattle.congee.specs.forms.RoomLemmas.{any_node_fits}
 use Rattle.joint.specs.contracts.shared.id.Id.{the_row}
-use Rattle.joint.proofs.lemmas.Rooms.{small_id}
+use Rattle.joint.specs.shared.RoomLemmas.{small_id}
 use Rattle.joint.proofs.lemmas.Copying.{empty_in, room_in, alike_in, hands_slots}
 use Rattle.joint.proofs.lemmas.Hanging.{solid_in}
 use Rattle.joint.proofs.shared.slot.Slot.hand_over.Goals as goal

@@ -1,7 +1,7 @@
 use Rattle.congee.specs.forms.RoomLemmas.{any_node_fits}
 use Rattle.joint.specs.contracts.shared.id.Id.{the_row}
 use Rattle.joint.proofs.lemmas.Hanging.{solid_in, room_of, hangs_slot}
-use Rattle.joint.proofs.lemmas.Rooms.{small_id}
+use Rattle.joint.specs.shared.RoomLemmas.{small_id}
 use Rattle.joint.proofs.shared.slot.Slot.hang.Goals as goal
 
 pub hang-requires : goal.hang-requires

@@ -3,7 +3,7 @@ use Rattle.congee.specs.forms.RoomLemmas.{any_node_fits}
 use Rattle.congee.specs.protocol.Events.{ReadGives}
 use Rattle.joint.specs.contracts.shared.id.Id.{the_row}
 use Rattle.joint.specs.shared.View.{id_number}
-use Rattle.joint.proofs.lemmas.Rooms.{small_id}
+use Rattle.joint.specs.shared.RoomLemmas.{small_id}
 use Rattle.joint.proofs.shared.store.NodesStoreId.read.Goals as goal
 
 pub read-requires : goal.read-requires

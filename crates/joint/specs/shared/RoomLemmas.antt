@@ -1,5 +1,5 @@
 -- The size of a node's name.
-use Rattle.std.proofs.Common.{arith}
+use native.Mathlib.Omega.{arith}
 use denote.Param.{layout}
 use Rattle.congee.specs.forms.Room.{IsSmall}
 use Rattle.joint.specs.contracts.shared.id.Id.{the_row}
