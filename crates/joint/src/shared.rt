@@ -20,6 +20,7 @@ mod turns;
 mod world;
 
 pub use id::Id;
+pub use laws::{runs_join, runs_map};
 pub use limits::Limits;
 pub use nodes::Nodes;
 pub use refusal::Refusal;

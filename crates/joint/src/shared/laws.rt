@@ -18,14 +18,14 @@ use crate::shared::nodes::Nodes;
 use congee::{Allocator, Machine, Payload, Small};
 
 /// A list of steps is the run of a map: calls that took effect answer as one map, in the order of their deciding steps.
-fn runs_map<P: Payload + Small>()
+pub fn runs_map<P: Payload + Small>()
     ensures plays { (s : Whole P) (taken : List (Taken P)) (fs : Flights P) (m : Pairs P) → Holds P.same_as P.always_copies s → AreTaken P.same_as P.always_copies s taken → IsMapOf (nodes s.forest) m → AreInFlight s fs → PlaysMap P.same_as fs m s taken }
     ensures fresh { (s : Whole P) (taken : List (Taken P)) → IsFresh s → Holds P.same_as P.always_copies s → AreTaken P.same_as P.always_copies s taken → PlaysMap P.same_as no_flights empty s taken }
     ensures legal { (fs : Flights P) (m : Pairs P) (lines : List (Line P)) (fs' : Flights P) → IsMapRun P.same_as fs m lines fs' → Legal P.same_as m (entries lines) (pairs_after m lines) }
 {}
 
 /// Runs one after another are a run, and in each state of it holds what always does.
-fn runs_join<P: Payload + Small>()
+pub fn runs_join<P: Payload + Small>()
     ensures joins { (s s1 s2 : Whole P) (a b : List (Asked P)) (q r : List (Told P)) → IsRun P.same_as P.always_copies s a q s1 → IsRun P.same_as P.always_copies s1 b r s2 → IsRun P.same_as P.always_copies s (a ++ b) (q ++ r) s2 }
     ensures holds { (s : Whole P) (taken : List (Taken P)) → AreTaken P.same_as P.always_copies s taken → AllHold P.same_as P.always_copies taken }
 {}
