@@ -1,5 +1,6 @@
 -- The nodes of a tree, by their names, and the map that stands in them.
 use Rattle.std.specs.Prelude.{◌≡◌, ℕ, zero, suc, ◌==◌, ◌&&◌, not, Bool, true, false, List, [], ◌∷◌, length, slice_index, Option, None, Some, cond}
+use Rattle.congee.specs.declared.keys.TheConstants.{KEY_BYTES}
 
 -- what hangs at a byte: nothing, a node by its name, or a value
 pub data Hung (V : Type 0) : Type 0 where
@@ -43,7 +44,7 @@ walk h (suc f) n key = cond (fits (h n).prefix key) (of_child (λ c. walk h f c 
 
 -- the map that stands in the tree, by keys of eight bytes
 abbrev pub value_at : {V : Type 0} → (ℕ → Node V) → List ℕ → Option V
-value_at h key = walk h 8 0 key
+value_at h key = walk h KEY_BYTES 0 key
 
 -- a lock word that is neither locked nor obsolete
 abbrev pub is_free : {V : Type 0} → Node V → Bool

@@ -2,6 +2,7 @@
 -- who made it and who holds its lock.
 use Rattle.std.specs.Prelude.{◌≡◌, ◌≢◌, ℕ, ◌<◌, ◌≤◌, Bool, true, false, [], length, slice_index, Option, None}
 use Rattle.congee.specs.Heap.{Node, Below, Holds, Stands, fits, is_free}
+use Rattle.congee.specs.declared.forms.prefix.TheConstants.{MAX_PREFIX_LEN}
 
 -- not made yet; held by call i, never in reach; in the tree; taken out of it; given back unused; destroyed
 pub data Status : Type 0 where
@@ -55,8 +56,8 @@ pub record HasParent {V : Type 0} (a : ℕ → Note) (h : ℕ → Node V) (n : �
 pub record Tree {V : Type 0} (a : ℕ → Note) (h : ℕ → Node V) : Type 0 where
   pub root : (a 0).status ≡ Linked
   pub empty : (h 0).prefix ≡ []
-  pub short : (n : ℕ) → (a n).status ≡ Linked → length (h n).prefix ≤ 7
-  pub leaves : (n b : ℕ) (v : V) → (a n).status ≡ Linked → (h n).children b ≡ Holds v → length (h n).prefix ≡ 7
+  pub short : (n : ℕ) → (a n).status ≡ Linked → length (h n).prefix ≤ MAX_PREFIX_LEN
+  pub leaves : (n b : ℕ) (v : V) → (a n).status ≡ Linked → (h n).children b ≡ Holds v → length (h n).prefix ≡ MAX_PREFIX_LEN
   pub down : (n b c : ℕ) → (a n).status ≡ Linked → (h n).children b ≡ Below c → IsChild a h n b c
   pub up : (n : ℕ) → (a n).status ≡ Linked → n ≢ 0 → HasParent a h n
 

@@ -4,6 +4,7 @@ pub mod Charge
 pub mod Content
 pub mod Cursor
 pub mod Drained
+pub mod Edits
 pub mod Levels
 pub mod Owned
 pub mod Place

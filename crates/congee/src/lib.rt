@@ -7,6 +7,7 @@
 
 mod allocator;
 pub mod forms;
+mod keys;
 mod owned;
 pub mod protocol;
 
@@ -15,6 +16,7 @@ pub use forms::{
     Boxed, Child, MAX_PREFIX_LEN, Node, Node4, Node16, Node48, Node256, NodeIter, NodeType, Small,
 };
 pub use judge::{ArcPayload, Payload, Word64};
+pub use keys::KEY_BYTES;
 pub use owned::{
     Calls, Congee, CongeeArc, Count, Drainer, LevelStats, NoDrain, NodeInfo, NodeStats, U64Congee,
 };

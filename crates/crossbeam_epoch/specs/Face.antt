@@ -1,8 +1,10 @@
 -- The calls for real threads.
-pub mod Epoch
 pub mod Exchange
 pub mod Handle
 pub mod Ordering
+pub mod Participant
+pub mod Pins
 pub mod Pointer
 pub mod Queue
 pub mod Slots
+pub mod Tokens

@@ -2,16 +2,18 @@
 
 mod atomic;
 mod collector;
-mod epoch;
 mod guard;
 mod handle;
 mod internal;
+mod laws;
 mod lent;
 mod link;
 mod ordering;
 mod owned;
+mod pins;
 mod pointer;
 mod queue;
+mod seats;
 mod shared;
 mod slots;
 mod unguarded;

@@ -94,14 +94,14 @@ impl<T: Links + Pointable + Drop, J: Task> World<T, J> {
         if !limits.is_within() {
             return Err(Fault::Limits);
         }
-        let Ok(world) = World::with_room(alloc, limits, roots) else {
+        let Ok(world) = World::make(alloc, limits, roots) else {
             return Err(Fault::Memory);
         };
         Ok(world)
     }
 
     /// A collector with room for what these limits allow.
-    fn with_room(alloc: Global, limits: Limits, roots: usize) -> Result<World<T, J>, AllocError>
+    fn make(alloc: Global, limits: Limits, roots: usize) -> Result<World<T, J>, AllocError>
         ensures state { IfOk result (λ w. w ≡ opened limits roots) }
     {
         let cells = Cells::new(alloc, limits.cells, limits.turn_max)?;

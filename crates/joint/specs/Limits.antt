@@ -1,13 +1,14 @@
 -- What bounds an index.
 use Rattle.std.specs.Prelude.{◌≡◌, ◌≤◌, ℕ}
 use Rattle.joint.specs.declared.limits.Limits.{Limits}
+use Rattle.joint.specs.declared.limits.TheConstants.{CELLS_MAX}
 
 -- every limit stands in its range
 pub record AreAllowed (l : Limits) : Type 0 where
   pub some_participant : 1 ≤ l.epoch.participants
   pub participants : l.epoch.participants ≤ 256
   pub some_cell : 1 ≤ l.epoch.cells
-  pub cells : l.epoch.cells ≤ 16777215
+  pub cells : l.epoch.cells ≤ CELLS_MAX
   pub some_epochs : 3 ≤ l.epoch.epoch_max
   pub epochs : l.epoch.epoch_max ≤ 4611686018427387904
   pub expiry : l.epoch.expiry ≡ 2

@@ -1,25 +1,31 @@
--- Which refusal a call gets.
-use Rattle.std.specs.Prelude.{ℕ, Option, Some, None, is_some, if◌then◌else◌}
+-- Why a call is refused, by the words of the layer that refuses it.
 use Rattle.crossbeam_epoch.specs.declared.fault.Fault.{Fault}
 use Rattle.crossbeam_epoch.specs.declared.fault.Fault.TheVariants as fault
-use Rattle.crossbeam_epoch.specs.World.Machine.{place}
+use Rattle.congee.specs.declared.protocol.store.Refusal.{Refusal as Cause}
+use Rattle.congee.specs.declared.protocol.store.Refusal.TheVariants as cause
 use Rattle.joint.specs.declared.refusal.Refusal.{Refusal}
-use Rattle.joint.specs.declared.refusal.Refusal.TheVariants as refusal
-use Rattle.joint.specs.Forest.{Clock}
+use Rattle.joint.specs.declared.refusal.Refusal.TheVariants.{TableFull, Memory, Budget, Cells, Exhausted, Unpinned, Busy, InCall, WorkersLeft, Unknown, Count, Foreign, GuardOut, Idle, Limits}
 
--- the first refusal of a call on the tree, which wants a pin
-abbrev pub of_guard : {V : Type 0} → Clock V → ℕ → Option Refusal
-of_guard s who =
-    if (place s who).registered then (if is_some (place s who).word then None else Some refusal.Unpinned)
-    else Some refusal.Unknown
+-- of a call on the tree
+abbrev pub of_tree : Cause → Refusal
+of_tree (cause.Budget charged wanted limit) = Budget charged wanted limit
+of_tree cause.Cells = Cells
+of_tree cause.Memory = Memory
+of_tree cause.Exhausted = Exhausted
+of_tree cause.Count = Count
 
--- the refusal that a fault of the collector is told as
-abbrev pub refusal_of : Fault → Refusal
-refusal_of fault.Memory = refusal.Memory
-refusal_of fault.Unpinned = refusal.Unpinned
-refusal_of fault.Count = refusal.Count
-refusal_of fault.GuardOut = refusal.GuardOut
-refusal_of fault.TableFull = refusal.TableFull
-refusal_of fault.CellsFull = refusal.Cells
-refusal_of fault.Limits = refusal.Limits
-refusal_of _ = refusal.Unknown
+-- of a call on the collector
+abbrev pub of_fault : Fault → Refusal
+of_fault fault.TableFull = TableFull
+of_fault fault.CellsFull = Cells
+of_fault fault.Memory = Memory
+of_fault fault.Unpinned = Unpinned
+of_fault fault.Busy = Busy
+of_fault fault.Count = Count
+of_fault fault.GuardOut = GuardOut
+of_fault (fault.Registered n) = WorkersLeft n
+of_fault fault.Unknown = Unknown
+of_fault fault.Foreign = Foreign
+of_fault fault.Idle = Idle
+of_fault fault.Limits = Limits
+of_fault fault.InCall = InCall

@@ -1,23 +1,31 @@
-//! An index for keys of eight bytes and the reclamation of its nodes, as one machine.
+//! An index for keys of eight bytes and the reclamation of its nodes, as one machine: one atomic
+//! step at a time, a call of each worker in flight.
 #![tactic(auto)]
 
-mod allocator;
-mod child;
-mod form;
+mod call;
+mod calls;
+mod cells;
+mod clock;
+mod counts;
+mod engine;
+mod id;
+mod laws;
 mod limits;
-mod node;
-mod plan;
-mod prefix;
+mod nodes;
+mod opening;
+mod reading;
 mod refusal;
-pub mod shared;
 mod slot;
 mod steps;
-mod tree;
+mod store;
+mod survey;
+mod turns;
+mod waiting;
 mod world;
 
-pub use allocator::{Allocator, DefaultAllocator, OOMError};
-pub use crossbeam_epoch::Limits as EpochLimits;
+pub use id::Id;
+pub use laws::{runs_join, runs_map};
 pub use limits::Limits;
 pub use refusal::Refusal;
-pub use steps::{Done, Event, Kind, Op, Outcome, Report, Step};
+pub use steps::{Done, Event, Kind, Op, Outcome, Ran, Report, Step};
 pub use world::World;

@@ -3,6 +3,9 @@
 ghost use Rattle.std.specs.Prelude.{◌≡◌, ◌↔◌, IsTrue};
 ghost use Rattle.joint.specs.Limits.{AreAllowed, usual};
 
+/// The most cells of an index.
+pub(crate) const CELLS_MAX: u32 = 16_777_215;
+
 /// Limits of an index.
 #[derive(Clone, Copy, Debug, PartialEq, Eq, Drop)]
 pub struct Limits {
@@ -40,7 +43,7 @@ impl Limits {
         1 <= epoch.participants
             && epoch.participants <= 256
             && 1 <= epoch.cells
-            && epoch.cells <= 16_777_215
+            && epoch.cells <= CELLS_MAX
             && 3 <= epoch.epoch_max
             && epoch.epoch_max <= 4_611_686_018_427_387_904
             && epoch.expiry == 2

@@ -2,7 +2,7 @@
 use Rattle.std.proofs.Common.{◌≡◌, ◌≢◌, ℕ, ◌+◌, ◌<◌, ◌≤◌, List, [], ◌∷◌, ◌++◌, length, take, drop, refl, ap, sym, subst, ◌∙◌, append_assoc, append-nil, arith, length-append, take-append-drop, inl, inr, ◌⊎◌, suc, Option, None, Some, IfSome, IsNone, true, false}
 use Rattle.std.specs.List.{AllByRecursion, onto_first}
 use Rattle.std.specs.Io.KnownBytes.{Consumes, Appends, IsAtEnd, Keeps}
-use Rattle.std.proofs.KnownBytes.{Consumes-nil, Consumes-trans, Consumes-kept, Keeps-refl}
+use Rattle.std.proofs.KnownBytes.{Appends-nil, Consumes-nil, Consumes-trans, Consumes-kept, Keeps-refl}
 use Rattle.std.proofs.Math.Seq.{take-append_seam}
 use Rattle.trial.specs.declared.end.End.{End}
 use Rattle.trial.specs.declared.end.End.TheVariants as end
@@ -10,10 +10,10 @@ use Rattle.trial.specs.declared.script.Script.{Script}
 use Rattle.trial.specs.declared.run.Program.{Program}
 use Rattle.trial.specs.Line.{IsBad}
 use Rattle.trial.specs.Session.{Session}
-use Rattle.trial.specs.Script.{LinesAnswer, lines_of, NoFeed, fed, WholeLines, AllWhole, AllButLastRead, FirstLines, SomeLines, AllLines, UpToBad, Prints, input_max, read_max}
+use Rattle.trial.specs.Script.{LinesAnswer, AreAnswered, lines_of, NoFeed, fed, WholeLines, AllWhole, AllButLastRead, FirstLines, SomeLines, AllLines, UpToBad, Prints, input_max, read_max}
 use Rattle.trial.specs.Texts.{bad_line_text}
 use Rattle.trial.specs.Turns.{LineGoes, LineStops, LinesGo, LinesStop, BeginsBad}
-use Rattle.trial.specs.Going.{Going, Ends, EndsBy, Ran, IsFresh, IsWritten}
+use Rattle.trial.specs.Going.{Going, Ends, EndsBy, Ran, IsAtStart, IsWritten}
 use Rattle.trial.proofs.Feeding.{answers_more, long_is_bad}
 use Rattle.trial.proofs.Splitting.{false_from_unequal, equal_from_true}
 use Rattle.std.proofs.Math.Dec.{eqb}
@@ -67,8 +67,8 @@ few_lines had left written p g = omega (arith, g.lines, few g.before, ap length 
 
 -- the first lines of an input that begins with them
 first_lines : (input tail text : List ℕ) (before : List (List ℕ)) (new : Session) → input ≡ fed before ++ tail → AllByRecursion NoFeed before
-    → LinesAnswer None before new text → FirstLines input before (lines_of tail) text
-first_lines input tail text before new e f a = (ap lines_of e ∙ lines_fed before tail f, new, a)
+    → LinesAnswer None before new text → FirstLines AreAnswered input before (lines_of tail) text
+first_lines input tail text before new e f a = (ap lines_of e ∙ lines_fed before tail f, (new, a))
 
 -- what was given is a front of the input
 given_front : (input : List ℕ) (left : Option (List ℕ)) (given : List ℕ) → Consumes (Some input) left given → (x : List ℕ) × (input ≡ given ++ x)
@@ -76,16 +76,16 @@ given_front input None given c = absurd c
 given_front input (Some x) given c = (x, c)
 
 -- the lines that end within a front of the input are first lines of it
-some_lines : (input front tail text : List ℕ) → input ≡ front ++ tail → AllWhole front text → SomeLines input text
+some_lines : (input front tail text : List ℕ) → input ≡ front ++ tail → AllWhole AreAnswered front text → SomeLines AreAnswered input text
 some_lines input front tail text e a =
     let w = a.1 in (
       a.0,
       lines_of (w.rest ++ tail),
-      first_lines input (w.rest ++ tail) text a.0 a.2 (e ∙ ap (λ t. t ++ tail) w.whole ∙ append_assoc (fed a.0) w.rest tail) w.feeds a.3,
+      first_lines input (w.rest ++ tail) text a.0 a.2.0 (e ∙ ap (λ t. t ++ tail) w.whole ∙ append_assoc (fed a.0) w.rest tail) w.feeds a.2.1,
     )
 
-no_more : (input text : List ℕ) (before after : List (List ℕ)) → FirstLines input before after text → FirstLines input (before ++ []) after text
-no_more input text before after f = let P : List (List ℕ) → Type 0 = λ ls. FirstLines input ls after text in subst P (sym (append-nil before)) f
+no_more : (input text : List ℕ) (before after : List (List ℕ)) → FirstLines AreAnswered input before after text → FirstLines AreAnswered input (before ++ []) after text
+no_more input text before after f = let P : List (List ℕ) → Type 0 = λ ls. FirstLines AreAnswered input ls after text in subst P (sym (append-nil before)) f
 
 -- the input of a script that is under way
 input_is : (input : List ℕ) (left : Option (List ℕ)) (written : List ℕ) (p : Program) → (g : Going (Some input) left written p)
@@ -105,7 +105,7 @@ pub reading_end : (had mid left : Option (List ℕ)) (written : List ℕ) (p : P
 reading_end None mid left written p g k = ((λ w. cc), tt)
 reading_end (Some input) mid left written p g k = (
   (λ w. cc),
-  (g.given, Consumes-kept (Some input) mid left g.given g.read k, (g.before, whole_lines (Some input) mid written p g, p.script.session, g.answers)),
+  (g.given, Consumes-kept (Some input) mid left g.given g.read k, (g.before, whole_lines (Some input) mid written p g, (p.script.session, g.answers))),
 )
 
 -- a growth was refused before a line of the last read was answered
@@ -114,7 +114,7 @@ pub memory_end : (had mid left : Option (List ℕ)) (written last replies : List
 memory_end None mid left written last replies p g c short e = ((λ w. cc), tt)
 memory_end (Some input) mid left written last replies p g c short e =
     let i = input_is input mid written p g in
-    let P : List ℕ → Type 0 = λ r. AllButLastRead input (g.given ++ last) (written ++ r) in (
+    let P : List ℕ → Type 0 = λ r. AllButLastRead AreAnswered input (g.given ++ last) (written ++ r) in (
       (λ w. cc),
       (
         g.given ++ last,
@@ -136,10 +136,10 @@ memory_end (Some input) mid left written last replies p g c short e =
 at_end_rest : (left : Option (List ℕ)) (rest : List ℕ) → left ≡ Some rest → IsAtEnd left → rest ≡ []
 at_end_rest left rest e h = subst IsAtEnd e h
 
-all_lines : (input text : List ℕ) (lines : List (List ℕ)) (new : Session) → length input ≤ input_max → lines_of input ≡ lines → LinesAnswer None lines new text → AllLines input text
+all_lines : (input text : List ℕ) (lines : List (List ℕ)) (new : Session) → length input ≤ input_max → lines_of input ≡ lines → LinesAnswer None lines new text → AllLines AreAnswered input text
 all_lines input text lines new h e a =
     let P : List (List ℕ) → Type 0 = λ ls. LinesAnswer None ls new text in
-    (h, (sym (append-nil (lines_of input)), new, subst P (sym e) a))
+    (h, (sym (append-nil (lines_of input)), (new, subst P (sym e) a)))
 
 -- at the end of the input the bytes that are left are its last line
 last_is : (input : List ℕ) (left : Option (List ℕ)) (written : List ℕ) (p : Program) → IsAtEnd left → (g : Going (Some input) left written p)
@@ -187,9 +187,9 @@ done_line (Some input) left written p new some l h g =
     )
 
 up_to_bad : (input text replies : List ℕ) (before after : List (List ℕ)) (bad : List ℕ) (new : Session) (n : ℕ) → lines_of input ≡ before ++ bad ∷ after
-    → LinesAnswer None before new replies → IsBad bad → n ≡ length before → text ≡ replies ++ bad_line_text (n + 1) → UpToBad input text
+    → LinesAnswer None before new replies → IsBad bad → n ≡ length before → text ≡ replies ++ bad_line_text (n + 1) → UpToBad AreAnswered input text
 up_to_bad input text replies before after bad new n e a b m t =
-    (before, after, bad, replies, (e, new, a), b, t ∙ ap (λ k. replies ++ bad_line_text (k + 1)) m)
+    (before, after, bad, replies, (e, (new, a)), b, t ∙ ap (λ k. replies ++ bad_line_text (k + 1)) m)
 
 pub stops_last : (had left : Option (List ℕ)) (written : List ℕ) (p : Program) (new : Script) (e : End) → 0 < length p.unread.items → LineStops p.script p.unread.items new e
     → IsAtEnd left → Going had left written p → Ended had left (written ++ new.replies.items) e
@@ -280,7 +280,7 @@ stops_so None mid left written fresh over p new e g c short s (inr w) =
 stops_so (Some input) mid left written fresh over p new e g c short s (inl w) =
     let f = further input mid left written fresh over s.rest p s.mid g c s.goes in
     let P : End → Type 0 = Ended (Some input) left (written ++ new.replies.items) in
-    let Q : List ℕ → Type 0 = λ r. AllButLastRead input (g.given ++ (fresh ++ over)) (written ++ r) in
+    let Q : List ℕ → Type 0 = λ r. AllButLastRead AreAnswered input (g.given ++ (fresh ++ over)) (written ++ r) in
     subst P (sym w.0) (
       (λ x. cc),
       (
@@ -356,7 +356,7 @@ stops_too_long (Some input) mid left written fresh over rest p s g c l unfed som
       (
         g.given ++ (fresh ++ over),
         all,
-        (long_input input left g.given fresh over all (omega (arith, g.taken, full, some)), (g.before ++ l.before, whole, s.session, f.answers)),
+        (long_input input left g.given fresh over all (omega (arith, g.taken, full, some)), (g.before ++ l.before, whole, (s.session, f.answers))),
       ),
     )
 
@@ -424,11 +424,11 @@ pub in_parts : (mid left : Option (List ℕ)) (bytes : List ℕ) (k : ℕ) → C
 in_parts mid left bytes k c = let P : List ℕ → Type 0 = λ t. Consumes mid left t in subst P (sym (take-append-drop k bytes)) c
 
 -- what is due is what was written, or a front of it where the writer fails
-pub all_written : (had left held holds : Option (List ℕ)) (written replies : List ℕ) (e : End) → Ended had left (written ++ replies) e → Appends held holds (written ++ replies) → Ran had left held holds e
+pub all_written : (had left held holds : Option (List ℕ)) (written replies : List ℕ) (e : End) → Ended had left (written ++ replies) e → Appends held holds (written ++ replies) → Ran AreAnswered had left held holds e
 all_written None left held holds written replies e h a = tt
 all_written (Some input) left held holds written replies e h a = (h.1.0, written ++ replies, h.1.1, h.1.2, a)
 
-front_of : (input given rest due text more : List ℕ) (e : End) → input ≡ given ++ rest → e ≢ end.Writing → Prints input given e due → due ≡ text ++ more → Prints input given end.Writing text
+front_of : (input given rest due text more : List ℕ) (e : End) → input ≡ given ++ rest → e ≢ end.Writing → Prints AreAnswered input given e due → due ≡ text ++ more → Prints AreAnswered input given end.Writing text
 front_of input given rest due text more end.Done i h p e = (due, more, e, inl (lines_of input, [], p.1))
 front_of input given rest due text more end.BadLine i h p e = (due, more, e, inr p)
 front_of input given rest due text more end.Reading i h p e = (due, more, e, inl (some_lines input given rest due i p))
@@ -438,7 +438,7 @@ front_of input given rest due text more end.TooLong i h p e =
 front_of input given rest due text more end.Writing i h p e = absurd (h refl)
 
 pub partly_written : (had left held holds : Option (List ℕ)) (written replies : List ℕ) (n : ℕ) (e : End) → Ended had left (written ++ replies) e → Appends held holds (written ++ take n replies)
-    → Ran had left held holds end.Writing
+    → Ran AreAnswered had left held holds end.Writing
 partly_written None left held holds written replies n e h a = tt
 partly_written (Some input) left held holds written replies n e h a =
     let front = given_front input left h.1.0 h.1.1 in
@@ -448,7 +448,7 @@ partly_written (Some input) left held holds written replies n e h a =
 
 -- the same of a script that hasn't ended
 pub going_partly : (had left held holds : Option (List ℕ)) (written : List ℕ) (n : ℕ) (p : Program) → Going had left written p → Appends held holds (written ++ take n p.script.replies.items)
-    → Ran had left held holds end.Writing
+    → Ran AreAnswered had left held holds end.Writing
 going_partly had left held holds written n p g a =
     partly_written had left held holds written p.script.replies.items n end.Reading (reading_end had left left written p g (Keeps-refl left)) a
 
@@ -476,7 +476,7 @@ going_written had left written old new g w =
     }
 
 -- nothing is read or written yet
-pub at_first : (had : Option (List ℕ)) (p : Program) → IsFresh p → Going had had [] p
+pub at_first : (had : Option (List ℕ)) (p : Program) → IsAtStart p → Going had had [] p
 at_first had p f =
     let N : List ℕ → Type 0 = NoFeed in
     record {
@@ -501,9 +501,30 @@ reading_so had mid left written p e same g k =
 
 -- what a turn left, where the writer then fails
 pub turn_partly : (had left held holds : Option (List ℕ)) (written : List ℕ) (n : ℕ) (p : Program) (r : Option End) → (IsNone r → Going had left written p)
-    → IfSome r (λ e. Ends had left written p e) → Appends held holds (written ++ take n p.script.replies.items) → Ran had left held holds end.Writing
+    → IfSome r (λ e. Ends had left written p e) → Appends held holds (written ++ take n p.script.replies.items) → Ran AreAnswered had left held holds end.Writing
 turn_partly had left held holds written n p None goes ends a = going_partly had left held holds written n p (goes refl) a
 turn_partly had left held holds written n p (Some e) goes ends a = partly_written had left held holds written p.script.replies.items n e ends a
 
-pub ran_so : (had left held holds : Option (List ℕ)) (e : End) → e ≡ end.Writing → Ran had left held holds end.Writing → Ran had left held holds e
-ran_so had left held holds e same h = let P : End → Type 0 = λ x. Ran had left held holds x in subst P (sym same) h
+pub ran_so : (had left held holds : Option (List ℕ)) (e : End) → e ≡ end.Writing → Ran AreAnswered had left held holds end.Writing → Ran AreAnswered had left held holds e
+ran_so had left held holds e same h = let P : End → Type 0 = λ x. Ran AreAnswered had left held holds x in subst P (sym same) h
+
+-- memory was refused before anything was read
+pub ran_nothing : (had held : Option (List ℕ)) → Ran AreAnswered had had held held end.Memory
+ran_nothing None held = tt
+ran_nothing (Some input) held = (
+  [],
+  [],
+  Consumes-nil (Some input),
+  record {
+    before = [];
+    last = [];
+    reads = refl;
+    bound = omega arith;
+    lines = [];
+    more = [];
+    after = lines_of input;
+    whole = record { rest = []; whole = refl; feeds = tt; unfed = λ k d below. absurd (omega arith) };
+    first = (refl, (None, (refl, refl)));
+  },
+  Appends-nil held,
+)

@@ -8,3 +8,6 @@ pub mod Lines
 pub mod Rounds
 pub mod Feeding
 pub mod Ending
+pub mod MapSteps
+pub mod WholeCalls
+pub mod OfMap

@@ -5,7 +5,8 @@ use Rattle.std.specs.Io.KnownBytes.{Consumes, Appends}
 use Rattle.trial.specs.declared.end.End.{End}
 use Rattle.trial.specs.declared.end.End.TheVariants as end
 use Rattle.trial.specs.declared.run.Program.{Program}
-use Rattle.trial.specs.Script.{LinesAnswer, NoFeed, fed, Prints, input_max}
+use Rattle.trial.specs.Grammar.{line_max}
+use Rattle.trial.specs.Script.{LinesAnswer, AreAnswered, NoFeed, fed, Prints, input_max}
 
 -- Of what the reader had, these bytes were given and the lines in them that are whole were answered. The replies are
 -- written but for those that the program holds back.
@@ -20,23 +21,23 @@ pub record Going (had left : Option (List ℕ)) (written : List ℕ) (p : Progra
   pub lines : p.script.lines ≡ length before
   pub taken : length given ≡ p.taken
   pub bound : p.taken ≤ input_max
-  pub short : length p.unread.items ≤ 1000
+  pub short : length p.unread.items ≤ line_max
 
 -- where the reader's bytes are known, what it gave of them is a script that ends so with this text
 abbrev pub EndsBy : Option (List ℕ) → Option (List ℕ) → List ℕ → End → Type 0
-EndsBy had left text e = IfSome had (λ input. (given : List ℕ) × Consumes (Some input) left given × Prints input given e text)
+EndsBy had left text e = IfSome had (λ input. (given : List ℕ) × Consumes (Some input) left given × Prints AreAnswered input given e text)
 
 -- what was written and what is held back is what the script prints, and it wasn't the writer that failed
 abbrev pub Ends : Option (List ℕ) → Option (List ℕ) → List ℕ → Program → End → Type 0
 Ends had left written p e = (e ≢ end.Writing) × EndsBy had left (written ++ p.script.replies.items) e
 
--- where the reader's bytes are known, the writer took what a script of them prints that ends so
-abbrev pub Ran : Option (List ℕ) → Option (List ℕ) → Option (List ℕ) → Option (List ℕ) → End → Type 0
-Ran had left held holds e =
-    IfSome had (λ input. (given text : List ℕ) × Consumes (Some input) left given × Prints input given e text × Appends held holds text)
+-- where the reader's bytes are known, the writer took what a script of them prints that ends so, where its lines print this
+abbrev pub Ran : (List (List ℕ) → List ℕ → Type 0) → Option (List ℕ) → Option (List ℕ) → Option (List ℕ) → Option (List ℕ) → End → Type 0
+Ran Replies had left held holds e =
+    IfSome had (λ input. (given text : List ℕ) × Consumes (Some input) left given × Prints Replies input given e text × Appends held holds text)
 
 -- a program that has read and written nothing
-pub record IsFresh (p : Program) : Type 0 where
+pub record IsAtStart (p : Program) : Type 0 where
   pub session : p.script.session ≡ None
   pub lines : p.script.lines ≡ 0
   pub replies : p.script.replies.items ≡ []

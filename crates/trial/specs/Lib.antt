@@ -3,7 +3,11 @@ pub mod Grammar
 pub mod Parsing
 pub mod Line
 pub mod Texts
+pub mod Callers
+pub mod Calling
+pub mod Replies
 pub mod Session
 pub mod Script
+pub mod MapReplies
 pub mod Turns
 pub mod Going

@@ -61,20 +61,24 @@ LinesAnswer old [] new text = (new ≡ old) × (text ≡ [])
 LinesAnswer old (bytes ∷ more) new text = (mid : Session) × (first rest : List ℕ) × LineAnswers old bytes mid first
     × LinesAnswer mid more new rest × (text ≡ first ++ rest)
 
--- the replies to the first lines of a script, and the lines after them
-abbrev pub FirstLines : List ℕ → List (List ℕ) → List (List ℕ) → List ℕ → Type 0
-FirstLines input before after text = (lines_of input ≡ before ++ after) × (new : Session) × LinesAnswer None before new text
+-- what the first lines of a script print
+abbrev pub AreAnswered : List (List ℕ) → List ℕ → Type 0
+AreAnswered lines text = (new : Session) × LinesAnswer None lines new text
+
+-- the replies to the first lines of a script, by what such lines print, and the lines after them
+abbrev pub FirstLines : (List (List ℕ) → List ℕ → Type 0) → List ℕ → List (List ℕ) → List (List ℕ) → List ℕ → Type 0
+FirstLines Replies input before after text = (lines_of input ≡ before ++ after) × Replies before text
 
 -- the replies to some first lines of a script
-abbrev pub SomeLines : List ℕ → List ℕ → Type 0
-SomeLines input text = (before after : List (List ℕ)) × FirstLines input before after text
+abbrev pub SomeLines : (List (List ℕ) → List ℕ → Type 0) → List ℕ → List ℕ → Type 0
+SomeLines Replies input text = (before after : List (List ℕ)) × FirstLines Replies input before after text
 
 -- the replies to the lines that end within the bytes
-abbrev pub AllWhole : List ℕ → List ℕ → Type 0
-AllWhole bytes text = (lines : List (List ℕ)) × WholeLines bytes lines × (new : Session) × LinesAnswer None lines new text
+abbrev pub AllWhole : (List (List ℕ) → List ℕ → Type 0) → List ℕ → List ℕ → Type 0
+AllWhole Replies bytes text = (lines : List (List ℕ)) × WholeLines bytes lines × Replies lines text
 
 -- Of an input that was given so far, the replies to some first lines: to those at least that ended before the last read.
-pub record AllButLastRead (input given text : List ℕ) : Type 0 where
+pub record AllButLastRead (Replies : List (List ℕ) → List ℕ → Type 0) (input given text : List ℕ) : Type 0 where
   pub before : List ℕ
   pub last : List ℕ
   pub reads : given ≡ before ++ last
@@ -83,24 +87,24 @@ pub record AllButLastRead (input given text : List ℕ) : Type 0 where
   pub more : List (List ℕ)
   pub after : List (List ℕ)
   pub whole : WholeLines before lines
-  pub first : FirstLines input (lines ++ more) after text
+  pub first : FirstLines Replies input (lines ++ more) after text
 
 -- the replies to all lines
-abbrev pub AllLines : List ℕ → List ℕ → Type 0
-AllLines input text = (length input ≤ input_max) × FirstLines input (lines_of input) [] text
+abbrev pub AllLines : (List (List ℕ) → List ℕ → Type 0) → List ℕ → List ℕ → Type 0
+AllLines Replies input text = (length input ≤ input_max) × FirstLines Replies input (lines_of input) [] text
 
 -- the replies to the lines before the first that is outside the grammar, and then its number
-abbrev pub UpToBad : List ℕ → List ℕ → Type 0
-UpToBad input text = (before after : List (List ℕ)) × (bad replies : List ℕ) × FirstLines input before (bad ∷ after) replies
+abbrev pub UpToBad : (List (List ℕ) → List ℕ → Type 0) → List ℕ → List ℕ → Type 0
+UpToBad Replies input text = (before after : List (List ℕ)) × (bad replies : List ℕ) × FirstLines Replies input before (bad ∷ after) replies
     × IsBad bad × (text ≡ replies ++ bad_line_text (length before + 1))
 
 -- What a script has printed when it ends so, after these bytes of its input were given: where a read fails the replies to
 -- the lines that were whole by then, where the input is too long to those that end within the most bytes of a script.
 -- Where the writer fails, it took a front of what was due.
-abbrev pub Prints : List ℕ → List ℕ → End → List ℕ → Type 0
-Prints input given end.Done text = AllLines input text
-Prints input given end.BadLine text = UpToBad input text
-Prints input given end.Reading text = AllWhole given text
-Prints input given end.Memory text = AllButLastRead input given text
-Prints input given end.TooLong text = (input_max < length input) × AllWhole (take input_max input) text
-Prints input given end.Writing text = (due more : List ℕ) × (due ≡ text ++ more) × (SomeLines input due ⊎ UpToBad input due)
+abbrev pub Prints : (List (List ℕ) → List ℕ → Type 0) → List ℕ → List ℕ → End → List ℕ → Type 0
+Prints Replies input given end.Done text = AllLines Replies input text
+Prints Replies input given end.BadLine text = UpToBad Replies input text
+Prints Replies input given end.Reading text = AllWhole Replies given text
+Prints Replies input given end.Memory text = AllButLastRead Replies input given text
+Prints Replies input given end.TooLong text = (input_max < length input) × AllWhole Replies (take input_max input) text
+Prints Replies input given end.Writing text = (due more : List ℕ) × (due ≡ text ++ more) × (SomeLines Replies input due ⊎ UpToBad Replies input due)

@@ -1,5 +1,5 @@
 -- The texts that replies are printed as.
-use Rattle.std.specs.Prelude.{ℕ, List, [], ◌∷◌, ◌++◌, None, Some, decimal, codes}
+use Rattle.std.specs.Prelude.{ℕ, List, [], ◌∷◌, ◌++◌, None, Some, Ok, Err, decimal, codes}
 use Rattle.joint.specs.declared.refusal.Refusal.{Refusal}
 use Rattle.joint.specs.declared.refusal.Refusal.TheVariants as refusal
 use Rattle.trial.specs.declared.reply.Refused.{Refused}
@@ -17,12 +17,17 @@ refusal_text refusal.TableFull = codes "TableFull"
 refusal_text refusal.Memory = codes "Memory"
 refusal_text (refusal.Budget charged wanted limit) = codes "Budget" ++ spaced charged ++ spaced wanted ++ spaced limit
 refusal_text refusal.Cells = codes "Cells"
+refusal_text refusal.Exhausted = codes "Exhausted"
 refusal_text refusal.Unpinned = codes "Unpinned"
+refusal_text refusal.Busy = codes "Busy"
+refusal_text refusal.InCall = codes "InCall"
+refusal_text (refusal.WorkersLeft n) = codes "WorkersLeft" ++ spaced n
 refusal_text refusal.Unknown = codes "Unknown"
 refusal_text refusal.Count = codes "Count"
+refusal_text refusal.Foreign = codes "Foreign"
 refusal_text refusal.GuardOut = codes "GuardOut"
+refusal_text refusal.Idle = codes "Idle"
 refusal_text refusal.Limits = codes "Limits"
-refusal_text refusal.Later = codes "Later"
 
 -- the name of a refusal, with its numbers
 abbrev pub refused_text : Refused → List ℕ
@@ -37,6 +42,14 @@ reply_text reply.Ok = codes "ok"
 reply_text (reply.Worker w) = codes "worker" ++ spaced w
 reply_text (reply.Value None) = codes "none"
 reply_text (reply.Value (Some v)) = codes "some" ++ spaced v
+reply_text (reply.Pair old None) = codes "pair" ++ spaced old ++ codes " none"
+reply_text (reply.Pair old (Some new)) = codes "pair" ++ spaced old ++ spaced new
+reply_text (reply.Exchanged (Ok None)) = codes "ok none"
+reply_text (reply.Exchanged (Ok (Some v))) = codes "ok some" ++ spaced v
+reply_text (reply.Exchanged (Err None)) = codes "err none"
+reply_text (reply.Exchanged (Err (Some v))) = codes "err some" ++ spaced v
+reply_text reply.Begun = codes "begun"
+reply_text reply.Running = codes "running"
 reply_text (reply.Charged bytes) = codes "charged" ++ spaced bytes
 reply_text (reply.Waiting nodes bytes) = codes "waiting" ++ spaced nodes ++ spaced bytes
 reply_text (reply.Refused r) = codes "refused " ++ refused_text r

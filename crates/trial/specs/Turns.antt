@@ -4,6 +4,7 @@ use Rattle.std.specs.List.{AllByRecursion}
 use Rattle.trial.specs.declared.end.End.{End}
 use Rattle.trial.specs.declared.end.End.TheVariants as end
 use Rattle.trial.specs.declared.script.Script.{Script}
+use Rattle.trial.specs.Grammar.{line_max}
 use Rattle.trial.specs.Line.{IsBad}
 use Rattle.trial.specs.Script.{LineAnswers, LinesAnswer, NoFeed, fed}
 use Rattle.trial.specs.Texts.{bad_line_text}
@@ -33,7 +34,7 @@ pub record LinesGo (old : Script) (bytes : List ℕ) (new : Script) (rest : List
 
 -- the bytes begin with a line outside the grammar, however they go on
 abbrev pub BeginsBad : List ℕ → Type 0
-BeginsBad bytes = (bad more : List ℕ) × NoFeed bad × IsBad bad × ((bytes ≡ bad ++ 10 ∷ more) ⊎ ((bytes ≡ bad) × (1000 < length bad)))
+BeginsBad bytes = (bad more : List ℕ) × NoFeed bad × IsBad bad × ((bytes ≡ bad ++ 10 ∷ more) ⊎ ((bytes ≡ bad) × (line_max < length bad)))
 
 -- the script stopped at one of the lines
 pub record LinesStop (old : Script) (bytes : List ℕ) (new : Script) (e : End) : Type 0 where

@@ -1,5 +1,5 @@
 //! Functions of users of the libraries, who have nothing but the contracts.
 
+pub mod machine;
 pub mod owned;
-pub mod shared;
 pub(crate) mod stack;

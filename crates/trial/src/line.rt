@@ -27,7 +27,7 @@ pub enum Line {
     Bad,
 }
 
-// What the words are that stand between the line's spaces, or none where there are too many.
+/// What the words are that stand between the line's spaces, or none where there are too many.
 fn words(line: &[u8]) -> Option<ArrayVec<Word, WORDS_MAX>>
     ensures words { IfSome result (λ ws. AllZip Reads (slice_split (λ b. b == 32) line.now) ws.items) }
     ensures none { IfNone result (9 < length (slice_split (λ b. b == 32) line.now)) }
@@ -50,6 +50,7 @@ fn words(line: &[u8]) -> Option<ArrayVec<Word, WORDS_MAX>>
     Some(words)
 }
 
+/// Whether the line is empty or a comment.
 fn is_skipped(line: &[u8]) -> bool
     ensures { result ≡ is_skipped_text line.now }
 {

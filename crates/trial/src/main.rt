@@ -1,9 +1,11 @@
 //! Reads a script from standard input, one command a line, and prints the replies.
 #![tactic(auto)]
 
+mod caller;
 mod command;
 mod end;
 mod examples;
+mod index;
 mod keyword;
 mod line;
 mod parser;

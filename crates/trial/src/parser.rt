@@ -13,6 +13,7 @@ const PAIRS_MAX: u64 = 10_000;
 /// The most steps or rounds that a line may ask for.
 const COUNT_MAX: u64 = 1_000_000;
 
+/// The call that one word names, or none.
 fn plain_call(key: Keyword) -> Option<Call>
     ensures { result ≡ plain_call_of key }
 {
@@ -29,6 +30,7 @@ fn plain_call(key: Keyword) -> Option<Call>
     }
 }
 
+/// The call that a word and a key name, or none.
 fn key_call(key: Keyword, k: u64) -> Option<Call>
     ensures { result ≡ key_call_of key k }
 {
@@ -39,6 +41,7 @@ fn key_call(key: Keyword, k: u64) -> Option<Call>
     }
 }
 
+/// The call that a word, a key and a value name, or none.
 fn pair_call(key: Keyword, k: u64, v: u64) -> Option<Call>
     ensures { result ≡ pair_call_of key k v }
 {
@@ -49,6 +52,7 @@ fn pair_call(key: Keyword, k: u64, v: u64) -> Option<Call>
     }
 }
 
+/// The call that a word and three numbers name, or none.
 fn triple_call(key: Keyword, a: u64, b: u64, c: u64) -> Option<Call>
     ensures { result ≡ triple_call_of key a b c }
 {
@@ -59,6 +63,7 @@ fn triple_call(key: Keyword, a: u64, b: u64, c: u64) -> Option<Call>
     }
 }
 
+/// The call that the words name, or none.
 fn call(words: &[Word]) -> Option<Call>
     ensures { result ≡ call_of words.now }
 {
@@ -93,6 +98,7 @@ fn call(words: &[Word]) -> Option<Call>
     }
 }
 
+/// The command that the words after a worker's number name, or none.
 fn worker_command(worker: u32, words: &[Word]) -> Option<Command>
     ensures { result ≡ worker_command_of worker words.now }
 {
@@ -109,6 +115,7 @@ fn worker_command(worker: u32, words: &[Word]) -> Option<Command>
     }
 }
 
+/// The limit of bytes, if the words begin with one, and the rest of them.
 fn limit(words: &[Word]) -> (Option<u64>, &[Word])
     ensures { (result.0, result.1.now) ≡ limit_of words.now }
 {
@@ -118,6 +125,7 @@ fn limit(words: &[Word]) -> (Option<u64>, &[Word])
     }
 }
 
+/// The greatest version, if the words begin with one, and the rest of them.
 fn version(words: &[Word]) -> (Option<u64>, &[Word])
     ensures { (result.0, result.1.now) ≡ version_of words.now }
 {
@@ -127,6 +135,7 @@ fn version(words: &[Word]) -> (Option<u64>, &[Word])
     }
 }
 
+/// The places of the journal, if the words begin with them, and the rest of them.
 fn journal(words: &[Word]) -> (Option<u64>, &[Word])
     ensures { (result.0, result.1.now) ≡ journal_of words.now }
 {
@@ -136,6 +145,7 @@ fn journal(words: &[Word]) -> (Option<u64>, &[Word])
     }
 }
 
+/// The command that opens a tree with these options, or none where further words stand behind them.
 #[tactic(auto, unfolding(crate::specs::Parsing::opening_of))]
 fn opening(participants: u64, cells: u64, words: &[Word]) -> Option<Command>
     ensures { result ≡ opening_of participants cells words.now }
@@ -155,6 +165,7 @@ fn opening(participants: u64, cells: u64, words: &[Word]) -> Option<Command>
     }))
 }
 
+/// The command without a worker that one word names, or none.
 fn plain_command(key: Keyword) -> Option<Command>
     ensures { result ≡ plain_command_of key }
 {

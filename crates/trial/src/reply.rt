@@ -1,8 +1,9 @@
 //! What a line is answered.
-ghost use Rattle.std.specs.Prelude.{Some};
+ghost use Rattle.std.specs.Prelude.{◌≡◌, Some};
+ghost use Rattle.trial.specs.Replies.{pair_of, reply_to, ending, reply_of, begun_of};
 ghost use Rattle.trial.specs.Texts.{refused_text, reply_text};
 
-use joint::Refusal;
+use joint::{Done, Outcome, Refusal};
 use std::fmt;
 
 /// Why a line was refused.
@@ -26,11 +27,71 @@ pub enum Reply {
     Worker(u32),
     /// The value that a point call tells, or none.
     Value(Option<u64>),
+    /// What a call found at its key, and what it put there, or nothing where it took the key out.
+    Pair(u64, Option<u64>),
+    /// What an exchange put at its key, or what it found in place of the old value.
+    Exchanged(Result<Option<u64>, Option<u64>>),
+    /// The call is begun.
+    Begun,
+    /// The call is in flight.
+    Running,
     /// Bytes.
     Charged(u64),
     /// Nodes and bytes.
     Waiting(u64, u64),
     Refused(Refused),
+}
+
+/// The reply to a call on one key.
+fn point(told: judge::Reply<u64>) -> Reply
+    ensures { result ≡ reply_to told }
+{
+    match told {
+        judge::Reply::Get(found) => Reply::Value(found),
+        judge::Reply::Insert(found) => Reply::Value(found),
+        judge::Reply::Remove(found) => Reply::Value(found),
+        judge::Reply::ComputePresent(None) => Reply::Value(None),
+        judge::Reply::ComputePresent(Some((old, new))) => Reply::Pair(old, new),
+        judge::Reply::ComputeInsert(found) => Reply::Value(found),
+        judge::Reply::Exchange(exchanged) => Reply::Exchanged(exchanged),
+    }
+}
+
+/// The reply to a call that has ended.
+fn ending(done: Done<u64>) -> Reply
+    ensures { result ≡ ending done }
+{
+    match done {
+        Done::Unit => Reply::Ok,
+        Done::Reply(told) => point(told),
+        Done::Scanned(_) => Reply::Refused(Refused::Later),
+    }
+}
+
+impl Reply {
+    /// Of a call that stands so.
+    pub fn of(outcome: Outcome<u64>) -> Reply
+        ensures { result ≡ reply_of outcome }
+    {
+        match outcome {
+            Outcome::Running => Reply::Running,
+            Outcome::Asks(_) => Reply::Running,
+            Outcome::Found { .. } => Reply::Running,
+            Outcome::Registered(worker) => Reply::Worker(worker),
+            Outcome::Done(done) => ending(done),
+            Outcome::Refused(refusal) => Reply::Refused(Refused::Tree(refusal)),
+        }
+    }
+
+    /// Of a call of which the first step alone was taken.
+    pub fn begun(outcome: Outcome<u64>) -> Reply
+        ensures { result ≡ begun_of outcome }
+    {
+        match Reply::of(outcome) {
+            Reply::Running => Reply::Begun,
+            reply => reply,
+        }
+    }
 }
 
 impl fmt::Display for Refused {
@@ -52,12 +113,17 @@ impl fmt::Display for Refused {
                 limit,
             } => write!(f, "Budget {charged} {wanted} {limit}"),
             Refusal::Cells => write!(f, "Cells"),
+            Refusal::Exhausted => write!(f, "Exhausted"),
             Refusal::Unpinned => write!(f, "Unpinned"),
+            Refusal::Busy => write!(f, "Busy"),
+            Refusal::InCall => write!(f, "InCall"),
+            Refusal::WorkersLeft(workers) => write!(f, "WorkersLeft {workers}"),
             Refusal::Unknown => write!(f, "Unknown"),
             Refusal::Count => write!(f, "Count"),
+            Refusal::Foreign => write!(f, "Foreign"),
             Refusal::GuardOut => write!(f, "GuardOut"),
+            Refusal::Idle => write!(f, "Idle"),
             Refusal::Limits => write!(f, "Limits"),
-            Refusal::Later => write!(f, "Later"),
         }
     }
 }
@@ -71,6 +137,14 @@ impl fmt::Display for Reply {
             Reply::Worker(worker) => write!(f, "worker {worker}"),
             Reply::Value(None) => write!(f, "none"),
             Reply::Value(Some(value)) => write!(f, "some {value}"),
+            Reply::Pair(old, None) => write!(f, "pair {old} none"),
+            Reply::Pair(old, Some(new)) => write!(f, "pair {old} {new}"),
+            Reply::Exchanged(Ok(None)) => write!(f, "ok none"),
+            Reply::Exchanged(Ok(Some(value))) => write!(f, "ok some {value}"),
+            Reply::Exchanged(Err(None)) => write!(f, "err none"),
+            Reply::Exchanged(Err(Some(value))) => write!(f, "err some {value}"),
+            Reply::Begun => write!(f, "begun"),
+            Reply::Running => write!(f, "running"),
             Reply::Charged(bytes) => write!(f, "charged {bytes}"),
             Reply::Waiting(nodes, bytes) => write!(f, "waiting {nodes} {bytes}"),
             Reply::Refused(refused) => write!(f, "refused {refused}"),

@@ -4,11 +4,14 @@ ghost use Rattle.std.specs.Prelude.{IfOk, IfErr, OnOk, OnErr, vec_len};
 ghost use Rattle.std.specs.Io.KnownBytes.{Appends, Consumes, IsAtEnd, Keeps};
 ghost use Rattle.std.specs.Process.{exit_status};
 ghost use Rattle.trial.specs.declared.end.End.{End};
-ghost use Rattle.trial.specs.Script.{status_of, input_max, read_max};
-ghost use Rattle.trial.specs.Going.{Going, Ends, Ran, IsFresh, IsWritten};
+ghost use Rattle.trial.specs.Grammar.{line_max};
+ghost use Rattle.trial.specs.Script.{AreAnswered, status_of, input_max, read_max};
+ghost use Rattle.trial.specs.Going.{Going, Ends, Ran, IsAtStart, IsWritten};
+ghost use Rattle.trial.specs.MapReplies.{MapAnswers};
 
 use crate::end::End;
 use crate::script::Script;
+use joint::runs_map;
 use std::alloc::{AllocError, Global};
 use std::io::{Read, Write};
 use std::process::ExitCode;
@@ -29,6 +32,7 @@ pub struct Program {
     pub taken: u64,
 }
 
+/// Room for one read.
 fn chunk(alloc: Global) -> Result<Vec<u8>, AllocError>
     ensures { IfOk result (λ chunk. vec_len chunk ≡ read_max) }
 {
@@ -37,7 +41,7 @@ fn chunk(alloc: Global) -> Result<Vec<u8>, AllocError>
     Ok(chunk)
 }
 
-// Reads at the front of the chunk. An interrupted read is a failed one.
+/// Reads at the front of the chunk. An interrupted read is a failed one.
 fn read_chunk<R: Read>(reader: &mut R, chunk: &mut Vec<u8>) -> Result<usize, End>
     ensures bound { IfOk result (λ n. n ≤ length chunk.new.items) }
     ensures room { vec_len chunk.new ≡ vec_len chunk.old }
@@ -51,7 +55,7 @@ fn read_chunk<R: Read>(reader: &mut R, chunk: &mut Vec<u8>) -> Result<usize, End
     }
 }
 
-// Writes all the bytes, or a front of them. An interrupted write is a failed one.
+/// Writes all the bytes, or a front of them. An interrupted write is a failed one.
 fn write_out<W: Write>(writer: &mut W, bytes: &[u8]) -> Result<(), End>
     ensures ok { OnOk result (Appends (W.contents writer.old) (W.contents writer.new) bytes.now) }
     ensures err { IfErr result (λ e. (e ≡ End.Writing) × (n : ℕ) × Appends (W.contents writer.old) (W.contents writer.new) (take n bytes.now)) }
@@ -70,6 +74,7 @@ fn write_out<W: Write>(writer: &mut W, bytes: &[u8]) -> Result<(), End>
     }
 }
 
+/// Takes the first n bytes out.
 fn remove_front(buffer: &mut Vec<u8>, n: usize)
     requires { n ≤ vec_len buffer.old }
     ensures { buffer.new.items ≡ drop n buffer.old.items }
@@ -78,8 +83,9 @@ fn remove_front(buffer: &mut Vec<u8>, n: usize)
 }
 
 impl Program {
+    /// A program that has read and written nothing.
     fn new(alloc: Global) -> Program
-        ensures { IsFresh result }
+        ensures { IsAtStart result }
     {
         Program {
             script: Script {
@@ -93,7 +99,7 @@ impl Program {
         }
     }
 
-    // Answers the last line, where no line feed ends it.
+    /// Answers the last line, where no line feed ends it.
     fn last_line(&mut self) -> End
         requires { self.old.script.lines ≤ input_max }
         ensures { (had left : Option (List ℕ)) (written : List ℕ) → IsAtEnd left → Going had left written self.old
@@ -108,11 +114,11 @@ impl Program {
         }
     }
 
-    // Takes the bytes, and answers each line that is whole now.
+    /// Takes the bytes, and answers each line that is whole now.
     fn accept(&mut self, bytes: &[u8]) -> Option<End>
         requires bound { self.old.taken ≤ input_max }
         requires lines { self.old.script.lines ≤ input_max }
-        requires short { length self.old.unread.items ≤ 1000 }
+        requires short { length self.old.unread.items ≤ line_max }
         requires read { length bytes.now ≤ read_max }
         ensures goes { IsNone result → (had mid left : Option (List ℕ)) (written : List ℕ) → Going had mid written self.old
             → Consumes mid left bytes.now → Going had left written self.new }
@@ -136,12 +142,12 @@ impl Program {
         None
     }
 
-    // One read, and the replies to the lines that it completes. The end, if it came.
+    /// One read, and the replies to the lines that it completes. The end, if it came.
     fn turn<R: Read>(&mut self, reader: &mut R, chunk: &mut Vec<u8>) -> Option<End>
         requires room { vec_len chunk.old ≡ read_max }
         requires bound { self.old.taken ≤ input_max }
         requires lines { self.old.script.lines ≤ input_max }
-        requires short { length self.old.unread.items ≤ 1000 }
+        requires short { length self.old.unread.items ≤ line_max }
         ensures goes { IsNone result → (had : Option (List ℕ)) (written : List ℕ) → Going had (R.remaining reader.old) written self.old
             → Going had (R.remaining reader.new) written self.new }
         ensures ends { IfSome result (λ e. (had : Option (List ℕ)) (written : List ℕ) → Going had (R.remaining reader.old) written self.old
@@ -156,7 +162,7 @@ impl Program {
         }
     }
 
-    // Writes the replies out.
+    /// Writes the replies out.
     fn write_replies<W: Write>(&mut self, writer: &mut W) -> Result<(), End>
         ensures ok { OnOk result (Appends (W.contents writer.old) (W.contents writer.new) self.old.script.replies.items) }
         ensures empty { OnOk result (IsWritten self.old self.new) }
@@ -168,10 +174,11 @@ impl Program {
         Ok(())
     }
 
+    /// Reads, answers and writes, until an end comes.
     fn run<R: Read, W: Write>(&mut self, reader: &mut R, writer: &mut W, chunk: &mut Vec<u8>) -> End
-        requires fresh { IsFresh self.old }
+        requires fresh { IsAtStart self.old }
         requires room { vec_len chunk.old ≡ read_max }
-        ensures { Ran (R.remaining reader.old) (R.remaining reader.new) (W.contents writer.old) (W.contents writer.new) result }
+        ensures { Ran AreAnswered (R.remaining reader.old) (R.remaining reader.new) (W.contents writer.old) (W.contents writer.new) result }
     {
         loop {
             let end = self.turn(reader, chunk);
@@ -187,9 +194,12 @@ impl Program {
 
 /// Reads a script, one command a line, writes the replies, and tells the exit status.
 pub fn run<R: Read, W: Write>(alloc: Global, reader: &mut R, writer: &mut W) -> u8
-    ensures { (end : End) × (result ≡ status_of end)
-        × Ran (R.remaining reader.old) (R.remaining reader.new) (W.contents writer.old) (W.contents writer.new) end }
+    ensures replies { (end : End) × (result ≡ status_of end)
+        × Ran AreAnswered (R.remaining reader.old) (R.remaining reader.new) (W.contents writer.old) (W.contents writer.new) end }
+    ensures map { (end : End) × (result ≡ status_of end)
+        × Ran MapAnswers (R.remaining reader.old) (R.remaining reader.new) (W.contents writer.old) (W.contents writer.new) end }
 {
+    runs_map::<u64>();
     match chunk(alloc) {
         Ok(mut chunk) => Program::new(alloc).run(reader, writer, &mut chunk).status(),
         Err(_) => End::Memory.status(),
@@ -198,8 +208,10 @@ pub fn run<R: Read, W: Write>(alloc: Global, reader: &mut R, writer: &mut W) -> 
 
 /// What the process ends with: the exit status of `run`.
 pub fn exit<R: Read, W: Write>(alloc: Global, reader: &mut R, writer: &mut W) -> ExitCode
-    ensures { (end : End) × (exit_status result ≡ status_of end)
-        × Ran (R.remaining reader.old) (R.remaining reader.new) (W.contents writer.old) (W.contents writer.new) end }
+    ensures replies { (end : End) × (exit_status result ≡ status_of end)
+        × Ran AreAnswered (R.remaining reader.old) (R.remaining reader.new) (W.contents writer.old) (W.contents writer.new) end }
+    ensures map { (end : End) × (exit_status result ≡ status_of end)
+        × Ran MapAnswers (R.remaining reader.old) (R.remaining reader.new) (W.contents writer.old) (W.contents writer.new) end }
 {
     ExitCode::from(run(alloc, reader, writer))
 }

@@ -1,14 +1,16 @@
 //! The lines of a script, answered in turn.
 ghost use Rattle.std.specs.Prelude.{◌≡◌, ◌+◌, ◌++◌, ◌<◌, ◌^◌, ◌≤◌, List, ℕ, length, OnOk, IfErr, IfOk, drop, take};
+ghost use Rattle.trial.specs.Grammar.{line_max};
 ghost use Rattle.trial.specs.Texts.{printed, bad_line_text};
 ghost use Rattle.trial.specs.Line.{IsBad};
 ghost use Rattle.trial.specs.Script.{NoFeed};
 ghost use Rattle.trial.specs.Turns.{LineGoes, LineStops, LinesGo, LinesStop};
 
 use crate::end::End;
+use crate::index::Index;
 use crate::line::{self, LINE_MAX, Line};
 use crate::reply::Reply;
-use crate::session::{self, Index};
+use crate::session;
 use std::alloc::Global;
 
 /// A script that is being answered.
@@ -22,6 +24,7 @@ pub struct Script {
     pub replies: Vec<u8>,
 }
 
+/// Puts a reply behind those before it.
 fn put_reply(alloc: Global, replies: &mut Vec<u8>, reply: &Reply) -> Result<(), End>
     ensures ok { OnOk result (replies.new.items ≡ replies.old.items ++ printed reply.now) }
     ensures err { IfErr result (λ e. (e ≡ End.Memory) × (replies.new.items ≡ replies.old.items)) }
@@ -31,6 +34,7 @@ fn put_reply(alloc: Global, replies: &mut Vec<u8>, reply: &Reply) -> Result<(), 
     Ok(())
 }
 
+/// Puts the report of a bad line behind the replies.
 fn put_bad_line(alloc: Global, replies: &mut Vec<u8>, number: u64) -> Result<(), End>
     ensures ok { OnOk result (replies.new.items ≡ replies.old.items ++ bad_line_text number) }
     ensures err { IfErr result (λ e. (e ≡ End.Memory) × (replies.new.items ≡ replies.old.items)) }
@@ -41,7 +45,7 @@ fn put_bad_line(alloc: Global, replies: &mut Vec<u8>, number: u64) -> Result<(),
 }
 
 impl Script {
-    // Ends the script at a line outside the grammar.
+    /// Ends the script at a line outside the grammar.
     fn bad_line(&mut self) -> End
         requires { self.old.lines + 1 < 2 ^ 64 }
         ensures { (bytes : List ℕ) → IsBad bytes → LineStops self.old bytes self.new result }
@@ -72,7 +76,7 @@ impl Script {
     pub fn lines(&mut self, bytes: &[u8]) -> Result<usize, End>
         requires { self.old.lines + length bytes.now + 1 < 2 ^ 64 }
         ensures ok { IfOk result (λ n. LinesGo self.old bytes.now self.new (drop n bytes.now) × NoFeed (drop n bytes.now)
-            × (length (drop n bytes.now) ≤ 1000)) }
+            × (length (drop n bytes.now) ≤ line_max)) }
         ensures within { IfOk result (λ n. n ≤ length bytes.now) }
         ensures err { IfErr result (λ e. LinesStop self.old bytes.now self.new e) }
     {

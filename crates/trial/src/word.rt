@@ -16,7 +16,7 @@ pub enum Word {
     Other,
 }
 
-// What the digits say, where they fit. A sign or a leading zero may stand before them.
+/// What the digits say, where they fit. A sign or a leading zero may stand before them.
 fn unsigned(word: &[u8]) -> Option<u64>
     ensures found { IfSome result (λ n. IsUnsigned word.now n) }
     ensures decimal { (n : ℕ) → n < 2 ^ 64 → word.now ≡ decimal n → result ≡ Some n }
@@ -27,7 +27,7 @@ fn unsigned(word: &[u8]) -> Option<u64>
     }
 }
 
-// Whether neither a plus nor a further zero leads.
+/// Whether neither a plus nor a further zero leads.
 fn is_plain(word: &[u8]) -> bool
     ensures { result ≡ is_plain_text word.now }
 {

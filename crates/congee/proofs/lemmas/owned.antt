@@ -1,10 +1,12 @@
 pub mod Answered
 pub mod EntryRanges
 pub mod Clears
+pub mod Contents
 pub mod Cursors
 pub mod Drains
 pub mod Edits
 pub mod Filled
+pub mod Freeing
 pub mod Joins
 pub mod Moves
 pub mod OwnerLemmas

@@ -17,7 +17,7 @@ mod_le a (suc k) = omega arith
 up_le : (k e : ℕ) → k ≤ 65536 → up k e ≤ e + 65536
 up_le k e l = let m = mod_le (k - e % k) k in omega arith
 
-record Within (τ : Ty) (n : ℕ) : Type 0 where
+record FitsIn (τ : Ty) (n : ℕ) : Type 0 where
   pub bytes : size τ ≤ n
   pub aligned : align τ ≤ 65536
 
@@ -32,13 +32,13 @@ record Cases (τss : Tyss) (n : ℕ) : Type 0 where
 no_fields : Fields tnil 0
 no_fields = record { ends = λ e. omega arith; aligned = omega arith }
 
-field : {τ : Ty} {τs : Tys} {n m : ℕ} → Within τ n → Fields τs m → Fields (tcons τ τs) (65536 + n + m)
+field : {τ : Ty} {τs : Tys} {n m : ℕ} → FitsIn τ n → Fields τs m → Fields (tcons τ τs) (65536 + n + m)
 field {τ} {τs} {n} {m} w f = record {
   ends = λ e. let u = up_le (align τ) e w.aligned in let r = f.ends (up (align τ) e + size τ) in omega (arith, w.bytes);
   aligned = max_le w.aligned f.aligned;
 }
 
-struct : {τs : Tys} {n : ℕ} → Fields τs n → Within (ty_struct [] τs) (n + 65536)
+struct : {τs : Tys} {n : ℕ} → Fields τs n → FitsIn (ty_struct [] τs) (n + 65536)
 struct {τs} {n} f = record {
   bytes = let u = up_le (aligns τs) (end_of 0 τs) f.aligned in omega (arith, f.ends 0);
   aligned = f.aligned;
@@ -53,28 +53,28 @@ case {τs} {τss} {n} {m} f c = record {
   aligned = max_le f.aligned c.aligned;
 }
 
-enum : {τss : Tyss} {n : ℕ} → Cases τss n → Within (ty_enum [] τss) (n + 65536)
+enum : {τss : Tyss} {n : ℕ} → Cases τss n → FitsIn (ty_enum [] τss) (n + 65536)
 enum {τss} {n} c = record {
   bytes = let u = up_le (alignss τss) (endss τss) c.aligned in omega (arith, c.ends);
   aligned = c.aligned;
 }
 
-word : Within (ty_int w64) 8
+word : FitsIn (ty_int w64) 8
 word = record { bytes = omega arith; aligned = omega arith }
 
-byte : Within (ty_int w8) 1
+byte : FitsIn (ty_int w8) 1
 byte = record { bytes = omega arith; aligned = omega arith }
 
-count : Within (ty_int w16) 2
+count : FitsIn (ty_int w16) 2
 count = record { bytes = omega arith; aligned = omega arith }
 
-pointer : Within ty_ptr 8
+pointer : FitsIn ty_ptr 8
 pointer = record { bytes = omega arith; aligned = omega arith }
 
-unit : Within ty_unit 0
+unit : FitsIn ty_unit 0
 unit = record { bytes = omega arith; aligned = omega arith }
 
-array : {τ : Ty} {n : ℕ} (k : ℕ) → Within τ n → Within (ty_array τ k) (k * n)
+array : {τ : Ty} {n : ℕ} (k : ℕ) → FitsIn τ n → FitsIn (ty_array τ k) (k * n)
 array {τ} {n} k w = record { bytes = le_mul k (size τ) n w.bytes; aligned = w.aligned }
   where
     le_mul : (k a b : ℕ) → a ≤ b → k * a ≤ k * b
@@ -114,40 +114,40 @@ node_ty τ = ty_struct [] (tcons prefix_ty (tcons τ tnil))
 abbrev any_node_ty : Ty → Ty → Ty
 any_node_ty τ σ = ty_enum [] (ttcons (tcons (node_ty (sorted_ty 4 τ σ)) tnil) (ttcons (tcons ty_ptr tnil) (ttcons (tcons ty_ptr tnil) (ttcons (tcons ty_ptr tnil) ttnil))))
 
-bytes_array : (n m : ℕ) → n + 655360 ≤ m → Within (array_vec_ty (ty_int w8) n) m
+bytes_array : (n m : ℕ) → n + 655360 ≤ m → FitsIn (array_vec_ty (ty_int w8) n) m
 bytes_array n m l =
     let w = struct (field (struct (field (array n byte) no_fields)) (field word (field unit no_fields))) in
     record { bytes = omega (arith, w.bytes, l); aligned = w.aligned }
 
-prefix : Within prefix_ty 200000
+prefix : FitsIn prefix_ty 200000
 prefix = let w = struct (field (array 8 byte) no_fields) in record { bytes = omega (arith, w.bytes); aligned = w.aligned }
 
 module _ (C P : RattleType) (c : IsSmall (layout C)) (p : IsSmall (layout P)) where
-  child : Within (child_ty (layout C) (layout P)) 327684
+  child : FitsIn (child_ty (layout C) (layout P)) 327684
   child = enum (case no_fields (case (field (record { bytes = c.bytes; aligned = c.aligned }) no_fields) (case (field (record { bytes = p.bytes; aligned = p.aligned }) no_fields) no_cases)))
 
-  children : (n m : ℕ) → n * 327684 + 655360 ≤ m → Within (array_vec_ty (child_ty (layout C) (layout P)) n) m
+  children : (n m : ℕ) → n * 327684 + 655360 ≤ m → FitsIn (array_vec_ty (child_ty (layout C) (layout P)) n) m
   children n m l =
       let w = struct (field (struct (field (array n child) no_fields)) (field word (field unit no_fields))) in
       record { bytes = omega (arith, w.bytes, l); aligned = w.aligned }
 
-  sorted : (n : ℕ) → n ≤ 16 → Within (sorted_ty n (layout C) (layout P)) 200000000
+  sorted : (n : ℕ) → n ≤ 16 → FitsIn (sorted_ty n (layout C) (layout P)) 200000000
   sorted n l =
       let w = struct (field (bytes_array n 1000000 (omega arith)) (field (children n 100000000 (omega arith)) no_fields)) in
       record { bytes = omega (arith, w.bytes); aligned = w.aligned }
 
-  indexed : Within (indexed_ty (layout C) (layout P)) 200000000
+  indexed : FitsIn (indexed_ty (layout C) (layout P)) 200000000
   indexed =
       let index = struct (field byte (field byte (field (array 256 byte) (field (array 48 byte) no_fields)))) in
       let w = struct (field index (field (children 48 100000000 (omega arith)) no_fields)) in
       record { bytes = omega (arith, w.bytes); aligned = w.aligned }
 
-  masked : Within (masked_ty (layout C) (layout P)) 200000000
+  masked : FitsIn (masked_ty (layout C) (layout P)) 200000000
   masked =
       let w = struct (field count (field (struct (field (array 32 byte) no_fields)) (field (children 256 100000000 (omega arith)) no_fields))) in
       record { bytes = omega (arith, w.bytes); aligned = w.aligned }
 
-  node : {ρ : Ty} → Within ρ 200000000 → size (node_ty ρ) < 2 ^ 63
+  node : {ρ : Ty} → FitsIn ρ 200000000 → size (node_ty ρ) < 2 ^ 63
   node r = let w = struct (field prefix (field r no_fields)) in omega (arith, w.bytes)
 
   pub sorted_fits : size (sorted_ty 16 (layout C) (layout P)) < 2 ^ 63

@@ -8,6 +8,7 @@ use Rattle.congee.specs.forms.Forms.{prefix_of, children_of, form_of, capacity_o
 use Rattle.congee.specs.declared.forms.base_node.Node.{Node as Form}
 use Rattle.congee.specs.declared.forms.child.Child.{Child}
 use Rattle.congee.specs.declared.forms.child.Child.TheVariants.{Blank, Node as Sub, Value}
+use Rattle.congee.specs.declared.forms.prefix.TheConstants.{MAX_PREFIX_LEN}
 
 -- the nodes of an arena, each under its name
 abbrev pub Nodes : Type 0 → Type 0
@@ -56,7 +57,7 @@ ledger_of s parent n = record { status = cond (is_some (get s n)) Linked Gone; o
 
 -- a node with a prefix of seven bytes is a leaf; the one at a place has a value
 abbrev pub IsFilled : {P : Type 0} → Option (Form ℕ P) → Type 0
-IsFilled {P} o = (x : Form ℕ P) → o ≡ Some x → length (prefix_of x) ≡ 7 → 0 < map.len (children_of x)
+IsFilled {P} o = (x : Form ℕ P) → o ≡ Some x → length (prefix_of x) ≡ MAX_PREFIX_LEN → 0 < map.len (children_of x)
 
 -- the nodes are a tree, the root has 256 places, and no leaf is empty
 pub record IsTree {P : Type 0} (s : Nodes P) : Type 0 where

@@ -8,6 +8,8 @@ use Rattle.congee.specs.owned.Arena.{Nodes, heap_of}
 use Rattle.congee.specs.declared.forms.base_node.Node.{Node}
 use Rattle.congee.specs.declared.forms.child.Child.{Child}
 use Rattle.congee.specs.declared.forms.child.Child.TheVariants.{Node as Sub, Value}
+use Rattle.congee.specs.declared.keys.TheConstants.{KEY_BYTES}
+use Rattle.congee.specs.declared.forms.prefix.TheConstants.{MAX_PREFIX_LEN}
 
 -- node y is node x but for what hangs at one byte; one of 256 places keeps them
 pub record Differs {P : Type 0} (x y : Node ℕ P) (byte : ℕ) (child : Option (Child ℕ P)) : Type 0 where
@@ -20,13 +22,13 @@ pub record Differs {P : Type 0} (x y : Node ℕ P) (byte : ℕ) (child : Option 
 pub record MapChange {P : Type 0} (s s' : Nodes P) (key : List ℕ) (before after : Option P) : Type 0 where
   pub was : value_at (heap_of s) key ≡ before
   pub now : value_at (heap_of s') key ≡ after
-  pub others : (k : List ℕ) → length k ≡ 8 → k ≢ key → value_at (heap_of s') k ≡ value_at (heap_of s) k
+  pub others : (k : List ℕ) → length k ≡ KEY_BYTES → k ≢ key → value_at (heap_of s') k ≡ value_at (heap_of s) k
 
 -- a node with one value, the key's
 pub record IsLeafOf {P : Type 0} (leaf : Node ℕ P) (key : List ℕ) (v : P) : Type 0 where
-  pub prefix : prefix_of leaf ≡ take 7 key
-  pub value : map.get (children_of leaf) (slice_index key 7) ≡ Some (Value v)
-  pub beside : (b : ℕ) → b ≢ slice_index key 7 → map.get (children_of leaf) b ≡ None
+  pub prefix : prefix_of leaf ≡ take MAX_PREFIX_LEN key
+  pub value : map.get (children_of leaf) (slice_index key MAX_PREFIX_LEN) ≡ Some (Value v)
+  pub beside : (b : ℕ) → b ≢ slice_index key MAX_PREFIX_LEN → map.get (children_of leaf) b ≡ None
 
 -- a leaf for the key comes in below node `at`
 pub record AddsLeaf {P : Type 0} (s s' : Nodes P) (key : List ℕ) (at leaf : ℕ) (v : P) : Type 0 where

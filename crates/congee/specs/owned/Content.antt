@@ -1,9 +1,13 @@
 -- What contracts see of an owned tree.
-use Rattle.std.specs.Prelude.{◌≡◌, ℕ, ◌+◌, Bool, List, refl}
+use Rattle.std.specs.Prelude.{◌≡◌, ℕ, ◌+◌, Bool, List, None, refl}
 use Rattle.std.specs.Ordering.{nat_cmp}
 use Rattle.std.specs.FinMap as map
 use Rattle.std.specs.Coded.{Coded, code_by, coded×, coded_ℕ, coded_list}
-use Rattle.congee.specs.owned.Stats.{Shape, shape_code}
+use Rattle.congee.specs.forms.Forms.{size_of}
+use Rattle.congee.specs.declared.forms.base_node.NodeType.TheVariants.{N256}
+use Rattle.congee.specs.owned.Stats.{Shape, root_alone, shape_code}
+use Rattle.congee.specs.owned.Wanted.{IsRefused, WantsLeaf, gain_of}
+use Rattle.congee.specs.declared.allocator.OOMError.{OOMError}
 use Rattle.judge.specs.Answer.{answer}
 use Rattle.judge.specs.declared.journal.Call.{Call}
 use Rattle.judge.specs.declared.journal.Reply.{Reply}
@@ -28,9 +32,16 @@ content_code {V} {A} {D} v a d =
     (λ p. record { pairs = p.0; nodes = p.1.0; bytes = p.1.1.0; wants = p.1.1.1.0; lone = p.1.1.1.1.0; allocator = p.1.1.1.1.1.0; drainer = p.1.1.1.1.1.1 })
     (λ _. refl)
 
+-- a tree with no pairs: its root alone stands, and the insertion of any key makes a leaf alone
+pub record IsBare {V A D : Type 0} (t : Content V A D) : Type 0 where
+  pub pairs : t.pairs ≡ map.empty
+  pub nodes : t.nodes ≡ root_alone
+  pub wants : WantsLeaf t.wants
+  pub bytes : t.bytes ≡ size_of N256
+
 -- the call on the tree is the one on its map
-abbrev pub Answers : {V A D : Type 0} → (V → V → Bool) → Content V A D → Content V A D → Call V → Reply V → Type 0
-Answers same old new call reply = answer same old.pairs call ≡ (reply, new.pairs)
+abbrev pub AnswersAsMap : {V A D : Type 0} → (V → V → Bool) → Content V A D → Content V A D → Call V → Reply V → Type 0
+AnswersAsMap same old new call reply = answer same old.pairs call ≡ (reply, new.pairs)
 
 -- the charge moved as the nodes' sizes did; limit and drainer are as before
 pub record KeepsCharge {V A D : Type 0} (charged limit : A → ℕ) (old new : Content V A D) : Type 0 where
@@ -45,3 +56,29 @@ pub record Unchanged {V A D : Type 0} (old new : Content V A D) : Type 0 where
   pub bytes : new.bytes ≡ old.bytes
   pub wants : new.wants ≡ old.wants
   pub lone : new.lone ≡ old.lone
+
+module _ {V A D : Type 0} (same : V → V → Bool) (charged limit : A → ℕ) (old new : Content V A D) where
+  -- an insertion: the call is the one on the map, and the sum of the nodes' sizes grows by those that it makes
+  pub record Inserts (key : ℕ) (call : Call V) (reply : Reply V) : Type 0 where
+    pub answers : AnswersAsMap same old new call reply
+    pub bytes : new.bytes ≡ old.bytes + gain_of (map.get old.wants key)
+    pub keeps : KeepsCharge charged limit old new
+
+  -- a call that inserts no key: it is the one on the map, and nodes of so many bytes go
+  pub record Modifies (freed : ℕ) (call : Call V) (reply : Reply V) : Type 0 where
+    pub answers : AnswersAsMap same old new call reply
+    pub bytes : new.bytes + freed ≡ old.bytes
+    pub keeps : KeepsCharge charged limit old new
+
+  -- a call that changes nothing: it is the one on the map
+  pub record ChangesNothing (call : Call V) (reply : Reply V) : Type 0 where
+    pub answers : AnswersAsMap same old new call reply
+    pub unchanged : Unchanged old new
+    pub keeps : KeepsCharge charged limit old new
+
+-- a refused insertion: the key is absent, one of the nodes that it makes wasn't made, and it leaves all as it was
+pub record Refuses {V A D : Type 0} (charged limit : A → ℕ) (old new : Content V A D) (key : ℕ) (e : OOMError) : Type 0 where
+  pub absent : map.get old.pairs key ≡ None
+  pub cause : IsRefused (map.get old.wants key) (charged old.allocator) (limit old.allocator) e
+  pub unchanged : Unchanged old new
+  pub keeps : KeepsCharge charged limit old new

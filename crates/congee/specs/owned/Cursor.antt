@@ -25,14 +25,14 @@ IsCursor s [] = Unit {0}
 IsCursor s (a ∷ rest) = (a.node ≡ 0) × IsDescent s a rest
 
 -- the key has the prefix of the step's node, and then a byte that the step has yet to look at
-pub record Covers {P : Type 0} (s : Nodes P) (step : Branch) (key : List ℕ) : Type 0 where
+pub record HasAhead {P : Type 0} (s : Nodes P) (step : Branch) (key : List ℕ) : Type 0 where
   pub fitted : fits (heap_of s step.node).prefix key ≡ true
   pub past : step.from ≤ slice_index key (length (heap_of s step.node).prefix)
 
 -- one of the steps has yet to come to the key
 abbrev pub IsAhead : {P : Type 0} → Nodes P → List Branch → List ℕ → Type 0
 IsAhead s [] key = ⊥
-IsAhead s (step ∷ rest) key = Covers s step key ⊎ IsAhead s rest key
+IsAhead s (step ∷ rest) key = HasAhead s step key ⊎ IsAhead s rest key
 
 -- the pairs ahead are those from a number on
 pub record IsAt {P : Type 0} (s : Nodes P) (steps : List Branch) (from : ℕ) : Type 0 where

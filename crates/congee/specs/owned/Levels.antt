@@ -7,6 +7,7 @@ use Rattle.congee.specs.owned.Arena.{Nodes, hung_in}
 use Rattle.congee.specs.forms.Forms.{form_of, prefix_of, children_of}
 use Rattle.congee.specs.owned.Stats.{Shape}
 use Rattle.congee.specs.declared.forms.base_node.Node.{Node as Form}
+use Rattle.congee.specs.declared.keys.TheConstants.{KEY_BYTES}
 
 module _ {P : Type 0} where
   abbrev pub shape_of : ℕ → Form ℕ P → Shape
@@ -34,4 +35,4 @@ module _ {P : Type 0} where
 
   -- the nodes of a tree: the root on level 0, and all below it
   unfoldable pub nodes_of : Nodes P → List Shape
-  nodes_of s = nodes_from (get s) 8 0 0
+  nodes_of s = nodes_from (get s) KEY_BYTES 0 0

@@ -1,8 +1,10 @@
 -- What contracts see of a tree of owners.
-use Rattle.std.specs.Prelude.{◌≡◌, ℕ, Bool, false, List, refl}
+use Rattle.std.specs.Prelude.{◌≡◌, ℕ, ◌+◌, ◌-◌, ◌^◌, Bool, false, List, None, refl}
 use Rattle.std.specs.Ordering.{nat_cmp}
 use Rattle.std.specs.FinMap as map
 use Rattle.std.specs.Coded.{Coded, code_by, coded×, coded_ℕ, coded_list}
+use Rattle.congee.specs.owned.Wanted.{IsRefused, gain_of}
+use Rattle.congee.specs.declared.allocator.OOMError.{OOMError}
 use Rattle.judge.specs.Answer.{answer}
 use Rattle.judge.specs.declared.journal.Call.{Call}
 use Rattle.judge.specs.declared.journal.Reply.{Reply}
@@ -32,3 +34,20 @@ never_same v w = false
 -- the call on the tree is the one on its map
 abbrev pub OwnerAnswers : {V : Type 0} → Owners V → Owners V → Call V → Reply V → Type 0
 OwnerAnswers old new call reply = answer never_same old.pairs call ≡ (reply, new.pairs)
+
+module _ {V : Type 0} (old new : Owners V) where
+  -- an insertion: the call is the one on the map, and the sum of the nodes' sizes grows by those that it makes
+  pub record OwnerInserts (key : ℕ) (call : Call V) (reply : Reply V) : Type 0 where
+    pub answers : OwnerAnswers old new call reply
+    pub bytes : new.bytes ≡ old.bytes + gain_of (map.get old.wants key)
+
+  -- a refused insertion: the key is absent, one of the nodes that it makes wasn't made, and it leaves all as it was
+  pub record OwnerRefuses (key : ℕ) (e : OOMError) : Type 0 where
+    pub absent : map.get old.pairs key ≡ None
+    pub cause : IsRefused (map.get old.wants key) old.bytes (2 ^ 64 - 1) e
+    pub unchanged : new ≡ old
+
+  -- a call that inserts no key: it is the one on the map, and nodes of so many bytes go
+  pub record OwnerModifies (freed : ℕ) (call : Call V) (reply : Reply V) : Type 0 where
+    pub answers : OwnerAnswers old new call reply
+    pub bytes : new.bytes + freed ≡ old.bytes

@@ -6,6 +6,7 @@ use Rattle.congee.specs.declared.forms.base_node.NodeType.TheVariants.{N4, N16, 
 use Rattle.congee.specs.declared.owned.stats.NodeInfo.{NodeInfo}
 use Rattle.congee.specs.declared.owned.stats.LevelStats.{LevelStats}
 use Rattle.congee.specs.declared.owned.stats.NodeStats.{NodeStats}
+use Rattle.congee.specs.declared.forms.prefix.TheConstants.{MAX_PREFIX_LEN}
 
 abbrev pub no_nodes : NodeInfo
 no_nodes = record { node_count = 0; value_count = 0 }
@@ -91,7 +92,7 @@ is_form _ _ = false
 
 -- a leaf has a value
 abbrev pub HasValue : Shape → Type 0
-HasValue node = node.prefix ≡ 7 → 0 < node.children
+HasValue node = node.prefix ≡ MAX_PREFIX_LEN → 0 < node.children
 
 -- whether a node has this level and form
 abbrev pub is_at : Shape → ℕ → NodeType → Bool

@@ -1,5 +1,5 @@
 -- The nodes that an insertion makes, and the leaf that a removal takes.
-use Rattle.std.specs.Prelude.{◌≡◌, ℕ, zero, suc, ◌+◌, ◌≤◌, ◌<◌, ◌==◌, ◌&&◌, ◌⊎◌, not, cond, List, [], ◌∷◌, ◌^◌, length, Option, None, Some}
+use Rattle.std.specs.Prelude.{◌≡◌, ℕ, zero, suc, ◌+◌, ◌-◌, ◌≤◌, ◌<◌, ◌==◌, ◌&&◌, ◌⊎◌, not, cond, List, [], ◌∷◌, ◌^◌, length, Option, None, Some}
 use Rattle.std.specs.Ordering.{nat_cmp}
 use Rattle.std.specs.FinMap.{FinMap, get}
 use Rattle.congee.specs.Heap.{Node, Hung, Nothing, Below, Holds, fits, child_for}
@@ -8,23 +8,36 @@ use Rattle.congee.specs.Keys.{key_bytes}
 use Rattle.congee.specs.owned.Table.{table}
 use Rattle.congee.specs.owned.OwnedSteps.{IsRefusal}
 use Rattle.congee.specs.declared.allocator.OOMError.{OOMError}
+use Rattle.congee.specs.forms.Forms.{size_of, next_form}
+use Rattle.congee.specs.declared.forms.base_node.NodeType.{NodeType}
+use Rattle.congee.specs.declared.forms.base_node.NodeType.TheVariants.{N4, N16, N48, N256}
+use Rattle.congee.specs.declared.keys.TheConstants.{KEY_BYTES}
+use Rattle.congee.specs.declared.forms.prefix.TheConstants.{MAX_PREFIX_LEN}
+
+-- the form of a node of so many places
+abbrev pub form_by : ℕ → NodeType
+form_by capacity = cond (capacity == 4) N4 (cond (capacity == 16) N16 (cond (capacity == 48) N48 N256))
 
 -- the size of a node of so many places, in bytes
 abbrev pub size_by : ℕ → ℕ
-size_by capacity = cond (capacity == 4) 64 (cond (capacity == 16) 168 (cond (capacity == 48) 672 2104))
+size_by capacity = size_of (form_by capacity)
 
 -- the size of the form that a full node of so many places grows to
 abbrev pub grown_size : ℕ → ℕ
-grown_size capacity = cond (capacity == 4) 168 (cond (capacity == 16) 672 2104)
+grown_size capacity = size_of (next_form (form_by capacity))
 
 -- the insertion of any key makes a leaf alone
 abbrev pub WantsLeaf : FinMap nat_cmp (List ℕ) → Type 0
-WantsLeaf wants = (k : ℕ) → k < 2 ^ 64 → get wants k ≡ Some (64 ∷ [])
+WantsLeaf wants = (k : ℕ) → k < 2 ^ 64 → get wants k ≡ Some (size_of N4 ∷ [])
 
 -- by how much the sizes of the nodes grow where one of this size is made: it is a least one, or takes the place of one
 -- of the form before
 abbrev pub net : ℕ → ℕ
-net size = cond (size == 64) 64 (cond (size == 168) 104 (cond (size == 672) 504 1432))
+net size =
+    cond
+    (size == size_of N4)
+    (size_of N4)
+    (cond (size == size_of N16) (size_of N16 - size_of N4) (cond (size == size_of N48) (size_of N48 - size_of N16) (size_of N256 - size_of N48)))
 
 -- the same for several
 abbrev pub gain : List ℕ → ℕ
@@ -73,7 +86,7 @@ module _ {P : Type 0} where
 
   -- a key's value needs room in a leaf, and in another node a leaf and room for it
   abbrev pub free_wants : Node P → List ℕ
-  free_wants n = cond (length n.prefix == 7) (room_for n) (64 ∷ room_for n)
+  free_wants n = cond (length n.prefix == MAX_PREFIX_LEN) (room_for n) (size_of N4 ∷ room_for n)
 
   abbrev pub last_wants : Node P → Hung P → Option (List ℕ)
   last_wants n Nothing = Some (free_wants n)
@@ -83,7 +96,7 @@ module _ {P : Type 0} where
   -- the sizes of the nodes that an insertion of the key makes, one after the other; none where the key is present.
   -- Where the key parts from a node's prefix, a node over that one and a leaf
   unfoldable pub wants_at : (ℕ → Node P) → List ℕ → Option (List ℕ)
-  wants_at h key = descend (Some (64 ∷ 64 ∷ [])) last_wants h 8 0 key
+  wants_at h key = descend (Some (size_of N4 ∷ size_of N4 ∷ [])) last_wants h KEY_BYTES 0 key
 
   -- a leaf with one value
   abbrev pub last_lone : Node P → Hung P → Option ℕ
@@ -93,7 +106,7 @@ module _ {P : Type 0} where
 
   -- the size of the key's leaf, where the key is alone in it
   unfoldable pub lone_at : (ℕ → Node P) → List ℕ → Option ℕ
-  lone_at h key = descend None last_lone h 8 0 key
+  lone_at h key = descend None last_lone h KEY_BYTES 0 key
 
   -- for each absent key of 64 bits the sizes of the nodes that its insertion makes
   unfoldable pub wants_of : Nodes P → FinMap nat_cmp (List ℕ)

@@ -13,10 +13,11 @@ use Rattle.congee.specs.declared.protocol.machine.Machine.{Machine}
 use Rattle.congee.specs.declared.protocol.machine.Move.{Move}
 use Rattle.congee.specs.Ledger.{Note, Tree, LockWords}
 use Rattle.congee.specs.protocol.Protocol.{Settles, Known, Effect}
+use Rattle.congee.specs.declared.keys.TheConstants.{KEY_BYTES}
 
 -- each key has the value that it had
 abbrev pub SameMap : {V : Type 0} → (ℕ → Node V) → (ℕ → Node V) → Type 0
-SameMap h h' = (x : List ℕ) → length x ≡ 8 → value_at h' x ≡ value_at h x
+SameMap h h' = (x : List ℕ) → length x ≡ KEY_BYTES → value_at h' x ≡ value_at h x
 
 -- the call answers r by what stands at its key, and leaves there what the map's answer leaves
 pub record Decides {V : Type 0} (same : V → V → Bool) (k : ℕ) (kind : Kind V) (given : Option V) (h : ℕ → Node V) (r : Reply V) (h' : ℕ → Node V) : Type 0 where
@@ -25,7 +26,7 @@ pub record Decides {V : Type 0} (same : V → V → Bool) (k : ℕ) (kind : Kind
   pub settles : Settles same k kind given found r after
   pub before : value_at h (key_bytes k) ≡ found
   pub now : value_at h' (key_bytes k) ≡ after
-  pub rest : (x : List ℕ) → length x ≡ 8 → x ≢ key_bytes k → value_at h' x ≡ value_at h x
+  pub rest : (x : List ℕ) → length x ≡ KEY_BYTES → x ≢ key_bytes k → value_at h' x ≡ value_at h x
 
 -- the reply that a call which took effect will give
 abbrev pub reply_in : {C V : Type 0} → Phase C V → Option (Reply V)

@@ -11,6 +11,7 @@ use Rattle.congee.specs.declared.forms.base_node.NodeType.{NodeType}
 use Rattle.congee.specs.declared.forms.base_node.NodeType.TheVariants.{N4, N16, N48, N256}
 use Rattle.congee.specs.declared.protocol.store.Refusal.{Refusal}
 use Rattle.congee.specs.Heap.{Node, Hung, Nothing, Below, Holds, fits, child_for, is_taken}
+use Rattle.congee.specs.declared.forms.prefix.TheConstants.{MAX_PREFIX_LEN}
 
 -- what hangs at a byte, with nodes by their numbers
 abbrev pub hung : {C V : Type 0} → (C → ℕ) → Child C V → Hung V
@@ -21,7 +22,7 @@ hung number (child.Value v) = Holds v
 -- a prefix and a key that are alike in the first bytes and differ in the next
 pub record Parts (p key : List ℕ) (common : ℕ) : Type 0 where
   pub short : common < length p
-  pub seventh : common < 7
+  pub seventh : common < MAX_PREFIX_LEN
   pub alike : (i : ℕ) → i < common → slice_index p i ≡ slice_index key i
   pub apart : slice_index p common ≢ slice_index key common
 
@@ -36,7 +37,7 @@ pub record SeenTruly {C V : Type 0} (number : C → ℕ) (n : Node V) (key : Lis
 
 abbrev pub ReadGives : {C V : Type 0} → (C → ℕ) → Bool → Node V → ℕ → List ℕ → Reading C V → Type 0
 ReadGives number always n v key (Differs common byte) = Parts n.prefix key common × (byte ≡ slice_index n.prefix common)
-ReadGives number always n v key (Fits depth s) = (fits n.prefix key ≡ true) × (depth ≡ length n.prefix) × (depth ≤ 7) × (s.byte ≡ slice_index key depth)
+ReadGives number always n v key (Fits depth s) = (fits n.prefix key ≡ true) × (depth ≡ length n.prefix) × (depth ≤ MAX_PREFIX_LEN) × (s.byte ≡ slice_index key depth)
     × (is_taken n v ≡ true → SeenTruly number n key s)
 ReadGives {C} {V} number always n v key Uncopied = (fits n.prefix key ≡ true) × (always ≡ false) × (is_taken n v ≡ true → (x : V) × (child_for n key ≡ Holds x))
 

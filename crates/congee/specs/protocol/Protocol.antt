@@ -27,6 +27,7 @@ use Rattle.congee.specs.protocol.Steps.{adds}
 use Rattle.congee.specs.protocol.SweepKnown.{SweepKnown}
 pub use Rattle.congee.specs.protocol.Seats.{Seated, Fresh}
 use Rattle.congee.specs.Ledger.{Note, Unmade, Held, Linked, Gone, is_published, is_spent, Tree, LockWords}
+use Rattle.congee.specs.declared.forms.prefix.TheConstants.{MAX_PREFIX_LEN}
 
 -- node n was read in the node above, at the byte
 pub record ChildOf {C V : Type 0} (number : C → ℕ) (a : ℕ → Note) (h : ℕ → Node V) (key : List ℕ) (p : Parent C) (n : ℕ) : Type 0 where
@@ -52,7 +53,7 @@ pub record Knows {C V : Type 0} (number : C → ℕ) (a : ℕ → Note) (h : ℕ
   pub above : IsAbove number a h key s.above (number s.at.node)
   pub fitted : fits (h (number s.at.node)).prefix key ≡ true
   pub depth : s.depth ≡ length (h (number s.at.node)).prefix
-  pub short : s.depth ≤ 7
+  pub short : s.depth ≤ MAX_PREFIX_LEN
   pub byte : s.byte ≡ slice_index key (length (h (number s.at.node)).prefix)
   pub fresh : Fresh a h (number s.at.node) s.at.version (Sees key s x)
 
@@ -77,8 +78,8 @@ pub record Holding (i : ℕ) (a : ℕ → Note) (n : ℕ) : Type 0 where
 
 -- the change of one node: where it stands on the key's way, what the node holds, and what was made for it
 abbrev pub IsLeafAt : {C : Type 0} → Single C → ℕ → Type 0
-IsLeafAt Set size = size ≡ 7
-IsLeafAt (Link leaf) size = size < 7
+IsLeafAt Set size = size ≡ MAX_PREFIX_LEN
+IsLeafAt (Link leaf) size = size < MAX_PREFIX_LEN
 
 pub record PlacedOne {C : Type 0} (key : List ℕ) (change : Single C) (b : ℕ) (p : List ℕ) : Type 0 where
   pub fitted : fits p key ≡ true
@@ -91,7 +92,7 @@ pub record WantedOne {V : Type 0} (key : List ℕ) (x : Hung V) (n : Node V) : T
 
 abbrev pub MadeOne : {C V : Type 0} → (C → ℕ) → ℕ → (ℕ → Note) → (ℕ → Node V) → List ℕ → Single C → Type 0
 MadeOne number i a h key Set = Unit {0}
-MadeOne number i a h key (Link leaf) = Made i a h key (number leaf) 7 0
+MadeOne number i a h key (Link leaf) = Made i a h key (number leaf) MAX_PREFIX_LEN 0
 
 -- nothing or a value
 abbrev pub IsValue : {V : Type 0} → Hung V → Type 0
@@ -124,9 +125,9 @@ pub record OneLocked {C V : Type 0} (number : C → ℕ) (i : ℕ) (a : ℕ → 
 
 -- the change of the node above, likewise
 abbrev pub PlacedTwo : {C : Type 0} → List ℕ → Double C → List ℕ → Type 0
-PlacedTwo key Unlink p = (fits p key ≡ true) × (length p ≡ 7)
-PlacedTwo key (Grow c) p = (fits p key ≡ true) × (length p ≡ 7)
-PlacedTwo key (GrowLink c leaf byte) p = (fits p key ≡ true) × (length p < 7) × (byte ≡ slice_index key (length p))
+PlacedTwo key Unlink p = (fits p key ≡ true) × (length p ≡ MAX_PREFIX_LEN)
+PlacedTwo key (Grow c) p = (fits p key ≡ true) × (length p ≡ MAX_PREFIX_LEN)
+PlacedTwo key (GrowLink c leaf byte) p = (fits p key ≡ true) × (length p < MAX_PREFIX_LEN) × (byte ≡ slice_index key (length p))
 PlacedTwo key (Split top leaf common byte) p = Parts p key common × (byte ≡ slice_index p common)
 
 -- what the node at hand holds: the value that goes with it, or nothing, and how many children
@@ -140,8 +141,8 @@ WantedTwo key (Split top leaf common byte) found q n = Unit {0}
 abbrev pub MadeTwo : {C V : Type 0} → (C → ℕ) → ℕ → (ℕ → Note) → (ℕ → Node V) → List ℕ → Double C → ℕ → ℕ → Type 0
 MadeTwo number i a h key Unlink size q = Unit {0}
 MadeTwo number i a h key (Grow c) size q = Made i a h key (number c) size q
-MadeTwo number i a h key (GrowLink c leaf byte) size q = Made i a h key (number c) size q × Made i a h key (number leaf) 7 0 × (number c ≢ number leaf)
-MadeTwo number i a h key (Split top leaf common byte) size q = Made i a h key (number top) common 1 × Made i a h key (number leaf) 7 0 × (number top ≢ number leaf)
+MadeTwo number i a h key (GrowLink c leaf byte) size q = Made i a h key (number c) size q × Made i a h key (number leaf) MAX_PREFIX_LEN 0 × (number c ≢ number leaf)
+MadeTwo number i a h key (Split top leaf common byte) size q = Made i a h key (number top) common 1 × Made i a h key (number leaf) MAX_PREFIX_LEN 0 × (number top ≢ number leaf)
 
 -- an unlinking has found a value and puts none; the other changes have found none and put one
 abbrev pub FitsTwo : {C V : Type 0} → Double C → Option V → Option V → Type 0
@@ -235,8 +236,8 @@ PlanKnown number i a h key (Here check one) = SeatedIf number a h check × OneKn
 PlanKnown number i a h key (Above two) = ((q : ℕ) × TwoKnown number i a h key two None q) × Adding two.change
 
 abbrev pub MadeLeafFor : {C V : Type 0} → (C → ℕ) → ℕ → (ℕ → Note) → (ℕ → Node V) → List ℕ → Site C → Option C → Type 0
-MadeLeafFor number i a h key s None = s.depth ≡ 7
-MadeLeafFor number i a h key s (Some leaf) = (s.depth < 7) × Made i a h key (number leaf) 7 0
+MadeLeafFor number i a h key s None = s.depth ≡ MAX_PREFIX_LEN
+MadeLeafFor number i a h key s (Some leaf) = (s.depth < MAX_PREFIX_LEN) × Made i a h key (number leaf) MAX_PREFIX_LEN 0
 
 pub record Confirmed {C V : Type 0} (number : C → ℕ) (a : ℕ → Note) (h : ℕ → Node V) (key : List ℕ) (at : Seat C) (v : V) : Type 0 where
   pub fitted : fits (h (number at.node)).prefix key ≡ true
@@ -252,14 +253,14 @@ Known number same always i a h k key kind given (CheckUncopied at) = HasGift kin
 Known number same always i a h k key kind given (CheckMiss p at common byte) = HasGift kind given × ChildOf number a h key p (number at.node) × Seated a h (number at.node) at.version
     × Parts (h (number at.node)).prefix key common × (byte ≡ slice_index (h (number at.node)).prefix common)
 Known number same always i a h k key kind given (CheckDown p at c) = HasGift kind given × Seated a h (number p.node) p.version × ChildOf number a h key at (number c) × (is_published (a (number c)).status ≡ true)
-Known number same always i a h k key kind given (CheckOld p s v) = HasGift kind given × Seated a h (number p.node) p.version × Knows number a h key s (Holds v) × (adds kind ≡ true) × (s.depth ≡ 7)
-Known number same always i a h k key kind given (MakeLeaf s) = HasGift kind given × Knows number a h key s Nothing × (s.depth < 7) × (adds kind ≡ true) × (s.count < 256)
+Known number same always i a h k key kind given (CheckOld p s v) = HasGift kind given × Seated a h (number p.node) p.version × Knows number a h key s (Holds v) × (adds kind ≡ true) × (s.depth ≡ MAX_PREFIX_LEN)
+Known number same always i a h k key kind given (MakeLeaf s) = HasGift kind given × Knows number a h key s Nothing × (s.depth < MAX_PREFIX_LEN) × (adds kind ≡ true) × (s.count < 256)
 Known number same always i a h k key kind given (MakeGreater s p leaf) = HasGift kind given × Knows number a h key s Nothing × (s.above ≡ Some p) × MadeLeafFor number i a h key s leaf × (adds kind ≡ true) × (s.count < 256)
 Known number same always i a h k key kind given (MakeTop p at common byte) = HasGift kind given × ChildOf number a h key p (number at.node) × Seated a h (number at.node) at.version
     × Parts (h (number at.node)).prefix key common × (byte ≡ slice_index (h (number at.node)).prefix common) × (adds kind ≡ true)
 Known number same always i a h k key kind given (MakeBeside p at common byte top) = HasGift kind given × ChildOf number a h key p (number at.node) × Seated a h (number at.node) at.version
     × Parts (h (number at.node)).prefix key common × (byte ≡ slice_index (h (number at.node)).prefix common) × (adds kind ≡ true) × Made i a h key (number top) common 1
-Known number same always i a h k key kind given (AskOld s v) = HasGift kind given × Knows number a h key s (Holds v) × Asking kind × (s.depth ≡ 7)
+Known number same always i a h k key kind given (AskOld s v) = HasGift kind given × Knows number a h key s (Holds v) × Asking kind × (s.depth ≡ MAX_PREFIX_LEN)
 Known number same always i a h k key kind given (AskNew plan) = PlanKnown number i a h key plan × (kind ≡ ComputeInsert)
 Known {C} {V} number same always i a h k key kind given (Confirm at r) = HasGift kind given × ((v : V) × Confirmed number a h key at v × Settles same k kind given (Some v) r (Some v))
 Known number same always i a h k key kind given (CheckAbove p one r) = HasGift kind given × Seated a h (number p.node) p.version × OneKnown number i a h key one Nothing × FitsOne one.change Nothing given × Settles same k kind given None r given

@@ -2,15 +2,17 @@
 use Rattle.std.specs.Prelude.{◌≡◌, ℕ, ◌+◌, ◌*◌, ◌-◌, ◌%◌, ◌<◌, ◌≤◌, ◌^◌, true, List, length}
 use Rattle.congee.specs.Heap.{fits}
 use Rattle.congee.specs.Keys.{key_bytes}
+use Rattle.congee.specs.declared.keys.TheConstants.{KEY_BYTES}
+use Rattle.congee.specs.declared.forms.prefix.TheConstants.{MAX_PREFIX_LEN}
 
 -- how many keys have the same first bytes, so many
 abbrev pub span : ℕ → ℕ
-span depth = 2 ^ (8 * (8 - depth))
+span depth = 2 ^ (8 * (KEY_BYTES - depth))
 
 -- the keys that begin with the prefix, of so many bytes, are those from `base` on, so many as they are
 pub record IsRegion (prefix : List ℕ) (base depth : ℕ) : Type 0 where
   pub depth_is : depth ≡ length prefix
-  pub short : depth ≤ 7
+  pub short : depth ≤ MAX_PREFIX_LEN
   pub small : base < 2 ^ 64
   pub fitted : fits prefix (key_bytes base) ≡ true
   pub even : base % span depth ≡ 0

@@ -39,6 +39,7 @@ use Rattle.congee.specs.declared.protocol.machine.Machine.{Machine}
 use Rattle.congee.specs.Heap.{Node, Hung, Nothing, Below, Holds, Stands, version_of, is_taken}
 use Rattle.congee.specs.protocol.Events.{ReadGives, SameBut, upgrade_gives, MakeGives, MayChange, ChangeGives, TakeOverGives, BackGives, ObsoleteGives, RetireGives, UnlockGives, HoldsAlike}
 use Rattle.congee.specs.Keys.{key_bytes}
+use Rattle.congee.specs.declared.forms.prefix.TheConstants.{MAX_PREFIX_LEN}
 
 -- what a step leaves: it goes on, begins anew, answers in this step, ends with an answer given before, is refused,
 -- takes effect and goes on, or asks
@@ -134,7 +135,7 @@ unless_full kind s false above leaf change = ready kind (plan_here s change)
 
 -- an insertion's key is absent at the node
 abbrev pub missing : {C V : Type 0} → Kind V → Site C → Turn C V
-missing kind s = cond (s.depth == 7) (unless_full kind s s.full s.above None Set) (quiet (MakeLeaf s))
+missing kind s = cond (s.depth == MAX_PREFIX_LEN) (unless_full kind s s.full s.above None Set) (quiet (MakeLeaf s))
 
 abbrev pub absent : {C V : Type 0} → Kind V → Site C → Turn C V
 absent kind s = cond (adds kind) (missing kind s) (answered (absent_reply kind))
@@ -234,7 +235,7 @@ BackLeaf number h (Some leaf) h' = BackGives h (number leaf) h'
 
 -- a node was made or not
 abbrev pub MadeLeaf : {C V : Type 0} → (C → ℕ) → Kind V → Site C → (ℕ → Node V) → List ℕ → Result C Refusal → (ℕ → Node V) → Turn C V → Type 0
-MadeLeaf number kind s h key (Ok leaf) h' t = MakeGives number h N4 key 7 (Ok leaf) h' × (t ≡ unless_full kind s s.full s.above (Some leaf) (Link leaf))
+MadeLeaf number kind s h key (Ok leaf) h' t = MakeGives number h N4 key MAX_PREFIX_LEN (Ok leaf) h' × (t ≡ unless_full kind s s.full s.above (Some leaf) (Link leaf))
 MadeLeaf number kind s h key (Err e) h' t = (h' ≡ h) × (t ≡ refused e)
 
 abbrev pub greater : {C : Type 0} → Site C → Option C → C → Double C
@@ -251,7 +252,7 @@ MadeTop number p at common byte h key (Ok top) h' t = MakeGives number h N4 key 
 MadeTop number p at common byte h key (Err e) h' t = (h' ≡ h) × (t ≡ refused e)
 
 abbrev pub MadeBeside : {C V : Type 0} → (C → ℕ) → Kind V → Parent C → Seat C → ℕ → ℕ → C → (ℕ → Node V) → List ℕ → Result C Refusal → (ℕ → Node V) → Turn C V → Type 0
-MadeBeside number kind p at common byte top h key (Ok leaf) h' t = MakeGives number h N4 key 7 (Ok leaf) h'
+MadeBeside number kind p at common byte top h key (Ok leaf) h' t = MakeGives number h N4 key MAX_PREFIX_LEN (Ok leaf) h'
     × (t ≡ ready kind (Above (record { above = p; at = at; change = Split top leaf common byte })))
 MadeBeside number kind p at common byte top h key (Err e) h' t = BackGives h (number top) h' × (t ≡ refused e)
 
@@ -284,7 +285,7 @@ value_hung (Some v) = Holds v
 -- the change of one node, and of the node above; a node that comes into reach is filled before
 abbrev pub ChangedOne : {C V : Type 0} → (C → ℕ) → List ℕ → Option V → One C → Single C → (ℕ → Node V) → (ℕ → Node V) → Type 0
 ChangedOne number key new one Set h h' = ChangeGives h (number one.at.node) one.byte (value_hung new) h'
-ChangedOne {C} {V} number key new one (Link leaf) h h' = (h1 : ℕ → Node V) × ChangeGives h (number leaf) (slice_index key 7) (value_hung new) h1
+ChangedOne {C} {V} number key new one (Link leaf) h h' = (h1 : ℕ → Node V) × ChangeGives h (number leaf) (slice_index key MAX_PREFIX_LEN) (value_hung new) h1
     × ChangeGives h1 (number one.at.node) one.byte (Below (number leaf)) h'
 
 -- a greater node with one more child comes in the place of the node at hand
@@ -300,12 +301,12 @@ PutsFork {C} {V} number two top byte new_byte leaf h h' = (h1 : ℕ → Node V) 
 abbrev pub ChangedTwo : {C V : Type 0} → (C → ℕ) → List ℕ → Option V → Two C → Double C → (ℕ → Node V) → (ℕ → Node V) → Type 0
 ChangedTwo number key new two Unlink h h' = ChangeGives h (number two.above.seat.node) two.above.byte Nothing h'
 ChangedTwo {C} {V} number key new two (Grow c) h h' = (h1 : ℕ → Node V) × (h2 : ℕ → Node V) × TakeOverGives h (number two.at.node) (number c) h1
-    × ChangeGives h1 (number c) (slice_index key 7) (value_hung new) h2 × ChangeGives h2 (number two.above.seat.node) two.above.byte (Below (number c)) h'
+    × ChangeGives h1 (number c) (slice_index key MAX_PREFIX_LEN) (value_hung new) h2 × ChangeGives h2 (number two.above.seat.node) two.above.byte (Below (number c)) h'
 ChangedTwo {C} {V} number key new two (GrowLink c leaf byte) h h' = (h1 : ℕ → Node V) × (h2 : ℕ → Node V) × (h3 : ℕ → Node V)
-    × ChangeGives h (number leaf) (slice_index key 7) (value_hung new) h1 × TakeOverGives h1 (number two.at.node) (number c) h2
+    × ChangeGives h (number leaf) (slice_index key MAX_PREFIX_LEN) (value_hung new) h1 × TakeOverGives h1 (number two.at.node) (number c) h2
     × ChangeGives h2 (number c) byte (Below (number leaf)) h3 × ChangeGives h3 (number two.above.seat.node) two.above.byte (Below (number c)) h'
 ChangedTwo {C} {V} number key new two (Split top leaf common byte) h h' = (h1 : ℕ → Node V) × (h2 : ℕ → Node V) × (h3 : ℕ → Node V)
-    × ChangeGives h (number leaf) (slice_index key 7) (value_hung new) h1 × ChangeGives h1 (number top) byte (Below (number two.at.node)) h2
+    × ChangeGives h (number leaf) (slice_index key MAX_PREFIX_LEN) (value_hung new) h1 × ChangeGives h1 (number top) byte (Below (number two.at.node)) h2
     × ChangeGives h2 (number top) (slice_index key common) (Below (number leaf)) h3 × ChangeGives h3 (number two.above.seat.node) two.above.byte (Below (number top)) h'
 
 abbrev pub after_change : {C V : Type 0} → Two C → Reply V → Double C → Turn C V
@@ -333,7 +334,7 @@ swept s o = record { phase = Sweep s; report = record { decided = false; outcome
 abbrev pub PhaseStepped : {C V : Type 0} → (C → ℕ) → (V → V → Bool) → Bool → ℕ → (NodeType → Refusal → Type 0) → C → List ℕ → Kind V → Bool → Option (Option V)
     → Option V → Phase C V → (ℕ → Node V) → Option V → Turn C V → (ℕ → Node V) → Type 0
 PhaseStepped number same always most why root key kind fail answer new New h new' t h' =
-    (h' ≡ h) × (new' ≡ new) × (t ≡ again root)
+    (h' ≡ h) × (new' ≡ new) × (t ≡ after_version root None root (version_of (h (number root))))
 PhaseStepped number same always most why root key kind fail answer new (Version above n) h new' t h' =
     (h' ≡ h) × (new' ≡ new) × (t ≡ after_version root above n (version_of (h (number n))))
 PhaseStepped {C} {V} number same always most why root key kind fail answer new (Read above at) h new' t h' =
@@ -468,36 +469,36 @@ MayChangeTwo number key (Some v) two (GrowLink c leaf byte) h = Changeable (h (n
     × (number two.above.seat.node ≢ number leaf) × (number two.at.node ≢ number leaf) × (number c ≢ number leaf)
     × HoldsAlike (h (number two.at.node))
 MayChangeTwo number key (Some v) two (Split top leaf common byte) h = Changeable (h (number two.above.seat.node)) two.above.byte (Below (number top))
-    × Blank (h (number top)) 1 × Blank (h (number leaf)) 0 × (common < 7) × (byte ≢ slice_index key common)
+    × Blank (h (number top)) 1 × Blank (h (number leaf)) 0 × (common < MAX_PREFIX_LEN) × (byte ≢ slice_index key common)
     × (number two.above.seat.node ≢ number top) × (number two.above.seat.node ≢ number leaf) × (number top ≢ number leaf)
 
 -- what the store wants of the nodes that the next step names
-abbrev pub MayStep : {C V : Type 0} → (C → ℕ) → List ℕ → Option V → Phase C V → (ℕ → Node V) → Type 0
-MayStep number key new (Version above n) h = Stands (h (number n))
-MayStep number key new (Read above at) h = Stands (h (number at.node))
-MayStep number key new (Check s c) h = Stands (h (number s.at.node))
-MayStep number key new (CheckUncopied at) h = Stands (h (number at.node))
-MayStep number key new (CheckMiss p at common byte) h = Stands (h (number p.seat.node))
-MayStep number key new (CheckDown p at c) h = Stands (h (number p.node))
-MayStep number key new (CheckOld p s v) h = Stands (h (number p.node))
-MayStep number key new (MakeGreater s p leaf) h = (s.depth ≤ 7) × MayBackLeaf number h leaf
-MayStep number key new (MakeTop p at common byte) h = common < 7
-MayStep number key new (MakeBeside p at common byte top) h = Stands (h (number top))
-MayStep number key new (Confirm at r) h = Stands (h (number at.node))
-MayStep number key new (CheckAbove p one r) h = Stands (h (number p.node)) × MayBackOne number h one.change
-MayStep number key new (UpgradeOne one r) h = Stands (h (number one.at.node)) × MayBackOne number h one.change
-MayStep number key new (ChangeOne one r) h = MayChangeOne number new one one.change h
-MayStep number key new (UpgradeAbove two r) h = Stands (h (number two.above.seat.node)) × MayBackTwo number h two.change
-MayStep number key new (UpgradeBelow two r) h = Stands (h (number two.at.node)) × MayBackTwo number h two.change
-MayStep number key new (ChangeTwo two r) h = MayChangeTwo number key new two two.change h
-MayStep number key new (Obsolete n p r) h = Stands (h (number n)) × ((h (number n)).locked ≡ true)
-MayStep number key new (Retire n p r) h = Stands (h (number n)) × ((h (number n)).obsolete ≡ true) × ((h (number n)).retired ≡ false)
-MayStep number key new (UnlockBelow n p r) h = Stands (h (number n)) × ((h (number n)).locked ≡ true)
-MayStep number key new (Unlock n r) h = Stands (h (number n)) × ((h (number n)).locked ≡ true)
-MayStep number key new (Unwind n e) h = Stands (h (number n)) × ((h (number n)).locked ≡ true)
-MayStep number key new New h = Unit {0}
-MayStep number key new (MakeLeaf s) h = Unit {0}
-MayStep number key new (AskOld s v) h = Unit {0}
-MayStep number key new (AskNew plan) h = Unit {0}
-MayStep number key new (Sweep s) h = MaySweep number s h
-MayStep number key new Ended h = Unit {0}
+abbrev pub MayStep : {C V : Type 0} → (C → ℕ) → C → List ℕ → Option V → Phase C V → (ℕ → Node V) → Type 0
+MayStep number root key new (Version above n) h = Stands (h (number n))
+MayStep number root key new (Read above at) h = Stands (h (number at.node))
+MayStep number root key new (Check s c) h = Stands (h (number s.at.node))
+MayStep number root key new (CheckUncopied at) h = Stands (h (number at.node))
+MayStep number root key new (CheckMiss p at common byte) h = Stands (h (number p.seat.node))
+MayStep number root key new (CheckDown p at c) h = Stands (h (number p.node))
+MayStep number root key new (CheckOld p s v) h = Stands (h (number p.node))
+MayStep number root key new (MakeGreater s p leaf) h = (s.depth ≤ MAX_PREFIX_LEN) × MayBackLeaf number h leaf
+MayStep number root key new (MakeTop p at common byte) h = common < MAX_PREFIX_LEN
+MayStep number root key new (MakeBeside p at common byte top) h = Stands (h (number top))
+MayStep number root key new (Confirm at r) h = Stands (h (number at.node))
+MayStep number root key new (CheckAbove p one r) h = Stands (h (number p.node)) × MayBackOne number h one.change
+MayStep number root key new (UpgradeOne one r) h = Stands (h (number one.at.node)) × MayBackOne number h one.change
+MayStep number root key new (ChangeOne one r) h = MayChangeOne number new one one.change h
+MayStep number root key new (UpgradeAbove two r) h = Stands (h (number two.above.seat.node)) × MayBackTwo number h two.change
+MayStep number root key new (UpgradeBelow two r) h = Stands (h (number two.at.node)) × MayBackTwo number h two.change
+MayStep number root key new (ChangeTwo two r) h = MayChangeTwo number key new two two.change h
+MayStep number root key new (Obsolete n p r) h = Stands (h (number n)) × ((h (number n)).locked ≡ true)
+MayStep number root key new (Retire n p r) h = Stands (h (number n)) × ((h (number n)).obsolete ≡ true) × ((h (number n)).retired ≡ false)
+MayStep number root key new (UnlockBelow n p r) h = Stands (h (number n)) × ((h (number n)).locked ≡ true)
+MayStep number root key new (Unlock n r) h = Stands (h (number n)) × ((h (number n)).locked ≡ true)
+MayStep number root key new (Unwind n e) h = Stands (h (number n)) × ((h (number n)).locked ≡ true)
+MayStep number root key new New h = Stands (h (number root))
+MayStep number root key new (MakeLeaf s) h = Unit {0}
+MayStep number root key new (AskOld s v) h = Unit {0}
+MayStep number root key new (AskNew plan) h = Unit {0}
+MayStep number root key new (Sweep s) h = MaySweep number root s h
+MayStep number root key new Ended h = Unit {0}

@@ -16,6 +16,7 @@ use Rattle.congee.specs.protocol.Regions.{span, IsRegion, start_at}
 use Rattle.congee.specs.protocol.Sweeps.{Lacked, IsScan, Swept, written}
 use Rattle.congee.specs.protocol.SweepEvents.{IsAny, LeastTruly}
 use Rattle.congee.specs.protocol.SweepSteps.{rungs_of, last_byte}
+use Rattle.congee.specs.declared.keys.TheConstants.{KEY_BYTES}
 
 -- a node on the way, with so many above it: its keys are those of the region, and the first comes before the range's end
 pub record RungKnown {C V : Type 0} (number : C → ℕ) (a : ℕ → Note) (h : ℕ → Node V) (end above : ℕ) (r : Rung C) : Type 0 where
@@ -34,7 +35,7 @@ pub record WayKnown {C V : Type 0} (number : C → ℕ) (a : ℕ → Note) (h : 
   pub range : s.start < s.end
   pub bound : s.end < 2 ^ 64
   pub room : s.count < s.size
-  pub fits : s.above.len ≤ 8
+  pub fits : s.above.len ≤ KEY_BYTES
   pub rungs : RungsKnown number a h s.end 0 (rungs_of s.above)
 
 -- what the scan knows before each step

@@ -14,10 +14,12 @@ use Rattle.congee.specs.declared.protocol.sweep.Told.TheVariants as told
 use Rattle.congee.specs.Heap.{Node, Stands, version_of, is_taken}
 use Rattle.congee.specs.protocol.Regions.{IsRegion}
 use Rattle.congee.specs.protocol.SweepEvents.{LeastGives}
+use Rattle.congee.specs.declared.keys.TheConstants.{KEY_BYTES}
+use Rattle.congee.specs.declared.forms.prefix.TheConstants.{MAX_PREFIX_LEN}
 
 -- how many keys are below each byte of a node
 abbrev pub width : ℕ → ℕ
-width depth = 2 ^ (8 * (7 - depth))
+width depth = 2 ^ (8 * (MAX_PREFIX_LEN - depth))
 
 abbrev pub whole : Region
 whole = record { base = 0; depth = 0 }
@@ -120,12 +122,13 @@ pub record IsFollowedIf {C V : Type 0} (taken : Bool) (number : C → ℕ) (h : 
   pub goes_on : taken ≡ true → IsFollowed number h s r x u
   pub goes_back : taken ≡ false → u ≡ anew root s
 
-abbrev pub begins : {C V : Type 0} → C → Sweep C V → Swung C V
-begins root s = cond (ltb s.start s.end) (cond (s.size == 0) (over s (told.Done 0)) (anew root s)) (over s (told.Done 0))
+-- the root is entered; in an empty range, or without a place, the scan is over
+abbrev pub begins : {C V : Type 0} → C → Sweep C V → Option ℕ → Swung C V
+begins root s o = cond (ltb s.start s.end) (cond (s.size == 0) (over s (told.Done 0)) (entered root (anew root s).0 root whole o)) (over s (told.Done 0))
 
 -- the step of a scan
 abbrev pub SweptAt : {C V : Type 0} → (C → ℕ) → Bool → C → Sweep C V → Stage C V → (ℕ → Node V) → Swung C V → Type 0
-SweptAt number always root s stage.New h u = u ≡ begins root s
+SweptAt number always root s stage.New h u = u ≡ begins root s (version_of (h (number root)))
 SweptAt number always root s (stage.Enter n x) h u = u ≡ entered root s n x (version_of (h (number n)))
 SweptAt {C} {V} number always root s (stage.Look r) h u = (x : Least C V) × LeastGives number always (h (number r.at.node)) r.at.version r.from (last_byte s.end r.region) x × (u ≡ goes s s.above (stage.Check r x))
 SweptAt number always root s (stage.Check r x) h u = IsFollowedIf (is_taken (h (number r.at.node)) r.at.version) number h root s r x u
@@ -142,13 +145,13 @@ MayFollow number h r (least.Node byte c) = Stands (h (number c)) × (byte < 256)
 MayFollow number h r (least.Value byte v) = (r.region.base + byte < 2 ^ 64) × (byte < 256)
 MayFollow number h r least.Uncopied = Unit {0}
 
-abbrev pub MaySweepAt : {C V : Type 0} → (C → ℕ) → Sweep C V → Stage C V → (ℕ → Node V) → Type 0
-MaySweepAt number s stage.New h = Unit {0}
-MaySweepAt number s (stage.Enter n x) h = Stands (h (number n)) × (x.depth ≤ 7) × (s.above.len ≤ 8)
-MaySweepAt number s (stage.Look r) h = Stands (h (number r.at.node)) × (r.region.depth ≤ 7) × (r.region.base < s.end)
-MaySweepAt number s (stage.Check r x) h = Stands (h (number r.at.node)) × (s.above.len < 8) × (s.count < s.size) × (is_taken (h (number r.at.node)) r.at.version ≡ true → MayFollow number h r x)
-MaySweepAt number s stage.Full h = Unit {0}
-MaySweepAt number s stage.Over h = Unit {0}
+abbrev pub MaySweepAt : {C V : Type 0} → (C → ℕ) → C → Sweep C V → Stage C V → (ℕ → Node V) → Type 0
+MaySweepAt number root s stage.New h = Stands (h (number root))
+MaySweepAt number root s (stage.Enter n x) h = Stands (h (number n)) × (x.depth ≤ MAX_PREFIX_LEN) × (s.above.len ≤ KEY_BYTES)
+MaySweepAt number root s (stage.Look r) h = Stands (h (number r.at.node)) × (r.region.depth ≤ MAX_PREFIX_LEN) × (r.region.base < s.end)
+MaySweepAt number root s (stage.Check r x) h = Stands (h (number r.at.node)) × (s.above.len < KEY_BYTES) × (s.count < s.size) × (is_taken (h (number r.at.node)) r.at.version ≡ true → MayFollow number h r x)
+MaySweepAt number root s stage.Full h = Unit {0}
+MaySweepAt number root s stage.Over h = Unit {0}
 
-abbrev pub MaySweep : {C V : Type 0} → (C → ℕ) → Sweep C V → (ℕ → Node V) → Type 0
-MaySweep number s h = MaySweepAt number s s.stage h
+abbrev pub MaySweep : {C V : Type 0} → (C → ℕ) → C → Sweep C V → (ℕ → Node V) → Type 0
+MaySweep number root s h = MaySweepAt number root s s.stage h

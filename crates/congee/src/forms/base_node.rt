@@ -15,9 +15,10 @@ use crate::forms::node4::Node4;
 use crate::forms::node16::Node16;
 use crate::forms::node48::Node48;
 use crate::forms::node256::Node256;
-use crate::forms::prefix::Prefix;
+use crate::forms::prefix::{MAX_PREFIX_LEN, Prefix};
 use crate::forms::room::Boxed;
 use crate::forms::sorted::Sorted;
+use crate::keys::KEY_BYTES;
 use std::alloc::{AllocError, Global};
 
 /// The form of a node.
@@ -28,6 +29,15 @@ pub enum NodeType {
     N48,
     N256,
 }
+
+// What a node of each form is charged, in bytes.
+pub(crate) const N4_SIZE: u64 = 64;
+
+pub(crate) const N16_SIZE: u64 = 168;
+
+pub(crate) const N48_SIZE: u64 = 672;
+
+pub(crate) const N256_SIZE: u64 = 2104;
 
 impl NodeType {
     /// How many children a node of this form can have.
@@ -47,10 +57,10 @@ impl NodeType {
         ensures { result ≡ size_of self }
     {
         match self {
-            NodeType::N4 => 64,
-            NodeType::N16 => 168,
-            NodeType::N48 => 672,
-            NodeType::N256 => 2104,
+            NodeType::N4 => N4_SIZE,
+            NodeType::N16 => N16_SIZE,
+            NodeType::N48 => N48_SIZE,
+            NodeType::N256 => N256_SIZE,
         }
     }
 
@@ -81,7 +91,7 @@ pub enum Node<C: Small, P: Boxed<C>> {
 impl<C: Small, P: Small> Node<C, P> {
     /// An empty node with a prefix of at most seven bytes. `N4` asks for no memory.
     pub fn new(alloc: Global, form: NodeType, prefix: &[u8]) -> Result<Self, AllocError>
-        requires fits { length prefix.now ≤ 7 }
+        requires fits { length prefix.now ≤ MAX_PREFIX_LEN }
         ensures form { IfOk result (λ n. form_of n ≡ form) }
         ensures prefix { IfOk result (λ n. prefix_of n ≡ prefix.now) }
         ensures children { IfOk result (λ n. children_of n ≡ map.empty) }
@@ -138,7 +148,7 @@ impl<C: Small, P: Small> Node<C, P> {
     /// The first bytes of every key below the node.
     pub fn prefix(&self) -> &[u8]
         ensures bytes { result.now ≡ prefix_of self.now }
-        ensures fits { length result.now ≤ 7 }
+        ensures fits { length result.now ≤ MAX_PREFIX_LEN }
     {
         match self {
             Node::N4(n) => n.prefix.as_slice(),
@@ -149,7 +159,7 @@ impl<C: Small, P: Small> Node<C, P> {
     }
 
     /// Whether its prefix is the beginning of the key.
-    pub(crate) fn is_prefix_of(&self, key: &[u8; 8]) -> bool
+    pub(crate) fn is_prefix_of(&self, key: &[u8; KEY_BYTES]) -> bool
         ensures { result ≡ fits (prefix_of self.now) key.now }
     {
         match self {

@@ -16,12 +16,14 @@ pub(crate) struct Mask {
 }
 
 impl Mask {
+    /// Whether the byte's bit is set.
     fn has(&self, byte: u8) -> bool
         ensures { IsTrue result ↔ (bit_of self.now.bytes byte ≡ 1) }
     {
         (self.bytes[byte as usize / 8] >> (byte as u32 % 8)) & 1 == 1
     }
 
+    /// Sets the byte's bit.
     fn set(&mut self, byte: u8)
         requires sized { length self.old.bytes ≡ 32 }
         ensures { SetAt self.old.bytes byte 1 self.new.bytes }
@@ -29,6 +31,7 @@ impl Mask {
         self.bytes[byte as usize / 8] |= 1 << (byte as u32 % 8);
     }
 
+    /// Clears the byte's bit.
     fn clear(&mut self, byte: u8)
         requires sized { length self.old.bytes ≡ 32 }
         ensures { SetAt self.old.bytes byte 0 self.new.bytes }

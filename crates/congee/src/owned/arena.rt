@@ -1,11 +1,13 @@
 //! The nodes of an owned tree: the way of a key, and the changes of single nodes.
-ghost use Rattle.std.specs.Prelude.{◌≡◌, ◌+◌, ℕ, length, slice_index, ◌<◌, ◌≤◌, Some, None, false, IsSome, IfOk, IfErr, OnOk, OnErr};
+ghost use Rattle.std.specs.Prelude.{◌≡◌, ◌+◌, ℕ, length, ◌<◌, ◌≤◌, Some, None, false, IsSome, IfOk, IfErr, OnOk, OnErr};
 ghost use Rattle.std.specs.FinMap as map;
-ghost use Rattle.slab.specs.Slab.{Updates, SameValues, get, ContainsKey};
+ghost use Rattle.slab.specs.Slab.{Updates, get, ContainsKey};
 
 use crate::allocator::{Allocator, OOMError};
 use crate::forms::base_node::{Node, NodeType};
 use crate::forms::child::{Child, Small};
+use crate::forms::prefix::MAX_PREFIX_LEN;
+use crate::keys::KEY_BYTES;
 use crate::owned::place::{Place, Spot};
 use slab::Slab;
 use std::alloc::Global;
@@ -32,7 +34,7 @@ impl<P: Stored, A: Allocator> Arena<P, A> {
     ghost use Rattle.congee.specs.owned.Arena.{IsTree};
 
     /// The end of a key's way from the root.
-    pub(crate) fn locate(&self, key: &[u8; 8]) -> Place
+    pub(crate) fn locate(&self, key: &[u8; KEY_BYTES]) -> Place
         requires { IsTree self.now.nodes }
         ensures { Located self.now.nodes key.now result }
     {
@@ -70,12 +72,13 @@ impl<P: Stored, A: Allocator> Arena<P, A> {
 }
 
 impl<P: Stored, A: Allocator> Arena<P, A> {
-    ghost use Rattle.congee.specs.forms.Forms.{children_of, prefix_of, form_of, is_full_of, size_of};
+    ghost use Rattle.congee.specs.forms.Forms.{children_of, is_full_of, size_of};
     ghost use Rattle.congee.specs.owned.Arena.{heap_of};
     ghost use Rattle.congee.specs.owned.OwnedSteps.{Sets, Makes, MakesRoom, SameNodes, IsRefusal};
     ghost use Rattle.congee.specs.owned.Charge.{Balances, Covers, Grows, IsRefusedBy, KeepsLimit};
     ghost use Rattle.congee.specs.owned.Wanted.{room_for};
     ghost use Rattle.congee.specs.declared.forms.base_node.Node.{Node as Form};
+    ghost use Rattle.congee.specs.declared.forms.base_node.NodeType.TheVariants.{N4};
 
     /// Puts a child under a free byte of a node that has room.
     pub(crate) fn hang(&mut self, at: usize, byte: u8, child: Child<usize, P>)
@@ -112,14 +115,14 @@ impl<P: Stored, A: Allocator> Arena<P, A> {
 
     /// Makes a least node that hangs nowhere yet, and charges it.
     pub(crate) fn make(&mut self, alloc: Global, prefix: &[u8]) -> Result<usize, OOMError>
-        requires { length prefix.now ≤ 7 }
+        requires { length prefix.now ≤ MAX_PREFIX_LEN }
         ensures made { IfOk result (λ name. Makes self.old.nodes self.new.nodes name prefix.now) }
-        ensures charge { OnOk result (A.charged_of self.new.allocator ≡ A.charged_of self.old.allocator + 64) }
-        ensures fits { OnOk result (A.charged_of self.old.allocator + 64 ≤ A.limit_of self.old.allocator) }
+        ensures charge { OnOk result (A.charged_of self.new.allocator ≡ A.charged_of self.old.allocator + size_of N4) }
+        ensures fits { OnOk result (A.charged_of self.old.allocator + size_of N4 ≤ A.limit_of self.old.allocator) }
         ensures same { OnErr result (SameNodes self.old.nodes self.new.nodes) }
         ensures unchanged { OnErr result (A.charged_of self.new.allocator ≡ A.charged_of self.old.allocator) }
         ensures limit { KeepsLimit A.limit_of self.old self.new }
-        ensures refused { IfErr result (λ e. IsRefusal (A.charged_of self.old.allocator) 64 (A.limit_of self.old.allocator) e) }
+        ensures refused { IfErr result (λ e. IsRefusal (A.charged_of self.old.allocator) (size_of N4) (A.limit_of self.old.allocator) e) }
     {
         self.allocator.allocate(NodeType::N4.size())?;
         if self.nodes.reserve(1).is_err() {
@@ -138,9 +141,9 @@ impl<P: Stored, A: Allocator> Arena<P, A> {
     /// Gives a made node back that hangs nowhere.
     pub(crate) fn give_back(&mut self, name: usize)
         requires stands { ContainsKey self.old.nodes name }
-        requires charged { 64 ≤ A.charged_of self.old.allocator }
+        requires charged { size_of N4 ≤ A.charged_of self.old.allocator }
         ensures gone { Updates self.old.nodes self.new.nodes name None }
-        ensures charge { A.charged_of self.new.allocator + 64 ≡ A.charged_of self.old.allocator }
+        ensures charge { A.charged_of self.new.allocator + size_of N4 ≡ A.charged_of self.old.allocator }
         ensures limit { KeepsLimit A.limit_of self.old self.new }
     {
         self.nodes.remove(name);

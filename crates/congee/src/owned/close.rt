@@ -1,6 +1,8 @@
 //! The end of an owned tree, or of what is in it: its pairs are handed on or go, and its nodes come off the budget.
 ghost use Rattle.std.specs.Prelude.{◌≡◌, ◌+◌, ◌≤◌, ℕ, List, None};
 ghost use Rattle.std.specs.FinMap as map;
+ghost use Rattle.congee.specs.forms.Forms.{size_of};
+ghost use Rattle.congee.specs.declared.forms.base_node.NodeType.TheVariants.{N256};
 ghost use Rattle.congee.specs.owned.Arena.{IsTree, heap_of};
 ghost use Rattle.congee.specs.owned.Drained.{Drained};
 ghost use Rattle.congee.specs.Heap.{value_at};
@@ -39,7 +41,7 @@ impl<P: Stored, A: Allocator> Arena<P, A> {
         ensures empty { (key : List ℕ) → value_at (heap_of self.new.nodes) key ≡ None }
         ensures nodes { nodes_of self.new.nodes ≡ root_alone }
         ensures wants { WantsLeaf (wants_of self.new.nodes) }
-        ensures bytes { bytes_of self.new.nodes ≡ 2104 }
+        ensures bytes { bytes_of self.new.nodes ≡ size_of N256 }
         ensures balance { Balances A.charged_of self.old self.new }
         ensures limit { KeepsLimit A.limit_of self.old self.new }
     {

@@ -1,20 +1,23 @@
 //! The owned tree of words.
-ghost use Rattle.std.specs.Prelude.{◌≡◌, ◌+◌, ◌≤◌, ◌^◌, ℕ, Option, None, Some, Ok, Err, IfOk, IfErr, IfSome, IfNone, OnOk, OnErr};
-ghost use Rattle.std.specs.Prelude.{IsTrue, IsSome, ◌↔◌, nat_eq, length, take, drop, MatchOption};
+ghost use Rattle.std.specs.Prelude.{◌≡◌, ◌+◌, ◌≤◌, ◌^◌, ℕ, Option, None, Some, Ok, Err, IfOk, IfErr, IfSome, IfNone, OnOk};
+ghost use Rattle.std.specs.Prelude.{IsTrue, IsSome, ◌↔◌, nat_eq, length, take, drop};
 ghost use Rattle.std.specs.Option.{option_map};
 ghost use Rattle.std.specs.List.{All};
 ghost use Rattle.std.specs.FinMap as map;
+ghost use Rattle.congee.specs.forms.Forms.{size_of};
+ghost use Rattle.congee.specs.declared.forms.base_node.NodeType.TheVariants.{N256};
 ghost use Rattle.congee.specs.owned.Nearest.{IsLeast, IsGreatest, pair_by};
-ghost use Rattle.congee.specs.owned.Content.{Answers, KeepsCharge, Unchanged};
+ghost use Rattle.congee.specs.owned.Content.{Inserts, IsBare, KeepsCharge, ChangesNothing, Refuses, Modifies};
 ghost use Rattle.congee.specs.owned.Drained.{Drained};
 ghost use Rattle.congee.specs.owned.OwnedSteps.{IsRefusal};
 ghost use Rattle.congee.specs.owned.Ranges.{by_bytes, in_range, keys_by};
-ghost use Rattle.congee.specs.owned.Stats.{HasValue, IsTally, capped, root_alone};
-ghost use Rattle.congee.specs.owned.Wanted.{IsRefused, WantsLeaf, gain_of, freed_of, freed_by};
+ghost use Rattle.congee.specs.owned.Stats.{HasValue, IsTally, capped};
+ghost use Rattle.congee.specs.owned.Wanted.{freed_of, freed_by};
 ghost use Rattle.judge.specs.declared.journal.Call.TheVariants as call;
 ghost use Rattle.judge.specs.declared.journal.Reply.TheVariants as reply;
 
 use crate::allocator::{Allocator, DefaultAllocator, OOMError};
+use crate::keys::{KEY_BYTES, bytes_of_key};
 use crate::owned::arena::Arena;
 use crate::owned::drainer::{Drainer, NoDrain};
 use crate::owned::stats::NodeStats;
@@ -96,14 +99,11 @@ fn pair_of<K: Word64, V: Word64>(found: Option<(u64, u64)>) -> Option<(K, V)>
 impl<K: Word64, V: Word64, A: Allocator, D: Drop> Congee<K, V, A, D> {
     /// An empty tree over the allocator, which its root is charged to. A refused call drops both.
     pub fn new_with_drainer(alloc: Global, allocator: A, drainer: D) -> Result<Self, OOMError>
-        ensures empty { IfOk result (λ t. t.pairs ≡ map.empty) }
-        ensures nodes { IfOk result (λ t. t.nodes ≡ root_alone) }
-        ensures wants { IfOk result (λ t. WantsLeaf t.wants) }
-        ensures root { IfOk result (λ t. t.bytes ≡ 2104) }
-        ensures charged { IfOk result (λ t. A.charged_of t.allocator ≡ A.charged_of allocator + 2104) }
+        ensures bare { IfOk result (λ t. IsBare t) }
+        ensures charged { IfOk result (λ t. A.charged_of t.allocator ≡ A.charged_of allocator + size_of N256) }
         ensures limit { IfOk result (λ t. A.limit_of t.allocator ≡ A.limit_of allocator) }
         ensures drainer { IfOk result (λ t. t.drainer ≡ drainer) }
-        ensures refused { IfErr result (λ e. IsRefusal (A.charged_of allocator) 2104 (A.limit_of allocator) e) }
+        ensures refused { IfErr result (λ e. IsRefusal (A.charged_of allocator) (size_of N256) (A.limit_of allocator) e) }
     {
         let arena = Arena::new(alloc, allocator)?;
         Ok(Congee {
@@ -123,15 +123,13 @@ impl<K: Word64, V: Word64, A: Allocator, D: Drop> Congee<K, V, A, D> {
     ) -> Option<(u64, Option<u64>)>
         requires { F.IsAlwaysCallable f }
         ensures asked { IfSome result (λ r. (after : F) × F.step f r.0 r.1 after) }
-        ensures present { IfSome result (λ r. Answers nat_eq self.old self.new
+        ensures present { IfSome result (λ r. Modifies nat_eq A.charged_of A.limit_of self.old self.new
+            (freed_by r.1 (map.get self.old.lone (K.word key.now)))
             (call.ComputePresent (K.word key.now) r.1) (reply.ComputePresent (Some (r.0, r.1)))) }
-        ensures absent { IfNone result (Answers nat_eq self.old self.new
+        ensures absent { IfNone result (ChangesNothing nat_eq A.charged_of A.limit_of self.old self.new
             (call.ComputePresent (K.word key.now) None) (reply.ComputePresent None)) }
-        ensures unchanged { IfNone result (Unchanged self.old self.new) }
-        ensures bytes { IfSome result (λ r. self.new.bytes + freed_by r.1 (map.get self.old.lone (K.word key.now)) ≡ self.old.bytes) }
-        ensures keeps { KeepsCharge A.charged_of A.limit_of self.old self.new }
     {
-        let bytes = key.to_word().to_be_bytes();
+        let bytes = bytes_of_key(key);
         let Some(old) = self.arena.get(&bytes).copied() else {
             return None;
         };
@@ -147,16 +145,13 @@ impl<K: Word64, V: Word64, A: Allocator, D: Drop> Congee<K, V, A, D> {
         mut f: F,
     ) -> Result<Option<V>, OOMError>
         requires { F.IsAlwaysCallable f }
-        ensures answers { IfOk result (λ r. (before : Option ℕ) × (value : ℕ)
+        ensures inserts { IfOk result (λ r. (before : Option ℕ) × (value : ℕ)
             × (r ≡ option_map V.of_word before) × (after : F) × F.step f before value after
-            × Answers nat_eq self.old self.new (call.ComputeInsert (K.word key) value) (reply.ComputeInsert before)) }
-        ensures keeps { KeepsCharge A.charged_of A.limit_of self.old self.new }
-        ensures unchanged { OnErr result (Unchanged self.old self.new) }
-        ensures absent { OnErr result (map.get self.old.pairs (K.word key) ≡ None) }
-        ensures refused { IfErr result (λ e. IsRefused (map.get self.old.wants (K.word key)) (A.charged_of self.old.allocator) (A.limit_of self.old.allocator) e) }
-        ensures bytes { OnOk result (self.new.bytes ≡ self.old.bytes + gain_of (map.get self.old.wants (K.word key))) }
+            × Inserts nat_eq A.charged_of A.limit_of self.old self.new (K.word key)
+            (call.ComputeInsert (K.word key) value) (reply.ComputeInsert before)) }
+        ensures refused { IfErr result (Refuses A.charged_of A.limit_of self.old self.new (K.word key)) }
     {
-        let bytes = key.to_word().to_be_bytes();
+        let bytes = bytes_of_key(&key);
         let old = self.arena.get(&bytes).copied();
         let value = f(old);
         match self.arena.insert(self.alloc, &bytes, value) {
@@ -174,16 +169,13 @@ impl<K: Word64, V: Word64, A: Allocator, D: Drop> Congee<K, V, A, D> {
         new: Option<V>,
     ) -> Result<Option<V>, Option<V>>
         ensures ok { IfOk result (λ r. (word : Option ℕ) × (word ≡ option_map V.word new) × (r ≡ new)
-            × Answers nat_eq self.old self.new
+            × Modifies nat_eq A.charged_of A.limit_of self.old self.new (freed_by new (map.get self.old.lone (K.word key.now)))
             (call.Exchange (K.word key.now) (V.word old.now) word) (reply.Exchange (Ok word))) }
         ensures other { IfErr result (λ r. (found : Option ℕ) × (r ≡ option_map V.of_word found)
-            × Answers nat_eq self.old self.new
+            × ChangesNothing nat_eq A.charged_of A.limit_of self.old self.new
             (call.Exchange (K.word key.now) (V.word old.now) (option_map V.word new)) (reply.Exchange (Err found))) }
-        ensures unchanged { OnErr result (Unchanged self.old self.new) }
-        ensures bytes { OnOk result (self.new.bytes + freed_by new (map.get self.old.lone (K.word key.now)) ≡ self.old.bytes) }
-        ensures keeps { KeepsCharge A.charged_of A.limit_of self.old self.new }
     {
-        let bytes = key.to_word().to_be_bytes();
+        let bytes = bytes_of_key(key);
         let old = old.to_word();
         let found = self.arena.get(&bytes).copied();
         if !holds(found, old) {
@@ -198,22 +190,19 @@ impl<K: Word64, V: Word64, A: Allocator, D: Drop> Congee<K, V, A, D> {
     pub fn get(&self, key: &K) -> Option<V>
         ensures { result ≡ option_map V.of_word (map.get self.now.pairs (K.word key.now)) }
     {
-        let key = key.to_word().to_be_bytes();
-        word_of(self.arena.get(&key).copied())
+        let bytes = bytes_of_key(key);
+        word_of(self.arena.get(&bytes).copied())
     }
 
     /// Puts a value at a key, and gives the one before. A refused call changes nothing.
     pub fn insert(&mut self, key: K, value: V) -> Result<Option<V>, OOMError>
-        ensures answers { IfOk result (λ r. (before : Option ℕ) × (r ≡ option_map V.of_word before)
-            × Answers nat_eq self.old self.new (call.Insert (K.word key) (V.word value)) (reply.Insert before)) }
+        ensures inserts { IfOk result (λ r. (before : Option ℕ) × (r ≡ option_map V.of_word before)
+            × Inserts nat_eq A.charged_of A.limit_of self.old self.new (K.word key)
+            (call.Insert (K.word key) (V.word value)) (reply.Insert before)) }
         ensures put { OnOk result (map.get self.new.pairs (K.word key) ≡ Some (V.word value)) }
-        ensures keeps { KeepsCharge A.charged_of A.limit_of self.old self.new }
-        ensures unchanged { OnErr result (Unchanged self.old self.new) }
-        ensures absent { OnErr result (map.get self.old.pairs (K.word key) ≡ None) }
-        ensures refused { IfErr result (λ e. IsRefused (map.get self.old.wants (K.word key)) (A.charged_of self.old.allocator) (A.limit_of self.old.allocator) e) }
-        ensures bytes { OnOk result (self.new.bytes ≡ self.old.bytes + gain_of (map.get self.old.wants (K.word key))) }
+        ensures refused { IfErr result (Refuses A.charged_of A.limit_of self.old self.new (K.word key)) }
     {
-        let bytes = key.to_word().to_be_bytes();
+        let bytes = bytes_of_key(&key);
         match self.arena.insert(self.alloc, &bytes, value.to_word()) {
             Ok(before) => Ok(word_of(before)),
             Err((e, _)) => Err(e),
@@ -222,22 +211,18 @@ impl<K: Word64, V: Word64, A: Allocator, D: Drop> Congee<K, V, A, D> {
 
     /// Takes a key's value out.
     pub fn remove(&mut self, key: &K) -> Option<V>
-        ensures answers { (before : Option ℕ) × (result ≡ option_map V.of_word before)
-            × Answers nat_eq self.old self.new (call.Remove (K.word key.now)) (reply.Remove before) }
-        ensures bytes { self.new.bytes + freed_of (map.get self.old.lone (K.word key.now)) ≡ self.old.bytes }
-        ensures keeps { KeepsCharge A.charged_of A.limit_of self.old self.new }
+        ensures { (before : Option ℕ) × (result ≡ option_map V.of_word before)
+            × Modifies nat_eq A.charged_of A.limit_of self.old self.new (freed_of (map.get self.old.lone (K.word key.now)))
+            (call.Remove (K.word key.now)) (reply.Remove before) }
     {
-        let bytes = key.to_word().to_be_bytes();
+        let bytes = bytes_of_key(key);
         word_of(self.arena.remove(&bytes))
     }
 
     /// Takes every pair out, and every node but the root, whose bytes alone stay charged. The places that the nodes had
     /// stay for those that come next.
     pub fn clear(&mut self)
-        ensures empty { self.new.pairs ≡ map.empty }
-        ensures nodes { self.new.nodes ≡ root_alone }
-        ensures wants { WantsLeaf self.new.wants }
-        ensures bytes { self.new.bytes ≡ 2104 }
+        ensures bare { IsBare self.new }
         ensures keeps { KeepsCharge A.charged_of A.limit_of self.old self.new }
     {
         self.arena.clear();
@@ -276,7 +261,7 @@ impl<K: Word64, V: Word64, A: Allocator, D: Drop> Congee<K, V, A, D> {
     pub fn contains_key(&self, key: &K) -> bool
         ensures { IsTrue result ↔ IsSome (map.get self.now.pairs (K.word key.now)) }
     {
-        let bytes = key.to_word().to_be_bytes();
+        let bytes = bytes_of_key(key);
         let found = self.arena.get(&bytes).copied();
         found.is_some()
     }
@@ -320,7 +305,12 @@ impl<K: Word64, V: Word64, A: Allocator, D: Drop> Congee<K, V, A, D> {
     }
 
     /// Writes the pairs with start <= key < end into `out`, ascending, as many as fit, each key as its eight bytes.
-    pub(crate) fn range_by_bytes(&self, start: u64, end: u64, out: &mut [([u8; 8], u64)]) -> usize
+    pub(crate) fn range_by_bytes(
+        &self,
+        start: u64,
+        end: u64,
+        out: &mut [([u8; KEY_BYTES], u64)],
+    ) -> usize
         ensures pairs { take result out.new ≡ by_bytes (take (length out.old) (in_range start end (map.entries self.now.pairs))) }
         ensures count { result ≡ length (take (length out.old) (in_range start end (map.entries self.now.pairs))) }
         ensures past { drop result out.new ≡ drop result out.old }
@@ -357,13 +347,10 @@ impl<K: Word64, V: Word64, A: Allocator, D: Drop> Congee<K, V, A, D> {
 impl<K: Word64, V: Word64, A: Allocator> Congee<K, V, A, NoDrain> {
     /// An empty tree over the allocator, which its root is charged to. A refused call drops the allocator.
     pub fn new(alloc: Global, allocator: A) -> Result<Self, OOMError>
-        ensures empty { IfOk result (λ t. t.pairs ≡ map.empty) }
-        ensures nodes { IfOk result (λ t. t.nodes ≡ root_alone) }
-        ensures wants { IfOk result (λ t. WantsLeaf t.wants) }
-        ensures root { IfOk result (λ t. t.bytes ≡ 2104) }
-        ensures charged { IfOk result (λ t. A.charged_of t.allocator ≡ A.charged_of allocator + 2104) }
+        ensures bare { IfOk result (λ t. IsBare t) }
+        ensures charged { IfOk result (λ t. A.charged_of t.allocator ≡ A.charged_of allocator + size_of N256) }
         ensures limit { IfOk result (λ t. A.limit_of t.allocator ≡ A.limit_of allocator) }
-        ensures refused { IfErr result (λ e. IsRefusal (A.charged_of allocator) 2104 (A.limit_of allocator) e) }
+        ensures refused { IfErr result (λ e. IsRefusal (A.charged_of allocator) (size_of N256) (A.limit_of allocator) e) }
     {
         Congee::new_with_drainer(alloc, allocator, NoDrain)
     }

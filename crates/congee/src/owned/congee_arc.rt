@@ -1,17 +1,20 @@
 //! The owned tree of shared values.
-ghost use Rattle.std.specs.Prelude.{◌≡◌, ◌↔◌, ◌+◌, ◌^◌, ◌-◌, None, Some, IsSome, IsTrue};
-ghost use Rattle.std.specs.Prelude.{IfOk, IfErr, IfSome, IfNone, OnOk, OnErr};
+ghost use Rattle.std.specs.Prelude.{◌≡◌, ◌↔◌, ◌-◌, None, Some, IsSome, IsTrue};
+ghost use Rattle.std.specs.Prelude.{IfOk, IfErr, IfSome, IfNone, OnErr};
 ghost use Rattle.std.specs.Option.{option_map};
 ghost use Rattle.std.specs.Arc.{arc_value};
 ghost use Rattle.std.specs.FinMap as map;
-ghost use Rattle.congee.specs.owned.Owners.{OwnerAnswers};
-ghost use Rattle.congee.specs.owned.Wanted.{IsRefused, WantsLeaf, gain_of, freed_of, freed_by};
+ghost use Rattle.congee.specs.forms.Forms.{size_of};
+ghost use Rattle.congee.specs.declared.forms.base_node.NodeType.TheVariants.{N256};
+ghost use Rattle.congee.specs.owned.Owners.{OwnerAnswers, OwnerInserts, OwnerRefuses, OwnerModifies};
+ghost use Rattle.congee.specs.owned.Wanted.{WantsLeaf, freed_of, freed_by};
 ghost use Rattle.congee.specs.owned.Ranges.{keys_by};
 ghost use Rattle.judge.specs.declared.journal.Call.TheVariants as call;
 ghost use Rattle.judge.specs.declared.journal.Reply.TheVariants as reply;
 
 use crate::allocator::{DefaultAllocator, OOMError};
 use crate::forms::child::Small;
+use crate::keys::bytes_of_key;
 use crate::owned::arena::{Arena, Stored};
 use judge::{ArcPayload, Payload, Word64};
 use std::alloc::{AllocError, Global};
@@ -90,7 +93,7 @@ impl<K: Word64, V: Drop> CongeeArc<K, V> {
     /// An empty tree. It is refused for want of memory alone.
     pub fn new(alloc: Global) -> Result<Self, OOMError>
         ensures empty { IfOk result (λ t. t.pairs ≡ map.empty) }
-        ensures root { IfOk result (λ t. t.bytes ≡ 2104) }
+        ensures root { IfOk result (λ t. t.bytes ≡ size_of N256) }
         ensures wants { IfOk result (λ t. WantsLeaf t.wants) }
         ensures refused { IfErr result (λ e. e ≡ OOMError.Memory) }
     {
@@ -121,7 +124,7 @@ impl<K: Word64, V: Drop> CongeeArc<K, V> {
         ensures value { IfOk result (λ r. option_map arc_value r ≡ map.get self.now.pairs (K.word key)) }
         ensures refused { OnErr result (IsSome (map.get self.now.pairs (K.word key))) }
     {
-        let bytes = key.to_word().to_be_bytes();
+        let bytes = bytes_of_key(&key);
         match self.arena.get(&bytes) {
             Some(payload) => Ok(Some(another_owner(payload)?)),
             None => Ok(None),
@@ -134,15 +137,12 @@ impl<K: Word64, V: Drop> CongeeArc<K, V> {
         key: K,
         value: Arc<V, Global>,
     ) -> Result<Option<Arc<V, Global>>, (OOMError, Arc<V, Global>)>
-        ensures answers { IfOk result (λ r. OwnerAnswers self.old self.new
+        ensures inserts { IfOk result (λ r. OwnerInserts self.old self.new (K.word key)
             (call.Insert (K.word key) (arc_value value)) (reply.Insert (option_map arc_value r))) }
         ensures back { IfErr result (λ e. arc_value e.1 ≡ arc_value value) }
-        ensures unchanged { OnErr result (self.new ≡ self.old) }
-        ensures absent { OnErr result (map.get self.old.pairs (K.word key) ≡ None) }
-        ensures refused { IfErr result (λ e. IsRefused (map.get self.old.wants (K.word key)) self.old.bytes (2 ^ 64 - 1) e.0) }
-        ensures bytes { OnOk result (self.new.bytes ≡ self.old.bytes + gain_of (map.get self.old.wants (K.word key))) }
+        ensures refused { IfErr result (λ e. OwnerRefuses self.old self.new (K.word key) e.0) }
     {
-        let bytes = key.to_word().to_be_bytes();
+        let bytes = bytes_of_key(&key);
         match self
             .arena
             .insert(self.alloc, &bytes, ArcPayload::new(value))
@@ -154,10 +154,10 @@ impl<K: Word64, V: Drop> CongeeArc<K, V> {
 
     /// Takes a key's value out.
     pub fn remove(&mut self, key: K) -> Option<Arc<V, Global>>
-        ensures answers { OwnerAnswers self.old self.new (call.Remove (K.word key)) (reply.Remove (option_map arc_value result)) }
-        ensures bytes { self.new.bytes + freed_of (map.get self.old.lone (K.word key)) ≡ self.old.bytes }
+        ensures { OwnerModifies self.old self.new (freed_of (map.get self.old.lone (K.word key)))
+            (call.Remove (K.word key)) (reply.Remove (option_map arc_value result)) }
     {
-        let bytes = key.to_word().to_be_bytes();
+        let bytes = bytes_of_key(&key);
         owner_of(self.arena.remove(&bytes))
     }
 
@@ -172,15 +172,15 @@ impl<K: Word64, V: Drop> CongeeArc<K, V> {
         requires { F.IsAlwaysCallable f }
         ensures present { IfOk result (λ r. IfSome r (λ old. (given : _) × (new : _) × (after : F)
             × (arc_value given ≡ arc_value old) × F.step f given new after
-            × OwnerAnswers self.old self.new (call.ComputePresent (K.word key) (option_map arc_value new))
-            (reply.ComputePresent (Some (arc_value old, option_map arc_value new)))
-            × (self.new.bytes + freed_by new (map.get self.old.lone (K.word key)) ≡ self.old.bytes))) }
+            × OwnerModifies self.old self.new (freed_by new (map.get self.old.lone (K.word key)))
+            (call.ComputePresent (K.word key) (option_map arc_value new))
+            (reply.ComputePresent (Some (arc_value old, option_map arc_value new))))) }
         ensures absent { IfOk result (λ r. IfNone r (OwnerAnswers self.old self.new
             (call.ComputePresent (K.word key) None) (reply.ComputePresent None) × (self.new ≡ self.old))) }
         ensures refused { OnErr result (IsSome (map.get self.old.pairs (K.word key))) }
         ensures unchanged { OnErr result (self.new ≡ self.old) }
     {
-        let bytes = key.to_word().to_be_bytes();
+        let bytes = bytes_of_key(&key);
         let given = match self.arena.get(&bytes) {
             Some(payload) => another_owner(payload)?,
             None => return Ok(None),

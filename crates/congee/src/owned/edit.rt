@@ -1,26 +1,29 @@
 //! The changes at the end of a key's way: a value comes in, gives place to another, or goes.
-ghost use Rattle.std.specs.Prelude.{◌≡◌, ◌≢◌, ◌+◌, ℕ, [], ◌∷◌, length, slice_index, take, ◌<◌, ◌≤◌, Some, None, false, IfOk, IfErr, OnOk, OnErr};
+ghost use Rattle.std.specs.Prelude.{◌≡◌, ◌≢◌, ℕ, [], ◌∷◌, length, slice_index, take, ◌<◌, ◌≤◌, Some, None, false, IfErr, OnOk};
 ghost use Rattle.std.specs.FinMap as map;
-ghost use Rattle.slab.specs.Slab.{Updates, get, ContainsKey};
+ghost use Rattle.slab.specs.Slab.{get, ContainsKey};
 ghost use Rattle.congee.specs.Heap.{Below, Nothing, fits, child_for};
-ghost use Rattle.congee.specs.forms.Forms.{children_of, prefix_of};
+ghost use Rattle.congee.specs.forms.Forms.{children_of, size_of};
 ghost use Rattle.congee.specs.owned.Arena.{IsTree, OnWay, Hangs, heap_of};
-ghost use Rattle.congee.specs.owned.Charge.{Balances, Covers, Grows, IsRefusedBy, KeepsLimit};
+ghost use Rattle.congee.specs.owned.Charge.{Covers};
 ghost use Rattle.congee.specs.owned.Sizes.{bytes_of};
-ghost use Rattle.congee.specs.owned.Changes.{MapChange, DiffersAt, IsLeafOf};
-ghost use Rattle.congee.specs.owned.OwnedSteps.{SameNodes, FreshNode, Fills, Forks, IsHeld};
+ghost use Rattle.congee.specs.owned.Changes.{DiffersAt};
+ghost use Rattle.congee.specs.owned.Edits.{Adds, Denies, Frees, Swaps};
+ghost use Rattle.congee.specs.owned.OwnedSteps.{FreshNode, Fills, Forks, IsHeld};
 ghost use Rattle.congee.specs.owned.Wanted.{room_for, free_wants, size_by};
 ghost use Rattle.congee.specs.declared.forms.base_node.Node.{Node as Form};
+ghost use Rattle.congee.specs.declared.forms.base_node.NodeType.TheVariants.{N4};
 
 use crate::allocator::{Allocator, OOMError};
 use crate::forms::child::Child;
 use crate::forms::prefix::MAX_PREFIX_LEN;
+use crate::keys::KEY_BYTES;
 use crate::owned::arena::{Arena, Stored};
 use std::alloc::Global;
 
 /// The first place where a key and a prefix that it lacks differ.
-pub(crate) fn first_apart(key: &[u8; 8], prefix: &[u8]) -> usize
-    requires short { length prefix.now ≤ 7 }
+pub(crate) fn first_apart(key: &[u8; KEY_BYTES], prefix: &[u8]) -> usize
+    requires short { length prefix.now ≤ MAX_PREFIX_LEN }
     requires differs { fits prefix.now key.now ≡ false }
     ensures { DiffersAt key.now prefix.now result }
 {
@@ -33,7 +36,7 @@ pub(crate) fn first_apart(key: &[u8; 8], prefix: &[u8]) -> usize
 
 impl<P: Stored, A: Allocator> Arena<P, A> {
     /// The key's byte at a node.
-    fn byte_at(&self, at: usize, key: &[u8; 8]) -> u8
+    fn byte_at(&self, at: usize, key: &[u8; KEY_BYTES]) -> u8
         requires { ContainsKey self.now.nodes at }
         ensures { result ≡ slice_index key.now (length (heap_of self.now.nodes at).prefix) }
     {
@@ -41,18 +44,16 @@ impl<P: Stored, A: Allocator> Arena<P, A> {
     }
 
     /// Puts another value in the place of the key's.
-    pub(crate) fn replace(&mut self, at: usize, key: &[u8; 8], value: P) -> P
+    pub(crate) fn replace(&mut self, at: usize, key: &[u8; KEY_BYTES], value: P) -> P
         requires tree { IsTree self.old.nodes }
         requires way { OnWay self.old.nodes key.now at }
         requires held { IsHeld self.old.nodes key.now at }
-        ensures tree { IsTree self.new.nodes }
-        ensures change { MapChange self.old.nodes self.new.nodes key.now (Some result) (Some value) }
-        ensures bytes { bytes_of self.new.nodes ≡ bytes_of self.old.nodes }
-        ensures allocator { self.new.allocator ≡ self.old.allocator }
+        ensures { Swaps self.old self.new key.now (Some result) (Some value) }
     {
         let byte = self.byte_at(at, key);
         match self.swap(at, byte, Child::Value(value)) {
             Child::Value(old) => old,
+            // The node holds the key's value at this byte.
             _ => unreachable!(),
         }
     }
@@ -62,22 +63,18 @@ impl<P: Stored, A: Allocator> Arena<P, A> {
         &mut self,
         alloc: Global,
         at: usize,
-        key: &[u8; 8],
+        key: &[u8; KEY_BYTES],
         value: P,
     ) -> Result<(), (OOMError, P)>
         requires tree { IsTree self.old.nodes }
         requires way { OnWay self.old.nodes key.now at }
         requires free { child_for (heap_of self.old.nodes at) key.now ≡ Nothing }
-        requires leaf { length (heap_of self.old.nodes at).prefix ≡ 7 }
+        requires leaf { length (heap_of self.old.nodes at).prefix ≡ MAX_PREFIX_LEN }
         requires covered { Covers A.charged_of self.old }
-        ensures tree { OnOk result (IsTree self.new.nodes) }
-        ensures change { OnOk result (MapChange self.old.nodes self.new.nodes key.now None (Some value)) }
-        ensures same { OnErr result (SameNodes self.old.nodes self.new.nodes) }
-        ensures back { IfErr result (λ e. e.1 ≡ value) }
-        ensures refused { IfErr result (λ e. IsRefusedBy A.charged_of A.limit_of self.old (room_for (heap_of self.old.nodes at)) e.0) }
-        ensures bytes { OnOk result (Grows self.old self.new (room_for (heap_of self.old.nodes at))) }
-        ensures balance { Balances A.charged_of self.old self.new }
-        ensures limit { KeepsLimit A.limit_of self.old self.new }
+        ensures adds { OnOk result (Adds A.charged_of A.limit_of self.old self.new
+            key.now None value (Some (room_for (heap_of self.old.nodes at)))) }
+        ensures refused { IfErr result (Denies A.charged_of A.limit_of self.old self.new
+            key.now value (Some (room_for (heap_of self.old.nodes at)))) }
     {
         if let Err(e) = self.make_room(alloc, at) {
             return Err((e, value));
@@ -88,13 +85,13 @@ impl<P: Stored, A: Allocator> Arena<P, A> {
     }
 
     /// Gives a node that was just made the key's value.
-    fn fill_leaf(&mut self, name: usize, key: &[u8; 8], value: P)
-        requires fresh { FreshNode self.old.nodes name (take 7 key.now) }
+    fn fill_leaf(&mut self, name: usize, key: &[u8; KEY_BYTES], value: P)
+        requires fresh { FreshNode self.old.nodes name (take MAX_PREFIX_LEN key.now) }
         ensures fills { Fills self.old.nodes self.new.nodes name key.now value }
         ensures bytes { bytes_of self.new.nodes ≡ bytes_of self.old.nodes }
         ensures allocator { self.new.allocator ≡ self.old.allocator }
     {
-        self.hang(name, key[7], Child::Value(value));
+        self.hang(name, key[MAX_PREFIX_LEN], Child::Value(value));
     }
 
     /// Hangs a leaf for the key below an inner node that has nothing for it, or hands the value back.
@@ -102,22 +99,18 @@ impl<P: Stored, A: Allocator> Arena<P, A> {
         &mut self,
         alloc: Global,
         at: usize,
-        key: &[u8; 8],
+        key: &[u8; KEY_BYTES],
         value: P,
     ) -> Result<(), (OOMError, P)>
         requires tree { IsTree self.old.nodes }
         requires way { OnWay self.old.nodes key.now at }
         requires free { child_for (heap_of self.old.nodes at) key.now ≡ Nothing }
-        requires inner { length (heap_of self.old.nodes at).prefix < 7 }
+        requires inner { length (heap_of self.old.nodes at).prefix < MAX_PREFIX_LEN }
         requires covered { Covers A.charged_of self.old }
-        ensures tree { OnOk result (IsTree self.new.nodes) }
-        ensures change { OnOk result (MapChange self.old.nodes self.new.nodes key.now None (Some value)) }
-        ensures same { OnErr result (SameNodes self.old.nodes self.new.nodes) }
-        ensures back { IfErr result (λ e. e.1 ≡ value) }
-        ensures refused { IfErr result (λ e. IsRefusedBy A.charged_of A.limit_of self.old (64 ∷ room_for (heap_of self.old.nodes at)) e.0) }
-        ensures bytes { OnOk result (Grows self.old self.new (64 ∷ room_for (heap_of self.old.nodes at))) }
-        ensures balance { Balances A.charged_of self.old self.new }
-        ensures limit { KeepsLimit A.limit_of self.old self.new }
+        ensures adds { OnOk result (Adds A.charged_of A.limit_of self.old self.new
+            key.now None value (Some (size_of N4 ∷ room_for (heap_of self.old.nodes at)))) }
+        ensures refused { IfErr result (Denies A.charged_of A.limit_of self.old self.new
+            key.now value (Some (size_of N4 ∷ room_for (heap_of self.old.nodes at)))) }
     {
         let leaf = match self.make(alloc, &key[..MAX_PREFIX_LEN]) {
             Ok(leaf) => leaf,
@@ -138,21 +131,17 @@ impl<P: Stored, A: Allocator> Arena<P, A> {
         &mut self,
         alloc: Global,
         at: usize,
-        key: &[u8; 8],
+        key: &[u8; KEY_BYTES],
         value: P,
     ) -> Result<(), (OOMError, P)>
         requires tree { IsTree self.old.nodes }
         requires way { OnWay self.old.nodes key.now at }
         requires free { child_for (heap_of self.old.nodes at) key.now ≡ Nothing }
         requires covered { Covers A.charged_of self.old }
-        ensures tree { OnOk result (IsTree self.new.nodes) }
-        ensures change { OnOk result (MapChange self.old.nodes self.new.nodes key.now None (Some value)) }
-        ensures same { OnErr result (SameNodes self.old.nodes self.new.nodes) }
-        ensures back { IfErr result (λ e. e.1 ≡ value) }
-        ensures refused { IfErr result (λ e. IsRefusedBy A.charged_of A.limit_of self.old (free_wants (heap_of self.old.nodes at)) e.0) }
-        ensures bytes { OnOk result (Grows self.old self.new (free_wants (heap_of self.old.nodes at))) }
-        ensures balance { Balances A.charged_of self.old self.new }
-        ensures limit { KeepsLimit A.limit_of self.old self.new }
+        ensures adds { OnOk result (Adds A.charged_of A.limit_of self.old self.new
+            key.now None value (Some (free_wants (heap_of self.old.nodes at)))) }
+        ensures refused { IfErr result (Denies A.charged_of A.limit_of self.old self.new
+            key.now value (Some (free_wants (heap_of self.old.nodes at)))) }
     {
         if self.nodes[at].prefix().len() == MAX_PREFIX_LEN {
             self.add_value(alloc, at, key, value)
@@ -162,19 +151,17 @@ impl<P: Stored, A: Allocator> Arena<P, A> {
     }
 
     /// Takes a value out of a leaf that has others.
-    pub(crate) fn take_value(&mut self, at: usize, key: &[u8; 8]) -> P
+    pub(crate) fn take_value(&mut self, at: usize, key: &[u8; KEY_BYTES]) -> P
         requires tree { IsTree self.old.nodes }
         requires way { OnWay self.old.nodes key.now at }
         requires held { IsHeld self.old.nodes key.now at }
         requires others { (x : Form ℕ P) → get self.old.nodes at ≡ Some x → map.len (children_of x) ≢ 1 }
-        ensures tree { IsTree self.new.nodes }
-        ensures change { MapChange self.old.nodes self.new.nodes key.now (Some result) None }
-        ensures bytes { bytes_of self.new.nodes ≡ bytes_of self.old.nodes }
-        ensures allocator { self.new.allocator ≡ self.old.allocator }
+        ensures { Swaps self.old self.new key.now (Some result) None }
     {
         let byte = self.byte_at(at, key);
         match self.unhang(at, byte) {
             Child::Value(old) => old,
+            // The node holds the key's value at this byte.
             _ => unreachable!(),
         }
     }
@@ -183,14 +170,14 @@ impl<P: Stored, A: Allocator> Arena<P, A> {
     fn fill_fork(
         &mut self,
         name: usize,
-        key: &[u8; 8],
+        key: &[u8; KEY_BYTES],
         common: usize,
         leaf: usize,
         other: u8,
         below: usize,
     )
         requires fresh { FreshNode self.old.nodes name (take common key.now) }
-        requires within { common < 8 }
+        requires within { common < KEY_BYTES }
         requires apart { slice_index key.now common ≢ other }
         ensures forks { Forks self.old.nodes self.new.nodes name (take common key.now) (slice_index key.now common) leaf other below }
         ensures bytes { bytes_of self.new.nodes ≡ bytes_of self.old.nodes }
@@ -207,7 +194,7 @@ impl<P: Stored, A: Allocator> Arena<P, A> {
         alloc: Global,
         at: usize,
         below: usize,
-        key: &[u8; 8],
+        key: &[u8; KEY_BYTES],
         value: P,
     ) -> Result<(), (OOMError, P)>
         requires tree { IsTree self.old.nodes }
@@ -215,14 +202,10 @@ impl<P: Stored, A: Allocator> Arena<P, A> {
         requires hangs { child_for (heap_of self.old.nodes at) key.now ≡ Below below }
         requires differs { fits (heap_of self.old.nodes below).prefix key.now ≡ false }
         requires stands { ContainsKey self.old.nodes below }
-        ensures tree { OnOk result (IsTree self.new.nodes) }
-        ensures change { OnOk result (MapChange self.old.nodes self.new.nodes key.now None (Some value)) }
-        ensures same { OnErr result (SameNodes self.old.nodes self.new.nodes) }
-        ensures back { IfErr result (λ e. e.1 ≡ value) }
-        ensures refused { IfErr result (λ e. IsRefusedBy A.charged_of A.limit_of self.old (64 ∷ 64 ∷ []) e.0) }
-        ensures bytes { OnOk result (Grows self.old self.new (64 ∷ 64 ∷ [])) }
-        ensures balance { Balances A.charged_of self.old self.new }
-        ensures limit { KeepsLimit A.limit_of self.old self.new }
+        ensures adds { OnOk result (Adds A.charged_of A.limit_of self.old self.new
+            key.now None value (Some (size_of N4 ∷ size_of N4 ∷ []))) }
+        ensures refused { IfErr result (Denies A.charged_of A.limit_of self.old self.new
+            key.now value (Some (size_of N4 ∷ size_of N4 ∷ []))) }
     {
         let common = first_apart(key, self.nodes[below].prefix());
         let other = self.nodes[below].prefix()[common];
@@ -245,18 +228,15 @@ impl<P: Stored, A: Allocator> Arena<P, A> {
     }
 
     /// Takes a leaf's only value out, and the leaf with it.
-    pub(crate) fn drop_leaf(&mut self, above: usize, at: usize, key: &[u8; 8]) -> P
+    pub(crate) fn drop_leaf(&mut self, above: usize, at: usize, key: &[u8; KEY_BYTES]) -> P
         requires tree { IsTree self.old.nodes }
         requires way { OnWay self.old.nodes key.now at }
         requires held { IsHeld self.old.nodes key.now at }
         requires hangs { Hangs self.old.nodes key.now above at }
         requires last { (x : Form ℕ P) → get self.old.nodes at ≡ Some x → map.len (children_of x) ≡ 1 }
         requires covered { Covers A.charged_of self.old }
-        ensures tree { IsTree self.new.nodes }
-        ensures change { MapChange self.old.nodes self.new.nodes key.now (Some result) None }
-        ensures balance { Balances A.charged_of self.old self.new }
-        ensures charge { A.charged_of self.new.allocator + size_by (heap_of self.old.nodes at).capacity ≡ A.charged_of self.old.allocator }
-        ensures limit { KeepsLimit A.limit_of self.old self.new }
+        ensures { Frees A.charged_of A.limit_of self.old self.new
+            key.now (Some result) None (size_by (heap_of self.old.nodes at).capacity) }
     {
         let byte = self.byte_at(at, key);
         let last = self.unhang(at, byte);
@@ -266,6 +246,7 @@ impl<P: Stored, A: Allocator> Arena<P, A> {
         self.allocator.deallocate(size);
         match last {
             Child::Value(old) => old,
+            // The leaf's last child is the key's value.
             _ => unreachable!(),
         }
     }

@@ -1,20 +1,22 @@
 //! The calls on an arena as those on a map.
-ghost use Rattle.std.specs.Prelude.{◌≡◌, ◌+◌, ℕ, length, ◌≤◌, Some, None, IfOk, IfErr, OnOk, OnErr};
+ghost use Rattle.std.specs.Prelude.{◌≡◌, ◌+◌, ℕ, List, None, IfOk, IfErr};
 ghost use Rattle.std.specs.Option.{option_copied};
 ghost use Rattle.congee.specs.Heap.{value_at};
+ghost use Rattle.congee.specs.forms.Forms.{size_of};
+ghost use Rattle.congee.specs.declared.forms.base_node.NodeType.TheVariants.{N256};
 ghost use Rattle.congee.specs.owned.Arena.{IsTree, heap_of};
 ghost use Rattle.congee.specs.owned.Levels.{nodes_of};
-ghost use Rattle.congee.specs.owned.Charge.{Balances, Covers, KeepsLimit};
+ghost use Rattle.congee.specs.owned.Charge.{Covers};
+ghost use Rattle.congee.specs.owned.Edits.{Adds, Denies, Frees};
 ghost use Rattle.congee.specs.owned.Sizes.{bytes_of};
 ghost use Rattle.congee.specs.owned.Stats.{root_alone};
-ghost use Rattle.congee.specs.owned.Changes.{MapChange};
-ghost use Rattle.std.specs.Prelude.{List};
-ghost use Rattle.congee.specs.owned.OwnedSteps.{SameNodes, IsRefusal, settled};
-ghost use Rattle.congee.specs.owned.Wanted.{IsRefused, WantsLeaf, gain_of, freed_of, freed_by, wants_at, wants_of, lone_at};
+ghost use Rattle.congee.specs.owned.OwnedSteps.{IsRefusal, settled};
+ghost use Rattle.congee.specs.owned.Wanted.{WantsLeaf, freed_of, freed_by, wants_at, wants_of, lone_at};
 
 use crate::allocator::{Allocator, OOMError};
 use crate::forms::base_node::{Node, NodeType};
 use crate::forms::child::Child;
+use crate::keys::KEY_BYTES;
 use crate::owned::arena::{Arena, Stored};
 use crate::owned::place::Spot;
 use slab::Slab;
@@ -27,10 +29,10 @@ impl<P: Stored, A: Allocator> Arena<P, A> {
         ensures empty { IfOk result (λ t. (key : List ℕ) → value_at (heap_of t.nodes) key ≡ None) }
         ensures nodes { IfOk result (λ t. nodes_of t.nodes ≡ root_alone) }
         ensures wants { IfOk result (λ t. WantsLeaf (wants_of t.nodes)) }
-        ensures bytes { IfOk result (λ t. bytes_of t.nodes ≡ 2104) }
-        ensures charged { IfOk result (λ t. A.charged_of t.allocator ≡ A.charged_of allocator + 2104) }
+        ensures bytes { IfOk result (λ t. bytes_of t.nodes ≡ size_of N256) }
+        ensures charged { IfOk result (λ t. A.charged_of t.allocator ≡ A.charged_of allocator + size_of N256) }
         ensures limit { IfOk result (λ t. A.limit_of t.allocator ≡ A.limit_of allocator) }
-        ensures refused { IfErr result (λ e. IsRefusal (A.charged_of allocator) 2104 (A.limit_of allocator) e) }
+        ensures refused { IfErr result (λ e. IsRefusal (A.charged_of allocator) (size_of N256) (A.limit_of allocator) e) }
     {
         let mut allocator = allocator;
         allocator.allocate(NodeType::N256.size())?;
@@ -45,7 +47,7 @@ impl<P: Stored, A: Allocator> Arena<P, A> {
     }
 
     /// The value at a key.
-    pub(crate) fn get(&self, key: &[u8; 8]) -> Option<&P>
+    pub(crate) fn get(&self, key: &[u8; KEY_BYTES]) -> Option<&P>
         requires { IsTree self.now.nodes }
         ensures { option_copied result ≡ value_at (heap_of self.now.nodes) key.now }
     {
@@ -71,20 +73,15 @@ impl<P: Stored, A: Allocator> Arena<P, A> {
     pub(crate) fn insert(
         &mut self,
         alloc: Global,
-        key: &[u8; 8],
+        key: &[u8; KEY_BYTES],
         value: P,
     ) -> Result<Option<P>, (OOMError, P)>
         requires tree { IsTree self.old.nodes }
         requires covered { Covers A.charged_of self.old }
-        ensures tree { OnOk result (IsTree self.new.nodes) }
-        ensures change { IfOk result (λ before. MapChange self.old.nodes self.new.nodes key.now before (Some value)) }
-        ensures same { OnErr result (SameNodes self.old.nodes self.new.nodes) }
-        ensures back { IfErr result (λ e. e.1 ≡ value) }
-        ensures absent { OnErr result (value_at (heap_of self.old.nodes) key.now ≡ None) }
-        ensures refused { IfErr result (λ e. IsRefused (wants_at (heap_of self.old.nodes) key.now) (A.charged_of self.old.allocator) (A.limit_of self.old.allocator) e.0) }
-        ensures bytes { OnOk result (bytes_of self.new.nodes ≡ bytes_of self.old.nodes + gain_of (wants_at (heap_of self.old.nodes) key.now)) }
-        ensures balance { Balances A.charged_of self.old self.new }
-        ensures limit { KeepsLimit A.limit_of self.old self.new }
+        ensures adds { IfOk result (λ before. Adds A.charged_of A.limit_of self.old self.new
+            key.now before value (wants_at (heap_of self.old.nodes) key.now)) }
+        ensures refused { IfErr result (Denies A.charged_of A.limit_of self.old self.new
+            key.now value (wants_at (heap_of self.old.nodes) key.now)) }
     {
         let place = self.locate(key);
         match place.spot {
@@ -101,14 +98,11 @@ impl<P: Stored, A: Allocator> Arena<P, A> {
     }
 
     /// Takes a key's value out.
-    pub(crate) fn remove(&mut self, key: &[u8; 8]) -> Option<P>
+    pub(crate) fn remove(&mut self, key: &[u8; KEY_BYTES]) -> Option<P>
         requires tree { IsTree self.old.nodes }
         requires covered { Covers A.charged_of self.old }
-        ensures tree { IsTree self.new.nodes }
-        ensures change { MapChange self.old.nodes self.new.nodes key.now result None }
-        ensures bytes { bytes_of self.new.nodes + freed_of (lone_at (heap_of self.old.nodes) key.now) ≡ bytes_of self.old.nodes }
-        ensures balance { Balances A.charged_of self.old self.new }
-        ensures limit { KeepsLimit A.limit_of self.old self.new }
+        ensures { Frees A.charged_of A.limit_of self.old self.new
+            key.now result None (freed_of (lone_at (heap_of self.old.nodes) key.now)) }
     {
         let place = self.locate(key);
         match place.spot {
@@ -124,14 +118,11 @@ impl<P: Stored, A: Allocator> Arena<P, A> {
     }
 
     /// Where the key has a value, puts the new one in its place or takes it out, and gives the one before.
-    pub(crate) fn settle(&mut self, key: &[u8; 8], new: Option<P>) -> Option<P>
+    pub(crate) fn settle(&mut self, key: &[u8; KEY_BYTES], new: Option<P>) -> Option<P>
         requires tree { IsTree self.old.nodes }
         requires covered { Covers A.charged_of self.old }
-        ensures tree { IsTree self.new.nodes }
-        ensures change { MapChange self.old.nodes self.new.nodes key.now result (settled result new) }
-        ensures bytes { bytes_of self.new.nodes + freed_by new (lone_at (heap_of self.old.nodes) key.now) ≡ bytes_of self.old.nodes }
-        ensures balance { Balances A.charged_of self.old self.new }
-        ensures limit { KeepsLimit A.limit_of self.old self.new }
+        ensures { Frees A.charged_of A.limit_of self.old self.new
+            key.now result (settled result new) (freed_by new (lone_at (heap_of self.old.nodes) key.now)) }
     {
         let value = match new {
             None => return self.remove(key),

@@ -1,5 +1,5 @@
 //! The pairs of an arena by ascending keys.
-ghost use Rattle.std.specs.Prelude.{◌≡◌, ◌+◌, ◌^◌, ℕ, ◌<◌, ◌≤◌, [], ◌∷◌, length, take, drop, slice_index, None, OnSome, IfOk, true, MatchOption};
+ghost use Rattle.std.specs.Prelude.{◌≡◌, ◌+◌, ℕ, ◌<◌, ◌≤◌, [], ◌∷◌, length, take, drop, slice_index, None, OnSome, IfOk, true, MatchOption};
 ghost use Rattle.std.specs.FinMap as map;
 ghost use Rattle.congee.specs.Heap.{fits};
 ghost use Rattle.congee.specs.Keys.{key_bytes};
@@ -13,6 +13,7 @@ ghost use Rattle.congee.specs.owned.Ranges.{entries_by, in_range, keys_by};
 use crate::allocator::Allocator;
 use crate::forms::child::Child;
 use crate::forms::prefix::MAX_PREFIX_LEN;
+use crate::keys::{KEY_BYTES, bytes_of_key};
 use crate::owned::arena::{Arena, Stored};
 use crate::owned::edit::first_apart;
 use arrayvec::ArrayVec;
@@ -27,7 +28,7 @@ pub(crate) struct Branch {
 }
 
 /// The nodes of a scan's way from the root down, each below the one before.
-pub(crate) type Cursor = ArrayVec<Branch, 8>;
+pub(crate) type Cursor = ArrayVec<Branch, KEY_BYTES>;
 
 /// The cursor before every pair.
 pub(crate) fn beginning() -> Cursor
@@ -40,11 +41,11 @@ pub(crate) fn beginning() -> Cursor
 
 /// The key of a leaf's pair: the leaf's prefix, and the byte.
 fn key_of(prefix: &[u8], byte: u8) -> u64
-    requires { length prefix.now ≡ 7 }
+    requires { length prefix.now ≡ MAX_PREFIX_LEN }
     ensures begins { fits prefix.now (key_bytes result) ≡ true }
-    ensures ends { slice_index (key_bytes result) 7 ≡ byte }
+    ensures ends { slice_index (key_bytes result) MAX_PREFIX_LEN ≡ byte }
 {
-    let mut bytes = [byte; 8];
+    let mut bytes = [byte; KEY_BYTES];
     for i in 0..MAX_PREFIX_LEN {
         bytes[i] = prefix[i];
     }
@@ -58,7 +59,7 @@ impl<P: Stored, A: Allocator> Arena<P, A> {
         ensures cursor { IsCursor self.now.nodes result.items }
         ensures at { IsAt self.now.nodes result.items key }
     {
-        let bytes = key.to_be_bytes();
+        let bytes = bytes_of_key(&key);
         let mut cursor = Cursor::new();
         let mut at = 0;
         loop {
@@ -99,7 +100,7 @@ impl<P: Stored, A: Allocator> Arena<P, A> {
         requires tree { IsTree self.now.nodes }
         requires cursor { IsCursor self.now.nodes cursor.old.items }
         ensures cursor { IsCursor self.now.nodes cursor.new.items }
-        ensures less { OnSome result (steps_left 8 cursor.new.items < steps_left 8 cursor.old.items) }
+        ensures less { OnSome result (steps_left KEY_BYTES cursor.new.items < steps_left KEY_BYTES cursor.old.items) }
         ensures first { (from : ℕ) → IsAt self.now.nodes cursor.old.items from
             → MatchOption result ((q : ℕ) → from ≤ q → map.get (pairs_of self.now.nodes) q ≡ None)
             (λ r. IsFirst (pairs_of self.now.nodes) from r.0 r.1.now × IsAt self.now.nodes cursor.new.items (r.0 + 1)) }
@@ -226,10 +227,10 @@ impl Listed for (u64, u64) {
 }
 
 /// The key as its eight bytes, the highest first.
-impl Listed for ([u8; 8], u64) {
+impl Listed for ([u8; KEY_BYTES], u64) {
     ghost entry = { λ key value. (key_bytes key, value) };
 
     fn of(key: u64, value: u64) -> Self {
-        (key.to_be_bytes(), value)
+        (bytes_of_key(&key), value)
     }
 }

@@ -1,7 +1,7 @@
 //! How the nodes of a tree are spread over levels and forms.
 ghost use Rattle.std.specs.Prelude.{◌≡◌, ℕ, ◌+◌, ◌*◌, ◌<◌, ◌≤◌, ◌^◌, OnOk, OnErr, vec_len};
 
-use crate::forms::base_node::NodeType;
+use crate::forms::base_node::{N4_SIZE, N16_SIZE, N48_SIZE, N256_SIZE, NodeType};
 use std::alloc::{AllocError, Global};
 use std::fmt;
 
@@ -117,6 +117,7 @@ impl NodeStats {
     }
 }
 
+/// Two counts of nodes and values added; a sum past `u64::MAX` stays there.
 fn sum_of(info: NodeInfo, more: NodeInfo) -> NodeInfo {
     NodeInfo {
         node_count: info.node_count.saturating_add(more.node_count),
@@ -128,6 +129,7 @@ impl LevelStats {
     ghost use Rattle.congee.specs.forms.Forms.{size_of};
     ghost use Rattle.congee.specs.declared.forms.base_node.NodeType.TheVariants.{N4, N16, N48, N256};
 
+    /// The nodes of all forms.
     fn node_count(&self) -> u128
         ensures small { result < 2 ^ 66 }
         ensures sum { result ≡ self.now.n4.node_count + self.now.n16.node_count + self.now.n48.node_count + self.now.n256.node_count }
@@ -138,6 +140,7 @@ impl LevelStats {
             + self.n256.node_count as u128
     }
 
+    /// The children of the nodes of all forms: values or nodes below.
     fn value_count(&self) -> u128
         ensures { result ≡ self.now.n4.value_count + self.now.n16.value_count + self.now.n48.value_count + self.now.n256.value_count }
     {
@@ -152,10 +155,10 @@ impl LevelStats {
         ensures { result ≡ size_of N4 * self.now.n4.node_count + size_of N16 * self.now.n16.node_count
             + size_of N48 * self.now.n48.node_count + size_of N256 * self.now.n256.node_count }
     {
-        64 * self.n4.node_count as u128
-            + 168 * self.n16.node_count as u128
-            + 672 * self.n48.node_count as u128
-            + 2104 * self.n256.node_count as u128
+        N4_SIZE as u128 * self.n4.node_count as u128
+            + N16_SIZE as u128 * self.n16.node_count as u128
+            + N48_SIZE as u128 * self.n48.node_count as u128
+            + N256_SIZE as u128 * self.n256.node_count as u128
     }
 
     /// The children by the places of their nodes' form, in parts of 768.

@@ -10,6 +10,7 @@ ghost use Rattle.congee.specs.owned.Table.{pairs_of};
 
 use crate::allocator::Allocator;
 use crate::forms::child::Child;
+use crate::keys::KEY_BYTES;
 use crate::owned::arena::{Arena, Stored};
 use crate::owned::scan::beginning;
 use crate::owned::stats::NodeStats;
@@ -23,7 +24,7 @@ impl<P: Stored, A: Allocator> Arena<P, A> {
         requires level { level ≤ length (heap_of self.now.nodes at).prefix }
         requires next { level ≤ vec_len stats.old.levels }
         ensures counted { OnOk result ((seen : List Shape) → IsTally stats.old seen 0
-            → IsTally stats.new (seen ++ nodes_from (get self.now.nodes) 8 level at) 0) }
+            → IsTally stats.new (seen ++ nodes_from (get self.now.nodes) KEY_BYTES level at) 0) }
         ensures levels { OnOk result (vec_len stats.old.levels ≤ vec_len stats.new.levels) }
     {
         let node = &self.nodes[at];

@@ -1,18 +1,21 @@
 //! The owned tree whose keys are numbers.
-ghost use Rattle.std.specs.Prelude.{◌≡◌, ◌+◌, ◌↔◌, ◌^◌, ℕ, Option, Some, None, IfOk, IfErr, IfSome, IfNone, IsSome, IsTrue, OnOk, OnErr, nat_eq, length, take, drop};
+ghost use Rattle.std.specs.Prelude.{◌≡◌, ◌+◌, ◌↔◌, ◌^◌, ℕ, Option, Some, None, IfOk, IfErr, IfSome, IfNone, IsSome, IsTrue, OnOk, nat_eq, length, take, drop};
 ghost use Rattle.std.specs.Option.{option_map};
 ghost use Rattle.std.specs.List.{All};
 ghost use Rattle.std.specs.FinMap as map;
-ghost use Rattle.congee.specs.owned.Content.{Answers, KeepsCharge, Unchanged};
+ghost use Rattle.congee.specs.forms.Forms.{size_of};
+ghost use Rattle.congee.specs.declared.forms.base_node.NodeType.TheVariants.{N256};
+ghost use Rattle.congee.specs.owned.Content.{Inserts, IsBare, KeepsCharge, ChangesNothing, Refuses, Modifies};
 ghost use Rattle.congee.specs.owned.Nearest.{IsLeast, IsGreatest, pair_by};
 ghost use Rattle.congee.specs.owned.OwnedSteps.{IsRefusal};
 ghost use Rattle.congee.specs.owned.Ranges.{by_bytes, in_range, keys_by};
-ghost use Rattle.congee.specs.owned.Stats.{HasValue, IsTally, capped, root_alone};
-ghost use Rattle.congee.specs.owned.Wanted.{IsRefused, WantsLeaf, gain_of, freed_of, freed_by};
+ghost use Rattle.congee.specs.owned.Stats.{HasValue, IsTally, capped};
+ghost use Rattle.congee.specs.owned.Wanted.{freed_of, freed_by};
 ghost use Rattle.judge.specs.declared.journal.Call.TheVariants as call;
 ghost use Rattle.judge.specs.declared.journal.Reply.TheVariants as reply;
 
 use crate::allocator::{Allocator, DefaultAllocator, OOMError};
+use crate::keys::KEY_BYTES;
 use crate::owned::congee::Congee;
 use crate::owned::drainer::NoDrain;
 use crate::owned::stats::NodeStats;
@@ -28,13 +31,10 @@ pub struct U64Congee<V, A: Allocator = DefaultAllocator> {
 impl<V: Word64, A: Allocator> U64Congee<V, A> {
     /// An empty tree over the allocator, which its root is charged to. A refused call drops the allocator.
     pub fn new(alloc: Global, allocator: A) -> Result<Self, OOMError>
-        ensures empty { IfOk result (λ t. t.tree.pairs ≡ map.empty) }
-        ensures nodes { IfOk result (λ t. t.tree.nodes ≡ root_alone) }
-        ensures wants { IfOk result (λ t. WantsLeaf t.tree.wants) }
-        ensures root { IfOk result (λ t. t.tree.bytes ≡ 2104) }
-        ensures charged { IfOk result (λ t. A.charged_of t.tree.allocator ≡ A.charged_of allocator + 2104) }
+        ensures bare { IfOk result (λ t. IsBare t.tree) }
+        ensures charged { IfOk result (λ t. A.charged_of t.tree.allocator ≡ A.charged_of allocator + size_of N256) }
         ensures limit { IfOk result (λ t. A.limit_of t.tree.allocator ≡ A.limit_of allocator) }
-        ensures refused { IfErr result (λ e. IsRefusal (A.charged_of allocator) 2104 (A.limit_of allocator) e) }
+        ensures refused { IfErr result (λ e. IsRefusal (A.charged_of allocator) (size_of N256) (A.limit_of allocator) e) }
     {
         Ok(U64Congee {
             tree: Congee::new(alloc, allocator)?,
@@ -50,24 +50,20 @@ impl<V: Word64, A: Allocator> U64Congee<V, A> {
 
     /// Puts a value at a key, and gives the one before. A refused call changes nothing.
     pub fn insert(&mut self, key: u64, value: V) -> Result<Option<V>, OOMError>
-        ensures answers { IfOk result (λ r. (before : Option ℕ) × (r ≡ option_map V.of_word before)
-            × Answers nat_eq self.old.tree self.new.tree (call.Insert key (V.word value)) (reply.Insert before)) }
+        ensures inserts { IfOk result (λ r. (before : Option ℕ) × (r ≡ option_map V.of_word before)
+            × Inserts nat_eq A.charged_of A.limit_of self.old.tree self.new.tree key
+            (call.Insert key (V.word value)) (reply.Insert before)) }
         ensures put { OnOk result (map.get self.new.tree.pairs key ≡ Some (V.word value)) }
-        ensures keeps { KeepsCharge A.charged_of A.limit_of self.old.tree self.new.tree }
-        ensures unchanged { OnErr result (Unchanged self.old.tree self.new.tree) }
-        ensures absent { OnErr result (map.get self.old.tree.pairs key ≡ None) }
-        ensures refused { IfErr result (λ e. IsRefused (map.get self.old.tree.wants key) (A.charged_of self.old.tree.allocator) (A.limit_of self.old.tree.allocator) e) }
-        ensures bytes { OnOk result (self.new.tree.bytes ≡ self.old.tree.bytes + gain_of (map.get self.old.tree.wants key)) }
+        ensures refused { IfErr result (Refuses A.charged_of A.limit_of self.old.tree self.new.tree key) }
     {
         self.tree.insert(key, value)
     }
 
     /// Takes a key's value out.
     pub fn remove(&mut self, key: u64) -> Option<V>
-        ensures answers { (before : Option ℕ) × (result ≡ option_map V.of_word before)
-            × Answers nat_eq self.old.tree self.new.tree (call.Remove key) (reply.Remove before) }
-        ensures bytes { self.new.tree.bytes + freed_of (map.get self.old.tree.lone key) ≡ self.old.tree.bytes }
-        ensures keeps { KeepsCharge A.charged_of A.limit_of self.old.tree self.new.tree }
+        ensures { (before : Option ℕ) × (result ≡ option_map V.of_word before)
+            × Modifies nat_eq A.charged_of A.limit_of self.old.tree self.new.tree (freed_of (map.get self.old.tree.lone key))
+            (call.Remove key) (reply.Remove before) }
     {
         self.tree.remove(&key)
     }
@@ -81,13 +77,11 @@ impl<V: Word64, A: Allocator> U64Congee<V, A> {
     ) -> Option<(u64, Option<u64>)>
         requires { F.IsAlwaysCallable f }
         ensures asked { IfSome result (λ r. (after : F) × F.step f r.0 r.1 after) }
-        ensures present { IfSome result (λ r. Answers nat_eq self.old.tree self.new.tree
+        ensures present { IfSome result (λ r. Modifies nat_eq A.charged_of A.limit_of self.old.tree self.new.tree
+            (freed_by r.1 (map.get self.old.tree.lone key))
             (call.ComputePresent key r.1) (reply.ComputePresent (Some (r.0, r.1)))) }
-        ensures absent { IfNone result (Answers nat_eq self.old.tree self.new.tree
+        ensures absent { IfNone result (ChangesNothing nat_eq A.charged_of A.limit_of self.old.tree self.new.tree
             (call.ComputePresent key None) (reply.ComputePresent None)) }
-        ensures unchanged { IfNone result (Unchanged self.old.tree self.new.tree) }
-        ensures bytes { IfSome result (λ r. self.new.tree.bytes + freed_by r.1 (map.get self.old.tree.lone key) ≡ self.old.tree.bytes) }
-        ensures keeps { KeepsCharge A.charged_of A.limit_of self.old.tree self.new.tree }
     {
         self.tree.compute_if_present(&key, f)
     }
@@ -99,14 +93,11 @@ impl<V: Word64, A: Allocator> U64Congee<V, A> {
         f: F,
     ) -> Result<Option<V>, OOMError>
         requires { F.IsAlwaysCallable f }
-        ensures answers { IfOk result (λ r. (before : Option ℕ) × (value : ℕ)
+        ensures inserts { IfOk result (λ r. (before : Option ℕ) × (value : ℕ)
             × (r ≡ option_map V.of_word before) × (after : F) × F.step f before value after
-            × Answers nat_eq self.old.tree self.new.tree (call.ComputeInsert key value) (reply.ComputeInsert before)) }
-        ensures keeps { KeepsCharge A.charged_of A.limit_of self.old.tree self.new.tree }
-        ensures unchanged { OnErr result (Unchanged self.old.tree self.new.tree) }
-        ensures absent { OnErr result (map.get self.old.tree.pairs key ≡ None) }
-        ensures refused { IfErr result (λ e. IsRefused (map.get self.old.tree.wants key) (A.charged_of self.old.tree.allocator) (A.limit_of self.old.tree.allocator) e) }
-        ensures bytes { OnOk result (self.new.tree.bytes ≡ self.old.tree.bytes + gain_of (map.get self.old.tree.wants key)) }
+            × Inserts nat_eq A.charged_of A.limit_of self.old.tree self.new.tree key
+            (call.ComputeInsert key value) (reply.ComputeInsert before)) }
+        ensures refused { IfErr result (Refuses A.charged_of A.limit_of self.old.tree self.new.tree key) }
     {
         self.tree.compute_or_insert(key, f)
     }
@@ -114,10 +105,7 @@ impl<V: Word64, A: Allocator> U64Congee<V, A> {
     /// Takes every pair out, and every node but the root, whose bytes alone stay charged. The places that the nodes had
     /// stay for those that come next.
     pub fn clear(&mut self)
-        ensures empty { self.new.tree.pairs ≡ map.empty }
-        ensures nodes { self.new.tree.nodes ≡ root_alone }
-        ensures wants { WantsLeaf self.new.tree.wants }
-        ensures bytes { self.new.tree.bytes ≡ 2104 }
+        ensures bare { IsBare self.new.tree }
         ensures keeps { KeepsCharge A.charged_of A.limit_of self.old.tree self.new.tree }
     {
         self.tree.clear();
@@ -207,7 +195,7 @@ impl<V: Word64, A: Allocator> U64Congee<V, A> {
 
     /// Writes the pairs with start <= key < end into `out`, ascending, as many as fit, each key as its eight bytes, the
     /// highest first. Gives their number. The places past them stay as they were.
-    pub fn range(&self, start: u64, end: u64, out: &mut [([u8; 8], u64)]) -> usize
+    pub fn range(&self, start: u64, end: u64, out: &mut [([u8; KEY_BYTES], u64)]) -> usize
         ensures pairs { take result out.new ≡ by_bytes (take (length out.old) (in_range start end (map.entries self.now.tree.pairs))) }
         ensures count { result ≡ length (take (length out.old) (in_range start end (map.entries self.now.tree.pairs))) }
         ensures past { drop result out.new ≡ drop result out.old }

@@ -38,7 +38,7 @@ impl<C: NodeName + Drop, P: Payload> Machine<C, P> {
 
     /// A call of the protocol may take its next step.
     pub fn may_step()
-        ensures { (h : ℕ → Node P) (ms : List (Call C P)) (i : ℕ) (m : Call C P) → Protocol C.number P.same_as P.always_copies h ms → slice_get ms i ≡ Some m → MayStep C.number (key_bytes m.key) m.given m.phase h }
+        ensures { (h : ℕ → Node P) (ms : List (Call C P)) (i : ℕ) (m : Call C P) → Protocol C.number P.same_as P.always_copies h ms → slice_get ms i ≡ Some m → MayStep C.number m.root (key_bytes m.key) m.given m.phase h }
     {}
 
     /// What a step leaves of names and nodes.

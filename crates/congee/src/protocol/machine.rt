@@ -6,7 +6,7 @@ ghost use Rattle.congee.specs.protocol.Names.{KeepsOrigin};
 ghost use Rattle.congee.specs.protocol.Play.{begun, IsNew, Begins};
 ghost use Rattle.congee.specs.protocol.Opening.{RootAlone};
 ghost use Rattle.congee.specs.Keys.{key_bytes};
-ghost use Rattle.congee.specs.protocol.Steps.{quiet, answered, form_above, refused, decided, after_change, after_miss, IsIf, IsChecked, IsAtOld, Acts, IsReleasing, IsGiven, IsGivenNew, BackOne, BackTwo, BackLeaf, MadeLeaf, MadeGreater, MadeTop, MadeBeside, UpgradedOne, UpgradedAbove, UpgradedBelow, value_hung, ChangedOne, ChangedTwo, IsCheckedAbove, MayStep, MayBackOne, MayBackTwo, MayBackLeaf, MayChangeOne, MayChangeTwo, Changeable, Blank, PutsGreater, PutsFork, PhaseStepped, Stepped};
+ghost use Rattle.congee.specs.protocol.Steps.{quiet, answered, form_above, refused, decided, after_change, after_miss, IsIf, IsChecked, IsAtOld, Acts, IsReleasing, IsGiven, IsGivenNew, BackOne, BackTwo, BackLeaf, MadeLeaf, MadeGreater, MadeTop, MadeBeside, UpgradedOne, UpgradedAbove, UpgradedBelow, ChangedOne, ChangedTwo, IsCheckedAbove, MayStep, MayBackOne, MayBackTwo, MayBackLeaf, MayChangeOne, MayChangeTwo, Changeable, Blank, PutsGreater, PutsFork, PhaseStepped, Stepped};
 ghost use Rattle.congee.specs.protocol.Events.{hung, upgrade_gives, HoldsAlike};
 ghost use Rattle.congee.specs.declared.protocol.store.Upgrade.{Upgrade};
 ghost use Rattle.congee.specs.declared.protocol.store.Refusal.{Refusal};
@@ -18,10 +18,11 @@ ghost use Rattle.congee.specs.protocol.Bounds.{Within};
 use crate::forms::base_node::NodeType;
 use crate::forms::child::Child;
 use crate::forms::prefix::MAX_PREFIX_LEN;
+use crate::keys::KEY_BYTES;
 use crate::protocol::op::Op;
 use crate::protocol::phase::{Double, Kind, One, Parent, Phase, Plan, Single, Site, Two};
 use crate::protocol::store::{NodeName, Refusal, Seat, Seen, Store, Upgrade};
-use crate::protocol::turn::Turn;
+use crate::protocol::turn::{Turn, value_child};
 use judge::{Payload, Reply};
 
 /// How a step left its call.
@@ -97,7 +98,7 @@ impl<C: NodeName, P: Payload> Machine<C, P> {
 
     /// The next step of the call.
     pub fn next<S: Store<C, P>>(&mut self, store: &mut S, mut noise: Noise<C, P>) -> Move<P>
-        requires may { MayStep C.number (key_bytes self.old.key) self.old.given self.old.phase (S.heap store.old) }
+        requires may { MayStep C.number self.old.root (key_bytes self.old.key) self.old.given self.old.phase (S.heap store.old) }
         requires within { Within (S.version_max store.old) (S.heap store.old) }
         ensures limit { S.version_max store.new ≡ S.version_max store.old }
         ensures rest { S.rest store.new ≡ S.rest store.old }
@@ -122,7 +123,7 @@ impl<C: NodeName, P: Payload> Machine<C, P> {
         phase: Phase<C, P>,
         noise: &mut Noise<C, P>,
     ) -> Turn<C, P>
-        requires may { MayStep C.number (key_bytes self.old.key) self.old.given phase (S.heap store.old) }
+        requires may { MayStep C.number self.old.root (key_bytes self.old.key) self.old.given phase (S.heap store.old) }
         requires within { Within (S.version_max store.old) (S.heap store.old) }
         ensures root { self.new.root ≡ self.old.root }
         ensures key { self.new.key ≡ self.old.key }
@@ -132,7 +133,9 @@ impl<C: NodeName, P: Payload> Machine<C, P> {
         ensures step { PhaseStepped C.number P.same_as P.always_copies (S.version_max store.old) (S.refuses store.old) self.old.root (key_bytes self.old.key) self.old.kind noise.old.fail noise.old.answer self.old.given phase (S.heap store.old) self.new.given result (S.heap store.new) }
     {
         match phase {
-            Phase::New => Turn::again(self.root),
+            Phase::New => {
+                Turn::after_version(self.root, None, self.root, store.version(self.root))
+            }
             Phase::Version { above, node } => {
                 Turn::after_version(self.root, above, node, store.version(node))
             }
@@ -164,7 +167,7 @@ impl<C: NodeName, P: Payload> Machine<C, P> {
 
     /// The step of a phase that makes, locks or changes nodes, or of a later one.
     fn act<S: Store<C, P>>(&mut self, store: &mut S, phase: Phase<C, P>, fail: bool) -> Turn<C, P>
-        requires may { MayStep C.number (key_bytes self.old.key) self.old.given phase (S.heap store.old) }
+        requires may { MayStep C.number self.old.root (key_bytes self.old.key) self.old.given phase (S.heap store.old) }
         requires acts { Acts phase }
         requires within { Within (S.version_max store.old) (S.heap store.old) }
         ensures root { self.new.root ≡ self.old.root }
@@ -205,7 +208,7 @@ impl<C: NodeName, P: Payload> Machine<C, P> {
 
     /// The step of a phase that marks, hands over or unlocks a node, or of a call that has ended.
     fn leave<S: Store<C, P>>(&self, store: &mut S, phase: Phase<C, P>) -> Turn<C, P>
-        requires may { MayStep C.number (key_bytes self.now.key) self.now.given phase (S.heap store.old) }
+        requires may { MayStep C.number self.now.root (key_bytes self.now.key) self.now.given phase (S.heap store.old) }
         requires leaves { IsReleasing phase }
         requires within { Within (S.version_max store.old) (S.heap store.old) }
         ensures limit { S.version_max store.new ≡ S.version_max store.old }
@@ -350,7 +353,7 @@ impl<C: NodeName, P: Payload> Machine<C, P> {
         above: Parent<C>,
         leaf: Option<C>,
     ) -> Turn<C, P>
-        requires depth { site.depth ≤ 7 }
+        requires depth { site.depth ≤ MAX_PREFIX_LEN }
         requires stands { MayBackLeaf C.number (S.heap store.old) leaf }
         ensures limit { S.version_max store.new ≡ S.version_max store.old }
         ensures rest { S.rest store.new ≡ S.rest store.old }
@@ -386,7 +389,7 @@ impl<C: NodeName, P: Payload> Machine<C, P> {
         common: usize,
         byte: u8,
     ) -> Turn<C, P>
-        requires { common < 7 }
+        requires { common < MAX_PREFIX_LEN }
         ensures limit { S.version_max store.new ≡ S.version_max store.old }
         ensures rest { S.rest store.new ≡ S.rest store.old }
         ensures made { ((r : Result C Refusal) × MadeTop C.number above at common byte (S.heap store.old) (key_bytes self.now.key) r (S.heap store.new) result × IfErr r (S.refuses store.old base.N4)) }
@@ -529,17 +532,13 @@ impl<C: NodeName, P: Payload> Machine<C, P> {
         ensures rest { S.rest store.new ≡ S.rest store.old }
         ensures upgraded { ((u : Upgrade) × (u ≡ upgrade_gives (S.version_max store.old) (S.heap store.old (C.number one.at.node)) one.at.version fail) × UpgradedOne C.number self.now.root one reply (S.heap store.old) u (S.heap store.new) result) }
     {
-        match store.upgrade(one.at, fail) {
-            Upgrade::Locked => Turn::quiet(Phase::ChangeOne { one, reply }),
-            Upgrade::Failed => {
-                give_up_one(store, one.change, reply);
-                Turn::again(self.root)
-            }
-            Upgrade::Exhausted => {
-                give_up_one(store, one.change, reply);
-                Turn::refused(Refusal::Exhausted)
-            }
-        }
+        let refusal = match store.upgrade(one.at, fail) {
+            Upgrade::Locked => return Turn::quiet(Phase::ChangeOne { one, reply }),
+            Upgrade::Failed => None,
+            Upgrade::Exhausted => Some(Refusal::Exhausted),
+        };
+        give_up_one(store, one.change, reply);
+        Turn::unwound(self.root, refusal)
     }
 
     /// Locks the node above, the first of two.
@@ -556,17 +555,13 @@ impl<C: NodeName, P: Payload> Machine<C, P> {
         ensures rest { S.rest store.new ≡ S.rest store.old }
         ensures upgraded { ((u : Upgrade) × (u ≡ upgrade_gives (S.version_max store.old) (S.heap store.old (C.number two.above.seat.node)) two.above.seat.version fail) × UpgradedAbove C.number self.now.root two reply (S.heap store.old) u (S.heap store.new) result) }
     {
-        match store.upgrade(two.seat_above(), fail) {
-            Upgrade::Locked => Turn::quiet(Phase::UpgradeBelow { two, reply }),
-            Upgrade::Failed => {
-                give_up_two(store, two.change, reply);
-                Turn::again(self.root)
-            }
-            Upgrade::Exhausted => {
-                give_up_two(store, two.change, reply);
-                Turn::refused(Refusal::Exhausted)
-            }
-        }
+        let refusal = match store.upgrade(two.seat_above(), fail) {
+            Upgrade::Locked => return Turn::quiet(Phase::UpgradeBelow { two, reply }),
+            Upgrade::Failed => None,
+            Upgrade::Exhausted => Some(Refusal::Exhausted),
+        };
+        give_up_two(store, two.change, reply);
+        Turn::unwound(self.root, refusal)
     }
 
     /// Changes the one locked node, a new leaf being filled before: the call takes effect.
@@ -592,7 +587,7 @@ impl<C: NodeName, P: Payload> Machine<C, P> {
         match change {
             Single::Set => store.change(node, byte, value),
             Single::Link { leaf } => {
-                store.fill(leaf, self.key.to_be_bytes()[7], value);
+                store.fill(leaf, self.key.to_be_bytes()[MAX_PREFIX_LEN], value);
                 store.change(node, byte, Child::Node(leaf));
             }
         }
@@ -625,7 +620,7 @@ impl<C: NodeName, P: Payload> Machine<C, P> {
 fn put_two<C: NodeName, P: Payload, S: Store<C, P>>(
     store: &mut S,
     two: Two<C>,
-    key: &[u8; 8],
+    key: &[u8; KEY_BYTES],
     new: Option<P>,
 )
     requires { MayChangeTwo C.number key.now new two two.change (S.heap store.old) }
@@ -637,13 +632,19 @@ fn put_two<C: NodeName, P: Payload, S: Store<C, P>>(
     let change = two.change;
     match change {
         Double::Unlink => store.change(two.parent(), two.above.byte, Child::Blank),
-        Double::Grow { node: greater } => put_greater(store, two, greater, key[7], value),
+        Double::Grow { node: greater } => put_greater(
+            store,
+            two,
+            greater,
+            key[MAX_PREFIX_LEN],
+            value,
+        ),
         Double::GrowLink {
             node: greater,
             leaf,
             byte,
         } => {
-            store.fill(leaf, key[7], value);
+            store.fill(leaf, key[MAX_PREFIX_LEN], value);
             put_greater(store, two, greater, byte, Child::Node(leaf));
         }
         Double::Split {
@@ -652,7 +653,7 @@ fn put_two<C: NodeName, P: Payload, S: Store<C, P>>(
             common,
             byte,
         } => {
-            store.fill(leaf, key[7], value);
+            store.fill(leaf, key[MAX_PREFIX_LEN], value);
             put_fork(store, two, top, byte, key[common], leaf);
         }
     }
@@ -707,16 +708,6 @@ fn put_fork<C: NodeName, P: Payload, S: Store<C, P>>(
     store.fill(top, byte, Child::Node(at.node));
     store.fill(top, new_byte, Child::Node(leaf));
     store.change(parent, above.byte, Child::Node(top));
-}
-
-/// What hangs where the call puts its value, or takes one out.
-fn value_child<C: NodeName, P: Payload>(new: Option<P>) -> Child<C, P>
-    ensures { hung C.number result ≡ value_hung new }
-{
-    match new {
-        None => Child::Blank,
-        Some(value) => Child::Value(value),
-    }
 }
 
 /// Gives up the change of one node: the node that was made for it goes back, and the reply is dropped.
@@ -777,21 +768,11 @@ fn upgrade_below<C: NodeName, P: Payload, S: Store<C, P>>(
     ensures upgraded { ((u : Upgrade) × (u ≡ upgrade_gives (S.version_max store.old) (S.heap store.old (C.number two.at.node)) two.at.version fail) × UpgradedBelow C.number two reply (S.heap store.old) u (S.heap store.new) result) }
 {
     let node = two.parent();
-    match store.upgrade(two.at, fail) {
-        Upgrade::Locked => Turn::quiet(Phase::ChangeTwo { two, reply }),
-        Upgrade::Failed => {
-            give_up_two(store, two.change, reply);
-            Turn::quiet(Phase::Unwind {
-                node,
-                refusal: None,
-            })
-        }
-        Upgrade::Exhausted => {
-            give_up_two(store, two.change, reply);
-            Turn::quiet(Phase::Unwind {
-                node,
-                refusal: Some(Refusal::Exhausted),
-            })
-        }
-    }
+    let refusal = match store.upgrade(two.at, fail) {
+        Upgrade::Locked => return Turn::quiet(Phase::ChangeTwo { two, reply }),
+        Upgrade::Failed => None,
+        Upgrade::Exhausted => Some(Refusal::Exhausted),
+    };
+    give_up_two(store, two.change, reply);
+    Turn::quiet(Phase::Unwind { node, refusal })
 }

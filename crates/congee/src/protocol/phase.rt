@@ -119,7 +119,7 @@ pub enum Plan<C: NodeName> {
 /// The next step of a call, with what the steps before found out for it.
 #[derive(Drop)]
 pub enum Phase<C: NodeName, P> {
-    /// The call's begin.
+    /// The call's first step: takes the root's version.
     New,
     /// Takes the version of the root or of a child.
     Version {

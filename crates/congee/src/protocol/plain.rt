@@ -11,6 +11,7 @@ ghost use Rattle.congee.specs.protocol.Seeing.{ReadSees, LeastSees};
 
 use crate::forms::base_node::NodeType;
 use crate::forms::child::Child;
+use crate::keys::KEY_BYTES;
 use crate::protocol::machine::Machine;
 use crate::protocol::op::Op;
 use crate::protocol::plain_node::PlainNode;
@@ -46,7 +47,7 @@ impl PlainStore {
         ensures fresh { IfOk result (λ s. FreshRoot (plain_heap s.nodes.items)) }
         ensures within { IfOk result (λ s. Within (2 ^ 64 - 1) (plain_heap s.nodes.items)) }
     {
-        let root = PlainNode::new(alloc, NodeType::N256, &[0; 8], 0)?;
+        let root = PlainNode::new(alloc, NodeType::N256, &[0; KEY_BYTES], 0)?;
         let mut nodes = Vec::with_capacity(alloc, 1)?;
         nodes.push_reserved(root);
         Ok(PlainStore { nodes, room, alloc })
@@ -92,7 +93,7 @@ impl Store<usize, u64> for PlainStore {
     fn read(
         &self,
         at: Seat<usize>,
-        key: &[u8; 8],
+        key: &[u8; KEY_BYTES],
         seen: Option<Seen<usize, u64>>,
     ) -> Reading<usize, u64>
         requires { Stands (plain_heap self.now.nodes.items at.node) }
@@ -145,7 +146,12 @@ impl Store<usize, u64> for PlainStore {
         Upgrade::Locked
     }
 
-    fn make(&mut self, form: NodeType, key: &[u8; 8], length: usize) -> Result<usize, Refusal> {
+    fn make(
+        &mut self,
+        form: NodeType,
+        key: &[u8; KEY_BYTES],
+        length: usize,
+    ) -> Result<usize, Refusal> {
         let name = self.nodes.len();
         if name > self.room {
             return Err(Refusal::Cells);

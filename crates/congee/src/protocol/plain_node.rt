@@ -2,11 +2,13 @@
 ghost use Rattle.std.specs.Prelude.{◌≡◌, ◌≢◌, ℕ, ◌+◌, ◌-◌, ◌^◌, ◌<◌, ◌≤◌, Bool, true, false, List, length, take, IfOk, MatchOption, ◌↔◌};
 ghost use Rattle.congee.specs.Heap.{fits, Nothing, Below};
 ghost use Rattle.congee.specs.protocol.Events.{Parts, hung, ReadGives};
+ghost use Rattle.congee.specs.declared.forms.prefix.TheConstants.{MAX_PREFIX_LEN};
 ghost use Rattle.congee.specs.protocol.Plain.{is_there, count_of, child_at, NamesStay};
 
 use crate::forms::base_node::NodeType;
 use crate::forms::child::Child;
 use crate::forms::prefix::Prefix;
+use crate::keys::KEY_BYTES;
 use crate::protocol::store::{Least, Reading, Seen};
 use std::alloc::{AllocError, Global};
 use std::mem;
@@ -28,13 +30,13 @@ pub struct PlainNode {
     /// Whether it was handed over for its destruction.
     pub retired: bool,
     ghost wide: { length children.items ≡ 256 },
-    ghost short: { length prefix ≤ 7 },
+    ghost short: { length prefix ≤ MAX_PREFIX_LEN },
     ghost next: { locked ≡ true → version < 2 ^ 64 - 1 },
 }
 
 /// The first place at which the prefix isn't the key's beginning.
-pub(crate) fn first_difference(prefix: &[u8], key: &[u8; 8]) -> Option<usize>
-    requires { length prefix.now ≤ 7 }
+pub(crate) fn first_difference(prefix: &[u8], key: &[u8; KEY_BYTES]) -> Option<usize>
+    requires { length prefix.now ≤ MAX_PREFIX_LEN }
     ensures { MatchOption result (fits prefix.now key.now ≡ true) (λ common. Parts prefix.now key.now common) }
 {
     for i in 0..prefix.len() {
@@ -85,6 +87,7 @@ fn only_name(child: &Child<usize, u64>) -> Child<usize, u64>
 {
     match child {
         Child::Node(name) => Child::Node(*name),
+        // A value is no name, and a blank place has none.
         _ => Child::Blank,
     }
 }
@@ -111,10 +114,10 @@ impl PlainNode {
     pub(crate) fn new(
         alloc: Global,
         form: NodeType,
-        key: &[u8; 8],
+        key: &[u8; KEY_BYTES],
         size: usize,
     ) -> Result<Self, AllocError>
-        requires { size ≤ 7 }
+        requires { size ≤ MAX_PREFIX_LEN }
         ensures { IfOk result (λ n. IsFresh n form (take size key.now)) }
     {
         Ok(PlainNode {
@@ -185,7 +188,7 @@ impl PlainNode {
     pub(crate) fn read(
         &self,
         version: u64,
-        key: &[u8; 8],
+        key: &[u8; KEY_BYTES],
         seen: Option<Seen<usize, u64>>,
     ) -> Reading<usize, u64>
         ensures gives { ReadGives (λ n. n) true (plain_node_of (Some self.now)) version key.now result }

@@ -9,6 +9,8 @@ ghost use Rattle.std.specs.Prelude.{IfErr};
 
 use crate::forms::base_node::NodeType;
 use crate::forms::child::Child;
+use crate::forms::prefix::MAX_PREFIX_LEN;
+use crate::keys::KEY_BYTES;
 use judge::Payload;
 
 /// The name of a node: two names are of one node where their numbers are equal.
@@ -132,7 +134,7 @@ pub trait Store<C: NodeName, P: Payload> {
     /// Compares the key with the node's prefix, and looks at the key's byte there. Of a node whose lock word
     /// isn't the one that was taken, what hangs at the byte, whether it is full and how many children it has are what
     /// `seen` says: no child, not full and none where it says nothing.
-    fn read(&self, at: Seat<C>, key: &[u8; 8], seen: Option<Seen<C, P>>) -> Reading<C, P>
+    fn read(&self, at: Seat<C>, key: &[u8; KEY_BYTES], seen: Option<Seen<C, P>>) -> Reading<C, P>
         requires { Stands (heap self.now (C.number at.node)) }
         ensures gives { ReadGives C.number P.always_copies (heap self.now (C.number at.node)) at.version key.now result }
         ensures sees { ReadSees (heap self.now (C.number at.node)) at.version seen result };
@@ -162,8 +164,8 @@ pub trait Store<C: NodeName, P: Payload> {
         ensures gives { UpgradeGives (version_max self.old) (heap self.old) (C.number at.node) at.version fail result (heap self.new) };
 
     /// Makes an empty node of the form, whose prefix is the key's first `length` bytes.
-    fn make(&mut self, form: NodeType, key: &[u8; 8], length: usize) -> Result<C, Refusal>
-        requires { length ≤ 7 }
+    fn make(&mut self, form: NodeType, key: &[u8; KEY_BYTES], length: usize) -> Result<C, Refusal>
+        requires { length ≤ MAX_PREFIX_LEN }
         ensures limit { version_max self.new ≡ version_max self.old }
         ensures rest { rest self.new ≡ rest self.old }
         ensures gives { MakeGives C.number (heap self.old) form key.now length result (heap self.new) }

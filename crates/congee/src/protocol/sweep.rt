@@ -1,11 +1,12 @@
 //! A scan of a tree that others change meanwhile, as a machine that takes one step at a time.
 ghost use Rattle.std.specs.Prelude.{◌≡◌, ◌+◌, ◌*◌, ◌-◌, ◌<◌, ◌≤◌, ◌==◌, length, true, false, cond};
-ghost use Rattle.congee.specs.Heap.{Stands, is_taken};
+ghost use Rattle.congee.specs.Heap.{Stands, is_taken, version_of};
 ghost use Rattle.congee.specs.protocol.Regions.{IsRegion};
 ghost use Rattle.congee.specs.declared.protocol.sweep.Stage.TheVariants as stage;
 ghost use Rattle.congee.specs.protocol.SweepSteps.{whole, is_outside, first_byte, last_byte, pushed, popped, last_of, moved, goes, over, anew, left, entered, filled, begins, new_sweep, IsFollowed, IsFollowedIf, SweepStepped, MayFollow, MaySweep};
 
 use crate::forms::prefix::MAX_PREFIX_LEN;
+use crate::keys::KEY_BYTES;
 use crate::protocol::store::{Least, NodeName, Refusal, Region, Seat, Seen, Store};
 use judge::Payload;
 use std::mem;
@@ -47,7 +48,7 @@ pub struct Path<C: NodeName> {
 /// The next step of a scan.
 #[derive(Drop)]
 pub enum Stage<C: NodeName, P> {
-    /// The call's begin.
+    /// The scan's first step: enters the root, unless it can find nothing.
     New,
     /// Takes the version of the root or of a child.
     Enter { node: C, region: Region },
@@ -101,10 +102,10 @@ impl Region {
 
     /// The keys that begin with a prefix.
     pub fn of(prefix: &[u8]) -> Self
-        requires { length prefix.now ≤ 7 }
+        requires { length prefix.now ≤ MAX_PREFIX_LEN }
         ensures { IsRegion prefix.now result.base result.depth }
     {
-        let mut bytes = [0; 8];
+        let mut bytes = [0; KEY_BYTES];
         for i in 0..prefix.len() {
             bytes[i] = prefix[i];
         }
@@ -116,15 +117,15 @@ impl Region {
 
     /// How many bits a key has behind the byte after the prefix.
     fn shift(self) -> u32
-        requires { self.depth ≤ 7 }
-        ensures { result ≡ 8 * (7 - self.depth) }
+        requires { self.depth ≤ MAX_PREFIX_LEN }
+        ensures { result ≡ 8 * (MAX_PREFIX_LEN - self.depth) }
     {
         8 * (MAX_PREFIX_LEN - self.depth) as u32
     }
 
     /// Whether no key of the range is among them.
     fn is_outside(self, start: u64, end: u64) -> bool
-        requires { self.depth ≤ 7 }
+        requires { self.depth ≤ MAX_PREFIX_LEN }
         ensures { result ≡ is_outside start end self }
     {
         if self.base < end {
@@ -140,7 +141,7 @@ impl Region {
 
     /// The least byte that a key of the range has after the prefix.
     fn first_byte(self, start: u64) -> u8
-        requires { self.depth ≤ 7 }
+        requires { self.depth ≤ MAX_PREFIX_LEN }
         ensures { result ≡ first_byte start self }
     {
         if self.base < start {
@@ -153,7 +154,7 @@ impl Region {
 
     /// The greatest one.
     fn last_byte(self, end: u64) -> u8
-        requires depth { self.depth ≤ 7 }
+        requires depth { self.depth ≤ MAX_PREFIX_LEN }
         requires within { self.base < end }
         ensures { result ≡ last_byte end self }
     {
@@ -165,7 +166,7 @@ impl Region {
 impl<C: NodeName> Path<C> {
     /// Puts a rung at the end. Fewer than eight are there, so the last arm is the eighth place.
     fn push(&mut self, rung: Rung<C>)
-        requires { self.old.len < 8 }
+        requires { self.old.len < KEY_BYTES }
         ensures { self.new ≡ pushed self.old rung }
     {
         match self.len {
@@ -183,7 +184,7 @@ impl<C: NodeName> Path<C> {
 
     /// The last rung. At most eight are there, so the last arm is the eighth.
     fn last(&self) -> Option<Rung<C>>
-        requires { self.now.len ≤ 8 }
+        requires { self.now.len ≤ KEY_BYTES }
         ensures { result ≡ last_of self.now }
     {
         match self.len {
@@ -254,11 +255,11 @@ impl<C: NodeName, P: Payload> Sweep<C, P> {
         root: C,
         seen: &mut Option<Seen<C, P>>,
     ) -> Told<P>
-        requires { MaySweep C.number self.old (S.heap store.now) }
+        requires { MaySweep C.number root self.old (S.heap store.now) }
         ensures { SweepStepped C.number P.always_copies root self.old (S.heap store.now) self.new result }
     {
         match mem::replace(&mut self.stage, Stage::Over) {
-            Stage::New => self.begin(root),
+            Stage::New => self.begin(store, root),
             Stage::Enter { node, region } => self.enter(root, node, region, store.version(node)),
             Stage::Look { rung } => {
                 let last = rung.region.last_byte(self.end);
@@ -310,15 +311,17 @@ impl<C: NodeName, P: Payload> Sweep<C, P> {
         })
     }
 
-    /// Begins at the root. Where the range is empty, or there is no place, the scan is over.
-    fn begin(&mut self, root: C) -> Told<P>
-        ensures { (self.new, result) ≡ begins root self.old }
+    /// Enters the root. Where the range is empty, or there is no place, the scan is over.
+    fn begin<S: Store<C, P>>(&mut self, store: &S, root: C) -> Told<P>
+        requires { Stands (S.heap store.now (C.number root)) }
+        ensures { (self.new, result) ≡ begins root self.old (version_of (S.heap store.now (C.number root))) }
     {
         if self.start < self.end {
             if self.size == 0 {
                 self.stop(Told::Done { count: 0 })
             } else {
-                self.again(root)
+                drop(self.again(root));
+                self.enter(root, root, Region::whole(), store.version(root))
             }
         } else {
             self.stop(Told::Done { count: 0 })
@@ -327,7 +330,7 @@ impl<C: NodeName, P: Payload> Sweep<C, P> {
 
     /// Leaves the node at hand.
     fn leave(&mut self) -> Told<P>
-        requires { self.old.above.len ≤ 8 }
+        requires { self.old.above.len ≤ KEY_BYTES }
         ensures { (self.new, result) ≡ left self.old }
     {
         match self.above.last() {
@@ -345,8 +348,8 @@ impl<C: NodeName, P: Payload> Sweep<C, P> {
     /// Looks at a node that has this version, or leaves it where no key below it is in the range. One that is locked or
     /// was taken out has none, and the scan begins anew.
     fn enter(&mut self, root: C, node: C, region: Region, version: Option<u64>) -> Told<P>
-        requires depth { region.depth ≤ 7 }
-        requires fits { self.old.above.len ≤ 8 }
+        requires depth { region.depth ≤ MAX_PREFIX_LEN }
+        requires fits { self.old.above.len ≤ KEY_BYTES }
         ensures { (self.new, result) ≡ entered root self.old node region version }
     {
         match version {
@@ -374,7 +377,7 @@ impl<C: NodeName, P: Payload> Sweep<C, P> {
         found: Least<C, P>,
     ) -> Told<P>
         requires stands { Stands (S.heap store.now (C.number rung.at.node)) }
-        requires fits { self.old.above.len < 8 }
+        requires fits { self.old.above.len < KEY_BYTES }
         requires room { self.old.count < self.old.size }
         requires may { is_taken (S.heap store.now (C.number rung.at.node)) rung.at.version ≡ true → MayFollow C.number (S.heap store.now) rung found }
         ensures { IsFollowedIf (is_taken (S.heap store.now (C.number rung.at.node)) rung.at.version) C.number (S.heap store.now) root self.old rung found (self.new, result) }
@@ -389,7 +392,7 @@ impl<C: NodeName, P: Payload> Sweep<C, P> {
 
     /// The check after the read succeeded.
     fn follow<S: Store<C, P>>(&mut self, store: &S, rung: Rung<C>, found: Least<C, P>) -> Told<P>
-        requires fits { self.old.above.len < 8 }
+        requires fits { self.old.above.len < KEY_BYTES }
         requires room { self.old.count < self.old.size }
         requires may { MayFollow C.number (S.heap store.now) rung found }
         ensures { IsFollowed C.number (S.heap store.now) self.old rung found (self.new, result) }

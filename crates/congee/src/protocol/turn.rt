@@ -1,6 +1,7 @@
 //! What a step leaves, and where the answers of the store lead.
 ghost use Rattle.std.specs.Prelude.{◌≡◌, ℕ, ◌<◌, ◌⊎◌, Bool, true, false, Option, None, Some};
-ghost use Rattle.congee.specs.protocol.Steps.{quiet, again, answered, finished, refused, decided, asking, adds, asks_new, absent_reply, form_above, after_version, after_read, down, started, ready, plan_here, unless_full, missing, absent, IsAsked, replaced, emptied, is_same, IsAtOld, IsAdded, IsExchanged, IsPresent, IsChecked, after_miss, after_change, greater, unwound, swept, outcome_of};
+ghost use Rattle.congee.specs.protocol.Steps.{quiet, again, answered, finished, refused, decided, asking, adds, asks_new, absent_reply, form_above, after_version, after_read, down, started, ready, plan_here, unless_full, missing, absent, IsAsked, replaced, emptied, is_same, IsAtOld, IsAdded, IsExchanged, IsPresent, IsChecked, after_miss, after_change, greater, unwound, swept, outcome_of, value_hung};
+ghost use Rattle.congee.specs.protocol.Events.{hung};
 
 use crate::forms::base_node::NodeType;
 use crate::forms::child::Child;
@@ -484,7 +485,7 @@ impl<C: NodeName, P: Payload> Turn<C, P> {
         }
     }
 
-    /// After the last lock of an attempt was let go.
+    /// After an attempt was given up: the call begins anew, or is refused.
     pub(crate) fn unwound(root: C, refusal: Option<Refusal>) -> Self
         ensures { result ≡ unwound root refusal }
     {
@@ -492,5 +493,15 @@ impl<C: NodeName, P: Payload> Turn<C, P> {
             None => Turn::again(root),
             Some(refusal) => Turn::refused(refusal),
         }
+    }
+}
+
+/// What hangs where the call puts its value, or takes one out.
+pub(crate) fn value_child<C: NodeName, P: Payload>(new: Option<P>) -> Child<C, P>
+    ensures { hung C.number result ≡ value_hung new }
+{
+    match new {
+        None => Child::Blank,
+        Some(value) => Child::Value(value),
     }
 }

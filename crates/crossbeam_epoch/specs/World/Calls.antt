@@ -4,6 +4,7 @@ use Rattle.std.specs.List.{Contains}
 use Rattle.crossbeam_epoch.specs.declared.world.report.Event.{Event}
 use Rattle.crossbeam_epoch.specs.declared.world.report.Event.TheVariants.{Begin, Go}
 use Rattle.crossbeam_epoch.specs.declared.world.report.Op.{Op}
+use Rattle.crossbeam_epoch.specs.declared.world.report.Outcome.{Outcome}
 use Rattle.crossbeam_epoch.specs.declared.world.report.Outcome.TheVariants.{Running}
 use Rattle.crossbeam_epoch.specs.declared.world.report.Report.{Report}
 use Rattle.crossbeam_epoch.specs.declared.world.report.Step.{Step}
@@ -53,3 +54,7 @@ pub record Extends {T J : Type 0} (names : T → List Name) (s : State T J) (who
   pub kept : (h : List Mark) → Fits h s → Fits (history_after s (call_steps who op (length reports)) reports h) s'
   pub told : (h : List Moment) → Tells names h s → Tells names (moments_after names s (call_steps who op (length reports)) reports h) s'
   pub shown : (log : List Noted) (h : List Mark) → Shows log h s → Shows (log_after (call_steps who op (length reports)) reports log) (history_after s (call_steps who op (length reports)) reports h) s'
+
+-- a whole call, at most 1,000 steps of it; what it answers is how it stands after the last one
+abbrev pub IsWholeCall : {T J : Type 0} → (names : T → List Name) → State T J → (who : ℕ) → Op → Outcome → State T J → Type 0
+IsWholeCall names s who op outcome s' = (reports : List Report) × (newest : Report) × IsCall s who op 1000 reports (Some newest) s' × (outcome ≡ newest.outcome) × Extends names s who op reports s'

@@ -183,8 +183,7 @@ impl<T: Pointable + Drop> Atomic<T> {
         _failure: Ordering,
         guard: &'g Guard<'_, T, J>,
     ) -> Result<Exchanged<'g, T, P>, (Fault, P)>
-        ensures answer { IsExchange (P.tag_bits new % T.ALIGN) T.ALIGN (P.leads_to new guard.now.collector.now.id)
-            (P.leads_elsewhere new guard.now.collector.now.id) (P.is_refusable new guard.now.collector.now.id) P.refused_as current.entry.link new result }
+        ensures answer { IsExchange P.tag_bits T.ALIGN P.leads_to P.leads_elsewhere P.is_refusable P.refused_as guard.now.collector.now.id current.entry.link new result }
         ensures foreign { P.leads_elsewhere new guard.now.collector.now.id ≡ true → IfErr result (λ e. e.0 ≡ Fault.Foreign) × IsErr result }
     {
         if new.is_foreign(guard.collector.id()) {
@@ -204,8 +203,7 @@ impl<T: Pointable + Drop> Atomic<T> {
         failure: Ordering,
         guard: &'g Guard<'_, T, J>,
     ) -> Result<Exchanged<'g, T, P>, (Fault, P)>
-        ensures answer { IsExchange (P.tag_bits new % T.ALIGN) T.ALIGN (P.leads_to new guard.now.collector.now.id)
-            (P.leads_elsewhere new guard.now.collector.now.id) (P.is_refusable new guard.now.collector.now.id) P.refused_as current.entry.link new result }
+        ensures answer { IsExchange P.tag_bits T.ALIGN P.leads_to P.leads_elsewhere P.is_refusable P.refused_as guard.now.collector.now.id current.entry.link new result }
         ensures foreign { P.leads_elsewhere new guard.now.collector.now.id ≡ true → IfErr result (λ e. e.0 ≡ Fault.Foreign) × IsErr result }
     {
         self.compare_exchange(rt, current, new, success, failure, guard)
@@ -220,8 +218,7 @@ impl<T: Pointable + Drop> Atomic<T> {
         order: O,
         guard: &'g Guard<'_, T, J>,
     ) -> Result<Exchanged<'g, T, P>, (Fault, P)>
-        ensures answer { IsExchange (P.tag_bits new % T.ALIGN) T.ALIGN (P.leads_to new guard.now.collector.now.id)
-            (P.leads_elsewhere new guard.now.collector.now.id) (P.is_refusable new guard.now.collector.now.id) P.refused_as current.entry.link new result }
+        ensures answer { IsExchange P.tag_bits T.ALIGN P.leads_to P.leads_elsewhere P.is_refusable P.refused_as guard.now.collector.now.id current.entry.link new result }
         ensures foreign { P.leads_elsewhere new guard.now.collector.now.id ≡ true → IfErr result (λ e. e.0 ≡ Fault.Foreign) × IsErr result }
     {
         self.compare_exchange(rt, current, new, order.success(), order.failure(), guard)
@@ -236,8 +233,7 @@ impl<T: Pointable + Drop> Atomic<T> {
         order: O,
         guard: &'g Guard<'_, T, J>,
     ) -> Result<Exchanged<'g, T, P>, (Fault, P)>
-        ensures answer { IsExchange (P.tag_bits new % T.ALIGN) T.ALIGN (P.leads_to new guard.now.collector.now.id)
-            (P.leads_elsewhere new guard.now.collector.now.id) (P.is_refusable new guard.now.collector.now.id) P.refused_as current.entry.link new result }
+        ensures answer { IsExchange P.tag_bits T.ALIGN P.leads_to P.leads_elsewhere P.is_refusable P.refused_as guard.now.collector.now.id current.entry.link new result }
         ensures foreign { P.leads_elsewhere new guard.now.collector.now.id ≡ true → IfErr result (λ e. e.0 ≡ Fault.Foreign) × IsErr result }
     {
         self.compare_exchange_weak(rt, current, new, order.success(), order.failure(), guard)

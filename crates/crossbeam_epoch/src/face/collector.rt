@@ -1,14 +1,17 @@
 //! The collector.
 
-ghost use Rattle.std.specs.Prelude.{◌≡◌, ◌<◌, ◌≤◌, ◌+◌, ◌&&◌, ℕ, [], nat_eq, IfErr, IfSome, MatchResult};
+ghost use Rattle.std.specs.Prelude.{◌≡◌, ◌<◌, ◌≤◌, ◌+◌, ◌^◌, ◌&&◌, ℕ, [], nat_eq, IfOk, IfErr, IfSome, MatchResult};
 ghost use Rattle.std.specs.Bool.{MatchBool};
 ghost use Rattle.crossbeam_epoch.specs.Limits.{within};
+ghost use Rattle.crossbeam_epoch.specs.Face.Pins.{IsRead};
+ghost use Rattle.crossbeam_epoch.specs.Face.Tokens.{known, IsOf};
 
 use crate::bag::{BAG, BAGS, Bag, Sealed, Work};
-use crate::face::epoch::Words;
 use crate::face::handle::LocalHandle;
 use crate::face::internal::Internal;
+use crate::face::pins::Pins;
 use crate::face::queue::{EXPIRY, Queue};
+use crate::face::seats::Token;
 use crate::face::slots::Slots;
 use crate::fault::Fault;
 use crate::limits::Limits;
@@ -25,6 +28,8 @@ use std::sync::{Mutex, Wait};
 #[derive(Drop)]
 pub struct Collector<T, J: Task = Job> {
     id: u64,
+    /// The epoch and the participants' words.
+    pub(crate) pins: Pins,
     internal: CachePadded<Mutex<Internal<T, J>>>,
 }
 
@@ -37,31 +42,29 @@ impl<T: Drop, J: Task> Collector<T, J> {
         if !limits.is_within() || limits.expiry != EXPIRY {
             return Err(Fault::Limits);
         }
-        match Collector::make(alloc, limits) {
-            Ok(internal) => Ok(Collector::with(id, internal)),
+        match Collector::make(alloc, limits, id) {
+            Ok(collector) => Ok(collector),
             Err(_) => Err(Fault::Memory),
         }
     }
 
-    /// What stands under the lock of a new collector.
-    fn make(alloc: Global, limits: Limits) -> Result<Internal<T, J>, AllocError> {
-        let words = Words::new(alloc, limits.participants, limits.epoch_max)?;
+    /// The collector of this number within these limits.
+    fn make(alloc: Global, limits: Limits, id: u64) -> Result<Self, AllocError>
+        requires { limits.epoch_max ≤ 2 ^ 62 }
+        ensures id { IfOk result (λ c. c.id ≡ id) }
+        ensures words { IfOk result (λ c. (c.pins.places ≡ limits.participants) × (c.pins.epoch_max ≡ limits.epoch_max)) }
+    {
+        let pins = Pins::new(alloc, limits.participants, limits.epoch_max)?;
         let slots = Slots::new(alloc, limits.cells, limits.turn_max)?;
-        Ok(Internal {
-            words,
+        let internal = Internal {
             slots,
             queue: Queue::new(alloc),
-        })
-    }
-
-    /// The collector of this number over what stands under its lock.
-    fn with(id: u64, internal: Internal<T, J>) -> Self
-        ensures { result.id ≡ id }
-    {
-        Collector {
+        };
+        Ok(Collector {
             id,
+            pins,
             internal: CachePadded::new(Mutex::new(internal)),
-        }
+        })
     }
 
     /// The number that tells it from others.
@@ -82,27 +85,27 @@ impl<T: Drop, J: Task> Collector<T, J> {
     pub fn register<R: Wait>(&self, rt: &R) -> Result<LocalHandle<'_, T, J>, Fault>
         ensures { MatchResult result (λ h. (h.collector.now ≡ self.now) × (h.guards ≡ 0) × (h.bag ≡ [])) (λ e. e ≡ Fault.TableFull) }
     {
-        match self.lock().lock(rt).words.claim() {
-            Some(place) => Ok(LocalHandle::new(self, place)),
+        let _others_wait = self.lock().lock(rt);
+        match self.pins.register() {
+            Some((token, place)) => Ok(LocalHandle::new(self, token, place)),
             None => Err(Fault::TableFull),
         }
     }
 
     /// Calls every job that is left. Refused as `Registered(n)` while n handles aren't released; the collector comes back.
     pub fn end(self) -> Result<(), (Fault, Self)>
-        ensures { IfErr result (λ e. (e.1.id ≡ self.id) × ((n : ℕ) × (0 < n) × (e.0 ≡ Fault.Registered n))) }
+        ensures { IfErr result (λ e. (e.1 ≡ self) × ((n : ℕ) × (0 < n) × (e.0 ≡ Fault.Registered n))) }
     {
-        let Collector { id, internal } = self;
-        let internal = internal.into_inner().into_inner();
-        let registered = internal.words.registered();
+        let registered = self.pins.registered();
         if registered > 0 {
-            return Err((Fault::Registered(registered), Collector::with(id, internal)));
+            return Err((Fault::Registered(registered), self));
         }
-        let Internal {
-            words: _,
-            mut slots,
-            queue,
-        } = internal;
+        let Collector {
+            id: _,
+            pins: _,
+            internal,
+        } = self;
+        let Internal { mut slots, queue } = internal.into_inner().into_inner();
         for bag in queue.into_bags() {
             call_left(&mut slots, bag.jobs);
         }
@@ -117,31 +120,27 @@ impl<T: Drop, J: Task> Collector<T, J> {
 
 /// What handles, guards and pointers do under the lock, each in one hold.
 impl<T: Drop, J: Task> Collector<T, J> {
-    /// Pins a place, and answers an epoch that was read after it.
-    pub(crate) fn pin<R: Wait>(&self, rt: &R, place: u32) -> u64 {
-        self.lock().lock(rt).words.pin(place)
+    /// Gives a place up, whose seat this is.
+    pub(crate) fn release<R: Wait>(&self, rt: &R, token: Token, place: u32)
+        requires of { IsOf self.now.pins.words.shared.table_id token }
+        requires own { (place < self.now.pins.places) × ((known token).place ≡ Some place) }
+    {
+        let _others_wait = self.lock().lock(rt);
+        self.pins.release(token, place);
     }
 
-    /// Pins a place anew, and answers an epoch that was read after it.
-    pub(crate) fn repin<R: Wait>(&self, rt: &R, place: u32) -> u64 {
-        self.lock().lock(rt).words.repin(place)
-    }
-
-    /// Takes the pin of a place away.
-    pub(crate) fn unpin<R: Wait>(&self, rt: &R, place: u32) {
-        self.lock().lock(rt).words.unpin(place);
-    }
-
-    /// Gives a place up.
-    pub(crate) fn release<R: Wait>(&self, rt: &R, place: u32) {
-        self.lock().lock(rt).words.release(place);
-    }
-
-    /// Seals and queues these jobs; hands them back where there is no memory.
-    pub(crate) fn seal<R: Wait>(&self, rt: &R, jobs: Bag<J>) -> Result<(), Bag<J>>
+    /// Queues these jobs with a seal, the epoch that this seat saw last; hands them back where there is no memory.
+    pub(crate) fn seal<R: Wait>(
+        &self,
+        rt: &R,
+        _token: &Token,
+        seal: u64,
+        jobs: Bag<J>,
+    ) -> Result<(), Bag<J>>
+        requires { (known _token.now).seen ≡ seal }
         ensures { IfErr result (λ j. j ≡ jobs) }
     {
-        self.lock().lock(rt).seal(jobs)
+        self.lock().lock(rt).queue.push(seal, jobs)
     }
 
     /// Places a value in a free cell; hands it back where none is usable.
@@ -168,43 +167,45 @@ impl<T: Drop, J: Task> Collector<T, J> {
         self.lock().lock(rt).slots.remove(name)
     }
 
-    /// Tries to advance the epoch once, and answers it.
-    fn advance<R: Wait>(&self, rt: &R) -> u64 {
-        self.lock().lock(rt).words.advance()
-    }
-
     /// Takes the front bag off, where it is expired at the epoch that was seen.
     fn take_expired<R: Wait>(&self, rt: &R, seen: u64) -> Option<Sealed<J>>
         ensures { IfSome result (λ b. b.seal + 2 ≤ seen) }
     {
-        self.lock().lock(rt).take_expired(seen)
+        self.lock().lock(rt).queue.pop_expired(seen)
     }
 
     /// Tries to advance the epoch once, then calls the jobs of at most `BAGS` expired bags from the queue's front.
     /// No lock is held while a job runs.
-    pub(crate) fn collect<R: Wait>(&self, rt: &R) {
-        let seen = self.advance(rt);
+    pub(crate) fn collect<R: Wait>(&self, rt: &R, token: &mut Token)
+        requires of { IsOf self.now.pins.words.shared.table_id token.old }
+        ensures of { IsOf self.now.pins.words.shared.table_id token.new }
+        ensures view { known token.new ≡ record (known token.old) { seen = (known token.new).seen; passed = (known token.new).passed } }
+        ensures read { IsRead (known token.old) (known token.new).seen }
+    {
+        let seen = self.pins.advance(token);
         for _ in 0..BAGS {
-            if !self.call_expired(rt, seen) {
+            if !self.call_expired(rt, token, seen) {
                 return;
             }
         }
     }
 
-    /// Calls the jobs of the front bag, where it is expired, and tells whether it was.
-    fn call_expired<R: Wait>(&self, rt: &R, seen: u64) -> bool {
+    /// Calls the jobs of the front bag, where it is expired at the epoch that this seat saw last, and tells whether it was.
+    fn call_expired<R: Wait>(&self, rt: &R, token: &Token, seen: u64) -> bool
+        requires { (known token.now).seen ≡ seen }
+    {
         match self.take_expired(rt, seen) {
             Some(bag) => {
-                self.call_bag(rt, bag, seen);
+                self.call_bag(rt, token, bag);
                 true
             }
             None => false,
         }
     }
 
-    /// Calls the jobs of a bag whose seal is at least two behind the epoch that was seen.
-    fn call_bag<R: Wait>(&self, rt: &R, bag: Sealed<J>, _seen: u64)
-        requires { bag.seal + 2 ≤ _seen }
+    /// Calls the jobs of a bag whose seal is at least two behind the epoch that this seat saw last.
+    fn call_bag<R: Wait>(&self, rt: &R, _token: &Token, bag: Sealed<J>)
+        requires { bag.seal + 2 ≤ (known _token.now).seen }
     {
         let mut jobs = bag.jobs;
         for _ in 0..BAG {

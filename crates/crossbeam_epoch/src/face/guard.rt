@@ -24,6 +24,17 @@ pub struct Guard<'c, T, J: Task = Job> {
 }
 
 impl<'c, T: Drop, J: Task> Guard<'c, T, J> {
+    /// A guard of this place, whose pin was confirmed by this epoch.
+    pub(crate) fn new(collector: &'c Collector<T, J>, seat: Seat, epoch: u64) -> Self
+        ensures { (result.collector ≡ collector.entry) × (result.seat ≡ seat) × (result.epoch ≡ epoch) }
+    {
+        Guard {
+            collector,
+            seat,
+            epoch,
+        }
+    }
+
     /// An epoch that was read after the pin was published.
     pub fn pinned_at(&self) -> u64
         ensures { result ≡ self.now.epoch }

@@ -4,17 +4,22 @@ ghost use Rattle.std.specs.Prelude.{◌≡◌, ◌<◌, ◌≤◌, ◌+◌, ◌-
 ghost use Rattle.std.specs.Prelude.{length, MatchResult, IfOk, IfErr, OnOk};
 ghost use Rattle.std.specs.Bool.{MatchBool};
 ghost use Rattle.crossbeam_epoch.specs.Face.Handle.{owns, with_room};
+ghost use Rattle.crossbeam_epoch.specs.Face.Participant.{IsPinned};
+ghost use Rattle.crossbeam_epoch.specs.Face.Tokens.{known, IsOf, unpinned_view};
 ghost use Rattle.crossbeam_epoch.specs.Face.Pointer.{name_in};
 ghost use Rattle.crossbeam_epoch.specs.Limits.{bag_places};
 
 use crate::bag::{Bag, Entry, Work};
 use crate::face::collector::Collector;
 use crate::face::guard::{Guard, Seat};
+use crate::face::pins::Pin;
+use crate::face::seats::Token;
 use crate::face::shared::Shared;
 use crate::fault::Fault;
 use crate::names::{Name, Pointable};
 use crate::task::{Job, Task};
 use std::fmt::{Debug, Formatter};
+use std::marker::Model;
 use std::sync::Wait;
 use std::{fmt, mem};
 
@@ -24,16 +29,33 @@ use std::{fmt, mem};
 pub struct LocalHandle<'c, T, J: Task = Job> {
     collector: &'c Collector<T, J>,
     seat: Seat,
+    /// Its seat at the words.
+    token: Token,
     /// Guards that are out.
     guards: u16,
-    /// The epoch of the guards that are out.
-    epoch: u64,
+    /// The pin of the guards that are out.
+    pin: Pin,
     bag: Bag<J>,
+}
+
+impl<'c, T, J: Task> Model for LocalHandle<'c, T, J> {
+    ghost use Rattle.std.specs.Prelude.{◌≡◌, ◌<◌};
+    ghost use Rattle.crossbeam_epoch.specs.Face.Participant.{Handle};
+    ghost use Rattle.crossbeam_epoch.specs.Face.Tokens.{known, IsOf, with_guards};
+
+    ghost Value = { Handle T J };
+
+    ghost view = { λ h. record { collector = h.collector; seat = h.seat; guards = h.guards; epoch = h.pin.epoch; bag = h.bag; knows = known h.token } };
+
+    ghost invariant = { λ h. IsOf h.collector.now.pins.words.shared.table_id h.token × (h.seat.place < h.collector.now.pins.places)
+        × (known h.token ≡ with_guards h.guards h.seat.place h.pin.at h.pin.epoch (known h.token).seen (known h.token).passed) };
 }
 
 impl<'c, T: Drop, J: Task> LocalHandle<'c, T, J> {
     /// The handle of a place that was just taken.
-    pub(crate) fn new(collector: &'c Collector<T, J>, place: u32) -> Self
+    pub(crate) fn new(collector: &'c Collector<T, J>, token: Token, place: u32) -> Self
+        requires of { IsOf collector.now.pins.words.shared.table_id token × (place < collector.now.pins.places) }
+        requires unpinned { known token ≡ unpinned_view place (known token).seen (known token).passed }
         ensures collector { result.collector ≡ collector.entry }
         ensures guards { result.guards ≡ 0 }
         ensures bag { result.bag ≡ [] }
@@ -44,8 +66,9 @@ impl<'c, T: Drop, J: Task> LocalHandle<'c, T, J> {
                 collector: collector.id(),
                 place,
             },
+            token,
             guards: 0,
-            epoch: 0,
+            pin: Pin { at: 0, epoch: 0 },
             bag: Bag::new(),
         }
     }
@@ -58,43 +81,42 @@ impl<'c, T: Drop, J: Task> LocalHandle<'c, T, J> {
     }
 
     /// Whether a guard of it is out.
-    pub fn is_pinned<R: Wait>(&self, _rt: &R) -> bool
-        ensures { result ≡ nat_lt 0 self.now.guards }
+    pub fn is_pinned(&self) -> bool
+        ensures value { result ≡ nat_lt 0 self.now.guards }
+        ensures word { IsPinned self.now.guards self.now.epoch self.now.knows }
     {
         self.guards != 0
     }
 
     /// Pins the participant; guards of one handle nest, and go in any order. Refused as `Count` with 65,535 guards out.
-    pub fn pin<R: Wait>(&mut self, rt: &R) -> Result<Guard<'c, T, J>, Fault>
+    /// It takes no lock.
+    pub fn pin(&mut self) -> Result<Guard<'c, T, J>, Fault>
         ensures guard { IfOk result (λ g. (owns self.new.guards self.new.seat g.seat ≡ true) × (g.epoch ≡ self.new.epoch)) }
         ensures counted { MatchResult result
-            (λ _. self.new ≡ record self.old { guards = self.old.guards + 1; epoch = self.new.epoch })
+            (λ _. self.new ≡ record self.old { guards = self.old.guards + 1; epoch = self.new.epoch; knows = self.new.knows })
             (λ e. (e ≡ Fault.Count) × (self.old.guards ≡ 65535) × (self.new ≡ self.old)) }
         ensures nested { 0 < self.old.guards → self.new.epoch ≡ self.old.epoch }
+        ensures word { IsPinned self.new.guards self.new.epoch self.new.knows }
     {
         if self.guards == u16::MAX {
             return Err(Fault::Count);
         }
         if self.guards == 0 {
-            self.epoch = self.collector.pin(rt, self.seat.place);
+            self.pin = self.collector.pins.pin(&mut self.token, self.seat.place);
+            self.guards = 1;
+            return Ok(Guard::new(self.collector, self.seat, self.pin.epoch));
         }
         self.guards += 1;
-        Ok(Guard {
-            collector: self.collector,
-            seat: self.seat,
-            epoch: self.epoch,
-        })
+        Ok(Guard::new(self.collector, self.seat, self.pin.epoch))
     }
 
     /// Spends a guard; the last one takes the pin away. Refused as `Foreign` for another handle's guard, which comes back.
-    pub fn unpin<'d, R: Wait>(
-        &mut self,
-        rt: &R,
-        guard: Guard<'d, T, J>,
-    ) -> Result<(), (Fault, Guard<'d, T, J>)>
-        ensures { MatchResult result
-            (λ _. (owns self.old.guards self.old.seat guard.entry.seat ≡ true) × (self.new ≡ record self.old { guards = self.old.guards - 1 }))
+    /// It takes no lock.
+    pub fn unpin<'d>(&mut self, guard: Guard<'d, T, J>) -> Result<(), (Fault, Guard<'d, T, J>)>
+        ensures state { MatchResult result
+            (λ _. (owns self.old.guards self.old.seat guard.entry.seat ≡ true) × (self.new ≡ record self.old { guards = self.old.guards - 1; knows = self.new.knows }))
             (λ e. (owns self.old.guards self.old.seat guard.entry.seat ≡ false) × (e.0 ≡ Fault.Foreign) × (e.1 ≡ guard.entry) × (self.new ≡ self.old)) }
+        ensures word { IsPinned self.new.guards self.new.epoch self.new.knows }
     {
         if !self.owns(&guard) {
             return Err((Fault::Foreign, guard));
@@ -104,16 +126,19 @@ impl<'c, T: Drop, J: Task> LocalHandle<'c, T, J> {
             seat: _,
             epoch: _,
         } = guard;
-        self.guards -= 1;
-        if self.guards == 0 {
-            self.collector.unpin(rt, self.seat.place);
+        if self.guards > 1 {
+            self.guards -= 1;
+            return Ok(());
         }
+        self.collector.pins.unpin(&mut self.token, self.seat.place);
+        self.guards = 0;
         Ok(())
     }
 
     /// Whether the guard is one of this handle's.
     fn owns(&self, guard: &Guard<'_, T, J>) -> bool
-        ensures { result ≡ owns self.now.guards self.now.seat guard.now.seat }
+        ensures value { result ≡ owns self.now.guards self.now.seat guard.now.seat }
+        ensures out { result ≡ true → 0 < self.now.guards }
     {
         self.guards > 0 && guard.seat == self.seat
     }
@@ -123,7 +148,7 @@ impl<'c, T: Drop, J: Task> LocalHandle<'c, T, J> {
     pub fn release<R: Wait>(mut self, rt: &R) -> Result<(), (Fault, Self)>
         ensures { MatchResult result
             (λ _. self.entry.guards ≡ 0)
-            (λ e. (e.1 ≡ self.entry)
+            (λ e. (e.1 ≡ record self.entry { knows = e.1.knows })
             × MatchBool (nat_lt 0 self.entry.guards) (e.0 ≡ Fault.GuardOut) ((e.0 ≡ Fault.Memory) × (0 < length self.entry.bag))) }
     {
         if self.guards > 0 {
@@ -132,27 +157,39 @@ impl<'c, T: Drop, J: Task> LocalHandle<'c, T, J> {
         if let Err(fault) = self.seal(rt) {
             return Err((fault, self));
         }
-        self.collector.release(rt, self.seat.place);
+        let LocalHandle {
+            collector,
+            seat,
+            token,
+            guards: _,
+            pin: _,
+            bag: _,
+        } = self;
+        collector.release(rt, token, seat.place);
         Ok(())
     }
 
-    /// Tries to advance the epoch once, and calls the jobs of at most eight expired bags.
+    /// Tries to advance the epoch once, and calls the jobs of at most eight expired bags. What it then saw of the epoch
+    /// is, with a guard out, the guard's epoch or one more.
     pub fn collect<R: Wait>(&mut self, rt: &R)
-        ensures { self.new ≡ self.old }
+        ensures same { self.new ≡ record self.old { knows = self.new.knows } }
+        ensures word { IsPinned self.new.guards self.new.epoch self.new.knows }
+        ensures saw { 0 < self.old.guards → (self.old.epoch ≤ self.new.knows.seen) × (self.new.knows.seen ≤ self.old.epoch + 1) }
     {
-        self.collector.collect(rt);
+        self.collector.collect(rt, &mut self.token);
     }
 
-    /// Seals the bag, unless it is empty.
+    /// Seals the bag, unless it is empty, with an epoch that it reads first.
     fn seal<R: Wait>(&mut self, rt: &R) -> Result<(), Fault>
-        ensures ok { OnOk result ((self.new.bag ≡ []) × (self.new ≡ record self.old { bag = self.new.bag })) }
-        ensures err { IfErr result (λ e. (e ≡ Fault.Memory) × (self.new ≡ self.old) × (0 < length self.old.bag)) }
+        ensures ok { OnOk result ((self.new.bag ≡ []) × (self.new ≡ record self.old { bag = self.new.bag; knows = self.new.knows })) }
+        ensures err { IfErr result (λ e. (e ≡ Fault.Memory) × (self.new ≡ record self.old { knows = self.new.knows }) × (0 < length self.old.bag)) }
     {
         if self.bag.is_empty() {
             return Ok(());
         }
         let jobs = mem::replace(&mut self.bag, Bag::new());
-        match self.collector.seal(rt, jobs) {
+        let seal = self.collector.pins.look(&mut self.token);
+        match self.collector.seal(rt, &self.token, seal, jobs) {
             Ok(()) => Ok(()),
             Err(jobs) => {
                 self.bag = jobs;
@@ -163,9 +200,9 @@ impl<'c, T: Drop, J: Task> LocalHandle<'c, T, J> {
 
     /// Makes a place in the bag: a full one is sealed.
     fn make_room<R: Wait>(&mut self, rt: &R) -> Result<(), Fault>
-        ensures ok { OnOk result (self.new ≡ record self.old { bag = self.new.bag }) }
+        ensures ok { OnOk result (self.new ≡ record self.old { bag = self.new.bag; knows = self.new.knows }) }
         ensures bag { OnOk result (self.new.bag ≡ with_room self.old.bag) }
-        ensures err { IfErr result (λ e. (e ≡ Fault.Memory) × (self.new ≡ self.old) × (bag_places ≤ length self.old.bag)) }
+        ensures err { IfErr result (λ e. (e ≡ Fault.Memory) × (self.new ≡ record self.old { knows = self.new.knows }) × (bag_places ≤ length self.old.bag)) }
     {
         if !self.bag.is_full() {
             return Ok(());
@@ -181,9 +218,9 @@ impl<'c, T: Drop, J: Task> LocalHandle<'c, T, J> {
         guard: &Guard<'_, T, J>,
         job: J,
     ) -> Result<(), (Fault, J)>
-        ensures ok { OnOk result ((owns self.old.guards self.old.seat guard.now.seat ≡ true) × (self.new ≡ record self.old { bag = self.new.bag })) }
+        ensures ok { OnOk result ((owns self.old.guards self.old.seat guard.now.seat ≡ true) × (self.new ≡ record self.old { bag = self.new.bag; knows = self.new.knows })) }
         ensures bag { OnOk result (self.new.bag ≡ with_room self.old.bag ++ record { ticket = 0; work = Work.Run job } ∷ []) }
-        ensures err { IfErr result (λ e. (e.1 ≡ job) × (self.new ≡ self.old)
+        ensures err { IfErr result (λ e. (e.1 ≡ job) × (self.new ≡ record self.old { knows = self.new.knows })
             × MatchBool (owns self.old.guards self.old.seat guard.now.seat) ((e.0 ≡ Fault.Memory) × (bag_places ≤ length self.old.bag)) (e.0 ≡ Fault.Foreign)) }
     {
         if !self.owns(guard) {
@@ -203,9 +240,9 @@ impl<'c, T: Drop, J: Task> LocalHandle<'c, T, J> {
         guard: &Guard<'_, T, J>,
         job: J,
     ) -> Result<(), (Fault, J)>
-        ensures ok { OnOk result ((owns self.old.guards self.old.seat guard.now.seat ≡ true) × (self.new ≡ record self.old { bag = self.new.bag })) }
+        ensures ok { OnOk result ((owns self.old.guards self.old.seat guard.now.seat ≡ true) × (self.new ≡ record self.old { bag = self.new.bag; knows = self.new.knows })) }
         ensures bag { OnOk result (self.new.bag ≡ with_room self.old.bag ++ record { ticket = 0; work = Work.Run job } ∷ []) }
-        ensures err { IfErr result (λ e. (e.1 ≡ job) × (self.new ≡ self.old)
+        ensures err { IfErr result (λ e. (e.1 ≡ job) × (self.new ≡ record self.old { knows = self.new.knows })
             × MatchBool (owns self.old.guards self.old.seat guard.now.seat) ((e.0 ≡ Fault.Memory) × (bag_places ≤ length self.old.bag)) (e.0 ≡ Fault.Foreign)) }
     {
         self.defer(rt, guard, job)
@@ -214,8 +251,10 @@ impl<'c, T: Drop, J: Task> LocalHandle<'c, T, J> {
     /// Seals the bag, unless it is empty, and collects. Refused as `Foreign`, or as `Memory`: then nothing was done.
     pub fn flush<R: Wait>(&mut self, rt: &R, guard: &Guard<'_, T, J>) -> Result<(), Fault>
         ensures ok { OnOk result ((owns self.old.guards self.old.seat guard.now.seat ≡ true)
-            × (self.new.bag ≡ []) × (self.new ≡ record self.old { bag = self.new.bag })) }
-        ensures err { IfErr result (λ e. (self.new ≡ self.old)
+            × (self.new.bag ≡ []) × (self.new ≡ record self.old { bag = self.new.bag; knows = self.new.knows })) }
+        ensures saw { OnOk result ((self.old.epoch ≤ self.new.knows.seen) × (self.new.knows.seen ≤ self.old.epoch + 1)) }
+        ensures word { OnOk result (IsPinned self.new.guards self.new.epoch self.new.knows) }
+        ensures err { IfErr result (λ e. (self.new ≡ record self.old { knows = self.new.knows })
             × MatchBool (owns self.old.guards self.old.seat guard.now.seat) ((e ≡ Fault.Memory) × (0 < length self.old.bag)) (e ≡ Fault.Foreign)) }
     {
         if !self.owns(guard) {
@@ -226,13 +265,15 @@ impl<'c, T: Drop, J: Task> LocalHandle<'c, T, J> {
         Ok(())
     }
 
-    /// Pins the participant anew, where this is its only guard. Refused as `Foreign`.
-    pub fn repin<R: Wait>(&mut self, rt: &R, guard: &mut Guard<'_, T, J>) -> Result<(), Fault>
+    /// Pins the participant anew, where this is its only guard and the epoch isn't the one that its word publishes. Refused
+    /// as `Foreign`. It takes no lock.
+    pub fn repin(&mut self, guard: &mut Guard<'_, T, J>) -> Result<(), Fault>
         ensures ok { OnOk result ((owns self.old.guards self.old.seat guard.old.seat ≡ true)
-            × (self.new ≡ record self.old { epoch = self.new.epoch }) × (guard.new ≡ record guard.old { epoch = guard.new.epoch })) }
+            × (self.new ≡ record self.old { epoch = self.new.epoch; knows = self.new.knows }) × (guard.new ≡ record guard.old { epoch = guard.new.epoch })) }
         ensures epoch { OnOk result (MatchBool (nat_eq self.old.guards 1)
-            (guard.new.epoch ≡ self.new.epoch)
+            ((guard.new.epoch ≡ self.new.epoch) × (self.new.knows.seen ≡ self.new.epoch))
             ((self.new.epoch ≡ self.old.epoch) × (guard.new.epoch ≡ guard.old.epoch))) }
+        ensures word { IsPinned self.new.guards self.new.epoch self.new.knows }
         ensures err { IfErr result (λ e. (e ≡ Fault.Foreign) × (owns self.old.guards self.old.seat guard.old.seat ≡ false)
             × (self.new ≡ self.old) × (guard.new ≡ guard.old)) }
     {
@@ -240,16 +281,18 @@ impl<'c, T: Drop, J: Task> LocalHandle<'c, T, J> {
             return Err(Fault::Foreign);
         }
         if self.guards == 1 {
-            self.epoch = self.collector.repin(rt, self.seat.place);
-            guard.epoch = self.epoch;
+            self.pin = self
+                .collector
+                .pins
+                .repin(&mut self.token, self.seat.place, self.pin);
+            guard.epoch = self.pin.epoch;
         }
         Ok(())
     }
 
-    /// Calls `f` while this guard doesn't pin the participant, and pins it anew. Refused as `Foreign`.
-    pub fn repin_after<R: Wait, O, F: FnOnce() -> O>(
+    /// Calls `f` while this guard doesn't pin the participant, and pins it anew. Refused as `Foreign`. It takes no lock.
+    pub fn repin_after<O, F: FnOnce() -> O>(
         &mut self,
-        rt: &R,
         guard: &mut Guard<'_, T, J>,
         f: F,
     ) -> Result<O, Fault>
@@ -257,10 +300,11 @@ impl<'c, T: Drop, J: Task> LocalHandle<'c, T, J> {
         F: Drop,
         requires { F.pre f }
         ensures ok { IfOk result (λ o. (owns self.old.guards self.old.seat guard.old.seat ≡ true) × F.post f o) }
-        ensures state { OnOk result ((self.new ≡ record self.old { epoch = self.new.epoch }) × (guard.new ≡ record guard.old { epoch = guard.new.epoch })) }
+        ensures state { OnOk result ((self.new ≡ record self.old { epoch = self.new.epoch; knows = self.new.knows }) × (guard.new ≡ record guard.old { epoch = guard.new.epoch })) }
         ensures epoch { OnOk result (MatchBool (nat_eq self.old.guards 1)
-            (guard.new.epoch ≡ self.new.epoch)
+            ((guard.new.epoch ≡ self.new.epoch) × (self.new.knows.seen ≡ self.new.epoch))
             ((self.new.epoch ≡ self.old.epoch) × (guard.new.epoch ≡ guard.old.epoch))) }
+        ensures word { IsPinned self.new.guards self.new.epoch self.new.knows }
         ensures err { IfErr result (λ e. (e ≡ Fault.Foreign) × (owns self.old.guards self.old.seat guard.old.seat ≡ false)
             × (self.new ≡ self.old) × (guard.new ≡ guard.old)) }
     {
@@ -270,10 +314,10 @@ impl<'c, T: Drop, J: Task> LocalHandle<'c, T, J> {
         if self.guards > 1 {
             return Ok(f());
         }
-        self.collector.unpin(rt, self.seat.place);
+        self.collector.pins.unpin(&mut self.token, self.seat.place);
         let answer = f();
-        self.epoch = self.collector.pin(rt, self.seat.place);
-        guard.epoch = self.epoch;
+        self.pin = self.collector.pins.pin(&mut self.token, self.seat.place);
+        guard.epoch = self.pin.epoch;
         Ok(answer)
     }
 }
@@ -287,11 +331,11 @@ impl<T: Pointable + Drop, J: Task> LocalHandle<'_, T, J> {
         guard: &Guard<'_, T, J>,
         pointer: Shared<'s, T>,
     ) -> Result<(), (Fault, Shared<'s, T>)>
-        ensures ok { OnOk result ((owns self.old.guards self.old.seat guard.now.seat ≡ true) × (self.new ≡ record self.old { bag = self.new.bag })) }
+        ensures ok { OnOk result ((owns self.old.guards self.old.seat guard.now.seat ≡ true) × (self.new ≡ record self.old { bag = self.new.bag; knows = self.new.knows })) }
         ensures bag { OnOk result (MatchResult (name_in pointer.entry.link.site self.old.collector.now.id)
             (λ n. self.new.bag ≡ with_room self.old.bag ++ record { ticket = 0; work = Work.Remove n } ∷ [])
             (λ e. ⊥)) }
-        ensures err { IfErr result (λ e. (e.1 ≡ pointer.entry) × (self.new ≡ self.old)
+        ensures err { IfErr result (λ e. (e.1 ≡ pointer.entry) × (self.new ≡ record self.old { knows = self.new.knows })
             × MatchBool (owns self.old.guards self.old.seat guard.now.seat)
             (MatchResult (name_in pointer.entry.link.site self.old.collector.now.id) (λ _. (e.0 ≡ Fault.Memory) × (bag_places ≤ length self.old.bag)) (λ f. e.0 ≡ f))
             (e.0 ≡ Fault.Foreign)) }

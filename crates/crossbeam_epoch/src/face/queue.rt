@@ -1,7 +1,7 @@
 //! The queue of sealed bags.
 
 ghost use Rattle.std.specs.Prelude.{◌≡◌, ◌≤◌, ◌+◌, ◌∷◌, [], ◌++◌, is_ok, if◌then◌else◌, IfErr, IfSome, MatchOption, false};
-ghost use Rattle.crossbeam_epoch.specs.Face.Queue.{is_due};
+ghost use Rattle.crossbeam_epoch.specs.Face.Queue.{is_front_expired};
 
 use crate::bag::{Bag, Sealed};
 use crate::task::Task;
@@ -39,8 +39,8 @@ impl<J: Task> Queue<J> {
     }
 
     /// Whether the epoch that was seen is at least two past the seal of the front bag.
-    fn is_due(&self, seen: u64) -> bool
-        ensures { result ≡ is_due (λ b. b.seal) self.now.bags.items seen }
+    fn is_front_expired(&self, seen: u64) -> bool
+        ensures { result ≡ is_front_expired (λ b. b.seal) self.now.bags.items seen }
     {
         match self.bags.front() {
             Some(bag) => seen >= EXPIRY && bag.seal <= seen - EXPIRY,
@@ -52,10 +52,10 @@ impl<J: Task> Queue<J> {
     pub fn pop_expired(&mut self, seen: u64) -> Option<Sealed<J>>
         ensures due { IfSome result (λ b. b.seal + 2 ≤ seen) }
         ensures bags { MatchOption result
-            ((is_due (λ b. b.seal) self.old.bags.items seen ≡ false) × (self.new.bags.items ≡ self.old.bags.items))
+            ((is_front_expired (λ b. b.seal) self.old.bags.items seen ≡ false) × (self.new.bags.items ≡ self.old.bags.items))
             (λ b. self.old.bags.items ≡ b ∷ self.new.bags.items) }
     {
-        if !self.is_due(seen) {
+        if !self.is_front_expired(seen) {
             return None;
         }
         self.bags.pop_front()

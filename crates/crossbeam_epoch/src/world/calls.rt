@@ -4,7 +4,7 @@ ghost use Rattle.std.specs.Prelude.{◌≡◌, true, ◌<◌, ◌≤◌, List, �
 ghost use Rattle.crossbeam_epoch.specs.World.Machine.{place};
 ghost use Rattle.crossbeam_epoch.specs.World.Steps.{after, busy_fault, marks, IsReport, state_after, AreReports, history_after};
 ghost use Rattle.crossbeam_epoch.specs.declared.world.report.Report.{Report};
-ghost use Rattle.crossbeam_epoch.specs.World.Calls.{IsCall, Extends};
+ghost use Rattle.crossbeam_epoch.specs.World.Calls.{IsCall, IsWholeCall, Extends};
 ghost use Rattle.crossbeam_epoch.specs.World.Fits.{Fits};
 ghost use Rattle.crossbeam_epoch.specs.World.History.{Mark};
 ghost use Rattle.crossbeam_epoch.specs.World.Log.{Noted, Stepped, log_after, Shows};
@@ -86,28 +86,28 @@ impl<T: Links + Pointable + Drop, J: Task> World<T, J> {
 
     /// A whole flush: the bag is sealed and queued, and a collection follows. Running only if it isn't over after 1,000 steps.
     pub fn flush(&mut self, who: usize) -> Outcome
-        ensures call { (reports : List Report) × (newest : Report) × IsCall self.old who Op.Flush 1000 reports (Some newest) self.new × (result ≡ newest.outcome) × Extends T.names self.old who Op.Flush reports self.new }
+        ensures call { IsWholeCall T.names self.old who Op.Flush result self.new }
     {
         self.whole(who, Op::Flush)
     }
 
     /// A whole repin: a lone guard is pinned anew at the present epoch.
     pub fn repin(&mut self, who: usize) -> Outcome
-        ensures call { (reports : List Report) × (newest : Report) × IsCall self.old who Op.Repin 1000 reports (Some newest) self.new × (result ≡ newest.outcome) × Extends T.names self.old who Op.Repin reports self.new }
+        ensures call { IsWholeCall T.names self.old who Op.Repin result self.new }
     {
         self.whole(who, Op::Repin)
     }
 
     /// A whole leave: the bag is sealed and queued, and the place is free.
     pub fn release(&mut self, who: usize) -> Outcome
-        ensures call { (reports : List Report) × (newest : Report) × IsCall self.old who Op.Release 1000 reports (Some newest) self.new × (result ≡ newest.outcome) × Extends T.names self.old who Op.Release reports self.new }
+        ensures call { IsWholeCall T.names self.old who Op.Release result self.new }
     {
         self.whole(who, Op::Release)
     }
 
     /// A whole call, at most `MOST` steps of it; answers how it stands after the last one.
     fn whole(&mut self, who: usize, op: Op) -> Outcome
-        ensures call { (reports : List Report) × (newest : Report) × IsCall self.old who op 1000 reports (Some newest) self.new × (result ≡ newest.outcome) × Extends T.names self.old who op reports self.new }
+        ensures call { IsWholeCall T.names self.old who op result self.new }
     {
         match self.call(who, op, MOST) {
             Some(report) => report.outcome,

@@ -1,34 +1,34 @@
 -- What is charged and counted stays what the cells hold, whatever becomes of a node.
 use Rattle.std.proofs.Common.{◌≡◌, ◌≢◌, ℕ, zero, suc, ◌+◌, ◌*◌, ◌^◌, ◌<◌, ◌≤◌, Bool, true, false, List, [], ◌∷◌, ◌++◌, length, get_or, refl, sym, ◌∙◌, ap, subst, inl, inr, ◌⊎◌, arith}
 use Rattle.std.specs.Prelude.{Option, None, Some, is_some, nat_lt, slice_set, if◌then◌else◌, vec_capacity}
-use Rattle.std.proofs.lemmas.Bool.{cases_eq, cases_lt}
+use Rattle.std.proofs.lemmas.Bool.{cases_eq}
 use Rattle.std.proofs.lemmas.Bool.Decides.{nat_tests}
 use Rattle.std.proofs.lemmas.List.{length-set, length_push, get_or-set_same, get_or-set_other}
 use Rattle.crossbeam_epoch.specs.declared.names.Name.{Name}
-use Rattle.crossbeam_epoch.specs.World.Machine.{State, with_store}
-use Rattle.crossbeam_epoch.specs.World.Progress.{Orderly, Moves, EmptiesAt, Empties as EmptiesBy}
+use Rattle.crossbeam_epoch.specs.World.Machine.{State}
+use Rattle.crossbeam_epoch.specs.World.Progress.{Orderly, Moves, Empties as EmptiesBy}
 use Rattle.crossbeam_epoch.specs.declared.world.report.Event.{Event}
 use Rattle.crossbeam_epoch.specs.declared.world.report.Report.{Report}
 use Rattle.crossbeam_epoch.specs.World.Steps.{IsReport, after}
 use Rattle.crossbeam_epoch.specs.World.Store.{Store, Sets, cell_at, value_at, was_given, placed, emptied}
 use Rattle.congee.specs.declared.forms.base_node.NodeType.{NodeType}
 use Rattle.congee.specs.declared.forms.base_node.NodeType.TheVariants.{N4, N16, N48, N256}
-use Rattle.congee.specs.protocol.Events.{BackGives, NewNode, places, SameBut}
+use Rattle.congee.specs.protocol.Events.{BackGives, NewNode, places}
 use Rattle.congee.specs.forms.Forms.{capacity_of, size_of}
-use Rattle.congee.specs.Heap.{Node, Stands, fits}
-use Rattle.joint.specs.declared.shared.counts.Counts.{Counts}
-use Rattle.joint.specs.declared.shared.counts.Tally.{Tally}
-use Rattle.joint.specs.declared.shared.slot.Slot.{Slot}
-use Rattle.joint.specs.declared.shared.slot.Word.{Word}
-use Rattle.joint.specs.shared.Altering.{Alters, Fills, Empties, IsFresh}
-use Rattle.joint.specs.shared.Forest.{Forest, nodes, with_collector, total, size, waits, waiting_size, sizes, waiting, waiting_bytes, IsTally, IsTallied, IsKept, AreWhole, gone_by}
-use Rattle.joint.specs.shared.NameLemmas.{named_number, number_named}
-use Rattle.joint.specs.shared.Names.{number, named}
-use Rattle.joint.specs.shared.Solid.{IsWhole}
-use Rattle.joint.specs.shared.Tallies.{no_tally, tally_at, noted}
-use Rattle.joint.specs.shared.View.{heap, view, node_of}
+use Rattle.congee.specs.Heap.{fits}
+use Rattle.joint.specs.declared.counts.Counts.{Counts}
+use Rattle.joint.specs.declared.counts.Tally.{Tally}
+use Rattle.joint.specs.declared.slot.Slot.{Slot}
+use Rattle.joint.specs.declared.slot.Word.{Word}
+use Rattle.joint.specs.Altering.{Alters, Fills, Empties, IsNewSlot}
+use Rattle.joint.specs.Forest.{Forest, nodes, total, size, waits, waiting_size, sizes, waiting, waiting_bytes, IsTally, IsTallied, IsKept, AreWhole, gone_by}
+use Rattle.joint.specs.NameLemmas.{number_named}
+use Rattle.joint.specs.Names.{number, named}
+use Rattle.joint.specs.Solid.{IsWhole}
+use Rattle.joint.specs.Tallies.{no_tally, tally_at, noted}
+use Rattle.joint.specs.View.{heap, view, node_of}
 use Rattle.joint.proofs.lemmas.Altering.{cell_of, inside, same_or}
-use Rattle.joint.proofs.lemmas.Kept.{same_some, node_here, node_is, orderly_beside}
+use Rattle.joint.proofs.lemmas.Kept.{same_some, node_here, node_is}
 use Rattle.joint.proofs.lemmas.Totals.{counted, emptied_empties, is_open, IsOpen, placed_here, placed_apart, placed_total, placed_long, total_bound, waiting_few, bytes_few}
 
 -- two names of one cell that stand are one
@@ -103,6 +103,7 @@ module _ {P : Type 0} (F F' : Forest P) (k : Counts) (kept : IsKept k F) (orderl
         wide = kept.wide ∙ sym (ap (λ x. length x.cells) st);
         bounded = subst (λ x. length x.cells ≤ x.most) (sym st) kept.bounded;
         few = subst (λ x. x.most ≤ 16777215) (sym st) kept.few;
+        used = subst (λ x. (i : ℕ) → i < length x.cells → 1 ≤ (cell_at x i).turns) (sym st) kept.used;
         turns = subst (λ x. (i : ℕ) → (cell_at x i).turns ≤ x.turn_max + 1) (sym st) kept.turns;
         last = subst (λ x. x.turn_max < 2 ^ 32) (sym st) kept.last;
         roomy = subst (λ x. x.most ≤ vec_capacity k.tallies) (sym st) kept.roomy;
@@ -140,6 +141,7 @@ module _ {P : Type 0} (F F' : Forest P) (k : Counts) (kept : IsKept k F) (orderl
           wide = ap (λ v. length v.items) tallies ∙ kept.wide ∙ sym em.wide;
           bounded = omega (arith, kept.bounded, em.wide, em.most);
           few = omega (arith, kept.few, em.most);
+          used = λ i l. (let p = kept.used i (omega (arith, l, em.wide)) in omega (arith, p, em.turns i));
           turns = λ i. (let p = kept.turns i in omega (arith, p, em.turns i, em.turn_max));
           last = omega (arith, kept.last, em.turn_max);
           roomy = (let z : vec_capacity k'.tallies ≡ vec_capacity k.tallies = ap vec_capacity tallies in omega (arith, z, kept.roomy, em.most));
@@ -234,6 +236,18 @@ module _ {P : Type 0} (F F' : Forest P) (k : Counts) (kept : IsKept k F) (orderl
           | inr ne ↦ (let z : (cell_at (placed st n s) i).turns ≡ (cell_at st i).turns = ap (λ c. c.turns) (placed_apart st n s fills.next i ne) in let p = kept.turns i in omega (arith, a, b, z, p))
         ]
 
+    used_in : (i : ℕ) → i < length st'.cells → 1 ≤ (cell_at st' i).turns
+    used_in i l =
+        let a : (cell_at st' i).turns ≡ (cell_at (placed st n s) i).turns = ap (λ y. (cell_at y i).turns) fills.state in
+        let b : length st'.cells ≡ length (placed st n s).cells = ap (λ y. length y.cells) fills.state in
+        elim (cases_eq i n.cell) [
+          | inl q ↦ (let z : (cell_at (placed st n s) i).turns ≡ n.turn + 1 = ap (λ j. (cell_at (placed st n s) j).turns) q ∙ ap (λ c. c.turns) (placed_here st n s fills.next) in omega (arith, a, z))
+          | inr ne ↦ (
+              let z : (cell_at (placed st n s) i).turns ≡ (cell_at st i).turns = ap (λ c. c.turns) (placed_apart st n s fills.next i ne) in
+              let low : i < length st.cells = elim (placed_long st n s fills.next) [ inl x ↦ omega (arith, l, b, x.0) | inr x ↦ omega (arith, l, b, x.0, x.1, ne) ] in
+              let p = kept.used i low in omega (arith, a, z, p))
+        ]
+
     pub kept_filled : IsKept k' F'
     kept_filled =
         let e0 : sizes st' ≡ sizes st + size s = total_is size in
@@ -266,6 +280,7 @@ module _ {P : Type 0} (F F' : Forest P) (k : Counts) (kept : IsKept k F) (orderl
           wide = same_long;
           bounded = fewer;
           few = omega (arith, kept.few, most);
+          used = used_in;
           turns = turns_in;
           last = omega (arith, kept.last, last);
           roomy = omega (arith, kept.roomy, most, room);
@@ -321,6 +336,7 @@ module _ {P : Type 0} (F F' : Forest P) (k : Counts) (kept : IsKept k F) (orderl
           wide = ap length tallies ∙ length-set k.tallies.items n.cell marked ∙ kept.wide ∙ sym alters.wide;
           bounded = omega (arith, kept.bounded, alters.wide, alters.most);
           few = omega (arith, kept.few, alters.most);
+          used = λ i l. (let p = kept.used i (omega (arith, l, alters.wide)) in omega (arith, p, alters.turns i));
           turns = λ i. (let p = kept.turns i in omega (arith, p, alters.turns i, alters.turn_max));
           last = omega (arith, kept.last, alters.turn_max);
           roomy = omega (arith, kept.roomy, alters.most, room);
@@ -375,7 +391,7 @@ gone_node {P} F G view_is n s st' em =
 
 -- a new node
 pub new_node : {P : Type 0} (F G : Forest P) (view_is : F ≡ G) (n : Name) (s : Slot P) (st' : Store (Slot P)) (form : NodeType) (prefix key : List ℕ) (size : ℕ)
-    → Fills F.collector.store n s st' → IsFresh s form prefix → fits prefix key ≡ true → length prefix ≡ size → NewNode (nodes G) (number n) form key size (heap st')
+    → Fills F.collector.store n s st' → IsNewSlot s form prefix → fits prefix key ≡ true → length prefix ≡ size → NewNode (nodes G) (number n) form key size (heap st')
 new_node {P} F G view_is n s st' form prefix key size fills fresh fit long =
     let q : heap st' (number n) ≡ node_of s = node_is st' n s fills.sets.value in
     let z : nodes G (number n) ≡ view {P = P} false None = ap (λ x. nodes x (number n)) (sym view_is) ∙ node_here F.collector.store n ∙ ap (λ b. view b (value_at F.collector.store n)) fills.ungiven ∙ ap (λ v. view false v) fills.vacant in

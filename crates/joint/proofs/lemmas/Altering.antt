@@ -1,6 +1,6 @@
 -- A value that is taken out, changed and put back.
 use Rattle.std.proofs.Common.{◌≡◌, ◌≢◌, ℕ, ◌+◌, ◌==◌, ◌<◌, Bool, true, false, length, refl, sym, ◌∙◌, ap, subst, inl, inr, ◌⊎◌, arith}
-use Rattle.std.specs.Prelude.{Option, None, Some, is_some, if◌then◌else◌, slice_set}
+use Rattle.std.specs.Prelude.{Option, None, Some, is_some, if◌then◌else◌}
 use Rattle.std.proofs.lemmas.Bool.{cases_eq, cases_lt, eqb-true}
 use Rattle.std.proofs.lemmas.Bool.Decides.{nat_tests}
 use Rattle.std.proofs.lemmas.List.{get_or_past, get_or-set_same, get_or-set_other}
@@ -9,8 +9,8 @@ use Rattle.std.proofs.Math.ListN.{length-set}
 use Rattle.crossbeam_epoch.specs.declared.world.cells.Cell.{Cell}
 use Rattle.crossbeam_epoch.specs.declared.names.Name.{Name}
 use Rattle.crossbeam_epoch.specs.World.Store.{Store, Sets, fresh, cell_at, value_in, value_at, was_given, replaced}
-use Rattle.joint.specs.shared.Altering.{Alters, Exchanges}
-use Rattle.joint.specs.shared.Forest.{of_value, of_cell, total}
+use Rattle.joint.specs.Altering.{Alters, Exchanges}
+use Rattle.joint.specs.Forest.{of_value, of_cell, total}
 
 under : {T : Type 0} (b : Bool) (x : Option T) (v : T) → (if b then x else None) ≡ Some v → (b ≡ true) × (x ≡ Some v)
 under true x v e = (refl, e)

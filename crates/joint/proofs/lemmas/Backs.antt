@@ -8,9 +8,9 @@ use Rattle.crossbeam_epoch.specs.World.Machine.{State}
 use Rattle.crossbeam_epoch.specs.World.History.{Mark, WasDeferred}
 use Rattle.crossbeam_epoch.specs.World.Store.{value_at, was_given}
 use Rattle.crossbeam_epoch.specs.World.Reach.{Act, Quiet, Marked, GivenBack, Moment, marks_of, IsIn, WasIn, WasLive, Visible, EntersLive, IsDestruction, DestructionsTold, IsCareful, links_of, IsNow}
-use Rattle.joint.specs.shared.Names.{number}
-use Rattle.joint.specs.shared.Laws.{CellLaws}
-use Rattle.joint.specs.shared.NameLemmas.{same_name}
+use Rattle.joint.specs.Names.{number}
+use Rattle.joint.specs.Laws.{CellLaws}
+use Rattle.joint.specs.NameLemmas.{same_name}
 use Rattle.joint.proofs.lemmas.Reaching.{Reaches, was_in}
 
 abbrev of_gift : Name → Act → Name

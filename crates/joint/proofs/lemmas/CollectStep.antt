@@ -10,12 +10,12 @@ use Rattle.congee.specs.protocol.Answers.{SameMap}
 use Rattle.congee.specs.protocol.Bounds.{Within}
 use Rattle.congee.specs.protocol.Destroys.{Destroys}
 use Rattle.congee.specs.protocol.Play.{Settled}
-use Rattle.joint.specs.declared.shared.id.Id.{Id}
-use Rattle.joint.specs.declared.shared.slot.Slot.{Slot}
-use Rattle.joint.specs.shared.Forest.{Forest, nodes, IsBeside, IsCharged}
-use Rattle.joint.specs.shared.Laws.{CellLaws, CallLaws}
-use Rattle.joint.specs.shared.Machines.{slot_names, IsSafe, Rests, Collected}
-use Rattle.joint.specs.shared.View.{view, id_number}
+use Rattle.joint.specs.declared.id.Id.{Id}
+use Rattle.joint.specs.declared.slot.Slot.{Slot}
+use Rattle.joint.specs.Forest.{Forest, nodes, IsBeside, IsCharged}
+use Rattle.joint.specs.Laws.{CellLaws, CallLaws}
+use Rattle.joint.specs.Machines.{slot_names, IsSafe, Rests, Collected}
+use Rattle.joint.specs.View.{view, id_number}
 use Rattle.joint.proofs.lemmas.Collected.{collected, destroys, spares_all}
 use Rattle.joint.proofs.lemmas.SlotViews.{slot_view}
 

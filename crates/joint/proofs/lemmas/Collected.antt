@@ -1,5 +1,5 @@
 -- A step of the collector destroys no node that a call has, and leaves tree, calls and history sound.
-use Rattle.std.proofs.Common.{◌≡◌, ◌≢◌, ◌<◌, arith, ℕ, Bool, true, false, List, [], ◌∷◌, refl, sym, ◌∙◌, ap, subst, inl, inr, ◌⊎◌}
+use Rattle.std.proofs.Common.{◌≡◌, ◌≢◌, ◌<◌, arith, ℕ, Bool, true, false, List, ◌∷◌, refl, sym, ◌∙◌, ap, subst, inl, inr, ◌⊎◌}
 use Rattle.std.specs.Prelude.{Option, None, Some, is_some, slice_get}
 use Rattle.std.specs.List.{Contains}
 use Rattle.std.proofs.lemmas.Bool.{cases_eq}
@@ -9,11 +9,10 @@ use Rattle.crossbeam_epoch.specs.declared.names.Ptr.{Ptr}
 use Rattle.crossbeam_epoch.specs.declared.world.participant.Participant.{Participant}
 use Rattle.crossbeam_epoch.specs.World.Machine.{State, place}
 use Rattle.crossbeam_epoch.specs.World.History.{began, WasDeferred}
-use Rattle.crossbeam_epoch.specs.World.Progress.{Orderly, Moves, Empties, EmptiesAt}
+use Rattle.crossbeam_epoch.specs.World.Progress.{Moves, Empties, EmptiesAt}
 use Rattle.crossbeam_epoch.specs.World.Reach.{Act, GivenBack, Moment, marks_of, InReach, IsIn, IsBy, WasIn, Visible, IsCareful, links_of, links_in, moment, Tells}
 use Rattle.crossbeam_epoch.specs.World.Store.{Store, Sets, value_at, was_given, emptied}
 use Rattle.congee.specs.declared.protocol.machine.Machine.{Machine}
-use Rattle.congee.specs.declared.protocol.phase.Phase.{Phase}
 use Rattle.congee.specs.declared.protocol.phase.Phase.TheVariants.{Ended}
 use Rattle.congee.specs.Heap.{Node, Stands}
 use Rattle.congee.specs.protocol.Handing.{InTree}
@@ -22,12 +21,12 @@ use Rattle.congee.specs.protocol.Names.{names}
 use Rattle.congee.specs.protocol.Answers.{SameMap}
 use Rattle.congee.specs.protocol.Play.{Settled}
 use Rattle.congee.specs.protocol.Destroys.{Lost, Destroys}
-use Rattle.joint.specs.shared.Names.{number, named}
-use Rattle.joint.specs.shared.Heap.{IsView, node_at, heap_of}
-use Rattle.joint.specs.shared.Laws.{CellLaws, CallLaws}
-use Rattle.joint.specs.shared.Sound.{Guards, Sound}
+use Rattle.joint.specs.Names.{number, named}
+use Rattle.joint.specs.Heap.{IsView, node_at, heap_of}
+use Rattle.joint.specs.Laws.{CellLaws, CallLaws}
+use Rattle.joint.specs.Sound.{Guards, Sound}
 use Rattle.joint.proofs.lemmas.Guarded.{deferred_on, pinned_stretch, ended_guards, no_names}
-use Rattle.joint.specs.shared.NameLemmas.{number_named, same_name}
+use Rattle.joint.specs.NameLemmas.{number_named, same_name}
 use Rattle.joint.proofs.lemmas.Views.{ties, here, stands_at}
 use Rattle.joint.proofs.lemmas.Paths.{in_tree}
 use Rattle.joint.proofs.lemmas.Reaching.{Reaches, was_in}

@@ -22,14 +22,14 @@ use Rattle.congee.specs.declared.protocol.machine.Machine.{Machine}
 use Rattle.congee.specs.declared.protocol.op.Op.{Op as Point}
 use Rattle.congee.specs.declared.protocol.phase.Phase.TheVariants.{New, Ended}
 use Rattle.congee.specs.protocol.Play.{begun as first_machine, parts}
-use Rattle.joint.specs.declared.shared.call.Call.{Call}
-use Rattle.joint.specs.declared.shared.call.Call.TheVariants.{Idle, Collecting, Securing, Walking}
-use Rattle.joint.specs.declared.shared.id.Id.{Id}
-use Rattle.joint.specs.declared.shared.slot.Slot.{Slot}
-use Rattle.joint.specs.shared.Forest.{Forest}
-use Rattle.joint.specs.shared.Intact.{IsPoint, IsAt, IsIntact, IsSecuring, MayStart, Secured, call_after, secured_call, secured_machines, root}
-use Rattle.joint.specs.shared.Laws.{ProgressLaws}
-use Rattle.joint.specs.shared.Machines.{Rests, Collected}
+use Rattle.joint.specs.declared.call.Call.{Call}
+use Rattle.joint.specs.declared.call.Call.TheVariants.{Idle, Collecting, Securing, Walking}
+use Rattle.joint.specs.declared.id.Id.{Id}
+use Rattle.joint.specs.declared.slot.Slot.{Slot}
+use Rattle.joint.specs.Forest.{Forest}
+use Rattle.joint.specs.Intact.{IsPoint, IsAt, IsIntact, IsSecuring, MayStart, Secured, call_after, secured_call, secured_machines, root}
+use Rattle.joint.specs.Laws.{ProgressLaws}
+use Rattle.joint.specs.Machines.{Rests, Collected}
 use Rattle.joint.proofs.lemmas.Secured.{with_room}
 
 -- what stands in a list after one of its places was exchanged
@@ -210,7 +210,7 @@ module _ {V : Type 0} (same : V → V → Bool) (always : Bool) (s : Forest V) (
         let x : IsAt (Securing op) (place s.collector who) w.0 = intact.each who (Securing op) w.0 at w.1 in
         let g : GoesOn s.collector who (Secure 1) Done s'.collector = fits Done e w.0 w.1 in
         let l : length (place s'.collector who).bag + 1 ≤ 64 = g.1.2 g.0 (omega arith) in
-        record { point = x.3; registered = g.1.1 ∙ x.0.0; pinned = ap is_some g.1.0 ∙ x.1; room = with_room {C = Id} (parts op).1 New (length (place s'.collector who).bag) (omega (arith, l)) }
+        record { registered = g.1.1 ∙ x.0.0; pinned = ap is_some g.1.0 ∙ x.1; room = with_room {C = Id} (parts op).1 New (length (place s'.collector who).bag) (omega (arith, l)) }
 
     pub started_then : r.outcome ≡ Done → (s2 : Forest V) (ms' : List (Machine Id V)) (calls' : List (Call V)) → s2 ≡ s' → ms' ≡ set ms who (first_machine root op) → calls' ≡ set (set calls who Idle) who Walking → IsIntact same always s2 ms' calls' → Secured same always s ms calls who r s2 ms' calls'
     started_then e s2 ms' calls' es em ec i = record {

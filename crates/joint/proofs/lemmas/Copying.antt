@@ -1,5 +1,5 @@
 -- The children of a node as they are copied or moved into another.
-use Rattle.std.proofs.Common.{◌≡◌, ◌≢◌, ℕ, zero, suc, ◌+◌, ◌-◌, ◌==◌, ◌<◌, ◌≤◌, ◌⊎◌, ◌↔◌, Bool, true, false, List, [], ◌∷◌, length, Option, None, Some, IsSome, refl, sym, ◌∙◌, ap, subst, inl, inr, arith}
+use Rattle.std.proofs.Common.{◌≡◌, ℕ, zero, suc, ◌+◌, ◌<◌, ◌≤◌, false, List, [], ◌∷◌, length, Option, None, Some, IsSome, refl, sym, ◌∙◌, ap, subst, inl, inr, arith}
 use Rattle.std.specs.Prelude.{Box}
 use Rattle.std.specs.Box.{with_value}
 use Rattle.std.specs.declared.alloc.Global.{Global}
@@ -11,18 +11,18 @@ use Rattle.congee.specs.declared.forms.child.Child.{Child}
 use Rattle.congee.specs.declared.forms.child.Child.TheVariants.{Blank, Node as Sub, Value}
 use Rattle.congee.specs.declared.forms.base_node.Node.{Node as Form}
 use Rattle.congee.specs.forms.Bytes.{IsFirst}
-use Rattle.congee.specs.protocol.Events.{hung, TakesOver, HoldsAlike}
+use Rattle.congee.specs.protocol.Events.{HoldsAlike}
 use Rattle.congee.specs.forms.Forms.{children_of, form_of, prefix_of, capacity_of, size_of, is_full_of, Becomes}
-use Rattle.congee.specs.Heap.{Hung, Nothing, Below, Holds}
+use Rattle.congee.specs.Heap.{Nothing, Below, Holds}
 use Rattle.congee.proofs.lemmas.forms.BetweenLemmas.{get_find}
 use Rattle.congee.proofs.lemmas.forms.Entries.{find}
-use Rattle.congee.proofs.lemmas.forms.MapLemmas.{same_is, len_less}
-use Rattle.joint.specs.declared.shared.id.Id.{Id}
-use Rattle.joint.specs.declared.shared.slot.Slot.{Slot}
-use Rattle.joint.specs.declared.shared.slot.Word.{Word}
-use Rattle.joint.specs.shared.Altering.{HandsOver}
-use Rattle.joint.specs.shared.Solid.{AreAlike, IsLeft, IsSolid, IsWhole}
-use Rattle.joint.specs.shared.View.{hung_at, child_at, node_of}
+use Rattle.congee.proofs.lemmas.forms.MapLemmas.{len_less}
+use Rattle.joint.specs.declared.id.Id.{Id}
+use Rattle.joint.specs.declared.slot.Slot.{Slot}
+use Rattle.joint.specs.declared.slot.Word.{Word}
+use Rattle.joint.specs.Altering.{HandsOver}
+use Rattle.joint.specs.Solid.{AreAlike, IsLeft, IsSolid, IsWhole}
+use Rattle.joint.specs.View.{hung_at, child_at, node_of}
 use Rattle.joint.proofs.lemmas.Hanging.{put_here, put_beside, taken_here, taken_beside, full_is, empty_solid}
 
 module _ {X : Type 0} where

@@ -1,20 +1,20 @@
 -- What always holds stays where the children of one node go over into another.
-use Rattle.std.proofs.Common.{◌≡◌, ◌≢◌, ℕ, ◌+◌, ◌<◌, ◌≤◌, Bool, true, false, length, refl, sym, ◌∙◌, ap, subst, inl, inr, arith}
+use Rattle.std.proofs.Common.{◌≡◌, ◌≢◌, ℕ, ◌+◌, Bool, refl, sym, ◌∙◌, ap, subst, inl, inr, arith}
 use Rattle.std.specs.Prelude.{Some, if◌then◌else◌}
 use Rattle.crossbeam_epoch.specs.declared.names.Name.{Name}
 use Rattle.crossbeam_epoch.specs.World.Machine.{State, with_store}
 use Rattle.crossbeam_epoch.specs.World.Store.{Store, value_at, was_given}
 use Rattle.congee.specs.protocol.Events.{TakesOver, TakeOverGives}
 use Rattle.congee.specs.Heap.{Node}
-use Rattle.joint.specs.declared.shared.counts.Counts.{Counts}
-use Rattle.joint.specs.declared.shared.slot.Slot.{Slot}
-use Rattle.joint.specs.shared.Altering.{Exchanges, HandsOver}
-use Rattle.joint.specs.shared.Forest.{Forest, nodes, with_collector, frame, size, waits, waiting_size, sizes, waiting, waiting_bytes, IsTally, IsKept}
-use Rattle.joint.specs.shared.NameLemmas.{named_number, number_named}
-use Rattle.joint.specs.shared.Names.{number, named}
-use Rattle.joint.specs.shared.Solid.{IsWhole}
-use Rattle.joint.specs.shared.Tallies.{tally_at}
-use Rattle.joint.specs.shared.View.{heap, view, node_of}
+use Rattle.joint.specs.declared.counts.Counts.{Counts}
+use Rattle.joint.specs.declared.slot.Slot.{Slot}
+use Rattle.joint.specs.Altering.{Exchanges, HandsOver}
+use Rattle.joint.specs.Forest.{Forest, nodes, with_collector, frame, size, waits, waiting_size, sizes, waiting, waiting_bytes, IsTally, IsKept}
+use Rattle.joint.specs.NameLemmas.{number_named}
+use Rattle.joint.specs.Names.{number, named}
+use Rattle.joint.specs.Solid.{IsWhole}
+use Rattle.joint.specs.Tallies.{tally_at}
+use Rattle.joint.specs.View.{heap, view, node_of}
 use Rattle.joint.proofs.lemmas.Altering.{same_or}
 use Rattle.joint.proofs.lemmas.Kept.{same_some, node_is, node_in, orderly_stored, same_frame}
 
@@ -94,6 +94,7 @@ module _ {P : Type 0} (F : Forest P) (c' : State (Slot P) (Unit {0})) (beside : 
         wide = kept.wide ∙ sym ex.wide;
         bounded = omega (arith, kept.bounded, ex.wide, ex.most);
         few = omega (arith, kept.few, ex.most);
+        used = λ i l. (let p = kept.used i (omega (arith, l, ex.wide)) in omega (arith, p, ex.turns i));
         turns = λ i. (let t = kept.turns i in omega (arith, t, ex.turns i, ex.turn_max));
         last = omega (arith, kept.last, ex.turn_max);
         roomy = omega (arith, kept.roomy, ex.most);

@@ -1,19 +1,18 @@
 -- No name that can be given has a number past the greatest of 64 bits.
-use Rattle.std.proofs.Common.{◌≡◌, ℕ, zero, suc, ◌+◌, ◌-◌, ◌*◌, ◌^◌, ◌==◌, ◌<◌, ◌≤◌, Bool, true, false, length, refl, sym, ◌∙◌, ap, subst, inl, inr, arith}
-use Rattle.std.specs.Prelude.{Option, None, Some, is_some, nat_lt}
+use Rattle.std.proofs.Common.{◌≡◌, ℕ, zero, suc, ◌+◌, ◌-◌, ◌*◌, ◌^◌, ◌<◌, ◌≤◌, Bool, true, false, length, refl, ap, subst, inl, inr, arith}
+use Rattle.std.specs.Prelude.{Option, None, Some}
 use Rattle.std.proofs.lemmas.Bool.{cases_lt}
 use Rattle.std.proofs.lemmas.Bool.Decides.{nat_tests}
 use Rattle.std.proofs.lemmas.List.{get_or_past}
 use Rattle.std.proofs.Math.Nat.{mul-le-mul}
 use Rattle.crossbeam_epoch.specs.declared.names.Name.{Name}
 use Rattle.crossbeam_epoch.specs.World.Store.{Store, fresh, cell_at, value_at, was_given}
-use Rattle.congee.specs.Heap.{Node}
-use Rattle.joint.specs.declared.shared.counts.Counts.{Counts}
-use Rattle.joint.specs.declared.shared.slot.Slot.{Slot}
-use Rattle.joint.specs.shared.Forest.{Forest, nodes, IsKept}
-use Rattle.joint.specs.shared.NameLemmas.{number_named}
-use Rattle.joint.specs.shared.Names.{tri, number, named}
-use Rattle.joint.specs.shared.View.{view}
+use Rattle.joint.specs.declared.counts.Counts.{Counts}
+use Rattle.joint.specs.declared.slot.Slot.{Slot}
+use Rattle.joint.specs.Forest.{Forest, nodes, IsKept}
+use Rattle.joint.specs.NameLemmas.{number_named}
+use Rattle.joint.specs.Names.{tri, number, named}
+use Rattle.joint.specs.View.{view}
 use Rattle.joint.proofs.lemmas.Altering.{given}
 
 product : (s : ℕ) → suc s * suc (suc s) ≡ s * suc s + (suc s + suc s)

@@ -7,12 +7,15 @@ use Rattle.congee.specs.declared.protocol.machine.Machine.{Machine}
 use Rattle.congee.specs.declared.protocol.op.Op.{Op as Point}
 use Rattle.congee.specs.declared.protocol.op.Op.TheVariants as point
 use Rattle.congee.specs.declared.protocol.phase.Phase.TheVariants.{Ended, Sweep}
+use Rattle.judge.specs.Answer.{Pairs}
 use Rattle.congee.specs.protocol.Play.{Flight, Pending, Over, Unasked, begun, parts, flight, Follows, Following}
-use Rattle.joint.specs.declared.shared.call.Call.{Call}
-use Rattle.joint.specs.declared.shared.call.Call.TheVariants.{Idle, Collecting, Securing, Walking}
-use Rattle.joint.specs.declared.shared.id.Id.{Id}
-use Rattle.joint.specs.shared.Intact.{IsPoint, root}
-use Rattle.joint.specs.shared.Runs.{Flights, with_flight, InFlight}
+use Rattle.joint.specs.declared.call.Call.{Call}
+use Rattle.joint.specs.declared.call.Call.TheVariants.{Idle, Collecting, Securing, Walking}
+use Rattle.joint.specs.declared.id.Id.{Id}
+use Rattle.joint.specs.declared.steps.Done.{Done as Answer}
+use Rattle.joint.specs.declared.steps.Done.TheVariants as done
+use Rattle.joint.specs.Intact.{IsPoint, root}
+use Rattle.joint.specs.Runs.{Flights, Line, Stays, EndsAtOnce, with_flight, InFlight}
 
 pub eqb_same : (w : ℕ) → (w == w) ≡ true
 eqb_same w = true_from_ne_false (w == w) (λ e. eqb-false w w e refl)
@@ -31,6 +34,18 @@ module _ {V : Type 0} where
     | inl e ↦ absurd (n (eqb-true i w e))
     | inr e ↦ (let P : Bool → Type 0 = λ b. (if b then f else fs i) ≡ fs i in subst P (sym e) refl)
   ]
+
+  -- a call on the tree that ends as it begins is a scan, and leaves the map
+  pub ends_stays : (fs : Flights V) (m : Pairs V) (op : Point V) (d : Answer V) (l : Line V) (fs' : Flights V) → EndsAtOnce fs m op d l fs' → Stays fs m l fs'
+  ends_stays fs m (point.Range start end size) (done.Scanned count) l fs' x = x.stays
+  ends_stays fs m (point.Range start end size) done.Unit l fs' x = absurd x
+  ends_stays fs m (point.Range start end size) (done.Reply r) l fs' x = absurd x
+  ends_stays fs m (point.Get k) d l fs' x = absurd x
+  ends_stays fs m (point.Insert k v) d l fs' x = absurd x
+  ends_stays fs m (point.Remove k) d l fs' x = absurd x
+  ends_stays fs m (point.ComputePresent k) d l fs' x = absurd x
+  ends_stays fs m (point.ComputeInsert k) d l fs' x = absurd x
+  ends_stays fs m (point.Exchange k old new) d l fs' x = absurd x
 
   -- a call on one key that has not begun
   pub pending : (op : Point V) → IsPoint op → flight (begun root op) ≡ Pending (parts op).0 (parts op).1 (parts op).2 Unasked

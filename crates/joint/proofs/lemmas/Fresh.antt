@@ -1,27 +1,26 @@
 -- A root alone, with no call in flight, is intact.
 use Rattle.std.proofs.Common.{◌≡◌, ◌≤◌, ℕ, zero, suc, arith, Bool, List, [], ◌∷◌, refl, sym, ◌∙◌, ap, subst, inr}
-use Rattle.std.specs.Prelude.{Option, Some, length, replicate, slice_get}
+use Rattle.std.specs.Prelude.{Some, length, replicate, slice_get}
 use Rattle.std.proofs.lemmas.List.{length-replicate}
-use Rattle.crossbeam_epoch.specs.World.Machine.{State, opened, place, with_roots, with_store}
+use Rattle.crossbeam_epoch.specs.World.Machine.{place}
 use Rattle.crossbeam_epoch.specs.World.Reach.{Quiet, moment}
 use Rattle.congee.specs.declared.protocol.machine.Machine.{Machine}
-use Rattle.congee.specs.declared.protocol.phase.Kind.TheVariants.{Get}
 use Rattle.congee.specs.declared.protocol.phase.Phase.TheVariants.{Ended}
 use Rattle.congee.specs.protocol.Bounds.{Within}
 use Rattle.congee.specs.protocol.Play.{IsIdle, Settled}
-use Rattle.joint.specs.declared.shared.call.Call.{Call}
-use Rattle.joint.specs.declared.shared.call.Call.TheVariants.{Idle}
-use Rattle.joint.specs.declared.shared.id.Id.{Id}
-use Rattle.joint.specs.declared.shared.limits.Limits.{Limits}
-use Rattle.joint.specs.declared.shared.slot.Slot.{Slot}
-use Rattle.joint.specs.shared.Forest.{Forest, nodes, IsCharged}
-use Rattle.joint.specs.shared.Intact.{IsAt, IsIntact, root, resting}
-use Rattle.joint.specs.shared.Laws.{CellLaws, CallLaws}
-use Rattle.joint.specs.shared.Machines.{slot_names}
-use Rattle.joint.specs.shared.Opening.{IsOpened, top}
-use Rattle.joint.specs.shared.Runs.{IsFresh}
-use Rattle.joint.specs.shared.View.{view, id_number}
-use Rattle.joint.specs.shared.Whole.{Whole, Holds}
+use Rattle.joint.specs.declared.call.Call.{Call}
+use Rattle.joint.specs.declared.call.Call.TheVariants.{Idle}
+use Rattle.joint.specs.declared.id.Id.{Id}
+use Rattle.joint.specs.declared.limits.Limits.{Limits}
+use Rattle.joint.specs.declared.slot.Slot.{Slot}
+use Rattle.joint.specs.Forest.{Forest, nodes, IsCharged}
+use Rattle.joint.specs.Intact.{IsAt, IsIntact, resting}
+use Rattle.joint.specs.Laws.{CellLaws, CallLaws}
+use Rattle.joint.specs.Machines.{slot_names}
+use Rattle.joint.specs.Opening.{IsOpened, top}
+use Rattle.joint.specs.Runs.{IsFresh}
+use Rattle.joint.specs.View.{view, id_number}
+use Rattle.joint.specs.Whole.{Holds}
 use Rattle.joint.proofs.lemmas.Opened as open_it
 use Rattle.joint.proofs.lemmas.SlotViews.{slot_view}
 

@@ -13,7 +13,7 @@ use Rattle.congee.specs.declared.protocol.machine.Machine.{Machine}
 use Rattle.congee.specs.declared.protocol.phase.Phase.{Phase}
 use Rattle.congee.specs.declared.protocol.phase.Phase.TheVariants.{Ended}
 use Rattle.congee.specs.protocol.Names.{names}
-use Rattle.joint.specs.shared.Sound.{IsUnderWay, IsSecured, Guards}
+use Rattle.joint.specs.Sound.{IsUnderWay, IsSecured, Guards}
 
 -- what was deferred is so after any act
 pub deferred_on : (act : Act) (h : List Mark) (t : ℕ) (n : Name) → WasDeferred h t n → WasDeferred (with_act act h) t n

@@ -1,6 +1,6 @@
 -- The deferral of a node that a call has just marked finds its place, and leaves all safe.
 use Rattle.std.proofs.Common.{◌≡◌, ◌≢◌, ◌+◌, ◌-◌, ◌^◌, ◌<◌, ◌≤◌, ◌==◌, arith, ℕ, Bool, true, false, List, [], ◌∷◌, ◌++◌, refl, sym, ◌∙◌, ap, subst, inl, inr, ◌⊎◌}
-use Rattle.std.specs.Prelude.{Option, None, Some, is_none, is_some, length, slice_get, slice_set, slice_index_or, if◌then◌else◌, MatchOption}
+use Rattle.std.specs.Prelude.{Option, None, Some, is_none, is_some, length, slice_get, slice_index_or, if◌then◌else◌, MatchOption}
 use Rattle.std.proofs.lemmas.Bool.{cases_eq, cases_lt, ne_eqb}
 use Rattle.std.proofs.lemmas.List.{get_or_past, get_or-set_same, get_or-set_other}
 use Rattle.crossbeam_epoch.specs.declared.bag.Work.{Work}
@@ -10,28 +10,23 @@ use Rattle.crossbeam_epoch.specs.declared.fault.Fault.TheVariants.{Memory, Unpin
 use Rattle.crossbeam_epoch.specs.declared.names.Name.{Name}
 use Rattle.crossbeam_epoch.specs.declared.world.participant.Participant.{Participant}
 use Rattle.crossbeam_epoch.specs.declared.world.participant.Phase.{Phase as Stage}
-use Rattle.crossbeam_epoch.specs.declared.world.participant.Phase.TheVariants.{Idle}
 use Rattle.crossbeam_epoch.specs.World.History.{Deferred, WasDeferred}
 use Rattle.crossbeam_epoch.specs.World.Machine.{State, blank, place, deferred, deferred_anew, after_deferral}
-use Rattle.crossbeam_epoch.specs.World.Progress.{Orderly}
 use Rattle.crossbeam_epoch.specs.World.Reach.{Marked, Moment, marks_of, moment, Tells}
 use Rattle.crossbeam_epoch.specs.World.Steps.{when, quiet_fault, or_count, defer_fault, destroy_fault}
-use Rattle.crossbeam_epoch.specs.World.Store.{value_at}
 use Rattle.congee.specs.declared.protocol.machine.Machine.{Machine}
 use Rattle.congee.specs.declared.protocol.phase.Kind.{Kind}
 use Rattle.congee.specs.declared.protocol.phase.Phase.{Phase}
 use Rattle.congee.specs.declared.protocol.phase.Phase.TheVariants.{Unlock}
-use Rattle.congee.specs.protocol.Bounds.{Within}
-use Rattle.congee.specs.Heap.{Node}
-use Rattle.joint.specs.declared.shared.id.Id.{Id}
-use Rattle.joint.specs.declared.shared.slot.Slot.{Slot}
-use Rattle.joint.specs.shared.Forest.{Forest, nodes, with_collector}
-use Rattle.joint.specs.shared.Laws.{CellLaws, CallLaws}
-use Rattle.joint.specs.shared.Machines.{slot_names, IsSound, IsSafe, LetsGo, Owes}
-use Rattle.joint.specs.shared.Names.{number, named}
-use Rattle.joint.specs.shared.NameLemmas.{named_number, number_named}
-use Rattle.joint.specs.shared.Sound.{IsUnderWay, IsSecured, Guards}
-use Rattle.joint.specs.shared.View.{view, heap, id_number}
+use Rattle.joint.specs.declared.id.Id.{Id}
+use Rattle.joint.specs.declared.slot.Slot.{Slot}
+use Rattle.joint.specs.Forest.{Forest, nodes, with_collector}
+use Rattle.joint.specs.Laws.{CellLaws, CallLaws}
+use Rattle.joint.specs.Machines.{slot_names, IsSafe, LetsGo, Owes}
+use Rattle.joint.specs.Names.{number, named}
+use Rattle.joint.specs.NameLemmas.{named_number, number_named}
+use Rattle.joint.specs.Sound.{IsSecured, Guards}
+use Rattle.joint.specs.View.{view, id_number}
 use Rattle.joint.proofs.lemmas.Handed.{handed}
 use Rattle.joint.proofs.lemmas.Reaching.{entered_live}
 use Rattle.joint.proofs.lemmas.SlotViews.{slot_view}

@@ -1,5 +1,5 @@
 -- Where a call hands its node over for destruction, tree, calls and history stay sound.
-use Rattle.std.proofs.Common.{◌≡◌, ℕ, ◌+◌, ◌<◌, arith, Bool, true, false, List, ◌∷◌, refl, sym, ◌∙◌, ap, subst, inl, inr}
+use Rattle.std.proofs.Common.{◌≡◌, ℕ, ◌+◌, arith, Bool, true, false, List, ◌∷◌, refl, sym, ◌∙◌, ap, subst, inl, inr}
 use Rattle.std.specs.Prelude.{Option, None, Some, is_some, slice_get}
 use Rattle.std.proofs.lemmas.Bool.{cases_eq}
 use Rattle.crossbeam_epoch.specs.declared.names.Name.{Name}
@@ -14,10 +14,10 @@ use Rattle.congee.specs.Heap.{Node}
 use Rattle.congee.specs.protocol.Handing.{InTree}
 use Rattle.congee.specs.Ledger.{Linked}
 use Rattle.congee.specs.protocol.Play.{Settled}
-use Rattle.joint.specs.shared.Names.{number}
-use Rattle.joint.specs.shared.Heap.{IsView, heap_of}
-use Rattle.joint.specs.shared.Laws.{CellLaws, CallLaws}
-use Rattle.joint.specs.shared.Sound.{Guards, Sound}
+use Rattle.joint.specs.Names.{number}
+use Rattle.joint.specs.Heap.{IsView, heap_of}
+use Rattle.joint.specs.Laws.{CellLaws, CallLaws}
+use Rattle.joint.specs.Sound.{Guards, Sound}
 use Rattle.joint.proofs.lemmas.Views.{ties}
 use Rattle.joint.proofs.lemmas.Paths.{in_tree}
 use Rattle.joint.proofs.lemmas.Reaching.{Reaches, was_in}

@@ -1,9 +1,9 @@
 -- What hangs at a byte of a node, before and after a change.
-use Rattle.std.proofs.Common.{◌≡◌, ◌≢◌, ℕ, ◌+◌, ◌-◌, ◌==◌, ◌<◌, Bool, true, false, cond, List, Option, None, Some, IsSome, refl, sym, ◌∙◌, ap, subst, inl, inr, arith}
+use Rattle.std.proofs.Common.{◌≡◌, ◌≢◌, ℕ, ◌+◌, ◌==◌, false, List, Option, None, Some, IsSome, refl, sym, ◌∙◌, ap, subst, inl, inr, arith}
 use Rattle.std.specs.Prelude.{Box}
 use Rattle.std.specs.Box.{with_value}
 use Rattle.std.specs.declared.alloc.Global.{Global}
-use Rattle.std.specs.Ordering.{nat_cmp, eq_by_cmp}
+use Rattle.std.specs.Ordering.{nat_cmp}
 use Rattle.std.specs.Cmp.{nat_cmp_total}
 use Rattle.std.specs.FinMap as map
 use Rattle.std.proofs.lemmas.Bool.{cases_eq, ne_eqb, eq-eqb}
@@ -14,15 +14,15 @@ use Rattle.congee.specs.declared.forms.base_node.Node.TheVariants as form
 use Rattle.congee.specs.declared.forms.base_node.NodeType.{NodeType}
 use Rattle.congee.specs.protocol.Events.{hung, weight, MayChange}
 use Rattle.congee.specs.forms.Forms.{children_of, form_of, prefix_of, capacity_of, size_of, is_full_of, Becomes}
-use Rattle.congee.specs.Heap.{Hung, Nothing, Below, Holds}
+use Rattle.congee.specs.Heap.{Nothing, Below, Holds}
 use Rattle.congee.proofs.lemmas.forms.MapLemmas.{same_is, len_new, len_again, len_less}
-use Rattle.joint.specs.declared.shared.id.Id.{Id}
-use Rattle.joint.specs.declared.shared.slot.Slot.{Slot}
-use Rattle.joint.specs.declared.shared.slot.Word.{Word}
-use Rattle.joint.specs.shared.Altering.{Hangs, IsFresh}
-use Rattle.joint.specs.shared.Solid.{IsSolid, IsWhole, hang}
-use Rattle.joint.specs.shared.View.{id_number, hung_at, child_at, shape, node_of}
-use Rattle.joint.proofs.lemmas.Seen.{there, not_there}
+use Rattle.joint.specs.declared.id.Id.{Id}
+use Rattle.joint.specs.declared.slot.Slot.{Slot}
+use Rattle.joint.specs.declared.slot.Word.{Word}
+use Rattle.joint.specs.Altering.{Hangs, IsNewSlot}
+use Rattle.joint.specs.Solid.{IsSolid, IsWhole, hang}
+use Rattle.joint.specs.View.{id_number, hung_at, shape, node_of}
+use Rattle.joint.proofs.lemmas.Seen.{there}
 
 -- some lock word
 abbrev pub no_word : Word
@@ -156,7 +156,7 @@ module _ {P : Type 0} where
   empty_solid b e = let z : map.get (map.empty {X = Child Id P} {R = nat_cmp}) b ≡ None = map.get-empty nat_cmp b in let q : None ≡ Some Blank = sym z ∙ e in cc q
 
   pub fresh_slot : (n : Box (Form Id P) Global) (f : Form Id P) (form : NodeType) (prefix : List ℕ) → n.value ≡ f → form_of f ≡ form → prefix_of f ≡ prefix → children_of f ≡ map.empty
-      → IsFresh (record { node = Some n; word = no_word }) form prefix
+      → IsNewSlot (record { node = Some n; word = no_word }) form prefix
   fresh_slot n f form prefix is e p none =
       let m : children_of n.value ≡ map.empty = ap children_of is ∙ none in
       record {

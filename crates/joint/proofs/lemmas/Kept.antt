@@ -1,5 +1,5 @@
 -- What always holds of the nodes in their cells stays where one of them is changed.
-use Rattle.std.proofs.Common.{◌≡◌, ◌≢◌, ℕ, ◌+◌, ◌≤◌, Bool, true, false, List, length, refl, sym, ◌∙◌, ap, subst, inl, inr, arith}
+use Rattle.std.proofs.Common.{◌≡◌, ◌≢◌, ℕ, ◌+◌, Bool, true, false, refl, sym, ◌∙◌, ap, subst, inl, inr, arith}
 use Rattle.std.specs.Prelude.{Option, None, Some, is_some, if◌then◌else◌}
 use Rattle.crossbeam_epoch.specs.declared.names.Name.{Name}
 use Rattle.crossbeam_epoch.specs.World.Machine.{State, with_store}
@@ -8,17 +8,17 @@ use Rattle.crossbeam_epoch.specs.World.Store.{Store, value_at, was_given}
 use Rattle.congee.specs.protocol.Events.{SameBut, ChangeGives, hung, weight}
 use Rattle.congee.specs.Heap.{Stands}
 use Rattle.congee.specs.declared.forms.child.Child.{Child}
-use Rattle.joint.specs.declared.shared.id.Id.{Id}
-use Rattle.joint.specs.declared.shared.slot.Slot.{Slot}
-use Rattle.joint.specs.declared.shared.slot.Word.{Word}
-use Rattle.joint.specs.declared.shared.counts.Counts.{Counts}
-use Rattle.joint.specs.shared.Altering.{Alters, Hangs}
-use Rattle.joint.specs.shared.Forest.{Forest, nodes, with_collector, frame, total, size, waits, waiting_size, sizes, waiting, waiting_bytes, IsTally, IsKept}
-use Rattle.joint.specs.shared.NameLemmas.{number_named, named_number}
-use Rattle.joint.specs.shared.Names.{number, named}
-use Rattle.joint.specs.shared.Solid.{IsWhole}
-use Rattle.joint.specs.shared.Tallies.{tally_at}
-use Rattle.joint.specs.shared.View.{heap, view, node_of, worded, id_number}
+use Rattle.joint.specs.declared.id.Id.{Id}
+use Rattle.joint.specs.declared.slot.Slot.{Slot}
+use Rattle.joint.specs.declared.slot.Word.{Word}
+use Rattle.joint.specs.declared.counts.Counts.{Counts}
+use Rattle.joint.specs.Altering.{Alters, Hangs}
+use Rattle.joint.specs.Forest.{Forest, nodes, with_collector, frame, size, waits, waiting_size, sizes, waiting, waiting_bytes, IsTally, IsKept}
+use Rattle.joint.specs.NameLemmas.{number_named, named_number}
+use Rattle.joint.specs.Names.{number, named}
+use Rattle.joint.specs.Solid.{IsWhole}
+use Rattle.joint.specs.Tallies.{tally_at}
+use Rattle.joint.specs.View.{heap, view, node_of, worded, id_number}
 use Rattle.joint.proofs.lemmas.Altering.{same_or}
 
 from : {A : Type 0} → A → Option A → A
@@ -103,6 +103,7 @@ module _ {P : Type 0} (F : Forest P) (c' : State (Slot P) (Unit {0})) (beside : 
           wide = kept.wide ∙ sym alters.wide;
           bounded = (let p = kept.bounded in omega (arith, p, alters.wide, alters.most));
           few = (let p = kept.few in omega (arith, p, alters.most));
+          used = λ i l. (let p = kept.used i (omega (arith, l, alters.wide)) in omega (arith, p, alters.turns i));
           turns = λ i. (let p = kept.turns i in omega (arith, p, alters.turns i, alters.turn_max));
           last = (let p = kept.last in omega (arith, p, alters.turn_max));
           roomy = (let p = kept.roomy in omega (arith, p, alters.most));

@@ -1,8 +1,8 @@
 -- One step of the machine, on the map: the pairs that stood, and the calls on the tree that are in flight.
-use Rattle.std.proofs.Common.{◌≡◌, ◌≢◌, ◌<◌, ◌≤◌, ℕ, arith, Bool, true, false, List, refl, sym, ◌∙◌, ap, subst, inl, inr}
+use Rattle.std.proofs.Common.{◌≡◌, ◌≢◌, ◌<◌, ◌≤◌, ◌==◌, ℕ, arith, Bool, true, false, List, [], ◌∷◌, refl, sym, ◌∙◌, ap, subst, inl, inr}
 use Rattle.std.proofs.Math.ListN.{set}
-use Rattle.std.specs.Prelude.{Option, None, Some, length, slice_get, slice_set, if◌then◌else◌}
-use Rattle.std.proofs.lemmas.Bool.{cases_Bool, false≢true}
+use Rattle.std.specs.Prelude.{Option, None, Some, cond, ltb, length, slice_get, slice_set, if◌then◌else◌}
+use Rattle.std.proofs.lemmas.Bool.{cases_Bool, eqb-true, false≢true, lt-ltb}
 use Rattle.std.proofs.lemmas.List.{length-set, get_or_past}
 use Rattle.std.proofs.lemmas.Option.{slice_get_within, slice_get_cases}
 use Rattle.judge.specs.declared.journal.Entry.{Entry}
@@ -33,28 +33,31 @@ use Rattle.congee.specs.declared.protocol.phase.Phase.{Phase}
 use Rattle.congee.specs.declared.protocol.phase.Phase.TheVariants.{Ended}
 use Rattle.congee.specs.declared.protocol.store.Refusal.TheVariants as cause
 use Rattle.congee.specs.protocol.Answers.{SameMap}
+use Rattle.congee.specs.protocol.Sweeps.{IsScan}
 use Rattle.congee.specs.Heap.{Node}
 use Rattle.congee.specs.Keys.{IsMapOf, key_bytes}
 use Rattle.congee.specs.protocol.Play.{Flight, Pending, Decided, Over, Unbegun, Scanning, Question, Unasked, heard, resolved, begun, parts, flight, Follows, Following, Watched, WatchedAt, PendingMoves}
-use Rattle.joint.specs.declared.shared.call.Call.{Call}
-use Rattle.joint.specs.declared.shared.call.Call.TheVariants.{Idle, Collecting, Securing, Walking}
-use Rattle.joint.specs.declared.shared.id.Id.{Id}
-use Rattle.joint.specs.declared.shared.steps.Event.{Event}
-use Rattle.joint.specs.declared.shared.steps.Event.TheVariants.{Register, Begin, Go}
-use Rattle.joint.specs.declared.shared.steps.Kind.{Kind}
-use Rattle.joint.specs.declared.shared.steps.Kind.TheVariants as kind
-use Rattle.joint.specs.declared.shared.steps.Op.{Op}
-use Rattle.joint.specs.declared.shared.steps.Outcome.TheVariants.{Running, Refused}
-use Rattle.joint.specs.declared.shared.steps.Report.{Report}
-use Rattle.joint.specs.declared.shared.steps.Target.{Target}
-use Rattle.joint.specs.declared.shared.steps.Target.TheVariants as target
-use Rattle.joint.specs.shared.Forest.{nodes}
-use Rattle.joint.specs.shared.Intact.{IsAt, IsIntact, call_after, secured_call, secured_machines, is_over, over_at, root}
-use Rattle.joint.specs.shared.Refusals.{of_fault}
-use Rattle.joint.specs.shared.Reports.{target, told}
-use Rattle.joint.specs.shared.Runs.{Flights, with_flight, Line, Stays, BeginMap, BeginsOr, PendingStep, FlightStep, GoMap, EventMap, InFlight, AreInFlight}
-use Rattle.joint.specs.shared.Whole.{Whole, Holds, misuse, is_busy, place_of, quiet, collection, Collects, Enters, Reserves, GoesOnReserving, reserving, Walks, BeginsAt, BeginsOnTree, GoesAt, Proceeds, Does as Acts}
+use Rattle.joint.specs.declared.call.Call.{Call}
+use Rattle.joint.specs.declared.call.Call.TheVariants.{Idle, Collecting, Securing, Walking}
+use Rattle.joint.specs.declared.id.Id.{Id}
+use Rattle.joint.specs.declared.steps.Event.{Event}
+use Rattle.joint.specs.declared.steps.Event.TheVariants.{Register, Begin, Go}
+use Rattle.joint.specs.declared.steps.Kind.{Kind}
+use Rattle.joint.specs.declared.steps.Kind.TheVariants as kind
+use Rattle.joint.specs.declared.steps.Op.{Op}
+use Rattle.joint.specs.declared.steps.Done.TheVariants.{Scanned}
+use Rattle.joint.specs.declared.steps.Outcome.TheVariants.{Running, Done, Refused}
+use Rattle.joint.specs.declared.steps.Report.{Report}
+use Rattle.joint.specs.declared.steps.Target.{Target}
+use Rattle.joint.specs.declared.steps.Target.TheVariants as target
+use Rattle.joint.specs.Forest.{nodes, Refuses}
+use Rattle.joint.specs.Intact.{IsAt, IsIntact, call_after, secured_call, secured_machines, is_over, over_at, rested, root}
+use Rattle.joint.specs.Refusals.{of_fault}
+use Rattle.joint.specs.Reports.{target, told}
+use Rattle.joint.specs.Runs.{Flights, with_flight, Line, Stays, BeginMap, BeginsOr, PendingStep, FlightStep, GoMap, EventMap, InFlight, AreInFlight}
+use Rattle.joint.specs.Whole.{Whole, Holds, misuse, is_busy, place_of, quiet, collection, finds_none, Collects, Enters, EntersUnless, Reserves, GoesOnReserving, reserving, Walks, BeginsAt, BeginsOnTree, GoesAt, Proceeds, Does as Acts}
 use Rattle.joint.proofs.lemmas.Collecting.{either}
+use Rattle.joint.proofs.lemmas.Resting.{cleared_is, done_over, rest_follows}
 use Rattle.joint.proofs.lemmas.Flights.{set_at, flight_here, flight_apart, pending, begun_follows, ended, listed, listed_at, following, followed}
 
 -- the pairs stand on where the map is the same
@@ -62,6 +65,20 @@ pub stands_on : {V : Type 0} (h h' : ℕ → Node V) (m : Pairs V) → SameMap h
 stands_on h h' m same st = record {
   at = λ k l. st.at k l ∙ sym (same (key_bytes k) refl);
   none_beyond = st.none_beyond;
+}
+
+-- a scan that can find nothing keeps its promise with no pair
+no_place : (start end size : ℕ) (b : Bool) → ltb start end ≡ b → cond b (size == 0) true ≡ true → start < end → size ≡ 0
+no_place start end size true e z l = eqb-true size 0 z
+no_place start end size false e z l = absurd (false≢true (sym e ∙ lt-ltb start end l))
+
+scan_of_none : {V : Type 0} (start end size : ℕ) (m : Pairs V) → finds_none {V = V} (point.Range start end size) ≡ true → IsScan {V = V} start end size (m ∷ []) []
+scan_of_none start end size m n = record {
+  rises = tt;
+  few = omega arith;
+  within = tt;
+  stood = tt;
+  complete = λ k a b x. inr (sym (no_place start end size (ltb start end) refl n (omega (arith, a, b))), tt);
 }
 
 -- a step that goes on with making a place free is refused for want of memory alone
@@ -227,9 +244,20 @@ module _ {V : Type 0} (same : V → V → Bool) (always : Bool) (s s' : Whole V)
         (λ i n. flight_apart fs w i (flight (begun root op)) n);
   }
 
+  -- a scan that can find nothing is done at once, and what it found is what it promises
+  found_none : (event : Event V) (start end size : ℕ) (r : Report V) → finds_none {V = V} (point.Range start end size) ≡ true → fs w ≡ Over → r ≡ quiet kind.Tree (Done (Scanned 0)) → BeginsOr fs m (point.Range start end size) r.outcome (line event r None m) fs
+  found_none event start end size r n f e =
+      let P : Report V → Type 0 = λ y. BeginsOr fs m (point.Range start end size) y.outcome (line event y None m) fs in
+      subst P (sym e) (record { free = f; none = refl; scan = scan_of_none start end size m n; stays = stays event (quiet kind.Tree (Done (Scanned 0))) m refl })
+
+  begins_scan : (event : Event V) (start end size : ℕ) (r : Report V) (none : Bool) → finds_none {V = V} (point.Range start end size) ≡ none → fs w ≡ Over → w < length s.calls → EntersUnless none s w (point.Range start end size) r s'
+      → Result event r (λ l f'. BeginsOr fs m (point.Range start end size) l.report.outcome l f')
+  begins_scan event start end size r true n f l x = unchanged event r (λ y f'. BeginsOr fs m (point.Range start end size) y.report.outcome y f') x.state (found_none event start end size r n f x.report)
+  begins_scan event start end size r false n f l x = enters event (point.Range start end size) r f l x
+
   begins_tree : (event : Event V) (op : Point V) (r : Report V) → fs w ≡ Over → w < length s.calls → BeginsOnTree same always s w op r s' → Result event r (λ l f'. BeginsOr fs m op l.report.outcome l f')
   begins_tree event (point.Get k) r f l x = enters event (point.Get k) r f l x
-  begins_tree event (point.Range start end size) r f l x = enters event (point.Range start end size) r f l x
+  begins_tree event (point.Range start end size) r f l x = begins_scan event start end size r (finds_none {V = V} (point.Range start end size)) refl f l x
   begins_tree event (point.Insert k v) r f l x = reserves event (point.Insert k v) r f l x
   begins_tree event (point.Remove k) r f l x = reserves event (point.Remove k) r f l x
   begins_tree event (point.ComputePresent k) r f l x = reserves event (point.ComputePresent k) r f l x
@@ -436,14 +464,18 @@ module _ {V : Type 0} (same : V → V → Bool) (always : Bool) (s s' : Whole V)
   walks : (noise : Noise Id V) (r : Report V) → slice_get s.calls w ≡ Some Walking → Walks same always s w noise r s' → Result (Go noise) r (λ l f'. GoMap same fs (fs w) m noise.answer l f')
   walks noise r e k =
       let x : (x : Machine Id V) × (slice_get s.machines w ≡ Some x) = machine_at Walking e in
-      let moved = k.step.plays.moved x.0 x.1 in
-      let seen = k.step.plays.watched m (own noise e k.move) st (follow noise e k.move) in
+      let moved = k.step.walked.plays.moved x.0 x.1 in
+      let seen = k.step.walked.plays.watched m (own noise e k.move) st (follow noise e k.move) in
       let P : Option (Flight V) → Type 0 = λ o. WatchedAt same (own noise e k.move) m o (record { who = w; noise = noise }) k.move seen.1 seen.0 in
       let at : WatchedAt same (own noise e k.move) m (Some (fs w)) (record { who = w; noise = noise }) k.move seen.1 seen.0 = subst P (own_at noise e k.move) seen.4 in
       let wide : w < length s.machines = slice_get_within s.machines w x.0 x.1 in
       let full : w < length (own noise e k.move) = slice_get_within (own noise e k.move) w (fs w) (own_at noise e k.move) in
-      let here : slice_get s'.machines w ≡ Some moved.now = ap (λ ms. slice_get ms w) moved.calls ∙ set_at s.machines w moved.now wide in
-      let gone : Follows moved.now at.0 = followed s'.machines seen.1 w moved.now at.0 seen.3 here (ap (λ gs. slice_get gs w) at.2 ∙ set_at (own noise e k.move) w at.0 full) in
+      let here : slice_get k.step.between w ≡ Some moved.now = ap (λ ms. slice_get ms w) moved.calls ∙ set_at s.machines w moved.now wide in
+      let gone : Follows moved.now at.0 = followed k.step.between seen.1 w moved.now at.0 seen.3 here (ap (λ gs. slice_get gs w) at.2 ∙ set_at (own noise e k.move) w at.0 full) in
+      let final_is : s'.machines ≡ set s.machines w (rested moved.now) = k.step.machines ∙ cleared_is s.machines k.step.between w x.0 moved.now x.1 moved.calls in
+      let last : slice_get s'.machines w ≡ Some (rested moved.now) = ap (λ ms. slice_get ms w) final_is ∙ set_at s.machines w (rested moved.now) wide in
+      let went : Follows (rested moved.now) at.0 =
+      rest_follows moved.now at.0 (done_over same always s.forest.version_max (Refuses s.forest) x.0 moved.now (nodes s.forest) (nodes s'.forest) noise.fail noise.answer k.move moved.step (fs w) at.0 m seen.0 noise.answer (fl.each w Walking x.0 e x.1) gone (intact.each w Walking x.0 e x.1).1 at.1) gone in
       let fly : Flown noise e k.move (fs w) r at.0 seen.0 = flown noise e k.move (fs w) r at.0 seen.0 (ap (λ y. y.decided) k.report) (ap (λ y. y.outcome) k.report) refl at.1 in
       record {
         entry = fly.entry;
@@ -454,15 +486,15 @@ module _ {V : Type 0} (same : V → V → Bool) (always : Bool) (s s' : Whole V)
         in_flight = set_in_flight fly.flights (if over_at (slice_get s'.machines w) then Idle else Walking) (slice_get_within s.calls w Walking e) k.calls
             (λ i y n b.
             let Q : List (Machine Id V) → Type 0 = λ ms. slice_get ms i ≡ Some y in
-            elim (either s.machines w i moved.now y (subst Q moved.calls b)) [
+            elim (either s.machines w i (rested moved.now) y (subst Q final_is b)) [
               | inl q ↦ absurd (n q.0)
               | inr q ↦ q.1
             ])
             (λ y b.
-            let is : moved.now ≡ y = let q : Some moved.now ≡ Some y = sym here ∙ b in cc in
+            let is : rested moved.now ≡ y = let q : Some (rested moved.now) ≡ Some y = sym last ∙ b in cc in
             let F : Machine Id V → Type 0 = λ z. Follows z at.0 in
             let G : Flight V → Type 0 = λ g. InFlight (if over_at (slice_get s'.machines w) then Idle else Walking) y g in
-            subst G (sym fly.here) (after_walk y at.0 b (subst F is gone)))
+            subst G (sym fly.here) (after_walk y at.0 b (subst F is went)))
             fly.apart;
       }
 
@@ -509,7 +541,7 @@ module _ {V : Type 0} (same : V → V → Bool) (always : Bool) (s s' : Whole V)
   walking_registered : slice_get s.calls w ≡ Some Walking → (place_of s w).registered ≡ true
   walking_registered e =
       let x : (x : Machine Id V) × (slice_get s.machines w ≡ Some x) = machine_at Walking e in
-      (intact.safe.sound.sound.guarded w x.0 x.1).registered (intact.each w Walking x.0 e x.1)
+      (intact.safe.sound.sound.guarded w x.0 x.1).registered (intact.each w Walking x.0 e x.1).0
 
   go_case : (noise : Noise Id V) (r : Report V) (k : Option (Call V)) (b : Bool) → slice_get s.calls w ≡ k → (place_of s w).registered ≡ b
       → Acts same always s w (Go noise) (if b then (if is_busy k then None else Some fault.Idle) else Some fault.Unknown) r s' → Result (Go noise) r (λ l f'. GoMap same fs (fs w) m noise.answer l f')

@@ -4,8 +4,8 @@ use Rattle.std.specs.Prelude.{Option, None, Some, slice_get}
 use Rattle.crossbeam_epoch.specs.declared.names.Name.{Name}
 use Rattle.congee.specs.declared.forms.child.Child.{Child}
 use Rattle.congee.specs.declared.forms.child.Child.TheVariants.{Node as Sub}
-use Rattle.joint.specs.declared.shared.id.Id.{Id}
-use Rattle.joint.specs.shared.Slots.{and_name, names_in}
+use Rattle.joint.specs.declared.id.Id.{Id}
+use Rattle.joint.specs.Slots.{and_name, names_in}
 
 abbrev from : {A : Type 0} → A → Option A → A
 from d None = d

@@ -1,7 +1,6 @@
 -- All is sound in the beginning.
 use Rattle.std.proofs.Common.{◌≡◌, ◌<◌, arith, ℕ, Bool, true, List, [], ◌∷◌, refl, subst, inl, inr}
 use Rattle.std.specs.Prelude.{Option, Some, is_some, slice_get}
-use Rattle.std.specs.List.{Contains}
 use Rattle.crossbeam_epoch.specs.declared.names.Name.{Name}
 use Rattle.crossbeam_epoch.specs.World.Machine.{State, place}
 use Rattle.crossbeam_epoch.specs.World.Store.{value_at}
@@ -15,13 +14,12 @@ use Rattle.congee.specs.Heap.{Node}
 use Rattle.congee.specs.protocol.Handing.{InTree}
 use Rattle.congee.specs.Ledger.{Linked}
 use Rattle.congee.specs.protocol.Holdings.{MadeBy}
-use Rattle.congee.specs.protocol.Names.{names}
 use Rattle.congee.specs.protocol.Play.{Settled}
-use Rattle.joint.specs.shared.Names.{number}
-use Rattle.joint.specs.shared.Heap.{IsView, heap_of}
-use Rattle.joint.specs.shared.Ties.{Rooted}
-use Rattle.joint.specs.shared.Laws.{CellLaws, CallLaws}
-use Rattle.joint.specs.shared.Sound.{Sound}
+use Rattle.joint.specs.Names.{number}
+use Rattle.joint.specs.Heap.{IsView, heap_of}
+use Rattle.joint.specs.Ties.{Rooted}
+use Rattle.joint.specs.Laws.{CellLaws, CallLaws}
+use Rattle.joint.specs.Sound.{Sound}
 use Rattle.joint.proofs.lemmas.Views.{ties}
 use Rattle.joint.proofs.lemmas.Paths.{in_tree}
 use Rattle.joint.proofs.lemmas.Guarded.{ended_guards, no_names}

@@ -8,9 +8,9 @@ use Rattle.crossbeam_epoch.specs.World.Store.{Store}
 use Rattle.crossbeam_epoch.specs.World.Reach.{InReach, from_root, from_cell, links_of}
 use Rattle.congee.specs.Heap.{Node, Below}
 use Rattle.congee.specs.protocol.Handing.{Leads, InTree}
-use Rattle.joint.specs.shared.Names.{number}
-use Rattle.joint.specs.shared.Ties.{Ties, Rooted}
-use Rattle.joint.specs.shared.NameLemmas.{same_name}
+use Rattle.joint.specs.Names.{number}
+use Rattle.joint.specs.Ties.{Ties, Rooted}
+use Rattle.joint.specs.NameLemmas.{same_name}
 
 -- one step further
 longer : {V : Type 0} (h : ℕ → Node V) (path : List ℕ) (a c d b : ℕ) → Leads h a path c → (h c).children b ≡ Below d → Leads h a (path ++ b ∷ []) d

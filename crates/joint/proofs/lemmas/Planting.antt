@@ -1,6 +1,6 @@
 -- A root alone in the collector's cells.
-use Rattle.std.proofs.Common.{◌≡◌, ◌≢◌, ℕ, zero, suc, ◌+◌, ◌^◌, ◌==◌, ◌<◌, ◌≤◌, Bool, true, false, List, [], ◌∷◌, ◌++◌, length, get_or, refl, sym, ◌∙◌, ap, subst, inl, inr, arith}
-use Rattle.std.specs.Prelude.{Option, None, Some, is_some, nat_lt, slice_set, if◌then◌else◌, vec_capacity}
+use Rattle.std.proofs.Common.{◌≡◌, ◌≢◌, ℕ, zero, suc, ◌+◌, ◌==◌, ◌<◌, ◌≤◌, Bool, true, false, List, [], ◌∷◌, length, get_or, refl, sym, ◌∙◌, ap, subst, inl, inr, arith}
+use Rattle.std.specs.Prelude.{Option, None, Some, is_some, nat_lt, slice_set, if◌then◌else◌}
 use Rattle.std.proofs.lemmas.Bool.{cases_eq}
 use Rattle.std.proofs.lemmas.Bool.Decides.{nat_tests}
 use Rattle.std.proofs.lemmas.List.{get_or_past}
@@ -12,27 +12,26 @@ use Rattle.crossbeam_epoch.specs.declared.names.Ptr.{Ptr}
 use Rattle.crossbeam_epoch.specs.World.Fits.{Fits, IsTable}
 use Rattle.crossbeam_epoch.specs.World.History.{Mark}
 use Rattle.crossbeam_epoch.specs.World.Machine.{State, opened, with_store, with_roots}
-use Rattle.crossbeam_epoch.specs.World.Progress.{Orderly, IsResting}
-use Rattle.crossbeam_epoch.specs.World.Reach.{Quiet, moment, marks_of, Tells}
-use Rattle.crossbeam_epoch.specs.World.Store.{Store, IsNext, fresh, cell_at, value_in, value_at, was_given, opened_store, placed}
+use Rattle.crossbeam_epoch.specs.World.Progress.{IsResting}
+use Rattle.crossbeam_epoch.specs.World.Reach.{Quiet, moment, Tells}
+use Rattle.crossbeam_epoch.specs.World.Store.{Store, IsNext, fresh, cell_at, value_in, value_at, was_given, opened_store}
 use Rattle.congee.specs.declared.forms.base_node.NodeType.TheVariants.{N256}
-use Rattle.congee.specs.protocol.Bounds.{Within, Bounded}
-use Rattle.congee.specs.Heap.{Stands}
+use Rattle.congee.specs.protocol.Bounds.{Within}
 use Rattle.congee.specs.protocol.Opening.{FreshRoot}
-use Rattle.joint.specs.declared.shared.counts.Counts.{Counts}
-use Rattle.joint.specs.declared.shared.counts.Tally.{Tally}
-use Rattle.joint.specs.declared.shared.limits.Limits.{Limits}
-use Rattle.joint.specs.declared.shared.slot.Slot.{Slot}
-use Rattle.joint.specs.shared.Altering.{Fills, IsFresh}
-use Rattle.joint.specs.shared.Forest.{Forest, nodes, of_cell, total, size, waits, waiting_size, sizes, waiting, waiting_bytes, IsTally, IsKept}
-use Rattle.joint.specs.shared.Limits.{AreAllowed}
-use Rattle.joint.specs.shared.Machines.{slot_names}
-use Rattle.joint.specs.shared.NameLemmas.{number_named}
-use Rattle.joint.specs.shared.Names.{number, named}
-use Rattle.joint.specs.shared.Opening.{top, top_roots, IsPlanted, IsOpened}
-use Rattle.joint.specs.shared.Solid.{IsWhole}
-use Rattle.joint.specs.shared.Tallies.{tally_at, noted}
-use Rattle.joint.specs.shared.View.{heap, view, node_of}
+use Rattle.joint.specs.declared.counts.Counts.{Counts}
+use Rattle.joint.specs.declared.counts.Tally.{Tally}
+use Rattle.joint.specs.declared.limits.Limits.{Limits}
+use Rattle.joint.specs.declared.slot.Slot.{Slot}
+use Rattle.joint.specs.Altering.{Fills, IsNewSlot}
+use Rattle.joint.specs.Forest.{Forest, nodes, of_cell, total, size, waits, waiting_size, sizes, waiting, waiting_bytes, IsTally, IsKept}
+use Rattle.joint.specs.Limits.{AreAllowed}
+use Rattle.joint.specs.Machines.{slot_names}
+use Rattle.joint.specs.NameLemmas.{number_named}
+use Rattle.joint.specs.Names.{number, named}
+use Rattle.joint.specs.Opening.{top, top_roots, IsPlanted, IsOpened}
+use Rattle.joint.specs.Solid.{IsWhole}
+use Rattle.joint.specs.Tallies.{tally_at, noted}
+use Rattle.joint.specs.View.{view, node_of}
 use Rattle.joint.proofs.lemmas.Altering.{cell_of, given}
 use Rattle.joint.proofs.lemmas.Kept.{same_some}
 
@@ -124,7 +123,7 @@ module _ {P : Type 0} (limits : Limits) (F : Forest P) (k : Counts) (planted : I
   fills : Fills st0 top s st
   fills = planted.root.1.0
 
-  new : IsFresh s N256 []
+  new : IsNewSlot s N256 []
   new = planted.root.1.1
 
   store_is : st ≡ one
@@ -140,6 +139,9 @@ module _ {P : Type 0} (limits : Limits) (F : Forest P) (k : Counts) (planted : I
   turns_one : (i : ℕ) → (cell_at one i).turns ≤ limits.epoch.turn_max + 1
   turns_one zero = omega arith
   turns_one (suc i) = (let f : (get_or {A = Cell (Slot P)} [] i fresh).turns ≡ 0 = (let q : get_or {A = Cell (Slot P)} [] i fresh ≡ fresh = get_or_past [] i fresh (omega arith) in ap (λ y. y.turns) q) in omega (arith, f))
+
+  used_one : (i : ℕ) → i < 1 → 1 ≤ (cell_at st i).turns
+  used_one i l = (let z : i ≡ 0 = omega (arith, l) in let q : (cell_at st i).turns ≡ 1 = ap (λ j. (cell_at st j).turns) z ∙ ap (λ y. (cell_at y 0).turns) store_is in omega (arith, q))
 
   one_total : (f : Slot P → ℕ) → total f one ≡ f s
   one_total f = (let e = sum_by-cons (of_cell f) (record { turns = 1; value = Some s }) [] in omega (arith, e))
@@ -170,6 +172,7 @@ module _ {P : Type 0} (limits : Limits) (F : Forest P) (k : Counts) (planted : I
         wide = ap length planted.tallies ∙ sym long;
         bounded = omega (arith, long, most, allowed.some_cell);
         few = omega (arith, most, allowed.cells);
+        used = λ i l. used_one i (omega (arith, l, long));
         turns = λ i. (let a : (cell_at st i).turns ≡ (cell_at one i).turns = ap (λ y. (cell_at y i).turns) store_is in let b = turns_one i in omega (arith, a, b, last));
         last = omega (arith, last, planted.last);
         roomy = omega (arith, most, planted.room);
@@ -215,8 +218,8 @@ module _ {P : Type 0} (limits : Limits) (F : Forest P) (k : Counts) (planted : I
     | inr ne ↦ (let bad : true ≡ false = sym stands.made ∙ ap (λ x. x.made) (other_node n ne) in absurd (cc bad))
   ]
 
-  pub is_opened : (charge limit : ℕ) → F.base ≡ charge → F.charge ≡ charge + 2104 → F.limit ≡ limit → F.version_max ≡ limits.version_max → IsOpened limits charge limit F
-  is_opened charge limit base charged limit_is versions = record {
+  pub is_opened : (charge limit : ℕ) → charge + 2104 ≤ limit → F.base ≡ charge → F.charge ≡ charge + 2104 → F.limit ≡ limit → F.version_max ≡ limits.version_max → IsOpened limits charge limit F
+  is_opened charge limit fits base charged limit_is versions = record {
     allowed = allowed;
     fresh = fresh_root;
     within = within_root limits.version_max;
@@ -225,6 +228,7 @@ module _ {P : Type 0} (limits : Limits) (F : Forest P) (k : Counts) (planted : I
     clock = planted.clock;
     told = planted.told;
     base = base;
+    fits = fits;
     charged = charged;
     limit_is = limit_is;
     versions = versions;

@@ -1,9 +1,9 @@
 -- What is in reach in a state was in reach at a moment of its history.
-use Rattle.std.proofs.Common.{◌≡◌, ℕ, List, [], ◌∷◌, inl, inr}
+use Rattle.std.proofs.Common.{List, [], ◌∷◌, inl, inr}
 use Rattle.crossbeam_epoch.specs.declared.names.Name.{Name}
 use Rattle.crossbeam_epoch.specs.World.Machine.{State}
 use Rattle.crossbeam_epoch.specs.World.Reach.{Moment, InReach, WasIn, WasLive, EntersLive, links_of, IsNow}
-use Rattle.joint.specs.shared.Laws.{CellLaws}
+use Rattle.joint.specs.Laws.{CellLaws}
 
 abbrev pub Reaches : {T J : Type 0} → (T → List Name) → State T J → Name → Type 0
 Reaches names s n = InReach s.roots (links_of names s.store) n

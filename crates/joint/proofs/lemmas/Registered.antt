@@ -1,28 +1,27 @@
 -- Where a worker takes a place, the machine stays intact.
 use Rattle.std.proofs.Common.{◌≡◌, ◌<◌, ℕ, Bool, true, false, List, ◌∷◌, refl, sym, ◌∙◌, ap, subst, inl, inr}
-use Rattle.std.specs.Prelude.{Option, None, Some, is_some, length, slice_get}
+use Rattle.std.specs.Prelude.{Some, length, slice_get}
 use Rattle.std.proofs.lemmas.Bool.{cases_eq}
 use Rattle.std.proofs.lemmas.List.{length-set, get_or-set_same, get_or-set_other}
 use Rattle.crossbeam_epoch.specs.declared.names.Name.{Name}
 use Rattle.crossbeam_epoch.specs.declared.world.participant.Participant.{Participant}
 use Rattle.crossbeam_epoch.specs.World.History.{WasDeferred}
 use Rattle.crossbeam_epoch.specs.World.Machine.{State, blank, place, registered}
-use Rattle.crossbeam_epoch.specs.World.Reach.{Act, Quiet, Marked, GivenBack, Moment, marks_of, IsIn, WasIn, moment, Tells}
-use Rattle.crossbeam_epoch.specs.World.Store.{value_at}
+use Rattle.crossbeam_epoch.specs.World.Reach.{Act, Quiet, Marked, GivenBack, Moment, marks_of, moment, Tells}
 use Rattle.congee.specs.declared.protocol.machine.Machine.{Machine}
 use Rattle.congee.specs.protocol.Handing.{InTree}
 use Rattle.congee.specs.Ledger.{Linked}
-use Rattle.joint.specs.declared.shared.call.Call.{Call}
-use Rattle.joint.specs.declared.shared.call.Call.TheVariants.{Idle, Collecting, Securing, Walking}
-use Rattle.joint.specs.declared.shared.id.Id.{Id}
-use Rattle.joint.specs.declared.shared.slot.Slot.{Slot}
-use Rattle.joint.specs.shared.Forest.{Forest, nodes, with_collector}
-use Rattle.joint.specs.shared.Intact.{IsAt, IsIntact}
-use Rattle.joint.specs.shared.Laws.{CellLaws, CallLaws}
-use Rattle.joint.specs.shared.Machines.{slot_names, IsSound, IsSafe}
-use Rattle.joint.specs.shared.Names.{number}
-use Rattle.joint.specs.shared.Sound.{Guards, Sound}
-use Rattle.joint.specs.shared.View.{view, heap, id_number}
+use Rattle.joint.specs.declared.call.Call.{Call}
+use Rattle.joint.specs.declared.call.Call.TheVariants.{Idle, Collecting, Securing, Walking}
+use Rattle.joint.specs.declared.id.Id.{Id}
+use Rattle.joint.specs.declared.slot.Slot.{Slot}
+use Rattle.joint.specs.Forest.{Forest, with_collector}
+use Rattle.joint.specs.Intact.{IsAt, IsIntact}
+use Rattle.joint.specs.Laws.{CellLaws, CallLaws}
+use Rattle.joint.specs.Machines.{slot_names}
+use Rattle.joint.specs.Names.{number}
+use Rattle.joint.specs.Sound.{Guards, Sound}
+use Rattle.joint.specs.View.{view, heap, id_number}
 use Rattle.joint.proofs.lemmas.Paths.{in_tree}
 use Rattle.joint.proofs.lemmas.Reaching.{Reaches, was_in}
 use Rattle.joint.proofs.lemmas.SlotViews.{slot_view}

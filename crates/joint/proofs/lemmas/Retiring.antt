@@ -1,11 +1,11 @@
 -- Which phase hands a node over.
 use Rattle.std.proofs.Common.{◌≡◌, refl, ap}
-use Rattle.std.specs.Prelude.{Option, None, Some}
+use Rattle.std.specs.Prelude.{None, Some}
 use Rattle.judge.specs.declared.journal.Reply.{Reply}
 use Rattle.congee.specs.declared.protocol.phase.Phase.{Phase}
 use Rattle.congee.specs.declared.protocol.phase.Phase.TheVariants.{Retire}
-use Rattle.joint.specs.declared.shared.id.Id.{Id}
-use Rattle.joint.specs.shared.Machines.{retiring}
+use Rattle.joint.specs.declared.id.Id.{Id}
+use Rattle.joint.specs.Machines.{retiring}
 
 pub retiring_none : {V : Type 0} (s : Phase Id V) → ((n p : Id) (r : Reply V) → s ≡ Retire n p r → ⊥) → None ≡ retiring s
 retiring_none (Retire n p r) f = absurd (f n p r refl)

@@ -6,11 +6,11 @@ use Rattle.std.proofs.lemmas.List.{append_assoc, length-append}
 use Rattle.std.proofs.Math.Seq.{take-append_seam}
 use Rattle.judge.specs.Answer.{Pairs}
 use Rattle.congee.specs.Keys.{IsMapOf}
-use Rattle.joint.specs.declared.shared.steps.Report.{Report}
-use Rattle.joint.specs.declared.shared.steps.Step.{Step}
-use Rattle.joint.specs.shared.Forest.{nodes}
-use Rattle.joint.specs.shared.Runs.{Taken, after_all, IsRun, Line, Flights, AreLines, AreInFlight, PlaysMap, RunsMap, pairs_after, no_flights, IsFresh}
-use Rattle.joint.specs.shared.Whole.{Whole, Holds, IsStep}
+use Rattle.joint.specs.declared.steps.Report.{Report}
+use Rattle.joint.specs.declared.steps.Step.{Step}
+use Rattle.joint.specs.Forest.{nodes}
+use Rattle.joint.specs.Runs.{Taken, after_all, IsRun, Line, Flights, AreLines, AreInFlight, PlaysMap, RunsMap, pairs_after, no_flights, IsFresh}
+use Rattle.joint.specs.Whole.{Whole, Holds, IsStep}
 use Rattle.joint.proofs.lemmas.Runs.{runs_join, runs_map, entries_legal, standing_empty, fresh_flights}
 
 module _ {V : Type 0} (same : V → V → Bool) (always : Bool) where

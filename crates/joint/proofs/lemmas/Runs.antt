@@ -14,19 +14,20 @@ use Rattle.congee.specs.Heap.{Node, Hung, fits, child_for, of_child, walk, value
 use Rattle.congee.specs.Keys.{IsMapOf, key_bytes}
 use Rattle.congee.specs.protocol.Opening.{RootAlone}
 use Rattle.congee.specs.protocol.Play.{Flight, Pending, Decided, Over, Unbegun, Scanning, Question, heard, resolved}
-use Rattle.joint.specs.declared.shared.call.Call.{Call}
-use Rattle.joint.specs.declared.shared.steps.Event.{Event}
-use Rattle.joint.specs.declared.shared.steps.Event.TheVariants.{Register, Begin, Go}
-use Rattle.joint.specs.declared.shared.steps.Outcome.{Outcome}
-use Rattle.joint.specs.declared.shared.steps.Outcome.TheVariants.{Refused}
-use Rattle.joint.specs.declared.shared.steps.Report.{Report}
-use Rattle.joint.specs.declared.shared.steps.Step.{Step}
-use Rattle.joint.specs.declared.shared.steps.Target.{Target}
-use Rattle.joint.specs.declared.shared.steps.Target.TheVariants as target
-use Rattle.joint.specs.shared.Forest.{nodes}
-use Rattle.joint.specs.shared.Reports.{target}
-use Rattle.joint.specs.shared.Runs.{Taken, AreTaken, after_all, IsRun, Line, Flights, Stays, BeginsOr, BeginMap, PendingStep, GoMap, EventMap, IsMapRun, with_entry, entries, pairs_after, no_flights, InFlight, AreInFlight, PlaysMap, AllHold, IsFresh}
-use Rattle.joint.specs.shared.Whole.{Whole, Holds}
+use Rattle.joint.specs.declared.call.Call.{Call}
+use Rattle.joint.specs.declared.steps.Event.{Event}
+use Rattle.joint.specs.declared.steps.Event.TheVariants.{Register, Begin, Go}
+use Rattle.joint.specs.declared.steps.Outcome.{Outcome}
+use Rattle.joint.specs.declared.steps.Outcome.TheVariants.{Done, Refused}
+use Rattle.joint.specs.declared.steps.Report.{Report}
+use Rattle.joint.specs.declared.steps.Step.{Step}
+use Rattle.joint.specs.declared.steps.Target.{Target}
+use Rattle.joint.specs.declared.steps.Target.TheVariants as target
+use Rattle.joint.specs.Forest.{nodes}
+use Rattle.joint.specs.Reports.{target}
+use Rattle.joint.specs.Runs.{Taken, AreTaken, after_all, IsRun, Line, Flights, Stays, BeginsOr, BeginMap, PendingStep, GoMap, EventMap, IsMapRun, with_entry, entries, pairs_after, no_flights, InFlight, AreInFlight, PlaysMap, AllHold, IsFresh}
+use Rattle.joint.specs.Whole.{Whole, Holds}
+use Rattle.joint.proofs.lemmas.Flights.{ends_stays}
 use Rattle.joint.proofs.lemmas.MapSteps.{Result, on_map}
 
 module _ {V : Type 0} (same : V → V → Bool) (always : Bool) where
@@ -79,6 +80,7 @@ module _ {V : Type 0} (same : V → V → Bool) (always : Bool) where
 
   begin_entered : (fs : Flights V) (m : Pairs V) (op : Point V) (o : Outcome V) (l : Line V) (fs' : Flights V) → BeginsOr fs m op o l fs' → Entered m l
   begin_entered fs m op (Refused e) l fs' x = stays_entered fs m l fs' x
+  begin_entered fs m op (Done d) l fs' x = stays_entered fs m l fs' (ends_stays fs m op d l fs' x)
   begin_entered fs m op _ l fs' x = inl (x.no_entry, x.same_pairs)
 
   target_entered : (fs : Flights V) (m : Pairs V) (t : Target V) (l : Line V) (fs' : Flights V) → BeginMap fs m t l fs' → Entered m l

@@ -1,10 +1,8 @@
 -- A call that may still hand a node over keeps its place in the bag from step to step, and a reading call needs none.
-use Rattle.std.proofs.Common.{◌≡◌, ◌<◌, ℕ, ◌==◌, arith, Bool, true, false, List, refl, sym, ◌∙◌, subst, inl, inr, ◌⊎◌}
+use Rattle.std.proofs.Common.{◌≡◌, ◌<◌, ℕ, ◌==◌, Bool, true, false, List, refl, sym, subst, inl, inr, ◌⊎◌}
 use Rattle.std.specs.Prelude.{Option, None, Some, Result, Ok, Err, cond}
 use Rattle.judge.specs.declared.journal.Call.{Call}
-use Rattle.judge.specs.declared.journal.Call.TheVariants as call
 use Rattle.judge.specs.declared.journal.Reply.{Reply}
-use Rattle.judge.specs.declared.journal.Reply.TheVariants as reply
 use Rattle.judge.specs.Answer.{leaves}
 use Rattle.congee.specs.declared.forms.base_node.NodeType.{NodeType}
 use Rattle.congee.specs.declared.forms.child.Child.{Child}
@@ -30,11 +28,11 @@ use Rattle.congee.specs.declared.protocol.phase.Plan.TheVariants.{Here, Above}
 use Rattle.congee.specs.declared.protocol.phase.Phase.{Phase}
 use Rattle.congee.specs.declared.protocol.phase.Phase.TheVariants.{New, Version, Read, Check, CheckUncopied, CheckMiss, CheckDown, CheckOld, MakeLeaf, MakeGreater, MakeTop, MakeBeside, AskOld, AskNew, Confirm, CheckAbove, UpgradeOne, ChangeOne, UpgradeAbove, UpgradeBelow, ChangeTwo, Obsolete, Retire, UnlockBelow, Unlock, Unwind, Sweep, Ended}
 use Rattle.congee.specs.declared.protocol.turn.Turn.{Turn}
-use Rattle.congee.specs.Heap.{Node, version_of, is_taken}
+use Rattle.congee.specs.Heap.{Node, is_taken}
 use Rattle.congee.specs.Ledger.{Note}
-use Rattle.congee.specs.protocol.Protocol.{Known, FitsTwo, Settles, IsCall}
-use Rattle.congee.specs.protocol.Steps.{PhaseStepped, quiet, again, answered, refused, adds, asks_new, absent_reply, after_version, after_read, down, started, ready, plan_here, unless_full, missing, absent, CopyFailed, IsAsked, replaced, taken_out, emptied, is_same, IsAtOld, IsAdded, IsExchanged, IsCompared, IsPresent, IsChecked, IsIf, after_miss, IsGiven, IsGivenNew, MadeLeaf, MadeGreater, MadeTop, MadeBeside, UpgradedOne, UpgradedAbove, UpgradedBelow, unwound, after_change}
-use Rattle.joint.specs.shared.Sound.{IsSecured}
+use Rattle.congee.specs.protocol.Protocol.{Known, FitsTwo, Settles}
+use Rattle.congee.specs.protocol.Steps.{PhaseStepped, quiet, again, answered, refused, adds, asks_new, absent_reply, after_version, after_read, down, started, ready, plan_here, unless_full, missing, absent, CopyFailed, IsAsked, replaced, taken_out, is_same, IsAtOld, IsAdded, IsExchanged, IsCompared, IsPresent, IsChecked, IsIf, after_miss, IsGiven, IsGivenNew, MadeLeaf, MadeGreater, MadeTop, MadeBeside, UpgradedOne, UpgradedAbove, UpgradedBelow, unwound}
+use Rattle.joint.specs.Sound.{IsSecured}
 
 -- the call has not taken a node out of the tree that it has yet to hand over
 abbrev pub OwesNone : {C V : Type 0} → Phase C V → Type 0
@@ -221,7 +219,7 @@ module _ {C V : Type 0} where
   module _ (number : C → ℕ) (same : V → V → Bool) (always : Bool) (most : ℕ) (why : NodeType → Refusal → Type 0) (root : C) (key : List ℕ) (kind : Kind V) (fail : Bool) (answer : Option (Option V)) (new new' : Option V) (h h' : ℕ → Node V) (t : Turn C V) where
     -- a step from any other phase leaves the call owing nothing
     pub step_light : (s : Phase C V) → (Unlinks s → ⊥) → PhaseStepped number same always most why root key kind fail answer new s h new' t h' → Light t
-    step_light New never g = at t _ g.2 tt
+    step_light New never g = version_light root None root _ t g.2
     step_light (Version above n) never g = version_light root above n _ t g.2
     step_light (Read above s) never g = at t _ g.2.2 (read_light root above s g.2.0)
     step_light (Check s c) never g = if_light (is_taken (h (number s.at.node)) s.at.version) root (IsChecked always same kind new s c) t (λ u x. checked_light always same kind new s c u x) g.2

@@ -1,7 +1,7 @@
 -- What a look at a byte finds is what a call is to see.
-use Rattle.std.proofs.Common.{◌≡◌, ◌≢◌, ℕ, zero, suc, ◌+◌, ◌-◌, ◌<◌, ◌≤◌, ◌==◌, Bool, true, false, cond, List, [], ◌∷◌, length, Option, None, Some, IsSome, refl, sym, ◌∙◌, ap, subst, inl, inr, arith}
+use Rattle.std.proofs.Common.{◌≡◌, ◌≢◌, ℕ, ◌+◌, ◌-◌, ◌<◌, ◌≤◌, List, [], ◌∷◌, length, Option, None, Some, IsSome, refl, sym, ◌∙◌, ap, subst, inl, inr, arith}
 use Rattle.std.specs.Prelude.{slice_index}
-use Rattle.std.specs.Ordering.{nat_cmp, eq_by_cmp}
+use Rattle.std.specs.Ordering.{nat_cmp}
 use Rattle.std.specs.Cmp.{nat_cmp_total}
 use Rattle.std.specs.FinMap as map
 use Rattle.std.proofs.lemmas.Bool.{cases_eq, ne_eqb}
@@ -9,16 +9,16 @@ use Rattle.congee.specs.declared.forms.child.Child.{Child}
 use Rattle.congee.specs.declared.forms.child.Child.TheVariants.{Blank, Node as Sub, Value}
 use Rattle.congee.specs.declared.forms.base_node.Node.{Node as Form}
 use Rattle.congee.specs.declared.protocol.store.Seen.{Seen}
-use Rattle.congee.specs.protocol.Events.{hung, SeenTruly}
+use Rattle.congee.specs.protocol.Events.{SeenTruly}
 use Rattle.congee.specs.forms.Forms.{children_of, prefix_of}
 use Rattle.congee.specs.Heap.{Nothing}
 use Rattle.congee.specs.forms.Places.{AllKeys, Rises}
 use Rattle.congee.proofs.lemmas.forms.BetweenLemmas.{get_find, all_found}
 use Rattle.congee.proofs.lemmas.forms.MapLemmas.{same_is}
-use Rattle.joint.specs.declared.shared.id.Id.{Id}
-use Rattle.joint.specs.declared.shared.slot.Word.{Word}
-use Rattle.joint.specs.shared.Solid.{IsSolid, IsLook}
-use Rattle.joint.specs.shared.View.{id_number, hung_at, child_at, shape}
+use Rattle.joint.specs.declared.id.Id.{Id}
+use Rattle.joint.specs.declared.slot.Word.{Word}
+use Rattle.joint.specs.Solid.{IsSolid, IsLook}
+use Rattle.joint.specs.View.{id_number, hung_at, child_at, shape}
 use Rattle.joint.proofs.lemmas.SlotViews.{rises_entries}
 
 module _ {X : Type 0} where

@@ -17,12 +17,12 @@ use Rattle.congee.specs.forms.Places.{AllKeys, Rises}
 use Rattle.congee.specs.Heap.{Hung, Below, Nothing, Holds}
 use Rattle.congee.proofs.lemmas.forms.Entries.{find}
 use Rattle.congee.proofs.lemmas.forms.BetweenLemmas.{get_find}
-use Rattle.joint.specs.declared.shared.id.Id.{Id}
-use Rattle.joint.specs.declared.shared.slot.Slot.{Slot}
-use Rattle.joint.specs.shared.Names.{number}
-use Rattle.joint.specs.shared.Heap.{IsView}
-use Rattle.joint.specs.shared.Slots.{and_name, names_in, names_of}
-use Rattle.joint.specs.shared.View.{hung_at, child_in, view}
+use Rattle.joint.specs.declared.id.Id.{Id}
+use Rattle.joint.specs.declared.slot.Slot.{Slot}
+use Rattle.joint.specs.Names.{number}
+use Rattle.joint.specs.Heap.{IsView}
+use Rattle.joint.specs.Slots.{and_name, names_in, names_of}
+use Rattle.joint.specs.View.{hung_at, child_in, view}
 
 is_true : (b : Bool) → T b → b ≡ true
 is_true true t = refl

@@ -16,20 +16,20 @@ use Rattle.congee.specs.Heap.{Node, Stands}
 use Rattle.congee.specs.protocol.Leaving.{StepLeaves}
 use Rattle.congee.specs.protocol.Names.{names}
 use Rattle.congee.specs.protocol.Play.{EachKnown, Settled}
-use Rattle.joint.specs.declared.shared.call.Call.{Call}
-use Rattle.joint.specs.declared.shared.call.Call.TheVariants.{Idle, Collecting, Securing, Walking}
-use Rattle.joint.specs.declared.shared.id.Id.{Id}
-use Rattle.joint.specs.declared.shared.steps.Event.{Event}
-use Rattle.joint.specs.declared.shared.steps.Event.TheVariants.{Register, Begin, Go}
-use Rattle.joint.specs.declared.shared.steps.Report.{Report}
-use Rattle.joint.specs.declared.shared.steps.Target.{Target}
-use Rattle.joint.specs.declared.shared.steps.Target.TheVariants as target
-use Rattle.joint.specs.shared.Forest.{Forest, nodes, Refuses}
-use Rattle.joint.specs.shared.Laws.{LeavesLaw}
-use Rattle.joint.specs.shared.Reports.{target}
-use Rattle.joint.specs.shared.Runs.{Taken, AreTaken, AllSpare}
-use Rattle.joint.specs.shared.View.{id_number}
-use Rattle.joint.specs.shared.Whole.{Whole, Holds, misuse, Walks, BeginsAt, BeginsOnTree, GoesAt, Proceeds, Does, SparesUsed}
+use Rattle.joint.specs.declared.call.Call.{Call}
+use Rattle.joint.specs.declared.call.Call.TheVariants.{Idle, Collecting, Securing, Walking}
+use Rattle.joint.specs.declared.id.Id.{Id}
+use Rattle.joint.specs.declared.steps.Event.{Event}
+use Rattle.joint.specs.declared.steps.Event.TheVariants.{Register, Begin, Go}
+use Rattle.joint.specs.declared.steps.Report.{Report}
+use Rattle.joint.specs.declared.steps.Target.{Target}
+use Rattle.joint.specs.declared.steps.Target.TheVariants as target
+use Rattle.joint.specs.Forest.{Forest, nodes, Refuses}
+use Rattle.joint.specs.Laws.{LeavesLaw}
+use Rattle.joint.specs.Reports.{target}
+use Rattle.joint.specs.Runs.{Taken, AreTaken, AllSpare}
+use Rattle.joint.specs.View.{id_number}
+use Rattle.joint.specs.Whole.{Whole, Holds, misuse, finds_none, EntersUnless, Walks, BeginsAt, BeginsOnTree, GoesAt, Proceeds, Does, SparesUsed}
 
 -- what a step of the collector destroys waited, and no call has its name
 collected_spares : {V : Type 0} (h h' : ℕ → Node V) (ms : List (Machine Id V)) (n : ℕ) → Destroys id_number h ms h' → Stands (h n)
@@ -69,7 +69,7 @@ module _ {V : Type 0} (same : V → V → Bool) (always : Bool) (leaves : (s : F
     walks : (noise : Noise Id V) (r : Report V) → slice_get s.calls w ≡ Some Walking → Walks same always s w noise r s' → SparesUsed s w s'
     walks noise r e k n st =
         let x : (x : Machine Id V) × (slice_get s.machines w ≡ Some x) = machine_at Walking e in
-        let moved = k.step.plays.moved x.0 x.1 in
+        let moved = k.step.walked.plays.moved x.0 x.1 in
         let settled : Settled id_number same always (nodes s.forest) s.machines = holds.0.safe.sound.sound.settled in
         let known : EachKnown id_number same always settled.0 (nodes s.forest) w x.0 = settled.1.each w x.0 x.1 in
         let keeps : Keeps id_number same always w settled.0 x.0 (nodes s.forest) moved.now (nodes s'.forest) k.move = moved.keeps w settled.0 known.root settled.1.tree settled.1.words known.known in
@@ -80,9 +80,13 @@ module _ {V : Type 0} (same : V → V → Bool) (always : Bool) (leaves : (s : F
           | inr y ↦ inr (inr (x.0, x.1, y))
         ]
 
+    scan_begins : (op : Point V) (r : Report V) (none : Bool) → EntersUnless none s w op r s' → SparesUsed s w s'
+    scan_begins op r true x = as_before (ap (λ y. nodes y.forest) x.state)
+    scan_begins op r false x = as_before (ap (λ y. nodes y.forest) x.state)
+
     begins_tree : (op : Point V) (r : Report V) → BeginsOnTree same always s w op r s' → SparesUsed s w s'
     begins_tree (point.Get k) r x = as_before (ap (λ y. nodes y.forest) x.state)
-    begins_tree (point.Range start end size) r x = as_before (ap (λ y. nodes y.forest) x.state)
+    begins_tree (point.Range start end size) r x = scan_begins (point.Range start end size) r (finds_none {V = V} (point.Range start end size)) x
     begins_tree (point.Insert k v) r x = by_collector x.step.destroys
     begins_tree (point.Remove k) r x = by_collector x.step.destroys
     begins_tree (point.ComputePresent k) r x = by_collector x.step.destroys

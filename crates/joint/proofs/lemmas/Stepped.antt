@@ -1,17 +1,16 @@
 -- A step of a call leaves tree, calls and history sound, where it changes nothing of the collector but the cells.
-use Rattle.std.proofs.Common.{◌≡◌, ◌+◌, arith, ℕ, Bool, true, false, List, [], ◌∷◌, refl, sym, ◌∙◌, ap, subst, inl, inr, ◌⊎◌}
+use Rattle.std.proofs.Common.{◌≡◌, ℕ, Bool, true, false, List, [], ◌∷◌, refl, sym, ◌∙◌, ap, subst, inl, inr, ◌⊎◌}
 use Rattle.std.proofs.Math.ListN.{set}
 use Rattle.std.specs.Prelude.{Option, None, Some, is_some, slice_get}
 use Rattle.std.specs.List.{Contains, All}
-use Rattle.std.proofs.lemmas.Bool.Decides.{nat_tests}
 use Rattle.std.proofs.lemmas.List.Elements.{All-contains}
 use Rattle.crossbeam_epoch.specs.declared.names.Name.{Name}
 use Rattle.crossbeam_epoch.specs.World.Machine.{State, place, with_store}
 use Rattle.crossbeam_epoch.specs.World.History.{Mark, began, WasDeferred}
-use Rattle.crossbeam_epoch.specs.World.Store.{Store, value_at, was_given, cell_at}
+use Rattle.crossbeam_epoch.specs.World.Store.{Store, value_at, was_given}
 use Rattle.crossbeam_epoch.specs.World.Progress.{Orderly}
 use Rattle.crossbeam_epoch.specs.World.Fits.{Fits}
-use Rattle.crossbeam_epoch.specs.World.Reach.{Act, Quiet, Marked, GivenBack, Moment, marks_of, IsIn, WasIn, WasLive, Visible, EntersLive, IsCareful, moment, Tells}
+use Rattle.crossbeam_epoch.specs.World.Reach.{Act, Quiet, Marked, GivenBack, Moment, marks_of, IsIn, WasIn, Visible, IsCareful, moment, Tells}
 use Rattle.congee.specs.declared.protocol.machine.Machine.{Machine}
 use Rattle.congee.specs.declared.protocol.machine.Move.{Move}
 use Rattle.congee.specs.Heap.{Node, Below, Stands}
@@ -22,12 +21,11 @@ use Rattle.congee.specs.protocol.Names.{names, Comes, Had, Top, New_made, Hangs}
 use Rattle.congee.specs.protocol.Answers.{Keeps}
 use Rattle.congee.specs.protocol.Play.{EachKnown, Settled}
 use Rattle.congee.specs.protocol.Leaving.{StepLeaves}
-use Rattle.joint.specs.shared.Names.{number}
-use Rattle.joint.specs.shared.Heap.{IsView, heap_of}
-use Rattle.joint.specs.shared.Ties.{Ties}
-use Rattle.joint.specs.shared.Laws.{CellLaws, CallLaws}
-use Rattle.joint.specs.shared.Sound.{IsUnderWay, IsSecured, Guards, Sound}
-use Rattle.joint.proofs.lemmas.Guarded.{in_stretch}
+use Rattle.joint.specs.Names.{number}
+use Rattle.joint.specs.Heap.{IsView, heap_of}
+use Rattle.joint.specs.Ties.{Ties}
+use Rattle.joint.specs.Laws.{CellLaws, CallLaws}
+use Rattle.joint.specs.Sound.{Guards, Sound}
 use Rattle.joint.proofs.lemmas.Views.{ties, here}
 use Rattle.joint.proofs.lemmas.Paths.{in_tree, in_reach}
 use Rattle.joint.proofs.lemmas.Reaching.{Reaches, was_in, entered_live}

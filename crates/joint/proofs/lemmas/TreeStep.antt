@@ -5,10 +5,9 @@ use Rattle.std.specs.Prelude.{Option, None, Some, is_some, length, slice_get}
 use Rattle.std.proofs.lemmas.List.{length-set}
 use Rattle.std.specs.List.{Contains}
 use Rattle.judge.specs.declared.journal.Reply.{Reply}
-use Rattle.crossbeam_epoch.specs.declared.names.Name.{Name}
 use Rattle.crossbeam_epoch.specs.World.History.{Mark, WasDeferred}
 use Rattle.crossbeam_epoch.specs.World.Machine.{State, place, with_store}
-use Rattle.crossbeam_epoch.specs.World.Reach.{Moment, marks_of, WasIn}
+use Rattle.crossbeam_epoch.specs.World.Reach.{marks_of, WasIn}
 use Rattle.crossbeam_epoch.specs.World.Store.{Store, value_at}
 use Rattle.congee.specs.declared.protocol.run.Step.{Step}
 use Rattle.congee.specs.declared.protocol.machine.Machine.{Machine}
@@ -18,23 +17,21 @@ use Rattle.congee.specs.declared.protocol.phase.Phase.{Phase}
 use Rattle.congee.specs.declared.protocol.phase.Phase.TheVariants.{Retire, Unlock}
 use Rattle.congee.specs.protocol.Bounds.{Within}
 use Rattle.congee.specs.protocol.Events.{RetireGives}
-use Rattle.congee.specs.Heap.{Node, Stands}
+use Rattle.congee.specs.Heap.{Stands}
 use Rattle.congee.specs.Keys.{key_bytes}
 use Rattle.congee.specs.protocol.Holdings.{MadeBy}
-use Rattle.congee.specs.Ledger.{Note, is_published}
+use Rattle.congee.specs.Ledger.{is_published}
 use Rattle.congee.specs.protocol.Names.{names}
 use Rattle.congee.specs.protocol.Play.{EachKnown, Protocol, IsMoved, StepPlays, Settled}
 use Rattle.congee.specs.protocol.Protocol.{Known, TakenOut}
 use Rattle.congee.specs.protocol.Steps.{PhaseStepped}
-use Rattle.joint.specs.declared.shared.id.Id.{Id}
-use Rattle.joint.specs.declared.shared.slot.Slot.{Slot}
-use Rattle.joint.specs.shared.Forest.{Forest, nodes, frame, Refuses}
-use Rattle.joint.specs.shared.Laws.{CellLaws, CallLaws, LeavesLaw}
-use Rattle.joint.specs.shared.Machines.{slot_names, IsSound, IsSafe, Runs, retiring, retiring_at, LetsGo, Owes, IsSafeOrOwes}
-use Rattle.joint.specs.shared.Names.{number}
-use Rattle.joint.specs.shared.Sound.{IsUnderWay, IsSecured, Guards}
-use Rattle.joint.specs.shared.Ties.{Ties}
-use Rattle.joint.specs.shared.View.{view, heap, id_number}
+use Rattle.joint.specs.declared.id.Id.{Id}
+use Rattle.joint.specs.declared.slot.Slot.{Slot}
+use Rattle.joint.specs.Forest.{Forest, nodes, frame, Refuses}
+use Rattle.joint.specs.Laws.{CellLaws, CallLaws, LeavesLaw}
+use Rattle.joint.specs.Machines.{slot_names, IsSound, IsSafe, Runs, retiring, retiring_at, LetsGo, Owes, IsSafeOrOwes}
+use Rattle.joint.specs.Sound.{IsSecured, Guards}
+use Rattle.joint.specs.View.{view, heap, id_number}
 use Rattle.joint.proofs.lemmas.Retiring.{retiring_some}
 use Rattle.joint.proofs.lemmas.Secured.{secured_step}
 use Rattle.joint.proofs.lemmas.SlotViews.{slot_view}

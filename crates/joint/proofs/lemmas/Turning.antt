@@ -20,26 +20,27 @@ use Rattle.congee.specs.declared.protocol.machine.Machine.{Machine}
 use Rattle.congee.specs.declared.protocol.op.Op.{Op as Point}
 use Rattle.congee.specs.declared.protocol.op.Op.TheVariants as point
 use Rattle.congee.specs.protocol.Play.{begun}
-use Rattle.joint.specs.declared.shared.call.Call.{Call}
-use Rattle.joint.specs.declared.shared.call.Call.TheVariants.{Idle, Collecting, Securing, Walking}
-use Rattle.joint.specs.declared.shared.id.Id.{Id}
-use Rattle.joint.specs.declared.shared.slot.Slot.{Slot}
-use Rattle.joint.specs.declared.shared.steps.Kind.TheVariants as kind
-use Rattle.joint.specs.declared.shared.steps.Outcome.TheVariants as outcome
-use Rattle.joint.specs.declared.shared.steps.Report.{Report}
-use Rattle.joint.specs.declared.shared.steps.Target.{Target}
-use Rattle.joint.specs.declared.shared.steps.Target.TheVariants.{Collector, Tree}
+use Rattle.joint.specs.declared.call.Call.{Call}
+use Rattle.joint.specs.declared.call.Call.TheVariants.{Idle, Collecting, Securing, Walking}
+use Rattle.joint.specs.declared.id.Id.{Id}
+use Rattle.joint.specs.declared.slot.Slot.{Slot}
+use Rattle.joint.specs.declared.steps.Done.TheVariants.{Scanned}
+use Rattle.joint.specs.declared.steps.Kind.TheVariants as kind
+use Rattle.joint.specs.declared.steps.Outcome.TheVariants as outcome
+use Rattle.joint.specs.declared.steps.Report.{Report}
+use Rattle.joint.specs.declared.steps.Target.{Target}
+use Rattle.joint.specs.declared.steps.Target.TheVariants.{Collector, Tree}
 use Rattle.congee.specs.declared.protocol.machine.Noise.{Noise}
-use Rattle.joint.specs.declared.shared.call.Stage.TheVariants as about
-use Rattle.joint.specs.declared.shared.steps.Event.TheVariants.{Go}
-use Rattle.joint.specs.shared.Beginning.{begin_misuse, BeginsOr, Begun, writes, stage_of}
-use Rattle.joint.specs.shared.Forest.{Forest, IsCharged, sizes}
-use Rattle.joint.specs.shared.Intact.{IsPoint, IsIntact, IsSecuring, call_after, root}
-use Rattle.joint.specs.shared.Laws.{ProgressLaws}
-use Rattle.joint.specs.shared.Machines.{Collected}
-use Rattle.joint.specs.shared.Refusals.{of_fault}
-use Rattle.joint.specs.shared.Reports.{collected}
-use Rattle.joint.specs.shared.Whole.{Whole, place_of, is_busy, unready, interruption, kind_of, quiet, collection, misuse, BeginsAt, BeginsOnTree, GoesAt, Does, Enters, Reserves}
+use Rattle.joint.specs.declared.call.Stage.TheVariants as about
+use Rattle.joint.specs.declared.steps.Event.TheVariants.{Go}
+use Rattle.joint.specs.Beginning.{BeginsUnless, Begun, writes, stage_of}
+use Rattle.joint.specs.Forest.{IsCharged, sizes}
+use Rattle.joint.specs.Intact.{IsPoint, IsIntact, IsSecuring, call_after, root}
+use Rattle.joint.specs.Laws.{ProgressLaws}
+use Rattle.joint.specs.Machines.{Collected}
+use Rattle.joint.specs.Refusals.{of_fault}
+use Rattle.joint.specs.Reports.{collected}
+use Rattle.joint.specs.Whole.{Whole, is_busy, unready, interruption, kind_of, quiet, collection, misuse, finds_none, BeginsAt, BeginsOnTree, GoesAt, Does, Enters, EntersUnless, Reserves, begin_misuse}
 use Rattle.joint.proofs.lemmas.Collecting.{there, inside_machines}
 use Rattle.joint.proofs.lemmas.HandOver.{held_place}
 
@@ -61,12 +62,22 @@ idle_call (Some (Securing op)) n calls l e b = absurd (cc b)
 idle_call (Some Walking) n calls l e b = absurd (cc b)
 idle_call None n calls l e b = absurd (let x : (k : Call _) × (slice_get calls n ≡ Some k) = there calls n l in let z : None ≡ Some x.0 = e ∙ x.1 in cc)
 
+-- a call that may hand a node over is on one key
+pub written_point : {V : Type 0} (op : Point V) → writes op ≡ true → IsPoint op
+written_point (point.Range start end size) e = absurd (cc e)
+written_point (point.Get k) e = tt
+written_point (point.Insert k v) e = tt
+written_point (point.Remove k) e = tt
+written_point (point.ComputePresent k) e = tt
+written_point (point.ComputeInsert k) e = tt
+written_point (point.Exchange k old new) e = tt
+
 module _ {V : Type 0} (same : V → V → Bool) (always : Bool) (w : Whole V) (who : ℕ) where
   abbrev c : State (Slot V) (Unit {0})
   c = w.forest.collector
 
   abbrev Or : Target V → Option Fault → Report V → Whole V → Type 0
-  Or t m r w' = BeginsOr same always w who t m r w'
+  Or t m r w' = BeginsUnless same always w who t m r w'
 
   refused : (t : Target V) (f : Fault) (r : Report V) → begin_misuse t (slice_get w.calls who) (place c who) ≡ Some f → r ≡ quiet (kind_of t) (outcome.Refused (of_fault f)) → Begun same always w who t r w
   refused t f r e q = let P : Option Fault → Type 0 = λ m. Or t m r w in subst P (sym e) (q, refl)
@@ -101,14 +112,14 @@ module _ {V : Type 0} (same : V → V → Bool) (always : Bool) (w : Whole V) (w
     on_tree : (op : Point V) (r : Report V) (w' : Whole V) → is_some (place c who).word ≡ true → BeginsOnTree same always w who op r w' → Begun same always w who (Tree op) r w'
     on_tree op r w' p b = proceeds (Tree op) r w' (past (Tree op) reg idle ∙ word (place c who).word p) b
 
-    enter : (op : Point V) (r : Report V) (w' : Whole V) → writes op ≡ false → Enters w who op r w' → BeginsOnTree same always w who op r w'
-    enter (point.Get k) r w' e b = b
-    enter (point.Range start end size) r w' e b = b
-    enter (point.Insert k v) r w' e b = absurd (cc e)
-    enter (point.Remove k) r w' e b = absurd (cc e)
-    enter (point.ComputePresent k) r w' e b = absurd (cc e)
-    enter (point.ComputeInsert k) r w' e b = absurd (cc e)
-    enter (point.Exchange k old new) r w' e b = absurd (cc e)
+    enter : (op : Point V) (r : Report V) (w' : Whole V) → finds_none op ≡ false → writes op ≡ false → Enters w who op r w' → BeginsOnTree same always w who op r w'
+    enter (point.Get k) r w' n e b = b
+    enter (point.Range start end size) r w' n e b = let P : Bool → Type 0 = λ x. EntersUnless x w who (point.Range start end size) r w' in subst P (sym n) b
+    enter (point.Insert k v) r w' n e b = absurd (cc e)
+    enter (point.Remove k) r w' n e b = absurd (cc e)
+    enter (point.ComputePresent k) r w' n e b = absurd (cc e)
+    enter (point.ComputeInsert k) r w' n e b = absurd (cc e)
+    enter (point.Exchange k old new) r w' n e b = absurd (cc e)
 
     reserve : (op : Point V) (r : Report V) (w' : Whole V) → IsPoint op → writes op ≡ true → Reserves same always w who op r w' → BeginsOnTree same always w who op r w'
     reserve (point.Get k) r w' p e b = absurd (cc e)
@@ -119,11 +130,24 @@ module _ {V : Type 0} (same : V → V → Bool) (always : Bool) (w : Whole V) (w
     reserve (point.ComputeInsert k) r w' p e b = b
     reserve (point.Exchange k old new) r w' p e b = b
 
-    pub enters : (op : Point V) (r : Report V) (w' : Whole V) → is_some (place c who).word ≡ true → writes op ≡ false → w'.forest ≡ w.forest → w'.machines ≡ set w.machines who (begun root op) → w'.calls ≡ set w.calls who Walking → r ≡ quiet kind.Tree outcome.Running → Begun same always w who (Tree op) r w'
-    enters op r w' p e ef em ec q =
+    -- a scan that can find nothing
+    at_once : (op : Point V) (r : Report V) → finds_none op ≡ true → r ≡ quiet kind.Tree (outcome.Done (Scanned 0)) → BeginsOnTree same always w who op r w
+    at_once (point.Range start end size) r n q = let P : Bool → Type 0 = λ x. EntersUnless x w who (point.Range start end size) r w in subst P (sym n) (record { state = refl; report = q })
+    at_once (point.Get k) r n q = absurd (cc n)
+    at_once (point.Insert k v) r n q = absurd (cc n)
+    at_once (point.Remove k) r n q = absurd (cc n)
+    at_once (point.ComputePresent k) r n q = absurd (cc n)
+    at_once (point.ComputeInsert k) r n q = absurd (cc n)
+    at_once (point.Exchange k old new) r n q = absurd (cc n)
+
+    pub ends_at_once : (op : Point V) (r : Report V) → is_some (place c who).word ≡ true → finds_none op ≡ true → r ≡ quiet kind.Tree (outcome.Done (Scanned 0)) → Begun same always w who (Tree op) r w
+    ends_at_once op r p n q = on_tree op r w p (at_once op r n q)
+
+    pub enters : (op : Point V) (r : Report V) (w' : Whole V) → is_some (place c who).word ≡ true → finds_none op ≡ false → writes op ≡ false → w'.forest ≡ w.forest → w'.machines ≡ set w.machines who (begun root op) → w'.calls ≡ set w.calls who Walking → r ≡ quiet kind.Tree outcome.Running → Begun same always w who (Tree op) r w'
+    enters op r w' p n e ef em ec q =
         let state : w' ≡ record w { machines = set w.machines who (begun root op); calls = set w.calls who Walking } =
         ap (λ y. record { forest = y; machines = w'.machines; calls = w'.calls }) ef ∙ ap (λ y. record { forest = w.forest; machines = y; calls = w'.calls }) em ∙ ap (λ y. record { forest = w.forest; machines = set w.machines who (begun root op); calls = y }) ec in
-        on_tree op r w' p (enter op r w' e (record { state = state; report = q }))
+        on_tree op r w' p (enter op r w' n e (record { state = state; report = q }))
 
     module _ (laws : ProgressLaws (Slot V) (Unit {0})) (intact : IsIntact same always w.forest w.machines w.calls) (op : Turn) (x : Collection) (w' : Whole V) (did : Collected same always w.forest w.machines who (event.Begin op) x w'.forest) where
       begins : Begins c who op x.outcome w'.forest.collector
@@ -197,9 +221,9 @@ module _ {V : Type 0} (same : V → V → Bool) (always : Bool) (w : Whole V) (w
       running : x.outcome ≡ turned.Running
       running = runs_by x.outcome refl secures
 
-      pub reserves : (op : Point V) → IsPoint op → writes op ≡ true → w'.machines ≡ w.machines → w'.calls ≡ set w.calls who (call_after x.outcome (Securing op)) → (r : Report V) → r ≡ quiet kind.Tree outcome.Running → Begun same always w who (Tree op) r w'
-      reserves op p e ms calls r q =
-          on_tree op r w' pin (reserve op r w' p e (record {
+      pub reserves : (op : Point V) → writes op ≡ true → w'.machines ≡ w.machines → w'.calls ≡ set w.calls who (call_after x.outcome (Securing op)) → (r : Report V) → r ≡ quiet kind.Tree outcome.Running → Begun same always w who (Tree op) r w'
+      reserves op e ms calls r q =
+          on_tree op r w' pin (reserve op r w' (written_point op e) e (record {
             turn = x;
             step = did;
             running = running;

@@ -6,10 +6,10 @@ use Rattle.crossbeam_epoch.specs.declared.names.Name.{Name}
 use Rattle.crossbeam_epoch.specs.World.Store.{Store, value_at, was_given}
 use Rattle.crossbeam_epoch.specs.World.Reach.{links_in}
 use Rattle.congee.specs.Heap.{Node, Below, Stands}
-use Rattle.joint.specs.shared.Names.{number}
-use Rattle.joint.specs.shared.Heap.{IsView, node_at, heap_of}
-use Rattle.joint.specs.shared.Ties.{Ties}
-use Rattle.joint.specs.shared.NameLemmas.{named_number}
+use Rattle.joint.specs.Names.{number}
+use Rattle.joint.specs.Heap.{IsView, node_at, heap_of}
+use Rattle.joint.specs.Ties.{Ties}
+use Rattle.joint.specs.NameLemmas.{named_number}
 
 module _ {T V : Type 0} (names : T → List Name) (view : Bool → Option T → Node V) (ok : IsView names view) where
   live_at : (g : Bool) (v : Option T) → Stands (view g v) → is_some v ≡ true

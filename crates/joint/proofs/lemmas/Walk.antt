@@ -3,18 +3,17 @@ use Rattle.std.proofs.Common.{◌≡◌, ℕ, Bool, List, [], ◌++◌, append-n
 use Rattle.std.specs.Prelude.{Option, None, Some, length, take, drop, slice_get}
 use Rattle.std.proofs.lemmas.List.{take_all, drop_all}
 use Rattle.crossbeam_epoch.specs.declared.bag.Work.TheVariants.{Remove}
-use Rattle.crossbeam_epoch.specs.World.Machine.{State, deferred, with_store}
+use Rattle.crossbeam_epoch.specs.World.Machine.{deferred, with_store}
 use Rattle.crossbeam_epoch.specs.World.Store.{Store}
 use Rattle.congee.specs.declared.protocol.run.Step.{Step}
 use Rattle.congee.specs.declared.protocol.machine.Machine.{Machine}
 use Rattle.congee.specs.declared.protocol.machine.Move.{Move}
-use Rattle.congee.specs.Heap.{Node}
 use Rattle.congee.specs.protocol.Play.{StepPlays}
-use Rattle.joint.specs.declared.shared.id.Id.{Id}
-use Rattle.joint.specs.declared.shared.slot.Slot.{Slot}
-use Rattle.joint.specs.shared.Forest.{Forest, nodes, frame, Refuses, IsBeside, with_collector}
-use Rattle.joint.specs.shared.Machines.{IsSafe, Owes, IsSafeOrOwes, retiring_at, after_walk, Walked}
-use Rattle.joint.specs.shared.View.{heap, id_number}
+use Rattle.joint.specs.declared.id.Id.{Id}
+use Rattle.joint.specs.declared.slot.Slot.{Slot}
+use Rattle.joint.specs.Forest.{Forest, nodes, frame, Refuses, IsBeside, with_collector}
+use Rattle.joint.specs.Machines.{IsSafe, Owes, IsSafeOrOwes, retiring_at, after_walk, Walked}
+use Rattle.joint.specs.View.{heap, id_number}
 
 -- a list of as many is written back whole
 pub written : {A : Type 0} (n : ℕ) (old new : List A) → length old ≡ n → length new ≡ length old → take n (new ++ drop (length new) old) ≡ new

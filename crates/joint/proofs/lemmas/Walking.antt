@@ -1,32 +1,32 @@
 -- A step of a call on the tree leaves the machine intact; its worker stands between calls after the last one.
-use Rattle.std.proofs.Common.{◌≡◌, ◌≢◌, ◌<◌, ◌++◌, [], ◌∷◌, ℕ, arith, Bool, true, false, List, refl, sym, ◌∙◌, ap, subst, inl, inr}
+use Rattle.std.proofs.Common.{◌≡◌, ◌≢◌, ◌<◌, ◌++◌, [], ◌∷◌, ℕ, Bool, true, false, List, refl, sym, ◌∙◌, ap, subst, inl, inr}
 use Rattle.std.proofs.Math.ListN.{set}
-use Rattle.std.specs.Prelude.{Option, None, Some, is_some, length, slice_get, if◌then◌else◌}
-use Rattle.std.proofs.lemmas.Bool.{cases_eq}
+use Rattle.std.specs.Prelude.{Option, None, Some, length, not, slice_get, if◌then◌else◌}
 use Rattle.std.proofs.lemmas.List.{length-set, get_or-set_other, get_or-set_same}
-use Rattle.crossbeam_epoch.specs.declared.bag.Work.{Work}
 use Rattle.crossbeam_epoch.specs.declared.bag.Work.TheVariants.{Remove}
 use Rattle.crossbeam_epoch.specs.declared.world.participant.Participant.{Participant}
 use Rattle.crossbeam_epoch.specs.declared.world.participant.Phase.TheVariants as stage
-use Rattle.crossbeam_epoch.specs.World.Machine.{State, blank, place, deferred, with_store}
+use Rattle.crossbeam_epoch.specs.World.Machine.{State, blank, place, with_store}
 use Rattle.congee.specs.declared.protocol.run.Step.{Step}
 use Rattle.congee.specs.declared.protocol.machine.Machine.{Machine}
 use Rattle.congee.specs.declared.protocol.machine.Move.{Move}
 use Rattle.congee.specs.declared.protocol.phase.Phase.{Phase}
 use Rattle.congee.specs.declared.protocol.phase.Phase.TheVariants.{Ended}
 use Rattle.congee.specs.protocol.Play.{IsMoved}
-use Rattle.joint.specs.declared.shared.call.Call.{Call}
-use Rattle.joint.specs.declared.shared.call.Call.TheVariants.{Idle, Walking}
-use Rattle.joint.specs.declared.shared.id.Id.{Id}
-use Rattle.joint.specs.declared.shared.slot.Slot.{Slot}
-use Rattle.joint.specs.shared.Forest.{Forest, nodes, Refuses}
-use Rattle.joint.specs.shared.Intact.{IsAt, IsIntact, is_over, over_at}
-use Rattle.joint.specs.shared.Laws.{CallLaws}
-use Rattle.joint.specs.shared.Machines.{Runs, retiring_at, after_walk, Walked}
-use Rattle.joint.specs.shared.Sound.{IsUnderWay}
-use Rattle.joint.specs.shared.View.{id_number}
+use Rattle.joint.specs.declared.call.Call.{Call}
+use Rattle.joint.specs.declared.call.Call.TheVariants.{Idle, Walking}
+use Rattle.joint.specs.declared.id.Id.{Id}
+use Rattle.joint.specs.declared.slot.Slot.{Slot}
+use Rattle.joint.specs.Forest.{Forest, nodes, Refuses}
+use Rattle.joint.specs.Intact.{IsAt, IsIntact, WalkedOn, is_over, over_at, rested}
+use Rattle.joint.specs.Laws.{CallLaws}
+use Rattle.joint.specs.Machines.{IsSafe, Runs, retiring_at, after_walk, Walked}
+use Rattle.joint.specs.Sound.{IsUnderWay}
+use Rattle.joint.specs.View.{id_number}
+use Rattle.joint.proofs.lemmas.Ending.{goes}
 use Rattle.joint.proofs.lemmas.Collecting.{either, there, inside_machines, set_here}
 use Rattle.joint.proofs.lemmas.HandOver.{held_place}
+use Rattle.joint.proofs.lemmas.Resting.{not_done, cleared_safe, cleared_is, now_between, told_final}
 
 over_ended : {V : Type 0} (x : Phase Id V) → is_over x ≡ true → x ≡ Ended
 over_ended Ended e = refl
@@ -59,11 +59,28 @@ module _ {V : Type 0} (same : V → V → Bool) (always : Bool) (laws : CallLaws
   old = there ms step.who (inside_machines same always s ms calls intact step.who Walking on)
 
   abbrev pub runs : Runs ms step.who
-  runs = (old.0, old.1, intact.each step.who Walking old.0 on old.1)
+  runs = (old.0, old.1, (intact.each step.who Walking old.0 on old.1).0)
 
-  module _ (d : Move V) (s' : Forest V) (ms' : List (Machine Id V)) (walked : Walked same always s ms step d s' ms') where
-    abbrev moved : IsMoved id_number same always s.version_max (Refuses s) (nodes s) ms old.0 step d (nodes s') ms'
+  pub long_walk : (d : Move V) (s' : Forest V) (ms' : List (Machine Id V)) → Walked same always s ms step d s' ms' → length ms' ≡ length ms
+  long_walk d s' ms' walked = let moved = walked.plays.moved old.0 old.1 in ap length moved.calls ∙ length-set ms step.who moved.now
+
+  module _ (d : Move V) (s' : Forest V) (ms' : List (Machine Id V)) (on_walked : WalkedOn same always s ms step d s' ms') where
+    abbrev walked : Walked same always s ms step d s' on_walked.between
+    walked = on_walked.walked
+
+    abbrev moved : IsMoved id_number same always s.version_max (Refuses s) (nodes s) ms old.0 step d (nodes s') on_walked.between
     moved = walked.plays.moved old.0 old.1
+
+    abbrev final : Machine Id V
+    final = rested moved.now
+
+    pub final_is : ms' ≡ set ms step.who final
+    final_is = on_walked.machines ∙ cleared_is ms on_walked.between step.who old.0 moved.now old.1 moved.calls
+
+    safe : IsSafe same always s' ms'
+    safe =
+        let P : List (Machine Id V) → Type 0 = λ xs. IsSafe same always s' xs in
+        subst P (sym on_walked.machines) (cleared_safe same always s' on_walked.between step.who moved.now (now_between ms on_walked.between step.who old.0 moved.now old.1 moved.calls) walked.safe)
 
     abbrev mid : State (Slot V) (Unit {0})
     mid = with_store s.collector s'.collector.store
@@ -71,8 +88,8 @@ module _ {V : Type 0} (same : V → V → Bool) (always : Bool) (laws : CallLaws
     abbrev owed : Option Id
     owed = retiring_at (slice_get ms step.who)
 
-    pub long : length ms' ≡ length ms
-    long = ap length moved.calls ∙ length-set ms step.who moved.now
+    long : length ms' ≡ length ms
+    long = ap length final_is ∙ length-set ms step.who final
 
     table : length s'.collector.table ≡ length s.collector.table
     table = ap (λ c. length c.table) walked.clock ∙ walk_table mid step.who owed
@@ -85,38 +102,44 @@ module _ {V : Type 0} (same : V → V → Bool) (always : Bool) (laws : CallLaws
         let l : step.who < length s.collector.table = held_place s.collector.table step.who ((intact.safe.sound.sound.guarded step.who old.0 old.1).registered runs.2) in
         ap (λ c. (place c step.who).phase) walked.clock ∙ walk_phase mid step.who owed l ∙ (intact.safe.sound.sound.guarded step.who old.0 old.1).idle runs.2
 
-    now_here : slice_get ms' step.who ≡ Some moved.now
-    now_here = ap (λ xs. slice_get xs step.who) moved.calls ∙ set_here ms step.who moved.now old.0 old.1
+    pub now_here : slice_get ms' step.who ≡ Some final
+    now_here = ap (λ xs. slice_get xs step.who) final_is ∙ set_here ms step.who final old.0 old.1
+
+    -- it has ended exactly where it reports so
+    pub told : is_over final.phase ≡ not (goes d.outcome)
+    told =
+        let k : IsAt Walking (place s.collector step.who) old.0 = intact.each step.who Walking old.0 on old.1 in
+        told_final same always s.version_max (Refuses s) old.0 moved.now (nodes s) (nodes s') step.noise.fail step.noise.answer d moved.step k.0 k.1
 
     abbrev next : Call V
     next = if over_at (slice_get ms' step.who) then Idle else Walking
 
-    by_end : (b : Bool) → is_over moved.now.phase ≡ b → IsAt (if b then Idle else Walking) (place s'.collector step.who) moved.now
-    by_end true e = (place_idle, over_ended moved.now.phase e)
-    by_end false e = not_over moved.now.phase e
+    by_end : (b : Bool) → is_over final.phase ≡ b → IsAt (if b then Idle else Walking) (place s'.collector step.who) final
+    by_end true e = (place_idle, over_ended final.phase e)
+    by_end false e = (not_over final.phase e, not_done moved.now)
 
-    at_now : IsAt next (place s'.collector step.who) moved.now
+    at_now : IsAt next (place s'.collector step.who) final
     at_now =
-        let P : Option (Machine Id V) → Type 0 = λ x. IsAt (if over_at x then Idle else Walking) (place s'.collector step.who) moved.now in
-        subst P (sym now_here) (by_end (is_over moved.now.phase) refl)
+        let P : Option (Machine Id V) → Type 0 = λ x. IsAt (if over_at x then Idle else Walking) (place s'.collector step.who) final in
+        subst P (sym now_here) (by_end (is_over final.phase) refl)
 
     pub walked_on : IsIntact same always s' ms' (set calls step.who next)
     walked_on = record {
-      safe = walked.safe;
+      safe = safe;
       machines = long ∙ intact.machines ∙ sym (length-set calls step.who next);
       table = table ∙ intact.table ∙ sym (length-set calls step.who next);
       few = rw (length-set calls step.who next) intact.few;
       each = λ i k m at here. elim (either calls step.who i next k at) [
         | inl e ↦ (
-            let q : Some moved.now ≡ Some m = sym now_here ∙ subst (λ (j : ℕ). slice_get ms' j ≡ Some m) e.0 here in
-            let x : moved.now ≡ m = cc in
+            let q : Some final ≡ Some m = sym now_here ∙ subst (λ (j : ℕ). slice_get ms' j ≡ Some m) e.0 here in
+            let x : final ≡ m = cc in
             let P : Call V → Type 0 = λ y. IsAt y (place s'.collector i) m in
             let Q : ℕ → Type 0 = λ j. IsAt next (place s'.collector j) m in
             let R : Machine Id V → Type 0 = λ y. IsAt next (place s'.collector step.who) y in
             subst P e.1 (subst Q (sym e.0) (subst R x at_now)))
         | inr apart ↦ (
             let P : List (Machine Id V) → Type 0 = λ xs. slice_get xs i ≡ Some m in
-            elim (laws.either ms step.who i moved.now m (subst P moved.calls here)) [
+            elim (laws.either ms step.who i final m (subst P final_is here)) [
               | inl e ↦ absurd (apart.0 e.0)
               | inr y ↦ subst (λ (p : Participant (Unit {0})). IsAt k p m) (sym (others i apart.0)) (intact.each i k m apart.1 y.1)
             ])

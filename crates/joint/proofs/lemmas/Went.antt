@@ -5,7 +5,6 @@ use Rattle.std.specs.Prelude.{Option, None, Some, is_some, slice_get}
 use Rattle.std.specs.List.{Contains}
 use Rattle.crossbeam_epoch.specs.declared.names.Name.{Name}
 use Rattle.crossbeam_epoch.specs.World.Machine.{State, place, with_store}
-use Rattle.crossbeam_epoch.specs.World.History.{began}
 use Rattle.crossbeam_epoch.specs.World.Store.{Store}
 use Rattle.crossbeam_epoch.specs.World.Reach.{Quiet, Moment, WasIn, marks_of, moment}
 use Rattle.congee.specs.declared.forms.base_node.NodeType.{NodeType}
@@ -28,15 +27,15 @@ use Rattle.congee.specs.protocol.Steps.{Stepped}
 use Rattle.congee.specs.protocol.Answers.{Keeps, KeepsProtocol}
 use Rattle.congee.specs.protocol.Names.{KeepsOrigin}
 use Rattle.congee.specs.protocol.Play.{EachKnown, ProtocolAt, Settled}
-use Rattle.joint.specs.declared.shared.id.Id.{Id}
-use Rattle.joint.specs.declared.shared.slot.Slot.{Slot}
-use Rattle.joint.specs.shared.Names.{number}
-use Rattle.joint.specs.shared.Machines.{slot_names, IsSound}
-use Rattle.joint.specs.shared.View.{view, heap, id_number}
-use Rattle.joint.specs.shared.Ties.{Ties}
-use Rattle.joint.specs.shared.Laws.{CellLaws, CallLaws, LeavesLaw}
-use Rattle.joint.specs.shared.NameLemmas.{same_name}
-use Rattle.joint.specs.shared.Sound.{Guards}
+use Rattle.joint.specs.declared.id.Id.{Id}
+use Rattle.joint.specs.declared.slot.Slot.{Slot}
+use Rattle.joint.specs.Names.{number}
+use Rattle.joint.specs.Machines.{slot_names, IsSound}
+use Rattle.joint.specs.View.{view, heap, id_number}
+use Rattle.joint.specs.Ties.{Ties}
+use Rattle.joint.specs.Laws.{CellLaws, CallLaws, LeavesLaw}
+use Rattle.joint.specs.NameLemmas.{same_name}
+use Rattle.joint.specs.Sound.{Guards}
 use Rattle.joint.proofs.lemmas.Guarded.{in_stretch}
 use Rattle.joint.proofs.lemmas.Views.{ties}
 use Rattle.joint.proofs.lemmas.SlotViews.{slot_view}

@@ -8,15 +8,15 @@ use Rattle.congee.specs.Heap.{Stands}
 use Rattle.congee.specs.protocol.Holdings.{Holdings, MadeBy}
 use Rattle.congee.specs.Ledger.{Note, Status, Unmade, Held, Linked, Gone, Back, Destroyed, is_published, is_spent}
 use Rattle.congee.specs.protocol.Play.{EachKnown, ProtocolAt, Settled}
-use Rattle.joint.specs.declared.shared.id.Id.{Id}
-use Rattle.joint.specs.shared.Forest.{nodes}
-use Rattle.joint.specs.shared.Laws.{CallLaws}
-use Rattle.joint.specs.shared.View.{id_number}
-use Rattle.joint.specs.shared.Whereabouts.{IsHeld, IsInTree, IsWaiting, IsDestroyed, IsSomewhere, IsTakenBy}
-use Rattle.joint.specs.shared.Whole.{Whole, Holds, IsHeldBy}
+use Rattle.joint.specs.declared.id.Id.{Id}
+use Rattle.joint.specs.Forest.{nodes}
+use Rattle.joint.specs.Laws.{CallLaws}
+use Rattle.joint.specs.View.{id_number}
+use Rattle.joint.specs.Whereabouts.{IsHeld, IsInTree, IsWaiting, IsDestroyed, IsSomewhere, IsTakenBy}
+use Rattle.joint.specs.Whole.{Whole, Holds, IsHeldBy}
 
 module _ {V : Type 0} (same : V → V → Bool) (always : Bool) (laws : CallLaws {C = Id} {V = V} id_number same always) (s : Whole V) (holds : Holds same always s) (n : ℕ) (made : (nodes s.forest n).made ≡ true) where
-  settled : Settled id_number same always (nodes s.forest) s.machines
+  abbrev pub settled : Settled id_number same always (nodes s.forest) s.machines
   settled = holds.0.safe.sound.sound.settled
 
   abbrev notes : ℕ → Note
@@ -48,6 +48,14 @@ module _ {V : Type 0} (same : V → V → Bool) (always : Bool) (laws : CallLaws
   standing : Stands (nodes s.forest n) → IsDestroyed s n → ⊥
   standing x d = let q : false ≡ true = sym x.kept ∙ d.gone in false≢true q
 
+  -- what left the tree and stands waits
+  pub gone_waits : status ≡ Gone → Stands (nodes s.forest n) → IsWaiting s n
+  gone_waits e st = record {
+    stands = st;
+    out = λ path leads. let q : Gone ≡ Linked = sym e ∙ linked (record { path = (path, leads) }) in cc;
+    unheld = λ i x. let q : Gone ≡ Held i = sym e ∙ by_call i x in cc;
+  }
+
   -- what stands, by its status
   by_status : (x : Status) → status ≡ x → Stands (nodes s.forest n) → (IsHeld s n ⊎ IsInTree s n) ⊎ IsWaiting s n
   by_status Unmade e st = absurd (let q : false ≡ true = sym (holdings.unmade n e) ∙ made in false≢true q)
@@ -55,11 +63,7 @@ module _ {V : Type 0} (same : V → V → Bool) (always : Bool) (laws : CallLaws
       let h : (m : Machine Id V) × (slice_get s.machines i ≡ Some m) × MadeBy id_number m.phase n = holdings.held n i e in
       inl (inl (record { stands = st; worker = i; held = h }))
   by_status Linked e st = inl (inr (is_linked e))
-  by_status Gone e st = inr (record {
-    stands = st;
-    out = λ path leads. let q : Gone ≡ Linked = sym e ∙ linked (record { path = (path, leads) }) in cc;
-    unheld = λ i x. let q : Gone ≡ Held i = sym e ∙ by_call i x in cc;
-  })
+  by_status Gone e st = inr (gone_waits e st)
   by_status Back e st = absurd (standing st (record { gone = holdings.spent n (ap is_spent e) }))
   by_status Destroyed e st = absurd (standing st (record { gone = holdings.spent n (ap is_spent e) }))
 

@@ -179,9 +179,9 @@ pub(crate) fn push_and_pop<R: Wait, J: Task>(
 ) -> Result<u64, Fault> {
     let mut sum = 0u64;
     for number in 0..count {
-        let guard = handle.pin(rt)?;
+        let guard = handle.pin()?;
         let popped = push_then_pop(rt, alloc, stack, handle, &guard, u64::from(number));
-        spend(rt, handle, guard);
+        spend(handle, guard);
         sum = sum.wrapping_add(popped?.unwrap_or(0));
     }
     Ok(sum)
@@ -205,11 +205,11 @@ fn push_then_pop<R: Wait, J: Task>(
 }
 
 /// Spends a guard of the handle.
-fn spend<R: Wait, J: Task>(rt: &R, handle: &mut LocalHandle<'_, Node, J>, guard: Guard<'_, Node, J>)
+fn spend<J: Task>(handle: &mut LocalHandle<'_, Node, J>, guard: Guard<'_, Node, J>)
     requires { owns handle.old.guards handle.old.seat guard.seat ≡ true }
-    ensures { handle.new ≡ record handle.old { guards = handle.old.guards - 1 } }
+    ensures { handle.new ≡ record handle.old { guards = handle.old.guards - 1; knows = handle.new.knows } }
 {
-    match handle.unpin(rt, guard) {
+    match handle.unpin(guard) {
         Ok(()) => {}
         Err(_refused) => unreachable!(),
     }
@@ -255,9 +255,9 @@ pub(crate) fn pops<R: Wait>(
     pushed: [u64; 3],
 ) -> Result<[Option<u64>; 4], Fault> {
     let mut handle = numbers.register(rt)?;
-    let guard = handle.pin(rt)?;
+    let guard = handle.pin()?;
     let popped = pops_under(rt, alloc, &mut handle, &guard, pushed);
-    spend(rt, &mut handle, guard);
+    spend(&mut handle, guard);
     popped
 }
 

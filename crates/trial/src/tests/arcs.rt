@@ -10,7 +10,7 @@ type Texts = CongeeArc<u64, String<Global>>;
 
 /// The texts of the rows.
 #[derive(Clone, Copy)]
-enum Word {
+enum Phrase {
     Hello,
     HelloWorld,
     A,
@@ -20,66 +20,66 @@ enum Word {
 /// What is asked of a tree, and the text that is expected.
 #[derive(Clone, Copy)]
 enum Row {
-    Get(u64, Option<Word>),
+    Get(u64, Option<Phrase>),
     /// A text at a key, and the one before.
-    Insert(u64, Word, Option<Word>),
-    Remove(u64, Option<Word>),
+    Insert(u64, Phrase, Option<Phrase>),
+    Remove(u64, Option<Phrase>),
     /// A text in place of the one that is present.
-    Replace(u64, Word, Option<Word>),
+    Replace(u64, Phrase, Option<Phrase>),
     /// The text that is present stays.
-    Keep(u64, Option<Word>),
+    Keep(u64, Option<Phrase>),
     /// The text that is present goes.
-    Drop(u64, Option<Word>),
+    Drop(u64, Option<Phrase>),
     Keys(&'static [u64]),
     Empty(bool),
 }
 
 const SHARED: [Row; 6] = [
-    Row::Insert(1, Word::Hello, None),
-    Row::Get(1, Some(Word::Hello)),
-    Row::Replace(1, Word::HelloWorld, Some(Word::Hello)),
-    Row::Get(1, Some(Word::HelloWorld)),
-    Row::Remove(1, Some(Word::HelloWorld)),
+    Row::Insert(1, Phrase::Hello, None),
+    Row::Get(1, Some(Phrase::Hello)),
+    Row::Replace(1, Phrase::HelloWorld, Some(Phrase::Hello)),
+    Row::Get(1, Some(Phrase::HelloWorld)),
+    Row::Remove(1, Some(Phrase::HelloWorld)),
     Row::Get(1, None),
 ];
 
 const GONE: [Row; 7] = [
     Row::Empty(true),
-    Row::Insert(256, Word::B, None),
-    Row::Insert(1, Word::A, None),
+    Row::Insert(256, Phrase::B, None),
+    Row::Insert(1, Phrase::A, None),
     Row::Keys(&[1, 256]),
-    Row::Drop(1, Some(Word::A)),
+    Row::Drop(1, Some(Phrase::A)),
     Row::Keep(1, None),
     Row::Empty(false),
 ];
 
-fn spelled(word: Word) -> &'static str {
-    match word {
-        Word::Hello => "hello",
-        Word::HelloWorld => "hello world",
-        Word::A => "a",
-        Word::B => "b",
+fn spelled(phrase: Phrase) -> &'static str {
+    match phrase {
+        Phrase::Hello => "hello",
+        Phrase::HelloWorld => "hello world",
+        Phrase::A => "a",
+        Phrase::B => "b",
     }
 }
 
-fn text(alloc: Global, word: Word) -> Result<Text, Fail> {
-    Ok(Arc::new(alloc, String::from_str(alloc, spelled(word))?)?)
+fn text(alloc: Global, phrase: Phrase) -> Result<Text, Fail> {
+    Ok(Arc::new(alloc, String::from_str(alloc, spelled(phrase))?)?)
 }
 
-fn is(found: Option<Text>, word: Option<Word>) -> bool {
-    match (found, word) {
-        (Some(found), Some(word)) => found.as_str() == spelled(word),
+fn is(found: Option<Text>, phrase: Option<Phrase>) -> bool {
+    match (found, phrase) {
+        (Some(found), Some(phrase)) => found.as_str() == spelled(phrase),
         (None, None) => true,
         _ => false,
     }
 }
 
-fn replaces(tree: &mut Texts, key: u64, new: &Text, before: Option<Word>) -> Result<bool, Fail> {
+fn replaces(tree: &mut Texts, key: u64, new: &Text, before: Option<Phrase>) -> Result<bool, Fail> {
     let replaced = tree.compute_if_present(key, |_| Arc::try_clone(new).ok())?;
     Ok(is(replaced, before))
 }
 
-fn inserts(tree: &mut Texts, key: u64, new: Text, before: Option<Word>) -> Result<bool, Fail> {
+fn inserts(tree: &mut Texts, key: u64, new: Text, before: Option<Phrase>) -> Result<bool, Fail> {
     Ok(is(tree.insert(key, new)?, before))
 }
 
@@ -135,7 +135,7 @@ fn comes_back(tree: &mut Texts, key: u64, hello: Text) -> Result<bool, Fail> {
     match tree.insert(key, hello) {
         Ok(before) => Ok(before.is_none()),
         Err((refused, back)) => {
-            let is_refused = refused == OOMError::Memory && back.as_str() == spelled(Word::Hello);
+            let is_refused = refused == OOMError::Memory && back.as_str() == spelled(Phrase::Hello);
             Ok(is_refused && tree.get(key)?.is_none() && inserts(tree, key, back, None)?)
         }
     }
@@ -143,13 +143,13 @@ fn comes_back(tree: &mut Texts, key: u64, hello: Text) -> Result<bool, Fail> {
 
 // The fifth value of a leaf makes it grow, which takes memory.
 fn fifth_comes_back(alloc: Global, tree: &mut Texts) -> Result<bool, Fail> {
-    let hello = text(alloc, Word::Hello)?;
+    let hello = text(alloc, Phrase::Hello)?;
     for key in 1..5u64 {
         if !inserts(tree, key, Arc::try_clone(&hello)?, None)? {
             return Ok(false);
         }
     }
-    Ok(comes_back(tree, 5, hello)? && is(tree.get(5)?, Some(Word::Hello)))
+    Ok(comes_back(tree, 5, hello)? && is(tree.get(5)?, Some(Phrase::Hello)))
 }
 
 #[test]

@@ -1,11 +1,11 @@
 //! The examples, run.
 
 use super::face::limits;
-use crate::examples::shared::runs_as_one_map;
+use crate::examples::machine::runs_as_one_map;
 use crate::examples::stack::{Node, Stack, pops, sum_of_two};
 use congee::Noise;
 use crossbeam_epoch::Collector;
-use joint::shared::{Done, Event, Op, Outcome, Report, Step};
+use joint::{Done, Event, Op, Outcome, Report, Step};
 use judge::Reply;
 use std::alloc::{AllocError, Global};
 use std::test::Fail;

@@ -102,7 +102,7 @@ fn holds<R: Wait>(
 ) -> Result<bool, Fault> {
     let mut handle = items.register(rt)?;
     match case {
-        Case::GuardsNest => nests(rt, &mut handle),
+        Case::GuardsNest => nests(&mut handle),
         Case::ARepinGoesOn => repins(rt, &mut handle),
         _ => holds_under_guard(rt, alloc, &mut handle, case),
     }
@@ -114,9 +114,9 @@ fn holds_under_guard<R: Wait>(
     handle: &mut LocalHandle<'_, Item>,
     case: Case,
 ) -> Result<bool, Fault> {
-    let guard = handle.pin(rt)?;
+    let guard = handle.pin()?;
     let outcome = tries(rt, alloc, handle.collector(), &guard, case);
-    spend(rt, handle, guard);
+    spend(handle, guard);
     outcome
 }
 
@@ -143,11 +143,11 @@ fn tries<R: Wait>(
 }
 
 /// Spends a guard of the handle.
-pub(crate) fn spend<R: Wait>(rt: &R, handle: &mut LocalHandle<'_, Item>, guard: Guard<'_, Item>)
+pub(crate) fn spend(handle: &mut LocalHandle<'_, Item>, guard: Guard<'_, Item>)
     requires { owns handle.old.guards handle.old.seat guard.seat ≡ true }
-    ensures { handle.new ≡ record handle.old { guards = handle.old.guards - 1 } }
+    ensures { handle.new ≡ record handle.old { guards = handle.old.guards - 1; knows = handle.new.knows } }
 {
-    match handle.unpin(rt, guard) {
+    match handle.unpin(guard) {
         Ok(()) => {}
         Err(_refused) => unreachable!(),
     }
@@ -167,9 +167,9 @@ pub(crate) fn rounds<R: Wait>(
 
 /// Pin, flush, unpin.
 fn round<R: Wait>(rt: &R, handle: &mut LocalHandle<'_, Item>) -> Result<(), Fault> {
-    let guard = handle.pin(rt)?;
+    let guard = handle.pin()?;
     let flushed = handle.flush(rt, &guard);
-    spend(rt, handle, guard);
+    spend(handle, guard);
     flushed
 }
 
@@ -238,34 +238,34 @@ pub(crate) fn defer<R: Wait>(
 }
 
 /// Whether guards of one handle nest, and the last one that goes takes the pin away.
-fn nests<R: Wait>(rt: &R, handle: &mut LocalHandle<'_, Item>) -> Result<bool, Fault> {
-    let first = handle.pin(rt)?;
-    let second = match handle.pin(rt) {
+fn nests(handle: &mut LocalHandle<'_, Item>) -> Result<bool, Fault> {
+    let first = handle.pin()?;
+    let second = match handle.pin() {
         Ok(second) => second,
         Err(fault) => {
-            spend(rt, handle, first);
+            spend(handle, first);
             return Err(fault);
         }
     };
     let same = first.pinned_at() == second.pinned_at();
-    let both = handle.is_pinned(rt);
-    spend(rt, handle, first);
-    let one = handle.is_pinned(rt);
-    spend(rt, handle, second);
-    Ok(same && both && one && !handle.is_pinned(rt))
+    let both = handle.is_pinned();
+    spend(handle, first);
+    let one = handle.is_pinned();
+    spend(handle, second);
+    Ok(same && both && one && !handle.is_pinned())
 }
 
 /// Whether a guard stays at its epoch while the epoch goes on, until a repin.
 fn repins<R: Wait>(rt: &R, handle: &mut LocalHandle<'_, Item>) -> Result<bool, Fault> {
-    let mut guard = handle.pin(rt)?;
+    let mut guard = handle.pin()?;
     let start = guard.pinned_at();
     handle.collect(rt);
     handle.collect(rt);
     let stuck = guard.pinned_at();
-    let repinned = handle.repin(rt, &mut guard);
+    let repinned = handle.repin(&mut guard);
     let next = guard.pinned_at();
-    let answer = handle.repin_after(rt, &mut guard, || 7u8);
-    spend(rt, handle, guard);
+    let answer = handle.repin_after(&mut guard, || 7u8);
+    spend(handle, guard);
     let epochs = (start, stuck, next) == (0, 0, 1);
     Ok(epochs && repinned == Ok(()) && answer == Ok(7))
 }
@@ -540,9 +540,9 @@ fn refuses_elsewhere<R: Wait>(
 /// Whether a pointer is refused by another collector.
 fn refuses<R: Wait>(rt: &R, other: &Collector<Item>, link: Link) -> Result<bool, Fault> {
     let mut handle = other.register(rt)?;
-    let theirs = handle.pin(rt)?;
+    let theirs = handle.pin()?;
     let refused = is_foreign(rt, link, &theirs);
-    spend(rt, &mut handle, theirs);
+    spend(&mut handle, theirs);
     Ok(refused)
 }
 
@@ -627,7 +627,7 @@ fn two_handles_refuse<R: Wait>(rt: &R, items: &Collector<Item>) -> Result<bool, 
     let (mut zero, mut one) = two_handles(rt, items)?;
     let full = refused_registration(rt, items) == Some(Fault::TableFull);
     let refused = refuse(rt, &mut zero, &mut one)?;
-    Ok(full && refused && zero.collector().same(items) && !one.is_pinned(rt))
+    Ok(full && refused && zero.collector().same(items) && !one.is_pinned())
 }
 
 fn refused_registration<R: Wait>(rt: &R, items: &Collector<Item>) -> Option<Fault> {
@@ -640,10 +640,10 @@ fn refuse<R: Wait>(
     zero: &mut LocalHandle<'_, Item>,
     one: &mut LocalHandle<'_, Item>,
 ) -> Result<bool, Fault> {
-    let guard = zero.pin(rt)?;
+    let guard = zero.pin()?;
     let flushed = one.flush(rt, &guard);
     let destroyed = destroy(rt, zero, &guard, Link::null());
-    spend(rt, zero, guard);
+    spend(zero, guard);
     Ok(flushed == Err(Fault::Foreign) && destroyed == Err(Fault::Unknown))
 }
 
@@ -661,9 +661,9 @@ fn a_collector_ends(rt: HostRuntime) -> Result<(), Fail> {
 /// Defers a job in a new handle, which is released.
 fn leaves_job<R: Wait>(rt: &R, items: &Collector<Item>, job: Job) -> Result<bool, Fault> {
     let mut handle = items.register(rt)?;
-    let guard = handle.pin(rt)?;
+    let guard = handle.pin()?;
     let deferred = defers_unchecked(rt, &mut handle, &guard, job);
-    spend(rt, &mut handle, guard);
+    spend(&mut handle, guard);
     Ok(deferred && handle.release(rt).is_ok())
 }
 
@@ -706,14 +706,14 @@ fn a_participant_is_unpinned_while_a_repin_waits(rt: HostRuntime) -> Result<(), 
 /// The epochs of a guard before and after a repin, during which another handle tries to advance twice.
 fn goes_on_meanwhile<R: Wait>(rt: &R, items: &Collector<Item>) -> Result<(u64, u64), Fault> {
     let (mut zero, mut one) = two_handles(rt, items)?;
-    let mut guard = zero.pin(rt)?;
+    let mut guard = zero.pin()?;
     let before = guard.pinned_at();
-    let answer = zero.repin_after(rt, &mut guard, || {
+    let answer = zero.repin_after(&mut guard, || {
         one.collect(rt);
         one.collect(rt);
     });
     let after = guard.pinned_at();
-    spend(rt, &mut zero, guard);
+    spend(&mut zero, guard);
     answer?;
     Ok((before, after))
 }
@@ -735,10 +735,10 @@ fn a_refused_end_keeps_the_jobs(rt: HostRuntime) -> Result<(), Fail> {
 
 /// Defers the job under a pin, and flushes.
 fn seals<R: Wait>(rt: &R, handle: &mut LocalHandle<'_, Item>, job: Job) -> Result<(), Fault> {
-    let guard = handle.pin(rt)?;
+    let guard = handle.pin()?;
     let deferred = defer(rt, handle, &guard, job);
     let flushed = handle.flush(rt, &guard);
-    spend(rt, handle, guard);
+    spend(handle, guard);
     deferred?;
     flushed
 }
@@ -768,11 +768,11 @@ fn a_pinned_handle_stays(rt: HostRuntime) -> Result<(), Fail> {
 
 /// Whether a handle is released only when its guard is spent.
 fn stays<R: Wait>(rt: &R, mut handle: LocalHandle<'_, Item>) -> Result<bool, Fault> {
-    let guard = handle.pin(rt)?;
+    let guard = handle.pin()?;
     match handle.release(rt) {
         Ok(()) => unreachable!(),
         Err((fault, mut back)) => {
-            spend(rt, &mut back, guard);
+            spend(&mut back, guard);
             Ok(fault == Fault::GuardOut && back.release(rt).is_ok())
         }
     }
@@ -818,10 +818,10 @@ fn goes<R: Wait>(
     job: Job,
     sum: &AtomicU64,
 ) -> Result<u64, Fault> {
-    let blocking = one.pin(rt)?;
+    let blocking = one.pin()?;
     let outcome = defers(rt, zero, job);
     let before = sum.load(SeqCst);
-    spend(rt, one, blocking);
+    spend(one, blocking);
     outcome?;
     Ok(before)
 }

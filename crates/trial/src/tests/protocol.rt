@@ -53,7 +53,7 @@ const WORKED: [Worked; 7] = [
         ],
         turns: &[
             Turn::Steps(0, END),
-            Turn::Steps(1, 4),
+            Turn::Steps(1, 3),
             Turn::Steps(2, END),
             Turn::Steps(3, END),
             Turn::Steps(1, END),
@@ -73,8 +73,8 @@ const WORKED: [Worked; 7] = [
         room: 10,
         calls: &[Call::Insert(7, 1), Call::Insert(7, 2), Call::Get(7)],
         turns: &[
-            Turn::Steps(0, 5),
-            Turn::Steps(1, 5),
+            Turn::Steps(0, 4),
+            Turn::Steps(1, 4),
             Turn::Steps(0, END),
             Turn::Steps(1, END),
             Turn::Steps(2, END),
@@ -92,7 +92,7 @@ const WORKED: [Worked; 7] = [
         calls: &[Call::Insert(1, 1), Call::Get(256), Call::Insert(256, 5)],
         turns: &[
             Turn::Steps(0, END),
-            Turn::Steps(1, 5),
+            Turn::Steps(1, 4),
             Turn::Steps(2, END),
             Turn::Steps(1, END),
         ],
@@ -114,8 +114,8 @@ const WORKED: [Worked; 7] = [
         ],
         turns: &[
             Turn::Steps(0, END),
-            Turn::Steps(1, 5),
-            Turn::Steps(3, 5),
+            Turn::Steps(1, 4),
+            Turn::Steps(3, 4),
             Turn::Steps(2, END),
             Turn::SeesValue(1, 77),
             Turn::SeesNode(3, 99),
@@ -135,7 +135,7 @@ const WORKED: [Worked; 7] = [
         room: 10,
         calls: &[Call::Insert(1, 42), Call::Get(1)],
         turns: &[
-            Turn::Steps(0, 5),
+            Turn::Steps(0, 4),
             Turn::Fails(0),
             Turn::Steps(0, END),
             Turn::Steps(1, END),
@@ -156,7 +156,7 @@ const WORKED: [Worked; 7] = [
         ],
         turns: &[
             Turn::Steps(0, END),
-            Turn::Steps(1, 7),
+            Turn::Steps(1, 6),
             Turn::Waits(1),
             Turn::Waits(1),
             Turn::Steps(1, END),
@@ -349,7 +349,7 @@ fn calls_by_turns_tell_what_was_worked_out(rt: HostRuntime) -> Result<(), Fail> 
     Ok(())
 }
 
-/// Two calls on a small tree, and how many steps each takes after its begin where the other one isn't there.
+/// Two calls on a small tree, and how many steps each takes where the other one isn't there.
 struct Case {
     setup: &'static [Call<u64>],
     pair: [Call<u64>; 2],
@@ -485,7 +485,7 @@ fn push_ends(turns: &mut Vec<usize>, start: usize, end: usize) -> Result<(), Fai
     Ok(())
 }
 
-/// Whose turn it is: the tree is made, the two calls begin and take turns by the bits of `mask`, then each ends.
+/// Whose turn it is: the tree is made, the two calls take turns by the bits of `mask`, then each ends.
 fn turns_of(
     alloc: Global,
     calls: usize,
@@ -495,8 +495,6 @@ fn turns_of(
 ) -> Result<Vec<usize>, Fail> {
     let mut turns = Vec::new(alloc);
     push_ends(&mut turns, 0, first)?;
-    push_turns(&mut turns, first, 1)?;
-    push_turns(&mut turns, first.wrapping_add(1), 1)?;
     push_bits(&mut turns, first, mask, bits)?;
     push_ends(&mut turns, first, calls)?;
     Ok(turns)

@@ -15,7 +15,7 @@ fn played(alloc: Global, script: &[u8]) -> (u8, Vec<u8>) {
 }
 
 // Whether a script ends with this status, and prints these replies.
-fn answers(alloc: Global, script: &[u8], status: u8, replies: &[u8]) -> bool {
+pub fn answers(alloc: Global, script: &[u8], status: u8, replies: &[u8]) -> bool {
     let (ended, printed) = played(alloc, script);
     ended == status && printed.as_slice() == replies
 }
@@ -67,7 +67,7 @@ fn scripts_print_their_replies(rt: HostRuntime) -> Result<(), Fail> {
         ("new 2", 2, "bad line 1\n"),
         ("new 0 9", 0, "refused Limits\n"),
         (
-            "# a comment\n\nclose\nnew 1 9 limit 5\nnew 1 9\nnew 1 9\n0 get 1\n",
+            "# a comment\n\nclose\nnew 1 9 journal 5\nnew 1 9\nnew 1 9\n0 get 1\n",
             0,
             "refused Later\nrefused Later\nok\nrefused Open\nrefused Unknown\n",
         ),

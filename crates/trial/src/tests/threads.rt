@@ -6,8 +6,8 @@ use super::collector::adds;
 use super::face::{Item, defer, destroy, limits, placed, rounds, spend, swapped};
 use crossbeam_epoch::{Atomic, Collector, Fault, Guard, Job, Link, LocalHandle, Pointable};
 use std::alloc::{AllocError, Global};
-use std::sync::atomic::AtomicU64;
 use std::sync::atomic::Ordering::SeqCst;
+use std::sync::atomic::{AtomicBool, AtomicU64};
 use std::sync::{Arc, Wait};
 use std::test::Fail;
 use std::thread;
@@ -104,13 +104,13 @@ fn replaces<R: Wait>(
     root: &Atomic<Item>,
     job: Job,
 ) -> Result<bool, Fault> {
-    let guard = handle.pin(rt)?;
+    let guard = handle.pin()?;
     let swapped = swaps_in(rt, alloc, root, &guard);
     let put_off = match swapped {
         Ok((before, _found)) => puts_off(rt, handle, &guard, before, job),
         Err(fault) => Err(fault),
     };
-    spend(rt, handle, guard);
+    spend(handle, guard);
     put_off?;
     let (_before, found) = swapped?;
     Ok(found)
@@ -175,12 +175,12 @@ fn drops_last<R: Wait>(
     handle: &mut LocalHandle<'_, Item>,
     root: &Atomic<Item>,
 ) -> Result<(), Fault> {
-    let guard = handle.pin(rt)?;
+    let guard = handle.pin()?;
     let outcome = match swapped(rt, root, Link::null(), &guard) {
         Ok(last) => destroy(rt, handle, &guard, last),
         Err(fault) => Err(fault),
     };
-    spend(rt, handle, guard);
+    spend(handle, guard);
     outcome
 }
 
@@ -190,11 +190,61 @@ fn fills_all<R: Wait>(
     alloc: Global,
     handle: &mut LocalHandle<'_, Item>,
 ) -> Result<bool, Fault> {
-    let guard = handle.pin(rt)?;
+    let guard = handle.pin()?;
     let mut vacant = true;
     for number in 0..8 {
         vacant &= placed(rt, alloc, number, &guard).is_ok();
     }
-    spend(rt, handle, guard);
+    spend(handle, guard);
     Ok(vacant)
+}
+
+#[test]
+fn two_pinned_at_once(rt: HostRuntime) -> Result<(), Fail> {
+    let items: Collector<Item> = Collector::new(&rt, rt.alloc(), limits(1), 1)?;
+    assert_eq!(rt; pins_in_two_threads(&rt, &items)?, (true, true));
+    Ok(())
+}
+
+/// Two threads pin, each with a handle of its own. Whether each one, pinned, saw that the other was pinned too.
+fn pins_in_two_threads<R: Threads + Wait + Sync>(
+    rt: &R,
+    items: &Collector<Item>,
+) -> Result<(bool, bool), Fault> {
+    let first = AtomicBool::new(false);
+    let second = AtomicBool::new(false);
+    let (one, two) = (&first, &second);
+    let (sees, is_seen) = thread::join(
+        rt,
+        move || meets(rt, items, one, two),
+        move || meets(rt, items, two, one),
+    );
+    Ok((sees?, is_seen?))
+}
+
+/// Pins, tells so by its own flag, and waits for the other's. Whether it came within 10,000 turns.
+fn meets<R: Wait>(
+    rt: &R,
+    items: &Collector<Item>,
+    mine: &AtomicBool,
+    other: &AtomicBool,
+) -> Result<bool, Fault> {
+    let mut handle = items.register(rt)?;
+    let guard = handle.pin()?;
+    mine.store(true, SeqCst);
+    let met = comes(other);
+    spend(&mut handle, guard);
+    leaves(rt, handle)?;
+    Ok(met)
+}
+
+/// Whether a flag is set within 10,000 turns.
+fn comes(flag: &AtomicBool) -> bool {
+    for _ in 0..10_000 {
+        if flag.load(SeqCst) {
+            return true;
+        }
+        thread::yield_now();
+    }
+    flag.load(SeqCst)
 }

@@ -13,7 +13,7 @@ use Rattle.congee.specs.owned.Arena.{Nodes, hung_in, heap_of, ledger_of, IsTree,
 use Rattle.congee.specs.Ledger.{IsChild}
 use Rattle.congee.specs.forms.Bytes.{IsFirst}
 use Rattle.congee.specs.owned.Changes.{DiffersAt}
-use Rattle.congee.specs.owned.Cursor.{HangsBelow, IsDescent, IsCursor, Covers, IsAhead, IsAt, steps_left}
+use Rattle.congee.specs.owned.Cursor.{HangsBelow, IsDescent, IsCursor, HasAhead, IsAhead, IsAt, steps_left}
 use Rattle.congee.specs.owned.Table.{pairs_of}
 use Rattle.congee.specs.forms.Forms.{children_of}
 use Rattle.congee.specs.declared.forms.base_node.Node.{Node as Form}
@@ -118,7 +118,7 @@ module _ {P : Type 0} (s : Nodes P) where
   child_there n b x c d e f g = rw (e, f, g) refl
 
   -- the keys ahead of one step more
-  pub ahead_split : (steps : List Branch) (a : Branch) (key : List ℕ) → IsAhead s (steps ++ a ∷ []) key → IsAhead s steps key ⊎ Covers s a key
+  pub ahead_split : (steps : List Branch) (a : Branch) (key : List ℕ) → IsAhead s (steps ++ a ∷ []) key → IsAhead s steps key ⊎ HasAhead s a key
   ahead_split [] a key h = elim h [ inl c ↦ inr c | inr none ↦ absurd none ]
   ahead_split (b ∷ rest) a key h = elim h [
     | inl c ↦ inl (inl c)
@@ -129,7 +129,7 @@ module _ {P : Type 0} (s : Nodes P) where
   ahead_left [] a key h = absurd h
   ahead_left (b ∷ rest) a key h = elim h [ inl c ↦ inl c | inr r ↦ inr (ahead_left rest a key r) ]
 
-  pub ahead_right : (steps : List Branch) (a : Branch) (key : List ℕ) → Covers s a key → IsAhead s (steps ++ a ∷ []) key
+  pub ahead_right : (steps : List Branch) (a : Branch) (key : List ℕ) → HasAhead s a key → IsAhead s (steps ++ a ∷ []) key
   ahead_right [] a key h = inl h
   ahead_right (b ∷ rest) a key h = inr (ahead_right rest a key h)
 
@@ -289,7 +289,7 @@ module _ {P : Type 0} (s : Nodes P) (t : IsTree s) where
 
   -- so it comes before the keys that are ahead of the steps above
   covered_after : (a : Branch) (k q : ℕ) → ContainsKey s a.node → k < 2 ^ 64 → q < 2 ^ 64
-      → (fits (heap_of s a.node).prefix (key_bytes k) ≡ true) × (get_or (key_bytes k) (length (heap_of s a.node).prefix) 0 < a.from) → Covers s a (key_bytes q) → k < q
+      → (fits (heap_of s a.node).prefix (key_bytes k) ≡ true) × (get_or (key_bytes k) (length (heap_of s a.node).prefix) 0 < a.from) → HasAhead s a (key_bytes q) → k < q
   covered_after a k q c lk lq p v = less_at a.node k q c lk lq p.0 v.fitted (omega (arith, p.1, v.past))
 
   on_after : (a : Branch) (steps : List Branch) (b : Branch) (k q : ℕ) → ContainsKey s a.node → IsDescent s a (steps ++ b ∷ []) → k < 2 ^ 64 → q < 2 ^ 64
@@ -310,7 +310,7 @@ module _ {P : Type 0} (s : Nodes P) (t : IsTree s) where
 
   -- bytes that have nothing are passed
   moved_on : (n from to q : ℕ) → ContainsKey s n → ((b : ℕ) → from ≤ b → b < to → (heap_of s n).children b ≡ Nothing)
-      → IsSome (map.get (pairs_of s) q) → Covers s (step n from) (key_bytes q) → Covers s (step n to) (key_bytes q)
+      → IsSome (map.get (pairs_of s) q) → HasAhead s (step n from) (key_bytes q) → HasAhead s (step n to) (key_bytes q)
   moved_on n from to q c free h v = elim (cases_lt (get_or (key_bytes q) (length (heap_of s n).prefix) 0) to) [
     | inl l ↦ absurd (finds_child q n h c v.fitted (free _ v.past l))
     | inr g ↦ record { fitted = v.fitted; past = g }
@@ -468,7 +468,7 @@ module _ {P : Type 0} (s : Nodes P) (t : IsTree s) where
 
   -- it ends at a byte: the pairs under it and those after it are the pairs from the key on
   ends_at : (steps : List Branch) (at key from : ℕ) → Descends s steps at key → from ≤ 256
-      → ((q : ℕ) → IsSome (map.get (pairs_of s) q) → Covers s (step at from) (key_bytes q) → key ≤ q)
+      → ((q : ℕ) → IsSome (map.get (pairs_of s) q) → HasAhead s (step at from) (key_bytes q) → key ≤ q)
       → ((q : ℕ) → IsSome (map.get (pairs_of s) q) → key ≤ q → fits (heap_of s at).prefix (key_bytes q) ≡ true → from ≤ get_or (key_bytes q) (length (heap_of s at).prefix) 0)
       → IsCursor s (steps ++ step at from ∷ []) × IsAt s (steps ++ step at from ∷ []) key
   ends_at steps at key from d b after rest = (
@@ -553,3 +553,7 @@ module _ {P : Type 0} (s : Nodes P) (at key : ℕ) (ks : List ℕ) (bytes : ks �
 
   pub child_read : (x : Hung P) → child_for (heap_of s at) ks ≡ x → child_for (heap_of s at) (key_bytes key) ≡ x
   child_read x h = subst (λ y. child_for (heap_of s at) y ≡ x) bytes h
+
+-- the cursor's steps are those that lead before the key
+pub pushed : {P : Type 0} (s : Nodes P) (key : ℕ) (ys zs : List Branch) → ys ≡ zs → IsCursor s zs × IsAt s zs key → IsCursor s ys × IsAt s ys key
+pushed s key ys zs e both = (subst (IsCursor s) (sym e) both.0, subst (λ steps. IsAt s steps key) (sym e) both.1)

@@ -183,6 +183,9 @@ module _ {P : Type 0} where
       let e2 : get s2 at ≡ Some j.node = k.updates.others at (λ q. ne (sym q)) ∙ j.updates.changed in
       ap bytes_at e2 ∙ (ap size_of j.becomes.form ∙ (sym (sized l.0) ∙ ap (λ o. size_by (node_of o).capacity) (sym l.1)))
 
+  pub free_leaf : (n : Node P) → length n.prefix ≡ 7 → free_wants n ≡ room_for n
+  free_leaf n e = rw e refl
+
   pub free_inner : (n : Node P) → length n.prefix ≢ 7 → free_wants n ≡ 64 ∷ room_for n
   free_inner n ne =
       let f : (length n.prefix == 7) ≡ false = elim (eqb_tells (length n.prefix) 7) [ inl q ↦ absurd (ne q.1) | inr q ↦ q.0 ] in

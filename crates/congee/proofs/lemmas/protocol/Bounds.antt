@@ -149,7 +149,7 @@ module _ {C V : Type 0} (number : C → ℕ) (most : ℕ) (h h' : ℕ → Node V
       changed most g.2 h' (number two.above.seat.node) _ _ g.6 (changed most g.1 g.2 (number top) _ _ g.5 (changed most g.0 g.1 (number top) _ _ g.4 (changed most h g.0 (number leaf) _ _ g.3 w)))
 
   pub step_within : (same_as : V → V → Bool) (always : Bool) (why : NodeType → Refusal → Type 0) (root : C) (key : List ℕ) (kind : Kind V) (fail : Bool) (answer : Option (Option V)) (new : Option V) (s : Phase C V) (new' : Option V) (t : Turn C V)
-      → MayStep number key new s h → PhaseStepped number same_as always most why root key kind fail answer new s h new' t h' → Within most h'
+      → MayStep number root key new s h → PhaseStepped number same_as always most why root key kind fail answer new s h new' t h' → Within most h'
   step_within same_as always why root key kind fail answer new (MakeLeaf s) new' t may g = leaf_made kind s key g.1.0 t g.1.1
   step_within same_as always why root key kind fail answer new (MakeGreater s p leaf) new' t may g = greater_made kind s p leaf key g.1.0 t g.1.1
   step_within same_as always why root key kind fail answer new (MakeTop p at common byte) new' t may g = top_made p at common byte key g.1.0 t g.1.1

@@ -53,7 +53,7 @@ use Rattle.congee.specs.protocol.Causes.{NoneLeft, Uncounted, Causes, IsCause}
 use Rattle.congee.specs.protocol.Protocol.{IsFailure, Known}
 use Rattle.congee.specs.protocol.SweepEvents.{IsAny}
 use Rattle.congee.specs.protocol.SweepKnown.{SweepKnownAt}
-use Rattle.congee.specs.protocol.SweepSteps.{is_outside, last_of, Swung, left_to, entered, begins, IsFollowed, SweptAt}
+use Rattle.congee.specs.protocol.SweepSteps.{whole, is_outside, last_of, Swung, anew, left_to, entered, begins, IsFollowed, SweptAt}
 use Rattle.congee.specs.protocol.Steps.{again, refused, asking, CopyFailed as Uncopied_turn, adds, asks_new, absent_reply, form_above, greater, after_version, after_read, down, started, ready, plan_here, unless_full, absent, IsAsked, replaced, taken_out, is_same, IsAtOld, IsAdded, IsExchanged, IsPresent, IsChecked, after_miss, IsGiven, IsGivenNew, MadeLeaf, MadeGreater, MadeTop, MadeBeside, UpgradedOne, UpgradedAbove, UpgradedBelow, after_change, unwound, outcome_of, PhaseStepped}
 use Rattle.congee.proofs.lemmas.Fits.{equal}
 use Rattle.congee.proofs.lemmas.Graft.{on_test}
@@ -215,26 +215,26 @@ module _ {C V : Type 0} (number : C → ℕ) (always : Bool) (root : C) (s : Sca
   told_done : (n : ℕ) (e : Refusal) → ◌≡◌ {A = Told V} (told.Done n) (told.Refused e) → Uncounted always e
   told_done n e p = let z : ◌≡◌ {A = Told V} (told.Done n) (told.Refused e) = p in absurd cc
 
-  told_left : (o : Option (Rung C)) → Told_only (left_to s o)
-  told_left None = told_done _
-  told_left (Some r) = told_runs
+  told_left : (y : Scan C V) (o : Option (Rung C)) → Told_only (left_to y o)
+  told_left y None = told_done _
+  told_left y (Some r) = told_runs
 
-  told_entered : (n : C) (x : Region) (o : Option ℕ) → Told_only (entered root s n x o)
-  told_entered n x None = told_runs
-  told_entered n x (Some v) = by_test (λ (z : Swung C V). Told_only z) (is_outside s.start s.end x) _ _ (λ _. told_left (last_of s.above)) (λ _. told_runs)
+  told_entered : (y : Scan C V) (n : C) (x : Region) (o : Option ℕ) → Told_only (entered root y n x o)
+  told_entered y n x None = told_runs
+  told_entered y n x (Some v) = by_test (λ (z : Swung C V). Told_only z) (is_outside y.start y.end x) _ _ (λ _. told_left y (last_of y.above)) (λ _. told_runs)
 
-  told_begun : Told_only (begins root s)
-  told_begun = by_test (λ (z : Swung C V). Told_only z) (ltb s.start s.end) _ _ (λ _. by_test (λ (z : Swung C V). Told_only z) (s.size == 0) _ _ (λ _. told_done _) (λ _. told_runs)) (λ _. told_done _)
+  told_begun : (o : Option ℕ) → Told_only (begins root s o)
+  told_begun o = by_test (λ (z : Swung C V). Told_only z) (ltb s.start s.end) _ _ (λ _. by_test (λ (z : Swung C V). Told_only z) (s.size == 0) _ _ (λ _. told_done _) (λ _. told_entered (anew root s).0 root whole o)) (λ _. told_done _)
 
   told_followed : (h : ℕ → Node V) (r : Rung C) (x : Least C V) (u : Swung C V) → IsAny always x → IsFollowed number h s r x u → Told_only u
-  told_followed h r least.Nothing u a p = told_to _ u p (told_left (last_of s.above))
+  told_followed h r least.Nothing u a p = told_to _ u p (told_left s (last_of s.above))
   told_followed h r (least.Node byte c) u a p = told_to _ u p.2 told_runs
   told_followed h r (least.Value byte v) u a p = told_to _ u p (λ e q. let z : ◌≡◌ {A = Told V} (told.Found s.count _ v) (told.Refused e) = q in absurd cc)
   told_followed h r least.Uncopied u a p = told_to _ u p (λ e q. let z : ◌≡◌ {A = Told V} (told.Refused refusal.Count) (told.Refused e) = q in record { count = let y : refusal.Count ≡ e = cc in sym y; may_fail = a })
 
   told_swept : (a : ℕ → Note) (h : ℕ → Node V) (x : Stage C V) (u : Swung C V) → SweepKnownAt number always a h s x → SweptAt number always root s x h u → Told_only u
-  told_swept a h stage.New u k p = told_to _ u p told_begun
-  told_swept a h (stage.Enter n x) u k p = told_to _ u p (told_entered n x _)
+  told_swept a h stage.New u k p = told_to _ u p (told_begun _)
+  told_swept a h (stage.Enter n x) u k p = told_to _ u p (told_entered s n x _)
   told_swept a h (stage.Look r) u k p = told_to _ u p.2 told_runs
   told_swept a h (stage.Check r x) u k p = on_test (is_taken (h (number r.at.node)) r.at.version) (λ t. told_followed h r x u k.2 (p.goes_on t)) (λ t. told_to _ u (p.goes_back t) told_runs)
   told_swept a h stage.Full u k p = told_to _ u p (told_done _)
@@ -295,7 +295,7 @@ module _ {C V : Type 0} (number : C → ℕ) (same : V → V → Bool) (always :
   unwinds (Some r) t f p = to C V _ _ t p (stops C V _ r f)
 
   only : (new : Option V) (s : Phase C V) (new' : Option V) (t : Turn C V) → Known number same always i a h k key kind new s → PhaseStepped number same always most why root key kind fail answer new s h new' t h' → Only C V (By s) t
-  only new New new' t x g = to C V _ _ t g.2 (runs C V _)
+  only new New new' t x g = to C V _ _ t g.2 (versions C V _ root None root _)
   only new (Version above n) new' t x g = to C V _ _ t g.2 (versions C V _ root above n _)
   only new (Read above at) new' t x g = to C V _ _ t g.2.2 (reads C V _ root above at g.2.0)
   only new (Check s c) new' t x g = if_taken C V _ _ root _ t g.2 (λ y. checks C V _ always count same kind new s c t y)

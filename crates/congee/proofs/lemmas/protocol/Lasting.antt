@@ -193,7 +193,7 @@ module _ {C V : Type 0} (number : C → ℕ) (h h' : ℕ → Node V) where
       (still_change h3 h' (number two.above.seat.node) _ _ up3 g.6)))
 
   pub step_still : (same : V → V → Bool) (always : Bool) (most : ℕ) (why : NodeType → Refusal → Type 0) (root : C) (key : List ℕ) (kind : Kind V) (fail : Bool) (answer : Option (Option V)) (new : Option V) (s : Phase C V) (new' : Option V) (t : Turn C V)
-      → MayStep number key new s h → PhaseStepped number same always most why root key kind fail answer new s h new' t h' → Still h h'
+      → MayStep number root key new s h → PhaseStepped number same always most why root key kind fail answer new s h new' t h' → Still h h'
   step_still same always most why root key kind fail answer new (MakeLeaf s) new' t may g = leaf_made kind s key g.1.0 t g.1.1
   step_still same always most why root key kind fail answer new (MakeGreater s p leaf) new' t may g = greater_made kind s p leaf key g.1.0 t may.1 g.1.1
   step_still same always most why root key kind fail answer new (MakeTop p at common byte) new' t may g = top_made p at common byte key g.1.0 t g.1.1

@@ -24,7 +24,7 @@ pub step_leaves : {C V : Type 0} (number : C → ℕ) (same : V → V → Bool) 
     → (k : Keeps number same always i a m h m' h' d) → Stepped number same always most why m h fail answer m' h' d → StepLeaves number i a k.notes h h' m m'
 step_leaves {C} {V} number same always most why i a h h' ms m m' d fail answer p hold at k st =
     let whole : Protocol number same always h ms = record { notes = a; tree = p.tree; words = p.words; each = p.each } in
-    let may : MayStep number (key_bytes m.key) m.given m.phase h = may_step number same always h ms i m whole at in
+    let may : MayStep number m.root (key_bytes m.key) m.given m.phase h = may_step number same always h ms i m whole at in
     let still : Still h h' = step_still number h h' same always most why m.root (key_bytes m.key) m.kind fail answer m.given m.phase m'.given (record { phase = m'.phase; report = d }) may st.step in
     record {
       dead = λ n made gone. (still n made).dead gone;

@@ -238,7 +238,7 @@ module _ {C : Type 0} (V : Type 0) (number : C → ℕ) (K : ℕ → Type 0) whe
           (taken_linked a h w (number s.at.node) s.at.version m.fresh.seated.published q) ((m.fresh.holds q).child ∙ e)
 
       pub step_names : (s : Phase C V) → Known number same always i a h k (key_bytes k) kind given s → PhaseStepped number same always most why root (key_bytes k) kind fail answer given s h given' turn h' → Each K (names number s) → Leaves turn
-      step_names New m g e = at_turn turn (again root) g.2 (top, tt)
+      step_names New m g e = at_turn turn _ g.2 (of_version root top None root _ top tt)
       step_names (Version p c) m g e = at_turn turn _ g.2 (of_version root top p c _ e.0 e.1)
       step_names (Read p at) m g e = at_turn turn _ g.2.2 (of_read root top p at g.2.0 e.0 e.1)
       step_names (Check s c) m g e = of_if root top _ _ turn g.2 (λ y x. of_checked always same kind given s c turn x e (found s c m.1 y))

@@ -106,7 +106,7 @@ pub step_kept : {C V : Type 0} (number : C → ℕ) (same : V → V → Bool) (a
     → Tree a h → LockWords a h → Known number same always i a h k (key_bytes k) kind given s → PhaseStepped number same always most why root (key_bytes k) kind fail answer given s h given' turn h'
     → Kept number same always i a h k kind given given' turn h'
 step_kept number same always most why law i a h root z k kind fail answer given New given' turn h' t w m g = sound_kept number same always i a h k kind given t w given' turn h' g.0 g.1
-    (at_turn number same always i a h k kind given t w _ turn g.2 (begins_anew number same always i a h k kind given t w root z m))
+    (at_turn number same always i a h k kind given t w _ turn g.2 (version_sound number same always i a h k kind given t w root z None root m z (let P : ℕ → Type 0 = λ x. is_published (a x).status ≡ true in subst P (sym z) (ap is_published t.root)) (is_free (h (number root)))))
 step_kept number same always most why law i a h root z k kind fail answer given (Version p n) given' turn h' t w m g = sound_kept number same always i a h k kind given t w given' turn h' g.0 g.1
     (at_turn number same always i a h k kind given t w _ turn g.2 (version_sound number same always i a h k kind given t w root z p n m.0 m.1 m.2 (is_free (h (number n)))))
 step_kept number same always most why law i a h root z k kind fail answer given (Read p at) given' turn h' t w m g = sound_kept number same always i a h k kind given t w given' turn h' g.0 g.1

@@ -1,5 +1,5 @@
 -- The bytes of a node that a range of keys has.
-use Rattle.std.proofs.Common.{◌≡◌, ℕ, suc, ◌<◌, ◌≤◌, ◌+◌, ◌*◌, ◌-◌, ◌/◌, ◌^◌, true, false, cond, List, inl, inr, refl, sym, ap, ◌∙◌, arith}
+use Rattle.std.proofs.Common.{◌≡◌, ℕ, zero, suc, ◌<◌, ◌≤◌, ◌+◌, ◌*◌, ◌-◌, ◌/◌, ◌^◌, ◌==◌, true, false, cond, List, inl, inr, refl, sym, ap, ◌∙◌, arith}
 use Rattle.std.proofs.Math.Dec.{ltb}
 use Rattle.std.proofs.lemmas.Nat.{pow-add}
 use Rattle.std.proofs.lemmas.Bool.{cases_lt}
@@ -16,6 +16,11 @@ low_yes m n x y l = let e : ltb m n ≡ true = grind (arith, nat_tests, l) in rw
 
 pub low_no : {A : Type 0} (m n : ℕ) (x y : A) → n ≤ m → cond (ltb m n) x y ≡ y
 low_no m n x y l = let e : ltb m n ≡ false = grind (arith, nat_tests, l) in rw e refl
+
+-- what isn't zero is above it
+pub is_some : (n : ℕ) → (n == 0) ≡ false → 0 < n
+is_some zero e = let z : true ≡ false = e in absurd cc
+is_some (suc n) e = omega arith
 
 width_is : (d : ℕ) → width d ≡ span (d + 1)
 width_is d = ap (λ n. 2 ^ (8 * n)) (omega arith)

@@ -1,5 +1,5 @@
 -- Where the names of a scan come from.
-use Rattle.std.proofs.Common.{◌≡◌, ℕ, ◌+◌, ◌==◌, inl, inr, Bool, cond, List, [], ◌∷◌, ◌++◌, sym, ap, subst, arith}
+use Rattle.std.proofs.Common.{◌≡◌, ℕ, ◌<◌, ◌+◌, ◌^◌, ◌==◌, inl, inr, Bool, cond, List, [], ◌∷◌, ◌++◌, sym, ap, subst, arith}
 use Rattle.std.specs.Prelude.{Option, None, Some}
 use Rattle.std.proofs.lemmas.Bool.{cases_lt}
 use Rattle.congee.specs.declared.protocol.store.Region.{Region}
@@ -14,12 +14,12 @@ use Rattle.congee.specs.declared.protocol.sweep.Told.TheVariants as told
 use Rattle.congee.specs.Heap.{Node, Below, version_of, is_taken}
 use Rattle.congee.specs.Ledger.{Note, Linked, LockWords}
 use Rattle.congee.specs.protocol.SweepEvents.{LeastTruly}
-use Rattle.congee.specs.protocol.SweepSteps.{is_outside, first_byte, last_byte, rungs_of, pushed, popped, moved, sweep_at, Swung, goes, over, anew, left_to, left, entered, filled, IsFollowed, begins, SweptAt}
-use Rattle.congee.specs.protocol.SweepKnown.{RungKnown, WayKnown, SweepKnownAt, SweepKnown, names_rungs, names_sweep_at, names_sweep}
+use Rattle.congee.specs.protocol.SweepSteps.{whole, is_outside, first_byte, last_byte, rungs_of, pushed, popped, moved, sweep_at, Swung, goes, over, anew, left_to, left, entered, filled, IsFollowed, begins, SweptAt}
+use Rattle.congee.specs.protocol.SweepKnown.{RungKnown, RungsKnown, WayKnown, SweepKnownAt, SweepKnown, names_rungs, names_sweep_at, names_sweep}
 use Rattle.congee.proofs.lemmas.protocol.Each.{Each}
 use Rattle.congee.proofs.lemmas.Graft.{on_test}
 use Rattle.congee.proofs.lemmas.protocol.Touch.{taken_linked}
-use Rattle.congee.proofs.lemmas.protocol.SweepBytes.{low_yes, low_no}
+use Rattle.congee.proofs.lemmas.protocol.SweepBytes.{is_some, low_yes, low_no}
 use Rattle.congee.proofs.lemmas.protocol.SweepWays.{pick_false, pick_true, path_pushed, path_empty, path_last}
 
 module _ {C V : Type 0} (number : C → ℕ) (always : Bool) (a : ℕ → Note) (h : ℕ → Node V) (K : ℕ → Type 0) (root : C) (top : K (number root))
@@ -67,13 +67,22 @@ module _ {C V : Type 0} (number : C → ℕ) (always : Bool) (a : ℕ → Note) 
       (ap (λ x. (sweep_at s (s.count + 1) s.above x, told.Found s.count (r.region.base + byte) v)) (pick_false (s.count + 1 == s.size) stage.Full (stage.Look (moved r byte)) free)) (y, e)))
   followed_has s r least.Uncopied u k q y e l truly f = has_as (over s (told.Refused refusal.Count)) u f tt
 
+  -- no node is above the root
+  way_anew : (s : Sweep C V) → s.start < s.end → s.end < 2 ^ 64 → 0 < s.size → WayKnown number a h (anew root s).0
+  way_anew s lt b room = let P : List (Rung C) → Type 0 = λ xs. RungsKnown number a h s.end 0 xs in record { range = lt; bound = b; room = room; fits = omega arith; rungs = subst P (sym (path_empty s.above)) tt }
+
   has_at : (s : Sweep C V) (x : Stage C V) (u : Swung C V) → SweepKnownAt number always a h s x → SweptAt number always root s x h u → Each K (names_sweep_at number s x) → Has u
-  has_at s stage.New u k f e = has_as (begins root s) u f (elim (cases_lt s.start s.end) [
-    | inr ge ↦ has_as (over s (told.Done 0)) (begins root s) (low_no s.start s.end (cond (s.size == 0) (over s (told.Done 0)) (anew root s)) (over s (told.Done 0)) ge) tt
-    | inl lt ↦ has_as (cond (s.size == 0) (over s (told.Done 0)) (anew root s)) (begins root s) (low_yes s.start s.end (cond (s.size == 0) (over s (told.Done 0)) (anew root s)) (over s (told.Done 0)) lt) (on_test (s.size == 0)
-        (λ y. has_as (over s (told.Done 0)) (cond (s.size == 0) (over s (told.Done 0)) (anew root s)) (pick_true (s.size == 0) (over s (told.Done 0)) (anew root s) y) tt)
-        (λ n. has_as (anew root s) (cond (s.size == 0) (over s (told.Done 0)) (anew root s)) (pick_false (s.size == 0) (over s (told.Done 0)) (anew root s) n) (anew_has s)))
-  ])
+  has_at s stage.New u k f e =
+      let o : Option ℕ = version_of (h (number root)) in
+      let none : Swung C V = over s (told.Done 0) in
+      let some : Swung C V = entered root (anew root s).0 root whole o in
+      has_as (begins root s o) u f (elim (cases_lt s.start s.end) [
+        | inr ge ↦ has_as none (begins root s o) (low_no s.start s.end (cond (s.size == 0) none some) none ge) tt
+        | inl lt ↦ has_as (cond (s.size == 0) none some) (begins root s o) (low_yes s.start s.end (cond (s.size == 0) none some) none lt) (on_test (s.size == 0)
+            (λ y. has_as none (cond (s.size == 0) none some) (pick_true (s.size == 0) none some y) tt)
+            (λ n. has_as some (cond (s.size == 0) none some) (pick_false (s.size == 0) none some n)
+            (entered_has (anew root s).0 root whole o (way_anew s lt k (is_some s.size n)) top (anew_has s).1)))
+      ])
   has_at s (stage.Enter n x) u k f e = has_as (entered root s n x (version_of (h (number n)))) u f (entered_has s n x (version_of (h (number n))) k.0 e.0 e.1)
   has_at s (stage.Look r) u k f e = has_as (goes s s.above (stage.Check r f.0)) u f.2 e
   has_at s (stage.Check r found) u k f e = on_test (is_taken (h (number r.at.node)) r.at.version)

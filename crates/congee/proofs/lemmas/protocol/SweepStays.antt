@@ -1,6 +1,6 @@
 -- A scan's step leaves the scan what it is to know.
 use Rattle.std.proofs.Common.{◌≡◌, ◌≢◌, ℕ, ◌<◌, ◌+◌, ◌-◌, ◌^◌, ◌==◌, inl, inr, Bool, true, false, cond, List, [], ◌∷◌, ◌++◌, length, refl, sym, ap, ◌∙◌, subst, arith}
-use Rattle.std.specs.Prelude.{None, Some}
+use Rattle.std.specs.Prelude.{Option, None, Some}
 use Rattle.std.proofs.lemmas.Bool.{cases_lt}
 use Rattle.congee.specs.declared.protocol.store.Region.{Region}
 use Rattle.congee.specs.declared.protocol.store.Least.{Least}
@@ -15,12 +15,12 @@ use Rattle.congee.specs.Heap.{Node, version_of, is_taken, is_free}
 use Rattle.congee.specs.Ledger.{Note, Linked, is_published, Tree, LockWords}
 use Rattle.congee.specs.protocol.Regions.{IsRegion}
 use Rattle.congee.specs.protocol.SweepEvents.{LeastTruly, IsAny}
-use Rattle.congee.specs.protocol.SweepSteps.{is_outside, first_byte, last_byte, rungs_of, pushed, popped, moved, sweep_at, Swung, goes, over, anew, left_to, left, entered, filled, IsFollowed, begins, SweptAt}
+use Rattle.congee.specs.protocol.SweepSteps.{whole, is_outside, first_byte, last_byte, rungs_of, pushed, popped, moved, sweep_at, Swung, goes, over, anew, left_to, left, entered, filled, IsFollowed, begins, SweptAt}
 use Rattle.congee.specs.protocol.SweepKnown.{RungKnown, RungsKnown, WayKnown, SweepKnownAt, SweepKnown}
 use Rattle.congee.proofs.lemmas.Fits.{same_test}
 use Rattle.congee.proofs.lemmas.Graft.{on_test}
 use Rattle.congee.proofs.lemmas.protocol.Touch.{taken_linked}
-use Rattle.congee.proofs.lemmas.protocol.SweepBytes.{low_yes, low_no, inside_end, first_small}
+use Rattle.congee.proofs.lemmas.protocol.SweepBytes.{is_some, low_yes, low_no, inside_end, first_small}
 use Rattle.congee.proofs.lemmas.protocol.SweepWays.{pick_false, pick_true, path_pushed, path_empty, path_last, path_count, rungs_longer, rungs_shorter}
 use Rattle.congee.proofs.lemmas.protocol.SweepKept.{child_deeper}
 
@@ -127,13 +127,17 @@ module _ {C V : Type 0} (number : C → ℕ) (always : Bool) (a : ℕ → Note) 
   followed_stays s r least.Uncopied u k q any l truly e = stays_as (over s (told.Refused refusal.Count)) u e tt
 
   stays_at : (s : Sweep C V) (x : Stage C V) (u : Swung C V) → SweepKnownAt number always a h s x → SweptAt number always root s x h u → Stays u
-  stays_at s stage.New u k e = stays_as (begins root s) u e (elim (cases_lt s.start s.end) [
-    | inr ge ↦ stays_as (over s (told.Done 0)) (begins root s) (low_no s.start s.end (cond (s.size == 0) (over s (told.Done 0)) (anew root s)) (over s (told.Done 0)) ge) tt
-    | inl lt ↦ stays_as (cond (s.size == 0) (over s (told.Done 0)) (anew root s)) (begins root s) (low_yes s.start s.end (cond (s.size == 0) (over s (told.Done 0)) (anew root s)) (over s (told.Done 0)) lt) (on_test (s.size == 0)
-        (λ y. stays_as (over s (told.Done 0)) (cond (s.size == 0) (over s (told.Done 0)) (anew root s)) (pick_true (s.size == 0) (over s (told.Done 0)) (anew root s) y) tt)
-        (λ n. stays_as (anew root s) (cond (s.size == 0) (over s (told.Done 0)) (anew root s)) (pick_false (s.size == 0) (over s (told.Done 0)) (anew root s) n)
-        (anew_stays s lt k (let ne : s.size ≢ 0 = differ s.size 0 n in elim (cases_lt 0 s.size) [ inl l ↦ l | inr l ↦ absurd (ne (omega (arith, l))) ]))))
-  ])
+  stays_at s stage.New u k e =
+      let o : Option ℕ = version_of (h (number root)) in
+      let none : Swung C V = over s (told.Done 0) in
+      let some : Swung C V = entered root (anew root s).0 root whole o in
+      stays_as (begins root s o) u e (elim (cases_lt s.start s.end) [
+        | inr ge ↦ stays_as none (begins root s o) (low_no s.start s.end (cond (s.size == 0) none some) none ge) tt
+        | inl lt ↦ stays_as (cond (s.size == 0) none some) (begins root s o) (low_yes s.start s.end (cond (s.size == 0) none some) none lt) (on_test (s.size == 0)
+            (λ y. stays_as none (cond (s.size == 0) none some) (pick_true (s.size == 0) none some y) tt)
+            (λ n. stays_as some (cond (s.size == 0) none some) (pick_false (s.size == 0) none some n)
+            (entered_stays (anew root s).0 root whole (anew_stays s lt k (is_some s.size n)))))
+      ])
   stays_at s (stage.Enter n x) u k e = stays_as (entered root s n x (version_of (h (number n)))) u e (entered_stays s n x k)
   stays_at s (stage.Look r) u k e = stays_as (goes s s.above (stage.Check r e.0)) u e.2 (way_at s _ k.0, k.1, e.1.0, record { seated = k.1.seated; holds = e.1.1 })
   stays_at s (stage.Check r found) u k e = on_test (is_taken (h (number r.at.node)) r.at.version)

@@ -1,6 +1,6 @@
 -- A scan's step keeps what the scan knows, settles more keys, and at its end tells what the scan promises.
 use Rattle.std.proofs.Common.{◌≡◌, ◌≢◌, ℕ, suc, ◌<◌, ◌≤◌, ◌+◌, ◌*◌, ◌-◌, ◌^◌, ◌==◌, ◌⊎◌, inl, inr, Bool, true, false, cond, List, [], ◌∷◌, ◌++◌, length, take, refl, sym, ap, ◌∙◌, subst, arith}
-use Rattle.std.specs.Prelude.{None, Some}
+use Rattle.std.specs.Prelude.{Option, None, Some}
 use Rattle.std.specs.Ordering.{nat_cmp}
 use Rattle.std.specs.FinMap.{FinMap}
 use Rattle.std.proofs.lemmas.Bool.{cases_lt}
@@ -13,6 +13,7 @@ use Rattle.congee.specs.declared.protocol.sweep.Rung.{Rung}
 use Rattle.congee.specs.declared.protocol.sweep.Stage.{Stage}
 use Rattle.congee.specs.declared.protocol.sweep.Stage.TheVariants as stage
 use Rattle.congee.specs.declared.protocol.sweep.Sweep.{Sweep}
+use Rattle.congee.specs.declared.protocol.sweep.Told.{Told}
 use Rattle.congee.specs.declared.protocol.sweep.Told.TheVariants as told
 use Rattle.congee.specs.Heap.{Node, version_of, is_taken, is_free}
 use Rattle.congee.specs.Keys.{IsMapOf}
@@ -27,7 +28,7 @@ use Rattle.congee.proofs.lemmas.Graft.{on_test}
 use Rattle.congee.proofs.lemmas.protocol.Touch.{taken_linked}
 use Rattle.congee.proofs.lemmas.protocol.Regions.{span_pos, whole as all_bytes, start_mono}
 use Rattle.congee.proofs.lemmas.protocol.Sweeps.{sweep_none, sweep_later, sweep_on, sweep_found, sweep_ends, sweep_full, written_counts}
-use Rattle.congee.proofs.lemmas.protocol.SweepBytes.{low_yes, low_no, last_within, outside, inside_end, first_small, first_before, first_aims}
+use Rattle.congee.proofs.lemmas.protocol.SweepBytes.{is_some, low_yes, low_no, last_within, outside, inside_end, first_small, first_before, first_aims}
 use Rattle.congee.proofs.lemmas.protocol.SweepWays.{pick_false, pick_true, path_pushed, path_empty, path_last, path_count, way_later, way_longer, way_shorter, rungs_longer, rungs_shorter}
 use Rattle.congee.proofs.lemmas.protocol.SweepKept.{lacks_bytes, lacks_rest, has_value, child_deeper, child_after, child_before, lacks_beside}
 
@@ -307,15 +308,34 @@ module _ {C V : Type 0} (number : C → ℕ) (always : Bool) (a : ℕ → Note) 
         record { start_is = refl; end_is = refl; size_is = refl },
       )
 
+  -- a scan that begins anew is on the same range, with the same places
+  tells_anew : (s : Sweep C V) (x : Stage C V) (o : Told V) → Tells (anew root s).0 (m ∷ states) places x o → Tells s (m ∷ states) places x o
+  tells_anew s x told.Running e = e
+  tells_anew s x (told.Found place k v) e = e
+  tells_anew s x (told.Done count) e = e
+  tells_anew s x (told.Refused r) e = e
+
+  out_anew : (s : Sweep C V) (u : Swung C V) → Out (anew root s).0 u → Out s u
+  out_anew s u o = (o.0, o.1, tells_anew s u.0.stage u.1 o.2, record { start_is = o.3.start_is; end_is = o.3.end_is; size_is = o.3.size_is })
+
+  begun_out : (s : Sweep C V) → s.start < s.end → s.end < 2 ^ 64 → 0 < s.size → Out s (entered root (anew root s).0 root whole (version_of (h (number root))))
+  begun_out s lt b room =
+      let o : Out s (anew root s) = anew_out s lt b room in
+      out_anew s (entered root (anew root s).0 root whole (version_of (h (number root)))) (entered_out (anew root s).0 root whole o.0 o.1)
+
   -- every step
   pub stepped_out : (s : Sweep C V) (x : Stage C V) (u : Swung C V) → SweepKnownAt number always a h s x → TracksAt s states places x → SweptAt number always root s x h u → Out s u
-  stepped_out s stage.New u k tr e = out_as s (begins root s) u e (elim (cases_lt s.start s.end) [
-    | inr ge ↦ out_as s (over s (told.Done 0)) (begins root s) (low_no s.start s.end (cond (s.size == 0) (over s (told.Done 0)) (anew root s)) (over s (told.Done 0)) ge) (nothing_out s (inl ge))
-    | inl lt ↦ out_as s (cond (s.size == 0) (over s (told.Done 0)) (anew root s)) (begins root s) (low_yes s.start s.end (cond (s.size == 0) (over s (told.Done 0)) (anew root s)) (over s (told.Done 0)) lt) (on_test (s.size == 0)
-        (λ y. out_as s (over s (told.Done 0)) (cond (s.size == 0) (over s (told.Done 0)) (anew root s)) (pick_true (s.size == 0) (over s (told.Done 0)) (anew root s) y) (nothing_out s (inr (equal s.size 0 y))))
-        (λ n. out_as s (anew root s) (cond (s.size == 0) (over s (told.Done 0)) (anew root s)) (pick_false (s.size == 0) (over s (told.Done 0)) (anew root s) n)
-        (anew_out s lt k (let ne : s.size ≢ 0 = differ s.size 0 n in elim (cases_lt 0 s.size) [ inl l ↦ l | inr l ↦ absurd (ne (omega (arith, l))) ]))))
-  ])
+  stepped_out s stage.New u k tr e =
+      let o : Option ℕ = version_of (h (number root)) in
+      let none : Swung C V = over s (told.Done 0) in
+      let some : Swung C V = entered root (anew root s).0 root whole o in
+      out_as s (begins root s o) u e (elim (cases_lt s.start s.end) [
+        | inr ge ↦ out_as s none (begins root s o) (low_no s.start s.end (cond (s.size == 0) none some) none ge) (nothing_out s (inl ge))
+        | inl lt ↦ out_as s (cond (s.size == 0) none some) (begins root s o) (low_yes s.start s.end (cond (s.size == 0) none some) none lt) (on_test (s.size == 0)
+            (λ y. out_as s none (cond (s.size == 0) none some) (pick_true (s.size == 0) none some y) (nothing_out s (inr (equal s.size 0 y))))
+            (λ n. out_as s some (cond (s.size == 0) none some) (pick_false (s.size == 0) none some n)
+            (begun_out s lt k (is_some s.size n))))
+      ])
   stepped_out s (stage.Enter n x) u k tr e = out_as s (entered root s n x (version_of (h (number n)))) u e (entered_out s n x k (under_later s x x.base tr))
   stepped_out s (stage.Look r) u k tr e = out_as s (goes s s.above (stage.Check r e.0)) u e.2 ((way_at s _ k.0, k.1, e.1.0, record { seated = k.1.seated; holds = e.1.1 }), aimed_at s _ r (aimed_later s r tr), tt, record { start_is = refl; end_is = refl; size_is = refl })
   stepped_out s (stage.Check r found) u k tr e = on_test (is_taken (h (number r.at.node)) r.at.version)

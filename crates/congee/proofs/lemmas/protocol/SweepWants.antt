@@ -1,5 +1,5 @@
 -- What a scan knows is what its next step wants.
-use Rattle.std.proofs.Common.{◌≡◌, ℕ, Bool, ap, ◌∙◌, arith}
+use Rattle.std.proofs.Common.{◌≡◌, ℕ, Bool, true, ap, sym, ◌∙◌, subst, arith}
 use Rattle.congee.specs.declared.protocol.store.Least.{Least}
 use Rattle.congee.specs.declared.protocol.store.Least.TheVariants as least
 use Rattle.congee.specs.declared.protocol.sweep.Rung.{Rung}
@@ -15,7 +15,7 @@ use Rattle.congee.specs.protocol.SweepKnown.{RungKnown, SweepKnownAt, SweepKnown
 use Rattle.congee.proofs.lemmas.protocol.Touch.{taken_linked}
 use Rattle.congee.proofs.lemmas.protocol.SweepBytes.{region_top}
 
-module _ {C V : Type 0} (number : C → ℕ) (always : Bool) (a : ℕ → Note) (h : ℕ → Node V) (t : Tree a h) (w : LockWords a h) where
+module _ {C V : Type 0} (number : C → ℕ) (always : Bool) (a : ℕ → Note) (h : ℕ → Node V) (t : Tree a h) (w : LockWords a h) (root : C) (z : number root ≡ 0) where
   may_follow : (s : Sweep C V) (r : Rung C) (x : Least C V) → RungKnown number a h s.end s.above.len r → IsAny always x → (a (number r.at.node)).status ≡ Linked
       → LeastTruly number (h (number r.at.node)) r.from (last_byte s.end r.region) x → MayFollow number h r x
   may_follow s r least.Nothing k any l e = tt
@@ -28,8 +28,8 @@ module _ {C V : Type 0} (number : C → ℕ) (always : Bool) (a : ℕ → Note) 
       (omega (arith, top, all, any), any)
   may_follow s r least.Uncopied k any l e = tt
 
-  wants_at : (s : Sweep C V) (x : Stage C V) → SweepKnownAt number always a h s x → MaySweepAt number s x h
-  wants_at s stage.New k = tt
+  wants_at : (s : Sweep C V) (x : Stage C V) → SweepKnownAt number always a h s x → MaySweepAt number root s x h
+  wants_at s stage.New k = (w.each (number root)).stands (let U : ℕ → Type 0 = λ n. is_published (a n).status ≡ true in subst U (sym z) (ap is_published t.root))
   wants_at s (stage.Enter n x) k = ((w.each (number n)).stands k.1, k.2.short, k.0.fits)
   wants_at s (stage.Look r) k = ((w.each (number r.at.node)).stands k.1.seated.published, k.1.region.short, k.1.within)
   wants_at s (stage.Check r x) k = (
@@ -41,5 +41,5 @@ module _ {C V : Type 0} (number : C → ℕ) (always : Bool) (a : ℕ → Note) 
   wants_at s stage.Full k = tt
   wants_at s stage.Over k = tt
 
-  pub sweep_wants : (s : Sweep C V) → SweepKnown number always a h s → MaySweep number s h
+  pub sweep_wants : (s : Sweep C V) → SweepKnown number always a h s → MaySweep number root s h
   sweep_wants s k = wants_at s s.stage k

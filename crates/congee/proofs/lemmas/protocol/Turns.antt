@@ -47,8 +47,8 @@ use Rattle.congee.proofs.lemmas.protocol.SweepFlights.{point_stays, follow_at, f
 
 module _ {C V : Type 0} (number : C → ℕ) (same : V → V → Bool) (always : Bool) where
   -- a call of the protocol may step
-  pub may_step : (h : ℕ → Node V) (ms : List (Machine C V)) (i : ℕ) (m : Machine C V) → Protocol number same always h ms → slice_get ms i ≡ Some m → MayStep number (key_bytes m.key) m.given m.phase h
-  may_step h ms i m p e = wants number same always i p.notes h m.key p.tree p.words m.kind m.given m.phase (p.each i m e).known
+  pub may_step : (h : ℕ → Node V) (ms : List (Machine C V)) (i : ℕ) (m : Machine C V) → Protocol number same always h ms → slice_get ms i ≡ Some m → MayStep number m.root (key_bytes m.key) m.given m.phase h
+  may_step h ms i m p e = wants number same always i p.notes h m.key p.tree p.words m.root (p.each i m e).root m.kind m.given m.phase (p.each i m e).known
 
   each_kept : (i : ℕ) (a : ℕ → Note) (h : ℕ → Node V) (ms : List (Machine C V)) (a' : ℕ → Note) (m' : Machine C V) (h' : ℕ → Node V)
       → ((j : ℕ) (m : Machine C V) → slice_get ms j ≡ Some m → EachKnown number same always a h j m) → ((j : ℕ) → j ≢ i → Rely (λ _. Unit {0}) j a h a' h')

@@ -165,32 +165,32 @@ module _ {C V : Type 0} (number : C → ℕ) (same : V → V → Bool) (always :
       )
 
   -- a call that knows what its phase says may step
-  pub wants : (kind : Kind V) (given : Option V) (s : Phase C V) → Known number same always i a h k (key_bytes k) kind given s → MayStep number (key_bytes k) given s h
-  wants kind given New m = tt
-  wants kind given (Version p n) m = there (number n) m.2
-  wants kind given (Read p at) m = there (number at.node) m.2.published
-  wants kind given (Check s c) m = there (number s.at.node) m.1.fresh.seated.published
-  wants kind given (CheckUncopied at) m = there (number at.node) m.1.published
-  wants kind given (CheckMiss p at common byte) m = there (number p.seat.node) m.1.fresh.seated.published
-  wants kind given (CheckDown p at c) m = there (number p.node) m.1.published
-  wants kind given (CheckOld p s v) m = there (number p.node) m.1.published
-  wants kind given (MakeLeaf s) m = tt
-  wants kind given (MakeGreater s p leaf) m = (m.1.short, back_leaf s leaf m.3)
-  wants kind given (MakeTop p at common byte) m = m.3.seventh
-  wants kind given (MakeBeside p at common byte top) m = made_there (number top) common 1 m.6
-  wants kind given (AskOld s v) m = tt
-  wants kind given (AskNew plan) m = tt
-  wants kind given (Confirm at r) m = there (number at.node) m.1.1.fresh.seated.published
-  wants kind given (CheckAbove p one r) m = (there (number p.node) m.1.published, may_back_one one.change m.2.made)
-  wants kind given (UpgradeOne one r) m = (there (number one.at.node) m.1.1.fresh.seated.published, may_back_one one.change m.1.1.made)
-  wants kind given (ChangeOne one r) m = one_wants one one.change m.0 given refl m.1 m.2 m.1.made
-  wants kind given (UpgradeAbove two r) m = (there (number two.above.seat.node) m.1.2.above.fresh.seated.published, may_back_two two.change _ _ m.1.2.made)
-  wants kind given (UpgradeBelow two r) m = (there (number two.at.node) m.1.2.fresh.seated.published, may_back_two two.change _ _ m.1.2.made)
-  wants kind given (ChangeTwo two r) m = two_wants two two.change m.0 m.1 given refl m.2 m.3
-  wants kind given (Obsolete n p r) m = (there (number n) (ap is_published m.gone), owner_locked a h w (number n) i m.owner)
-  wants kind given (Retire n p r) m = (there (number n) (ap is_published m.0.gone), m.1, m.0.unretired)
-  wants kind given (UnlockBelow n p r) m = held_there (number n) m.0
-  wants kind given (Unlock n r) m = held_there (number n) m
-  wants kind given (Unwind n e) m = held_there (number n) m.1
-  wants kind given (Sweep s) m = sweep_wants number always a h t w s m
-  wants kind given Ended m = tt
+  pub wants : (root : C) → number root ≡ 0 → (kind : Kind V) (given : Option V) (s : Phase C V) → Known number same always i a h k (key_bytes k) kind given s → MayStep number root (key_bytes k) given s h
+  wants root z kind given New m = there (number root) (let P : ℕ → Type 0 = λ x. is_published (a x).status ≡ true in subst P (sym z) (ap is_published t.root))
+  wants root z kind given (Version p n) m = there (number n) m.2
+  wants root z kind given (Read p at) m = there (number at.node) m.2.published
+  wants root z kind given (Check s c) m = there (number s.at.node) m.1.fresh.seated.published
+  wants root z kind given (CheckUncopied at) m = there (number at.node) m.1.published
+  wants root z kind given (CheckMiss p at common byte) m = there (number p.seat.node) m.1.fresh.seated.published
+  wants root z kind given (CheckDown p at c) m = there (number p.node) m.1.published
+  wants root z kind given (CheckOld p s v) m = there (number p.node) m.1.published
+  wants root z kind given (MakeLeaf s) m = tt
+  wants root z kind given (MakeGreater s p leaf) m = (m.1.short, back_leaf s leaf m.3)
+  wants root z kind given (MakeTop p at common byte) m = m.3.seventh
+  wants root z kind given (MakeBeside p at common byte top) m = made_there (number top) common 1 m.6
+  wants root z kind given (AskOld s v) m = tt
+  wants root z kind given (AskNew plan) m = tt
+  wants root z kind given (Confirm at r) m = there (number at.node) m.1.1.fresh.seated.published
+  wants root z kind given (CheckAbove p one r) m = (there (number p.node) m.1.published, may_back_one one.change m.2.made)
+  wants root z kind given (UpgradeOne one r) m = (there (number one.at.node) m.1.1.fresh.seated.published, may_back_one one.change m.1.1.made)
+  wants root z kind given (ChangeOne one r) m = one_wants one one.change m.0 given refl m.1 m.2 m.1.made
+  wants root z kind given (UpgradeAbove two r) m = (there (number two.above.seat.node) m.1.2.above.fresh.seated.published, may_back_two two.change _ _ m.1.2.made)
+  wants root z kind given (UpgradeBelow two r) m = (there (number two.at.node) m.1.2.fresh.seated.published, may_back_two two.change _ _ m.1.2.made)
+  wants root z kind given (ChangeTwo two r) m = two_wants two two.change m.0 m.1 given refl m.2 m.3
+  wants root z kind given (Obsolete n p r) m = (there (number n) (ap is_published m.gone), owner_locked a h w (number n) i m.owner)
+  wants root z kind given (Retire n p r) m = (there (number n) (ap is_published m.0.gone), m.1, m.0.unretired)
+  wants root z kind given (UnlockBelow n p r) m = held_there (number n) m.0
+  wants root z kind given (Unlock n r) m = held_there (number n) m
+  wants root z kind given (Unwind n e) m = held_there (number n) m.1
+  wants root z kind given (Sweep s) m = sweep_wants number always a h t w root z s m
+  wants root z kind given Ended m = tt

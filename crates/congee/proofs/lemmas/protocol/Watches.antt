@@ -174,7 +174,7 @@ module _ {C V : Type 0} (number : C → ℕ) (same : V → V → Bool) (always :
   -- every step
   pub watched : (s : Phase C V) → IsOfPoint (flight_in k kind v s) → Known number same always i a h k (key_bytes k) kind v s → PhaseStepped number same always most why root (key_bytes k) kind fail told v s h v' t h'
       → StepAnswers same k kind v h t h' → Next (flight_in k kind v s)
-  watched New pf c g n = by_shape n (at number k kind v v' g.1 Unasked _ t g.2 (back number k kind v v' g.1 Unasked root))
+  watched New pf c g n = by_shape n (at number k kind v v' g.1 Unasked _ t g.2 (versions number k kind v v' g.1 Unasked root None root (version_of (h (number root)))))
   watched (Version above x) pf c g n = by_shape n (at number k kind v v' g.1 Unasked _ t g.2 (versions number k kind v v' g.1 Unasked root above x (version_of (h (number x)))))
   watched (Read above seat) pf c g n = by_shape n (at number k kind v v' g.1 Unasked _ t g.2.2 (reads number k kind v v' g.1 Unasked root above seat g.2.0))
   watched (Check s x) pf c g n = by_shape n (if_taken number k kind v v' g.1 Unasked _ root _ t g.2 (λ y. checks number k kind v v' g.1 Unasked always same v s x t y))

@@ -1,5 +1,5 @@
 use Rattle.std.proofs.Math.Facts.{Fits-of_lt}
-use Rattle.crossbeam_epoch.proofs.Tags.{rest_fits}
+use Rattle.crossbeam_epoch.proofs.lemmas.Tags.{rest_fits}
 use Rattle.crossbeam_epoch.proofs.tag.tag_of.Goals as goal
 
 pub overflow_cast-result : goal.overflow_cast-result

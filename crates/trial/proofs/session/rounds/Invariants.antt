@@ -1,6 +1,7 @@
 use Rattle.std.proofs.Common.{◌-◌}
 use Rattle.trial.specs.declared.reply.Reply.{Reply}
-use Rattle.trial.specs.Session.{Index, Rounds}
+use Rattle.trial.specs.declared.index.Index.{Index}
+use Rattle.trial.specs.Session.{Rounds}
 use Rattle.trial.proofs.session.rounds.Given as goal
 
 -- what the rounds that are left make of the tree, all of them make of the tree at the start

@@ -1,6 +1,6 @@
-use Rattle.crossbeam_epoch.proofs.Acts.{step_by, turns_apart, deferred_before, ended_deferred}
-use Rattle.crossbeam_epoch.proofs.Reaches.{act_steady}
-use Rattle.crossbeam_epoch.proofs.Told.{marks_act}
+use Rattle.crossbeam_epoch.proofs.lemmas.world.Acts.{step_by, turns_apart, deferred_before, ended_deferred}
+use Rattle.crossbeam_epoch.proofs.lemmas.world.Reaches.{act_steady}
+use Rattle.crossbeam_epoch.proofs.lemmas.world.Told.{marks_act}
 use Rattle.crossbeam_epoch.proofs.world.World.acts.Goals as goal
 
 pub returns : goal.returns

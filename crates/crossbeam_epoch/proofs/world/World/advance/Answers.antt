@@ -1,6 +1,6 @@
 use Rattle.std.proofs.Common.{refl}
-use Rattle.crossbeam_epoch.proofs.Held.{advanced_at, stayed_at}
-use Rattle.crossbeam_epoch.proofs.Within.{within}
+use Rattle.crossbeam_epoch.proofs.lemmas.world.Held.{advanced_at, stayed_at}
+use Rattle.crossbeam_epoch.proofs.lemmas.world.Within.{within}
 use Rattle.crossbeam_epoch.proofs.world.World.advance.Goals as goal
 
 pub returns-then-seen-self : goal.returns-then-seen-self

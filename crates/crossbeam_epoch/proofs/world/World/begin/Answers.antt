@@ -1,7 +1,7 @@
 use Rattle.std.proofs.Common.{ap, ◌∙◌}
 use Rattle.crossbeam_epoch.specs.World.Steps.{begin_fault, begun_at, outcome_or, place_or}
-use Rattle.crossbeam_epoch.proofs.Held.{held, placed_at}
-use Rattle.crossbeam_epoch.proofs.Within.{within}
+use Rattle.crossbeam_epoch.proofs.lemmas.world.Held.{held, placed_at}
+use Rattle.crossbeam_epoch.proofs.lemmas.world.Within.{within}
 use Rattle.crossbeam_epoch.proofs.world.World.begin.Goals as goal
 
 pub returns : goal.returns

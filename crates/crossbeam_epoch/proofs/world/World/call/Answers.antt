@@ -1,6 +1,6 @@
 use Rattle.std.proofs.Common.{arith, ◌+◌}
-use Rattle.crossbeam_epoch.proofs.Whole.{going_more, call_ends, call_stops}
-use Rattle.crossbeam_epoch.proofs.Extends.{leads_on}
+use Rattle.crossbeam_epoch.proofs.lemmas.world.Whole.{going_more, call_ends, call_stops}
+use Rattle.crossbeam_epoch.proofs.lemmas.world.Extends.{leads_on}
 use Rattle.crossbeam_epoch.proofs.world.World.call.Goals as goal
 
 pub returns-in_default : goal.returns-in_default

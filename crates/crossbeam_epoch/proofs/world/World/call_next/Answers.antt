@@ -2,8 +2,8 @@ use Rattle.std.proofs.Common.{sym, ap, ◌∙◌}
 use Rattle.crossbeam_epoch.specs.World.Machine.{after_call}
 use Rattle.crossbeam_epoch.specs.World.Steps.{outcome_at}
 use Rattle.crossbeam_epoch.specs.declared.world.participant.Phase.TheVariants as P
-use Rattle.crossbeam_epoch.proofs.Held.{called_none, called_first, written_at}
-use Rattle.crossbeam_epoch.proofs.Within.{within}
+use Rattle.crossbeam_epoch.proofs.lemmas.world.Held.{called_none, called_first, written_at}
+use Rattle.crossbeam_epoch.proofs.lemmas.world.Within.{within}
 use Rattle.crossbeam_epoch.proofs.world.World.call_next.Goals as goal
 
 pub returns-then-is_empty : goal.returns-then-is_empty

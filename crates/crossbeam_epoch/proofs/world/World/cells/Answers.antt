@@ -1,5 +1,5 @@
-use Rattle.crossbeam_epoch.proofs.CellWrites.{placed_sets, replaced_sets, emptied_sets, next_vacant, next_unused}
-use Rattle.crossbeam_epoch.proofs.Givens.{live_given}
+use Rattle.crossbeam_epoch.proofs.lemmas.world.CellWrites.{placed_sets, replaced_sets, emptied_sets, next_vacant, next_unused}
+use Rattle.crossbeam_epoch.proofs.lemmas.world.Givens.{live_given}
 use Rattle.crossbeam_epoch.proofs.world.World.cells.Goals as goal
 
 pub returns : goal.returns

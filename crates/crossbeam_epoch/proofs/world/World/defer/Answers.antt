@@ -2,7 +2,7 @@ use Rattle.std.proofs.Common.{◌≡◌, sym, ◌∙◌}
 use Rattle.crossbeam_epoch.specs.declared.bag.Work.{Work}
 use Rattle.crossbeam_epoch.specs.declared.bag.Work.TheVariants.{Blank, Remove, Run}
 use Rattle.crossbeam_epoch.specs.declared.names.Name.{Name}
-use Rattle.crossbeam_epoch.proofs.Told.{tells_deferred, tells_still}
+use Rattle.crossbeam_epoch.proofs.lemmas.world.Told.{tells_deferred, tells_still}
 use Rattle.crossbeam_epoch.proofs.world.World.defer.Goals as goal
 
 not_blank : {A : Type 0} (work : Work A) (job : A) → work ≡ Blank → work ≡ Run job → ⊥

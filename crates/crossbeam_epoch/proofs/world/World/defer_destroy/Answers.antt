@@ -1,5 +1,5 @@
 use Rattle.crossbeam_epoch.specs.declared.bag.Work.TheVariants.{Remove}
-use Rattle.crossbeam_epoch.proofs.Told.{tells_deferred, tells_still}
+use Rattle.crossbeam_epoch.proofs.lemmas.world.Told.{tells_deferred, tells_still}
 use Rattle.crossbeam_epoch.proofs.world.World.defer_destroy.Goals as goal
 use Rattle.crossbeam_epoch.proofs.world.World.defer_destroy.Goals.{in-Ok, in-Err}
 

@@ -1,5 +1,5 @@
-use Rattle.crossbeam_epoch.proofs.CellWrites.{next_unused}
-use Rattle.crossbeam_epoch.proofs.Tellings.{once_told, opened_once, after_once, run_once, run_orderly, placed_once, replaced_once, emptied_once}
+use Rattle.crossbeam_epoch.proofs.lemmas.world.CellWrites.{next_unused}
+use Rattle.crossbeam_epoch.proofs.lemmas.world.Tellings.{once_told, opened_once, after_once, run_once, run_orderly, placed_once, replaced_once, emptied_once}
 use Rattle.crossbeam_epoch.proofs.world.World.destroyed_once.Goals as goal
 
 pub returns : goal.returns

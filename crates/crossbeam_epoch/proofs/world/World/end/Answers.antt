@@ -1,7 +1,7 @@
 use Rattle.std.proofs.Common.{◌≡◌, ℕ, ◌-◌, ◌≤◌, ap, ◌∙◌, length, arith}
 use Rattle.std.specs.Prelude.{min}
 use Rattle.crossbeam_epoch.specs.World.Ending.{registered_in, jobs_of}
-use Rattle.crossbeam_epoch.proofs.Endings.{ended_count, tells_ended}
+use Rattle.crossbeam_epoch.proofs.lemmas.world.Endings.{ended_count, tells_ended}
 use Rattle.crossbeam_epoch.proofs.world.World.end.Goals as goal
 
 fewer : (a b n k : ℕ) → a ≡ n → b ≡ n - k → b ≤ a

@@ -1,6 +1,6 @@
 use Rattle.std.proofs.Common.{sym, ap, ◌∙◌}
 use Rattle.crossbeam_epoch.specs.World.Machine.{ends_advance}
-use Rattle.crossbeam_epoch.proofs.Held.{found, none_found}
+use Rattle.crossbeam_epoch.proofs.lemmas.world.Held.{found, none_found}
 use Rattle.crossbeam_epoch.proofs.world.World.ends_at.Goals as goal
 
 pub returns-in-Some : goal.returns-in-Some

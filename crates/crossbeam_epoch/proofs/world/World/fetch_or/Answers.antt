@@ -1,4 +1,4 @@
-use Rattle.crossbeam_epoch.proofs.Told.{tells_roots}
+use Rattle.crossbeam_epoch.proofs.lemmas.world.Told.{tells_roots}
 use Rattle.crossbeam_epoch.proofs.world.World.fetch_or.Goals as goal
 
 pub returns-clause-told : goal.returns-clause-told

@@ -1,6 +1,6 @@
 use Rattle.std.proofs.Common.{arith, length}
-use Rattle.crossbeam_epoch.proofs.Held.{all_taken, taken_below}
-use Rattle.crossbeam_epoch.proofs.Within.{free_at, taken_next}
+use Rattle.crossbeam_epoch.proofs.lemmas.world.Held.{all_taken, taken_below}
+use Rattle.crossbeam_epoch.proofs.lemmas.world.Within.{free_at, taken_next}
 use borrow.Author.Count.{falls}
 use Rattle.crossbeam_epoch.proofs.world.World.free_place.Goals as goal
 

@@ -1,5 +1,5 @@
 use Rattle.std.proofs.Common.{◌∙◌, sym}
-use Rattle.crossbeam_epoch.proofs.Told.{tells_given_back, tells_none_back}
+use Rattle.crossbeam_epoch.proofs.lemmas.world.Told.{tells_given_back, tells_none_back}
 use Rattle.crossbeam_epoch.proofs.world.World.give_back.Goals as goal
 use Rattle.crossbeam_epoch.proofs.world.World.give_back.Goals.{in-Some, in-None}
 

@@ -1,4 +1,4 @@
-use Rattle.crossbeam_epoch.proofs.Moves.{top_now}
+use Rattle.crossbeam_epoch.proofs.lemmas.world.Moves.{top_now}
 use Rattle.crossbeam_epoch.proofs.world.World.grace.Goals as goal
 
 pub returns : goal.returns

@@ -1,8 +1,8 @@
 use Rattle.std.proofs.Common.{not, sym, ap, ◌∙◌, length}
 use Rattle.std.specs.Prelude.{◌==◌, ◌&&◌}
 use Rattle.crossbeam_epoch.specs.World.Machine.{place}
-use Rattle.crossbeam_epoch.proofs.Held.{held}
-use Rattle.crossbeam_epoch.proofs.Within.{within}
+use Rattle.crossbeam_epoch.proofs.lemmas.world.Held.{held}
+use Rattle.crossbeam_epoch.proofs.lemmas.world.Within.{within}
 use Rattle.crossbeam_epoch.proofs.world.World.has_place.Goals as goal
 
 pub index-requires : goal.index-requires

@@ -1,6 +1,6 @@
 use Rattle.std.proofs.Common.{◌≡◌, ◌≤◌, ◌==◌, ◌∙◌, ap, subst, length}
 use Rattle.crossbeam_epoch.specs.World.Machine.{place}
-use Rattle.crossbeam_epoch.proofs.Held.{held, has_place, is_full_at}
+use Rattle.crossbeam_epoch.proofs.lemmas.world.Held.{held, has_place, is_full_at}
 use Rattle.crossbeam_epoch.proofs.world.World.is_bag_full.Goals as goal
 
 pub returns : goal.returns

@@ -1,5 +1,5 @@
 use Rattle.std.proofs.Common.{sym, ap}
-use Rattle.crossbeam_epoch.proofs.Held.{found, found_within, none_found}
+use Rattle.crossbeam_epoch.proofs.lemmas.world.Held.{found, found_within, none_found}
 use Rattle.crossbeam_epoch.proofs.world.World.is_registered.Goals as goal
 
 pub returns-in-Some : goal.returns-in-Some

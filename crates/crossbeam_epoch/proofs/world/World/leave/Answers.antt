@@ -1,8 +1,8 @@
 use Rattle.std.proofs.Common.{refl, ap, ◌∙◌, inl, inr, ◌++◌, ◌∷◌, []}
 use Rattle.crossbeam_epoch.specs.World.Machine.{blank}
 use Rattle.crossbeam_epoch.specs.declared.world.participant.Phase.TheVariants as P
-use Rattle.crossbeam_epoch.proofs.Held.{placed_beside, queued_at}
-use Rattle.crossbeam_epoch.proofs.Within.{room_made, within}
+use Rattle.crossbeam_epoch.proofs.lemmas.world.Held.{placed_beside, queued_at}
+use Rattle.crossbeam_epoch.proofs.lemmas.world.Within.{room_made, within}
 use Rattle.crossbeam_epoch.proofs.world.World.leave.Goals as goal
 
 pub returns-then-is_err : goal.returns-then-is_err

@@ -1,4 +1,4 @@
-use Rattle.crossbeam_epoch.proofs.Logs.{log_graceful, log_later, log_once, log_pinned, log_stands}
+use Rattle.crossbeam_epoch.proofs.lemmas.world.Logs.{log_graceful, log_later, log_once, log_pinned, log_stands}
 use Rattle.crossbeam_epoch.proofs.world.World.log.Goals as goal
 
 pub returns : goal.returns

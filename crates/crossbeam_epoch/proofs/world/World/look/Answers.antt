@@ -1,5 +1,5 @@
 use Rattle.std.proofs.Common.{refl}
-use Rattle.crossbeam_epoch.proofs.Held.{placed_at}
+use Rattle.crossbeam_epoch.proofs.lemmas.world.Held.{placed_at}
 use Rattle.crossbeam_epoch.proofs.world.World.look.Goals as goal
 
 pub returns : goal.returns

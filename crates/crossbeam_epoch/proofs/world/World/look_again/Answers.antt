@@ -1,8 +1,8 @@
 use Rattle.std.proofs.Common.{◌≡◌, ap, ◌∙◌}
 use Rattle.crossbeam_epoch.specs.World.Machine.{relooked, place}
 use Rattle.crossbeam_epoch.specs.World.Steps.{outcome_at}
-use Rattle.crossbeam_epoch.proofs.Held.{held, placed_at}
-use Rattle.crossbeam_epoch.proofs.Within.{within}
+use Rattle.crossbeam_epoch.proofs.lemmas.world.Held.{held, placed_at}
+use Rattle.crossbeam_epoch.proofs.lemmas.world.Within.{within}
 use Rattle.crossbeam_epoch.proofs.world.World.look_again.Goals as goal
 
 pub index_mut-requires : goal.index_mut-requires

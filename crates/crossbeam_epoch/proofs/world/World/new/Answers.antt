@@ -1,5 +1,5 @@
 use Rattle.std.proofs.Common.{rules}
-use Rattle.crossbeam_epoch.proofs.Told.{tells_opened}
+use Rattle.crossbeam_epoch.proofs.lemmas.world.Told.{tells_opened}
 use Rattle.crossbeam_epoch.proofs.world.World.new.Goals as goal
 
 pub returns-clause-told : goal.returns-clause-told

@@ -1,4 +1,4 @@
-use Rattle.crossbeam_epoch.proofs.Progress.{moves, opened_rests, opened_weighs, registered_keeps, deferred_keeps}
+use Rattle.crossbeam_epoch.proofs.lemmas.world.Progress.{moves, opened_rests, opened_weighs, registered_keeps, deferred_keeps}
 use Rattle.crossbeam_epoch.proofs.world.World.order.Goals as goal
 
 pub returns : goal.returns

@@ -1,5 +1,5 @@
 use Rattle.std.proofs.Common.{◌+◌, arith}
-use Rattle.crossbeam_epoch.proofs.Whole.{going_begins, going_more, call_ends}
+use Rattle.crossbeam_epoch.proofs.lemmas.world.Whole.{going_begins, going_more, call_ends}
 use Rattle.crossbeam_epoch.proofs.world.World.parts.Goals as goal
 
 pub returns : goal.returns

@@ -1,5 +1,5 @@
 use Rattle.std.proofs.Common.{ap}
-use Rattle.crossbeam_epoch.proofs.Held.{held}
+use Rattle.crossbeam_epoch.proofs.lemmas.world.Held.{held}
 use Rattle.crossbeam_epoch.proofs.world.World.phase_of.Goals as goal
 
 pub returns : goal.returns

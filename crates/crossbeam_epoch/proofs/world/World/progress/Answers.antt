@@ -1,5 +1,5 @@
-use Rattle.crossbeam_epoch.proofs.Progress.{no_call_yet, no_call_begins}
-use Rattle.crossbeam_epoch.proofs.Stages.{begins, goes_on}
+use Rattle.crossbeam_epoch.proofs.lemmas.world.Progress.{no_call_yet, no_call_begins}
+use Rattle.crossbeam_epoch.proofs.lemmas.world.Stages.{begins, goes_on}
 use Rattle.crossbeam_epoch.proofs.world.World.progress.Goals as goal
 
 pub returns : goal.returns

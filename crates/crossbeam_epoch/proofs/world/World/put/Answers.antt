@@ -1,6 +1,6 @@
 use Rattle.std.proofs.Common.{ap, ◌∙◌}
-use Rattle.crossbeam_epoch.proofs.Held.{deferred_at}
-use Rattle.crossbeam_epoch.proofs.Within.{ticket_left, within}
+use Rattle.crossbeam_epoch.proofs.lemmas.world.Held.{deferred_at}
+use Rattle.crossbeam_epoch.proofs.lemmas.world.Within.{ticket_left, within}
 use Rattle.crossbeam_epoch.proofs.world.World.put.Goals as goal
 
 pub returns : goal.returns

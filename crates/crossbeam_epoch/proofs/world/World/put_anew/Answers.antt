@@ -1,6 +1,6 @@
 use Rattle.std.proofs.Common.{refl, ap, ◌∙◌, ◌++◌, ◌∷◌, []}
-use Rattle.crossbeam_epoch.proofs.Held.{anew_at}
-use Rattle.crossbeam_epoch.proofs.Within.{room_made, same_queue, ticket_left, within}
+use Rattle.crossbeam_epoch.proofs.lemmas.world.Held.{anew_at}
+use Rattle.crossbeam_epoch.proofs.lemmas.world.Within.{room_made, same_queue, ticket_left, within}
 use Rattle.crossbeam_epoch.proofs.world.World.put_anew.Goals as goal
 
 pub returns : goal.returns

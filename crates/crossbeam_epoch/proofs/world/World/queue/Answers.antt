@@ -1,9 +1,9 @@
 use Rattle.std.proofs.Common.{refl, sym, ap, ◌∙◌, inl, inr, ◌++◌, ◌∷◌, []}
 use Rattle.crossbeam_epoch.specs.declared.fault.Fault.TheVariants.{Memory}
 use Rattle.crossbeam_epoch.specs.declared.world.participant.Phase.TheVariants as P
-use Rattle.crossbeam_epoch.proofs.Goes.{no_refusal}
-use Rattle.crossbeam_epoch.proofs.Held.{placed_beside, queued_at}
-use Rattle.crossbeam_epoch.proofs.Within.{room_made, within}
+use Rattle.crossbeam_epoch.proofs.lemmas.world.Goes.{no_refusal}
+use Rattle.crossbeam_epoch.proofs.lemmas.world.Held.{placed_beside, queued_at}
+use Rattle.crossbeam_epoch.proofs.lemmas.world.Within.{room_made, within}
 use Rattle.crossbeam_epoch.proofs.world.World.queue.Goals as goal
 
 pub returns-then-is_err : goal.returns-then-is_err

@@ -1,6 +1,6 @@
 use Rattle.std.proofs.Common.{ap, ◌∙◌}
 use Rattle.crossbeam_epoch.specs.World.Steps.{quiet_fault}
-use Rattle.crossbeam_epoch.proofs.Held.{held}
+use Rattle.crossbeam_epoch.proofs.lemmas.world.Held.{held}
 use Rattle.crossbeam_epoch.proofs.world.World.quiet_fault.Goals as goal
 
 pub returns : goal.returns

@@ -1,4 +1,4 @@
-use Rattle.crossbeam_epoch.proofs.Reaches.{visible_link, seen_stands}
+use Rattle.crossbeam_epoch.proofs.lemmas.world.Reaches.{visible_link, seen_stands}
 use Rattle.crossbeam_epoch.proofs.world.World.reach.Goals as goal
 
 pub returns : goal.returns

@@ -1,4 +1,4 @@
-use Rattle.crossbeam_epoch.proofs.Reaches.{seen_link}
+use Rattle.crossbeam_epoch.proofs.lemmas.world.Reaches.{seen_link}
 use Rattle.crossbeam_epoch.proofs.world.World.read.Goals as goal
 
 pub returns-clause-links : goal.returns-clause-links

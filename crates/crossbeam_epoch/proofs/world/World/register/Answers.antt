@@ -1,7 +1,7 @@
 use Rattle.std.proofs.Common.{refl, true}
-use Rattle.crossbeam_epoch.proofs.Held.{placed_at}
-use Rattle.crossbeam_epoch.proofs.Told.{tells_registered, tells_still}
-use Rattle.crossbeam_epoch.proofs.Within.{within}
+use Rattle.crossbeam_epoch.proofs.lemmas.world.Held.{placed_at}
+use Rattle.crossbeam_epoch.proofs.lemmas.world.Told.{tells_registered, tells_still}
+use Rattle.crossbeam_epoch.proofs.lemmas.world.Within.{within}
 use Rattle.crossbeam_epoch.proofs.world.World.register.Goals as goal
 
 pub index_mut-place-requires : goal.index_mut-place-requires

@@ -1,6 +1,6 @@
 use Rattle.std.proofs.Common.{◌∙◌, sym, arith}
 use Rattle.std.specs.Prelude.{true, false}
-use Rattle.crossbeam_epoch.proofs.Endings.{registered_more}
+use Rattle.crossbeam_epoch.proofs.lemmas.world.Endings.{registered_more}
 use Rattle.crossbeam_epoch.proofs.world.World.registered.Goals as goal
 use Rattle.crossbeam_epoch.proofs.world.World.registered.Goals.{then-is_registered, else-is_registered}
 

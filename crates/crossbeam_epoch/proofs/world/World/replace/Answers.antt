@@ -1,4 +1,4 @@
-use Rattle.crossbeam_epoch.proofs.Told.{tells_replaced}
+use Rattle.crossbeam_epoch.proofs.lemmas.world.Told.{tells_replaced}
 use Rattle.crossbeam_epoch.proofs.world.World.replace.Goals as goal
 
 pub returns-clause-told : goal.returns-clause-told

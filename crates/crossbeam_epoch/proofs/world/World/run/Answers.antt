@@ -1,9 +1,9 @@
 use Rattle.std.proofs.Common.{rules, ◌≡◌, arith, ap, sym, subst, ◌∙◌, ◌∷◌, [], ◌++◌, length, take}
 use Rattle.std.proofs.lemmas.List.{length_push}
 use Rattle.crossbeam_epoch.specs.World.Steps.{state_after, AreReports}
-use Rattle.crossbeam_epoch.proofs.Runs.{fits_run, run_more}
-use Rattle.crossbeam_epoch.proofs.Logs.{shows_run}
-use Rattle.crossbeam_epoch.proofs.Told.{tells_run}
+use Rattle.crossbeam_epoch.proofs.lemmas.world.Runs.{fits_run, run_more}
+use Rattle.crossbeam_epoch.proofs.lemmas.world.Logs.{shows_run}
+use Rattle.crossbeam_epoch.proofs.lemmas.world.Told.{tells_run}
 use Rattle.crossbeam_epoch.proofs.world.World.run.Goals as goal
 use Rattle.crossbeam_epoch.proofs.world.World.run.Goals.{else-loop-step-test, then-loop-step-test+then-is_err}
 

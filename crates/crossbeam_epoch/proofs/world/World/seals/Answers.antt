@@ -1,4 +1,4 @@
-use Rattle.crossbeam_epoch.proofs.Sealing.{sealing_opened, sealing_after, sealing_run, sealing_registered, sealing_deferral, sealing_beside}
+use Rattle.crossbeam_epoch.proofs.lemmas.world.Sealing.{sealing_opened, sealing_after, sealing_run, sealing_registered, sealing_deferral, sealing_beside}
 use Rattle.crossbeam_epoch.proofs.world.World.seals.Goals as goal
 
 pub returns : goal.returns

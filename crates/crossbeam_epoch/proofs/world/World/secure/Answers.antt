@@ -1,7 +1,7 @@
 use Rattle.std.proofs.Common.{ap, ◌∙◌}
 use Rattle.crossbeam_epoch.specs.World.Machine.{secured}
 use Rattle.crossbeam_epoch.specs.World.Steps.{outcome_at}
-use Rattle.crossbeam_epoch.proofs.Held.{held, placed_at}
+use Rattle.crossbeam_epoch.proofs.lemmas.world.Held.{held, placed_at}
 use Rattle.crossbeam_epoch.proofs.world.World.secure.Goals as goal
 
 pub returns : goal.returns

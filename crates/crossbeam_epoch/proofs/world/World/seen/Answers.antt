@@ -1,4 +1,4 @@
-use Rattle.crossbeam_epoch.proofs.Reaches.{reach_seen, reach_now, visible_was, less_reach, enters_next, ended_by, live_was}
+use Rattle.crossbeam_epoch.proofs.lemmas.world.Reaches.{reach_seen, reach_now, visible_was, less_reach, enters_next, ended_by, live_was}
 use Rattle.crossbeam_epoch.proofs.world.World.seen.Goals as goal
 
 pub returns : goal.returns

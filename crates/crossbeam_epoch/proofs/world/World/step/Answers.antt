@@ -8,9 +8,9 @@ use Rattle.crossbeam_epoch.specs.declared.names.Name.{Name}
 use Rattle.crossbeam_epoch.specs.declared.world.report.Event.{Event}
 use Rattle.crossbeam_epoch.specs.declared.world.report.Report.{Report}
 use Rattle.crossbeam_epoch.specs.declared.world.participant.Phase.TheVariants as P
-use Rattle.crossbeam_epoch.proofs.Goes.{begins, refuses}
-use Rattle.crossbeam_epoch.proofs.Logs.{shows_step}
-use Rattle.crossbeam_epoch.proofs.Told.{tells_after}
+use Rattle.crossbeam_epoch.proofs.lemmas.world.Goes.{begins, refuses}
+use Rattle.crossbeam_epoch.proofs.lemmas.world.Logs.{shows_step}
+use Rattle.crossbeam_epoch.proofs.lemmas.world.Told.{tells_after}
 use Rattle.crossbeam_epoch.proofs.world.World.step.Goals as goal
 
 -- a step leads the moments on, and the log

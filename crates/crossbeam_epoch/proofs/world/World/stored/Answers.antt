@@ -3,9 +3,9 @@ use Rattle.crossbeam_epoch.specs.World.Fits.{Fits}
 use Rattle.crossbeam_epoch.specs.World.History.{Mark}
 use Rattle.crossbeam_epoch.specs.World.Machine.{with_store, with_roots}
 use Rattle.crossbeam_epoch.specs.World.Reach.{marks_of}
-use Rattle.crossbeam_epoch.proofs.Progress.{orderly_beside}
-use Rattle.crossbeam_epoch.proofs.Runs.{fits_store, fits_roots}
-use Rattle.crossbeam_epoch.proofs.Told.{tells_act}
+use Rattle.crossbeam_epoch.proofs.lemmas.world.Progress.{orderly_beside}
+use Rattle.crossbeam_epoch.proofs.lemmas.world.Runs.{fits_store, fits_roots}
+use Rattle.crossbeam_epoch.proofs.lemmas.world.Told.{tells_act}
 use Rattle.crossbeam_epoch.proofs.world.World.stored.Goals as goal
 
 pub returns : goal.returns

@@ -5,8 +5,8 @@ use Rattle.crossbeam_epoch.specs.World.Machine.{State, in_phase, is_due, taken, 
 use Rattle.crossbeam_epoch.specs.declared.world.participant.Participant.{Participant}
 use Rattle.crossbeam_epoch.specs.declared.world.participant.Phase.TheVariants as P
 use Rattle.crossbeam_epoch.specs.World.Steps.{outcome_at}
-use Rattle.crossbeam_epoch.proofs.Held.{placed_at, took_first, written_at}
-use Rattle.crossbeam_epoch.proofs.Within.{within}
+use Rattle.crossbeam_epoch.proofs.lemmas.world.Held.{placed_at, took_first, written_at}
+use Rattle.crossbeam_epoch.proofs.lemmas.world.Within.{within}
 use Rattle.crossbeam_epoch.proofs.world.World.take.Goals as goal
 use Rattle.crossbeam_epoch.proofs.world.World.take.Goals.{then-bags-ge-BAGS-via-then-bags-ge-BAGS, then-bags-ge-BAGS-via-else-bags-ge-BAGS+then-not-is_due}
 

@@ -1,4 +1,4 @@
-use Rattle.crossbeam_epoch.proofs.Logs.{shows_opened, shows_step, shows_run, shows_moments, shows_registered, shows_deferred, shows_stored, shows_rooted}
+use Rattle.crossbeam_epoch.proofs.lemmas.world.Logs.{shows_opened, shows_step, shows_run, shows_moments, shows_registered, shows_deferred, shows_stored, shows_rooted}
 use Rattle.crossbeam_epoch.proofs.world.World.watched.Goals as goal
 
 pub returns : goal.returns

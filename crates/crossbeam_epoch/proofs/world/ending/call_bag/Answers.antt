@@ -1,5 +1,5 @@
 use Rattle.std.proofs.Common.{◌≡◌, ◌<◌, ◌∙◌, ◌-◌, [], ap, arith, length}
-use Rattle.crossbeam_epoch.proofs.Endings.{some_jobs, no_jobs, one_less, fewer, first_after, given_is}
+use Rattle.crossbeam_epoch.proofs.lemmas.world.Endings.{some_jobs, no_jobs, one_less, fewer, first_after, given_is}
 use Rattle.crossbeam_epoch.proofs.world.ending.call_bag.Goals as goal
 
 pub loop-jobs-preserved : goal.loop-jobs-preserved

@@ -1,64 +1,18 @@
-use Rattle.std.proofs.Common.{rules, ◌≡◌, ◌<◌, ◌^◌, ◌+◌, ap, subst, sym, ◌∙◌, ℕ, List, None, Some, arith}
-use Rattle.std.specs.Prelude.{nat_eq, Option}
+use Rattle.std.proofs.Common.{rules, ap, ◌∙◌, arith}
 use Rattle.std.specs.Option.{option_map}
-use Rattle.judge.specs.declared.journal.Call.TheVariants as call
-use Rattle.judge.specs.declared.journal.Reply.TheVariants as reply
-use Rattle.congee.specs.Heap.{value_at}
-use Rattle.congee.specs.owned.Arena.{heap_of}
-use Rattle.congee.specs.owned.Changes.{MapChange}
-use Rattle.congee.specs.Keys.{key_bytes}
-use Rattle.congee.proofs.lemmas.owned.Answered.{answered_compute}
-use Rattle.congee.proofs.lemmas.owned.Sizes.{bytes_same}
-use Rattle.congee.proofs.lemmas.owned.Surveys.{same_nodes}
-use Rattle.congee.proofs.lemmas.owned.Tables.{answer_pairs, get_pairs, same_pairs}
-use Rattle.congee.proofs.lemmas.owned.Ways.{same_tree}
-use Rattle.congee.specs.owned.Sizes.{bytes_of}
-use Rattle.congee.specs.owned.Wanted.{wants_at, IsRefused, gain_of}
-use Rattle.congee.proofs.lemmas.owned.Wanting.{get_wants, same_wants, same_lone}
+use Rattle.congee.proofs.lemmas.owned.Contents.{computes, refuses, denied_tree, denied_bytes}
 use Rattle.congee.proofs.owned.congee.Congee.compute_or_insert.Goals as goal
 
-pub returns-in-Ok-clause-answers : goal.returns-in-Ok-clause-answers
-returns-in-Ok-clause-answers g c =
-    let small : c.to_word.result < 2 ^ 64 = search rules in
-    let v : c.copied-old.result ≡ value_at (heap_of c.self.inside.arena.nodes) (key_bytes c.to_word.result) = c.copied-old.ensures ∙ (c.get.ensures ∙ ap (value_at (heap_of c.self.inside.arena.nodes)) c.to_be_bytes-bytes.ensures) in
-    let Q : List ℕ → Type 0 = λ k. MapChange c.self.inside.arena.nodes c.insert.new.self.nodes k c.in-Ok.before (Some c.f-value.result) in
-    let change : MapChange c.self.inside.arena.nodes c.insert.new.self.nodes (key_bytes c.to_word.result) c.in-Ok.before (Some c.f-value.result) = subst Q c.to_be_bytes-bytes.ensures c.in-Ok.ensures.change in
-    let e : c.in-Ok.before ≡ c.copied-old.result = sym change.was ∙ sym v in
-    let R : Option ℕ → Type 0 = λ o. MapChange c.self.inside.arena.nodes c.insert.new.self.nodes (key_bytes c.to_word.result) o (Some c.f-value.result) in
-    let a = answer_pairs nat_eq c.self.inside.arena.nodes c.insert.new.self.nodes (call.ComputeInsert c.to_word.result c.f-value.result) (reply.ComputeInsert c.copied-old.result)
-    (answered_compute nat_eq c.self.inside.arena.nodes c.insert.new.self.nodes c.to_word.result small c.copied-old.result c.f-value.result (subst R e change)) in
-    (c.copied-old.result, c.f-value.result, c.word_of.ensures ∙ ap (option_map g.V.Word64.of_word) e, c.f-value.new.self, search rules, rw (← c.self.view_is, ← c.to_word.ensures) a)
+pub returns-in-Ok-clause-inserts : goal.returns-in-Ok-clause-inserts
+returns-in-Ok-clause-inserts g c =
+    let told = computes g.A.Allocator.charged_of g.A.Allocator.limit_of c.self.inside.drainer c.self.inside.arena c.insert.new.self (g.K.Word64.word c.args.key) c.bytes_of_key-bytes.ensures.small c.bytes_of_key-bytes.result c.bytes_of_key-bytes.ensures.bytes c.in-Ok.before c.copied-old.result c.f-value.result (c.copied-old.ensures ∙ c.get.ensures) c.in-Ok.ensures.adds in
+    (c.copied-old.result, c.f-value.result, c.word_of.ensures ∙ ap (option_map g.V.Word64.of_word) told.0, c.f-value.new.self, search rules, rw (← c.self.view_is) told.1)
 
 pub invariant_of-self-2 : goal.invariant_of-self-2
 invariant_of-self-2 g c = (
-  same_tree c.self.inside.arena.nodes c.insert.new.self.nodes c.in-Err.ensures.same c.self.invariant.0,
-  omega (arith, bytes_same c.self.inside.arena.nodes c.insert.new.self.nodes c.in-Err.ensures.same, c.insert.ensures.balance, c.self.invariant.1),
+  denied_tree _ _ _ _ _ _ _ _ c.self.invariant.0 c.in-Err.ensures.refused,
+  omega (arith, denied_bytes _ _ _ _ _ _ _ _ c.in-Err.ensures.refused, c.in-Err.ensures.refused.balance, c.self.invariant.1),
 )
 
-pub returns-clause-unchanged : goal.returns-clause-unchanged
-returns-clause-unchanged g c = rw (← c.self.view_is) (record {
-  pairs = same_pairs c.self.inside.arena.nodes c.insert.new.self.nodes c.in-Err.ensures.same;
-  nodes = same_nodes c.self.inside.arena.nodes c.insert.new.self.nodes c.in-Err.ensures.same;
-  bytes = bytes_same c.self.inside.arena.nodes c.insert.new.self.nodes c.in-Err.ensures.same;
-  wants = same_wants c.self.inside.arena.nodes c.insert.new.self.nodes c.in-Err.ensures.same;
-  lone = same_lone c.self.inside.arena.nodes c.insert.new.self.nodes c.in-Err.ensures.same;
-})
-
-pub returns-clause-absent : goal.returns-clause-absent
-returns-clause-absent g c =
-    let small : c.to_word.result < 2 ^ 64 = search rules in
-    let v : None ≡ value_at (heap_of c.self.inside.arena.nodes) (key_bytes c.to_word.result) = sym c.in-Err.ensures.absent ∙ ap (value_at (heap_of c.self.inside.arena.nodes)) c.to_be_bytes-bytes.ensures in
-    rw (← c.self.view_is, ← c.to_word.ensures) (sym (get_pairs c.self.inside.arena.nodes c.to_word.result small None v))
-
 pub returns-clause-refused : goal.returns-clause-refused
-returns-clause-refused g c =
-    let small : c.to_word.result < 2 ^ 64 = search rules in
-    let w = ap (wants_at (heap_of c.self.inside.arena.nodes)) c.to_be_bytes-bytes.ensures ∙ sym (get_wants c.self.inside.arena.nodes c.to_word.result small) in
-    let Q : Option (List ℕ) → Type 0 = λ z. IsRefused z (g.A.Allocator.charged_of c.self.inside.arena.allocator) (g.A.Allocator.limit_of c.self.inside.arena.allocator) c.in-Err.e in
-    rw (← c.self.view_is, ← c.to_word.ensures) (subst Q w c.in-Err.ensures.refused)
-
-pub returns-in-Ok-clause-bytes : goal.returns-in-Ok-clause-bytes
-returns-in-Ok-clause-bytes g c =
-    let small : c.to_word.result < 2 ^ 64 = search rules in
-    let w = ap (wants_at (heap_of c.self.inside.arena.nodes)) c.to_be_bytes-bytes.ensures ∙ sym (get_wants c.self.inside.arena.nodes c.to_word.result small) in
-    rw (← c.self.view_is, ← c.to_word.ensures) (c.in-Ok.ensures.bytes ∙ ap (λ z. bytes_of c.self.inside.arena.nodes + gain_of z) w)
+returns-clause-refused g c = rw (← c.self.view_is) (refuses g.A.Allocator.charged_of g.A.Allocator.limit_of c.self.inside.drainer c.self.inside.arena c.insert.new.self (g.K.Word64.word c.args.key) c.bytes_of_key-bytes.ensures.small c.bytes_of_key-bytes.result c.bytes_of_key-bytes.ensures.bytes c.f-value.result (c.in-Err.e, c.in-Err.field-0-1) c.in-Err.ensures.refused)

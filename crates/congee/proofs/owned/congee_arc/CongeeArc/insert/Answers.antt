@@ -1,61 +1,35 @@
-use Rattle.std.proofs.Common.{rules, ◌≡◌, ◌<◌, ◌^◌, ◌+◌, ◌-◌, ap, sym, ◌∙◌, subst, ℕ, List, None, Some, arith}
-use Rattle.std.specs.Prelude.{Option}
+use Rattle.std.proofs.Common.{◌^◌, ◌-◌, sym, subst, ℕ, None, arith}
 use Rattle.std.specs.FinMap as map
-use Rattle.judge.specs.declared.journal.Call.TheVariants as call
-use Rattle.judge.specs.declared.journal.Reply.TheVariants as reply
-use Rattle.congee.specs.owned.Changes.{MapChange}
-use Rattle.congee.specs.Keys.{key_bytes}
 use Rattle.congee.specs.owned.Owners.{never_same}
-use Rattle.congee.proofs.lemmas.owned.Answered.{answered_insert}
-use Rattle.congee.proofs.lemmas.owned.Sizes.{bytes_same}
-use Rattle.congee.proofs.lemmas.owned.Tables.{answer_pairs, get_pairs, same_pairs}
-use Rattle.congee.proofs.lemmas.owned.Ways.{same_tree}
-use Rattle.congee.specs.Heap.{value_at}
-use Rattle.congee.specs.owned.Arena.{heap_of}
-use Rattle.congee.specs.owned.Sizes.{bytes_of}
-use Rattle.congee.specs.owned.Wanted.{wants_at, wants_of, IsRefused, gain_of}
-use Rattle.congee.proofs.lemmas.owned.Wanting.{get_wants, same_wants, same_lone}
+use Rattle.congee.specs.owned.Wanted.{wants_of, IsRefused}
+use Rattle.congee.proofs.lemmas.owned.Contents.{insert_told, grown, found_at, refused_at, denied_tree, denied_bytes}
+use Rattle.congee.proofs.lemmas.owned.Tables.{same_pairs}
+use Rattle.congee.proofs.lemmas.owned.Wanting.{same_wants, same_lone}
 use Rattle.congee.proofs.owned.congee_arc.CongeeArc.insert.Goals as goal
 
-pub returns-in-Ok-clause-answers : goal.returns-in-Ok-clause-answers
-returns-in-Ok-clause-answers g c =
-    let small : c.to_word.result < 2 ^ 64 = search rules in
-    let Q : List ℕ → Type 0 = λ k. MapChange c.self.inside.arena.nodes c.insert.new.self.nodes k c.in-Ok.before (Some c.new.result) in
-    let change : MapChange c.self.inside.arena.nodes c.insert.new.self.nodes (key_bytes c.to_word.result) c.in-Ok.before (Some c.new.result) = subst Q c.to_be_bytes-bytes.ensures c.in-Ok.ensures.change in
-    let a = answer_pairs never_same c.self.inside.arena.nodes c.insert.new.self.nodes (call.Insert c.to_word.result c.new.result) (reply.Insert c.in-Ok.before)
-    (answered_insert never_same c.self.inside.arena.nodes c.insert.new.self.nodes c.to_word.result small c.in-Ok.before c.new.result change) in
-    rw (← c.self.view_is, ← c.to_word.ensures, c.owner_of.ensures, ← c.new.ensures) a
+pub returns-in-Ok-clause-inserts : goal.returns-in-Ok-clause-inserts
+returns-in-Ok-clause-inserts g c =
+    let adds = c.in-Ok.ensures.adds in
+    let answers = insert_told never_same _ _ c.self.inside.arena c.insert.new.self (g.K.Word64.word c.args.key) c.bytes_of_key-bytes.ensures.small c.bytes_of_key-bytes.result c.bytes_of_key-bytes.ensures.bytes c.in-Ok.before c.new.result _ adds in
+    let bytes = grown never_same _ _ c.self.inside.arena c.insert.new.self (g.K.Word64.word c.args.key) c.bytes_of_key-bytes.ensures.small c.bytes_of_key-bytes.result c.bytes_of_key-bytes.ensures.bytes c.in-Ok.before c.new.result adds in
+    rw (← c.self.view_is, c.owner_of.ensures, ← c.new.ensures) (record { answers = answers; bytes = bytes })
 
 pub invariant_of-self-2 : goal.invariant_of-self-2
 invariant_of-self-2 g c = (
-  same_tree c.self.inside.arena.nodes c.insert.new.self.nodes c.in-Err.ensures.same c.self.invariant.0,
-  omega (arith, bytes_same c.self.inside.arena.nodes c.insert.new.self.nodes c.in-Err.ensures.same, c.insert.ensures.balance, c.self.invariant.1),
+  denied_tree _ _ _ _ _ _ _ _ c.self.invariant.0 c.in-Err.ensures.refused,
+  omega (arith, denied_bytes _ _ _ _ _ _ _ _ c.in-Err.ensures.refused, c.in-Err.ensures.refused.balance, c.self.invariant.1),
 )
-
-pub returns-clause-unchanged : goal.returns-clause-unchanged
-returns-clause-unchanged g c =
-    let p = same_pairs c.self.inside.arena.nodes c.insert.new.self.nodes c.in-Err.ensures.same in
-    let b = bytes_same c.self.inside.arena.nodes c.insert.new.self.nodes c.in-Err.ensures.same in
-    let w = same_wants c.self.inside.arena.nodes c.insert.new.self.nodes c.in-Err.ensures.same in
-    let l = same_lone c.self.inside.arena.nodes c.insert.new.self.nodes c.in-Err.ensures.same in
-    rw (← c.self.view_is) (λ i. record { pairs = p i; bytes = b i; wants = w i; lone = l i })
-
-pub returns-clause-absent : goal.returns-clause-absent
-returns-clause-absent g c =
-    let small : c.to_word.result < 2 ^ 64 = search rules in
-    let v : None ≡ value_at (heap_of c.self.inside.arena.nodes) (key_bytes c.to_word.result) = sym c.in-Err.ensures.absent ∙ ap (value_at (heap_of c.self.inside.arena.nodes)) c.to_be_bytes-bytes.ensures in
-    rw (← c.self.view_is, ← c.to_word.ensures) (sym (get_pairs c.self.inside.arena.nodes c.to_word.result small None v))
 
 pub returns-clause-refused : goal.returns-clause-refused
 returns-clause-refused g c =
-    let small : c.to_word.result < 2 ^ 64 = search rules in
-    let w = ap (wants_at (heap_of c.self.inside.arena.nodes)) c.to_be_bytes-bytes.ensures ∙ sym (get_wants c.self.inside.arena.nodes c.to_word.result small) in
-    let Q : Option (List ℕ) → Type 0 = λ z. IsRefused z c.self.inside.arena.allocator.charged (2 ^ 64 - 1) c.in-Err.e in
-    let Q2 : ℕ → Type 0 = λ n. IsRefused (map.get (wants_of c.self.inside.arena.nodes) c.to_word.result) n (2 ^ 64 - 1) c.in-Err.e in
-    rw (← c.self.view_is, ← c.to_word.ensures) (subst Q2 (sym c.self.invariant.1) (subst Q w c.in-Err.ensures.refused))
-
-pub returns-in-Ok-clause-bytes : goal.returns-in-Ok-clause-bytes
-returns-in-Ok-clause-bytes g c =
-    let small : c.to_word.result < 2 ^ 64 = search rules in
-    let w = ap (wants_at (heap_of c.self.inside.arena.nodes)) c.to_be_bytes-bytes.ensures ∙ sym (get_wants c.self.inside.arena.nodes c.to_word.result small) in
-    rw (← c.self.view_is, ← c.to_word.ensures) (c.in-Ok.ensures.bytes ∙ ap (λ z. bytes_of c.self.inside.arena.nodes + gain_of z) w)
+    let refused = c.in-Err.ensures.refused in
+    let p = same_pairs c.self.inside.arena.nodes c.insert.new.self.nodes refused.same in
+    let b = denied_bytes _ _ _ _ _ _ _ _ refused in
+    let w = same_wants c.self.inside.arena.nodes c.insert.new.self.nodes refused.same in
+    let l = same_lone c.self.inside.arena.nodes c.insert.new.self.nodes refused.same in
+    let Q : ℕ → Type 0 = λ n. IsRefused (map.get (wants_of c.self.inside.arena.nodes) (g.K.Word64.word c.args.key)) n (2 ^ 64 - 1) c.in-Err.e in
+    rw (← c.self.view_is) (record {
+      absent = sym (found_at c.self.inside.arena (g.K.Word64.word c.args.key) c.bytes_of_key-bytes.ensures.small c.bytes_of_key-bytes.result c.bytes_of_key-bytes.ensures.bytes None (sym refused.absent));
+      cause = subst Q (sym c.self.invariant.1) (refused_at c.self.inside.arena (g.K.Word64.word c.args.key) c.bytes_of_key-bytes.ensures.small c.bytes_of_key-bytes.result c.bytes_of_key-bytes.ensures.bytes _ _ c.in-Err.e refused.cause);
+      unchanged = λ i. record { pairs = p i; bytes = b i; wants = w i; lone = l i };
+    })

@@ -23,10 +23,10 @@ pub returns-in_default-clause-step : goal.returns-in_default-clause-step
 returns-in_default-clause-step g c = c.act.ensures.step c.args.noise.now.answer
 
 pub returns-in-New-clause-step : goal.returns-in-New-clause-step
-returns-in-New-clause-step g c = rw c.in-New.is (refl, refl, c.again.ensures)
+returns-in-New-clause-step g c = rw (c.in-New.is, ← c.version.ensures) (refl, refl, c.after_version.ensures)
 
 pub returns-in-Version-clause-step : goal.returns-in-Version-clause-step
-returns-in-Version-clause-step g c = rw (c.in-Version.is, ← c.version.ensures) (refl, refl, c.after_version.ensures)
+returns-in-Version-clause-step g c = rw (c.in-Version.is, ← c.version-in-Version.ensures) (refl, refl, c.after_version-in-Version.ensures)
 
 pub returns-in-Read-clause-step : goal.returns-in-Read-clause-step
 returns-in-Read-clause-step g c = rw (c.in-Read.is, ← c.to_be_bytes.ensures) (refl, refl, (c.read-reading.result, c.read-reading.ensures.gives, c.after_read.ensures))

@@ -1,6 +1,6 @@
 use Rattle.std.proofs.Common.{sym, ap, ◌∙◌}
 use Rattle.crossbeam_epoch.specs.Face.Pointer.{is_foreign}
-use Rattle.crossbeam_epoch.proofs.Updates.{one_pointer, gave_next, gave_none}
+use Rattle.crossbeam_epoch.proofs.lemmas.face.Updates.{one_pointer, gave_next, gave_none}
 use Rattle.crossbeam_epoch.proofs.face.atomic.Atomic.fetch_update.Goals as goal
 
 pub returns-in_default-clause-asked : goal.returns-in_default-clause-asked

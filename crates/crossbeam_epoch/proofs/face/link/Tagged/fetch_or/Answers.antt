@@ -1,4 +1,4 @@
-use Rattle.crossbeam_epoch.proofs.Tags.{or_below}
+use Rattle.crossbeam_epoch.proofs.lemmas.Tags.{or_below}
 use Rattle.crossbeam_epoch.proofs.face.link.Tagged.fetch_or.Goals as goal
 
 pub invariant_of-self : goal.invariant_of-self

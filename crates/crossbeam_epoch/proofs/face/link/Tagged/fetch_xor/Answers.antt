@@ -1,4 +1,4 @@
-use Rattle.crossbeam_epoch.proofs.Tags.{xor_below}
+use Rattle.crossbeam_epoch.proofs.lemmas.Tags.{xor_below}
 use Rattle.crossbeam_epoch.proofs.face.link.Tagged.fetch_xor.Goals as goal
 
 pub invariant_of-self : goal.invariant_of-self

@@ -1,5 +1,5 @@
 use Rattle.std.proofs.Common.{rules}
-use Rattle.crossbeam_epoch.proofs.FreeCells.{some_usable}
+use Rattle.crossbeam_epoch.proofs.lemmas.world.FreeCells.{some_usable}
 use Rattle.crossbeam_epoch.proofs.world.cells.Cells.has_room.Goals as goal
 
 pub returns-then-not-is_empty-clause-some : goal.returns-then-not-is_empty-clause-some

@@ -1,7 +1,7 @@
 use Rattle.std.proofs.Common.{rules, ◌≡◌, ◌<◌, ◌∙◌, true, length, get_or}
 use Rattle.std.specs.Prelude.{is_some}
 use Rattle.crossbeam_epoch.specs.World.Store.{fresh, value_at}
-use Rattle.crossbeam_epoch.proofs.FreeCells.{some_of, fits_replaced}
+use Rattle.crossbeam_epoch.proofs.lemmas.world.FreeCells.{some_of, fits_replaced}
 use Rattle.crossbeam_epoch.proofs.world.cells.Cells.replace.Goals as goal
 
 pub invariant_of-self : goal.invariant_of-self

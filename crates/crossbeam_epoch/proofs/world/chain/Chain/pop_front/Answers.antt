@@ -1,6 +1,6 @@
 use Rattle.std.proofs.Common.{◌≡◌, ◌∷◌, [], sym, ap, ◌∙◌}
-use Rattle.crossbeam_epoch.proofs.Chains.{nothing_in, taken_last, taken_first, taken_over}
-use Rattle.crossbeam_epoch.proofs.Endings.{none_left}
+use Rattle.crossbeam_epoch.proofs.lemmas.world.Chains.{nothing_in, taken_last, taken_first, taken_over}
+use Rattle.crossbeam_epoch.proofs.lemmas.world.Endings.{none_left}
 use Rattle.crossbeam_epoch.proofs.world.chain.Chain.pop_front.Goals as goal
 use Rattle.crossbeam_epoch.proofs.world.chain.Chain.pop_front.Goals.{then-is_empty, else-is_empty}
 

@@ -1,7 +1,7 @@
 use Rattle.std.proofs.Common.{◌≡◌, ◌++◌, ◌∷◌, [], ◌<◌, sym, ap, ◌∙◌, subst}
 use Rattle.std.specs.VecDeque.{deque_len}
 use Rattle.crossbeam_epoch.specs.World.Chain.{joined, AreFilled}
-use Rattle.crossbeam_epoch.proofs.Chains.{has_room, nothing_in, something_in, not_nothing, moved, all_filled}
+use Rattle.crossbeam_epoch.proofs.lemmas.world.Chains.{has_room, nothing_in, something_in, not_nothing, moved, all_filled}
 use Rattle.crossbeam_epoch.proofs.world.chain.Chain.reserve.Goals as goal
 
 pub returns-then-len-capacity-clause-ok : goal.returns-then-len-capacity-clause-ok

@@ -1,0 +1,45 @@
+-- What a writing call does to an arena: to its pairs, to the sizes of its nodes, and to its budget.
+use Rattle.std.specs.Prelude.{◌≡◌, ℕ, ◌+◌, List, Option, None, Some}
+use Rattle.congee.specs.Heap.{value_at}
+use Rattle.congee.specs.owned.Arena.{IsTree, heap_of}
+use Rattle.congee.specs.owned.Changes.{MapChange}
+use Rattle.congee.specs.owned.Charge.{Balances, KeepsLimit}
+use Rattle.congee.specs.owned.OwnedSteps.{SameNodes}
+use Rattle.congee.specs.owned.Sizes.{bytes_of}
+use Rattle.congee.specs.owned.Wanted.{IsRefused, gain_of}
+use Rattle.congee.specs.declared.allocator.OOMError.{OOMError}
+use Rattle.congee.specs.declared.owned.arena.Arena.{Arena}
+
+module _ {P A : Type 0} where
+  -- the nodes are a tree, whose map changes at the key alone; the charge moves as their sizes do, and the limit stays
+  pub record Edits (charged limit : A → ℕ) (old new : Arena P A) (key : List ℕ) (before after : Option P) : Type 0 where
+    pub tree : IsTree new.nodes
+    pub change : MapChange old.nodes new.nodes key before after
+    pub balance : Balances charged old new
+    pub same_limit : KeepsLimit limit old new
+
+  -- an edit within a leaf: no node comes or goes, and the budget isn't touched
+  pub record Swaps (old new : Arena P A) (key : List ℕ) (before after : Option P) : Type 0 where
+    pub tree : IsTree new.nodes
+    pub change : MapChange old.nodes new.nodes key before after
+    pub bytes : bytes_of new.nodes ≡ bytes_of old.nodes
+    pub allocator : new.allocator ≡ old.allocator
+
+  -- an insertion: the key has the value, and nodes of these sizes are made; no node is where the key was present
+  pub record Adds (charged limit : A → ℕ) (old new : Arena P A) (key : List ℕ) (before : Option P) (value : P) (wants : Option (List ℕ)) : Type 0 where
+    pub edits : Edits charged limit old new key before (Some value)
+    pub bytes : bytes_of new.nodes ≡ bytes_of old.nodes + gain_of wants
+
+  -- a refused insertion: the key is absent, one of these nodes wasn't made, the value comes back, and all is as before
+  pub record Denies (charged limit : A → ℕ) (old new : Arena P A) (key : List ℕ) (value : P) (wants : Option (List ℕ)) (refusal : OOMError × P) : Type 0 where
+    pub absent : value_at (heap_of old.nodes) key ≡ None
+    pub cause : IsRefused wants (charged old.allocator) (limit old.allocator) refusal.0
+    pub back : refusal.1 ≡ value
+    pub same : SameNodes old.nodes new.nodes
+    pub balance : Balances charged old new
+    pub same_limit : KeepsLimit limit old new
+
+  -- an edit that makes no node: nodes of so many bytes go
+  pub record Frees (charged limit : A → ℕ) (old new : Arena P A) (key : List ℕ) (before after : Option P) (freed : ℕ) : Type 0 where
+    pub edits : Edits charged limit old new key before after
+    pub bytes : bytes_of new.nodes + freed ≡ bytes_of old.nodes

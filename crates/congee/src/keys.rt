@@ -1,0 +1,16 @@
+//! The bytes of a key.
+ghost use Rattle.std.specs.Prelude.{◌≡◌, ◌<◌, ◌^◌};
+ghost use Rattle.congee.specs.Keys.{key_bytes};
+
+use judge::Word64;
+
+/// How many bytes a key has.
+pub const KEY_BYTES: usize = 8;
+
+/// A key's bytes, the highest first.
+pub(crate) fn bytes_of_key<K: Word64>(key: &K) -> [u8; KEY_BYTES]
+    ensures bytes { result ≡ key_bytes (K.word key.now) }
+    ensures small { K.word key.now < 2 ^ 64 }
+{
+    key.to_word().to_be_bytes()
+}

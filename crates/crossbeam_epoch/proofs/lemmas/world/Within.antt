@@ -1,0 +1,38 @@
+-- What a collector's state gives the calls of a step: an index within the table, room for a bag, a ticket that is left.
+use Rattle.std.proofs.Common.{◌≡◌, ℕ, zero, suc, ◌+◌, ◌-◌, ◌^◌, ◌<◌, arith, Bool, true, false, List, Result, Ok, Err, OnOk, sym, ◌∙◌, ap, subst, length, get_or}
+use Rattle.std.specs.Result.{is_err}
+use Rattle.std.proofs.lemmas.List.{get_or_read}
+use borrow.Author.Count.{below_more}
+use Rattle.crossbeam_epoch.specs.declared.world.participant.Participant.{Participant}
+use Rattle.crossbeam_epoch.specs.declared.bag.Sealed.{Sealed}
+use Rattle.crossbeam_epoch.specs.World.Chain.{refilled}
+use Rattle.crossbeam_epoch.specs.World.Machine.{State, place, blank}
+
+-- a reservation that didn't fail made room for one more
+pub room_made : {A E : Type 0} (r : Result A E) (failed : Bool) (before room : ℕ) → failed ≡ is_err r → failed ≡ false → OnOk r (room ≡ refilled before) → 0 < room
+room_made (Ok x) failed zero room is succeeded made = omega (arith, made)
+room_made (Ok x) failed (suc n) room is succeeded made = omega (arith, made)
+room_made (Err e) failed before room is succeeded made = absurd (cc (is, succeeded))
+
+-- one more place that was looked at is taken
+pub taken_next : {A : Type 0} (xs : List (Participant A)) (n : ℕ) (p : Participant A) → n < length xs → p ≡ get_or xs n p → p.registered ≡ true → ((q : ℕ) → q < n → (get_or xs q blank).registered ≡ true) → (q : ℕ) → q < n + 1 → (get_or xs q blank).registered ≡ true
+taken_next {A = A} xs n p lt read taken below = below_more (λ q. (get_or xs q blank).registered ≡ true) n below (sym (ap (λ (x : Participant A). x.registered) (get_or_read xs n p lt read blank)) ∙ taken)
+
+module _ {T J : Type 0} where
+  pub within : (s v : State T J) (who n : ℕ) → v ≡ s → n ≡ length v.table → who < length s.table → who < n
+  within s v who n is long lt = subst (λ m. who < m) (sym (long ∙ ap (λ (x : State T J). length x.table) is)) lt
+
+  pub ticket_left : (s v : State T J) → v ≡ s → s.next < 2 ^ 64 - 1 → v.next < 2 ^ 64 - 1
+  ticket_left s v is lt = subst (λ (x : State T J). x.next < 2 ^ 64 - 1) (sym is) lt
+
+  -- a queue with new room is the same queue
+  pub same_queue : (s v : State T J) (queue : List (Sealed J)) → v ≡ s → queue ≡ v.queue → record v { queue = queue } ≡ s
+  same_queue s v queue is same = ap (λ q. record v { queue = q }) same ∙ is
+
+  -- a place of the table that was looked at is free
+  pub free_at : (s v : State T J) (xs : List (Participant J)) (n : ℕ) (p : Participant J) → v ≡ s → xs ≡ v.table → n < length xs → p ≡ get_or xs n p → p.registered ≡ false → (n < length s.table) × ((place s n).registered ≡ false)
+  free_at s v xs n p is same lt read free =
+      let table : xs ≡ s.table = same ∙ ap (λ (x : State T J). x.table) is in (
+        subst (λ (ys : List (Participant J)). n < length ys) table lt,
+        sym (ap (λ (x : Participant J). x.registered) (get_or_read xs n p lt read blank ∙ ap (λ (ys : List (Participant J)). get_or ys n blank) table)) ∙ free,
+      )

@@ -1,0 +1,216 @@
+//! The epoch and the participants' words. Threads step on them without a lock.
+
+ghost use Rattle.std.specs.Prelude.{◌≡◌, true, false, ◌<◌, ◌≤◌, ◌+◌, ◌^◌, None, Some, IfSome, IfOk};
+ghost use Rattle.crossbeam_epoch.specs.Face.Pins.{word_of, with_seen, IsRead, Passes};
+ghost use Rattle.crossbeam_epoch.specs.Face.Tokens.{known, IsOf, unpinned_view, pinned_view};
+
+use crate::face::seats::{
+    Advance, Arrive, Claim, Confirm, Extent, Inspect, Leave, Look, Publish, Release, Token, Words,
+};
+use atomic_table::Table;
+use std::alloc::{AllocError, Global};
+
+/// The number in the word of a place that is nobody's.
+const FREE: u64 = 0;
+
+/// The number in the word of a participant that isn't pinned.
+const UNPINNED: u64 = 1;
+
+/// The number in the word of a participant that is pinned at this epoch.
+fn pinned(epoch: u64) -> u64
+    requires { epoch ≤ 2 ^ 62 }
+    ensures { result ≡ epoch + 2 }
+{
+    epoch + 2
+}
+
+/// The index of a place's word.
+fn word_of(place: u32) -> usize
+    ensures { result ≡ word_of place }
+{
+    16 * place as usize + 16
+}
+
+/// Whether a scan that saw this epoch passes a place.
+fn passes(number: u64, seen: u64) -> bool
+    requires { seen ≤ 2 ^ 62 }
+    ensures passed { result ≡ true → Passes seen number }
+    ensures stopped { result ≡ false → ¬ Passes seen number }
+{
+    number == FREE || number == UNPINNED || number == pinned(seen)
+}
+
+/// What a participant's word publishes, and an epoch that was read after it.
+#[derive(Clone, Copy, Drop)]
+pub struct Pin {
+    pub at: u64,
+    pub epoch: u64,
+    ghost later: { at ≤ epoch },
+}
+
+/// The words of a collector.
+#[derive(Drop)]
+pub struct Pins {
+    words: Words,
+    places: u32,
+    epoch_max: u64,
+    ghost sized: { words.shared.table_id.words ≡ word_of places },
+    ghost places_are: { words.shared.key.places ≡ places },
+    ghost last_is: { words.shared.key.epoch_max ≡ epoch_max },
+}
+
+impl Pins {
+    /// Epoch 0, and so many places, which are free.
+    pub fn new(alloc: Global, places: u32, epoch_max: u64) -> Result<Pins, AllocError>
+        requires { epoch_max ≤ 2 ^ 62 }
+        ensures { IfOk result (λ p. (p.places ≡ places) × (p.epoch_max ≡ epoch_max)) }
+    {
+        let words = Vec::from_elem(alloc, FREE, word_of(places))?;
+        let extent = Extent { places, epoch_max };
+        let (words, _seat) = Table::of_words(alloc, words.as_slice(), &extent)?;
+        Ok(Pins {
+            words,
+            places,
+            epoch_max,
+        })
+    }
+
+    /// A seat of its own for the caller, and the place that it takes: each is tried once, the lowest one first.
+    pub fn register(&self) -> Option<(Token, u32)>
+        ensures { IfSome result (λ r. (r.1 < self.now.places) × IsOf self.now.words.shared.table_id r.0 × (known r.0 ≡ unpinned_view r.1 (known r.0).seen 0)) }
+    {
+        let mut token = self.words.shared.load_new_seat::<Arrive>(0).1;
+        for place in 0..self.places {
+            let shared = &self.words.shared;
+            let found = shared.compare_exchange::<Claim>(
+                &mut token,
+                word_of(place),
+                FREE,
+                UNPINNED,
+            );
+            if found == FREE {
+                return Some((token, place));
+            }
+        }
+        None
+    }
+
+    /// Gives the place up, and the seat.
+    pub fn release(&self, mut token: Token, place: u32)
+        requires of { IsOf self.now.words.shared.table_id token }
+        requires own { (place < self.now.places) × ((known token).place ≡ Some place) }
+    {
+        self.words
+            .shared
+            .store::<Release>(&mut token, word_of(place), FREE);
+    }
+
+    /// Reads the epoch.
+    pub fn look(&self, token: &mut Token) -> u64
+        requires of { IsOf self.now.words.shared.table_id token.old }
+        ensures of { IsOf self.now.words.shared.table_id token.new }
+        ensures view { known token.new ≡ with_seen (known token.old) result }
+        ensures read { IsRead (known token.old) result }
+    {
+        self.words.shared.load::<Look>(token, 0)
+    }
+
+    /// Publishes that the place's participant is pinned at this epoch, which it saw last, and confirms it.
+    fn publish(&self, token: &mut Token, place: u32, at: u64) -> Pin
+        requires of { IsOf self.now.words.shared.table_id token.old }
+        requires own { (place < self.now.places) × ((known token.old).place ≡ Some place) }
+        requires seen { ((known token.old).seen ≡ at) × (at ≤ 2 ^ 62) }
+        ensures of { IsOf self.now.words.shared.table_id token.new }
+        ensures view { known token.new ≡ pinned_view place at result.epoch result.epoch 0 }
+        ensures pin { (result.at ≡ at) × (result.epoch ≤ 2 ^ 62) }
+    {
+        let shared = &self.words.shared;
+        shared.store::<Publish>(token, word_of(place), pinned(at));
+        let epoch = shared.load::<Confirm>(token, 0);
+        Pin { at, epoch }
+    }
+
+    /// Pins a place's participant, which is unpinned: looks, publishes, and confirms.
+    pub fn pin(&self, token: &mut Token, place: u32) -> Pin
+        requires of { IsOf self.now.words.shared.table_id token.old }
+        requires own { place < self.now.places }
+        requires unpinned { known token.old ≡ unpinned_view place (known token.old).seen (known token.old).passed }
+        ensures of { IsOf self.now.words.shared.table_id token.new }
+        ensures view { known token.new ≡ pinned_view place result.at result.epoch result.epoch 0 }
+    {
+        let at = self.look(token);
+        self.publish(token, place, at)
+    }
+
+    /// Pins a place's participant anew, where the epoch isn't the one that its word publishes.
+    pub fn repin(&self, token: &mut Token, place: u32, was: Pin) -> Pin
+        requires of { IsOf self.now.words.shared.table_id token.old }
+        requires own { place < self.now.places }
+        requires pinned { known token.old ≡ pinned_view place was.at was.epoch (known token.old).seen (known token.old).passed }
+        ensures of { IsOf self.now.words.shared.table_id token.new }
+        ensures view { known token.new ≡ pinned_view place result.at result.epoch result.epoch 0 }
+    {
+        let at = self.look(token);
+        if at == was.at {
+            return was;
+        }
+        self.publish(token, place, at)
+    }
+
+    /// Takes the pin of a place's participant away.
+    pub fn unpin(&self, token: &mut Token, place: u32)
+        requires of { IsOf self.now.words.shared.table_id token.old }
+        requires own { (place < self.now.places) × ((known token.old).place ≡ Some place) }
+        ensures of { IsOf self.now.words.shared.table_id token.new }
+        ensures view { known token.new ≡ unpinned_view place (known token.old).seen (known token.old).passed }
+    {
+        self.words
+            .shared
+            .store::<Leave>(token, word_of(place), UNPINNED);
+    }
+
+    /// Inspects each place in order, and tells whether all were passed.
+    fn scan(&self, token: &mut Token, seen: u64) -> bool
+        requires of { IsOf self.now.words.shared.table_id token.old }
+        requires starts { (known token.old ≡ with_seen (known token.old) seen) × (seen ≤ 2 ^ 62) }
+        ensures of { IsOf self.now.words.shared.table_id token.new }
+        ensures view { known token.new ≡ record (known token.old) { passed = (known token.new).passed } }
+        ensures all { result ≡ true → self.now.places ≤ (known token.new).passed }
+    {
+        for place in 0..self.places {
+            let number = self.words.shared.load::<Inspect>(token, word_of(place));
+            if !passes(number, seen) {
+                return false;
+            }
+        }
+        true
+    }
+
+    /// Tries once to advance the epoch: looks at it, inspects each place, and where all were passed puts the next one in
+    /// its place, unless another was faster. Answers the epoch that it saw last.
+    pub fn advance(&self, token: &mut Token) -> u64
+        requires of { IsOf self.now.words.shared.table_id token.old }
+        ensures of { IsOf self.now.words.shared.table_id token.new }
+        ensures view { known token.new ≡ record (known token.old) { seen = result; passed = (known token.new).passed } }
+        ensures read { IsRead (known token.old) result }
+    {
+        let seen = self.look(token);
+        if seen >= self.epoch_max || !self.scan(token, seen) {
+            return seen;
+        }
+        let shared = &self.words.shared;
+        let found = shared.compare_exchange::<Advance>(token, 0, seen, seen + 1);
+        if found == seen { seen + 1 } else { seen }
+    }
+
+    /// How many places aren't free.
+    pub fn registered(&self) -> u32 {
+        let mut taken = 0;
+        for place in 0..self.places {
+            if self.words.shared.peek(word_of(place)) != FREE {
+                taken += 1;
+            }
+        }
+        taken
+    }
+}

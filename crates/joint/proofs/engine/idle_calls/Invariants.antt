@@ -1,0 +1,6 @@
+use Rattle.std.proofs.Common.{◌≡◌, replicate}
+use Rattle.joint.specs.declared.call.Call.TheVariants.{Idle}
+use Rattle.joint.proofs.engine.idle_calls.Given as goal
+
+abbrev pub invariant-loop : goal.invariant-loop
+invariant-loop g l = l.calls.items ≡ replicate l.counter Idle

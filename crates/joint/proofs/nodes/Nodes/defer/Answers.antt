@@ -1,0 +1,25 @@
+use Rattle.std.proofs.Common.{◌≡◌, refl, ap, sym, subst}
+use Rattle.crossbeam_epoch.specs.World.History.{Deferred}
+use Rattle.crossbeam_epoch.specs.World.Reach.{Quiet, Marked, Tells}
+use Rattle.joint.specs.Machines.{slot_names}
+use Rattle.std.specs.Prelude.{MatchResult, MatchOption, None, Some, length}
+use Rattle.crossbeam_epoch.specs.declared.fault.Fault.{Fault}
+use Rattle.crossbeam_epoch.specs.World.Machine.{place}
+use Rattle.crossbeam_epoch.specs.World.Steps.{destroy_fault}
+use Rattle.joint.proofs.lemmas.Accounts.{kept_same}
+use Rattle.joint.proofs.lemmas.Registering.{deferred_orderly, deferred_store, told_at}
+use Rattle.joint.proofs.nodes.Nodes.defer.Goals as goal
+
+pub invariant_of-self : goal.invariant_of-self
+invariant_of-self g c =
+    kept_same _ _ _ c.self.invariant
+    (deferred_orderly c.self.inside.collector c.self.invariant.orderly c.args.who _ c.defer_destroy.result c.defer_destroy.new.self c.defer_destroy.ensures.state c.defer_destroy.ensures.back)
+    (deferred_store c.self.inside.collector c.self.invariant.orderly c.args.who _ c.defer_destroy.result c.defer_destroy.new.self c.defer_destroy.ensures.state c.defer_destroy.ensures.back) refl refl
+
+pub returns-clause-fault : goal.returns-clause-fault
+returns-clause-fault g c =
+    subst (λ s. MatchResult c.defer_destroy.result (λ t. destroy_fault s c.args.who c.args.node.name ≡ None) (λ e. MatchOption (destroy_fault s c.args.who c.args.node.name) ((e ≡ Fault.Memory) × (length (place s c.args.who).bag ≡ 64)) (λ f. e ≡ f)))
+    (ap (λ x. x.collector) c.self.view_is) c.defer_destroy.ensures.fault
+
+pub returns-clause-told : goal.returns-clause-told
+returns-clause-told g c = λ h t. told_at slot_names (λ t. Marked (Deferred t (Some c.args.node.name))) Quiet c.self.inside.collector c.defer_destroy.new.self c.defer_destroy.result c.defer_destroy.ensures.told h (subst (λ s. Tells slot_names h s) (sym (ap (λ x. x.collector) c.self.view_is)) t)

@@ -1,6 +1,0 @@
-use Rattle.std.proofs.Common.{◌≡◌, replicate}
-use Rattle.joint.specs.declared.shared.call.Call.TheVariants.{Idle}
-use Rattle.joint.proofs.shared.engine.idle_calls.Given as goal
-
-abbrev pub invariant-loop : goal.invariant-loop
-invariant-loop g l = l.calls.items ≡ replicate l.counter Idle

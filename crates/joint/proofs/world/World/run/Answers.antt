@@ -1,0 +1,15 @@
+use Rattle.joint.proofs.lemmas.Running.{run_map, run_fresh}
+use Rattle.joint.proofs.lemmas.Scans.{scans_hold, empty_scans_hold}
+use Rattle.joint.proofs.world.World.run.Goals as goal
+
+pub returns-clause-map : goal.returns-clause-map
+returns-clause-map g c fs m st fl = run_map g.P.Payload.same_as g.P.Payload.always_copies _ _ _ _ fs m c.sound.ensures.holds c.take_all.ensures.run st fl
+
+pub returns-clause-spares : goal.returns-clause-spares
+returns-clause-spares g c r = c.runs_spare.ensures _ r.taken c.sound.ensures.holds r.each
+
+pub returns-clause-fresh : goal.returns-clause-fresh
+returns-clause-fresh g c fresh = run_fresh g.P.Payload.same_as g.P.Payload.always_copies _ _ _ _ fresh c.sound.ensures.holds c.take_all.ensures.run
+
+pub returns-clause-scans : goal.returns-clause-scans
+returns-clause-scans g c fs m r = (scans_hold g.P.Payload.same_as fs m r.lines r.flights r.run, empty_scans_hold g.P.Payload.same_as fs m r.lines r.flights r.run)

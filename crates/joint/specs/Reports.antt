@@ -1,0 +1,45 @@
+-- What a worker is told, from what the layer below tells.
+use Rattle.crossbeam_epoch.specs.declared.world.report.Op.TheVariants as turn
+use Rattle.crossbeam_epoch.specs.declared.world.report.Outcome.{Outcome as Turned}
+use Rattle.crossbeam_epoch.specs.declared.world.report.Outcome.TheVariants as turned
+use Rattle.congee.specs.declared.protocol.op.Op.TheVariants as point
+use Rattle.congee.specs.declared.protocol.machine.Outcome.{Outcome as Moved}
+use Rattle.congee.specs.declared.protocol.machine.Outcome.TheVariants as moved
+use Rattle.joint.specs.declared.steps.Op.{Op}
+use Rattle.joint.specs.declared.steps.Op.TheVariants.{Pin, Unpin, Repin, Flush, Release, Get, Insert, Remove, ComputePresent, ComputeInsert, Exchange, Range}
+use Rattle.joint.specs.declared.steps.Target.{Target}
+use Rattle.joint.specs.declared.steps.Target.TheVariants.{Collector, Tree}
+use Rattle.joint.specs.declared.steps.Outcome.{Outcome}
+use Rattle.joint.specs.declared.steps.Outcome.TheVariants.{Running, Asks, Found, Done, Refused}
+use Rattle.joint.specs.declared.steps.Done.TheVariants as done
+use Rattle.joint.specs.Refusals.{of_tree, of_fault}
+
+-- a call as its layer names it
+abbrev pub target : {V : Type 0} → Op V → Target V
+target Pin = Collector turn.Pin
+target Unpin = Collector turn.Unpin
+target Repin = Collector turn.Repin
+target Flush = Collector turn.Flush
+target Release = Collector turn.Release
+target (Get k) = Tree (point.Get k)
+target (Insert k v) = Tree (point.Insert k v)
+target (Remove k) = Tree (point.Remove k)
+target (ComputePresent k) = Tree (point.ComputePresent k)
+target (ComputeInsert k) = Tree (point.ComputeInsert k)
+target (Exchange k old new) = Tree (point.Exchange k old new)
+target (Range start end size) = Tree (point.Range start end size)
+
+-- how a call on the tree stands
+abbrev pub told : {V : Type 0} → Moved V → Outcome V
+told moved.Running = Running
+told (moved.Asks found) = Asks found
+told (moved.Found place key value) = Found place key value
+told (moved.Done reply) = Done (done.Reply reply)
+told (moved.Scanned count) = Done (done.Scanned count)
+told (moved.Refused cause) = Refused (of_tree cause)
+
+-- how a call on the collector stands
+abbrev pub collected : {V : Type 0} → Turned → Outcome V
+collected turned.Running = Running
+collected turned.Done = Done done.Unit
+collected (turned.Refused fault) = Refused (of_fault fault)

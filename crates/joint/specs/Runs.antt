@@ -1,0 +1,259 @@
+-- Lists of steps, and what they make of the map of the tree's pairs.
+use Rattle.std.specs.Prelude.{◌≡◌, ℕ, ◌==◌, ◌≤◌, Bool, true, false, List, [], ◌∷◌, map, length, Option, None, Some, if◌then◌else◌, slice_get}
+use Rattle.std.specs.FinMap.{get}
+use Rattle.judge.specs.declared.journal.Entry.{Entry}
+use Rattle.judge.specs.declared.journal.Reply.{Reply}
+use Rattle.judge.specs.Answer.{Pairs}
+use Rattle.judge.specs.Journal.{Answers, Legal}
+use Rattle.congee.specs.declared.protocol.machine.Machine.{Machine}
+use Rattle.congee.specs.declared.protocol.machine.Outcome.{Outcome as Moved}
+use Rattle.congee.specs.declared.protocol.op.Op.{Op as Point}
+use Rattle.congee.specs.declared.protocol.phase.Kind.{Kind}
+use Rattle.congee.specs.Keys.{IsMapOf}
+use Rattle.congee.specs.protocol.Opening.{RootAlone}
+use Rattle.congee.specs.protocol.Play.{Flight, Pending, Decided, Over, Unbegun, Scanning, Question, begun, flight, heard, resolved, Undecided, Heeds, Concludes, ScanTells, Follows}
+use Rattle.congee.specs.protocol.Protocol.{IsCall}
+use Rattle.congee.specs.declared.protocol.op.Op.TheVariants as point
+use Rattle.congee.specs.protocol.Sweeps.{IsScan}
+use Rattle.joint.specs.declared.call.Call.{Call}
+use Rattle.joint.specs.declared.call.Call.TheVariants.{Idle, Collecting, Securing, Walking}
+use Rattle.joint.specs.declared.id.Id.{Id}
+use Rattle.joint.specs.declared.steps.Event.{Event}
+use Rattle.joint.specs.declared.steps.Event.TheVariants.{Register, Begin, Go}
+use Rattle.joint.specs.declared.steps.Outcome.{Outcome}
+use Rattle.joint.specs.declared.steps.Done.{Done as Answer}
+use Rattle.joint.specs.declared.steps.Done.TheVariants.{Scanned}
+use Rattle.joint.specs.declared.steps.Outcome.TheVariants.{Running, Done, Refused}
+use Rattle.joint.specs.declared.steps.Report.{Report}
+use Rattle.joint.specs.declared.steps.Step.{Step}
+use Rattle.joint.specs.declared.steps.Target.{Target}
+use Rattle.joint.specs.declared.steps.Target.TheVariants as target
+use Rattle.joint.specs.Forest.{nodes}
+use Rattle.joint.specs.Intact.{root}
+use Rattle.joint.specs.Reports.{target, told}
+use Rattle.joint.specs.Whole.{Whole, Holds, IsStep, SparesUsed}
+
+-- a step that was taken, with what it told and the state after it
+pub record Taken (V : Type 0) : Type 0 where
+  pub step : Step V
+  pub report : Report V
+  pub after : Whole V
+
+-- steps taken one after another
+abbrev pub AreTaken : {V : Type 0} → (V → V → Bool) → Bool → Whole V → List (Taken V) → Type 0
+AreTaken same always s [] = Unit {0}
+AreTaken same always s (t ∷ ts) = IsStep same always s t.step t.report t.after × AreTaken same always t.after ts
+
+-- the state after them
+abbrev pub after_all : {V : Type 0} → Whole V → List (Taken V) → Whole V
+after_all s [] = s
+after_all s (t ∷ ts) = after_all t.after ts
+
+-- a run of these steps, which told this, from one state to another
+pub record IsRun {V : Type 0} (same : V → V → Bool) (always : Bool) (s : Whole V) (steps : List (Step V)) (reports : List (Report V)) (s' : Whole V) : Type 0 where
+  pub taken : List (Taken V)
+  pub each : AreTaken same always s taken
+  pub steps_are : map (λ t. t.step) taken ≡ steps
+  pub reports_are : map (λ t. t.report) taken ≡ reports
+  pub last : after_all s taken ≡ s'
+
+-- a step as the map sees it: what was asked and told, the entry of the call that took effect, and the pairs after it
+pub record Line (V : Type 0) : Type 0 where
+  pub step : Step V
+  pub report : Report V
+  pub entry : Option (Entry V)
+  pub pairs : Pairs V
+
+-- the call on the tree that each worker has in flight
+abbrev pub Flights : Type 0 → Type 0
+Flights V = ℕ → Flight V
+
+abbrev pub no_flights : {V : Type 0} → Flights V
+no_flights w = Over
+
+abbrev pub with_flight : {V : Type 0} → Flights V → ℕ → Flight V → Flights V
+with_flight fs w f v = if v == w then f else fs v
+
+-- a step in which no call on the tree begins, goes on or ends
+pub record Stays {V : Type 0} (fs : Flights V) (m : Pairs V) (l : Line V) (fs' : Flights V) : Type 0 where
+  pub undecided : l.report.decided ≡ false
+  pub no_entry : l.entry ≡ None
+  pub same_pairs : l.pairs ≡ m
+  pub same_flights : fs' ≡ fs
+
+-- a call on the tree begins, of a worker that has none in flight
+pub record BeginsFlight {V : Type 0} (fs : Flights V) (m : Pairs V) (op : Point V) (l : Line V) (fs' : Flights V) : Type 0 where
+  pub free : fs l.step.worker ≡ Over
+  pub accepted : l.report.outcome ≡ Running
+  pub undecided : l.report.decided ≡ false
+  pub no_entry : l.entry ≡ None
+  pub same_pairs : l.pairs ≡ m
+  pub begins : fs' ≡ with_flight fs l.step.worker (flight (begun root op))
+
+-- a scan that can find nothing ends as it begins
+pub record FindsNone {V : Type 0} (start end size count : ℕ) (fs : Flights V) (m : Pairs V) (l : Line V) (fs' : Flights V) : Type 0 where
+  pub free : fs l.step.worker ≡ Over
+  pub none : count ≡ 0
+  pub scan : IsScan {V = V} start end size (m ∷ []) []
+  pub stays : Stays fs m l fs'
+
+abbrev pub EndsAtOnce : {V : Type 0} → Flights V → Pairs V → Point V → Answer V → Line V → Flights V → Type 0
+EndsAtOnce fs m (point.Range start end size) (Scanned count) l fs' = FindsNone start end size count fs m l fs'
+EndsAtOnce fs m op done l fs' = ⊥
+
+abbrev pub BeginsOr : {V : Type 0} → Flights V → Pairs V → Point V → Outcome V → Line V → Flights V → Type 0
+BeginsOr fs m op (Refused e) l fs' = Stays fs m l fs'
+BeginsOr fs m op (Done done) l fs' = EndsAtOnce fs m op done l fs'
+BeginsOr fs m op _ l fs' = BeginsFlight fs m op l fs'
+
+abbrev pub BeginMap : {V : Type 0} → Flights V → Pairs V → Target V → Line V → Flights V → Type 0
+BeginMap fs m (target.Collector op) l fs' = Stays fs m l fs'
+BeginMap fs m (target.Tree op) l fs' = BeginsOr fs m op l.report.outcome l fs'
+
+-- a step of a call on one key before it took effect: it goes on, asks, or is refused
+pub record IsPending {V : Type 0} (k : ℕ) (kind : Kind V) (v : Option V) (q : Question V) (m : Pairs V) (l : Line V) (f' : Flight V) : Type 0 where
+  pub outcome : Moved V
+  pub told_so : l.report.outcome ≡ told outcome
+  pub undecided : Undecided k kind v q outcome f'
+  pub no_entry : l.entry ≡ None
+  pub same_pairs : l.pairs ≡ m
+
+-- the step in which it takes effect: the call that began, with its closure's last answer, gets the map's reply, and the
+-- map is the next one
+pub record TakesEffect {V : Type 0} (same : V → V → Bool) (k : ℕ) (kind : Kind V) (v : Option V) (q : Question V) (m : Pairs V) (l : Line V) (f' : Flight V) : Type 0 where
+  pub entry : Entry V
+  pub is_entry : l.entry ≡ Some entry
+  pub worker : entry.worker ≡ l.step.worker
+  pub call : IsCall k kind v (get m k) entry.call
+  pub heeds : Heeds kind (get m k) q
+  pub answers : Answers same m entry l.pairs
+  pub outcome : Moved V
+  pub told_so : l.report.outcome ≡ told outcome
+  pub concludes : Concludes entry.reply outcome f'
+
+abbrev pub PendingStep : {V : Type 0} → (V → V → Bool) → ℕ → Kind V → Option V → Question V → Pairs V → Bool → Line V → Flight V → Type 0
+PendingStep same k kind v q m false l f' = IsPending k kind v q m l f'
+PendingStep same k kind v q m true l f' = TakesEffect same k kind v q m l f'
+
+-- one after it: it goes on, or is done with its entry's reply
+pub record Finishes {V : Type 0} (r : Reply V) (m : Pairs V) (l : Line V) (f' : Flight V) : Type 0 where
+  pub undecided : l.report.decided ≡ false
+  pub outcome : Moved V
+  pub told_so : l.report.outcome ≡ told outcome
+  pub concludes : Concludes r outcome f'
+  pub no_entry : l.entry ≡ None
+  pub same_pairs : l.pairs ≡ m
+
+-- one of a scan, during which these maps stood
+pub record Scans {V : Type 0} (start end size : ℕ) (states : List (Pairs V)) (places : List (ℕ × V)) (m : Pairs V) (l : Line V) (f' : Flight V) : Type 0 where
+  pub undecided : l.report.decided ≡ false
+  pub outcome : Moved V
+  pub told_so : l.report.outcome ≡ told outcome
+  pub tells : ScanTells start end size states places outcome f'
+  pub no_entry : l.entry ≡ None
+  pub same_pairs : l.pairs ≡ m
+
+abbrev pub FlightStep : {V : Type 0} → (V → V → Bool) → Flight V → Pairs V → Option (Option V) → Line V → Flight V → Type 0
+FlightStep same (Pending k kind v q) m answer l f' = PendingStep same k kind (heard kind q answer v) (resolved kind q answer) m l.report.decided l f'
+FlightStep same (Decided r) m answer l f' = Finishes r m l f'
+FlightStep same Over m answer l f' = ⊥
+FlightStep same (Unbegun start end size) m answer l f' = Scans start end size (m ∷ []) [] m l f'
+FlightStep same (Scanning start end size states places) m answer l f' = Scans start end size (m ∷ states) places m l f'
+
+-- a worker's call on the tree takes a step, where it has one in flight
+pub record Advances {V : Type 0} (same : V → V → Bool) (fs : Flights V) (f : Flight V) (m : Pairs V) (answer : Option (Option V)) (l : Line V) (fs' : Flights V) : Type 0 where
+  pub next : Flight V
+  pub step : FlightStep same f m answer l next
+  pub advances : fs' ≡ with_flight fs l.step.worker next
+
+abbrev pub GoMap : {V : Type 0} → (V → V → Bool) → Flights V → Flight V → Pairs V → Option (Option V) → Line V → Flights V → Type 0
+GoMap same fs Over m answer l fs' = Stays fs m l fs'
+GoMap same fs f m answer l fs' = Advances same fs f m answer l fs'
+
+abbrev pub EventMap : {V : Type 0} → (V → V → Bool) → Flights V → Pairs V → Event V → Line V → Flights V → Type 0
+EventMap same fs m Register l fs' = Stays fs m l fs'
+EventMap same fs m (Begin op) l fs' = BeginMap fs m (target op) l fs'
+EventMap same fs m (Go noise) l fs' = GoMap same fs (fs l.step.worker) m noise.answer l fs'
+
+-- one step, on the map
+abbrev pub MapStep : {V : Type 0} → (V → V → Bool) → Flights V → Pairs V → Line V → Flights V → Type 0
+MapStep same fs m l fs' = EventMap same fs m l.step.event l fs'
+
+-- a run is a map's run: at each step that decides the worker's call on one key, which began, has not taken effect and has
+-- not ended, gets its entry, and the map answers it; each other step leaves the map; a call that is done has its entry's
+-- reply
+abbrev pub IsMapRun : {V : Type 0} → (V → V → Bool) → Flights V → Pairs V → List (Line V) → Flights V → Type 0
+IsMapRun same fs m [] fs' = fs' ≡ fs
+IsMapRun {V} same fs m (l ∷ ls) fs' = (fs1 : Flights V) × MapStep same fs m l fs1 × IsMapRun same fs1 l.pairs ls fs'
+
+-- the entries, in deciding order
+abbrev pub with_entry : {V : Type 0} → Option (Entry V) → List (Entry V) → List (Entry V)
+with_entry None es = es
+with_entry (Some e) es = e ∷ es
+
+abbrev pub entries : {V : Type 0} → List (Line V) → List (Entry V)
+entries [] = []
+entries (l ∷ ls) = with_entry l.entry (entries ls)
+
+-- the pairs at the end
+abbrev pub pairs_after : {V : Type 0} → Pairs V → List (Line V) → Pairs V
+pairs_after m [] = m
+pairs_after m (l ∷ ls) = pairs_after l.pairs ls
+
+-- the lines are of these steps: after each of them its pairs stand in the tree
+pub record IsLine {V : Type 0} (t : Taken V) (l : Line V) : Type 0 where
+  pub step : l.step ≡ t.step
+  pub report : l.report ≡ t.report
+  pub stand : IsMapOf (nodes t.after.forest) l.pairs
+
+abbrev pub AreLines : {V : Type 0} → List (Taken V) → List (Line V) → Type 0
+AreLines [] [] = Unit {0}
+AreLines [] (l ∷ ls) = ⊥
+AreLines (t ∷ ts) [] = ⊥
+AreLines (t ∷ ts) (l ∷ ls) = IsLine t l × AreLines ts ls
+
+-- how a worker's call in flight is watched, with its machine on the tree
+abbrev pub InFlight : {V : Type 0} → Call V → Machine Id V → Flight V → Type 0
+InFlight Idle m f = f ≡ Over
+InFlight (Collecting op) m f = f ≡ Over
+InFlight (Securing op) m f = f ≡ flight (begun root op)
+InFlight Walking m f = Follows m f
+
+pub record AreInFlight {V : Type 0} (s : Whole V) (fs : Flights V) : Type 0 where
+  pub each : (i : ℕ) (k : Call V) (m : Machine Id V) → slice_get s.calls i ≡ Some k → slice_get s.machines i ≡ Some m → InFlight k m (fs i)
+  pub beyond : (i : ℕ) → length s.calls ≤ i → fs i ≡ Over
+
+-- what a list of steps makes of the pairs m that stood and of the calls in flight
+pub record PlaysMap {V : Type 0} (same : V → V → Bool) (fs : Flights V) (m : Pairs V) (s : Whole V) (taken : List (Taken V)) : Type 0 where
+  pub lines : List (Line V)
+  pub flights : Flights V
+  pub are_lines : AreLines taken lines
+  pub run : IsMapRun same fs m lines flights
+  pub in_flight : AreInFlight (after_all s taken) flights
+
+-- each state after a step is one in which this always holds
+abbrev pub AllHold : {V : Type 0} → (V → V → Bool) → Bool → List (Taken V) → Type 0
+AllHold same always [] = Unit {0}
+AllHold same always (t ∷ ts) = Holds same always t.after × AllHold same always ts
+
+-- and no step destroys a node in use
+abbrev pub AllSpare : {V : Type 0} → Whole V → List (Taken V) → Type 0
+AllSpare s [] = Unit {0}
+AllSpare s (t ∷ ts) = SparesUsed s t.step.worker t.after × AllSpare t.after ts
+
+-- a root alone, and no call in flight
+pub record IsFresh {V : Type 0} (s : Whole V) : Type 0 where
+  pub alone : RootAlone (nodes s.forest)
+  pub idle : (i : ℕ) (k : Call V) → slice_get s.calls i ≡ Some k → k ≡ Idle
+
+-- what a run of these steps, which told this, makes of the pairs m that stood and of the calls in flight: it is a map's
+-- run, and its entries are legal from m to the pairs that stand at its end
+pub record RunsMap {V : Type 0} (same : V → V → Bool) (fs : Flights V) (m : Pairs V) (steps : List (Step V)) (reports : List (Report V)) (s' : Whole V) : Type 0 where
+  pub lines : List (Line V)
+  pub flights : Flights V
+  pub steps_are : map (λ l. l.step) lines ≡ steps
+  pub reports_are : map (λ l. l.report) lines ≡ reports
+  pub run : IsMapRun same fs m lines flights
+  pub stand : IsMapOf (nodes s'.forest) (pairs_after m lines)
+  pub in_flight : AreInFlight s' flights
+  pub legal : Legal same m (entries lines) (pairs_after m lines)

@@ -1,0 +1,404 @@
+//! The calls on the tree and the collector, one step at a time.
+
+ghost use Rattle.std.specs.Prelude.{◌≡◌, ◌<◌, ℕ, List, Option, Some, None, length, slice_get, slice_set, replicate, IfOk, MatchResult, if◌then◌else◌};
+ghost use Rattle.crossbeam_epoch.specs.declared.bag.Work.{Work};
+ghost use Rattle.crossbeam_epoch.specs.World.Machine.{deferred};
+ghost use Rattle.congee.specs.protocol.Play.{StepPlays, begun};
+ghost use Rattle.joint.specs.Forest.{nodes, frame, Refuses, with_collector};
+ghost use Rattle.joint.specs.Intact.{IsIntact, IsPoint, IsSecuring, MayStart, Secured, WalkedOn, call_after, cleared, is_done, is_past, resting, over_at, root};
+ghost use Rattle.joint.specs.Laws.{CellLaws, CallLaws, ProgressLaws};
+ghost use Rattle.joint.specs.declared.call.Call.TheVariants as Call;
+ghost use Rattle.crossbeam_epoch.specs.declared.world.report.Event.TheVariants as Event;
+ghost use Rattle.crossbeam_epoch.specs.declared.world.report.Op.TheVariants as collector;
+ghost use Rattle.joint.specs.Opening.{IsOpened, IsUnopened};
+ghost use Rattle.joint.specs.Runs.{IsFresh};
+ghost use Rattle.joint.specs.Whole.{whole, Holds};
+ghost use Rattle.joint.specs.View.{id_number};
+ghost use Rattle.joint.specs.Machines.{IsSafe, Rests, Runs, Owes, IsSafeOrOwes, Walked, Collected, retiring_at, slot_names};
+
+use crate::call::Call;
+use crate::id::Id;
+use crate::limits::Limits;
+use crate::nodes::Nodes;
+use crate::refusal::Refusal;
+use crate::slot::Slot;
+use congee::protocol::{Kind, Phase, Stage};
+use congee::{Allocator, Machine, Move, Noise, Op, Payload, Small, Step, step_of};
+use crossbeam_epoch::{Event, Name, Outcome, Report};
+use std::alloc::{AllocError, Global};
+
+/// What the collector's laws say of the cells.
+pub(crate) fn cell_laws<P: Payload + Small>()
+    ensures { CellLaws {T = Slot P} (Unit {0}) slot_names }
+{
+    crossbeam_epoch::World::<Slot<P>, ()>::reach();
+    crossbeam_epoch::World::<Slot<P>, ()>::acts();
+    crossbeam_epoch::World::<Slot<P>, ()>::stored();
+    crossbeam_epoch::World::<Slot<P>, ()>::cells();
+    crossbeam_epoch::World::<Slot<P>, ()>::seen();
+    crossbeam_epoch::World::<Slot<P>, ()>::order();
+}
+
+/// What the tree's laws say of the calls.
+pub(crate) fn call_laws<P: Payload + Small>()
+    ensures { CallLaws {C = Id} {V = P} id_number P.same_as P.always_copies }
+{
+    Machine::<Id, P>::opens();
+    Machine::<Id, P>::begins();
+    Machine::<Id, P>::spares();
+    Machine::<Id, P>::holds();
+    Machine::<Id, P>::tree();
+    Machine::<Id, P>::exchanged();
+}
+
+/// The node that the worker's next step hands over for its destruction.
+fn retiring<P: Payload + Small>(machines: &[Machine<Id, P>], who: usize) -> Option<Id>
+    ensures { result ≡ retiring_at (slice_get machines.now who) }
+{
+    if who < machines.len() {
+        match &machines[who].phase {
+            Phase::Retire { node, .. } => Some(*node),
+            // The step of every other phase hands nothing over.
+            _ => None,
+        }
+    } else {
+        None
+    }
+}
+
+/// One step of a worker's call on the tree, but for the deferral of the node that it marks.
+fn step_tree<P: Payload + Small, A: Allocator>(
+    store: &mut Nodes<P, A>,
+    machines: &mut [Machine<Id, P>],
+    step: Step<Id, P>,
+) -> Move<P>
+    requires safe { IsSafe P.same_as P.always_copies store.old machines.old }
+    requires runs { Runs machines.old step.who }
+    ensures plays { StepPlays id_number P.same_as P.always_copies store.old.version_max (Refuses store.old) (nodes store.old) machines.old step result (nodes store.new) machines.new }
+    ensures frame { frame store.new ≡ frame store.old }
+    ensures long { length machines.new ≡ length machines.old }
+    ensures safe { IsSafeOrOwes P.same_as P.always_copies (retiring_at (slice_get machines.old step.who)) store.new machines.new step.who }
+{
+    cell_laws::<P>();
+    call_laws::<P>();
+    Machine::<Id, P>::leaves::<Nodes<P, A>>();
+    step_of(store, machines, step)
+}
+
+/// What the collector's laws say of a call's way to its end.
+pub(crate) fn progress<P: Payload + Small>()
+    ensures { ProgressLaws (Slot P) (Unit {0}) }
+{
+    crossbeam_epoch::World::<Slot<P>, ()>::progress();
+}
+
+/// The call in flight after a step of the collector: the one that runs on, or none.
+fn call_after<P: Payload + Small>(outcome: Outcome, call: Call<P>) -> Call<P>
+    ensures { result ≡ call_after outcome call }
+{
+    match outcome {
+        Outcome::Running => call,
+        Outcome::Done => Call::Idle,
+        Outcome::Refused(_) => Call::Idle,
+    }
+}
+
+/// The call in flight after a step on the tree.
+fn walking_unless<P: Payload + Small>(over: bool) -> Call<P>
+    ensures { result ≡ (if over then Call.Idle else Call.Walking) }
+{
+    if over { Call::Idle } else { Call::Walking }
+}
+
+/// Whether a scan has told its end.
+fn is_past<P: Payload + Small>(stage: &Stage<Id, P>) -> bool
+    ensures { result ≡ is_past stage.now }
+{
+    match stage {
+        Stage::Over => true,
+        // At every other stage it goes on.
+        _ => false,
+    }
+}
+
+/// Whether a call is a scan that has told its end.
+fn is_done<P: Payload + Small>(phase: &Phase<Id, P>) -> bool
+    ensures { result ≡ is_done phase.now }
+{
+    match phase {
+        Phase::Sweep { sweep } => is_past(&sweep.stage),
+        // No other phase is a scan's.
+        _ => false,
+    }
+}
+
+/// A call on the tree that has ended.
+fn resting<P: Payload + Small>() -> Machine<Id, P>
+    ensures { result ≡ resting }
+{
+    Machine {
+        root: Id {
+            name: Name { cell: 0, turn: 0 },
+        },
+        key: 0,
+        kind: Kind::Get,
+        given: None,
+        phase: Phase::Ended,
+    }
+}
+
+/// So many calls on the tree that have ended.
+fn ended_machines<P: Payload + Small>(
+    alloc: Global,
+    places: usize,
+) -> Result<Vec<Machine<Id, P>>, AllocError>
+    ensures { IfOk result (λ v. v.items ≡ replicate places resting) }
+{
+    let mut machines = Vec::with_capacity(alloc, places)?;
+    for _ in 0..places {
+        machines.push(resting())?;
+    }
+    Ok(machines)
+}
+
+/// So many workers without a call in flight.
+fn idle_calls<P: Payload + Small>(alloc: Global, places: usize) -> Result<Vec<Call<P>>, AllocError>
+    ensures { IfOk result (λ v. v.items ≡ replicate places Call.Idle) }
+{
+    let mut calls = Vec::with_capacity(alloc, places)?;
+    for _ in 0..places {
+        calls.push(Call::Idle)?;
+    }
+    Ok(calls)
+}
+
+/// A tree in the cells of a collector, and the calls on it that are in flight, one a worker.
+#[derive(Drop)]
+pub struct Engine<P: Payload + Small, A: Allocator> {
+    pub(crate) nodes: Nodes<P, A>,
+    pub(crate) machines: Vec<Machine<Id, P>>,
+    pub(crate) calls: Vec<Call<P>>,
+}
+
+impl<P: Payload + Small, A: Allocator> Engine<P, A> {
+    /// An index with a root alone, and a place for each worker there may be. Refused as `Nodes::new` refuses, and as Memory.
+    pub(crate) fn new(alloc: Global, limits: Limits, allocator: A) -> Result<Self, Refusal>
+        ensures { MatchResult result (λ e. IsOpened limits (A.charged_of allocator) (A.limit_of allocator) e.nodes × Holds P.same_as P.always_copies (whole e.nodes e.machines.items e.calls.items) × IsFresh (whole e.nodes e.machines.items e.calls.items)) (λ e. IsUnopened limits (A.charged_of allocator) (A.limit_of allocator) e) }
+    {
+        cell_laws::<P>();
+        call_laws::<P>();
+        let nodes = Nodes::new(alloc, limits, allocator)?;
+        nodes.charged();
+        let places = limits.epoch.participants as usize;
+        let Ok(machines) = ended_machines(alloc, places) else {
+            return Err(Refusal::Memory);
+        };
+        let Ok(calls) = idle_calls(alloc, places) else {
+            return Err(Refusal::Memory);
+        };
+        Ok(Engine {
+            nodes,
+            machines,
+            calls,
+        })
+    }
+
+    /// One step of the collector, of a worker without a call on the tree: the pairs stay, and no node goes that a call has.
+    fn collect(&mut self, who: usize, event: Event) -> Report
+        requires safe { IsSafe P.same_as P.always_copies self.old.nodes self.old.machines.items }
+        requires rests { Rests self.old.machines.items who }
+        ensures collected { Collected P.same_as P.always_copies self.old.nodes self.old.machines.items who event result self.new.nodes }
+        ensures machines { self.new.machines ≡ self.old.machines }
+        ensures calls { self.new.calls ≡ self.old.calls }
+    {
+        cell_laws::<P>();
+        call_laws::<P>();
+        self.nodes.collect(who, event)
+    }
+
+    /// Defers the destruction of the node that a worker has just marked, into the place that it had secured.
+    fn hand_over(&mut self, who: usize, node: Id)
+        requires { Owes P.same_as P.always_copies self.old.nodes self.old.machines.items who node }
+        ensures safe { IsSafe P.same_as P.always_copies self.new.nodes self.new.machines.items }
+        ensures state { self.new.nodes ≡ with_collector self.old.nodes (deferred self.old.nodes.collector who (Work.Remove node.name)) }
+        ensures machines { self.new.machines ≡ self.old.machines }
+        ensures calls { self.new.calls ≡ self.old.calls }
+    {
+        cell_laws::<P>();
+        call_laws::<P>();
+        self.nodes.charged();
+        match self.nodes.defer(who, node) {
+            Ok(_) => {}
+            Err(_) => unreachable!(),
+        }
+    }
+
+    /// One step of a worker's call on the tree.
+    fn walk(&mut self, who: usize, noise: Noise<Id, P>) -> Move<P>
+        requires safe { IsSafe P.same_as P.always_copies self.old.nodes self.old.machines.items }
+        requires runs { Runs self.old.machines.items who }
+        ensures walked { Walked P.same_as P.always_copies self.old.nodes self.old.machines.items (record { who = who; noise = noise }) result self.new.nodes self.new.machines.items }
+        ensures calls { self.new.calls ≡ self.old.calls }
+    {
+        let owed = retiring(&self.machines, who);
+        let moved = step_tree(&mut self.nodes, &mut self.machines, Step { who, noise });
+        if let Some(node) = owed {
+            self.hand_over(who, node);
+        }
+        moved
+    }
+
+    /// Puts another call in flight in a worker's place.
+    fn set_call(&mut self, who: usize, call: Call<P>)
+        requires { who < length self.old.calls.items }
+        ensures calls { self.new.calls.items ≡ slice_set self.old.calls.items who call }
+        ensures nodes { self.new.nodes ≡ self.old.nodes }
+        ensures machines { self.new.machines ≡ self.old.machines }
+    {
+        self.calls[who] = call;
+    }
+
+    /// Begins a call on the collector.
+    pub(crate) fn begin_collecting(&mut self, who: usize, op: crossbeam_epoch::Op) -> Report
+        requires intact { IsIntact P.same_as P.always_copies self.old.nodes self.old.machines.items self.old.calls.items }
+        requires idle { slice_get self.old.calls.items who ≡ Some Call.Idle }
+        ensures intact { IsIntact P.same_as P.always_copies self.new.nodes self.new.machines.items self.new.calls.items }
+        ensures collected { Collected P.same_as P.always_copies self.old.nodes self.old.machines.items who (Event.Begin op) result self.new.nodes }
+        ensures calls { self.new.calls.items ≡ slice_set self.old.calls.items who (call_after result.outcome (Call.Collecting op)) }
+        ensures machines { self.new.machines ≡ self.old.machines }
+    {
+        progress::<P>();
+        let report = self.collect(who, Event::Begin(op));
+        self.set_call(who, call_after(report.outcome, Call::Collecting(op)));
+        report
+    }
+
+    /// The next step of a call on the collector.
+    pub(crate) fn go_collecting(&mut self, who: usize, op: crossbeam_epoch::Op) -> Report
+        requires intact { IsIntact P.same_as P.always_copies self.old.nodes self.old.machines.items self.old.calls.items }
+        requires on { slice_get self.old.calls.items who ≡ Some (Call.Collecting op) }
+        ensures intact { IsIntact P.same_as P.always_copies self.new.nodes self.new.machines.items self.new.calls.items }
+        ensures collected { Collected P.same_as P.always_copies self.old.nodes self.old.machines.items who Event.Go result self.new.nodes }
+        ensures calls { self.new.calls.items ≡ slice_set self.old.calls.items who (call_after result.outcome (Call.Collecting op)) }
+        ensures machines { self.new.machines ≡ self.old.machines }
+    {
+        progress::<P>();
+        let report = self.collect(who, Event::Go);
+        self.set_call(who, call_after(report.outcome, Call::Collecting(op)));
+        report
+    }
+
+    /// Begins a call on the tree in the place of a worker who may.
+    pub(crate) fn start(&mut self, who: usize, op: Op<P>)
+        requires intact { IsIntact P.same_as P.always_copies self.old.nodes self.old.machines.items self.old.calls.items }
+        requires idle { slice_get self.old.calls.items who ≡ Some Call.Idle }
+        requires may { MayStart self.old.nodes.collector who op }
+        ensures intact { IsIntact P.same_as P.always_copies self.new.nodes self.new.machines.items self.new.calls.items }
+        ensures nodes { self.new.nodes ≡ self.old.nodes }
+        ensures machines { self.new.machines.items ≡ slice_set self.old.machines.items who (begun root op) }
+        ensures calls { self.new.calls.items ≡ slice_set self.old.calls.items who Call.Walking }
+    {
+        call_laws::<P>();
+        let root = Id {
+            name: Name { cell: 0, turn: 0 },
+        };
+        self.set_machine(who, Machine::new(root, op));
+        self.set_call(who, Call::Walking);
+    }
+
+    /// Puts another call on the tree in a worker's place.
+    fn set_machine(&mut self, who: usize, machine: Machine<Id, P>)
+        requires { who < length self.old.machines.items }
+        ensures machines { self.new.machines.items ≡ slice_set self.old.machines.items who machine }
+        ensures nodes { self.new.nodes ≡ self.old.nodes }
+        ensures calls { self.new.calls ≡ self.old.calls }
+    {
+        self.machines[who] = machine;
+    }
+
+    /// Begins a writing call: a place for the node that it may hand over is made free first.
+    pub(crate) fn begin_securing(&mut self, who: usize, op: Op<P>) -> Report
+        requires intact { IsIntact P.same_as P.always_copies self.old.nodes self.old.machines.items self.old.calls.items }
+        requires idle { slice_get self.old.calls.items who ≡ Some Call.Idle }
+        requires point { IsPoint op }
+        ensures intact { IsIntact P.same_as P.always_copies self.new.nodes self.new.machines.items self.new.calls.items }
+        ensures collected { Collected P.same_as P.always_copies self.old.nodes self.old.machines.items who (Event.Begin (collector.Secure 1)) result self.new.nodes }
+        ensures calls { self.new.calls.items ≡ slice_set self.old.calls.items who (call_after result.outcome (Call.Securing op)) }
+        ensures machines { self.new.machines ≡ self.old.machines }
+    {
+        progress::<P>();
+        let report = self.collect(who, Event::Begin(crossbeam_epoch::Op::Secure(1)));
+        self.set_call(who, call_after(report.outcome, Call::Securing(op)));
+        report
+    }
+
+    /// The next step of a writing call that makes its place free; after the last one the call on the tree begins.
+    pub(crate) fn go_securing(&mut self, who: usize) -> Report
+        requires intact { IsIntact P.same_as P.always_copies self.old.nodes self.old.machines.items self.old.calls.items }
+        requires on { IsSecuring (slice_get self.old.calls.items who) }
+        ensures { Secured P.same_as P.always_copies self.old.nodes self.old.machines.items self.old.calls.items who result self.new.nodes self.new.machines.items self.new.calls.items }
+    {
+        progress::<P>();
+        let call = self.take_call(who);
+        let report = self.collect(who, Event::Go);
+        if let Call::Securing(op) = call {
+            match report.outcome {
+                Outcome::Running => self.set_call(who, Call::Securing(op)),
+                Outcome::Done => self.start(who, op),
+                Outcome::Refused(_) => {}
+            }
+        }
+        report
+    }
+
+    /// Takes the call in flight out of a worker's place.
+    fn take_call(&mut self, who: usize) -> Call<P>
+        requires { who < length self.old.calls.items }
+        ensures taken { slice_get self.old.calls.items who ≡ Some result }
+        ensures calls { self.new.calls.items ≡ slice_set self.old.calls.items who Call.Idle }
+        ensures nodes { self.new.nodes ≡ self.old.nodes }
+        ensures machines { self.new.machines ≡ self.old.machines }
+    {
+        std::mem::replace(&mut self.calls[who], Call::Idle)
+    }
+
+    /// Whether a worker's call on the tree has ended.
+    fn is_over(&self, who: usize) -> bool
+        requires { who < length self.now.machines.items }
+        ensures { result ≡ over_at (slice_get self.now.machines.items who) }
+    {
+        match &self.machines[who].phase {
+            Phase::Ended => true,
+            // Every other phase has its step to take.
+            _ => false,
+        }
+    }
+
+    /// Puts a scan that is done out of its worker's place.
+    fn clear(&mut self, who: usize)
+        requires { who < length self.old.machines.items }
+        ensures machines { self.new.machines.items ≡ cleared self.old.machines.items who }
+        ensures nodes { self.new.nodes ≡ self.old.nodes }
+        ensures calls { self.new.calls ≡ self.old.calls }
+    {
+        if is_done(&self.machines[who].phase) {
+            self.set_machine(who, resting());
+        }
+    }
+
+    /// The next step of a call on the tree.
+    pub(crate) fn go_walking(&mut self, who: usize, noise: Noise<Id, P>) -> Move<P>
+        requires intact { IsIntact P.same_as P.always_copies self.old.nodes self.old.machines.items self.old.calls.items }
+        requires on { slice_get self.old.calls.items who ≡ Some Call.Walking }
+        ensures intact { IsIntact P.same_as P.always_copies self.new.nodes self.new.machines.items self.new.calls.items }
+        ensures walked { WalkedOn P.same_as P.always_copies self.old.nodes self.old.machines.items (record { who = who; noise = noise }) result self.new.nodes self.new.machines.items }
+        ensures calls { self.new.calls.items ≡ slice_set self.old.calls.items who (if over_at (slice_get self.new.machines.items who) then Call.Idle else Call.Walking) }
+    {
+        call_laws::<P>();
+        let moved = self.walk(who, noise);
+        self.clear(who);
+        let over = self.is_over(who);
+        self.set_call(who, walking_unless(over));
+        moved
+    }
+}

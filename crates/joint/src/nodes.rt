@@ -1,0 +1,149 @@
+//! The nodes of a shared tree in the cells of a collector.
+
+ghost use Rattle.std.specs.Prelude.{◌≡◌, ◌+◌, ◌-◌, ◌*◌, ◌^◌, ◌<◌, ◌≤◌, ℕ, true, length};
+ghost use Rattle.std.specs.List.{sum_by};
+ghost use Rattle.congee.specs.protocol.Events.{hung, SameBut, MayChange, ChangeGives};
+ghost use Rattle.congee.specs.Heap.{Stands};
+ghost use Rattle.joint.specs.declared.limits.TheConstants.{CELLS_MAX};
+ghost use Rattle.joint.specs.Forest.{IsCharged, total, nodes, frame};
+ghost use Rattle.joint.specs.Listing.{bytes_of, handed_nodes, standing_nodes};
+ghost use Rattle.joint.specs.Solid.{IsWhole};
+ghost use Rattle.joint.specs.View.{id_number, node_of, worded};
+
+use crate::cells;
+use crate::counts::Counts;
+use crate::id::Id;
+use crate::slot::{Slot, Word};
+use congee::{Allocator, Child, Payload, Small};
+use crossbeam_epoch::World;
+use std::alloc::Global;
+use std::marker::Model;
+
+/// The nodes in their cells, charged to an allocator.
+#[derive(Drop)]
+pub struct Nodes<P: Payload + Small, A: Allocator> {
+    pub(crate) collector: World<Slot<P>, ()>,
+    pub(crate) counts: Counts,
+    pub(crate) allocator: A,
+    /// What the allocator had charged before the first node, in bytes.
+    pub(crate) base: u64,
+    pub(crate) version_max: u64,
+    pub(crate) alloc: Global,
+}
+
+impl<P: Payload + Small, A: Allocator> Model for Nodes<P, A> {
+    ghost use Rattle.std.specs.Coded.{codes};
+    ghost use Rattle.joint.specs.MapCode.{map_code};
+    ghost use Rattle.joint.specs.Forest.{Forest, IsKept};
+
+    ghost Value = { Forest P };
+
+    ghost coded = { Prim.hlevel (codes, map_code) };
+
+    ghost view = { λ n. record {
+      collector = n.collector;
+      charge = A.charged_of n.allocator;
+      base = n.base;
+      limit = A.limit_of n.allocator;
+      version_max = n.version_max;
+    } };
+
+    ghost invariant = { λ n. IsKept n.counts (record {
+      collector = n.collector;
+      charge = A.charged_of n.allocator;
+      base = n.base;
+      limit = A.limit_of n.allocator;
+      version_max = n.version_max;
+    }) };
+}
+
+impl<P: Payload + Small, A: Allocator> Nodes<P, A> {
+    /// The bytes charged to the allocator.
+    pub fn charged(&self) -> u64
+        ensures value { result ≡ self.now.charge }
+        ensures sum { IsCharged self.now }
+        ensures few { (n : ℕ) → (nodes self.now n).made ≡ true → n < 2 ^ 64 - 1 }
+    {
+        self.allocator.charged()
+    }
+
+    /// The charge is that of the nodes that stand, above what was charged before the first one.
+    pub(crate) fn weighed(&self)
+        ensures { self.now.charge ≡ self.now.base + sum_by (bytes_of self.now) (standing_nodes self.now) }
+    {
+        let _ = &self.counts;
+    }
+
+    /// The nodes that were handed over and aren't destroyed yet.
+    pub(crate) fn handed(&self) -> u64
+        ensures value { result ≡ length (handed_nodes self.now) }
+        ensures few { result ≤ CELLS_MAX }
+    {
+        self.counts.waiting
+    }
+
+    /// Their sizes, in bytes.
+    pub(crate) fn handed_bytes(&self) -> u64
+        ensures value { result ≡ sum_by (bytes_of self.now) (handed_nodes self.now) }
+        ensures few { result ≤ 2104 * CELLS_MAX }
+    {
+        self.counts.waiting_bytes
+    }
+
+    /// What is charged for a node that stands, in bytes.
+    pub(crate) fn size_of(&self, at: Id) -> u64
+        requires { Stands (nodes self.now (id_number at)) }
+        ensures value { result ≡ bytes_of self.now (id_number at) }
+        ensures few { result ≤ 2104 }
+    {
+        self.counts.size(at.name.cell)
+    }
+
+    /// The nodes that stand.
+    pub fn standing(&self) -> u64
+        ensures { result ≡ total (λ slot. 1) self.now.collector.store }
+    {
+        self.counts.standing
+    }
+
+    /// The version at which no node can be locked any more.
+    pub fn version_max(&self) -> u64
+        ensures { result ≡ self.now.version_max }
+    {
+        self.version_max
+    }
+
+    /// The slot of a node that stands.
+    pub(crate) fn slot(&self, at: Id) -> &Slot<P>
+        requires { Stands (nodes self.now (id_number at)) }
+        ensures node { nodes self.now (id_number at) ≡ node_of result.now }
+        ensures whole { IsWhole result.now.node }
+    {
+        match self.collector.read(at.name) {
+            Some(slot) => slot,
+            None => unreachable!(),
+        }
+    }
+
+    /// Gives a node another lock word, with the mark that it has.
+    pub(crate) fn set_word(&mut self, at: Id, word: Word)
+        requires stands { Stands (nodes self.old (id_number at)) }
+        requires mark { word.retired ≡ (nodes self.old (id_number at)).retired }
+        ensures frame { frame self.new ≡ frame self.old }
+        ensures charge { self.new.charge ≡ self.old.charge }
+        ensures node { SameBut (nodes self.old) (id_number at) (worded word (nodes self.old (id_number at))) (nodes self.new) }
+    {
+        cells::set_word(&mut self.collector, at.name, word);
+    }
+
+    /// Hangs the child at the byte of a node, in place of what hangs there, or takes out what hangs there.
+    pub(crate) fn hang(&mut self, at: Id, byte: u8, child: Child<Id, P>)
+        requires stands { Stands (nodes self.old (id_number at)) }
+        requires room { MayChange (nodes self.old (id_number at)) byte (hung id_number child) }
+        ensures frame { frame self.new ≡ frame self.old }
+        ensures charge { self.new.charge ≡ self.old.charge }
+        ensures node { ChangeGives (nodes self.old) (id_number at) byte (hung id_number child) (nodes self.new) }
+    {
+        cells::hang(&mut self.collector, at.name, byte, child);
+    }
+}

@@ -1,0 +1,290 @@
+//! One step of the machine, by its event.
+
+ghost use Rattle.std.specs.Prelude.{◌≡◌, ◌<◌, Some, length, slice_get, option_map, true, false};
+ghost use Rattle.joint.specs.Beginning.{Begun, writes, stage_of};
+ghost use Rattle.joint.specs.Whole.{whole, Does, Holds, IsStep, Proceeds, misuse, quiet, collection, destroyed_by, finds_none, interruption, is_busy, kind_of, reserving, Walks};
+ghost use Rattle.joint.specs.Reports.{told};
+ghost use Rattle.joint.specs.declared.steps.Event.TheVariants as Event;
+ghost use Rattle.joint.specs.Intact.{IsIntact};
+ghost use Rattle.joint.specs.declared.call.Call.TheVariants as Call;
+ghost use Rattle.joint.specs.declared.steps.Target.TheVariants as Target;
+ghost use Rattle.joint.specs.declared.steps.Outcome.TheVariants as Outcome;
+ghost use Rattle.joint.specs.declared.steps.Kind.TheVariants as Kind;
+ghost use Rattle.crossbeam_epoch.specs.World.Machine.{place};
+
+use crate::call::{Call, Stage};
+use crate::engine::{Engine, call_laws, cell_laws, progress};
+use crate::id::Id;
+use crate::refusal::Refusal;
+use crate::steps::{Done, Event, Kind, Outcome, Report, Step, Target};
+use congee::{Allocator, Move, Noise, Payload, Small};
+use crossbeam_epoch::Fault;
+
+impl<P: Payload + Small, A: Allocator> Engine<P, A> {
+    /// One step of the machine.
+    pub(crate) fn step(&mut self, step: Step<P>) -> Report<P>
+        requires { Holds P.same_as P.always_copies (whole self.old.nodes self.old.machines.items self.old.calls.items) }
+        ensures { IsStep P.same_as P.always_copies (whole self.old.nodes self.old.machines.items self.old.calls.items) step result (whole self.new.nodes self.new.machines.items self.new.calls.items) }
+    {
+        call_laws::<P>();
+        let who = step.worker as usize;
+        match step.event {
+            Event::Register => {
+                let report = self.register();
+                self.nodes.charged();
+                report
+            }
+            Event::Begin(op) => {
+                let report = self.begin(who, op.target());
+                self.nodes.charged();
+                report
+            }
+            Event::Go(noise) => {
+                let report = self.go(who, noise);
+                self.nodes.charged();
+                report
+            }
+        }
+    }
+
+    /// A worker takes the lowest free place.
+    fn register(&mut self) -> Report<P>
+        requires intact { IsIntact P.same_as P.always_copies self.old.nodes self.old.machines.items self.old.calls.items }
+        ensures intact { IsIntact P.same_as P.always_copies self.new.nodes self.new.machines.items self.new.calls.items }
+        ensures registers { Proceeds P.same_as P.always_copies (whole self.old.nodes self.old.machines.items self.old.calls.items) 0 Event.Register result (whole self.new.nodes self.new.machines.items self.new.calls.items) }
+    {
+        cell_laws::<P>();
+        call_laws::<P>();
+        match self.nodes.register() {
+            Ok(place) => report(Kind::Collection, Outcome::Registered(place as u32)),
+            Err(fault) => refused(Kind::Collection, Refusal::of_fault(fault)),
+        }
+    }
+
+    /// Begins a call of a worker's, or refuses it for its first cause.
+    fn begin(&mut self, who: usize, target: Target<P>) -> Report<P>
+        requires intact { IsIntact P.same_as P.always_copies self.old.nodes self.old.machines.items self.old.calls.items }
+        ensures intact { IsIntact P.same_as P.always_copies self.new.nodes self.new.machines.items self.new.calls.items }
+        ensures begun { Begun P.same_as P.always_copies (whole self.old.nodes self.old.machines.items self.old.calls.items) who target result (whole self.new.nodes self.new.machines.items self.new.calls.items) }
+    {
+        if !self.nodes.is_registered(who) {
+            return refused(kind_of(&target), Refusal::Unknown);
+        }
+        if self.is_busy(who) {
+            return refused(kind_of(&target), Refusal::of_fault(interruption(&target)));
+        }
+        match target {
+            Target::Collector(op) => self.begin_turn(who, op),
+            Target::Tree(op) => self.begin_point(who, op),
+        }
+    }
+
+    /// Begins a call on the collector, of a worker without a call in flight.
+    fn begin_turn(&mut self, who: usize, op: crossbeam_epoch::Op) -> Report<P>
+        requires intact { IsIntact P.same_as P.always_copies self.old.nodes self.old.machines.items self.old.calls.items }
+        requires registered { (place self.old.nodes.collector who).registered ≡ true }
+        requires idle { slice_get self.old.calls.items who ≡ Some Call.Idle }
+        ensures intact { IsIntact P.same_as P.always_copies self.new.nodes self.new.machines.items self.new.calls.items }
+        ensures begun { Begun P.same_as P.always_copies (whole self.old.nodes self.old.machines.items self.old.calls.items) who (Target.Collector op) result (whole self.new.nodes self.new.machines.items self.new.calls.items) }
+    {
+        progress::<P>();
+        self.nodes.charged();
+        let turn = self.begin_collecting(who, op);
+        collection(turn, Outcome::of_collector(turn.outcome))
+    }
+
+    /// Begins a call on the tree, of a worker without a call in flight.
+    fn begin_point(&mut self, who: usize, op: congee::Op<P>) -> Report<P>
+        requires intact { IsIntact P.same_as P.always_copies self.old.nodes self.old.machines.items self.old.calls.items }
+        requires registered { (place self.old.nodes.collector who).registered ≡ true }
+        requires idle { slice_get self.old.calls.items who ≡ Some Call.Idle }
+        ensures intact { IsIntact P.same_as P.always_copies self.new.nodes self.new.machines.items self.new.calls.items }
+        ensures begun { Begun P.same_as P.always_copies (whole self.old.nodes self.old.machines.items self.old.calls.items) who (Target.Tree op) result (whole self.new.nodes self.new.machines.items self.new.calls.items) }
+    {
+        progress::<P>();
+        if !self.nodes.is_pinned(who) {
+            return refused(Kind::Tree, Refusal::Unpinned);
+        }
+        if finds_none(&op) {
+            return report(Kind::Tree, Outcome::Done(Done::Scanned(0)));
+        }
+        if writes(&op) {
+            self.begin_securing(who, op);
+            return report(Kind::Tree, Outcome::Running);
+        }
+        self.start(who, op);
+        report(Kind::Tree, Outcome::Running)
+    }
+
+    /// The next step of a worker's call in flight.
+    fn go(&mut self, who: usize, noise: Noise<Id, P>) -> Report<P>
+        requires intact { IsIntact P.same_as P.always_copies self.old.nodes self.old.machines.items self.old.calls.items }
+        ensures intact { IsIntact P.same_as P.always_copies self.new.nodes self.new.machines.items self.new.calls.items }
+        ensures does { Does P.same_as P.always_copies (whole self.old.nodes self.old.machines.items self.old.calls.items) who (Event.Go noise) (misuse (whole self.old.nodes self.old.machines.items self.old.calls.items) who (Event.Go noise)) result (whole self.new.nodes self.new.machines.items self.new.calls.items) }
+    {
+        if !self.nodes.is_registered(who) {
+            return refused(Kind::Collection, Refusal::Unknown);
+        }
+        match self.stage(who) {
+            Stage::Idle => refused(Kind::Collection, Refusal::Idle),
+            Stage::Collecting(op) => {
+                let turn = self.go_collecting(who, op);
+                collection(turn, Outcome::of_collector(turn.outcome))
+            }
+            Stage::Securing => {
+                let turn = self.go_securing(who);
+                collection(turn, reserving(turn.outcome))
+            }
+            Stage::Walking => self.go_point(who, noise),
+        }
+    }
+
+    /// The next step of a worker's call on the tree.
+    fn go_point(&mut self, who: usize, noise: Noise<Id, P>) -> Report<P>
+        requires intact { IsIntact P.same_as P.always_copies self.old.nodes self.old.machines.items self.old.calls.items }
+        requires on { slice_get self.old.calls.items who ≡ Some Call.Walking }
+        ensures intact { IsIntact P.same_as P.always_copies self.new.nodes self.new.machines.items self.new.calls.items }
+        ensures walks { Walks P.same_as P.always_copies (whole self.old.nodes self.old.machines.items self.old.calls.items) who noise result (whole self.new.nodes self.new.machines.items self.new.calls.items) }
+    {
+        let before = self.nodes.standing();
+        let moved = self.go_walking(who, noise);
+        of_move(moved, before.saturating_sub(self.nodes.standing()))
+    }
+
+    /// Whether a worker has a call in flight.
+    fn is_busy(&self, who: usize) -> bool
+        requires { who < length self.now.calls.items }
+        ensures { result ≡ is_busy (slice_get self.now.calls.items who) }
+    {
+        match &self.calls[who] {
+            Call::Idle => false,
+            // On the collector, on the tree, or making a place free for the tree's.
+            _ => true,
+        }
+    }
+
+    /// What a worker's call in flight is about.
+    fn stage(&self, who: usize) -> Stage
+        requires { who < length self.now.calls.items }
+        ensures { Some result ≡ option_map stage_of (slice_get self.now.calls.items who) }
+    {
+        match &self.calls[who] {
+            Call::Idle => Stage::Idle,
+            Call::Collecting(op) => Stage::Collecting(*op),
+            Call::Securing(_) => Stage::Securing,
+            Call::Walking => Stage::Walking,
+        }
+    }
+}
+
+/// A report of a step that decided and destroyed nothing.
+fn report<P>(kind: Kind, outcome: Outcome<P>) -> Report<P>
+    ensures { result ≡ quiet kind outcome }
+{
+    Report {
+        kind,
+        decided: false,
+        kept: false,
+        destroyed: 0,
+        outcome,
+    }
+}
+
+/// The report of a refusal.
+fn refused<P>(kind: Kind, refusal: Refusal) -> Report<P>
+    ensures { result ≡ quiet kind (Outcome.Refused refusal) }
+{
+    report(kind, Outcome::Refused(refusal))
+}
+
+/// The nodes that a step of the collector destroyed.
+fn destroyed_by(report: &crossbeam_epoch::Report) -> u64
+    ensures { result ≡ destroyed_by report.now.called }
+{
+    match report.called {
+        None => 0,
+        Some((_, None)) => 0,
+        Some((_, Some(_))) => 1,
+    }
+}
+
+/// The report of a step of the collector.
+fn collection<P>(report: crossbeam_epoch::Report, outcome: Outcome<P>) -> Report<P>
+    ensures { result ≡ collection report outcome }
+{
+    Report {
+        kind: Kind::Collection,
+        decided: false,
+        kept: false,
+        destroyed: destroyed_by(&report),
+        outcome,
+    }
+}
+
+/// How a call stands after a step that makes its place free: it goes on, or is refused.
+fn reserving<P>(outcome: crossbeam_epoch::Outcome) -> Outcome<P>
+    ensures { result ≡ reserving outcome }
+{
+    match outcome {
+        crossbeam_epoch::Outcome::Done => Outcome::Running,
+        outcome => Outcome::of_collector(outcome),
+    }
+}
+
+/// The report of a step on the tree that gave so many nodes back.
+fn of_move<P>(moved: Move<P>, back: u64) -> Report<P>
+    ensures { result ≡ record { kind = Kind.Tree; decided = moved.decided; kept = false; destroyed = back; outcome = told moved.outcome } }
+{
+    Report {
+        kind: Kind::Tree,
+        decided: moved.decided,
+        kept: false,
+        destroyed: back,
+        outcome: Outcome::of_tree(moved.outcome),
+    }
+}
+
+/// Whether a call's steps are the tree's or the collector's.
+fn kind_of<P>(target: &Target<P>) -> Kind
+    ensures { result ≡ kind_of target.now }
+{
+    match target {
+        Target::Collector(_) => Kind::Collection,
+        Target::Tree(_) => Kind::Tree,
+    }
+}
+
+/// Why a call isn't begun in mid-call.
+fn interruption<P>(target: &Target<P>) -> Fault
+    ensures { result ≡ interruption target.now }
+{
+    match target {
+        Target::Collector(crossbeam_epoch::Op::Pin) => Fault::Busy,
+        Target::Collector(crossbeam_epoch::Op::Secure(_)) => Fault::Busy,
+        Target::Collector(_) => Fault::InCall,
+        Target::Tree(_) => Fault::Busy,
+    }
+}
+
+/// Whether a call may hand a node over.
+fn writes<P>(op: &congee::Op<P>) -> bool
+    ensures { result ≡ writes op.now }
+{
+    match op {
+        congee::Op::Get(_) => false,
+        congee::Op::Range(_, _, _) => false,
+        // An insertion, a removal, a compute or an exchange.
+        _ => true,
+    }
+}
+
+/// Whether a call is a scan that can find nothing.
+fn finds_none<P>(op: &congee::Op<P>) -> bool
+    ensures { result ≡ finds_none op.now }
+{
+    match op {
+        congee::Op::Range(start, end, size) => *start >= *end || *size == 0,
+        // A call on one key is no scan.
+        _ => false,
+    }
+}

@@ -1,0 +1,357 @@
+-- A script line by line, beside the map: what it does to the tree, and how it is replied to.
+use Rattle.std.proofs.Common.{◌≡◌, ◌⊎◌, ℕ, zero, suc, nat_eq, Bool, true, false, List, [], ◌∷◌, ◌++◌, length, take, Option, None, Some, Result, Ok, Err, refl, sym, ◌∙◌, ap, subst, inl, inr, if◌then◌else◌, append_assoc}
+use Rattle.std.specs.Prelude.{MatchBool, MatchOption, slice_set}
+use Rattle.std.specs.FinMap.{get, empty}
+use Rattle.std.specs.List.{AllByRecursion, flat_map}
+use Rattle.std.specs.Option.{option_map}
+use Rattle.std.proofs.lemmas.List.{length-set, length-replicate}
+use Rattle.judge.specs.Answer.{Pairs, answer}
+use Rattle.judge.specs.declared.journal.Call.{Call as Point}
+use Rattle.judge.specs.declared.journal.Call.TheVariants as point
+use Rattle.judge.specs.declared.journal.Reply.{Reply as Told}
+use Rattle.congee.specs.declared.protocol.op.Op.TheVariants as asked
+use Rattle.congee.specs.declared.protocol.phase.Kind.TheVariants as kind
+use Rattle.congee.specs.protocol.Play.{Flight, Question, Unasked, Asked as Wants, Replied, Heeds}
+use Rattle.congee.specs.protocol.Protocol.{IsCall}
+use Rattle.joint.specs.declared.limits.Limits.{Limits}
+use Rattle.joint.specs.declared.refusal.Refusal.{Refusal}
+use Rattle.joint.specs.declared.steps.Event.TheVariants.{Register, Begin, Go}
+use Rattle.joint.specs.declared.steps.Op.{Op}
+use Rattle.joint.specs.declared.steps.Op.TheVariants as op
+use Rattle.joint.specs.declared.steps.Outcome.{Outcome}
+use Rattle.joint.specs.declared.steps.Target.{Target}
+use Rattle.joint.specs.declared.steps.Target.TheVariants as target
+use Rattle.joint.specs.Reports.{target}
+use Rattle.joint.specs.Runs.{no_flights, Stays, BeginMap, GoMap}
+use Rattle.joint.specs.Whole.{Whole}
+use Rattle.trial.specs.declared.caller.Caller.{Caller}
+use Rattle.trial.specs.declared.caller.Closure.{Closure}
+use Rattle.trial.specs.declared.caller.Closure.TheVariants as closure
+use Rattle.trial.specs.declared.command.Call.{Call}
+use Rattle.trial.specs.declared.command.Call.TheVariants as call
+use Rattle.trial.specs.declared.command.Command.{Command}
+use Rattle.trial.specs.declared.command.Command.TheVariants as command
+use Rattle.trial.specs.declared.end.End.{End}
+use Rattle.trial.specs.declared.end.End.TheVariants as end
+use Rattle.trial.specs.declared.index.Index.{Index}
+use Rattle.trial.specs.declared.line.Line.{Line}
+use Rattle.trial.specs.declared.line.Line.TheVariants as line
+use Rattle.trial.specs.declared.reply.Refused.{Refused}
+use Rattle.trial.specs.declared.reply.Refused.TheVariants as refused
+use Rattle.trial.specs.declared.reply.Reply.{Reply}
+use Rattle.trial.specs.declared.reply.Reply.TheVariants as reply
+use Rattle.trial.specs.Callers.{answer_of, fresh, noise_of, caller_at}
+use Rattle.trial.specs.Calling.{is_running, Registers, Begins, Goes, GoesOn, stays, ends, goes, Calls}
+use Rattle.trial.specs.Line.{IsLine}
+use Rattle.trial.specs.MapReplies.{wrapped, or_wrapped, point_of, answer_to, map_or, map_after, with_reply, map_replies, is_point, point_replies, IsWhole, IsAnswer, commands_of, AreCommands, MapAnswers}
+use Rattle.trial.specs.Replies.{reply_to, reply_of}
+use Rattle.trial.specs.Going.{Ran}
+use Rattle.trial.specs.Script.{LineDoes, LinesAnswer, AreAnswered, Prints}
+use Rattle.trial.specs.Session.{Session, op_of, closure_of, is_built, refusal_of, AfterPin, Round, Rounds, CallReplies, Asks, limits_of, budget_of, Refuses, Opens, Opened, OpensWith, AnswersBuilt, Answers}
+use Rattle.trial.specs.Texts.{printed}
+use Rattle.trial.proofs.MapSteps.{MapLaws, line_of, OnMap, on_map, Rests, rests_on}
+use Rattle.trial.proofs.WholeCalls.{Ready, Decides, Fits, Finished, call_finishes}
+
+-- a tree with these pairs, no call of which is in flight
+abbrev pub At : Index → Pairs ℕ → Type 0
+At s m = Rests s.world m × (length s.callers ≡ 256)
+
+as_long : (b : Bool) (xs : List Caller) (i : ℕ) (x : Caller) → length xs ≡ 256 → length (if b then slice_set xs i x else xs) ≡ 256
+as_long true xs i x e = length-set xs i x ∙ e
+as_long false xs i x e = e
+
+-- steps that are of no call on the tree leave the map
+registers_at : MapLaws → (s s' : Index) (told : Outcome ℕ) (m : Pairs ℕ) → At s m → Registers s told s' → At s' m
+registers_at laws s s' told m b g =
+    let o = on_map laws s.world m b.0.flights _ g.0.0 s'.world b.0.holds b.0.stands g.0.1 in
+    (rests_on b.0.flights m _ g.0.0 s'.world b.0.over g.0.1.holds o o.moves, ap length g.1 ∙ b.1)
+
+begins_at : MapLaws → (w : ℕ) (o : Op ℕ) (t : _) (f : Option Closure) (s s' : Index) (told : Outcome ℕ) (m : Pairs ℕ) → target o ≡ target.Collector t → At s m → Begins s w o f told s' → At s' m
+begins_at laws w op t f s s' told m e b g =
+    let o = on_map laws s.world m b.0.flights _ g.0.0 s'.world b.0.holds b.0.stands g.0.1 in
+    let P : Target ℕ → Type 0 = λ x. BeginMap b.0.flights m x (line_of (record { worker = w; event = Begin op }) g.0.0 o.entry o.pairs) o.flights in
+    (rests_on b.0.flights m _ g.0.0 s'.world b.0.over g.0.1.holds o (subst P e o.moves), ap length g.1 ∙ as_long (is_running told) s.callers w (fresh f) b.1)
+
+goes_at : MapLaws → (w : ℕ) (s s' : Index) (told : Outcome ℕ) (m : Pairs ℕ) → At s m → Goes s w false told s' → At s' m
+goes_at laws w s s' told m b g =
+    let c = caller_at s.callers w in
+    let o = on_map laws s.world m b.0.flights _ g.0.0 s'.world b.0.holds b.0.stands g.0.1 in
+    let P : Flight ℕ → Type 0 = λ x. GoMap nat_eq b.0.flights x m c.answer (line_of (record { worker = w; event = Go (noise_of c false) }) g.0.0 o.entry o.pairs) o.flights in
+    (rests_on b.0.flights m _ g.0.0 s'.world b.0.over g.0.1.holds o (subst P (b.0.over w) o.moves), ap length g.1 ∙ length-set s.callers w _ ∙ b.1)
+
+goes_on_at : MapLaws → (w left : ℕ) (s : Index) (stands told : Outcome ℕ) (s' : Index) (m : Pairs ℕ) → GoesOn w left s stands told s' → At s m → At s' m
+goes_on_at laws w left s stands told s' m (stays s1 t1) b = b
+goes_on_at laws w left s stands told s' m (ends n s1 t1 e) b = b
+goes_on_at laws w left s stands told s' m (goes n s1 mid s2 st next t1 run step more) b = goes_on_at laws w n mid next told s' m more (goes_at laws w s mid next m b step)
+
+calls_at : MapLaws → (w : ℕ) (o : Op ℕ) (t : _) (f : Option Closure) (s s' : Index) (told : Outcome ℕ) (m : Pairs ℕ) → target o ≡ target.Collector t → At s m → Calls s w o f told s' → At s' m
+calls_at laws w o t f s s' told m e b g = goes_on_at laws w 9999 g.0 g.1 told s' m g.3 (begins_at laws w o t f s g.0 g.1 m e b g.2)
+
+after_pin_at : MapLaws → (w : ℕ) (s s' : Index) (pin first : Option Refusal) (m : Pairs ℕ) → At s m → AfterPin pin s w s' first → At s' m
+after_pin_at laws w s s' (Some r) first m b g = let P : Index → Type 0 = λ x. At x m in subst P (sym g.0) b
+after_pin_at laws w s s' None first m b g =
+    calls_at laws w op.Unpin _ None g.0 s' g.2 m refl (calls_at laws w op.Flush _ None s g.0 g.1 m refl b g.3) g.4
+
+round_at : MapLaws → (w : ℕ) (s s' : Index) (first : Option Refusal) (m : Pairs ℕ) → At s m → Round s w s' first → At s' m
+round_at laws w s s' first m b g = after_pin_at laws w g.0 s' (refusal_of g.1) first m (calls_at laws w op.Pin _ None s g.0 g.1 m refl b g.2) g.3
+
+after_round_at : (s s' : Index) (first : Option Refusal) (r : Reply) (m : Pairs ℕ) (More : Type 0) → At s m → (More → At s' m)
+    → MatchOption first More (λ e. (s' ≡ s) × (r ≡ reply.Refused (refused.Tree e))) → At s' m
+after_round_at s s' None r m More b more g = more g
+after_round_at s s' (Some e) r m More b more g = let P : Index → Type 0 = λ x. At x m in subst P (sym g.0) b
+
+rounds_at : MapLaws → (w k : ℕ) (s s' : Index) (r : Reply) (m : Pairs ℕ) → At s m → Rounds k s w s' r → At s' m
+rounds_at laws w zero s s' r m b g = let P : Index → Type 0 = λ x. At x m in subst P (sym g.0) b
+rounds_at laws w (suc k) s s' r m b g =
+    let mid = round_at laws w s g.0 g.1 m b g.2 in
+    after_round_at g.0 s' g.1 r m (Rounds k g.0 w s' r) mid (λ x. rounds_at laws w k g.0 s' r m mid x) g.3
+
+-- what a call on one key is once it took effect
+as_given : (given v : Option ℕ) (q : Question ℕ) → Ready None given v q → v ≡ given
+as_given given v Unasked r = r
+as_given given v (Wants o) r = absurd r
+as_given given v (Replied o) r = absurd r
+
+inserts : (m : Pairs ℕ) (k x : ℕ) → Decides k kind.Insert (Some x) None m (point.Insert k x)
+inserts m k x v q c r is h = let P : Option ℕ → Type 0 = λ y. IsCall k kind.Insert y (get m k) c in subst P (as_given (Some x) v q r) is
+
+exchanges : (m : Pairs ℕ) (k old : ℕ) (given : Option ℕ) → Decides k (kind.Exchange old) given None m (point.Exchange k old given)
+exchanges m k old given v q c r is h = is ∙ ap (point.Exchange k old) (as_given given v q r)
+
+heeded : (f : Closure) (given v found : Option ℕ) (q : Question ℕ) → Ready (Some f) given v q → q ≡ Replied found → v ≡ answer_of f found
+heeded f given v found q r h = let P : Question ℕ → Type 0 = λ x. Ready (Some f) given v x in subst P h r
+
+adds_at : (m : Pairs ℕ) (k n : ℕ) (found : Option ℕ) → get m k ≡ found → (v : Option ℕ) (q : Question ℕ) (c : Point ℕ) → Ready (Some (closure.Add n)) None v q
+    → IsCall k kind.ComputePresent v found c → Heeds kind.ComputePresent found q → c ≡ point.ComputePresent k (option_map (wrapped n) (get m k))
+adds_at m k n None e v q c r is h = is ∙ ap (λ o. point.ComputePresent k (option_map (wrapped n) o)) (sym e)
+adds_at m k n (Some x) e v q c r is h =
+    is ∙ ap (point.ComputePresent k) (heeded (closure.Add n) None v (Some x) q r h) ∙ ap (λ o. point.ComputePresent k (option_map (wrapped n) o)) (sym e)
+
+adds : (m : Pairs ℕ) (k n : ℕ) → Decides k kind.ComputePresent None (Some (closure.Add n)) m (point.ComputePresent k (option_map (wrapped n) (get m k)))
+adds m k n v q c r is h = adds_at m k n (get m k) refl v q c r is h
+
+drops_at : (k : ℕ) (found v : Option ℕ) (q : Question ℕ) (c : Point ℕ) → Ready (Some closure.Drop) None v q → IsCall k kind.ComputePresent v found c → Heeds kind.ComputePresent found q
+    → c ≡ point.ComputePresent k None
+drops_at k None v q c r is h = is
+drops_at k (Some x) v q c r is h = is ∙ ap (point.ComputePresent k) (heeded closure.Drop None v (Some x) q r h)
+
+drops : (m : Pairs ℕ) (k : ℕ) → Decides k kind.ComputePresent None (Some closure.Drop) m (point.ComputePresent k None)
+drops m k v q c r is h = drops_at k (get m k) v q c r is h
+
+puts_at : (k n : ℕ) (found v : Option ℕ) (q : Question ℕ) (c : Point ℕ) → Ready (Some (closure.Put n)) None v q → IsCall k kind.ComputeInsert v found c → Heeds kind.ComputeInsert found q
+    → c ≡ point.ComputeInsert k (or_wrapped n found)
+puts_at k n None v q c r is h = let P : Option ℕ → Type 0 = λ y. IsCall k kind.ComputeInsert y None c in subst P (heeded (closure.Put n) None v None q r h) is
+puts_at k n (Some x) v q c r is h = let P : Option ℕ → Type 0 = λ y. IsCall k kind.ComputeInsert y (Some x) c in subst P (heeded (closure.Put n) None v (Some x) q r h) is
+
+puts : (m : Pairs ℕ) (k n : ℕ) → Decides k kind.ComputeInsert None (Some (closure.Put n)) m (point.ComputeInsert k (or_wrapped n (get m k)))
+puts m k n v q c r is h = puts_at k n (get m k) v q c r is h
+
+-- a reply that is the map's, where the map has one
+abbrev pub Agrees : Bool → Option (Told ℕ × Pairs ℕ) → Reply → Type 0
+Agrees true None r = ⊥
+Agrees true (Some told) r = r ≡ reply_to told.0
+Agrees false None r = Unit {0}
+Agrees false (Some told) r = ⊥
+
+agreed : (b : Bool) (o : Option (Told ℕ × Pairs ℕ)) (r : Reply) (rs : List Reply) → Agrees b o r → (if b then r ∷ rs else rs) ≡ with_reply o rs
+agreed true None r rs a = absurd a
+agreed true (Some told) r rs a = ap (λ x. x ∷ rs) a
+agreed false None r rs a = refl
+agreed false (Some told) r rs a = absurd a
+
+-- the tree and the reply after a call on one key
+finished : (m : Pairs ℕ) (p : Point ℕ) (s : Index) (r told : Reply) → r ≡ told → Finished m p s told → At s (answer nat_eq m p).1 × (r ≡ reply_to (answer nat_eq m p).0)
+finished m p s r told e f = ((f.rests, f.callers), e ∙ f.reply)
+
+told_answer : (r told : Reply) → r ≡ told → IsAnswer r → IsAnswer told
+told_answer r told e a = subst IsAnswer e a
+
+call_at : MapLaws → (w : ℕ) (c : Call) (s s' : Index) (r : Reply) (m : Pairs ℕ) → At s m → CallReplies (op_of c) (closure_of c) s w s' r → IsAnswer r
+    → At s' (map_after m (command.Call w c)) × Agrees (is_point (command.Call w c)) (answer_to m (command.Call w c)) r
+call_at laws w (call.Get k) s s' r m b g a =
+    finished m _ s' r _ g.2 (call_finishes laws w k kind.Get None None m (point.Get k) (op.Get k) (asked.Get k) s s' g.0 refl refl tt (λ v q c x is h. is) b.0 b.1 g.1 (told_answer r _ g.2 a))
+call_at laws w (call.Remove k) s s' r m b g a =
+    finished m _ s' r _ g.2 (call_finishes laws w k kind.Remove None None m (point.Remove k) (op.Remove k) (asked.Remove k) s s' g.0 refl refl tt (λ v q c x is h. is) b.0 b.1 g.1 (told_answer r _ g.2 a))
+call_at laws w (call.Insert k v) s s' r m b g a =
+    finished m _ s' r _ g.2 (call_finishes laws w k kind.Insert (Some v) None m (point.Insert k v) (op.Insert k v) (asked.Insert k v) s s' g.0 refl refl tt (inserts m k v) b.0 b.1 g.1 (told_answer r _ g.2 a))
+call_at laws w (call.PresentAdd k n) s s' r m b g a =
+    finished m _ s' r _ g.2 (call_finishes laws w k kind.ComputePresent None (Some (closure.Add n)) m _ (op.ComputePresent k) (asked.ComputePresent k) s s' g.0 refl refl tt (adds m k n) b.0 b.1 g.1 (told_answer r _ g.2 a))
+call_at laws w (call.PresentDrop k) s s' r m b g a =
+    finished m _ s' r _ g.2 (call_finishes laws w k kind.ComputePresent None (Some closure.Drop) m _ (op.ComputePresent k) (asked.ComputePresent k) s s' g.0 refl refl tt (drops m k) b.0 b.1 g.1 (told_answer r _ g.2 a))
+call_at laws w (call.OrInsert k n) s s' r m b g a =
+    finished m _ s' r _ g.2 (call_finishes laws w k kind.ComputeInsert None (Some (closure.Put n)) m _ (op.ComputeInsert k) (asked.ComputeInsert k) s s' g.0 refl refl tt (puts m k n) b.0 b.1 g.1 (told_answer r _ g.2 a))
+call_at laws w (call.Exchange k old new) s s' r m b g a =
+    finished m _ s' r _ g.2 (call_finishes laws w k (kind.Exchange old) (Some new) None m _ (op.Exchange k old (Some new)) (asked.Exchange k old (Some new)) s s' g.0 refl refl tt (exchanges m k old (Some new)) b.0 b.1 g.1 (told_answer r _ g.2 a))
+call_at laws w (call.ExchangeDrop k old) s s' r m b g a =
+    finished m _ s' r _ g.2 (call_finishes laws w k (kind.Exchange old) None None m _ (op.Exchange k old None) (asked.Exchange k old None) s s' g.0 refl refl tt (exchanges m k old None) b.0 b.1 g.1 (told_answer r _ g.2 a))
+call_at laws w call.Pin s s' r m b g a = (calls_at laws w op.Pin _ None s s' g.0 m refl b g.1, tt)
+call_at laws w call.Unpin s s' r m b g a = (calls_at laws w op.Unpin _ None s s' g.0 m refl b g.1, tt)
+call_at laws w call.Repin s s' r m b g a = (calls_at laws w op.Repin _ None s s' g.0 m refl b g.1, tt)
+call_at laws w call.Flush s s' r m b g a = (calls_at laws w op.Flush _ None s s' g.0 m refl b g.1, tt)
+call_at laws w call.Release s s' r m b g a = (calls_at laws w op.Release _ None s s' g.0 m refl b g.1, tt)
+call_at laws w (call.Range x y n) s s' r m b g a = absurd g
+call_at laws w call.Keys s s' r m b g a = absurd g
+call_at laws w call.Empty s s' r m b g a = absurd g
+call_at laws w call.Stats s s' r m b g a = absurd g
+
+-- nothing is open, or a tree with these pairs
+abbrev pub AtMap : Session → Pairs ℕ → Type 0
+AtMap None m = m ≡ empty
+AtMap (Some s) m = At s m
+
+-- a line leaves the map's pairs, and is replied to as the map says
+abbrev pub Keeps : Pairs ℕ → Command → Session → Reply → Type 0
+Keeps m c new r = AtMap new (map_after m c) × Agrees (is_point c) (answer_to m c) r
+
+no_refusal : (why : Refused) (r : Reply) → r ≡ reply.Refused why → IsAnswer r → ⊥
+no_refusal why r e a = subst IsAnswer e a
+
+asks_at : MapLaws → (c : Command) (s s' : Index) (r : Reply) (m : Pairs ℕ) → At s m → Asks s c s' r → IsWhole c → IsAnswer r → Keeps m c (Some s') r
+asks_at laws command.Register s s' r m b g w a = (registers_at laws s s' g.0 m b g.1, tt)
+asks_at laws command.Charged s s' r m b g w a = ((let P : Index → Type 0 = λ x. At x m in subst P (sym g.0) b), tt)
+asks_at laws command.Waiting s s' r m b g w a = ((let P : Index → Type 0 = λ x. At x m in subst P (sym g.0) b), tt)
+asks_at laws (command.Call i c) s s' r m b g w a = call_at laws i c s s' r m b g a
+asks_at laws (command.Round i n) s s' r m b g w a = (rounds_at laws i n s s' r m b g, tt)
+asks_at laws (command.Begin i c) s s' r m b g w a = absurd w
+asks_at laws (command.Go i n) s s' r m b g w a = absurd w
+asks_at laws (command.Fail i) s s' r m b g w a = absurd w
+asks_at laws (command.New o) s s' r m b g w a = absurd g
+asks_at laws command.Journal s s' r m b g w a = absurd g
+asks_at laws command.Close s s' r m b g w a = absurd g
+
+opened_at : (limits : Limits) (budget : ℕ) (result : Result (Whole ℕ) Refusal) (new : Session) (r : Reply) → Opens limits 0 budget result → Opened result new r → IsAnswer r → AtMap new empty
+opened_at limits budget (Ok world) new r o g a =
+    let P : Session → Type 0 = λ x. AtMap x empty in
+    subst P (sym g.0) (record { holds = o.2; flights = no_flights; stands = inl (o.1, refl, refl); over = λ i. refl }, length-replicate {A = Caller} 256 (fresh None))
+opened_at limits budget (Err e) new r o g a = absurd (no_refusal _ r g.1 a)
+
+opens_at : (limits : Option Limits) (budget : ℕ) (new : Session) (r : Reply) → OpensWith limits budget new r → IsAnswer r → AtMap new empty
+opens_at None budget new r g a = absurd (no_refusal _ r g.1 a)
+opens_at (Some limits) budget new r g a = opened_at limits budget g.0 new r g.1 g.2 a
+
+asked_at : MapLaws → (c : Command) (s : Index) (new : Session) (r : Reply) (m : Pairs ℕ) → At s m → (index : Index) × (new ≡ Some index) × Asks s c index r → IsWhole c → IsAnswer r → Keeps m c new r
+asked_at laws c s new r m b g w a = let P : Session → Type 0 = λ x. Keeps m c x r in subst P (sym g.1) (asks_at laws c s g.0 r m b g.2 w a)
+
+built_at : MapLaws → (old : Session) (c : Command) (new : Session) (r : Reply) (m : Pairs ℕ) → AtMap old m → AnswersBuilt old c new r → IsWhole c → IsAnswer r → Keeps m c new r
+built_at laws None (command.New o) new r m b g w a = (opens_at (limits_of o) (budget_of o) new r g a, tt)
+built_at laws None command.Register new r m b g w a = absurd (no_refusal _ r g.1 a)
+built_at laws None command.Charged new r m b g w a = absurd (no_refusal _ r g.1 a)
+built_at laws None command.Waiting new r m b g w a = absurd (no_refusal _ r g.1 a)
+built_at laws None command.Journal new r m b g w a = absurd (no_refusal _ r g.1 a)
+built_at laws None command.Close new r m b g w a = absurd (no_refusal _ r g.1 a)
+built_at laws None (command.Call i c) new r m b g w a = absurd (no_refusal _ r g.1 a)
+built_at laws None (command.Begin i c) new r m b g w a = absurd w
+built_at laws None (command.Go i n) new r m b g w a = absurd w
+built_at laws None (command.Fail i) new r m b g w a = absurd w
+built_at laws None (command.Round i n) new r m b g w a = absurd (no_refusal _ r g.1 a)
+built_at laws (Some s) (command.New o) new r m b g w a = absurd (no_refusal _ r g.1 a)
+built_at laws (Some s) command.Register new r m b g w a = asked_at laws command.Register s new r m b g w a
+built_at laws (Some s) command.Charged new r m b g w a = asked_at laws command.Charged s new r m b g w a
+built_at laws (Some s) command.Waiting new r m b g w a = asked_at laws command.Waiting s new r m b g w a
+built_at laws (Some s) command.Journal new r m b g w a = asked_at laws command.Journal s new r m b g w a
+built_at laws (Some s) command.Close new r m b g w a = asked_at laws command.Close s new r m b g w a
+built_at laws (Some s) (command.Call i c) new r m b g w a = asked_at laws (command.Call i c) s new r m b g w a
+built_at laws (Some s) (command.Begin i c) new r m b g w a = absurd w
+built_at laws (Some s) (command.Go i n) new r m b g w a = absurd w
+built_at laws (Some s) (command.Fail i) new r m b g w a = absurd w
+built_at laws (Some s) (command.Round i n) new r m b g w a = asked_at laws (command.Round i n) s new r m b g w a
+
+either_way : (b : Bool) (X Y : Type 0) → MatchBool b X Y → X ⊎ Y
+either_way true X Y h = inl h
+either_way false X Y h = inr h
+
+answers_at : MapLaws → (old : Session) (c : Command) (new : Session) (r : Reply) (m : Pairs ℕ) → AtMap old m → Answers old c new r → IsWhole c → IsAnswer r → Keeps m c new r
+answers_at laws old c new r m b g w a = elim (either_way (is_built c) _ _ g) [
+  | inl h ↦ built_at laws old c new r m b h w a
+  | inr h ↦ absurd (no_refusal _ r h.1 a)
+]
+
+-- commands that are carried out one after the other, a reply each
+abbrev Chain : Session → List Command → List Reply → Type 0
+Chain old [] rs = rs ≡ []
+Chain old (c ∷ cs) [] = ⊥
+Chain old (c ∷ cs) (r ∷ rs) = (mid : Session) × Answers old c mid r × Chain mid cs rs
+
+chain_of_map : MapLaws → (n : ℕ) (cs : List Command) (rs : List Reply) (old : Session) (m : Pairs ℕ) → AtMap old m → Chain old cs rs → AllByRecursion IsWhole (take n cs)
+    → AllByRecursion IsAnswer (take n rs) → point_replies (take n cs) (take n rs) ≡ map_replies m (take n cs)
+chain_of_map laws zero cs rs old m b ch w a = refl
+chain_of_map laws (suc n) [] rs old m b ch w a = refl
+chain_of_map laws (suc n) (c ∷ cs) [] old m b ch w a = absurd ch
+chain_of_map laws (suc n) (c ∷ cs) (r ∷ rs) old m b ch w a =
+    let step = answers_at laws old c ch.0 r m b ch.1 w.0 a.0 in
+    agreed (is_point c) (answer_to m c) r _ step.1 ∙ ap (with_reply (answer_to m c)) (chain_of_map laws n cs rs ch.0 (map_after m c) step.0 ch.2 w.1 a.1)
+
+-- the commands of lines that were answered, with their replies
+record Answered (old : Session) (lines : List (List ℕ)) (text : List ℕ) : Type 0 where
+  commands : List Command
+  are : AreCommands lines commands
+  replies : List Reply
+  chain : Chain old commands replies
+  one_each : length replies ≡ length commands
+  prints : text ≡ flat_map printed replies
+
+answered_line : (l : Line) (bytes : List ℕ) (more : List (List ℕ)) (old mid : Session) (text first rest : List ℕ) → IsLine bytes l → LineDoes l old mid first → text ≡ first ++ rest
+    → Answered mid more rest → Answered old (bytes ∷ more) text
+answered_line line.Skipped bytes more old mid text first rest is g e x =
+    let P : Session → Type 0 = λ s. Chain s x.commands x.replies in
+    record {
+      commands = x.commands;
+      are = (line.Skipped, x.commands, is, x.are, refl);
+      replies = x.replies;
+      chain = subst P g.0 x.chain;
+      one_each = x.one_each;
+      prints = e ∙ ap (λ t. t ++ rest) g.1 ∙ x.prints;
+    }
+answered_line (line.Command c) bytes more old mid text first rest is g e x = record {
+  commands = c ∷ x.commands;
+  are = (line.Command c, x.commands, is, x.are, refl);
+  replies = g.0 ∷ x.replies;
+  chain = (mid, g.1, x.chain);
+  one_each = ap suc x.one_each;
+  prints = e ∙ ap (λ t. t ++ rest) g.2 ∙ ap (λ t. printed g.0 ++ t) x.prints;
+}
+answered_line line.Bad bytes more old mid text first rest is g e x = absurd g
+
+answered_lines : (lines : List (List ℕ)) (old new : Session) (text : List ℕ) → LinesAnswer old lines new text → Answered old lines text
+answered_lines [] old new text h = record { commands = []; are = refl; replies = []; chain = refl; one_each = refl; prints = h.1 }
+answered_lines (bytes ∷ more) old new text h =
+    answered_line h.3.0 bytes more old h.0 text h.1 h.2 h.3.1 h.3.2 h.5 (answered_lines more h.0 new h.2 h.4)
+
+-- what lines are replied to is the map's
+pub map_answers : MapLaws → (lines : List (List ℕ)) (new : Session) (text : List ℕ) → LinesAnswer None lines new text → MapAnswers lines text
+map_answers laws lines new text h =
+    let x = answered_lines lines None new text h in
+    record {
+      commands = x.commands;
+      are_commands = x.are;
+      replies = x.replies;
+      one_each = x.one_each;
+      are_printed = x.prints;
+      of_map = λ n w a. chain_of_map laws n x.commands x.replies None empty refl x.chain w a;
+    }
+
+-- what the lines of a script print is what they print as the map says, however the script ends
+pub prints_by : (A B : List (List ℕ) → List ℕ → Type 0) → ((lines : List (List ℕ)) (text : List ℕ) → A lines text → B lines text) → (input given : List ℕ) (e : End) (text : List ℕ)
+    → Prints A input given e text → Prints B input given e text
+prints_by A B f input given end.Done text p = (p.0, (p.1.0, f _ text p.1.1))
+prints_by A B f input given end.BadLine text p = (p.0, p.1, p.2, p.3, (p.4.0, f _ _ p.4.1), p.5, p.6)
+prints_by A B f input given end.Reading text p = (p.0, p.1, f _ text p.2)
+prints_by A B f input given end.Memory text p = record {
+  before = p.before;
+  last = p.last;
+  reads = p.reads;
+  bound = p.bound;
+  lines = p.lines;
+  more = p.more;
+  after = p.after;
+  whole = p.whole;
+  first = (p.first.0, f _ text p.first.1);
+}
+prints_by A B f input given end.TooLong text p = (p.0, (p.1.0, p.1.1, f _ text p.1.2))
+prints_by A B f input given end.Writing text (due, more, e, inl p) = (due, more, e, inl (p.0, p.1, (p.2.0, f _ due p.2.1)))
+prints_by A B f input given end.Writing text (due, more, e, inr p) = (due, more, e, inr (p.0, p.1, p.2, p.3, (p.4.0, f _ _ p.4.1), p.5, p.6))
+
+pub ran_of_map : MapLaws → (had left held holds : Option (List ℕ)) (e : End) → Ran AreAnswered had left held holds e → Ran MapAnswers had left held holds e
+ran_of_map laws None left held holds e r = tt
+ran_of_map laws (Some input) left held holds e r =
+    (r.0, r.1, r.2, prints_by AreAnswered MapAnswers (λ lines text a. map_answers laws lines a.0 text a.1) input r.0 e r.1 r.3, r.4)

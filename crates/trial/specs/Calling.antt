@@ -1,0 +1,52 @@
+-- The steps that a line takes of a worker's call.
+use Rattle.std.specs.Prelude.{◌≡◌, ℕ, ◌-◌, suc, Bool, true, false, nat_eq, Option, slice_set, if◌then◌else◌}
+use Rattle.joint.specs.declared.steps.Event.{Event}
+use Rattle.joint.specs.declared.steps.Event.TheVariants.{Register, Begin, Go}
+use Rattle.joint.specs.declared.steps.Op.{Op}
+use Rattle.joint.specs.declared.steps.Outcome.{Outcome}
+use Rattle.joint.specs.declared.steps.Outcome.TheVariants as outcome
+use Rattle.joint.specs.declared.steps.Report.{Report}
+use Rattle.joint.specs.Whole.{IsStep}
+use Rattle.trial.specs.declared.caller.Closure.{Closure}
+use Rattle.trial.specs.declared.index.Index.{Index}
+use Rattle.trial.specs.Callers.{fresh, noise_of, heard, caller_at}
+
+-- whether a call that stands so is in flight
+abbrev pub is_running : Outcome ℕ → Bool
+is_running outcome.Running = true
+is_running (outcome.Asks found) = true
+is_running (outcome.Found place key value) = true
+is_running _ = false
+
+-- one step of the tree, and how it left the worker's call
+abbrev pub Steps : Index → ℕ → Event ℕ → Outcome ℕ → Index → Type 0
+Steps old who event told new = (report : Report ℕ) × IsStep nat_eq true old.world (record { worker = who; event = event }) report new.world × (told ≡ report.outcome)
+
+-- a worker takes a place
+abbrev pub Registers : Index → Outcome ℕ → Index → Type 0
+Registers old told new = Steps old 0 Register told new × (new.callers ≡ old.callers)
+
+-- a call's first step; from it on, where it is in flight, its closure is the line's
+abbrev pub Begins : Index → ℕ → Op ℕ → Option Closure → Outcome ℕ → Index → Type 0
+Begins old who op closure told new = Steps old who (Begin op) told new
+    × (new.callers ≡ (if is_running told then slice_set old.callers who (fresh closure) else old.callers))
+
+-- a further step; where it asks, its closure has answered when the next one comes
+abbrev pub Goes : Index → ℕ → Bool → Outcome ℕ → Index → Type 0
+Goes old who fail told new = Steps old who (Go (noise_of (caller_at old.callers who) fail)) told new
+    × (new.callers ≡ slice_set old.callers who (heard (caller_at old.callers who) told))
+
+-- further steps of a call that stands so, none of which fails: so many are left, and fewer are taken where the call ends
+pub data GoesOn (who : ℕ) : ℕ → Index → Outcome ℕ → Outcome ℕ → Index → Type 0 where
+  stays : (s : Index) (told : Outcome ℕ) → GoesOn who 0 s told told s
+  ends : (left : ℕ) (s : Index) (told : Outcome ℕ) → is_running told ≡ false → GoesOn who left s told told s
+  goes : (left : ℕ) (s mid s' : Index) (stands next told : Outcome ℕ) → is_running stands ≡ true → Goes s who false next mid
+      → GoesOn who left mid next told s' → GoesOn who (suc left) s stands told s'
+
+-- the most steps that a line takes of a call which it doesn't begin alone, the first of them counted
+abbrev pub steps_max : ℕ
+steps_max = 10000
+
+-- a whole call, or as many of its steps as a line takes
+abbrev pub Calls : Index → ℕ → Op ℕ → Option Closure → Outcome ℕ → Index → Type 0
+Calls old who op closure told new = (mid : Index) × (first : Outcome ℕ) × Begins old who op closure first mid × GoesOn who (steps_max - 1) mid first told new

@@ -1,0 +1,77 @@
+//! What a script answers where a worker's call asks.
+ghost use Rattle.std.specs.Prelude.{◌≡◌};
+ghost use Rattle.trial.specs.Callers.{answer_of, fresh, noise_of, heard};
+
+use congee::Noise;
+use joint::{Id, Outcome};
+
+/// From the value that a call finds to the one that it puts there.
+#[derive(Clone, Copy)]
+pub enum Closure {
+    /// The value plus the number, which wraps.
+    Add(u64),
+    /// No value: the key goes.
+    Drop,
+    /// The number for an absent key, else the value plus the number, which wraps.
+    Put(u64),
+}
+
+impl Closure {
+    /// The closure's answer for what a call finds.
+    fn answer(self, found: Option<u64>) -> Option<u64>
+        ensures { result ≡ answer_of self found }
+    {
+        match (self, found) {
+            (Closure::Drop, _) => None,
+            (Closure::Add(_), None) => None,
+            (Closure::Put(n), None) => Some(n),
+            (Closure::Add(n), Some(value)) => Some(value.wrapping_add(n)),
+            (Closure::Put(n), Some(value)) => Some(value.wrapping_add(n)),
+        }
+    }
+}
+
+/// What stands behind a worker's call in flight.
+#[derive(Clone, Copy)]
+pub struct Caller {
+    /// From the line that began the call.
+    pub closure: Option<Closure>,
+    /// The answer to what the step before asked, if it did.
+    pub answer: Option<Option<u64>>,
+}
+
+impl Caller {
+    /// Behind a call that hasn't asked yet.
+    pub fn new(closure: Option<Closure>) -> Caller
+        ensures { result ≡ fresh closure }
+    {
+        Caller {
+            closure,
+            answer: None,
+        }
+    }
+
+    /// What comes to the call's next step from outside.
+    pub fn noise(self, fail: bool) -> Noise<Id, u64>
+        ensures { result ≡ noise_of self fail }
+    {
+        Noise {
+            fail,
+            seen: None,
+            answer: self.answer,
+        }
+    }
+
+    /// After a step of the call that ended so.
+    pub fn heard(self, outcome: Outcome<u64>) -> Caller
+        ensures { result ≡ heard self outcome }
+    {
+        match (self.closure, outcome) {
+            (Some(closure), Outcome::Asks(found)) => Caller {
+                closure: self.closure,
+                answer: Some(closure.answer(found)),
+            },
+            _ => Caller::new(self.closure),
+        }
+    }
+}

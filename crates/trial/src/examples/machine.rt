@@ -1,0 +1,22 @@
+//! What a user of the shared map's machine concludes from its contracts, with no proof of its own.
+ghost use Rattle.std.specs.Prelude.{IfOk, nat_eq, take};
+ghost use Rattle.std.specs.FinMap.{empty};
+ghost use Rattle.joint.specs.Runs.{RunsMap, no_flights};
+
+use congee::DefaultAllocator;
+use joint::{Limits, Ran, Refusal, Step, World};
+use std::alloc::Global;
+use std::vec::Vec;
+
+/// An index for two workers of at most 1,000 nodes.
+pub type Index = World<u64, DefaultAllocator>;
+
+/// Whatever steps two workers take from an empty index on, in any order and with calls of both in flight, are a run of one
+/// map: the calls that took effect, each with what it answered, are a legal journal in the order of their deciding steps.
+pub fn runs_as_one_map(alloc: Global, steps: Vec<Step<u64>>) -> Result<(Index, Ran<u64>), Refusal>
+    ensures { IfOk result (λ r. RunsMap nat_eq no_flights empty (take r.1.done steps.items) r.1.reports.items r.0) }
+{
+    let mut index: Index = World::new(alloc, Limits::usual(2, 1000), DefaultAllocator::new())?;
+    let ran = index.run(alloc, steps);
+    Ok((index, ran))
+}

@@ -1,0 +1,172 @@
+//! What the tests of the machine share: how an index is opened, and how its workers' calls are stepped.
+
+use congee::{Limited, Noise};
+use joint::{Done, Event, Id, Limits, Op, Outcome, Refusal, Report, Step, World};
+use judge::{Call, Reply};
+use std::alloc::Global;
+
+/// More steps than a call takes that no other one disturbs.
+pub const END: u32 = 200;
+
+/// An index of numbers.
+pub type Index = World<u64, Limited>;
+
+/// What an index is opened with, and how many workers register.
+#[derive(Clone, Copy)]
+pub struct Opening {
+    pub workers: u32,
+    pub cells: u32,
+    /// The most bytes that the nodes may take.
+    pub limit: u64,
+    /// The greatest version of a node.
+    pub version_max: u64,
+}
+
+/// Two workers, ample room.
+pub const AMPLE: Opening = Opening {
+    workers: 2,
+    cells: 1_000,
+    limit: u64::MAX,
+    version_max: 1_000_000,
+};
+
+/// The index, with no worker yet.
+pub fn open(alloc: Global, opening: &Opening) -> Result<Index, Refusal> {
+    let usual = Limits::usual(opening.workers, opening.cells);
+    let limits = Limits {
+        epoch: usual.epoch,
+        version_max: opening.version_max,
+        id: usual.id,
+    };
+    World::new(alloc, limits, Limited::new(opening.limit))
+}
+
+/// Why there is no index, if there is none.
+pub fn why_not(opened: Result<Index, Refusal>) -> Option<Refusal> {
+    match opened {
+        Ok(_) => None,
+        Err(refusal) => Some(refusal),
+    }
+}
+
+/// The index, with each of its workers registered.
+pub fn open_with_workers(alloc: Global, opening: &Opening) -> Result<Index, Refusal> {
+    let mut index = open(alloc, opening)?;
+    for _ in 0..opening.workers {
+        register(&mut index);
+    }
+    Ok(index)
+}
+
+pub fn register(index: &mut Index) -> Outcome<u64> {
+    let step = Step {
+        worker: 0,
+        event: Event::Register,
+    };
+    index.step(step).outcome
+}
+
+pub fn begin(index: &mut Index, worker: u32, op: Op<u64>) -> Report<u64> {
+    let step = Step {
+        worker,
+        event: Event::Begin(op),
+    };
+    index.step(step)
+}
+
+/// A step of the worker's call in flight, to which this comes from outside.
+pub fn go_with(index: &mut Index, worker: u32, noise: Noise<Id, u64>) -> Report<u64> {
+    let step = Step {
+        worker,
+        event: Event::Go(noise),
+    };
+    index.step(step)
+}
+
+/// A step of the worker's call in flight, whose closure answers so where it is asked.
+pub fn go(index: &mut Index, worker: u32, answer: Option<Option<u64>>) -> Report<u64> {
+    let noise = Noise {
+        fail: false,
+        seen: None,
+        answer,
+    };
+    go_with(index, worker, noise)
+}
+
+/// Whether a call that stands so goes on.
+pub fn is_in_flight(outcome: Outcome<u64>) -> bool {
+    matches!(outcome, Outcome::Running | Outcome::Asks(_))
+}
+
+/// So many further steps at most of the worker's call, which stands so.
+pub fn go_on(
+    index: &mut Index,
+    worker: u32,
+    answer: Option<Option<u64>>,
+    most: u32,
+    outcome: Outcome<u64>,
+) -> Outcome<u64> {
+    let mut outcome = outcome;
+    for _ in 0..most {
+        if !is_in_flight(outcome) {
+            return outcome;
+        }
+        outcome = go(index, worker, answer).outcome;
+    }
+    outcome
+}
+
+/// The call, without what its closure answers.
+pub fn op_of(call: Call<u64>) -> Op<u64> {
+    match call {
+        Call::Get(key) => Op::Get(key),
+        Call::Insert(key, value) => Op::Insert(key, value),
+        Call::Remove(key) => Op::Remove(key),
+        Call::ComputePresent(key, _) => Op::ComputePresent(key),
+        Call::ComputeInsert(key, _) => Op::ComputeInsert(key),
+        Call::Exchange(key, old, new) => Op::Exchange(key, old, new),
+    }
+}
+
+/// What the call's closure answers.
+pub fn answer_of(call: Call<u64>) -> Option<Option<u64>> {
+    match call {
+        Call::ComputePresent(_, answer) => Some(answer),
+        Call::ComputeInsert(_, answer) => Some(Some(answer)),
+        Call::Get(_) | Call::Insert(_, _) | Call::Remove(_) | Call::Exchange(_, _, _) => None,
+    }
+}
+
+/// A whole call on a key.
+pub fn call(index: &mut Index, worker: u32, call: Call<u64>) -> Outcome<u64> {
+    match index.call(worker, op_of(call), END as usize, &mut []) {
+        Some(report) => go_on(index, worker, answer_of(call), END, report.outcome),
+        None => Outcome::Running,
+    }
+}
+
+/// A whole call on the collector, and whether it is done.
+pub fn is_done(index: &mut Index, worker: u32, op: Op<u64>) -> bool {
+    match index.call(worker, op, END as usize, &mut []) {
+        Some(report) => report.outcome == Outcome::Done(Done::Unit),
+        None => false,
+    }
+}
+
+/// So many rounds of pin, flush and unpin, and whether each is done.
+pub fn are_rounds_done(index: &mut Index, worker: u32, rounds: u32) -> bool {
+    for _ in 0..rounds {
+        if !is_done(index, worker, Op::Pin)
+            || !is_done(index, worker, Op::Flush)
+            || !is_done(index, worker, Op::Unpin)
+        {
+            return false;
+        }
+    }
+    true
+}
+
+/// How a call on a key ends with this reply.
+pub fn replied(reply: Reply<u64>) -> Outcome<u64> {
+    Outcome::Done(Done::Reply(reply))
+}
