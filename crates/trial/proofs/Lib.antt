@@ -5,9 +5,12 @@ pub mod Calls
 pub mod Commands
 pub mod Spelling
 pub mod Lines
+pub mod Filling
 pub mod Rounds
 pub mod Feeding
 pub mod Ending
 pub mod MapSteps
 pub mod WholeCalls
+pub mod OneMap
+pub mod WholeScans
 pub mod OfMap

@@ -1,5 +1,5 @@
 -- One step of the tree, on the map of its pairs.
-use Rattle.std.proofs.Common.{◌≡◌, ◌≢◌, ◌⊎◌, ℕ, ◌+◌, ◌<◌, ◌≤◌, ◌==◌, zero, suc, nat_eq, arith, Bool, true, false, List, [], ◌∷◌, length, Option, None, Some, refl, sym, ◌∙◌, ap, subst, inl, inr, if◌then◌else◌}
+use Rattle.std.proofs.Common.{◌≡◌, ◌⊎◌, ℕ, ◌<◌, ◌≤◌, ◌==◌, zero, suc, nat_eq, arith, Bool, true, false, List, [], ◌∷◌, length, Option, Some, refl, sym, ◌∙◌, ap, subst, inl, inr, if◌then◌else◌}
 use Rattle.std.specs.Prelude.{slice_get, slice_set}
 use Rattle.std.specs.FinMap.{empty}
 use Rattle.std.proofs.lemmas.Bool.{cases_Bool, eqb-true, eqb-false, true_from_ne_false}
@@ -7,12 +7,10 @@ use Rattle.judge.specs.Answer.{Pairs}
 use Rattle.judge.specs.declared.journal.Entry.{Entry}
 use Rattle.congee.specs.Keys.{IsMapOf}
 use Rattle.congee.specs.protocol.Play.{Flight, Over}
-use Rattle.joint.specs.declared.id.Id.{Id}
-use Rattle.joint.specs.declared.steps.Event.TheVariants.{Go}
 use Rattle.joint.specs.declared.steps.Report.{Report}
 use Rattle.joint.specs.declared.steps.Step.{Step}
 use Rattle.joint.specs.Forest.{nodes}
-use Rattle.joint.specs.Runs.{Taken, AreTaken, Line, Flights, no_flights, with_flight, Stays, GoMap, MapStep, IsMapRun, IsLine, AreLines, AreInFlight, PlaysMap, IsFresh}
+use Rattle.joint.specs.Runs.{Taken, AreTaken, Line, Flights, no_flights, with_flight, Stays, MapStep, IsMapRun, IsLine, AreLines, AreInFlight, PlaysMap, IsFresh}
 use Rattle.joint.specs.Whole.{Whole, Holds, IsStep}
 
 -- what the machine promises of lists of steps

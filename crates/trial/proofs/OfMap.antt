@@ -1,5 +1,5 @@
 -- A script line by line, beside the map: what it does to the tree, and how it is replied to.
-use Rattle.std.proofs.Common.{◌≡◌, ◌⊎◌, ℕ, zero, suc, nat_eq, Bool, true, false, List, [], ◌∷◌, ◌++◌, length, take, Option, None, Some, Result, Ok, Err, refl, sym, ◌∙◌, ap, subst, inl, inr, if◌then◌else◌, append_assoc}
+use Rattle.std.proofs.Common.{◌≡◌, ◌⊎◌, ℕ, zero, suc, nat_eq, Bool, true, false, List, [], ◌∷◌, ◌++◌, length, take, Option, None, Some, Result, Ok, Err, refl, sym, ◌∙◌, ap, subst, inl, inr, if◌then◌else◌}
 use Rattle.std.specs.Prelude.{MatchBool, MatchOption, slice_set}
 use Rattle.std.specs.FinMap.{get, empty}
 use Rattle.std.specs.List.{AllByRecursion, flat_map}
@@ -8,21 +8,22 @@ use Rattle.std.proofs.lemmas.List.{length-set, length-replicate}
 use Rattle.judge.specs.Answer.{Pairs, answer}
 use Rattle.judge.specs.declared.journal.Call.{Call as Point}
 use Rattle.judge.specs.declared.journal.Call.TheVariants as point
-use Rattle.judge.specs.declared.journal.Reply.{Reply as Told}
 use Rattle.congee.specs.declared.protocol.op.Op.TheVariants as asked
 use Rattle.congee.specs.declared.protocol.phase.Kind.TheVariants as kind
 use Rattle.congee.specs.protocol.Play.{Flight, Question, Unasked, Asked as Wants, Replied, Heeds}
 use Rattle.congee.specs.protocol.Protocol.{IsCall}
 use Rattle.joint.specs.declared.limits.Limits.{Limits}
 use Rattle.joint.specs.declared.refusal.Refusal.{Refusal}
-use Rattle.joint.specs.declared.steps.Event.TheVariants.{Register, Begin, Go}
+use Rattle.joint.specs.declared.steps.Event.TheVariants.{Begin, Go}
 use Rattle.joint.specs.declared.steps.Op.{Op}
 use Rattle.joint.specs.declared.steps.Op.TheVariants as op
+use Rattle.joint.specs.declared.steps.Done.TheVariants as done
 use Rattle.joint.specs.declared.steps.Outcome.{Outcome}
+use Rattle.joint.specs.declared.steps.Outcome.TheVariants as outcome
 use Rattle.joint.specs.declared.steps.Target.{Target}
 use Rattle.joint.specs.declared.steps.Target.TheVariants as target
 use Rattle.joint.specs.Reports.{target}
-use Rattle.joint.specs.Runs.{no_flights, Stays, BeginMap, GoMap}
+use Rattle.joint.specs.Runs.{no_flights, BeginMap, GoMap}
 use Rattle.joint.specs.Whole.{Whole}
 use Rattle.trial.specs.declared.caller.Caller.{Caller}
 use Rattle.trial.specs.declared.caller.Closure.{Closure}
@@ -43,20 +44,22 @@ use Rattle.trial.specs.declared.reply.Reply.TheVariants as reply
 use Rattle.trial.specs.Callers.{answer_of, fresh, noise_of, caller_at}
 use Rattle.trial.specs.Calling.{is_running, Registers, Begins, Goes, GoesOn, stays, ends, goes, Calls}
 use Rattle.trial.specs.Line.{IsLine}
-use Rattle.trial.specs.MapReplies.{wrapped, or_wrapped, point_of, answer_to, map_or, map_after, with_reply, map_replies, is_point, point_replies, IsWhole, IsAnswer, commands_of, AreCommands, MapAnswers}
+use Rattle.trial.specs.MapReplies.{wrapped, or_wrapped, answer_to, map_after, with_reply, map_replies, is_on_keys, key_replies, IsWhole, IsAnswer, AreCommands, MapAnswers}
 use Rattle.trial.specs.Replies.{reply_to, reply_of}
 use Rattle.trial.specs.Going.{Ran}
 use Rattle.trial.specs.Script.{LineDoes, LinesAnswer, AreAnswered, Prints}
-use Rattle.trial.specs.Session.{Session, op_of, closure_of, is_built, refusal_of, AfterPin, Round, Rounds, CallReplies, Asks, limits_of, budget_of, Refuses, Opens, Opened, OpensWith, AnswersBuilt, Answers}
+use Rattle.trial.specs.Places.{places_at, given, left}
+use Rattle.trial.specs.Session.{Session, op_of, closure_of, is_built, refusal_of, AfterPin, Round, Rounds, GaveAway, Replies, CallReplies, Asks, limits_of, budget_of, Opens, Opened, OpensWith, AnswersBuilt, Answers}
 use Rattle.trial.specs.Texts.{printed}
-use Rattle.trial.proofs.MapSteps.{MapLaws, line_of, OnMap, on_map, Rests, rests_on}
-use Rattle.trial.proofs.WholeCalls.{Ready, Decides, Fits, Finished, call_finishes}
+use Rattle.trial.proofs.MapSteps.{MapLaws, line_of, on_map, Rests, rests_on}
+use Rattle.trial.proofs.WholeCalls.{Ready, Decides, Finished, call_finishes}
+use Rattle.trial.proofs.WholeScans.{filled_length, scan_finishes}
 
 -- a tree with these pairs, no call of which is in flight
 abbrev pub At : Index → Pairs ℕ → Type 0
-At s m = Rests s.world m × (length s.callers ≡ 256)
+At s m = Rests s.world m × (length s.callers ≡ 256) × (length s.scans.items ≡ 256)
 
-as_long : (b : Bool) (xs : List Caller) (i : ℕ) (x : Caller) → length xs ≡ 256 → length (if b then slice_set xs i x else xs) ≡ 256
+as_long : {A : Type 0} (b : Bool) (xs : List A) (i : ℕ) (x : A) → length xs ≡ 256 → length (if b then slice_set xs i x else xs) ≡ 256
 as_long true xs i x e = length-set xs i x ∙ e
 as_long false xs i x e = e
 
@@ -64,20 +67,20 @@ as_long false xs i x e = e
 registers_at : MapLaws → (s s' : Index) (told : Outcome ℕ) (m : Pairs ℕ) → At s m → Registers s told s' → At s' m
 registers_at laws s s' told m b g =
     let o = on_map laws s.world m b.0.flights _ g.0.0 s'.world b.0.holds b.0.stands g.0.1 in
-    (rests_on b.0.flights m _ g.0.0 s'.world b.0.over g.0.1.holds o o.moves, ap length g.1 ∙ b.1)
+    (rests_on b.0.flights m _ g.0.0 s'.world b.0.over g.0.1.holds o o.moves, ap length g.1 ∙ b.1, ap (λ (x : _). length x.items) g.2 ∙ b.2)
 
 begins_at : MapLaws → (w : ℕ) (o : Op ℕ) (t : _) (f : Option Closure) (s s' : Index) (told : Outcome ℕ) (m : Pairs ℕ) → target o ≡ target.Collector t → At s m → Begins s w o f told s' → At s' m
 begins_at laws w op t f s s' told m e b g =
     let o = on_map laws s.world m b.0.flights _ g.0.0 s'.world b.0.holds b.0.stands g.0.1 in
     let P : Target ℕ → Type 0 = λ x. BeginMap b.0.flights m x (line_of (record { worker = w; event = Begin op }) g.0.0 o.entry o.pairs) o.flights in
-    (rests_on b.0.flights m _ g.0.0 s'.world b.0.over g.0.1.holds o (subst P e o.moves), ap length g.1 ∙ as_long (is_running told) s.callers w (fresh f) b.1)
+    (rests_on b.0.flights m _ g.0.0 s'.world b.0.over g.0.1.holds o (subst P e o.moves), ap length g.1 ∙ as_long (is_running told) s.callers w (fresh f) b.1, ap length g.2 ∙ as_long (is_running told) s.scans.items w [] b.2)
 
 goes_at : MapLaws → (w : ℕ) (s s' : Index) (told : Outcome ℕ) (m : Pairs ℕ) → At s m → Goes s w false told s' → At s' m
 goes_at laws w s s' told m b g =
     let c = caller_at s.callers w in
     let o = on_map laws s.world m b.0.flights _ g.0.0 s'.world b.0.holds b.0.stands g.0.1 in
     let P : Flight ℕ → Type 0 = λ x. GoMap nat_eq b.0.flights x m c.answer (line_of (record { worker = w; event = Go (noise_of c false) }) g.0.0 o.entry o.pairs) o.flights in
-    (rests_on b.0.flights m _ g.0.0 s'.world b.0.over g.0.1.holds o (subst P (b.0.over w) o.moves), ap length g.1 ∙ length-set s.callers w _ ∙ b.1)
+    (rests_on b.0.flights m _ g.0.0 s'.world b.0.over g.0.1.holds o (subst P (b.0.over w) o.moves), ap length g.1 ∙ length-set s.callers w _ ∙ b.1, ap length g.2 ∙ filled_length s.scans.items w told ∙ b.2)
 
 goes_on_at : MapLaws → (w left : ℕ) (s : Index) (stands told : Outcome ℕ) (s' : Index) (m : Pairs ℕ) → GoesOn w left s stands told s' → At s m → At s' m
 goes_on_at laws w left s stands told s' m (stays s1 t1) b = b
@@ -146,50 +149,102 @@ puts_at k n (Some x) v q c r is h = let P : Option ℕ → Type 0 = λ y. IsCall
 puts : (m : Pairs ℕ) (k n : ℕ) → Decides k kind.ComputeInsert None (Some (closure.Put n)) m (point.ComputeInsert k (or_wrapped n (get m k)))
 puts m k n v q c r is h = puts_at k n (get m k) v q c r is h
 
+-- as many scans as before
+begun_scans : (w : ℕ) (o : Op ℕ) (f : Option Closure) (s s' : Index) (told : Outcome ℕ) → length s.scans.items ≡ 256 → Begins s w o f told s' → length s'.scans.items ≡ 256
+begun_scans w o f s s' told e g = ap length g.2 ∙ as_long (is_running told) s.scans.items w [] e
+
+gone_on_scans : (w left : ℕ) (s : Index) (stands told : Outcome ℕ) (s' : Index) → GoesOn w left s stands told s' → length s.scans.items ≡ 256 → length s'.scans.items ≡ 256
+gone_on_scans w left s stands told s' (stays s1 t1) e = e
+gone_on_scans w left s stands told s' (ends n s1 t1 x) e = e
+gone_on_scans w left s stands told s' (goes n s1 mid s2 st next t1 run step more) e =
+    gone_on_scans w n mid next told s' more (ap length step.2 ∙ filled_length s1.scans.items w next ∙ e)
+
+called_scans : (w : ℕ) (o : Op ℕ) (f : Option Closure) (s s' : Index) (told : Outcome ℕ) → length s.scans.items ≡ 256 → Calls s w o f told s' → length s'.scans.items ≡ 256
+called_scans w o f s s' told e g = gone_on_scans w 9999 g.0 g.1 told s' g.3 (begun_scans w o f s g.0 g.1 e g.2)
+
+-- and as many callers
+gone_on_callers : (w left : ℕ) (s : Index) (stands told : Outcome ℕ) (s' : Index) → GoesOn w left s stands told s' → length s.callers ≡ 256 → length s'.callers ≡ 256
+gone_on_callers w left s stands told s' (stays s1 t1) e = e
+gone_on_callers w left s stands told s' (ends n s1 t1 x) e = e
+gone_on_callers w left s stands told s' (goes n s1 mid s2 st next t1 run step more) e =
+    gone_on_callers w n mid next told s' more (ap length step.1 ∙ length-set s1.callers w _ ∙ e)
+
+called_callers : (w : ℕ) (o : Op ℕ) (f : Option Closure) (s s' : Index) (told : Outcome ℕ) → length s.callers ≡ 256 → Calls s w o f told s' → length s'.callers ≡ 256
+called_callers w o f s s' told e g = gone_on_callers w 9999 g.0 g.1 told s' g.3 (ap length g.2.1 ∙ as_long (is_running g.1) s.callers w (fresh f) e)
+
+-- what a call gives its reply leaves the rest
+left_length : (stands : Outcome ℕ) (w : ℕ) (scans : List (List (ℕ × ℕ))) → length (left stands w scans) ≡ length scans
+left_length outcome.Running w scans = refl
+left_length (outcome.Asks found) w scans = refl
+left_length (outcome.Found place key value) w scans = refl
+left_length (outcome.Registered who) w scans = refl
+left_length (outcome.Done done.Unit) w scans = refl
+left_length (outcome.Done (done.Reply r)) w scans = refl
+left_length (outcome.Done (done.Scanned count)) w scans = length-set scans w []
+left_length (outcome.Refused r) w scans = refl
+
+replied_at : (w : ℕ) (s s' : Index) (stands : Outcome ℕ) (m : Pairs ℕ) → At s m → GaveAway s w stands s' → At s' m
+replied_at w s s' stands m b g =
+    let P : Whole ℕ → Type 0 = λ x. Rests x m in
+    (subst P (sym g.world) b.0, ap length g.callers ∙ b.1, ap length g.scans ∙ left_length stands w s.scans.items ∙ b.2)
+
 -- a reply that is the map's, where the map has one
-abbrev pub Agrees : Bool → Option (Told ℕ × Pairs ℕ) → Reply → Type 0
+abbrev pub Agrees : Bool → Option (Reply × Pairs ℕ) → Reply → Type 0
 Agrees true None r = ⊥
-Agrees true (Some told) r = r ≡ reply_to told.0
+Agrees true (Some told) r = r ≡ told.0
 Agrees false None r = Unit {0}
 Agrees false (Some told) r = ⊥
 
-agreed : (b : Bool) (o : Option (Told ℕ × Pairs ℕ)) (r : Reply) (rs : List Reply) → Agrees b o r → (if b then r ∷ rs else rs) ≡ with_reply o rs
+agreed : (b : Bool) (o : Option (Reply × Pairs ℕ)) (r : Reply) (rs : List Reply) → Agrees b o r → (if b then r ∷ rs else rs) ≡ with_reply o rs
 agreed true None r rs a = absurd a
 agreed true (Some told) r rs a = ap (λ x. x ∷ rs) a
 agreed false None r rs a = refl
 agreed false (Some told) r rs a = absurd a
 
 -- the tree and the reply after a call on one key
-finished : (m : Pairs ℕ) (p : Point ℕ) (s : Index) (r told : Reply) → r ≡ told → Finished m p s told → At s (answer nat_eq m p).1 × (r ≡ reply_to (answer nat_eq m p).0)
-finished m p s r told e f = ((f.rests, f.callers), e ∙ f.reply)
+finished : (w : ℕ) (o : Op ℕ) (f : Option Closure) (m : Pairs ℕ) (p : Point ℕ) (s mid s' : Index) (stands : Outcome ℕ) (r : Reply) → At s m → Calls s w o f stands mid → Replies mid w stands s' r
+    → Finished m p mid (reply_of (given stands (places_at mid.scans.items w)) stands) → At s' (answer nat_eq m p).1 × (r ≡ reply_to (answer nat_eq m p).0)
+finished w o f m p s mid s' stands r b g told e =
+    (replied_at w mid s' stands (answer nat_eq m p).1 (e.rests, e.callers, called_scans w o f s mid stands b.2 g) told.0, told.1 ∙ e.reply)
 
 told_answer : (r told : Reply) → r ≡ told → IsAnswer r → IsAnswer told
 told_answer r told e a = subst IsAnswer e a
 
 call_at : MapLaws → (w : ℕ) (c : Call) (s s' : Index) (r : Reply) (m : Pairs ℕ) → At s m → CallReplies (op_of c) (closure_of c) s w s' r → IsAnswer r
-    → At s' (map_after m (command.Call w c)) × Agrees (is_point (command.Call w c)) (answer_to m (command.Call w c)) r
+    → At s' (map_after m (command.Call w c)) × Agrees (is_on_keys (command.Call w c)) (answer_to m (command.Call w c)) r
 call_at laws w (call.Get k) s s' r m b g a =
-    finished m _ s' r _ g.2 (call_finishes laws w k kind.Get None None m (point.Get k) (op.Get k) (asked.Get k) s s' g.0 refl refl tt (λ v q c x is h. is) b.0 b.1 g.1 (told_answer r _ g.2 a))
+    finished w (op.Get k) None m (point.Get k) s g.1 s' g.0 r b g.2 g.3
+    (call_finishes laws w k kind.Get None None m (point.Get k) (op.Get k) (asked.Get k) s g.1 g.0 _ refl refl tt (λ v q c x is h. is) b.0 b.1 g.2 (told_answer r _ g.3.1 a))
 call_at laws w (call.Remove k) s s' r m b g a =
-    finished m _ s' r _ g.2 (call_finishes laws w k kind.Remove None None m (point.Remove k) (op.Remove k) (asked.Remove k) s s' g.0 refl refl tt (λ v q c x is h. is) b.0 b.1 g.1 (told_answer r _ g.2 a))
+    finished w (op.Remove k) None m (point.Remove k) s g.1 s' g.0 r b g.2 g.3
+    (call_finishes laws w k kind.Remove None None m (point.Remove k) (op.Remove k) (asked.Remove k) s g.1 g.0 _ refl refl tt (λ v q c x is h. is) b.0 b.1 g.2 (told_answer r _ g.3.1 a))
 call_at laws w (call.Insert k v) s s' r m b g a =
-    finished m _ s' r _ g.2 (call_finishes laws w k kind.Insert (Some v) None m (point.Insert k v) (op.Insert k v) (asked.Insert k v) s s' g.0 refl refl tt (inserts m k v) b.0 b.1 g.1 (told_answer r _ g.2 a))
+    finished w (op.Insert k v) None m (point.Insert k v) s g.1 s' g.0 r b g.2 g.3
+    (call_finishes laws w k kind.Insert (Some v) None m (point.Insert k v) (op.Insert k v) (asked.Insert k v) s g.1 g.0 _ refl refl tt (inserts m k v) b.0 b.1 g.2 (told_answer r _ g.3.1 a))
 call_at laws w (call.PresentAdd k n) s s' r m b g a =
-    finished m _ s' r _ g.2 (call_finishes laws w k kind.ComputePresent None (Some (closure.Add n)) m _ (op.ComputePresent k) (asked.ComputePresent k) s s' g.0 refl refl tt (adds m k n) b.0 b.1 g.1 (told_answer r _ g.2 a))
+    finished w (op.ComputePresent k) (Some (closure.Add n)) m (point.ComputePresent k (option_map (wrapped n) (get m k))) s g.1 s' g.0 r b g.2 g.3
+    (call_finishes laws w k kind.ComputePresent None (Some (closure.Add n)) m (point.ComputePresent k (option_map (wrapped n) (get m k))) (op.ComputePresent k) (asked.ComputePresent k) s g.1 g.0 _ refl refl tt (adds m k n) b.0 b.1 g.2 (told_answer r _ g.3.1 a))
 call_at laws w (call.PresentDrop k) s s' r m b g a =
-    finished m _ s' r _ g.2 (call_finishes laws w k kind.ComputePresent None (Some closure.Drop) m _ (op.ComputePresent k) (asked.ComputePresent k) s s' g.0 refl refl tt (drops m k) b.0 b.1 g.1 (told_answer r _ g.2 a))
+    finished w (op.ComputePresent k) (Some closure.Drop) m (point.ComputePresent k None) s g.1 s' g.0 r b g.2 g.3
+    (call_finishes laws w k kind.ComputePresent None (Some closure.Drop) m (point.ComputePresent k None) (op.ComputePresent k) (asked.ComputePresent k) s g.1 g.0 _ refl refl tt (drops m k) b.0 b.1 g.2 (told_answer r _ g.3.1 a))
 call_at laws w (call.OrInsert k n) s s' r m b g a =
-    finished m _ s' r _ g.2 (call_finishes laws w k kind.ComputeInsert None (Some (closure.Put n)) m _ (op.ComputeInsert k) (asked.ComputeInsert k) s s' g.0 refl refl tt (puts m k n) b.0 b.1 g.1 (told_answer r _ g.2 a))
+    finished w (op.ComputeInsert k) (Some (closure.Put n)) m (point.ComputeInsert k (or_wrapped n (get m k))) s g.1 s' g.0 r b g.2 g.3
+    (call_finishes laws w k kind.ComputeInsert None (Some (closure.Put n)) m (point.ComputeInsert k (or_wrapped n (get m k))) (op.ComputeInsert k) (asked.ComputeInsert k) s g.1 g.0 _ refl refl tt (puts m k n) b.0 b.1 g.2 (told_answer r _ g.3.1 a))
 call_at laws w (call.Exchange k old new) s s' r m b g a =
-    finished m _ s' r _ g.2 (call_finishes laws w k (kind.Exchange old) (Some new) None m _ (op.Exchange k old (Some new)) (asked.Exchange k old (Some new)) s s' g.0 refl refl tt (exchanges m k old (Some new)) b.0 b.1 g.1 (told_answer r _ g.2 a))
+    finished w (op.Exchange k old (Some new)) None m (point.Exchange k old (Some new)) s g.1 s' g.0 r b g.2 g.3
+    (call_finishes laws w k (kind.Exchange old) (Some new) None m (point.Exchange k old (Some new)) (op.Exchange k old (Some new)) (asked.Exchange k old (Some new)) s g.1 g.0 _ refl refl tt (exchanges m k old (Some new)) b.0 b.1 g.2 (told_answer r _ g.3.1 a))
 call_at laws w (call.ExchangeDrop k old) s s' r m b g a =
-    finished m _ s' r _ g.2 (call_finishes laws w k (kind.Exchange old) None None m _ (op.Exchange k old None) (asked.Exchange k old None) s s' g.0 refl refl tt (exchanges m k old None) b.0 b.1 g.1 (told_answer r _ g.2 a))
-call_at laws w call.Pin s s' r m b g a = (calls_at laws w op.Pin _ None s s' g.0 m refl b g.1, tt)
-call_at laws w call.Unpin s s' r m b g a = (calls_at laws w op.Unpin _ None s s' g.0 m refl b g.1, tt)
-call_at laws w call.Repin s s' r m b g a = (calls_at laws w op.Repin _ None s s' g.0 m refl b g.1, tt)
-call_at laws w call.Flush s s' r m b g a = (calls_at laws w op.Flush _ None s s' g.0 m refl b g.1, tt)
-call_at laws w call.Release s s' r m b g a = (calls_at laws w op.Release _ None s s' g.0 m refl b g.1, tt)
-call_at laws w (call.Range x y n) s s' r m b g a = absurd g
+    finished w (op.Exchange k old None) None m (point.Exchange k old None) s g.1 s' g.0 r b g.2 g.3
+    (call_finishes laws w k (kind.Exchange old) None None m (point.Exchange k old None) (op.Exchange k old None) (asked.Exchange k old None) s g.1 g.0 _ refl refl tt (exchanges m k old None) b.0 b.1 g.2 (told_answer r _ g.3.1 a))
+call_at laws w call.Pin s s' r m b g a = (replied_at w g.1 s' g.0 m (calls_at laws w op.Pin _ None s g.1 g.0 m refl b g.2) g.3.0, tt)
+call_at laws w call.Unpin s s' r m b g a = (replied_at w g.1 s' g.0 m (calls_at laws w op.Unpin _ None s g.1 g.0 m refl b g.2) g.3.0, tt)
+call_at laws w call.Repin s s' r m b g a = (replied_at w g.1 s' g.0 m (calls_at laws w op.Repin _ None s g.1 g.0 m refl b g.2) g.3.0, tt)
+call_at laws w call.Flush s s' r m b g a = (replied_at w g.1 s' g.0 m (calls_at laws w op.Flush _ None s g.1 g.0 m refl b g.2) g.3.0, tt)
+call_at laws w call.Release s s' r m b g a = (replied_at w g.1 s' g.0 m (calls_at laws w op.Release _ None s g.1 g.0 m refl b g.2) g.3.0, tt)
+call_at laws w (call.Range start end size) s s' r m b g a =
+    let x = scan_finishes laws w start end size m None s g.1 g.0 _ b.0 b.2 g.2 (told_answer r _ g.3.1 a) in
+    let callers = called_callers w (op.Range start end size) None s g.1 g.0 b.1 g.2 in
+    (replied_at w g.1 s' g.0 m (x.rests, callers, called_scans w (op.Range start end size) None s g.1 g.0 b.2 g.2) g.3.0, g.3.1 ∙ x.reply)
 call_at laws w call.Keys s s' r m b g a = absurd g
 call_at laws w call.Empty s s' r m b g a = absurd g
 call_at laws w call.Stats s s' r m b g a = absurd g
@@ -201,7 +256,7 @@ AtMap (Some s) m = At s m
 
 -- a line leaves the map's pairs, and is replied to as the map says
 abbrev pub Keeps : Pairs ℕ → Command → Session → Reply → Type 0
-Keeps m c new r = AtMap new (map_after m c) × Agrees (is_point c) (answer_to m c) r
+Keeps m c new r = AtMap new (map_after m c) × Agrees (is_on_keys c) (answer_to m c) r
 
 no_refusal : (why : Refused) (r : Reply) → r ≡ reply.Refused why → IsAnswer r → ⊥
 no_refusal why r e a = subst IsAnswer e a
@@ -222,7 +277,11 @@ asks_at laws command.Close s s' r m b g w a = absurd g
 opened_at : (limits : Limits) (budget : ℕ) (result : Result (Whole ℕ) Refusal) (new : Session) (r : Reply) → Opens limits 0 budget result → Opened result new r → IsAnswer r → AtMap new empty
 opened_at limits budget (Ok world) new r o g a =
     let P : Session → Type 0 = λ x. AtMap x empty in
-    subst P (sym g.0) (record { holds = o.2; flights = no_flights; stands = inl (o.1, refl, refl); over = λ i. refl }, length-replicate {A = Caller} 256 (fresh None))
+    let Q : Whole ℕ → Type 0 = λ x. Rests x empty in
+    let rests : Rests world empty = record { holds = o.2; flights = no_flights; stands = inl (o.1, refl, refl); over = λ i. refl } in
+    let callers : length g.0.callers ≡ 256 = ap length g.1.callers ∙ length-replicate {A = Caller} 256 (fresh None) in
+    let scans : length g.0.scans.items ≡ 256 = ap length g.1.scans ∙ length-replicate {A = List (ℕ × ℕ)} 256 [] in
+    subst P (sym g.2) (subst Q (sym g.1.world) rests, callers, scans)
 opened_at limits budget (Err e) new r o g a = absurd (no_refusal _ r g.1 a)
 
 opens_at : (limits : Option Limits) (budget : ℕ) (new : Session) (r : Reply) → OpensWith limits budget new r → IsAnswer r → AtMap new empty
@@ -273,13 +332,13 @@ Chain old (c ∷ cs) [] = ⊥
 Chain old (c ∷ cs) (r ∷ rs) = (mid : Session) × Answers old c mid r × Chain mid cs rs
 
 chain_of_map : MapLaws → (n : ℕ) (cs : List Command) (rs : List Reply) (old : Session) (m : Pairs ℕ) → AtMap old m → Chain old cs rs → AllByRecursion IsWhole (take n cs)
-    → AllByRecursion IsAnswer (take n rs) → point_replies (take n cs) (take n rs) ≡ map_replies m (take n cs)
+    → AllByRecursion IsAnswer (take n rs) → key_replies (take n cs) (take n rs) ≡ map_replies m (take n cs)
 chain_of_map laws zero cs rs old m b ch w a = refl
 chain_of_map laws (suc n) [] rs old m b ch w a = refl
 chain_of_map laws (suc n) (c ∷ cs) [] old m b ch w a = absurd ch
 chain_of_map laws (suc n) (c ∷ cs) (r ∷ rs) old m b ch w a =
     let step = answers_at laws old c ch.0 r m b ch.1 w.0 a.0 in
-    agreed (is_point c) (answer_to m c) r _ step.1 ∙ ap (with_reply (answer_to m c)) (chain_of_map laws n cs rs ch.0 (map_after m c) step.0 ch.2 w.1 a.1)
+    agreed (is_on_keys c) (answer_to m c) r _ step.1 ∙ ap (with_reply (answer_to m c)) (chain_of_map laws n cs rs ch.0 (map_after m c) step.0 ch.2 w.1 a.1)
 
 -- the commands of lines that were answered, with their replies
 record Answered (old : Session) (lines : List (List ℕ)) (text : List ℕ) : Type 0 where

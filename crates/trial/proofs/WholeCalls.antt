@@ -1,11 +1,10 @@
 -- A call on one key that is taken whole, with no other call in flight: its reply is the map's.
-use Rattle.std.proofs.Common.{◌≡◌, ◌≢◌, ◌⊎◌, ℕ, ◌<◌, ◌≤◌, zero, suc, nat_eq, arith, Bool, true, false, List, length, Option, None, Some, refl, sym, ◌∙◌, ap, subst, inl, inr, if◌then◌else◌}
-use Rattle.std.specs.Prelude.{slice_get, slice_set}
+use Rattle.std.proofs.Common.{◌≡◌, ℕ, ◌<◌, nat_eq, arith, Bool, true, false, List, length, Option, None, Some, refl, sym, ◌∙◌, ap, subst, inr, if◌then◌else◌}
+use Rattle.std.specs.Prelude.{slice_set}
 use Rattle.std.specs.FinMap.{get}
 use Rattle.std.proofs.lemmas.List.{length-set}
 use Rattle.judge.specs.Answer.{Pairs, answer}
 use Rattle.judge.specs.declared.journal.Call.{Call as Point}
-use Rattle.judge.specs.declared.journal.Entry.{Entry}
 use Rattle.judge.specs.declared.journal.Reply.{Reply as Told}
 use Rattle.congee.specs.declared.protocol.machine.Outcome.{Outcome as Moved}
 use Rattle.congee.specs.declared.protocol.machine.Outcome.TheVariants as moved
@@ -23,25 +22,23 @@ use Rattle.joint.specs.declared.steps.Event.TheVariants.{Begin, Go}
 use Rattle.joint.specs.declared.steps.Op.{Op}
 use Rattle.joint.specs.declared.steps.Outcome.{Outcome}
 use Rattle.joint.specs.declared.steps.Outcome.TheVariants as outcome
-use Rattle.joint.specs.declared.steps.Report.{Report}
-use Rattle.joint.specs.declared.steps.Step.{Step}
 use Rattle.joint.specs.declared.steps.Target.TheVariants as target
 use Rattle.joint.specs.Forest.{nodes}
 use Rattle.joint.specs.Intact.{root}
 use Rattle.joint.specs.Refusals.{of_tree}
 use Rattle.joint.specs.Reports.{target, told}
-use Rattle.joint.specs.Runs.{Flights, with_flight, Line, BeginsFlight, BeginsOr, BeginMap, EndsAtOnce, IsPending, TakesEffect, PendingStep, Finishes, FlightStep, Advances, GoMap, AreInFlight}
-use Rattle.joint.specs.Whole.{Whole, Holds, IsStep}
+use Rattle.joint.specs.Runs.{Flights, with_flight, Line, BeginsFlight, BeginsOr, BeginMap, EndsAtOnce, PendingStep, Advances, GoMap, AreInFlight}
+use Rattle.joint.specs.Whole.{Holds}
 use Rattle.trial.specs.declared.caller.Caller.{Caller}
 use Rattle.trial.specs.declared.caller.Closure.{Closure}
 use Rattle.trial.specs.declared.caller.Closure.TheVariants as closure
 use Rattle.trial.specs.declared.index.Index.{Index}
 use Rattle.trial.specs.declared.reply.Reply.{Reply}
 use Rattle.trial.specs.Callers.{answer_of, fresh, noise_of, answered, heard, caller_or, caller_at}
-use Rattle.trial.specs.Calling.{is_running, Steps, Begins, Goes, GoesOn, stays, ends, goes, Calls}
+use Rattle.trial.specs.Calling.{is_running, Begins, Goes, GoesOn, stays, ends, goes, Calls}
 use Rattle.trial.specs.MapReplies.{IsAnswer}
 use Rattle.trial.specs.Replies.{reply_to, reply_of}
-use Rattle.trial.proofs.MapSteps.{MapLaws, Stands, line_of, OnMap, on_map, Rests, Alone, alone_after, alone_of_none, none_alone, within, set_at}
+use Rattle.trial.proofs.MapSteps.{MapLaws, line_of, OnMap, on_map, Rests, Alone, alone_after, alone_of_none, none_alone, within, set_at}
 
 -- a call that asks has a closure, which answers with a value where one is wanted
 abbrev pub Fits : Kind ℕ → Option Closure → Type 0
@@ -124,13 +121,13 @@ answered_closure None o = refl
 answered_closure (Some f) o = refl
 
 -- a call's reply is no answer while the call is in flight
-pub no_answer_yet : (o : Outcome ℕ) → is_running o ≡ true → IsAnswer (reply_of o) → ⊥
-no_answer_yet outcome.Running e a = a
-no_answer_yet (outcome.Asks found) e a = a
-no_answer_yet (outcome.Found place key value) e a = a
-no_answer_yet (outcome.Registered who) e a = cc
-no_answer_yet (outcome.Done d) e a = cc
-no_answer_yet (outcome.Refused r) e a = cc
+pub no_answer_yet : (ps : List (ℕ × ℕ)) (o : Outcome ℕ) → is_running o ≡ true → IsAnswer (reply_of ps o) → ⊥
+no_answer_yet ps outcome.Running e a = a
+no_answer_yet ps (outcome.Asks found) e a = a
+no_answer_yet ps (outcome.Found place key value) e a = a
+no_answer_yet ps (outcome.Registered who) e a = cc
+no_answer_yet ps (outcome.Done d) e a = cc
+no_answer_yet ps (outcome.Refused r) e a = cc
 
 -- what the map makes of a call
 abbrev pub Gives : Pairs ℕ → Point ℕ → Told ℕ → Pairs ℕ → Type 0
@@ -254,22 +251,22 @@ pub record Finished (m : Pairs ℕ) (p : Point ℕ) (s : Index) (r : Reply) : Ty
   pub reply : r ≡ reply_to (answer nat_eq m p).0
   pub callers : length s.callers ≡ 256
 
-course_over : (w k : ℕ) (kind : Kind ℕ) (given : Option ℕ) (closure : Option Closure) (m : Pairs ℕ) (p : Point ℕ) (s : Index) (stands : Outcome ℕ) → Course w k kind given closure m p s stands
-    → IsAnswer (reply_of stands) → Finished m p s (reply_of stands)
-course_over w k kind given closure m p s stands (Before fs v q h st fl al cl t is len) a = absurd (no_answer_yet stands is a)
-course_over w k kind given closure m p s stands (After fs m' r h st fl al gives is len) a = absurd (no_answer_yet stands is a)
-course_over w k kind given closure m p s stands (Ended r m' b gives e len) a =
+course_over : (w k : ℕ) (kind : Kind ℕ) (given : Option ℕ) (closure : Option Closure) (m : Pairs ℕ) (p : Point ℕ) (s : Index) (stands : Outcome ℕ) (ps : List (ℕ × ℕ))
+    → Course w k kind given closure m p s stands → IsAnswer (reply_of ps stands) → Finished m p s (reply_of ps stands)
+course_over w k kind given closure m p s stands ps (Before fs v q h st fl al cl t is len) a = absurd (no_answer_yet ps stands is a)
+course_over w k kind given closure m p s stands ps (After fs m' r h st fl al gives is len) a = absurd (no_answer_yet ps stands is a)
+course_over w k kind given closure m p s stands ps (Ended r m' b gives e len) a =
     let P : Told ℕ × Pairs ℕ → Type 0 = λ x. Rests s.world x.1 in
-    record { rests = subst P (sym gives) b; reply = ap reply_of e ∙ ap (λ (x : Told ℕ × Pairs ℕ). reply_to x.0) (sym gives); callers = len }
-course_over w k kind given closure m p s stands (Failed e is) a = absurd (let P : Outcome ℕ → Type 0 = λ o. IsAnswer (reply_of o) in subst P is a)
+    record { rests = subst P (sym gives) b; reply = ap (reply_of ps) e ∙ ap (λ (x : Told ℕ × Pairs ℕ). reply_to x.0) (sym gives); callers = len }
+course_over w k kind given closure m p s stands ps (Failed e is) a = absurd (let P : Outcome ℕ → Type 0 = λ o. IsAnswer (reply_of ps o) in subst P is a)
 
-course_ends : MapLaws → (w k : ℕ) (kind : Kind ℕ) (given : Option ℕ) (closure : Option Closure) (m : Pairs ℕ) (p : Point ℕ) (left : ℕ) (s : Index) (stands last : Outcome ℕ) (s' : Index)
-    → Fits kind closure → Decides k kind given closure m p → GoesOn w left s stands last s' → Course w k kind given closure m p s stands → IsAnswer (reply_of last)
-    → Finished m p s' (reply_of last)
-course_ends laws w k kind given closure m p left s stands last s' fits d (stays s1 told1) c a = course_over w k kind given closure m p s stands c a
-course_ends laws w k kind given closure m p left s stands last s' fits d (ends n s1 told1 e) c a = course_over w k kind given closure m p s stands c a
-course_ends laws w k kind given closure m p left s stands last s' fits d (goes n s1 mid s2 st next told1 run step more) c a =
-    course_ends laws w k kind given closure m p n mid next last s' fits d more (course_goes laws w k kind given closure m p s mid stands next fits d run c step) a
+course_ends : MapLaws → (w k : ℕ) (kind : Kind ℕ) (given : Option ℕ) (closure : Option Closure) (m : Pairs ℕ) (p : Point ℕ) (left : ℕ) (s : Index) (stands last : Outcome ℕ) (s' : Index) (ps : List (ℕ × ℕ))
+    → Fits kind closure → Decides k kind given closure m p → GoesOn w left s stands last s' → Course w k kind given closure m p s stands → IsAnswer (reply_of ps last)
+    → Finished m p s' (reply_of ps last)
+course_ends laws w k kind given closure m p left s stands last s' ps fits d (stays s1 told1) c a = course_over w k kind given closure m p s stands ps c a
+course_ends laws w k kind given closure m p left s stands last s' ps fits d (ends n s1 told1 e) c a = course_over w k kind given closure m p s stands ps c a
+course_ends laws w k kind given closure m p left s stands last s' ps fits d (goes n s1 mid s2 st next told1 run step more) c a =
+    course_ends laws w k kind given closure m p n mid next last s' ps fits d more (course_goes laws w k kind given closure m p s mid stands next fits d run c step) a
 
 -- only a scan ends as it begins
 never_at_once : (asked : Asked ℕ) (k : ℕ) (kind : Kind ℕ) (given : Option ℕ) (fs : Flights ℕ) (m : Pairs ℕ) (d : Ending ℕ) (l : Line ℕ) (fs' : Flights ℕ) → flight (begun root asked) ≡ Pending k kind given Unasked → EndsAtOnce fs m asked d l fs' → ⊥
@@ -318,8 +315,8 @@ course_begins laws w k kind given closure m p op asked s s' first on_tree new b 
   begun_so (outcome.Done d) is y = absurd (never_at_once asked k kind given b.flights m d l o.flights new y)
 
 -- a whole call
-pub call_finishes : MapLaws → (w k : ℕ) (kind : Kind ℕ) (given : Option ℕ) (closure : Option Closure) (m : Pairs ℕ) (p : Point ℕ) (op : Op ℕ) (asked : Asked ℕ) (s s' : Index) (last : Outcome ℕ)
+pub call_finishes : MapLaws → (w k : ℕ) (kind : Kind ℕ) (given : Option ℕ) (closure : Option Closure) (m : Pairs ℕ) (p : Point ℕ) (op : Op ℕ) (asked : Asked ℕ) (s s' : Index) (last : Outcome ℕ) (ps : List (ℕ × ℕ))
     → target op ≡ target.Tree asked → flight (begun root asked) ≡ Pending k kind given Unasked → Fits kind closure → Decides k kind given closure m p → Rests s.world m → length s.callers ≡ 256
-    → Calls s w op closure last s' → IsAnswer (reply_of last) → Finished m p s' (reply_of last)
-call_finishes laws w k kind given closure m p op asked s s' last on_tree new fits d b len g a =
-    course_ends laws w k kind given closure m p 9999 g.0 g.1 last s' fits d g.3 (course_begins laws w k kind given closure m p op asked s g.0 g.1 on_tree new b len g.2) a
+    → Calls s w op closure last s' → IsAnswer (reply_of ps last) → Finished m p s' (reply_of ps last)
+call_finishes laws w k kind given closure m p op asked s s' last ps on_tree new fits d b len g a =
+    course_ends laws w k kind given closure m p 9999 g.0 g.1 last s' ps fits d g.3 (course_begins laws w k kind given closure m p op asked s g.0 g.1 on_tree new b len g.2) a

@@ -1,15 +1,22 @@
 -- The steps that a line takes of a worker's call.
-use Rattle.std.specs.Prelude.{◌≡◌, ℕ, ◌-◌, suc, Bool, true, false, nat_eq, Option, slice_set, if◌then◌else◌}
+use Rattle.std.specs.Prelude.{◌≡◌, ℕ, ◌-◌, suc, Bool, true, false, nat_eq, [], Option, None, replicate, slice_set, if◌then◌else◌}
 use Rattle.joint.specs.declared.steps.Event.{Event}
 use Rattle.joint.specs.declared.steps.Event.TheVariants.{Register, Begin, Go}
 use Rattle.joint.specs.declared.steps.Op.{Op}
 use Rattle.joint.specs.declared.steps.Outcome.{Outcome}
 use Rattle.joint.specs.declared.steps.Outcome.TheVariants as outcome
 use Rattle.joint.specs.declared.steps.Report.{Report}
-use Rattle.joint.specs.Whole.{IsStep}
+use Rattle.joint.specs.Whole.{Whole, IsStep}
 use Rattle.trial.specs.declared.caller.Closure.{Closure}
 use Rattle.trial.specs.declared.index.Index.{Index}
 use Rattle.trial.specs.Callers.{fresh, noise_of, heard, caller_at}
+use Rattle.trial.specs.Places.{filled}
+
+-- a tree none of whose workers has a call
+pub record IsUncalled (w : Whole ℕ) (index : Index) : Type 0 where
+  pub world : index.world ≡ w
+  pub callers : index.callers ≡ replicate 256 (fresh None)
+  pub scans : index.scans.items ≡ replicate 256 []
 
 -- whether a call that stands so is in flight
 abbrev pub is_running : Outcome ℕ → Bool
@@ -24,17 +31,19 @@ Steps old who event told new = (report : Report ℕ) × IsStep nat_eq true old.w
 
 -- a worker takes a place
 abbrev pub Registers : Index → Outcome ℕ → Index → Type 0
-Registers old told new = Steps old 0 Register told new × (new.callers ≡ old.callers)
+Registers old told new = Steps old 0 Register told new × (new.callers ≡ old.callers) × (new.scans ≡ old.scans)
 
--- a call's first step; from it on, where it is in flight, its closure is the line's
+-- a call's first step; from it on, where it is in flight, its closure is the line's, and a scan has filled no place
 abbrev pub Begins : Index → ℕ → Op ℕ → Option Closure → Outcome ℕ → Index → Type 0
 Begins old who op closure told new = Steps old who (Begin op) told new
     × (new.callers ≡ (if is_running told then slice_set old.callers who (fresh closure) else old.callers))
+    × (new.scans.items ≡ (if is_running told then slice_set old.scans.items who [] else old.scans.items))
 
--- a further step; where it asks, its closure has answered when the next one comes
+-- a further step; where it asks, its closure has answered when the next one comes, and where it tells a pair, that stands
+-- in its place
 abbrev pub Goes : Index → ℕ → Bool → Outcome ℕ → Index → Type 0
 Goes old who fail told new = Steps old who (Go (noise_of (caller_at old.callers who) fail)) told new
-    × (new.callers ≡ slice_set old.callers who (heard (caller_at old.callers who) told))
+    × (new.callers ≡ slice_set old.callers who (heard (caller_at old.callers who) told)) × (new.scans.items ≡ filled old.scans.items who told)
 
 -- further steps of a call that stands so, none of which fails: so many are left, and fewer are taken where the call ends
 pub data GoesOn (who : ℕ) : ℕ → Index → Outcome ℕ → Outcome ℕ → Index → Type 0 where

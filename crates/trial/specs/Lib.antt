@@ -1,6 +1,7 @@
 pub mod Words
 pub mod Grammar
 pub mod Parsing
+pub mod Places
 pub mod Line
 pub mod Texts
 pub mod Callers

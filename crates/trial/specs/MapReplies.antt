@@ -1,12 +1,13 @@
 -- What a script is replied to by a finite map alone.
 use Rattle.std.specs.Prelude.{◌≡◌, ℕ, ◌+◌, ◌%◌, ◌^◌, ⊤, Bool, is_some, nat_eq, List, [], ◌∷◌, ◌++◌, length, take, Option, None, Some, if◌then◌else◌}
-use Rattle.std.specs.FinMap.{get, empty}
+use Rattle.std.specs.FinMap.{get, empty, entries}
 use Rattle.std.specs.List.{AllByRecursion, flat_map}
 use Rattle.std.specs.Option.{option_map}
 use Rattle.judge.specs.Answer.{Pairs, answer}
 use Rattle.judge.specs.declared.journal.Call.{Call as Point}
 use Rattle.judge.specs.declared.journal.Call.TheVariants as point
 use Rattle.judge.specs.declared.journal.Reply.{Reply as Told}
+use Rattle.congee.specs.owned.Ranges.{in_range}
 use Rattle.trial.specs.declared.command.Call.{Call}
 use Rattle.trial.specs.declared.command.Call.TheVariants as call
 use Rattle.trial.specs.declared.command.Command.{Command}
@@ -40,12 +41,21 @@ point_of m (call.Exchange k old new) = Some (point.Exchange k old (Some new))
 point_of m (call.ExchangeDrop k old) = Some (point.Exchange k old None)
 point_of m _ = None
 
--- what the map m answers to a command that is a call on one key, and the map after it
-abbrev pub answer_to : Pairs ℕ → Command → Option (Told ℕ × Pairs ℕ)
-answer_to m (command.Call w c) = option_map (answer nat_eq m) (point_of m c)
+-- a map's answer, as a reply
+abbrev pub as_reply : Told ℕ × Pairs ℕ → Reply × Pairs ℕ
+as_reply told = (reply_to told.0, told.1)
+
+-- the reply of the map m to a call on one key or on a range of keys, and the map after it
+abbrev pub call_reply : Pairs ℕ → Call → Option (Reply × Pairs ℕ)
+call_reply m (call.Range start end size) = Some (reply.Range (take size (in_range start end (entries m))), m)
+call_reply m c = option_map (λ p. as_reply (answer nat_eq m p)) (point_of m c)
+
+-- the same of a command, where it is such a call
+abbrev pub answer_to : Pairs ℕ → Command → Option (Reply × Pairs ℕ)
+answer_to m (command.Call w c) = call_reply m c
 answer_to m _ = None
 
-abbrev pub map_or : Pairs ℕ → Option (Told ℕ × Pairs ℕ) → Pairs ℕ
+abbrev pub map_or : Pairs ℕ → Option (Reply × Pairs ℕ) → Pairs ℕ
 map_or m None = m
 map_or m (Some told) = told.1
 
@@ -54,24 +64,24 @@ abbrev pub map_after : Pairs ℕ → Command → Pairs ℕ
 map_after m (command.New o) = empty
 map_after m c = map_or m (answer_to m c)
 
-abbrev pub with_reply : Option (Told ℕ × Pairs ℕ) → List Reply → List Reply
+abbrev pub with_reply : Option (Reply × Pairs ℕ) → List Reply → List Reply
 with_reply None rs = rs
-with_reply (Some told) rs = reply_to told.0 ∷ rs
+with_reply (Some told) rs = told.0 ∷ rs
 
--- the replies to the calls on one key among the commands, from the map m on
+-- the replies to the calls on keys among the commands, from the map m on
 abbrev pub map_replies : Pairs ℕ → List Command → List Reply
 map_replies m [] = []
 map_replies m (c ∷ cs) = with_reply (answer_to m c) (map_replies (map_after m c) cs)
 
--- whether a command is a whole call on one key
-abbrev pub is_point : Command → Bool
-is_point c = is_some (answer_to empty c)
+-- whether a command is a whole call on one key or on a range of keys
+abbrev pub is_on_keys : Command → Bool
+is_on_keys c = is_some (answer_to empty c)
 
--- of replies to commands, one each, those to calls on one key
-abbrev pub point_replies : List Command → List Reply → List Reply
-point_replies [] rs = []
-point_replies (c ∷ cs) [] = []
-point_replies (c ∷ cs) (r ∷ rs) = if is_point c then r ∷ point_replies cs rs else point_replies cs rs
+-- of replies to commands, one each, those to calls on keys
+abbrev pub key_replies : List Command → List Reply → List Reply
+key_replies [] rs = []
+key_replies (c ∷ cs) [] = []
+key_replies (c ∷ cs) (r ∷ rs) = if is_on_keys c then r ∷ key_replies cs rs else key_replies cs rs
 
 -- the command is none of `begin`, `go` and `fail`
 abbrev pub IsWhole : Command → Type 0
@@ -86,10 +96,10 @@ IsAnswer reply.Running = ⊥
 IsAnswer (reply.Refused why) = ⊥
 IsAnswer _ = ⊤
 
--- where no command is `begin`, `go` or `fail` and no reply is `running` or a refusal, the replies to the calls on one key
--- are those of a map that is empty at first
+-- where no command is `begin`, `go` or `fail` and no reply is `running` or a refusal, the replies to the calls on keys are
+-- those of a map that is empty at first
 abbrev pub AreOfMap : List Command → List Reply → Type 0
-AreOfMap cs rs = AllByRecursion IsWhole cs → AllByRecursion IsAnswer rs → point_replies cs rs ≡ map_replies empty cs
+AreOfMap cs rs = AllByRecursion IsWhole cs → AllByRecursion IsAnswer rs → key_replies cs rs ≡ map_replies empty cs
 
 -- the commands of a line: one, or none in an empty line or a comment
 abbrev pub commands_of : Line → List Command
@@ -103,7 +113,7 @@ AreCommands [] cs = cs ≡ []
 AreCommands (bytes ∷ more) cs = (l : Line) × (rest : List Command) × IsLine bytes l × AreCommands more rest × (cs ≡ commands_of l ++ rest)
 
 -- Lines print a reply to each of their commands. As far as no command is `begin`, `go` or `fail` and no reply is `running`
--- or a refusal, the replies to calls on one key are the map's.
+-- or a refusal, the replies to calls on keys are the map's.
 pub record MapAnswers (lines : List (List ℕ)) (text : List ℕ) : Type 0 where
   pub commands : List Command
   pub are_commands : AreCommands lines commands

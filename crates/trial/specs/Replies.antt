@@ -1,5 +1,5 @@
 -- The replies to what the tree tells.
-use Rattle.std.specs.Prelude.{ℕ, Option, None, Some, if◌then◌else◌}
+use Rattle.std.specs.Prelude.{ℕ, List, take, Option, None, Some, if◌then◌else◌}
 use Rattle.judge.specs.declared.journal.Reply.{Reply as Told}
 use Rattle.judge.specs.declared.journal.Reply.TheVariants as told
 use Rattle.joint.specs.declared.steps.Done.{Done}
@@ -25,21 +25,21 @@ reply_to (told.ComputePresent pair) = pair_of pair
 reply_to (told.ComputeInsert found) = reply.Value found
 reply_to (told.Exchange exchanged) = reply.Exchanged exchanged
 
--- no line begins a scan
-abbrev pub ending : Done ℕ → Reply
-ending done.Unit = reply.Ok
-ending (done.Reply told) = reply_to told
-ending (done.Scanned count) = reply.Refused refused.Later
+-- to a call that has ended, with the pairs that it told, place by place, where it is a scan
+abbrev pub ending : List (ℕ × ℕ) → Done ℕ → Reply
+ending places done.Unit = reply.Ok
+ending places (done.Reply told) = reply_to told
+ending places (done.Scanned count) = reply.Range (take count places)
 
 -- the reply to a call that stands so
-abbrev pub reply_of : Outcome ℕ → Reply
-reply_of outcome.Running = reply.Running
-reply_of (outcome.Asks found) = reply.Running
-reply_of (outcome.Found place key value) = reply.Running
-reply_of (outcome.Registered who) = reply.Worker who
-reply_of (outcome.Done d) = ending d
-reply_of (outcome.Refused r) = reply.Refused (refused.Tree r)
+abbrev pub reply_of : List (ℕ × ℕ) → Outcome ℕ → Reply
+reply_of places outcome.Running = reply.Running
+reply_of places (outcome.Asks found) = reply.Running
+reply_of places (outcome.Found place key value) = reply.Running
+reply_of places (outcome.Registered who) = reply.Worker who
+reply_of places (outcome.Done d) = ending places d
+reply_of places (outcome.Refused r) = reply.Refused (refused.Tree r)
 
 -- the reply to a call that is only begun
-abbrev pub begun_of : Outcome ℕ → Reply
-begun_of o = if is_running o then reply.Begun else reply_of o
+abbrev pub begun_of : List (ℕ × ℕ) → Outcome ℕ → Reply
+begun_of places o = if is_running o then reply.Begun else reply_of places o

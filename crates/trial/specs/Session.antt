@@ -1,5 +1,5 @@
 -- What a command does to the tree of a session, and how it is replied to.
-use Rattle.std.specs.Prelude.{◌≡◌, ℕ, zero, suc, Bool, true, false, ◌&&◌, is_none, is_some, nat_eq, nat_lt, if◌then◌else◌, MatchOption, Option, None, Some, Result, Ok, Err, MatchBool, ◌^◌, ◌-◌, replicate, length}
+use Rattle.std.specs.Prelude.{◌≡◌, ℕ, zero, suc, Bool, true, false, ◌&&◌, is_none, is_some, nat_eq, nat_lt, if◌then◌else◌, [], MatchOption, Option, None, Some, Result, Ok, Err, MatchBool, ◌^◌, ◌-◌, length}
 use Rattle.std.specs.List.{sum_by}
 use Rattle.joint.specs.declared.limits.Limits.{Limits}
 use Rattle.joint.specs.declared.refusal.Refusal.{Refusal}
@@ -25,8 +25,8 @@ use Rattle.trial.specs.declared.reply.Refused.{Refused}
 use Rattle.trial.specs.declared.reply.Refused.TheVariants as refused
 use Rattle.trial.specs.declared.reply.Reply.{Reply}
 use Rattle.trial.specs.declared.reply.Reply.TheVariants as reply
-use Rattle.trial.specs.Callers.{fresh}
-use Rattle.trial.specs.Calling.{Registers, Begins, Goes, GoesOn, Calls}
+use Rattle.trial.specs.Calling.{IsUncalled, Registers, Begins, Goes, GoesOn, Calls}
+use Rattle.trial.specs.Places.{places_at, given, left}
 use Rattle.trial.specs.Replies.{reply_of, begun_of}
 
 -- the tree that is open, if there is one
@@ -48,6 +48,7 @@ op_of (call.PresentDrop k) = Some (op.ComputePresent k)
 op_of (call.OrInsert k n) = Some (op.ComputeInsert k)
 op_of (call.Exchange k old new) = Some (op.Exchange k old (Some new))
 op_of (call.ExchangeDrop k old) = Some (op.Exchange k old None)
+op_of (call.Range start end size) = Some (op.Range start end size)
 op_of _ = None
 
 -- what it answers where it asks
@@ -96,26 +97,48 @@ Rounds zero old who new r = (new ≡ old) × (r ≡ reply.Ok)
 Rounds (suc k) old who new r = (mid : Index) × (first : Option Refusal) × Round old who mid first
     × MatchOption first (Rounds k mid who new r) (λ e. (new ≡ mid) × (r ≡ reply.Refused (refused.Tree e)))
 
+-- a call that stands so gave its places away, and nothing else changed
+pub record GaveAway (old : Index) (who : ℕ) (stands : Outcome ℕ) (new : Index) : Type 0 where
+  pub scans : new.scans.items ≡ left stands who old.scans.items
+  pub world : new.world ≡ old.world
+  pub callers : new.callers ≡ old.callers
+
+-- the reply to a worker's call that stands so
+abbrev pub Replies : Index → ℕ → Outcome ℕ → Index → Reply → Type 0
+Replies old who stands new r = GaveAway old who stands new × (r ≡ reply_of (given stands (places_at old.scans.items who)) stands)
+
+-- and to one that is only begun
+abbrev pub RepliesBegun : Index → ℕ → Outcome ℕ → Index → Reply → Type 0
+RepliesBegun old who stands new r = GaveAway old who stands new × (r ≡ begun_of (given stands (places_at old.scans.items who)) stands)
+
 -- a call of a worker, replied to by how it stands
 abbrev pub CallReplies : Option (Op ℕ) → Option Closure → Index → ℕ → Index → Reply → Type 0
 CallReplies None f old who new r = ⊥
-CallReplies (Some o) f old who new r = (told : Outcome ℕ) × Calls old who o f told new × (r ≡ reply_of told)
+CallReplies (Some o) f old who new r = (stands : Outcome ℕ) × (mid : Index) × Calls old who o f stands mid × Replies mid who stands new r
 
 -- its first step alone
 abbrev pub BeginReplies : Option (Op ℕ) → Option Closure → Index → ℕ → Index → Reply → Type 0
 BeginReplies None f old who new r = ⊥
-BeginReplies (Some o) f old who new r = (told : Outcome ℕ) × Begins old who o f told new × (r ≡ begun_of told)
+BeginReplies (Some o) f old who new r = (stands : Outcome ℕ) × (mid : Index) × Begins old who o f stands mid × RepliesBegun mid who stands new r
+
+-- so many further steps of the worker's call in flight
+abbrev pub GoReplies : ℕ → Index → ℕ → Index → Reply → Type 0
+GoReplies most old who new r = (stands : Outcome ℕ) × (mid : Index) × GoesOn who most old outcome.Running stands mid × Replies mid who stands new r
+
+-- one whose upgrade fails
+abbrev pub FailReplies : Index → ℕ → Index → Reply → Type 0
+FailReplies old who new r = (stands : Outcome ℕ) × (mid : Index) × Goes old who true stands mid × Replies mid who stands new r
 
 -- what a built command does to an open tree, and its reply
 abbrev pub Asks : Index → Command → Index → Reply → Type 0
-Asks old command.Register new r = (told : Outcome ℕ) × Registers old told new × (r ≡ reply_of told)
+Asks old command.Register new r = (told : Outcome ℕ) × Registers old told new × (r ≡ reply_of [] told)
 Asks old command.Charged new r = (new ≡ old) × (r ≡ reply.Charged old.world.forest.charge)
 Asks old command.Waiting new r = (new ≡ old)
     × (r ≡ reply.Waiting (length (waiting_nodes old.world)) (sum_by (bytes_of old.world.forest) (waiting_nodes old.world)))
 Asks old (command.Call w c) new r = CallReplies (op_of c) (closure_of c) old w new r
 Asks old (command.Begin w c) new r = BeginReplies (op_of c) (closure_of c) old w new r
-Asks old (command.Go w n) new r = (told : Outcome ℕ) × GoesOn w n old outcome.Running told new × (r ≡ reply_of told)
-Asks old (command.Fail w) new r = (told : Outcome ℕ) × Goes old w true told new × (r ≡ reply_of told)
+Asks old (command.Go w n) new r = GoReplies n old w new r
+Asks old (command.Fail w) new r = FailReplies old w new r
 Asks old (command.Round w n) new r = Rounds n old w new r
 Asks old _ new r = ⊥
 
@@ -144,9 +167,9 @@ abbrev pub Opens : Limits → ℕ → ℕ → Result (Whole ℕ) Refusal → Typ
 Opens limits charge limit (Ok world) = IsOpened limits charge limit world.forest × IsFresh world × Holds nat_eq true world
 Opens limits charge limit (Err e) = IsUnopened limits charge limit e
 
--- a tree is opened, none of whose workers has a call, or refused
+-- a tree is opened so, or refused
 abbrev pub Opened : Result (Whole ℕ) Refusal → Session → Reply → Type 0
-Opened (Ok world) new r = (new ≡ Some (record { world = world; callers = replicate 256 (fresh None) })) × (r ≡ reply.Ok)
+Opened (Ok world) new r = (index : Index) × IsUncalled world index × (new ≡ Some index) × (r ≡ reply.Ok)
 Opened (Err e) new r = (new ≡ None) × (r ≡ reply.Refused (refused.Tree e))
 
 -- the limits that an opening names, and what the tree says to them

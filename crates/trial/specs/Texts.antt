@@ -1,5 +1,6 @@
 -- The texts that replies are printed as.
-use Rattle.std.specs.Prelude.{ℕ, List, [], ◌∷◌, ◌++◌, None, Some, Ok, Err, decimal, codes}
+use Rattle.std.specs.Prelude.{ℕ, List, [], ◌∷◌, ◌++◌, length, None, Some, Ok, Err, decimal, codes}
+use Rattle.std.specs.List.{flat_map}
 use Rattle.joint.specs.declared.refusal.Refusal.{Refusal}
 use Rattle.joint.specs.declared.refusal.Refusal.TheVariants as refusal
 use Rattle.trial.specs.declared.reply.Refused.{Refused}
@@ -36,6 +37,13 @@ refused_text refused.Open = codes "Open"
 refused_text refused.Later = codes "Later"
 refused_text (refused.Tree r) = refusal_text r
 
+-- a pair that a scan found, and all of them
+abbrev pub pair_text : ℕ × ℕ → List ℕ
+pair_text pair = codes " " ++ decimal pair.0 ++ codes ":" ++ decimal pair.1
+
+abbrev pub pairs_text : List (ℕ × ℕ) → List ℕ
+pairs_text pairs = flat_map pair_text pairs
+
 -- a reply without its line feed
 abbrev pub reply_text : Reply → List ℕ
 reply_text reply.Ok = codes "ok"
@@ -48,6 +56,7 @@ reply_text (reply.Exchanged (Ok None)) = codes "ok none"
 reply_text (reply.Exchanged (Ok (Some v))) = codes "ok some" ++ spaced v
 reply_text (reply.Exchanged (Err None)) = codes "err none"
 reply_text (reply.Exchanged (Err (Some v))) = codes "err some" ++ spaced v
+reply_text (reply.Range pairs) = codes "range" ++ spaced (length pairs) ++ pairs_text pairs
 reply_text reply.Begun = codes "begun"
 reply_text reply.Running = codes "running"
 reply_text (reply.Charged bytes) = codes "charged" ++ spaced bytes

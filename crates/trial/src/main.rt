@@ -9,6 +9,7 @@ mod index;
 mod keyword;
 mod line;
 mod parser;
+mod places;
 mod reply;
 mod run;
 mod script;

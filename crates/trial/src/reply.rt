@@ -3,6 +3,7 @@ ghost use Rattle.std.specs.Prelude.{◌≡◌, Some};
 ghost use Rattle.trial.specs.Replies.{pair_of, reply_to, ending, reply_of, begun_of};
 ghost use Rattle.trial.specs.Texts.{refused_text, reply_text};
 
+use crate::places::Places;
 use joint::{Done, Outcome, Refusal};
 use std::fmt;
 
@@ -20,7 +21,7 @@ pub enum Refused {
 }
 
 /// The reply to a line.
-#[derive(Clone, Copy)]
+#[derive(Drop)]
 pub enum Reply {
     Ok,
     /// The number of the worker that was registered.
@@ -31,6 +32,8 @@ pub enum Reply {
     Pair(u64, Option<u64>),
     /// What an exchange put at its key, or what it found in place of the old value.
     Exchanged(Result<Option<u64>, Option<u64>>),
+    /// The pairs that a scan found, in ascending order.
+    Range(Places),
     /// The call is begun.
     Begun,
     /// The call is in flight.
@@ -57,37 +60,37 @@ fn point(told: judge::Reply<u64>) -> Reply
     }
 }
 
-/// The reply to a call that has ended.
-fn ending(done: Done<u64>) -> Reply
-    ensures { result ≡ ending done }
+/// The reply to a call that has ended, which filled these places where it is a scan.
+fn ending(places: Places, done: Done<u64>) -> Reply
+    ensures { result ≡ ending places done }
 {
     match done {
         Done::Unit => Reply::Ok,
         Done::Reply(told) => point(told),
-        Done::Scanned(_) => Reply::Refused(Refused::Later),
+        Done::Scanned(count) => Reply::Range(places.first(count)),
     }
 }
 
 impl Reply {
-    /// Of a call that stands so.
-    pub fn of(outcome: Outcome<u64>) -> Reply
-        ensures { result ≡ reply_of outcome }
+    /// Of a call that stands so, which filled these places where it is a scan.
+    pub fn of(places: Places, outcome: Outcome<u64>) -> Reply
+        ensures { result ≡ reply_of places outcome }
     {
         match outcome {
             Outcome::Running => Reply::Running,
             Outcome::Asks(_) => Reply::Running,
             Outcome::Found { .. } => Reply::Running,
             Outcome::Registered(worker) => Reply::Worker(worker),
-            Outcome::Done(done) => ending(done),
+            Outcome::Done(done) => ending(places, done),
             Outcome::Refused(refusal) => Reply::Refused(Refused::Tree(refusal)),
         }
     }
 
     /// Of a call of which the first step alone was taken.
-    pub fn begun(outcome: Outcome<u64>) -> Reply
-        ensures { result ≡ begun_of outcome }
+    pub fn begun(places: Places, outcome: Outcome<u64>) -> Reply
+        ensures { result ≡ begun_of places outcome }
     {
-        match Reply::of(outcome) {
+        match Reply::of(places, outcome) {
             Reply::Running => Reply::Begun,
             reply => reply,
         }
@@ -143,6 +146,7 @@ impl fmt::Display for Reply {
             Reply::Exchanged(Ok(Some(value))) => write!(f, "ok some {value}"),
             Reply::Exchanged(Err(None)) => write!(f, "err none"),
             Reply::Exchanged(Err(Some(value))) => write!(f, "err some {value}"),
+            Reply::Range(places) => write!(f, "range {}{places}", places.len()),
             Reply::Begun => write!(f, "begun"),
             Reply::Running => write!(f, "running"),
             Reply::Charged(bytes) => write!(f, "charged {bytes}"),

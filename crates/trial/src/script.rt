@@ -65,7 +65,7 @@ impl Script {
         match line::read(bytes) {
             Line::Skipped => Ok(()),
             Line::Command(command) => {
-                let reply = session::answer(self.alloc, &mut self.session, command);
+                let reply = session::answer(self.alloc, &mut self.session, command)?;
                 put_reply(self.alloc, &mut self.replies, &reply)
             }
             Line::Bad => Err(self.bad_line()),

@@ -1,14 +1,18 @@
 //! The tree of a script, and what its commands do to it.
-ghost use Rattle.std.specs.Prelude.{◌≡◌, IsSome, true};
-ghost use Rattle.trial.specs.Session.{Answers, AnswersBuilt, CallReplies, BeginReplies, Rounds, Round, AfterPin, Unwinds, OpensWith};
+ghost use Rattle.std.specs.Prelude.{◌≡◌, IsSome, IfOk, IfErr, true};
+ghost use Rattle.trial.specs.Session.{Answers, AnswersBuilt, Replies, CallReplies, BeginReplies, GoReplies, FailReplies, Rounds, Round, AfterPin, Unwinds, OpensWith};
 ghost use Rattle.trial.specs.Session.{is_built, op_of, closure_of, refusal_of, limits_of, budget_of};
+ghost use Rattle.trial.specs.Places.{given, left, places_at};
+ghost use Rattle.trial.specs.declared.end.End.TheVariants as End;
 
-use crate::caller::{Caller, Closure};
+use crate::caller::Closure;
 use crate::command::{Call, Command, Opening};
-use crate::index::{CALLERS, Index};
+use crate::end::End;
+use crate::index::Index;
+use crate::places::Places;
 use crate::reply::{Refused, Reply};
 use congee::Limited;
-use joint::{Limits, Op, Outcome, Refusal, World};
+use joint::{Done, Limits, Op, Outcome, Refusal, World};
 use std::alloc::Global;
 
 /// The call of the tree that a line asks for, or none where it isn't built yet.
@@ -29,7 +33,8 @@ fn op(call: Call) -> Option<Op<u64>>
         Call::OrInsert(key, _) => Some(Op::ComputeInsert(key)),
         Call::Exchange(key, old, new) => Some(Op::Exchange(key, old, Some(new))),
         Call::ExchangeDrop(key, old) => Some(Op::Exchange(key, old, None)),
-        // Range, Keys, Empty and Stats aren't built yet.
+        Call::Range(start, end, size) => Some(Op::Range(start, end, size as usize)),
+        // Keys, Empty and Stats aren't built yet.
         _ => None,
     }
 }
@@ -72,35 +77,38 @@ fn refusal(outcome: Outcome<u64>) -> Option<Refusal>
 }
 
 /// Flushes and unpins; tells the first refusal.
-fn unwind(index: &mut Index, worker: u32) -> Option<Refusal>
-    ensures { Unwinds index.old worker index.new result }
+fn unwind(index: &mut Index, worker: u32) -> Result<Option<Refusal>, End>
+    ensures ok { IfOk result (λ first. Unwinds index.old worker index.new first) }
+    ensures err { IfErr result (λ e. e ≡ End.Memory) }
 {
-    let flush = index.call(worker, Op::Flush, None);
-    let unpin = index.call(worker, Op::Unpin, None);
-    refusal(flush).or(refusal(unpin))
+    let flush = index.call(worker, Op::Flush, None)?;
+    let unpin = index.call(worker, Op::Unpin, None)?;
+    Ok(refusal(flush).or(refusal(unpin)))
 }
 
 /// One round of pin, flush and unpin; tells the first refusal. A refused pin ends it.
-fn round(index: &mut Index, worker: u32) -> Option<Refusal>
-    ensures { Round index.old worker index.new result }
+fn round(index: &mut Index, worker: u32) -> Result<Option<Refusal>, End>
+    ensures ok { IfOk result (λ first. Round index.old worker index.new first) }
+    ensures err { IfErr result (λ e. e ≡ End.Memory) }
 {
-    let pin = index.call(worker, Op::Pin, None);
+    let pin = index.call(worker, Op::Pin, None)?;
     match refusal(pin) {
-        Some(refusal) => Some(refusal),
+        Some(refusal) => Ok(Some(refusal)),
         None => unwind(index, worker),
     }
 }
 
 /// So many rounds; they stop at the first refusal.
-fn rounds(index: &mut Index, worker: u32, count: u64) -> Reply
-    ensures { Rounds count index.old worker index.new result }
+fn rounds(index: &mut Index, worker: u32, count: u64) -> Result<Reply, End>
+    ensures ok { IfOk result (λ reply. Rounds count index.old worker index.new reply) }
+    ensures err { IfErr result (λ e. e ≡ End.Memory) }
 {
     for _i in 0..count {
-        if let Some(refusal) = round(index, worker) {
-            return Reply::Refused(Refused::Tree(refusal));
+        if let Some(refusal) = round(index, worker)? {
+            return Ok(Reply::Refused(Refused::Tree(refusal)));
         }
     }
-    Reply::Ok
+    Ok(Reply::Ok)
 }
 
 /// The limits of a tree that is opened so, or none where a number is past 32 bits.
@@ -135,86 +143,136 @@ fn budget(opening: Opening) -> u64
 }
 
 /// Opens a tree, or tells why there is none.
-fn open(alloc: Global, opening: Opening) -> (Option<Index>, Reply)
-    ensures { OpensWith (limits_of opening) (budget_of opening) result.0 result.1 }
+fn open(alloc: Global, opening: Opening) -> Result<(Option<Index>, Reply), End>
+    ensures ok { IfOk result (λ opened. OpensWith (limits_of opening) (budget_of opening) opened.0 opened.1) }
+    ensures err { IfErr result (λ e. e ≡ End.Memory) }
 {
     let Some(limits) = limits(opening) else {
-        return (None, Reply::Refused(Refused::Tree(Refusal::Limits)));
+        return Ok((None, Reply::Refused(Refused::Tree(Refusal::Limits))));
     };
     match World::new(alloc, limits, Limited::new(budget(opening))) {
         Ok(world) => {
             world.sound();
-            let callers = [Caller::new(None); CALLERS];
-            (Some(Index { world, callers }), Reply::Ok)
+            let index = Index::new(alloc, world)?;
+            Ok((Some(index), Reply::Ok))
         }
-        Err(refusal) => (None, Reply::Refused(Refused::Tree(refusal))),
+        Err(refusal) => Ok((None, Reply::Refused(Refused::Tree(refusal)))),
     }
 }
 
 /// The reply to a command where no tree is open.
-fn answer_closed(alloc: Global, command: Command) -> (Option<Index>, Reply)
-    ensures { AnswersBuilt None command result.0 result.1 }
+fn answer_closed(alloc: Global, command: Command) -> Result<(Option<Index>, Reply), End>
+    ensures ok { IfOk result (λ answered. AnswersBuilt None command answered.0 answered.1) }
+    ensures err { IfErr result (λ e. e ≡ End.Memory) }
 {
     match command {
         Command::New(opening) => open(alloc, opening),
-        _ => (None, Reply::Refused(Refused::NoTree)),
+        _ => Ok((None, Reply::Refused(Refused::NoTree))),
     }
 }
 
+/// The places of a worker's call that stands so: where it is a scan that is done, they are taken from it.
+fn places(alloc: Global, index: &mut Index, worker: u32, outcome: Outcome<u64>) -> Places
+    ensures places { result ≡ given outcome (places_at index.old.scans.items worker) }
+    ensures scans { index.new.scans.items ≡ left outcome worker index.old.scans.items }
+    ensures world { index.new.world ≡ index.old.world }
+    ensures callers { index.new.callers ≡ index.old.callers }
+{
+    match outcome {
+        Outcome::Done(Done::Scanned(_)) => index.take_scan(alloc, worker),
+        _ => Places::new(alloc),
+    }
+}
+
+/// The reply to a worker's call that stands so.
+fn reply(alloc: Global, index: &mut Index, worker: u32, outcome: Outcome<u64>) -> Reply
+    ensures { Replies index.old worker outcome index.new result }
+{
+    Reply::of(places(alloc, index, worker, outcome), outcome)
+}
+
 /// The reply to a whole call.
-fn answer_call(index: &mut Index, worker: u32, call: Call) -> Reply
+fn answer_call(alloc: Global, index: &mut Index, worker: u32, call: Call) -> Result<Reply, End>
     requires { IsSome (op_of call) }
-    ensures { CallReplies (op_of call) (closure_of call) index.old worker index.new result }
+    ensures ok { IfOk result (λ reply. CallReplies (op_of call) (closure_of call) index.old worker index.new reply) }
+    ensures err { IfErr result (λ e. e ≡ End.Memory) }
 {
     match op(call) {
-        Some(op) => Reply::of(index.call(worker, op, closure(call))),
+        Some(op) => {
+            let outcome = index.call(worker, op, closure(call))?;
+            Ok(reply(alloc, index, worker, outcome))
+        }
         None => unreachable!(),
     }
 }
 
 /// The reply to a call of which the first step alone is taken.
-fn answer_begin(index: &mut Index, worker: u32, call: Call) -> Reply
+fn answer_begin(alloc: Global, index: &mut Index, worker: u32, call: Call) -> Reply
     requires { IsSome (op_of call) }
     ensures { BeginReplies (op_of call) (closure_of call) index.old worker index.new result }
 {
     match op(call) {
-        Some(op) => Reply::begun(index.begin(worker, op, closure(call))),
+        Some(op) => {
+            let outcome = index.begin(worker, op, closure(call));
+            Reply::begun(places(alloc, index, worker, outcome), outcome)
+        }
         None => unreachable!(),
     }
 }
 
+/// The reply to further steps of a worker's call in flight.
+fn answer_go(alloc: Global, index: &mut Index, worker: u32, most: u64) -> Result<Reply, End>
+    ensures ok { IfOk result (λ reply. GoReplies most index.old worker index.new reply) }
+    ensures err { IfErr result (λ e. e ≡ End.Memory) }
+{
+    let outcome = index.go_on(worker, most, Outcome::Running)?;
+    Ok(reply(alloc, index, worker, outcome))
+}
+
+/// The reply to one whose upgrade fails.
+fn answer_fail(alloc: Global, index: &mut Index, worker: u32) -> Result<Reply, End>
+    ensures ok { IfOk result (λ reply. FailReplies index.old worker index.new reply) }
+    ensures err { IfErr result (λ e. e ≡ End.Memory) }
+{
+    let outcome = index.go(worker, true)?;
+    Ok(reply(alloc, index, worker, outcome))
+}
+
 /// The reply to a command on the tree that is open.
-fn answer_open(index: &mut Index, command: Command) -> Reply
+fn answer_open(alloc: Global, index: &mut Index, command: Command) -> Result<Reply, End>
     requires { is_built command ≡ true }
-    ensures { AnswersBuilt (Some index.old) command (Some index.new) result }
+    ensures ok { IfOk result (λ reply. AnswersBuilt (Some index.old) command (Some index.new) reply) }
+    ensures err { IfErr result (λ e. e ≡ End.Memory) }
 {
     match command {
-        Command::New(_) => Reply::Refused(Refused::Open),
-        Command::Register => Reply::of(index.register()),
-        Command::Charged => Reply::Charged(index.world.charged()),
-        Command::Waiting => Reply::Waiting(index.world.waiting(), index.world.waiting_bytes()),
-        Command::Call(worker, call) => answer_call(index, worker, call),
-        Command::Begin(worker, call) => answer_begin(index, worker, call),
-        Command::Go(worker, most) => Reply::of(index.go_on(worker, most, Outcome::Running)),
-        Command::Fail(worker) => Reply::of(index.go(worker, true)),
+        Command::New(_) => Ok(Reply::Refused(Refused::Open)),
+        Command::Register => Ok(Reply::of(Places::new(alloc), index.register())),
+        Command::Charged => Ok(Reply::Charged(index.world.charged())),
+        Command::Waiting => Ok(Reply::Waiting(index.world.waiting(), index.world.waiting_bytes())),
+        Command::Call(worker, call) => answer_call(alloc, index, worker, call),
+        Command::Begin(worker, call) => Ok(answer_begin(alloc, index, worker, call)),
+        Command::Go(worker, most) => answer_go(alloc, index, worker, most),
+        Command::Fail(worker) => answer_fail(alloc, index, worker),
         Command::Round(worker, count) => rounds(index, worker, count),
         Command::Journal | Command::Close => unreachable!(),
     }
 }
 
-/// Carries out a command on the tree that is open, if one is, and tells the reply.
-pub fn answer(alloc: Global, session: &mut Option<Index>, command: Command) -> Reply
-    ensures { Answers session.old command session.new result }
+/// Carries out a command on the tree that is open, if one is, and tells the reply. Without memory for what it is to hold
+/// of a scan, the script ends.
+pub fn answer(alloc: Global, session: &mut Option<Index>, command: Command) -> Result<Reply, End>
+    ensures ok { IfOk result (λ reply. Answers session.old command session.new reply) }
+    ensures err { IfErr result (λ e. e ≡ End.Memory) }
 {
     if !is_built(command) {
-        return Reply::Refused(Refused::Later);
+        return Ok(Reply::Refused(Refused::Later));
     }
     match session {
-        Some(index) => answer_open(index, command),
+        Some(index) => answer_open(alloc, index, command),
         None => {
-            let (index, reply) = answer_closed(alloc, command);
+            let (index, reply) = answer_closed(alloc, command)?;
             *session = index;
-            reply
+            Ok(reply)
         }
     }
 }

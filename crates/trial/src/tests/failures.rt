@@ -12,11 +12,12 @@ use std::test::Fail;
 const SCRIPT: &[u8] =
     b"new 2 1000\nreg\nreg\n0 pin\n1 pin\n0 insert 1 1\n0 insert 2 2\n0 insert 3 3\n0 insert 4 4\n\
     1 begin get 1\n1 go 2\n0 insert 5 5\n0 insert 256 6\n0 remove 256\nwaiting\ncharged\n1 go 100\n\
-    1 begin present 5 add 7\n1 fail\n1 go 100\n0 unpin\n1 unpin\n0 round 3\n1 round 3\nwaiting\ncharged\n0 pin\n0 get 5\n";
+    1 begin present 5 add 7\n1 fail\n1 go 100\n0 unpin\n1 unpin\n0 round 3\n1 round 3\nwaiting\ncharged\n0 pin\n0 get 5\n0 range 0 9 9\n";
 
 const REPLIES: &[u8] = b"ok\nworker 0\nworker 1\nok\nok\nnone\nnone\nnone\nnone\n\
     begun\nrunning\nnone\nnone\nsome 6\nwaiting 2 128\ncharged 2464\nsome 1\n\
-    begun\nrunning\npair 5 12\nok\nok\nok\nok\nwaiting 0 0\ncharged 2336\nok\nsome 12\n";
+    begun\nrunning\npair 5 12\nok\nok\nok\nok\nwaiting 0 0\ncharged 2336\nok\nsome 12\n\
+    range 5 1:1 2:2 3:3 4:4 5:12\n";
 
 /// Gives a script by so many bytes a read, fails once, and goes on after it.
 #[derive(Drop)]
@@ -96,8 +97,8 @@ fn replies_within(bytes: u64) -> &'static [u8] {
     first_lines(REPLIES, feeds(&SCRIPT[..bytes]))
 }
 
-/// The reads of seven bytes that the script takes: 40 that give bytes, and one that tells its end.
-const READS: u64 = 41;
+/// The reads of seven bytes that the script takes: 42 that give bytes, and one that tells its end.
+const READS: u64 = 43;
 
 #[test]
 fn a_read_that_fails_once_ends_a_script_with_calls_in_flight(rt: HostRuntime) -> Result<(), Fail> {

@@ -110,6 +110,44 @@ fn calls_in_flight_meet(rt: HostRuntime) -> Result<(), Fail> {
     Ok(())
 }
 
+#[test]
+fn ranges_tell_their_pairs(rt: HostRuntime) -> Result<(), Fail> {
+    let table = [
+        (
+            "new 1 9\nreg\n0 pin\n0 range 0 10 4\n0 insert 0 42\n0 range 0 10 8\n0 range 10 0 8\n0 unpin\n0 range 10 0 8\n",
+            "ok\nworker 0\nok\nrange 0\nnone\nrange 1 0:42\nrange 0\nok\nrefused Unpinned\n",
+        ),
+        (
+            "new 1 9\nreg\n0 pin\n0 insert 4294967295 1\n0 insert 4294967247 2\n0 range 4294967066 4294967319 20\n\
+             0 range 4294967000 4294967253 20\n0 range 5 5 20\n0 insert 18446744073709551615 3\n\
+             0 range 18446744073709551614 18446744073709551615 20\n",
+            "ok\nworker 0\nok\nnone\nnone\nrange 2 4294967247:2 4294967295:1\nrange 1 4294967247:2\nrange 0\nnone\nrange 0\n",
+        ),
+        (
+            "new 1 9\nreg\n0 pin\n0 insert 1 10\n0 insert 2 20\n0 insert 3 30\n0 range 1 4 2\n0 range 1 4 0\n0 range 2 4 9\n",
+            "ok\nworker 0\nok\nnone\nnone\nnone\nrange 2 1:10 2:20\nrange 0\nrange 2 2:20 3:30\n",
+        ),
+        (
+            "new 1 9\nreg\n0 pin\n0 insert 4294967179 7\n0 range 1895772415 1895772670 20\n0 range 4294967179 4294967434 20\n",
+            "ok\nworker 0\nok\nnone\nrange 0\nrange 1 4294967179:7\n",
+        ),
+        (
+            "new 2 1000\nreg\nreg\n0 pin\n1 pin\n0 insert 5 50\n1 begin range 5 6 4\n1 go 4\n0 insert 1 1\n1 go 100\n",
+            "ok\nworker 0\nworker 1\nok\nok\nnone\nbegun\nrunning\nnone\nrange 1 5:50\n",
+        ),
+        (
+            "new 2 1000\nreg\nreg\n0 pin\n1 pin\n0 insert 5 50\n0 insert 6 60\n1 begin range 0 9 4\n1 go 8\n0 remove 5\n\
+             0 begin range 6 7 1\n1 go 100\n0 go 100\n1 begin range 3 3 1\n1 go 1\n",
+            "ok\nworker 0\nworker 1\nok\nok\nnone\nnone\nbegun\nrunning\nsome 50\nbegun\nrange 1 6:60\nrange 1 6:60\nrange 0\nrefused Idle\n",
+        ),
+        ("reg\n0 range 0 1 1\n", "refused NoTree\nrefused NoTree\n"),
+    ];
+    for (script, replies) in table {
+        assert!(rt; answers(rt.alloc(), script, replies), "of {script}");
+    }
+    Ok(())
+}
+
 // A compute that is begun, goes so many steps, fails one, and goes on with its own closure.
 #[test]
 fn a_failed_step_begins_anew(rt: HostRuntime) -> Result<(), Fail> {

@@ -1,10 +1,17 @@
-use Rattle.std.proofs.Common.{◌≡◌, ◌∙◌, sym, subst, Option, None}
+use Rattle.std.proofs.Common.{refl, subst, Option, Some}
 use Rattle.joint.specs.declared.refusal.Refusal.{Refusal}
-use Rattle.trial.specs.Session.{AfterPin, refusal_of}
+use Rattle.trial.specs.Session.{AfterPin, Round, Unwinds}
+use Rattle.trial.proofs.Filling.{if_ok}
 use Rattle.trial.proofs.session.round.Goals as goal
 
-pub returns-in-None : goal.returns-in-None
-returns-in-None c =
-    let none : None ≡ refusal_of c.call-pin.result = sym c.in-None.is ∙ c.refusal.ensures in
-    let P : Option Refusal → Type 0 = λ o. AfterPin o c.call-pin.new.self c.args.worker c.unwind.new.index c.unwind.result in
-    (c.call-pin.new.self, c.call-pin.result, c.call-pin.ensures, subst P none c.unwind.ensures)
+pub returns-in-Some-clause-ok : goal.returns-in-Some-clause-ok
+returns-in-Some-clause-ok c =
+    let P : Option Refusal → Type 0 = λ o. AfterPin o c.call.new.self c.args.worker c.call.new.self (Some c.in-Some.refusal) in
+    (c.call.new.self, c.in_ok-pin.pin, c.in_ok-pin.ensures.ok, subst P c.in-Some.ensures (refl, refl))
+
+pub returns-in-None-clause-ok : goal.returns-in-None-clause-ok
+returns-in-None-clause-ok c =
+    if_ok (λ first. Unwinds c.call.new.self c.args.worker c.unwind.new.index first) (λ first. Round c.args.index.now c.args.worker c.unwind.new.index first)
+    c.unwind.result (λ first u.
+    let P : Option Refusal → Type 0 = λ o. AfterPin o c.call.new.self c.args.worker c.unwind.new.index first in
+    (c.call.new.self, c.in_ok-pin.pin, c.in_ok-pin.ensures.ok, subst P c.in-None.ensures u)) c.unwind.ensures.ok

@@ -1,0 +1,53 @@
+use Rattle.std.proofs.Common.{◌≡◌, ◌∙◌, refl, ap, subst, sym, List, Some}
+use Rattle.std.specs.Prelude.{ℕ, length}
+use Rattle.joint.specs.Listing.{bytes_of, waiting_nodes}
+use Rattle.std.specs.List.{sum_by}
+use Rattle.trial.specs.declared.command.Command.{Command}
+use Rattle.trial.specs.declared.index.Index.{Index}
+use Rattle.trial.specs.declared.reply.Reply.{Reply}
+use Rattle.trial.specs.declared.reply.Reply.TheVariants as reply
+use Rattle.trial.specs.Replies.{reply_of}
+use Rattle.trial.specs.Session.{AnswersBuilt, CallReplies, GoReplies, FailReplies, Rounds, op_of, closure_of}
+use Rattle.trial.proofs.Filling.{if_ok}
+use Rattle.trial.proofs.session.answer_open.Goals as goal
+
+-- a command that is this one
+as_this : (c d : Command) (old new : Index) (r : Reply) → c ≡ d → AnswersBuilt (Some old) d (Some new) r → AnswersBuilt (Some old) c (Some new) r
+as_this c d old new r e h = let P : Command → Type 0 = λ x. AnswersBuilt (Some old) x (Some new) r in subst P (sym e) h
+
+pub returns-in-Register-clause-ok : goal.returns-in-Register-clause-ok
+returns-in-Register-clause-ok c =
+    let told = c.of.ensures ∙ ap (λ (ps : List (ℕ × ℕ)). reply_of ps c.register.result) c.new.ensures in
+    as_this _ _ _ _ _ c.in-Register.is (c.register.new.self, refl, (c.register.result, c.register.ensures, told))
+
+pub returns-in-Charged-clause-ok : goal.returns-in-Charged-clause-ok
+returns-in-Charged-clause-ok c = as_this _ _ _ _ _ c.in-Charged.is (c.args.index.now, refl, (refl, ap reply.Charged c.charged.ensures.value))
+
+pub returns-in-Waiting-clause-ok : goal.returns-in-Waiting-clause-ok
+returns-in-Waiting-clause-ok c =
+    let told : reply.Waiting c.waiting.result c.waiting_bytes.result ≡ reply.Waiting (length (waiting_nodes c.args.index.now.world)) (sum_by (bytes_of c.args.index.now.world.forest) (waiting_nodes c.args.index.now.world))
+    = ap (λ n. reply.Waiting n c.waiting_bytes.result) c.waiting.ensures.count ∙ ap (reply.Waiting (length (waiting_nodes c.args.index.now.world))) c.waiting_bytes.ensures.sum in
+    as_this _ _ _ _ _ c.in-Waiting.is (c.args.index.now, refl, (refl, told))
+
+pub returns-in-Call-clause-ok : goal.returns-in-Call-clause-ok
+returns-in-Call-clause-ok c =
+    if_ok (λ r. CallReplies (op_of c.in-Call.call) (closure_of c.in-Call.call) c.args.index.now c.in-Call.worker c.answer_call.new.index r) _ c.answer_call.result
+    (λ r h. as_this _ _ _ _ r c.in-Call.is (c.answer_call.new.index, refl, h)) c.answer_call.ensures.ok
+
+pub returns-in-Begin-clause-ok : goal.returns-in-Begin-clause-ok
+returns-in-Begin-clause-ok c = as_this _ _ _ _ _ c.in-Begin.is (c.answer_begin.new.index, refl, c.answer_begin.ensures)
+
+pub returns-in-Go-clause-ok : goal.returns-in-Go-clause-ok
+returns-in-Go-clause-ok c =
+    if_ok (λ r. GoReplies c.in-Go.most c.args.index.now c.in-Go.worker c.answer_go.new.index r) _ c.answer_go.result
+    (λ r h. as_this _ _ _ _ r c.in-Go.is (c.answer_go.new.index, refl, h)) c.answer_go.ensures.ok
+
+pub returns-in-Fail-clause-ok : goal.returns-in-Fail-clause-ok
+returns-in-Fail-clause-ok c =
+    if_ok (λ r. FailReplies c.args.index.now c.in-Fail.worker c.answer_fail.new.index r) _ c.answer_fail.result
+    (λ r h. as_this _ _ _ _ r c.in-Fail.is (c.answer_fail.new.index, refl, h)) c.answer_fail.ensures.ok
+
+pub returns-in-Round-clause-ok : goal.returns-in-Round-clause-ok
+returns-in-Round-clause-ok c =
+    if_ok (λ r. Rounds c.in-Round.count c.args.index.now c.in-Round.worker c.rounds.new.index r) _ c.rounds.result
+    (λ r h. as_this _ _ _ _ r c.in-Round.is (c.rounds.new.index, refl, h)) c.rounds.ensures.ok
