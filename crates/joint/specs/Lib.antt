@@ -19,6 +19,7 @@ pub mod Scans
 pub mod Slots
 pub mod Solid
 pub mod Survey
+pub mod Surveys
 pub mod Sound
 pub mod Tallies
 pub mod RoomLemmas

@@ -6,9 +6,10 @@ use Rattle.congee.specs.declared.protocol.op.Op.TheVariants as point
 use Rattle.congee.specs.declared.protocol.machine.Outcome.{Outcome as Moved}
 use Rattle.congee.specs.declared.protocol.machine.Outcome.TheVariants as moved
 use Rattle.joint.specs.declared.steps.Op.{Op}
-use Rattle.joint.specs.declared.steps.Op.TheVariants.{Pin, Unpin, Repin, Flush, Release, Get, Insert, Remove, ComputePresent, ComputeInsert, Exchange, Range}
+use Rattle.joint.specs.declared.steps.Op.TheVariants.{Pin, Unpin, Repin, Flush, Release, Get, Insert, Remove, ComputePresent, ComputeInsert, Exchange, Range, Keys, IsEmpty, Stats}
 use Rattle.joint.specs.declared.steps.Target.{Target}
-use Rattle.joint.specs.declared.steps.Target.TheVariants.{Collector, Tree}
+use Rattle.joint.specs.declared.steps.Survey.TheVariants as survey
+use Rattle.joint.specs.declared.steps.Target.TheVariants.{Collector, Tree, Survey}
 use Rattle.joint.specs.declared.steps.Outcome.{Outcome}
 use Rattle.joint.specs.declared.steps.Outcome.TheVariants.{Running, Asks, Found, Done, Refused}
 use Rattle.joint.specs.declared.steps.Done.TheVariants as done
@@ -28,6 +29,9 @@ target (ComputePresent k) = Tree (point.ComputePresent k)
 target (ComputeInsert k) = Tree (point.ComputeInsert k)
 target (Exchange k old new) = Tree (point.Exchange k old new)
 target (Range start end size) = Tree (point.Range start end size)
+target Keys = Survey survey.Keys
+target IsEmpty = Survey survey.IsEmpty
+target Stats = Survey survey.Stats
 
 -- how a call on the tree stands
 abbrev pub told : {V : Type 0} → Moved V → Outcome V

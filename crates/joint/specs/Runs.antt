@@ -26,11 +26,13 @@ use Rattle.joint.specs.declared.steps.Done.TheVariants.{Scanned}
 use Rattle.joint.specs.declared.steps.Outcome.TheVariants.{Running, Done, Refused}
 use Rattle.joint.specs.declared.steps.Report.{Report}
 use Rattle.joint.specs.declared.steps.Step.{Step}
+use Rattle.joint.specs.declared.steps.Survey.{Survey}
 use Rattle.joint.specs.declared.steps.Target.{Target}
 use Rattle.joint.specs.declared.steps.Target.TheVariants as target
 use Rattle.joint.specs.Forest.{nodes}
 use Rattle.joint.specs.Intact.{root}
 use Rattle.joint.specs.Reports.{target, told}
+use Rattle.joint.specs.Surveys.{MapTells}
 use Rattle.joint.specs.Whole.{Whole, Holds, IsStep, SparesUsed}
 
 -- a step that was taken, with what it told and the state after it
@@ -106,9 +108,15 @@ BeginsOr fs m op (Refused e) l fs' = Stays fs m l fs'
 BeginsOr fs m op (Done done) l fs' = EndsAtOnce fs m op done l fs'
 BeginsOr fs m op _ l fs' = BeginsFlight fs m op l fs'
 
+-- a call of one step tells of the map as it stands
+pub record Told {V : Type 0} (k : Survey) (fs : Flights V) (m : Pairs V) (l : Line V) (fs' : Flights V) : Type 0 where
+  pub tells : MapTells m k l.report.outcome
+  pub stays : Stays fs m l fs'
+
 abbrev pub BeginMap : {V : Type 0} → Flights V → Pairs V → Target V → Line V → Flights V → Type 0
 BeginMap fs m (target.Collector op) l fs' = Stays fs m l fs'
 BeginMap fs m (target.Tree op) l fs' = BeginsOr fs m op l.report.outcome l fs'
+BeginMap fs m (target.Survey k) l fs' = Told k fs m l fs'
 
 -- a step of a call on one key before it took effect: it goes on, asks, or is refused
 pub record IsPending {V : Type 0} (k : ℕ) (kind : Kind V) (v : Option V) (q : Question V) (m : Pairs V) (l : Line V) (f' : Flight V) : Type 0 where

@@ -35,6 +35,8 @@ use Rattle.joint.specs.declared.steps.Outcome.TheVariants.{Running, Asks, Found,
 use Rattle.joint.specs.declared.steps.Done.TheVariants.{Scanned}
 use Rattle.joint.specs.declared.steps.Report.{Report}
 use Rattle.joint.specs.declared.steps.Step.{Step}
+use Rattle.joint.specs.declared.steps.Survey.{Survey}
+use Rattle.joint.specs.declared.steps.Survey.TheVariants as survey
 use Rattle.joint.specs.declared.steps.Target.{Target}
 use Rattle.joint.specs.declared.steps.Target.TheVariants as target
 use Rattle.joint.specs.Forest.{Forest, nodes, total, with_collector, IsCharged}
@@ -42,6 +44,7 @@ use Rattle.joint.specs.Intact.{IsIntact, Secured, WalkedOn, call_after, over_at,
 use Rattle.joint.specs.Machines.{Collected}
 use Rattle.joint.specs.Refusals.{of_fault}
 use Rattle.joint.specs.Reports.{target, told, collected}
+use Rattle.joint.specs.Surveys.{TellsOf}
 use Rattle.joint.specs.View.{id_number}
 
 -- the nodes in the collector's cells, and for each worker its call on the tree and its call in flight
@@ -68,11 +71,15 @@ is_busy (Some Walking) = true
 abbrev pub unready : {V J : Type 0} → Target V → Participant J → Option Fault
 unready (target.Collector op) p = begin_fault op p
 unready (target.Tree op) p = when (is_none p.word) fault.Unpinned
+unready (target.Survey survey.IsEmpty) p = when (is_none p.word) fault.Unpinned
+unready (target.Survey survey.Keys) p = None
+unready (target.Survey survey.Stats) p = None
 
 -- why one with a call in flight can't
 abbrev pub interruption : {V : Type 0} → Target V → Fault
 interruption (target.Collector op) = busy_fault op
 interruption (target.Tree op) = fault.Busy
+interruption (target.Survey k) = fault.Busy
 
 -- why a begin is refused before anything is done, the first cause of several
 abbrev pub begin_misuse : {V J : Type 0} → Target V → Option (Call V) → Participant J → Option Fault
@@ -91,6 +98,7 @@ misuse s who event = misuse_at event (slice_get s.calls who) (place_of s who)
 abbrev pub kind_of : {V : Type 0} → Target V → Kind
 kind_of (target.Collector op) = OfCollector
 kind_of (target.Tree op) = Tree
+kind_of (target.Survey k) = Tree
 
 -- and one that finds no call in flight is none
 abbrev pub kind_at : {V : Type 0} → Event V → Kind
@@ -195,9 +203,17 @@ BeginsOnTree same always s who (point.Get k) r s' = Enters s who (point.Get k) r
 BeginsOnTree {V} same always s who (point.Range start end size) r s' = EntersUnless (finds_none {V = V} (point.Range start end size)) s who (point.Range start end size) r s'
 BeginsOnTree same always s who op r s' = Reserves same always s who op r s'
 
+-- a call of one step tells of the tree as it stands
+pub record Surveys {V : Type 0} (s : Whole V) (k : Survey) (r : Report V) (s' : Whole V) : Type 0 where
+  pub state : s' ≡ s
+  pub outcome : Outcome V
+  pub report : r ≡ quiet Tree outcome
+  pub tells : TellsOf (nodes s.forest) k outcome
+
 abbrev pub BeginsAt : {V : Type 0} → (V → V → Bool) → Bool → Whole V → ℕ → Target V → Report V → Whole V → Type 0
 BeginsAt same always s who (target.Collector op) r s' = Collects same always s who (collector.Begin op) (Collecting op) r s'
 BeginsAt same always s who (target.Tree op) r s' = BeginsOnTree same always s who op r s'
+BeginsAt same always s who (target.Survey k) r s' = Surveys s k r s'
 
 abbrev pub GoesAt : {V : Type 0} → (V → V → Bool) → Bool → Whole V → ℕ → Option (Call V) → Noise Id V → Report V → Whole V → Type 0
 GoesAt same always s who None noise r s' = ⊥

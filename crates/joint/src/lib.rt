@@ -27,5 +27,5 @@ pub use id::Id;
 pub use laws::{runs_join, runs_map};
 pub use limits::Limits;
 pub use refusal::Refusal;
-pub use steps::{Done, Event, Kind, Op, Outcome, Ran, Report, Step};
+pub use steps::{Done, Event, Kind, Op, Outcome, Ran, Report, Step, Survey};
 pub use world::World;

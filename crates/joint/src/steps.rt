@@ -5,7 +5,7 @@ ghost use Rattle.joint.specs.Reports.{target, told, collected};
 
 use crate::id::Id;
 use crate::refusal::Refusal;
-use congee::Noise;
+use congee::{NodeStats, Noise};
 use judge::Reply;
 use std::vec::Vec;
 
@@ -55,6 +55,20 @@ pub enum Op<P> {
     Exchange(u64, P, Option<P>),
     /// Finds the pairs from the first key up to the second, so many at most.
     Range(u64, u64, usize),
+    /// Tells all keys that stand at its one step. It wants no guard.
+    Keys,
+    /// Tells whether no key stands at its one step.
+    IsEmpty,
+    /// Counts the tree's nodes and pairs as they stand at its one step. It wants no guard.
+    Stats,
+}
+
+/// What a call of one step tells of the tree as it stands.
+#[derive(Clone, Copy, Debug, PartialEq, Eq, Drop)]
+pub enum Survey {
+    Keys,
+    IsEmpty,
+    Stats,
 }
 
 /// The layer that a call is of.
@@ -62,6 +76,7 @@ pub enum Op<P> {
 pub enum Target<P> {
     Collector(crossbeam_epoch::Op),
     Tree(congee::Op<P>),
+    Survey(Survey),
 }
 
 /// Whether a step is one of the tree or one of the collector.
@@ -72,7 +87,7 @@ pub enum Kind {
 }
 
 /// What a step or a whole call tells.
-#[derive(Clone, Copy, Debug, PartialEq, Eq, Drop)]
+#[derive(Debug, PartialEq, Eq, Drop)]
 pub struct Report<P> {
     pub kind: Kind,
     /// Whether a call on one key took effect.
@@ -86,7 +101,7 @@ pub struct Report<P> {
 }
 
 /// How a worker's call stands after a step.
-#[derive(Clone, Copy, Debug, PartialEq, Eq, Drop)]
+#[derive(Debug, PartialEq, Eq, Drop)]
 pub enum Outcome<P> {
     /// The call is in flight.
     Running,
@@ -103,7 +118,7 @@ pub enum Outcome<P> {
 }
 
 /// The answer of a call.
-#[derive(Clone, Copy, Debug, PartialEq, Eq, Drop)]
+#[derive(Debug, PartialEq, Eq, Drop)]
 pub enum Done<P> {
     /// Of a pin, an unpin, a repin, a flush or a release.
     Unit,
@@ -111,6 +126,12 @@ pub enum Done<P> {
     Reply(Reply<P>),
     /// Of a scan: places filled.
     Scanned(usize),
+    /// All keys, ascending.
+    Keys(Vec<u64>),
+    /// Whether there is no key.
+    Empty(bool),
+    /// How the nodes are spread over levels and forms, and how many pairs there are.
+    Stats(NodeStats),
 }
 
 /// What a list of steps told.
@@ -140,6 +161,9 @@ impl<P> Op<P> {
             Op::ComputeInsert(key) => Target::Tree(congee::Op::ComputeInsert(key)),
             Op::Exchange(key, old, new) => Target::Tree(congee::Op::Exchange(key, old, new)),
             Op::Range(start, end, size) => Target::Tree(congee::Op::Range(start, end, size)),
+            Op::Keys => Target::Survey(Survey::Keys),
+            Op::IsEmpty => Target::Survey(Survey::IsEmpty),
+            Op::Stats => Target::Survey(Survey::Stats),
         }
     }
 }

@@ -2,11 +2,12 @@
 
 ghost use Rattle.std.specs.Prelude.{◌≡◌, ◌<◌, Some, length, slice_get, option_map, true, false};
 ghost use Rattle.joint.specs.Beginning.{Begun, writes, stage_of};
-ghost use Rattle.joint.specs.Whole.{whole, Does, Holds, IsStep, Proceeds, misuse, quiet, collection, destroyed_by, finds_none, interruption, is_busy, kind_of, reserving, Walks};
+ghost use Rattle.joint.specs.Whole.{whole, Does, Holds, IsStep, Proceeds, misuse, quiet, collection, destroyed_by, finds_none, interruption, is_busy, kind_of, reserving, Surveys, Walks};
 ghost use Rattle.joint.specs.Reports.{told};
 ghost use Rattle.joint.specs.declared.steps.Event.TheVariants as Event;
 ghost use Rattle.joint.specs.Intact.{IsIntact};
 ghost use Rattle.joint.specs.declared.call.Call.TheVariants as Call;
+ghost use Rattle.joint.specs.declared.steps.Survey.TheVariants as Survey;
 ghost use Rattle.joint.specs.declared.steps.Target.TheVariants as Target;
 ghost use Rattle.joint.specs.declared.steps.Outcome.TheVariants as Outcome;
 ghost use Rattle.joint.specs.declared.steps.Kind.TheVariants as Kind;
@@ -16,7 +17,7 @@ use crate::call::{Call, Stage};
 use crate::engine::{Engine, call_laws, cell_laws, progress};
 use crate::id::Id;
 use crate::refusal::Refusal;
-use crate::steps::{Done, Event, Kind, Outcome, Report, Step, Target};
+use crate::steps::{Done, Event, Kind, Outcome, Report, Step, Survey, Target};
 use congee::{Allocator, Move, Noise, Payload, Small};
 use crossbeam_epoch::Fault;
 
@@ -76,6 +77,7 @@ impl<P: Payload + Small, A: Allocator> Engine<P, A> {
         match target {
             Target::Collector(op) => self.begin_turn(who, op),
             Target::Tree(op) => self.begin_point(who, op),
+            Target::Survey(survey) => self.answer_survey(who, survey),
         }
     }
 
@@ -114,6 +116,58 @@ impl<P: Payload + Small, A: Allocator> Engine<P, A> {
         }
         self.start(who, op);
         report(Kind::Tree, Outcome::Running)
+    }
+
+    /// Tells of the tree as it stands, to a worker without a call in flight.
+    fn answer_survey(&self, who: usize, survey: Survey) -> Report<P>
+        requires intact { IsIntact P.same_as P.always_copies self.now.nodes self.now.machines.items self.now.calls.items }
+        requires registered { (place self.now.nodes.collector who).registered ≡ true }
+        requires idle { slice_get self.now.calls.items who ≡ Some Call.Idle }
+        ensures { Begun P.same_as P.always_copies (whole self.now.nodes self.now.machines.items self.now.calls.items) who (Target.Survey survey) result (whole self.now.nodes self.now.machines.items self.now.calls.items) }
+    {
+        match survey {
+            Survey::Keys => self.tell_keys(),
+            Survey::IsEmpty => {
+                if !self.nodes.is_pinned(who) {
+                    return refused(Kind::Tree, Refusal::Unpinned);
+                }
+                self.tell_empty()
+            }
+            Survey::Stats => self.tell_stats(),
+        }
+    }
+
+    /// All keys.
+    fn tell_keys(&self) -> Report<P>
+        requires { IsIntact P.same_as P.always_copies self.now.nodes self.now.machines.items self.now.calls.items }
+        ensures { Surveys (whole self.now.nodes self.now.machines.items self.now.calls.items) Survey.Keys result (whole self.now.nodes self.now.machines.items self.now.calls.items) }
+    {
+        match self.nodes.keys() {
+            Ok(keys) => report(Kind::Tree, Outcome::Done(Done::Keys(keys))),
+            Err(_) => refused(Kind::Tree, Refusal::Memory),
+        }
+    }
+
+    /// Whether there is no key.
+    fn tell_empty(&self) -> Report<P>
+        requires { IsIntact P.same_as P.always_copies self.now.nodes self.now.machines.items self.now.calls.items }
+        ensures { Surveys (whole self.now.nodes self.now.machines.items self.now.calls.items) Survey.IsEmpty result (whole self.now.nodes self.now.machines.items self.now.calls.items) }
+    {
+        report(
+            Kind::Tree,
+            Outcome::Done(Done::Empty(self.nodes.is_empty())),
+        )
+    }
+
+    /// How the nodes are spread, and how many pairs there are.
+    fn tell_stats(&self) -> Report<P>
+        requires { IsIntact P.same_as P.always_copies self.now.nodes self.now.machines.items self.now.calls.items }
+        ensures { Surveys (whole self.now.nodes self.now.machines.items self.now.calls.items) Survey.Stats result (whole self.now.nodes self.now.machines.items self.now.calls.items) }
+    {
+        match self.nodes.stats() {
+            Ok(stats) => report(Kind::Tree, Outcome::Done(Done::Stats(stats))),
+            Err(_) => refused(Kind::Tree, Refusal::Memory),
+        }
     }
 
     /// The next step of a worker's call in flight.
@@ -251,6 +305,7 @@ fn kind_of<P>(target: &Target<P>) -> Kind
     match target {
         Target::Collector(_) => Kind::Collection,
         Target::Tree(_) => Kind::Tree,
+        Target::Survey(_) => Kind::Tree,
     }
 }
 
@@ -263,6 +318,7 @@ fn interruption<P>(target: &Target<P>) -> Fault
         Target::Collector(crossbeam_epoch::Op::Secure(_)) => Fault::Busy,
         Target::Collector(_) => Fault::InCall,
         Target::Tree(_) => Fault::Busy,
+        Target::Survey(_) => Fault::Busy,
     }
 }
 

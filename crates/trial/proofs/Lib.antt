@@ -13,4 +13,5 @@ pub mod MapSteps
 pub mod WholeCalls
 pub mod OneMap
 pub mod WholeScans
+pub mod Surveys
 pub mod OfMap

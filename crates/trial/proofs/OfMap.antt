@@ -20,6 +20,8 @@ use Rattle.joint.specs.declared.steps.Op.TheVariants as op
 use Rattle.joint.specs.declared.steps.Done.TheVariants as done
 use Rattle.joint.specs.declared.steps.Outcome.{Outcome}
 use Rattle.joint.specs.declared.steps.Outcome.TheVariants as outcome
+use Rattle.joint.specs.declared.steps.Survey.{Survey}
+use Rattle.joint.specs.declared.steps.Survey.TheVariants as survey
 use Rattle.joint.specs.declared.steps.Target.{Target}
 use Rattle.joint.specs.declared.steps.Target.TheVariants as target
 use Rattle.joint.specs.Reports.{target}
@@ -49,10 +51,11 @@ use Rattle.trial.specs.Replies.{reply_to, reply_of}
 use Rattle.trial.specs.Going.{Ran}
 use Rattle.trial.specs.Script.{LineDoes, LinesAnswer, AreAnswered, Prints}
 use Rattle.trial.specs.Places.{places_at, given, left}
-use Rattle.trial.specs.Session.{Session, op_of, closure_of, is_built, refusal_of, AfterPin, Round, Rounds, GaveAway, Replies, CallReplies, Asks, limits_of, budget_of, Opens, Opened, OpensWith, AnswersBuilt, Answers}
+use Rattle.trial.specs.Session.{Session, op_of, closure_of, is_built, refusal_of, AfterPin, Round, Rounds, GaveAway, Replies, CallReplies, Asks, limits_of, budget_of, Opens, Opened, OpensWith, Closed, StaysOpen, AnswersBuilt, Answers}
 use Rattle.trial.specs.Texts.{printed}
 use Rattle.trial.proofs.MapSteps.{MapLaws, line_of, on_map, Rests, rests_on}
 use Rattle.trial.proofs.WholeCalls.{Ready, Decides, Finished, call_finishes}
+use Rattle.trial.proofs.Surveys.{Surveyed, survey_finishes, keys_reply, empty_reply}
 use Rattle.trial.proofs.WholeScans.{filled_length, scan_finishes}
 
 -- a tree with these pairs, no call of which is in flight
@@ -181,6 +184,9 @@ left_length (outcome.Registered who) w scans = refl
 left_length (outcome.Done done.Unit) w scans = refl
 left_length (outcome.Done (done.Reply r)) w scans = refl
 left_length (outcome.Done (done.Scanned count)) w scans = length-set scans w []
+left_length (outcome.Done (done.Keys keys)) w scans = refl
+left_length (outcome.Done (done.Empty b)) w scans = refl
+left_length (outcome.Done (done.Stats stats)) w scans = refl
 left_length (outcome.Refused r) w scans = refl
 
 replied_at : (w : ℕ) (s s' : Index) (stands : Outcome ℕ) (m : Pairs ℕ) → At s m → GaveAway s w stands s' → At s' m
@@ -206,6 +212,10 @@ finished : (w : ℕ) (o : Op ℕ) (f : Option Closure) (m : Pairs ℕ) (p : Poin
     → Finished m p mid (reply_of (given stands (places_at mid.scans.items w)) stands) → At s' (answer nat_eq m p).1 × (r ≡ reply_to (answer nat_eq m p).0)
 finished w o f m p s mid s' stands r b g told e =
     (replied_at w mid s' stands (answer nat_eq m p).1 (e.rests, e.callers, called_scans w o f s mid stands b.2 g) told.0, told.1 ∙ e.reply)
+
+-- the tree after a call of one step
+surveyed_at : (w : ℕ) (k : Survey) (s mid s' : Index) (stands : Outcome ℕ) (m : Pairs ℕ) → At s m → Surveyed m k s mid stands → GaveAway mid w stands s' → At s' m
+surveyed_at w k s mid s' stands m b x g = replied_at w mid s' stands m (x.rests, ap length x.callers ∙ b.1, ap length x.scans ∙ b.2) g
 
 told_answer : (r told : Reply) → r ≡ told → IsAnswer r → IsAnswer told
 told_answer r told e a = subst IsAnswer e a
@@ -245,9 +255,15 @@ call_at laws w (call.Range start end size) s s' r m b g a =
     let x = scan_finishes laws w start end size m None s g.1 g.0 _ b.0 b.2 g.2 (told_answer r _ g.3.1 a) in
     let callers = called_callers w (op.Range start end size) None s g.1 g.0 b.1 g.2 in
     (replied_at w g.1 s' g.0 m (x.rests, callers, called_scans w (op.Range start end size) None s g.1 g.0 b.2 g.2) g.3.0, g.3.1 ∙ x.reply)
-call_at laws w call.Keys s s' r m b g a = absurd g
-call_at laws w call.Empty s s' r m b g a = absurd g
-call_at laws w call.Stats s s' r m b g a = absurd g
+call_at laws w call.Keys s s' r m b g a =
+    let x = survey_finishes laws w op.Keys survey.Keys None m s g.1 g.0 refl b.0 g.2 in
+    (surveyed_at w survey.Keys s g.1 s' g.0 m b x g.3.0, g.3.1 ∙ keys_reply m g.0 _ x.tells (told_answer r _ g.3.1 a))
+call_at laws w call.Empty s s' r m b g a =
+    let x = survey_finishes laws w op.IsEmpty survey.IsEmpty None m s g.1 g.0 refl b.0 g.2 in
+    (surveyed_at w survey.IsEmpty s g.1 s' g.0 m b x g.3.0, g.3.1 ∙ empty_reply m g.0 _ x.tells (told_answer r _ g.3.1 a))
+call_at laws w call.Stats s s' r m b g a =
+    let x = survey_finishes laws w op.Stats survey.Stats None m s g.1 g.0 refl b.0 g.2 in
+    (surveyed_at w survey.Stats s g.1 s' g.0 m b x g.3.0, tt)
 
 -- nothing is open, or a tree with these pairs
 abbrev pub AtMap : Session → Pairs ℕ → Type 0
@@ -288,6 +304,11 @@ opens_at : (limits : Option Limits) (budget : ℕ) (new : Session) (r : Reply) �
 opens_at None budget new r g a = absurd (no_refusal _ r g.1 a)
 opens_at (Some limits) budget new r g a = opened_at limits budget g.0 new r g.1 g.2 a
 
+-- where the tree was closed, nothing is open
+closed_at : (s : Index) (new : Session) (r : Reply) (m : Pairs ℕ) → Closed s new r ⊎ StaysOpen s new r → IsAnswer r → Keeps m command.Close new r
+closed_at s new r m (inl x) a = (let P : Session → Type 0 = λ y. AtMap y empty in subst P (sym x.none) refl, tt)
+closed_at s new r m (inr x) a = absurd (no_refusal _ r x.reply a)
+
 asked_at : MapLaws → (c : Command) (s : Index) (new : Session) (r : Reply) (m : Pairs ℕ) → At s m → (index : Index) × (new ≡ Some index) × Asks s c index r → IsWhole c → IsAnswer r → Keeps m c new r
 asked_at laws c s new r m b g w a = let P : Session → Type 0 = λ x. Keeps m c x r in subst P (sym g.1) (asks_at laws c s g.0 r m b g.2 w a)
 
@@ -308,7 +329,7 @@ built_at laws (Some s) command.Register new r m b g w a = asked_at laws command.
 built_at laws (Some s) command.Charged new r m b g w a = asked_at laws command.Charged s new r m b g w a
 built_at laws (Some s) command.Waiting new r m b g w a = asked_at laws command.Waiting s new r m b g w a
 built_at laws (Some s) command.Journal new r m b g w a = asked_at laws command.Journal s new r m b g w a
-built_at laws (Some s) command.Close new r m b g w a = asked_at laws command.Close s new r m b g w a
+built_at laws (Some s) command.Close new r m b g w a = closed_at s new r m g a
 built_at laws (Some s) (command.Call i c) new r m b g w a = asked_at laws (command.Call i c) s new r m b g w a
 built_at laws (Some s) (command.Begin i c) new r m b g w a = absurd w
 built_at laws (Some s) (command.Go i n) new r m b g w a = absurd w

@@ -1,5 +1,5 @@
 -- What a script is replied to by a finite map alone.
-use Rattle.std.specs.Prelude.{◌≡◌, ℕ, ◌+◌, ◌%◌, ◌^◌, ⊤, Bool, is_some, nat_eq, List, [], ◌∷◌, ◌++◌, length, take, Option, None, Some, if◌then◌else◌}
+use Rattle.std.specs.Prelude.{◌≡◌, ℕ, ◌+◌, ◌%◌, ◌^◌, ⊤, Bool, true, false, is_some, nat_eq, List, [], ◌∷◌, ◌++◌, length, take, Option, None, Some, if◌then◌else◌}
 use Rattle.std.specs.FinMap.{get, empty, entries}
 use Rattle.std.specs.List.{AllByRecursion, flat_map}
 use Rattle.std.specs.Option.{option_map}
@@ -8,6 +8,7 @@ use Rattle.judge.specs.declared.journal.Call.{Call as Point}
 use Rattle.judge.specs.declared.journal.Call.TheVariants as point
 use Rattle.judge.specs.declared.journal.Reply.{Reply as Told}
 use Rattle.congee.specs.owned.Ranges.{in_range}
+use Rattle.joint.specs.Survey.{keys_of}
 use Rattle.trial.specs.declared.command.Call.{Call}
 use Rattle.trial.specs.declared.command.Call.TheVariants as call
 use Rattle.trial.specs.declared.command.Command.{Command}
@@ -45,9 +46,16 @@ point_of m _ = None
 abbrev pub as_reply : Told ℕ × Pairs ℕ → Reply × Pairs ℕ
 as_reply told = (reply_to told.0, told.1)
 
--- the reply of the map m to a call on one key or on a range of keys, and the map after it
+-- whether a map has no pair
+abbrev pub is_nil : {A : Type 0} → List A → Bool
+is_nil [] = true
+is_nil (x ∷ xs) = false
+
+-- the reply of the map m to a call on one key, on a range of keys or on all, and the map after it
 abbrev pub call_reply : Pairs ℕ → Call → Option (Reply × Pairs ℕ)
 call_reply m (call.Range start end size) = Some (reply.Range (take size (in_range start end (entries m))), m)
+call_reply m call.Keys = Some (reply.Keys (keys_of m), m)
+call_reply m call.Empty = Some (reply.Empty (is_nil (entries m)), m)
 call_reply m c = option_map (λ p. as_reply (answer nat_eq m p)) (point_of m c)
 
 -- the same of a command, where it is such a call
@@ -59,9 +67,10 @@ abbrev pub map_or : Pairs ℕ → Option (Reply × Pairs ℕ) → Pairs ℕ
 map_or m None = m
 map_or m (Some told) = told.1
 
--- the map after a command; a new tree's is empty
+-- the map after a command; a new tree's is empty, and none is left where a tree was closed
 abbrev pub map_after : Pairs ℕ → Command → Pairs ℕ
 map_after m (command.New o) = empty
+map_after m command.Close = empty
 map_after m c = map_or m (answer_to m c)
 
 abbrev pub with_reply : Option (Reply × Pairs ℕ) → List Reply → List Reply
@@ -73,7 +82,7 @@ abbrev pub map_replies : Pairs ℕ → List Command → List Reply
 map_replies m [] = []
 map_replies m (c ∷ cs) = with_reply (answer_to m c) (map_replies (map_after m c) cs)
 
--- whether a command is a whole call on one key or on a range of keys
+-- whether a command is a whole call on one key, on a range of keys or on all
 abbrev pub is_on_keys : Command → Bool
 is_on_keys c = is_some (answer_to empty c)
 

@@ -30,6 +30,9 @@ abbrev pub ending : List (ℕ × ℕ) → Done ℕ → Reply
 ending places done.Unit = reply.Ok
 ending places (done.Reply told) = reply_to told
 ending places (done.Scanned count) = reply.Range (take count places)
+ending places (done.Keys keys) = reply.Keys keys.items
+ending places (done.Empty b) = reply.Empty b
+ending places (done.Stats stats) = reply.Stats stats
 
 -- the reply to a call that stands so
 abbrev pub reply_of : List (ℕ × ℕ) → Outcome ℕ → Reply

@@ -1,6 +1,10 @@
 -- What a command does to the tree of a session, and how it is replied to.
-use Rattle.std.specs.Prelude.{◌≡◌, ℕ, zero, suc, Bool, true, false, ◌&&◌, is_none, is_some, nat_eq, nat_lt, if◌then◌else◌, [], MatchOption, Option, None, Some, Result, Ok, Err, MatchBool, ◌^◌, ◌-◌, length}
+use Rattle.std.specs.Prelude.{◌≡◌, ◌<◌, ◌⊎◌, ℕ, zero, suc, Bool, true, false, ◌&&◌, is_none, nat_eq, nat_lt, if◌then◌else◌, List, [], MatchOption, Option, None, Some, Result, Ok, Err, MatchBool, ◌^◌, ◌-◌, length}
+use Rattle.std.specs.FinMap.{entries}
 use Rattle.std.specs.List.{sum_by}
+use Rattle.crossbeam_epoch.specs.World.Ending.{registered_in}
+use Rattle.judge.specs.Answer.{Pairs}
+use Rattle.congee.specs.Keys.{IsMapOf}
 use Rattle.joint.specs.declared.limits.Limits.{Limits}
 use Rattle.joint.specs.declared.refusal.Refusal.{Refusal}
 use Rattle.joint.specs.declared.refusal.Refusal.TheVariants as refusal
@@ -11,6 +15,7 @@ use Rattle.joint.specs.declared.steps.Outcome.TheVariants as outcome
 use Rattle.joint.specs.Limits.{usual}
 use Rattle.joint.specs.Listing.{bytes_of, waiting_nodes}
 use Rattle.joint.specs.Opening.{IsOpened, IsUnopened}
+use Rattle.joint.specs.Forest.{nodes}
 use Rattle.joint.specs.Runs.{IsFresh}
 use Rattle.joint.specs.Whole.{Whole, Holds}
 use Rattle.trial.specs.declared.caller.Closure.{Closure}
@@ -33,23 +38,25 @@ use Rattle.trial.specs.Replies.{reply_of, begun_of}
 abbrev pub Session : Type 0
 Session = Option Index
 
--- the tree's operation that a call asks for, where it is built
-abbrev pub op_of : Call → Option (Op ℕ)
-op_of call.Pin = Some op.Pin
-op_of call.Unpin = Some op.Unpin
-op_of call.Repin = Some op.Repin
-op_of call.Flush = Some op.Flush
-op_of call.Release = Some op.Release
-op_of (call.Get k) = Some (op.Get k)
-op_of (call.Remove k) = Some (op.Remove k)
-op_of (call.Insert k v) = Some (op.Insert k v)
-op_of (call.PresentAdd k n) = Some (op.ComputePresent k)
-op_of (call.PresentDrop k) = Some (op.ComputePresent k)
-op_of (call.OrInsert k n) = Some (op.ComputeInsert k)
-op_of (call.Exchange k old new) = Some (op.Exchange k old (Some new))
-op_of (call.ExchangeDrop k old) = Some (op.Exchange k old None)
-op_of (call.Range start end size) = Some (op.Range start end size)
-op_of _ = None
+-- the tree's operation that a call asks for
+abbrev pub op_of : Call → Op ℕ
+op_of call.Pin = op.Pin
+op_of call.Unpin = op.Unpin
+op_of call.Repin = op.Repin
+op_of call.Flush = op.Flush
+op_of call.Release = op.Release
+op_of (call.Get k) = op.Get k
+op_of (call.Remove k) = op.Remove k
+op_of (call.Insert k v) = op.Insert k v
+op_of (call.PresentAdd k n) = op.ComputePresent k
+op_of (call.PresentDrop k) = op.ComputePresent k
+op_of (call.OrInsert k n) = op.ComputeInsert k
+op_of (call.Exchange k old new) = op.Exchange k old (Some new)
+op_of (call.ExchangeDrop k old) = op.Exchange k old None
+op_of (call.Range start end size) = op.Range start end size
+op_of call.Keys = op.Keys
+op_of call.Empty = op.IsEmpty
+op_of call.Stats = op.Stats
 
 -- what it answers where it asks
 abbrev pub closure_of : Call → Option Closure
@@ -61,11 +68,13 @@ closure_of _ = None
 -- whether the line of a command is built
 abbrev pub is_built : Command → Bool
 is_built (command.New o) = is_none o.journal
-is_built (command.Call w c) = is_some (op_of c)
-is_built (command.Begin w c) = is_some (op_of c)
 is_built command.Journal = false
-is_built command.Close = false
 is_built _ = true
+
+-- whether a command closes the tree
+abbrev pub closes : Command → Bool
+closes command.Close = true
+closes _ = false
 
 -- why an outcome is a refusal, if it is one
 abbrev pub refusal_of : Outcome ℕ → Option Refusal
@@ -112,14 +121,12 @@ abbrev pub RepliesBegun : Index → ℕ → Outcome ℕ → Index → Reply → 
 RepliesBegun old who stands new r = GaveAway old who stands new × (r ≡ begun_of (given stands (places_at old.scans.items who)) stands)
 
 -- a call of a worker, replied to by how it stands
-abbrev pub CallReplies : Option (Op ℕ) → Option Closure → Index → ℕ → Index → Reply → Type 0
-CallReplies None f old who new r = ⊥
-CallReplies (Some o) f old who new r = (stands : Outcome ℕ) × (mid : Index) × Calls old who o f stands mid × Replies mid who stands new r
+abbrev pub CallReplies : Op ℕ → Option Closure → Index → ℕ → Index → Reply → Type 0
+CallReplies o f old who new r = (stands : Outcome ℕ) × (mid : Index) × Calls old who o f stands mid × Replies mid who stands new r
 
 -- its first step alone
-abbrev pub BeginReplies : Option (Op ℕ) → Option Closure → Index → ℕ → Index → Reply → Type 0
-BeginReplies None f old who new r = ⊥
-BeginReplies (Some o) f old who new r = (stands : Outcome ℕ) × (mid : Index) × Begins old who o f stands mid × RepliesBegun mid who stands new r
+abbrev pub BeginReplies : Op ℕ → Option Closure → Index → ℕ → Index → Reply → Type 0
+BeginReplies o f old who new r = (stands : Outcome ℕ) × (mid : Index) × Begins old who o f stands mid × RepliesBegun mid who stands new r
 
 -- so many further steps of the worker's call in flight
 abbrev pub GoReplies : ℕ → Index → ℕ → Index → Reply → Type 0
@@ -162,6 +169,20 @@ budget_or (Some n) = n
 abbrev pub budget_of : Opening → ℕ
 budget_of o = budget_or o.limit
 
+-- the tree that was open is closed: its pairs are told in ascending order, and what was charged before it is left
+pub record Closed (old : Index) (new : Session) (r : Reply) : Type 0 where
+  pub none : new ≡ None
+  pub no_worker : registered_in old.world.forest.collector ≡ 0
+  pub pairs : List (ℕ × ℕ)
+  pub all : (m : Pairs ℕ) → IsMapOf (nodes old.world.forest) m → pairs ≡ entries m
+  pub reply : r ≡ reply.Closed pairs old.world.forest.base
+
+-- or isn't, while workers are registered
+pub record StaysOpen (old : Index) (new : Session) (r : Reply) : Type 0 where
+  pub same : new ≡ Some old
+  pub workers : 0 < registered_in old.world.forest.collector
+  pub reply : r ≡ reply.Refused (refused.Tree (refusal.WorkersLeft (registered_in old.world.forest.collector)))
+
 -- a tree with a root alone, of which all that always does holds, or why there is none
 abbrev pub Opens : Limits → ℕ → ℕ → Result (Whole ℕ) Refusal → Type 0
 Opens limits charge limit (Ok world) = IsOpened limits charge limit world.forest × IsFresh world × Holds nat_eq true world
@@ -182,6 +203,7 @@ abbrev pub AnswersBuilt : Session → Command → Session → Reply → Type 0
 AnswersBuilt None (command.New o) new r = OpensWith (limits_of o) (budget_of o) new r
 AnswersBuilt None c new r = Refuses refused.NoTree None new r
 AnswersBuilt (Some old) (command.New o) new r = Refuses refused.Open (Some old) new r
+AnswersBuilt (Some old) command.Close new r = Closed old new r ⊎ StaysOpen old new r
 AnswersBuilt (Some old) c new r = (index : Index) × (new ≡ Some index) × Asks old c index r
 
 -- What a command does to a session, and its reply. A line that isn't built changes nothing, a tree open or not.

@@ -1,5 +1,5 @@
 -- The texts that replies are printed as.
-use Rattle.std.specs.Prelude.{ℕ, List, [], ◌∷◌, ◌++◌, length, None, Some, Ok, Err, decimal, codes}
+use Rattle.std.specs.Prelude.{ℕ, Bool, true, false, List, [], ◌∷◌, ◌++◌, length, None, Some, Ok, Err, decimal, codes}
 use Rattle.std.specs.List.{flat_map}
 use Rattle.joint.specs.declared.refusal.Refusal.{Refusal}
 use Rattle.joint.specs.declared.refusal.Refusal.TheVariants as refusal
@@ -44,6 +44,14 @@ pair_text pair = codes " " ++ decimal pair.0 ++ codes ":" ++ decimal pair.1
 abbrev pub pairs_text : List (ℕ × ℕ) → List ℕ
 pairs_text pairs = flat_map pair_text pairs
 
+-- a pair of a tree that was closed, on a line of its own
+abbrev pub drained_text : ℕ × ℕ → List ℕ
+drained_text pair = codes "drain" ++ spaced pair.0 ++ spaced pair.1 ++ 10 ∷ []
+
+abbrev pub truth_text : Bool → List ℕ
+truth_text true = codes "true"
+truth_text false = codes "false"
+
 -- a reply without its line feed
 abbrev pub reply_text : Reply → List ℕ
 reply_text reply.Ok = codes "ok"
@@ -57,14 +65,18 @@ reply_text (reply.Exchanged (Ok (Some v))) = codes "ok some" ++ spaced v
 reply_text (reply.Exchanged (Err None)) = codes "err none"
 reply_text (reply.Exchanged (Err (Some v))) = codes "err some" ++ spaced v
 reply_text (reply.Range pairs) = codes "range" ++ spaced (length pairs) ++ pairs_text pairs
+reply_text (reply.Keys keys) = codes "keys" ++ flat_map spaced keys
+reply_text (reply.Empty b) = truth_text b
+reply_text (reply.Closed pairs bytes) = flat_map drained_text pairs ++ codes "closed" ++ spaced bytes
 reply_text reply.Begun = codes "begun"
 reply_text reply.Running = codes "running"
 reply_text (reply.Charged bytes) = codes "charged" ++ spaced bytes
 reply_text (reply.Waiting nodes bytes) = codes "waiting" ++ spaced nodes ++ spaced bytes
 reply_text (reply.Refused r) = codes "refused " ++ refused_text r
 
--- a reply as it is printed
+-- a reply as it is printed; each line of a text of statistics has its line feed
 abbrev pub printed : Reply → List ℕ
+printed (reply.Stats stats) = stats_text stats
 printed r = reply_text r ++ 10 ∷ []
 
 -- what is printed of a line outside the grammar, by its number

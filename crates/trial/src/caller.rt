@@ -63,13 +63,13 @@ impl Caller {
     }
 
     /// After a step of the call that ended so.
-    pub fn heard(self, outcome: Outcome<u64>) -> Caller
-        ensures { result ≡ heard self outcome }
+    pub fn heard(self, outcome: &Outcome<u64>) -> Caller
+        ensures { result ≡ heard self outcome.now }
     {
         match (self.closure, outcome) {
             (Some(closure), Outcome::Asks(found)) => Caller {
                 closure: self.closure,
-                answer: Some(closure.answer(found)),
+                answer: Some(closure.answer(*found)),
             },
             _ => Caller::new(self.closure),
         }

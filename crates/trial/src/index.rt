@@ -41,8 +41,8 @@ fn no_scans(alloc: Global) -> Result<Vec<Places>, AllocError>
 }
 
 /// Whether a call that stands so is in flight.
-fn is_running(outcome: Outcome<u64>) -> bool
-    ensures { result ≡ is_running outcome }
+fn is_running(outcome: &Outcome<u64>) -> bool
+    ensures { result ≡ is_running outcome.now }
 {
     matches!(
         outcome,
@@ -96,8 +96,8 @@ impl Index {
     }
 
     /// Fills the place that a step of a worker's scan told a pair for, if it told one.
-    fn hear_scan(&mut self, worker: u32, outcome: Outcome<u64>) -> Result<(), AllocError>
-        ensures ok { OnOk result (self.new.scans.items ≡ filled self.old.scans.items worker outcome) }
+    fn hear_scan(&mut self, worker: u32, outcome: &Outcome<u64>) -> Result<(), AllocError>
+        ensures ok { OnOk result (self.new.scans.items ≡ filled self.old.scans.items worker outcome.now) }
         ensures world { self.new.world ≡ self.old.world }
         ensures callers { self.new.callers ≡ self.old.callers }
     {
@@ -105,7 +105,7 @@ impl Index {
             return Ok(());
         };
         if (worker as usize) < self.scans.len() {
-            self.scans[worker as usize].fill(place, key, value)?;
+            self.scans[worker as usize].fill(*place, *key, *value)?;
         }
         Ok(())
     }
@@ -143,7 +143,7 @@ impl Index {
             event: Event::Begin(op),
         };
         let outcome = self.world.step(step).outcome;
-        if is_running(outcome) {
+        if is_running(&outcome) {
             self.set_caller(worker, Caller::new(closure));
             self.clear_scan(worker);
         }
@@ -161,8 +161,8 @@ impl Index {
             event: Event::Go(caller.noise(fail)),
         };
         let outcome = self.world.step(step).outcome;
-        self.set_caller(worker, caller.heard(outcome));
-        self.hear_scan(worker, outcome)?;
+        self.set_caller(worker, caller.heard(&outcome));
+        self.hear_scan(worker, &outcome)?;
         Ok(outcome)
     }
 
@@ -178,7 +178,7 @@ impl Index {
     {
         let mut outcome = outcome;
         for _i in 0..most {
-            if !is_running(outcome) {
+            if !is_running(&outcome) {
                 return Ok(outcome);
             }
             outcome = self.go(worker, false)?;

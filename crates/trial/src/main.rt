@@ -3,9 +3,11 @@
 
 mod caller;
 mod command;
+mod drained;
 mod end;
 mod examples;
 mod index;
+mod keys;
 mod keyword;
 mod line;
 mod parser;

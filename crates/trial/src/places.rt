@@ -1,5 +1,5 @@
 //! The pairs that a scan tells.
-ghost use Rattle.std.specs.Prelude.{◌≡◌, [], OnOk, length, take};
+ghost use Rattle.std.specs.Prelude.{◌≡◌, ◌++◌, ◌∷◌, [], OnOk, length, take};
 ghost use Rattle.congee.specs.protocol.Sweeps.{written};
 ghost use Rattle.trial.specs.Texts.{pairs_text};
 
@@ -48,6 +48,13 @@ impl Places {
             self.pairs.push((key, value))?;
         }
         Ok(())
+    }
+
+    /// Fills the next place.
+    pub fn add(&mut self, key: u64, value: u64) -> Result<(), AllocError>
+        ensures ok { OnOk result (self.new ≡ self.old ++ (key, value) ∷ []) }
+    {
+        self.pairs.push((key, value))
     }
 
     /// The first places alone.

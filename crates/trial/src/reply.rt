@@ -3,7 +3,9 @@ ghost use Rattle.std.specs.Prelude.{◌≡◌, Some};
 ghost use Rattle.trial.specs.Replies.{pair_of, reply_to, ending, reply_of, begun_of};
 ghost use Rattle.trial.specs.Texts.{refused_text, reply_text};
 
+use crate::keys::Keys;
 use crate::places::Places;
+use congee::NodeStats;
 use joint::{Done, Outcome, Refusal};
 use std::fmt;
 
@@ -34,6 +36,14 @@ pub enum Reply {
     Exchanged(Result<Option<u64>, Option<u64>>),
     /// The pairs that a scan found, in ascending order.
     Range(Places),
+    /// All keys, in ascending order.
+    Keys(Keys),
+    /// Whether there is no key.
+    Empty(bool),
+    /// How the nodes are spread over levels and forms.
+    Stats(NodeStats),
+    /// The pairs of the tree that was closed, in ascending order, and the bytes that are still charged.
+    Closed(Places, u64),
     /// The call is begun.
     Begun,
     /// The call is in flight.
@@ -68,6 +78,9 @@ fn ending(places: Places, done: Done<u64>) -> Reply
         Done::Unit => Reply::Ok,
         Done::Reply(told) => point(told),
         Done::Scanned(count) => Reply::Range(places.first(count)),
+        Done::Keys(keys) => Reply::Keys(Keys::new(keys)),
+        Done::Empty(empty) => Reply::Empty(empty),
+        Done::Stats(stats) => Reply::Stats(stats),
     }
 }
 

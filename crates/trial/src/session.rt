@@ -3,10 +3,12 @@ ghost use Rattle.std.specs.Prelude.{◌≡◌, IsSome, IfOk, IfErr, true};
 ghost use Rattle.trial.specs.Session.{Answers, AnswersBuilt, Replies, CallReplies, BeginReplies, GoReplies, FailReplies, Rounds, Round, AfterPin, Unwinds, OpensWith};
 ghost use Rattle.trial.specs.Session.{is_built, op_of, closure_of, refusal_of, limits_of, budget_of};
 ghost use Rattle.trial.specs.Places.{given, left, places_at};
+ghost use Rattle.trial.specs.declared.command.Command.TheVariants as Command;
 ghost use Rattle.trial.specs.declared.end.End.TheVariants as End;
 
 use crate::caller::Closure;
 use crate::command::{Call, Command, Opening};
+use crate::drained::Drained;
 use crate::end::End;
 use crate::index::Index;
 use crate::places::Places;
@@ -15,27 +17,28 @@ use congee::Limited;
 use joint::{Done, Limits, Op, Outcome, Refusal, World};
 use std::alloc::Global;
 
-/// The call of the tree that a line asks for, or none where it isn't built yet.
-fn op(call: Call) -> Option<Op<u64>>
+/// The call of the tree that a line asks for.
+fn op(call: Call) -> Op<u64>
     ensures { result ≡ op_of call }
 {
     match call {
-        Call::Pin => Some(Op::Pin),
-        Call::Unpin => Some(Op::Unpin),
-        Call::Repin => Some(Op::Repin),
-        Call::Flush => Some(Op::Flush),
-        Call::Release => Some(Op::Release),
-        Call::Get(key) => Some(Op::Get(key)),
-        Call::Remove(key) => Some(Op::Remove(key)),
-        Call::Insert(key, value) => Some(Op::Insert(key, value)),
-        Call::PresentAdd(key, _) => Some(Op::ComputePresent(key)),
-        Call::PresentDrop(key) => Some(Op::ComputePresent(key)),
-        Call::OrInsert(key, _) => Some(Op::ComputeInsert(key)),
-        Call::Exchange(key, old, new) => Some(Op::Exchange(key, old, Some(new))),
-        Call::ExchangeDrop(key, old) => Some(Op::Exchange(key, old, None)),
-        Call::Range(start, end, size) => Some(Op::Range(start, end, size as usize)),
-        // Keys, Empty and Stats aren't built yet.
-        _ => None,
+        Call::Pin => Op::Pin,
+        Call::Unpin => Op::Unpin,
+        Call::Repin => Op::Repin,
+        Call::Flush => Op::Flush,
+        Call::Release => Op::Release,
+        Call::Get(key) => Op::Get(key),
+        Call::Remove(key) => Op::Remove(key),
+        Call::Insert(key, value) => Op::Insert(key, value),
+        Call::PresentAdd(key, _) => Op::ComputePresent(key),
+        Call::PresentDrop(key) => Op::ComputePresent(key),
+        Call::OrInsert(key, _) => Op::ComputeInsert(key),
+        Call::Exchange(key, old, new) => Op::Exchange(key, old, Some(new)),
+        Call::ExchangeDrop(key, old) => Op::Exchange(key, old, None),
+        Call::Range(start, end, size) => Op::Range(start, end, size as usize),
+        Call::Keys => Op::Keys,
+        Call::Empty => Op::IsEmpty,
+        Call::Stats => Op::Stats,
     }
 }
 
@@ -58,10 +61,8 @@ fn is_built(command: Command) -> bool
 {
     match command {
         Command::New(opening) => opening.journal.is_none(),
-        Command::Call(_, call) => op(call).is_some(),
-        Command::Begin(_, call) => op(call).is_some(),
-        Command::Journal | Command::Close => false,
-        // Register, Charged, Waiting, Go, Fail and Round.
+        Command::Journal => false,
+        // No other one has to do with a journal.
         _ => true,
     }
 }
@@ -172,9 +173,9 @@ fn answer_closed(alloc: Global, command: Command) -> Result<(Option<Index>, Repl
 }
 
 /// The places of a worker's call that stands so: where it is a scan that is done, they are taken from it.
-fn places(alloc: Global, index: &mut Index, worker: u32, outcome: Outcome<u64>) -> Places
-    ensures places { result ≡ given outcome (places_at index.old.scans.items worker) }
-    ensures scans { index.new.scans.items ≡ left outcome worker index.old.scans.items }
+fn places(alloc: Global, index: &mut Index, worker: u32, outcome: &Outcome<u64>) -> Places
+    ensures places { result ≡ given outcome.now (places_at index.old.scans.items worker) }
+    ensures scans { index.new.scans.items ≡ left outcome.now worker index.old.scans.items }
     ensures world { index.new.world ≡ index.old.world }
     ensures callers { index.new.callers ≡ index.old.callers }
 {
@@ -188,36 +189,26 @@ fn places(alloc: Global, index: &mut Index, worker: u32, outcome: Outcome<u64>) 
 fn reply(alloc: Global, index: &mut Index, worker: u32, outcome: Outcome<u64>) -> Reply
     ensures { Replies index.old worker outcome index.new result }
 {
-    Reply::of(places(alloc, index, worker, outcome), outcome)
+    let places = places(alloc, index, worker, &outcome);
+    Reply::of(places, outcome)
 }
 
 /// The reply to a whole call.
 fn answer_call(alloc: Global, index: &mut Index, worker: u32, call: Call) -> Result<Reply, End>
-    requires { IsSome (op_of call) }
     ensures ok { IfOk result (λ reply. CallReplies (op_of call) (closure_of call) index.old worker index.new reply) }
     ensures err { IfErr result (λ e. e ≡ End.Memory) }
 {
-    match op(call) {
-        Some(op) => {
-            let outcome = index.call(worker, op, closure(call))?;
-            Ok(reply(alloc, index, worker, outcome))
-        }
-        None => unreachable!(),
-    }
+    let outcome = index.call(worker, op(call), closure(call))?;
+    Ok(reply(alloc, index, worker, outcome))
 }
 
 /// The reply to a call of which the first step alone is taken.
 fn answer_begin(alloc: Global, index: &mut Index, worker: u32, call: Call) -> Reply
-    requires { IsSome (op_of call) }
     ensures { BeginReplies (op_of call) (closure_of call) index.old worker index.new result }
 {
-    match op(call) {
-        Some(op) => {
-            let outcome = index.begin(worker, op, closure(call));
-            Reply::begun(places(alloc, index, worker, outcome), outcome)
-        }
-        None => unreachable!(),
-    }
+    let outcome = index.begin(worker, op(call), closure(call));
+    let places = places(alloc, index, worker, &outcome);
+    Reply::begun(places, outcome)
 }
 
 /// The reply to further steps of a worker's call in flight.
@@ -240,7 +231,8 @@ fn answer_fail(alloc: Global, index: &mut Index, worker: u32) -> Result<Reply, E
 
 /// The reply to a command on the tree that is open.
 fn answer_open(alloc: Global, index: &mut Index, command: Command) -> Result<Reply, End>
-    requires { is_built command ≡ true }
+    requires built { is_built command ≡ true }
+    requires stays { closes command ≡ false }
     ensures ok { IfOk result (λ reply. AnswersBuilt (Some index.old) command (Some index.new) reply) }
     ensures err { IfErr result (λ e. e ≡ End.Memory) }
 {
@@ -258,14 +250,42 @@ fn answer_open(alloc: Global, index: &mut Index, command: Command) -> Result<Rep
     }
 }
 
+/// Closes the tree that is open, if one is, and tells its pairs, in ascending order, and the charge that is left.
+fn close(alloc: Global, session: &mut Option<Index>) -> Result<Reply, End>
+    ensures ok { IfOk result (λ reply. AnswersBuilt session.old Command.Close session.new reply) }
+    ensures err { IfErr result (λ e. e ≡ End.Memory) }
+{
+    let Some(Index {
+        world,
+        callers,
+        scans,
+    }) = session.take() else {
+        return Ok(Reply::Refused(Refused::NoTree));
+    };
+    match world.close(Drained::new(alloc)) {
+        Ok((allocator, drained)) => Ok(Reply::Closed(drained.pairs()?, allocator.charged())),
+        Err((refusal, world, _)) => {
+            *session = Some(Index {
+                world,
+                callers,
+                scans,
+            });
+            Ok(Reply::Refused(Refused::Tree(refusal)))
+        }
+    }
+}
+
 /// Carries out a command on the tree that is open, if one is, and tells the reply. Without memory for what it is to hold
-/// of a scan, the script ends.
+/// of a scan or of the pairs of a tree that is closed, the script ends.
 pub fn answer(alloc: Global, session: &mut Option<Index>, command: Command) -> Result<Reply, End>
     ensures ok { IfOk result (λ reply. Answers session.old command session.new reply) }
     ensures err { IfErr result (λ e. e ≡ End.Memory) }
 {
     if !is_built(command) {
         return Ok(Reply::Refused(Refused::Later));
+    }
+    if matches!(command, Command::Close) {
+        return close(alloc, session);
     }
     match session {
         Some(index) => answer_open(alloc, index, command),

@@ -54,9 +54,11 @@ use Rattle.joint.specs.Forest.{nodes, Refuses}
 use Rattle.joint.specs.Intact.{IsAt, IsIntact, call_after, secured_call, secured_machines, is_over, over_at, rested, root}
 use Rattle.joint.specs.Refusals.{of_fault}
 use Rattle.joint.specs.Reports.{target, told}
+use Rattle.joint.specs.Surveys.{MapTells}
 use Rattle.joint.specs.Runs.{Flights, with_flight, Line, Stays, BeginMap, BeginsOr, PendingStep, FlightStep, GoMap, EventMap, InFlight, AreInFlight}
 use Rattle.joint.specs.Whole.{Whole, Holds, misuse, is_busy, place_of, quiet, collection, finds_none, Collects, Enters, EntersUnless, Reserves, GoesOnReserving, reserving, Walks, BeginsAt, BeginsOnTree, GoesAt, Proceeds, Does as Acts}
 use Rattle.joint.proofs.lemmas.Collecting.{either}
+use Rattle.joint.proofs.lemmas.Standing.{map_tells}
 use Rattle.joint.proofs.lemmas.Resting.{cleared_is, done_over, rest_follows}
 use Rattle.joint.proofs.lemmas.Flights.{set_at, flight_here, flight_apart, pending, begun_follows, ended, listed, listed_at, following, followed}
 
@@ -267,12 +269,21 @@ module _ {V : Type 0} (same : V → V → Bool) (always : Bool) (s s' : Whole V)
   begins : (event : Event V) (t : Target V) (r : Report V) → fs w ≡ Over → w < length s.calls → BeginsAt same always s w t r s' → Result event r (λ l f'. BeginMap fs m t l f')
   begins event (target.Collector op) r f l x = collects event (collector.Begin op) op r (λ y f'. BeginMap fs m (target.Collector op) y f') f l x (λ d. stays event r m d)
   begins event (target.Tree op) r f l x = begins_tree event op r f l x
+  begins event (target.Survey k) r f l x =
+      unchanged event r (λ y f'. BeginMap fs m (target.Survey k) y f') x.state (record {
+        tells = subst (MapTells m k) (sym (ap (λ y. y.outcome) x.report)) (map_tells (nodes s.forest) m st k x.outcome x.tells);
+        stays = stays event r m (ap (λ y. y.decided) x.report);
+      })
 
   refused_begin : (event : Event V) (t : Target V) (r : Report V) (k : Kind) (f : Fault) → r ≡ quiet k (Refused (of_fault f)) → BeginMap fs m t (line event r None m) fs
   refused_begin event (target.Collector op) r k f e = stays event r m (ap (λ y. y.decided) e)
   refused_begin event (target.Tree op) r k f e =
       let P : Report V → Type 0 = λ y. BeginsOr fs m op y.outcome (line event y None m) fs in
       subst P (sym e) (stays event (quiet k (Refused (of_fault f))) m refl)
+  refused_begin event (target.Survey t) r k f e = record {
+    tells = subst (MapTells m t) (sym (ap (λ y. y.outcome) e)) tt;
+    stays = stays event r m (ap (λ y. y.decided) e);
+  }
 
   -- a worker's call on the tree goes on, in whichever way it is watched
   advances : (f : Flight V) (event : Event V) (answer : Option (Option V)) (r : Report V) (e : Option (Entry V)) (m' : Pairs V) (f' : Flight V) → f ≢ Over → fs w ≡ f → FlightStep same f m answer (line event r e m') f'

@@ -21,6 +21,7 @@ use Rattle.joint.specs.declared.steps.Event.TheVariants.{Register, Begin, Go}
 use Rattle.joint.specs.declared.steps.Report.{Report}
 use Rattle.joint.specs.declared.steps.Target.{Target}
 use Rattle.joint.specs.declared.steps.Target.TheVariants as target
+use Rattle.joint.specs.Forest.{nodes}
 use Rattle.joint.specs.Intact.{call_after, secured_call, over_at}
 use Rattle.joint.specs.Laws.{CallLaws}
 use Rattle.joint.specs.Reports.{target, told, collected}
@@ -29,6 +30,7 @@ use Rattle.joint.specs.Whole.{Whole, Holds, Does, Proceeds, BeginsAt, BeginsOnTr
 use Rattle.joint.proofs.lemmas.Collecting.{set_here, there}
 use Rattle.joint.proofs.lemmas.Ending.{goes}
 use Rattle.joint.proofs.lemmas.HandOver.{held_place}
+use Rattle.joint.proofs.lemmas.Standing.{survey_ends}
 use Rattle.joint.proofs.lemmas.Walking as walking
 
 twice : (b : Bool) → not (not b) ≡ b
@@ -119,6 +121,8 @@ module _ {V : Type 0} (same : V → V → Bool) (always : Bool) (laws : CallLaws
   begins : (t : Target V) (r : Report V) → is_busy (slice_get s.calls w) ≡ false → w < length s.calls → BeginsAt same always s w t r s' → Tells r
   begins (target.Collector op) r fr l x = collects _ (Collecting op) r refl l x
   begins (target.Tree op) r fr l x = begins_tree op r fr l x
+  begins (target.Survey k) r fr l x =
+      ap (λ y. is_busy (slice_get y.calls w)) x.state ∙ fr ∙ sym (survey_ends (nodes s.forest) k x.outcome x.tells) ∙ sym (ap (λ y. is_in_flight y.outcome) x.report)
 
   on : (k : Option (Call V)) (noise : Noise Id V) (r : Report V) → slice_get s.calls w ≡ k → GoesAt same always s w k noise r s' → Tells r
   on None noise r e x = absurd x

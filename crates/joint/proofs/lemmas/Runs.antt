@@ -86,6 +86,7 @@ module _ {V : Type 0} (same : V → V → Bool) (always : Bool) where
   target_entered : (fs : Flights V) (m : Pairs V) (t : Target V) (l : Line V) (fs' : Flights V) → BeginMap fs m t l fs' → Entered m l
   target_entered fs m (target.Collector op) l fs' x = stays_entered fs m l fs' x
   target_entered fs m (target.Tree op) l fs' x = begin_entered fs m op l.report.outcome l fs' x
+  target_entered fs m (target.Survey k) l fs' x = stays_entered fs m l fs' x.stays
 
   pending_entered : (k : ℕ) (kind : Kind V) (v : Option V) (q : Question V) (m : Pairs V) (b : Bool) (l : Line V) (f' : Flight V) → PendingStep same k kind v q m b l f' → Entered m l
   pending_entered k kind v q m false l f' x = inl (x.no_entry, x.same_pairs)

@@ -180,6 +180,7 @@ module _ {V : Type 0} (same : V → V → Bool) where
     target_apart : (fs : Flights V) (m : Pairs V) (places : List (ℕ × V)) (l : Line V) (fs1 : Flights V) (t : Target V) → Under fs places → BeginMap fs m t l fs1 → fs1 w ≡ fs w
     target_apart fs m places l fs1 (target.Collector op) u x = ap (λ g. g w) x.same_flights
     target_apart fs m places l fs1 (target.Tree op) u x = begin_apart fs m places l fs1 op l.report.outcome refl u x
+    target_apart fs m places l fs1 (target.Survey k) u x = ap (λ g. g w) x.stays.same_flights
 
     go_apart : (fs : Flights V) (m : Pairs V) (l : Line V) (fs1 : Flights V) (answer : Option (Option V)) (f : Flight V) → w ≢ l.step.worker → GoMap same fs f m answer l fs1 → fs1 w ≡ fs w
     go_apart fs m l fs1 answer Over n x = ap (λ g. g w) x.same_flights

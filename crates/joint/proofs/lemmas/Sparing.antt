@@ -96,6 +96,7 @@ module _ {V : Type 0} (same : V → V → Bool) (always : Bool) (leaves : (s : F
     begins : (t : Target V) (r : Report V) → BeginsAt same always s w t r s' → SparesUsed s w s'
     begins (target.Collector op) r x = by_collector x.step.destroys
     begins (target.Tree op) r x = begins_tree op r x
+    begins (target.Survey k) r x = unchanged x.state
 
     goes : (k : Option (Call V)) (noise : Noise Id V) (r : Report V) → slice_get s.calls w ≡ k → GoesAt same always s w k noise r s' → SparesUsed s w s'
     goes None noise r e x = absurd x

@@ -29,6 +29,9 @@ use Rattle.joint.specs.declared.steps.Kind.TheVariants as kind
 use Rattle.joint.specs.declared.steps.Outcome.TheVariants as outcome
 use Rattle.joint.specs.declared.steps.Report.{Report}
 use Rattle.joint.specs.declared.steps.Target.{Target}
+use Rattle.joint.specs.declared.steps.Survey.{Survey}
+use Rattle.joint.specs.declared.steps.Survey.TheVariants as survey
+use Rattle.joint.specs.declared.steps.Target.TheVariants as target
 use Rattle.joint.specs.declared.steps.Target.TheVariants.{Collector, Tree}
 use Rattle.congee.specs.declared.protocol.machine.Noise.{Noise}
 use Rattle.joint.specs.declared.call.Stage.TheVariants as about
@@ -40,7 +43,7 @@ use Rattle.joint.specs.Laws.{ProgressLaws}
 use Rattle.joint.specs.Machines.{Collected}
 use Rattle.joint.specs.Refusals.{of_fault}
 use Rattle.joint.specs.Reports.{collected}
-use Rattle.joint.specs.Whole.{Whole, is_busy, unready, interruption, kind_of, quiet, collection, misuse, finds_none, BeginsAt, BeginsOnTree, GoesAt, Does, Enters, EntersUnless, Reserves, begin_misuse}
+use Rattle.joint.specs.Whole.{Whole, is_busy, unready, interruption, kind_of, quiet, collection, misuse, finds_none, BeginsAt, BeginsOnTree, GoesAt, Does, Enters, EntersUnless, Reserves, Surveys, begin_misuse}
 use Rattle.joint.proofs.lemmas.Collecting.{there, inside_machines}
 use Rattle.joint.proofs.lemmas.HandOver.{held_place}
 
@@ -111,6 +114,22 @@ module _ {V : Type 0} (same : V → V → Bool) (always : Bool) (w : Whole V) (w
 
     on_tree : (op : Point V) (r : Report V) (w' : Whole V) → is_some (place c who).word ≡ true → BeginsOnTree same always w who op r w' → Begun same always w who (Tree op) r w'
     on_tree op r w' p b = proceeds (Tree op) r w' (past (Tree op) reg idle ∙ word (place c who).word p) b
+
+    -- a call of one step
+    tells : (k : Survey) (r : Report V) → unready (target.Survey k) (place c who) ≡ None → Surveys w k r w → Begun same always w who (target.Survey k) r w
+    tells k r u b = proceeds (target.Survey k) r w (past (target.Survey k) reg idle ∙ u) b
+
+    pub tells_keys : (r : Report V) → Surveys w survey.Keys r w → Begun same always w who (target.Survey survey.Keys) r w
+    tells_keys r b = tells survey.Keys r refl b
+
+    pub tells_stats : (r : Report V) → Surveys w survey.Stats r w → Begun same always w who (target.Survey survey.Stats) r w
+    tells_stats r b = tells survey.Stats r refl b
+
+    pub tells_empty : (r : Report V) → is_some (place c who).word ≡ true → Surveys w survey.IsEmpty r w → Begun same always w who (target.Survey survey.IsEmpty) r w
+    tells_empty r p b = tells survey.IsEmpty r (word (place c who).word p) b
+
+    pub asks_unpinned : (r : Report V) → is_some (place c who).word ≡ false → r ≡ quiet kind.Tree (outcome.Refused (of_fault fault.Unpinned)) → Begun same always w who (target.Survey survey.IsEmpty) r w
+    asks_unpinned r p q = refused (target.Survey survey.IsEmpty) fault.Unpinned r (past (target.Survey survey.IsEmpty) reg idle ∙ no_word (place c who).word p) q
 
     enter : (op : Point V) (r : Report V) (w' : Whole V) → finds_none op ≡ false → writes op ≡ false → Enters w who op r w' → BeginsOnTree same always w who op r w'
     enter (point.Get k) r w' n e b = b
