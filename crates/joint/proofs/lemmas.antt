@@ -9,6 +9,7 @@ pub mod CallScans
 pub mod Collected
 pub mod Collecting
 pub mod Copying
+pub mod Counting
 pub mod Ending
 pub mod Events
 pub mod Exchanging
@@ -20,6 +21,7 @@ pub mod HandOver
 pub mod Handed
 pub mod Hanging
 pub mod Kept
+pub mod Keyed
 pub mod Listing
 pub mod Made
 pub mod MapSteps

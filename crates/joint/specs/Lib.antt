@@ -5,6 +5,7 @@ pub mod Forest
 pub mod Heap
 pub mod Intact
 pub mod Laws
+pub mod Levels
 pub mod Limits
 pub mod Listing
 pub mod Machines

@@ -1,6 +1,6 @@
 -- What stands in the tree at one moment.
-use Rattle.std.specs.Prelude.{◌≡◌, ℕ, ◌+◌, ◌<◌, ◌≤◌, ◌^◌, ◌⊎◌, ◌↔◌, Bool, true, false, List, [], ◌∷◌, cond, Option, None, Some, IsSome}
-use Rattle.std.specs.FinMap.{get}
+use Rattle.std.specs.Prelude.{◌≡◌, ℕ, ◌+◌, ◌<◌, ◌≤◌, ◌^◌, ◌⊎◌, ◌↔◌, Bool, true, false, List, [], ◌∷◌, cond, Option, None, Some, IsSome, map}
+use Rattle.std.specs.FinMap.{entries, get}
 use Rattle.judge.specs.Answer.{Pairs}
 use Rattle.congee.specs.Heap.{Node, Hung, Nothing, Below, Holds, Stands, fits, child_for, value_at}
 use Rattle.congee.specs.Keys.{key_bytes}
@@ -93,7 +93,11 @@ abbrev pub Has : List ℕ → ℕ → Type 0
 Has [] k = ⊥
 Has (j ∷ js) k = (j ≡ k) ⊎ Has js k
 
--- all keys of a map, in ascending order
+-- the keys of a map, in ascending order
+abbrev pub keys_of : {V : Type 0} → Pairs V → List ℕ
+keys_of m = map (λ p. p.0) (entries m)
+
+-- the list has all keys of a map and no other, and ascends
 pub record AreKeys {V : Type 0} (m : Pairs V) (keys : List ℕ) : Type 0 where
   pub ascend : Ascend keys
   pub each : (k : ℕ) → Has keys k ↔ IsSome (get m k)

@@ -16,6 +16,7 @@ mod opening;
 mod reading;
 mod refusal;
 mod slot;
+mod stats;
 mod steps;
 mod store;
 mod survey;

@@ -10,7 +10,7 @@ ghost use Rattle.judge.specs.Answer.{Pairs};
 ghost use Rattle.joint.specs.declared.slot.Word.{Word};
 ghost use Rattle.joint.specs.Forest.{nodes};
 ghost use Rattle.joint.specs.Solid.{IsSolid};
-ghost use Rattle.joint.specs.Survey.{AreKeys, AreKeysBelow, IsEmptiness, IsPart, IsRegionOf, IsTree, Narrows, NearestGives, bound_of};
+ghost use Rattle.joint.specs.Survey.{AreKeysBelow, IsEmptiness, IsPart, IsRegionOf, IsTree, Narrows, NearestGives, bound_of, keys_of};
 ghost use Rattle.joint.specs.View.{child_at, shape};
 
 use crate::id::Id;
@@ -125,7 +125,7 @@ fn lesser(a: u64, b: u64) -> u64
 }
 
 /// The next number, if there is one.
-fn after(last: u64) -> Option<u64>
+pub(crate) fn after(last: u64) -> Option<u64>
     ensures { bound_of result ≡ last + 1 }
 {
     if last == u64::MAX {
@@ -167,7 +167,7 @@ fn narrow<P: Payload + Small>(node: &Node<Id, P>, from: u64, last: u64) -> Narro
 
 impl<P: Payload + Small, A: Allocator> Nodes<P, A> {
     /// The least key from one on that stands.
-    fn next_key(&self, from: u64) -> Nearest
+    pub(crate) fn next_key(&self, from: u64) -> Nearest
         requires { IsTree (nodes self.now) }
         ensures { NearestGives (nodes self.now) from result }
     {
@@ -214,7 +214,7 @@ impl<P: Payload + Small, A: Allocator> Nodes<P, A> {
     /// All keys, ascending.
     pub(crate) fn keys(&self) -> Result<Vec<u64>, AllocError>
         requires { IsTree (nodes self.now) }
-        ensures { IfOk result (λ v. (m : Pairs P) → IsMapOf (nodes self.now) m → AreKeys m v.items) }
+        ensures { IfOk result (λ v. (m : Pairs P) → IsMapOf (nodes self.now) m → v.items ≡ keys_of m) }
     {
         let mut keys = Vec::new(self.alloc);
         let mut from = Some(0);

@@ -29,14 +29,14 @@ module _ {P : Type 0} where
   under_same go other (Below c) e = e c refl
   under_same go other (Holds v) e = refl
 
-  bytes_same : (go other : ℕ → List Shape) (children : ℕ → Hung P) (n : ℕ) → ((b c : ℕ) → children b ≡ Below c → go c ≡ other c)
+  pub bytes_same : (go other : ℕ → List Shape) (children : ℕ → Hung P) (n : ℕ) → ((b c : ℕ) → children b ≡ Below c → go c ≡ other c)
       → under_bytes go children n ≡ under_bytes other children n
   unfolding under_bytes
   bytes_same go other children zero e = refl
   bytes_same go other children (suc b) e = λ i. bytes_same go other children b e i ++ under_same go other (children b) (e b) i
 
   -- nodes that hang at no byte from one on add nothing
-  none_more : (go : ℕ → List Shape) (children : ℕ → Hung P) (from to : ℕ) → from ≤ to → ((q : ℕ) → from ≤ q → q < to → children q ≡ Nothing)
+  pub none_more : (go : ℕ → List Shape) (children : ℕ → Hung P) (from to : ℕ) → from ≤ to → ((q : ℕ) → from ≤ q → q < to → children q ≡ Nothing)
       → under_bytes go children to ≡ under_bytes go children from
   unfolding under_bytes
   none_more go children from zero l none = ap (under_bytes go children) (let e : 0 ≡ from = omega (arith, l) in e)
@@ -47,7 +47,7 @@ module _ {P : Type 0} where
   ]
 
   -- the next byte that something hangs at
-  one_more : (go : ℕ → List Shape) (children : ℕ → Hung P) (from b : ℕ) → from ≤ b → ((q : ℕ) → from ≤ q → q < b → children q ≡ Nothing)
+  pub one_more : (go : ℕ → List Shape) (children : ℕ → Hung P) (from b : ℕ) → from ≤ b → ((q : ℕ) → from ≤ q → q < b → children q ≡ Nothing)
       → under_bytes go children (b + 1) ≡ under_bytes go children from ++ under_byte go (children b)
   unfolding under_bytes
   one_more go children from b l none =

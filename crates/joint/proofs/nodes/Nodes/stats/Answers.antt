@@ -1,0 +1,11 @@
+use Rattle.std.specs.Prelude.{[]}
+use Rattle.std.proofs.Common.{ap, sym, ◌∙◌}
+use Rattle.std.specs.FinMap as map
+use Rattle.joint.specs.Forest.{nodes}
+use Rattle.joint.proofs.lemmas.Counting.{none_counted, all_counted, root_in}
+use Rattle.joint.proofs.nodes.Nodes.stats.Goals as goal
+
+pub returns : goal.returns
+returns g c m st =
+    let none = none_counted c.new-stats.result c.new-stats.ensures.nodes c.new-stats.ensures.levels c.new-stats.ensures.pairs in
+    all_counted (nodes c.args.self.now) c.count_from.new.stats (map.len m) c.count_pairs.result (c.in_ok-count_from.ensures.counted [] none) (c.count_pairs.ensures m st)
