@@ -14,6 +14,7 @@ abbrev pub form_with : ℕ → NodeType
 form_with n = cond (nat_eq n 4) N4 (cond (nat_eq n 16) N16 (cond (nat_eq n 48) N48 N256))
 
 module _ {V : Type 0} where
+  -- what is counted of a node on a level
   abbrev pub shape_of : ℕ → Node V → Shape
   shape_of level n = record { level = level; form = form_with n.capacity; prefix = length n.prefix; children = n.count }
 

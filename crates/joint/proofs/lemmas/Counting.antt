@@ -1,5 +1,5 @@
 -- The nodes of a shared tree, counted from a node down.
-use Rattle.std.proofs.Common.{◌≡◌, ℕ, zero, suc, ◌<◌, ◌≤◌, ◌+◌, ◌^◌, List, [], ◌∷◌, ◌++◌, length, refl, sym, ap, ◌∙◌, subst, arith}
+use Rattle.std.proofs.Common.{◌≡◌, ℕ, zero, suc, ◌<◌, ◌≤◌, ◌+◌, List, [], ◌∷◌, ◌++◌, length, refl, sym, ap, ◌∙◌, subst, arith}
 use Rattle.std.specs.Prelude.{Option, None, Some, vec_len}
 use Rattle.std.specs.FinMap as map
 use Rattle.std.proofs.lemmas.List.{append-nil, append_assoc}
@@ -11,7 +11,7 @@ use Rattle.congee.specs.declared.forms.child.Child.TheVariants.{Blank, Node as S
 use Rattle.congee.specs.declared.owned.stats.NodeStats.{NodeStats}
 use Rattle.congee.specs.forms.Bytes.{IsFirst}
 use Rattle.congee.specs.forms.Forms.{form_of, capacity_of, children_of}
-use Rattle.congee.specs.Heap.{Node, Hung, Nothing, Below, Holds}
+use Rattle.congee.specs.Heap.{Node}
 use Rattle.congee.specs.Ledger.{Note, Tree, Linked}
 use Rattle.congee.specs.owned.Levels.{under_byte, under_bytes}
 use Rattle.congee.specs.owned.Stats.{capped, no_nodes, info_at, Counts, Shape, IsTally}
@@ -54,10 +54,14 @@ module _ {V : Type 0} (h : ℕ → Node V) where
     nodes_at level n l = ap (λ r. shape_of level (h n) ∷ r) (bytes_same _ _ (h n).children 256 (λ b c d.
         let i = t.down n b c l d in stable 7 8 (level + 1) c i.linked (omega (arith, i.longer)) (omega arith)))
 
-  -- a node is counted, and what hangs below it at the bytes under `from`
+  -- a node, and those below it at the bytes under `from`
+  abbrev so_far : ℕ → ℕ → ℕ → List Shape
+  so_far level n from = shape_of level (h n) ∷ under_bytes (next level) (h n).children from
+
+  -- these are counted
   pub record Counted (old new : NodeStats) (level n from : ℕ) : Type 0 where
     pub bound : from ≤ 256
-    pub tally : (seen : List Shape) → IsTally old seen 0 → IsTally new (seen ++ shape_of level (h n) ∷ under_bytes (next level) (h n).children from) 0
+    pub tally : (seen : List Shape) → IsTally old seen 0 → IsTally new (seen ++ so_far level n from) 0
     pub opened : level < vec_len new.levels
     pub levels : vec_len old.levels ≤ vec_len new.levels
 
@@ -85,13 +89,12 @@ module _ {V : Type 0} (h : ℕ → Node V) where
       went_on old mid new c small more on = record {
         bound = omega (arith, small);
         tally = λ seen is.
-            let above : List Shape = shape_of level (h n) ∷ under_bytes (next level) (h n).children from in
             let grown : under_bytes (next level) (h n).children (b + 1) ≡ under_bytes (next level) (h n).children from ++ under_byte (next level) (hung_at (Some y)) =
             one_more (next level) (h n).children from b first.past (λ q lo hi. hangs q None (first.before q lo hi))
             ∙ ap (λ z. under_bytes (next level) (h n).children from ++ under_byte (next level) z) (hangs b (Some y) first.here) in
-            let all : (seen ++ shape_of level (h n) ∷ under_bytes (next level) (h n).children from) ++ under_byte (next level) (hung_at (Some y)) ≡ seen ++ shape_of level (h n) ∷ under_bytes (next level) (h n).children (b + 1) =
-            append_assoc seen (shape_of level (h n) ∷ under_bytes (next level) (h n).children from) (under_byte (next level) (hung_at (Some y))) ∙ ap (λ l. seen ++ shape_of level (h n) ∷ l) (sym grown) in
-            subst (λ l. IsTally new l 0) all (on (seen ++ shape_of level (h n) ∷ under_bytes (next level) (h n).children from) (c.tally seen is));
+            let all : (seen ++ so_far level n from) ++ under_byte (next level) (hung_at (Some y)) ≡ seen ++ so_far level n (b + 1) =
+            append_assoc seen (so_far level n from) (under_byte (next level) (hung_at (Some y))) ∙ ap (λ l. seen ++ shape_of level (h n) ∷ l) (sym grown) in
+            subst (λ l. IsTally new l 0) all (on (seen ++ so_far level n from) (c.tally seen is));
         opened = let o = c.opened in omega (arith, o, more);
         levels = let o = c.levels in omega (arith, o, more);
       }
@@ -122,7 +125,7 @@ module _ {V : Type 0} (h : ℕ → Node V) where
     pub ended : (old new : NodeStats) (level from : ℕ) → IsNodeIn h n → Counted old new level n from → ((b : ℕ) → from ≤ b → map.get (children_of x) b ≡ None)
         → (seen : List Shape) → IsTally old seen 0 → IsTally new (seen ++ nodes_from h 8 level n) 0
     ended old new level from i c none seen is =
-        let all : shape_of level (h n) ∷ under_bytes (next level) (h n).children from ≡ nodes_from h 8 level n =
+        let all : so_far level n from ≡ nodes_from h 8 level n =
         ap (λ l. shape_of level (h n) ∷ l) (sym (none_more (next level) (h n).children from 256 c.bound (λ q lo hi. hangs q None (none q lo)))) ∙ sym (nodes_at i.tree.notes i.tree.tree level n i.linked) in
         subst (λ l. IsTally new (seen ++ l) 0) all (c.tally seen is)
 

@@ -1,7 +1,7 @@
 -- A list that has all keys of a map and ascends is that of its keys.
 use Rattle.std.proofs.Common.{◌≡◌, ℕ, ◌<◌, Bool, true, false, ◌&&◌, cond, T, List, [], ◌∷◌, length, map, refl, sym, ◌∙◌, ap, subst, inl, inr, arith}
-use Rattle.std.specs.Prelude.{Option, None, Some, IsSome, ◌↔◌, ◌⊎◌}
-use Rattle.std.specs.FinMap.{entries, entries_sorted, get, get-entries, len, len-entries}
+use Rattle.std.specs.Prelude.{Some, IsSome, ◌↔◌}
+use Rattle.std.specs.FinMap.{entries, entries_sorted, get-entries, len, len-entries}
 use Rattle.std.specs.FinMap.Entries.{below_all, is_sorted, find}
 use Rattle.std.specs.Ordering.{nat_cmp, eq_by_cmp, is_lt}
 use Rattle.std.proofs.lemmas.Bool.Decides.{nat_tests}
@@ -69,8 +69,8 @@ same (x ∷ xs) (y ∷ ys) a b f g =
       ]
     ] in
     let rest : xs ≡ ys = same xs ys a.1 b.1
-      (λ k h. let l = above x k xs a.0 h in beyond y k ys (omega (arith, l, e)) (f k (inr h)))
-      (λ k h. let l = above y k ys b.0 h in beyond x k xs (omega (arith, l, e)) (g k (inr h))) in
+    (λ k h. let l = above x k xs a.0 h in beyond y k ys (omega (arith, l, e)) (f k (inr h)))
+    (λ k h. let l = above y k ys b.0 h in beyond x k xs (omega (arith, l, e)) (g k (inr h))) in
     λ i. e i ∷ rest i
 
 module _ {V : Type 0} (m : Pairs V) (ks : List ℕ) (a : AreKeys m ks) where

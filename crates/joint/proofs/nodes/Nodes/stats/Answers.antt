@@ -1,8 +1,7 @@
 use Rattle.std.specs.Prelude.{[]}
-use Rattle.std.proofs.Common.{ap, sym, ◌∙◌}
 use Rattle.std.specs.FinMap as map
 use Rattle.joint.specs.Forest.{nodes}
-use Rattle.joint.proofs.lemmas.Counting.{none_counted, all_counted, root_in}
+use Rattle.joint.proofs.lemmas.Counting.{none_counted, all_counted}
 use Rattle.joint.proofs.nodes.Nodes.stats.Goals as goal
 
 pub returns : goal.returns
