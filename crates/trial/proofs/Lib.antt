@@ -14,4 +14,5 @@ pub mod WholeCalls
 pub mod OneMap
 pub mod WholeScans
 pub mod Surveys
+pub mod Closings
 pub mod OfMap

@@ -40,6 +40,9 @@ module _ {V : Type 0} where
   ends_stays fs m (point.Range start end size) (done.Scanned count) l fs' x = x.stays
   ends_stays fs m (point.Range start end size) done.Unit l fs' x = absurd x
   ends_stays fs m (point.Range start end size) (done.Reply r) l fs' x = absurd x
+  ends_stays fs m (point.Range start end size) (done.Keys keys) l fs' x = absurd x
+  ends_stays fs m (point.Range start end size) (done.Empty b) l fs' x = absurd x
+  ends_stays fs m (point.Range start end size) (done.Stats stats) l fs' x = absurd x
   ends_stays fs m (point.Get k) d l fs' x = absurd x
   ends_stays fs m (point.Insert k v) d l fs' x = absurd x
   ends_stays fs m (point.Remove k) d l fs' x = absurd x

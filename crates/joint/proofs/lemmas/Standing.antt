@@ -1,6 +1,5 @@
 -- The tree of a sound machine stands, and what one step tells of it.
-use Rattle.std.proofs.Common.{◌≡◌, ℕ, Bool, true, false, ap, refl}
-use Rattle.std.specs.FinMap.{len}
+use Rattle.std.proofs.Common.{◌≡◌, ℕ, Bool, true, false, List, ap, refl}
 use Rattle.judge.specs.Answer.{Pairs}
 use Rattle.congee.specs.Heap.{Node}
 use Rattle.congee.specs.Keys.{IsMapOf}

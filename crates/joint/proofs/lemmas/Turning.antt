@@ -116,7 +116,7 @@ module _ {V : Type 0} (same : V → V → Bool) (always : Bool) (w : Whole V) (w
     on_tree op r w' p b = proceeds (Tree op) r w' (past (Tree op) reg idle ∙ word (place c who).word p) b
 
     -- a call of one step
-    tells : (k : Survey) (r : Report V) → unready (target.Survey k) (place c who) ≡ None → Surveys w k r w → Begun same always w who (target.Survey k) r w
+    tells : (k : Survey) (r : Report V) → unready {V = V} (target.Survey k) (place c who) ≡ None → Surveys w k r w → Begun same always w who (target.Survey k) r w
     tells k r u b = proceeds (target.Survey k) r w (past (target.Survey k) reg idle ∙ u) b
 
     pub tells_keys : (r : Report V) → Surveys w survey.Keys r w → Begun same always w who (target.Survey survey.Keys) r w
