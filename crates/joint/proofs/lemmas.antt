@@ -40,6 +40,7 @@ pub mod Secured
 pub mod Seen
 pub mod SlotViews
 pub mod Sparing
+pub mod Standing
 pub mod Starting
 pub mod Surveying
 pub mod Stepped
