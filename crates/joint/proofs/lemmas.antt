@@ -6,9 +6,11 @@ pub mod Begun
 pub mod CollectStep
 pub mod Calling
 pub mod CallScans
+pub mod Closing
 pub mod Collected
 pub mod Collecting
 pub mod Copying
+pub mod Draining
 pub mod Ending
 pub mod Events
 pub mod Exchanging

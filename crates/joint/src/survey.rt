@@ -42,8 +42,8 @@ pub(crate) enum Narrowed {
 /// What a descent finds of the keys from one on.
 #[derive(Clone, Copy)]
 pub(crate) enum Nearest {
-    /// The least of them that stands.
-    Key(u64),
+    /// The least of them that stands, and the leaf where its value hangs.
+    Key { leaf: Id, key: u64 },
     /// None up to this one stands.
     Past(u64),
 }
@@ -125,7 +125,7 @@ fn lesser(a: u64, b: u64) -> u64
 }
 
 /// The next number, if there is one.
-fn after(last: u64) -> Option<u64>
+pub(crate) fn after(last: u64) -> Option<u64>
     ensures { bound_of result ≡ last + 1 }
 {
     if last == u64::MAX {
@@ -167,7 +167,7 @@ fn narrow<P: Payload + Small>(node: &Node<Id, P>, from: u64, last: u64) -> Narro
 
 impl<P: Payload + Small, A: Allocator> Nodes<P, A> {
     /// The least key from one on that stands.
-    fn next_key(&self, from: u64) -> Nearest
+    pub(crate) fn next_key(&self, from: u64) -> Nearest
         requires { IsTree (nodes self.now) }
         ensures { NearestGives (nodes self.now) from result }
     {
@@ -180,7 +180,7 @@ impl<P: Payload + Small, A: Allocator> Nodes<P, A> {
         while left > 0 {
             match narrow(self.slot(at).node(), first, last) {
                 Narrowed::Nothing => return Nearest::Past(last),
-                Narrowed::Key(key) => return Nearest::Key(key),
+                Narrowed::Key(key) => return Nearest::Key { leaf: at, key },
                 Narrowed::Node {
                     node,
                     from,
@@ -203,7 +203,7 @@ impl<P: Payload + Small, A: Allocator> Nodes<P, A> {
         ensures keys { IfOk result (λ from. AreKeysBelow (nodes self.now) start keys.old.items → AreKeysBelow (nodes self.now) (bound_of from) keys.new.items) }
     {
         match self.next_key(start) {
-            Nearest::Key(key) => {
+            Nearest::Key { key, .. } => {
                 keys.push(key)?;
                 Ok(after(key))
             }
@@ -232,7 +232,7 @@ impl<P: Payload + Small, A: Allocator> Nodes<P, A> {
         let mut from = Some(0);
         while let Some(start) = from {
             match self.next_key(start) {
-                Nearest::Key(_) => return false,
+                Nearest::Key { .. } => return false,
                 Nearest::Past(last) => from = after(last),
             }
         }
