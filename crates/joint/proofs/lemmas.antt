@@ -6,10 +6,13 @@ pub mod Begun
 pub mod CollectStep
 pub mod Calling
 pub mod CallScans
+pub mod CallSurveys
+pub mod Closing
 pub mod Collected
 pub mod Collecting
 pub mod Copying
 pub mod Counting
+pub mod Draining
 pub mod Ending
 pub mod Events
 pub mod Exchanging
@@ -46,6 +49,7 @@ pub mod Standing
 pub mod Starting
 pub mod Surveying
 pub mod Stepped
+pub mod Telling
 pub mod Tickets
 pub mod TreeStep
 pub mod Turning

@@ -4,10 +4,11 @@ use Rattle.crossbeam_epoch.specs.declared.names.Name.{Name}
 use Rattle.crossbeam_epoch.specs.World.Store.{Store, Sets, IsNext, cell_at, value_at, was_given, is_usable, placed}
 use Rattle.congee.specs.declared.forms.base_node.NodeType.{NodeType}
 use Rattle.congee.specs.declared.forms.child.Child.{Child}
+use Rattle.congee.specs.declared.forms.child.Child.TheVariants.{Blank}
 use Rattle.congee.specs.declared.protocol.store.Refusal.{Refusal}
 use Rattle.congee.specs.declared.protocol.store.Refusal.TheVariants.{Budget, Cells, Memory}
 use Rattle.congee.specs.forms.Forms.{capacity_of, size_of}
-use Rattle.congee.specs.Heap.{Nothing, Below}
+use Rattle.congee.specs.Heap.{Nothing, Below, Holds}
 use Rattle.congee.specs.protocol.Events.{hung, weight}
 use Rattle.joint.specs.declared.id.Id.{Id}
 use Rattle.joint.specs.declared.slot.Slot.{Slot}
@@ -35,6 +36,11 @@ pub record Hangs {P : Type 0} (s : Slot P) (b : ℕ) (child : Child Id P) (s' : 
   pub child_is : (node_of s').children b ≡ hung id_number child
   pub beside : (c : ℕ) → c ≢ b → (node_of s').children c ≡ (node_of s).children c
   pub count : (node_of s').count + weight ((node_of s).children b) ≡ (node_of s).count + weight (hung id_number child)
+
+-- the value at the byte is out of the slot's node, and nothing else is changed
+pub record Pulls {P : Type 0} (s : Slot P) (b : ℕ) (value : P) (s' : Slot P) : Type 0 where
+  pub was : (node_of s).children b ≡ Holds value
+  pub hangs : Hangs s b Blank s'
 
 -- a value is put under the next name of a usable cell
 pub record Fills {T : Type 0} (st : Store T) (n : Name) (v : T) (st' : Store T) : Type 0 where

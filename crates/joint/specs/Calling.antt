@@ -5,12 +5,14 @@ use Rattle.congee.specs.protocol.Sweeps.{IsScan}
 use Rattle.joint.specs.declared.steps.Done.TheVariants.{Scanned}
 use Rattle.joint.specs.declared.steps.Event.TheVariants.{Begin, Go}
 use Rattle.joint.specs.declared.steps.Op.{Op}
-use Rattle.joint.specs.declared.steps.Op.TheVariants.{Range}
+use Rattle.joint.specs.declared.steps.Op.TheVariants.{Range, Keys, IsEmpty, Stats}
 use Rattle.joint.specs.declared.steps.Outcome.{Outcome}
 use Rattle.joint.specs.declared.steps.Outcome.TheVariants.{Running, Asks, Found, Registered, Done, Refused}
 use Rattle.joint.specs.declared.steps.Report.{Report}
 use Rattle.joint.specs.declared.steps.Step.{Step}
+use Rattle.joint.specs.declared.steps.Survey.TheVariants as survey
 use Rattle.joint.specs.Runs.{IsRun}
+use Rattle.joint.specs.Surveys.{MapTells}
 use Rattle.joint.specs.Whole.{Whole, is_busy, is_in_flight, misuse}
 
 -- whether the call takes its next step with nothing from outside: it has not ended, and wants no answer
@@ -80,3 +82,10 @@ pub record IsCalled {V : Type 0} (same : V → V → Bool) (always : Bool) (s : 
 abbrev pub FillsPlaces : {V : Type 0} → Pairs V → Op V → Option (Report V) → List (ℕ × V) → Type 0
 FillsPlaces {V} m (Range start end size) (Some r) places' = (count : ℕ) → r.outcome ≡ Done (Scanned count) → size ≤ length places' → (count ≤ length places') × IsScan {V = V} start end size (m ∷ []) (take count places')
 FillsPlaces m op r places' = Unit {0}
+
+-- a call of one step, where it is done, told of the pairs that stood
+abbrev pub TellsMap : {V : Type 0} → Pairs V → Op V → Option (Report V) → Type 0
+TellsMap m Keys (Some r) = MapTells m survey.Keys r.outcome
+TellsMap m IsEmpty (Some r) = MapTells m survey.IsEmpty r.outcome
+TellsMap m Stats (Some r) = MapTells m survey.Stats r.outcome
+TellsMap m op r = Unit {0}

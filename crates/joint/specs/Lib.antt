@@ -1,6 +1,7 @@
 pub mod Altering
 pub mod Beginning
 pub mod Calling
+pub mod Closing
 pub mod Forest
 pub mod Heap
 pub mod Intact

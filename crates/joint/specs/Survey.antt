@@ -21,6 +21,10 @@ pub record IsTree {V : Type 0} (h : ℕ → Node V) : Type 0 where
   pub tree : Tree notes h
   pub stands : (n : ℕ) → (notes n).status ≡ Linked → Stands (h n)
 
+-- the node is in the tree
+abbrev pub IsInTree : {V : Type 0} → (ℕ → Node V) → ℕ → Type 0
+IsInTree h n = (t : IsTree h) → (t.notes n).status ≡ Linked
+
 -- the keys below some node
 abbrev pub IsRegionOf : Region → Type 0
 IsRegionOf x = (p : List ℕ) × IsRegion p x.base x.depth
@@ -63,12 +67,15 @@ Narrows n from last (narrowed.Node node from' last') = FindsNode n from last nod
 abbrev pub NoneStand : {V : Type 0} → (ℕ → Node V) → (from to : ℕ) → Type 0
 NoneStand h from to = (k : ℕ) → from ≤ k → k < to → value_at h (key_bytes k) ≡ None
 
--- the least key from one on that stands, or up to which none does
-pub record IsNearest {V : Type 0} (h : ℕ → Node V) (from key : ℕ) : Type 0 where
+-- the least key from one on that stands, and the leaf where its value hangs; or up to which none does
+pub record IsNearest {V : Type 0} (h : ℕ → Node V) (from : ℕ) (leaf : Id) (key : ℕ) : Type 0 where
   pub from_on : from ≤ key
   pub small : key < 2 ^ 64
   pub before : NoneStand h from key
   pub stands : IsSome (value_at h (key_bytes key))
+  pub linked : IsInTree h (id_number leaf)
+  pub value : V
+  pub here : hung_for (h (id_number leaf)) (key_bytes key) ≡ Holds value
 
 pub record NonePast {V : Type 0} (h : ℕ → Node V) (from last : ℕ) : Type 0 where
   pub from_on : from ≤ last
@@ -76,7 +83,7 @@ pub record NonePast {V : Type 0} (h : ℕ → Node V) (from last : ℕ) : Type 0
   pub none : NoneStand h from (last + 1)
 
 abbrev pub NearestGives : {V : Type 0} → (ℕ → Node V) → ℕ → Nearest → Type 0
-NearestGives h from (nearest.Key key) = IsNearest h from key
+NearestGives h from (nearest.Key leaf key) = IsNearest h from leaf key
 NearestGives h from (nearest.Past last) = NonePast h from last
 
 -- the keys rise

@@ -7,7 +7,8 @@ ghost use Rattle.crossbeam_epoch.specs.declared.names.Name.{Name};
 ghost use Rattle.congee.specs.declared.forms.prefix.TheConstants.{MAX_PREFIX_LEN};
 ghost use Rattle.congee.specs.protocol.Events.{hung, MayChange, TakesOver};
 ghost use Rattle.congee.specs.forms.Forms.{size_of};
-ghost use Rattle.joint.specs.Altering.{Alters, Hangs, Fills, Empties, IsNewSlot, IsNoSlot, IsOverBudget, HandsOver, Exchanges};
+ghost use Rattle.congee.specs.Heap.{Holds};
+ghost use Rattle.joint.specs.Altering.{Alters, Hangs, Fills, Empties, IsNewSlot, IsNoSlot, IsOverBudget, HandsOver, Exchanges, Pulls};
 ghost use Rattle.joint.specs.Solid.{IsWhole};
 ghost use Rattle.joint.specs.View.{id_number, node_of, out};
 
@@ -69,6 +70,21 @@ pub(crate) fn hang<P: Payload + Small>(
     let mut slot = take_out(collector, at);
     slot.hang(byte, child);
     put_back(collector, at, slot);
+}
+
+/// Takes the value at the byte out of a node.
+pub(crate) fn pull<P: Payload + Small>(collector: &mut World<Slot<P>, ()>, at: Name, byte: u8) -> P
+    requires stands { is_some (value_at collector.old.store at) ≡ true }
+    requires whole { (s : Slot P) → value_at collector.old.store at ≡ Some s → IsWhole s.node }
+    requires holds { (s : Slot P) → value_at collector.old.store at ≡ Some s → (v : P) × ((node_of s).children byte ≡ Holds v) }
+    ensures beside { collector.new ≡ with_store collector.old collector.new.store }
+    ensures slot { (s : Slot P) × ((s' : Slot P) × (Alters collector.old.store at s s' collector.new.store × Pulls s byte result s')) }
+{
+    World::<Slot<P>, ()>::cells();
+    let mut slot = take_out(collector, at);
+    let value = slot.pull(byte);
+    put_back(collector, at, slot);
+    value
 }
 
 /// Puts a node into a usable cell.

@@ -6,6 +6,7 @@ mod call;
 mod calls;
 mod cells;
 mod clock;
+mod close;
 mod counts;
 mod engine;
 mod id;

@@ -3,7 +3,7 @@
 ghost use Rattle.std.specs.Prelude.{◌≡◌, ◌+◌, ◌-◌, ◌*◌, ◌^◌, ◌<◌, ◌≤◌, ℕ, true, length};
 ghost use Rattle.std.specs.List.{sum_by};
 ghost use Rattle.congee.specs.protocol.Events.{hung, SameBut, MayChange, ChangeGives};
-ghost use Rattle.congee.specs.Heap.{Stands};
+ghost use Rattle.congee.specs.Heap.{Holds, Nothing, Stands};
 ghost use Rattle.joint.specs.declared.limits.TheConstants.{CELLS_MAX};
 ghost use Rattle.joint.specs.Forest.{IsCharged, total, nodes, frame};
 ghost use Rattle.joint.specs.Listing.{bytes_of, handed_nodes, standing_nodes};
@@ -145,5 +145,15 @@ impl<P: Payload + Small, A: Allocator> Nodes<P, A> {
         ensures node { ChangeGives (nodes self.old) (id_number at) byte (hung id_number child) (nodes self.new) }
     {
         cells::hang(&mut self.collector, at.name, byte, child);
+    }
+    /// Takes the value at the byte out of a node.
+    pub(crate) fn pull(&mut self, at: Id, byte: u8) -> P
+        requires stands { Stands (nodes self.old (id_number at)) }
+        requires holds { (v : P) × ((nodes self.old (id_number at)).children byte ≡ Holds v) }
+        ensures value { (nodes self.old (id_number at)).children byte ≡ Holds result }
+        ensures frame { frame self.new ≡ frame self.old }
+        ensures node { ChangeGives (nodes self.old) (id_number at) byte Nothing (nodes self.new) }
+    {
+        cells::pull(&mut self.collector, at.name, byte)
     }
 }

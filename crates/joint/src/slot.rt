@@ -1,15 +1,16 @@
 //! What stands in a cell of the collector.
 
-ghost use Rattle.std.specs.Prelude.{◌≡◌, ◌<◌, ◌≤◌, ◌↔◌, ℕ, None, true, false, length, slice_get, IfOk};
+ghost use Rattle.std.specs.Prelude.{◌≡◌, ◌<◌, ◌≤◌, ◌↔◌, ℕ, None, Some, true, false, length, slice_get, IfOk};
 ghost use Rattle.std.specs.FinMap.{entries};
 ghost use Rattle.congee.specs.declared.forms.prefix.TheConstants.{MAX_PREFIX_LEN};
+ghost use Rattle.congee.specs.declared.forms.child.Child.TheVariants as Hung;
 ghost use Rattle.congee.specs.forms.Forms.{children_of, prefix_of, form_of, capacity_of, is_full_of, Becomes};
 ghost use Rattle.joint.specs.Slots.{names_in};
 ghost use Rattle.congee.specs.protocol.Events.{hung, MayChange, TakesOver};
 ghost use Rattle.congee.specs.Heap.{Below, Holds};
 ghost use Rattle.std.specs.FinMap as map;
 ghost use Rattle.joint.specs.declared.slot.Word.{Word};
-ghost use Rattle.joint.specs.Altering.{Hangs, HandsOver, IsNewSlot};
+ghost use Rattle.joint.specs.Altering.{Hangs, HandsOver, IsNewSlot, Pulls};
 ghost use Rattle.joint.specs.Solid.{AreAlike, IsLeft, IsSolid, IsWhole, hang};
 ghost use Rattle.joint.specs.View.{id_number, child_at, node_of, out, shape, is_word};
 
@@ -120,6 +121,18 @@ impl<P: Payload + Small> Slot<P> {
         }
     }
 
+    /// Takes the value at the byte out of its node.
+    pub(crate) fn pull(&mut self, byte: u8) -> P
+        requires whole { IsWhole self.old.node }
+        requires holds { (v : P) × ((node_of self.old).children byte ≡ Holds v) }
+        ensures { Pulls self.old byte result self.new }
+    {
+        match &mut self.node {
+            Some(node) => pull(node, byte),
+            None => unreachable!(),
+        }
+    }
+
     /// Gives its children to an empty slot: values are moved, and the names of nodes stay here too.
     pub(crate) fn hand_over(&mut self, greater: &mut Slot<P>)
         requires whole { IsWhole self.old.node }
@@ -199,6 +212,19 @@ fn hang<P: Payload + Small>(node: &mut Node<Id, P>, byte: u8, child: Child<Id, P
         }
         Child::Node(id) => put(node, byte, Child::Node(id)),
         Child::Value(value) => put(node, byte, Child::Value(value)),
+    }
+}
+
+/// Takes the value at the byte out of a node.
+fn pull<P: Payload + Small>(node: &mut Node<Id, P>, byte: u8) -> P
+    requires { (v : P) × (child_at node.old byte ≡ Holds v) }
+    ensures was { map.get (children_of node.old) byte ≡ Some (Hung.Value result) }
+    ensures after { Becomes node.old node.new (map.remove (children_of node.old) byte) }
+{
+    match node.remove(byte) {
+        Child::Value(value) => value,
+        Child::Node(_) => unreachable!(),
+        Child::Blank => unreachable!(),
     }
 }
 

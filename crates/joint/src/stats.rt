@@ -48,7 +48,7 @@ impl<P: Payload + Small, A: Allocator> Nodes<P, A> {
         let mut from = Some(0);
         while let Some(start) = from {
             match self.next_key(start) {
-                Nearest::Key(key) => {
+                Nearest::Key { key, .. } => {
                     count = count.saturating_add(1);
                     from = after(key);
                 }

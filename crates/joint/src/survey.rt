@@ -42,8 +42,8 @@ pub(crate) enum Narrowed {
 /// What a descent finds of the keys from one on.
 #[derive(Clone, Copy)]
 pub(crate) enum Nearest {
-    /// The least of them that stands.
-    Key(u64),
+    /// The least of them that stands, and the leaf where its value hangs.
+    Key { leaf: Id, key: u64 },
     /// None up to this one stands.
     Past(u64),
 }
@@ -180,7 +180,7 @@ impl<P: Payload + Small, A: Allocator> Nodes<P, A> {
         while left > 0 {
             match narrow(self.slot(at).node(), first, last) {
                 Narrowed::Nothing => return Nearest::Past(last),
-                Narrowed::Key(key) => return Nearest::Key(key),
+                Narrowed::Key(key) => return Nearest::Key { leaf: at, key },
                 Narrowed::Node {
                     node,
                     from,
@@ -203,7 +203,7 @@ impl<P: Payload + Small, A: Allocator> Nodes<P, A> {
         ensures keys { IfOk result (λ from. AreKeysBelow (nodes self.now) start keys.old.items → AreKeysBelow (nodes self.now) (bound_of from) keys.new.items) }
     {
         match self.next_key(start) {
-            Nearest::Key(key) => {
+            Nearest::Key { key, .. } => {
                 keys.push(key)?;
                 Ok(after(key))
             }
@@ -232,7 +232,7 @@ impl<P: Payload + Small, A: Allocator> Nodes<P, A> {
         let mut from = Some(0);
         while let Some(start) = from {
             match self.next_key(start) {
-                Nearest::Key(_) => return false,
+                Nearest::Key { .. } => return false,
                 Nearest::Past(last) => from = after(last),
             }
         }

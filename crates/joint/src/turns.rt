@@ -128,10 +128,11 @@ impl<P: Payload + Small, A: Allocator> Engine<P, A> {
         match survey {
             Survey::Keys => self.tell_keys(),
             Survey::IsEmpty => {
-                if !self.nodes.is_pinned(who) {
-                    return refused(Kind::Tree, Refusal::Unpinned);
+                if self.nodes.is_pinned(who) {
+                    self.tell_empty()
+                } else {
+                    refused(Kind::Tree, Refusal::Unpinned)
                 }
-                self.tell_empty()
             }
             Survey::Stats => self.tell_stats(),
         }

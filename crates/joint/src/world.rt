@@ -1,12 +1,13 @@
 //! The index and its collector, one step at a time.
 
-ghost use Rattle.std.specs.Prelude.{◌≡◌, ◌+◌, length, take, IfOk, IfErr};
+ghost use Rattle.std.specs.Prelude.{◌≡◌, ◌+◌, length, take, IfOk, IfErr, MatchResult};
 ghost use Rattle.std.specs.FinMap.{empty};
 ghost use Rattle.std.specs.List.{sum_by};
 ghost use Rattle.std.specs.Vec.{vec_len};
 ghost use Rattle.judge.specs.Answer.{Pairs};
 ghost use Rattle.congee.specs.Heap.{Stands};
 ghost use Rattle.congee.specs.Keys.{IsMapOf};
+ghost use Rattle.joint.specs.Closing.{IsClosed, IsNotClosed};
 ghost use Rattle.joint.specs.Forest.{nodes};
 ghost use Rattle.joint.specs.Listing.{IsListOf, bytes_of, standing_nodes, waiting_nodes};
 ghost use Rattle.joint.specs.Opening.{IsOpened, IsUnopened};
@@ -20,7 +21,7 @@ use crate::laws::{runs_spare, waits, whereabouts};
 use crate::limits::Limits;
 use crate::refusal::Refusal;
 use crate::steps::{Ran, Report, Step};
-use congee::{Allocator, Payload, Small};
+use congee::{Allocator, Drainer, Payload, Small};
 use std::alloc::Global;
 use std::marker::Model;
 use std::vec::Vec;
@@ -133,5 +134,19 @@ impl<P: Payload + Small, A: Allocator> World<P, A> {
     {
         waits::<P>();
         self.engine.waiting_bytes()
+    }
+    /// Hands each pair to the drainer, in ascending order of the keys; then the removals that wait are carried out, and the
+    /// allocator comes back with the charge that it had when it was handed in. Refused as WorkersLeft while workers are
+    /// registered, and the index and the drainer come back.
+    pub fn close<D: Drainer<u64, P>>(self, drainer: D) -> Result<(A, D), (Refusal, World<P, A>, D)>
+        requires { D.can_drain drainer }
+        ensures { MatchResult result (λ r. IsClosed D.drains self drainer (A.charged_of r.0) (A.limit_of r.0) r.1) (λ e. IsNotClosed self drainer e.0 e.1 e.2) }
+    {
+        let registered = self.engine.registered();
+        if registered > 0 {
+            return Err((Refusal::WorkersLeft(registered), self, drainer));
+        }
+        let World { engine } = self;
+        Ok(engine.close(drainer))
     }
 }

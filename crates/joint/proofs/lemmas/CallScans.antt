@@ -10,7 +10,7 @@ use Rattle.joint.specs.declared.steps.Done.TheVariants.{Scanned}
 use Rattle.joint.specs.declared.steps.Event.{Event}
 use Rattle.joint.specs.declared.steps.Event.TheVariants.{Begin}
 use Rattle.joint.specs.declared.steps.Op.{Op}
-use Rattle.joint.specs.declared.steps.Op.TheVariants.{Pin, Unpin, Repin, Flush, Release, Get, Insert, Remove, ComputePresent, ComputeInsert, Exchange, Range}
+use Rattle.joint.specs.declared.steps.Op.TheVariants.{Pin, Unpin, Repin, Flush, Release, Get, Insert, Remove, ComputePresent, ComputeInsert, Exchange, Range, Keys, IsEmpty, Stats}
 use Rattle.joint.specs.declared.steps.Outcome.{Outcome}
 use Rattle.joint.specs.declared.steps.Outcome.TheVariants.{Running, Asks, Found, Registered, Done, Refused}
 use Rattle.joint.specs.declared.steps.Report.{Report}
@@ -215,6 +215,9 @@ module _ {V : Type 0} (same : V → V → Bool) (w : ℕ) (fs : Flights V) (m : 
       let Q : List (ℕ × V) → Type 0 = λ xs. (count ≤ length xs) × IsScan {V = V} start end size (m ∷ []) (take count xs) in
       subst Q (sym found) (by_lines same w start end size m fs x.0 x.1 reports places count k.0 x.4 (x.2 ∙ is) x.3 on k.1 ends (subst P found room))
   fills (Range start end size) reports places None places' steps is x on last found = tt
+  fills Keys reports places result places' steps is x on last found = tt
+  fills IsEmpty reports places result places' steps is x on last found = tt
+  fills Stats reports places result places' steps is x on last found = tt
   fills Pin reports places result places' steps is x on last found = tt
   fills Unpin reports places result places' steps is x on last found = tt
   fills Repin reports places result places' steps is x on last found = tt

@@ -19,9 +19,9 @@ use Rattle.congee.proofs.lemmas.forms.MapLemmas.{same_is, len_new, len_again, le
 use Rattle.joint.specs.declared.id.Id.{Id}
 use Rattle.joint.specs.declared.slot.Slot.{Slot}
 use Rattle.joint.specs.declared.slot.Word.{Word}
-use Rattle.joint.specs.Altering.{Hangs, IsNewSlot}
+use Rattle.joint.specs.Altering.{Hangs, IsNewSlot, Pulls}
 use Rattle.joint.specs.Solid.{IsSolid, IsWhole, hang}
-use Rattle.joint.specs.View.{id_number, hung_at, shape, node_of}
+use Rattle.joint.specs.View.{id_number, hung_at, child_at, child_in, shape, node_of}
 use Rattle.joint.proofs.lemmas.Seen.{there}
 
 -- some lock word
@@ -151,6 +151,16 @@ module _ {P : Type 0} where
       → Becomes n.value n' (hang (children_of n.value) b x) → Hangs s b x (record { node = Some (with_value n n'); word = s.word })
   hangs_slot s n n' b x e solid may becomes =
       subst (λ o. Hangs (slot_with s o) b x (record { node = Some (with_value n n'); word = s.word })) (sym e) (hangs_box n s.word n' b x solid (room_of s n b x s.word e may) becomes)
+
+  -- a value goes out
+  pub holds_in : (s : Slot P) (n : Box (Form Id P) Global) (b : ℕ) → s.node ≡ Some n → (v : P) × ((node_of s).children b ≡ Holds v) → (v : P) × (child_at n.value b ≡ Holds v)
+  holds_in s n b e h = (h.0, sym (ap (λ o. child_in o b) e) ∙ h.1)
+
+  pub pulls_slot : (s : Slot P) (n : Box (Form Id P) Global) (n' : Form Id P) (b : ℕ) (v : P) → s.node ≡ Some n → IsWhole s.node → map.get (children_of n.value) b ≡ Some (Value v)
+      → Becomes n.value n' (map.remove (children_of n.value) b) → Pulls s b v (record { node = Some (with_value n n'); word = s.word })
+  pulls_slot s n n' b v e whole there becomes =
+      let was : (node_of s).children b ≡ Holds v = ap (λ o. child_in o b) e ∙ ap hung_at there in
+      record { was = was; hangs = hangs_slot s n n' b Blank e (solid_in s n e whole) (λ none. let z : Holds v ≡ Nothing = sym was ∙ none in cc) becomes }
 
   pub empty_solid : IsSolid {P = P} map.empty
   empty_solid b e = let z : map.get (map.empty {X = Child Id P} {R = nat_cmp}) b ≡ None = map.get-empty nat_cmp b in let q : None ≡ Some Blank = sym z ∙ e in cc q

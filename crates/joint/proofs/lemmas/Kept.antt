@@ -6,13 +6,14 @@ use Rattle.crossbeam_epoch.specs.World.Machine.{State, with_store}
 use Rattle.crossbeam_epoch.specs.World.Progress.{Orderly}
 use Rattle.crossbeam_epoch.specs.World.Store.{Store, value_at, was_given}
 use Rattle.congee.specs.protocol.Events.{SameBut, ChangeGives, hung, weight}
-use Rattle.congee.specs.Heap.{Stands}
+use Rattle.congee.specs.Heap.{Holds, Nothing, Stands}
 use Rattle.congee.specs.declared.forms.child.Child.{Child}
+use Rattle.congee.specs.declared.forms.child.Child.TheVariants.{Blank}
 use Rattle.joint.specs.declared.id.Id.{Id}
 use Rattle.joint.specs.declared.slot.Slot.{Slot}
 use Rattle.joint.specs.declared.slot.Word.{Word}
 use Rattle.joint.specs.declared.counts.Counts.{Counts}
-use Rattle.joint.specs.Altering.{Alters, Hangs}
+use Rattle.joint.specs.Altering.{Alters, Hangs, Pulls}
 use Rattle.joint.specs.Forest.{Forest, nodes, with_collector, frame, size, waits, waiting_size, sizes, waiting, waiting_bytes, IsTally, IsKept}
 use Rattle.joint.specs.NameLemmas.{number_named, named_number}
 use Rattle.joint.specs.Names.{number, named}
@@ -182,3 +183,17 @@ module _ {P : Type 0} (F G : Forest P) (view_is : F ≡ G) (n : Name) where
 
       pub kept_changed : (k : Counts) → IsKept k F → IsKept k (with_collector F c')
       kept_changed k kept = kept_altered F c' beside n t t' alters k kept hangs.size_is (ap (λ y. y.retired) hangs.word) hangs.whole
+
+    -- a value goes out
+    module _ (b : ℕ) (value : P) (slot : (s : Slot P) × ((s' : Slot P) × (Alters F.collector.store n s s' c'.store × Pulls s b value s'))) where
+      abbrev hung_slot : (s : Slot P) × ((s' : Slot P) × (Alters F.collector.store n s s' c'.store × Hangs s b Blank s'))
+      hung_slot = (slot.0, (slot.1.0, (slot.1.1.0, slot.1.1.1.hangs)))
+
+      pub value_in : (nodes G (number n)).children b ≡ Holds value
+      value_in = ap (λ y. y.children b) (node_in slot.0 slot.1.1.0.was) ∙ slot.1.1.1.was
+
+      pub pulled_in : ChangeGives (nodes G) (number n) b Nothing (nodes (with_collector F c'))
+      pulled_in = changed_in b Blank hung_slot
+
+      pub kept_pulled : (k : Counts) → IsKept k F → IsKept k (with_collector F c')
+      kept_pulled = kept_changed b Blank hung_slot

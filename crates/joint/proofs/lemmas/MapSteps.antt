@@ -58,7 +58,7 @@ use Rattle.joint.specs.Surveys.{MapTells}
 use Rattle.joint.specs.Runs.{Flights, with_flight, Line, Stays, BeginMap, BeginsOr, PendingStep, FlightStep, GoMap, EventMap, InFlight, AreInFlight}
 use Rattle.joint.specs.Whole.{Whole, Holds, misuse, is_busy, place_of, quiet, collection, finds_none, Collects, Enters, EntersUnless, Reserves, GoesOnReserving, reserving, Walks, BeginsAt, BeginsOnTree, GoesAt, Proceeds, Does as Acts}
 use Rattle.joint.proofs.lemmas.Collecting.{either}
-use Rattle.joint.proofs.lemmas.Standing.{map_tells}
+use Rattle.joint.proofs.lemmas.Telling.{map_tells}
 use Rattle.joint.proofs.lemmas.Resting.{cleared_is, done_over, rest_follows}
 use Rattle.joint.proofs.lemmas.Flights.{set_at, flight_here, flight_apart, pending, begun_follows, ended, listed, listed_at, following, followed}
 

@@ -30,7 +30,7 @@ use Rattle.joint.specs.Whole.{Whole, Holds, Does, Proceeds, BeginsAt, BeginsOnTr
 use Rattle.joint.proofs.lemmas.Collecting.{set_here, there}
 use Rattle.joint.proofs.lemmas.Ending.{goes}
 use Rattle.joint.proofs.lemmas.HandOver.{held_place}
-use Rattle.joint.proofs.lemmas.Standing.{survey_ends}
+use Rattle.joint.proofs.lemmas.Telling.{survey_ends}
 use Rattle.joint.proofs.lemmas.Walking as walking
 
 twice : (b : Bool) → not (not b) ≡ b

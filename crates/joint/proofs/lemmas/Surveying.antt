@@ -21,7 +21,7 @@ use Rattle.congee.proofs.lemmas.protocol.SweepBytes.{region_top, outside, first_
 use Rattle.joint.specs.declared.id.Id.{Id}
 use Rattle.joint.specs.declared.slot.Word.{Word}
 use Rattle.joint.specs.declared.survey.Part.{Part}
-use Rattle.joint.specs.Survey.{IsTree, IsRegionOf, IsPart, hung_for, AllHang, FindsKey, FindsNode, NoneStand, IsNearest, NonePast, AllAbove, Ascend, Has, AreKeys, AreKeysBelow, IsEmptiness}
+use Rattle.joint.specs.Survey.{IsTree, IsInTree, IsRegionOf, IsPart, hung_for, AllHang, FindsKey, FindsNode, NoneStand, IsNearest, NonePast, AllAbove, Ascend, Has, AreKeys, AreKeysBelow, IsEmptiness}
 use Rattle.joint.specs.View.{id_number, hung_at, child_at, shape}
 
 -- the keys under a byte fit 64 bits
@@ -147,7 +147,7 @@ hangs false x c e = absurd (cc e)
 -- how far a descent has come, with so many nodes left
 pub record Descends {V : Type 0} (h : ℕ → Node V) (from left : ℕ) (at : Id) (first last : ℕ) : Type 0 where
   pub tree : IsTree h
-  pub linked : (tree.notes (id_number at)).status ≡ Linked
+  pub linked : IsInTree h (id_number at)
   pub from_on : from ≤ first
   pub order : first ≤ last
   pub small : last < 2 ^ 64
@@ -158,7 +158,7 @@ module _ {V : Type 0} (h : ℕ → Node V) where
   pub starts : (t : IsTree h) (from last : ℕ) (at : Id) → id_number at ≡ 0 → from ≤ last → last < 2 ^ 64 → Descends h from 8 at from last
   starts t from last at e l s = record {
     tree = t;
-    linked = ap (λ n. (t.notes n).status) e ∙ t.tree.root;
+    linked = λ u. ap (λ n. (u.notes n).status) e ∙ u.tree.root;
     from_on = omega arith;
     order = l;
     small = s;
@@ -179,20 +179,23 @@ module _ {V : Type 0} (h : ℕ → Node V) where
     pub past : AllHang (h (id_number at)) first (last + 1) Nothing → NonePast h from last
     past none = record { from_on = omega (arith, d.from_on, d.order); small = d.small; none = none_to (last + 1) (omega arith) none }
 
-    pub nearest : (key : ℕ) → FindsKey (h (id_number at)) first last key → IsNearest h from key
+    pub nearest : (key : ℕ) → FindsKey (h (id_number at)) first last key → IsNearest h from at key
     nearest key x = record {
       from_on = omega (arith, d.from_on, x.from_on);
       small = omega (arith, x.within, d.small);
       before = none_to key (omega (arith, x.within)) x.before;
       stands = (let e = on_walk key (Holds x.value) x.from_on (omega (arith, x.within)) x.here in subst IsSome (sym e) refl);
+      linked = d.linked;
+      value = x.value;
+      here = x.here;
     }
 
     pub goes_down : (node : Id) (from' last' : ℕ) → FindsNode (h (id_number at)) first last node from' last' → Descends h from f node from' last'
     goes_down node from' last' x = record {
       tree = d.tree;
-      linked = (
+      linked = λ t. (
           let e : child_for (h (id_number at)) (key_bytes from') ≡ Below (id_number node) = hangs (fits (h (id_number at)).prefix (key_bytes from')) (child_for (h (id_number at)) (key_bytes from')) (id_number node) (x.below from' (omega arith) (omega (arith, x.order))) in
-          (d.tree.tree.down (id_number at) _ (id_number node) d.linked e).linked);
+          (t.tree.down (id_number at) _ (id_number node) (d.linked t) e).linked);
       from_on = omega (arith, d.from_on, x.from_on);
       order = x.order;
       small = omega (arith, x.within, d.small);
@@ -252,8 +255,8 @@ module _ {V : Type 0} (h : ℕ → Node V) where
   has_cases k j (i ∷ ks) (inl e) = inl (inl e)
   has_cases k j (i ∷ ks) (inr x) = elim (has_cases k j ks x) [ inl y ↦ inl (inr y) | inr e ↦ inr e ]
 
-  pub keys_more : (b key : ℕ) (ks : List ℕ) → AreKeysBelow h b ks → IsNearest h b key → AreKeysBelow h (key + 1) (ks ++ key ∷ [])
-  keys_more b key ks a n = record {
+  pub keys_more : (b : ℕ) (leaf : Id) (key : ℕ) (ks : List ℕ) → AreKeysBelow h b ks → IsNearest h b leaf key → AreKeysBelow h (key + 1) (ks ++ key ∷ [])
+  keys_more b leaf key ks a n = record {
     ascend = ascend_more key ks (λ j x. let l = a.below j x in omega (arith, l, n.from_on)) a.ascend;
     below = λ k x. elim (has_cases key k ks x) [
       | inl y ↦ (let l = a.below k y in omega (arith, l, n.from_on))
@@ -297,5 +300,5 @@ module _ {V : Type 0} (h : ℕ → Node V) where
     | inr l ↦ st.none_beyond k l
   ]
 
-  pub not_empty : (b key : ℕ) → IsNearest h b key → (m : Pairs V) → IsMapOf h m → IsEmptiness m false
-  not_empty b key n m st = (key, subst IsSome (sym (st.at key n.small)) n.stands)
+  pub not_empty : (b : ℕ) (leaf : Id) (key : ℕ) → IsNearest h b leaf key → (m : Pairs V) → IsMapOf h m → IsEmptiness m false
+  not_empty b leaf key n m st = (key, subst IsSome (sym (st.at key n.small)) n.stands)

@@ -18,7 +18,7 @@ loop-from-preserved-in-Key g c =
     let more : length (i.keys ++ c.in-Key.key ∷ []) ≡ length i.keys + 1 = length-append i.keys (c.in-Key.key ∷ []) in
     record {
       keys = i.keys ++ c.in-Key.key ∷ [];
-      below = subst Q (sym c.after-from.ensures) (keys_more h c.in-Some.start c.in-Key.key i.keys (subst P (ap bound_of c.in-Some.is) i.below) c.in-Key.ensures);
+      below = subst Q (sym c.after-from.ensures) (keys_more h c.in-Some.start c.in-Key.leaf c.in-Key.key i.keys (subst P (ap bound_of c.in-Some.is) i.below) c.in-Key.ensures);
       count = omega (arith, more, c.saturating_add-count.ensures, i.count);
     }
 

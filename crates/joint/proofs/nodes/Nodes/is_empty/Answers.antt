@@ -15,4 +15,4 @@ returns g c m st =
     empty_all (nodes c.args.self.now) (subst P (ap bound_of c.in_default.is) c.loop-from.invariant) m st
 
 pub returns-in-Key : goal.returns-in-Key
-returns-in-Key g c m st = not_empty (nodes c.args.self.now) c.in-Some.start c.in-Key.field-0 c.in-Key.ensures m st
+returns-in-Key g c m st = not_empty (nodes c.args.self.now) c.in-Some.start c.in-Key.leaf c.in-Key.key c.in-Key.ensures m st

@@ -22,8 +22,8 @@ narrow-requires g c =
       (
         c.node.ensures.solid,
         (
-          subst P e (inv.tree.tree.short (id_number c.loop-left.at) inv.linked),
-          (subst Q e (λ b v q. inv.tree.tree.leaves (id_number c.loop-left.at) b v inv.linked q), inv.order),
+          subst P e (inv.tree.tree.short (id_number c.loop-left.at) (inv.linked inv.tree)),
+          (subst Q e (λ b v q. inv.tree.tree.leaves (id_number c.loop-left.at) b v (inv.linked inv.tree) q), inv.order),
         ),
       ),
     )
