@@ -3,6 +3,7 @@ pub mod Accounts
 pub mod Altering
 pub mod Backs
 pub mod Begun
+pub mod Beside
 pub mod CollectStep
 pub mod Calling
 pub mod CallScans

@@ -4,7 +4,7 @@ ghost use Rattle.std.specs.Prelude.{◌≡◌, slice_set};
 ghost use Rattle.judge.specs.Answer.{Pairs};
 ghost use Rattle.congee.specs.Keys.{IsMapOf};
 ghost use Rattle.joint.specs.Calling.{FillsPlaces, IsCalled, TellsMap, goes_on, kept_report, next_step, put, put_away};
-ghost use Rattle.joint.specs.Forest.{nodes};
+ghost use Rattle.joint.specs.Forest.{IsBeside, nodes};
 ghost use Rattle.joint.specs.Runs.{AreInFlight, Flights};
 
 use crate::steps::{Event, Op, Outcome, Report, Step};
@@ -25,6 +25,7 @@ impl<P: Payload + Small, A: Allocator> World<P, A> {
     ) -> Option<Report<P>>
         ensures called { IsCalled P.same_as P.always_copies self.old who op most found.old result found.new self.new }
         ensures scan { (fs : Flights P) (m : Pairs P) → IsMapOf (nodes self.old.forest) m → AreInFlight self.old fs → FillsPlaces m op result found.new }
+        ensures beside { IsBeside self.old.forest self.new.forest }
         ensures survey { (fs : Flights P) (m : Pairs P) → IsMapOf (nodes self.old.forest) m → AreInFlight self.old fs → TellsMap m op result }
     {
         self.sound();

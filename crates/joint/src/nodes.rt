@@ -146,6 +146,7 @@ impl<P: Payload + Small, A: Allocator> Nodes<P, A> {
     {
         cells::hang(&mut self.collector, at.name, byte, child);
     }
+
     /// Takes the value at the byte out of a node.
     pub(crate) fn pull(&mut self, at: Id, byte: u8) -> P
         requires stands { Stands (nodes self.old (id_number at)) }

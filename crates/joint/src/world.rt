@@ -8,7 +8,7 @@ ghost use Rattle.judge.specs.Answer.{Pairs};
 ghost use Rattle.congee.specs.Heap.{Stands};
 ghost use Rattle.congee.specs.Keys.{IsMapOf};
 ghost use Rattle.joint.specs.Closing.{IsClosed, IsNotClosed};
-ghost use Rattle.joint.specs.Forest.{nodes};
+ghost use Rattle.joint.specs.Forest.{IsBeside, nodes};
 ghost use Rattle.joint.specs.Listing.{IsListOf, bytes_of, standing_nodes, waiting_nodes};
 ghost use Rattle.joint.specs.Opening.{IsOpened, IsUnopened};
 ghost use Rattle.joint.specs.Runs.{Flights, AreInFlight, IsRun, RunsMap, AllSpare, IsFresh, no_flights};
@@ -82,6 +82,7 @@ impl<P: Payload + Small, A: Allocator> World<P, A> {
         ensures map { (fs : Flights P) (m : Pairs P) → IsMapOf (nodes self.old.forest) m → AreInFlight self.old fs → RunsMap P.same_as fs m (take result.done steps.items) result.reports.items self.new }
         ensures fresh { IsFresh self.old → RunsMap P.same_as no_flights empty (take result.done steps.items) result.reports.items self.new }
         ensures scans { (fs : Flights P) (m : Pairs P) (r : RunsMap P.same_as fs m (take result.done steps.items) result.reports.items self.new) → ScansHold r.lines × EmptyScansHold r.lines }
+        ensures beside { IsBeside self.old.forest self.new.forest }
         ensures spares { (run : IsRun P.same_as P.always_copies self.old (take result.done steps.items) result.reports.items self.new) → AllSpare self.old run.taken }
     {
         runs_spare::<P, A>();
@@ -135,6 +136,7 @@ impl<P: Payload + Small, A: Allocator> World<P, A> {
         waits::<P>();
         self.engine.waiting_bytes()
     }
+
     /// Hands each pair to the drainer, in ascending order of the keys; then the removals that wait are carried out, and the
     /// allocator comes back with the charge that it had when it was handed in. Refused as WorkersLeft while workers are
     /// registered, and the index and the drainer come back.

@@ -19,6 +19,7 @@ mod protocol;
 mod reports;
 mod scripts;
 mod stats;
+mod surveys;
 mod threads;
 mod users;
 mod worked;

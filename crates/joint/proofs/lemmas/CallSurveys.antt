@@ -34,7 +34,7 @@ module _ {V : Type 0} where
   put_away_over (Done d) e = refl
   put_away_over (Refused e) q = refl
 
-  told : List (Line V) → List (Report V)
+  abbrev pub told : List (Line V) → List (Report V)
   told lines = map (λ (l : Line V). l.report) lines
 
 module _ {V : Type 0} (same : V → V → Bool) (w : ℕ) (fs : Flights V) (m : Pairs V) where

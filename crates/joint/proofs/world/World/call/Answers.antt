@@ -1,4 +1,5 @@
 use Rattle.std.proofs.Common.{refl}
+use Rattle.joint.proofs.lemmas.Beside.{run_beside}
 use Rattle.joint.proofs.lemmas.CallScans.{fills}
 use Rattle.joint.proofs.lemmas.CallSurveys.{tells}
 use Rattle.joint.proofs.lemmas.Running.{run_map}
@@ -13,3 +14,6 @@ pub returns-clause-survey : goal.returns-clause-survey
 returns-clause-survey g c fs m st fl =
     let x = run_map g.P.Payload.same_as g.P.Payload.always_copies _ _ _ _ fs m c.sound.ensures.holds c.take_steps.ensures.run st fl in
     tells g.P.Payload.same_as _ fs m _ c.take_steps.ensures.reports _ _ refl (x.lines, x.flights, x.steps_are, x.reports_are, x.run) c.take_steps.ensures.goes c.take_steps.ensures.last
+
+pub returns-clause-beside : goal.returns-clause-beside
+returns-clause-beside g c = run_beside g.P.Payload.same_as g.P.Payload.always_copies _ _ _ _ c.take_steps.ensures.run

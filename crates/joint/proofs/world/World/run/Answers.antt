@@ -1,3 +1,4 @@
+use Rattle.joint.proofs.lemmas.Beside.{run_beside}
 use Rattle.joint.proofs.lemmas.Running.{run_map, run_fresh}
 use Rattle.joint.proofs.lemmas.Scans.{scans_hold, empty_scans_hold}
 use Rattle.joint.proofs.world.World.run.Goals as goal
@@ -13,3 +14,6 @@ returns-clause-fresh g c fresh = run_fresh g.P.Payload.same_as g.P.Payload.alway
 
 pub returns-clause-scans : goal.returns-clause-scans
 returns-clause-scans g c fs m r = (scans_hold g.P.Payload.same_as fs m r.lines r.flights r.run, empty_scans_hold g.P.Payload.same_as fs m r.lines r.flights r.run)
+
+pub returns-clause-beside : goal.returns-clause-beside
+returns-clause-beside g c = run_beside g.P.Payload.same_as g.P.Payload.always_copies _ _ _ _ c.take_all.ensures.run
