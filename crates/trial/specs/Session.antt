@@ -175,7 +175,7 @@ pub record Closed (old : Index) (new : Session) (r : Reply) : Type 0 where
   pub no_worker : registered_in old.world.forest.collector ≡ 0
   pub pairs : List (ℕ × ℕ)
   pub all : (m : Pairs ℕ) → IsMapOf (nodes old.world.forest) m → pairs ≡ entries m
-  pub reply : r ≡ reply.Closed pairs old.world.forest.base
+  pub reply : r ≡ reply.Closed (record { pairs = pairs; charge = old.world.forest.base })
 
 -- or isn't, while workers are registered
 pub record StaysOpen (old : Index) (new : Session) (r : Reply) : Type 0 where

@@ -1,8 +1,10 @@
 -- The texts that replies are printed as.
 use Rattle.std.specs.Prelude.{ℕ, Bool, true, false, List, [], ◌∷◌, ◌++◌, length, None, Some, Ok, Err, decimal, codes}
 use Rattle.std.specs.List.{flat_map}
+use Rattle.congee.specs.owned.StatsText.{stats_text}
 use Rattle.joint.specs.declared.refusal.Refusal.{Refusal}
 use Rattle.joint.specs.declared.refusal.Refusal.TheVariants as refusal
+use Rattle.trial.specs.declared.drained.Closed.{Closed}
 use Rattle.trial.specs.declared.reply.Refused.{Refused}
 use Rattle.trial.specs.declared.reply.Refused.TheVariants as refused
 use Rattle.trial.specs.declared.reply.Reply.{Reply}
@@ -48,6 +50,10 @@ pairs_text pairs = flat_map pair_text pairs
 abbrev pub drained_text : ℕ × ℕ → List ℕ
 drained_text pair = codes "drain" ++ spaced pair.0 ++ spaced pair.1 ++ 10 ∷ []
 
+-- what a tree that was closed told
+abbrev pub closed_text : Closed → List ℕ
+closed_text c = flat_map drained_text c.pairs ++ codes "closed" ++ spaced c.charge
+
 abbrev pub truth_text : Bool → List ℕ
 truth_text true = codes "true"
 truth_text false = codes "false"
@@ -67,7 +73,8 @@ reply_text (reply.Exchanged (Err (Some v))) = codes "err some" ++ spaced v
 reply_text (reply.Range pairs) = codes "range" ++ spaced (length pairs) ++ pairs_text pairs
 reply_text (reply.Keys keys) = codes "keys" ++ flat_map spaced keys
 reply_text (reply.Empty b) = truth_text b
-reply_text (reply.Closed pairs bytes) = flat_map drained_text pairs ++ codes "closed" ++ spaced bytes
+reply_text (reply.Stats stats) = stats_text stats
+reply_text (reply.Closed closed) = closed_text closed
 reply_text reply.Begun = codes "begun"
 reply_text reply.Running = codes "running"
 reply_text (reply.Charged bytes) = codes "charged" ++ spaced bytes

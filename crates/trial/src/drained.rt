@@ -1,11 +1,13 @@
 //! What a tree that is closed hands over.
 ghost use Rattle.std.specs.Prelude.{◌≡◌, ◌×◌, [], true, IfOk, IfErr};
+ghost use Rattle.trial.specs.Texts.{closed_text};
 ghost use Rattle.trial.specs.declared.end.End.TheVariants as End;
 
 use crate::end::End;
 use crate::places::Places;
 use congee::Drainer;
 use std::alloc::Global;
+use std::fmt;
 
 /// The pairs that a tree has handed over as it was closed.
 #[derive(Drop)]
@@ -48,5 +50,27 @@ impl Drainer<u64, u64> for Drained {
         if self.pairs.add(key, value).is_err() {
             self.whole = false;
         }
+    }
+}
+
+/// What a tree that was closed told.
+#[derive(Drop)]
+pub struct Closed {
+    /// In ascending order of the keys.
+    pub pairs: Places,
+    /// The bytes that are still charged.
+    pub charge: u64,
+}
+
+impl fmt::Display for Closed {
+    ghost use Rattle.std.specs.Prelude.{Some};
+
+    ghost output = { λ c. Some (closed_text c) };
+
+    fn fmt<W: fmt::Write>(&self, f: &mut fmt::Formatter<W>) -> fmt::Result {
+        for (key, value) in self.pairs.as_slice() {
+            writeln!(f, "drain {key} {value}")?;
+        }
+        write!(f, "closed {}", self.charge)
     }
 }

@@ -3,6 +3,7 @@ ghost use Rattle.std.specs.Prelude.{◌≡◌, Some};
 ghost use Rattle.trial.specs.Replies.{pair_of, reply_to, ending, reply_of, begun_of};
 ghost use Rattle.trial.specs.Texts.{refused_text, reply_text};
 
+use crate::drained::Closed;
 use crate::keys::Keys;
 use crate::places::Places;
 use congee::NodeStats;
@@ -42,8 +43,8 @@ pub enum Reply {
     Empty(bool),
     /// How the nodes are spread over levels and forms.
     Stats(NodeStats),
-    /// The pairs of the tree that was closed, in ascending order, and the bytes that are still charged.
-    Closed(Places, u64),
+    /// What the tree that was closed handed over.
+    Closed(Closed),
     /// The call is begun.
     Begun,
     /// The call is in flight.
@@ -160,6 +161,10 @@ impl fmt::Display for Reply {
             Reply::Exchanged(Err(None)) => write!(f, "err none"),
             Reply::Exchanged(Err(Some(value))) => write!(f, "err some {value}"),
             Reply::Range(places) => write!(f, "range {}{places}", places.len()),
+            Reply::Keys(keys) => write!(f, "keys{keys}"),
+            Reply::Empty(empty) => write!(f, "{empty}"),
+            Reply::Stats(stats) => write!(f, "{stats}"),
+            Reply::Closed(closed) => write!(f, "{closed}"),
             Reply::Begun => write!(f, "begun"),
             Reply::Running => write!(f, "running"),
             Reply::Charged(bytes) => write!(f, "charged {bytes}"),

@@ -29,7 +29,11 @@ fn put_reply(alloc: Global, replies: &mut Vec<u8>, reply: &Reply) -> Result<(), 
     ensures ok { OnOk result (replies.new.items ≡ replies.old.items ++ printed reply.now) }
     ensures err { IfErr result (λ e. (e ≡ End.Memory) × (replies.new.items ≡ replies.old.items)) }
 {
-    let text = format!(in alloc; "{reply}\n")?;
+    let text = match reply {
+        // Each of its lines has its line feed.
+        Reply::Stats(stats) => format!(in alloc; "{stats}")?,
+        reply => format!(in alloc; "{reply}\n")?,
+    };
     replies.extend_from_slice(text.as_bytes())?;
     Ok(())
 }

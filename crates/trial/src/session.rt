@@ -8,7 +8,7 @@ ghost use Rattle.trial.specs.declared.end.End.TheVariants as End;
 
 use crate::caller::Closure;
 use crate::command::{Call, Command, Opening};
-use crate::drained::Drained;
+use crate::drained::{Closed, Drained};
 use crate::end::End;
 use crate::index::Index;
 use crate::places::Places;
@@ -263,7 +263,10 @@ fn close(alloc: Global, session: &mut Option<Index>) -> Result<Reply, End>
         return Ok(Reply::Refused(Refused::NoTree));
     };
     match world.close(Drained::new(alloc)) {
-        Ok((allocator, drained)) => Ok(Reply::Closed(drained.pairs()?, allocator.charged())),
+        Ok((allocator, drained)) => Ok(Reply::Closed(Closed {
+            pairs: drained.pairs()?,
+            charge: allocator.charged(),
+        })),
         Err((refusal, world, _)) => {
             *session = Some(Index {
                 world,
