@@ -1,6 +1,6 @@
 //! How the nodes of a tree are spread over levels and forms.
 ghost use Rattle.std.specs.Prelude.{◌≡◌, ℕ, ◌*◌, ◌<◌, ◌≤◌, ◌^◌, OnOk, OnErr, Some, vec_len};
-ghost use Rattle.congee.specs.owned.StatsText.{hundredths, filled_in, nodes_in, form_text, load_text, level_text, whole_text, stats_text};
+ghost use Rattle.congee.specs.owned.StatsText.{hundredths, filled_in, nodes_in, form_text, load_text, level_text, level_line, whole_text, stats_text};
 
 use crate::forms::base_node::{N4_SIZE, N16_SIZE, N48_SIZE, N256_SIZE, NodeType};
 use std::alloc::{AllocError, Global};
@@ -255,6 +255,22 @@ impl fmt::Display for LevelStats {
     }
 }
 
+// A level with its number.
+#[derive(Clone, Copy)]
+struct LevelLine {
+    number: usize,
+    level: LevelStats,
+}
+
+impl fmt::Display for LevelLine {
+    ghost output = { λ l. Some (level_line (l.number, l.level)) };
+
+    #[tactic(auto, unfolding(crate::specs::owned::StatsText::level_line))]
+    fn fmt<W: fmt::Write>(&self, f: &mut fmt::Formatter<W>) -> fmt::Result {
+        writeln!(f, "Level: {} --- {}", self.number, self.level)
+    }
+}
+
 // How much of all places is taken, with a remark where it is less than half.
 #[derive(Clone, Copy)]
 struct LoadText {
@@ -298,7 +314,11 @@ impl fmt::Display for NodeStats {
 
     fn fmt<W: fmt::Write>(&self, f: &mut fmt::Formatter<W>) -> fmt::Result {
         for (number, level) in self.levels.iter().enumerate() {
-            writeln!(f, "Level: {number} --- {level}")?;
+            let line = LevelLine {
+                number,
+                level: *level,
+            };
+            write!(f, "{line}")?;
         }
         let whole = WholeText {
             total: self.total(),

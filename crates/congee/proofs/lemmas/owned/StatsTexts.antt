@@ -15,7 +15,7 @@ use Rattle.congee.specs.declared.forms.base_node.NodeType.{NodeType}
 use Rattle.congee.specs.declared.owned.stats.NodeInfo.{NodeInfo}
 use Rattle.congee.specs.declared.owned.stats.LevelStats.{LevelStats}
 use Rattle.congee.specs.owned.Stats.{capped, capped_info, info_of}
-use Rattle.congee.specs.owned.StatsText.{added, right_in, hundredths, quotient_text, is_below_half, form_text, total_of, filled_in, nodes_in, entries_in, bytes_in, load_text, count_line, load_line, memory_line, pairs_line, whole_text, level_text, level_line, newline}
+use Rattle.congee.specs.owned.StatsText.{added, right_in, hundredths, quotient_text, is_below_half, form_text, total_of, filled_in, nodes_in, entries_in, bytes_in, load_text, count_line, load_line, memory_line, pairs_line, whole_text, level_line, newline}
 
 capped_more : (s m t : ℕ) → t ≡ s + m → capped t ≡ capped (capped s + m)
 capped_more s m t e = omega (arith, e)
@@ -116,12 +116,6 @@ load_written n d h remark e r =
     rw (digits_behind h, half n d, ← e, r)
     (sym (append_assoc (decimal (h / 100)) (46 ∷ (decimal (h / 10 % 10) ++ decimal (h % 10))) (cond (nat_lt h 50) (codes " (too low)") []))
     ∙ ap (λ t. t ++ cond (nat_lt h 50) (codes " (too low)") []) (quotient_written n d h e))
-
--- a level's line as it is written
-pub line_written : (number : ℕ) (level : LevelStats)
-    → codes "Level: " ++ (decimal number ++ (codes " --- " ++ (level_text level ++ newline))) ≡ level_line (number, level)
-unfolding level_line
-line_written number level = simp append_assoc
 
 -- one more line
 pub lines_more : (levels : List LevelStats) (i : ℕ) (d : LevelStats) → i < length levels
