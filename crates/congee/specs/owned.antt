@@ -16,3 +16,4 @@ pub mod Nearest
 pub mod Owners
 pub mod Table
 pub mod Stats
+pub mod StatsText

@@ -21,3 +21,4 @@ pub mod Wanting
 pub mod Ways
 pub mod Tallies
 pub mod Surveys
+pub mod StatsTexts

@@ -1,5 +1,6 @@
 //! How the nodes of a tree are spread over levels and forms.
-ghost use Rattle.std.specs.Prelude.{◌≡◌, ℕ, ◌+◌, ◌*◌, ◌<◌, ◌≤◌, ◌^◌, OnOk, OnErr, vec_len};
+ghost use Rattle.std.specs.Prelude.{◌≡◌, ℕ, ◌*◌, ◌<◌, ◌≤◌, ◌^◌, OnOk, OnErr, Some, vec_len};
+ghost use Rattle.congee.specs.owned.StatsText.{hundredths, filled_in, nodes_in, form_text, load_text, level_text, level_line, whole_text, stats_text};
 
 use crate::forms::base_node::{N4_SIZE, N16_SIZE, N48_SIZE, N256_SIZE, NodeType};
 use std::alloc::{AllocError, Global};
@@ -46,6 +47,7 @@ const EMPTY_LEVEL: LevelStats = LevelStats {
 
 impl NodeInfo {
     ghost use Rattle.congee.specs.owned.Stats.{capped_info, one_more};
+    ghost use Rattle.congee.specs.owned.StatsText.{added};
 
     /// Counts one more node with its children.
     fn count(&mut self, children: u64)
@@ -54,11 +56,33 @@ impl NodeInfo {
         self.node_count = self.node_count.saturating_add(1);
         self.value_count = self.value_count.saturating_add(children);
     }
+
+    /// Both counts added; a sum past `u64::MAX` stays there.
+    fn plus(self, more: NodeInfo) -> NodeInfo
+        ensures { result ≡ capped_info (added self more) }
+    {
+        NodeInfo {
+            node_count: self.node_count.saturating_add(more.node_count),
+            value_count: self.value_count.saturating_add(more.value_count),
+        }
+    }
 }
 
 impl LevelStats {
     ghost use Rattle.congee.specs.owned.Stats.{capped_info, info_of, one_more};
     ghost use Rattle.congee.specs.declared.forms.base_node.NodeType.{NodeType};
+
+    /// What the level has of a form.
+    fn info(&self, form: NodeType) -> NodeInfo
+        ensures { result ≡ info_of form self.now }
+    {
+        match form {
+            NodeType::N4 => self.n4,
+            NodeType::N16 => self.n16,
+            NodeType::N48 => self.n48,
+            NodeType::N256 => self.n256,
+        }
+    }
 
     /// Counts one more node with its children.
     fn count(&mut self, form: NodeType, children: u64)
@@ -76,6 +100,7 @@ impl LevelStats {
 
 impl NodeStats {
     ghost use Rattle.congee.specs.owned.Stats.{info_at, no_nodes, Counts};
+    ghost use Rattle.congee.specs.owned.StatsText.{total, total_of};
     ghost use Rattle.congee.specs.declared.forms.base_node.NodeType.{NodeType};
 
     /// No nodes and no pairs.
@@ -104,35 +129,37 @@ impl NodeStats {
         Ok(())
     }
 
-    /// The levels taken together; a sum past `u64::MAX` stays there.
-    fn total(&self) -> LevelStats {
-        let mut total = EMPTY_LEVEL;
+    /// The nodes of a form on all levels, and their children; a sum past `u64::MAX` stays there.
+    fn total_of(&self, form: NodeType) -> NodeInfo
+        ensures { result ≡ total_of form self.now.levels.items }
+    {
+        let mut total = NO_NODES;
         for level in &self.levels {
-            total.n4 = sum_of(total.n4, level.n4);
-            total.n16 = sum_of(total.n16, level.n16);
-            total.n48 = sum_of(total.n48, level.n48);
-            total.n256 = sum_of(total.n256, level.n256);
+            total = total.plus(level.info(form));
         }
         total
     }
-}
 
-/// Two counts of nodes and values added; a sum past `u64::MAX` stays there.
-fn sum_of(info: NodeInfo, more: NodeInfo) -> NodeInfo {
-    NodeInfo {
-        node_count: info.node_count.saturating_add(more.node_count),
-        value_count: info.value_count.saturating_add(more.value_count),
+    /// The levels taken together; a sum past `u64::MAX` stays there.
+    fn total(&self) -> LevelStats
+        ensures { result ≡ total self.now.levels.items }
+    {
+        LevelStats {
+            n4: self.total_of(NodeType::N4),
+            n16: self.total_of(NodeType::N16),
+            n48: self.total_of(NodeType::N48),
+            n256: self.total_of(NodeType::N256),
+        }
     }
 }
 
 impl LevelStats {
-    ghost use Rattle.congee.specs.forms.Forms.{size_of};
-    ghost use Rattle.congee.specs.declared.forms.base_node.NodeType.TheVariants.{N4, N16, N48, N256};
+    ghost use Rattle.congee.specs.owned.StatsText.{entries_in, bytes_in};
 
     /// The nodes of all forms.
     fn node_count(&self) -> u128
         ensures small { result < 2 ^ 66 }
-        ensures sum { result ≡ self.now.n4.node_count + self.now.n16.node_count + self.now.n48.node_count + self.now.n256.node_count }
+        ensures sum { result ≡ nodes_in self.now }
     {
         self.n4.node_count as u128
             + self.n16.node_count as u128
@@ -142,7 +169,7 @@ impl LevelStats {
 
     /// The children of the nodes of all forms: values or nodes below.
     fn value_count(&self) -> u128
-        ensures { result ≡ self.now.n4.value_count + self.now.n16.value_count + self.now.n48.value_count + self.now.n256.value_count }
+        ensures { result ≡ entries_in self.now }
     {
         self.n4.value_count as u128
             + self.n16.value_count as u128
@@ -152,8 +179,7 @@ impl LevelStats {
 
     /// In bytes.
     fn memory_size(&self) -> u128
-        ensures { result ≡ size_of N4 * self.now.n4.node_count + size_of N16 * self.now.n16.node_count
-            + size_of N48 * self.now.n48.node_count + size_of N256 * self.now.n256.node_count }
+        ensures { result ≡ bytes_in self.now }
     {
         N4_SIZE as u128 * self.n4.node_count as u128
             + N16_SIZE as u128 * self.n16.node_count as u128
@@ -164,7 +190,7 @@ impl LevelStats {
     /// The children by the places of their nodes' form, in parts of 768.
     fn filled(&self) -> u128
         ensures small { result < 2 ^ 73 }
-        ensures sum { result ≡ 192 * self.now.n4.value_count + 48 * self.now.n16.value_count + 16 * self.now.n48.value_count + 3 * self.now.n256.value_count }
+        ensures sum { result ≡ filled_in self.now }
     {
         192 * self.n4.value_count as u128
             + 48 * self.n16.value_count as u128
@@ -176,8 +202,7 @@ impl LevelStats {
 /// How much of the places is taken, in hundredths, cut off; 0 where there are none.
 fn load(taken: u128, places: u128) -> u128
     requires { taken < 2 ^ 100 }
-    ensures none { places ≡ 0 → result ≡ 0 }
-    ensures cut_off { 0 < places → (result * places ≤ taken * 100) × (taken * 100 < (result + 1) * places) }
+    ensures { result ≡ hundredths taken places }
 {
     if places == 0 { 0 } else { taken * 100 / places }
 }
@@ -185,38 +210,43 @@ fn load(taken: u128, places: u128) -> u128
 // The nodes of one form, with their share of taken places.
 #[derive(Clone, Copy)]
 struct FormText {
+    form: NodeType,
     info: NodeInfo,
-    capacity: u16,
 }
 
 impl fmt::Display for FormText {
+    ghost output = { λ t. Some (form_text t.form t.info) };
+
     fn fmt<W: fmt::Write>(&self, f: &mut fmt::Formatter<W>) -> fmt::Result {
         let nodes = self.info.node_count;
         let load = load(
             self.info.value_count as u128,
-            nodes as u128 * self.capacity as u128,
+            nodes as u128 * self.form.capacity() as u128,
         );
         write!(f, "{nodes:8}, {:5}.{:02}", load / 100, load % 100)
     }
 }
 
 impl fmt::Display for LevelStats {
+    ghost output = { λ level. Some (level_text level) };
+
+    #[tactic(auto, unfolding(crate::specs::owned::StatsText::level_text))]
     fn fmt<W: fmt::Write>(&self, f: &mut fmt::Formatter<W>) -> fmt::Result {
         let n4 = FormText {
+            form: NodeType::N4,
             info: self.n4,
-            capacity: 4,
         };
         let n16 = FormText {
+            form: NodeType::N16,
             info: self.n16,
-            capacity: 16,
         };
         let n48 = FormText {
+            form: NodeType::N48,
             info: self.n48,
-            capacity: 48,
         };
         let n256 = FormText {
+            form: NodeType::N256,
             info: self.n256,
-            capacity: 256,
         };
         write!(
             f,
@@ -225,26 +255,75 @@ impl fmt::Display for LevelStats {
     }
 }
 
-impl fmt::Display for NodeStats {
+// A level with its number.
+#[derive(Clone, Copy)]
+struct LevelLine {
+    number: usize,
+    level: LevelStats,
+}
+
+impl fmt::Display for LevelLine {
+    ghost output = { λ l. Some (level_line (l.number, l.level)) };
+
+    #[tactic(auto, unfolding(crate::specs::owned::StatsText::level_line))]
     fn fmt<W: fmt::Write>(&self, f: &mut fmt::Formatter<W>) -> fmt::Result {
-        for (level, stats) in self.levels.iter().enumerate() {
-            writeln!(f, "Level: {level} --- {stats}")?;
-        }
-        let total = self.total();
-        let nodes = total.node_count();
-        writeln!(
-            f,
-            "Overall node count: {nodes}, entry count: {}",
-            total.value_count()
-        )?;
-        let load = load(total.filled(), 768 * nodes);
+        writeln!(f, "Level: {} --- {}", self.number, self.level)
+    }
+}
+
+// How much of all places is taken, with a remark where it is less than half.
+#[derive(Clone, Copy)]
+struct LoadText {
+    total: LevelStats,
+}
+
+impl fmt::Display for LoadText {
+    ghost output = { λ t. Some (load_text (filled_in t.total) (768 * nodes_in t.total)) };
+
+    fn fmt<W: fmt::Write>(&self, f: &mut fmt::Formatter<W>) -> fmt::Result {
+        let load = load(self.total.filled(), 768 * self.total.node_count());
         let remark = if load < 50 { " (too low)" } else { "" };
-        writeln!(f, "Load factor: {}.{:02}{remark}", load / 100, load % 100)?;
-        writeln!(
-            f,
-            "Active memory usage: {} Mb",
-            total.memory_size() / 1_048_576
-        )?;
-        writeln!(f, "KV count: {}", self.kv_pairs)
+        write!(f, "{}.{:02}{remark}", load / 100, load % 100)
+    }
+}
+
+// All levels taken together, with the number of pairs.
+#[derive(Clone, Copy)]
+struct WholeText {
+    total: LevelStats,
+    pairs: u64,
+}
+
+impl fmt::Display for WholeText {
+    ghost output = { λ t. Some (whole_text t.total t.pairs) };
+
+    fn fmt<W: fmt::Write>(&self, f: &mut fmt::Formatter<W>) -> fmt::Result {
+        let nodes = self.total.node_count();
+        let entries = self.total.value_count();
+        let load = LoadText { total: self.total };
+        let memory = self.total.memory_size() / 1_048_576;
+        writeln!(f, "Overall node count: {nodes}, entry count: {entries}")?;
+        writeln!(f, "Load factor: {load}")?;
+        writeln!(f, "Active memory usage: {memory} Mb")?;
+        writeln!(f, "KV count: {}", self.pairs)
+    }
+}
+
+impl fmt::Display for NodeStats {
+    ghost output = { λ stats. Some (stats_text stats) };
+
+    fn fmt<W: fmt::Write>(&self, f: &mut fmt::Formatter<W>) -> fmt::Result {
+        for (number, level) in self.levels.iter().enumerate() {
+            let line = LevelLine {
+                number,
+                level: *level,
+            };
+            write!(f, "{line}")?;
+        }
+        let whole = WholeText {
+            total: self.total(),
+            pairs: self.kv_pairs,
+        };
+        write!(f, "{whole}")
     }
 }

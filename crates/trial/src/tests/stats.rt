@@ -1,4 +1,4 @@
-//! What no clause says: printed text, and each public call once with ample memory.
+//! The worked text of statistics; what no clause says: the text of an error; and each public call once with ample memory.
 use congee::{
     Allocator, Calls, Congee, DefaultAllocator, Drainer, LevelStats, Limited, NoDrain, NodeInfo,
     NodeStats, NodeType, OOMError,
