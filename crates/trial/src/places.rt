@@ -61,7 +61,8 @@ impl Places {
     pub fn add(&mut self, key: u64, value: u64) -> Result<(), AllocError>
         ensures ok { OnOk result (self.new ≡ self.old ++ (key, value) ∷ []) }
     {
-        self.pairs.push((key, value))
+        self.pairs.push((key, value))?;
+        Ok(())
     }
 
     /// The first places alone.

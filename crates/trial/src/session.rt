@@ -13,7 +13,7 @@ use crate::end::End;
 use crate::index::Index;
 use crate::places::Places;
 use crate::reply::{Refused, Reply};
-use congee::Limited;
+use congee::{Allocator, Limited};
 use joint::{Done, Limits, Op, Outcome, Refusal, World};
 use std::alloc::Global;
 

@@ -199,7 +199,7 @@ pub fn begun(index: &mut Index, worker: u32, call: Call<u64>) -> Flight {
 
 /// A step of a call, to which this comes from outside, unless it has ended.
 pub fn advance_with(index: &mut Index, flight: &mut Flight, turn: u32, noise: Noise<Id, u64>) {
-    if is_in_flight(flight.outcome) {
+    if is_in_flight(&flight.outcome) {
         let report = go_with(index, flight.worker, noise);
         flight.outcome = report.outcome;
         if report.decided {
@@ -221,7 +221,7 @@ pub fn advance(index: &mut Index, flight: &mut Flight, turn: u32) {
 
 /// A worker whose call has ended flushes.
 fn flush(index: &mut Index, flight: &Flight) {
-    if !is_in_flight(flight.outcome) {
+    if !is_in_flight(&flight.outcome) {
         is_done(index, flight.worker, Op::Flush);
     }
 }
@@ -236,7 +236,7 @@ fn collect(index: &mut Index, first: &Flight, second: &Flight) {
 /// A call goes on, with a collection after each step, to its end or until it has found a lock taken for long.
 fn go_on(index: &mut Index, flight: &mut Flight, other: &Flight, turn: u32) {
     for _ in 0..LONG {
-        if !is_in_flight(flight.outcome) {
+        if !is_in_flight(&flight.outcome) {
             return;
         }
         advance(index, flight, turn);
@@ -364,7 +364,7 @@ fn length(alloc: Global, case: &Case, call: Call<u64>) -> Result<u32, Refusal> {
     let mut flight = begun(&mut index, 0, call);
     let mut steps = 0;
     for _ in 0..END {
-        if is_in_flight(flight.outcome) {
+        if is_in_flight(&flight.outcome) {
             advance(&mut index, &mut flight, 0);
             steps = u32::saturating_add(steps, 1);
         }

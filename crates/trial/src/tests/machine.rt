@@ -94,7 +94,7 @@ pub fn go(index: &mut Index, worker: u32, answer: Option<Option<u64>>) -> Report
 }
 
 /// Whether a call that stands so goes on.
-pub fn is_in_flight(outcome: Outcome<u64>) -> bool {
+pub fn is_in_flight(outcome: &Outcome<u64>) -> bool {
     matches!(outcome, Outcome::Running | Outcome::Asks(_))
 }
 
@@ -108,7 +108,7 @@ pub fn go_on(
 ) -> Outcome<u64> {
     let mut outcome = outcome;
     for _ in 0..most {
-        if !is_in_flight(outcome) {
+        if !is_in_flight(&outcome) {
             return outcome;
         }
         outcome = go(index, worker, answer).outcome;

@@ -12,6 +12,7 @@ use std::alloc::Global;
 use std::test::Fail;
 
 /// A call of worker 0, pinned or not when it begins, what its closure answers, and how it ends.
+#[derive(Drop)]
 struct Interrupted {
     is_pinned: bool,
     op: Op<u64>,
@@ -190,7 +191,7 @@ fn end_after(
     let mut steps = 0u32;
     let mut right = true;
     for _ in 0..END {
-        if !is_in_flight(outcome) {
+        if !is_in_flight(&outcome) {
             break;
         }
         if at == Some(steps) {
@@ -209,7 +210,8 @@ fn goes_on(alloc: Global, call: &Interrupted) -> Result<bool, Refusal> {
         return Ok(false);
     }
     for at in 0..steps {
-        if end_after(alloc, call, Some(at))? != (call.end, steps, true) {
+        let (ended, taken, right) = end_after(alloc, call, Some(at))?;
+        if ended != call.end || taken != steps || !right {
             return Ok(false);
         }
     }

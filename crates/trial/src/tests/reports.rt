@@ -10,7 +10,7 @@ use judge::{Call, Reply};
 use std::test::Fail;
 
 /// The reports of a whole call, counted.
-#[derive(Clone, Copy)]
+#[derive(Drop)]
 struct Counted {
     outcome: Outcome<u64>,
     /// Steps of the collector, and of the tree, the begin among them.
@@ -44,7 +44,7 @@ fn add(before: Counted, report: Report<u64>) -> Counted {
 fn stepped(index: &mut Index, worker: u32, op: Op<u64>, failing: u32) -> Counted {
     let begun = begin(index, worker, op);
     let nothing = Counted {
-        outcome: begun.outcome,
+        outcome: Outcome::Running,
         collection: 0,
         tree: 0,
         effects: 0,
@@ -54,7 +54,7 @@ fn stepped(index: &mut Index, worker: u32, op: Op<u64>, failing: u32) -> Counted
     };
     let mut count = add(nothing, begun);
     for step in 0..END {
-        if !is_in_flight(count.outcome) {
+        if !is_in_flight(&count.outcome) {
             return count;
         }
         let noise = Noise {
