@@ -38,6 +38,13 @@ impl Places {
         self.pairs.len()
     }
 
+    /// The pairs, in their places.
+    pub fn as_slice(&self) -> &[(u64, u64)]
+        ensures { result.now ≡ self.now }
+    {
+        &self.pairs
+    }
+
     /// Fills a place anew, or the next one where the place is past those that are filled.
     pub fn fill(&mut self, place: usize, key: u64, value: u64) -> Result<(), AllocError>
         ensures ok { OnOk result (self.new ≡ written self.old place (key, value)) }
