@@ -12,9 +12,11 @@ use Rattle.trial.specs.Line.{IsBad}
 use Rattle.trial.specs.Session.{Session}
 use Rattle.trial.specs.Script.{LinesAnswer, AreAnswered, lines_of, NoFeed, fed, WholeLines, AllWhole, AllButLastRead, FirstLines, SomeLines, AllLines, UpToBad, Prints, input_max, read_max}
 use Rattle.trial.specs.Texts.{bad_line_text}
-use Rattle.trial.specs.Turns.{LineGoes, LineStops, LinesGo, LinesStop, BeginsBad}
+use Rattle.trial.specs.Output.{Passes, Breaks}
+use Rattle.trial.specs.Turns.{LineGoes, LineStops, LinesGo, LinesStop, FirstStops, IsDue, IsDueFirst, BeginsBad}
 use Rattle.trial.specs.Going.{Going, Ends, EndsBy, Ran, IsAtStart, IsWritten}
 use Rattle.trial.proofs.Feeding.{answers_more, long_is_bad}
+use Rattle.trial.proofs.Passing.{passes_none, passes_both, breaks_last}
 use Rattle.trial.proofs.Splitting.{false_from_unequal, equal_from_true}
 use Rattle.std.proofs.Math.Dec.{eqb}
 use Rattle.std.proofs.lemmas.Bool.{true≢false}
@@ -62,8 +64,8 @@ few [] = omega arith
 few (l ∷ ls) = omega (arith, few ls, length-append l (10 ∷ fed ls))
 
 -- fewer lines than bytes were taken
-pub few_lines : (had left : Option (List ℕ)) (written : List ℕ) (p : Program) → Going had left written p → p.script.lines ≤ input_max
-few_lines had left written p g = omega (arith, g.lines, few g.before, ap length g.whole, length-append (fed g.before) p.unread.items, g.taken, g.bound)
+pub few_lines : (had left held holds : Option (List ℕ)) (p : Program) → Going had left held holds p → p.script.lines ≤ input_max
+few_lines had left held holds p g = omega (arith, g.lines, few g.before, ap length g.whole, length-append (fed g.before) p.unread.items, g.taken, g.bound)
 
 -- the first lines of an input that begins with them
 first_lines : (input tail text : List ℕ) (before : List (List ℕ)) (new : Session) → input ≡ fed before ++ tail → AllByRecursion NoFeed before
@@ -88,49 +90,43 @@ no_more : (input text : List ℕ) (before after : List (List ℕ)) → FirstLine
 no_more input text before after f = let P : List (List ℕ) → Type 0 = λ ls. FirstLines AreAnswered input ls after text in subst P (sym (append-nil before)) f
 
 -- the input of a script that is under way
-input_is : (input : List ℕ) (left : Option (List ℕ)) (written : List ℕ) (p : Program) → (g : Going (Some input) left written p)
+input_is : (input : List ℕ) (left held holds : Option (List ℕ)) (p : Program) → (g : Going (Some input) left held holds p)
     → (rest : List ℕ) × (left ≡ Some rest) × (input ≡ fed g.before ++ (p.unread.items ++ rest))
-input_is input None written p g = absurd g.read
-input_is input (Some rest) written p g = (rest, refl, g.read ∙ ap (λ t. t ++ rest) g.whole ∙ append_assoc (fed g.before) p.unread.items rest)
+input_is input None held holds p g = absurd g.read
+input_is input (Some rest) held holds p g = (rest, refl, g.read ∙ ap (λ t. t ++ rest) g.whole ∙ append_assoc (fed g.before) p.unread.items rest)
 
--- what an end comes with that isn't the writer's
-abbrev pub Ended : Option (List ℕ) → Option (List ℕ) → List ℕ → End → Type 0
-Ended had left text e = (e ≢ end.Writing) × EndsBy had left text e
-
-whole_lines : (had left : Option (List ℕ)) (written : List ℕ) (p : Program) → (g : Going had left written p) → WholeLines g.given g.before
-whole_lines had left written p g = record { rest = p.unread.items; whole = g.whole; feeds = g.feeds; unfed = g.unfed }
+whole_lines : (had left held holds : Option (List ℕ)) (p : Program) → (g : Going had left held holds p) → WholeLines g.given g.before
+whole_lines had left held holds p g = record { rest = p.unread.items; whole = g.whole; feeds = g.feeds; unfed = g.unfed }
 
 -- the lines that were whole are answered
-pub reading_end : (had mid left : Option (List ℕ)) (written : List ℕ) (p : Program) → Going had mid written p → Keeps mid left → Ended had left (written ++ p.script.replies.items) end.Reading
-reading_end None mid left written p g k = ((λ w. cc), tt)
-reading_end (Some input) mid left written p g k = (
-  (λ w. cc),
-  (g.given, Consumes-kept (Some input) mid left g.given g.read k, (g.before, whole_lines (Some input) mid written p g, (p.script.session, g.answers))),
-)
+pub reading_end : (had mid left held holds : Option (List ℕ)) (p : Program) → Going had mid held holds p → Keeps mid left → Ends had left held holds p end.Reading
+reading_end None mid left held holds p g k = tt
+reading_end (Some input) mid left held holds p g k =
+    (g.given, g.text, Consumes-kept (Some input) mid left g.given g.read k, (g.before, whole_lines (Some input) mid held holds p g, (p.script.session, g.answers)), g.passes)
 
 -- a growth was refused before a line of the last read was answered
-pub memory_end : (had mid left : Option (List ℕ)) (written last replies : List ℕ) (p : Program) → Going had mid written p → Consumes mid left last → length last ≤ read_max
-    → replies ≡ p.script.replies.items → Ended had left (written ++ replies) end.Memory
-memory_end None mid left written last replies p g c short e = ((λ w. cc), tt)
-memory_end (Some input) mid left written last replies p g c short e =
-    let i = input_is input mid written p g in
-    let P : List ℕ → Type 0 = λ r. AllButLastRead AreAnswered input (g.given ++ last) (written ++ r) in (
-      (λ w. cc),
-      (
-        g.given ++ last,
-        Consumes-trans (Some input) mid left g.given last g.read c,
-        subst P (sym e) (record {
-          before = g.given;
-          last = last;
-          reads = refl;
-          bound = short;
-          lines = g.before;
-          more = [];
-          after = lines_of (p.unread.items ++ i.0);
-          whole = whole_lines (Some input) mid written p g;
-          first = no_more input _ g.before _ (first_lines input (p.unread.items ++ i.0) _ g.before p.script.session i.2 g.feeds g.answers);
-        }),
-      ),
+pub memory_end : (had mid left held holds holds' : Option (List ℕ)) (last back : List ℕ) (p : Program) → Going had mid held holds p → Consumes mid left last → length last ≤ read_max
+    → (holds' ≡ holds) × (back ≡ p.script.output) → EndsBy had left held holds' back end.Memory
+memory_end None mid left held holds holds' last back p g c short same = tt
+memory_end (Some input) mid left held holds holds' last back p g c short same =
+    let i = input_is input mid held holds p g in
+    let P : Option (List ℕ) → Type 0 = λ h. Passes held [] h back g.text in
+    let Q : List ℕ → Type 0 = λ b. Passes held [] holds b g.text in (
+      g.given ++ last,
+      g.text,
+      Consumes-trans (Some input) mid left g.given last g.read c,
+      record {
+        before = g.given;
+        last = last;
+        reads = refl;
+        bound = short;
+        lines = g.before;
+        more = [];
+        after = lines_of (p.unread.items ++ i.0);
+        whole = whole_lines (Some input) mid held holds p g;
+        first = no_more input _ g.before _ (first_lines input (p.unread.items ++ i.0) _ g.before p.script.session i.2 g.feeds g.answers);
+      },
+      subst P (sym same.0) (subst Q (sym same.1) g.passes),
     )
 
 at_end_rest : (left : Option (List ℕ)) (rest : List ℕ) → left ≡ Some rest → IsAtEnd left → rest ≡ []
@@ -142,81 +138,93 @@ all_lines input text lines new h e a =
     (h, (sym (append-nil (lines_of input)), (new, subst P (sym e) a)))
 
 -- at the end of the input the bytes that are left are its last line
-last_is : (input : List ℕ) (left : Option (List ℕ)) (written : List ℕ) (p : Program) → IsAtEnd left → (g : Going (Some input) left written p)
+last_is : (input : List ℕ) (left held holds : Option (List ℕ)) (p : Program) → IsAtEnd left → (g : Going (Some input) left held holds p)
     → input ≡ fed g.before ++ p.unread.items
-last_is input left written p h g =
-    let i = input_is input left written p g in
+last_is input left held holds p h g =
+    let i = input_is input left held holds p g in
     i.2 ∙ ap (λ t. fed g.before ++ (p.unread.items ++ t)) (at_end_rest left i.0 i.1 h) ∙ ap (λ t. fed g.before ++ t) (append-nil p.unread.items)
 
-input_short : (input : List ℕ) (left : Option (List ℕ)) (written : List ℕ) (p : Program) → IsAtEnd left → (g : Going (Some input) left written p) → length input ≤ input_max
-input_short input left written p h g =
-    omega (arith, ap length (last_is input left written p h g), ap length g.whole, g.taken, g.bound)
+input_short : (input : List ℕ) (left held holds : Option (List ℕ)) (p : Program) → IsAtEnd left → (g : Going (Some input) left held holds p) → length input ≤ input_max
+input_short input left held holds p h g =
+    omega (arith, ap length (last_is input left held holds p h g), ap length g.whole, g.taken, g.bound)
 
-pub done_empty : (had left : Option (List ℕ)) (written : List ℕ) (p : Program) → p.unread.items ≡ [] → IsAtEnd left → Going had left written p
-    → Ended had left (written ++ p.script.replies.items) end.Done
-done_empty None left written p e h g = ((λ w. cc), tt)
-done_empty (Some input) left written p e h g =
-    let is : input ≡ fed g.before ++ [] = last_is input left written p h g ∙ ap (λ t. fed g.before ++ t) e in
+pub done_empty : (had left held holds : Option (List ℕ)) (p : Program) → p.unread.items ≡ [] → IsAtEnd left → Going had left held holds p → Ends had left held holds p end.Done
+done_empty None left held holds p e h g = tt
+done_empty (Some input) left held holds p e h g =
+    let is : input ≡ fed g.before ++ [] = last_is input left held holds p h g ∙ ap (λ t. fed g.before ++ t) e in
     let lines : lines_of input ≡ g.before = ap lines_of is ∙ lines_fed g.before [] g.feeds ∙ append-nil g.before in
-    ((λ w. cc), (g.given, g.read, all_lines input _ g.before p.script.session (input_short input left written p h g) lines g.answers))
+    (g.given, g.text, g.read, all_lines input _ g.before p.script.session (input_short input left held holds p h g) lines g.answers, g.passes)
 
 last_line_of : (line : List ℕ) → NoFeed line → 0 < length line → lines_of line ≡ line ∷ []
 last_line_of [] h i = absurd (omega arith)
 last_line_of (b ∷ line) h i = lines_last b line h
 
-lines_with_last : (input : List ℕ) (left : Option (List ℕ)) (written : List ℕ) (p : Program) → 0 < length p.unread.items → IsAtEnd left → (g : Going (Some input) left written p)
+lines_with_last : (input : List ℕ) (left held holds : Option (List ℕ)) (p : Program) → 0 < length p.unread.items → IsAtEnd left → (g : Going (Some input) left held holds p)
     → lines_of input ≡ g.before ++ p.unread.items ∷ []
-lines_with_last input left written p some h g =
-    ap lines_of (last_is input left written p h g) ∙ lines_fed g.before p.unread.items g.feeds ∙ ap (λ ls. g.before ++ ls) (last_line_of p.unread.items g.unfed some)
+lines_with_last input left held holds p some h g =
+    ap lines_of (last_is input left held holds p h g) ∙ lines_fed g.before p.unread.items g.feeds ∙ ap (λ ls. g.before ++ ls) (last_line_of p.unread.items g.unfed some)
 
-pub done_line : (had left : Option (List ℕ)) (written : List ℕ) (p : Program) (new : Script) → 0 < length p.unread.items → LineGoes p.script p.unread.items new → IsAtEnd left
-    → Going had left written p → Ended had left (written ++ new.replies.items) end.Done
-done_line None left written p new some l h g = ((λ w. cc), tt)
-done_line (Some input) left written p new some l h g =
-    let text : (written ++ p.script.replies.items) ++ l.text ≡ written ++ new.replies.items
-    = append_assoc written p.script.replies.items l.text ∙ ap (λ t. written ++ t) (sym l.replies) in
-    let P : List ℕ → Type 0 = λ t. LinesAnswer None (g.before ++ p.unread.items ∷ []) new.session t in (
-      (λ w. cc),
-      (
-        g.given,
-        g.read,
-        all_lines input _ (g.before ++ p.unread.items ∷ []) new.session (input_short input left written p h g)
-            (lines_with_last input left written p some h g)
-            (subst P text (answers_more None p.script.session new.session g.before p.unread.items _ l.text g.answers l.answers)),
-      ),
-    )
-
-up_to_bad : (input text replies : List ℕ) (before after : List (List ℕ)) (bad : List ℕ) (new : Session) (n : ℕ) → lines_of input ≡ before ++ bad ∷ after
-    → LinesAnswer None before new replies → IsBad bad → n ≡ length before → text ≡ replies ++ bad_line_text (n + 1) → UpToBad AreAnswered input text
-up_to_bad input text replies before after bad new n e a b m t =
-    (before, after, bad, replies, (e, (new, a)), b, t ∙ ap (λ k. replies ++ bad_line_text (k + 1)) m)
-
-pub stops_last : (had left : Option (List ℕ)) (written : List ℕ) (p : Program) (new : Script) (e : End) → 0 < length p.unread.items → LineStops p.script p.unread.items new e
-    → IsAtEnd left → Going had left written p → Ended had left (written ++ new.replies.items) e
-stops_last None left written p new end.BadLine some s h g = ((λ w. cc), tt)
-stops_last (Some input) left written p new end.BadLine some s h g = (
-  (λ w. cc),
-  (
-    g.given,
-    g.read,
-    up_to_bad input _ (written ++ p.script.replies.items) g.before [] p.unread.items p.script.session p.script.lines
-        (lines_with_last input left written p some h g) g.answers s.0 g.lines
-        (ap (λ t. written ++ t) s.1 ∙ sym (append_assoc written p.script.replies.items (bad_line_text (p.script.lines + 1)))),
-  ),
+pub done_line : (had left held holds holds' : Option (List ℕ)) (p : Program) (new : Script) → 0 < length p.unread.items → LineGoes p.script holds p.unread.items new holds'
+    → IsAtEnd left → Going had left held holds p → EndsBy had left held holds' new.output end.Done
+done_line None left held holds holds' p new some l h g = tt
+done_line (Some input) left held holds holds' p new some l h g = (
+  g.given,
+  g.text ++ l.text,
+  g.read,
+  all_lines input _ (g.before ++ p.unread.items ∷ []) new.session (input_short input left held holds p h g) (lines_with_last input left held holds p some h g)
+      (answers_more None p.script.session new.session g.before p.unread.items g.text l.text g.answers l.answers),
+  passes_both _ _ _ _ _ _ _ _ g.passes l.passes,
 )
-stops_last had left written p new end.Memory some s h g = memory_end had left left written [] _ p g (Consumes-nil left) (omega arith) s
-stops_last had left written p new _ some s h g = absurd s
+
+up_to_bad : (input replies : List ℕ) (before after : List (List ℕ)) (bad : List ℕ) (new : Session) (n : ℕ) → lines_of input ≡ before ++ bad ∷ after
+    → LinesAnswer None before new replies → IsBad bad → n ≡ length before → UpToBad AreAnswered input (replies ++ bad_line_text (n + 1))
+up_to_bad input replies before after bad new n e a b m =
+    (before, after, bad, replies, (e, (new, a)), b, ap (λ k. replies ++ bad_line_text (k + 1)) m)
+
+-- the writer took a front of what was due
+pub cut_short : (input : List ℕ) (left held holds holds' : Option (List ℕ)) (given text due out : List ℕ) → Consumes (Some input) left given → Passes held [] holds out text
+    → Breaks holds out holds' due → SomeLines AreAnswered input (text ++ due) ⊎ UpToBad AreAnswered input (text ++ due) → Ran AreAnswered (Some input) left held holds' end.Writing
+cut_short input left held holds holds' given text due out c p b d =
+    let all = breaks_last _ _ _ _ _ _ _ p b in
+    (given, all.out, c, (text ++ due, all.lost, all.rest, d), all.wrote)
+
+-- what is due for the last line
+due_last : (input : List ℕ) (left held holds : Option (List ℕ)) (due : List ℕ) (p : Program) → 0 < length p.unread.items → IsAtEnd left → (g : Going (Some input) left held holds p)
+    → IsDue p.script p.unread.items due → SomeLines AreAnswered input (g.text ++ due) ⊎ UpToBad AreAnswered input (g.text ++ due)
+due_last input left held holds due p some h g (inl a) =
+    let lines = lines_with_last input left held holds p some h g ∙ sym (append-nil (g.before ++ p.unread.items ∷ [])) in
+    inl (g.before ++ p.unread.items ∷ [], [], (lines, (a.0, answers_more None p.script.session a.0 g.before p.unread.items g.text due g.answers a.1)))
+due_last input left held holds due p some h g (inr b) =
+    let P : List ℕ → Type 0 = λ t. UpToBad AreAnswered input (g.text ++ t) in
+    inr (subst P (sym b.1) (up_to_bad input g.text g.before [] p.unread.items p.script.session p.script.lines (lines_with_last input left held holds p some h g) g.answers b.0 g.lines))
+
+pub stops_last : (had left held holds holds' : Option (List ℕ)) (p new : Program) (e : End) → 0 < length p.unread.items → LineStops p.script holds p.unread.items new.script holds' e
+    → IsAtEnd left → Going had left held holds p → Ends had left held holds' new e
+stops_last None left held holds holds' p new end.BadLine some s h g = tt
+stops_last (Some input) left held holds holds' p new end.BadLine some s h g = (
+  g.given,
+  g.text ++ bad_line_text (p.script.lines + 1),
+  g.read,
+  up_to_bad input g.text g.before [] p.unread.items p.script.session p.script.lines (lines_with_last input left held holds p some h g) g.answers s.0 g.lines,
+  passes_both _ _ _ _ _ _ _ _ g.passes s.1,
+)
+stops_last had left held holds holds' p new end.Memory some s h g = memory_end had left left held holds holds' [] _ p g (Consumes-nil left) (omega arith) s
+stops_last None left held holds holds' p new end.Writing some s h g = tt
+stops_last (Some input) left held holds holds' p new end.Writing some s h g =
+    cut_short input left held holds holds' g.given g.text s.0 p.script.output g.read g.passes s.2 (due_last input left held holds s.0 p some h g s.1)
+stops_last had left held holds holds' p new _ some s h g = absurd s
 
 pub empty_from_length : (xs : List ℕ) → length xs ≡ 0 → xs ≡ []
 empty_from_length [] h = refl
 empty_from_length (x ∷ xs) h = absurd (omega arith)
 
 -- The input, once more bytes came and their lines were answered: over are those that were left out.
-record Further (input written : List ℕ) (p : Program) (before more : List (List ℕ)) (s : Script) (rest over : List ℕ) : Type 0 where
+record Further (input : List ℕ) (held holds : Option (List ℕ)) (before more : List (List ℕ)) (s : Script) (text rest over : List ℕ) : Type 0 where
   tail : List ℕ
   is : input ≡ fed (before ++ more) ++ (rest ++ tail)
   feeds : AllByRecursion NoFeed (before ++ more)
-  answers : LinesAnswer None (before ++ more) s.session (written ++ s.replies.items)
+  answers : LinesAnswer None (before ++ more) s.session text
+  passes : Passes held [] holds s.output text
   lines : s.lines ≡ length (before ++ more)
 
 regroup : (b u f o x : List ℕ) → (b ++ u) ++ ((f ++ o) ++ x) ≡ b ++ ((u ++ f) ++ (o ++ x))
@@ -225,11 +233,12 @@ regroup b u f o x = simp append_assoc
 regroup_fed : (b m r t : List ℕ) → b ++ ((m ++ r) ++ t) ≡ (b ++ m) ++ (r ++ t)
 regroup_fed b m r t = simp append_assoc
 
-further : (input : List ℕ) (mid left : Option (List ℕ)) (written fresh over rest : List ℕ) (p : Program) (s : Script) → (g : Going (Some input) mid written p)
-    → Consumes mid left (fresh ++ over) → (l : LinesGo p.script (p.unread.items ++ fresh) s rest) → Further input written p g.before l.before s rest over
-further input None left written fresh over rest p s g c l = absurd g.read
-further input (Some m) None written fresh over rest p s g c l = absurd c
-further input (Some m) (Some x) written fresh over rest p s g c l = record {
+further : (input : List ℕ) (mid left held between holds : Option (List ℕ)) (fresh over rest : List ℕ) (p : Program) (s : Script) → (g : Going (Some input) mid held between p)
+    → Consumes mid left (fresh ++ over) → (l : LinesGo p.script between (p.unread.items ++ fresh) s holds rest)
+    → Further input held holds g.before l.before s (g.text ++ l.text) rest over
+further input None left held between holds fresh over rest p s g c l = absurd g.read
+further input (Some m) None held between holds fresh over rest p s g c l = absurd c
+further input (Some m) (Some x) held between holds fresh over rest p s g c l = record {
   tail = over ++ x;
   is = g.read ∙ ap (λ t. g.given ++ t) c ∙ ap (λ t. t ++ ((fresh ++ over) ++ x)) g.whole
       ∙ regroup (fed g.before) p.unread.items fresh over x
@@ -237,11 +246,8 @@ further input (Some m) (Some x) written fresh over rest p s g c l = record {
       ∙ regroup_fed (fed g.before) (fed l.before) rest (over ++ x)
       ∙ ap (λ t. t ++ (rest ++ (over ++ x))) (sym (fed_append g.before l.before));
   feeds = feeds_append g.before l.before g.feeds l.feeds;
-  answers =
-      let text : (written ++ p.script.replies.items) ++ l.text ≡ written ++ s.replies.items
-      = append_assoc written p.script.replies.items l.text ∙ ap (λ t. written ++ t) (sym l.replies) in
-      let P : List ℕ → Type 0 = λ t. LinesAnswer None (g.before ++ l.before) s.session t in
-      subst P text (answers_append None p.script.session s.session g.before l.before (written ++ p.script.replies.items) l.text g.answers l.answers);
+  answers = answers_append None p.script.session s.session g.before l.before g.text l.text g.answers l.answers;
+  passes = passes_both _ _ _ _ _ _ _ _ g.passes l.passes;
   lines = omega (arith, l.lines, g.lines, length-append g.before l.before);
 }
 
@@ -266,60 +272,76 @@ first_is_bad rest tail (b ∷ bs, more, h, bad, inr e) =
     let m = long_first b bs tail h in
     (m.0, m.1, ap (λ t. lines_of (t ++ tail)) e.0 ∙ m.2, long_is_bad m.0 (omega (arith, m.3, e.1)))
 
-stops_so : (had mid left : Option (List ℕ)) (written fresh over : List ℕ) (p : Program) (new : Script) (e : End) → Going had mid written p → Consumes mid left (fresh ++ over)
-    → length (fresh ++ over) ≤ read_max → (s : LinesStop p.script (p.unread.items ++ fresh) new e)
-    → ((e ≡ end.Memory) × (new.replies.items ≡ s.mid.replies.items))
-    ⊎ ((e ≡ end.BadLine) × BeginsBad s.rest × (new.replies.items ≡ s.mid.replies.items ++ bad_line_text (s.mid.lines + 1)))
-    → Ended had left (written ++ new.replies.items) e
-stops_so None mid left written fresh over p new e g c short s (inl w) =
-    let P : End → Type 0 = Ended None left (written ++ new.replies.items) in
-    subst P (sym w.0) ((λ x. cc), tt)
-stops_so None mid left written fresh over p new e g c short s (inr w) =
-    let P : End → Type 0 = Ended None left (written ++ new.replies.items) in
-    subst P (sym w.0) ((λ x. cc), tt)
-stops_so (Some input) mid left written fresh over p new e g c short s (inl w) =
-    let f = further input mid left written fresh over s.rest p s.mid g c s.goes in
-    let P : End → Type 0 = Ended (Some input) left (written ++ new.replies.items) in
-    let Q : List ℕ → Type 0 = λ r. AllButLastRead AreAnswered input (g.given ++ (fresh ++ over)) (written ++ r) in
-    subst P (sym w.0) (
-      (λ x. cc),
-      (
-        g.given ++ (fresh ++ over),
-        Consumes-trans (Some input) mid left g.given (fresh ++ over) g.read c,
-        subst Q (sym w.1) (record {
-          before = g.given;
-          last = fresh ++ over;
-          reads = refl;
-          bound = short;
-          lines = g.before;
-          more = s.goes.before;
-          after = lines_of (s.rest ++ f.tail);
-          whole = whole_lines (Some input) mid written p g;
-          first = first_lines input (s.rest ++ f.tail) _ (g.before ++ s.goes.before) s.mid.session f.is f.feeds f.answers;
-        }),
-      ),
+-- the lines of the input, where the first of those that are left is outside the grammar
+lines_to_bad : (input rest tail : List ℕ) (before : List (List ℕ)) → input ≡ fed before ++ (rest ++ tail) → AllByRecursion NoFeed before → BeginsBad rest
+    → (line : List ℕ) × (after : List (List ℕ)) × (lines_of input ≡ before ++ line ∷ after) × IsBad line
+lines_to_bad input rest tail before is feeds begins =
+    let first = first_is_bad rest tail begins in
+    (first.0, first.1, ap lines_of is ∙ lines_fed before (rest ++ tail) feeds ∙ ap (λ ls. before ++ ls) first.2, first.3)
+
+-- what is due for the first of the lines that are left
+due_next : (input rest tail text due : List ℕ) (before : List (List ℕ)) (s : Script) → input ≡ fed before ++ (rest ++ tail) → AllByRecursion NoFeed before
+    → LinesAnswer None before s.session text → s.lines ≡ length before → IsDueFirst s rest due → SomeLines AreAnswered input (text ++ due) ⊎ UpToBad AreAnswered input (text ++ due)
+due_next input rest tail text due before s is feeds answers lines (inl (line, more, plain, cut, new, a)) =
+    let parted : lines_of input ≡ before ++ line ∷ lines_of (more ++ tail)
+    = ap lines_of is ∙ lines_fed before (rest ++ tail) feeds
+      ∙ ap (λ t. before ++ lines_of t) (ap (λ t. t ++ tail) cut ∙ append_assoc line (10 ∷ more) tail) ∙ ap (λ ls. before ++ ls) (lines_line line (more ++ tail) plain) in
+    inl (
+      before ++ line ∷ [],
+      lines_of (more ++ tail),
+      (parted ∙ sym (append_assoc before (line ∷ []) (lines_of (more ++ tail))), (new, answers_more None s.session new before line text due answers a)),
     )
-stops_so (Some input) mid left written fresh over p new e g c short s (inr w) =
-    let f = further input mid left written fresh over s.rest p s.mid g c s.goes in
-    let first = first_is_bad s.rest f.tail w.1 in
-    let P : End → Type 0 = Ended (Some input) left (written ++ new.replies.items) in
-    let lines : lines_of input ≡ (g.before ++ s.goes.before) ++ first.0 ∷ first.1
-    = ap lines_of f.is ∙ lines_fed (g.before ++ s.goes.before) (s.rest ++ f.tail) f.feeds ∙ ap (λ ls. (g.before ++ s.goes.before) ++ ls) first.2 in
-    subst P (sym w.0) (
-      (λ x. cc),
-      (
-        g.given ++ (fresh ++ over),
-        Consumes-trans (Some input) mid left g.given (fresh ++ over) g.read c,
-        up_to_bad input _ (written ++ s.mid.replies.items) (g.before ++ s.goes.before) first.1 first.0 s.mid.session s.mid.lines
-            lines f.answers first.3 f.lines
-            (ap (λ t. written ++ t) w.2 ∙ sym (append_assoc written s.mid.replies.items (bad_line_text (s.mid.lines + 1)))),
-      ),
+due_next input rest tail text due before s is feeds answers lines (inr b) =
+    let P : List ℕ → Type 0 = λ t. UpToBad AreAnswered input (text ++ t) in
+    let first = lines_to_bad input rest tail before is feeds b.0 in
+    inr (subst P (sym b.1) (up_to_bad input text before first.1 first.0 s.session s.lines first.2 answers first.3 lines))
+
+stops_so : (had mid left held between now holds : Option (List ℕ)) (fresh over rest : List ℕ) (p new : Program) (s : Script) (e : End) → Going had mid held between p
+    → Consumes mid left (fresh ++ over) → length (fresh ++ over) ≤ read_max → LinesGo p.script between (p.unread.items ++ fresh) s now rest
+    → FirstStops s now rest new.script holds e → Ends had left held holds new e
+stops_so None mid left held between now holds fresh over rest p new s end.BadLine g c short l w = tt
+stops_so None mid left held between now holds fresh over rest p new s end.Memory g c short l w = tt
+stops_so None mid left held between now holds fresh over rest p new s end.Writing g c short l w = tt
+stops_so (Some input) mid left held between now holds fresh over rest p new s end.BadLine g c short l w =
+    let f = further input mid left held between now fresh over rest p s g c l in
+    let first = lines_to_bad input rest f.tail (g.before ++ l.before) f.is f.feeds w.0 in (
+      g.given ++ (fresh ++ over),
+      (g.text ++ l.text) ++ bad_line_text (s.lines + 1),
+      Consumes-trans (Some input) mid left g.given (fresh ++ over) g.read c,
+      up_to_bad input (g.text ++ l.text) (g.before ++ l.before) first.1 first.0 s.session s.lines first.2 f.answers first.3 f.lines,
+      passes_both _ _ _ _ _ _ _ _ f.passes w.1,
     )
+stops_so (Some input) mid left held between now holds fresh over rest p new s end.Memory g c short l w =
+    let f = further input mid left held between now fresh over rest p s g c l in
+    let P : Option (List ℕ) → Type 0 = λ h. Passes held [] h new.script.output (g.text ++ l.text) in
+    let Q : List ℕ → Type 0 = λ b. Passes held [] now b (g.text ++ l.text) in (
+      g.given ++ (fresh ++ over),
+      g.text ++ l.text,
+      Consumes-trans (Some input) mid left g.given (fresh ++ over) g.read c,
+      record {
+        before = g.given;
+        last = fresh ++ over;
+        reads = refl;
+        bound = short;
+        lines = g.before;
+        more = l.before;
+        after = lines_of (rest ++ f.tail);
+        whole = whole_lines (Some input) mid held between p g;
+        first = first_lines input (rest ++ f.tail) _ (g.before ++ l.before) s.session f.is f.feeds f.answers;
+      },
+      subst P (sym w.0) (subst Q (sym w.1) f.passes),
+    )
+stops_so (Some input) mid left held between now holds fresh over rest p new s end.Writing g c short l w =
+    let f = further input mid left held between now fresh over rest p s g c l in
+    cut_short input left held now holds (g.given ++ (fresh ++ over)) (g.text ++ l.text) w.0 s.output (Consumes-trans (Some input) mid left g.given (fresh ++ over) g.read c) f.passes w.2
+    (due_next input rest f.tail (g.text ++ l.text) w.0 (g.before ++ l.before) s f.is f.feeds f.answers f.lines w.1)
+stops_so had mid left held between now holds fresh over rest p new s _ g c short l w = absurd w
 
 -- the script stopped at one of the lines
-pub stops_within : (had mid left : Option (List ℕ)) (written fresh over : List ℕ) (p : Program) (new : Script) (e : End) → Going had mid written p → Consumes mid left (fresh ++ over)
-    → length (fresh ++ over) ≤ read_max → LinesStop p.script (p.unread.items ++ fresh) new e → Ended had left (written ++ new.replies.items) e
-stops_within had mid left written fresh over p new e g c short s = stops_so had mid left written fresh over p new e g c short s s.why
+pub stops_within : (had mid left held between holds : Option (List ℕ)) (fresh over : List ℕ) (p new : Program) (e : End) → Going had mid held between p → Consumes mid left (fresh ++ over)
+    → length (fresh ++ over) ≤ read_max → LinesStop p.script between (p.unread.items ++ fresh) new.script holds e → Ends had left held holds new e
+stops_within had mid left held between holds fresh over p new e g c short s =
+    stops_so had mid left held between s.between holds fresh over s.rest p new s.mid e g c short s.goes s.stops
 
 long_input : (input : List ℕ) (left : Option (List ℕ)) (given fresh over : List ℕ) → Consumes (Some input) left (given ++ (fresh ++ over)) → input_max < length given + (length fresh + length over) → input_max < length input
 long_input input None given fresh over c h = absurd c
@@ -327,9 +349,9 @@ long_input input (Some x) given fresh over c h =
     omega (arith, ap length c, length-append (given ++ (fresh ++ over)) x, length-append given (fresh ++ over), length-append fresh over)
 
 -- the bytes that were given so far, as lines and a rest
-given_lines : (had mid : Option (List ℕ)) (written fresh rest : List ℕ) (p : Program) (s : Script) → (g : Going had mid written p)
-    → (l : LinesGo p.script (p.unread.items ++ fresh) s rest) → g.given ++ fresh ≡ fed (g.before ++ l.before) ++ rest
-given_lines had mid written fresh rest p s g l =
+given_lines : (had mid held between holds : Option (List ℕ)) (fresh rest : List ℕ) (p : Program) (s : Script) → (g : Going had mid held between p)
+    → (l : LinesGo p.script between (p.unread.items ++ fresh) s holds rest) → g.given ++ fresh ≡ fed (g.before ++ l.before) ++ rest
+given_lines had mid held between holds fresh rest p s g l =
     ap (λ t. t ++ fresh) g.whole ∙ append_assoc (fed g.before) p.unread.items fresh ∙ ap (λ t. fed g.before ++ t) l.whole
     ∙ sym (append_assoc (fed g.before) (fed l.before) rest) ∙ ap (λ t. t ++ rest) (sym (fed_append g.before l.before))
 
@@ -343,45 +365,43 @@ front_is input (Some x) given fresh over c h =
     ap (take input_max) is ∙ ap (λ k. take k ((given ++ fresh) ++ (over ++ x))) n ∙ take-append_seam (given ++ fresh) (over ++ x)
 
 -- more bytes came than a script may have
-pub stops_too_long : (had mid left : Option (List ℕ)) (written fresh over rest : List ℕ) (p : Program) (s : Script) → Going had mid written p → Consumes mid left (fresh ++ over)
-    → LinesGo p.script (p.unread.items ++ fresh) s rest → NoFeed rest → 0 < length over → p.taken + length fresh ≡ input_max → Ended had left (written ++ s.replies.items) end.TooLong
-stops_too_long None mid left written fresh over rest p s g c l unfed some full = ((λ w. cc), tt)
-stops_too_long (Some input) mid left written fresh over rest p s g c l unfed some full =
-    let f = further input mid left written fresh over rest p s g c l in
+pub stops_too_long : (had mid left held between holds : Option (List ℕ)) (fresh over rest : List ℕ) (p : Program) (s : Script) → Going had mid held between p → Consumes mid left (fresh ++ over)
+    → LinesGo p.script between (p.unread.items ++ fresh) s holds rest → NoFeed rest → 0 < length over → p.taken + length fresh ≡ input_max
+    → EndsBy had left held holds s.output end.TooLong
+stops_too_long None mid left held between holds fresh over rest p s g c l unfed some full = tt
+stops_too_long (Some input) mid left held between holds fresh over rest p s g c l unfed some full =
+    let f = further input mid left held between holds fresh over rest p s g c l in
     let all = Consumes-trans (Some input) mid left g.given (fresh ++ over) g.read c in
     let front = front_is input left g.given fresh over all (omega (arith, g.taken, full)) in
     let whole : WholeLines (take input_max input) (g.before ++ l.before)
-    = record { rest = rest; whole = front ∙ given_lines (Some input) mid written fresh rest p s g l; feeds = f.feeds; unfed = unfed } in (
-      (λ w. cc),
-      (
-        g.given ++ (fresh ++ over),
-        all,
-        (long_input input left g.given fresh over all (omega (arith, g.taken, full, some)), (g.before ++ l.before, whole, (s.session, f.answers))),
-      ),
+    = record { rest = rest; whole = front ∙ given_lines (Some input) mid held between holds fresh rest p s g l; feeds = f.feeds; unfed = unfed } in (
+      g.given ++ (fresh ++ over),
+      g.text ++ l.text,
+      all,
+      (long_input input left g.given fresh over all (omega (arith, g.taken, full, some)), (g.before ++ l.before, whole, (s.session, f.answers))),
+      f.passes,
     )
 
 -- the script goes on
-pub goes_on : (had mid left : Option (List ℕ)) (written fresh over rest : List ℕ) (p new : Program) → Going had mid written p → Consumes mid left (fresh ++ over)
-    → (l : LinesGo p.script (p.unread.items ++ fresh) new.script rest) → NoFeed rest → length rest ≤ 1000 → new.unread.items ≡ rest → length over ≡ 0
-    → new.taken ≡ p.taken + length fresh → new.taken ≤ input_max → Going had left written new
-goes_on had mid left written fresh over rest p new g c l unfed short u none taken bound =
+pub goes_on : (had mid left held between holds : Option (List ℕ)) (fresh over rest : List ℕ) (p new : Program) → Going had mid held between p → Consumes mid left (fresh ++ over)
+    → (l : LinesGo p.script between (p.unread.items ++ fresh) new.script holds rest) → NoFeed rest → length rest ≤ 1000 → new.unread.items ≡ rest → length over ≡ 0
+    → new.taken ≡ p.taken + length fresh → new.taken ≤ input_max → Going had left held holds new
+goes_on had mid left held between holds fresh over rest p new g c l unfed short u none taken bound =
     let N : List ℕ → Type 0 = NoFeed in
     let L : List ℕ → Type 0 = λ r. length r ≤ 1000 in
     record {
       given = g.given ++ fresh;
       before = g.before ++ l.before;
+      text = g.text ++ l.text;
       read =
           let D : List ℕ → Type 0 = λ o. Consumes mid left (fresh ++ o) in
           let E : List ℕ → Type 0 = λ f. Consumes mid left f in
           Consumes-trans had mid left g.given fresh g.read (subst E (append-nil fresh) (subst D (empty_from_length over none) c));
-      whole = given_lines had mid written fresh rest p new.script g l ∙ ap (λ t. fed (g.before ++ l.before) ++ t) (sym u);
+      whole = given_lines had mid held between holds fresh rest p new.script g l ∙ ap (λ t. fed (g.before ++ l.before) ++ t) (sym u);
       feeds = feeds_append g.before l.before g.feeds l.feeds;
       unfed = subst N (sym u) unfed;
-      answers =
-          let text : (written ++ p.script.replies.items) ++ l.text ≡ written ++ new.script.replies.items
-          = append_assoc written p.script.replies.items l.text ∙ ap (λ t. written ++ t) (sym l.replies) in
-          let P : List ℕ → Type 0 = λ t. LinesAnswer None (g.before ++ l.before) new.script.session t in
-          subst P text (answers_append None p.script.session new.script.session g.before l.before (written ++ p.script.replies.items) l.text g.answers l.answers);
+      answers = answers_append None p.script.session new.script.session g.before l.before g.text l.text g.answers l.answers;
+      passes = passes_both _ _ _ _ _ _ _ _ g.passes l.passes;
       lines = omega (arith, l.lines, g.lines, length-append g.before l.before);
       taken = omega (arith, g.taken, taken, length-append g.given fresh);
       bound = bound;
@@ -398,17 +418,19 @@ some_from_false n m e t =
     omega arith
 
 -- nothing was given
-pub gave_nothing : (had mid left : Option (List ℕ)) (written : List ℕ) (p : Program) → Going had mid written p → Consumes mid left [] → Going had left written p
-gave_nothing had mid left written p g c =
+pub gave_nothing : (had mid left held holds : Option (List ℕ)) (p : Program) → Going had mid held holds p → Consumes mid left [] → Going had left held holds p
+gave_nothing had mid left held holds p g c =
     let P : List ℕ → Type 0 = λ t. Consumes had left t in
     record {
       given = g.given;
       before = g.before;
+      text = g.text;
       read = subst P (append-nil g.given) (Consumes-trans had mid left g.given [] g.read c);
       whole = g.whole;
       feeds = g.feeds;
       unfed = g.unfed;
       answers = g.answers;
+      passes = g.passes;
       lines = g.lines;
       taken = g.taken;
       bound = g.bound;
@@ -423,10 +445,22 @@ if_some (Some e) P Q h f = f e h
 pub in_parts : (mid left : Option (List ℕ)) (bytes : List ℕ) (k : ℕ) → Consumes mid left bytes → Consumes mid left (take k bytes ++ drop k bytes)
 in_parts mid left bytes k c = let P : List ℕ → Type 0 = λ t. Consumes mid left t in subst P (sym (take-append-drop k bytes)) c
 
--- what is due is what was written, or a front of it where the writer fails
-pub all_written : (had left held holds : Option (List ℕ)) (written replies : List ℕ) (e : End) → Ended had left (written ++ replies) e → Appends held holds (written ++ replies) → Ran AreAnswered had left held holds e
-all_written None left held holds written replies e h a = tt
-all_written (Some input) left held holds written replies e h a = (h.1.0, written ++ replies, h.1.1, h.1.2, a)
+-- what a script ended by that isn't the writer's failure
+pub ended_by : (had left held holds : Option (List ℕ)) (p : Program) (e : End) → e ≢ end.Writing → Ends had left held holds p e → EndsBy had left held holds p.script.output e
+ended_by had left held holds p end.Done n h = h
+ended_by had left held holds p end.BadLine n h = h
+ended_by had left held holds p end.Reading n h = h
+ended_by had left held holds p end.Writing n h = absurd (n refl)
+ended_by had left held holds p end.Memory n h = h
+ended_by had left held holds p end.TooLong n h = h
+
+-- what was held back goes out too
+pub all_written : (had left held between holds : Option (List ℕ)) (back : List ℕ) (e : End) → EndsBy had left held between back e → Appends between holds back → Ran AreAnswered had left held holds e
+all_written None left held between holds back e h a = tt
+all_written (Some input) left held between holds back e h a =
+    let passed = h.4 in
+    let P : List ℕ → Type 0 = Appends held holds in
+    (h.0, h.1, h.2, h.3, subst P (sym passed.rest) (Appends-trans _ _ _ _ _ passed.wrote a))
 
 front_of : (input given rest due text more : List ℕ) (e : End) → input ≡ given ++ rest → e ≢ end.Writing → Prints AreAnswered input given e due → due ≡ text ++ more → Prints AreAnswered input given end.Writing text
 front_of input given rest due text more end.Done i h p e = (due, more, e, inl (lines_of input, [], p.1))
@@ -437,73 +471,79 @@ front_of input given rest due text more end.TooLong i h p e =
     (due, more, e, inl (some_lines input (take input_max input) (drop input_max input) due (sym (take-append-drop input_max input)) p.1))
 front_of input given rest due text more end.Writing i h p e = absurd (h refl)
 
-pub partly_written : (had left held holds : Option (List ℕ)) (written replies : List ℕ) (n : ℕ) (e : End) → Ended had left (written ++ replies) e → Appends held holds (written ++ take n replies)
-    → Ran AreAnswered had left held holds end.Writing
-partly_written None left held holds written replies n e h a = tt
-partly_written (Some input) left held holds written replies n e h a =
-    let front = given_front input left h.1.0 h.1.1 in
-    let whole : written ++ replies ≡ (written ++ take n replies) ++ drop n replies
-    = ap (λ t. written ++ t) (sym (take-append-drop n replies)) ∙ sym (append_assoc written (take n replies) (drop n replies)) in
-    (h.1.0, written ++ take n replies, h.1.1, front_of input h.1.0 front.0 _ _ (drop n replies) e front.1 h.0 h.1.2 whole, a)
+-- a front of it does
+pub partly_written : (had left held between holds : Option (List ℕ)) (back : List ℕ) (n : ℕ) (e : End) → e ≢ end.Writing → EndsBy had left held between back e
+    → Appends between holds (take n back) → Ran AreAnswered had left held holds end.Writing
+partly_written None left held between holds back n e w h a = tt
+partly_written (Some input) left held between holds back n e w h a =
+    let front = given_front input left h.0 h.2 in
+    let passed = h.4 in
+    let whole : h.1 ≡ (passed.out ++ take n back) ++ drop n back
+    = passed.rest ∙ ap (λ t. passed.out ++ t) (sym (take-append-drop n back)) ∙ sym (append_assoc passed.out (take n back) (drop n back)) in
+    (h.0, passed.out ++ take n back, h.2, front_of input h.0 front.0 _ _ (drop n back) e front.1 w h.3 whole, Appends-trans _ _ _ _ _ passed.wrote a)
 
 -- the same of a script that hasn't ended
-pub going_partly : (had left held holds : Option (List ℕ)) (written : List ℕ) (n : ℕ) (p : Program) → Going had left written p → Appends held holds (written ++ take n p.script.replies.items)
+pub going_partly : (had left held between holds : Option (List ℕ)) (n : ℕ) (p : Program) → Going had left held between p → Appends between holds (take n p.script.output)
     → Ran AreAnswered had left held holds end.Writing
-going_partly had left held holds written n p g a =
-    partly_written had left held holds written p.script.replies.items n end.Reading (reading_end had left left written p g (Keeps-refl left)) a
+going_partly had left held between holds n p g a =
+    partly_written had left held between holds p.script.output n end.Reading (λ w. cc) (reading_end had left left held between p g (Keeps-refl left)) a
 
--- the replies are written
-pub going_written : (had left : Option (List ℕ)) (written : List ℕ) (old new : Program) → Going had left written old → IsWritten old new → Going had left (written ++ old.script.replies.items) new
-going_written had left written old new g w =
+-- what was held back is written
+pub going_written : (had left held between holds : Option (List ℕ)) (old new : Program) → Going had left held between old → IsWritten old new → Appends between holds old.script.output
+    → Going had left held holds new
+going_written had left held between holds old new g w a =
     let N : List ℕ → Type 0 = NoFeed in
     record {
       given = g.given;
       before = g.before;
+      text = g.text;
       read = g.read;
       whole = g.whole ∙ ap (λ t. fed g.before ++ t) (sym w.unread);
       feeds = g.feeds;
       unfed = subst N (sym w.unread) g.unfed;
-      answers =
-          let P : Session → Type 0 = λ s. LinesAnswer None g.before s (written ++ old.script.replies.items) in
-          let Q : List ℕ → Type 0 = λ t. LinesAnswer None g.before new.script.session t in
-          let text : written ++ old.script.replies.items ≡ (written ++ old.script.replies.items) ++ new.script.replies.items
-          = sym (append-nil (written ++ old.script.replies.items)) ∙ ap (λ t. (written ++ old.script.replies.items) ++ t) (sym w.replies) in
-          subst Q text (subst P (sym w.session) g.answers);
+      answers = let P : Session → Type 0 = λ s. LinesAnswer None g.before s g.text in subst P (sym w.session) g.answers;
+      passes = record {
+        out = g.text;
+        wrote = let P : List ℕ → Type 0 = Appends held holds in subst P (sym g.passes.rest) (Appends-trans _ _ _ _ _ g.passes.wrote a);
+        rest = sym (append-nil g.text) ∙ ap (λ t. g.text ++ t) (sym w.output);
+      };
       lines = w.lines ∙ g.lines;
       taken = g.taken ∙ sym w.taken;
       bound = omega (arith, w.taken, g.bound);
       short = omega (arith, ap length w.unread, g.short);
     }
 
--- nothing is read or written yet
-pub at_first : (had : Option (List ℕ)) (p : Program) → IsAtStart p → Going had had [] p
-at_first had p f =
+-- nothing is read or printed yet
+pub at_first : (had held : Option (List ℕ)) (p : Program) → IsAtStart p → Going had had held held p
+at_first had held p f =
     let N : List ℕ → Type 0 = NoFeed in
     record {
       given = [];
       before = [];
+      text = [];
       read = Consumes-nil had;
       whole = sym f.unread;
       feeds = tt;
       unfed = subst N (sym f.unread) (λ k d below. absurd (omega arith));
-      answers = (f.session, f.replies);
+      answers = (f.session, refl);
+      passes = let P : List ℕ → Type 0 = λ b. Passes held [] held b [] in subst P (sym f.output) (passes_none held []);
       lines = f.lines;
       taken = sym f.taken;
       bound = omega (arith, f.taken);
       short = omega (arith, ap length f.unread);
     }
 
-pub reading_so : (had mid left : Option (List ℕ)) (written : List ℕ) (p : Program) (e : End) → e ≡ end.Reading → Going had mid written p → Keeps mid left
-    → Ended had left (written ++ p.script.replies.items) e
-reading_so had mid left written p e same g k =
-    let P : End → Type 0 = λ x. Ended had left (written ++ p.script.replies.items) x in
-    subst P (sym same) (reading_end had mid left written p g k)
+pub reading_so : (had mid left held holds : Option (List ℕ)) (p : Program) (e : End) → e ≡ end.Reading → Going had mid held holds p → Keeps mid left → Ends had left held holds p e
+reading_so had mid left held holds p e same g k =
+    let P : End → Type 0 = λ x. Ends had left held holds p x in
+    subst P (sym same) (reading_end had mid left held holds p g k)
 
 -- what a turn left, where the writer then fails
-pub turn_partly : (had left held holds : Option (List ℕ)) (written : List ℕ) (n : ℕ) (p : Program) (r : Option End) → (IsNone r → Going had left written p)
-    → IfSome r (λ e. Ends had left written p e) → Appends held holds (written ++ take n p.script.replies.items) → Ran AreAnswered had left held holds end.Writing
-turn_partly had left held holds written n p None goes ends a = going_partly had left held holds written n p (goes refl) a
-turn_partly had left held holds written n p (Some e) goes ends a = partly_written had left held holds written p.script.replies.items n e ends a
+pub turn_partly : (had left held between holds : Option (List ℕ)) (n : ℕ) (p : Program) (r : Option End) → (IsNone r → Going had left held between p)
+    → IfSome r (λ e. Ends had left held between p e) → IfSome r (λ e. e ≢ end.Writing) → Appends between holds (take n p.script.output) → Ran AreAnswered had left held holds end.Writing
+turn_partly had left held between holds n p None goes ends w a = going_partly had left held between holds n p (goes refl) a
+turn_partly had left held between holds n p (Some e) goes ends w a =
+    partly_written had left held between holds p.script.output n e w (ended_by had left held between p e w ends) a
 
 pub ran_so : (had left held holds : Option (List ℕ)) (e : End) → e ≡ end.Writing → Ran AreAnswered had left held holds end.Writing → Ran AreAnswered had left held holds e
 ran_so had left held holds e same h = let P : End → Type 0 = λ x. Ran AreAnswered had left held holds x in subst P (sym same) h

@@ -1,26 +1,29 @@
 -- The lines at the front of some bytes, as far as they have been answered.
-use Rattle.std.proofs.Common.{◌≡◌, ◌≢◌, ℕ, ◌+◌, ◌-◌, ◌<◌, ◌≤◌, List, [], ◌∷◌, ◌++◌, length, take, drop, get_or, refl, ap, sym, subst, ◌∙◌, append_assoc, append-nil, arith, length-append, length-drop, length-take, inl, inr}
+use Rattle.std.proofs.Common.{◌≡◌, ◌≢◌, ℕ, ◌+◌, ◌-◌, ◌<◌, ◌≤◌, List, [], ◌∷◌, ◌++◌, length, take, drop, get_or, Option, Result, Ok, Err, IfErr, refl, ap, sym, subst, ◌∙◌, append_assoc, append-nil, arith, length-append, length-drop, length-take, inl, inr}
 use Rattle.std.specs.List.{AllByRecursion}
 use Rattle.std.proofs.lemmas.List.{get_or-take, get_or-drop, get_or_default}
 use Rattle.trial.specs.declared.end.End.{End}
 use Rattle.trial.specs.declared.end.End.TheVariants as end
 use Rattle.trial.specs.declared.script.Script.{Script}
+use Rattle.trial.specs.declared.line.Line.TheVariants as kind
 use Rattle.trial.specs.Line.{IsBad}
+use Rattle.trial.specs.Output.{PutStops}
 use Rattle.trial.specs.Session.{Session}
 use Rattle.trial.specs.Script.{LineAnswers, LinesAnswer, NoFeed, fed}
-use Rattle.trial.specs.Turns.{LineGoes, LineStops, LinesGo, LinesStop}
+use Rattle.trial.specs.Turns.{LineGoes, LineStops, LinesGo, LinesStop, BeginsBad, IsDue, IsDueFirst}
+use Rattle.trial.proofs.Passing.{passes_none, passes_both}
 use Rattle.trial.proofs.Splitting.{cut_at, trichotomy}
 
 -- The lines before start were answered, and from there to i no line feed stands.
-pub record Reached (old : Script) (bytes : List ℕ) (start i : ℕ) (new : Script) : Type 0 where
-  pub goes : LinesGo old bytes new (drop start bytes)
+pub record Reached (old : Script) (held : Option (List ℕ)) (bytes : List ℕ) (start i : ℕ) (new : Script) (holds : Option (List ℕ)) : Type 0 where
+  pub goes : LinesGo old held bytes new holds (drop start bytes)
   pub below : start ≤ i
   pub plain : (k : ℕ) → start ≤ k → k < i → get_or bytes k 0 ≢ 10
   pub few : new.lines ≤ old.lines + start
 
-pub at_start : (old : Script) (bytes : List ℕ) → Reached old bytes 0 0 old
-at_start old bytes = record {
-  goes = record { before = []; text = []; whole = refl; feeds = tt; answers = (refl, refl); replies = sym (append-nil _); lines = omega arith };
+pub at_start : (old : Script) (held : Option (List ℕ)) (bytes : List ℕ) → Reached old held bytes 0 0 old held
+at_start old held bytes = record {
+  goes = record { before = []; text = []; whole = refl; feeds = tt; answers = (refl, refl); passes = passes_none held old.output; lines = omega arith };
   below = omega arith;
   plain = λ k a b. absurd (omega arith);
   few = omega arith;
@@ -61,9 +64,10 @@ answers_more old mid new (l ∷ ls) line text more h i =
     (h.0, h.1, h.2 ++ more, h.3, answers_more h.0 mid new ls line h.2 more h.4 i, ap (λ t. t ++ more) h.5 ∙ append_assoc h.1 h.2 more)
 
 -- a line that was answered is one more
-pub at_feed : (old mid new : Script) (bytes : List ℕ) (start i : ℕ) → Reached old bytes start i mid → i < length bytes → get_or bytes i 0 ≡ 10
-    → LineGoes mid (take (i - start) (drop start bytes)) new → Reached old bytes (i + 1) (i + 1) (record new { lines = new.lines + 1 })
-at_feed old mid new bytes start i r h feed line =
+pub at_feed : (old mid new : Script) (held between holds : Option (List ℕ)) (bytes : List ℕ) (start i : ℕ) → Reached old held bytes start i mid between → i < length bytes
+    → get_or bytes i 0 ≡ 10 → LineGoes mid between (take (i - start) (drop start bytes)) new holds
+    → Reached old held bytes (i + 1) (i + 1) (record new { lines = new.lines + 1 }) holds
+at_feed old mid new held between holds bytes start i r h feed line =
     let front = take (i - start) (drop start bytes) in
     let cut : drop start bytes ≡ front ++ 10 ∷ drop (i + 1) bytes = cut_at bytes start i r.below h ∙ ap (λ b. front ++ b ∷ drop (i + 1) bytes) feed in
     record {
@@ -73,7 +77,7 @@ at_feed old mid new bytes start i r h feed line =
         whole = r.goes.whole ∙ ap (λ xs. fed r.goes.before ++ xs) cut ∙ sym (fed_more r.goes.before front (drop (i + 1) bytes));
         feeds = feeds_more r.goes.before front r.goes.feeds (part_plain bytes start i (omega arith) r.plain);
         answers = answers_more _ _ _ r.goes.before front _ _ r.goes.answers line.answers;
-        replies = line.replies ∙ ap (λ t. t ++ line.text) r.goes.replies ∙ append_assoc old.replies.items r.goes.text line.text;
+        passes = passes_both _ _ _ _ _ _ _ _ r.goes.passes line.passes;
         lines = omega (arith, line.lines, r.goes.lines, length-append r.goes.before (front ∷ []));
       };
       below = omega arith;
@@ -82,50 +86,95 @@ at_feed old mid new bytes start i r h feed line =
     }
 
 -- at another byte the line goes on
-pub at_byte : (old new : Script) (bytes : List ℕ) (start i : ℕ) → Reached old bytes start i new → get_or bytes i 0 ≢ 10 → Reached old bytes start (i + 1) new
-at_byte old new bytes start i r h = record {
+pub at_byte : (old new : Script) (held holds : Option (List ℕ)) (bytes : List ℕ) (start i : ℕ) → Reached old held bytes start i new holds → get_or bytes i 0 ≢ 10
+    → Reached old held bytes start (i + 1) new holds
+at_byte old new held holds bytes start i r h = record {
   goes = r.goes;
   below = omega (arith, r.below);
   plain = λ k a b. elim (trichotomy k i b) [ inl below ↦ r.plain k a below | inr at ↦ λ e. h (ap (λ j. get_or bytes j 0) (sym at) ∙ e) ];
   few = r.few;
 }
 
+-- why a reply wasn't put is why the script stopped at its line
+pub reply_stops : (r : Result (Unit {0}) End) (old new : Script) (held holds : Option (List ℕ)) (bytes text : List ℕ) (session : Session) → LineAnswers old.session bytes session text
+    → IfErr r (λ e. PutStops held old.output holds new.output text e) → IfErr r (λ e. LineStops old held bytes new holds e)
+reply_stops (Ok u) old new held holds bytes text session a s = tt
+reply_stops (Err end.Memory) old new held holds bytes text session a s = s
+reply_stops (Err end.Writing) old new held holds bytes text session a s = (text, inl (session, a), s)
+reply_stops (Err _) old new held holds bytes text session a s = absurd s
+
+-- what is due for a line that ends there is due for the first of the bytes that are left
+due_at : (old mid : Script) (held between : Option (List ℕ)) (bytes due : List ℕ) (start i : ℕ) → Reached old held bytes start i mid between → i < length bytes
+    → get_or bytes i 0 ≡ 10 → IsDue mid (take (i - start) (drop start bytes)) due → IsDueFirst mid (drop start bytes) due
+due_at old mid held between bytes due start i r h feed d =
+    let front = take (i - start) (drop start bytes) in
+    let cut : drop start bytes ≡ front ++ 10 ∷ drop (i + 1) bytes = cut_at bytes start i r.below h ∙ ap (λ b. front ++ b ∷ drop (i + 1) bytes) feed in
+    let plain = part_plain bytes start i (omega arith) r.plain in
+    elim d [
+      | inl a ↦ inl (front, drop (i + 1) bytes, plain, cut, a.0, a.1)
+      | inr b ↦ inr ((front, drop (i + 1) bytes, plain, b.0, inl cut), b.1)
+    ]
+
 -- the script stops at a line
-pub stops_at : (old mid new : Script) (bytes : List ℕ) (start i : ℕ) (e : End) → Reached old bytes start i mid → i < length bytes → get_or bytes i 0 ≡ 10
-    → LineStops mid (take (i - start) (drop start bytes)) new e → LinesStop old bytes new e
-stops_at old mid new bytes start i end.BadLine r h feed s =
+pub stops_at : (old mid new : Script) (held between holds : Option (List ℕ)) (bytes : List ℕ) (start i : ℕ) (e : End) → Reached old held bytes start i mid between → i < length bytes
+    → get_or bytes i 0 ≡ 10 → LineStops mid between (take (i - start) (drop start bytes)) new holds e → LinesStop old held bytes new holds e
+stops_at old mid new held between holds bytes start i end.BadLine r h feed s =
     let front = take (i - start) (drop start bytes) in
     let cut : drop start bytes ≡ front ++ 10 ∷ drop (i + 1) bytes = cut_at bytes start i r.below h ∙ ap (λ b. front ++ b ∷ drop (i + 1) bytes) feed in
     record {
       mid = mid;
+      between = between;
       rest = drop start bytes;
       goes = r.goes;
-      why = inr (refl, (front, drop (i + 1) bytes, part_plain bytes start i (omega arith) r.plain, s.0, inl cut), s.1);
+      stops = ((front, drop (i + 1) bytes, part_plain bytes start i (omega arith) r.plain, s.0, inl cut), s.1);
     }
-stops_at old mid new bytes start i end.Memory r h feed s = record { mid = mid; rest = drop start bytes; goes = r.goes; why = inl (refl, s) }
-stops_at old mid new bytes start i _ r h feed s = absurd s
+stops_at old mid new held between holds bytes start i end.Memory r h feed s =
+    record { mid = mid; between = between; rest = drop start bytes; goes = r.goes; stops = s }
+stops_at old mid new held between holds bytes start i end.Writing r h feed s =
+    record { mid = mid; between = between; rest = drop start bytes; goes = r.goes; stops = (s.0, due_at _ _ _ _ _ _ _ _ r h feed s.1, s.2) }
+stops_at old mid new held between holds bytes start i _ r h feed s = absurd s
 
 -- a line of more than 1,000 bytes is bad
 pub long_is_bad : (bytes : List ℕ) → 1000 < length bytes → IsBad bytes
 long_is_bad [] h = absurd (omega arith)
 long_is_bad (b ∷ bs) h = record { no_command = λ c s. absurd (omega (arith, s.short)); not_skipped = λ s. absurd (omega (arith, s.1)) }
 
--- the script stops at a line that is too long
-pub stops_long : (old mid new : Script) (bytes : List ℕ) (start i : ℕ) (e : End) → Reached old bytes start i mid → length bytes ≤ i → 1000 < length bytes - start
-    → LineStops mid (drop start bytes) new e → LinesStop old bytes new e
-stops_long old mid new bytes start i end.BadLine r h long s =
-    record {
-      mid = mid;
-      rest = drop start bytes;
-      goes = r.goes;
-      why = inr (refl, (drop start bytes, [], rest_plain bytes start i h r.plain, s.0, inr (refl, omega (arith, length-drop start bytes))), s.1);
-    }
-stops_long old mid new bytes start i end.Memory r h long s = record { mid = mid; rest = drop start bytes; goes = r.goes; why = inl (refl, s) }
-stops_long old mid new bytes start i _ r h long s = absurd s
+-- the rest of the bytes is a line that is too long
+begins_long : (old mid : Script) (held between : Option (List ℕ)) (bytes : List ℕ) (start i : ℕ) → Reached old held bytes start i mid between → length bytes ≤ i
+    → 1000 < length bytes - start → BeginsBad (drop start bytes)
+begins_long old mid held between bytes start i r h long =
+    let more : 1000 < length (drop start bytes) = omega (arith, length-drop start bytes) in
+    (drop start bytes, [], rest_plain bytes start i h r.plain, long_is_bad (drop start bytes) more, inr (refl, more))
+
+-- what is due for such a line, which has no reply
+due_long : (mid : Script) (rest due : List ℕ) → BeginsBad rest → IsBad rest → IsDue mid rest due → IsDueFirst mid rest due
+due_long mid rest due begins bad (inl (new, (kind.Skipped, is, does))) = absurd (bad.not_skipped is)
+due_long mid rest due begins bad (inl (new, (kind.Command c, is, does))) = absurd (bad.no_command c is)
+due_long mid rest due begins bad (inl (new, (kind.Bad, is, does))) = absurd does
+due_long mid rest due begins bad (inr d) = inr (begins, d.1)
+
+-- the script stops at it
+pub stops_long : (old mid new : Script) (held between holds : Option (List ℕ)) (bytes : List ℕ) (start i : ℕ) (e : End) → Reached old held bytes start i mid between → length bytes ≤ i
+    → 1000 < length bytes - start → LineStops mid between (drop start bytes) new holds e → LinesStop old held bytes new holds e
+stops_long old mid new held between holds bytes start i end.BadLine r h long s = record {
+  mid = mid;
+  between = between;
+  rest = drop start bytes;
+  goes = r.goes;
+  stops = (begins_long _ _ _ _ _ _ _ r h long, s.1);
+}
+stops_long old mid new held between holds bytes start i end.Memory r h long s =
+    record { mid = mid; between = between; rest = drop start bytes; goes = r.goes; stops = s }
+stops_long old mid new held between holds bytes start i end.Writing r h long s =
+    let bad = long_is_bad (drop start bytes) (omega (arith, length-drop start bytes)) in
+    record { mid = mid; between = between; rest = drop start bytes; goes = r.goes; stops = (s.0, due_long mid _ _ (begins_long _ _ _ _ _ _ _ r h long) bad s.1, s.2) }
+stops_long old mid new held between holds bytes start i _ r h long s = absurd s
 
 -- the same at other names of the same values
-pub reached_so : (old new new' : Script) (bytes : List ℕ) (start start' i : ℕ) → start' ≡ start → new' ≡ new → Reached old bytes start i new → Reached old bytes start' i new'
-reached_so old new new' bytes start start' i s w h =
-    let P : Script → Type 0 = λ x. Reached old bytes start' i x in
-    let Q : ℕ → Type 0 = λ n. Reached old bytes n i new in
-    subst P (sym w) (subst Q (sym s) h)
+pub reached_so : (old new new' : Script) (held holds holds' : Option (List ℕ)) (bytes : List ℕ) (start start' i : ℕ) → start' ≡ start → new' ≡ new → holds' ≡ holds
+    → Reached old held bytes start i new holds → Reached old held bytes start' i new' holds'
+reached_so old new new' held holds holds' bytes start start' i s w o h =
+    let P : Script → Type 0 = λ x. Reached old held bytes start' i x holds' in
+    let Q : ℕ → Type 0 = λ n. Reached old held bytes n i new holds' in
+    let R : Option (List ℕ) → Type 0 = λ k. Reached old held bytes start i new k in
+    subst P (sym w) (subst Q (sym s) (subst R (sym o) h))

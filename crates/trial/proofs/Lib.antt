@@ -7,6 +7,7 @@ pub mod Spelling
 pub mod Lines
 pub mod Filling
 pub mod Rounds
+pub mod Passing
 pub mod Feeding
 pub mod Ending
 pub mod MapSteps

@@ -4,6 +4,7 @@ pub mod Parsing
 pub mod Places
 pub mod Line
 pub mod Texts
+pub mod Output
 pub mod Callers
 pub mod Calling
 pub mod Replies

@@ -10,6 +10,7 @@ ghost use Rattle.trial.specs.Going.{Going, Ends, Ran, IsAtStart, IsWritten};
 ghost use Rattle.trial.specs.MapReplies.{MapAnswers};
 
 use crate::end::End;
+use crate::output::Output;
 use crate::script::Script;
 use joint::runs_map;
 use std::alloc::{AllocError, Global};
@@ -55,25 +56,6 @@ fn read_chunk<R: Read>(reader: &mut R, chunk: &mut Vec<u8>) -> Result<usize, End
     }
 }
 
-/// Writes all the bytes, or a front of them. An interrupted write is a failed one.
-fn write_out<W: Write>(writer: &mut W, bytes: &[u8]) -> Result<(), End>
-    ensures ok { OnOk result (Appends (W.contents writer.old) (W.contents writer.new) bytes.now) }
-    ensures err { IfErr result (λ e. (e ≡ End.Writing) × (n : ℕ) × Appends (W.contents writer.old) (W.contents writer.new) (take n bytes.now)) }
-{
-    let mut written = 0;
-    while written < bytes.len() {
-        match writer.write(&bytes[written..]) {
-            Ok(0) => return Err(End::Writing),
-            Ok(n) => written += n,
-            Err(_) => return Err(End::Writing),
-        }
-    }
-    match writer.flush() {
-        Ok(()) => Ok(()),
-        Err(_) => Err(End::Writing),
-    }
-}
-
 /// Takes the first n bytes out.
 fn remove_front(buffer: &mut Vec<u8>, n: usize)
     requires { n ≤ vec_len buffer.old }
@@ -83,7 +65,7 @@ fn remove_front(buffer: &mut Vec<u8>, n: usize)
 }
 
 impl Program {
-    /// A program that has read and written nothing.
+    /// A program that has read and printed nothing.
     fn new(alloc: Global) -> Program
         ensures { IsAtStart result }
     {
@@ -92,7 +74,7 @@ impl Program {
                 alloc,
                 session: None,
                 lines: 0,
-                replies: Vec::new(alloc),
+                output: Output::new(),
             },
             unread: Vec::new(alloc),
             taken: 0,
@@ -100,30 +82,30 @@ impl Program {
     }
 
     /// Answers the last line, where no line feed ends it.
-    fn last_line(&mut self) -> End
+    fn last_line<W: Write>(&mut self, writer: &mut W) -> End
         requires { self.old.script.lines ≤ input_max }
-        ensures { (had left : Option (List ℕ)) (written : List ℕ) → IsAtEnd left → Going had left written self.old
-            → Ends had left written self.new result }
+        ensures { (had left held : Option (List ℕ)) → IsAtEnd left → Going had left held (W.contents writer.old) self.old
+            → Ends had left held (W.contents writer.new) self.new result }
     {
         if self.unread.is_empty() {
             return End::Done;
         }
-        match self.script.line(&self.unread) {
+        match self.script.line(writer, &self.unread) {
             Ok(()) => End::Done,
             Err(end) => end,
         }
     }
 
     /// Takes the bytes, and answers each line that is whole now.
-    fn accept(&mut self, bytes: &[u8]) -> Option<End>
+    fn accept<W: Write>(&mut self, writer: &mut W, bytes: &[u8]) -> Option<End>
         requires bound { self.old.taken ≤ input_max }
         requires lines { self.old.script.lines ≤ input_max }
         requires short { length self.old.unread.items ≤ line_max }
         requires read { length bytes.now ≤ read_max }
-        ensures goes { IsNone result → (had mid left : Option (List ℕ)) (written : List ℕ) → Going had mid written self.old
-            → Consumes mid left bytes.now → Going had left written self.new }
-        ensures ends { IfSome result (λ e. (had mid left : Option (List ℕ)) (written : List ℕ) → Going had mid written self.old
-            → Consumes mid left bytes.now → Ends had left written self.new e) }
+        ensures goes { IsNone result → (had mid left held : Option (List ℕ)) → Going had mid held (W.contents writer.old) self.old
+            → Consumes mid left bytes.now → Going had left held (W.contents writer.new) self.new }
+        ensures ends { IfSome result (λ e. (had mid left held : Option (List ℕ)) → Going had mid held (W.contents writer.old) self.old
+            → Consumes mid left bytes.now → Ends had left held (W.contents writer.new) self.new e) }
         ensures taken { IsNone result → (self.new.taken ≡ self.old.taken + length bytes.now) × (self.new.taken ≤ input_max) }
     {
         let room = (INPUT_MAX - self.taken) as usize;
@@ -131,7 +113,7 @@ impl Program {
         let Ok(()) = self.unread.extend_from_slice(fresh) else {
             return Some(End::Memory);
         };
-        match self.script.lines(&self.unread) {
+        match self.script.lines(writer, &self.unread) {
             Ok(answered) => remove_front(&mut self.unread, answered),
             Err(end) => return Some(end),
         }
@@ -143,46 +125,47 @@ impl Program {
     }
 
     /// One read, and the replies to the lines that it completes. The end, if it came.
-    fn turn<R: Read>(&mut self, reader: &mut R, chunk: &mut Vec<u8>) -> Option<End>
+    fn turn<R: Read, W: Write>(&mut self, reader: &mut R, writer: &mut W, chunk: &mut Vec<u8>) -> Option<End>
         requires room { vec_len chunk.old ≡ read_max }
         requires bound { self.old.taken ≤ input_max }
         requires lines { self.old.script.lines ≤ input_max }
         requires short { length self.old.unread.items ≤ line_max }
-        ensures goes { IsNone result → (had : Option (List ℕ)) (written : List ℕ) → Going had (R.remaining reader.old) written self.old
-            → Going had (R.remaining reader.new) written self.new }
-        ensures ends { IfSome result (λ e. (had : Option (List ℕ)) (written : List ℕ) → Going had (R.remaining reader.old) written self.old
-            → Ends had (R.remaining reader.new) written self.new e) }
+        ensures goes { IsNone result → (had held : Option (List ℕ)) → Going had (R.remaining reader.old) held (W.contents writer.old) self.old
+            → Going had (R.remaining reader.new) held (W.contents writer.new) self.new }
+        ensures ends { IfSome result (λ e. (had held : Option (List ℕ)) → Going had (R.remaining reader.old) held (W.contents writer.old) self.old
+            → Ends had (R.remaining reader.new) held (W.contents writer.new) self.new e) }
         ensures room { vec_len chunk.new ≡ vec_len chunk.old }
         ensures taken { IsNone result → (self.old.taken < self.new.taken) × (self.new.taken ≤ input_max) }
     {
         match read_chunk(reader, chunk) {
-            Ok(0) => Some(self.last_line()),
-            Ok(n) => self.accept(&chunk[..n]),
+            Ok(0) => Some(self.last_line(writer)),
+            Ok(n) => self.accept(writer, &chunk[..n]),
             Err(end) => Some(end),
         }
     }
 
-    /// Writes the replies out.
-    fn write_replies<W: Write>(&mut self, writer: &mut W) -> Result<(), End>
-        ensures ok { OnOk result (Appends (W.contents writer.old) (W.contents writer.new) self.old.script.replies.items) }
+    /// Writes out what is held back of the replies, and flushes the writer.
+    fn flush<W: Write>(&mut self, writer: &mut W) -> Result<(), End>
+        ensures ok { OnOk result (Appends (W.contents writer.old) (W.contents writer.new) self.old.script.output) }
         ensures empty { OnOk result (IsWritten self.old self.new) }
         ensures err { IfErr result (λ e. (e ≡ End.Writing) × (n : ℕ)
-            × Appends (W.contents writer.old) (W.contents writer.new) (take n self.old.script.replies.items)) }
+            × Appends (W.contents writer.old) (W.contents writer.new) (take n self.old.script.output)) }
     {
-        write_out(writer, &self.script.replies)?;
-        self.script.replies.clear();
-        Ok(())
+        self.script.output.flush(writer)
     }
 
-    /// Reads, answers and writes, until an end comes.
+    /// Reads, answers and writes, until an end comes. Where the writer failed, nothing more is written.
     fn run<R: Read, W: Write>(&mut self, reader: &mut R, writer: &mut W, chunk: &mut Vec<u8>) -> End
         requires fresh { IsAtStart self.old }
         requires room { vec_len chunk.old ≡ read_max }
         ensures { Ran AreAnswered (R.remaining reader.old) (R.remaining reader.new) (W.contents writer.old) (W.contents writer.new) result }
     {
         loop {
-            let end = self.turn(reader, chunk);
-            if let Err(failed) = self.write_replies(writer) {
+            let end = self.turn(reader, writer, chunk);
+            if let Some(End::Writing) = end {
+                return End::Writing;
+            }
+            if let Err(failed) = self.flush(writer) {
                 return failed;
             }
             if let Some(end) = end {

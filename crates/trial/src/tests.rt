@@ -16,6 +16,7 @@ mod machine;
 mod misuses;
 mod owned;
 mod protocol;
+mod replies;
 mod reports;
 mod scripts;
 mod stats;

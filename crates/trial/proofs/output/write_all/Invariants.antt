@@ -1,6 +1,6 @@
 use Rattle.std.proofs.Common.{◌≤◌, ◌-◌, length, take}
 use Rattle.std.specs.Io.KnownBytes.{Appends}
-use Rattle.trial.proofs.run.write_out.Given as goal
+use Rattle.trial.proofs.output.write_all.Given as goal
 
 abbrev pub decreases-loop-written : goal.decreases-loop-written
 decreases-loop-written g l = length l.bytes - l.written
