@@ -340,7 +340,8 @@ fn the_bytes_charged_before_an_index_stay(rt: HostRuntime) -> Result<(), Fail> {
     let Some(closed) = closes(world) else {
         panic!(rt; "it isn't closed");
     };
-    assert_eq!(rt; (closed.pairs, closed.count), (ascending, 6));
+    assert_eq!(rt; closed.count, 6);
+    assert_eq!(rt; closed.pairs.get(..6), Some(&ascending[..]));
     assert_eq!(rt; (closed.charged, closed.limit), (500, 10_000));
     Ok(())
 }
