@@ -13,7 +13,6 @@ use Rattle.congee.specs.forms.Bytes.{IsFirst}
 use Rattle.congee.specs.forms.Forms.{children_of, prefix_of}
 use Rattle.congee.specs.Heap.{Node, Hung, Nothing, Below, Holds, fits, child_for, of_child, walk, value_at}
 use Rattle.congee.specs.Keys.{key_bytes, IsMapOf}
-use Rattle.congee.specs.Ledger.{Linked}
 use Rattle.congee.specs.protocol.Regions.{span, IsRegion, start_at}
 use Rattle.congee.specs.protocol.SweepSteps.{width, is_outside, first_byte}
 use Rattle.congee.proofs.lemmas.protocol.Regions.{span_pos, span_step, keys_within, within_keys, byte_low, byte_high, whole, start_mono}

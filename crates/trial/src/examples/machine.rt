@@ -1,9 +1,9 @@
 //! What a user of the shared map's machine concludes from its contracts, with no proof of its own.
-ghost use Rattle.std.specs.Prelude.{IfOk, nat_eq, take};
+ghost use Rattle.std.specs.Prelude.{◌≡◌, IfOk, nat_eq, take};
 ghost use Rattle.std.specs.FinMap.{empty};
 ghost use Rattle.joint.specs.Runs.{RunsMap, no_flights};
 
-use congee::DefaultAllocator;
+use congee::{Allocator, DefaultAllocator, NoDrain};
 use joint::{Limits, Ran, Refusal, Step, World};
 use std::alloc::Global;
 use std::vec::Vec;
@@ -19,4 +19,16 @@ pub fn runs_as_one_map(alloc: Global, steps: Vec<Step<u64>>) -> Result<(Index, R
     let mut index: Index = World::new(alloc, Limits::usual(2, 1000), DefaultAllocator::new())?;
     let ran = index.run(alloc, steps);
     Ok((index, ran))
+}
+
+/// An index that is made and closed leaves the allocator with the charge and the limit that it had.
+pub fn opens_and_closes_index<A: Allocator>(alloc: Global, allocator: A) -> Result<A, Refusal>
+    ensures charge { IfOk result (λ a. A.charged_of a ≡ A.charged_of allocator) }
+    ensures limit { IfOk result (λ a. A.limit_of a ≡ A.limit_of allocator) }
+{
+    let index: World<u64, A> = World::new(alloc, Limits::usual(2, 1000), allocator)?;
+    match index.close(NoDrain) {
+        Ok((allocator, _)) => Ok(allocator),
+        Err((refusal, _, _)) => Err(refusal),
+    }
 }

@@ -1,9 +1,9 @@
 //! The examples, run.
 
 use super::face::limits;
-use crate::examples::machine::runs_as_one_map;
+use crate::examples::machine::{opens_and_closes_index, runs_as_one_map};
 use crate::examples::stack::{Node, Stack, pops, sum_of_two};
-use congee::Noise;
+use congee::{Allocator, Limited, Noise};
 use crossbeam_epoch::Collector;
 use joint::{Done, Event, Op, Outcome, Report, Step};
 use judge::Reply;
@@ -94,5 +94,14 @@ fn two_calls_in_flight_answer_as_one_map(rt: HostRuntime) -> Result<(), Fail> {
     assert_eq!(rt; count_of(&ran.reports, Reply::Get(Some(70))), 1);
     // The root of 256 places and a leaf of 4.
     assert_eq!(rt; index.charged(), 2104 + 64);
+    Ok(())
+}
+
+#[test]
+fn an_index_that_is_closed_at_once_leaves_the_charge(rt: HostRuntime) -> Result<(), Fail> {
+    let mut allocator = Limited::new(10_000);
+    allocator.allocate(500)?;
+    let allocator = opens_and_closes_index(rt.alloc(), allocator)?;
+    assert_eq!(rt; (allocator.charged(), allocator.limit()), (500, 10_000));
     Ok(())
 }

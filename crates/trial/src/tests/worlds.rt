@@ -1,8 +1,9 @@
 //! The machine, by the steps of two workers' calls.
 
-use congee::{DefaultAllocator, Noise};
+use congee::{Allocator, Calls, DefaultAllocator, Limited, Noise};
 use joint::{Done, Event, Kind, Limits, Op, Outcome, Refusal, Report, Step, World};
 use judge::Reply;
+use std::alloc::Global;
 use std::test::Fail;
 
 type Tree = World<u64, DefaultAllocator>;
@@ -22,14 +23,18 @@ fn open(rt: &HostRuntime, workers: u32, cells: u32) -> Result<Tree, Fail> {
     Ok(world)
 }
 
-fn begin(world: &mut Tree, worker: u32, op: Op<u64>) -> Report<u64> {
+fn begin<A: Allocator>(world: &mut World<u64, A>, worker: u32, op: Op<u64>) -> Report<u64> {
     world.step(Step {
         worker,
         event: Event::Begin(op),
     })
 }
 
-fn go(world: &mut Tree, worker: u32, answer: Option<Option<u64>>) -> Report<u64> {
+fn go<A: Allocator>(
+    world: &mut World<u64, A>,
+    worker: u32,
+    answer: Option<Option<u64>>,
+) -> Report<u64> {
     world.step(Step {
         worker,
         event: Event::Go(Noise {
@@ -41,7 +46,7 @@ fn go(world: &mut Tree, worker: u32, answer: Option<Option<u64>>) -> Report<u64>
 }
 
 // A whole call, and how it ends.
-fn call(world: &mut Tree, worker: u32, op: Op<u64>) -> Outcome<u64> {
+fn call<A: Allocator>(world: &mut World<u64, A>, worker: u32, op: Op<u64>) -> Outcome<u64> {
     let mut outcome = begin(world, worker, op).outcome;
     for _ in 0..10_000u32 {
         if outcome != Outcome::Running {
@@ -140,7 +145,7 @@ fn scan(world: &mut Tree, start: u64, end: u64, size: usize, found: &mut [(u64, 
     }
 }
 
-fn insert(world: &mut Tree, key: u64, value: u64) -> bool {
+fn insert<A: Allocator>(world: &mut World<u64, A>, key: u64, value: u64) -> bool {
     call(world, 0, Op::Insert(key, value)) == Outcome::Done(Done::Reply(Reply::Insert(None)))
 }
 
@@ -236,5 +241,107 @@ fn a_range_without_a_pin_is_refused(rt: HostRuntime) -> Result<(), Fail> {
         begin(&mut world, 0, Op::Get(5)).outcome,
         Outcome::Refused(Refusal::Busy)
     );
+    Ok(())
+}
+
+// An index over a budget of 10,000 bytes, so many of them charged before it was made: two workers are registered, and the
+// first has put the pairs.
+fn filled(alloc: Global, before: u64, pairs: &[(u64, u64)]) -> Result<World<u64, Limited>, Fail> {
+    let mut allocator = Limited::new(10_000);
+    allocator.allocate(before)?;
+    let mut world = World::new(alloc, Limits::usual(2, 1_000), allocator)?;
+    for _ in 0..2u32 {
+        world.step(Step {
+            worker: 0,
+            event: Event::Register,
+        });
+    }
+    call(&mut world, 0, Op::Pin);
+    for (key, value) in pairs {
+        insert(&mut world, *key, *value);
+    }
+    call(&mut world, 0, Op::Unpin);
+    Ok(world)
+}
+
+// What comes of an index that is closed once while both workers are registered, and once after they left.
+#[derive(Clone, Copy)]
+struct Closed {
+    refusal: Refusal,
+    pairs: [(u64, u64); 6],
+    count: usize,
+    charged: u64,
+    limit: u64,
+}
+
+fn closes(world: World<u64, Limited>) -> Option<Closed> {
+    let mut pairs = [(0, 0); 6];
+    let mut count = 0usize;
+    let keep = |key: u64, value: u64| {
+        if let Some(place) = pairs.get_mut(count) {
+            *place = (key, value);
+        }
+        count = count.saturating_add(1);
+    };
+    let Err((refusal, mut world, drainer)) = world.close(Calls::new(keep)) else {
+        return None;
+    };
+    for worker in 0..2u32 {
+        call(&mut world, worker, Op::Release);
+    }
+    let Ok((allocator, _drainer)) = world.close(drainer) else {
+        return None;
+    };
+    let (charged, limit) = (allocator.charged(), allocator.limit());
+    Some(Closed {
+        refusal,
+        pairs,
+        count,
+        charged,
+        limit,
+    })
+}
+
+#[test]
+fn an_index_is_closed_once_its_workers_left(rt: HostRuntime) -> Result<(), Fail> {
+    let world = filled(rt.alloc(), 0, &[(2, 20), (1, 10)])?;
+    assert_eq!(rt; world.charged(), 2168);
+    let Some(closed) = closes(world) else {
+        panic!(rt; "it isn't closed");
+    };
+    assert_eq!(rt; closed.refusal, Refusal::WorkersLeft(2));
+    assert_eq!(rt;
+        closed.pairs.get(..closed.count),
+        Some(&[(1, 10), (2, 20)][..])
+    );
+    assert_eq!(rt; (closed.charged, closed.limit), (0, 10_000));
+    Ok(())
+}
+
+#[test]
+fn the_bytes_charged_before_an_index_stay(rt: HostRuntime) -> Result<(), Fail> {
+    let pairs = [
+        (u64::MAX, 6),
+        (256, 4),
+        (0, 1),
+        (4294967295, 5),
+        (255, 3),
+        (1, 2),
+    ];
+    let ascending = [
+        (0, 1),
+        (1, 2),
+        (255, 3),
+        (256, 4),
+        (4294967295, 5),
+        (u64::MAX, 6),
+    ];
+    let world = filled(rt.alloc(), 500, &pairs)?;
+    let Some(closed) = closes(world) else {
+        panic!(rt; "it isn't closed");
+    };
+    assert_eq!(rt; closed.count, 6);
+    assert_eq!(rt; closed.pairs.get(..6), Some(&ascending[..]));
+    assert_eq!(rt; (closed.charged, closed.limit), (500, 10_000));
     Ok(())
 }

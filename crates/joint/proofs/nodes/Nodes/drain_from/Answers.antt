@@ -1,4 +1,4 @@
-use Rattle.std.proofs.Common.{◌+◌, ℕ, ap, get_or, subst, sym}
+use Rattle.std.proofs.Common.{ℕ, ap, get_or, subst, sym}
 use Rattle.joint.specs.Closing.{Takes}
 use Rattle.joint.specs.Forest.{nodes}
 use Rattle.joint.proofs.lemmas.Draining.{leaf_holds, leaf_stays, takes_one, takes_none}
