@@ -285,7 +285,7 @@ due_next : (input rest tail text due : List ℕ) (before : List (List ℕ)) (s :
 due_next input rest tail text due before s is feeds answers lines (inl (line, more, plain, cut, new, a)) =
     let parted : lines_of input ≡ before ++ line ∷ lines_of (more ++ tail)
     = ap lines_of is ∙ lines_fed before (rest ++ tail) feeds
-      ∙ ap (λ t. before ++ lines_of t) (ap (λ t. t ++ tail) cut ∙ append_assoc line (10 ∷ more) tail) ∙ ap (λ ls. before ++ ls) (lines_line line (more ++ tail) plain) in
+    ∙ ap (λ t. before ++ lines_of t) (ap (λ t. t ++ tail) cut ∙ append_assoc line (10 ∷ more) tail) ∙ ap (λ ls. before ++ ls) (lines_line line (more ++ tail) plain) in
     inl (
       before ++ line ∷ [],
       lines_of (more ++ tail),

@@ -1,5 +1,5 @@
 //! What a tree that is closed hands over.
-ghost use Rattle.std.specs.Prelude.{◌≡◌, ◌×◌, [], true, IfOk, IfErr};
+ghost use Rattle.std.specs.Prelude.{◌≡◌, [], true, IfOk, IfErr};
 ghost use Rattle.trial.specs.Texts.{closed_text};
 ghost use Rattle.trial.specs.declared.end.End.TheVariants as End;
 

@@ -28,6 +28,13 @@ impl Keys {
     {
         Keys { keys }
     }
+
+    /// The keys, in ascending order.
+    pub fn as_slice(&self) -> &[u64]
+        ensures { result.now ≡ self.now }
+    {
+        &self.keys
+    }
 }
 
 impl fmt::Display for Keys {

@@ -255,11 +255,14 @@ fn close(alloc: Global, session: &mut Option<Index>) -> Result<Reply, End>
     ensures ok { IfOk result (λ reply. AnswersBuilt session.old Command.Close session.new reply) }
     ensures err { IfErr result (λ e. e ≡ End.Memory) }
 {
-    let Some(Index {
-        world,
-        callers,
-        scans,
-    }) = session.take() else {
+    let Some(
+        Index {
+            world,
+            callers,
+            scans,
+        },
+    ) = session.take()
+    else {
         return Ok(Reply::Refused(Refused::NoTree));
     };
     match world.close(Drained::new(alloc)) {

@@ -42,7 +42,8 @@ fn keys_and_emptiness_are_the_maps(rt: HostRuntime) -> Result<(), Fail> {
 
 #[test]
 fn a_survey_in_the_middle_of_a_change_tells_what_stands(rt: HostRuntime) -> Result<(), Fail> {
-    let script = "new 2 1000\nreg\nreg\n0 pin\n1 pin\n0 insert 1 1\n1 begin insert 2 2\n0 keys\n1 go 7\n0 keys\n0 empty\n1 go 99\n0 keys\n\
+    let script =
+        "new 2 1000\nreg\nreg\n0 pin\n1 pin\n0 insert 1 1\n1 begin insert 2 2\n0 keys\n1 go 7\n0 keys\n0 empty\n1 go 99\n0 keys\n\
                   1 begin remove 1\n1 go 6\n0 keys\n1 go 99\n0 keys\n";
     let mut reader = script.as_bytes();
     let mut printed = Vec::new(rt.alloc());

@@ -1,0 +1,28 @@
+use Rattle.std.proofs.Common.{◌++◌, ◌∷◌, [], codes}
+use Rattle.std.specs.List.{flat_map}
+use Rattle.std.proofs.lemmas.Result.{err_from_is_err_and}
+use Rattle.trial.specs.Texts.{spaced}
+use Rattle.trial.proofs.Passing.{passes_both, breaks_first, breaks_between, puts_last, stops_last}
+use Rattle.trial.proofs.printing.put_keys.Goals as goal
+
+pub returns-in_err-put-clause-err : goal.returns-in_err-put-clause-err
+returns-in_err-put-clause-err g c =
+    let p = err_from_is_err_and c.from_residual.result c.from_residual.ensures.1 in
+    let b = c.in_err-put.ensures.err in
+    rw (p.1, p.2) (b.0, breaks_first _ _ _ (codes "keys" ++ flat_map spaced c.args.keys.now) _ (breaks_first _ _ _ (codes "keys") _ b.1))
+
+pub returns-in_err-put_numbers-clause-err : goal.returns-in_err-put_numbers-clause-err
+returns-in_err-put_numbers-clause-err g c =
+    let p = err_from_is_err_and c.from_residual-in_err-put_numbers.result c.from_residual-in_err-put_numbers.ensures.1 in
+    let b = c.in_err-put_numbers.ensures.err in
+    rw (p.1, p.2, ← c.as_slice.ensures) (b.0, breaks_between _ _ _ _ _ (codes "keys") _ (10 ∷ []) c.in_ok-put.ensures.ok b.1)
+
+pub returns-clause-ok : goal.returns-clause-ok
+returns-clause-ok g c =
+    let q = passes_both _ _ _ _ _ _ (codes "keys") _ c.in_ok-put.ensures.ok c.in_ok-put_numbers.ensures.ok in
+    rw (← c.as_slice.ensures) (puts_last _ _ _ _ _ _ _ _ (10 ∷ []) q c.put-2.ensures.ok)
+
+pub returns-clause-err : goal.returns-clause-err
+returns-clause-err g c =
+    let q = passes_both _ _ _ _ _ _ (codes "keys") _ c.in_ok-put.ensures.ok c.in_ok-put_numbers.ensures.ok in
+    rw (← c.as_slice.ensures) (stops_last _ _ _ _ _ _ _ (10 ∷ []) q c.put-2.ensures.err)
