@@ -1,7 +1,7 @@
 //! The tree of a script, and what its commands do to it.
 ghost use Rattle.std.specs.Prelude.{◌≡◌, IsSome, IfOk, IfErr, true};
 ghost use Rattle.trial.specs.Session.{Answers, AnswersBuilt, Replies, CallReplies, BeginReplies, GoReplies, FailReplies, Rounds, Round, AfterPin, Unwinds, OpensWith};
-ghost use Rattle.trial.specs.Session.{is_built, op_of, closure_of, refusal_of, limits_of, budget_of};
+ghost use Rattle.trial.specs.Session.{closes, is_built, op_of, closure_of, refusal_of, limits_of, budget_of};
 ghost use Rattle.trial.specs.Places.{given, left, places_at};
 ghost use Rattle.trial.specs.declared.command.Command.TheVariants as Command;
 ghost use Rattle.trial.specs.declared.end.End.TheVariants as End;
