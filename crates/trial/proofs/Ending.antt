@@ -2,7 +2,7 @@
 use Rattle.std.proofs.Common.{◌≡◌, ◌≢◌, ℕ, ◌+◌, ◌<◌, ◌≤◌, List, [], ◌∷◌, ◌++◌, length, take, drop, refl, ap, sym, subst, ◌∙◌, append_assoc, append-nil, arith, length-append, take-append-drop, inl, inr, ◌⊎◌, suc, Option, None, Some, IfSome, IsNone, true, false}
 use Rattle.std.specs.List.{AllByRecursion, onto_first}
 use Rattle.std.specs.Io.KnownBytes.{Consumes, Appends, IsAtEnd, Keeps}
-use Rattle.std.proofs.KnownBytes.{Appends-nil, Consumes-nil, Consumes-trans, Consumes-kept, Keeps-refl}
+use Rattle.std.proofs.KnownBytes.{Appends-nil, Appends-trans, Consumes-nil, Consumes-trans, Consumes-kept, Keeps-refl}
 use Rattle.std.proofs.Math.Seq.{take-append_seam}
 use Rattle.trial.specs.declared.end.End.{End}
 use Rattle.trial.specs.declared.end.End.TheVariants as end
@@ -417,6 +417,10 @@ some_from_false n m e t =
     let unlike : (n ≡ 0) → ⊥ = λ z. true≢false (sym (ap (λ k. eqb k 0) z) ∙ t) in
     omega arith
 
+-- bytes behind those that were unread
+pub behind : (all joined unread fresh front : List ℕ) → all ≡ joined → joined ≡ unread ++ fresh → fresh ≡ front → all ≡ unread ++ front
+behind all joined unread fresh front p q r = p ∙ q ∙ ap (λ t. unread ++ t) r
+
 -- nothing was given
 pub gave_nothing : (had mid left held holds : Option (List ℕ)) (p : Program) → Going had mid held holds p → Consumes mid left [] → Going had left held holds p
 gave_nothing had mid left held holds p g c =
@@ -537,13 +541,6 @@ pub reading_so : (had mid left held holds : Option (List ℕ)) (p : Program) (e 
 reading_so had mid left held holds p e same g k =
     let P : End → Type 0 = λ x. Ends had left held holds p x in
     subst P (sym same) (reading_end had mid left held holds p g k)
-
--- what a turn left, where the writer then fails
-pub turn_partly : (had left held between holds : Option (List ℕ)) (n : ℕ) (p : Program) (r : Option End) → (IsNone r → Going had left held between p)
-    → IfSome r (λ e. Ends had left held between p e) → IfSome r (λ e. e ≢ end.Writing) → Appends between holds (take n p.script.output) → Ran AreAnswered had left held holds end.Writing
-turn_partly had left held between holds n p None goes ends w a = going_partly had left held between holds n p (goes refl) a
-turn_partly had left held between holds n p (Some e) goes ends w a =
-    partly_written had left held between holds p.script.output n e w (ended_by had left held between p e w ends) a
 
 pub ran_so : (had left held holds : Option (List ℕ)) (e : End) → e ≡ end.Writing → Ran AreAnswered had left held holds end.Writing → Ran AreAnswered had left held holds e
 ran_so had left held holds e same h = let P : End → Type 0 = λ x. Ran AreAnswered had left held holds x in subst P (sym same) h

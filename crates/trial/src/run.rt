@@ -159,22 +159,32 @@ impl Program {
         self.script.output.flush(writer)
     }
 
-    /// Reads, answers and writes, until an end comes. Where the writer failed, nothing more is written.
+    /// Writes out what is held back at the end that came, unless it is the writer that failed.
+    fn finish<W: Write>(&mut self, writer: &mut W, end: End) -> End
+        ensures { (had left held : Option (List ℕ)) → Ends had left held (W.contents writer.old) self.old end
+            → Ran AreAnswered had left held (W.contents writer.new) result }
+    {
+        match end {
+            End::Writing => End::Writing,
+            _ => match self.flush(writer) {
+                Ok(()) => end,
+                Err(failed) => failed,
+            },
+        }
+    }
+
+    /// Reads, answers and writes, until an end comes.
     fn run<R: Read, W: Write>(&mut self, reader: &mut R, writer: &mut W, chunk: &mut Vec<u8>) -> End
         requires fresh { IsAtStart self.old }
         requires room { vec_len chunk.old ≡ read_max }
         ensures { Ran AreAnswered (R.remaining reader.old) (R.remaining reader.new) (W.contents writer.old) (W.contents writer.new) result }
     {
         loop {
-            let end = self.turn(reader, writer, chunk);
-            if let Some(End::Writing) = end {
-                return End::Writing;
+            if let Some(end) = self.turn(reader, writer, chunk) {
+                return self.finish(writer, end);
             }
             if let Err(failed) = self.flush(writer) {
                 return failed;
-            }
-            if let Some(end) = end {
-                return end;
             }
         }
     }

@@ -1,6 +1,6 @@
 use Rattle.std.proofs.Common.{◌≡◌, ◌<◌, ◌+◌, ◌++◌, ℕ, List, arith, length, take, drop, sym, subst, ◌∙◌, ap, length-take, length-drop, refl, take-append-drop}
 use Rattle.trial.specs.Turns.{LinesGo, LinesStop}
-use Rattle.trial.proofs.Ending.{memory_end, stops_within, stops_too_long, goes_on, in_parts, some_from_false, none_from_true}
+use Rattle.trial.proofs.Ending.{memory_end, stops_within, stops_too_long, goes_on, in_parts, behind, some_from_false, none_from_true}
 use Rattle.trial.proofs.run.Program.accept.Goals as goal
 
 pub returns-in_default-clause-ends : goal.returns-in_default-clause-ends
@@ -11,8 +11,8 @@ returns-in-Err-clause-ends g c = λ had mid left held h i.
     let k = c.min.result in
     let bytes = c.args.bytes.now in
     let old = c.args.self.now in
-    let same : c.deref.result.now ≡ old.unread.items ++ take k bytes
-    = c.deref.ensures.value ∙ c.in-Ok.ensures.items ∙ ap (λ t. old.unread.items ++ t) c.split_at.ensures.front in
+    let same : c.deref.result.now ≡ c.args.self.now.unread.items ++ take k bytes
+    = behind _ _ _ _ _ c.deref.ensures.value c.in-Ok.ensures.items c.split_at.ensures.front in
     let P : List ℕ → Type 0 = λ b. LinesStop old.script (g.W.Write.contents c.args.writer.now) b c.lines.new.self (g.W.Write.contents c.lines.new.writer) c.in-Err.end in
     stops_within had mid left held _ _ (take k bytes) (drop k bytes) old (record old { script = c.lines.new.self; unread = c.extend_from_slice.new.self }) c.in-Err.end h
     (in_parts mid left bytes k i) (omega (arith, ap length (take-append-drop k bytes), c.requires.read)) (subst P same c.in-Err.ensures.err)
@@ -24,8 +24,8 @@ returns-then-not-is_empty-clause-ends g c = λ had mid left held h i.
     let old = c.args.self.now in
     let least = c.min.ensures in
     let some : 0 < length (drop k bytes) = some_from_false _ _ (ap length c.split_at.ensures.back) (sym c.is_empty.ensures ∙ c.if-not-is_empty.true) in
-    let same : c.deref.result.now ≡ old.unread.items ++ take k bytes
-    = c.deref.ensures.value ∙ c.in-Ok.ensures.items ∙ ap (λ t. old.unread.items ++ t) c.split_at.ensures.front in
+    let same : c.deref.result.now ≡ c.args.self.now.unread.items ++ take k bytes
+    = behind _ _ _ _ _ c.deref.ensures.value c.in-Ok.ensures.items c.split_at.ensures.front in
     let P : List ℕ → Type 0 = λ b. LinesGo old.script (g.W.Write.contents c.args.writer.now) b c.lines.new.self (g.W.Write.contents c.lines.new.writer)
     (drop c.in-Ok-lines.answered c.deref.result.now) in
     stops_too_long had mid left held _ _ (take k bytes) (drop k bytes) _ old c.lines.new.self h (in_parts mid left bytes k i) (subst P same c.in-Ok-lines.ensures.ok.0)
@@ -38,8 +38,8 @@ returns-clause-goes g c = λ none had mid left held h i.
     let old = c.args.self.now in
     let least = c.min.ensures in
     let empty : length (drop k bytes) ≡ 0 = none_from_true _ _ (ap length c.split_at.ensures.back) (sym c.is_empty.ensures ∙ c.if-not-is_empty.false) in
-    let same : c.deref.result.now ≡ old.unread.items ++ take k bytes
-    = c.deref.ensures.value ∙ c.in-Ok.ensures.items ∙ ap (λ t. old.unread.items ++ t) c.split_at.ensures.front in
+    let same : c.deref.result.now ≡ c.args.self.now.unread.items ++ take k bytes
+    = behind _ _ _ _ _ c.deref.ensures.value c.in-Ok.ensures.items c.split_at.ensures.front in
     let P : List ℕ → Type 0 = λ b. LinesGo old.script (g.W.Write.contents c.args.writer.now) b c.lines.new.self (g.W.Write.contents c.lines.new.writer)
     (drop c.in-Ok-lines.answered c.deref.result.now) in
     goes_on had mid left held _ _ (take k bytes) (drop k bytes) (drop c.in-Ok-lines.answered c.deref.result.now) old

@@ -1,6 +1,19 @@
-use Rattle.std.proofs.Common.{arith}
-use Rattle.trial.proofs.Ending.{few_lines, if_some, turn_partly, ran_so, ended_by, all_written, going_written}
+use Rattle.std.proofs.Common.{arith, refl}
+use Rattle.trial.proofs.Ending.{few_lines, going_partly, ran_so, going_written}
 use Rattle.trial.proofs.run.Program.run.Goals as goal
 
-pub turn-end-requires-clause-lines : goal.turn-end-requires-clause-lines
-turn-end-requires-clause-lines g c = few_lines _ _ _ _ _ c.loop-failed.invariant.0
+pub turn-requires-clause-lines : goal.turn-requires-clause-lines
+turn-requires-clause-lines g c = few_lines _ _ _ _ _ c.loop-end.invariant.0
+
+pub returns-in-Some : goal.returns-in-Some
+returns-in-Some g c = c.finish.ensures _ _ _ (c.in-Some.ensures.ends _ _ c.loop-end.invariant.0)
+
+pub returns-in-Err : goal.returns-in-Err
+returns-in-Err g c =
+    let e = c.in-Err.ensures.err in
+    ran_so _ _ _ _ _ e.0 (going_partly _ _ _ _ _ e.1 c.turn.new.self (c.in_default.ensures.goes refl _ _ c.loop-end.invariant.0) e.2)
+
+pub loop-end-preserved : goal.loop-end-preserved
+loop-end-preserved g c =
+    let i = c.loop-end.invariant in
+    (going_written _ _ _ _ _ _ _ (c.in_default.ensures.goes refl _ _ i.0) c.in_default-flush.ensures.empty c.in_default-flush.ensures.ok, omega (arith, c.turn.ensures.room, i.1))
