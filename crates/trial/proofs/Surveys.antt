@@ -23,6 +23,7 @@ use Rattle.trial.specs.declared.caller.Closure.{Closure}
 use Rattle.trial.specs.declared.index.Index.{Index}
 use Rattle.trial.specs.declared.reply.Reply.{Reply}
 use Rattle.trial.specs.declared.reply.Reply.TheVariants as reply
+use Rattle.trial.specs.Callers.{fresh}
 use Rattle.trial.specs.Calling.{is_running, Begins, GoesOn, stays, ends, goes, Calls}
 use Rattle.trial.specs.MapReplies.{IsAnswer, is_nil}
 use Rattle.trial.specs.Replies.{reply_of}
@@ -66,7 +67,7 @@ begins laws w o k f m s s' told is b g =
     record {
       rests = rests_on b.flights m _ g.0.0 s'.world b.over g.0.1.holds x moves.stays;
       tells = tells;
-      callers = g.1 ∙ ap (λ b. if b then slice_set s.callers w _ else s.callers) over;
+      callers = g.1 ∙ ap (λ b. if b then slice_set s.callers w (fresh f) else s.callers) over;
       scans = g.2 ∙ ap (λ b. if b then slice_set s.scans.items w [] else s.scans.items) over;
     }
 

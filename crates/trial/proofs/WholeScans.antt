@@ -147,6 +147,9 @@ sweep_begins laws w start end size m s s' closure first b len g = begun_so g.0.0
   at_once : (d : Ending ℕ) → g.0.0.outcome ≡ outcome.Done d → EndsAtOnce b.flights m (asks.Range start end size) d l o.flights → Sweep w start end size m s' first
   at_once done.Unit is y = absurd y
   at_once (done.Reply r) is y = absurd y
+  at_once (done.Keys keys) is y = absurd y
+  at_once (done.Empty b) is y = absurd y
+  at_once (done.Stats stats) is y = absurd y
   at_once (done.Scanned count) is y =
       let none : take count (places_at s'.scans.items w) ≡ [] = ap (λ n. take n (places_at s'.scans.items w)) y.none in
       Ended count (rests_on b.flights m _ g.0.0 s'.world b.over g.0.1.holds o y.stays) (g.0.2 ∙ is) (none ∙ scan_of_one m start end size (m ∷ []) [] (refl, tt) y.scan)

@@ -1,5 +1,5 @@
 //! The tree of a script, and what its commands do to it.
-ghost use Rattle.std.specs.Prelude.{◌≡◌, IsSome, IfOk, IfErr, true};
+ghost use Rattle.std.specs.Prelude.{◌≡◌, IfOk, IfErr, true, false};
 ghost use Rattle.trial.specs.Session.{Answers, AnswersBuilt, Replies, CallReplies, BeginReplies, GoReplies, FailReplies, Rounds, Round, AfterPin, Unwinds, OpensWith};
 ghost use Rattle.trial.specs.Session.{closes, is_built, op_of, closure_of, refusal_of, limits_of, budget_of};
 ghost use Rattle.trial.specs.Places.{given, left, places_at};
@@ -255,16 +255,14 @@ fn close(alloc: Global, session: &mut Option<Index>) -> Result<Reply, End>
     ensures ok { IfOk result (λ reply. AnswersBuilt session.old Command.Close session.new reply) }
     ensures err { IfErr result (λ e. e ≡ End.Memory) }
 {
-    let Some(
-        Index {
-            world,
-            callers,
-            scans,
-        },
-    ) = session.take()
-    else {
+    let Some(index) = session.take() else {
         return Ok(Reply::Refused(Refused::NoTree));
     };
+    let Index {
+        world,
+        callers,
+        scans,
+    } = index;
     match world.close(Drained::new(alloc)) {
         Ok((allocator, drained)) => Ok(Reply::Closed(Closed {
             pairs: drained.pairs()?,

@@ -1,15 +1,14 @@
-use Rattle.std.proofs.Common.{◌≡◌, ◌∙◌, sym, subst, Option, Some}
+use Rattle.std.proofs.Common.{subst, Option}
 use Rattle.joint.specs.declared.steps.Op.{Op}
 use Rattle.std.specs.Prelude.{ℕ}
 use Rattle.trial.specs.declared.caller.Closure.{Closure}
 use Rattle.trial.specs.Calling.{Calls}
-use Rattle.trial.specs.Session.{CallReplies, op_of, closure_of}
+use Rattle.trial.specs.Session.{closure_of}
 use Rattle.trial.proofs.session.answer_call.Goals as goal
 
 pub returns-clause-ok : goal.returns-clause-ok
 returns-clause-ok c =
-    let stands = c.in_ok-outcome-in-Some.outcome in
-    let is : op_of c.args.call ≡ Some c.in-Some.op = sym c.op.ensures ∙ c.in-Some.is in
-    let P : Option Closure → Type 0 = λ f. Calls c.args.index.now c.args.worker c.in-Some.op f stands c.call.new.self in
-    let Q : Option (Op ℕ) → Type 0 = λ o. CallReplies o (closure_of c.args.call) c.args.index.now c.args.worker c.reply.new.index c.reply.result in
-    subst Q (sym is) (stands, c.call.new.self, subst P c.closure.ensures c.in_ok-outcome-in-Some.ensures.ok, c.reply.ensures)
+    let stands = c.in_ok-outcome.outcome in
+    let P : Option Closure → Type 0 = λ f. Calls c.args.index.now c.args.worker c.op.result f stands c.call.new.self in
+    let Q : Op ℕ → Type 0 = λ o. Calls c.args.index.now c.args.worker o (closure_of c.args.call) stands c.call.new.self in
+    (stands, c.call.new.self, subst Q c.op.ensures (subst P c.closure.ensures c.in_ok-outcome.ensures.ok), c.reply.ensures)
