@@ -45,7 +45,12 @@ fn put_range<W: Write>(output: &mut Output, writer: &mut W, places: &Places) -> 
 }
 
 /// Puts a reply.
-pub fn put_reply<W: Write>(alloc: Global, output: &mut Output, writer: &mut W, reply: &Reply) -> Result<(), End>
+pub fn put_reply<W: Write>(
+    alloc: Global,
+    output: &mut Output,
+    writer: &mut W,
+    reply: &Reply,
+) -> Result<(), End>
     ensures ok { OnOk result (Passes (W.contents writer.old) output.old (W.contents writer.new) output.new (printed reply.now)) }
     ensures err { IfErr result (λ e. PutStops (W.contents writer.old) output.old (W.contents writer.new) output.new (printed reply.now) e) }
 {
@@ -57,7 +62,12 @@ pub fn put_reply<W: Write>(alloc: Global, output: &mut Output, writer: &mut W, r
 }
 
 /// Puts the report of a bad line.
-pub fn put_bad_line<W: Write>(alloc: Global, output: &mut Output, writer: &mut W, number: u64) -> Result<(), End>
+pub fn put_bad_line<W: Write>(
+    alloc: Global,
+    output: &mut Output,
+    writer: &mut W,
+    number: u64,
+) -> Result<(), End>
     ensures ok { OnOk result (Passes (W.contents writer.old) output.old (W.contents writer.new) output.new (bad_line_text number)) }
     ensures err { IfErr result (λ e. PutStops (W.contents writer.old) output.old (W.contents writer.new) output.new (bad_line_text number) e) }
 {

@@ -125,7 +125,12 @@ impl Program {
     }
 
     /// One read, and the replies to the lines that it completes. The end, if it came.
-    fn turn<R: Read, W: Write>(&mut self, reader: &mut R, writer: &mut W, chunk: &mut Vec<u8>) -> Option<End>
+    fn turn<R: Read, W: Write>(
+        &mut self,
+        reader: &mut R,
+        writer: &mut W,
+        chunk: &mut Vec<u8>,
+    ) -> Option<End>
         requires room { vec_len chunk.old ≡ read_max }
         requires bound { self.old.taken ≤ input_max }
         requires lines { self.old.script.lines ≤ input_max }

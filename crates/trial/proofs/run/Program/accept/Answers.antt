@@ -27,7 +27,7 @@ returns-then-not-is_empty-clause-ends g c = λ had mid left held h i.
     let same : c.deref.result.now ≡ c.args.self.now.unread.items ++ take k bytes
     = behind _ _ _ _ _ c.deref.ensures.value c.in-Ok.ensures.items c.split_at.ensures.front in
     let P : List ℕ → Type 0 = λ b. LinesGo old.script (g.W.Write.contents c.args.writer.now) b c.lines.new.self (g.W.Write.contents c.lines.new.writer)
-        (drop c.in-Ok-lines.answered c.deref.result.now) in
+    (drop c.in-Ok-lines.answered c.deref.result.now) in
     stops_too_long had mid left held _ _ (take k bytes) (drop k bytes) _ old c.lines.new.self h (in_parts mid left bytes k i) (subst P same c.in-Ok-lines.ensures.ok.0)
     c.in-Ok-lines.ensures.ok.1 some (omega (arith, some, length-take k bytes, length-drop k bytes, c.requires.bound))
 
@@ -41,7 +41,7 @@ returns-clause-goes g c = λ none had mid left held h i.
     let same : c.deref.result.now ≡ c.args.self.now.unread.items ++ take k bytes
     = behind _ _ _ _ _ c.deref.ensures.value c.in-Ok.ensures.items c.split_at.ensures.front in
     let P : List ℕ → Type 0 = λ b. LinesGo old.script (g.W.Write.contents c.args.writer.now) b c.lines.new.self (g.W.Write.contents c.lines.new.writer)
-        (drop c.in-Ok-lines.answered c.deref.result.now) in
+    (drop c.in-Ok-lines.answered c.deref.result.now) in
     goes_on had mid left held _ _ (take k bytes) (drop k bytes) (drop c.in-Ok-lines.answered c.deref.result.now) old
     (record { script = c.lines.new.self; unread = c.remove_front.new.buffer; taken = old.taken + length bytes })
     h (in_parts mid left bytes k i) (subst P same c.in-Ok-lines.ensures.ok.0) c.in-Ok-lines.ensures.ok.1 c.in-Ok-lines.ensures.ok.2
