@@ -1,5 +1,5 @@
 -- What was printed of a script that is under way, as a front of what its lines print.
-use Rattle.std.proofs.Common.{◌≡◌, ◌≢◌, ℕ, ◌+◌, ◌<◌, ◌≤◌, List, [], ◌∷◌, ◌++◌, length, take, drop, refl, ap, sym, subst, ◌∙◌, append_assoc, append-nil, arith, length-append, take-append-drop, inl, inr, ◌⊎◌, suc, Option, None, Some, IfSome, IsNone, true, false}
+use Rattle.std.proofs.Common.{◌≡◌, ◌≢◌, ℕ, ◌+◌, ◌<◌, ◌≤◌, List, [], ◌∷◌, ◌++◌, length, take, drop, refl, ap, sym, subst, ◌∙◌, append_assoc, append-nil, arith, length-append, take-append-drop, inl, inr, ◌⊎◌, suc, Option, None, Some, IfSome, true, false}
 use Rattle.std.specs.List.{AllByRecursion, onto_first}
 use Rattle.std.specs.Io.KnownBytes.{Consumes, Appends, IsAtEnd, Keeps}
 use Rattle.std.proofs.KnownBytes.{Appends-nil, Appends-trans, Consumes-nil, Consumes-trans, Consumes-kept, Keeps-refl}
@@ -10,7 +10,7 @@ use Rattle.trial.specs.declared.script.Script.{Script}
 use Rattle.trial.specs.declared.run.Program.{Program}
 use Rattle.trial.specs.Line.{IsBad}
 use Rattle.trial.specs.Session.{Session}
-use Rattle.trial.specs.Script.{LinesAnswer, AreAnswered, lines_of, NoFeed, fed, WholeLines, AllWhole, AllButLastRead, FirstLines, SomeLines, AllLines, UpToBad, Prints, input_max, read_max}
+use Rattle.trial.specs.Script.{LinesAnswer, AreAnswered, lines_of, NoFeed, fed, WholeLines, AllWhole, FirstLines, SomeLines, AllLines, UpToBad, Prints, input_max, read_max}
 use Rattle.trial.specs.Texts.{bad_line_text}
 use Rattle.trial.specs.Output.{Passes, Breaks}
 use Rattle.trial.specs.Turns.{LineGoes, LineStops, LinesGo, LinesStop, FirstStops, IsDue, IsDueFirst, BeginsBad}

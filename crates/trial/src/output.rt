@@ -53,14 +53,6 @@ impl Output {
         }
     }
 
-    /// How many bytes are held back.
-    pub fn len(&self) -> usize
-        ensures value { result ≡ length self.now }
-        ensures bound { result ≤ held_max }
-    {
-        self.held.len()
-    }
-
     /// Writes out what is held back.
     fn write_out<W: Write>(&mut self, writer: &mut W) -> Result<(), End>
         ensures ok { OnOk result (Appends (W.contents writer.old) (W.contents writer.new) self.old) }
@@ -76,6 +68,7 @@ impl Output {
     #[tactic(auto, using(crate::proofs::Passing::passes_alone, crate::proofs::Passing::passes_by, crate::proofs::Passing::breaks_before, crate::proofs::Passing::breaks_within))]
     fn put_first<W: Write>(&mut self, writer: &mut W, piece: &[u8]) -> Result<(), End>
         ensures ok { OnOk result (Passes (W.contents writer.old) self.old (W.contents writer.new) self.new piece.now) }
+        ensures bound { OnOk result (length self.new ≤ held_max) }
         ensures err { IfErr result (λ e. (e ≡ End.Writing) × Breaks (W.contents writer.old) self.old (W.contents writer.new) piece.now) }
     {
         self.write_out(writer)?;
@@ -88,6 +81,7 @@ impl Output {
     /// Puts a piece behind what is held back.
     pub fn put<W: Write>(&mut self, writer: &mut W, piece: &[u8]) -> Result<(), End>
         ensures ok { OnOk result (Passes (W.contents writer.old) self.old (W.contents writer.new) self.new piece.now) }
+        ensures bound { OnOk result (length self.new ≤ held_max) }
         ensures err { IfErr result (λ e. (e ≡ End.Writing) × Breaks (W.contents writer.old) self.old (W.contents writer.new) piece.now) }
     {
         match self.held.try_extend_from_slice(piece) {

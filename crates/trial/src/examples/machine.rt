@@ -21,12 +21,18 @@ pub fn runs_as_one_map(alloc: Global, steps: Vec<Step<u64>>) -> Result<(Index, R
     Ok((index, ran))
 }
 
-/// An index that is made and closed leaves the allocator with the charge and the limit that it had.
-pub fn opens_and_closes_index<A: Allocator>(alloc: Global, allocator: A) -> Result<A, Refusal>
+/// An index on which any steps are taken, and which is closed then, leaves the allocator with the charge and the limit that it
+/// had. It is refused as WorkersLeft where workers are still registered.
+pub fn runs_and_closes<A: Allocator>(
+    alloc: Global,
+    allocator: A,
+    steps: Vec<Step<u64>>,
+) -> Result<A, Refusal>
     ensures charge { IfOk result (λ a. A.charged_of a ≡ A.charged_of allocator) }
     ensures limit { IfOk result (λ a. A.limit_of a ≡ A.limit_of allocator) }
 {
-    let index: World<u64, A> = World::new(alloc, Limits::usual(2, 1000), allocator)?;
+    let mut index: World<u64, A> = World::new(alloc, Limits::usual(2, 1000), allocator)?;
+    index.run(alloc, steps);
     match index.close(NoDrain) {
         Ok((allocator, _)) => Ok(allocator),
         Err((refusal, _, _)) => Err(refusal),

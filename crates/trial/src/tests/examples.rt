@@ -1,11 +1,11 @@
 //! The examples, run.
 
 use super::face::limits;
-use crate::examples::machine::{opens_and_closes_index, runs_as_one_map};
+use crate::examples::machine::{runs_and_closes, runs_as_one_map};
 use crate::examples::stack::{Node, Stack, pops, sum_of_two};
 use congee::{Allocator, Limited, Noise};
 use crossbeam_epoch::Collector;
-use joint::{Done, Event, Op, Outcome, Report, Step};
+use joint::{Done, Event, Op, Outcome, Refusal, Report, Step};
 use judge::Reply;
 use std::alloc::{AllocError, Global};
 use std::test::Fail;
@@ -98,10 +98,13 @@ fn two_calls_in_flight_answer_as_one_map(rt: HostRuntime) -> Result<(), Fail> {
 }
 
 #[test]
-fn an_index_that_is_closed_at_once_leaves_the_charge(rt: HostRuntime) -> Result<(), Fail> {
+fn an_index_that_is_closed_leaves_the_charge(rt: HostRuntime) -> Result<(), Fail> {
     let mut allocator = Limited::new(10_000);
     allocator.allocate(500)?;
-    let allocator = opens_and_closes_index(rt.alloc(), allocator)?;
+    let none = Vec::new(rt.alloc());
+    let allocator = runs_and_closes(rt.alloc(), allocator, none)?;
     assert_eq!(rt; (allocator.charged(), allocator.limit()), (500, 10_000));
+    let refused = runs_and_closes(rt.alloc(), allocator, schedule(rt.alloc())?);
+    assert_eq!(rt; refused.err(), Some(Refusal::WorkersLeft(2)));
     Ok(())
 }
