@@ -168,11 +168,12 @@ fn without_line(alloc: Global, text: &[u8], place: usize) -> Result<Vec<u8>, Fai
 }
 
 /// Whether these are the replies to the script, or those to the script without the line that was refused.
-fn are_replies(alloc: Global, printed: &[u8]) -> Result<bool, Fail> {
+fn are_replies(alloc: Global, told: (&[u8], &[u8]), printed: &[u8]) -> Result<bool, Fail> {
+    let (script, replies) = told;
     let Some(place) = refused_place(printed) else {
-        return Ok(printed == REPLIES);
+        return Ok(printed == replies);
     };
-    let script = without_line(alloc, SCRIPT, place)?;
+    let script = without_line(alloc, script, place)?;
     let expected = without_line(alloc, printed, place)?;
     let mut reader = script.as_slice();
     let mut again = Vec::new(alloc);
@@ -180,19 +181,34 @@ fn are_replies(alloc: Global, printed: &[u8]) -> Result<bool, Fail> {
     Ok(status == 0 && again.as_slice() == expected.as_slice())
 }
 
+/// Two workers look at the whole tree, and leave; then it is closed.
+const LOOKS: &[u8] =
+    b"new 2 1000\nreg\nreg\n0 pin\n1 pin\n0 insert 1 1\n0 insert 256 2\n0 insert 72057594037927936 3\n1 begin get 1\n\
+    0 keys\n0 empty\n1 go 9\n0 unpin\n1 unpin\n0 stats\n0 release\n1 release\nclose\n";
+
+const LOOKED: &[u8] = b"ok\nworker 0\nworker 1\nok\nok\nnone\nnone\nnone\nbegun\n\
+    keys 1 256 72057594037927936\nfalse\nsome 1\nok\nok\n\
+    Level: 0 --- || N4:        0,     0.00 || N16:        0,     0.00 || N48:        0,     0.00 || N256:        1,     0.00 ||\n\
+    Level: 1 --- || N4:        2,     0.37 || N16:        0,     0.00 || N48:        0,     0.00 || N256:        0,     0.00 ||\n\
+    Level: 2 --- || N4:        2,     0.25 || N16:        0,     0.00 || N48:        0,     0.00 || N256:        0,     0.00 ||\n\
+    Overall node count: 5, entry count: 7\nLoad factor: 0.25 (too low)\nActive memory usage: 0 Mb\nKV count: 3\n\
+    ok\nok\ndrain 1 1\ndrain 256 2\ndrain 72057594037927936 3\nclosed 0\n";
+
 /// To be run with each allocation refused in turn as well: a line that is refused is as if it were not there, and where the
 /// program itself finds no memory it ends, after the replies to whole lines.
 #[test]
 fn a_script_goes_on_or_ends_where_memory_is_refused(rt: HostRuntime) -> Result<(), Fail> {
-    let mut reader = SCRIPT;
-    let mut printed = Vec::new(rt.alloc());
-    let status = run(rt.alloc(), &mut reader, &mut printed);
-    if status == 0 {
-        assert!(rt; are_replies(rt.alloc(), &printed)?);
-    } else {
-        assert_eq!(rt; status, 1);
-        assert!(rt; REPLIES.starts_with(printed.as_slice()));
-        assert!(rt; printed.is_empty() || printed.ends_with(b"\n"));
+    for (script, replies) in [(SCRIPT, REPLIES), (LOOKS, LOOKED)] {
+        let mut reader = script;
+        let mut printed = Vec::new(rt.alloc());
+        let status = run(rt.alloc(), &mut reader, &mut printed);
+        if status == 0 {
+            assert!(rt; are_replies(rt.alloc(), (script, replies), &printed)?);
+        } else {
+            assert_eq!(rt; status, 1);
+            assert!(rt; replies.starts_with(printed.as_slice()));
+            assert!(rt; printed.is_empty() || printed.ends_with(b"\n"));
+        }
     }
     Ok(())
 }
