@@ -18,6 +18,7 @@ mod owned;
 mod protocol;
 mod replies;
 mod reports;
+mod scans;
 mod scripts;
 mod stats;
 mod surveys;

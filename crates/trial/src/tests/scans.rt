@@ -1,0 +1,599 @@
+//! A scan beside a writing call, in every order of their steps and with the whole call between any two of the scan's: its
+//! list is one that a scan promises.
+
+use super::interleavings::{Flight, advance, begun};
+use super::machine::{
+    AMPLE, Index, Opening, are_rounds_done, begin, call, go, is_done, open_with_workers, replied,
+};
+use joint::{Done, Op, Outcome, Refusal};
+use judge::{Call, Reply};
+use std::alloc::Global;
+use std::test::Fail;
+
+/// One worker for the scan, and one for the call.
+const OPENING: Opening = Opening { cells: 12, ..AMPLE };
+
+/// More steps than one of these takes that begins anew once.
+const LONG: u32 = 70;
+
+const SCANNER: u32 = 0;
+
+const WRITER: u32 = 1;
+
+/// The most places of these scans.
+const PLACES: usize = 4;
+
+/// A key whose way parts from the small ones' at the root.
+const FAR: u64 = 72_057_594_037_927_936;
+
+/// The keys from `start` to before `end`, into so many places at most.
+#[derive(Clone, Copy)]
+struct Range {
+    start: u64,
+    end: u64,
+    size: usize,
+}
+
+/// A scan and a writing call on a small tree.
+#[derive(Clone, Copy)]
+struct Case {
+    name: &'static str,
+    range: Range,
+    write: Call<u64>,
+    reply: Reply<u64>,
+    /// The pairs that are there before the call takes effect, and after it.
+    before: &'static [(u64, u64)],
+    after: &'static [(u64, u64)],
+    /// How many steps the scan takes alone, and the call once its place is secured.
+    steps: (u32, u32),
+    /// How many of the call's steps come before the scan's. They lock and change no node of the tree, nor does a scan, so
+    /// they do the same wherever they come.
+    ahead: u32,
+}
+
+/// A call that puts a value there, or another one.
+const VALUES: [Case; 5] = [
+    Case {
+        name: "an insertion into the root",
+        range: Range {
+            start: 0,
+            end: 9,
+            size: 2,
+        },
+        write: Call::Insert(5, 5),
+        reply: Reply::Insert(None),
+        before: &[],
+        after: &[(5, 5)],
+        steps: (3, 7),
+        ahead: 0,
+    },
+    Case {
+        name: "an insertion into a leaf",
+        range: Range {
+            start: 1,
+            end: 4,
+            size: 2,
+        },
+        write: Call::Insert(2, 2),
+        reply: Reply::Insert(None),
+        before: &[(1, 1), (3, 3)],
+        after: &[(1, 1), (2, 2), (3, 3)],
+        steps: (9, 10),
+        ahead: 7,
+    },
+    Case {
+        name: "an insertion into a leaf that has no key of the range",
+        range: Range {
+            start: 2,
+            end: 9,
+            size: 2,
+        },
+        write: Call::Insert(2, 2),
+        reply: Reply::Insert(None),
+        before: &[(1, 1)],
+        after: &[(1, 1), (2, 2)],
+        steps: (8, 10),
+        ahead: 7,
+    },
+    Case {
+        name: "an insertion at a key that is there",
+        range: Range {
+            start: 1,
+            end: 3,
+            size: 2,
+        },
+        write: Call::Insert(2, 9),
+        reply: Reply::Insert(Some(2)),
+        before: &[(1, 1), (2, 2)],
+        after: &[(1, 1), (2, 9)],
+        steps: (9, 10),
+        ahead: 7,
+    },
+    Case {
+        name: "an exchange",
+        range: Range {
+            start: 1,
+            end: 3,
+            size: 1,
+        },
+        write: Call::Exchange(1, 1, Some(9)),
+        reply: Reply::Exchange(Ok(Some(9))),
+        before: &[(1, 1), (2, 2)],
+        after: &[(1, 9), (2, 2)],
+        steps: (7, 9),
+        ahead: 0,
+    },
+];
+
+/// A call that changes the tree's nodes, or takes a value out.
+const FORMS: [Case; 4] = [
+    Case {
+        name: "a growth",
+        range: Range {
+            start: 0,
+            end: 9,
+            size: 2,
+        },
+        write: Call::Insert(0, 9),
+        reply: Reply::Insert(None),
+        before: &[(1, 1), (2, 2), (3, 3), (4, 4)],
+        after: &[(0, 9), (1, 1), (2, 2), (3, 3), (4, 4)],
+        steps: (9, 13),
+        ahead: 7,
+    },
+    Case {
+        name: "a split",
+        range: Range {
+            start: 0,
+            end: 999,
+            size: 1,
+        },
+        write: Call::Insert(1, 9),
+        reply: Reply::Insert(None),
+        before: &[(256, 256)],
+        after: &[(1, 9), (256, 256)],
+        steps: (7, 13),
+        ahead: 8,
+    },
+    Case {
+        name: "a removal of one of several values",
+        range: Range {
+            start: 0,
+            end: 9,
+            size: 1,
+        },
+        write: Call::Remove(1),
+        reply: Reply::Remove(Some(1)),
+        before: &[(1, 1), (2, 2), (3, 3)],
+        after: &[(2, 2), (3, 3)],
+        steps: (7, 9),
+        ahead: 0,
+    },
+    Case {
+        name: "a removal of a leaf",
+        range: Range {
+            start: 0,
+            end: u64::MAX,
+            size: 1,
+        },
+        write: Call::Remove(1),
+        reply: Reply::Remove(Some(1)),
+        before: &[(1, 1), (FAR, FAR)],
+        after: &[(FAR, FAR)],
+        steps: (7, 12),
+        ahead: 6,
+    },
+];
+
+/// The same beside longer scans, from the step on at which the call may take its first lock.
+const LONGER: [Case; 3] = [
+    Case {
+        name: "a split below the keys of a scan",
+        range: Range {
+            start: 0,
+            end: 999,
+            size: 3,
+        },
+        write: Call::Insert(1, 9),
+        reply: Reply::Insert(None),
+        before: &[(256, 256), (257, 257)],
+        after: &[(1, 9), (256, 256), (257, 257)],
+        steps: (12, 13),
+        ahead: 8,
+    },
+    Case {
+        name: "a split above the keys of a scan",
+        range: Range {
+            start: 0,
+            end: 999,
+            size: 3,
+        },
+        write: Call::Insert(256, 9),
+        reply: Reply::Insert(None),
+        before: &[(1, 1), (2, 2)],
+        after: &[(1, 1), (2, 2), (256, 9)],
+        steps: (12, 13),
+        ahead: 8,
+    },
+    Case {
+        name: "a removal of one of several values",
+        range: Range {
+            start: 0,
+            end: 9,
+            size: 4,
+        },
+        write: Call::Remove(2),
+        reply: Reply::Remove(Some(2)),
+        before: &[(1, 1), (2, 2), (3, 3)],
+        after: &[(1, 1), (3, 3)],
+        steps: (14, 9),
+        ahead: 6,
+    },
+];
+
+/// Scans of more than one leaf, which a change of each kind makes begin anew.
+const CHANGES: [Case; 6] = [
+    Case {
+        name: "an insertion",
+        range: Range {
+            start: 0,
+            end: 999,
+            size: 4,
+        },
+        write: Call::Insert(2, 9),
+        reply: Reply::Insert(None),
+        before: &[(1, 1), (3, 3), (300, 300)],
+        after: &[(1, 1), (2, 9), (3, 3), (300, 300)],
+        steps: (24, 14),
+        ahead: 0,
+    },
+    Case {
+        name: "a growth",
+        range: Range {
+            start: 2,
+            end: 999,
+            size: 4,
+        },
+        write: Call::Insert(5, 9),
+        reply: Reply::Insert(None),
+        before: &[(1, 1), (2, 2), (3, 3), (4, 4), (300, 300)],
+        after: &[(1, 1), (2, 2), (3, 3), (4, 4), (5, 9), (300, 300)],
+        steps: (21, 17),
+        ahead: 0,
+    },
+    Case {
+        name: "a split",
+        range: Range {
+            start: 1,
+            end: u64::MAX,
+            size: 4,
+        },
+        write: Call::Insert(256, 9),
+        reply: Reply::Insert(None),
+        before: &[(1, 1), (2, 2), (FAR, FAR)],
+        after: &[(1, 1), (2, 2), (256, 9), (FAR, FAR)],
+        steps: (19, 13),
+        ahead: 0,
+    },
+    Case {
+        name: "a removal",
+        range: Range {
+            start: 0,
+            end: u64::MAX,
+            size: 4,
+        },
+        write: Call::Remove(2),
+        reply: Reply::Remove(Some(2)),
+        before: &[(1, 1), (2, 2), (3, 3), (FAR, FAR)],
+        after: &[(1, 1), (3, 3), (FAR, FAR)],
+        steps: (18, 9),
+        ahead: 0,
+    },
+    Case {
+        name: "a removal of a leaf",
+        range: Range {
+            start: 0,
+            end: 999,
+            size: 4,
+        },
+        write: Call::Remove(256),
+        reply: Reply::Remove(Some(256)),
+        before: &[(1, 1), (256, 256), (513, 513)],
+        after: &[(1, 1), (513, 513)],
+        steps: (29, 15),
+        ahead: 0,
+    },
+    Case {
+        name: "an exchange",
+        range: Range {
+            start: 0,
+            end: 999,
+            size: 4,
+        },
+        write: Call::Exchange(2, 2, Some(9)),
+        reply: Reply::Exchange(Ok(Some(9))),
+        before: &[(1, 1), (2, 2), (300, 300)],
+        after: &[(1, 1), (2, 9), (300, 300)],
+        steps: (24, 12),
+        ahead: 0,
+    },
+];
+
+/// A scan, and what it told so far.
+#[derive(Drop)]
+struct Scan {
+    outcome: Outcome<u64>,
+    /// The pair told last for each place, and how many places have one.
+    places: [(u64, u64); PLACES],
+    filled: usize,
+    /// Whether a place was told again.
+    again: bool,
+    steps: u32,
+    /// Whether one of its steps came before the call took effect, and whether one came after.
+    saw_before: bool,
+    saw_after: bool,
+}
+
+impl Scan {
+    /// A scan that has begun.
+    fn begun(index: &mut Index, range: Range) -> Scan {
+        let op = Op::Range(range.start, range.end, range.size);
+        Scan {
+            outcome: begin(index, SCANNER, op).outcome,
+            places: [(0, 0); PLACES],
+            filled: 0,
+            again: false,
+            steps: 0,
+            saw_before: false,
+            saw_after: false,
+        }
+    }
+
+    fn is_in_flight(&self) -> bool {
+        matches!(&self.outcome, Outcome::Running | Outcome::Found { .. })
+    }
+
+    /// Writes a pair to its place.
+    fn fill(&mut self, place: usize, pair: (u64, u64)) {
+        if place < self.filled {
+            self.again = true;
+        } else {
+            self.filled = place.saturating_add(1);
+        }
+        if place < PLACES {
+            self.places[place] = pair;
+        }
+    }
+
+    /// A step, unless it has ended. `changed` tells whether the call has taken effect.
+    fn advance(&mut self, index: &mut Index, changed: bool) {
+        if !self.is_in_flight() {
+            return;
+        }
+        if changed {
+            self.saw_after = true;
+        } else {
+            self.saw_before = true;
+        }
+        self.steps = self.steps.saturating_add(1);
+        let outcome = go(index, SCANNER, None).outcome;
+        if let Outcome::Found { place, key, value } = &outcome {
+            self.fill(*place, (*key, *value));
+        }
+        self.outcome = outcome;
+    }
+
+    /// The pairs, where it has ended with as many.
+    fn pairs(&self) -> Option<&[(u64, u64)]> {
+        match &self.outcome {
+            Outcome::Done(Done::Scanned(count)) => self.places.get(..*count),
+            _ => None,
+        }
+    }
+}
+
+/// Whether the pairs ascend within the range, and no more than its places.
+fn are_within(pairs: &[(u64, u64)], range: Range) -> bool {
+    let mut least = range.start;
+    for (key, _) in pairs {
+        if *key < least || range.end <= *key {
+            return false;
+        }
+        least = key.saturating_add(1);
+    }
+    pairs.len() <= range.size
+}
+
+fn has_key(pairs: &[(u64, u64)], key: u64) -> bool {
+    pairs.iter().any(|pair| pair.0 == key)
+}
+
+/// Whether each pair stood at a step of the scan.
+fn stood(pairs: &[(u64, u64)], case: &Case, scan: &Scan) -> bool {
+    pairs.iter().all(|pair| {
+        scan.saw_before && case.before.contains(pair) || scan.saw_after && case.after.contains(pair)
+    })
+}
+
+/// Whether a key stood at each step of the scan.
+fn stood_throughout(key: u64, case: &Case, scan: &Scan) -> bool {
+    (!scan.saw_before || has_key(case.before, key)) && (!scan.saw_after || has_key(case.after, key))
+}
+
+/// Whether a key of the range is among the pairs, unless they fill every place with smaller keys.
+fn is_told(key: u64, pairs: &[(u64, u64)], range: Range) -> bool {
+    has_key(pairs, key) || pairs.len() == range.size && pairs.iter().all(|pair| pair.0 < key)
+}
+
+/// Whether each key of the range that stood throughout is told.
+fn are_told(pairs: &[(u64, u64)], case: &Case, scan: &Scan) -> bool {
+    let Range { start, end, .. } = case.range;
+    case.before.iter().chain(case.after).all(|pair| {
+        let key = pair.0;
+        key < start
+            || end <= key
+            || !stood_throughout(key, case, scan)
+            || is_told(key, pairs, case.range)
+    })
+}
+
+/// Whether a scan has ended with the pairs that it promises, and the call with its reply.
+fn are_right(case: &Case, scan: &Scan, write: &Flight) -> bool {
+    let Some(pairs) = scan.pairs() else {
+        return false;
+    };
+    are_within(pairs, case.range)
+        && stood(pairs, case, scan)
+        && are_told(pairs, case, scan)
+        && write.effects == 1
+        && write.outcome == replied(case.reply)
+}
+
+/// The index with the pairs of a case, and both workers pinned.
+fn prepared(alloc: Global, case: &Case) -> Result<Index, Refusal> {
+    let mut index = open_with_workers(alloc, &OPENING)?;
+    is_done(&mut index, SCANNER, Op::Pin);
+    is_done(&mut index, WRITER, Op::Pin);
+    for (key, value) in case.before {
+        call(&mut index, WRITER, Call::Insert(*key, *value));
+    }
+    Ok(index)
+}
+
+/// So many further steps of the call, fewer where it ends.
+fn write_on(index: &mut Index, write: &mut Flight, most: u32) {
+    for _ in 0..most {
+        advance(index, write, 0);
+    }
+}
+
+/// So many further steps of the scan, fewer where it ends. `changed` tells whether the call has taken effect.
+fn scan_on(index: &mut Index, scan: &mut Scan, changed: bool, most: u32) {
+    for _ in 0..most {
+        scan.advance(index, changed);
+    }
+}
+
+/// Both, of which the call has its turn where a bit of `turns` tells it so, and of which then the call goes on to its end,
+/// and the scan.
+fn fly(index: &mut Index, case: &Case, turns: u32, bits: u32) -> (Scan, Flight) {
+    let mut write = begun(index, WRITER, case.write);
+    write_on(index, &mut write, case.ahead);
+    let mut scan = Scan::begun(index, case.range);
+    for turn in 0..bits {
+        if turns.wrapping_shr(turn) % 2 == 1 {
+            advance(index, &mut write, 0);
+        } else {
+            scan.advance(index, write.effects > 0);
+        }
+    }
+    write_on(index, &mut write, LONG);
+    scan_on(index, &mut scan, write.effects > 0, LONG);
+    (scan, write)
+}
+
+/// How many steps the scan takes alone, and the call.
+fn lengths(alloc: Global, case: &Case) -> Result<(u32, u32), Refusal> {
+    let mut index = prepared(alloc, case)?;
+    let mut scan = Scan::begun(&mut index, case.range);
+    scan_on(&mut index, &mut scan, false, LONG);
+    let mut write = begun(&mut index, WRITER, case.write);
+    let mut steps = 0u32;
+    for _ in 0..LONG {
+        if !matches!(&write.outcome, Outcome::Done(_)) {
+            advance(&mut index, &mut write, 0);
+            steps = steps.saturating_add(1);
+        }
+    }
+    Ok((scan.steps, steps))
+}
+
+/// Whether the scan and the call are right with these turns.
+fn is_right(alloc: Global, case: &Case, turns: u32, bits: u32) -> Result<bool, Refusal> {
+    let mut index = prepared(alloc, case)?;
+    let (scan, write) = fly(&mut index, case, turns, bits);
+    Ok(are_right(case, &scan, &write))
+}
+
+/// Whether both take as many steps as they should, and are right in every order of these.
+fn are_right_in_every_order(alloc: Global, case: &Case) -> Result<bool, Refusal> {
+    let (scan, write) = case.steps;
+    let rest = write.saturating_sub(case.ahead);
+    let bits = scan.saturating_add(rest);
+    for turns in 0..1u32.wrapping_shl(bits) {
+        if turns.count_ones() == rest && !is_right(alloc, case, turns, bits)? {
+            return Ok(false);
+        }
+    }
+    Ok(lengths(alloc, case)? == case.steps)
+}
+
+/// The scan with the whole call after so many of its steps, and with collections after the call.
+fn cut(index: &mut Index, case: &Case, steps: u32) -> (Scan, Flight) {
+    let mut scan = Scan::begun(index, case.range);
+    scan_on(index, &mut scan, false, steps);
+    let mut write = begun(index, WRITER, case.write);
+    write_on(index, &mut write, LONG);
+    is_done(index, WRITER, Op::Unpin);
+    are_rounds_done(index, WRITER, 3);
+    scan_on(index, &mut scan, true, LONG);
+    (scan, write)
+}
+
+/// Whether both are right with the call after any of the scan's steps, and it makes the scan tell a place again.
+fn begins_anew(alloc: Global, case: &Case) -> Result<bool, Refusal> {
+    let mut again = false;
+    for steps in 1..case.steps.0 {
+        let mut index = prepared(alloc, case)?;
+        let (scan, write) = cut(&mut index, case, steps);
+        if !are_right(case, &scan, &write) {
+            return Ok(false);
+        }
+        again |= scan.again;
+    }
+    Ok(again && lengths(alloc, case)? == case.steps)
+}
+
+#[test]
+fn a_scan_beside_a_call_that_puts_a_value_there(rt: HostRuntime) -> Result<(), Fail> {
+    for case in &VALUES {
+        assert!(rt;
+            are_right_in_every_order(rt.alloc(), case)?,
+            "{}",
+            case.name
+        );
+    }
+    Ok(())
+}
+
+#[test]
+fn a_scan_beside_a_change_of_the_nodes(rt: HostRuntime) -> Result<(), Fail> {
+    for case in &FORMS {
+        assert!(rt;
+            are_right_in_every_order(rt.alloc(), case)?,
+            "{}",
+            case.name
+        );
+    }
+    Ok(())
+}
+
+#[test]
+fn a_longer_scan_beside_a_change_of_the_nodes(rt: HostRuntime) -> Result<(), Fail> {
+    for case in &LONGER {
+        assert!(rt;
+            are_right_in_every_order(rt.alloc(), case)?,
+            "{}",
+            case.name
+        );
+    }
+    Ok(())
+}
+
+#[test]
+fn a_scan_begins_anew_after_a_change(rt: HostRuntime) -> Result<(), Fail> {
+    for case in &CHANGES {
+        assert!(rt; begins_anew(rt.alloc(), case)?, "{}", case.name);
+    }
+    Ok(())
+}
