@@ -1,5 +1,5 @@
 //! The lines of a script, answered in turn.
-ghost use Rattle.std.specs.Prelude.{◌≡◌, ◌+◌, ◌<◌, ◌^◌, ◌≤◌, List, ℕ, Option, length, OnOk, IfErr, IfOk, drop};
+ghost use Rattle.std.specs.Prelude.{◌≡◌, ◌+◌, ◌<◌, ◌^◌, ◌≤◌, List, ℕ, length, OnOk, IfErr, IfOk, drop};
 ghost use Rattle.trial.specs.Grammar.{line_max};
 ghost use Rattle.trial.specs.Line.{IsBad};
 ghost use Rattle.trial.specs.Script.{NoFeed};

@@ -92,11 +92,8 @@ fn a_write_that_fails_within_a_reply_is_the_last(rt: HostRuntime) -> Result<(), 
             most: 0,
         };
         assert_eq!(rt; run(rt.alloc(), &mut reader, &mut writer), 1, "at {room}");
-        assert_eq!(rt;
-            writer.taken.as_slice(),
-            &replies.as_bytes()[..room],
-            "at {room}"
-        );
+        assert_eq!(rt; writer.taken.len(), room, "at {room}");
+        assert!(rt; replies.as_bytes().starts_with(&writer.taken), "at {room}");
     }
     Ok(())
 }
