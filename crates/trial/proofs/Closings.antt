@@ -1,5 +1,5 @@
 -- What a tree that is closed hands over.
-use Rattle.std.proofs.Common.{◌≡◌, ℕ, true, List, [], ◌∷◌, ◌++◌, refl, sym, ◌∙◌, ap, append_assoc, append-nil}
+use Rattle.std.proofs.Common.{◌≡◌, ℕ, true, List, [], ◌∷◌, ◌++◌, sym, ◌∙◌, ap, append_assoc, append-nil}
 use Rattle.joint.specs.Closing.{Drained as Takes}
 use Rattle.trial.specs.declared.drained.Drained.{Drained}
 

@@ -1,9 +1,9 @@
 -- A call of one step on the tree, beside the map.
-use Rattle.std.proofs.Common.{◌≡◌, ℕ, zero, suc, nat_eq, Bool, true, false, List, [], ◌∷◌, length, Option, None, Some, IsSome, cond, refl, sym, ◌∙◌, ap, subst, if◌then◌else◌}
+use Rattle.std.proofs.Common.{◌≡◌, ℕ, Bool, true, false, List, [], ◌∷◌, Option, None, Some, IsSome, cond, refl, sym, ◌∙◌, ap, subst, if◌then◌else◌}
 use Rattle.std.specs.Prelude.{slice_set}
 use Rattle.std.specs.Ordering.{nat_cmp, is_eq}
 use Rattle.std.specs.Cmp.{tied_itself}
-use Rattle.std.specs.FinMap.{get, entries, find, get-entries}
+use Rattle.std.specs.FinMap.{entries, find, get-entries}
 use Rattle.std.proofs.lemmas.Cmp.{nat_cmp_total}
 use Rattle.judge.specs.Answer.{Pairs}
 use Rattle.joint.specs.declared.steps.Done.TheVariants as done
@@ -21,7 +21,6 @@ use Rattle.joint.specs.Survey.{IsEmptiness, keys_of}
 use Rattle.joint.specs.Surveys.{MapTells}
 use Rattle.trial.specs.declared.caller.Closure.{Closure}
 use Rattle.trial.specs.declared.index.Index.{Index}
-use Rattle.trial.specs.declared.reply.Reply.{Reply}
 use Rattle.trial.specs.declared.reply.Reply.TheVariants as reply
 use Rattle.trial.specs.Callers.{fresh}
 use Rattle.trial.specs.Calling.{is_running, Begins, GoesOn, stays, ends, goes, Calls}

@@ -14,7 +14,7 @@ use Rattle.joint.specs.declared.steps.Survey.{Survey}
 use Rattle.joint.specs.declared.steps.Survey.TheVariants as survey
 use Rattle.joint.specs.declared.steps.Target.{Target}
 use Rattle.joint.specs.declared.steps.Target.TheVariants as target
-use Rattle.joint.specs.Calling.{goes_on, steps_of, GoOn, last_of, last_or, put_away, kept_report, TellsMap}
+use Rattle.joint.specs.Calling.{goes_on, steps_of, GoOn, last_of, put_away, kept_report, TellsMap}
 use Rattle.joint.specs.Reports.{target}
 use Rattle.joint.specs.Runs.{Line, Flights, BeginMap, EventMap, IsMapRun}
 use Rattle.joint.specs.Surveys.{MapTells}

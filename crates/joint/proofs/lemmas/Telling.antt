@@ -1,5 +1,5 @@
 -- What a call of one step tells of the tree, and of the map that stands in it.
-use Rattle.std.proofs.Common.{◌≡◌, ℕ, true, false, refl}
+use Rattle.std.proofs.Common.{◌≡◌, ℕ, false, refl}
 use Rattle.judge.specs.Answer.{Pairs}
 use Rattle.congee.specs.Heap.{Node}
 use Rattle.congee.specs.Keys.{IsMapOf}

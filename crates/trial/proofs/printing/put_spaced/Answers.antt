@@ -1,4 +1,4 @@
-use Rattle.std.proofs.Common.{◌++◌, codes, decimal}
+use Rattle.std.proofs.Common.{codes}
 use Rattle.std.proofs.lemmas.Result.{err_from_is_err_and}
 use Rattle.trial.proofs.Passing.{breaks_first, puts_last, stops_last}
 use Rattle.trial.proofs.printing.put_spaced.Goals as goal
