@@ -15,5 +15,6 @@ pub mod Wanted
 pub mod Nearest
 pub mod Owners
 pub mod Table
+pub mod Weights
 pub mod Stats
 pub mod StatsText

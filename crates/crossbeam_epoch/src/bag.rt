@@ -92,7 +92,7 @@ impl<J> Bag<J> {
 
 impl<J: Drop> Bag<J> {
     /// An empty bag.
-    pub fn new() -> Bag<J>
+    pub(crate) fn new() -> Bag<J>
         ensures { result ≡ [] }
     {
         Bag {
@@ -101,7 +101,7 @@ impl<J: Drop> Bag<J> {
     }
 
     /// Puts a job behind the others.
-    pub fn push(&mut self, entry: Entry<J>)
+    pub(crate) fn push(&mut self, entry: Entry<J>)
         requires { length self.old < bag_places }
         ensures { self.new ≡ self.old ++ entry ∷ [] }
     {
@@ -109,7 +109,7 @@ impl<J: Drop> Bag<J> {
     }
 
     /// Takes the first job out.
-    pub fn take_first(&mut self) -> Entry<J>
+    pub(crate) fn take_first(&mut self) -> Entry<J>
         requires { 0 < length self.old }
         ensures first { result ≡ slice_index_or self.old 0 result }
         ensures rest { self.new ≡ remove self.old 0 }

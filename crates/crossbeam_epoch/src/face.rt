@@ -2,6 +2,7 @@
 
 mod atomic;
 mod collector;
+mod free;
 mod guard;
 mod handle;
 mod internal;

@@ -1,6 +1,7 @@
 -- Lemmas of the machine of tree and collector.
 pub mod Accounts
 pub mod Altering
+pub mod Auditing
 pub mod Backs
 pub mod Begun
 pub mod Beside
@@ -14,6 +15,7 @@ pub mod Collecting
 pub mod Copying
 pub mod Counting
 pub mod Draining
+pub mod Driving
 pub mod Ending
 pub mod Events
 pub mod Exchanging
@@ -37,6 +39,7 @@ pub mod Reaching
 pub mod Registered
 pub mod Registering
 pub mod Reported
+pub mod Reserving
 pub mod Resting
 pub mod Retiring
 pub mod Running

@@ -1,10 +1,8 @@
 -- A call begins, by the layer that it is of, or is refused for its first cause.
-use Rattle.std.specs.Prelude.{◌≡◌, ℕ, Bool, true, false, Option, None, Some, slice_get}
+use Rattle.std.specs.Prelude.{◌≡◌, ℕ, Bool, Option, None, Some, slice_get}
 use Rattle.crossbeam_epoch.specs.declared.fault.Fault.{Fault}
-use Rattle.congee.specs.declared.protocol.op.Op.{Op as Point}
-use Rattle.congee.specs.declared.protocol.op.Op.TheVariants as point
 use Rattle.joint.specs.declared.call.Call.{Call}
-use Rattle.joint.specs.declared.call.Call.TheVariants.{Idle, Collecting, Securing, Walking}
+use Rattle.joint.specs.declared.call.Call.TheVariants.{Idle, Collecting, Reserving, Securing, Walking}
 use Rattle.joint.specs.declared.call.Stage.{Stage}
 use Rattle.joint.specs.declared.call.Stage.TheVariants as stage
 use Rattle.joint.specs.declared.steps.Outcome.TheVariants.{Refused}
@@ -21,15 +19,10 @@ BeginsUnless same always s who t None r s' = BeginsAt same always s who t r s'
 abbrev pub Begun : {V : Type 0} → (V → V → Bool) → Bool → Whole V → ℕ → Target V → Report V → Whole V → Type 0
 Begun same always s who t r s' = BeginsUnless same always s who t (begin_misuse t (slice_get s.calls who) (place_of s who)) r s'
 
--- whether a call may hand a node over
-abbrev pub writes : {V : Type 0} → Point V → Bool
-writes (point.Get k) = false
-writes (point.Range start end size) = false
-writes _ = true
-
 -- what a call in flight is about
 abbrev pub stage_of : {V : Type 0} → Call V → Stage
 stage_of Idle = stage.Idle
 stage_of (Collecting op) = stage.Collecting op
+stage_of (Reserving op) = stage.Reserving
 stage_of (Securing op) = stage.Securing
 stage_of Walking = stage.Walking

@@ -3,7 +3,7 @@ use Rattle.std.specs.Prelude.{◌≡◌, ◌≤◌, ℕ, Bool, true, false, List
 use Rattle.crossbeam_epoch.specs.declared.world.participant.Participant.{Participant}
 use Rattle.crossbeam_epoch.specs.declared.world.participant.Phase.TheVariants as stage
 use Rattle.crossbeam_epoch.specs.declared.world.report.Op.TheVariants.{Secure}
-use Rattle.crossbeam_epoch.specs.declared.world.report.Event.TheVariants.{Go}
+use Rattle.crossbeam_epoch.specs.declared.world.report.Event.TheVariants.{Begin, Go}
 use Rattle.crossbeam_epoch.specs.declared.world.report.Report.{Report}
 use Rattle.crossbeam_epoch.specs.declared.world.report.Outcome.{Outcome}
 use Rattle.crossbeam_epoch.specs.declared.world.report.Outcome.TheVariants.{Running, Done, Refused}
@@ -11,7 +11,7 @@ use Rattle.crossbeam_epoch.specs.World.Machine.{State, place}
 use Rattle.crossbeam_epoch.specs.World.Progress.{IsOn}
 use Rattle.congee.specs.declared.protocol.machine.Machine.{Machine}
 use Rattle.congee.specs.declared.protocol.op.Op.{Op}
-use Rattle.congee.specs.declared.protocol.op.Op.TheVariants.{Range}
+use Rattle.congee.specs.declared.protocol.op.Op.TheVariants as point
 use Rattle.congee.specs.declared.protocol.phase.Kind.TheVariants.{Get}
 use Rattle.congee.specs.declared.protocol.phase.Phase.{Phase}
 use Rattle.congee.specs.declared.protocol.phase.Phase.TheVariants.{New, Sweep, Ended}
@@ -21,16 +21,17 @@ use Rattle.congee.specs.declared.protocol.sweep.Stage.{Stage}
 use Rattle.congee.specs.declared.protocol.sweep.Stage.TheVariants as sweep
 use Rattle.congee.specs.protocol.Play.{begun, parts}
 use Rattle.joint.specs.declared.call.Call.{Call}
-use Rattle.joint.specs.declared.call.Call.TheVariants.{Idle, Collecting, Securing, Walking}
+use Rattle.joint.specs.declared.call.Call.TheVariants.{Idle, Collecting, Reserving, Securing, Walking}
 use Rattle.joint.specs.declared.id.Id.{Id}
 use Rattle.joint.specs.Forest.{Forest}
 use Rattle.joint.specs.Machines.{IsSafe, Collected, Walked}
 use Rattle.joint.specs.Sound.{IsUnderWay, IsSecured}
 
--- a call on one key
-abbrev pub IsPoint : {V : Type 0} → Op V → Type 0
-IsPoint (Range start end size) = ⊥
-IsPoint _ = Unit {0}
+-- whether a call may hand a node over
+abbrev pub writes : {V : Type 0} → Op V → Bool
+writes (point.Get k) = false
+writes (point.Range start end size) = false
+writes _ = true
 
 -- the scan has told its end
 abbrev pub is_past : {V : Type 0} → Stage Id V → Bool
@@ -45,7 +46,8 @@ is_done _ = false
 abbrev pub IsAt : {V J : Type 0} → Call V → Participant J → Machine Id V → Type 0
 IsAt Idle p m = (p.phase ≡ stage.Idle) × (m.phase ≡ Ended)
 IsAt (Collecting op) p m = IsOn op p × (m.phase ≡ Ended)
-IsAt (Securing op) p m = IsOn (Secure 1) p × (is_some p.word ≡ true) × (m.phase ≡ Ended) × IsPoint op
+IsAt (Reserving op) p m = (p.registered ≡ true) × (is_some p.word ≡ true) × (p.phase ≡ stage.Idle) × (m.phase ≡ Ended) × (writes op ≡ true)
+IsAt (Securing op) p m = IsOn (Secure 1) p × (is_some p.word ≡ true) × (m.phase ≡ Ended) × (writes op ≡ true)
 IsAt Walking p m = IsUnderWay m.phase × (is_done m.phase ≡ false)
 
 pub record IsIntact {V : Type 0} (same : V → V → Bool) (always : Bool) (s : Forest V) (ms : List (Machine Id V)) (calls : List (Call V)) : Type 0 where
@@ -91,6 +93,25 @@ pub record MayStart {T J V : Type 0} (s : State T J) (who : ℕ) (op : Op V) : T
   pub registered : (place s who).registered ≡ true
   pub pinned : is_some (place s who).word ≡ true
   pub room : IsSecured {C = Id} (parts op).1 New (length (place s who).bag)
+
+-- a writing call has taken no step
+abbrev pub is_reserving : {V : Type 0} → Option (Call V) → Bool
+is_reserving (Some (Reserving op)) = true
+is_reserving _ = false
+
+-- the call in flight once it begins to make its place free
+abbrev pub securing_of : {V : Type 0} → Option (Call V) → Call V
+securing_of (Some (Reserving op)) = Securing op
+securing_of _ = Idle
+
+-- a writing call begins to make its place free, which runs on
+pub record BeginsSecuring {V : Type 0} (same : V → V → Bool) (always : Bool) (s : Forest V) (ms : List (Machine Id V)) (calls : List (Call V)) (who : ℕ) (s' : Forest V) (ms' : List (Machine Id V)) (calls' : List (Call V)) : Type 0 where
+  pub intact : IsIntact same always s' ms' calls'
+  pub turn : Report
+  pub collected : Collected same always s ms who (Begin (Secure 1)) turn s'
+  pub running : turn.outcome ≡ Running
+  pub call : calls' ≡ slice_set calls who (securing_of (slice_get calls who))
+  pub machine : ms' ≡ ms
 
 -- a writing call makes its place free
 abbrev pub IsSecuring : {V : Type 0} → Option (Call V) → Type 0

@@ -1,7 +1,9 @@
 pub mod Altering
+pub mod Auditing
 pub mod Beginning
 pub mod Calling
 pub mod Closing
+pub mod Driving
 pub mod Forest
 pub mod Heap
 pub mod Intact

@@ -16,7 +16,7 @@ use Rattle.congee.specs.protocol.Protocol.{IsCall}
 use Rattle.congee.specs.declared.protocol.op.Op.TheVariants as point
 use Rattle.congee.specs.protocol.Sweeps.{IsScan}
 use Rattle.joint.specs.declared.call.Call.{Call}
-use Rattle.joint.specs.declared.call.Call.TheVariants.{Idle, Collecting, Securing, Walking}
+use Rattle.joint.specs.declared.call.Call.TheVariants.{Idle, Collecting, Reserving, Securing, Walking}
 use Rattle.joint.specs.declared.id.Id.{Id}
 use Rattle.joint.specs.declared.steps.Event.{Event}
 use Rattle.joint.specs.declared.steps.Event.TheVariants.{Register, Begin, Go}
@@ -224,6 +224,7 @@ AreLines (t ∷ ts) (l ∷ ls) = IsLine t l × AreLines ts ls
 abbrev pub InFlight : {V : Type 0} → Call V → Machine Id V → Flight V → Type 0
 InFlight Idle m f = f ≡ Over
 InFlight (Collecting op) m f = f ≡ Over
+InFlight (Reserving op) m f = f ≡ flight (begun root op)
 InFlight (Securing op) m f = f ≡ flight (begun root op)
 InFlight Walking m f = Follows m f
 

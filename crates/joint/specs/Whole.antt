@@ -7,7 +7,6 @@ use Rattle.crossbeam_epoch.specs.declared.names.Name.{Name}
 use Rattle.crossbeam_epoch.specs.declared.world.participant.Participant.{Participant}
 use Rattle.crossbeam_epoch.specs.declared.world.report.Event.{Event as Turn}
 use Rattle.crossbeam_epoch.specs.declared.world.report.Event.TheVariants as collector
-use Rattle.crossbeam_epoch.specs.declared.world.report.Op.TheVariants.{Secure}
 use Rattle.crossbeam_epoch.specs.declared.world.report.Outcome.{Outcome as Turned}
 use Rattle.crossbeam_epoch.specs.declared.world.report.Outcome.TheVariants as turned
 use Rattle.crossbeam_epoch.specs.declared.world.report.Report.{Report as Collection}
@@ -23,7 +22,7 @@ use Rattle.congee.specs.protocol.Holdings.{MadeBy}
 use Rattle.congee.specs.protocol.Names.{names}
 use Rattle.congee.specs.protocol.Play.{begun}
 use Rattle.joint.specs.declared.call.Call.{Call}
-use Rattle.joint.specs.declared.call.Call.TheVariants.{Idle, Collecting, Securing, Walking}
+use Rattle.joint.specs.declared.call.Call.TheVariants.{Idle, Collecting, Reserving, Securing, Walking}
 use Rattle.joint.specs.declared.id.Id.{Id}
 use Rattle.joint.specs.declared.refusal.Refusal.TheVariants.{TableFull}
 use Rattle.joint.specs.declared.steps.Event.{Event}
@@ -40,7 +39,7 @@ use Rattle.joint.specs.declared.steps.Survey.TheVariants as survey
 use Rattle.joint.specs.declared.steps.Target.{Target}
 use Rattle.joint.specs.declared.steps.Target.TheVariants as target
 use Rattle.joint.specs.Forest.{Forest, nodes, total, with_collector, IsCharged}
-use Rattle.joint.specs.Intact.{IsIntact, Secured, WalkedOn, call_after, over_at, root}
+use Rattle.joint.specs.Intact.{IsIntact, BeginsSecuring, Secured, WalkedOn, call_after, over_at, root}
 use Rattle.joint.specs.Machines.{Collected}
 use Rattle.joint.specs.Refusals.{of_fault}
 use Rattle.joint.specs.Reports.{target, told, collected}
@@ -64,6 +63,7 @@ abbrev pub is_busy : {V : Type 0} → Option (Call V) → Bool
 is_busy None = false
 is_busy (Some Idle) = false
 is_busy (Some (Collecting op)) = true
+is_busy (Some (Reserving op)) = true
 is_busy (Some (Securing op)) = true
 is_busy (Some Walking) = true
 
@@ -172,16 +172,12 @@ abbrev pub EntersUnless : {V : Type 0} → Bool → Whole V → ℕ → Point V 
 EntersUnless true s who op r s' = ScansNothing s r s'
 EntersUnless false s who op r s' = Enters s who op r s'
 
--- a writing call begins by making a place free for the node that it may hand over
-pub record Reserves {V : Type 0} (same : V → V → Bool) (always : Bool) (s : Whole V) (who : ℕ) (op : Point V) (r : Report V) (s' : Whole V) : Type 0 where
-  pub turn : Collection
-  pub step : Collected same always s.forest s.machines who (collector.Begin (Secure 1)) turn s'.forest
-  pub running : turn.outcome ≡ turned.Running
-  pub machines : s'.machines ≡ s.machines
-  pub calls : s'.calls ≡ slice_set s.calls who (Securing op)
+-- a writing call begins
+pub record Reserves {V : Type 0} (s : Whole V) (who : ℕ) (op : Point V) (r : Report V) (s' : Whole V) : Type 0 where
+  pub state : s' ≡ record s { calls = slice_set s.calls who (Reserving op) }
   pub report : r ≡ quiet Tree Running
 
--- that goes on; after its last step the call is in flight on the tree
+-- it makes a place free for the node that it may hand over; after the last step of that it is in flight on the tree
 abbrev pub reserving : {V : Type 0} → Turned → Outcome V
 reserving turned.Done = Running
 reserving o = collected o
@@ -190,6 +186,12 @@ pub record GoesOnReserving {V : Type 0} (same : V → V → Bool) (always : Bool
   pub turn : Collection
   pub step : Secured same always s.forest s.machines s.calls who turn s'.forest s'.machines s'.calls
   pub report : r ≡ collection turn (reserving turn.outcome)
+
+-- its first step begins to make the place free, and goes on with that at once
+pub record SecuresFirst {V : Type 0} (same : V → V → Bool) (always : Bool) (s : Whole V) (who : ℕ) (r : Report V) (s' : Whole V) : Type 0 where
+  pub between : Whole V
+  pub begins : BeginsSecuring same always s.forest s.machines s.calls who between.forest between.machines between.calls
+  pub goes : GoesOnReserving same always between who r s'
 
 -- a step of a call on the tree, which ends with its last one
 pub record Walks {V : Type 0} (same : V → V → Bool) (always : Bool) (s : Whole V) (who : ℕ) (noise : Noise Id V) (r : Report V) (s' : Whole V) : Type 0 where
@@ -201,7 +203,7 @@ pub record Walks {V : Type 0} (same : V → V → Bool) (always : Bool) (s : Who
 abbrev pub BeginsOnTree : {V : Type 0} → (V → V → Bool) → Bool → Whole V → ℕ → Point V → Report V → Whole V → Type 0
 BeginsOnTree same always s who (point.Get k) r s' = Enters s who (point.Get k) r s'
 BeginsOnTree {V} same always s who (point.Range start end size) r s' = EntersUnless (finds_none {V = V} (point.Range start end size)) s who (point.Range start end size) r s'
-BeginsOnTree same always s who op r s' = Reserves same always s who op r s'
+BeginsOnTree same always s who op r s' = Reserves s who op r s'
 
 -- a call of one step tells of the tree as it stands
 pub record Surveys {V : Type 0} (s : Whole V) (k : Survey) (r : Report V) (s' : Whole V) : Type 0 where
@@ -219,6 +221,7 @@ abbrev pub GoesAt : {V : Type 0} → (V → V → Bool) → Bool → Whole V →
 GoesAt same always s who None noise r s' = ⊥
 GoesAt same always s who (Some Idle) noise r s' = ⊥
 GoesAt same always s who (Some (Collecting op)) noise r s' = Collects same always s who collector.Go (Collecting op) r s'
+GoesAt same always s who (Some (Reserving op)) noise r s' = SecuresFirst same always s who r s'
 GoesAt same always s who (Some (Securing op)) noise r s' = GoesOnReserving same always s who r s'
 GoesAt same always s who (Some Walking) noise r s' = Walks same always s who noise r s'
 

@@ -9,6 +9,8 @@ pub enum Call<P> {
     Idle,
     /// A call on the collector.
     Collecting(crossbeam_epoch::Op),
+    /// A writing call that has taken no step.
+    Reserving(Op<P>),
     /// A writing call, while a place for a node that it may hand over is made free.
     Securing(Op<P>),
     /// A call on the tree.
@@ -20,6 +22,7 @@ pub enum Call<P> {
 pub enum Stage {
     Idle,
     Collecting(crossbeam_epoch::Op),
+    Reserving,
     Securing,
     Walking,
 }

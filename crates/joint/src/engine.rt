@@ -1,15 +1,14 @@
 //! The calls on the tree and the collector, one step at a time.
 
-ghost use Rattle.std.specs.Prelude.{◌≡◌, ◌<◌, ℕ, List, Option, Some, None, length, slice_get, slice_set, replicate, IfOk, MatchResult, if◌then◌else◌};
+ghost use Rattle.std.specs.Prelude.{◌≡◌, ◌<◌, ℕ, List, Option, Some, None, length, slice_get, slice_set, replicate, is_some, true, IfOk, MatchResult, if◌then◌else◌};
 ghost use Rattle.crossbeam_epoch.specs.declared.bag.Work.{Work};
-ghost use Rattle.crossbeam_epoch.specs.World.Machine.{deferred};
+ghost use Rattle.crossbeam_epoch.specs.World.Machine.{deferred, place};
 ghost use Rattle.congee.specs.protocol.Play.{StepPlays, begun};
 ghost use Rattle.joint.specs.Forest.{nodes, frame, Refuses, with_collector};
-ghost use Rattle.joint.specs.Intact.{IsIntact, IsPoint, IsSecuring, MayStart, Secured, WalkedOn, call_after, cleared, is_done, is_past, resting, over_at, root};
+ghost use Rattle.joint.specs.Intact.{IsIntact, IsSecuring, MayStart, BeginsSecuring, Secured, WalkedOn, call_after, cleared, is_done, is_past, is_reserving, resting, over_at, root, writes};
 ghost use Rattle.joint.specs.Laws.{CellLaws, CallLaws, ProgressLaws};
 ghost use Rattle.joint.specs.declared.call.Call.TheVariants as Call;
 ghost use Rattle.crossbeam_epoch.specs.declared.world.report.Event.TheVariants as Event;
-ghost use Rattle.crossbeam_epoch.specs.declared.world.report.Op.TheVariants as collector;
 ghost use Rattle.joint.specs.Opening.{IsOpened, IsUnopened};
 ghost use Rattle.joint.specs.Runs.{IsFresh};
 ghost use Rattle.joint.specs.Whole.{whole, Holds};
@@ -316,20 +315,56 @@ impl<P: Payload + Small, A: Allocator> Engine<P, A> {
         self.machines[who] = machine;
     }
 
-    /// Begins a writing call: a place for the node that it may hand over is made free first.
-    pub(crate) fn begin_securing(&mut self, who: usize, op: Op<P>) -> Report
+    /// Begins a writing call in the place of a pinned worker: it takes no step yet.
+    pub(crate) fn reserve(&mut self, who: usize, op: Op<P>)
         requires intact { IsIntact P.same_as P.always_copies self.old.nodes self.old.machines.items self.old.calls.items }
         requires idle { slice_get self.old.calls.items who ≡ Some Call.Idle }
-        requires point { IsPoint op }
+        requires registered { (place self.old.nodes.collector who).registered ≡ true }
+        requires pinned { is_some (place self.old.nodes.collector who).word ≡ true }
+        requires writes { writes op ≡ true }
         ensures intact { IsIntact P.same_as P.always_copies self.new.nodes self.new.machines.items self.new.calls.items }
-        ensures collected { Collected P.same_as P.always_copies self.old.nodes self.old.machines.items who (Event.Begin (collector.Secure 1)) result self.new.nodes }
-        ensures calls { self.new.calls.items ≡ slice_set self.old.calls.items who (call_after result.outcome (Call.Securing op)) }
+        ensures nodes { self.new.nodes ≡ self.old.nodes }
         ensures machines { self.new.machines ≡ self.old.machines }
+        ensures calls { self.new.calls.items ≡ slice_set self.old.calls.items who (Call.Reserving op) }
+    {
+        self.set_call(who, Call::Reserving(op));
+    }
+
+    /// Whether a worker's call is a writing one that has taken no step.
+    pub(crate) fn is_reserving(&self, who: usize) -> bool
+        ensures { result ≡ is_reserving (slice_get self.now.calls.items who) }
+    {
+        match self.calls.get(who) {
+            Some(Call::Reserving(_)) => true,
+            // There is none, or it is another call, or it has taken a step.
+            _ => false,
+        }
+    }
+
+    /// Ends a writing call that has taken no step.
+    pub(crate) fn abandon(&mut self, who: usize)
+        requires intact { IsIntact P.same_as P.always_copies self.old.nodes self.old.machines.items self.old.calls.items }
+        requires on { is_reserving (slice_get self.old.calls.items who) ≡ true }
+        ensures intact { IsIntact P.same_as P.always_copies self.new.nodes self.new.machines.items self.new.calls.items }
+        ensures nodes { self.new.nodes ≡ self.old.nodes }
+        ensures machines { self.new.machines ≡ self.old.machines }
+        ensures calls { self.new.calls.items ≡ slice_set self.old.calls.items who Call.Idle }
+    {
+        self.set_call(who, Call::Idle);
+    }
+
+    /// A writing call begins to make a place free for the node that it may hand over, in its first step.
+    pub(crate) fn begin_securing(&mut self, who: usize)
+        requires intact { IsIntact P.same_as P.always_copies self.old.nodes self.old.machines.items self.old.calls.items }
+        requires on { is_reserving (slice_get self.old.calls.items who) ≡ true }
+        ensures { BeginsSecuring P.same_as P.always_copies self.old.nodes self.old.machines.items self.old.calls.items who self.new.nodes self.new.machines.items self.new.calls.items }
     {
         progress::<P>();
-        let report = self.collect(who, Event::Begin(crossbeam_epoch::Op::Secure(1)));
-        self.set_call(who, call_after(report.outcome, Call::Securing(op)));
-        report
+        let Call::Reserving(op) = self.take_call(who) else {
+            unreachable!()
+        };
+        self.collect(who, Event::Begin(crossbeam_epoch::Op::Secure(1)));
+        self.set_call(who, Call::Securing(op));
     }
 
     /// The next step of a writing call that makes its place free; after the last one the call on the tree begins.
@@ -339,14 +374,14 @@ impl<P: Payload + Small, A: Allocator> Engine<P, A> {
         ensures { Secured P.same_as P.always_copies self.old.nodes self.old.machines.items self.old.calls.items who result self.new.nodes self.new.machines.items self.new.calls.items }
     {
         progress::<P>();
-        let call = self.take_call(who);
+        let Call::Securing(op) = self.take_call(who) else {
+            unreachable!()
+        };
         let report = self.collect(who, Event::Go);
-        if let Call::Securing(op) = call {
-            match report.outcome {
-                Outcome::Running => self.set_call(who, Call::Securing(op)),
-                Outcome::Done => self.start(who, op),
-                Outcome::Refused(_) => {}
-            }
+        match report.outcome {
+            Outcome::Running => self.set_call(who, Call::Securing(op)),
+            Outcome::Done => self.start(who, op),
+            Outcome::Refused(_) => {}
         }
         report
     }

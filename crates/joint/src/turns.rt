@@ -1,11 +1,11 @@
 //! One step of the machine, by its event.
 
 ghost use Rattle.std.specs.Prelude.{◌≡◌, ◌<◌, Some, length, slice_get, option_map, true, false};
-ghost use Rattle.joint.specs.Beginning.{Begun, writes, stage_of};
+ghost use Rattle.joint.specs.Beginning.{Begun, stage_of};
 ghost use Rattle.joint.specs.Whole.{whole, Does, Holds, IsStep, Proceeds, misuse, quiet, collection, destroyed_by, finds_none, interruption, is_busy, kind_of, reserving, Surveys, Walks};
 ghost use Rattle.joint.specs.Reports.{told};
 ghost use Rattle.joint.specs.declared.steps.Event.TheVariants as Event;
-ghost use Rattle.joint.specs.Intact.{IsIntact};
+ghost use Rattle.joint.specs.Intact.{IsIntact, writes};
 ghost use Rattle.joint.specs.declared.call.Call.TheVariants as Call;
 ghost use Rattle.joint.specs.declared.steps.Survey.TheVariants as Survey;
 ghost use Rattle.joint.specs.declared.steps.Target.TheVariants as Target;
@@ -103,7 +103,6 @@ impl<P: Payload + Small, A: Allocator> Engine<P, A> {
         ensures intact { IsIntact P.same_as P.always_copies self.new.nodes self.new.machines.items self.new.calls.items }
         ensures begun { Begun P.same_as P.always_copies (whole self.old.nodes self.old.machines.items self.old.calls.items) who (Target.Tree op) result (whole self.new.nodes self.new.machines.items self.new.calls.items) }
     {
-        progress::<P>();
         if !self.nodes.is_pinned(who) {
             return refused(Kind::Tree, Refusal::Unpinned);
         }
@@ -111,7 +110,7 @@ impl<P: Payload + Small, A: Allocator> Engine<P, A> {
             return report(Kind::Tree, Outcome::Done(Done::Scanned(0)));
         }
         if writes(&op) {
-            self.begin_securing(who, op);
+            self.reserve(who, op);
             return report(Kind::Tree, Outcome::Running);
         }
         self.start(who, op);
@@ -186,6 +185,11 @@ impl<P: Payload + Small, A: Allocator> Engine<P, A> {
                 let turn = self.go_collecting(who, op);
                 collection(turn, Outcome::of_collector(turn.outcome))
             }
+            Stage::Reserving => {
+                self.begin_securing(who);
+                let turn = self.go_securing(who);
+                collection(turn, reserving(turn.outcome))
+            }
             Stage::Securing => {
                 let turn = self.go_securing(who);
                 collection(turn, reserving(turn.outcome))
@@ -213,7 +217,7 @@ impl<P: Payload + Small, A: Allocator> Engine<P, A> {
     {
         match &self.calls[who] {
             Call::Idle => false,
-            // On the collector, on the tree, or making a place free for the tree's.
+            // On the collector, on the tree, or before that making a place free.
             _ => true,
         }
     }
@@ -226,6 +230,7 @@ impl<P: Payload + Small, A: Allocator> Engine<P, A> {
         match &self.calls[who] {
             Call::Idle => Stage::Idle,
             Call::Collecting(op) => Stage::Collecting(*op),
+            Call::Reserving(_) => Stage::Reserving,
             Call::Securing(_) => Stage::Securing,
             Call::Walking => Stage::Walking,
         }

@@ -3,6 +3,7 @@
 mod arcs;
 mod closing;
 mod collector;
+mod driven;
 mod examples;
 mod face;
 mod failures;

@@ -17,6 +17,8 @@ pub mod Root
 pub mod Scanned
 pub mod Sizes
 pub mod Tables
+pub mod Totals
+pub mod Weights
 pub mod Wanting
 pub mod Ways
 pub mod Tallies

@@ -12,6 +12,7 @@ ghost use Rattle.congee.specs.owned.Drained.{Drained};
 ghost use Rattle.congee.specs.owned.OwnedSteps.{IsRefusal};
 ghost use Rattle.congee.specs.owned.Ranges.{by_bytes, in_range, keys_by};
 ghost use Rattle.congee.specs.owned.Stats.{HasValue, IsTally, capped};
+ghost use Rattle.congee.specs.owned.Weights.{sizes_of};
 ghost use Rattle.congee.specs.owned.Wanted.{freed_of, freed_by};
 ghost use Rattle.judge.specs.declared.journal.Call.TheVariants as call;
 ghost use Rattle.judge.specs.declared.journal.Reply.TheVariants as reply;
@@ -236,9 +237,10 @@ impl<K: Word64, V: Word64, A: Allocator, D: Drop> Congee<K, V, A, D> {
     }
 
     /// How many nodes of each form stand on each level and how many children they have, and how many pairs there are.
-    /// The root is level 0. It is refused for want of memory alone.
+    /// The root is level 0. The sizes of these nodes are what the tree is charged. It is refused for want of memory alone.
     pub fn stats(&self) -> Result<NodeStats, AllocError>
-        ensures { IfOk result (λ stats. IsTally stats self.now.nodes (map.len self.now.pairs)) }
+        ensures counted { IfOk result (λ stats. IsTally stats self.now.nodes (map.len self.now.pairs)) }
+        ensures charged { OnOk result (sizes_of self.now.nodes ≡ self.now.bytes) }
     {
         self.arena.stats(self.alloc)
     }

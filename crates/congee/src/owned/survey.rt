@@ -6,7 +6,9 @@ ghost use Rattle.slab.specs.Slab.{get, ContainsKey};
 ghost use Rattle.congee.specs.owned.Arena.{IsTree, heap_of};
 ghost use Rattle.congee.specs.owned.Levels.{nodes_from, nodes_of};
 ghost use Rattle.congee.specs.owned.Stats.{HasValue, IsTally, Shape, capped};
+ghost use Rattle.congee.specs.owned.Sizes.{bytes_of};
 ghost use Rattle.congee.specs.owned.Table.{pairs_of};
+ghost use Rattle.congee.specs.owned.Weights.{HasBytesFrom, sizes_of};
 
 use crate::allocator::Allocator;
 use crate::forms::child::Child;
@@ -26,6 +28,7 @@ impl<P: Stored, A: Allocator> Arena<P, A> {
         ensures counted { OnOk result ((seen : List Shape) → IsTally stats.old seen 0
             → IsTally stats.new (seen ++ nodes_from (get self.now.nodes) KEY_BYTES level at) 0) }
         ensures levels { OnOk result (vec_len stats.old.levels ≤ vec_len stats.new.levels) }
+        ensures bytes { OnOk result (HasBytesFrom (get self.now.nodes) KEY_BYTES at) }
     {
         let node = &self.nodes[at];
         stats.count(level, node.node_type(), node.len() as u64)?;
@@ -62,7 +65,8 @@ impl<P: Stored, A: Allocator> Arena<P, A> {
     /// How the nodes are spread, and how many pairs they hold.
     pub(crate) fn stats(&self, alloc: Global) -> Result<NodeStats, AllocError>
         requires { IsTree self.now.nodes }
-        ensures { IfOk result (λ stats. IsTally stats (nodes_of self.now.nodes) (map.len (pairs_of self.now.nodes))) }
+        ensures counted { IfOk result (λ stats. IsTally stats (nodes_of self.now.nodes) (map.len (pairs_of self.now.nodes))) }
+        ensures charged { OnOk result (sizes_of (nodes_of self.now.nodes) ≡ bytes_of self.now.nodes) }
     {
         let mut stats = NodeStats::new(alloc);
         self.count_from(0, 0, &mut stats)?;

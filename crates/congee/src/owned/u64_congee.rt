@@ -11,6 +11,7 @@ ghost use Rattle.congee.specs.owned.OwnedSteps.{IsRefusal};
 ghost use Rattle.congee.specs.owned.Ranges.{by_bytes, in_range, keys_by};
 ghost use Rattle.congee.specs.owned.Stats.{HasValue, IsTally, capped};
 ghost use Rattle.congee.specs.owned.Wanted.{freed_of, freed_by};
+ghost use Rattle.congee.specs.owned.Weights.{sizes_of};
 ghost use Rattle.judge.specs.declared.journal.Call.TheVariants as call;
 ghost use Rattle.judge.specs.declared.journal.Reply.TheVariants as reply;
 
@@ -119,9 +120,10 @@ impl<V: Word64, A: Allocator> U64Congee<V, A> {
     }
 
     /// How many nodes of each form stand on each level and how many children they have, and how many pairs there are.
-    /// The root is level 0. It is refused for want of memory alone.
+    /// The root is level 0. The sizes of these nodes are what the tree is charged. It is refused for want of memory alone.
     pub fn stats(&self) -> Result<NodeStats, AllocError>
-        ensures { IfOk result (λ stats. IsTally stats self.now.tree.nodes (map.len self.now.tree.pairs)) }
+        ensures counted { IfOk result (λ stats. IsTally stats self.now.tree.nodes (map.len self.now.tree.pairs)) }
+        ensures charged { OnOk result (sizes_of self.now.tree.nodes ≡ self.now.tree.bytes) }
     {
         self.tree.stats()
     }

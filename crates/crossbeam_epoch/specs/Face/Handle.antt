@@ -1,5 +1,6 @@
 -- Whose a guard is, and the bag that a handle keeps.
-use Rattle.std.specs.Prelude.{ℕ, Bool, ◌&&◌, nat_lt, nat_eq, List, [], length, if◌then◌else◌}
+use Rattle.std.specs.Prelude.{ℕ, ◌≡◌, ◌+◌, ◌≤◌, Bool, ◌&&◌, nat_lt, nat_eq, List, [], length, if◌then◌else◌, Option, IsSomeAnd}
+use Rattle.std.specs.Bool.{MatchBool}
 use Rattle.crossbeam_epoch.specs.declared.bag.Entry.{Entry}
 use Rattle.crossbeam_epoch.specs.declared.face.guard.Seat.{Seat}
 use Rattle.crossbeam_epoch.specs.Limits.{bag_places}
@@ -11,3 +12,8 @@ owns guards handle guard = nat_lt 0 guards && nat_eq guard.collector handle.coll
 -- a bag that has a free place: this one, or a new one where this one is full
 abbrev pub with_room : {J : Type 0} → List (Entry J) → List (Entry J)
 with_room bag = if nat_lt (length bag) bag_places then bag else []
+
+-- what a handle tells of its last seal after a call: where the call sealed a bag under a guard of this epoch, that epoch or one
+-- more; else what it told before
+abbrev pub SealsUnder : Bool → ℕ → Option ℕ → Option ℕ → Type 0
+SealsUnder seals q before after = MatchBool seals (IsSomeAnd after (λ s. (q ≤ s) × (s ≤ q + 1))) (after ≡ before)

@@ -5,16 +5,18 @@ use Rattle.std.specs.Borrow.{Bor}
 use Rattle.crossbeam_epoch.specs.declared.bag.Entry.{Entry}
 use Rattle.crossbeam_epoch.specs.declared.face.collector.Collector.{Collector}
 use Rattle.crossbeam_epoch.specs.declared.face.guard.Seat.{Seat}
+use Rattle.crossbeam_epoch.specs.declared.face.handle.Seals.{Seals}
 use Rattle.crossbeam_epoch.specs.declared.face.seats.View.{View}
 
 -- a participant: its collector, its place, how many guards are out and the epoch that confirmed their pin, the jobs that it
--- keeps, and what its seat at the words knows
+-- keeps, the seals that it tells, and what its seat at the words knows
 pub record Handle (T J : Type 0) : Type 0 where
   pub collector : Bor (Collector T J)
   pub seat : Seat
   pub guards : ℕ
   pub epoch : ℕ
   pub bag : List (Entry J)
+  pub seals : Seals
   pub knows : View
 
 -- with guards out its word is pinned, confirmed by this epoch, and else it is unpinned

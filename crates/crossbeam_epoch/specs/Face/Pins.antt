@@ -1,5 +1,5 @@
 -- The epoch and the participants' words, on which every thread steps, and what a seat knows of them.
-use Rattle.std.specs.Prelude.{ℕ, ◌≡◌, ◌≢◌, ◌+◌, ◌*◌, ◌^◌, ◌<◌, ◌≤◌, ◌⊎◌, List, [], length, slice_index, Option, None, Some}
+use Rattle.std.specs.Prelude.{ℕ, ◌≡◌, ◌≢◌, ◌+◌, ◌*◌, ◌^◌, ◌<◌, ◌≤◌, ◌⊎◌, List, [], length, slice_index, Option, None, Some, IfSome}
 use mathlib.Core.Option.{some}
 use lib.ListN.{get_elem?}
 use Rattle.atomic_table.specs.Table.{State, Me, Step}
@@ -55,6 +55,10 @@ with_seen v e = record v { seen = e; passed = 0 }
 -- An epoch that a seat reads isn't before one that it saw. Under a pin that is confirmed by q it is q or q + 1
 abbrev pub IsRead : View → ℕ → Type 0
 IsRead v e = (v.seen ≤ e) × (e ≤ 2 ^ 62) × ((q : ℕ) → v.pin ≡ Some q → (q ≤ e) × (e ≤ q + 1))
+
+-- a seal, if there is one, is at least two behind the epoch that was seen
+abbrev pub IsDue : ℕ → Option ℕ → Type 0
+IsDue seen seal = IfSome seal (λ s. s + 2 ≤ seen)
 
 -- A place is passed where it is nobody's, or its participant is unpinned or pinned at the epoch that was seen
 abbrev pub Passes : ℕ → ℕ → Type 0

@@ -1,18 +1,20 @@
 //! The collector.
 
-ghost use Rattle.std.specs.Prelude.{◌≡◌, ◌<◌, ◌≤◌, ◌+◌, ◌^◌, ◌&&◌, ℕ, [], nat_eq, IfOk, IfErr, IfSome, MatchResult};
+ghost use Rattle.std.specs.Prelude.{◌≡◌, ◌<◌, ◌≤◌, ◌+◌, ◌^◌, ◌&&◌, ◌⊎◌, ℕ, [], nat_eq, IfOk, IfErr, IfSome, MatchResult};
 ghost use Rattle.std.specs.Bool.{MatchBool};
 ghost use Rattle.crossbeam_epoch.specs.Limits.{within};
-ghost use Rattle.crossbeam_epoch.specs.Face.Pins.{IsRead};
+ghost use Rattle.crossbeam_epoch.specs.Face.Pins.{IsRead, IsDue};
 ghost use Rattle.crossbeam_epoch.specs.Face.Tokens.{known, IsOf};
 
 use crate::bag::{BAG, BAGS, Bag, Sealed, Work};
+use crate::face::free::Free;
 use crate::face::handle::LocalHandle;
 use crate::face::internal::Internal;
+use crate::face::lent::{Lent, LentMut};
 use crate::face::pins::Pins;
 use crate::face::queue::{EXPIRY, Queue};
 use crate::face::seats::Token;
-use crate::face::slots::Slots;
+use crate::face::slots::{Kept, Slots};
 use crate::fault::Fault;
 use crate::limits::Limits;
 use crate::names::Name;
@@ -30,7 +32,8 @@ pub struct Collector<T, J: Task = Job> {
     id: u64,
     /// The epoch and the participants' words.
     pub(crate) pins: Pins,
-    internal: CachePadded<Mutex<Internal<T, J>>>,
+    internal: CachePadded<Mutex<Internal<J>>>,
+    slots: Slots<T>,
 }
 
 impl<T: Drop, J: Task> Collector<T, J> {
@@ -55,15 +58,16 @@ impl<T: Drop, J: Task> Collector<T, J> {
         ensures words { IfOk result (λ c. (c.pins.places ≡ limits.participants) × (c.pins.epoch_max ≡ limits.epoch_max)) }
     {
         let pins = Pins::new(alloc, limits.participants, limits.epoch_max)?;
-        let slots = Slots::new(alloc, limits.cells, limits.turn_max)?;
+        let slots = Slots::new(alloc, limits.cells)?;
         let internal = Internal {
-            slots,
+            free: Free::new(alloc, limits.cells, limits.turn_max)?,
             queue: Queue::new(alloc),
         };
         Ok(Collector {
             id,
             pins,
             internal: CachePadded::new(Mutex::new(internal)),
+            slots,
         })
     }
 
@@ -104,21 +108,22 @@ impl<T: Drop, J: Task> Collector<T, J> {
             id: _,
             pins: _,
             internal,
+            slots,
         } = self;
-        let Internal { mut slots, queue } = internal.into_inner().into_inner();
+        let Internal { free: _, queue } = internal.into_inner().into_inner();
         for bag in queue.into_bags() {
-            call_left(&mut slots, bag.jobs);
+            call_left(&slots, bag.jobs);
         }
         Ok(())
     }
 
     /// Its lock.
-    fn lock(&self) -> &Mutex<Internal<T, J>> {
+    fn lock(&self) -> &Mutex<Internal<J>> {
         &self.internal
     }
 }
 
-/// What handles, guards and pointers do under the lock, each in one hold.
+/// What handles, guards and pointers do, with one hold of the lock at most at a time.
 impl<T: Drop, J: Task> Collector<T, J> {
     /// Gives a place up, whose seat this is.
     pub(crate) fn release<R: Wait>(&self, rt: &R, token: Token, place: u32)
@@ -143,28 +148,36 @@ impl<T: Drop, J: Task> Collector<T, J> {
         self.lock().lock(rt).queue.push(seal, jobs)
     }
 
-    /// Places a value in a free cell; hands it back where none is usable.
+    /// Places a value in a free cell, whose name is taken under the lock; hands it back where none is usable.
     pub(crate) fn place<R: Wait>(&self, rt: &R, value: Box<T>) -> Result<Name, Box<T>>
         ensures { IfErr result (λ v. v ≡ value) }
     {
-        self.lock().lock(rt).slots.place(value)
+        let Some(name) = self.lock().lock(rt).free.give() else {
+            return Err(value);
+        };
+        self.slots.place(name, value)?;
+        Ok(name)
     }
 
-    /// Takes a value out of its cell, which keeps its place.
-    pub(crate) fn lend<R: Wait>(&self, rt: &R, name: Name) -> Option<Box<T>> {
-        self.lock().lock(rt).slots.lend(name)
-    }
-
-    /// Puts a value that was lent back; it comes back where its place isn't kept.
-    pub(crate) fn put_back<R: Wait>(&self, rt: &R, name: Name, value: Box<T>) -> Result<(), Box<T>>
-        ensures { IfErr result (λ v. v ≡ value) }
+    /// Lends a value to be read. It takes no lock.
+    pub(crate) fn lend<R: Wait>(&self, rt: &R, name: Name) -> Option<Lent<'_, T>>
+        ensures { IfSome result (λ l. l.name ≡ name) }
     {
-        self.lock().lock(rt).slots.put_back(name, value)
+        self.slots.lend(rt, name)
     }
 
-    /// Takes a value out of its cell for good.
+    /// Lends a value to be changed. It takes no lock.
+    pub(crate) fn lend_mut(&self, name: Name) -> Option<LentMut<'_, T>>
+        ensures { IfSome result (λ l. l.kept.name ≡ name) }
+    {
+        self.slots.lend_mut(name)
+    }
+
+    /// Takes a value out of its cell for good, and offers the cell under the lock.
     pub(crate) fn remove<R: Wait>(&self, rt: &R, name: Name) -> Option<Box<T>> {
-        self.lock().lock(rt).slots.remove(name)
+        let Kept { name, value } = self.slots.remove(name)?;
+        self.lock().lock(rt).free.offer(name);
+        Some(value)
     }
 
     /// Takes the front bag off, where it is expired at the epoch that was seen.
@@ -174,33 +187,35 @@ impl<T: Drop, J: Task> Collector<T, J> {
         self.lock().lock(rt).queue.pop_expired(seen)
     }
 
-    /// Tries to advance the epoch once, then calls the jobs of at most `BAGS` expired bags from the queue's front.
-    /// No lock is held while a job runs.
-    pub(crate) fn collect<R: Wait>(&self, rt: &R, token: &mut Token)
+    /// Tries to advance the epoch once, then calls the jobs of at most `BAGS` expired bags from the queue's front, and
+    /// answers the greatest of their seals. No lock is held while a job runs.
+    pub(crate) fn collect<R: Wait>(&self, rt: &R, token: &mut Token) -> Option<u64>
         requires of { IsOf self.now.pins.words.shared.table_id token.old }
         ensures of { IsOf self.now.pins.words.shared.table_id token.new }
         ensures view { known token.new ≡ record (known token.old) { seen = (known token.new).seen; passed = (known token.new).passed } }
         ensures read { IsRead (known token.old) (known token.new).seen }
+        ensures due { IsDue (known token.new).seen result }
     {
         let seen = self.pins.advance(token);
+        let mut newest = None;
         for _ in 0..BAGS {
-            if !self.call_expired(rt, token, seen) {
-                return;
+            match self.call_expired(rt, token, seen) {
+                Some(seal) => newest = Some(later(newest, seal)),
+                None => return newest,
             }
         }
+        newest
     }
 
-    /// Calls the jobs of the front bag, where it is expired at the epoch that this seat saw last, and tells whether it was.
-    fn call_expired<R: Wait>(&self, rt: &R, token: &Token, seen: u64) -> bool
+    /// Calls the jobs of the front bag, where it is expired at the epoch that this seat saw last, and answers its seal.
+    fn call_expired<R: Wait>(&self, rt: &R, token: &Token, seen: u64) -> Option<u64>
         requires { (known token.now).seen ≡ seen }
+        ensures { IsDue seen result }
     {
-        match self.take_expired(rt, seen) {
-            Some(bag) => {
-                self.call_bag(rt, token, bag);
-                true
-            }
-            None => false,
-        }
+        let bag = self.take_expired(rt, seen)?;
+        let seal = bag.seal;
+        self.call_bag(rt, token, bag);
+        Some(seal)
     }
 
     /// Calls the jobs of a bag whose seal is at least two behind the epoch that this seat saw last.
@@ -221,8 +236,19 @@ impl<T: Drop, J: Task> Collector<T, J> {
     }
 }
 
+/// The greater seal.
+fn later(newest: Option<u64>, seal: u64) -> u64
+    ensures { (result ≡ seal) ⊎ (newest ≡ Some result) }
+{
+    match newest {
+        Some(greatest) if greatest > seal => greatest,
+        Some(_) => seal,
+        None => seal,
+    }
+}
+
 /// Calls the jobs of a bag that is left at the end.
-fn call_left<T: Drop, J: Task>(slots: &mut Slots<T>, mut jobs: Bag<J>) {
+fn call_left<T: Drop, J: Task>(slots: &Slots<T>, mut jobs: Bag<J>) {
     for _ in 0..BAG {
         if jobs.is_empty() {
             return;

@@ -1,10 +1,11 @@
 //! Handles of participants.
 
-ghost use Rattle.std.specs.Prelude.{◌≡◌, ◌<◌, ◌≤◌, ◌+◌, ◌-◌, ◌++◌, ◌∷◌, [], true, false, nat_lt, nat_eq};
+ghost use Rattle.std.specs.Prelude.{◌≡◌, ◌<◌, ◌≤◌, ◌+◌, ◌-◌, ◌++◌, ◌∷◌, [], true, false, nat_lt, nat_le, nat_eq};
 ghost use Rattle.std.specs.Prelude.{length, MatchResult, IfOk, IfErr, OnOk};
 ghost use Rattle.std.specs.Bool.{MatchBool};
-ghost use Rattle.crossbeam_epoch.specs.Face.Handle.{owns, with_room};
+ghost use Rattle.crossbeam_epoch.specs.Face.Handle.{owns, with_room, SealsUnder};
 ghost use Rattle.crossbeam_epoch.specs.Face.Participant.{IsPinned};
+ghost use Rattle.crossbeam_epoch.specs.Face.Pins.{IsDue};
 ghost use Rattle.crossbeam_epoch.specs.Face.Tokens.{known, IsOf, unpinned_view};
 ghost use Rattle.crossbeam_epoch.specs.Face.Pointer.{name_in};
 ghost use Rattle.crossbeam_epoch.specs.Limits.{bag_places};
@@ -36,6 +37,16 @@ pub struct LocalHandle<'c, T, J: Task = Job> {
     /// The pin of the guards that are out.
     pin: Pin,
     bag: Bag<J>,
+    seals: Seals,
+}
+
+/// The seals that a handle tells.
+#[derive(Clone, Copy, Drop)]
+pub struct Seals {
+    /// That of the last bag that it queued.
+    pub queued: Option<u64>,
+    /// The greatest one of a bag whose jobs its last collection called.
+    pub called: Option<u64>,
 }
 
 impl<'c, T, J: Task> Model for LocalHandle<'c, T, J> {
@@ -45,7 +56,7 @@ impl<'c, T, J: Task> Model for LocalHandle<'c, T, J> {
 
     ghost Value = { Handle T J };
 
-    ghost view = { λ h. record { collector = h.collector; seat = h.seat; guards = h.guards; epoch = h.pin.epoch; bag = h.bag; knows = known h.token } };
+    ghost view = { λ h. record { collector = h.collector; seat = h.seat; guards = h.guards; epoch = h.pin.epoch; bag = h.bag; seals = h.seals; knows = known h.token } };
 
     ghost invariant = { λ h. IsOf h.collector.now.pins.words.shared.table_id h.token × (h.seat.place < h.collector.now.pins.places)
         × (known h.token ≡ with_guards h.guards h.seat.place h.pin.at h.pin.epoch (known h.token).seen (known h.token).passed) };
@@ -70,6 +81,10 @@ impl<'c, T: Drop, J: Task> LocalHandle<'c, T, J> {
             guards: 0,
             pin: Pin { at: 0, epoch: 0 },
             bag: Bag::new(),
+            seals: Seals {
+                queued: None,
+                called: None,
+            },
         }
     }
 
@@ -164,6 +179,7 @@ impl<'c, T: Drop, J: Task> LocalHandle<'c, T, J> {
             guards: _,
             pin: _,
             bag: _,
+            seals: _,
         } = self;
         collector.release(rt, token, seat.place);
         Ok(())
@@ -172,16 +188,33 @@ impl<'c, T: Drop, J: Task> LocalHandle<'c, T, J> {
     /// Tries to advance the epoch once, and calls the jobs of at most eight expired bags. What it then saw of the epoch
     /// is, with a guard out, the guard's epoch or one more.
     pub fn collect<R: Wait>(&mut self, rt: &R)
-        ensures same { self.new ≡ record self.old { knows = self.new.knows } }
+        ensures same { self.new ≡ record self.old { seals = record self.old.seals { called = self.new.seals.called }; knows = self.new.knows } }
         ensures word { IsPinned self.new.guards self.new.epoch self.new.knows }
         ensures saw { 0 < self.old.guards → (self.old.epoch ≤ self.new.knows.seen) × (self.new.knows.seen ≤ self.old.epoch + 1) }
+        ensures due { IsDue self.new.knows.seen self.new.seals.called }
     {
-        self.collector.collect(rt, &mut self.token);
+        self.seals.called = self.collector.collect(rt, &mut self.token);
+    }
+
+    /// The seal of the last bag that it queued: an epoch that it read when the bag was filled. The jobs of a bag are called,
+    /// before the end, by those alone who saw an epoch two past its seal.
+    pub fn sealed_at(&self) -> Option<u64>
+        ensures { result ≡ self.now.seals.queued }
+    {
+        self.seals.queued
+    }
+
+    /// The greatest seal of a bag whose jobs its last collection called; `None` where it called none.
+    pub fn called_up_to(&self) -> Option<u64>
+        ensures { result ≡ self.now.seals.called }
+    {
+        self.seals.called
     }
 
     /// Seals the bag, unless it is empty, with an epoch that it reads first.
     fn seal<R: Wait>(&mut self, rt: &R) -> Result<(), Fault>
-        ensures ok { OnOk result ((self.new.bag ≡ []) × (self.new ≡ record self.old { bag = self.new.bag; knows = self.new.knows })) }
+        ensures ok { OnOk result ((self.new.bag ≡ []) × (self.new ≡ record self.old { bag = self.new.bag; seals = record self.old.seals { queued = self.new.seals.queued }; knows = self.new.knows })) }
+        ensures sealed { OnOk result (0 < self.old.guards → SealsUnder (nat_lt 0 (length self.old.bag)) self.old.epoch self.old.seals.queued self.new.seals.queued) }
         ensures err { IfErr result (λ e. (e ≡ Fault.Memory) × (self.new ≡ record self.old { knows = self.new.knows }) × (0 < length self.old.bag)) }
     {
         if self.bag.is_empty() {
@@ -190,7 +223,10 @@ impl<'c, T: Drop, J: Task> LocalHandle<'c, T, J> {
         let jobs = mem::replace(&mut self.bag, Bag::new());
         let seal = self.collector.pins.look(&mut self.token);
         match self.collector.seal(rt, &self.token, seal, jobs) {
-            Ok(()) => Ok(()),
+            Ok(()) => {
+                self.seals.queued = Some(seal);
+                Ok(())
+            }
             Err(jobs) => {
                 self.bag = jobs;
                 Err(Fault::Memory)
@@ -200,8 +236,9 @@ impl<'c, T: Drop, J: Task> LocalHandle<'c, T, J> {
 
     /// Makes a place in the bag: a full one is sealed.
     fn make_room<R: Wait>(&mut self, rt: &R) -> Result<(), Fault>
-        ensures ok { OnOk result (self.new ≡ record self.old { bag = self.new.bag; knows = self.new.knows }) }
+        ensures ok { OnOk result (self.new ≡ record self.old { bag = self.new.bag; seals = record self.old.seals { queued = self.new.seals.queued }; knows = self.new.knows }) }
         ensures bag { OnOk result (self.new.bag ≡ with_room self.old.bag) }
+        ensures sealed { OnOk result (0 < self.old.guards → SealsUnder (nat_le bag_places (length self.old.bag)) self.old.epoch self.old.seals.queued self.new.seals.queued) }
         ensures err { IfErr result (λ e. (e ≡ Fault.Memory) × (self.new ≡ record self.old { knows = self.new.knows }) × (bag_places ≤ length self.old.bag)) }
     {
         if !self.bag.is_full() {
@@ -218,7 +255,8 @@ impl<'c, T: Drop, J: Task> LocalHandle<'c, T, J> {
         guard: &Guard<'_, T, J>,
         job: J,
     ) -> Result<(), (Fault, J)>
-        ensures ok { OnOk result ((owns self.old.guards self.old.seat guard.now.seat ≡ true) × (self.new ≡ record self.old { bag = self.new.bag; knows = self.new.knows })) }
+        ensures ok { OnOk result ((owns self.old.guards self.old.seat guard.now.seat ≡ true) × (self.new ≡ record self.old { bag = self.new.bag; seals = record self.old.seals { queued = self.new.seals.queued }; knows = self.new.knows })) }
+        ensures sealed { OnOk result (SealsUnder (nat_le bag_places (length self.old.bag)) self.old.epoch self.old.seals.queued self.new.seals.queued) }
         ensures bag { OnOk result (self.new.bag ≡ with_room self.old.bag ++ record { ticket = 0; work = Work.Run job } ∷ []) }
         ensures err { IfErr result (λ e. (e.1 ≡ job) × (self.new ≡ record self.old { knows = self.new.knows })
             × MatchBool (owns self.old.guards self.old.seat guard.now.seat) ((e.0 ≡ Fault.Memory) × (bag_places ≤ length self.old.bag)) (e.0 ≡ Fault.Foreign)) }
@@ -240,7 +278,8 @@ impl<'c, T: Drop, J: Task> LocalHandle<'c, T, J> {
         guard: &Guard<'_, T, J>,
         job: J,
     ) -> Result<(), (Fault, J)>
-        ensures ok { OnOk result ((owns self.old.guards self.old.seat guard.now.seat ≡ true) × (self.new ≡ record self.old { bag = self.new.bag; knows = self.new.knows })) }
+        ensures ok { OnOk result ((owns self.old.guards self.old.seat guard.now.seat ≡ true) × (self.new ≡ record self.old { bag = self.new.bag; seals = record self.old.seals { queued = self.new.seals.queued }; knows = self.new.knows })) }
+        ensures sealed { OnOk result (SealsUnder (nat_le bag_places (length self.old.bag)) self.old.epoch self.old.seals.queued self.new.seals.queued) }
         ensures bag { OnOk result (self.new.bag ≡ with_room self.old.bag ++ record { ticket = 0; work = Work.Run job } ∷ []) }
         ensures err { IfErr result (λ e. (e.1 ≡ job) × (self.new ≡ record self.old { knows = self.new.knows })
             × MatchBool (owns self.old.guards self.old.seat guard.now.seat) ((e.0 ≡ Fault.Memory) × (bag_places ≤ length self.old.bag)) (e.0 ≡ Fault.Foreign)) }
@@ -251,7 +290,9 @@ impl<'c, T: Drop, J: Task> LocalHandle<'c, T, J> {
     /// Seals the bag, unless it is empty, and collects. Refused as `Foreign`, or as `Memory`: then nothing was done.
     pub fn flush<R: Wait>(&mut self, rt: &R, guard: &Guard<'_, T, J>) -> Result<(), Fault>
         ensures ok { OnOk result ((owns self.old.guards self.old.seat guard.now.seat ≡ true)
-            × (self.new.bag ≡ []) × (self.new ≡ record self.old { bag = self.new.bag; knows = self.new.knows })) }
+            × (self.new.bag ≡ []) × (self.new ≡ record self.old { bag = self.new.bag; seals = self.new.seals; knows = self.new.knows })) }
+        ensures sealed { OnOk result (SealsUnder (nat_lt 0 (length self.old.bag)) self.old.epoch self.old.seals.queued self.new.seals.queued) }
+        ensures due { OnOk result (IsDue self.new.knows.seen self.new.seals.called) }
         ensures saw { OnOk result ((self.old.epoch ≤ self.new.knows.seen) × (self.new.knows.seen ≤ self.old.epoch + 1)) }
         ensures word { OnOk result (IsPinned self.new.guards self.new.epoch self.new.knows) }
         ensures err { IfErr result (λ e. (self.new ≡ record self.old { knows = self.new.knows })
@@ -331,7 +372,8 @@ impl<T: Pointable + Drop, J: Task> LocalHandle<'_, T, J> {
         guard: &Guard<'_, T, J>,
         pointer: Shared<'s, T>,
     ) -> Result<(), (Fault, Shared<'s, T>)>
-        ensures ok { OnOk result ((owns self.old.guards self.old.seat guard.now.seat ≡ true) × (self.new ≡ record self.old { bag = self.new.bag; knows = self.new.knows })) }
+        ensures ok { OnOk result ((owns self.old.guards self.old.seat guard.now.seat ≡ true) × (self.new ≡ record self.old { bag = self.new.bag; seals = record self.old.seals { queued = self.new.seals.queued }; knows = self.new.knows })) }
+        ensures sealed { OnOk result (SealsUnder (nat_le bag_places (length self.old.bag)) self.old.epoch self.old.seals.queued self.new.seals.queued) }
         ensures bag { OnOk result (MatchResult (name_in pointer.entry.link.site self.old.collector.now.id)
             (λ n. self.new.bag ≡ with_room self.old.bag ++ record { ticket = 0; work = Work.Remove n } ∷ [])
             (λ e. ⊥)) }

@@ -99,17 +99,13 @@ impl<'g, T: Drop> Shared<'g, T> {
         }
     }
 
-    /// Lends the value. `None` for null, and where the value is destroyed, lent, or another collector's.
-    pub fn deref<R: Wait, J: Task>(
-        &self,
-        rt: &R,
-        guard: &'g Guard<'_, T, J>,
-    ) -> Option<Lent<'g, T, J>>
+    /// Lends the value to be read, to any number at once. `None` for null, and where the value is destroyed, lent to be
+    /// changed, or another collector's.
+    pub fn deref<R: Wait, J: Task>(&self, rt: &R, guard: &'g Guard<'_, T, J>) -> Option<Lent<'g, T>>
         ensures { IfSome result (λ l. name_in self.now.link.site guard.now.collector.now.id ≡ Ok l.name) }
     {
         let name = self.name_in(guard.collector).ok()?;
-        let value = guard.collector.lend(rt, name)?;
-        Some(Lent::new(guard.collector, name, value))
+        guard.collector.lend(rt, name)
     }
 
     /// The same as `deref`.
@@ -117,22 +113,24 @@ impl<'g, T: Drop> Shared<'g, T> {
         &self,
         rt: &R,
         guard: &'g Guard<'_, T, J>,
-    ) -> Option<Lent<'g, T, J>>
+    ) -> Option<Lent<'g, T>>
         ensures { IfSome result (λ l. name_in self.now.link.site guard.now.collector.now.id ≡ Ok l.name) }
     {
         self.deref(rt, guard)
     }
 
-    /// Lends the value to be changed. `None` as for `deref`.
+    /// Lends the value to be changed, to nobody else meanwhile. `None` for null, and where the value is destroyed, lent, or
+    /// another collector's.
     pub fn deref_mut<R: Wait, J: Task>(
         &mut self,
-        rt: &R,
+        _rt: &R,
         guard: &'g Guard<'_, T, J>,
-    ) -> Option<LentMut<'g, T, J>>
+    ) -> Option<LentMut<'g, T>>
         ensures same { self.new ≡ self.old }
-        ensures name { IfSome result (λ l. name_in self.old.link.site guard.now.collector.now.id ≡ Ok l.lent.name) }
+        ensures name { IfSome result (λ l. name_in self.old.link.site guard.now.collector.now.id ≡ Ok l.kept.name) }
     {
-        Some(LentMut::new(self.deref(rt, guard)?))
+        let name = self.name_in(guard.collector).ok()?;
+        guard.collector.lend_mut(name)
     }
 
     /// Takes the value out of its cell, which is destroyed. The value keeps the pointer's tag. `None` for null, and where

@@ -1,205 +1,161 @@
-//! The cells, and the values that stand in them.
+//! The cells, and the values that stand in them. Threads step on a cell's word without a lock.
+//!
+//! The word of a vacant cell is `FREE`. While a value stands it is `PRESENT`, with the value's turn in the high half, and
+//! counts who reads it; while the value is lent to be changed it is `MARKED`, with the turn. Whoever places a value, or takes
+//! one out that nobody reads, has the word `TAKEN` for a moment.
 
-ghost use Rattle.std.specs.Prelude.{◌≡◌, ◌≢◌, ◌<◌, ◌≤◌, [], ℕ, true, is_some, vec_len, Some, None, MatchResult, MatchOption, IfOk, IfErr, slice_get, slice_set};
-ghost use Rattle.crossbeam_epoch.specs.Face.Slots.{slot_value, value_of, next_turn};
-ghost use Rattle.crossbeam_epoch.specs.declared.face.slots.Content.TheVariants.{Vacant, Stands, Lent};
+ghost use Rattle.std.specs.Prelude.{◌≡◌, ◌<◌, ◌%◌, ◌+◌, ◌*◌, IsTrue, IfErr, IfSome, IsSomeAnd};
+ghost use Rattle.counted_slot.specs.Counting.{readers, IsTurn, Gains};
 
+use crate::face::lent::{Lent, LentMut};
 use crate::names::Name;
+use counted_slot::{Counted, FREE, Fits, MARKED, MOST_READERS, ONE_READER, PRESENT, TAKEN};
 use std::alloc::{AllocError, Global};
-use std::mem;
+use std::marker::Model;
+use std::sync::Wait;
 
-/// What a cell holds.
+/// A value, and the name that it was placed under.
 #[derive(Drop)]
-pub enum Content<T> {
-    Vacant,
-    /// A value that stands.
-    Stands(Box<T>),
-    /// The place of a value that is lent.
-    Lent,
+pub struct Kept<T> {
+    pub name: Name,
+    pub value: Box<T>,
 }
 
-/// A cell: the turn of its next or present value, and what it holds.
-#[derive(Drop)]
-pub struct Slot<T> {
-    turn: u32,
-    content: Content<T>,
+impl<T> Fits for Kept<T> {
+    type Tag = ();
+
+    ghost fits = { λ _ _. Unit {0} };
 }
 
-/// The cells of a collector.
+/// A place for a value.
+type Cell<T> = Counted<Option<Kept<T>>>;
+
+/// The cells of a collector. Contracts see nothing of them, since other threads step on them.
 #[derive(Drop)]
 pub struct Slots<T> {
-    slots: Vec<Slot<T>>,
-    /// Cells whose value is gone, and which may be used again.
-    free: Vec<u32>,
-    cells: u32,
-    turn_max: u32,
+    cells: Vec<Cell<T>>,
+}
+
+impl<T> Model for Slots<T> {
+    ghost Value = { Unit {0} };
+
+    ghost view = { λ _. tt };
+}
+
+/// The word of a cell whose value has this turn, in this state, and that nobody reads.
+fn word_of(turn: u32, state: u64) -> u64
+    requires { state < 4 }
+    ensures { result ≡ turn * 4294967296 + state }
+{
+    u64::from(turn) * 0x1_0000_0000 + state
+}
+
+/// Whether one more may read the value of this turn.
+fn is_readable(word: u64, turn: u32) -> bool
+    ensures state { IsTrue result → word % 4 ≡ 1 }
+    ensures room { IsTrue result → readers word < 1073741823 }
+{
+    word % 4 == PRESENT
+        && word / 0x1_0000_0000 == u64::from(turn)
+        && word % 0x1_0000_0000 / 4 < MOST_READERS
 }
 
 impl<T: Drop> Slots<T> {
-    /// So many cells, whose room is made at once.
-    pub fn new(alloc: Global, cells: u32, turn_max: u32) -> Result<Slots<T>, AllocError>
-        ensures { IfOk result (λ s. (s.slots.items ≡ []) × (s.free.items ≡ []) × (s.cells ≡ cells) × (s.turn_max ≡ turn_max)) }
-    {
-        let slots = Vec::with_capacity(alloc, cells as usize)?;
-        let free = Vec::with_capacity(alloc, cells as usize)?;
-        Ok(Slots {
-            slots,
-            free,
-            cells,
-            turn_max,
-        })
+    /// So many cells, which are vacant.
+    pub fn new(alloc: Global, cells: u32) -> Result<Slots<T>, AllocError> {
+        let mut made = Vec::with_capacity(alloc, cells as usize)?;
+        for _ in 0..cells {
+            made.push(Counted::new(None, &()))?;
+        }
+        Ok(Slots { cells: made })
     }
 
-    /// Places a value in a free cell, or hands it back where none is usable.
-    pub fn place(&mut self, value: Box<T>) -> Result<Name, Box<T>>
-        ensures given { IfOk result (λ n. (value_of self.old.slots.items n ≡ None) × (value_of self.new.slots.items n ≡ Some value.value)) }
-        ensures others { IfOk result (λ n. (m : Name) → m.cell ≢ n.cell → value_of self.new.slots.items m ≡ value_of self.old.slots.items m) }
-        ensures back { IfErr result (λ v. v ≡ value) }
-    {
-        match self.usable() {
-            Some(cell) => self.fill(cell, value),
-            None => Err(value),
-        }
+    /// The cell that a name leads to.
+    fn cell(&self, name: Name) -> Option<&Cell<T>> {
+        self.cells.get(name.cell as usize)
     }
 
-    /// A cell that may be used: one that was used before, or a new one.
-    fn usable(&mut self) -> Option<u32>
-        ensures { (m : Name) → value_of self.new.slots.items m ≡ value_of self.old.slots.items m }
+    /// Places a value under this name, or hands it back where the cell isn't vacant.
+    pub fn place(&self, name: Name, value: Box<T>) -> Result<(), Box<T>>
+        ensures { IfErr result (λ v. v ≡ value) }
     {
-        if let Some(cell) = self.free.pop() {
-            return Some(cell);
-        }
-        let made = self.slots.len();
-        if made >= self.cells as usize {
-            return None;
-        }
-        let slot = Slot {
-            turn: 0,
-            content: Content::Vacant,
+        let Some(cell) = self.cell(name) else {
+            return Err(value);
         };
-        self.slots.push(slot).ok()?;
-        Some(made as u32)
-    }
-
-    /// Places a value in this cell, where it is vacant.
-    fn fill(&mut self, cell: u32, value: Box<T>) -> Result<Name, Box<T>>
-        ensures given { IfOk result (λ n. (value_of self.old.slots.items n ≡ None) × (value_of self.new.slots.items n ≡ Some value.value)) }
-        ensures others { IfOk result (λ n. (m : Name) → m.cell ≢ n.cell → value_of self.new.slots.items m ≡ value_of self.old.slots.items m) }
-        ensures back { IfErr result (λ v. (v ≡ value) × (self.new ≡ self.old)) }
-    {
-        let at = cell as usize;
-        if at >= self.slots.len() || !self.is_vacant(at) {
+        let (found, claim) = cell.turn(FREE, TAKEN);
+        if found != FREE {
+            claim.done();
             return Err(value);
         }
-        let turn = self.slots[at].turn;
-        self.slots[at] = Slot {
-            turn,
-            content: Content::Stands(value),
-        };
-        Ok(Name { cell, turn })
-    }
-
-    /// Whether the cell holds nothing.
-    fn is_vacant(&self, at: usize) -> bool
-        requires { at < vec_len self.now.slots }
-        ensures { (turn : ℕ) → result ≡ true → slot_value (slice_get self.now.slots.items at) turn ≡ None }
-    {
-        match &self.slots[at].content {
-            Content::Vacant => true,
-            Content::Stands(_) | Content::Lent => false,
-        }
-    }
-
-    /// Takes the value out to lend it, where it stands.
-    pub fn lend(&mut self, name: Name) -> Option<Box<T>>
-        ensures { MatchOption result
-            ((value_of self.old.slots.items name ≡ None) × (self.new ≡ self.old))
-            (λ b. (value_of self.old.slots.items name ≡ Some b.value)
-            × (self.new.slots.items ≡ slice_set self.old.slots.items name.cell (record { turn = name.turn; content = Lent }))) }
-    {
-        self.take(name, name.turn, Content::Lent)
-    }
-
-    /// Takes the value out for good, where it stands. The cell is free from then on, unless its turns are used up.
-    pub fn remove(&mut self, name: Name) -> Option<Box<T>>
-        ensures taken { MatchOption result
-            ((value_of self.old.slots.items name ≡ None) × (self.new ≡ self.old))
-            (λ b. (value_of self.old.slots.items name ≡ Some b.value)
-            × (self.new.slots.items ≡ slice_set self.old.slots.items name.cell (record { turn = next_turn name.turn self.old.turn_max; content = Vacant }))) }
-        ensures spent { self.old.turn_max ≤ name.turn → self.new.free ≡ self.old.free }
-    {
-        if name.turn >= self.turn_max {
-            return self.take(name, name.turn, Content::Vacant);
-        }
-        let value = self.take(name, name.turn + 1, Content::Vacant)?;
-        self.offer(name.cell);
-        Some(value)
-    }
-
-    /// Offers a cell to be used again.
-    fn offer(&mut self, cell: u32)
-        ensures { self.new.slots ≡ self.old.slots }
-    {
-        // There is room for every cell.
-        let _ = self.free.push(cell);
-    }
-
-    /// Puts a value that was lent back. It comes back where its place isn't kept for it.
-    pub fn put_back(&mut self, name: Name, value: Box<T>) -> Result<(), Box<T>>
-        ensures { MatchResult result
-            (λ _. self.new.slots.items ≡ slice_set self.old.slots.items name.cell (record { turn = name.turn; content = Stands value }))
-            (λ v. (v ≡ value) × (self.new ≡ self.old)) }
-    {
-        let at = name.cell as usize;
-        if at >= self.slots.len() || !self.is_lent(at, name.turn) {
-            return Err(value);
-        }
-        self.slots[at] = Slot {
-            turn: name.turn,
-            content: Content::Stands(value),
-        };
+        claim.put(Some(Kept { name, value }), word_of(name.turn, PRESENT));
         Ok(())
     }
 
-    /// Whether the cell keeps the place of a value of this turn that is lent.
-    fn is_lent(&self, at: usize, turn: u32) -> bool
-        requires { at < vec_len self.now.slots }
-        ensures { result ≡ true → slice_get self.now.slots.items at ≡ Some (record { turn = turn; content = Lent }) }
+    /// Lends the value to be read, where it stands under this name. `None` too where it is lent to 2^30 - 1 readers.
+    pub fn lend<R: Wait>(&self, rt: &R, name: Name) -> Option<Lent<'_, T>>
+        ensures { IfSome result (λ l. l.name ≡ name) }
     {
-        let slot = &self.slots[at];
-        match &slot.content {
-            Content::Lent => slot.turn == turn,
-            Content::Vacant | Content::Stands(_) => false,
+        let cell = self.cell(name)?;
+        for _ in rt.forever() {
+            let seen = cell.load();
+            if !is_readable(seen, name.turn) {
+                return None;
+            }
+            let (found, claim) = cell.turn(seen, seen + ONE_READER);
+            if found == seen {
+                return Lent::new(name, claim);
+            }
+            claim.done();
         }
+        unreachable!()
     }
 
-    /// Whether a value stands in the cell at this turn.
-    fn is_standing(&self, at: usize, turn: u32) -> bool
-        requires { at < vec_len self.now.slots }
-        ensures { result ≡ is_some (slot_value (slice_get self.now.slots.items at) turn) }
+    /// Lends the value to be changed, where it stands under this name and isn't lent.
+    pub fn lend_mut(&self, name: Name) -> Option<LentMut<'_, T>>
+        ensures { IfSome result (λ l. l.kept.name ≡ name) }
     {
-        let slot = &self.slots[at];
-        match &slot.content {
-            Content::Stands(_) => slot.turn == turn,
-            Content::Vacant | Content::Lent => false,
-        }
+        let kept = self.take(name, word_of(name.turn, MARKED))?;
+        Some(LentMut::new(self, kept))
     }
 
-    /// Takes the value out, where it stands, and leaves this in its place.
-    fn take(&mut self, name: Name, turn: u32, content: Content<T>) -> Option<Box<T>>
-        ensures { MatchOption result
-            ((value_of self.old.slots.items name ≡ None) × (self.new ≡ self.old))
-            (λ b. (value_of self.old.slots.items name ≡ Some b.value) × (self.new ≡ record self.old { slots = self.new.slots })
-            × (self.new.slots.items ≡ slice_set self.old.slots.items name.cell (record { turn = turn; content = content }))) }
+    /// Takes the value out for good, where it stands under this name and isn't lent.
+    pub fn remove(&self, name: Name) -> Option<Kept<T>>
+        ensures { IfSome result (λ k. k.name ≡ name) }
     {
-        let at = name.cell as usize;
-        if at >= self.slots.len() || !self.is_standing(at, name.turn) {
+        self.take(name, FREE)
+    }
+
+    /// Puts a value that was lent to be changed back, or hands it back where its place isn't kept.
+    pub fn put_back(&self, kept: Kept<T>) -> Result<(), Kept<T>>
+        ensures { IfErr result (λ k. k ≡ kept) }
+    {
+        let Some(cell) = self.cell(kept.name) else {
+            return Err(kept);
+        };
+        let turn = kept.name.turn;
+        let away = word_of(turn, MARKED);
+        let (found, claim) = cell.turn(away, word_of(turn, TAKEN));
+        if found != away {
+            claim.done();
+            return Err(kept);
+        }
+        claim.put(Some(kept), word_of(turn, PRESENT));
+        Ok(())
+    }
+
+    /// Takes the value out and leaves this word, where it stands under this name and isn't lent.
+    fn take(&self, name: Name, left: u64) -> Option<Kept<T>>
+        requires { (left % 4 < 3) × (readers left ≡ 0) }
+        ensures { IfSome result (λ k. k.name ≡ name) }
+    {
+        let cell = self.cell(name)?;
+        let alone = word_of(name.turn, PRESENT);
+        let (found, claim) = cell.turn(alone, word_of(name.turn, TAKEN));
+        if found != alone {
+            claim.done();
             return None;
         }
-        let slot = mem::replace(&mut self.slots[at], Slot { turn, content });
-        match slot.content {
-            Content::Stands(value) => Some(value),
-            Content::Vacant | Content::Lent => None,
-        }
+        let kept = claim.put(None, left)?;
+        if kept.name == name { Some(kept) } else { None }
     }
 }

@@ -6,7 +6,7 @@ use Rattle.congee.specs.declared.protocol.machine.Noise.{Noise}
 use Rattle.congee.specs.declared.protocol.op.Op.{Op as Point}
 use Rattle.congee.specs.declared.protocol.op.Op.TheVariants as point
 use Rattle.joint.specs.declared.call.Call.{Call}
-use Rattle.joint.specs.declared.call.Call.TheVariants.{Idle, Collecting, Securing, Walking}
+use Rattle.joint.specs.declared.call.Call.TheVariants.{Idle, Collecting, Reserving, Securing, Walking}
 use Rattle.joint.specs.declared.id.Id.{Id}
 use Rattle.joint.specs.declared.steps.Event.{Event}
 use Rattle.joint.specs.declared.steps.Event.TheVariants.{Register, Begin, Go}
@@ -38,11 +38,11 @@ module _ {V : Type 0} (same : V → V → Bool) (always : Bool) where
     begins_tree : (op : Point V) (r : Report V) → BeginsOnTree same always s w op r s' → IsBeside s.forest s'.forest
     begins_tree (point.Get k) r x = alike s.forest s'.forest (ap (λ y. y.forest) x.state)
     begins_tree (point.Range start end size) r x = scan_begins (point.Range start end size) r (finds_none {V = V} (point.Range start end size)) x
-    begins_tree (point.Insert k v) r x = x.step.beside
-    begins_tree (point.Remove k) r x = x.step.beside
-    begins_tree (point.ComputePresent k) r x = x.step.beside
-    begins_tree (point.ComputeInsert k) r x = x.step.beside
-    begins_tree (point.Exchange k old new) r x = x.step.beside
+    begins_tree (point.Insert k v) r x = alike s.forest s'.forest (ap (λ y. y.forest) x.state)
+    begins_tree (point.Remove k) r x = alike s.forest s'.forest (ap (λ y. y.forest) x.state)
+    begins_tree (point.ComputePresent k) r x = alike s.forest s'.forest (ap (λ y. y.forest) x.state)
+    begins_tree (point.ComputeInsert k) r x = alike s.forest s'.forest (ap (λ y. y.forest) x.state)
+    begins_tree (point.Exchange k old new) r x = alike s.forest s'.forest (ap (λ y. y.forest) x.state)
 
     begins : (t : Target V) (r : Report V) → BeginsAt same always s w t r s' → IsBeside s.forest s'.forest
     begins (target.Collector op) r x = x.step.beside
@@ -53,6 +53,7 @@ module _ {V : Type 0} (same : V → V → Bool) (always : Bool) where
     goes None noise r x = absurd x
     goes (Some Idle) noise r x = absurd x
     goes (Some (Collecting op)) noise r x = x.step.beside
+    goes (Some (Reserving op)) noise r x = further s.forest x.between.forest s'.forest x.begins.collected.beside x.goes.step.collected.beside
     goes (Some (Securing op)) noise r x = x.step.collected.beside
     goes (Some Walking) noise r x = x.step.walked.beside
 

@@ -1,7 +1,7 @@
 -- A step of a call on the collector leaves the machine intact.
-use Rattle.std.proofs.Common.{◌≡◌, ◌≢◌, ◌<◌, ℕ, zero, suc, arith, ◌+◌, ◌≤◌, Bool, true, false, List, [], ◌∷◌, refl, sym, ◌∙◌, ap, subst, inl, inr, ◌⊎◌}
+use Rattle.std.proofs.Common.{◌≡◌, ◌≢◌, ◌<◌, ℕ, zero, suc, arith, ◌+◌, ◌≤◌, Bool, List, [], ◌∷◌, refl, sym, ◌∙◌, ap, subst, inl, inr, ◌⊎◌}
 use Rattle.std.proofs.Math.ListN.{set}
-use Rattle.std.specs.Prelude.{Option, None, Some, is_none, is_some, length, slice_get, if◌then◌else◌}
+use Rattle.std.specs.Prelude.{Option, None, Some, is_some, length, slice_get}
 use Rattle.std.proofs.lemmas.List.{length-set, set-set}
 use Rattle.std.proofs.lemmas.Option.{slice_get_within}
 use Rattle.crossbeam_epoch.specs.declared.world.participant.Participant.{Participant}
@@ -11,23 +11,21 @@ use Rattle.crossbeam_epoch.specs.declared.world.report.Event.TheVariants.{Begin,
 use Rattle.crossbeam_epoch.specs.declared.world.report.Op.{Op}
 use Rattle.crossbeam_epoch.specs.declared.world.report.Op.TheVariants.{Secure}
 use Rattle.crossbeam_epoch.specs.declared.fault.Fault.{Fault}
-use Rattle.crossbeam_epoch.specs.declared.fault.Fault.TheVariants.{Unpinned, Unknown}
 use Rattle.crossbeam_epoch.specs.declared.world.report.Outcome.{Outcome}
 use Rattle.crossbeam_epoch.specs.declared.world.report.Outcome.TheVariants.{Running, Done, Refused}
 use Rattle.crossbeam_epoch.specs.declared.world.report.Report.{Report}
 use Rattle.crossbeam_epoch.specs.World.Machine.{State, place}
-use Rattle.crossbeam_epoch.specs.World.Progress.{Begins, GoesOn, IsOn, refusal}
-use Rattle.crossbeam_epoch.specs.World.Steps.{begin_fault}
+use Rattle.crossbeam_epoch.specs.World.Progress.{Begins, GoesOn, IsOn}
 use Rattle.congee.specs.declared.protocol.machine.Machine.{Machine}
 use Rattle.congee.specs.declared.protocol.op.Op.{Op as Point}
 use Rattle.congee.specs.declared.protocol.phase.Phase.TheVariants.{New, Ended}
 use Rattle.congee.specs.protocol.Play.{begun as first_machine, parts}
 use Rattle.joint.specs.declared.call.Call.{Call}
-use Rattle.joint.specs.declared.call.Call.TheVariants.{Idle, Collecting, Securing, Walking}
+use Rattle.joint.specs.declared.call.Call.TheVariants.{Idle, Collecting, Reserving, Securing, Walking}
 use Rattle.joint.specs.declared.id.Id.{Id}
 use Rattle.joint.specs.declared.slot.Slot.{Slot}
 use Rattle.joint.specs.Forest.{Forest}
-use Rattle.joint.specs.Intact.{IsPoint, IsAt, IsIntact, IsSecuring, MayStart, Secured, call_after, secured_call, secured_machines, root}
+use Rattle.joint.specs.Intact.{IsAt, IsIntact, IsSecuring, MayStart, Secured, call_after, secured_call, secured_machines, root}
 use Rattle.joint.specs.Laws.{ProgressLaws}
 use Rattle.joint.specs.Machines.{Rests, Collected}
 use Rattle.joint.proofs.lemmas.Secured.{with_room}
@@ -111,28 +109,6 @@ module _ {V : Type 0} (same : V → V → Bool) (always : Bool) (laws : Progress
       let P : State (Slot V) (Unit {0}) → Type 0 = λ y. GoesOn s.collector who op r.outcome y in
       gone_at op r.outcome s.collector s'.collector m x.1 (subst P (sym c.state) (laws.goes_on s.collector who op r intact.safe.sound.sound.orderly x.0 c.report)))
 
-  word_some : (w : Option ℕ) (x : Option Fault) → (if is_none w then Some Unpinned else x) ≡ None → is_some w ≡ true
-  word_some (Some e) x q = refl
-  word_some None x q = absurd (cc q)
-
-  unrefused : (c : State (Slot V) (Unit {0})) → refusal c who (Secure 1) ≡ None → is_some (place c who).word ≡ true
-  unrefused c e = on (place c who).registered e
-    where
-      on : (b : Bool) → (if b then begin_fault (Secure 1) (place c who) else Some Unknown) ≡ None → is_some (place c who).word ≡ true
-      on true q = word_some (place c who).word _ q
-      on false q = absurd (cc q)
-
-  securing_at : (op : Point V) (o : Outcome) (c c' : State (Slot V) (Unit {0})) (m : Machine Id V) → IsPoint op → (place c who).phase ≡ stage.Idle → m.phase ≡ Ended → Begins c who (Secure 1) o c' → IsAt (call_after o (Securing op)) (place c' who) m
-  securing_at op Running c c' m p i e b = (b.1, ap is_some b.3.0 ∙ unrefused c b.0, e, p)
-  securing_at op Done c c' m p i e b = (b.1, e)
-  securing_at op (Refused f) c c' m p i e b = (ap (λ x. (place x who).phase) b.1 ∙ i, e)
-
-  pub securing : (op : Point V) (r : Report) (s' : Forest V) → IsPoint op → slice_get calls who ≡ Some Idle → Collected same always s ms who (Begin (Secure 1)) r s' → IsIntact same always s' ms (set calls who (call_after r.outcome (Securing op)))
-  securing op r s' p at c = after_step same always s ms calls intact who (Begin (Secure 1)) r s' (call_after r.outcome (Securing op)) c (λ m here.
-      let x : ((place s.collector who).phase ≡ stage.Idle) × (m.phase ≡ Ended) = intact.each who Idle m at here in
-      let P : State (Slot V) (Unit {0}) → Type 0 = λ y. Begins s.collector who (Secure 1) r.outcome y in
-      securing_at op r.outcome s.collector s'.collector m p x.0 x.1 (subst P (sym c.state) (laws.begins s.collector who (Secure 1) r x.0 c.report)))
-
 pub set_here : {A : Type 0} → (xs : List A) (i : ℕ) (x y : A) → slice_get xs i ≡ Some y → slice_get (set xs i x) i ≡ Some x
 set_here [] i x y e = absurd cc
 set_here (z ∷ xs) zero x y e = refl
@@ -143,6 +119,7 @@ pub securing_call : {V : Type 0} (x : Option (Call V)) → IsSecuring x → (op 
 securing_call (Some (Securing op)) s = (op, refl)
 securing_call (Some Idle) s = absurd s
 securing_call (Some (Collecting op)) s = absurd s
+securing_call (Some (Reserving op)) s = absurd s
 securing_call (Some Walking) s = absurd s
 securing_call None s = absurd s
 

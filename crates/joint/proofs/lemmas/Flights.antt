@@ -10,11 +10,11 @@ use Rattle.congee.specs.declared.protocol.phase.Phase.TheVariants.{Ended, Sweep}
 use Rattle.judge.specs.Answer.{Pairs}
 use Rattle.congee.specs.protocol.Play.{Flight, Pending, Over, Unasked, begun, parts, flight, Follows, Following}
 use Rattle.joint.specs.declared.call.Call.{Call}
-use Rattle.joint.specs.declared.call.Call.TheVariants.{Idle, Collecting, Securing, Walking}
+use Rattle.joint.specs.declared.call.Call.TheVariants.{Idle, Collecting, Reserving, Securing, Walking}
 use Rattle.joint.specs.declared.id.Id.{Id}
 use Rattle.joint.specs.declared.steps.Done.{Done as Answer}
 use Rattle.joint.specs.declared.steps.Done.TheVariants as done
-use Rattle.joint.specs.Intact.{IsPoint, root}
+use Rattle.joint.specs.Intact.{root, writes}
 use Rattle.joint.specs.Runs.{Flights, Line, Stays, EndsAtOnce, with_flight, InFlight}
 
 pub eqb_same : (w : ℕ) → (w == w) ≡ true
@@ -50,15 +50,15 @@ module _ {V : Type 0} where
   ends_stays fs m (point.ComputeInsert k) d l fs' x = absurd x
   ends_stays fs m (point.Exchange k old new) d l fs' x = absurd x
 
-  -- a call on one key that has not begun
-  pub pending : (op : Point V) → IsPoint op → flight (begun root op) ≡ Pending (parts op).0 (parts op).1 (parts op).2 Unasked
-  pending (point.Get k) p = refl
+  -- a call that may hand a node over, and has not begun
+  pub pending : (op : Point V) → writes op ≡ true → flight (begun root op) ≡ Pending (parts op).0 (parts op).1 (parts op).2 Unasked
+  pending (point.Get k) p = absurd (cc p)
   pending (point.Insert k v) p = refl
   pending (point.Remove k) p = refl
   pending (point.ComputePresent k) p = refl
   pending (point.ComputeInsert k) p = refl
   pending (point.Exchange k old new) p = refl
-  pending (point.Range start end size) p = absurd p
+  pending (point.Range start end size) p = absurd (cc p)
 
   pub begun_follows : (op : Point V) → Follows (begun root op) (flight (begun root op))
   begun_follows (point.Get k) = inl (tt, refl)
@@ -79,6 +79,7 @@ module _ {V : Type 0} where
   own Walking f = f
   own Idle f = Over
   own (Collecting op) f = Over
+  own (Reserving op) f = Over
   own (Securing op) f = Over
 
   abbrev pub listed : List (Call V) → Flights V → ℕ → List (Flight V)
@@ -99,6 +100,7 @@ module _ {V : Type 0} where
   own_follows : (k : Call V) (m : Machine Id V) (f : Flight V) → InFlight k m f → ((k ≡ Walking → ⊥) → m.phase ≡ Ended) → Follows m (own k f)
   own_follows Idle m f i e = ended_follows m (e (λ q. cc))
   own_follows (Collecting op) m f i e = ended_follows m (e (λ q. cc))
+  own_follows (Reserving op) m f i e = ended_follows m (e (λ q. cc))
   own_follows (Securing op) m f i e = ended_follows m (e (λ q. cc))
   own_follows Walking m f i e = i
 

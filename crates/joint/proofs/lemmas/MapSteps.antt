@@ -3,7 +3,7 @@ use Rattle.std.proofs.Common.{◌≡◌, ◌≢◌, ◌<◌, ◌≤◌, ◌==◌
 use Rattle.std.proofs.Math.ListN.{set}
 use Rattle.std.specs.Prelude.{Option, None, Some, cond, ltb, length, slice_get, slice_set, if◌then◌else◌}
 use Rattle.std.proofs.lemmas.Bool.{cases_Bool, eqb-true, false≢true, lt-ltb}
-use Rattle.std.proofs.lemmas.List.{length-set, get_or_past}
+use Rattle.std.proofs.lemmas.List.{length-set, set-set, get_or_past}
 use Rattle.std.proofs.lemmas.Option.{slice_get_within, slice_get_cases}
 use Rattle.judge.specs.declared.journal.Entry.{Entry}
 use Rattle.judge.specs.Answer.{Pairs}
@@ -38,7 +38,7 @@ use Rattle.congee.specs.Heap.{Node}
 use Rattle.congee.specs.Keys.{IsMapOf, key_bytes}
 use Rattle.congee.specs.protocol.Play.{Flight, Pending, Decided, Over, Unbegun, Scanning, Question, Unasked, heard, resolved, begun, parts, flight, Follows, Following, Watched, WatchedAt, PendingMoves}
 use Rattle.joint.specs.declared.call.Call.{Call}
-use Rattle.joint.specs.declared.call.Call.TheVariants.{Idle, Collecting, Securing, Walking}
+use Rattle.joint.specs.declared.call.Call.TheVariants.{Idle, Collecting, Reserving, Securing, Walking}
 use Rattle.joint.specs.declared.id.Id.{Id}
 use Rattle.joint.specs.declared.steps.Event.{Event}
 use Rattle.joint.specs.declared.steps.Event.TheVariants.{Register, Begin, Go}
@@ -51,13 +51,14 @@ use Rattle.joint.specs.declared.steps.Report.{Report}
 use Rattle.joint.specs.declared.steps.Target.{Target}
 use Rattle.joint.specs.declared.steps.Target.TheVariants as target
 use Rattle.joint.specs.Forest.{nodes, Refuses}
-use Rattle.joint.specs.Intact.{IsAt, IsIntact, call_after, secured_call, secured_machines, is_over, over_at, rested, root}
+use Rattle.joint.specs.Intact.{IsAt, IsIntact, call_after, secured_call, secured_machines, is_over, over_at, rested, root, writes}
 use Rattle.joint.specs.Refusals.{of_fault}
 use Rattle.joint.specs.Reports.{target, told}
 use Rattle.joint.specs.Surveys.{MapTells}
 use Rattle.joint.specs.Runs.{Flights, with_flight, Line, Stays, BeginMap, BeginsOr, PendingStep, FlightStep, GoMap, EventMap, InFlight, AreInFlight}
-use Rattle.joint.specs.Whole.{Whole, Holds, misuse, is_busy, place_of, quiet, collection, finds_none, Collects, Enters, EntersUnless, Reserves, GoesOnReserving, reserving, Walks, BeginsAt, BeginsOnTree, GoesAt, Proceeds, Does as Acts}
+use Rattle.joint.specs.Whole.{Whole, Holds, misuse, is_busy, place_of, quiet, collection, finds_none, Collects, Enters, EntersUnless, Reserves, GoesOnReserving, SecuresFirst, reserving, Walks, BeginsAt, BeginsOnTree, GoesAt, Proceeds, Does as Acts}
 use Rattle.joint.proofs.lemmas.Collecting.{either}
+use Rattle.joint.proofs.lemmas.Reserving.{same_nodes, next_calls, next_here}
 use Rattle.joint.proofs.lemmas.Telling.{map_tells}
 use Rattle.joint.proofs.lemmas.Resting.{cleared_is, done_over, rest_follows}
 use Rattle.joint.proofs.lemmas.Flights.{set_at, flight_here, flight_apart, pending, begun_follows, ended, listed, listed_at, following, followed}
@@ -147,6 +148,7 @@ module _ {V : Type 0} (same : V → V → Bool) (always : Bool) (s s' : Whole V)
   ]
   free (Some Idle) e b = fl.each w Idle (machine_at Idle e).0 e (machine_at Idle e).1
   free (Some (Collecting op)) e b = fl.each w (Collecting op) (machine_at (Collecting op) e).0 e (machine_at (Collecting op) e).1
+  free (Some (Reserving op)) e b = absurd cc
   free (Some (Securing op)) e b = absurd cc
   free (Some Walking) e b = absurd cc
 
@@ -233,15 +235,15 @@ module _ {V : Type 0} (same : V → V → Bool) (always : Bool) (s s' : Whole V)
         (λ i n. flight_apart fs w i (flight (begun root op)) n);
   }
 
-  reserves : (event : Event V) (op : Point V) (r : Report V) → fs w ≡ Over → w < length s.calls → Reserves same always s w op r s' → Result event r (λ l f'. BeginsOr fs m op l.report.outcome l f')
+  reserves : (event : Event V) (op : Point V) (r : Report V) → fs w ≡ Over → w < length s.calls → Reserves s w op r s' → Result event r (λ l f'. BeginsOr fs m op l.report.outcome l f')
   reserves event op r f l k = record {
     entry = None;
     pairs = m;
     flights = starts op;
-    stand = stands_on (nodes s.forest) (nodes s'.forest) m k.step.map st;
+    stand = (let P : Whole V → Type 0 = λ y. IsMapOf (nodes y.forest) m in subst P (sym k.state) st);
     step = begins_line event op r f k.report;
-    in_flight = set_in_flight (starts op) (Securing op) l k.calls
-        (λ i y n b. let P : List (Machine Id V) → Type 0 = λ ms. slice_get ms i ≡ Some y in subst P k.machines b)
+    in_flight = set_in_flight (starts op) (Reserving op) l (ap (λ y. y.calls) k.state)
+        (λ i y n b. let P : List (Machine Id V) → Type 0 = λ ms. slice_get ms i ≡ Some y in subst P (ap (λ y. y.machines) k.state) b)
         (λ y b. flight_here fs w (flight (begun root op)))
         (λ i n. flight_apart fs w i (flight (begun root op)) n);
   }
@@ -299,18 +301,12 @@ module _ {V : Type 0} (same : V → V → Bool) (always : Bool) (s s' : Whole V)
         by_flight (Scanning start end size states places) n x = record { next = f'; step = x; advances = refl }
 
   -- a writing call that makes its place free goes on with that, begins on the tree, or is refused
-  module _ (op : Point V) (noise : Noise Id V) (e : slice_get s.calls w ≡ Some (Securing op)) where
+  module _ (op : Point V) (noise : Noise Id V) (writing : writes op ≡ true) (watched : fs w ≡ flight (begun root op)) (len : w < length s.calls) where
     abbrev waiting : Flight V
     waiting = Pending (parts op).0 (parts op).1 (parts op).2 Unasked
 
-    at : IsAt (Securing op) (place_of s w) (machine_at (Securing op) e).0
-    at = intact.each w (Securing op) (machine_at (Securing op) e).0 e (machine_at (Securing op) e).1
-
     waits : fs w ≡ waiting
-    waits = fl.each w (Securing op) (machine_at (Securing op) e).0 e (machine_at (Securing op) e).1 ∙ pending op at.3
-
-    len : w < length s.calls
-    len = slice_get_within s.calls w (Securing op) e
+    waits = watched ∙ pending op writing
 
     abbrev Went : Report V → Type 0
     Went r = Result (Go noise) r (λ l f'. GoMap same fs (fs w) m noise.answer l f')
@@ -333,7 +329,7 @@ module _ {V : Type 0} (same : V → V → Bool) (always : Bool) (s s' : Whole V)
         same_pairs = refl;
       });
       in_flight = set_in_flight (with_flight fs w waiting) (Securing op) len ec (same_machines em)
-          (λ y b. flight_here fs w waiting ∙ sym (pending op at.3)) (λ i n. flight_apart fs w i waiting n);
+          (λ y b. flight_here fs w waiting ∙ sym (pending op writing)) (λ i n. flight_apart fs w i waiting n);
     }
     reserving_case turn turned.Done ec em only map = record {
       entry = None;
@@ -358,7 +354,7 @@ module _ {V : Type 0} (same : V → V → Bool) (always : Bool) (s s' : Whole V)
           let P : List (Machine Id V) → Type 0 = λ ms. slice_get ms w ≡ Some y in
           let Q : Flight V → Type 0 = λ g. Follows y g in
           let R : Machine Id V → Type 0 = λ z. Follows z (flight (begun root op)) in
-          subst Q (pending op at.3 ∙ sym (flight_here fs w waiting)) (elim (either s.machines w w (begun root op) y (subst P em b)) [
+          subst Q (pending op writing ∙ sym (flight_here fs w waiting)) (elim (either s.machines w w (begun root op) y (subst P em b)) [
             | inl q ↦ subst R q.1 (begun_follows op)
             | inr q ↦ absurd (q.0 refl)
           ]))
@@ -380,13 +376,34 @@ module _ {V : Type 0} (same : V → V → Bool) (always : Bool) (s s' : Whole V)
           (λ y b. flight_here fs w Over) (λ i n. flight_apart fs w i Over n);
     }
 
-    reserving_on : (r : Report V) → GoesOnReserving same always s w r s' → Went r
-    reserving_on r k =
-        let P : Option (Call V) → Type 0 = λ c. s'.calls ≡ slice_set s.calls w (secured_call k.turn.outcome c) in
-        let Q : Option (Call V) → Type 0 = λ c. s'.machines ≡ secured_machines k.turn.outcome c s.machines w in
-        let R : Turned → Type 0 = λ o. IsOutcome s.forest.collector w collector.Go (fault_of s.forest.collector w collector.Go) o in
-        subst Went (sym k.report) (reserving_case k.turn k.turn.outcome (subst P e k.step.call) (subst Q e k.step.machine)
-        (λ f q. wants_memory s.forest.collector w f at.0 (subst R q k.step.collected.report.outcome)) k.step.collected.map)
+    -- from a state whose pairs and calls on the tree are these
+    reserving_from : (b : Whole V) (x : Machine Id V) → IsAt (Securing op) (place_of b w) x → slice_get b.calls w ≡ Some (Securing op) → nodes b.forest ≡ nodes s.forest → b.machines ≡ s.machines → ((k : Call V) → slice_set b.calls w k ≡ slice_set s.calls w k)
+        → (r : Report V) → GoesOnReserving same always b w r s' → Went r
+    reserving_from b x at e en em ec r k =
+        let P : Option (Call V) → Type 0 = λ c. s'.calls ≡ slice_set b.calls w (secured_call k.turn.outcome c) in
+        let Q : Option (Call V) → Type 0 = λ c. s'.machines ≡ secured_machines k.turn.outcome c b.machines w in
+        let R : Turned → Type 0 = λ o. IsOutcome b.forest.collector w collector.Go (fault_of b.forest.collector w collector.Go) o in
+        let S : (ℕ → Node V) → Type 0 = λ h. SameMap h (nodes s'.forest) in
+        subst Went (sym k.report) (reserving_case k.turn k.turn.outcome (subst P e k.step.call ∙ ec _) (subst Q e k.step.machine ∙ ap (λ ms. secured_machines k.turn.outcome (Some (Securing op)) ms w) em)
+        (λ f q. wants_memory b.forest.collector w f at.0 (subst R q k.step.collected.report.outcome)) (subst S en k.step.collected.map))
+
+  reserving_on : (op : Point V) (noise : Noise Id V) → slice_get s.calls w ≡ Some (Securing op) → (r : Report V) → GoesOnReserving same always s w r s' → Result (Go noise) r (λ l f'. GoMap same fs (fs w) m noise.answer l f')
+  reserving_on op noise e r k =
+      let x : (x : Machine Id V) × (slice_get s.machines w ≡ Some x) = machine_at (Securing op) e in
+      let at : IsAt (Securing op) (place_of s w) x.0 = intact.each w (Securing op) x.0 e x.1 in
+      reserving_from op noise at.3 (fl.each w (Securing op) x.0 e x.1) (slice_get_within s.calls w (Securing op) e) s x.0 at e refl refl (λ k. refl) r k
+
+  -- its first step
+  secures_first : (op : Point V) (noise : Noise Id V) → slice_get s.calls w ≡ Some (Reserving op) → (r : Report V) → SecuresFirst same always s w r s' → Result (Go noise) r (λ l f'. GoMap same fs (fs w) m noise.answer l f')
+  secures_first op noise e r k =
+      let x : (x : Machine Id V) × (slice_get s.machines w ≡ Some x) = machine_at (Reserving op) e in
+      let b : Whole V = k.between in
+      let here : slice_get b.calls w ≡ Some (Securing op) = next_here same always s.forest s.machines s.calls w b.forest b.machines b.calls k.begins op e in
+      let there : slice_get b.machines w ≡ Some x.0 = ap (λ ms. slice_get ms w) k.begins.machine ∙ x.1 in
+      let at : IsAt (Securing op) (place_of b w) x.0 = k.begins.intact.each w (Securing op) x.0 here there in
+      reserving_from op noise at.3 (fl.each w (Reserving op) x.0 e x.1) (slice_get_within s.calls w (Reserving op) e) b x.0 at here
+      (same_nodes same always s.forest s.machines s.calls w b.forest b.machines b.calls k.begins) k.begins.machine
+      (λ c. ap (λ ks. slice_set ks w c) (next_calls same always s.forest s.machines s.calls w b.forest b.machines b.calls k.begins op e) ∙ set-set s.calls w (Securing op) c) r k.goes
 
   -- a worker's call on the tree takes a step
   module _ (noise : Noise Id V) (e : slice_get s.calls w ≡ Some Walking) (d : Move V) where
@@ -399,6 +416,7 @@ module _ {V : Type 0} (same : V → V → Bool) (always : Bool) (s s' : Whole V)
     rest : (k : Call V) (c : Participant (Unit {0})) (x : Machine Id V) → IsAt k c x → (k ≡ Walking → ⊥) → x.phase ≡ Ended
     rest Idle c x a n = a.1
     rest (Collecting op) c x a n = a.1
+    rest (Reserving op) c x a n = a.3
     rest (Securing op) c x a n = a.2
     rest Walking c x a n = absurd (n refl)
 
@@ -549,6 +567,9 @@ module _ {V : Type 0} (same : V → V → Bool) (always : Bool) (s s' : Whole V)
   securing_registered : (op : Point V) → slice_get s.calls w ≡ Some (Securing op) → (place_of s w).registered ≡ true
   securing_registered op e = (intact.each w (Securing op) (machine_at (Securing op) e).0 e (machine_at (Securing op) e).1).0.0
 
+  reserving_registered : (op : Point V) → slice_get s.calls w ≡ Some (Reserving op) → (place_of s w).registered ≡ true
+  reserving_registered op e = (intact.each w (Reserving op) (machine_at (Reserving op) e).0 e (machine_at (Reserving op) e).1).0
+
   walking_registered : slice_get s.calls w ≡ Some Walking → (place_of s w).registered ≡ true
   walking_registered e =
       let x : (x : Machine Id V) × (slice_get s.machines w ≡ Some x) = machine_at Walking e in
@@ -566,6 +587,10 @@ module _ {V : Type 0} (same : V → V → Bool) (always : Bool) (s s' : Whole V)
       let o : fs w ≡ Over = fl.each w (Collecting op) (machine_at (Collecting op) e).0 e (machine_at (Collecting op) e).1 in
       let P : Option (Call V) → Type 0 = λ c. GoesAt same always s w c noise r s' in
       collects (Go noise) collector.Go op r (λ l f'. GoMap same fs (fs w) m noise.answer l f') o (inside be) (subst P e x) (over_go noise r o)
+  go_case noise r (Some (Reserving op)) false e be x = absurd (let q : false ≡ true = sym be ∙ reserving_registered op e in false≢true q)
+  go_case noise r (Some (Reserving op)) true e be x =
+      let P : Option (Call V) → Type 0 = λ c. GoesAt same always s w c noise r s' in
+      secures_first op noise e r (subst P e x)
   go_case noise r (Some (Securing op)) false e be x = absurd (let q : false ≡ true = sym be ∙ securing_registered op e in false≢true q)
   go_case noise r (Some (Securing op)) true e be x =
       let P : Option (Call V) → Type 0 = λ c. GoesAt same always s w c noise r s' in

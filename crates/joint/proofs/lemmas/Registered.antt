@@ -12,7 +12,7 @@ use Rattle.congee.specs.declared.protocol.machine.Machine.{Machine}
 use Rattle.congee.specs.protocol.Handing.{InTree}
 use Rattle.congee.specs.Ledger.{Linked}
 use Rattle.joint.specs.declared.call.Call.{Call}
-use Rattle.joint.specs.declared.call.Call.TheVariants.{Idle, Collecting, Securing, Walking}
+use Rattle.joint.specs.declared.call.Call.TheVariants.{Idle, Collecting, Reserving, Securing, Walking}
 use Rattle.joint.specs.declared.id.Id.{Id}
 use Rattle.joint.specs.declared.slot.Slot.{Slot}
 use Rattle.joint.specs.Forest.{Forest, with_collector}
@@ -109,6 +109,7 @@ module _ {V : Type 0} (same : V → V → Bool) (always : Bool) (cells : CellLaw
   at_here : (k : Call V) (m : Machine Id V) → IsAt k (place c n) m → IsAt k put m
   at_here Idle m x = x
   at_here (Collecting op) m x = absurd (let z : (place c n).registered ≡ true = x.0.0 in cc)
+  at_here (Reserving op) m x = absurd (let z : (place c n).registered ≡ true = x.0 in cc)
   at_here (Securing op) m x = absurd (let z : (place c n).registered ≡ true = x.0.0 in cc)
   at_here Walking m x = x
 

@@ -14,7 +14,7 @@ use Rattle.congee.specs.declared.protocol.machine.Outcome.TheVariants as moved
 use Rattle.congee.specs.declared.protocol.op.Op.{Op as Point}
 use Rattle.congee.specs.declared.protocol.op.Op.TheVariants as point
 use Rattle.joint.specs.declared.call.Call.{Call}
-use Rattle.joint.specs.declared.call.Call.TheVariants.{Idle, Collecting, Securing, Walking}
+use Rattle.joint.specs.declared.call.Call.TheVariants.{Idle, Collecting, Reserving, Securing, Walking}
 use Rattle.joint.specs.declared.id.Id.{Id}
 use Rattle.joint.specs.declared.steps.Event.{Event}
 use Rattle.joint.specs.declared.steps.Event.TheVariants.{Register, Begin, Go}
@@ -26,10 +26,11 @@ use Rattle.joint.specs.Intact.{call_after, secured_call, over_at}
 use Rattle.joint.specs.Laws.{CallLaws}
 use Rattle.joint.specs.Reports.{target, told, collected}
 use Rattle.joint.specs.View.{id_number}
-use Rattle.joint.specs.Whole.{Whole, Holds, Does, Proceeds, BeginsAt, BeginsOnTree, EntersUnless, finds_none, GoesAt, Collects, Walks, GoesOnReserving, IsOfCall, is_busy, is_in_flight, misuse, place_of, reserving}
+use Rattle.joint.specs.Whole.{Whole, Holds, Does, Proceeds, BeginsAt, BeginsOnTree, EntersUnless, finds_none, GoesAt, Collects, Walks, GoesOnReserving, SecuresFirst, IsOfCall, is_busy, is_in_flight, misuse, place_of, reserving}
 use Rattle.joint.proofs.lemmas.Collecting.{set_here, there}
 use Rattle.joint.proofs.lemmas.Ending.{goes}
 use Rattle.joint.proofs.lemmas.HandOver.{held_place}
+use Rattle.joint.proofs.lemmas.Reserving.{next_here}
 use Rattle.joint.proofs.lemmas.Telling.{survey_ends}
 use Rattle.joint.proofs.lemmas.Walking as walking
 
@@ -65,12 +66,17 @@ module _ {V : Type 0} where
   at_place : (calls calls' : List (Call V)) (w : ℕ) (k : Call V) → w < length calls → calls' ≡ set calls w k → slice_get calls' w ≡ Some k
   at_place calls calls' w k l e = let x : (y : Call V) × (slice_get calls w ≡ Some y) = there calls w l in ap (λ xs. slice_get xs w) e ∙ set_here calls w k x.0 x.1
 
+  securing_goes : (calls calls' : List (Call V)) (w : ℕ) (op : Point V) (o : Turned) → slice_get calls w ≡ Some (Securing op) → calls' ≡ set calls w (secured_call o (slice_get calls w)) → is_busy (slice_get calls' w) ≡ is_in_flight {V = V} (reserving o)
+  securing_goes calls calls' w op o e c =
+      ap is_busy (at_place calls calls' w (secured_call o (slice_get calls w)) (slice_get_within calls w (Securing op) e) c) ∙ ap (λ k. is_busy (Some (secured_call o k))) e ∙ after_securing op o
+
 module _ {V : Type 0} (same : V → V → Bool) (always : Bool) (s : Whole V) (w : ℕ) (holds : Holds same always s) where
   -- a call in flight is of a registered worker, so its next step isn't misused
   busy_registered : (k : Option (Call V)) → slice_get s.calls w ≡ k → is_busy k ≡ true → (place_of s w).registered ≡ true
   busy_registered None e b = absurd (cc b)
   busy_registered (Some Idle) e b = absurd (cc b)
   busy_registered (Some (Collecting op)) e b = (let x = there s.machines w (subst (λ n. w < n) (sym holds.0.machines) (slice_get_within s.calls w (Collecting op) e)) in (holds.0.each w (Collecting op) x.0 e x.1).0.0)
+  busy_registered (Some (Reserving op)) e b = (let x = there s.machines w (subst (λ n. w < n) (sym holds.0.machines) (slice_get_within s.calls w (Reserving op) e)) in (holds.0.each w (Reserving op) x.0 e x.1).0)
   busy_registered (Some (Securing op)) e b = (let x = there s.machines w (subst (λ n. w < n) (sym holds.0.machines) (slice_get_within s.calls w (Securing op) e)) in (holds.0.each w (Securing op) x.0 e x.1).0.0)
   busy_registered (Some Walking) e b = (
       let x = there s.machines w (subst (λ n. w < n) (sym holds.0.machines) (slice_get_within s.calls w Walking e)) in
@@ -92,10 +98,11 @@ module _ {V : Type 0} (same : V → V → Bool) (always : Bool) (laws : CallLaws
   collects : (event : Turn) (k : Call V) (r : Report V) → is_busy (Some k) ≡ true → w < length s.calls → Collects same always s w event k r s' → Tells r
   collects event k r b l x = put r (call_after x.turn.outcome k) l x.calls (after_turn k b x.turn.outcome ∙ sym (ap (λ y. is_in_flight y.outcome) x.report))
 
-  securing : (op : Point V) (r : Report V) → slice_get s.calls w ≡ Some (Securing op) → w < length s.calls → GoesOnReserving same always s w r s' → Tells r
-  securing op r e l x =
-      put r (secured_call x.turn.outcome (slice_get s.calls w)) l x.step.call
-      (ap (λ k. is_busy (Some (secured_call x.turn.outcome k))) e ∙ after_securing op x.turn.outcome ∙ sym (ap (λ y. is_in_flight y.outcome) x.report))
+  securing : (op : Point V) (r : Report V) (b : Whole V) → slice_get b.calls w ≡ Some (Securing op) → GoesOnReserving same always b w r s' → Tells r
+  securing op r b e x = securing_goes b.calls s'.calls w op x.turn.outcome e x.step.call ∙ sym (ap (λ y. is_in_flight y.outcome) x.report)
+
+  secures_first : (op : Point V) (r : Report V) → slice_get s.calls w ≡ Some (Reserving op) → SecuresFirst same always s w r s' → Tells r
+  secures_first op r e x = securing op r x.between (next_here same always s.forest s.machines s.calls w x.between.forest x.between.machines x.between.calls x.begins op e) x.goes
 
   walks : (noise : Noise Id V) (r : Report V) → slice_get s.calls w ≡ Some Walking → w < length s.calls → Walks same always s w noise r s' → Tells r
   walks noise r e l x =
@@ -112,11 +119,11 @@ module _ {V : Type 0} (same : V → V → Bool) (always : Bool) (laws : CallLaws
   begins_tree : (op : Point V) (r : Report V) → is_busy (slice_get s.calls w) ≡ false → w < length s.calls → BeginsOnTree same always s w op r s' → Tells r
   begins_tree (point.Get k) r fr l x = put r Walking l (ap (λ y. y.calls) x.state) (sym (ap (λ y. is_in_flight y.outcome) x.report))
   begins_tree (point.Range start end size) r fr l x = scan_begins (finds_none {V = V} (point.Range start end size)) (point.Range start end size) r fr l x
-  begins_tree (point.Insert k v) r fr l x = put r (Securing (point.Insert k v)) l x.calls (sym (ap (λ y. is_in_flight y.outcome) x.report))
-  begins_tree (point.Remove k) r fr l x = put r (Securing (point.Remove k)) l x.calls (sym (ap (λ y. is_in_flight y.outcome) x.report))
-  begins_tree (point.ComputePresent k) r fr l x = put r (Securing (point.ComputePresent k)) l x.calls (sym (ap (λ y. is_in_flight y.outcome) x.report))
-  begins_tree (point.ComputeInsert k) r fr l x = put r (Securing (point.ComputeInsert k)) l x.calls (sym (ap (λ y. is_in_flight y.outcome) x.report))
-  begins_tree (point.Exchange k old new) r fr l x = put r (Securing (point.Exchange k old new)) l x.calls (sym (ap (λ y. is_in_flight y.outcome) x.report))
+  begins_tree (point.Insert k v) r fr l x = put r (Reserving (point.Insert k v)) l (ap (λ y. y.calls) x.state) (sym (ap (λ y. is_in_flight y.outcome) x.report))
+  begins_tree (point.Remove k) r fr l x = put r (Reserving (point.Remove k)) l (ap (λ y. y.calls) x.state) (sym (ap (λ y. is_in_flight y.outcome) x.report))
+  begins_tree (point.ComputePresent k) r fr l x = put r (Reserving (point.ComputePresent k)) l (ap (λ y. y.calls) x.state) (sym (ap (λ y. is_in_flight y.outcome) x.report))
+  begins_tree (point.ComputeInsert k) r fr l x = put r (Reserving (point.ComputeInsert k)) l (ap (λ y. y.calls) x.state) (sym (ap (λ y. is_in_flight y.outcome) x.report))
+  begins_tree (point.Exchange k old new) r fr l x = put r (Reserving (point.Exchange k old new)) l (ap (λ y. y.calls) x.state) (sym (ap (λ y. is_in_flight y.outcome) x.report))
 
   begins : (t : Target V) (r : Report V) → is_busy (slice_get s.calls w) ≡ false → w < length s.calls → BeginsAt same always s w t r s' → Tells r
   begins (target.Collector op) r fr l x = collects _ (Collecting op) r refl l x
@@ -128,7 +135,8 @@ module _ {V : Type 0} (same : V → V → Bool) (always : Bool) (laws : CallLaws
   on None noise r e x = absurd x
   on (Some Idle) noise r e x = absurd x
   on (Some (Collecting op)) noise r e x = collects _ (Collecting op) r refl (slice_get_within s.calls w (Collecting op) e) x
-  on (Some (Securing op)) noise r e x = securing op r e (slice_get_within s.calls w (Securing op) e) x
+  on (Some (Reserving op)) noise r e x = secures_first op r e x
+  on (Some (Securing op)) noise r e x = securing op r s e x
   on (Some Walking) noise r e x = walks noise r e (slice_get_within s.calls w Walking e) x
 
   -- a begin that isn't misused is of a registered worker

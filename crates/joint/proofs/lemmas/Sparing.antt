@@ -17,7 +17,7 @@ use Rattle.congee.specs.protocol.Leaving.{StepLeaves}
 use Rattle.congee.specs.protocol.Names.{names}
 use Rattle.congee.specs.protocol.Play.{EachKnown, Settled}
 use Rattle.joint.specs.declared.call.Call.{Call}
-use Rattle.joint.specs.declared.call.Call.TheVariants.{Idle, Collecting, Securing, Walking}
+use Rattle.joint.specs.declared.call.Call.TheVariants.{Idle, Collecting, Reserving, Securing, Walking}
 use Rattle.joint.specs.declared.id.Id.{Id}
 use Rattle.joint.specs.declared.steps.Event.{Event}
 use Rattle.joint.specs.declared.steps.Event.TheVariants.{Register, Begin, Go}
@@ -30,6 +30,7 @@ use Rattle.joint.specs.Reports.{target}
 use Rattle.joint.specs.Runs.{Taken, AreTaken, AllSpare}
 use Rattle.joint.specs.View.{id_number}
 use Rattle.joint.specs.Whole.{Whole, Holds, misuse, finds_none, EntersUnless, Walks, BeginsAt, BeginsOnTree, GoesAt, Proceeds, Does, SparesUsed}
+use Rattle.joint.proofs.lemmas.Reserving.{same_nodes}
 
 -- what a step of the collector destroys waited, and no call has its name
 collected_spares : {V : Type 0} (h h' : ℕ → Node V) (ms : List (Machine Id V)) (n : ℕ) → Destroys id_number h ms h' → Stands (h n)
@@ -87,11 +88,11 @@ module _ {V : Type 0} (same : V → V → Bool) (always : Bool) (leaves : (s : F
     begins_tree : (op : Point V) (r : Report V) → BeginsOnTree same always s w op r s' → SparesUsed s w s'
     begins_tree (point.Get k) r x = as_before (ap (λ y. nodes y.forest) x.state)
     begins_tree (point.Range start end size) r x = scan_begins (point.Range start end size) r (finds_none {V = V} (point.Range start end size)) x
-    begins_tree (point.Insert k v) r x = by_collector x.step.destroys
-    begins_tree (point.Remove k) r x = by_collector x.step.destroys
-    begins_tree (point.ComputePresent k) r x = by_collector x.step.destroys
-    begins_tree (point.ComputeInsert k) r x = by_collector x.step.destroys
-    begins_tree (point.Exchange k old new) r x = by_collector x.step.destroys
+    begins_tree (point.Insert k v) r x = as_before (ap (λ y. nodes y.forest) x.state)
+    begins_tree (point.Remove k) r x = as_before (ap (λ y. nodes y.forest) x.state)
+    begins_tree (point.ComputePresent k) r x = as_before (ap (λ y. nodes y.forest) x.state)
+    begins_tree (point.ComputeInsert k) r x = as_before (ap (λ y. nodes y.forest) x.state)
+    begins_tree (point.Exchange k old new) r x = as_before (ap (λ y. nodes y.forest) x.state)
 
     begins : (t : Target V) (r : Report V) → BeginsAt same always s w t r s' → SparesUsed s w s'
     begins (target.Collector op) r x = by_collector x.step.destroys
@@ -102,6 +103,10 @@ module _ {V : Type 0} (same : V → V → Bool) (always : Bool) (leaves : (s : F
     goes None noise r e x = absurd x
     goes (Some Idle) noise r e x = absurd x
     goes (Some (Collecting op)) noise r e x = by_collector x.step.destroys
+    goes (Some (Reserving op)) noise r e x =
+        let P : (ℕ → Node V) → Type 0 = λ h. Destroys id_number h x.between.machines (nodes s'.forest) in
+        let Q : List (Machine Id V) → Type 0 = λ ms. Destroys id_number (nodes s.forest) ms (nodes s'.forest) in
+        by_collector (subst Q x.begins.machine (subst P (same_nodes same always s.forest s.machines s.calls w x.between.forest x.between.machines x.between.calls x.begins) x.goes.step.collected.destroys))
     goes (Some (Securing op)) noise r e x = by_collector x.step.collected.destroys
     goes (Some Walking) noise r e x = walks noise r e x
 

@@ -2,26 +2,22 @@
 use Rattle.std.proofs.Common.{◌≡◌, ◌+◌, ◌<◌, ℕ, zero, suc, Bool, true, false, List, [], ◌∷◌, refl, sym, ◌∙◌, ap, subst}
 use Rattle.std.proofs.Math.ListN.{set}
 use Rattle.std.specs.Prelude.{◌&&◌, Option, None, Some, is_none, is_some, length, option_map, slice_get, if◌then◌else◌}
-use Rattle.std.proofs.lemmas.List.{get_or-set_same}
 use Rattle.crossbeam_epoch.specs.declared.fault.Fault.{Fault}
 use Rattle.crossbeam_epoch.specs.declared.fault.Fault.TheVariants as fault
-use Rattle.crossbeam_epoch.specs.declared.world.participant.Participant.{Participant}
-use Rattle.crossbeam_epoch.specs.declared.world.participant.Phase.TheVariants as stage
 use Rattle.crossbeam_epoch.specs.declared.world.report.Event.TheVariants as event
 use Rattle.crossbeam_epoch.specs.declared.world.report.Op.{Op as Turn}
-use Rattle.crossbeam_epoch.specs.declared.world.report.Op.TheVariants as turn
 use Rattle.crossbeam_epoch.specs.declared.world.report.Outcome.{Outcome as Turned}
 use Rattle.crossbeam_epoch.specs.declared.world.report.Outcome.TheVariants as turned
 use Rattle.crossbeam_epoch.specs.declared.world.report.Report.{Report as Collection}
-use Rattle.crossbeam_epoch.specs.World.Machine.{State, blank, place, with_place}
+use Rattle.crossbeam_epoch.specs.World.Machine.{State, place}
 use Rattle.crossbeam_epoch.specs.World.Progress.{Begins, refusal}
-use Rattle.crossbeam_epoch.specs.World.Steps.{after, begin_fault, begun_at, called_in, when}
+use Rattle.crossbeam_epoch.specs.World.Steps.{begin_fault, called_in, when}
 use Rattle.congee.specs.declared.protocol.machine.Machine.{Machine}
 use Rattle.congee.specs.declared.protocol.op.Op.{Op as Point}
 use Rattle.congee.specs.declared.protocol.op.Op.TheVariants as point
 use Rattle.congee.specs.protocol.Play.{begun}
 use Rattle.joint.specs.declared.call.Call.{Call}
-use Rattle.joint.specs.declared.call.Call.TheVariants.{Idle, Collecting, Securing, Walking}
+use Rattle.joint.specs.declared.call.Call.TheVariants.{Idle, Collecting, Reserving, Securing, Walking}
 use Rattle.joint.specs.declared.id.Id.{Id}
 use Rattle.joint.specs.declared.slot.Slot.{Slot}
 use Rattle.joint.specs.declared.steps.Done.TheVariants.{Scanned}
@@ -36,16 +32,15 @@ use Rattle.joint.specs.declared.steps.Target.TheVariants.{Collector, Tree}
 use Rattle.congee.specs.declared.protocol.machine.Noise.{Noise}
 use Rattle.joint.specs.declared.call.Stage.TheVariants as about
 use Rattle.joint.specs.declared.steps.Event.TheVariants.{Go}
-use Rattle.joint.specs.Beginning.{BeginsUnless, Begun, writes, stage_of}
+use Rattle.joint.specs.Beginning.{BeginsUnless, Begun, stage_of}
 use Rattle.joint.specs.Forest.{IsCharged, sizes}
-use Rattle.joint.specs.Intact.{IsPoint, IsIntact, IsSecuring, call_after, root}
+use Rattle.joint.specs.Intact.{IsIntact, IsSecuring, call_after, root, writes}
 use Rattle.joint.specs.Laws.{ProgressLaws}
 use Rattle.joint.specs.Machines.{Collected}
 use Rattle.joint.specs.Refusals.{of_fault}
 use Rattle.joint.specs.Reports.{collected}
 use Rattle.joint.specs.Whole.{Whole, is_busy, unready, interruption, kind_of, quiet, collection, misuse, finds_none, BeginsAt, BeginsOnTree, GoesAt, Does, Enters, EntersUnless, Reserves, Surveys, begin_misuse}
 use Rattle.joint.proofs.lemmas.Collecting.{there, inside_machines}
-use Rattle.joint.proofs.lemmas.HandOver.{held_place}
 
 -- what stands there, written once more, changes nothing
 pub set_again : {A : Type 0} (xs : List A) (i : ℕ) (x : A) → slice_get xs i ≡ Some x → set xs i x ≡ xs
@@ -61,19 +56,10 @@ word_is b false w e q = absurd (cc q)
 pub idle_call : {V : Type 0} (o : Option (Call V)) (n : ℕ) (calls : List (Call V)) → n < length calls → o ≡ slice_get calls n → is_busy o ≡ false → o ≡ Some Idle
 idle_call (Some Idle) n calls l e b = refl
 idle_call (Some (Collecting op)) n calls l e b = absurd (cc b)
+idle_call (Some (Reserving op)) n calls l e b = absurd (cc b)
 idle_call (Some (Securing op)) n calls l e b = absurd (cc b)
 idle_call (Some Walking) n calls l e b = absurd (cc b)
 idle_call None n calls l e b = absurd (let x : (k : Call _) × (slice_get calls n ≡ Some k) = there calls n l in let z : None ≡ Some x.0 = e ∙ x.1 in cc)
-
--- a call that may hand a node over is on one key
-pub written_point : {V : Type 0} (op : Point V) → writes op ≡ true → IsPoint op
-written_point (point.Range start end size) e = absurd (cc e)
-written_point (point.Get k) e = tt
-written_point (point.Insert k v) e = tt
-written_point (point.Remove k) e = tt
-written_point (point.ComputePresent k) e = tt
-written_point (point.ComputeInsert k) e = tt
-written_point (point.Exchange k old new) e = tt
 
 module _ {V : Type 0} (same : V → V → Bool) (always : Bool) (w : Whole V) (who : ℕ) where
   abbrev c : State (Slot V) (Unit {0})
@@ -140,14 +126,14 @@ module _ {V : Type 0} (same : V → V → Bool) (always : Bool) (w : Whole V) (w
     enter (point.ComputeInsert k) r w' n e b = absurd (cc e)
     enter (point.Exchange k old new) r w' n e b = absurd (cc e)
 
-    reserve : (op : Point V) (r : Report V) (w' : Whole V) → IsPoint op → writes op ≡ true → Reserves same always w who op r w' → BeginsOnTree same always w who op r w'
-    reserve (point.Get k) r w' p e b = absurd (cc e)
-    reserve (point.Range start end size) r w' p e b = absurd p
-    reserve (point.Insert k v) r w' p e b = b
-    reserve (point.Remove k) r w' p e b = b
-    reserve (point.ComputePresent k) r w' p e b = b
-    reserve (point.ComputeInsert k) r w' p e b = b
-    reserve (point.Exchange k old new) r w' p e b = b
+    reserve : (op : Point V) (r : Report V) (w' : Whole V) → writes op ≡ true → Reserves w who op r w' → BeginsOnTree same always w who op r w'
+    reserve (point.Get k) r w' e b = absurd (cc e)
+    reserve (point.Range start end size) r w' e b = absurd (cc e)
+    reserve (point.Insert k v) r w' e b = b
+    reserve (point.Remove k) r w' e b = b
+    reserve (point.ComputePresent k) r w' e b = b
+    reserve (point.ComputeInsert k) r w' e b = b
+    reserve (point.Exchange k old new) r w' e b = b
 
     -- a scan that can find nothing
     at_once : (op : Point V) (r : Report V) → finds_none op ≡ true → r ≡ quiet kind.Tree (outcome.Done (Scanned 0)) → BeginsOnTree same always w who op r w
@@ -167,6 +153,12 @@ module _ {V : Type 0} (same : V → V → Bool) (always : Bool) (w : Whole V) (w
         let state : w' ≡ record w { machines = set w.machines who (begun root op); calls = set w.calls who Walking } =
         ap (λ y. record { forest = y; machines = w'.machines; calls = w'.calls }) ef ∙ ap (λ y. record { forest = w.forest; machines = y; calls = w'.calls }) em ∙ ap (λ y. record { forest = w.forest; machines = set w.machines who (begun root op); calls = y }) ec in
         on_tree op r w' p (enter op r w' n e (record { state = state; report = q }))
+
+    pub reserves : (op : Point V) (r : Report V) (w' : Whole V) → is_some (place c who).word ≡ true → writes op ≡ true → w'.forest ≡ w.forest → w'.machines ≡ w.machines → w'.calls ≡ set w.calls who (Reserving op) → r ≡ quiet kind.Tree outcome.Running → Begun same always w who (Tree op) r w'
+    reserves op r w' p e ef em ec q =
+        let state : w' ≡ record w { calls = set w.calls who (Reserving op) } =
+        ap (λ y. record { forest = y; machines = w'.machines; calls = w'.calls }) ef ∙ ap (λ y. record { forest = w.forest; machines = y; calls = w'.calls }) em ∙ ap (λ y. record { forest = w.forest; machines = w.machines; calls = y }) ec in
+        on_tree op r w' p (reserve op r w' e (record { state = state; report = q }))
 
     module _ (laws : ProgressLaws (Slot V) (Unit {0})) (intact : IsIntact same always w.forest w.machines w.calls) (op : Turn) (x : Collection) (w' : Whole V) (did : Collected same always w.forest w.machines who (event.Begin op) x w'.forest) where
       begins : Begins c who op x.outcome w'.forest.collector
@@ -209,48 +201,6 @@ module _ {V : Type 0} (same : V → V → Bool) (always : Bool) (w : Whole V) (w
         pub turns : Begun same always w who (Collector op) r w'
         turns = by_outcome x.outcome refl begins
 
-    -- a securing begins, and runs on
-    module _ (laws : ProgressLaws (Slot V) (Unit {0})) (intact : IsIntact same always w.forest w.machines w.calls) (pin : is_some (place c who).word ≡ true) (x : Collection) (w' : Whole V) (did : Collected same always w.forest w.machines who (event.Begin (turn.Secure 1)) x w'.forest) where
-      secures : Begins c who (turn.Secure 1) x.outcome w'.forest.collector
-      secures = begins laws intact (turn.Secure 1) x w' did
-
-      abbrev put : Participant (Unit {0})
-      put = begun_at (turn.Secure 1) (place c who)
-
-      free : (o : Option ℕ) → is_some o ≡ true → (if is_none o then Some fault.Unpinned else None) ≡ None
-      free None q = absurd (cc q)
-      free (Some y) q = refl
-
-      no_fault : refusal c who (turn.Secure 1) ≡ None
-      no_fault = ap (λ b. if b then begin_fault (turn.Secure 1) (place c who) else Some fault.Unknown) reg ∙ free (place c who).word pin
-
-      not_done : x.outcome ≡ turned.Done → (place w'.forest.collector who).phase ≡ stage.Idle → ⊥
-      not_done e idle' =
-          let inside : who < length c.table = held_place c.table who reg in
-          let at : w'.forest.collector ≡ with_place c who put = did.state ∙ ap (after c who (event.Begin (turn.Secure 1))) e in
-          let q : place w'.forest.collector who ≡ put = ap (λ y. place y who) at ∙ get_or-set_same c.table who put blank inside in
-          let z : stage.Idle ≡ stage.Secure 1 = sym idle' ∙ ap (λ y. y.phase) q in
-          cc
-
-      runs_by : (o : Turned) → x.outcome ≡ o → Begins c who (turn.Secure 1) o w'.forest.collector → x.outcome ≡ turned.Running
-      runs_by turned.Running e b = e
-      runs_by turned.Done e b = absurd (not_done e b.1)
-      runs_by (turned.Refused f) e b = absurd (let z : Some f ≡ None = sym b.0 ∙ no_fault in cc)
-
-      running : x.outcome ≡ turned.Running
-      running = runs_by x.outcome refl secures
-
-      pub reserves : (op : Point V) → writes op ≡ true → w'.machines ≡ w.machines → w'.calls ≡ set w.calls who (call_after x.outcome (Securing op)) → (r : Report V) → r ≡ quiet kind.Tree outcome.Running → Begun same always w who (Tree op) r w'
-      reserves op e ms calls r q =
-          on_tree op r w' pin (reserve op r w' (written_point op e) e (record {
-            turn = x;
-            step = did;
-            running = running;
-            machines = ms;
-            calls = calls ∙ ap (λ o. set w.calls who (call_after o (Securing op))) running;
-            report = q;
-          }))
-
   -- a call in flight goes on
   go_refused : (noise : Noise Id V) (f : Fault) (r : Report V) → misuse w who (Go noise) ≡ Some f → r ≡ quiet kind.Collection (outcome.Refused (of_fault f)) → Does same always w who (Go noise) (misuse w who (Go noise)) r w
   go_refused noise f r e q = let P : Option Fault → Type 0 = λ m. Does same always w who (Go noise) m r w in subst P (sym e) (q, refl)
@@ -276,6 +226,7 @@ module _ {V : Type 0} (same : V → V → Bool) (always : Bool) (w : Whole V) (w
 pub is_idle : {V : Type 0} (o : Option (Call V)) → Some about.Idle ≡ option_map stage_of o → o ≡ Some Idle
 is_idle (Some Idle) e = refl
 is_idle (Some (Collecting op)) e = absurd (cc e)
+is_idle (Some (Reserving op)) e = absurd (cc e)
 is_idle (Some (Securing op)) e = absurd (cc e)
 is_idle (Some Walking) e = absurd (cc e)
 is_idle None e = absurd (cc e)
@@ -283,6 +234,7 @@ is_idle None e = absurd (cc e)
 pub is_collecting : {V : Type 0} (o : Option (Call V)) (op : Turn) → Some (about.Collecting op) ≡ option_map stage_of o → o ≡ Some (Collecting op)
 is_collecting (Some (Collecting y)) op e = ap (λ z. Some (Collecting z)) (let q : y ≡ op = cc in q)
 is_collecting (Some Idle) op e = absurd (cc e)
+is_collecting (Some (Reserving y)) op e = absurd (cc e)
 is_collecting (Some (Securing y)) op e = absurd (cc e)
 is_collecting (Some Walking) op e = absurd (cc e)
 is_collecting None op e = absurd (cc e)
@@ -291,6 +243,7 @@ pub is_securing : {V : Type 0} (o : Option (Call V)) → Some about.Securing ≡
 is_securing (Some (Securing y)) e = tt
 is_securing (Some Idle) e = absurd (cc e)
 is_securing (Some (Collecting y)) e = absurd (cc e)
+is_securing (Some (Reserving y)) e = absurd (cc e)
 is_securing (Some Walking) e = absurd (cc e)
 is_securing None e = absurd (cc e)
 
@@ -298,5 +251,6 @@ pub is_walking : {V : Type 0} (o : Option (Call V)) → Some about.Walking ≡ o
 is_walking (Some Walking) e = refl
 is_walking (Some Idle) e = absurd (cc e)
 is_walking (Some (Collecting y)) e = absurd (cc e)
+is_walking (Some (Reserving y)) e = absurd (cc e)
 is_walking (Some (Securing y)) e = absurd (cc e)
 is_walking None e = absurd (cc e)

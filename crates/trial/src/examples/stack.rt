@@ -132,7 +132,7 @@ impl Stack {
         unreachable!()
     }
 
-    /// Takes this node off, where it is still on top and nobody else reads it now.
+    /// Takes this node off, where it is still on top.
     fn take<R: Wait, J: Task>(&self, rt: &R, guard: &Guard<'_, Node, J>, top: Link) -> Option<u64> {
         let Node { number, below } = read(rt, guard, top)?;
         let exchanged = self.head.compare_exchange(
@@ -159,7 +159,7 @@ fn is_elsewhere<J: Task>(top: Link, guard: &Guard<'_, Node, J>) -> bool {
     }
 }
 
-/// A copy of the node that stands there, where nobody else reads it now.
+/// A copy of the node that stands there.
 fn read<R: Wait, J: Task>(rt: &R, guard: &Guard<'_, Node, J>, top: Link) -> Option<Node> {
     let node: Shared<'_, Node> = Shared::of(top);
     let lent = node.deref(rt, guard)?;

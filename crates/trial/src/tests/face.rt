@@ -54,10 +54,12 @@ enum Case {
     AtomicsOfNewValues,
     APointerIsRefusedElsewhere,
     ThereIsNothingToUpdate,
+    AReadValueStays,
+    APointerIsWritten,
 }
 
 /// How many cells the collector has, and what is tried.
-const CASES: [(u32, Case); 11] = [
+const CASES: [(u32, Case); 13] = [
     (1, Case::GuardsNest),
     (1, Case::ARepinGoesOn),
     (1, Case::ACompareExchangeLooksAtTheTag),
@@ -69,6 +71,8 @@ const CASES: [(u32, Case); 11] = [
     (2, Case::AtomicsOfNewValues),
     (3, Case::APointerIsRefusedElsewhere),
     (1, Case::ThereIsNothingToUpdate),
+    (1, Case::AReadValueStays),
+    (1, Case::APointerIsWritten),
 ];
 
 #[test]
@@ -139,6 +143,8 @@ fn tries<R: Wait>(
         Case::AtomicsOfNewValues => makes(rt, alloc, guard),
         Case::APointerIsRefusedElsewhere => refuses_elsewhere(rt, alloc, guard),
         Case::ThereIsNothingToUpdate => Ok(stays_without_update(rt, guard)),
+        Case::AReadValueStays => stays_where_read(rt, alloc, items, guard),
+        Case::APointerIsWritten => writes_pointers(rt, placed(rt, alloc, 6, guard)?, guard),
     }
 }
 
@@ -426,12 +432,83 @@ fn destroys_at_once<R: Wait>(rt: &R, items: &Collector<Item>, link: Link) -> Opt
     }
 }
 
-/// Whether a value is lent to one at a time, and what is written comes back.
+/// Whether a value is lent to one that changes it, or to many that read, and what is written comes back.
 fn lends<R: Wait>(rt: &R, alloc: Global, guard: &Guard<'_, Item>) -> Result<bool, Fault> {
     let link = placed(rt, alloc, 1, guard)?;
     let written = raises(rt, link, guard);
-    let read = number_there(rt, link, guard) == Some(2);
+    let read = read_by_two(rt, link, guard) == Some((2, 2));
     Ok(written && read && taken(rt, link, guard) == Some(2))
+}
+
+/// The number that stands there, as two read it at once, where nobody can change it or take it out meanwhile.
+fn read_by_two<R: Wait>(rt: &R, link: Link, guard: &Guard<'_, Item>) -> Option<(u64, u64)> {
+    let pointer: Shared<'_, Item> = Shared::of(link);
+    let lent = pointer.deref(rt, guard)?;
+    let other = number_there(rt, link, guard);
+    let kept = !raises(rt, link, guard) && taken(rt, link, guard).is_none();
+    let number = lent.get().0;
+    lent.back(rt);
+    if kept { Some((number, other?)) } else { None }
+}
+
+/// Whether a value that is read when it is destroyed stays, and its cell isn't used again.
+fn stays_where_read<R: Wait>(
+    rt: &R,
+    alloc: Global,
+    items: &Collector<Item>,
+    guard: &Guard<'_, Item>,
+) -> Result<bool, Fault> {
+    let link = placed(rt, alloc, 4, guard)?;
+    let pointer: Shared<'_, Item> = Shared::of(link);
+    let Some(lent) = pointer.deref(rt, guard) else {
+        return Ok(false);
+    };
+    let accepted = destroys_at_once(rt, items, link).is_none();
+    lent.back(rt);
+    let full = placed(rt, alloc, 5, guard) == Err(Fault::CellsFull);
+    Ok(accepted && full && number_there(rt, link, guard) == Some(4))
+}
+
+/// Whether a pointer under a guard is stored and exchanged, and its value taken out.
+fn writes_pointers<'g, R: Wait>(
+    rt: &R,
+    link: Link,
+    guard: &'g Guard<'_, Item>,
+) -> Result<bool, Fault> {
+    let root: Atomic<Item> = Atomic::default();
+    let null: Shared<'g, Item> = Shared::default();
+    let stored = stores_shared(rt, &root, null.with_tag(3), guard);
+    let before = root.load(rt, SeqCst, guard);
+    let tag = before.tag();
+    let written = exchanges_shared(rt, &root, before, Shared::of(link), guard);
+    let found = root.load(rt, SeqCst, guard);
+    let leads = found.link() == link;
+    let number = number_of(found.try_into_owned(rt, guard));
+    Ok(stored && tag == 3 && written && leads && number == Some(6))
+}
+
+/// Whether this pointer is stored.
+fn stores_shared<'g, R: Wait>(
+    rt: &R,
+    root: &Atomic<Item>,
+    new: Shared<'g, Item>,
+    guard: &'g Guard<'_, Item>,
+) -> bool {
+    root.store(rt, new, SeqCst, guard).is_ok()
+}
+
+/// Whether an exchange writes this pointer.
+fn exchanges_shared<'g, R: Wait>(
+    rt: &R,
+    root: &Atomic<Item>,
+    from: Shared<'g, Item>,
+    to: Shared<'g, Item>,
+    guard: &'g Guard<'_, Item>,
+) -> bool {
+    match root.compare_exchange(rt, from, to, SeqCst, SeqCst, guard) {
+        Ok(exchanged) => exchanged.is_ok(),
+        Err(_refused) => false,
+    }
 }
 
 /// Adds one to the value, and tells whether nobody else could have it meanwhile.
@@ -449,7 +526,7 @@ fn raises<R: Wait>(rt: &R, link: Link, guard: &Guard<'_, Item>) -> bool {
     }
 }
 
-/// The number that stands there, where it isn't lent.
+/// The number that stands there, where it isn't lent to be changed.
 fn number_there<R: Wait>(rt: &R, link: Link, guard: &Guard<'_, Item>) -> Option<u64> {
     let pointer: Shared<'_, Item> = Shared::of(link);
     match pointer.as_ref(rt, guard) {
@@ -586,7 +663,7 @@ fn made(atomic: Result<Atomic<Item>, (Fault, Item)>) -> Result<Atomic<Item>, Fau
     }
 }
 
-/// The number that the pointer leads to, where it isn't lent.
+/// The number that the pointer leads to, where it isn't lent to be changed.
 fn number_read<'g, R: Wait>(
     rt: &R,
     pointer: Shared<'g, Item>,
@@ -734,7 +811,11 @@ fn a_refused_end_keeps_the_jobs(rt: HostRuntime) -> Result<(), Fail> {
 }
 
 /// Defers the job under a pin, and flushes.
-fn seals<R: Wait>(rt: &R, handle: &mut LocalHandle<'_, Item>, job: Job) -> Result<(), Fault> {
+pub(crate) fn seals<R: Wait>(
+    rt: &R,
+    handle: &mut LocalHandle<'_, Item>,
+    job: Job,
+) -> Result<(), Fault> {
     let guard = handle.pin()?;
     let deferred = defer(rt, handle, &guard, job);
     let flushed = handle.flush(rt, &guard);

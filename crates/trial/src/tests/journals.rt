@@ -1,4 +1,5 @@
 //! What no clause says: worked journals, and each public call once with ample memory.
+use joint::audit;
 use judge::{ArcPayload, Call, Entry, Payload, Reply, Verdict, Word64, check};
 use std::sync::Arc;
 use std::test::Fail;
@@ -94,4 +95,28 @@ fn words_come_back(rt: HostRuntime) {
     for word in [0, 42, u64::MAX] {
         assert_eq!(rt; there_and_back(&word), word);
     }
+}
+
+// The entry of a look-up that finds nothing.
+fn looked_up(worker: u32, key: u64) -> Entry<u64> {
+    Entry {
+        worker,
+        call: Call::Get(key),
+        reply: Reply::Get(None),
+    }
+}
+
+#[test]
+fn audits_what_each_worker_keeps(rt: HostRuntime) -> Result<(), Fail> {
+    let alloc = rt.alloc();
+    let (first, second, third) = (looked_up(0, 1), looked_up(1, 1), looked_up(0, 2));
+    let journal = [first, second, third];
+    let own = [vec![in alloc; first, third]?, vec![in alloc; second]?];
+    assert!(rt; audit(&journal, &own));
+    assert!(rt; audit(&[], &[]));
+    // The second worker has no list, an entry is missing, and two stand the other way round.
+    assert!(rt; !audit(&journal, &own[..1]));
+    assert!(rt; !audit(&journal[..2], &own));
+    assert!(rt; !audit(&[third, second, first], &own));
+    Ok(())
 }

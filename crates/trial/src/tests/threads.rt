@@ -3,8 +3,8 @@
 ghost use Rattle.std.specs.Prelude.{◌≡◌};
 
 use super::collector::adds;
-use super::face::{Item, defer, destroy, limits, placed, rounds, spend, swapped};
-use crossbeam_epoch::{Atomic, Collector, Fault, Guard, Job, Link, LocalHandle, Pointable};
+use super::face::{Item, defer, destroy, limits, placed, rounds, seals, spend, swapped};
+use crossbeam_epoch::{Atomic, Collector, Fault, Guard, Job, Limits, Link, LocalHandle, Pointable};
 use std::alloc::{AllocError, Global};
 use std::sync::atomic::Ordering::SeqCst;
 use std::sync::atomic::{AtomicBool, AtomicU64};
@@ -16,8 +16,8 @@ use std::thread::Threads;
 /// For what threads may share, and send to one another.
 fn crosses<C: Send + Sync>(_shared: &C) {}
 
-/// A collector and its pointers are such, where its values may be sent.
-fn both_cross<T: Pointable + Drop + Send>(items: &Collector<T>, root: &Atomic<T>) {
+/// A collector and its pointers are such, where its values are.
+fn both_cross<T: Pointable + Drop + Send + Sync>(items: &Collector<T>, root: &Atomic<T>) {
     crosses(items);
     crosses(root);
 }
@@ -25,8 +25,8 @@ fn both_cross<T: Pointable + Drop + Send>(items: &Collector<T>, root: &Atomic<T>
 #[test]
 fn two_threads_share_an_atomic(rt: HostRuntime) -> Result<(), Fail> {
     let calls = Arc::new(rt.alloc(), AtomicU64::new(0))?;
-    let first = jobs(rt.alloc(), &calls, 1)?;
-    let second = jobs(rt.alloc(), &calls, 1 << 32)?;
+    let first = jobs(rt.alloc(), &calls, 1, 256)?;
+    let second = jobs(rt.alloc(), &calls, 1 << 32, 256)?;
     let items: Collector<Item> = Collector::new(&rt, rt.alloc(), limits(8), 1)?;
     assert!(rt; shares(&rt, rt.alloc(), &items, first, second)?);
     // Byte n counts the calls of job n.
@@ -34,13 +34,18 @@ fn two_threads_share_an_atomic(rt: HostRuntime) -> Result<(), Fail> {
     Ok(())
 }
 
-/// Four jobs; the first adds this unit to the calls, and each further one 256 times the unit of the one before.
-fn jobs(alloc: Global, calls: &Arc<AtomicU64>, unit: u64) -> Result<Vec<Job>, AllocError> {
+/// Four jobs; the first adds this unit to the calls, and each further one so many times the unit of the one before.
+fn jobs(
+    alloc: Global,
+    calls: &Arc<AtomicU64>,
+    unit: u64,
+    times: u64,
+) -> Result<Vec<Job>, AllocError> {
     let mut jobs = Vec::new(alloc);
     let mut unit = unit;
     for _ in 0..4 {
         jobs.push(adds(alloc, calls, unit)?)?;
-        unit = unit.wrapping_mul(256);
+        unit = unit.wrapping_mul(times);
     }
     Ok(jobs)
 }
@@ -247,4 +252,80 @@ fn comes(flag: &AtomicBool) -> bool {
         thread::yield_now();
     }
     flag.load(SeqCst)
+}
+
+#[test]
+fn four_threads_take_turns_at_two_places(rt: HostRuntime) -> Result<(), Fail> {
+    let calls = Arc::new(rt.alloc(), AtomicU64::new(0))?;
+    let first = jobs(rt.alloc(), &calls, 1, 16)?;
+    let second = jobs(rt.alloc(), &calls, 1 << 16, 16)?;
+    let third = jobs(rt.alloc(), &calls, 1 << 32, 16)?;
+    let fourth = jobs(rt.alloc(), &calls, 1 << 48, 16)?;
+    let places = Limits {
+        participants: 2,
+        ..limits(1)
+    };
+    let items: Collector<Item> = Collector::new(&rt, rt.alloc(), places, 1)?;
+    four_take_turns(&rt, &items, (first, second), (third, fourth))?;
+    assert!(rt; items.end().is_ok());
+    // Hexadecimal digit n counts the calls of job n.
+    assert!(rt; calls.load(SeqCst) == 0x1111_1111_1111_1111);
+    Ok(())
+}
+
+/// `take_turns` in four threads at once.
+fn four_take_turns<R: Threads + Wait + Sync>(
+    rt: &R,
+    items: &Collector<Item>,
+    one: (Vec<Job>, Vec<Job>),
+    two: (Vec<Job>, Vec<Job>),
+) -> Result<(), Fault> {
+    let (first, second) = thread::join(
+        rt,
+        move || two_take_turns(rt, items, one.0, one.1),
+        move || two_take_turns(rt, items, two.0, two.1),
+    );
+    first?;
+    second
+}
+
+/// `take_turns` in two threads at once.
+fn two_take_turns<R: Threads + Wait + Sync>(
+    rt: &R,
+    items: &Collector<Item>,
+    one: Vec<Job>,
+    two: Vec<Job>,
+) -> Result<(), Fault> {
+    let (first, second) = thread::join(
+        rt,
+        move || take_turns(rt, items, one),
+        move || take_turns(rt, items, two),
+    );
+    first?;
+    second
+}
+
+/// For each job, waits for a free place, defers the job under a guard, collects, and leaves.
+fn take_turns<R: Wait>(rt: &R, items: &Collector<Item>, jobs: Vec<Job>) -> Result<(), Fault> {
+    for job in jobs {
+        let mut handle = place_of_its_own(rt, items)?;
+        seals(rt, &mut handle, job)?;
+        leaves(rt, handle)?;
+    }
+    Ok(())
+}
+
+/// A handle, once a place is free.
+fn place_of_its_own<'c, R: Wait>(
+    rt: &R,
+    items: &'c Collector<Item>,
+) -> Result<LocalHandle<'c, Item>, Fault> {
+    for _ in rt.forever() {
+        match items.register(rt) {
+            Ok(handle) => return Ok(handle),
+            Err(Fault::TableFull) => thread::yield_now(),
+            Err(fault) => return Err(fault),
+        }
+    }
+    unreachable!()
 }

@@ -1,14 +1,17 @@
 -- What a handle knows while guards of it are out.
-use Rattle.std.proofs.Common.{◌≡◌, ◌≢◌, ℕ, ◌+◌, ◌<◌, ◌≤◌, Bool, true, false, refl, sym, ap, ◌∙◌, subst, arith, Some, None}
-use Rattle.std.specs.Prelude.{nat_lt}
+use Rattle.std.proofs.Common.{◌≡◌, ◌≢◌, ℕ, ◌+◌, ◌<◌, ◌≤◌, Bool, true, false, refl, sym, ap, ◌∙◌, subst, arith, Option, Some, None, List, [], length, Result, Ok, Err}
+use Rattle.std.specs.Prelude.{nat_lt, nat_le, nat_eq, OnOk, IfErr, IfSome, IsSomeAnd, ◌⊎◌, if◌then◌else◌}
 use Rattle.std.specs.Bool.{MatchBool}
 use Rattle.std.proofs.lemmas.Bool.{eq-eqb, lt-ltb, ltb-true}
+use Rattle.std.proofs.lemmas.Bool.Decides.{nat_tests}
 use Rattle.crossbeam_epoch.specs.declared.face.guard.Seat.{Seat}
 use Rattle.crossbeam_epoch.specs.declared.face.seats.View.{View}
-use Rattle.crossbeam_epoch.specs.Face.Handle.{owns}
+use Rattle.crossbeam_epoch.specs.declared.bag.Entry.{Entry}
+use Rattle.crossbeam_epoch.specs.Face.Handle.{owns, with_room, SealsUnder}
 use Rattle.crossbeam_epoch.specs.Face.Participant.{IsPinned}
-use Rattle.crossbeam_epoch.specs.Face.Pins.{with_seen, IsRead}
-use Rattle.crossbeam_epoch.specs.Face.Tokens.{with_guards}
+use Rattle.crossbeam_epoch.specs.Limits.{bag_places}
+use Rattle.crossbeam_epoch.specs.Face.Pins.{with_seen, IsRead, IsDue}
+use Rattle.crossbeam_epoch.specs.Face.Tokens.{with_guards, pinned_view}
 
 out_is : (n : ℕ) → 0 < n → nat_lt 0 n ≡ true
 out_is n out = lt-ltb 0 n out
@@ -51,3 +54,53 @@ with_none_out n A B none b = go (nat_lt 0 n) refl
     go : (c : Bool) → nat_lt 0 n ≡ c → MatchBool (nat_lt 0 n) A B
     go true h = absurd (none (ltb-true 0 n h))
     go false h = rw h b
+
+pub on_ok : {A E : Type 0} {P Q : Type 0} (r : Result A E) → (P → Q) → OnOk r P → OnOk r Q
+on_ok (Ok a) f p = f p
+on_ok (Err e) f p = tt
+
+pub if_err : {A E : Type 0} {P Q : E → Type 0} (r : Result A E) → ((e : E) → P e → Q e) → IfErr r P → IfErr r Q
+if_err (Ok a) f p = tt
+if_err (Err e) f p = f e p
+
+-- a bag was sealed, with an epoch that was read under the guards that are out
+pub sealed_now : (b : Bool) (q r : ℕ) (before : Option ℕ) → b ≡ true → (q ≤ r) × (r ≤ q + 1) → SealsUnder b q before (Some r)
+sealed_now b q r before sealed within = rw sealed within
+
+pub not_sealed : (b : Bool) (q : ℕ) (before : Option ℕ) → b ≡ false → SealsUnder b q before before
+not_sealed b q before none = rw none refl
+
+-- a full bag is sealed as one that holds a job
+pub full_seals : (n m q : ℕ) (before after : Option ℕ) → 0 < m → m ≤ n → SealsUnder (nat_lt 0 n) q before after → SealsUnder (nat_le m n) q before after
+full_seals n m q before after some full s = let x : nat_lt 0 n ≡ true = grind (arith, nat_tests, some, full) in let y : nat_le m n ≡ true = grind (arith, nat_tests, full) in rw y (rw x at s)
+
+-- the greater of two seals is due where both are
+pub later_due : (seen seal r : ℕ) (newest : Option ℕ) → IsDue seen newest → seal + 2 ≤ seen → (r ≡ seal) ⊎ (newest ≡ Some r) → r + 2 ≤ seen
+later_due seen seal r newest due now (Rattle.std.proofs.Common.inl same) = omega (arith, same, now)
+later_due seen seal r newest due now (Rattle.std.proofs.Common.inr same) = rw same at due
+
+-- a bag that isn't empty holds a job
+pub some_job : (n : ℕ) (b : Bool) → b ≡ nat_eq n 0 → b ≡ false → 0 < n
+some_job n b is none = let h : nat_eq n 0 ≡ false = sym is ∙ none in grind (arith, nat_tests, h)
+
+-- a bag that isn't full has a free place, and no other bag is made for it
+pub has_room : {J : Type 0} (bag : List (Entry J)) (b : Bool) → b ≡ nat_eq (length bag) bag_places → length bag ≤ bag_places → b ≡ false → (bag ≡ with_room bag) × (nat_le bag_places (length bag) ≡ false)
+has_room bag b is fits free =
+    let h : nat_eq (length bag) bag_places ≡ false = sym is ∙ free in
+    let x : nat_lt (length bag) bag_places ≡ true = grind (arith, nat_tests, h, fits) in
+    let y : nat_le bag_places (length bag) ≡ false = grind (arith, nat_tests, h, fits) in
+    (rw x refl, y)
+
+pub has_no_room : {J : Type 0} (bag : List (Entry J)) (b : Bool) → b ≡ nat_eq (length bag) bag_places → b ≡ true → (bag_places ≤ length bag) × ([] ≡ with_room bag)
+has_no_room bag b is full =
+    let h : nat_eq (length bag) bag_places ≡ true = sym is ∙ full in
+    let low : bag_places ≤ length bag = grind (arith, nat_tests, h) in
+    let x : nat_lt (length bag) bag_places ≡ false = grind (arith, nat_tests, low) in
+    (low, rw x refl)
+
+-- a participant that was pinned anew, with a guard out
+pub pinned_with : (n p a e : ℕ) (v : View) → 0 < n → v ≡ pinned_view p a e e 0 → v ≡ with_guards n p a e v.seen v.passed
+pinned_with n p a e v out is = let h = out_is n out in rw h (subst (λ (u : View). u ≡ pinned_view p a e u.seen u.passed) (sym is) refl)
+
+pub where_alone : (n : ℕ) (A B : Type 0) → n ≡ 1 → A → MatchBool (nat_eq n 1) A B
+where_alone n A B one a = let h : nat_eq n 1 ≡ true = grind (arith, nat_tests, one) in rw h a

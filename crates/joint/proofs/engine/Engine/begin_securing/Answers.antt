@@ -1,24 +1,26 @@
 use Rattle.std.proofs.Common.{◌∙◌, ap}
 use Rattle.std.specs.Prelude.{slice_set}
-use Rattle.joint.specs.declared.call.Call.TheVariants.{Idle}
-use Rattle.joint.proofs.lemmas.Collecting.{inside, idle_rests, securing, intact_at}
+use Rattle.std.proofs.lemmas.List.{length-set}
+use Rattle.crossbeam_epoch.specs.declared.world.report.Event.TheVariants.{Begin}
+use Rattle.crossbeam_epoch.specs.declared.world.report.Op.TheVariants.{Secure}
+use Rattle.joint.specs.declared.call.Call.TheVariants.{Idle, Securing}
+use Rattle.joint.proofs.lemmas.Collecting.{collected_at}
+use Rattle.joint.proofs.lemmas.Reserving.{reserving_inside, reserving_rests, begins_securing}
 use Rattle.joint.proofs.engine.Engine.begin_securing.Goals as goal
 
-pub collect-report-requires-clause-rests : goal.collect-report-requires-clause-rests
-collect-report-requires-clause-rests g c = idle_rests g.P.Payload.same_as g.P.Payload.always_copies c.args.self.now.nodes c.args.self.now.machines.items c.args.self.now.calls.items c.requires.intact c.args.who c.requires.idle
+pub take_call-requires : goal.take_call-requires
+take_call-requires g c = reserving_inside g.P.Payload.same_as g.P.Payload.always_copies c.args.self.now.nodes c.args.self.now.machines.items c.args.self.now.calls.items c.requires.intact c.args.who c.requires.on
+
+pub collect-requires-clause-rests : goal.collect-requires-clause-rests
+collect-requires-clause-rests g c = rw c.take_call.ensures.machines (reserving_rests g.P.Payload.same_as g.P.Payload.always_copies c.args.self.now.nodes c.args.self.now.machines.items c.args.self.now.calls.items c.requires.intact c.args.who c.requires.on)
 
 pub set_call-requires : goal.set_call-requires
-set_call-requires g c = rw c.collect-report.ensures.calls (inside g.P.Payload.same_as g.P.Payload.always_copies c.args.self.now.nodes c.args.self.now.machines.items c.args.self.now.calls.items c.requires.intact c.args.who Idle c.requires.idle)
+set_call-requires g c =
+    rw c.collect.ensures.calls (rw c.take_call.ensures.calls (rw (length-set c.args.self.now.calls.items c.args.who Idle) (reserving_inside g.P.Payload.same_as g.P.Payload.always_copies c.args.self.now.nodes c.args.self.now.machines.items c.args.self.now.calls.items c.requires.intact c.args.who c.requires.on)))
 
-pub returns-clause-intact : goal.returns-clause-intact
-returns-clause-intact g c =
-    intact_at g.P.Payload.same_as g.P.Payload.always_copies _ _ _ _ _ _ c.set_call.ensures.nodes (ap (λ v. v.items) (c.set_call.ensures.machines ∙ c.collect-report.ensures.machines))
-    (c.set_call.ensures.calls ∙ ap (λ v. slice_set v.items c.args.who c.call_after.result) c.collect-report.ensures.calls ∙ ap (slice_set c.args.self.now.calls.items c.args.who) c.call_after.ensures)
-    (securing g.P.Payload.same_as g.P.Payload.always_copies c.progress.ensures c.args.self.now.nodes c.args.self.now.machines.items c.args.self.now.calls.items c.requires.intact c.args.who c.args.op c.collect-report.result c.collect-report.new.self.nodes c.requires.point c.requires.idle c.collect-report.ensures.collected)
-
-pub returns-clause-collected : goal.returns-clause-collected
-returns-clause-collected g c = rw c.set_call.ensures.nodes c.collect-report.ensures.collected
-
-pub returns-clause-calls : goal.returns-clause-calls
-returns-clause-calls g c =
-    c.set_call.ensures.calls ∙ ap (λ v. slice_set v.items c.args.who c.call_after.result) c.collect-report.ensures.calls ∙ ap (slice_set c.args.self.now.calls.items c.args.who) c.call_after.ensures
+pub returns : goal.returns
+returns g c =
+    begins_securing g.P.Payload.same_as g.P.Payload.always_copies c.args.self.now.nodes c.args.self.now.machines.items c.args.self.now.calls.items c.requires.intact c.args.who c.progress.ensures c.in-Reserving.op c.in-Reserving.ensures.taken c.collect.result c.collect.new.self.nodes
+    (collected_at g.P.Payload.same_as g.P.Payload.always_copies c.take_call.new.self.nodes c.args.self.now.nodes c.collect.new.self.nodes c.take_call.new.self.machines.items c.args.self.now.machines.items c.args.who (Begin (Secure 1)) c.collect.result c.take_call.ensures.nodes (ap (λ v. v.items) c.take_call.ensures.machines) c.collect.ensures.collected)
+    c.set_call.new.self.nodes c.set_call.new.self.machines.items c.set_call.new.self.calls.items c.set_call.ensures.nodes (ap (λ v. v.items) (c.set_call.ensures.machines ∙ (c.collect.ensures.machines ∙ c.take_call.ensures.machines)))
+    (c.set_call.ensures.calls ∙ ap (λ xs. slice_set xs c.args.who (Securing c.in-Reserving.op)) (ap (λ v. v.items) c.collect.ensures.calls ∙ c.take_call.ensures.calls))

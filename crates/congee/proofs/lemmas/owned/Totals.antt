@@ -1,0 +1,59 @@
+-- Sums over the numbers below a bound.
+use Rattle.std.proofs.Common.{◌≡◌, ◌≢◌, ℕ, zero, suc, ◌+◌, ◌<◌, inl, inr, refl, sym, ap, arith}
+use Rattle.congee.proofs.lemmas.Tree.{same_or_not}
+
+-- the sum of what a function gives for the numbers below a bound
+unfoldable pub total : (ℕ → ℕ) → ℕ → ℕ
+total f zero = 0
+total f (suc n) = total f n + f n
+
+pub total_same : (f g : ℕ → ℕ) (n : ℕ) → ((i : ℕ) → i < n → f i ≡ g i) → total f n ≡ total g n
+unfolding total
+total_same f g zero e = refl
+total_same f g (suc n) e =
+    let r = total_same f g n (λ i l. e i (omega (arith, l))) in
+    let h = e n (omega arith) in
+    omega (arith, r, h)
+
+pub total_none : (f : ℕ → ℕ) (n : ℕ) → ((i : ℕ) → i < n → f i ≡ 0) → total f n ≡ 0
+unfolding total
+total_none f zero e = refl
+total_none f (suc n) e =
+    let r = total_none f n (λ i l. e i (omega (arith, l))) in
+    let h = e n (omega arith) in
+    omega (arith, r, h)
+
+-- one number alone gives something
+pub total_one : (f : ℕ → ℕ) (n k : ℕ) → k < n → ((i : ℕ) → i < n → i ≢ k → f i ≡ 0) → total f n ≡ f k
+unfolding total
+total_one f zero k l e = absurd (omega (arith, l))
+total_one f (suc n) k l e = elim (same_or_not k n) [
+  | inl p ↦
+      (let r = total_none f n (λ i m. e i (omega (arith, m)) (omega (arith, m, p))) in
+      let h : f n ≡ f k = ap f (sym p) in
+      omega (arith, r, h))
+  | inr ne ↦
+      (let r = total_one f n k (omega (arith, l, ne)) (λ i m q. e i (omega (arith, m)) q) in
+      let h = e n (omega arith) (λ q. ne (sym q)) in
+      omega (arith, r, h))
+]
+
+pub total_add : (f g : ℕ → ℕ) (n : ℕ) → total (λ i. f i + g i) n ≡ total f n + total g n
+unfolding total
+total_add f g zero = refl
+total_add f g (suc n) = let r = total_add f g n in omega (arith, r)
+
+-- the order of two sums doesn't matter
+pub total_swap : (f : ℕ → ℕ → ℕ) (n m : ℕ) → total (λ i. total (λ j. f i j) m) n ≡ total (λ j. total (λ i. f i j) n) m
+unfolding total
+total_swap f zero m = sym (total_none (λ j. 0) m (λ i l. refl))
+total_swap f (suc n) m =
+    let r = total_swap f n m in
+    let a = total_add (λ j. total (λ i. f i j) n) (λ j. f n j) m in
+    omega (arith, r, a)
+
+-- the first number, and the others
+pub total_first : (f : ℕ → ℕ) (n : ℕ) → total f (suc n) ≡ f 0 + total (λ i. f (suc i)) n
+unfolding total
+total_first f zero = omega arith
+total_first f (suc n) = let r = total_first f n in omega (arith, r)

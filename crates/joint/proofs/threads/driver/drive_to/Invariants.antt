@@ -1,0 +1,16 @@
+use Rattle.std.proofs.Common.{◌≡◌}
+use Rattle.joint.specs.Driving.{IsTurn}
+use Rattle.joint.proofs.lemmas.Driving.{GoesOn}
+use Rattle.joint.proofs.threads.driver.drive_to.Given as goal
+
+-- the next turn may be taken; and whatever it and those after it are, with those so far they are the whole call
+abbrev pub invariant-loop : goal.invariant-loop
+invariant-loop g l =
+    record {
+      can : (goal.iterator-loop g).can_next l.iterator';
+      finite : (goal.iterator-loop g).is_finite l.iterator';
+      callable : goal.F-IsAlwaysCallable g l.closure;
+      worker : g.T.Turns.worker l.turns ≡ l.worker;
+      next : IsTurn (g.T.Turns.worker l.turns) (g.T.Turns.op l.turns) (g.T.Turns.last l.turns) l.step;
+      goes_on : GoesOn g.T.Turns.gives (λ f x a f'. goal.F-step g f x a f') g.Q.Pair.pair l.worker l.fn.op l.fn.closure l.fn.turns l.fn.found l.turns l.step l.closure l.found;
+    }

@@ -1,0 +1,148 @@
+//! A whole call, whoever gives its turns.
+
+ghost use Rattle.std.specs.Prelude.{◌≡◌, ◌≢◌, ℕ, Option, None, Some, IfErr, slice_set};
+ghost use Rattle.std.specs.Option.{option_map};
+ghost use Rattle.joint.specs.declared.refusal.Refusal.TheVariants as cause;
+ghost use Rattle.joint.specs.declared.steps.Op.{Op};
+ghost use Rattle.joint.specs.declared.steps.Report.{Report};
+ghost use Rattle.joint.specs.declared.steps.Step.{Step};
+ghost use Rattle.joint.specs.Driving.{IsDriven, IsToldInCall, IsTurn, begin_step, ended, go_step};
+
+use crate::refusal::Refusal;
+use crate::steps::{Done, Event, Op, Outcome, Report, Step};
+use congee::Noise;
+use std::sync::Wait;
+
+/// Gives the turns of one whole call of a worker's: each is one step of the machine.
+pub trait Turns<P> {
+    /// The worker whose call it is.
+    ghost worker: { Self → ℕ };
+
+    /// The call.
+    ghost op: { Self → Op P };
+
+    /// What the last turn told; nothing before the first.
+    ghost last: { Self → Option (Report P) };
+
+    /// What is known of a turn, from what stood before it to what stands after it.
+    ghost gives: { Self → Step P → Report P → Self → Type 0 };
+
+    /// One turn: the begin of the call first; then, until a report ends the call, its next step, with the closure's
+    /// answer exactly where the report before asked for it. The last report is kept.
+    fn turn(&mut self, step: Step<P>) -> Report<P>
+        requires { IsTurn (worker self.old) (op self.old) (last self.old) step }
+        ensures worker { worker self.new ≡ worker self.old }
+        ensures op { op self.new ≡ op self.old }
+        ensures last { last self.new ≡ Some result }
+        ensures gives { gives self.old step result self.new }
+        ensures told { IsToldInCall result.outcome };
+}
+
+/// What a scan writes to a place for a pair that it finds.
+pub(crate) trait Pair<P>: Drop {
+    /// The pair of a key and a value.
+    ghost pair: { ℕ → P → Self };
+
+    /// The pair of a key and a value.
+    fn pair(key: u64, value: P) -> Self
+        ensures { result ≡ pair key value };
+}
+
+impl<P: Drop> Pair<P> for (u64, P) {
+    ghost pair = { λ key value. (key, value) };
+
+    fn pair(key: u64, value: P) -> Self {
+        (key, value)
+    }
+}
+
+/// A whole call of a worker's, by turns that somebody gives; answers what the last of them told. The closure gives its
+/// answer between two turns, and is asked again where the call begins anew. Each pair that a scan finds is written to
+/// its place of `found`, if there is that place.
+pub fn drive<P: Drop, T: Turns<P>, F: FnMut(Option<P>) -> Option<P>, R: Wait>(
+    rt: &R,
+    turns: &mut T,
+    worker: u32,
+    op: Op<P>,
+    closure: F,
+    found: &mut [(u64, P)],
+) -> Result<Done<P>, Refusal>
+    requires worker { T.worker turns.old ≡ worker }
+    requires op { T.op turns.old ≡ op }
+    requires new { T.last turns.old ≡ None }
+    requires callable { F.IsAlwaysCallable closure }
+    ensures turns { IsDriven T.gives F.step (λ key value. (key, value)) worker op closure turns.old found.old turns.new found.new (ended result) }
+    ensures answer { option_map (λ r. r.outcome) (T.last turns.new) ≡ Some (ended result) }
+    ensures told { IsToldInCall (ended result) }
+{
+    drive_to(rt, turns, worker, op, closure, found)
+}
+
+/// The same, with places for pairs of any form.
+pub(crate) fn drive_to<P: Drop, Q: Pair<P>, T: Turns<P>, F: FnMut(Option<P>) -> Option<P>, R: Wait>(
+    rt: &R,
+    turns: &mut T,
+    worker: u32,
+    op: Op<P>,
+    mut closure: F,
+    found: &mut [Q],
+) -> Result<Done<P>, Refusal>
+    requires worker { T.worker turns.old ≡ worker }
+    requires op { T.op turns.old ≡ op }
+    requires new { T.last turns.old ≡ None }
+    requires callable { F.IsAlwaysCallable closure }
+    ensures turns { IsDriven T.gives F.step Q.pair worker op closure turns.old found.old turns.new found.new (ended result) }
+    ensures answer { option_map (λ r. r.outcome) (T.last turns.new) ≡ Some (ended result) }
+    ensures told { IsToldInCall (ended result) }
+{
+    let mut step = begin_step(worker, op);
+    for _ in rt.forever() {
+        let Report { outcome, .. } = turns.turn(step);
+        let answer = match outcome {
+            Outcome::Running => None,
+            Outcome::Asks(value) => Some(closure(value)),
+            Outcome::Found { place, key, value } => {
+                put_at(found, place, Q::pair(key, value));
+                None
+            }
+            Outcome::Done(done) => return Ok(done),
+            Outcome::Refused(refusal) => return Err(refusal),
+            Outcome::Registered(_) => unreachable!(),
+        };
+        step = go_step(worker, answer);
+    }
+    unreachable!()
+}
+
+/// The step that begins a worker's call.
+pub(crate) fn begin_step<P>(worker: u32, op: Op<P>) -> Step<P>
+    ensures { result ≡ begin_step worker op }
+{
+    Step {
+        worker,
+        event: Event::Begin(op),
+    }
+}
+
+/// The next step of a worker's call, with the closure's answer where there is one.
+pub(crate) fn go_step<P>(worker: u32, answer: Option<Option<P>>) -> Step<P>
+    ensures { result ≡ go_step worker answer }
+{
+    Step {
+        worker,
+        event: Event::Go(Noise {
+            fail: false,
+            seen: None,
+            answer,
+        }),
+    }
+}
+
+/// Writes a pair to its place, if there is that place.
+fn put_at<Q: Drop>(found: &mut [Q], place: usize, pair: Q)
+    ensures { found.new ≡ slice_set found.old place pair }
+{
+    if place < found.len() {
+        found[place] = pair;
+    }
+}
