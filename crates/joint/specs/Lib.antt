@@ -4,13 +4,17 @@ pub mod Beginning
 pub mod Calling
 pub mod Closing
 pub mod Driving
+pub mod Engine
+pub mod Flying
 pub mod Forest
 pub mod Heap
 pub mod Intact
+pub mod Journaling
 pub mod Laws
 pub mod Levels
 pub mod Limits
 pub mod Listing
+pub mod Log
 pub mod Machines
 pub mod MapCode
 pub mod NameLemmas

@@ -1,6 +1,9 @@
 -- Lists of steps, and what they make of the map of the tree's pairs.
-use Rattle.std.specs.Prelude.{◌≡◌, ℕ, ◌==◌, ◌≤◌, Bool, true, false, List, [], ◌∷◌, map, length, Option, None, Some, if◌then◌else◌, slice_get}
+use Rattle.std.specs.Prelude.{◌≡◌, ℕ, ◌<◌, ◌⊎◌, Bool, true, false, List, [], ◌∷◌, ◌++◌, map, Option, None, Some, if◌then◌else◌, slice_get}
 use Rattle.std.specs.FinMap.{get}
+use Rattle.std.specs.List.{Contains}
+use Rattle.judge.specs.declared.journal.Call.{Call as Entered}
+use Rattle.judge.specs.declared.journal.Call.TheVariants as entered
 use Rattle.judge.specs.declared.journal.Entry.{Entry}
 use Rattle.judge.specs.declared.journal.Reply.{Reply}
 use Rattle.judge.specs.Answer.{Pairs}
@@ -16,8 +19,9 @@ use Rattle.congee.specs.protocol.Protocol.{IsCall}
 use Rattle.congee.specs.declared.protocol.op.Op.TheVariants as point
 use Rattle.congee.specs.protocol.Sweeps.{IsScan}
 use Rattle.joint.specs.declared.call.Call.{Call}
-use Rattle.joint.specs.declared.call.Call.TheVariants.{Idle, Collecting, Reserving, Securing, Walking}
+use Rattle.joint.specs.declared.call.Call.TheVariants.{Idle}
 use Rattle.joint.specs.declared.id.Id.{Id}
+use Rattle.joint.specs.declared.refusal.Refusal.TheVariants.{JournalFull}
 use Rattle.joint.specs.declared.steps.Event.{Event}
 use Rattle.joint.specs.declared.steps.Event.TheVariants.{Register, Begin, Go}
 use Rattle.joint.specs.declared.steps.Outcome.{Outcome}
@@ -29,6 +33,7 @@ use Rattle.joint.specs.declared.steps.Step.{Step}
 use Rattle.joint.specs.declared.steps.Survey.{Survey}
 use Rattle.joint.specs.declared.steps.Target.{Target}
 use Rattle.joint.specs.declared.steps.Target.TheVariants as target
+pub use Rattle.joint.specs.Flying.{Flights, no_flights, with_flight, InFlight, AreInFlight}
 use Rattle.joint.specs.Forest.{nodes}
 use Rattle.joint.specs.Intact.{root}
 use Rattle.joint.specs.Reports.{target, told}
@@ -65,16 +70,6 @@ pub record Line (V : Type 0) : Type 0 where
   pub report : Report V
   pub entry : Option (Entry V)
   pub pairs : Pairs V
-
--- the call on the tree that each worker has in flight
-abbrev pub Flights : Type 0 → Type 0
-Flights V = ℕ → Flight V
-
-abbrev pub no_flights : {V : Type 0} → Flights V
-no_flights w = Over
-
-abbrev pub with_flight : {V : Type 0} → Flights V → ℕ → Flight V → Flights V
-with_flight fs w f v = if v == w then f else fs v
 
 -- a step in which no call on the tree begins, goes on or ends
 pub record Stays {V : Type 0} (fs : Flights V) (m : Pairs V) (l : Line V) (fs' : Flights V) : Type 0 where
@@ -139,8 +134,16 @@ pub record TakesEffect {V : Type 0} (same : V → V → Bool) (k : ℕ) (kind : 
   pub told_so : l.report.outcome ≡ told outcome
   pub concludes : Concludes entry.reply outcome f'
 
+-- one that finds no place in the journal, and is refused for that
+pub record IsGivenUp {V : Type 0} (m : Pairs V) (l : Line V) (f' : Flight V) : Type 0 where
+  pub full : l.report.outcome ≡ Refused JournalFull
+  pub undecided : l.report.decided ≡ false
+  pub over : f' ≡ Over
+  pub no_entry : l.entry ≡ None
+  pub same_pairs : l.pairs ≡ m
+
 abbrev pub PendingStep : {V : Type 0} → (V → V → Bool) → ℕ → Kind V → Option V → Question V → Pairs V → Bool → Line V → Flight V → Type 0
-PendingStep same k kind v q m false l f' = IsPending k kind v q m l f'
+PendingStep same k kind v q m false l f' = IsPending k kind v q m l f' ⊎ IsGivenUp m l f'
 PendingStep same k kind v q m true l f' = TakesEffect same k kind v q m l f'
 
 -- one after it: it goes on, or is done with its entry's reply
@@ -220,18 +223,6 @@ AreLines [] (l ∷ ls) = ⊥
 AreLines (t ∷ ts) [] = ⊥
 AreLines (t ∷ ts) (l ∷ ls) = IsLine t l × AreLines ts ls
 
--- how a worker's call in flight is watched, with its machine on the tree
-abbrev pub InFlight : {V : Type 0} → Call V → Machine Id V → Flight V → Type 0
-InFlight Idle m f = f ≡ Over
-InFlight (Collecting op) m f = f ≡ Over
-InFlight (Reserving op) m f = f ≡ flight (begun root op)
-InFlight (Securing op) m f = f ≡ flight (begun root op)
-InFlight Walking m f = Follows m f
-
-pub record AreInFlight {V : Type 0} (s : Whole V) (fs : Flights V) : Type 0 where
-  pub each : (i : ℕ) (k : Call V) (m : Machine Id V) → slice_get s.calls i ≡ Some k → slice_get s.machines i ≡ Some m → InFlight k m (fs i)
-  pub beyond : (i : ℕ) → length s.calls ≤ i → fs i ≡ Over
-
 -- what a list of steps makes of the pairs m that stood and of the calls in flight
 pub record PlaysMap {V : Type 0} (same : V → V → Bool) (fs : Flights V) (m : Pairs V) (s : Whole V) (taken : List (Taken V)) : Type 0 where
   pub lines : List (Line V)
@@ -266,3 +257,27 @@ pub record RunsMap {V : Type 0} (same : V → V → Bool) (fs : Flights V) (m : 
   pub stand : IsMapOf (nodes s'.forest) (pairs_after m lines)
   pub in_flight : AreInFlight s' flights
   pub legal : Legal same m (entries lines) (pairs_after m lines)
+
+-- the entry that the journal keeps of a line
+abbrev pub kept_of : {V : Type 0} → Line V → Option (Entry V)
+kept_of l = if l.report.kept then l.entry else None
+
+abbrev pub kept_entries : {V : Type 0} → List (Line V) → List (Entry V)
+kept_entries [] = []
+kept_entries (l ∷ ls) = with_entry (kept_of l) (kept_entries ls)
+
+-- it keeps that of each writing call that took effect
+abbrev pub looks_up : {V : Type 0} → Entered V → Bool
+looks_up (entered.Get k) = true
+looks_up _ = false
+
+abbrev pub KeepsWrites : {V : Type 0} → List (Line V) → Type 0
+KeepsWrites {V} lines = (l : Line V) (e : Entry V) → Contains lines l → l.entry ≡ Some e → looks_up e.call ≡ false → l.report.kept ≡ true
+
+-- what a run makes of the map and of the journal: that goes on with the entries of the writing calls that took effect in it
+-- and of the look-ups that were kept, in deciding order
+pub record RunsJournal {V : Type 0} (same : V → V → Bool) (fs : Flights V) (m : Pairs V) (s : Whole V) (steps : List (Step V)) (reports : List (Report V)) (s' : Whole V) : Type 0 where
+  pub runs : RunsMap same fs m steps reports s'
+  pub entries : s'.log.entries ≡ s.log.entries ++ kept_entries runs.lines
+  pub writes : 0 < s.log.places → KeepsWrites runs.lines
+  pub places : s'.log.places ≡ s.log.places

@@ -11,7 +11,7 @@ ghost use Rattle.joint.specs.declared.call.Call.TheVariants as Call;
 ghost use Rattle.crossbeam_epoch.specs.declared.world.report.Event.TheVariants as Event;
 ghost use Rattle.joint.specs.Opening.{IsOpened, IsUnopened};
 ghost use Rattle.joint.specs.Runs.{IsFresh};
-ghost use Rattle.joint.specs.Whole.{whole, Holds};
+ghost use Rattle.joint.specs.Whole.{whole, EngineHolds};
 ghost use Rattle.joint.specs.View.{id_number};
 ghost use Rattle.joint.specs.Machines.{IsSafe, Rests, Runs, Owes, IsSafeOrOwes, Walked, Collected, retiring_at, slot_names};
 
@@ -182,7 +182,7 @@ pub struct Engine<P: Payload + Small, A: Allocator> {
 impl<P: Payload + Small, A: Allocator> Engine<P, A> {
     /// An index with a root alone, and a place for each worker there may be. Refused as `Nodes::new` refuses, and as Memory.
     pub(crate) fn new(alloc: Global, limits: Limits, allocator: A) -> Result<Self, Refusal>
-        ensures { MatchResult result (λ e. IsOpened limits (A.charged_of allocator) (A.limit_of allocator) e.nodes × Holds P.same_as P.always_copies (whole e.nodes e.machines.items e.calls.items) × IsFresh (whole e.nodes e.machines.items e.calls.items)) (λ e. IsUnopened limits (A.charged_of allocator) (A.limit_of allocator) e) }
+        ensures { MatchResult result (λ e. IsOpened limits (A.charged_of allocator) (A.limit_of allocator) e.nodes × EngineHolds P.same_as P.always_copies (whole e.nodes e.machines.items e.calls.items) × IsFresh (whole e.nodes e.machines.items e.calls.items)) (λ e. IsUnopened limits (A.charged_of allocator) (A.limit_of allocator) e) }
     {
         cell_laws::<P>();
         call_laws::<P>();

@@ -52,12 +52,18 @@ pub enum Refusal {
     /// The worker leaves while a guard of it is out.
     #[error("a guard is out")]
     GuardOut,
+    /// No place of the journal is free for a writing call.
+    #[error("the journal is full")]
+    JournalFull,
     /// No call of the worker is in flight.
     #[error("no call is in flight")]
     Idle,
     /// A limit is out of its range.
     #[error("a limit is out of its range")]
     Limits,
+    /// A share of a ledger lacks so many of its parts.
+    #[error("a share lacks {0} parts")]
+    SharesLeft(u32),
 }
 
 impl Refusal {

@@ -2,7 +2,7 @@
 
 ghost use Rattle.std.specs.Prelude.{◌≡◌, ◌<◌, Some, length, slice_get, option_map, true, false};
 ghost use Rattle.joint.specs.Beginning.{Begun, stage_of};
-ghost use Rattle.joint.specs.Whole.{whole, Does, Holds, IsStep, Proceeds, misuse, quiet, collection, destroyed_by, finds_none, interruption, is_busy, kind_of, reserving, Surveys, Walks};
+ghost use Rattle.joint.specs.Whole.{whole, Does, EngineHolds, IsEngineStep, Proceeds, misuse, quiet, collection, destroyed_by, finds_none, interruption, is_busy, kind_of, reserving, Surveys, Walks};
 ghost use Rattle.joint.specs.Reports.{told};
 ghost use Rattle.joint.specs.declared.steps.Event.TheVariants as Event;
 ghost use Rattle.joint.specs.Intact.{IsIntact, writes};
@@ -24,8 +24,8 @@ use crossbeam_epoch::Fault;
 impl<P: Payload + Small, A: Allocator> Engine<P, A> {
     /// One step of the machine.
     pub(crate) fn step(&mut self, step: Step<P>) -> Report<P>
-        requires { Holds P.same_as P.always_copies (whole self.old.nodes self.old.machines.items self.old.calls.items) }
-        ensures { IsStep P.same_as P.always_copies (whole self.old.nodes self.old.machines.items self.old.calls.items) step result (whole self.new.nodes self.new.machines.items self.new.calls.items) }
+        requires { EngineHolds P.same_as P.always_copies (whole self.old.nodes self.old.machines.items self.old.calls.items) }
+        ensures { IsEngineStep P.same_as P.always_copies (whole self.old.nodes self.old.machines.items self.old.calls.items) step result (whole self.new.nodes self.new.machines.items self.new.calls.items) }
     {
         call_laws::<P>();
         let who = step.worker as usize;
