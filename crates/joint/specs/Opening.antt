@@ -50,6 +50,14 @@ IsUnopened limits charge limit (refusal.Budget c w l) = AreAllowed limits × (li
 IsUnopened limits charge limit refusal.Memory = AreAllowed limits × (charge + 2104 ≤ limit)
 IsUnopened limits charge limit _ = ⊥
 
+-- so many places are too few for a journal, or too many; else there is none as above
+abbrev pub HasPlaces : ℕ → Type 0
+HasPlaces places = (1 ≤ places) × (places ≤ 4294967295)
+
+abbrev pub IsUnjournaled : Limits → ℕ → ℕ → ℕ → Refusal → Type 0
+IsUnjournaled limits places charge limit refusal.Limits = AreAllowed limits × HasPlaces places → ⊥
+IsUnjournaled limits places charge limit e = HasPlaces places × IsUnopened limits charge limit e
+
 -- the collector and the counts with a root alone, before anything is charged
 pub record IsPlanted {V : Type 0} (limits : EpochLimits) (c : State (Slot V) (Unit {0})) (k : Counts) : Type 0 where
   pub clock : c ≡ with_roots (with_store (opened limits 1) c.store) top_roots

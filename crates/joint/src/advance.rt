@@ -6,13 +6,14 @@ ghost use Rattle.joint.specs.Log.{has_room, heard_by, request_at};
 ghost use Rattle.joint.specs.Whole.{is_in_flight, IsStep};
 
 use crate::id::Id;
+use crate::log::Log;
 use crate::refusal::Refusal;
 use crate::request::Request;
 use crate::steps::{Event, Kind, Op, Outcome, Report, Step};
 use crate::turns::refused;
 use crate::world::World;
 use congee::{Allocator, Noise, Payload, Small};
-use judge::{Call, Entry, Reply};
+use judge::{Entry, Reply};
 
 impl<P: Payload + Small, A: Allocator> World<P, A> {
     /// One step.
@@ -62,45 +63,55 @@ impl<P: Payload + Small, A: Allocator> World<P, A> {
             self.log.set_request(who, None);
             return refused(Kind::Collection, Refusal::JournalFull);
         }
-        let request = self.hear(who, &noise.answer);
+        let request = hear(&mut self.log, who, self.engine.asks(who), &noise.answer);
         let before = self.engine.has_place(who);
         let told = self.engine.step(Step {
             worker,
             event: Event::Go(noise),
         });
         self.log.recount(before, self.engine.has_place(who));
-        let kept = told.decided && self.keep(worker, &request, &told.outcome);
+        let reply = self.engine.reply(who, &told.outcome);
+        let kept = told.decided && keep(&mut self.log, entry(worker, &request, reply));
         if is_in_flight(&told.outcome) {
             self.log.set_request(who, request);
         }
         with_kept(told, kept)
     }
+}
 
-    /// What a worker asked for, with the answer that its call takes now; `None` also where a value can't be copied. It comes
-    /// out of its place.
-    fn hear(&mut self, who: usize, answer: &Option<Option<P>>) -> Option<Request<P>>
-    {
-        let request = self.log.take_request(who);
-        if self.engine.asks(who) {
-            request?.hear(answer)
-        } else {
-            request
-        }
+/// What a worker asked for, with the answer that its call takes in this step; `None` also where a value can't be copied. It
+/// comes out of its place.
+fn hear<P: Payload>(
+    log: &mut Log<P>,
+    who: usize,
+    asks: bool,
+    answer: &Option<Option<P>>,
+) -> Option<Request<P>>
+    ensures heard { P.always_copies ≡ true → result ≡ heard_by asks answer.now (request_at log.old.requests who) }
+    ensures left { log.new ≡ record log.old { requests = slice_set log.old.requests who None } }
+{
+    let request = log.take_request(who);
+    if asks {
+        request?.hear(answer)
+    } else {
+        request
     }
+}
 
-    /// Writes the entry of a call down that took effect, where a place is free that nobody has reserved; tells whether it did.
-    fn keep(&mut self, worker: u32, request: &Option<Request<P>>, outcome: &Outcome<P>) -> bool
-    {
-        if !self.log.has_room() {
-            return false;
+/// Writes the entry of a call down that took effect, where a place is free that nobody has reserved; tells whether it did.
+fn keep<P: Payload>(log: &mut Log<P>, entry: Option<Entry<P>>) -> bool
+    ensures kept { result ≡ is_some (kept_if true (has_room log.old) entry) }
+    ensures log { log.new ≡ record log.old { entries = log.old.entries ++ in_list (kept_if true (has_room log.old) entry) } }
+{
+    if !log.has_room() {
+        return false;
+    }
+    match entry {
+        Some(entry) => {
+            log.append(entry);
+            true
         }
-        match entry(worker, request, self.engine.reply(worker as usize, outcome)) {
-            Some(entry) => {
-                self.log.append(entry);
-                true
-            }
-            None => false,
-        }
+        None => false,
     }
 }
 

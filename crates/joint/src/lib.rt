@@ -2,6 +2,7 @@
 //! step at a time, a call of each worker in flight.
 #![tactic(auto)]
 
+mod advance;
 mod call;
 mod calls;
 mod cells;
@@ -10,6 +11,7 @@ mod close;
 mod counts;
 mod engine;
 mod id;
+mod journaling;
 mod laws;
 mod log;
 mod limits;

@@ -35,7 +35,7 @@ impl<P> Model for Log<P> {
 }
 
 /// So many workers who have asked for nothing.
-fn no_requests<P>(alloc: Global, workers: usize) -> Result<Vec<Option<Request<P>>>, AllocError>
+fn no_requests<P: Drop>(alloc: Global, workers: usize) -> Result<Vec<Option<Request<P>>>, AllocError>
     ensures { IfOk result (λ v. v.items ≡ replicate workers None) }
 {
     let mut requests = Vec::with_capacity(alloc, workers)?;

@@ -251,7 +251,7 @@ fn report<P>(kind: Kind, outcome: Outcome<P>) -> Report<P>
 }
 
 /// The report of a refusal.
-fn refused<P>(kind: Kind, refusal: Refusal) -> Report<P>
+pub(crate) fn refused<P>(kind: Kind, refusal: Refusal) -> Report<P>
     ensures { result ≡ quiet kind (Outcome.Refused refusal) }
 {
     report(kind, Outcome::Refused(refusal))

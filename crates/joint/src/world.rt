@@ -1,27 +1,31 @@
 //! The index and its collector, one step at a time.
 
-ghost use Rattle.std.specs.Prelude.{◌≡◌, ◌+◌, length, take, IfOk, IfErr, MatchResult};
+ghost use Rattle.std.specs.Prelude.{◌≡◌, ◌+◌, ◌<◌, ◌≤◌, [], true, length, option_map, take, IfOk, IfErr, MatchResult};
 ghost use Rattle.std.specs.FinMap.{empty};
 ghost use Rattle.std.specs.List.{sum_by};
 ghost use Rattle.std.specs.Vec.{vec_len};
 ghost use Rattle.judge.specs.Answer.{Pairs};
+ghost use Rattle.judge.specs.Journal.{IsLegal, Legal};
 ghost use Rattle.congee.specs.Heap.{Stands};
 ghost use Rattle.congee.specs.Keys.{IsMapOf};
 ghost use Rattle.joint.specs.Closing.{IsClosed, IsNotClosed};
 ghost use Rattle.joint.specs.Forest.{IsBeside, nodes};
 ghost use Rattle.joint.specs.Listing.{IsListOf, bytes_of, standing_nodes, waiting_nodes};
-ghost use Rattle.joint.specs.Opening.{IsOpened, IsUnopened};
-ghost use Rattle.joint.specs.Runs.{Flights, AreInFlight, IsRun, RunsMap, AllSpare, IsFresh, no_flights};
+ghost use Rattle.joint.specs.Log.{opened_log, request_at};
+ghost use Rattle.joint.specs.Opening.{HasPlaces, IsOpened, IsUnjournaled, IsUnopened};
+ghost use Rattle.joint.specs.Runs.{Flights, AreInFlight, IsRun, RunsJournal, RunsMap, AllSpare, IsFresh, no_flights};
 ghost use Rattle.joint.specs.Scans.{ScansHold, EmptyScansHold};
 ghost use Rattle.joint.specs.Whereabouts.{AllSomewhere, IsWaiting};
-ghost use Rattle.joint.specs.Whole.{Holds, IsStep};
+ghost use Rattle.joint.specs.Whole.{Holds};
 
 use crate::engine::Engine;
 use crate::laws::{runs_spare, waits, whereabouts};
 use crate::limits::Limits;
+use crate::log::Log;
 use crate::refusal::Refusal;
-use crate::steps::{Ran, Report, Step};
+use crate::steps::{Op, Ran, Report, Step};
 use congee::{Allocator, Drainer, Payload, Small};
+use judge::Entry;
 use std::alloc::Global;
 use std::marker::Model;
 use std::vec::Vec;
@@ -29,7 +33,8 @@ use std::vec::Vec;
 /// An index whose removed nodes are reclaimed. Its workers register, pin, and then call; a call of each may be in flight.
 #[derive(Drop)]
 pub struct World<P: Payload + Small, A: Allocator> {
-    engine: Engine<P, A>,
+    pub(crate) engine: Engine<P, A>,
+    pub(crate) log: Log<P>,
 }
 
 impl<P: Payload + Small, A: Allocator> Model for World<P, A> {
@@ -41,9 +46,9 @@ impl<P: Payload + Small, A: Allocator> Model for World<P, A> {
 
     ghost coded = { Prim.hlevel (codes, map_code) };
 
-    ghost view = { λ w. record { forest = w.engine.nodes; machines = w.engine.machines.items; calls = w.engine.calls.items } };
+    ghost view = { λ w. record { forest = w.engine.nodes; machines = w.engine.machines.items; calls = w.engine.calls.items; log = w.log } };
 
-    ghost invariant = { λ w. Holds P.same_as P.always_copies (record { forest = w.engine.nodes; machines = w.engine.machines.items; calls = w.engine.calls.items }) };
+    ghost invariant = { λ w. Holds P.same_as P.always_copies (record { forest = w.engine.nodes; machines = w.engine.machines.items; calls = w.engine.calls.items; log = w.log }) };
 }
 
 impl<P: Payload + Small, A: Allocator> World<P, A> {
@@ -53,9 +58,24 @@ impl<P: Payload + Small, A: Allocator> World<P, A> {
         ensures opened { IfOk result (λ w. IsOpened limits (A.charged_of allocator) (A.limit_of allocator) w.forest) }
         ensures fresh { IfOk result (λ w. IsFresh w) }
         ensures cause { IfErr result (λ e. IsUnopened limits (A.charged_of allocator) (A.limit_of allocator) e) }
+        ensures journal { IfOk result (λ w. w.log ≡ opened_log limits.epoch.participants 0) }
+    {
+        World::with_places(alloc, limits, allocator, 0)
+    }
+
+    /// The same, with a journal of so many places.
+    fn with_places(alloc: Global, limits: Limits, allocator: A, places: usize) -> Result<Self, Refusal>
+        requires { 0 < places → P.always_copies ≡ true }
+        ensures opened { IfOk result (λ w. IsOpened limits (A.charged_of allocator) (A.limit_of allocator) w.forest) }
+        ensures fresh { IfOk result (λ w. IsFresh w) }
+        ensures cause { IfErr result (λ e. IsUnopened limits (A.charged_of allocator) (A.limit_of allocator) e) }
+        ensures log { IfOk result (λ w. w.log ≡ opened_log limits.epoch.participants places) }
     {
         let engine = Engine::new(alloc, limits, allocator)?;
-        Ok(World { engine })
+        match Log::new(alloc, limits.epoch.participants as usize, places) {
+            Ok(log) => Ok(World { engine, log }),
+            Err(_) => Err(Refusal::Memory),
+        }
     }
 
     /// What holds in every state: tree, calls and collector are sound, the charge is that of the nodes that aren't destroyed,
@@ -68,13 +88,6 @@ impl<P: Payload + Small, A: Allocator> World<P, A> {
         let _ = &self.engine;
     }
 
-    /// One step.
-    pub fn step(&mut self, step: Step<P>) -> Report<P>
-        ensures { IsStep P.same_as P.always_copies self.old step result self.new }
-    {
-        self.engine.step(step)
-    }
-
     /// These steps, one after another, until there is no memory for a report.
     pub fn run(&mut self, alloc: Global, steps: Vec<Step<P>>) -> Ran<P>
         ensures done { result.done ≡ vec_len result.reports }
@@ -82,6 +95,8 @@ impl<P: Payload + Small, A: Allocator> World<P, A> {
         ensures map { (fs : Flights P) (m : Pairs P) → IsMapOf (nodes self.old.forest) m → AreInFlight self.old fs → RunsMap P.same_as fs m (take result.done steps.items) result.reports.items self.new }
         ensures fresh { IsFresh self.old → RunsMap P.same_as no_flights empty (take result.done steps.items) result.reports.items self.new }
         ensures scans { (fs : Flights P) (m : Pairs P) (r : RunsMap P.same_as fs m (take result.done steps.items) result.reports.items self.new) → ScansHold r.lines × EmptyScansHold r.lines }
+        ensures journal { (fs : Flights P) (m : Pairs P) → IsMapOf (nodes self.old.forest) m → AreInFlight self.old fs → RunsJournal P.same_as fs m self.old (take result.done steps.items) result.reports.items self.new }
+        ensures fresh_journal { IsFresh self.old → RunsJournal P.same_as no_flights empty self.old (take result.done steps.items) result.reports.items self.new }
         ensures beside { IsBeside self.old.forest self.new.forest }
         ensures spares { (run : IsRun P.same_as P.always_copies self.old (take result.done steps.items) result.reports.items self.new) → AllSpare self.old run.taken }
     {
@@ -137,6 +152,18 @@ impl<P: Payload + Small, A: Allocator> World<P, A> {
         self.engine.waiting_bytes()
     }
 
+    /// The entries of the calls that took effect: of all writing ones, and of the look-ups for which a place was free that no
+    /// writing call had reserved, in the order of their deciding steps. The journal is legal, and replays to the pairs that
+    /// stand; where none is kept it is empty.
+    pub fn journal(&self) -> &[Entry<P>]
+        ensures entries { result.now ≡ self.now.log.entries }
+        ensures legal { IsLegal P.same_as result.now }
+        ensures replays { (m : Pairs P) → 0 < self.now.log.places → IsMapOf (nodes self.now.forest) m → Legal P.same_as empty result.now m }
+        ensures none { self.now.log.places ≡ 0 → result.now ≡ [] }
+    {
+        self.log.entries()
+    }
+
     /// Hands each pair to the drainer, in ascending order of the keys; then the removals that wait are carried out, and the
     /// allocator comes back with the charge that it had when it was handed in. Refused as WorkersLeft while workers are
     /// registered, and the index and the drainer come back.
@@ -148,7 +175,36 @@ impl<P: Payload + Small, A: Allocator> World<P, A> {
         if registered > 0 {
             return Err((Refusal::WorkersLeft(registered), self, drainer));
         }
-        let World { engine } = self;
+        let World { engine, .. } = self;
         Ok(engine.close(drainer))
+    }
+}
+
+impl<A: Allocator> World<u64, A> {
+    /// An index as `new` opens it, with a journal of so many places, 1 to 4,294,967,295; another number is refused as Limits.
+    /// An entry takes no memory later.
+    pub fn new_journaled(
+        alloc: Global,
+        limits: Limits,
+        allocator: A,
+        places: u64,
+    ) -> Result<Self, Refusal>
+        ensures opened { IfOk result (λ w. IsOpened limits (A.charged_of allocator) (A.limit_of allocator) w.forest) }
+        ensures fresh { IfOk result (λ w. IsFresh w) }
+        ensures cause { IfErr result (λ e. IsUnjournaled limits places (A.charged_of allocator) (A.limit_of allocator) e) }
+        ensures journal { IfOk result (λ w. HasPlaces places × (w.log ≡ opened_log limits.epoch.participants places)) }
+    {
+        if places == 0 || places > 4_294_967_295 {
+            return Err(Refusal::Limits);
+        }
+        World::with_places(alloc, limits, allocator, places as usize)
+    }
+
+    /// A worker's call in flight as it was begun, and the last answer of its closure that it took.
+    pub fn in_flight(&self, worker: u32) -> Option<(Op<u64>, Option<Option<u64>>)>
+        ensures { result ≡ option_map (λ q. (q.op, q.answer)) (request_at self.now.log.requests worker) }
+    {
+        let request = self.log.request(worker as usize)?;
+        Some((request.op, request.answer))
     }
 }

@@ -29,8 +29,10 @@ refusal_text refusal.Unknown = codes "Unknown"
 refusal_text refusal.Count = codes "Count"
 refusal_text refusal.Foreign = codes "Foreign"
 refusal_text refusal.GuardOut = codes "GuardOut"
+refusal_text refusal.JournalFull = codes "JournalFull"
 refusal_text refusal.Idle = codes "Idle"
 refusal_text refusal.Limits = codes "Limits"
+refusal_text (refusal.SharesLeft n) = codes "SharesLeft" ++ spaced n
 
 -- the name of a refusal, with its numbers
 abbrev pub refused_text : Refused → List ℕ

@@ -139,8 +139,10 @@ impl fmt::Display for Refused {
             Refusal::Count => write!(f, "Count"),
             Refusal::Foreign => write!(f, "Foreign"),
             Refusal::GuardOut => write!(f, "GuardOut"),
+            Refusal::JournalFull => write!(f, "JournalFull"),
             Refusal::Idle => write!(f, "Idle"),
             Refusal::Limits => write!(f, "Limits"),
+            Refusal::SharesLeft(parts) => write!(f, "SharesLeft {parts}"),
         }
     }
 }

@@ -1,0 +1,100 @@
+//! Indexes that keep a journal: rows of calls, what is told of calls in flight, and the test of what was written down.
+
+use congee::{DefaultAllocator, Noise};
+use joint::{Done, Event, Limits, Op, Outcome, Refusal, Report, Step, World};
+use judge::{Call, Entry, Reply, Verdict, check};
+use std::alloc::Global;
+use std::test::Fail;
+
+type Index = World<u64, DefaultAllocator>;
+
+/// An index with a journal of so many places, two of whose workers are pinned.
+fn open(alloc: Global, places: u64) -> Result<Index, Refusal> {
+    let mut index = World::new_journaled(
+        alloc,
+        Limits::usual(2, 1_000),
+        DefaultAllocator::new(),
+        places,
+    )?;
+    for worker in 0..2 {
+        index.step(Step {
+            worker,
+            event: Event::Register,
+        });
+        index.call(worker, Op::Pin, 1_000, &mut []);
+    }
+    Ok(index)
+}
+
+/// How a whole call ends, and whether its last step's entry was kept.
+fn end(index: &mut Index, worker: u32, op: Op<u64>) -> Option<(Outcome<u64>, bool)> {
+    let report = index.call(worker, op, 1_000, &mut [])?;
+    Some((report.outcome, report.kept))
+}
+
+/// One step of a worker's call.
+fn go(index: &mut Index, worker: u32, answer: Option<Option<u64>>) -> Report<u64> {
+    index.step(Step {
+        worker,
+        event: Event::Go(Noise {
+            fail: false,
+            seen: None,
+            answer,
+        }),
+    })
+}
+
+#[test]
+fn a_journal_is_full(rt: HostRuntime) -> Result<(), Fail> {
+    let mut index = open(rt.alloc(), 1)?;
+    let none = Some((Outcome::Done(Done::Reply(Reply::Insert(None))), false));
+    assert_eq!(rt; end(&mut index, 0, Op::Insert(1, 1)), none);
+    let full = Some((Outcome::Refused(Refusal::JournalFull), false));
+    assert_eq!(rt; end(&mut index, 0, Op::Insert(2, 2)), full);
+    let some = Some((Outcome::Done(Done::Reply(Reply::Get(Some(1)))), false));
+    assert_eq!(rt; end(&mut index, 0, Op::Get(1)), some);
+    let entry = Entry {
+        worker: 0,
+        call: Call::Insert(1, 1),
+        reply: Reply::Insert(None),
+    };
+    assert_eq!(rt; index.journal(), [entry].as_slice());
+    Ok(())
+}
+
+#[test]
+fn a_reserved_place_is_kept_from_look_ups_and_comes_free(rt: HostRuntime) -> Result<(), Fail> {
+    let mut index = open(rt.alloc(), 2)?;
+    end(&mut index, 0, Op::Insert(1, 1));
+    index.step(Step {
+        worker: 0,
+        event: Event::Begin(Op::ComputePresent(1)),
+    });
+    go(&mut index, 0, None);
+    let some = Reply::Get(Some(1));
+    let unkept = Some((Outcome::Done(Done::Reply(some)), false));
+    assert_eq!(rt; end(&mut index, 1, Op::Get(1)), unkept);
+    while go(&mut index, 0, None).outcome != Outcome::Asks(Some(1)) {}
+    assert_eq!(rt; index.in_flight(0), Some((Op::ComputePresent(1), None)));
+    go(&mut index, 0, Some(None));
+    assert_eq!(rt; index.in_flight(0), Some((Op::ComputePresent(1), Some(None))));
+    assert_eq!(rt; index.in_flight(1), None);
+    while go(&mut index, 0, None).outcome == Outcome::Running {}
+    assert_eq!(rt; index.in_flight(0), None);
+    assert_eq!(rt; index.journal().len(), 2);
+    assert_eq!(rt; check(rt.alloc(), index.journal())?, Verdict::Legal);
+    Ok(())
+}
+
+#[test]
+fn a_journal_has_its_places(rt: HostRuntime) -> Result<(), Fail> {
+    for places in [0, 4_294_967_296] {
+        assert_eq!(rt; open(rt.alloc(), places).err(), Some(Refusal::Limits));
+    }
+    let mut index = open(rt.alloc(), 3)?;
+    for key in 0..3 {
+        assert!(rt; end(&mut index, 0, Op::Get(key)).is_some());
+    }
+    assert_eq!(rt; index.journal().len(), 3);
+    Ok(())
+}
