@@ -36,10 +36,12 @@ pub mod Opened
 pub mod Paths
 pub mod Planting
 pub mod Reaching
+pub mod Recounting
 pub mod Registered
 pub mod Registering
 pub mod Reported
 pub mod Reserving
+pub mod Requested
 pub mod Resting
 pub mod Retiring
 pub mod Running

@@ -46,7 +46,7 @@ may_write _ = true
 
 abbrev pub is_writing : {V : Type 0} → Option (Machine Id V) → Bool
 is_writing None = false
-is_writing (Some m) = may_write m.kind && is_pending m.phase
+is_writing (Some m) = is_pending m.phase && may_write m.kind
 
 -- a place of the journal is reserved for a writing call from its first step on, until it takes effect or is refused
 abbrev pub has_place : {V : Type 0} → Option (Call V) → Option (Machine Id V) → Bool

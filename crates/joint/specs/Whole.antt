@@ -5,15 +5,19 @@ use Rattle.judge.specs.Answer.{Pairs}
 use Rattle.judge.specs.Journal.{Legal}
 use Rattle.judge.specs.declared.journal.Entry.{Entry}
 use Rattle.congee.specs.declared.protocol.op.Op.{Op as Point}
+use Rattle.congee.specs.declared.protocol.op.Op.TheVariants as point
 use Rattle.congee.specs.declared.protocol.phase.Kind.{Kind}
 use Rattle.congee.specs.Keys.{IsMapOf}
-use Rattle.congee.specs.protocol.Play.{Flight, Pending, parts}
+use Rattle.congee.specs.protocol.Play.{Flight, Pending, Question, Asked, parts}
+use Rattle.congee.specs.protocol.Protocol.{Asking}
 use Rattle.joint.specs.declared.call.Call.TheVariants.{Idle}
 use Rattle.joint.specs.declared.refusal.Refusal.TheVariants.{JournalFull}
 use Rattle.joint.specs.declared.request.Request.{Request}
 use Rattle.joint.specs.declared.steps.Event.{Event}
 use Rattle.joint.specs.declared.steps.Event.TheVariants.{Register, Begin, Go}
 use Rattle.joint.specs.declared.steps.Kind.TheVariants.{Collection as OfCollector}
+use Rattle.joint.specs.declared.steps.Op.{Op}
+use Rattle.joint.specs.declared.steps.Op.TheVariants.{Insert, ComputePresent, ComputeInsert, Exchange}
 use Rattle.joint.specs.declared.steps.Outcome.TheVariants.{Refused}
 use Rattle.joint.specs.declared.steps.Report.{Report}
 use Rattle.joint.specs.declared.steps.Step.{Step}
@@ -24,26 +28,39 @@ pub use Rattle.joint.specs.Engine.{EngineHolds, IsOfCall, is_in_flight, IsEngine
 use Rattle.joint.specs.Flying.{Flights, AreInFlight}
 use Rattle.joint.specs.Forest.{nodes, IsCharged}
 use Rattle.joint.specs.Intact.{IsIntact, is_reserving}
-use Rattle.joint.specs.Journaling.{asks_at, entry_of, in_list, kept_if, places_of, reply_by}
+use Rattle.joint.specs.Journaling.{asks_at, entry_of, given_by, in_list, kept_if, places_of, reply_by}
 use Rattle.joint.specs.Log.{Log, asked, has_room, heard_by, is_full, request_at}
 use Rattle.joint.specs.Reports.{target}
 
 -- the value that a call has: the one that it was given, or its closure's last answer
-abbrev pub last_given : {V : Type 0} → Option V → Option (Option V) → Option V
-last_given given None = given
-last_given given (Some answer) = answer
+abbrev pub value_of : {V : Type 0} → Op V → Option (Option V) → Option V
+value_of (Insert k v) answer = Some v
+value_of (ComputePresent k) answer = given_by answer
+value_of (ComputeInsert k) answer = given_by answer
+value_of (Exchange k old new) answer = new
+value_of _ answer = None
+
+abbrev pub IsOnKey : {V : Type 0} → Point V → Type 0
+IsOnKey (point.Range start end size) = ⊥
+IsOnKey _ = Unit {0}
 
 -- what the worker asked for is a call on this key, with this value
 pub record IsRequestOf {V : Type 0} (q : Request V) (k : ℕ) (kind : Kind V) (v : Option V) : Type 0 where
   pub point : Point V
   pub on_tree : target q.op ≡ Tree point
+  pub on_key : IsOnKey point
   pub key : (parts point).0 ≡ k
   pub same_kind : (parts point).1 ≡ kind
-  pub value : last_given (parts point).2 q.answer ≡ v
+  pub value : value_of q.op q.answer ≡ v
 
--- and is written down until the call takes effect
+-- a call on a computed value alone asks
+abbrev pub IsQuestionOf : {V : Type 0} → Kind V → Question V → Type 0
+IsQuestionOf kind (Asked found) = Asking kind
+IsQuestionOf kind _ = Unit {0}
+
+-- a request is written down until its call takes effect
 abbrev pub IsAsked : {V : Type 0} → Option (Request V) → Flight V → Type 0
-IsAsked {V} o (Pending k kind v question) = (q : Request V) × (o ≡ Some q) × IsRequestOf q k kind v
+IsAsked {V} o (Pending k kind v question) = (q : Request V) × (o ≡ Some q) × IsRequestOf q k kind v × IsQuestionOf kind question
 IsAsked o _ = Unit {0}
 
 -- what is written down fits the calls in flight and the pairs that stand

@@ -48,7 +48,7 @@ impl<P: Payload + Small, A: Allocator> World<P, A> {
             event: Event::Begin(op),
         });
         if is_in_flight(&report.outcome) {
-            self.log.set_request(worker as usize, request);
+            self.log.put_request(worker as usize, request);
         }
         report
     }
@@ -60,7 +60,7 @@ impl<P: Payload + Small, A: Allocator> World<P, A> {
         let who = worker as usize;
         if self.engine.is_reserving(who) && self.log.is_full() {
             self.engine.abandon(who);
-            self.log.set_request(who, None);
+            self.log.put_request(who, None);
             return refused(Kind::Collection, Refusal::JournalFull);
         }
         let request = hear(&mut self.log, who, self.engine.asks(who), &noise.answer);
@@ -73,7 +73,7 @@ impl<P: Payload + Small, A: Allocator> World<P, A> {
         let reply = self.engine.reply(who, &told.outcome);
         let kept = told.decided && keep(&mut self.log, entry(worker, &request, reply));
         if is_in_flight(&told.outcome) {
-            self.log.set_request(who, request);
+            self.log.put_request(who, request);
         }
         with_kept(told, kept)
     }
@@ -90,7 +90,7 @@ fn hear<P: Payload>(
     ensures heard { P.always_copies ≡ true → result ≡ heard_by asks answer.now (request_at log.old.requests who) }
     ensures left { log.new ≡ record log.old { requests = slice_set log.old.requests who None } }
 {
-    let request = log.take_request(who);
+    let request = log.put_request(who, None);
     if asks {
         request?.hear(answer)
     } else {

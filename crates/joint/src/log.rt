@@ -1,6 +1,7 @@
 //! What the machine writes down of its workers' calls.
 
-ghost use Rattle.std.specs.Prelude.{◌≡◌, ◌+◌, ◌<◌, None, [], ◌∷◌, ◌++◌, true, false, slice_set, length, IfOk};
+ghost use Rattle.std.specs.Prelude.{◌≡◌, ◌<◌, None, [], ◌∷◌, ◌++◌, true, false, replicate, slice_set, IfOk};
+ghost use Rattle.std.specs.Option.{option_copied};
 ghost use Rattle.joint.specs.Log.{has_room, is_full, opened_log, recounted, request_at};
 
 use crate::request::Request;
@@ -76,17 +77,10 @@ impl<P: Drop> Log<P> {
 
     /// A place is reserved or freed, by whether a step's call had one before it and has one after it.
     pub(crate) fn recount(&mut self, before: bool, after: bool)
-        requires room { before ≡ false → after ≡ true → is_full self.old ≡ false }
+        requires { before ≡ false → after ≡ true → is_full self.old ≡ false }
         ensures { self.new ≡ record self.old { reserved = recounted self.old.places before after self.old.reserved } }
     {
-        if self.places == 0 {
-            return;
-        }
-        match (before, after) {
-            (false, true) => self.reserved += 1,
-            (true, false) => self.reserved = self.reserved.saturating_sub(1),
-            _ => {}
-        }
+        self.reserved = recounted(self.places, before, after, self.reserved);
     }
 
     /// Writes an entry down.
@@ -114,24 +108,27 @@ impl<P: Drop> Log<P> {
         }
     }
 
-    /// Puts another request in a worker's place.
-    pub(crate) fn set_request(&mut self, who: usize, request: Option<Request<P>>)
-        ensures { self.new ≡ record self.old { requests = slice_set self.old.requests who request } }
+    /// Puts another request in a worker's place, and answers the one before.
+    pub(crate) fn put_request(&mut self, who: usize, request: Option<Request<P>>) -> Option<Request<P>>
+        ensures before { result ≡ request_at self.old.requests who }
+        ensures after { self.new ≡ record self.old { requests = slice_set self.old.requests who request } }
     {
         if who < self.requests.len() {
-            self.requests[who] = request;
-        }
-    }
-
-    /// Takes a worker's request out of its place.
-    pub(crate) fn take_request(&mut self, who: usize) -> Option<Request<P>>
-        ensures taken { result ≡ request_at self.old.requests who }
-        ensures left { self.new ≡ record self.old { requests = slice_set self.old.requests who None } }
-    {
-        if who < self.requests.len() {
-            std::mem::take(&mut self.requests[who])
+            std::mem::replace(&mut self.requests[who], request)
         } else {
             None
         }
+    }
+}
+
+/// The places reserved after a step, of so many.
+fn recounted(places: usize, before: bool, after: bool, reserved: usize) -> usize
+    requires { before ≡ false → after ≡ true → 0 < places → reserved < places }
+    ensures { result ≡ recounted places before after reserved }
+{
+    match (before, after) {
+        (false, true) if 0 < places => reserved + 1,
+        (true, false) if 0 < places => reserved.saturating_sub(1),
+        _ => reserved,
     }
 }

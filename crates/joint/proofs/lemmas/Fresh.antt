@@ -8,6 +8,7 @@ use Rattle.congee.specs.declared.protocol.machine.Machine.{Machine}
 use Rattle.congee.specs.declared.protocol.phase.Phase.TheVariants.{Ended}
 use Rattle.congee.specs.protocol.Bounds.{Within}
 use Rattle.congee.specs.protocol.Play.{IsIdle, Settled}
+use Rattle.joint.specs.Log.{no_log}
 use Rattle.joint.specs.declared.call.Call.{Call}
 use Rattle.joint.specs.declared.call.Call.TheVariants.{Idle}
 use Rattle.joint.specs.declared.id.Id.{Id}
@@ -20,7 +21,7 @@ use Rattle.joint.specs.Machines.{slot_names}
 use Rattle.joint.specs.Opening.{IsOpened, top}
 use Rattle.joint.specs.Runs.{IsFresh}
 use Rattle.joint.specs.View.{view, id_number}
-use Rattle.joint.specs.Whole.{Holds}
+use Rattle.joint.specs.Whole.{EngineHolds}
 use Rattle.joint.proofs.lemmas.Opened as open_it
 use Rattle.joint.proofs.lemmas.SlotViews.{slot_view}
 
@@ -71,8 +72,8 @@ module _ {V : Type 0} (same : V → V → Bool) (always : Bool) (cells : CellLaw
     each = at_first;
   }
 
-  pub holds : Holds same always (record { forest = s; machines = ms; calls = ks })
+  pub holds : EngineHolds same always (record { forest = s; machines = ms; calls = ks; log = no_log })
   holds = (intact, charged)
 
-  pub fresh : IsFresh (record { forest = s; machines = ms; calls = ks })
+  pub fresh : IsFresh (record { forest = s; machines = ms; calls = ks; log = no_log })
   fresh = record { alone = begin.fresh.alone; idle = λ i k at. sym (one_of n Idle i k at) }

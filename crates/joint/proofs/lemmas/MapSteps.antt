@@ -56,7 +56,7 @@ use Rattle.joint.specs.Refusals.{of_fault}
 use Rattle.joint.specs.Reports.{target, told}
 use Rattle.joint.specs.Surveys.{MapTells}
 use Rattle.joint.specs.Runs.{Flights, with_flight, Line, Stays, BeginMap, BeginsOr, PendingStep, FlightStep, GoMap, EventMap, InFlight, AreInFlight}
-use Rattle.joint.specs.Whole.{Whole, Holds, misuse, is_busy, place_of, quiet, collection, finds_none, Collects, Enters, EntersUnless, Reserves, GoesOnReserving, SecuresFirst, reserving, Walks, BeginsAt, BeginsOnTree, GoesAt, Proceeds, Does as Acts}
+use Rattle.joint.specs.Whole.{Whole, EngineHolds, misuse, is_busy, place_of, quiet, collection, finds_none, Collects, Enters, EntersUnless, Reserves, GoesOnReserving, SecuresFirst, reserving, Walks, BeginsAt, BeginsOnTree, GoesAt, Proceeds, Does as Acts}
 use Rattle.joint.proofs.lemmas.Collecting.{either}
 use Rattle.joint.proofs.lemmas.Reserving.{same_nodes, next_calls, next_here}
 use Rattle.joint.proofs.lemmas.Telling.{map_tells}
@@ -109,7 +109,7 @@ collecting_over turned.Running op x f e = e
 collecting_over turned.Done op x f e = e
 collecting_over (turned.Refused g) op x f e = e
 
-module _ {V : Type 0} (same : V → V → Bool) (always : Bool) (s s' : Whole V) (w : ℕ) (holds : Holds same always s) (fs : Flights V) (m : Pairs V) (st : IsMapOf (nodes s.forest) m) (fl : AreInFlight s fs) where
+module _ {V : Type 0} (same : V → V → Bool) (always : Bool) (s s' : Whole V) (w : ℕ) (holds : EngineHolds same always s) (fs : Flights V) (m : Pairs V) (st : IsMapOf (nodes s.forest) m) (fl : AreInFlight s fs) where
   -- the line of a step with this report, and what comes of it
   abbrev line : Event V → Report V → Option (Entry V) → Pairs V → Line V
   line event r e m' = record { step = record { worker = w; event = event }; report = r; entry = e; pairs = m' }
@@ -431,7 +431,7 @@ module _ {V : Type 0} (same : V → V → Bool) (always : Bool) (s s' : Whole V)
 
     pending_step : (k : ℕ) (kd : Does V) (v : Option V) (q : Question V) (b : Bool) (r : Report V) (f' : Flight V) (m' : Pairs V) → r.outcome ≡ told d.outcome → PendingMoves same k kd v q m b d.outcome f' m'
         → (x : Option (Entry V)) × PendingStep same k kd v q m b (told_line r x m') f'
-    pending_step k kd v q false r f' m' t x = (None, record { outcome = d.outcome; told_so = t; undecided = x.0; no_entry = refl; same_pairs = x.1 })
+    pending_step k kd v q false r f' m' t x = (None, inl (record { outcome = d.outcome; told_so = t; undecided = x.0; no_entry = refl; same_pairs = x.1 }))
     pending_step k kd v q true r f' m' t x = (
       Some (record { worker = w; call = x.0; reply = x.1 }),
       record { entry = record { worker = w; call = x.0; reply = x.1 }; is_entry = refl; worker = refl; call = x.2; heeds = x.3; answers = x.4; outcome = d.outcome; told_so = t; concludes = x.5 },

@@ -26,7 +26,7 @@ use Rattle.joint.specs.Intact.{call_after, secured_call, over_at}
 use Rattle.joint.specs.Laws.{CallLaws}
 use Rattle.joint.specs.Reports.{target, told, collected}
 use Rattle.joint.specs.View.{id_number}
-use Rattle.joint.specs.Whole.{Whole, Holds, Does, Proceeds, BeginsAt, BeginsOnTree, EntersUnless, finds_none, GoesAt, Collects, Walks, GoesOnReserving, SecuresFirst, IsOfCall, is_busy, is_in_flight, misuse, place_of, reserving}
+use Rattle.joint.specs.Whole.{Whole, EngineHolds, Does, Proceeds, BeginsAt, BeginsOnTree, EntersUnless, finds_none, GoesAt, Collects, Walks, GoesOnReserving, SecuresFirst, IsOfCall, is_busy, is_in_flight, misuse, place_of, reserving}
 use Rattle.joint.proofs.lemmas.Collecting.{set_here, there}
 use Rattle.joint.proofs.lemmas.Ending.{goes}
 use Rattle.joint.proofs.lemmas.HandOver.{held_place}
@@ -70,7 +70,7 @@ module _ {V : Type 0} where
   securing_goes calls calls' w op o e c =
       ap is_busy (at_place calls calls' w (secured_call o (slice_get calls w)) (slice_get_within calls w (Securing op) e) c) ∙ ap (λ k. is_busy (Some (secured_call o k))) e ∙ after_securing op o
 
-module _ {V : Type 0} (same : V → V → Bool) (always : Bool) (s : Whole V) (w : ℕ) (holds : Holds same always s) where
+module _ {V : Type 0} (same : V → V → Bool) (always : Bool) (s : Whole V) (w : ℕ) (holds : EngineHolds same always s) where
   -- a call in flight is of a registered worker, so its next step isn't misused
   busy_registered : (k : Option (Call V)) → slice_get s.calls w ≡ k → is_busy k ≡ true → (place_of s w).registered ≡ true
   busy_registered None e b = absurd (cc b)
@@ -88,7 +88,7 @@ module _ {V : Type 0} (same : V → V → Bool) (always : Bool) (s : Whole V) (w
       let f : (if is_busy (slice_get s.calls w) then None else Some fault.Idle) ≡ None = ap (λ c. if c then None else Some fault.Idle) b in
       ap (λ c. if c then (if is_busy (slice_get s.calls w) then None else Some fault.Idle) else Some fault.Unknown) r ∙ f
 
-module _ {V : Type 0} (same : V → V → Bool) (always : Bool) (laws : CallLaws {C = Id} {V = V} id_number same always) (s s' : Whole V) (w : ℕ) (holds : Holds same always s) where
+module _ {V : Type 0} (same : V → V → Bool) (always : Bool) (laws : CallLaws {C = Id} {V = V} id_number same always) (s s' : Whole V) (w : ℕ) (holds : EngineHolds same always s) where
   abbrev Tells : Report V → Type 0
   Tells r = is_busy (slice_get s'.calls w) ≡ is_in_flight r.outcome
 

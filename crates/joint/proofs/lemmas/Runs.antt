@@ -89,7 +89,8 @@ module _ {V : Type 0} (same : V → V → Bool) (always : Bool) where
   target_entered fs m (target.Survey k) l fs' x = stays_entered fs m l fs' x.stays
 
   pending_entered : (k : ℕ) (kind : Kind V) (v : Option V) (q : Question V) (m : Pairs V) (b : Bool) (l : Line V) (f' : Flight V) → PendingStep same k kind v q m b l f' → Entered m l
-  pending_entered k kind v q m false l f' x = inl (x.no_entry, x.same_pairs)
+  pending_entered k kind v q m false l f' (inl x) = inl (x.no_entry, x.same_pairs)
+  pending_entered k kind v q m false l f' (inr x) = inl (x.no_entry, x.same_pairs)
   pending_entered k kind v q m true l f' x = inr (x.entry, x.is_entry, x.answers)
 
   go_entered : (fs : Flights V) (f : Flight V) (m : Pairs V) (answer : Option (Option V)) (l : Line V) (fs' : Flights V) → GoMap same fs f m answer l fs' → Entered m l

@@ -29,7 +29,7 @@ use Rattle.joint.specs.Laws.{LeavesLaw}
 use Rattle.joint.specs.Reports.{target}
 use Rattle.joint.specs.Runs.{Taken, AreTaken, AllSpare}
 use Rattle.joint.specs.View.{id_number}
-use Rattle.joint.specs.Whole.{Whole, Holds, misuse, finds_none, EntersUnless, Walks, BeginsAt, BeginsOnTree, GoesAt, Proceeds, Does, SparesUsed}
+use Rattle.joint.specs.Whole.{Whole, EngineHolds, misuse, finds_none, EntersUnless, Walks, BeginsAt, BeginsOnTree, GoesAt, Proceeds, Does, SparesUsed}
 use Rattle.joint.proofs.lemmas.Reserving.{same_nodes}
 
 -- what a step of the collector destroys waited, and no call has its name
@@ -47,7 +47,7 @@ collected_spares {V} h h' ms n d st = elim (d.each n) [
 ]
 
 module _ {V : Type 0} (same : V → V → Bool) (always : Bool) (leaves : (s : Forest V) → LeavesLaw {C = Id} {V = V} id_number same always s.version_max (Refuses s)) where
-  module _ (s s' : Whole V) (w : ℕ) (holds : Holds same always s) where
+  module _ (s s' : Whole V) (w : ℕ) (holds : EngineHolds same always s) where
     as_before : nodes s'.forest ≡ nodes s.forest → SparesUsed s w s'
     as_before e n st = inl (let P : (ℕ → Node V) → Type 0 = λ h. Stands (h n) in subst P (sym e) st)
 
@@ -120,6 +120,6 @@ module _ {V : Type 0} (same : V → V → Bool) (always : Bool) (leaves : (s : F
     step_spares event None r x = proceeds event r x
     step_spares event (Some f) r x = unchanged x.1
 
-  pub all_spare : (s : Whole V) (taken : List (Taken V)) → Holds same always s → AreTaken same always s taken → AllSpare s taken
+  pub all_spare : (s : Whole V) (taken : List (Taken V)) → EngineHolds same always s → AreTaken same always s taken → AllSpare s taken
   all_spare s [] h x = tt
   all_spare s (t ∷ ts) h x = (step_spares s t.after t.step.worker h t.step.event (misuse s t.step.worker t.step.event) t.report x.0.does, all_spare t.after ts x.0.holds x.1)

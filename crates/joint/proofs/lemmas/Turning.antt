@@ -16,6 +16,7 @@ use Rattle.congee.specs.declared.protocol.machine.Machine.{Machine}
 use Rattle.congee.specs.declared.protocol.op.Op.{Op as Point}
 use Rattle.congee.specs.declared.protocol.op.Op.TheVariants as point
 use Rattle.congee.specs.protocol.Play.{begun}
+use Rattle.joint.specs.Log.{no_log}
 use Rattle.joint.specs.declared.call.Call.{Call}
 use Rattle.joint.specs.declared.call.Call.TheVariants.{Idle, Collecting, Reserving, Securing, Walking}
 use Rattle.joint.specs.declared.id.Id.{Id}
@@ -151,13 +152,13 @@ module _ {V : Type 0} (same : V → V → Bool) (always : Bool) (w : Whole V) (w
     pub enters : (op : Point V) (r : Report V) (w' : Whole V) → is_some (place c who).word ≡ true → finds_none op ≡ false → writes op ≡ false → w'.forest ≡ w.forest → w'.machines ≡ set w.machines who (begun root op) → w'.calls ≡ set w.calls who Walking → r ≡ quiet kind.Tree outcome.Running → Begun same always w who (Tree op) r w'
     enters op r w' p n e ef em ec q =
         let state : w' ≡ record w { machines = set w.machines who (begun root op); calls = set w.calls who Walking } =
-        ap (λ y. record { forest = y; machines = w'.machines; calls = w'.calls }) ef ∙ ap (λ y. record { forest = w.forest; machines = y; calls = w'.calls }) em ∙ ap (λ y. record { forest = w.forest; machines = set w.machines who (begun root op); calls = y }) ec in
+        ap (λ y. record { forest = y; machines = w'.machines; calls = w'.calls; log = no_log }) ef ∙ ap (λ y. record { forest = w.forest; machines = y; calls = w'.calls; log = no_log }) em ∙ ap (λ y. record { forest = w.forest; machines = set w.machines who (begun root op); calls = y; log = no_log }) ec in
         on_tree op r w' p (enter op r w' n e (record { state = state; report = q }))
 
     pub reserves : (op : Point V) (r : Report V) (w' : Whole V) → is_some (place c who).word ≡ true → writes op ≡ true → w'.forest ≡ w.forest → w'.machines ≡ w.machines → w'.calls ≡ set w.calls who (Reserving op) → r ≡ quiet kind.Tree outcome.Running → Begun same always w who (Tree op) r w'
     reserves op r w' p e ef em ec q =
         let state : w' ≡ record w { calls = set w.calls who (Reserving op) } =
-        ap (λ y. record { forest = y; machines = w'.machines; calls = w'.calls }) ef ∙ ap (λ y. record { forest = w.forest; machines = y; calls = w'.calls }) em ∙ ap (λ y. record { forest = w.forest; machines = w.machines; calls = y }) ec in
+        ap (λ y. record { forest = y; machines = w'.machines; calls = w'.calls; log = no_log }) ef ∙ ap (λ y. record { forest = w.forest; machines = y; calls = w'.calls; log = no_log }) em ∙ ap (λ y. record { forest = w.forest; machines = w.machines; calls = y; log = no_log }) ec in
         on_tree op r w' p (reserve op r w' e (record { state = state; report = q }))
 
     module _ (laws : ProgressLaws (Slot V) (Unit {0})) (intact : IsIntact same always w.forest w.machines w.calls) (op : Turn) (x : Collection) (w' : Whole V) (did : Collected same always w.forest w.machines who (event.Begin op) x w'.forest) where
@@ -194,7 +195,7 @@ module _ {V : Type 0} (same : V → V → Bool) (always : Bool) (w : Whole V) (w
             let none : x.called ≡ None = did.report.job ∙ ap (λ o. called_in c who (event.Begin op) o) e in
             let told : collection {V = V} x (collected x.outcome) ≡ quiet kind.Collection (outcome.Refused (of_fault f)) =
             ap (λ o. collection {V = V} x (collected o)) e ∙ ap (λ o. collection {V = V} (record { called = o; outcome = x.outcome }) (outcome.Refused (of_fault f))) none in
-            let is : w' ≡ w = ap (λ y. record { forest = y; machines = w'.machines; calls = w'.calls }) (same_forest charged b.1) ∙ ap (λ y. record { forest = w.forest; machines = y; calls = w'.calls }) ms ∙ ap (λ y. record { forest = w.forest; machines = w.machines; calls = y }) back in
+            let is : w' ≡ w = ap (λ y. record { forest = y; machines = w'.machines; calls = w'.calls; log = no_log }) (same_forest charged b.1) ∙ ap (λ y. record { forest = w.forest; machines = y; calls = w'.calls; log = no_log }) ms ∙ ap (λ y. record { forest = w.forest; machines = w.machines; calls = y; log = no_log }) back in
             let P : Option Fault → Type 0 = λ m. Or (Collector op) m r w' in
             subst P (sym (fault_is ∙ b.0)) (q ∙ told, is)
 

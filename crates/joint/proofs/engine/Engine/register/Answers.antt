@@ -1,4 +1,5 @@
 use Rattle.std.proofs.Common.{◌≡◌, ◌<◌, ◌≤◌, length, arith, rules, sym, ◌∙◌, ap, subst, inl, inr}
+use Rattle.joint.specs.Log.{no_log}
 use Rattle.joint.specs.declared.steps.Kind.TheVariants.{Collection}
 use Rattle.joint.specs.declared.steps.Outcome.TheVariants.{Refused}
 use Rattle.joint.specs.Forest.{Forest}
@@ -22,11 +23,11 @@ returns-in-Ok-clause-intact g c =
 
 pub returns-in-Ok-clause-registers : goal.returns-in-Ok-clause-registers
 returns-in-Ok-clause-registers g c =
-    inl (c.in-Ok.place, record { inside = c.in-Ok.ensures.free.0; free = c.in-Ok.ensures.free.1; lowest = c.in-Ok.ensures.lowest; report = c.report.ensures; state = ap (λ f. record { forest = f; machines = c.args.self.now.machines.items; calls = c.args.self.now.calls.items }) c.in-Ok.ensures.state })
+    inl (c.in-Ok.place, record { inside = c.in-Ok.ensures.free.0; free = c.in-Ok.ensures.free.1; lowest = c.in-Ok.ensures.lowest; report = c.report.ensures; state = ap (λ f. record { forest = f; machines = c.args.self.now.machines.items; calls = c.args.self.now.calls.items; log = no_log }) c.in-Ok.ensures.state })
 
 pub returns-in-Err-clause-intact : goal.returns-in-Err-clause-intact
 returns-in-Err-clause-intact g c = subst (λ (f : Forest _). IsIntact g.P.Payload.same_as g.P.Payload.always_copies f c.args.self.now.machines.items c.args.self.now.calls.items) (sym c.in-Err.ensures.state.1) c.requires.intact
 
 pub returns-in-Err-clause-registers : goal.returns-in-Err-clause-registers
 returns-in-Err-clause-registers g c =
-    inr (record { full = c.in-Err.ensures.lowest; report = c.refused.ensures ∙ ap (λ f. quiet Collection (Refused f)) (c.of_fault.ensures ∙ ap of_fault c.in-Err.ensures.state.0); state = ap (λ f. record { forest = f; machines = c.args.self.now.machines.items; calls = c.args.self.now.calls.items }) c.in-Err.ensures.state.1 })
+    inr (record { full = c.in-Err.ensures.lowest; report = c.refused.ensures ∙ ap (λ f. quiet Collection (Refused f)) (c.of_fault.ensures ∙ ap of_fault c.in-Err.ensures.state.0); state = ap (λ f. record { forest = f; machines = c.args.self.now.machines.items; calls = c.args.self.now.calls.items; log = no_log }) c.in-Err.ensures.state.1 })
