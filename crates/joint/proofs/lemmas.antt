@@ -1,6 +1,8 @@
 -- Lemmas of the machine of tree and collector.
 pub mod Accounts
 pub mod Altering
+pub mod Apart
+pub mod Asking
 pub mod Auditing
 pub mod Backs
 pub mod Begun
@@ -17,6 +19,7 @@ pub mod Counting
 pub mod Draining
 pub mod Driving
 pub mod Ending
+pub mod Entering
 pub mod Events
 pub mod Exchanging
 pub mod Few
@@ -34,11 +37,13 @@ pub mod MapSteps
 pub mod NameLists
 pub mod Opened
 pub mod Paths
+pub mod Placed
 pub mod Planting
 pub mod Reaching
 pub mod Recounting
 pub mod Registered
 pub mod Registering
+pub mod Rekept
 pub mod Reported
 pub mod Reserving
 pub mod Requested

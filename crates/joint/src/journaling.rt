@@ -45,12 +45,22 @@ impl<P: Payload + Small, A: Allocator> Engine<P, A> {
         }
     }
 
+    /// The reply of a worker's call that took effect and has locks to let go; `None` also where a value can't be copied.
+    fn reply_held(&self, who: usize) -> Option<Reply<P>>
+        ensures always { P.always_copies ≡ true → result ≡ reply_at (slice_get self.now.machines.items who) }
+    {
+        match self.machines.get(who) {
+            Some(machine) => reply_in(&machine.phase),
+            None => None,
+        }
+    }
+
     /// The reply of a worker's call that took effect in a step with this outcome; `None` also where a value can't be copied.
     pub(crate) fn reply(&self, who: usize, outcome: &Outcome<P>) -> Option<Reply<P>>
         ensures always { P.always_copies ≡ true → result ≡ reply_by outcome.now (slice_get self.now.machines.items who) }
     {
         match outcome {
-            Outcome::Running => reply_in(&self.machines.get(who)?.phase),
+            Outcome::Running => self.reply_held(who),
             Outcome::Done(Done::Reply(reply)) => copy_reply(reply),
             // It asks, has found a pair or was refused, or it is no call on one key.
             _ => None,

@@ -1,6 +1,6 @@
 -- What a worker asked for, beside its call as it is watched: they agree from step to step, and give the call's entry.
 use Rattle.std.proofs.Common.{◌≡◌, ◌≢◌, ℕ, Bool, true, false, List, refl, sym, ◌∙◌, ap, subst}
-use Rattle.std.specs.Prelude.{Option, None, Some, if◌then◌else◌}
+use Rattle.std.specs.Prelude.{Option, None, Some, ◌&&◌}
 use Rattle.judge.specs.declared.journal.Call.{Call as Entered}
 use Rattle.judge.specs.declared.journal.Call.TheVariants as call
 use Rattle.judge.specs.declared.journal.Reply.{Reply}
@@ -65,7 +65,7 @@ module _ {V : Type 0} where
   phase_asks k kind v (phase.ChangeTwo two r) = heeds_none r
   phase_asks k kind v _ = refl
 
-  pub phase_writes : (k : ℕ) (kind : Kind V) (v : Option V) (p : Phase Id V) → writes_on (flight_in k kind v p) ≡ (if is_pending p then may_write kind else false)
+  pub phase_writes : (k : ℕ) (kind : Kind V) (v : Option V) (p : Phase Id V) → writes_on (flight_in k kind v p) ≡ (is_pending p && may_write kind)
   phase_writes k kind v _ = refl
 
   pub phase_replied : (k : ℕ) (kind : Kind V) (v : Option V) (p : Phase Id V) → replied (flight_in k kind v p) ≡ reply_in p

@@ -16,7 +16,6 @@ use Rattle.congee.specs.declared.protocol.machine.Machine.{Machine}
 use Rattle.congee.specs.declared.protocol.op.Op.{Op as Point}
 use Rattle.congee.specs.declared.protocol.op.Op.TheVariants as point
 use Rattle.congee.specs.protocol.Play.{begun}
-use Rattle.joint.specs.Log.{no_log}
 use Rattle.joint.specs.declared.call.Call.{Call}
 use Rattle.joint.specs.declared.call.Call.TheVariants.{Idle, Collecting, Reserving, Securing, Walking}
 use Rattle.joint.specs.declared.id.Id.{Id}
@@ -149,16 +148,16 @@ module _ {V : Type 0} (same : V → V → Bool) (always : Bool) (w : Whole V) (w
     pub ends_at_once : (op : Point V) (r : Report V) → is_some (place c who).word ≡ true → finds_none op ≡ true → r ≡ quiet kind.Tree (outcome.Done (Scanned 0)) → Begun same always w who (Tree op) r w
     ends_at_once op r p n q = on_tree op r w p (at_once op r n q)
 
-    pub enters : (op : Point V) (r : Report V) (w' : Whole V) → is_some (place c who).word ≡ true → finds_none op ≡ false → writes op ≡ false → w'.forest ≡ w.forest → w'.machines ≡ set w.machines who (begun root op) → w'.calls ≡ set w.calls who Walking → r ≡ quiet kind.Tree outcome.Running → Begun same always w who (Tree op) r w'
-    enters op r w' p n e ef em ec q =
+    pub enters : (op : Point V) (r : Report V) (w' : Whole V) → is_some (place c who).word ≡ true → finds_none op ≡ false → writes op ≡ false → w'.forest ≡ w.forest → w'.machines ≡ set w.machines who (begun root op) → w'.calls ≡ set w.calls who Walking → w'.log ≡ w.log → r ≡ quiet kind.Tree outcome.Running → Begun same always w who (Tree op) r w'
+    enters op r w' p n e ef em ec el q =
         let state : w' ≡ record w { machines = set w.machines who (begun root op); calls = set w.calls who Walking } =
-        ap (λ y. record { forest = y; machines = w'.machines; calls = w'.calls; log = no_log }) ef ∙ ap (λ y. record { forest = w.forest; machines = y; calls = w'.calls; log = no_log }) em ∙ ap (λ y. record { forest = w.forest; machines = set w.machines who (begun root op); calls = y; log = no_log }) ec in
+        ap (λ y. record { forest = y; machines = w'.machines; calls = w'.calls; log = w'.log }) ef ∙ ap (λ y. record { forest = w.forest; machines = y; calls = w'.calls; log = w'.log }) em ∙ ap (λ y. record { forest = w.forest; machines = set w.machines who (begun root op); calls = y; log = w'.log }) ec ∙ ap (λ y. record { forest = w.forest; machines = set w.machines who (begun root op); calls = set w.calls who Walking; log = y }) el in
         on_tree op r w' p (enter op r w' n e (record { state = state; report = q }))
 
-    pub reserves : (op : Point V) (r : Report V) (w' : Whole V) → is_some (place c who).word ≡ true → writes op ≡ true → w'.forest ≡ w.forest → w'.machines ≡ w.machines → w'.calls ≡ set w.calls who (Reserving op) → r ≡ quiet kind.Tree outcome.Running → Begun same always w who (Tree op) r w'
-    reserves op r w' p e ef em ec q =
+    pub reserves : (op : Point V) (r : Report V) (w' : Whole V) → is_some (place c who).word ≡ true → writes op ≡ true → w'.forest ≡ w.forest → w'.machines ≡ w.machines → w'.calls ≡ set w.calls who (Reserving op) → w'.log ≡ w.log → r ≡ quiet kind.Tree outcome.Running → Begun same always w who (Tree op) r w'
+    reserves op r w' p e ef em ec el q =
         let state : w' ≡ record w { calls = set w.calls who (Reserving op) } =
-        ap (λ y. record { forest = y; machines = w'.machines; calls = w'.calls; log = no_log }) ef ∙ ap (λ y. record { forest = w.forest; machines = y; calls = w'.calls; log = no_log }) em ∙ ap (λ y. record { forest = w.forest; machines = w.machines; calls = y; log = no_log }) ec in
+        ap (λ y. record { forest = y; machines = w'.machines; calls = w'.calls; log = w'.log }) ef ∙ ap (λ y. record { forest = w.forest; machines = y; calls = w'.calls; log = w'.log }) em ∙ ap (λ y. record { forest = w.forest; machines = w.machines; calls = y; log = w'.log }) ec ∙ ap (λ y. record { forest = w.forest; machines = w.machines; calls = set w.calls who (Reserving op); log = y }) el in
         on_tree op r w' p (reserve op r w' e (record { state = state; report = q }))
 
     module _ (laws : ProgressLaws (Slot V) (Unit {0})) (intact : IsIntact same always w.forest w.machines w.calls) (op : Turn) (x : Collection) (w' : Whole V) (did : Collected same always w.forest w.machines who (event.Begin op) x w'.forest) where
@@ -183,7 +182,7 @@ module _ {V : Type 0} (same : V → V → Bool) (always : Bool) (w : Whole V) (w
           ∙ ap (λ y. record { collector = c; charge = w.forest.charge; base = w.forest.base; limit = y; version_max = w'.forest.version_max }) did.beside.limit
           ∙ ap (λ y. record { collector = c; charge = w.forest.charge; base = w.forest.base; limit = w.forest.limit; version_max = y }) did.beside.versions
 
-      module _ (charged : IsCharged w.forest) (ms : w'.machines ≡ w.machines) (calls : w'.calls ≡ set w.calls who (call_after x.outcome (Collecting op))) (r : Report V) (q : r ≡ collection x (collected x.outcome)) where
+      module _ (charged : IsCharged w.forest) (ms : w'.machines ≡ w.machines) (calls : w'.calls ≡ set w.calls who (call_after x.outcome (Collecting op))) (log : w'.log ≡ w.log) (r : Report V) (q : r ≡ collection x (collected x.outcome)) where
         goes : refusal c who op ≡ None → Begun same always w who (Collector op) r w'
         goes e = proceeds (Collector op) r w' (fault_is ∙ e) (record { turn = x; step = did; machines = ms; calls = calls; report = q })
 
@@ -195,7 +194,7 @@ module _ {V : Type 0} (same : V → V → Bool) (always : Bool) (w : Whole V) (w
             let none : x.called ≡ None = did.report.job ∙ ap (λ o. called_in c who (event.Begin op) o) e in
             let told : collection {V = V} x (collected x.outcome) ≡ quiet kind.Collection (outcome.Refused (of_fault f)) =
             ap (λ o. collection {V = V} x (collected o)) e ∙ ap (λ o. collection {V = V} (record { called = o; outcome = x.outcome }) (outcome.Refused (of_fault f))) none in
-            let is : w' ≡ w = ap (λ y. record { forest = y; machines = w'.machines; calls = w'.calls; log = no_log }) (same_forest charged b.1) ∙ ap (λ y. record { forest = w.forest; machines = y; calls = w'.calls; log = no_log }) ms ∙ ap (λ y. record { forest = w.forest; machines = w.machines; calls = y; log = no_log }) back in
+            let is : w' ≡ w = ap (λ y. record { forest = y; machines = w'.machines; calls = w'.calls; log = w'.log }) (same_forest charged b.1) ∙ ap (λ y. record { forest = w.forest; machines = y; calls = w'.calls; log = w'.log }) ms ∙ ap (λ y. record { forest = w.forest; machines = w.machines; calls = y; log = w'.log }) back ∙ ap (λ y. record { forest = w.forest; machines = w.machines; calls = w.calls; log = y }) log in
             let P : Option Fault → Type 0 = λ m. Or (Collector op) m r w' in
             subst P (sym (fault_is ∙ b.0)) (q ∙ told, is)
 

@@ -1,5 +1,5 @@
 use Rattle.joint.specs.Log.{no_log}
-use Rattle.std.proofs.Common.{◌≡◌, sym, ◌∙◌, ap}
+use Rattle.std.proofs.Common.{◌≡◌, refl, sym, ◌∙◌, ap}
 use Rattle.std.specs.Prelude.{is_some}
 use Rattle.crossbeam_epoch.specs.World.Machine.{place}
 use Rattle.joint.proofs.lemmas.Turning.{unpinned, ends_at_once, enters, reserves, word_is}
@@ -14,12 +14,12 @@ pub returns-then-writes-clause-begun : goal.returns-then-writes-clause-begun
 returns-then-writes-clause-begun g c =
     let w : is_some (place c.args.self.now.nodes.collector c.args.who).word ≡ c.is_pinned.result = word_is _ _ _ c.is_pinned.ensures c.requires.registered in
     reserves g.P.Payload.same_as g.P.Payload.always_copies (record { forest = c.args.self.now.nodes; machines = c.args.self.now.machines.items; calls = c.args.self.now.calls.items; log = no_log }) c.args.who c.requires.registered c.requires.idle c.args.op c.report-then-writes.result (record { forest = c.reserve.new.self.nodes; machines = c.reserve.new.self.machines.items; calls = c.reserve.new.self.calls.items; log = no_log }) (w ∙ c.if-not-is_pinned.false) (sym c.writes.ensures ∙ c.if-writes.true) c.reserve.ensures.nodes
-    (ap (λ v. v.items) c.reserve.ensures.machines) c.reserve.ensures.calls c.report-then-writes.ensures
+    (ap (λ v. v.items) c.reserve.ensures.machines) c.reserve.ensures.calls refl c.report-then-writes.ensures
 
 pub returns-clause-begun : goal.returns-clause-begun
 returns-clause-begun g c =
     let w : is_some (place c.args.self.now.nodes.collector c.args.who).word ≡ c.is_pinned.result = word_is _ _ _ c.is_pinned.ensures c.requires.registered in
-    enters g.P.Payload.same_as g.P.Payload.always_copies (record { forest = c.args.self.now.nodes; machines = c.args.self.now.machines.items; calls = c.args.self.now.calls.items; log = no_log }) c.args.who c.requires.registered c.requires.idle c.args.op c.report-2.result (record { forest = c.start.new.self.nodes; machines = c.start.new.self.machines.items; calls = c.start.new.self.calls.items; log = no_log }) (w ∙ c.if-not-is_pinned.false) (sym c.finds_none.ensures ∙ c.if-finds_none.false) (sym c.writes.ensures ∙ c.if-writes.false) c.start.ensures.nodes c.start.ensures.machines c.start.ensures.calls c.report-2.ensures
+    enters g.P.Payload.same_as g.P.Payload.always_copies (record { forest = c.args.self.now.nodes; machines = c.args.self.now.machines.items; calls = c.args.self.now.calls.items; log = no_log }) c.args.who c.requires.registered c.requires.idle c.args.op c.report-2.result (record { forest = c.start.new.self.nodes; machines = c.start.new.self.machines.items; calls = c.start.new.self.calls.items; log = no_log }) (w ∙ c.if-not-is_pinned.false) (sym c.finds_none.ensures ∙ c.if-finds_none.false) (sym c.writes.ensures ∙ c.if-writes.false) c.start.ensures.nodes c.start.ensures.machines c.start.ensures.calls refl c.report-2.ensures
 
 pub reserve-requires-clause-pinned : goal.reserve-requires-clause-pinned
 reserve-requires-clause-pinned g c =
