@@ -1,5 +1,6 @@
 -- Lemmas of the machine of tree and collector.
 pub mod Accounts
+pub mod Advanced
 pub mod Altering
 pub mod Apart
 pub mod Asking
@@ -18,13 +19,16 @@ pub mod Copying
 pub mod Counting
 pub mod Draining
 pub mod Driving
+pub mod Effects
 pub mod Ending
 pub mod Entering
 pub mod Events
 pub mod Exchanging
 pub mod Few
 pub mod Flights
+pub mod Found
 pub mod Fresh
+pub mod GivingUp
 pub mod Guarded
 pub mod HandOver
 pub mod Handed
@@ -32,8 +36,10 @@ pub mod Hanging
 pub mod Kept
 pub mod Keyed
 pub mod Listing
+pub mod Logged
 pub mod Made
 pub mod MapSteps
+pub mod Mapped
 pub mod NameLists
 pub mod Opened
 pub mod Paths
@@ -65,6 +71,7 @@ pub mod Tickets
 pub mod TreeStep
 pub mod Turning
 pub mod Totals
+pub mod Unkept
 pub mod Views
 pub mod Waiting
 pub mod Walk

@@ -1,6 +1,6 @@
 -- What the machine writes down: the entries of its journal, the places kept for entries to come, and each worker's call in
 -- flight as it was asked for.
-use Rattle.std.specs.Prelude.{ℕ, zero, suc, ◌+◌, ◌-◌, ltb, not, ◌&&◌, Bool, true, false, List, [], ◌∷◌, length, Option, None, Some, slice_index_or, replicate}
+use Rattle.std.specs.Prelude.{ℕ, zero, suc, ◌+◌, ◌-◌, ltb, not, ◌&&◌, Bool, true, false, List, [], ◌∷◌, length, Option, None, Some, slice_index_or, slice_set, replicate}
 use Rattle.judge.specs.declared.journal.Entry.{Entry}
 use Rattle.joint.specs.declared.request.Request.{Request}
 use Rattle.joint.specs.declared.steps.Op.{Op}
@@ -48,6 +48,11 @@ request_at requests who = slice_index_or requests who None
 
 abbrev pub asked : {V : Type 0} → Op V → Option (Request V)
 asked op = Some (record { op = op; answer = None })
+
+-- with another request in a worker's place, where one is to be noted
+abbrev pub noted : {V : Type 0} → Log V → ℕ → Bool → Option (Request V) → Log V
+noted l who true q = record l { requests = slice_set l.requests who q }
+noted l who false q = l
 
 -- to take the key out is no answer where a value is wanted
 abbrev pub with_none : {V : Type 0} → Op V → Option (Option V) → Option (Option V)

@@ -1,7 +1,6 @@
 -- Lists of steps, and what they make of the map of the tree's pairs.
 use Rattle.std.specs.Prelude.{◌≡◌, ℕ, ◌<◌, ◌⊎◌, Bool, true, false, List, [], ◌∷◌, ◌++◌, map, Option, None, Some, if◌then◌else◌, slice_get}
 use Rattle.std.specs.FinMap.{get}
-use Rattle.std.specs.List.{Contains}
 use Rattle.judge.specs.declared.journal.Call.{Call as Entered}
 use Rattle.judge.specs.declared.journal.Call.TheVariants as entered
 use Rattle.judge.specs.declared.journal.Entry.{Entry}
@@ -271,8 +270,12 @@ abbrev pub looks_up : {V : Type 0} → Entered V → Bool
 looks_up (entered.Get k) = true
 looks_up _ = false
 
+abbrev pub KeepsWrite : {V : Type 0} → Line V → Type 0
+KeepsWrite {V} l = (e : Entry V) → l.entry ≡ Some e → looks_up e.call ≡ false → l.report.kept ≡ true
+
 abbrev pub KeepsWrites : {V : Type 0} → List (Line V) → Type 0
-KeepsWrites {V} lines = (l : Line V) (e : Entry V) → Contains lines l → l.entry ≡ Some e → looks_up e.call ≡ false → l.report.kept ≡ true
+KeepsWrites [] = Unit {0}
+KeepsWrites (l ∷ ls) = KeepsWrite l × KeepsWrites ls
 
 -- what a run makes of the map and of the journal: that goes on with the entries of the writing calls that took effect in it
 -- and of the look-ups that were kept, in deciding order

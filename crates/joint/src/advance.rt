@@ -1,8 +1,9 @@
 //! One step of the index, with what is written down of it.
 
-ghost use Rattle.std.specs.Prelude.{◌≡◌, ◌++◌, true, Option, None, Some, is_some, slice_get, slice_set, IfSome};
+ghost use Rattle.std.specs.Prelude.{◌≡◌, ◌++◌, ◌&&◌, true, false, Option, None, Some, is_some, slice_get, slice_set, IfSome};
 ghost use Rattle.joint.specs.Journaling.{asks_at, entry_of, in_list, kept_if, reply_by};
-ghost use Rattle.joint.specs.Log.{has_room, heard_by, request_at};
+ghost use Rattle.joint.specs.Intact.{is_reserving};
+ghost use Rattle.joint.specs.Log.{has_room, heard_by, is_full, noted, request_at};
 ghost use Rattle.joint.specs.Whole.{is_in_flight, IsStep};
 
 use crate::id::Id;
@@ -47,9 +48,8 @@ impl<P: Payload + Small, A: Allocator> World<P, A> {
             worker,
             event: Event::Begin(op),
         });
-        if is_in_flight(&report.outcome) {
-            self.log.put_request(worker as usize, request);
-        }
+        let on = is_in_flight(&report.outcome);
+        note(&mut self.log, worker as usize, on, request);
         report
     }
 
@@ -57,12 +57,36 @@ impl<P: Payload + Small, A: Allocator> World<P, A> {
     fn go(&mut self, worker: u32, noise: Noise<Id, P>) -> Report<P>
         ensures { IsStep P.same_as P.always_copies self.old (record { worker = worker; event = Event.Go noise }) result self.new }
     {
-        let who = worker as usize;
-        if self.engine.is_reserving(who) && self.log.is_full() {
-            self.engine.abandon(who);
-            self.log.put_request(who, None);
-            return refused(Kind::Collection, Refusal::JournalFull);
+        if self.gives_up(worker as usize) {
+            self.give_up(worker as usize)
+        } else {
+            self.advance(worker, noise)
         }
+    }
+
+    /// Whether a worker's call is a writing one in its first step for which the journal has no place.
+    fn gives_up(&self, who: usize) -> bool
+        ensures { result ≡ (is_reserving (slice_get self.now.calls who) && is_full self.now.log) }
+    {
+        self.engine.is_reserving(who) && self.log.is_full()
+    }
+
+    /// Ends such a call.
+    fn give_up(&mut self, who: usize) -> Report<P>
+        requires { (is_reserving (slice_get self.old.calls who) && is_full self.old.log) ≡ true }
+        ensures { (noise : Noise Id P) → IsStep P.same_as P.always_copies self.old (record { worker = who; event = Event.Go noise }) result self.new }
+    {
+        self.engine.abandon(who);
+        self.log.put_request(who, None);
+        refused(Kind::Collection, Refusal::JournalFull)
+    }
+
+    /// The next step of any other call.
+    fn advance(&mut self, worker: u32, noise: Noise<Id, P>) -> Report<P>
+        requires { (is_reserving (slice_get self.old.calls worker) && is_full self.old.log) ≡ false }
+        ensures { IsStep P.same_as P.always_copies self.old (record { worker = worker; event = Event.Go noise }) result self.new }
+    {
+        let who = worker as usize;
         let request = hear(&mut self.log, who, self.engine.asks(who), &noise.answer);
         let before = self.engine.has_place(who);
         let told = self.engine.step(Step {
@@ -71,11 +95,18 @@ impl<P: Payload + Small, A: Allocator> World<P, A> {
         });
         self.log.recount(before, self.engine.has_place(who));
         let reply = self.engine.reply(who, &told.outcome);
-        let kept = told.decided && keep(&mut self.log, entry(worker, &request, reply));
-        if is_in_flight(&told.outcome) {
-            self.log.put_request(who, request);
-        }
+        let kept = keep(&mut self.log, told.decided, entry(worker, &request, reply));
+        note(&mut self.log, who, is_in_flight(&told.outcome), request);
         with_kept(told, kept)
+    }
+}
+
+/// Puts a request in its worker's place, where it is to be noted.
+fn note<P: Drop>(log: &mut Log<P>, who: usize, on: bool, request: Option<Request<P>>)
+    ensures { log.new ≡ noted log.old who on request }
+{
+    if on {
+        log.put_request(who, request);
     }
 }
 
@@ -99,11 +130,11 @@ fn hear<P: Payload>(
 }
 
 /// Writes the entry of a call down that took effect, where a place is free that nobody has reserved; tells whether it did.
-fn keep<P: Payload>(log: &mut Log<P>, entry: Option<Entry<P>>) -> bool
-    ensures kept { result ≡ is_some (kept_if true (has_room log.old) entry) }
-    ensures log { log.new ≡ record log.old { entries = log.old.entries ++ in_list (kept_if true (has_room log.old) entry) } }
+fn keep<P: Payload>(log: &mut Log<P>, decided: bool, entry: Option<Entry<P>>) -> bool
+    ensures kept { result ≡ is_some (kept_if decided (has_room log.old) entry) }
+    ensures log { log.new ≡ record log.old { entries = log.old.entries ++ in_list (kept_if decided (has_room log.old) entry) } }
 {
-    if !log.has_room() {
+    if !decided || !log.has_room() {
         return false;
     }
     match entry {

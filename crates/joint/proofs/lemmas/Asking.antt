@@ -65,7 +65,7 @@ module _ {V : Type 0} where
   request_apart : (qs : List (Option (Request V))) (w i : ℕ) (o : Option (Request V)) → i ≢ w → request_at (slice_set qs w o) i ≡ request_at qs i
   request_apart qs w i o n = get_or-set_other qs w i o None n
 
-  asked_set : (qs : List (Option (Request V))) (fs : Flights V) (w : ℕ) (o : Option (Request V)) (f' : Flight V) → ((i : ℕ) → IsAsked (request_at qs i) (fs i)) → IsAsked (request_at (slice_set qs w o) w) f'
+  pub asked_set : (qs : List (Option (Request V))) (fs : Flights V) (w : ℕ) (o : Option (Request V)) (f' : Flight V) → ((i : ℕ) → IsAsked (request_at qs i) (fs i)) → IsAsked (request_at (slice_set qs w o) w) f'
       → (fs' : Flights V) → fs' w ≡ f' → ((i : ℕ) → i ≢ w → fs' i ≡ fs i) → (i : ℕ) → IsAsked (request_at (slice_set qs w o) i) (fs' i)
   asked_set qs fs w o f' each here fs' e apart i = elim (cases_Bool (i == w)) [
     | inl b ↦ (
@@ -92,7 +92,7 @@ module _ {V : Type 0} (same : V → V → Bool) (always : Bool) (s s' : Whole V)
   -- no call on the tree begins or goes on
   stays_begin : (op : Op V) (r : Report V) (l : Line V) (fs' : Flights V) (on : Bool) → (on ≡ true → fs w ≡ Over) → Stays fs m l fs' → Agrees (if on then slice_set qs w (asked op) else qs) fs'
   stays_begin op r l fs' true over x = asked_set qs fs w (asked op) (fs w) each (over_here (request_at (slice_set qs w (asked op)) w) (over refl)) fs' (ap (λ (g : Flights V). g w) x.same_flights) (λ i n. ap (λ (g : Flights V). g i) x.same_flights)
-  stays_begin op r l fs' false over x i = subst (λ (g : Flights V). IsAsked (request_at qs i) (g i)) (sym x.same_flights) (each i)
+  stays_begin op r l fs' false over x = λ i. subst (λ (g : Flights V). IsAsked (request_at qs i) (g i)) (sym x.same_flights) (each i)
 
   flight_begin : (op : Op V) (p : Point V) (l : Line V) (fs' : Flights V) → target op ≡ target.Tree p → w < length qs → fs' ≡ with_flight fs w (flight (begun root p)) → Agrees (slice_set qs w (asked op)) fs'
   flight_begin op p l fs' t n x =
@@ -134,7 +134,7 @@ module _ {V : Type 0} (same : V → V → Bool) (always : Bool) (s s' : Whole V)
     past_or_in : (n i : ℕ) → (n ≤ i) ⊎ (i < n)
     past_or_in n i = grind arith
 
-  pending_next : (noise : Noise Id V) (k : ℕ) (kd : Kind V) (v : Option V) (q : Question V) → fs w ≡ Pending k kd v q → Heard (heard_by (asks_at (slice_get s.machines w)) noise.answer (request_at qs w)) k kd (heard kd q noise.answer v)
+  pub pending_next : (noise : Noise Id V) (k : ℕ) (kd : Kind V) (v : Option V) (q : Question V) → fs w ≡ Pending k kd v q → Heard (heard_by (asks_at (slice_get s.machines w)) noise.answer (request_at qs w)) k kd (heard kd q noise.answer v)
   pending_next noise k kd v q e =
       let a : IsAsked (request_at qs w) (Pending k kd v q) = subst (λ (x : Flight V). IsAsked (request_at qs w) x) e (each w) in
       let b : asks_at (slice_get s.machines w) ≡ is_asked q = asks_here same always (engine_of s) w holds fs fl ∙ ap asks e in
@@ -163,7 +163,7 @@ module _ {V : Type 0} (same : V → V → Bool) (always : Bool) (s s' : Whole V)
 
   pub asked_after : (event : Event V) (l : Line V) (fs' : Flights V) → l.step.worker ≡ w → Does same always (engine_of s) w event (misuse (engine_of s) w event) l.report (engine_of s') → EventMap same fs m event l fs'
       → (i : ℕ) → IsAsked (request_at (requests_after s w event (is_in_flight l.report.outcome)) i) (fs' i)
-  asked_after Register l fs' we does x i = subst (λ (g : Flights V). IsAsked (request_at qs i) (g i)) (sym x.same_flights) (each i)
+  asked_after Register l fs' we does x = λ i. subst (λ (g : Flights V). IsAsked (request_at qs i) (g i)) (sym x.same_flights) (each i)
   asked_after (Begin op) l fs' we does x = begin_case op (target op) l.report l fs' refl we (begin_free same always (engine_of s) (engine_of s') w holds fs fl op l.report does) x
   asked_after (Go noise) l fs' we does x =
       let P : ℕ → Type 0 = λ j. GoMap same fs (fs j) m noise.answer l fs' in

@@ -17,7 +17,7 @@ use Rattle.joint.specs.declared.steps.Target.TheVariants as target
 use Rattle.joint.specs.Forest.{Forest, IsBeside}
 use Rattle.joint.specs.Reports.{target}
 use Rattle.joint.specs.Runs.{Taken, AreTaken, IsRun, after_all}
-use Rattle.joint.specs.Whole.{Whole, BeginsAt, BeginsOnTree, Does, EntersUnless, GoesAt, Proceeds, finds_none, misuse}
+use Rattle.joint.specs.Whole.{Whole, BeginsAt, BeginsOnTree, Does, EntersUnless, GoesAt, Proceeds, StepsUnless, engine_of, finds_none, gives_up, misuse}
 
 module _ {V : Type 0} where
   itself : (s : Forest V) → IsBeside s s
@@ -69,11 +69,15 @@ module _ {V : Type 0} (same : V → V → Bool) (always : Bool) where
     step_beside event None r x = proceeds event r x
     step_beside event (Some f) r x = alike s.forest s'.forest (ap (λ y. y.forest) x.1)
 
+  whole_step : (s : Whole V) (step : Step V) (r : Report V) (s' : Whole V) (b : Bool) → StepsUnless same always b s step r s' → IsBeside s.forest s'.forest
+  whole_step s step r s' true x = alike s.forest s'.forest (ap (λ y. y.forest) x.state)
+  whole_step s step r s' false x = step_beside (engine_of s) (engine_of s') step.worker step.event (misuse (engine_of s) step.worker step.event) x.told x.engine.does
+
   taken_beside : (s : Whole V) (taken : List (Taken V)) → AreTaken same always s taken → IsBeside s.forest (after_all s taken).forest
   taken_beside s [] x = itself s.forest
   taken_beside s (t ∷ ts) x =
       further s.forest t.after.forest (after_all t.after ts).forest
-      (step_beside s t.after t.step.worker t.step.event (misuse s t.step.worker t.step.event) t.report x.0.does)
+      (whole_step s t.step t.report t.after (gives_up s t.step.worker t.step.event) x.0.does)
       (taken_beside t.after ts x.1)
 
   pub run_beside : (s s' : Whole V) (steps : List (Step V)) (reports : List (Report V)) → IsRun same always s steps reports s' → IsBeside s.forest s'.forest

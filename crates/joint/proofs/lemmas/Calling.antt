@@ -110,7 +110,7 @@ module _ {V : Type 0} (same : V → V → Bool) (always : Bool) where
         kept = k;
         found = f ∙ ap (put r.outcome) c.found ∙ sym (put_more c.reports r places);
         holds = x.holds;
-        flight = λ m. x.flight tt (may_go same always s1 who c.holds (record { fail = false; seen = None; answer = None }) (c.flight m ∙ going q.outcome g)) ∙ sym (away_flight r.outcome) ∙ sym (ap (λ y. is_in_flight y.outcome) k);
+        flight = λ m. x.flight tt (may_go same always s1 who (c.holds.0, c.holds.1) (record { fail = false; seen = None; answer = None }) (c.flight m ∙ going q.outcome g)) ∙ sym (away_flight r.outcome) ∙ sym (ap (λ y. is_in_flight y.outcome) k);
       } where
         last_snoc : (qs : List (Report V)) (last x : Report V) → last_of qs ≡ Some last → last_of (qs ++ x ∷ []) ≡ Some x
         last_snoc [] last x e = refl

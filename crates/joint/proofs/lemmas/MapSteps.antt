@@ -167,7 +167,7 @@ module _ {V : Type 0} (same : V → V → Bool) (always : Bool) (s s' : Whole V)
   stays event r m' d = record { undecided = d; no_entry = refl; same_pairs = refl; same_flights = refl }
 
   -- one worker's call was exchanged
-  set_in_flight : (fs' : Flights V) (k' : Call V) → w < length s.calls → s'.calls ≡ slice_set s.calls w k'
+  pub set_in_flight : (fs' : Flights V) (k' : Call V) → w < length s.calls → s'.calls ≡ slice_set s.calls w k'
       → ((i : ℕ) (x : Machine Id V) → i ≢ w → slice_get s'.machines i ≡ Some x → slice_get s.machines i ≡ Some x)
       → ((x : Machine Id V) → slice_get s'.machines w ≡ Some x → InFlight k' x (fs' w)) → ((i : ℕ) → i ≢ w → fs' i ≡ fs i) → AreInFlight s' fs'
   set_in_flight fs' k' l ec em here apart = record {
@@ -321,13 +321,13 @@ module _ {V : Type 0} (same : V → V → Bool) (always : Bool) (s s' : Whole V)
       pairs = m;
       flights = with_flight fs w waiting;
       stand = stands_on (nodes s.forest) (nodes s'.forest) m map st;
-      step = advances waiting (Go noise) noise.answer (collection turn Running) None m waiting (λ q. cc) waits (record {
+      step = advances waiting (Go noise) noise.answer (collection turn Running) None m waiting (λ q. cc) waits (inl (record {
         outcome = moved.Running;
         told_so = refl;
         undecided = (Unasked, tt, refl);
         no_entry = refl;
         same_pairs = refl;
-      });
+      }));
       in_flight = set_in_flight (with_flight fs w waiting) (Securing op) len ec (same_machines em)
           (λ y b. flight_here fs w waiting ∙ sym (pending op writing)) (λ i n. flight_apart fs w i waiting n);
     }
@@ -336,13 +336,13 @@ module _ {V : Type 0} (same : V → V → Bool) (always : Bool) (s s' : Whole V)
       pairs = m;
       flights = with_flight fs w waiting;
       stand = stands_on (nodes s.forest) (nodes s'.forest) m map st;
-      step = advances waiting (Go noise) noise.answer (collection turn Running) None m waiting (λ q. cc) waits (record {
+      step = advances waiting (Go noise) noise.answer (collection turn Running) None m waiting (λ q. cc) waits (inl (record {
         outcome = moved.Running;
         told_so = refl;
         undecided = (Unasked, tt, refl);
         no_entry = refl;
         same_pairs = refl;
-      });
+      }));
       in_flight = set_in_flight (with_flight fs w waiting) Walking len ec
           (λ i y n b.
           let P : List (Machine Id V) → Type 0 = λ ms. slice_get ms i ≡ Some y in
@@ -365,13 +365,13 @@ module _ {V : Type 0} (same : V → V → Bool) (always : Bool) (s s' : Whole V)
       pairs = m;
       flights = with_flight fs w Over;
       stand = stands_on (nodes s.forest) (nodes s'.forest) m map st;
-      step = advances waiting (Go noise) noise.answer (collection turn (Refused (of_fault f))) None m Over (λ q. cc) waits (record {
+      step = advances waiting (Go noise) noise.answer (collection turn (Refused (of_fault f))) None m Over (λ q. cc) waits (inl (record {
         outcome = moved.Refused cause.Memory;
         told_so = ap (λ g. Refused (of_fault g)) (only f refl);
         undecided = refl;
         no_entry = refl;
         same_pairs = refl;
-      });
+      }));
       in_flight = set_in_flight (with_flight fs w Over) Idle len ec (same_machines em)
           (λ y b. flight_here fs w Over) (λ i n. flight_apart fs w i Over n);
     }

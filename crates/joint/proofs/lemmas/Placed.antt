@@ -128,7 +128,7 @@ module _ {V : Type 0} (same : V → V → Bool) (always : Bool) (s : Whole V) (w
   pub place_here : is_reserving (slice_get s.calls w) ≡ false → has_place (slice_get s.calls w) (slice_get s.machines w) ≡ writes_on (fs w)
   place_here r = here_by (slice_get s.calls w) refl r
 
-  reserving_none : (k : Option (Call V)) (o : Option (Machine Id V)) → is_reserving k ≡ true → has_place k o ≡ false
+  pub reserving_none : (k : Option (Call V)) (o : Option (Machine Id V)) → is_reserving k ≡ true → has_place k o ≡ false
   reserving_none (Some (Reserving op)) o e = refl
   reserving_none (Some Idle) o e = absurd (cc e)
   reserving_none (Some (Collecting op)) o e = absurd (cc e)

@@ -66,9 +66,11 @@ module _ {V : Type 0} where
   phase_asks k kind v _ = refl
 
   pub phase_writes : (k : ℕ) (kind : Kind V) (v : Option V) (p : Phase Id V) → writes_on (flight_in k kind v p) ≡ (is_pending p && may_write kind)
+  phase_writes k kind v phase.Ended = refl
   phase_writes k kind v _ = refl
 
   pub phase_replied : (k : ℕ) (kind : Kind V) (v : Option V) (p : Phase Id V) → replied (flight_in k kind v p) ≡ reply_in p
+  phase_replied k kind v phase.Ended = refl
   phase_replied k kind v _ = refl
 
   -- a request that is heard is of the same call with the value that it has then

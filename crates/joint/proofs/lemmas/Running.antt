@@ -9,9 +9,9 @@ use Rattle.congee.specs.Keys.{IsMapOf}
 use Rattle.joint.specs.declared.steps.Report.{Report}
 use Rattle.joint.specs.declared.steps.Step.{Step}
 use Rattle.joint.specs.Forest.{nodes}
-use Rattle.joint.specs.Runs.{Taken, after_all, IsRun, Line, Flights, AreLines, AreInFlight, PlaysMap, RunsMap, pairs_after, no_flights, IsFresh}
+use Rattle.joint.specs.Runs.{Taken, after_all, IsRun, Line, Flights, AreLines, AreInFlight, PlaysMap, RunsJournal, RunsMap, pairs_after, no_flights, IsFresh}
 use Rattle.joint.specs.Whole.{Whole, Holds, IsStep}
-use Rattle.joint.proofs.lemmas.Runs.{runs_join, runs_map, entries_legal, standing_empty, fresh_flights}
+use Rattle.joint.proofs.lemmas.Runs.{runs_join, runs_map, runs_journal, entries_legal, standing_empty, fresh_flights}
 
 module _ {V : Type 0} (same : V → V → Bool) (always : Bool) where
   -- how far the steps have come: those taken and those left
@@ -92,3 +92,18 @@ module _ {V : Type 0} (same : V → V → Bool) (always : Bool) where
 
   pub run_fresh : (s : Whole V) (steps : List (Step V)) (reports : List (Report V)) (s' : Whole V) → IsFresh s → Holds same always s → IsRun same always s steps reports s' → RunsMap same no_flights empty steps reports s'
   run_fresh s steps reports s' fresh h r = run_map s steps reports s' no_flights empty h r (standing_empty same always (nodes s.forest) fresh.alone) (fresh_flights same always s fresh)
+
+  -- and what it makes of the journal
+  pub run_journal : (s : Whole V) (steps : List (Step V)) (reports : List (Report V)) (s' : Whole V) (fs : Flights V) (m : Pairs V) → Holds same always s → IsRun same always s steps reports s' → IsMapOf (nodes s.forest) m → AreInFlight s fs
+      → RunsJournal same fs m s steps reports s'
+  run_journal s steps reports s' fs m h r st fl =
+      let j = runs_journal same always s r.taken fs m h r.each st fl in
+      record {
+        runs = run_map s steps reports s' fs m h r st fl;
+        entries = ap (λ (y : Whole V). y.log.entries) (sym r.last) ∙ j.entries;
+        writes = j.writes;
+        places = ap (λ (y : Whole V). y.log.places) (sym r.last) ∙ j.places;
+      }
+
+  pub fresh_journal : (s : Whole V) (steps : List (Step V)) (reports : List (Report V)) (s' : Whole V) → IsFresh s → Holds same always s → IsRun same always s steps reports s' → RunsJournal same no_flights empty s steps reports s'
+  fresh_journal s steps reports s' fresh h r = run_journal s steps reports s' no_flights empty h r (standing_empty same always (nodes s.forest) fresh.alone) (fresh_flights same always s fresh)

@@ -1,10 +1,10 @@
 -- A list of steps is the run of a map.
-use Rattle.std.proofs.Common.{◌≡◌, ℕ, Bool, true, false, List, [], ◌∷◌, ◌++◌, refl, sym, ◌∙◌, ap, subst, inl, inr, ◌⊎◌}
+use Rattle.std.proofs.Common.{◌≡◌, ℕ, ◌<◌, Bool, true, false, List, [], ◌∷◌, ◌++◌, refl, sym, ◌∙◌, ap, subst, inl, inr, ◌⊎◌}
 use Rattle.std.specs.Prelude.{Option, None, Some, cond, map}
 use Rattle.std.specs.FinMap.{empty, get-empty}
 use Rattle.std.specs.Ordering.{nat_cmp}
 use Rattle.std.proofs.lemmas.Bool.{cases_Bool}
-use Rattle.std.proofs.lemmas.List.{map-append}
+use Rattle.std.proofs.lemmas.List.{append-nil, append_assoc, map-append}
 use Rattle.judge.specs.declared.journal.Entry.{Entry}
 use Rattle.judge.specs.Answer.{Pairs}
 use Rattle.judge.specs.Journal.{Answers, Legal}
@@ -24,26 +24,50 @@ use Rattle.joint.specs.declared.steps.Step.{Step}
 use Rattle.joint.specs.declared.steps.Target.{Target}
 use Rattle.joint.specs.declared.steps.Target.TheVariants as target
 use Rattle.joint.specs.Forest.{nodes}
+use Rattle.joint.specs.Journaling.{in_list}
 use Rattle.joint.specs.Reports.{target}
-use Rattle.joint.specs.Runs.{Taken, AreTaken, after_all, IsRun, Line, Flights, Stays, BeginsOr, BeginMap, PendingStep, GoMap, EventMap, IsMapRun, with_entry, entries, pairs_after, no_flights, InFlight, AreInFlight, PlaysMap, AllHold, IsFresh}
+use Rattle.joint.specs.Runs.{Taken, AreTaken, after_all, IsRun, Line, Flights, Stays, BeginsOr, BeginMap, PendingStep, GoMap, EventMap, IsMapRun, with_entry, entries, pairs_after, no_flights, InFlight, AreInFlight, PlaysMap, AllHold, IsFresh, KeepsWrites, kept_entries, kept_of}
 use Rattle.joint.specs.Whole.{Whole, Holds}
 use Rattle.joint.proofs.lemmas.Flights.{ends_stays}
-use Rattle.joint.proofs.lemmas.MapSteps.{Result, on_map}
+use Rattle.joint.proofs.lemmas.Mapped.{Mapped, mapped}
 
 module _ {V : Type 0} (same : V → V → Bool) (always : Bool) where
   -- the pairs stand and the calls are watched from step to step
   pub runs_map : (s : Whole V) (taken : List (Taken V)) (fs : Flights V) (m : Pairs V) → Holds same always s → AreTaken same always s taken → IsMapOf (nodes s.forest) m → AreInFlight s fs → PlaysMap same fs m s taken
   runs_map s [] fs m h x st fl = record { lines = []; flights = fs; are_lines = tt; run = refl; in_flight = fl }
   runs_map s (t ∷ ts) fs m h x st fl =
-      let a : Result same always s t.after t.step.worker h fs m st fl t.step.event t.report (λ l f'. EventMap same fs m t.step.event l f') = on_map same always s t.after t.step.worker h fs m st fl t.step.event t.report x.0.does in
+      let a : Mapped same always s t.step t.report t.after fs m = mapped same always s t.step t.after fs m h x.0.holds st fl t.report x.0 in
       let l : Line V = record { step = t.step; report = t.report; entry = a.entry; pairs = a.pairs } in
       let on : PlaysMap same a.flights a.pairs t.after ts = runs_map t.after ts a.flights a.pairs x.0.holds x.1 a.stand a.in_flight in
       record {
         lines = l ∷ on.lines;
         flights = on.flights;
         are_lines = (record { step = refl; report = refl; stand = a.stand }, on.are_lines);
-        run = (a.flights, a.step, on.run);
+        run = (a.flights, a.map, on.run);
         in_flight = on.in_flight;
+      }
+
+  -- what the journal keeps of them
+  pub record Journals (s : Whole V) (taken : List (Taken V)) (lines : List (Line V)) : Type 0 where
+    pub entries : (after_all s taken).log.entries ≡ s.log.entries ++ kept_entries lines
+    pub writes : 0 < s.log.places → KeepsWrites lines
+    pub places : (after_all s taken).log.places ≡ s.log.places
+
+  first_kept : (o : Option (Entry V)) (es : List (Entry V)) → in_list o ++ es ≡ with_entry o es
+  first_kept None es = refl
+  first_kept (Some e) es = refl
+
+  pub runs_journal : (s : Whole V) (taken : List (Taken V)) (fs : Flights V) (m : Pairs V) (h : Holds same always s) (x : AreTaken same always s taken) (st : IsMapOf (nodes s.forest) m) (fl : AreInFlight s fs) → Journals s taken (runs_map s taken fs m h x st fl).lines
+  runs_journal s [] fs m h x st fl = record { entries = sym (append-nil s.log.entries); writes = λ p. tt; places = refl }
+  runs_journal s (t ∷ ts) fs m h x st fl =
+      let a : Mapped same always s t.step t.report t.after fs m = mapped same always s t.step t.after fs m h x.0.holds st fl t.report x.0 in
+      let l : Line V = record { step = t.step; report = t.report; entry = a.entry; pairs = a.pairs } in
+      let on : Journals t.after ts (runs_map t.after ts a.flights a.pairs x.0.holds x.1 a.stand a.in_flight).lines = runs_journal t.after ts a.flights a.pairs x.0.holds x.1 a.stand a.in_flight in
+      let rest = (runs_map t.after ts a.flights a.pairs x.0.holds x.1 a.stand a.in_flight).lines in
+      record {
+        entries = on.entries ∙ ap (λ es. es ++ kept_entries rest) a.entries ∙ append_assoc s.log.entries (in_list (kept_of l)) (kept_entries rest) ∙ ap (λ es. s.log.entries ++ es) (first_kept (kept_of l) (kept_entries rest));
+        writes = λ p. (a.writes p, on.writes (subst (λ n. 0 < n) (sym a.places) p));
+        places = on.places ∙ a.places;
       }
 
   -- in each state what always holds

@@ -22,6 +22,7 @@ use Rattle.joint.specs.declared.id.Id.{Id}
 use Rattle.joint.specs.declared.steps.Event.{Event}
 use Rattle.joint.specs.declared.steps.Event.TheVariants.{Register, Begin, Go}
 use Rattle.joint.specs.declared.steps.Report.{Report}
+use Rattle.joint.specs.declared.steps.Step.{Step}
 use Rattle.joint.specs.declared.steps.Target.{Target}
 use Rattle.joint.specs.declared.steps.Target.TheVariants as target
 use Rattle.joint.specs.Forest.{Forest, nodes, Refuses}
@@ -29,7 +30,7 @@ use Rattle.joint.specs.Laws.{LeavesLaw}
 use Rattle.joint.specs.Reports.{target}
 use Rattle.joint.specs.Runs.{Taken, AreTaken, AllSpare}
 use Rattle.joint.specs.View.{id_number}
-use Rattle.joint.specs.Whole.{Whole, EngineHolds, misuse, finds_none, EntersUnless, Walks, BeginsAt, BeginsOnTree, GoesAt, Proceeds, Does, SparesUsed}
+use Rattle.joint.specs.Whole.{Whole, EngineHolds, Holds, StepsUnless, engine_of, gives_up, misuse, finds_none, EntersUnless, Walks, BeginsAt, BeginsOnTree, GoesAt, Proceeds, Does, SparesUsed}
 use Rattle.joint.proofs.lemmas.Reserving.{same_nodes}
 
 -- what a step of the collector destroys waited, and no call has its name
@@ -120,6 +121,14 @@ module _ {V : Type 0} (same : V → V → Bool) (always : Bool) (leaves : (s : F
     step_spares event None r x = proceeds event r x
     step_spares event (Some f) r x = unchanged x.1
 
-  pub all_spare : (s : Whole V) (taken : List (Taken V)) → EngineHolds same always s → AreTaken same always s taken → AllSpare s taken
+  whole_step : (s : Whole V) (step : Step V) (r : Report V) (s' : Whole V) (b : Bool) → Holds same always s → StepsUnless same always b s step r s' → SparesUsed s step.worker s'
+  whole_step s step r s' true h x = as_before s s' step.worker (h.0, h.1) (ap (λ y. nodes y.forest) x.state)
+  whole_step s step r s' false h x = λ n st. elim (step_spares (engine_of s) (engine_of s') step.worker (h.0, h.1) step.event (misuse (engine_of s) step.worker step.event) x.told x.engine.does n st) [
+    | inl y ↦ inl y
+    | inr (inl y) ↦ inr (inl (record { waits = y.waits; unnamed = y.unnamed }))
+    | inr (inr y) ↦ inr (inr y)
+  ]
+
+  pub all_spare : (s : Whole V) (taken : List (Taken V)) → Holds same always s → AreTaken same always s taken → AllSpare s taken
   all_spare s [] h x = tt
-  all_spare s (t ∷ ts) h x = (step_spares s t.after t.step.worker h t.step.event (misuse s t.step.worker t.step.event) t.report x.0.does, all_spare t.after ts x.0.holds x.1)
+  all_spare s (t ∷ ts) h x = (whole_step s t.step t.report t.after (gives_up s t.step.worker t.step.event) h x.0.does, all_spare t.after ts x.0.holds x.1)
