@@ -77,7 +77,7 @@ impl<P: Payload + Small, A: Allocator> World<P, A> {
         ensures { (noise : Noise Id P) → IsStep P.same_as P.always_copies self.old (record { worker = who; event = Event.Go noise }) result self.new }
     {
         self.engine.abandon(who);
-        self.log.put_request(who, None);
+        note(&mut self.log, who, true, None);
         refused(Kind::Collection, Refusal::JournalFull)
     }
 

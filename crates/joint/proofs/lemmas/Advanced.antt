@@ -128,6 +128,29 @@ module _ {V : Type 0} (same : V → V → Bool) (always : Bool) where
   went_requests l worker b a d x true q = set-set l.requests worker None q
   went_requests l worker b a d x false q = refl
 
+  -- by its parts
+  abbrev out_of : Log V → ℕ → Log V
+  out_of l worker = record l { requests = slice_set l.requests worker None }
+
+  abbrev count_of : Log V → Bool → Bool → Log V
+  count_of l b a = record l { reserved = recounted l.places b a l.reserved }
+
+  abbrev kept_of : Log V → Bool → Option (Entry V) → Log V
+  kept_of l d x = record l { entries = l.entries ++ in_list (kept_if d (has_room l) x) }
+
+  pub went_by : (l l1 l2 l3 l4 : Log V) (worker : ℕ) (b a b' a' d : Bool) (x : Option (Entry V)) (on on' : Bool) (q : Option (Request V)) → l1 ≡ out_of l worker → l2 ≡ count_of l1 b a → b ≡ b' → a ≡ a' → l3 ≡ kept_of l2 d x → l4 ≡ noted l3 worker on q → on ≡ on'
+      → l4 ≡ went_log l worker b' a' d x on' q
+  went_by l l1 l2 l3 l4 worker b a b' a' d x on on' q e1 e2 eb ea e3 e4 eo =
+      e4 ∙ ap (λ (y : Log V). noted y worker on q) e3 ∙ ap (λ (y : Log V). noted (kept_of y d x) worker on q) e2 ∙ ap (λ (y : Log V). noted (kept_of (count_of y b a) d x) worker on q) e1
+      ∙ ap (λ y. noted (kept_of (count_of (out_of l worker) y a) d x) worker on q) eb ∙ ap (λ y. noted (kept_of (count_of (out_of l worker) b' y) d x) worker on q) ea
+      ∙ ap (λ y. noted (kept_of (count_of (out_of l worker) b' a') d x) worker y q) eo
+
+  pub kept_by : (l l1 l2 : Log V) (worker : ℕ) (b a b' a' d k : Bool) (x : Option (Entry V)) (told r : Report V) → l1 ≡ out_of l worker → l2 ≡ count_of l1 b a → b ≡ b' → a ≡ a' → k ≡ is_some (kept_if d (has_room l2) x) → r ≡ record told { kept = k }
+      → r ≡ record told { kept = is_some (kept_if d (has_room (record l { reserved = recounted l.places b' a' l.reserved })) x) }
+  kept_by l l1 l2 worker b a b' a' d k x told r e1 e2 eb ea ek er =
+      er ∙ ap (λ y. record told { kept = y }) (ek ∙ ap (λ (y : Log V). is_some (kept_if d (has_room y) x)) e2 ∙ ap (λ (y : Log V). is_some (kept_if d (has_room (count_of y b a)) x)) e1
+      ∙ ap (λ y. is_some (kept_if d (has_room (count_of (out_of l worker) y a)) x)) eb ∙ ap (λ y. is_some (kept_if d (has_room (count_of (out_of l worker) b' y)) x)) ea)
+
   -- without room an entry is none to the journal
   same_kept : (l : Log V) (d : Bool) (x y : Option (Entry V)) → (has_room l ≡ true → x ≡ y) → kept_if d (has_room l) x ≡ kept_if d (has_room l) y
   same_kept l true x y e = by (has_room l) refl where
@@ -173,7 +196,15 @@ module _ {V : Type 0} (same : V → V → Bool) (always : Bool) where
           long = ap (λ (z : Log V). length z.requests) l ∙ ap length (went_requests s.log worker before after told.decided x on q) ∙ length-set s.log.requests worker (if on then q else None);
         }) g r (is ∙ ap (λ o. record told { kept = is_some o }) (kept_same l y))
 
-  pub give_up_step : (s s' : Whole V) (worker : ℕ) (noise : Noise Id V) (r : Report V) → Holds same always s → (b : is_reserving (slice_get s.calls worker) ≡ true) → is_full s.log ≡ true → EngineHolds same always s'
+  pub and_left : (a b : Bool) → (a && b) ≡ true → a ≡ true
+  and_left true b e = refl
+  and_left false b e = e
+
+  pub and_right : (a b : Bool) → (a && b) ≡ true → b ≡ true
+  and_right true b e = e
+  and_right false b e = absurd (cc e)
+
+  pub give_up_step : (s s' : Whole V) (worker : ℕ) (noise : Noise Id V) (r : Report V) (h : Holds same always s) (b : is_reserving (slice_get s.calls worker) ≡ true) → is_full s.log ≡ true → EngineHolds same always s'
       → s' ≡ given_up same always s worker h b → r ≡ quiet OfCollector (Refused JournalFull) → IsStep same always s (record { worker = worker; event = Go noise }) r s'
   give_up_step s s' worker noise r h b f h' e q =
       let g : (is_reserving (slice_get s.calls worker) && is_full s.log) ≡ true = ap (λ c. c && is_full s.log) b ∙ f in

@@ -96,6 +96,7 @@ module _ {V : Type 0} (same : V → V → Bool) (always : Bool) where
   -- and what it makes of the journal
   pub run_journal : (s : Whole V) (steps : List (Step V)) (reports : List (Report V)) (s' : Whole V) (fs : Flights V) (m : Pairs V) → Holds same always s → IsRun same always s steps reports s' → IsMapOf (nodes s.forest) m → AreInFlight s fs
       → RunsJournal same fs m s steps reports s'
+  unfolding run_map
   run_journal s steps reports s' fs m h r st fl =
       let j = runs_journal same always s r.taken fs m h r.each st fl in
       record {

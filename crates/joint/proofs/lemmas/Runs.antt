@@ -58,6 +58,7 @@ module _ {V : Type 0} (same : V → V → Bool) (always : Bool) where
   first_kept (Some e) es = refl
 
   pub runs_journal : (s : Whole V) (taken : List (Taken V)) (fs : Flights V) (m : Pairs V) (h : Holds same always s) (x : AreTaken same always s taken) (st : IsMapOf (nodes s.forest) m) (fl : AreInFlight s fs) → Journals s taken (runs_map s taken fs m h x st fl).lines
+  unfolding runs_map
   runs_journal s [] fs m h x st fl = record { entries = sym (append-nil s.log.entries); writes = λ p. tt; places = refl }
   runs_journal s (t ∷ ts) fs m h x st fl =
       let a : Mapped same always s t.step t.report t.after fs m = mapped same always s t.step t.after fs m h x.0.holds st fl t.report x.0 in

@@ -1,5 +1,5 @@
 use Rattle.joint.proofs.lemmas.Beside.{run_beside}
-use Rattle.joint.proofs.lemmas.Running.{run_map, run_fresh}
+use Rattle.joint.proofs.lemmas.Running.{run_map, run_fresh, run_journal, fresh_journal}
 use Rattle.joint.proofs.lemmas.Scans.{scans_hold, empty_scans_hold}
 use Rattle.joint.proofs.world.World.run.Goals as goal
 
@@ -17,3 +17,9 @@ returns-clause-scans g c fs m r = (scans_hold g.P.Payload.same_as fs m r.lines r
 
 pub returns-clause-beside : goal.returns-clause-beside
 returns-clause-beside g c = run_beside g.P.Payload.same_as g.P.Payload.always_copies _ _ _ _ c.take_all.ensures.run
+
+pub returns-clause-journal : goal.returns-clause-journal
+returns-clause-journal g c fs m st fl = run_journal g.P.Payload.same_as g.P.Payload.always_copies _ _ _ _ fs m c.sound.ensures.holds c.take_all.ensures.run st fl
+
+pub returns-clause-fresh_journal : goal.returns-clause-fresh_journal
+returns-clause-fresh_journal g c fresh = fresh_journal g.P.Payload.same_as g.P.Payload.always_copies _ _ _ _ fresh c.sound.ensures.holds c.take_all.ensures.run
