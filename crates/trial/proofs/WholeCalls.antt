@@ -1,5 +1,5 @@
 -- A call on one key that is taken whole, with no other call in flight: its reply is the map's.
-use Rattle.std.proofs.Common.{◌≡◌, ℕ, ◌<◌, nat_eq, arith, Bool, true, false, List, length, Option, None, Some, refl, sym, ◌∙◌, ap, subst, inr, if◌then◌else◌}
+use Rattle.std.proofs.Common.{◌≡◌, ℕ, ◌<◌, nat_eq, arith, Bool, true, false, List, length, Option, None, Some, refl, sym, ◌∙◌, ap, subst, inl, inr, if◌then◌else◌}
 use Rattle.std.specs.Prelude.{slice_set}
 use Rattle.std.specs.FinMap.{get}
 use Rattle.std.proofs.lemmas.List.{length-set}
@@ -16,6 +16,7 @@ use Rattle.congee.specs.Keys.{IsMapOf}
 use Rattle.congee.specs.protocol.Play.{Flight, Pending, Decided, Over, Question, Unasked, Asked as Wants, Replied, begun, flight, heard as answered_last, resolved, Undecided, Heeds, Carries, Concludes}
 use Rattle.congee.specs.protocol.Protocol.{IsCall, Asking}
 use Rattle.joint.specs.declared.refusal.Refusal.{Refusal}
+use Rattle.joint.specs.declared.refusal.Refusal.TheVariants as refusal
 use Rattle.joint.specs.declared.steps.Done.{Done as Ending}
 use Rattle.joint.specs.declared.steps.Done.TheVariants as done
 use Rattle.joint.specs.declared.steps.Event.TheVariants.{Begin, Go}
@@ -210,7 +211,8 @@ callers_after s s' w c l e is =
 taking_effect : (w k : ℕ) (kind : Kind ℕ) (given : Option ℕ) (closure : Option Closure) (m : Pairs ℕ) (p : Point ℕ) (c : Caller) (v : Option ℕ) (q : Question ℕ) (f : Flight ℕ) (s : Index)
     (stands : Outcome ℕ) (b : Bool) (l : Line ℕ) → Fits kind closure → Decides k kind given closure m p → c.closure ≡ closure → Ready closure given v q
     → PendingStep nat_eq k kind v q m b l f → stands ≡ l.report.outcome → Next w c l.pairs f s stands → Course w k kind given closure m p s stands
-taking_effect w k kind given closure m p c v q f s stands false l fits d cl r t e n =
+taking_effect w k kind given closure m p c v q f s stands false l fits d cl r (inr t) e n = Failed refusal.JournalFull (e ∙ t.full)
+taking_effect w k kind given closure m p c v q f s stands false l fits d cl r (inl t) e n =
     let P : Pairs ℕ → Type 0 = λ x. Next w c x f s stands in
     undecided w k kind given closure m p c v q f s stands t.outcome fits cl r t.undecided (e ∙ t.told_so) (subst P t.same_pairs n)
 taking_effect w k kind given closure m p c v q f s stands true l fits d cl r t e n =
