@@ -12,5 +12,5 @@ found_none xs i l = sym (slice_get_past xs i (ltb-false i (length xs) (sym l)))
 
 -- what is there and can only be this is this
 pub there_is : {A : Type 0} (o : Option A) (x : A) → IfSome o (λ y. y ≡ x) → IsSome o → o ≡ Some x
-there_is None x a b = absurd b
+there_is None x a b = absurd (cc b)
 there_is (Some y) x a b = ap Some a
