@@ -1,5 +1,5 @@
 -- The calls on the tree that are in flight, as they are watched beside their machines.
-use Rattle.std.specs.Prelude.{◌≡◌, ◌≤◌, ◌==◌, ℕ, List, Some, length, slice_get, if◌then◌else◌}
+use Rattle.std.specs.Prelude.{◌≡◌, ◌≤◌, ◌==◌, ℕ, Some, length, slice_get, if◌then◌else◌}
 use Rattle.congee.specs.declared.protocol.machine.Machine.{Machine}
 use Rattle.congee.specs.protocol.Play.{Flight, Over, begun, flight, Follows}
 use Rattle.joint.specs.declared.call.Call.{Call}

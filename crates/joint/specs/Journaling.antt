@@ -1,5 +1,5 @@
 -- What a call's entry is, when it comes into the journal, and who has a place there reserved.
-use Rattle.std.specs.Prelude.{ℕ, zero, suc, ◌+◌, Bool, true, false, ◌&&◌, List, [], ◌∷◌, Option, None, Some, cond}
+use Rattle.std.specs.Prelude.{ℕ, ◌+◌, Bool, true, false, ◌&&◌, List, [], ◌∷◌, Option, None, Some}
 use Rattle.judge.specs.declared.journal.Call.{Call as Entered}
 use Rattle.judge.specs.declared.journal.Call.TheVariants as call
 use Rattle.judge.specs.declared.journal.Entry.{Entry}

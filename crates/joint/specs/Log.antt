@@ -1,6 +1,6 @@
 -- What the machine writes down: the entries of its journal, the places kept for entries to come, and each worker's call in
 -- flight as it was asked for.
-use Rattle.std.specs.Prelude.{ℕ, zero, suc, ◌+◌, ◌-◌, ltb, not, ◌&&◌, Bool, true, false, List, [], ◌∷◌, length, Option, None, Some, slice_index_or, slice_set, replicate}
+use Rattle.std.specs.Prelude.{ℕ, zero, suc, ◌+◌, ◌-◌, ltb, not, ◌&&◌, Bool, true, false, List, [], length, Option, None, Some, slice_index_or, slice_set, replicate}
 use Rattle.judge.specs.declared.journal.Entry.{Entry}
 use Rattle.joint.specs.declared.request.Request.{Request}
 use Rattle.joint.specs.declared.steps.Op.{Op}

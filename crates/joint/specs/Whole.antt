@@ -29,7 +29,7 @@ use Rattle.joint.specs.Flying.{Flights, AreInFlight}
 use Rattle.joint.specs.Forest.{nodes, IsCharged}
 use Rattle.joint.specs.Intact.{IsIntact, is_reserving}
 use Rattle.joint.specs.Journaling.{asks_at, entry_of, given_by, in_list, kept_if, places_of, reply_by}
-use Rattle.joint.specs.Log.{Log, asked, has_room, heard_by, is_full, request_at}
+use Rattle.joint.specs.Log.{asked, has_room, heard_by, is_full, request_at}
 use Rattle.joint.specs.Reports.{target}
 
 -- the value that a call has: the one that it was given, or its closure's last answer

@@ -122,11 +122,7 @@ fn hear<P: Payload>(
     ensures left { log.new ≡ record log.old { requests = slice_set log.old.requests who None } }
 {
     let request = log.put_request(who, None);
-    if asks {
-        request?.hear(answer)
-    } else {
-        request
-    }
+    if asks { request?.hear(answer) } else { request }
 }
 
 /// Writes the entry of a call down that took effect, where a place is free that nobody has reserved; tells whether it did.

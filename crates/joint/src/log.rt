@@ -36,7 +36,10 @@ impl<P> Model for Log<P> {
 }
 
 /// So many workers who have asked for nothing.
-fn no_requests<P: Drop>(alloc: Global, workers: usize) -> Result<Vec<Option<Request<P>>>, AllocError>
+fn no_requests<P: Drop>(
+    alloc: Global,
+    workers: usize,
+) -> Result<Vec<Option<Request<P>>>, AllocError>
     ensures { IfOk result (λ v. v.items ≡ replicate workers None) }
 {
     let mut requests = Vec::with_capacity(alloc, workers)?;
@@ -109,7 +112,11 @@ impl<P: Drop> Log<P> {
     }
 
     /// Puts another request in a worker's place, and answers the one before.
-    pub(crate) fn put_request(&mut self, who: usize, request: Option<Request<P>>) -> Option<Request<P>>
+    pub(crate) fn put_request(
+        &mut self,
+        who: usize,
+        request: Option<Request<P>>,
+    ) -> Option<Request<P>>
         ensures before { result ≡ request_at self.old.requests who }
         ensures after { self.new ≡ record self.old { requests = slice_set self.old.requests who request } }
     {

@@ -107,25 +107,23 @@ fn copy_op<P: Payload>(op: &Op<P>) -> Option<Op<P>>
     ensures equal { IfSome result (λ o. o ≡ op.now) }
     ensures always { P.always_copies ≡ true → IsSome result }
 {
-    Some(
-        match op {
-            Op::Pin => Op::Pin,
-            Op::Unpin => Op::Unpin,
-            Op::Repin => Op::Repin,
-            Op::Flush => Op::Flush,
-            Op::Release => Op::Release,
-            Op::Get(key) => Op::Get(*key),
-            Op::Insert(key, value) => Op::Insert(*key, value.copy()?),
-            Op::Remove(key) => Op::Remove(*key),
-            Op::ComputePresent(key) => Op::ComputePresent(*key),
-            Op::ComputeInsert(key) => Op::ComputeInsert(*key),
-            Op::Exchange(key, old, new) => Op::Exchange(*key, old.copy()?, copy_value(new)?),
-            Op::Range(start, end, size) => Op::Range(*start, *end, *size),
-            Op::Keys => Op::Keys,
-            Op::IsEmpty => Op::IsEmpty,
-            Op::Stats => Op::Stats,
-        },
-    )
+    Some(match op {
+        Op::Pin => Op::Pin,
+        Op::Unpin => Op::Unpin,
+        Op::Repin => Op::Repin,
+        Op::Flush => Op::Flush,
+        Op::Release => Op::Release,
+        Op::Get(key) => Op::Get(*key),
+        Op::Insert(key, value) => Op::Insert(*key, value.copy()?),
+        Op::Remove(key) => Op::Remove(*key),
+        Op::ComputePresent(key) => Op::ComputePresent(*key),
+        Op::ComputeInsert(key) => Op::ComputeInsert(*key),
+        Op::Exchange(key, old, new) => Op::Exchange(*key, old.copy()?, copy_value(new)?),
+        Op::Range(start, end, size) => Op::Range(*start, *end, *size),
+        Op::Keys => Op::Keys,
+        Op::IsEmpty => Op::IsEmpty,
+        Op::Stats => Op::Stats,
+    })
 }
 
 /// An equal reply.
@@ -133,18 +131,16 @@ pub(crate) fn copy_reply<P: Payload>(reply: &Reply<P>) -> Option<Reply<P>>
     ensures equal { IfSome result (λ r. r ≡ reply.now) }
     ensures always { P.always_copies ≡ true → IsSome result }
 {
-    Some(
-        match reply {
-            Reply::Get(found) => Reply::Get(copy_value(found)?),
-            Reply::Insert(before) => Reply::Insert(copy_value(before)?),
-            Reply::Remove(before) => Reply::Remove(copy_value(before)?),
-            Reply::ComputePresent(None) => Reply::ComputePresent(None),
-            Reply::ComputePresent(Some((old, new))) => {
-                Reply::ComputePresent(Some((old.copy()?, copy_value(new)?)))
-            }
-            Reply::ComputeInsert(before) => Reply::ComputeInsert(copy_value(before)?),
-            Reply::Exchange(Ok(new)) => Reply::Exchange(Ok(copy_value(new)?)),
-            Reply::Exchange(Err(found)) => Reply::Exchange(Err(copy_value(found)?)),
-        },
-    )
+    Some(match reply {
+        Reply::Get(found) => Reply::Get(copy_value(found)?),
+        Reply::Insert(before) => Reply::Insert(copy_value(before)?),
+        Reply::Remove(before) => Reply::Remove(copy_value(before)?),
+        Reply::ComputePresent(None) => Reply::ComputePresent(None),
+        Reply::ComputePresent(Some((old, new))) => {
+            Reply::ComputePresent(Some((old.copy()?, copy_value(new)?)))
+        }
+        Reply::ComputeInsert(before) => Reply::ComputeInsert(copy_value(before)?),
+        Reply::Exchange(Ok(new)) => Reply::Exchange(Ok(copy_value(new)?)),
+        Reply::Exchange(Err(found)) => Reply::Exchange(Err(copy_value(found)?)),
+    })
 }

@@ -64,7 +64,12 @@ impl<P: Payload + Small, A: Allocator> World<P, A> {
     }
 
     /// The same, with a journal of so many places.
-    fn with_places(alloc: Global, limits: Limits, allocator: A, places: usize) -> Result<Self, Refusal>
+    fn with_places(
+        alloc: Global,
+        limits: Limits,
+        allocator: A,
+        places: usize,
+    ) -> Result<Self, Refusal>
         requires { 0 < places → P.always_copies ≡ true }
         ensures opened { IfOk result (λ w. IsOpened limits (A.charged_of allocator) (A.limit_of allocator) w.forest) }
         ensures fresh { IfOk result (λ w. IsFresh w) }

@@ -1,5 +1,5 @@
 -- The steps of the whole machine, from those of the layers below and what is written down of them.
-use Rattle.std.proofs.Common.{◌≡◌, ◌<◌, ◌≤◌, ◌⊎◌, ℕ, zero, suc, ◌+◌, ◌^◌, arith, Bool, true, false, List, [], ◌∷◌, ◌++◌, length, replicate, refl, sym, ◌∙◌, ap, subst, inl, inr}
+use Rattle.std.proofs.Common.{◌≡◌, ◌<◌, ◌≤◌, ℕ, zero, suc, ◌+◌, ◌^◌, arith, Bool, true, false, List, [], ◌∷◌, ◌++◌, length, refl, sym, ◌∙◌, ap, subst, inl, inr}
 use Rattle.std.specs.Prelude.{Option, None, Some, ◌&&◌, is_some, ltb, slice_get, slice_set, if◌then◌else◌}
 use Rattle.std.specs.FinMap.{empty, get}
 use Rattle.std.proofs.lemmas.Bool.{cases_Bool, ltb-true, ltb-false}
@@ -17,7 +17,6 @@ use Rattle.joint.specs.declared.call.Call.TheVariants.{Idle}
 use Rattle.joint.specs.declared.id.Id.{Id}
 use Rattle.joint.specs.declared.refusal.Refusal.TheVariants.{JournalFull}
 use Rattle.joint.specs.declared.request.Request.{Request}
-use Rattle.joint.specs.declared.steps.Event.{Event}
 use Rattle.joint.specs.declared.steps.Event.TheVariants.{Register, Begin, Go}
 use Rattle.joint.specs.declared.steps.Kind.TheVariants.{Collection as OfCollector}
 use Rattle.joint.specs.declared.steps.Op.{Op}
@@ -25,16 +24,16 @@ use Rattle.joint.specs.declared.steps.Outcome.TheVariants.{Refused}
 use Rattle.joint.specs.declared.steps.Report.{Report}
 use Rattle.joint.specs.declared.steps.Step.{Step}
 use Rattle.joint.specs.Forest.{nodes}
-use Rattle.joint.specs.Intact.{IsIntact, is_reserving}
+use Rattle.joint.specs.Intact.{is_reserving}
 use Rattle.joint.specs.Journaling.{entry_of, has_place, in_list, kept_if, one_where, places_of, reply_by}
-use Rattle.joint.specs.Log.{Log, asked, has_room, heard_by, is_full, noted, opened_log, recounted, request_at}
+use Rattle.joint.specs.Log.{Log, asked, has_room, is_full, noted, opened_log, recounted}
 use Rattle.joint.specs.Reports.{target}
 use Rattle.joint.specs.Runs.{IsFresh, no_flights}
-use Rattle.joint.specs.Whole.{Whole, EngineHolds, Holds, IsEngineStep, IsLogged, IsStep, GivesUp, StepsUnless, engine_of, entry_at, gives_up, heard_at, is_in_flight, kept_at, quiet, requests_after}
+use Rattle.joint.specs.Whole.{Whole, EngineHolds, Holds, IsEngineStep, IsLogged, IsStep, StepsUnless, engine_of, entry_at, gives_up, heard_at, is_in_flight, kept_at, quiet, requests_after}
 use Rattle.joint.proofs.lemmas.Effects.{begin_undecided}
 use Rattle.joint.proofs.lemmas.Entering.{begin_even, register_even}
 use Rattle.joint.proofs.lemmas.GivingUp.{given_up, gives_up_flight, gives_up_logged}
-use Rattle.joint.proofs.lemmas.Logged.{Written, result, steps}
+use Rattle.joint.proofs.lemmas.Logged.{result, steps}
 use Rattle.joint.proofs.lemmas.Recounting.{has_room_is}
 use Rattle.joint.proofs.lemmas.Runs.{standing_empty, fresh_flights}
 use Rattle.joint.proofs.lemmas.Unkept.{unkept}
@@ -90,15 +89,19 @@ module _ {V : Type 0} (same : V → V → Bool) (always : Bool) where
         same_entries : (b : Bool) → (noted s.log worker b q).entries ≡ s.log.entries
         same_entries true = refl
         same_entries false = refl
+
         same_places : (b : Bool) → (noted s.log worker b q).places ≡ s.log.places
         same_places true = refl
         same_places false = refl
+
         same_reserved : (b : Bool) → (noted s.log worker b q).reserved ≡ s.log.reserved
         same_reserved true = refl
         same_reserved false = refl
+
         same_long : (b : Bool) → length (noted s.log worker b q).requests ≡ length s.log.requests
         same_long true = length-set s.log.requests worker q
         same_long false = refl
+
         next_requests : (b : Bool) → q ≡ asked op → (noted s.log worker b q).requests ≡ (if b then slice_set s.log.requests worker (asked op) else s.log.requests)
         next_requests true z = ap (slice_set s.log.requests worker) z
         next_requests false z = refl

@@ -1,5 +1,5 @@
 -- A step changes one worker's call alone, and so the count of the calls that have a place of the journal reserved.
-use Rattle.std.proofs.Common.{◌≡◌, ◌≢◌, ◌<◌, ◌⊎◌, ℕ, zero, suc, ◌+◌, arith, Bool, true, false, List, [], ◌∷◌, length, refl, sym, ◌∙◌, ap, subst, inl, inr}
+use Rattle.std.proofs.Common.{◌≡◌, ◌≢◌, ◌<◌, ℕ, zero, suc, ◌+◌, arith, Bool, true, false, List, [], ◌∷◌, length, refl, sym, ◌∙◌, ap, subst, inl, inr}
 use Rattle.std.proofs.Math.ListN.{set}
 use Rattle.std.specs.Prelude.{Option, None, Some, slice_get}
 use Rattle.std.proofs.lemmas.List.{length-set}
@@ -23,7 +23,7 @@ use Rattle.joint.specs.Intact.{rested, secured_machines}
 use Rattle.joint.specs.Journaling.{has_place, one_where, places_of}
 use Rattle.joint.specs.Log.{counted}
 use Rattle.joint.specs.Reports.{target}
-use Rattle.joint.specs.Whole.{Whole, EngineHolds, BeginsAt, BeginsOnTree, Does, EntersUnless, GoesAt, GoesOnReserving, Proceeds, SecuresFirst, Walks, finds_none}
+use Rattle.joint.specs.Whole.{Whole, EngineHolds, BeginsAt, BeginsOnTree, Does, EntersUnless, GoesAt, GoesOnReserving, Proceeds, Walks, finds_none}
 use Rattle.joint.proofs.lemmas.Resting.{cleared_is}
 
 -- two lists that differ at one place at most

@@ -1,6 +1,6 @@
 -- What the workers asked for agrees with their calls after a step.
 use Rattle.std.proofs.Common.{◌≡◌, ◌≢◌, ◌<◌, ◌≤◌, ◌⊎◌, ◌==◌, ℕ, arith, Bool, true, false, List, [], ◌∷◌, length, refl, sym, ◌∙◌, ap, subst, inl, inr}
-use Rattle.std.specs.Prelude.{Option, None, Some, slice_get, slice_set, if◌then◌else◌}
+use Rattle.std.specs.Prelude.{Option, None, slice_get, slice_set, if◌then◌else◌}
 use Rattle.std.proofs.lemmas.Bool.{cases_Bool, eqb-true, eqb-false, false≢true}
 use Rattle.std.proofs.lemmas.List.{get_or-set_same, get_or-set_other}
 use Rattle.judge.specs.declared.journal.Reply.{Reply}
@@ -26,7 +26,7 @@ use Rattle.joint.specs.Journaling.{asks_at}
 use Rattle.joint.specs.Log.{asked, heard_by, request_at}
 use Rattle.joint.specs.Reports.{target, told}
 use Rattle.joint.specs.Runs.{Flights, Line, Stays, BeginsOr, BeginMap, PendingStep, GoMap, EventMap, AreInFlight, with_flight}
-use Rattle.joint.specs.Whole.{Whole, EngineHolds, IsAsked, Does, is_in_flight, misuse, engine_of, heard_at, requests_after}
+use Rattle.joint.specs.Whole.{Whole, EngineHolds, IsAsked, Does, is_in_flight, misuse, engine_of, requests_after}
 use Rattle.joint.proofs.lemmas.Flights.{ends_stays, flight_here, flight_apart}
 use Rattle.joint.proofs.lemmas.Requested.{Heard, asks, is_asked, heard_is, undecided_asked, begins_asked}
 use Rattle.joint.proofs.lemmas.Placed.{asks_here}

@@ -1,10 +1,9 @@
 -- A call that takes effect: its entry is what its worker asked for, with the reply that it tells in the end.
-use Rattle.std.proofs.Common.{◌≡◌, ◌⊎◌, ℕ, ◌+◌, ◌-◌, ◌<◌, ◌≤◌, arith, Bool, true, false, List, [], ◌∷◌, length, refl, sym, ◌∙◌, ap, subst, inl, inr}
-use Rattle.std.specs.Prelude.{Option, None, Some, not, ltb, slice_get}
+use Rattle.std.proofs.Common.{◌≡◌, ℕ, ◌+◌, ◌-◌, ◌<◌, ◌≤◌, arith, Bool, true, false, length, refl, sym, ◌∙◌, ap, subst, inl, inr}
+use Rattle.std.specs.Prelude.{Option, None, Some, not, slice_get}
 use Rattle.std.specs.FinMap.{get}
 use Rattle.std.proofs.lemmas.Bool.{cases_Bool, false≢true, lt-ltb}
 use Rattle.judge.specs.declared.journal.Call.{Call as Entered}
-use Rattle.judge.specs.declared.journal.Call.TheVariants as call
 use Rattle.judge.specs.declared.journal.Entry.{Entry}
 use Rattle.judge.specs.declared.journal.Reply.{Reply}
 use Rattle.judge.specs.Answer.{Pairs, answer, key_of, reply_on}
@@ -14,23 +13,19 @@ use Rattle.congee.specs.declared.protocol.machine.Outcome.{Outcome as Moved}
 use Rattle.congee.specs.declared.protocol.machine.Outcome.TheVariants as moved
 use Rattle.congee.specs.declared.protocol.phase.Kind.{Kind}
 use Rattle.congee.specs.declared.protocol.phase.Kind.TheVariants as kind
-use Rattle.congee.specs.Keys.{IsMapOf}
 use Rattle.congee.specs.protocol.Play.{Flight, Pending, Decided, Over, Unbegun, Scanning, Question, heard, resolved, Concludes}
 use Rattle.congee.specs.protocol.Protocol.{IsCall}
 use Rattle.joint.specs.declared.id.Id.{Id}
 use Rattle.joint.specs.declared.request.Request.{Request}
-use Rattle.joint.specs.declared.steps.Done.TheVariants as done
 use Rattle.joint.specs.declared.steps.Event.{Event}
 use Rattle.joint.specs.declared.steps.Event.TheVariants.{Register, Begin, Go}
 use Rattle.joint.specs.declared.steps.Outcome.{Outcome}
 use Rattle.joint.specs.declared.steps.Outcome.TheVariants.{Running, Asks, Found, Registered, Done, Refused}
-use Rattle.joint.specs.declared.steps.Report.{Report}
 use Rattle.joint.specs.declared.steps.Target.{Target}
 use Rattle.joint.specs.declared.steps.Target.TheVariants as target
-use Rattle.joint.specs.Forest.{nodes}
 use Rattle.joint.specs.Intact.{is_reserving}
 use Rattle.joint.specs.Journaling.{call_of, entry_of, has_place, may_write, places_of, reply_by, with_call}
-use Rattle.joint.specs.Log.{Log, counted, has_room, heard_by, request_at}
+use Rattle.joint.specs.Log.{counted, has_room, request_at}
 use Rattle.joint.specs.Reports.{target, told}
 use Rattle.joint.specs.Runs.{Flights, Line, Stays, BeginsOr, BeginMap, PendingStep, TakesEffect, GoMap, EventMap, AreInFlight, with_flight, looks_up}
 use Rattle.joint.specs.Whole.{Whole, EngineHolds, IsAsked, Does, engine_of, entry_at, misuse}

@@ -1,8 +1,8 @@
 -- A call that begins: its worker had none in flight, and no place of the journal is reserved for it yet.
-use Rattle.std.proofs.Common.{◌≡◌, ◌<◌, ◌≤◌, ◌⊎◌, ℕ, arith, Bool, true, false, List, length, refl, sym, ◌∙◌, ap, subst, inl, inr}
+use Rattle.std.proofs.Common.{◌≡◌, ◌<◌, ℕ, Bool, true, false, List, length, refl, sym, ◌∙◌, ap, subst, inl, inr}
 use Rattle.std.proofs.Math.ListN.{set}
 use Rattle.std.specs.Prelude.{Option, None, Some, slice_get, if◌then◌else◌}
-use Rattle.std.proofs.lemmas.Bool.{cases_Bool, false≢true}
+use Rattle.std.proofs.lemmas.Bool.{false≢true}
 use Rattle.std.proofs.lemmas.Option.{slice_get_within, slice_get_cases}
 use Rattle.crossbeam_epoch.specs.declared.fault.Fault.{Fault}
 use Rattle.crossbeam_epoch.specs.declared.fault.Fault.TheVariants as fault
@@ -17,7 +17,6 @@ use Rattle.congee.specs.protocol.Play.{Over, begun}
 use Rattle.joint.specs.declared.call.Call.{Call}
 use Rattle.joint.specs.declared.call.Call.TheVariants.{Idle, Collecting, Reserving, Securing, Walking}
 use Rattle.joint.specs.declared.id.Id.{Id}
-use Rattle.joint.specs.declared.steps.Event.{Event}
 use Rattle.joint.specs.declared.steps.Event.TheVariants.{Register, Begin, Go}
 use Rattle.joint.specs.declared.steps.Op.{Op}
 use Rattle.joint.specs.declared.steps.Report.{Report}
@@ -27,7 +26,7 @@ use Rattle.joint.specs.Intact.{call_after, is_reserving, root}
 use Rattle.joint.specs.Journaling.{has_place}
 use Rattle.joint.specs.Reports.{target}
 use Rattle.joint.specs.Runs.{Flights, AreInFlight}
-use Rattle.joint.specs.Whole.{Whole, EngineHolds, BeginsAt, BeginsOnTree, Does, EntersUnless, GoesAt, Proceeds, finds_none, is_busy, is_in_flight, misuse, place_of, unready}
+use Rattle.joint.specs.Whole.{Whole, EngineHolds, BeginsAt, BeginsOnTree, Does, EntersUnless, GoesAt, finds_none, is_busy, is_in_flight, misuse, place_of}
 use Rattle.joint.proofs.lemmas.Collecting.{set_here, there}
 use Rattle.joint.proofs.lemmas.HandOver.{held_place}
 

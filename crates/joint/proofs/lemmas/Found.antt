@@ -1,5 +1,5 @@
 -- What a look-up by place finds.
-use Rattle.std.proofs.Common.{◌≡◌, ℕ, Bool, true, false, List, length, get_or, sym, ◌∙◌, ap}
+use Rattle.std.proofs.Common.{◌≡◌, ℕ, true, false, List, length, get_or, sym, ◌∙◌, ap}
 use Rattle.std.specs.Prelude.{Option, None, Some, IfSome, IsSome, ltb, slice_get}
 use Rattle.std.proofs.lemmas.Bool.{ltb-true, ltb-false}
 use Rattle.std.proofs.lemmas.Option.{slice_get-get_or, slice_get_past}

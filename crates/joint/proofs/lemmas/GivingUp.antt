@@ -1,34 +1,27 @@
 -- A writing call that finds no place in the journal: it is over, and all else is as it was.
-use Rattle.std.proofs.Common.{◌≡◌, ◌≢◌, ◌<◌, ◌⊎◌, ℕ, arith, Bool, true, false, List, [], ◌∷◌, length, refl, sym, ◌∙◌, ap, subst, inl, inr}
+use Rattle.std.proofs.Common.{◌≡◌, ◌<◌, ℕ, Bool, true, false, length, refl, sym, ◌∙◌, ap, subst, inr}
 use Rattle.std.proofs.Math.ListN.{set}
-use Rattle.std.specs.Prelude.{Option, None, Some, slice_get, slice_set, if◌then◌else◌}
-use Rattle.std.proofs.lemmas.Bool.{false≢true}
+use Rattle.std.specs.Prelude.{None, Some, slice_get, slice_set}
 use Rattle.std.proofs.lemmas.List.{length-set}
 use Rattle.std.proofs.lemmas.Option.{slice_get_within}
 use Rattle.judge.specs.Answer.{Pairs}
-use Rattle.crossbeam_epoch.specs.declared.fault.Fault.TheVariants as fault
-use Rattle.congee.specs.declared.protocol.machine.Machine.{Machine}
 use Rattle.congee.specs.declared.protocol.machine.Noise.{Noise}
 use Rattle.congee.specs.declared.protocol.op.Op.{Op as Point}
 use Rattle.congee.specs.Keys.{IsMapOf}
-use Rattle.congee.specs.protocol.Play.{Flight, Pending, Over, Unasked, heard, resolved, parts}
-use Rattle.joint.specs.declared.call.Call.{Call}
+use Rattle.congee.specs.protocol.Play.{Flight, Pending, Over, Unasked, parts}
 use Rattle.joint.specs.declared.call.Call.TheVariants.{Idle, Reserving}
 use Rattle.joint.specs.declared.id.Id.{Id}
 use Rattle.joint.specs.declared.refusal.Refusal.TheVariants.{JournalFull}
-use Rattle.joint.specs.declared.request.Request.{Request}
-use Rattle.joint.specs.declared.steps.Event.{Event}
-use Rattle.joint.specs.declared.steps.Event.TheVariants.{Register, Begin, Go}
+use Rattle.joint.specs.declared.steps.Event.TheVariants.{Go}
 use Rattle.joint.specs.declared.steps.Kind.TheVariants.{Collection as OfCollector}
 use Rattle.joint.specs.declared.steps.Outcome.TheVariants.{Refused}
 use Rattle.joint.specs.declared.steps.Report.{Report}
-use Rattle.joint.specs.declared.steps.Step.{Step}
-use Rattle.joint.specs.Forest.{nodes, IsCharged}
-use Rattle.joint.specs.Intact.{IsIntact, is_reserving, writes}
+use Rattle.joint.specs.Forest.{nodes}
+use Rattle.joint.specs.Intact.{is_reserving, writes}
 use Rattle.joint.specs.Journaling.{has_place, places_of}
-use Rattle.joint.specs.Log.{Log, counted, is_full, request_at}
-use Rattle.joint.specs.Runs.{Flights, Line, GoMap, AreInFlight, with_flight}
-use Rattle.joint.specs.Whole.{Whole, EngineHolds, Holds, IsAsked, IsLogged, GivesUp, IsOfCall, engine_of, gives_up, is_busy, is_in_flight, misuse, quiet}
+use Rattle.joint.specs.Log.{counted}
+use Rattle.joint.specs.Runs.{Flights, GoMap, AreInFlight, with_flight}
+use Rattle.joint.specs.Whole.{Whole, Holds, IsLogged, engine_of, is_busy, is_in_flight, quiet}
 use Rattle.joint.proofs.lemmas.Apart.{Apart, one_same, one_set, places_counted}
 use Rattle.joint.proofs.lemmas.Asking.{asked_set}
 use Rattle.joint.proofs.lemmas.Collecting.{set_here, there}

@@ -1,21 +1,18 @@
 -- What a step writes down fits the calls in flight and the pairs that stand after it.
-use Rattle.std.proofs.Common.{◌≡◌, ◌≢◌, ◌⊎◌, ◌==◌, ℕ, zero, suc, ◌+◌, ◌<◌, ◌≤◌, arith, Bool, true, false, List, [], ◌∷◌, ◌++◌, length, refl, sym, ◌∙◌, ap, subst, inl, inr}
-use Rattle.std.proofs.Math.ListN.{set}
-use Rattle.std.specs.Prelude.{Option, None, Some, ◌&&◌, is_some, not, ltb, slice_get, slice_set, if◌then◌else◌}
+use Rattle.std.proofs.Common.{◌≡◌, ◌⊎◌, ℕ, zero, suc, ◌+◌, ◌<◌, ◌≤◌, arith, Bool, true, false, List, ◌++◌, length, refl, sym, ◌∙◌, ap, subst, inl, inr}
+use Rattle.std.specs.Prelude.{Option, None, Some, ◌&&◌, is_some, not, slice_get, if◌then◌else◌}
 use Rattle.std.specs.FinMap.{empty, get}
 use Rattle.std.proofs.lemmas.Bool.{cases_Bool, false≢true}
-use Rattle.std.proofs.lemmas.List.{append-nil, length-append, length-set}
+use Rattle.std.proofs.lemmas.List.{append-nil, length-append}
 use Rattle.judge.specs.declared.journal.Call.{Call as Entered}
 use Rattle.judge.specs.declared.journal.Call.TheVariants as call
 use Rattle.judge.specs.declared.journal.Entry.{Entry}
-use Rattle.judge.specs.Answer.{Pairs, answer, set_at}
+use Rattle.judge.specs.Answer.{Pairs, answer}
 use Rattle.judge.specs.Journal.{Answers, Legal}
 use Rattle.judge.proofs.Journals.{Legal-push}
 use Rattle.judge.proofs.Maps.{set_at-standing}
-use Rattle.congee.specs.declared.protocol.machine.Machine.{Machine}
 use Rattle.congee.specs.declared.protocol.machine.Noise.{Noise}
 use Rattle.congee.specs.Keys.{IsMapOf}
-use Rattle.congee.specs.protocol.Play.{Flight, Over}
 use Rattle.joint.specs.declared.id.Id.{Id}
 use Rattle.joint.specs.declared.request.Request.{Request}
 use Rattle.joint.specs.declared.steps.Event.{Event}
@@ -25,8 +22,8 @@ use Rattle.joint.specs.declared.steps.Step.{Step}
 use Rattle.joint.specs.Forest.{nodes}
 use Rattle.joint.specs.Intact.{is_reserving}
 use Rattle.joint.specs.Journaling.{has_place, in_list, kept_if, places_of}
-use Rattle.joint.specs.Log.{Log, counted, has_room, is_full, recounted, request_at}
-use Rattle.joint.specs.Runs.{Flights, Line, GoMap, EventMap, AreInFlight, looks_up}
+use Rattle.joint.specs.Log.{counted, has_room, is_full, recounted, request_at}
+use Rattle.joint.specs.Runs.{Flights, Line, EventMap, AreInFlight, looks_up}
 use Rattle.joint.specs.Whole.{Whole, EngineHolds, Holds, IsAsked, IsEngineStep, IsLogged, IsStep, Does, StepsUnless, engine_of, entry_at, gives_up, is_in_flight, kept_at, misuse, requests_after}
 use Rattle.joint.proofs.lemmas.Apart.{Apart, places_counted, step_apart}
 use Rattle.joint.proofs.lemmas.Asking.{asked_after}

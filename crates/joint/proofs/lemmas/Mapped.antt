@@ -1,14 +1,11 @@
 -- One step of the whole machine, on the map and in the journal.
-use Rattle.std.proofs.Common.{◌≡◌, ◌<◌, ◌≤◌, ◌⊎◌, ℕ, arith, Bool, true, false, List, [], ◌∷◌, ◌++◌, length, refl, sym, ◌∙◌, ap, subst, inl, inr}
+use Rattle.std.proofs.Common.{◌≡◌, ◌<◌, ◌≤◌, ℕ, arith, Bool, true, false, ◌++◌, length, refl, sym, ◌∙◌, ap, subst, inl, inr}
 use Rattle.std.specs.Prelude.{Option, None, Some, ◌&&◌, is_some, slice_get, if◌then◌else◌}
-use Rattle.std.proofs.lemmas.Bool.{false≢true}
 use Rattle.std.proofs.lemmas.List.{append-nil}
 use Rattle.std.proofs.lemmas.Option.{slice_get_cases}
 use Rattle.judge.specs.declared.journal.Entry.{Entry}
 use Rattle.judge.specs.Answer.{Pairs}
 use Rattle.congee.specs.declared.protocol.machine.Machine.{Machine}
-use Rattle.congee.specs.declared.protocol.machine.Noise.{Noise}
-use Rattle.congee.specs.declared.protocol.phase.Phase.TheVariants.{Sweep}
 use Rattle.congee.specs.declared.protocol.sweep.Sweep.{Sweep as Scan}
 use Rattle.congee.specs.Keys.{IsMapOf}
 use Rattle.congee.specs.protocol.Play.{Flight, Over, Follows, ScanFollows, flight}
@@ -22,11 +19,10 @@ use Rattle.joint.specs.declared.steps.Report.{Report}
 use Rattle.joint.specs.declared.steps.Step.{Step}
 use Rattle.joint.specs.Forest.{nodes}
 use Rattle.joint.specs.Intact.{is_reserving}
-use Rattle.joint.specs.Journaling.{in_list, places_of}
-use Rattle.joint.specs.Log.{is_full, request_at}
-use Rattle.joint.specs.Runs.{Flights, Line, EventMap, InFlight, AreInFlight, kept_of, looks_up, with_flight}
-use Rattle.joint.specs.Whole.{Whole, Holds, GivesUp, IsAsked, IsLogged, IsStep, StepsUnless, TakesStep, engine_of, gives_up, kept_at}
-use Rattle.joint.proofs.lemmas.Collecting.{there}
+use Rattle.joint.specs.Journaling.{in_list}
+use Rattle.joint.specs.Log.{request_at}
+use Rattle.joint.specs.Runs.{Flights, EventMap, InFlight, AreInFlight, looks_up, with_flight}
+use Rattle.joint.specs.Whole.{Whole, Holds, GivesUp, IsAsked, IsStep, StepsUnless, TakesStep, gives_up, kept_at}
 use Rattle.joint.proofs.lemmas.GivingUp.{refused_flights, refused_map}
 use Rattle.joint.proofs.lemmas.Logged.{result, kept_line, writes_kept}
 use Rattle.joint.proofs.lemmas.Rekept.{event_map}

@@ -1,6 +1,6 @@
 -- Whether a report says that the journal keeps a call is nothing to the map.
-use Rattle.std.proofs.Common.{◌≡◌, ℕ, Bool, true, false, List, [], ◌∷◌, inl, inr}
-use Rattle.std.specs.Prelude.{Option, None, Some}
+use Rattle.std.proofs.Common.{ℕ, Bool, true, false, inl, inr}
+use Rattle.std.specs.Prelude.{Option}
 use Rattle.judge.specs.Answer.{Pairs}
 use Rattle.congee.specs.declared.protocol.op.Op.{Op as Point}
 use Rattle.congee.specs.declared.protocol.op.Op.TheVariants as point
@@ -12,11 +12,10 @@ use Rattle.joint.specs.declared.steps.Event.{Event}
 use Rattle.joint.specs.declared.steps.Event.TheVariants.{Register, Begin, Go}
 use Rattle.joint.specs.declared.steps.Outcome.{Outcome}
 use Rattle.joint.specs.declared.steps.Outcome.TheVariants.{Running, Asks, Found, Registered, Done, Refused}
-use Rattle.joint.specs.declared.steps.Report.{Report}
 use Rattle.joint.specs.declared.steps.Target.{Target}
 use Rattle.joint.specs.declared.steps.Target.TheVariants as target
 use Rattle.joint.specs.Reports.{target}
-use Rattle.joint.specs.Runs.{Line, Flights, Stays, BeginsFlight, EndsAtOnce, BeginsOr, BeginMap, PendingStep, FlightStep, GoMap, EventMap}
+use Rattle.joint.specs.Runs.{Line, Flights, Stays, BeginsFlight, EndsAtOnce, BeginsOr, BeginMap, PendingStep, GoMap, EventMap}
 
 module _ {V : Type 0} (b : Bool) where
   abbrev pub rekept : Line V → Line V

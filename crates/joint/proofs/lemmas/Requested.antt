@@ -1,5 +1,5 @@
 -- What a worker asked for, beside its call as it is watched: they agree from step to step, and give the call's entry.
-use Rattle.std.proofs.Common.{◌≡◌, ◌≢◌, ℕ, Bool, true, false, List, refl, sym, ◌∙◌, ap, subst}
+use Rattle.std.proofs.Common.{◌≡◌, ℕ, Bool, true, false, refl, sym, ◌∙◌, ap, subst}
 use Rattle.std.specs.Prelude.{Option, None, Some, ◌&&◌}
 use Rattle.judge.specs.declared.journal.Call.{Call as Entered}
 use Rattle.judge.specs.declared.journal.Call.TheVariants as call
@@ -14,13 +14,12 @@ use Rattle.congee.specs.declared.protocol.phase.Kind.{Kind}
 use Rattle.congee.specs.declared.protocol.phase.Kind.TheVariants as kind
 use Rattle.congee.specs.declared.protocol.phase.Phase.{Phase}
 use Rattle.congee.specs.declared.protocol.phase.Phase.TheVariants as phase
-use Rattle.congee.specs.protocol.Play.{Flight, Pending, Decided, Over, Unbegun, Scanning, Question, Unasked, Asked, Replied, heard, resolved, Carries, Undecided, parts, first_phase, flight_in, heeding, begun, flight}
+use Rattle.congee.specs.protocol.Play.{Flight, Pending, Decided, Question, Unasked, Asked, Replied, heard, Carries, Undecided, parts, flight_in, heeding, begun, flight}
 use Rattle.congee.specs.protocol.Protocol.{Asking, IsCall}
 use Rattle.joint.specs.declared.id.Id.{Id}
 use Rattle.joint.specs.declared.request.Request.{Request}
 use Rattle.joint.specs.declared.steps.Op.{Op}
-use Rattle.joint.specs.declared.steps.Op.TheVariants.{Pin, Unpin, Repin, Flush, Release, Get, Insert, Remove, ComputePresent, ComputeInsert, Exchange, Range, Keys, IsEmpty, Stats}
-use Rattle.joint.specs.declared.steps.Target.{Target}
+use Rattle.joint.specs.declared.steps.Op.TheVariants.{Get, Insert, Remove, ComputePresent, ComputeInsert, Exchange, Range}
 use Rattle.joint.specs.declared.steps.Target.TheVariants.{Tree}
 use Rattle.joint.specs.Intact.{root}
 use Rattle.joint.specs.Journaling.{call_of, is_asking, is_pending, may_write, reply_in}

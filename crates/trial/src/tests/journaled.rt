@@ -77,7 +77,10 @@ fn a_reserved_place_is_kept_from_look_ups_and_comes_free(rt: HostRuntime) -> Res
     while go(&mut index, 0, None).outcome != Outcome::Asks(Some(1)) {}
     assert_eq!(rt; index.in_flight(0), Some((Op::ComputePresent(1), None)));
     go(&mut index, 0, Some(None));
-    assert_eq!(rt; index.in_flight(0), Some((Op::ComputePresent(1), Some(None))));
+    assert_eq!(rt;
+        index.in_flight(0),
+        Some((Op::ComputePresent(1), Some(None)))
+    );
     assert_eq!(rt; index.in_flight(1), None);
     while go(&mut index, 0, None).outcome == Outcome::Running {}
     assert_eq!(rt; index.in_flight(0), None);

@@ -1,5 +1,5 @@
-use Rattle.std.proofs.Common.{◌≡◌, ◌∙◌, ap}
-use Rattle.std.specs.Prelude.{None, Some, slice_get}
+use Rattle.std.proofs.Common.{◌∙◌, ap}
+use Rattle.std.specs.Prelude.{slice_get}
 use Rattle.joint.specs.Journaling.{asks_at}
 use Rattle.joint.proofs.lemmas.Found.{found_at, found_none}
 use Rattle.joint.proofs.engine.Engine.asks.Goals as goal

@@ -1,4 +1,4 @@
-use Rattle.std.proofs.Common.{rules, arith, ◌≡◌, ◌<◌, ◌≤◌, ◌+◌, ℕ, true, length, sym, subst}
+use Rattle.std.proofs.Common.{rules, arith, ◌≡◌, ◌<◌, ◌≤◌, ◌+◌, true, length, sym, subst}
 use Rattle.std.specs.Vec.{vec_capacity, vec_len}
 use Rattle.joint.specs.Log.{Log, has_room}
 use Rattle.joint.proofs.lemmas.Recounting.{has_room_is, pushed_room}

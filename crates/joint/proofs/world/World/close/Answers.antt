@@ -1,4 +1,4 @@
-use Rattle.std.proofs.Common.{◌≡◌, subst}
+use Rattle.std.proofs.Common.{subst}
 use Rattle.joint.specs.Closing.{IsClosed}
 use Rattle.joint.specs.Whole.{Whole}
 use Rattle.joint.proofs.world.World.close.Goals as goal

@@ -1,4 +1,4 @@
-use Rattle.std.proofs.Common.{◌≡◌, refl, subst}
+use Rattle.std.proofs.Common.{refl, subst}
 use Rattle.joint.specs.declared.steps.Event.TheVariants.{Register}
 use Rattle.joint.specs.Whole.{Whole, IsStep}
 use Rattle.joint.proofs.lemmas.Advanced.{register_step}
