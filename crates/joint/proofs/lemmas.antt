@@ -27,6 +27,7 @@ pub mod HandOver
 pub mod Handed
 pub mod Hanging
 pub mod Kept
+pub mod Holding
 pub mod Keyed
 pub mod Listing
 pub mod Made

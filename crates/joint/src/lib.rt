@@ -33,4 +33,6 @@ pub use refusal::Refusal;
 pub use steps::{Done, Event, Kind, Op, Outcome, Ran, Report, Step, Survey};
 pub use threads::auditing::audit;
 pub use threads::driver::{Turns, drive};
+pub use threads::tokens::{Guard, Worker};
+pub use threads::words::Congee;
 pub use world::World;

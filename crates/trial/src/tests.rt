@@ -23,6 +23,7 @@ mod scans;
 mod scripts;
 mod stats;
 mod surveys;
+mod threaded;
 mod threads;
 mod users;
 mod worked;

@@ -10,6 +10,7 @@ ghost use Rattle.joint.specs.Driving.{IsDriven, IsToldInCall, IsTurn, begin_step
 
 use crate::refusal::Refusal;
 use crate::steps::{Done, Event, Op, Outcome, Report, Step};
+use crate::threads::answers::{Answer, Closure};
 use congee::Noise;
 use std::sync::Wait;
 
@@ -75,23 +76,26 @@ pub fn drive<P: Drop, T: Turns<P>, F: FnMut(Option<P>) -> Option<P>, R: Wait>(
     ensures answer { option_map (λ r. r.outcome) (T.last turns.new) ≡ Some (ended result) }
     ensures told { IsToldInCall (ended result) }
 {
-    drive_to(rt, turns, worker, op, closure, found)
+    let mut answers = Closure::new(closure);
+    let done = drive_to(rt, turns, worker, op, &mut answers, found);
+    let _ = answers.into_inner();
+    done
 }
 
-/// The same, with places for pairs of any form.
-pub(crate) fn drive_to<P: Drop, Q: Pair<P>, T: Turns<P>, F: FnMut(Option<P>) -> Option<P>, R: Wait>(
+/// The same, whatever answers for the closure, and with places for pairs of any form.
+pub(crate) fn drive_to<P: Drop, Q: Pair<P>, T: Turns<P>, C: Answer<P>, R: Wait>(
     rt: &R,
     turns: &mut T,
     worker: u32,
     op: Op<P>,
-    mut closure: F,
+    answers: &mut C,
     found: &mut [Q],
 ) -> Result<Done<P>, Refusal>
     requires worker { T.worker turns.old ≡ worker }
     requires op { T.op turns.old ≡ op }
     requires new { T.last turns.old ≡ None }
-    requires callable { F.IsAlwaysCallable closure }
-    ensures turns { IsDriven T.gives F.step Q.pair worker op closure turns.old found.old turns.new found.new (ended result) }
+    requires ready { C.can_answer answers.old }
+    ensures turns { IsDriven T.gives C.answers Q.pair worker op answers.old turns.old found.old turns.new found.new (ended result) }
     ensures answer { option_map (λ r. r.outcome) (T.last turns.new) ≡ Some (ended result) }
     ensures told { IsToldInCall (ended result) }
 {
@@ -100,7 +104,7 @@ pub(crate) fn drive_to<P: Drop, Q: Pair<P>, T: Turns<P>, F: FnMut(Option<P>) -> 
         let Report { outcome, .. } = turns.turn(step);
         let answer = match outcome {
             Outcome::Running => None,
-            Outcome::Asks(value) => Some(closure(value)),
+            Outcome::Asks(value) => Some(answers.answer(value)),
             Outcome::Found { place, key, value } => {
                 put_at(found, place, Q::pair(key, value));
                 None
