@@ -1,11 +1,12 @@
 -- Calls on an index that threads share: whom they serve, what a hold of its lock is, and what they answer.
-use Rattle.std.specs.Prelude.{◌≡◌, ◌==◌, ◌&&◌, ℕ, Bool, true, false, List, [], Option, None, Some, Result, Ok, Err, Vec, map}
+use Rattle.std.specs.Prelude.{◌≡◌, ◌==◌, ◌&&◌, ◌<◌, ◌⊎◌, ℕ, Arc, Bool, true, false, List, [], Option, None, Some, Result, Ok, Err, Vec, map}
+use Rattle.std.specs.Arc.{arc_value}
 use Rattle.std.specs.Option.{option_map}
 use Rattle.std.specs.declared.alloc.Global.{Global}
 use Rattle.judge.specs.declared.journal.Reply.TheVariants.{Get, Insert, Remove, ComputePresent, ComputeInsert, Exchange}
 use Rattle.congee.specs.declared.owned.stats.NodeStats.{NodeStats}
 use Rattle.joint.specs.declared.refusal.Refusal.{Refusal}
-use Rattle.joint.specs.declared.refusal.Refusal.TheVariants.{Foreign, Idle, Memory}
+use Rattle.joint.specs.declared.refusal.Refusal.TheVariants.{Count, Foreign, Idle, Memory, WorkersLeft}
 use Rattle.joint.specs.declared.steps.Done.{Done as Answer}
 use Rattle.joint.specs.declared.steps.Done.TheVariants.{Unit as Finished, Reply, Scanned, Keys, Empty, Stats}
 use Rattle.joint.specs.declared.steps.Event.TheVariants.{Register}
@@ -17,6 +18,7 @@ use Rattle.joint.specs.declared.steps.Report.{Report}
 use Rattle.joint.specs.declared.steps.Step.{Step}
 use Rattle.joint.specs.declared.threads.tokens.Guard.{Guard}
 use Rattle.joint.specs.declared.threads.tokens.Worker.{Worker}
+use Rattle.joint.specs.Closing.{IsClosed}
 use Rattle.joint.specs.Driving.{IsDriven, ended}
 use Rattle.joint.specs.Whole.{Whole, IsStep}
 
@@ -182,3 +184,34 @@ AreKeys of (Ok words) (Err e) = e ≡ Memory
 -- what a call of words answers, in other types
 abbrev pub As : {A B : Type 0} → (A → Type 0) → (A → B) → B → Type 0
 As {A} does of result = (read : A) × does read × (result ≡ of read)
+
+-- a closed index: whatever the lock kept, it was closed with this drainer
+abbrev pub Closes : {V D : Type 0} → (D → ℕ → V → D → Type 0) → D → ℕ → ℕ → D → Type 0
+Closes {V} drains before charge limit after = (s : Whole V) × IsClosed drains s before charge limit after
+
+-- it wasn't closed, since workers were registered
+abbrev pub HasWorkers : Refusal → Type 0
+HasWorkers e = (n : ℕ) × (0 < n) × (e ≡ WorkersLeft n)
+
+-- a closure over owners that is asked for a present value alone
+abbrev pub if_owned : {V F : Type 0} → (F → Arc V Global → Option (Arc V Global) → F → Type 0) → F → Option V → Option V → F → Type 0
+if_owned step f None answer f' = (answer ≡ None) × (f' ≡ f)
+if_owned {V} step f (Some v) answer f' = (given : Arc V Global) × (new : Option (Arc V Global)) × (arc_value given ≡ v) × step f given new f' × (answer ≡ option_map arc_value new)
+
+-- the values of owners
+abbrev pub owned : {V : Type 0} → Result (Option (Arc V Global)) Refusal → Result (Option V) Refusal
+owned (Ok owner) = Ok (option_map arc_value owner)
+owned (Err e) = Err e
+
+-- the values before
+abbrev pub befores : {V : Type 0} → Result (Option (V × Option V)) Refusal → Result (Option V) Refusal
+befores (Ok pair) = Ok (option_map (λ p. p.0) pair)
+befores (Err e) = Err e
+
+-- what a call of values answers, as owners of them
+abbrev pub Owns : {A V : Type 0} → (A → Type 0) → (A → Result (Option V) Refusal) → Result (Option (Arc V Global)) Refusal → Type 0
+Owns {A} does of result = (read : A) × does read × (owned result ≡ of read)
+
+-- a refused insertion: by the machine, or since no more owners of the value can be counted
+abbrev pub RefusesOwner : {V : Type 0} → Bool → (Result (Option V) Refusal → Type 0) → Refusal → Type 0
+RefusesOwner serves does e = Serves serves does (Err e) ⊎ ((serves ≡ true) × (e ≡ Count))

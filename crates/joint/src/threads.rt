@@ -5,6 +5,8 @@ pub(crate) mod auditing;
 pub(crate) mod driver;
 pub(crate) mod ends;
 pub(crate) mod holds;
+pub(crate) mod numbers;
+pub(crate) mod owners;
 pub(crate) mod tokens;
 pub(crate) mod tree;
 pub(crate) mod words;

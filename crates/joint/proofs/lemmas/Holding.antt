@@ -100,18 +100,18 @@ misuse_own s who (Begin op) =
 misuse_own s who (Go noise) = own_if (place_of s who).registered _ (Some fault.Unknown) (own_if (is_busy (slice_get s.calls who)) None (Some fault.Idle) (tt {0}) (tt {0})) (tt {0})
 
 module _ {V : Type 0} where
-  fault_tells : (f : Fault) → Own (Some f) → IsToldInCall {V} (Refused (of_fault f))
+  fault_tells : (f : Fault) → Own (Some f) → IsToldInCall {V = V} (Refused (of_fault f))
   fault_tells fault.Foreign o = absurd o
   fault_tells _ o = tt {0}
 
-  collected_tells : {T J : Type 0} (s : State T J) (who : ℕ) (event : Turn) (x : Option Fault) (o : Turned) → Own x → collector.IsOutcome s who event x o → IsToldInCall {V} (collected o)
-  collected_tells s who event (Some f) o own is = subst (λ o. IsToldInCall {V} (collected o)) (sym is) (fault_tells f own)
+  collected_tells : {T J : Type 0} (s : State T J) (who : ℕ) (event : Turn) (x : Option Fault) (o : Turned) → Own x → collector.IsOutcome s who event x o → IsToldInCall {V = V} (collected o)
+  collected_tells s who event (Some f) o own is = subst (λ o. IsToldInCall {V = V} (collected o)) (sym is) (fault_tells f own)
   collected_tells s who event None turned.Running own is = tt {0}
   collected_tells s who event None turned.Done own is = tt {0}
   collected_tells s who event None (turned.Refused fault.Memory) own is = tt {0}
   collected_tells s who event None (turned.Refused _) own is = absurd is
 
-  reserving_tells : (o : Turned) → IsToldInCall {V} (collected o) → IsToldInCall {V} (reserving o)
+  reserving_tells : (o : Turned) → IsToldInCall {V = V} (collected o) → IsToldInCall {V = V} (reserving o)
   reserving_tells turned.Running t = t
   reserving_tells turned.Done t = tt {0}
   reserving_tells (turned.Refused f) t = t

@@ -6,12 +6,13 @@ ghost use Rattle.joint.specs.declared.refusal.Refusal.TheVariants as cause;
 ghost use Rattle.joint.specs.declared.steps.Op.{Op};
 ghost use Rattle.joint.specs.declared.steps.Report.{Report};
 ghost use Rattle.joint.specs.declared.steps.Step.{Step};
+ghost use Rattle.congee.specs.Keys.{key_bytes};
 ghost use Rattle.joint.specs.Driving.{IsDriven, IsToldInCall, IsTurn, begin_step, ended, go_step};
 
 use crate::refusal::Refusal;
 use crate::steps::{Done, Event, Op, Outcome, Report, Step};
 use crate::threads::answers::{Answer, Closure};
-use congee::Noise;
+use congee::{KEY_BYTES, Noise};
 use std::sync::Wait;
 
 /// Gives the turns of one whole call of a worker's: each is one step of the machine.
@@ -54,6 +55,14 @@ impl<P: Drop> Pair<P> for (u64, P) {
 
     fn pair(key: u64, value: P) -> Self {
         (key, value)
+    }
+}
+
+impl<P: Drop> Pair<P> for ([u8; KEY_BYTES], P) {
+    ghost pair = { λ key value. (key_bytes key, value) };
+
+    fn pair(key: u64, value: P) -> Self {
+        (key.to_be_bytes(), value)
     }
 }
 

@@ -1,16 +1,16 @@
 //! One index under one lock, which each step of a call takes anew.
 
-ghost use Rattle.std.specs.Prelude.{◌≡◌, [], false, length, IfOk, IfErr};
+ghost use Rattle.std.specs.Prelude.{◌≡◌, ℕ, [], false, length, IfOk, IfErr, Ok};
 ghost use Rattle.joint.specs.Driving.{ended};
 ghost use Rattle.joint.specs.Opening.{IsUnopened};
-ghost use Rattle.joint.specs.Threads.{Answers, Computes, Hands, IsHeld, IsHold, IsRound, Pins, Scans, Serves, is_held_by, is_of, register_step, registered};
-ghost use Rattle.joint.specs.Threads.{computed, counted, emptied, exchanged, got, inserted, listed, removed, replaced, scanned, told, if_present, or_insert};
+ghost use Rattle.joint.specs.Threads.{Answers, Closes, Computes, Hands, HasWorkers, IsHeld, IsHold, IsRound, IsRoundFrom, Pins, Scans, Serves, is_held_by, is_of, register_step, registered};
+ghost use Rattle.joint.specs.Threads.{computed, counted, emptied, exchanged, got, inserted, listed, removed, replaced, scanned, told};
 ghost use Rattle.joint.specs.declared.steps.Op.TheVariants as op;
 
 use crate::limits::Limits;
 use crate::refusal::Refusal;
 use crate::steps::{Event, Op, Outcome, Report, Step};
-use crate::threads::answers::{Answer, IfPresent, OrInsert, Silent};
+use crate::threads::answers::{Answer, Silent};
 use crate::threads::driver::{Pair, drive_to};
 use crate::threads::ends::{
     End, computed, counted, emptied, exchanged, got, inserted, listed, removed, replaced, scanned,
@@ -19,17 +19,35 @@ use crate::threads::ends::{
 use crate::threads::holds::Holds;
 use crate::threads::tokens::{Guard, Worker};
 use crate::world::World;
-use congee::{Allocator, NodeStats, Payload, Small};
+use congee::{Allocator, Drainer, NodeStats, Payload, Small};
 use crossbeam_utils::CachePadded;
 use std::alloc::Global;
 use std::sync::{Mutex, Wait};
+
+/// What the lock keeps.
+struct Locked<P: Payload + Small, A: Allocator> {
+    world: World<P, A>,
+}
+
+impl<P: Payload + Small, A: Allocator> Drop for Locked<P, A> {
+    fn drop(self) {
+        let Locked { world: _ } = self;
+    }
+}
+
+impl<P: Payload + Small, A: Allocator> Locked<P, A> {
+    fn into_world(self) -> World<P, A> {
+        let Locked { world } = self;
+        world
+    }
+}
 
 /// An index under its lock.
 #[derive(Drop)]
 pub(crate) struct Tree<P: Payload + Small, A: Allocator> {
     /// Tells it from others.
     pub(crate) id: u64,
-    world: CachePadded<Mutex<World<P, A>>>,
+    locked: CachePadded<Mutex<Locked<P, A>>>,
 }
 
 impl<P: Payload + Small, A: Allocator> Tree<P, A> {
@@ -39,15 +57,28 @@ impl<P: Payload + Small, A: Allocator> Tree<P, A> {
         ensures cause { IfErr result (λ e. IsUnopened limits (A.charged_of allocator) (A.limit_of allocator) e) }
     {
         let world = World::new(alloc, limits, allocator)?;
-        Ok(Tree {
-            id: limits.id,
-            world: CachePadded::new(Mutex::new(world)),
-        })
+        Ok(Tree::of(limits.id, world))
+    }
+
+    /// An index under a new lock.
+    fn of(id: u64, world: World<P, A>) -> Self
+        ensures { result.id ≡ id }
+    {
+        Tree {
+            id,
+            locked: CachePadded::new(Mutex::new(Locked { world })),
+        }
+    }
+
+    /// The index out of its lock.
+    fn into_world(self) -> World<P, A> {
+        let Tree { id: _, locked } = self;
+        locked.into_inner().into_inner().into_world()
     }
 
     /// Its lock.
-    fn lock(&self) -> &Mutex<World<P, A>> {
-        &self.world
+    fn lock(&self) -> &Mutex<Locked<P, A>> {
+        &self.locked
     }
 
     /// Whether the worker is of this index.
@@ -58,7 +89,7 @@ impl<P: Payload + Small, A: Allocator> Tree<P, A> {
     }
 
     /// Whether worker and guard are of this index, and the guard is the worker's.
-    fn serves(&self, worker: &Worker, guard: &Guard) -> bool
+    pub(crate) fn serves(&self, worker: &Worker, guard: &Guard) -> bool
         ensures { result ≡ is_held_by self.now.id worker.now guard.now }
     {
         worker.tree == self.id && guard.tree == self.id && guard.worker == worker.number
@@ -68,7 +99,7 @@ impl<P: Payload + Small, A: Allocator> Tree<P, A> {
     pub(crate) fn hold<R: Wait>(&self, rt: &R, step: Step<P>) -> Report<P>
         ensures { IsHold P.same_as P.always_copies step result }
     {
-        self.lock().lock(rt).step(step)
+        self.lock().lock(rt).world.step(step)
     }
 
     /// A whole call of a worker's, each turn of which is a hold of the lock.
@@ -96,17 +127,38 @@ impl<P: Payload + Small, A: Allocator> Tree<P, A> {
         answers: &mut C,
     ) -> End<P>
         requires { C.can_answer answers.old }
-        ensures { IsHeld P.same_as P.always_copies C.answers (λ k v. (k, v)) worker.now.number op answers.old [] [] (ended result) }
+        ensures { IsHeld {Q = ℕ × P} P.same_as P.always_copies C.answers (λ k v. (k, v)) worker.now.number op answers.old [] [] (ended result) }
     {
         let mut nothing: [(u64, P); 0] = [];
         self.drive(rt, worker, op, answers, &mut nothing)
     }
 
-    /// One that asks for nothing either.
+    /// One that asks for nothing, and writes the pairs that it finds to their places.
+    fn scan<Q: Pair<P>, R: Wait>(
+        &self,
+        rt: &R,
+        worker: &Worker,
+        op: Op<P>,
+        found: &mut [Q],
+    ) -> End<P>
+        ensures { Scans P.same_as P.always_copies Q.pair worker.now.number op found.old found.new (λ end. end) result }
+    {
+        self.drive(rt, worker, op, &mut Silent, found)
+    }
+
+    /// One that asks for nothing and finds no pairs.
     fn call<R: Wait>(&self, rt: &R, worker: &Worker, op: Op<P>) -> End<P>
         ensures { Answers P.same_as P.always_copies worker.now.number op (λ end. end) result }
     {
-        self.compute(rt, worker, op, &mut Silent)
+        let mut nothing: [(u64, P); 0] = [];
+        self.scan(rt, worker, op, &mut nothing)
+    }
+
+    /// One that tells nothing but that it has ended.
+    fn end<R: Wait>(&self, rt: &R, worker: &Worker, op: Op<P>) -> Result<(), Refusal>
+        ensures { Answers P.same_as P.always_copies worker.now.number op told result }
+    {
+        told(self.call(rt, worker, op))
     }
 
     /// A worker at the lowest free place of the table. Refused as TableFull.
@@ -134,7 +186,7 @@ impl<P: Payload + Small, A: Allocator> Tree<P, A> {
         if !self.owns(&worker) {
             return Err((Refusal::Foreign, worker));
         }
-        match told(self.call(rt, &worker, Op::Release)) {
+        match self.end(rt, &worker, Op::Release) {
             Ok(()) => Ok(()),
             Err(refusal) => Err((refusal, worker)),
         }
@@ -147,7 +199,7 @@ impl<P: Payload + Small, A: Allocator> Tree<P, A> {
         if !self.owns(worker) {
             return Err(Refusal::Foreign);
         }
-        match told(self.call(rt, worker, Op::Pin)) {
+        match self.end(rt, worker, Op::Pin) {
             Ok(()) => Ok(Guard {
                 tree: self.id,
                 worker: worker.number,
@@ -168,7 +220,7 @@ impl<P: Payload + Small, A: Allocator> Tree<P, A> {
         if !self.serves(worker, &guard) {
             return Err((Refusal::Foreign, guard));
         }
-        match told(self.call(rt, worker, Op::Unpin)) {
+        match self.end(rt, worker, Op::Unpin) {
             Ok(()) => {
                 guard.forget();
                 Ok(())
@@ -189,7 +241,7 @@ impl<P: Payload + Small, A: Allocator> Tree<P, A> {
         if !self.serves(worker, guard) {
             return Err(Refusal::Foreign);
         }
-        told(self.call(rt, worker, Op::Flush))
+        self.end(rt, worker, Op::Flush)
     }
 
     /// Pins the worker's only guard anew.
@@ -204,7 +256,7 @@ impl<P: Payload + Small, A: Allocator> Tree<P, A> {
         if !self.serves(worker, guard) {
             return Err(Refusal::Foreign);
         }
-        told(self.call(rt, worker, Op::Repin))
+        self.end(rt, worker, Op::Repin)
     }
 
     /// Pin, flush, unpin. After a refused flush it unpins too.
@@ -214,11 +266,22 @@ impl<P: Payload + Small, A: Allocator> Tree<P, A> {
         if !self.owns(worker) {
             return Err(Refusal::Foreign);
         }
-        told(self.call(rt, worker, Op::Pin))?;
-        let flushed = told(self.call(rt, worker, Op::Flush));
-        let left = told(self.call(rt, worker, Op::Unpin));
-        flushed?;
-        left
+        match self.end(rt, worker, Op::Pin) {
+            Ok(()) => self.flush_and_unpin(rt, worker),
+            Err(refusal) => Err(refusal),
+        }
+    }
+
+    /// Flush, unpin, each a whole call. Answers the first refusal.
+    fn flush_and_unpin<R: Wait>(&self, rt: &R, worker: &Worker) -> Result<(), Refusal>
+        ensures { IsRoundFrom P.same_as P.always_copies worker.now.number (Ok tt) result }
+    {
+        let flushed = self.end(rt, worker, Op::Flush);
+        let left = self.end(rt, worker, Op::Unpin);
+        match flushed {
+            Ok(()) => left,
+            Err(refusal) => Err(refusal),
+        }
     }
 
     /// The value at a key.
@@ -270,48 +333,40 @@ impl<P: Payload + Small, A: Allocator> Tree<P, A> {
         removed(self.call(rt, worker, Op::Remove(key)))
     }
 
-    /// Puts the answer of `f` at a key that is present, or takes the key out where the answer is `None`.
-    pub(crate) fn compute_if_present<F: FnMut(P) -> Option<P>, R: Wait>(
+    /// Puts the answer at a key that is present, or takes the key out where the answer is `None`.
+    pub(crate) fn compute_if_present<C: Answer<P>, R: Wait>(
         &self,
         rt: &R,
         key: u64,
-        f: F,
+        answers: &mut C,
         worker: &Worker,
         guard: &Guard,
     ) -> Result<Option<(P, Option<P>)>, Refusal>
-        requires { F.IsAlwaysCallable f }
-        ensures { Serves (is_held_by self.now.id worker.now guard.now) (Computes P.same_as P.always_copies (if_present F.step) worker.now.number (op.ComputePresent key) f computed) result }
+        requires { C.can_answer answers.old }
+        ensures { Serves (is_held_by self.now.id worker.now guard.now) (Computes P.same_as P.always_copies C.answers worker.now.number (op.ComputePresent key) answers.old computed) result }
     {
-        let mut answers = IfPresent::new(f);
-        let answer = if self.serves(worker, guard) {
-            computed(self.compute(rt, worker, Op::ComputePresent(key), &mut answers))
-        } else {
-            Err(Refusal::Foreign)
-        };
-        let _ = answers.into_inner();
-        answer
+        if !self.serves(worker, guard) {
+            return Err(Refusal::Foreign);
+        }
+        computed(self.compute(rt, worker, Op::ComputePresent(key), answers))
     }
 
-    /// Puts the answer of `f` at a key, present or not, and gives the value before.
-    pub(crate) fn compute_or_insert<F: FnMut(Option<P>) -> P, R: Wait>(
+    /// Puts the answer at a key, present or not, and gives the value before.
+    pub(crate) fn compute_or_insert<C: Answer<P>, R: Wait>(
         &self,
         rt: &R,
         key: u64,
-        f: F,
+        answers: &mut C,
         worker: &Worker,
         guard: &Guard,
     ) -> Result<Option<P>, Refusal>
-        requires { F.IsAlwaysCallable f }
-        ensures { Serves (is_held_by self.now.id worker.now guard.now) (Computes P.same_as P.always_copies (or_insert F.step) worker.now.number (op.ComputeInsert key) f replaced) result }
+        requires { C.can_answer answers.old }
+        ensures { Serves (is_held_by self.now.id worker.now guard.now) (Computes P.same_as P.always_copies C.answers worker.now.number (op.ComputeInsert key) answers.old replaced) result }
     {
-        let mut answers = OrInsert::new(f);
-        let answer = if self.serves(worker, guard) {
-            replaced(self.compute(rt, worker, Op::ComputeInsert(key), &mut answers))
-        } else {
-            Err(Refusal::Foreign)
-        };
-        let _ = answers.into_inner();
-        answer
+        if !self.serves(worker, guard) {
+            return Err(Refusal::Foreign);
+        }
+        replaced(self.compute(rt, worker, Op::ComputeInsert(key), answers))
     }
 
     /// Where the key has the old value, puts the new one there, or takes the key out at `None`.
@@ -350,7 +405,7 @@ impl<P: Payload + Small, A: Allocator> Tree<P, A> {
             return Err(Refusal::Foreign);
         }
         let scan = Op::Range(start, end, found.len());
-        scanned(self.drive(rt, worker, scan, &mut Silent, found))
+        scanned(self.scan(rt, worker, scan, found))
     }
 
     /// Whether no key has a value, at its one step.
@@ -390,16 +445,34 @@ impl<P: Payload + Small, A: Allocator> Tree<P, A> {
 
     /// The bytes charged to the allocator.
     pub(crate) fn charged<R: Wait>(&self, rt: &R) -> u64 {
-        self.lock().lock(rt).charged()
+        self.lock().lock(rt).world.charged()
     }
 
     /// The nodes that wait for their destruction.
     pub(crate) fn waiting<R: Wait>(&self, rt: &R) -> u64 {
-        self.lock().lock(rt).waiting()
+        self.lock().lock(rt).world.waiting()
     }
 
     /// Their sizes, in bytes.
     pub(crate) fn waiting_bytes<R: Wait>(&self, rt: &R) -> u64 {
-        self.lock().lock(rt).waiting_bytes()
+        self.lock().lock(rt).world.waiting_bytes()
+    }
+
+    /// Hands each pair to the drainer, ascending by key, and gives both back. Refused as WorkersLeft while workers are
+    /// registered, and the index and the drainer come back.
+    pub(crate) fn close<D: Drainer<u64, P>>(
+        self,
+        drainer: D,
+    ) -> Result<(A, D), (Refusal, Self, D)>
+        requires { D.can_drain drainer }
+        ensures closed { IfOk result (λ r. Closes D.drains drainer (A.charged_of r.0) (A.limit_of r.0) r.1) }
+        ensures workers { IfErr result (λ e. HasWorkers e.0) }
+        ensures back { IfErr result (λ e. (e.1.id ≡ self.id) × (e.2 ≡ drainer)) }
+    {
+        let id = self.id;
+        match self.into_world().close(drainer) {
+            Ok(closed) => Ok(closed),
+            Err((refusal, world, drainer)) => Err((refusal, Tree::of(id, world), drainer)),
+        }
     }
 }

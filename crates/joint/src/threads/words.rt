@@ -3,17 +3,19 @@
 ghost use Rattle.std.specs.Prelude.{◌≡◌, ℕ, false, length, map, nat_eq, true, IfErr, IfOk, MatchResult};
 ghost use Rattle.std.specs.Option.{option_map};
 ghost use Rattle.joint.specs.Opening.{IsUnopened};
-ghost use Rattle.joint.specs.Threads.{Answers, AreKeys, As, Computes, Hands, IsHold, IsRound, Pins, Scans, Serves, is_held_by, is_of, register_step, registered};
+ghost use Rattle.joint.specs.Threads.{Answers, AreKeys, As, Closes, Computes, Hands, HasWorkers, IsHold, IsRound, Pins, Scans, Serves, is_held_by, is_of, register_step, registered};
 ghost use Rattle.joint.specs.Threads.{computed, counted, either_of, either_words, emptied, exchanged, got, if_present, inserted, listed, or_insert, removed, replaced, scanned, told, words};
 ghost use Rattle.joint.specs.declared.steps.Op.TheVariants as op;
 
 use crate::limits::Limits;
 use crate::refusal::Refusal;
+use crate::threads::answers::{IfPresent, OrInsert};
+use crate::threads::driver::Pair;
 use crate::threads::tokens::{Guard, Worker};
 use crate::threads::tree::Tree;
-use congee::{Allocator, DefaultAllocator, NoDrain, NodeStats, Word64};
+use congee::{Allocator, DefaultAllocator, Drainer, NoDrain, NodeStats, Word64};
 use std::alloc::{AllocError, Global};
-use std::marker::PhantomData;
+use std::marker::{Model, PhantomData};
 use std::sync::Wait;
 
 /// An ordered map from words to words that threads share. Each step of a call is one hold of its lock, and closures
@@ -254,8 +256,12 @@ impl<K: Word64, V: Word64, A: Allocator, D: Drop> Congee<K, V, A, D> {
         ensures answers { Serves (is_held_by self.now.tree.id worker.old guard.now)
             (Computes nat_eq true (if_present F.step) worker.old.number (op.ComputePresent (K.word key.now)) f computed) result }
     {
-        self.tree
-            .compute_if_present(rt, key.to_word(), f, worker, guard)
+        let mut answers = IfPresent::new(f);
+        let answer =
+            self.tree
+                .compute_if_present(rt, key.to_word(), &mut answers, worker, guard);
+        let _ = answers.into_inner();
+        answer
     }
 
     /// Puts the answer of `f` at a key, present or not, and gives the value before. `f` runs between two holds of the
@@ -273,10 +279,12 @@ impl<K: Word64, V: Word64, A: Allocator, D: Drop> Congee<K, V, A, D> {
         ensures answers { As (Serves (is_held_by self.now.tree.id worker.old guard.now)
             (Computes nat_eq true (or_insert F.step) worker.old.number (op.ComputeInsert (K.word key)) f replaced)) (words V.of_word) result }
     {
-        words(
+        let mut answers = OrInsert::new(f);
+        let before =
             self.tree
-                .compute_or_insert(rt, key.to_word(), f, worker, guard),
-        )
+                .compute_or_insert(rt, key.to_word(), &mut answers, worker, guard);
+        let _ = answers.into_inner();
+        words(before)
     }
 
     /// Where the key has the old value, puts the new one there, or takes the key out at `None`. Another value, or none, is
@@ -314,8 +322,25 @@ impl<K: Word64, V: Word64, A: Allocator, D: Drop> Congee<K, V, A, D> {
             (Scans nat_eq true (λ k v. (k, v)) worker.old.number (op.Range (K.word start.now) (K.word end.now) (length out.old)) out.old out.new scanned) result }
         ensures foreign { is_held_by self.now.tree.id worker.old guard.now ≡ false → out.new ≡ out.old }
     {
-        self.tree
-            .range(rt, start.to_word(), end.to_word(), out, worker, guard)
+        self.range_to(rt, start.to_word(), end.to_word(), out, worker, guard)
+    }
+
+    /// The same, with places for pairs of any form.
+    pub(crate) fn range_to<Q: Pair<u64>, R: Wait>(
+        &self,
+        rt: &R,
+        start: u64,
+        end: u64,
+        out: &mut [Q],
+        worker: &mut Worker,
+        guard: &Guard,
+    ) -> Result<usize, Refusal>
+        ensures worker { worker.new ≡ worker.old }
+        ensures answers { Serves (is_held_by self.now.tree.id worker.old guard.now)
+            (Scans nat_eq true Q.pair worker.old.number (op.Range start end (length out.old)) out.old out.new scanned) result }
+        ensures foreign { is_held_by self.now.tree.id worker.old guard.now ≡ false → out.new ≡ out.old }
+    {
+        self.tree.range(rt, start, end, out, worker, guard)
     }
 
     /// Whether no key has a value, at its one step.
@@ -372,5 +397,89 @@ impl<K: Word64, V: Word64, A: Allocator> Congee<K, V, A, NoDrain> {
         ensures cause { IfErr result (λ e. IsUnopened limits (A.charged_of allocator) (A.limit_of allocator) e) }
     {
         Congee::new_with_drainer(alloc, limits, allocator, NoDrain)
+    }
+}
+
+/// Takes words, and hands keys and values on.
+struct OfWords<K, V, D> {
+    drainer: D,
+    words: PhantomData<(K, V)>,
+}
+
+impl<K, V, D> Model for OfWords<K, V, D> {
+    ghost Value = { D };
+
+    ghost view = { λ w. w.drainer };
+}
+
+impl<K, V, D: Drop> Drop for OfWords<K, V, D> {
+    fn drop(self) {
+        let OfWords {
+            drainer: _,
+            words: _,
+        } = self;
+    }
+}
+
+impl<K: Word64, V: Word64, D: Drainer<K, V>> Drainer<u64, u64> for OfWords<K, V, D> {
+    ghost can_drain = { D.can_drain };
+
+    ghost drains = { λ before key value after. D.drains before (K.of_word key) (V.of_word value) after };
+
+    fn drain(&mut self, key: u64, value: u64)
+        requires { D.can_drain self.old }
+        ensures drained { D.drains self.old (K.of_word key) (V.of_word value) self.new }
+        ensures again { D.can_drain self.new }
+    {
+        self.drainer.drain(K::from_word(key), V::from_word(value));
+    }
+}
+
+impl<K, V, D> OfWords<K, V, D> {
+    fn new(drainer: D) -> Self
+        ensures { result ≡ drainer }
+    {
+        OfWords {
+            drainer,
+            words: PhantomData,
+        }
+    }
+
+    /// Gives the drainer back.
+    fn into_inner(self) -> D
+        ensures { result ≡ self }
+    {
+        let OfWords { drainer, words: _ } = self;
+        drainer
+    }
+}
+
+impl<K: Word64, V: Word64, A: Allocator, D: Drainer<K, V>> Congee<K, V, A, D> {
+    /// Hands each pair to the drainer, ascending by key, and gives allocator and drainer back; the allocator has the
+    /// charge with which it came. Refused as WorkersLeft while workers are registered, and the index comes back.
+    pub fn close<R: Wait>(self, _rt: &R) -> Result<(A, D), (Refusal, Self)>
+        requires { D.can_drain self.drainer }
+        ensures closed { IfOk result (λ r. Closes (λ before key value after. D.drains before (K.of_word key) (V.of_word value) after) self.drainer (A.charged_of r.0) (A.limit_of r.0) r.1) }
+        ensures workers { IfErr result (λ e. HasWorkers e.0) }
+        ensures back { IfErr result (λ e. (e.1.tree.id ≡ self.tree.id) × (e.1.drainer ≡ self.drainer)) }
+    {
+        let Congee {
+            tree,
+            drainer,
+            alloc,
+            words: _,
+        } = self;
+        match tree.close(OfWords::<K, V, D>::new(drainer)) {
+            Ok((allocator, drainer)) => Ok((allocator, drainer.into_inner())),
+            Err((refusal, tree, drainer)) => {
+                let back = Congee {
+                    tree,
+                    drainer: drainer.into_inner(),
+                    alloc,
+                    words: PhantomData,
+                };
+                Err((refusal, back))
+            }
+        }
     }
 }
