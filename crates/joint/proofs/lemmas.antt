@@ -34,6 +34,7 @@ pub mod HandOver
 pub mod Handed
 pub mod Hanging
 pub mod Kept
+pub mod Holding
 pub mod Keyed
 pub mod Listing
 pub mod Logged

@@ -30,6 +30,7 @@ pub mod Survey
 pub mod Surveys
 pub mod Sound
 pub mod Tallies
+pub mod Threads
 pub mod RoomLemmas
 pub mod Ties
 pub mod View

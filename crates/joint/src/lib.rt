@@ -37,4 +37,8 @@ pub use refusal::Refusal;
 pub use steps::{Done, Event, Kind, Op, Outcome, Ran, Report, Step, Survey};
 pub use threads::auditing::audit;
 pub use threads::driver::{Turns, drive};
+pub use threads::numbers::U64Congee;
+pub use threads::owners::CongeeArc;
+pub use threads::tokens::{Guard, Worker};
+pub use threads::words::Congee;
 pub use world::World;

@@ -1,4 +1,12 @@
 //! What belongs to the index for threads: whole calls, turn by turn, and the audit of a journal.
 
+pub(crate) mod answers;
 pub(crate) mod auditing;
 pub(crate) mod driver;
+pub(crate) mod ends;
+pub(crate) mod holds;
+pub(crate) mod numbers;
+pub(crate) mod owners;
+pub(crate) mod tokens;
+pub(crate) mod tree;
+pub(crate) mod words;

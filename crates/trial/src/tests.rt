@@ -25,6 +25,7 @@ mod scans;
 mod scripts;
 mod stats;
 mod surveys;
+mod threaded;
 mod threads;
 mod users;
 mod worked;

@@ -6,11 +6,13 @@ ghost use Rattle.joint.specs.declared.refusal.Refusal.TheVariants as cause;
 ghost use Rattle.joint.specs.declared.steps.Op.{Op};
 ghost use Rattle.joint.specs.declared.steps.Report.{Report};
 ghost use Rattle.joint.specs.declared.steps.Step.{Step};
+ghost use Rattle.congee.specs.Keys.{key_bytes};
 ghost use Rattle.joint.specs.Driving.{IsDriven, IsToldInCall, IsTurn, begin_step, ended, go_step};
 
 use crate::refusal::Refusal;
 use crate::steps::{Done, Event, Op, Outcome, Report, Step};
-use congee::Noise;
+use crate::threads::answers::{Answer, Closure};
+use congee::{KEY_BYTES, Noise};
 use std::sync::Wait;
 
 /// Gives the turns of one whole call of a worker's: each is one step of the machine.
@@ -56,6 +58,14 @@ impl<P: Drop> Pair<P> for (u64, P) {
     }
 }
 
+impl<P: Drop> Pair<P> for ([u8; KEY_BYTES], P) {
+    ghost pair = { λ key value. (key_bytes key, value) };
+
+    fn pair(key: u64, value: P) -> Self {
+        (key.to_be_bytes(), value)
+    }
+}
+
 /// A whole call of a worker's, by turns that somebody gives; answers what the last of them told. The closure gives its
 /// answer between two turns, and is asked again where the call begins anew. Each pair that a scan finds is written to
 /// its place of `found`, if there is that place.
@@ -75,23 +85,26 @@ pub fn drive<P: Drop, T: Turns<P>, F: FnMut(Option<P>) -> Option<P>, R: Wait>(
     ensures answer { option_map (λ r. r.outcome) (T.last turns.new) ≡ Some (ended result) }
     ensures told { IsToldInCall (ended result) }
 {
-    drive_to(rt, turns, worker, op, closure, found)
+    let mut answers = Closure::new(closure);
+    let done = drive_to(rt, turns, worker, op, &mut answers, found);
+    let _ = answers.into_inner();
+    done
 }
 
-/// The same, with places for pairs of any form.
-pub(crate) fn drive_to<P: Drop, Q: Pair<P>, T: Turns<P>, F: FnMut(Option<P>) -> Option<P>, R: Wait>(
+/// The same, whatever answers for the closure, and with places for pairs of any form.
+pub(crate) fn drive_to<P: Drop, Q: Pair<P>, T: Turns<P>, C: Answer<P>, R: Wait>(
     rt: &R,
     turns: &mut T,
     worker: u32,
     op: Op<P>,
-    mut closure: F,
+    answers: &mut C,
     found: &mut [Q],
 ) -> Result<Done<P>, Refusal>
     requires worker { T.worker turns.old ≡ worker }
     requires op { T.op turns.old ≡ op }
     requires new { T.last turns.old ≡ None }
-    requires callable { F.IsAlwaysCallable closure }
-    ensures turns { IsDriven T.gives F.step Q.pair worker op closure turns.old found.old turns.new found.new (ended result) }
+    requires ready { C.can_answer answers.old }
+    ensures turns { IsDriven T.gives C.answers Q.pair worker op answers.old turns.old found.old turns.new found.new (ended result) }
     ensures answer { option_map (λ r. r.outcome) (T.last turns.new) ≡ Some (ended result) }
     ensures told { IsToldInCall (ended result) }
 {
@@ -100,7 +113,7 @@ pub(crate) fn drive_to<P: Drop, Q: Pair<P>, T: Turns<P>, F: FnMut(Option<P>) -> 
         let Report { outcome, .. } = turns.turn(step);
         let answer = match outcome {
             Outcome::Running => None,
-            Outcome::Asks(value) => Some(closure(value)),
+            Outcome::Asks(value) => Some(answers.answer(value)),
             Outcome::Found { place, key, value } => {
                 put_at(found, place, Q::pair(key, value));
                 None

@@ -1,5 +1,4 @@
 use Rattle.std.proofs.Common.{rules, ◌≡◌, ◌∙◌, ap, subst, sym, Some, None, Option}
-use denote.Param.Always.{mut_next}
 use Rattle.joint.specs.declared.steps.Outcome.{Outcome}
 use Rattle.joint.specs.Driving.{Goes, IsTurn, go_step, put_by}
 use Rattle.joint.proofs.lemmas.Driving.{begins, ends, goes_on, goes_is_go}
@@ -12,34 +11,34 @@ loop-init g c =
     record {
       can = search rules;
       finite = search rules;
-      callable = c.requires.callable;
+      ready = c.requires.ready;
       worker = c.requires.worker;
       next =
           let P = λ (who : _) (op : _) (last : _). IsTurn who op last c.begin_step-step.result in
           let here : P c.args.worker c.args.op None = c.begin_step-step.ensures in
           rw (c.requires.worker, c.requires.op, c.requires.new) here;
-      goes_on = begins g.T.Turns.gives _ g.Q.Pair.pair c.args.worker c.args.op c.args.closure c.args.turns.now c.args.found.now c.begin_step-step.result c.begin_step-step.ensures;
+      goes_on = begins g.T.Turns.gives g.C.Answer.answers g.Q.Pair.pair c.args.worker c.args.op c.args.answers.now c.args.turns.now c.args.found.now c.begin_step-step.result c.begin_step-step.ensures;
     }
 
 pub returns-in-Done-clause-turns : goal.returns-in-Done-clause-turns
 returns-in-Done-clause-turns g c =
-    ends g.T.Turns.gives _ g.Q.Pair.pair c.args.worker c.args.op c.args.closure c.args.turns.now c.args.found.now c.loop.turns c.loop.step c.loop.closure c.loop.found c.loop.invariant.goes_on
+    ends g.T.Turns.gives g.C.Answer.answers g.Q.Pair.pair c.args.worker c.args.op c.args.answers.now c.args.turns.now c.args.found.now c.loop.turns c.loop.step c.loop.answers c.loop.found c.loop.invariant.goes_on
     c.turn-outcome.result c.turn-outcome.new.self _ c.turn-outcome.ensures.gives (ap (λ o. put_by g.Q.Pair.pair o c.loop.found) c.in-Done.is) c.in-Done.is
 
 pub returns-in-Refused-clause-turns : goal.returns-in-Refused-clause-turns
 returns-in-Refused-clause-turns g c =
-    ends g.T.Turns.gives _ g.Q.Pair.pair c.args.worker c.args.op c.args.closure c.args.turns.now c.args.found.now c.loop.turns c.loop.step c.loop.closure c.loop.found c.loop.invariant.goes_on
+    ends g.T.Turns.gives g.C.Answer.answers g.Q.Pair.pair c.args.worker c.args.op c.args.answers.now c.args.turns.now c.args.found.now c.loop.turns c.loop.step c.loop.answers c.loop.found c.loop.invariant.goes_on
     c.turn-outcome.result c.turn-outcome.new.self _ c.turn-outcome.ensures.gives (ap (λ o. put_by g.Q.Pair.pair o c.loop.found) c.in-Refused.is) c.in-Refused.is
 
 pub loop-preserved : goal.loop-preserved
 loop-preserved g c =
-    let calls = λ (f : g.row.F.Denot) (x : Option g.row.P.Denot) (a : Option g.row.P.Denot) (f' : g.row.F.Denot). goal.F-step g f x a f' in
-    let G : Outcome g.row.P.Denot → Type 0 = λ o. Goes calls c.args.worker o c.loop.closure c.go_step-step.result c.match-outcome.closure in
+    let calls = g.C.Answer.answers in
+    let G : Outcome g.row.P.Denot → Type 0 = λ o. Goes calls c.args.worker o c.loop.answers c.go_step-step.result c.match-outcome.answers in
     let goes : G c.turn-outcome.result.outcome =
     elim c.match-outcome.branch [
-      | in-Running w ↦ subst G (sym w.in-Running.is) (c.go_step-step.ensures ∙ ap (go_step c.args.worker) w.answer-is, w.closure-is)
-      | in-Asks w ↦ subst G (sym w.in-Asks.is) (w.closure.result, rw w.closure-is w.closure.ensures, c.go_step-step.ensures ∙ ap (go_step c.args.worker) w.answer-is)
-      | in-Found w ↦ subst G (sym w.in-Found.is) (c.go_step-step.ensures ∙ ap (go_step c.args.worker) w.answer-is, w.closure-is)
+      | in-Running w ↦ subst G (sym w.in-Running.is) (c.go_step-step.ensures ∙ ap (go_step c.args.worker) w.answer-is, w.answers-is)
+      | in-Asks w ↦ subst G (sym w.in-Asks.is) (w.answer.result, rw w.answers-is w.answer.ensures.answers, c.go_step-step.ensures ∙ ap (go_step c.args.worker) w.answer-is)
+      | in-Found w ↦ subst G (sym w.in-Found.is) (c.go_step-step.ensures ∙ ap (go_step c.args.worker) w.answer-is, w.answers-is)
     ] in
     let put = λ (o : Outcome g.row.P.Denot). put_by g.Q.Pair.pair o c.loop.found in
     let found : c.match-outcome.found ≡ put c.turn-outcome.result.outcome =
@@ -52,16 +51,16 @@ loop-preserved g c =
     record {
       can = search rules;
       finite = search rules;
-      callable = elim c.match-outcome.branch [
-        | in-Running w ↦ rw w.closure-is c.loop.invariant.callable
-        | in-Asks w ↦ mut_next g.F.FnMut c.loop.closure (w.in-Asks.value, tt) w.closure.result w.closure.new.self c.match-outcome.closure w.closure.ensures (sym w.closure-is) c.loop.invariant.callable
-        | in-Found w ↦ rw w.closure-is c.loop.invariant.callable
+      ready = elim c.match-outcome.branch [
+        | in-Running w ↦ rw w.answers-is c.loop.invariant.ready
+        | in-Asks w ↦ rw w.answers-is w.answer.ensures.again
+        | in-Found w ↦ rw w.answers-is c.loop.invariant.ready
       ];
       worker = who;
       next =
           let P = λ (n : _) (last : _). IsTurn n (g.T.Turns.op c.turn-outcome.new.self) last c.go_step-step.result in
-          let here : P c.args.worker (Some c.turn-outcome.result) = goes_is_go calls c.args.worker c.turn-outcome.result.outcome c.loop.closure c.go_step-step.result c.match-outcome.closure goes in
+          let here : P c.args.worker (Some c.turn-outcome.result) = goes_is_go calls c.args.worker c.turn-outcome.result.outcome c.loop.answers c.go_step-step.result c.match-outcome.answers goes in
           rw (who, c.turn-outcome.ensures.last) here;
-      goes_on = goes_on g.T.Turns.gives calls g.Q.Pair.pair c.args.worker c.args.op c.args.closure c.args.turns.now c.args.found.now c.loop.turns c.loop.step c.loop.closure c.loop.found c.loop.invariant.goes_on
-          c.turn-outcome.result c.turn-outcome.new.self c.go_step-step.result c.match-outcome.closure c.match-outcome.found c.turn-outcome.ensures.gives goes found;
+      goes_on = goes_on g.T.Turns.gives calls g.Q.Pair.pair c.args.worker c.args.op c.args.answers.now c.args.turns.now c.args.found.now c.loop.turns c.loop.step c.loop.answers c.loop.found c.loop.invariant.goes_on
+          c.turn-outcome.result c.turn-outcome.new.self c.go_step-step.result c.match-outcome.answers c.match-outcome.found c.turn-outcome.ensures.gives goes found;
     }

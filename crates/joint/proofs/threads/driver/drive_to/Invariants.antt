@@ -9,8 +9,8 @@ invariant-loop g l =
     record {
       can : (goal.iterator-loop g).can_next l.iterator';
       finite : (goal.iterator-loop g).is_finite l.iterator';
-      callable : goal.F-IsAlwaysCallable g l.closure;
+      ready : g.C.Answer.can_answer l.answers;
       worker : g.T.Turns.worker l.turns ≡ l.worker;
       next : IsTurn (g.T.Turns.worker l.turns) (g.T.Turns.op l.turns) (g.T.Turns.last l.turns) l.step;
-      goes_on : GoesOn g.T.Turns.gives (λ f x a f'. goal.F-step g f x a f') g.Q.Pair.pair l.worker l.fn.op l.fn.closure l.fn.turns l.fn.found l.turns l.step l.closure l.found;
+      goes_on : GoesOn g.T.Turns.gives g.C.Answer.answers g.Q.Pair.pair l.worker l.fn.op l.fn.answers l.fn.turns l.fn.found l.turns l.step l.answers l.found;
     }

@@ -1,0 +1,133 @@
+//! How calls read their end. The end of another call, which none of them meets, makes Idle.
+
+ghost use Rattle.std.specs.Prelude.{◌≡◌};
+ghost use Rattle.joint.specs.Threads.{computed, counted, emptied, exchanged, got, inserted, listed, removed, replaced, scanned, told};
+
+use crate::refusal::Refusal;
+use crate::steps::Done;
+use congee::NodeStats;
+use judge::Reply;
+
+/// How a whole call ends.
+pub(crate) type End<P> = Result<Done<P>, Refusal>;
+
+/// Of a pin, an unpin, a repin, a flush or a release.
+pub(crate) fn told<P: Drop>(end: End<P>) -> Result<(), Refusal>
+    ensures { result ≡ told end }
+{
+    match end {
+        Ok(Done::Unit) => Ok(()),
+        Ok(_) => Err(Refusal::Idle),
+        Err(refusal) => Err(refusal),
+    }
+}
+
+/// Of a look-up.
+pub(crate) fn got<P: Drop>(end: End<P>) -> Result<Option<P>, Refusal>
+    ensures { result ≡ got end }
+{
+    match end {
+        Ok(Done::Reply(Reply::Get(found))) => Ok(found),
+        Ok(_) => Err(Refusal::Idle),
+        Err(refusal) => Err(refusal),
+    }
+}
+
+/// Of an insertion.
+pub(crate) fn inserted<P: Drop>(end: End<P>) -> Result<Option<P>, Refusal>
+    ensures { result ≡ inserted end }
+{
+    match end {
+        Ok(Done::Reply(Reply::Insert(before))) => Ok(before),
+        Ok(_) => Err(Refusal::Idle),
+        Err(refusal) => Err(refusal),
+    }
+}
+
+/// Of a removal.
+pub(crate) fn removed<P: Drop>(end: End<P>) -> Result<Option<P>, Refusal>
+    ensures { result ≡ removed end }
+{
+    match end {
+        Ok(Done::Reply(Reply::Remove(before))) => Ok(before),
+        Ok(_) => Err(Refusal::Idle),
+        Err(refusal) => Err(refusal),
+    }
+}
+
+/// Of a compute on a present key.
+pub(crate) fn computed<P: Drop>(end: End<P>) -> Result<Option<(P, Option<P>)>, Refusal>
+    ensures { result ≡ computed end }
+{
+    match end {
+        Ok(Done::Reply(Reply::ComputePresent(pair))) => Ok(pair),
+        Ok(_) => Err(Refusal::Idle),
+        Err(refusal) => Err(refusal),
+    }
+}
+
+/// Of a compute that inserts.
+pub(crate) fn replaced<P: Drop>(end: End<P>) -> Result<Option<P>, Refusal>
+    ensures { result ≡ replaced end }
+{
+    match end {
+        Ok(Done::Reply(Reply::ComputeInsert(before))) => Ok(before),
+        Ok(_) => Err(Refusal::Idle),
+        Err(refusal) => Err(refusal),
+    }
+}
+
+/// Of an exchange.
+pub(crate) fn exchanged<P: Drop>(end: End<P>) -> Result<Result<Option<P>, Option<P>>, Refusal>
+    ensures { result ≡ exchanged end }
+{
+    match end {
+        Ok(Done::Reply(Reply::Exchange(answer))) => Ok(answer),
+        Ok(_) => Err(Refusal::Idle),
+        Err(refusal) => Err(refusal),
+    }
+}
+
+/// Of a scan.
+pub(crate) fn scanned<P: Drop>(end: End<P>) -> Result<usize, Refusal>
+    ensures { result ≡ scanned end }
+{
+    match end {
+        Ok(Done::Scanned(count)) => Ok(count),
+        Ok(_) => Err(Refusal::Idle),
+        Err(refusal) => Err(refusal),
+    }
+}
+
+/// Of the question whether no key stands.
+pub(crate) fn emptied<P: Drop>(end: End<P>) -> Result<bool, Refusal>
+    ensures { result ≡ emptied end }
+{
+    match end {
+        Ok(Done::Empty(empty)) => Ok(empty),
+        Ok(_) => Err(Refusal::Idle),
+        Err(refusal) => Err(refusal),
+    }
+}
+
+/// Of the question for all keys.
+pub(crate) fn listed<P: Drop>(end: End<P>) -> Result<Vec<u64>, Refusal>
+    ensures { result ≡ listed end }
+{
+    match end {
+        Ok(Done::Keys(keys)) => Ok(keys),
+        Ok(_) => Err(Refusal::Idle),
+        Err(refusal) => Err(refusal),
+    }
+}
+
+/// Of the count of nodes.
+pub(crate) fn counted<P: Drop>(end: End<P>) -> Result<NodeStats, Refusal>
+    ensures { result ≡ counted end }
+{
+    match end {
+        Ok(Done::Stats(stats)) => Ok(stats),
+        Ok(_) => Err(Refusal::Idle),
+        Err(refusal) => Err(refusal),
+    }
+}
