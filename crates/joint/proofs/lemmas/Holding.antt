@@ -42,7 +42,7 @@ use Rattle.joint.specs.Refusals.{of_fault}
 use Rattle.joint.specs.Reports.{target, told, collected}
 use Rattle.joint.specs.Surveys.{TellsOf}
 use Rattle.joint.specs.Threads.{IsHold}
-use Rattle.joint.specs.Whole.{BeginsAt, BeginsOnTree, Collects, Does, EntersUnless, GoesAt, IsOfCall, IsStep, Proceeds, Whole, finds_none, interruption, is_busy, misuse, place_of, reserving, unready}
+use Rattle.joint.specs.Whole.{BeginsAt, BeginsOnTree, Collects, Does, EntersUnless, GoesAt, IsOfCall, IsStep, Proceeds, StepsUnless, Whole, engine_of, finds_none, gives_up, interruption, is_busy, misuse, place_of, reserving, unready}
 
 -- not for tokens of another index
 abbrev Own : Option Fault → Type 0
@@ -183,9 +183,15 @@ module _ {V : Type 0} (same : V → V → Bool) (always : Bool) (s s' : Whole V)
   does event None r c own x = proceeds event r c x
 
 module _ {V : Type 0} (same : V → V → Bool) (always : Bool) where
+  taken_tells : (s s' : Whole V) (step : Step V) (r : Report V) (gives : Bool) → IsOfCall step.event → StepsUnless same always gives s step r s' → IsToldInCall r.outcome
+  taken_tells s s' step r true c x = subst IsToldInCall (sym (ap (λ r. r.outcome) x.report)) (tt {0})
+  taken_tells s s' step r false c x =
+      let told : IsToldInCall x.told.outcome = does same always (engine_of s) (engine_of s') step.worker step.event (misuse (engine_of s) step.worker step.event) x.told c (misuse_own (engine_of s) step.worker step.event) x.engine.does in
+      subst IsToldInCall (sym (ap (λ r. r.outcome) x.report)) told
+
   -- a step of a call tells no registration, and no token of another index
   pub step_tells : (step : Step V) (r : Report V) → IsOfCall step.event → IsHold same always step r → IsToldInCall r.outcome
-  step_tells step r c h = does same always h.0 h.1 step.worker step.event (misuse h.0 step.worker step.event) r c (misuse_own h.0 step.worker step.event) h.2.does
+  step_tells step r c h = taken_tells h.0 h.1 step r (gives_up h.0 step.worker step.event) c h.2.does
 
   goes_on_call : (who : ℕ) (o : Outcome V) (step : Step V) → IsGo who o step → IsOfCall step.event
   goes_on_call who Running step g = subst (λ (x : Step V). IsOfCall x.event) (sym g) (tt {0})
