@@ -1,8 +1,8 @@
 //! One step of the index, with what is written down of it.
 
-ghost use Rattle.std.specs.Prelude.{◌≡◌, ◌++◌, ◌&&◌, true, false, Option, None, Some, is_some, slice_get, slice_set, IfSome};
-ghost use Rattle.joint.specs.Journaling.{asks_at, entry_of, in_list, kept_if, reply_by};
+ghost use Rattle.std.specs.Prelude.{◌≡◌, ◌++◌, ◌&&◌, true, false, None, is_some, slice_get, slice_set};
 ghost use Rattle.joint.specs.Intact.{is_reserving};
+ghost use Rattle.joint.specs.Journaling.{entry_of, in_list, kept_if};
 ghost use Rattle.joint.specs.Log.{has_room, heard_by, is_full, noted, request_at};
 ghost use Rattle.joint.specs.Whole.{is_in_flight, IsStep};
 

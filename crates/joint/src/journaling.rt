@@ -1,6 +1,6 @@
 //! What a call on the tree is about, as far as its entry in a journal goes.
 
-ghost use Rattle.std.specs.Prelude.{◌≡◌, Some, true, slice_get, IfSome};
+ghost use Rattle.std.specs.Prelude.{◌≡◌, true, slice_get};
 ghost use Rattle.joint.specs.Journaling.{asks_at, has_place, is_asking, is_pending, is_writing, may_write, reply_at, reply_by, reply_in};
 
 use crate::call::Call;

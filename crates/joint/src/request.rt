@@ -5,7 +5,7 @@ ghost use Rattle.joint.specs.Journaling.{call_of, given_by};
 ghost use Rattle.joint.specs.Log.{hears, with_none};
 
 use crate::steps::Op;
-use judge::{Call, Entry, Payload, Reply};
+use judge::{Call, Payload, Reply};
 
 /// A call in flight as its worker asked for it.
 #[derive(Debug, PartialEq, Eq, Drop)]
