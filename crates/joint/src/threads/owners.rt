@@ -5,7 +5,7 @@ ghost use Rattle.std.specs.Arc.{arc_value};
 ghost use Rattle.std.specs.Option.{option_map};
 ghost use Rattle.joint.specs.Opening.{IsUnopened};
 ghost use Rattle.joint.specs.Threads.{Answers, AreKeys, Computes, Hands, HasWorkers, IsHold, IsRound, Owns, Pins, RefusesOwner, Serves, is_held_by, is_of, register_step, registered};
-ghost use Rattle.joint.specs.Threads.{befores, computed, counted, emptied, got, if_owned, inserted, listed, removed, told};
+ghost use Rattle.joint.specs.Threads.{befores, computed, counted, emptied, got, if_owned, inserted, listed, owned, removed, told};
 ghost use Rattle.joint.specs.declared.steps.Op.TheVariants as op;
 
 use crate::limits::Limits;
@@ -86,13 +86,26 @@ fn payload_of<V>(owner: Option<Arc<V, Global>>) -> Option<ArcPayload<V>>
     owner.map(ArcPayload::new)
 }
 
-/// The value before, of a pair.
-fn before<V: Drop>(pair: Option<(ArcPayload<V>, Option<ArcPayload<V>>)>) -> Option<ArcPayload<V>>
-    ensures { result ≡ option_map (λ p. p.0) pair }
+/// The owners of an answer.
+fn owners<V: Drop>(
+    answer: Result<Option<ArcPayload<V>>, Refusal>,
+) -> Result<Option<Arc<V, Global>>, Refusal>
+    ensures { owned result ≡ answer }
 {
-    match pair {
-        Some((before, _)) => Some(before),
-        None => None,
+    match answer {
+        Ok(payload) => Ok(owner_of(payload)),
+        Err(refusal) => Err(refusal),
+    }
+}
+
+/// The value before, of an answer.
+fn befores<P: Drop>(answer: Result<Option<(P, Option<P>)>, Refusal>) -> Result<Option<P>, Refusal>
+    ensures { result ≡ befores answer }
+{
+    match answer {
+        Ok(Some((before, _))) => Ok(Some(before)),
+        Ok(None) => Ok(None),
+        Err(refusal) => Err(refusal),
     }
 }
 
@@ -192,10 +205,7 @@ impl<K: Word64, V: Drop> CongeeArc<K, V> {
         ensures answers { Owns (Serves (is_held_by self.now.tree.id worker.old guard.now)
             (Answers {V = V} (λ _ _. false) false worker.old.number (op.Get (K.word key)) got)) (λ read. read) result }
     {
-        match self.tree.get(rt, key.to_word(), worker, guard) {
-            Ok(found) => Ok(owner_of(found)),
-            Err(refusal) => Err(refusal),
-        }
+        owners(self.tree.get(rt, key.to_word(), worker, guard))
     }
 
     /// Puts a value at a key, and gives the one before. The value comes back with a refusal.
@@ -239,10 +249,7 @@ impl<K: Word64, V: Drop> CongeeArc<K, V> {
         ensures answers { Owns (Serves (is_held_by self.now.tree.id worker.old guard.now)
             (Answers {V = V} (λ _ _. false) false worker.old.number (op.Remove (K.word key)) removed)) (λ read. read) result }
     {
-        match self.tree.remove(rt, key.to_word(), worker, guard) {
-            Ok(before) => Ok(owner_of(before)),
-            Err(refusal) => Err(refusal),
-        }
+        owners(self.tree.remove(rt, key.to_word(), worker, guard))
     }
 
     /// Puts the answer of `f` at a key that is present, or takes the key out where the answer is `None`. Gives the value
@@ -265,10 +272,7 @@ impl<K: Word64, V: Drop> CongeeArc<K, V> {
             self.tree
                 .compute_if_present(rt, key.to_word(), &mut answers, worker, guard);
         let _ = answers.into_inner();
-        match answer {
-            Ok(pair) => Ok(owner_of(before(pair))),
-            Err(refusal) => Err(refusal),
-        }
+        owners(befores(answer))
     }
 
     /// Whether no key has a value, at its one step.

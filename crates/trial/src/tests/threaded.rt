@@ -1,5 +1,6 @@
 //! The index for threads: what no clause says, that its calls come through, and that closures run between two holds.
 
+use crate::examples::counter::count_in_two_threads;
 use congee::DefaultAllocator;
 use joint::{Congee, CongeeArc, Guard, Limits, Refusal, U64Congee, Worker};
 use std::alloc::Global;
@@ -220,7 +221,7 @@ fn texts_are_shared(rt: HostRuntime) -> Result<(), Fail> {
 enum Task<'t> {
     /// Puts 5,000 keys in, from one on, each its own value.
     Fill(u64),
-    /// Looks at all of them meanwhile: a value that it finds is its key.
+    /// Looks at them meanwhile, and scans: a value that it finds is its key.
     Read,
     /// Finds all of them.
     Find,
@@ -247,23 +248,35 @@ fn fills<R: Wait>(
 fn finds<R: Wait>(
     rt: &R,
     tree: &Words,
-    all: bool,
+    worker: &mut Worker,
+    guard: &Guard,
+) -> Result<bool, Refusal> {
+    let mut all = true;
+    for key in 0..10_000 {
+        all &= tree.get(rt, &key, worker, guard)? == Some(key);
+    }
+    Ok(all)
+}
+
+fn reads_along<R: Wait>(
+    rt: &R,
+    tree: &Words,
     worker: &mut Worker,
     guard: &Guard,
 ) -> Result<bool, Refusal> {
     let mut same = true;
-    for key in 0..10_000 {
+    let mut out = [(0, 0); 20];
+    for tenth in 0..1_000 {
+        let key = tenth * 10;
         let found = tree.get(rt, &key, worker, guard)?;
-        same &= found == Some(key) || (!all && found == None);
-    }
-    let mut out = [(0, 0); 100];
-    for start in 0..100 {
-        let from = start * 100;
-        let count = tree.range(rt, &from, &10_000, &mut out, worker, guard)?;
-        same &= out
-            .iter()
-            .take(count)
-            .all(|pair| pair.0 == pair.1 && pair.0 >= from);
+        same &= found == Some(key) || found == None;
+        if key % 500 == 0 {
+            let count = tree.range(rt, &key, &10_000, &mut out, worker, guard)?;
+            same &= out
+                .iter()
+                .take(count)
+                .all(|pair| pair.0 == pair.1 && pair.0 >= key);
+        }
     }
     Ok(same)
 }
@@ -288,8 +301,8 @@ fn does<R: Wait>(
 ) -> Result<bool, Refusal> {
     match task {
         Task::Fill(from) => fills(rt, tree, from, worker, guard),
-        Task::Read => finds(rt, tree, false, worker, guard),
-        Task::Find => finds(rt, tree, true, worker, guard),
+        Task::Read => reads_along(rt, tree, worker, guard),
+        Task::Find => finds(rt, tree, worker, guard),
         Task::Await(flag) => {
             let answer = |_| if comes(flag) { 1 } else { 0 };
             tree.compute_or_insert(rt, 1, answer, worker, guard)?;
@@ -355,5 +368,23 @@ fn closure_waits_for_other(rt: HostRuntime) -> Result<(), Fail> {
     let flag = AtomicBool::new(false);
     let tasks = (Task::Await(&flag), Task::Tell(&flag));
     assert_eq!(rt; two_work(&rt, &tree, tasks), Ok(true));
+    Ok(())
+}
+
+/// The number at a key.
+fn looks<R: Wait>(rt: &R, tree: &Words, key: u64) -> Result<Option<u64>, Refusal> {
+    let mut worker = tree.register(rt)?;
+    let guard = tree.pin(rt, &mut worker)?;
+    let found = tree.get(rt, &key, &mut worker, &guard);
+    spent(tree.unpin(rt, &mut worker, guard))?;
+    left(tree.release(rt, worker))?;
+    found
+}
+
+#[test]
+fn no_count_is_lost(rt: HostRuntime) -> Result<(), Fail> {
+    let tree = words(rt.alloc(), 0)?;
+    count_in_two_threads(&rt, &tree, 7, 500)?;
+    assert_eq!(rt; looks(&rt, &tree, 7), Ok(Some(1_000)));
     Ok(())
 }
