@@ -1,8 +1,9 @@
 -- Calls on an index that threads share: whom they serve, what a hold of its lock is, and what they answer.
-use Rattle.std.specs.Prelude.{◌≡◌, ◌==◌, ◌&&◌, ◌<◌, ◌⊎◌, ℕ, Arc, Bool, true, false, List, [], Option, None, Some, Result, Ok, Err, Vec, map}
+use Rattle.std.specs.Prelude.{◌≡◌, ◌==◌, ◌&&◌, ◌<◌, ◌⊎◌, ℕ, Bool, true, false, List, [], Option, None, Some, Result, Ok, Err, Vec, map}
 use Rattle.std.specs.Arc.{arc_value}
 use Rattle.std.specs.Option.{option_map}
 use Rattle.std.specs.declared.alloc.Global.{Global}
+use Rattle.std.specs.declared.sync.Arc.{Arc}
 use Rattle.judge.specs.declared.journal.Reply.TheVariants.{Get, Insert, Remove, ComputePresent, ComputeInsert, Exchange}
 use Rattle.congee.specs.declared.owned.stats.NodeStats.{NodeStats}
 use Rattle.joint.specs.declared.refusal.Refusal.{Refusal}

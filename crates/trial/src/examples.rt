@@ -1,5 +1,6 @@
 //! Functions of users of the libraries, who have nothing but the contracts.
 
+pub mod counter;
 pub mod machine;
 pub mod owned;
 pub(crate) mod stack;

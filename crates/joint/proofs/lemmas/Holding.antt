@@ -99,7 +99,7 @@ misuse_own s who (Begin op) =
     (own_if (is_busy (slice_get s.calls who)) (Some (interruption (target op))) _ (interruption_own (place_of s who) (target op)) (unready_own (place_of s who) (target op))) (tt {0})
 misuse_own s who (Go noise) = own_if (place_of s who).registered _ (Some fault.Unknown) (own_if (is_busy (slice_get s.calls who)) None (Some fault.Idle) (tt {0}) (tt {0})) (tt {0})
 
-module _ {V : Type 0} where
+module _ (V : Type 0) where
   fault_tells : (f : Fault) → Own (Some f) → IsToldInCall {V = V} (Refused (of_fault f))
   fault_tells fault.Foreign o = absurd o
   fault_tells _ o = tt {0}
@@ -116,6 +116,7 @@ module _ {V : Type 0} where
   reserving_tells turned.Done t = tt {0}
   reserving_tells (turned.Refused f) t = t
 
+module _ {V : Type 0} where
   moved_tells : (o : Moved V) → IsToldInCall (told o)
   moved_tells (moved.Refused cause.Cells) = tt {0}
   moved_tells (moved.Refused _) = tt {0}
@@ -141,7 +142,7 @@ module _ {V : Type 0} (same : V → V → Bool) (always : Bool) (s s' : Whole V)
   collects : (b : Whole V) (event : Turn) (k : Call V) (r : Report V) → Collects same always b who event k r s' → Tells r
   collects b event k r x =
       so r (collected x.turn.outcome) (ap (λ r. r.outcome) x.report)
-      (collected_tells b.forest.collector who event _ x.turn.outcome (fault_own b.forest.collector who event) x.step.report.outcome)
+      (collected_tells V b.forest.collector who event _ x.turn.outcome (fault_own b.forest.collector who event) x.step.report.outcome)
 
   enters : (none : Bool) (op : Point V) (r : Report V) → EntersUnless none s who op r s' → Tells r
   enters true op r x = so r (Done (done.Scanned 0)) (ap (λ r. r.outcome) x.report) (tt {0})
@@ -167,10 +168,10 @@ module _ {V : Type 0} (same : V → V → Bool) (always : Bool) (s s' : Whole V)
   goes (Some (call.Collecting op)) noise r x = collects s turn.Go (call.Collecting op) r x
   goes (Some (call.Reserving op)) noise r x =
       so r (reserving x.goes.turn.outcome) (ap (λ r. r.outcome) x.goes.report)
-      (reserving_tells x.goes.turn.outcome (collected_tells x.between.forest.collector who turn.Go _ x.goes.turn.outcome (fault_own x.between.forest.collector who turn.Go) x.goes.step.collected.report.outcome))
+      (reserving_tells V x.goes.turn.outcome (collected_tells V x.between.forest.collector who turn.Go _ x.goes.turn.outcome (fault_own x.between.forest.collector who turn.Go) x.goes.step.collected.report.outcome))
   goes (Some (call.Securing op)) noise r x =
       so r (reserving x.turn.outcome) (ap (λ r. r.outcome) x.report)
-      (reserving_tells x.turn.outcome (collected_tells s.forest.collector who turn.Go _ x.turn.outcome (fault_own s.forest.collector who turn.Go) x.step.collected.report.outcome))
+      (reserving_tells V x.turn.outcome (collected_tells V s.forest.collector who turn.Go _ x.turn.outcome (fault_own s.forest.collector who turn.Go) x.step.collected.report.outcome))
   goes (Some call.Walking) noise r x = so r (told x.move.outcome) (ap (λ r. r.outcome) x.report) (moved_tells x.move.outcome)
 
   proceeds : (event : Event V) (r : Report V) → IsOfCall event → Proceeds same always s who event r s' → Tells r
@@ -179,7 +180,7 @@ module _ {V : Type 0} (same : V → V → Bool) (always : Bool) (s s' : Whole V)
   proceeds (Go noise) r c x = goes (slice_get s.calls who) noise r x
 
   does : (event : Event V) (f : Option Fault) (r : Report V) → IsOfCall event → Own f → Does same always s who event f r s' → Tells r
-  does event (Some f) r c own x = so r (Refused (of_fault f)) (ap (λ r. r.outcome) x.0) (fault_tells f own)
+  does event (Some f) r c own x = so r (Refused (of_fault f)) (ap (λ r. r.outcome) x.0) (fault_tells V f own)
   does event None r c own x = proceeds event r c x
 
 module _ {V : Type 0} (same : V → V → Bool) (always : Bool) where

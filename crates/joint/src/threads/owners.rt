@@ -5,7 +5,7 @@ ghost use Rattle.std.specs.Arc.{arc_value};
 ghost use Rattle.std.specs.Option.{option_map};
 ghost use Rattle.joint.specs.Opening.{IsUnopened};
 ghost use Rattle.joint.specs.Threads.{Answers, AreKeys, Computes, Hands, HasWorkers, IsHold, IsRound, Owns, Pins, RefusesOwner, Serves, is_held_by, is_of, register_step, registered};
-ghost use Rattle.joint.specs.Threads.{befores, computed, counted, emptied, got, if_owned, inserted, listed, removed, told};
+ghost use Rattle.joint.specs.Threads.{befores, computed, counted, emptied, got, if_owned, inserted, listed, owned, removed, told};
 ghost use Rattle.joint.specs.declared.steps.Op.TheVariants as op;
 
 use crate::limits::Limits;
@@ -86,13 +86,26 @@ fn payload_of<V>(owner: Option<Arc<V, Global>>) -> Option<ArcPayload<V>>
     owner.map(ArcPayload::new)
 }
 
-/// The value before, of a pair.
-fn before<V: Drop>(pair: Option<(ArcPayload<V>, Option<ArcPayload<V>>)>) -> Option<ArcPayload<V>>
-    ensures { result ≡ option_map (λ p. p.0) pair }
+/// The owners of an answer.
+fn owners<V: Drop>(
+    answer: Result<Option<ArcPayload<V>>, Refusal>,
+) -> Result<Option<Arc<V, Global>>, Refusal>
+    ensures { owned result ≡ answer }
 {
-    match pair {
-        Some((before, _)) => Some(before),
-        None => None,
+    match answer {
+        Ok(payload) => Ok(owner_of(payload)),
+        Err(refusal) => Err(refusal),
+    }
+}
+
+/// The value before, of an answer.
+fn befores<P: Drop>(answer: Result<Option<(P, Option<P>)>, Refusal>) -> Result<Option<P>, Refusal>
+    ensures { result ≡ befores answer }
+{
+    match answer {
+        Ok(Some((before, _))) => Ok(Some(before)),
+        Ok(None) => Ok(None),
+        Err(refusal) => Err(refusal),
     }
 }
 
@@ -111,7 +124,7 @@ impl<K: Word64, V: Drop> CongeeArc<K, V> {
 
     /// A worker at the lowest free place of the table. Refused as TableFull.
     pub fn register<R: Wait>(&self, rt: &R) -> Result<Worker, Refusal>
-        ensures { (r : _) × IsHold (λ _ _. false) false register_step r × (result ≡ registered self.now.tree.id r.outcome) }
+        ensures { (r : _) × IsHold {V = V} (λ _ _. false) false register_step r × (result ≡ registered self.now.tree.id r.outcome) }
     {
         self.tree.register(rt)
     }
@@ -119,7 +132,7 @@ impl<K: Word64, V: Drop> CongeeArc<K, V> {
     /// The worker leaves its place; what it removed waits on. Refused as GuardOut while it is pinned, as Memory where
     /// its removals can't be queued, and as Foreign; it comes back.
     pub fn release<R: Wait>(&self, rt: &R, worker: Worker) -> Result<(), (Refusal, Worker)>
-        ensures { Hands (is_of self.now.tree.id worker) (Answers (λ _ _. false) false worker.number op.Release told) worker result }
+        ensures { Hands (is_of self.now.tree.id worker) (Answers {V = V} (λ _ _. false) false worker.number op.Release told) worker result }
     {
         self.tree.release(rt, worker)
     }
@@ -127,7 +140,7 @@ impl<K: Word64, V: Drop> CongeeArc<K, V> {
     /// A guard. Refused as Count where 65,535 guards of the worker are out.
     pub fn pin<R: Wait>(&self, rt: &R, worker: &mut Worker) -> Result<Guard, Refusal>
         ensures worker { worker.new ≡ worker.old }
-        ensures answers { Serves (is_of self.now.tree.id worker.old) (Pins (λ _ _. false) false self.now.tree.id worker.old.number) result }
+        ensures answers { Serves (is_of self.now.tree.id worker.old) (Pins {V = V} (λ _ _. false) false self.now.tree.id worker.old.number) result }
     {
         self.tree.pin(rt, worker)
     }
@@ -140,7 +153,7 @@ impl<K: Word64, V: Drop> CongeeArc<K, V> {
         guard: Guard,
     ) -> Result<(), (Refusal, Guard)>
         ensures worker { worker.new ≡ worker.old }
-        ensures answers { Hands (is_held_by self.now.tree.id worker.old guard) (Answers (λ _ _. false) false worker.old.number op.Unpin told) guard result }
+        ensures answers { Hands (is_held_by self.now.tree.id worker.old guard) (Answers {V = V} (λ _ _. false) false worker.old.number op.Unpin told) guard result }
     {
         self.tree.unpin(rt, worker, guard)
     }
@@ -154,7 +167,7 @@ impl<K: Word64, V: Drop> CongeeArc<K, V> {
         guard: &Guard,
     ) -> Result<(), Refusal>
         ensures worker { worker.new ≡ worker.old }
-        ensures answers { Serves (is_held_by self.now.tree.id worker.old guard.now) (Answers (λ _ _. false) false worker.old.number op.Flush told) result }
+        ensures answers { Serves (is_held_by self.now.tree.id worker.old guard.now) (Answers {V = V} (λ _ _. false) false worker.old.number op.Flush told) result }
     {
         self.tree.flush(rt, worker, guard)
     }
@@ -167,7 +180,7 @@ impl<K: Word64, V: Drop> CongeeArc<K, V> {
         guard: &Guard,
     ) -> Result<(), Refusal>
         ensures worker { worker.new ≡ worker.old }
-        ensures answers { Serves (is_held_by self.now.tree.id worker.old guard.now) (Answers (λ _ _. false) false worker.old.number op.Repin told) result }
+        ensures answers { Serves (is_held_by self.now.tree.id worker.old guard.now) (Answers {V = V} (λ _ _. false) false worker.old.number op.Repin told) result }
     {
         self.tree.repin(rt, worker, guard)
     }
@@ -175,7 +188,7 @@ impl<K: Word64, V: Drop> CongeeArc<K, V> {
     /// Pin, flush, unpin. Answers the first refusal; after a refused flush it unpins too.
     pub fn round<R: Wait>(&self, rt: &R, worker: &mut Worker) -> Result<(), Refusal>
         ensures worker { worker.new ≡ worker.old }
-        ensures answers { Serves (is_of self.now.tree.id worker.old) (IsRound (λ _ _. false) false worker.old.number) result }
+        ensures answers { Serves (is_of self.now.tree.id worker.old) (IsRound {V = V} (λ _ _. false) false worker.old.number) result }
     {
         self.tree.round(rt, worker)
     }
@@ -190,12 +203,9 @@ impl<K: Word64, V: Drop> CongeeArc<K, V> {
     ) -> Result<Option<Arc<V, Global>>, Refusal>
         ensures worker { worker.new ≡ worker.old }
         ensures answers { Owns (Serves (is_held_by self.now.tree.id worker.old guard.now)
-            (Answers (λ _ _. false) false worker.old.number (op.Get (K.word key)) got)) (λ read. read) result }
+            (Answers {V = V} (λ _ _. false) false worker.old.number (op.Get (K.word key)) got)) (λ read. read) result }
     {
-        match self.tree.get(rt, key.to_word(), worker, guard) {
-            Ok(found) => Ok(owner_of(found)),
-            Err(refusal) => Err(refusal),
-        }
+        owners(self.tree.get(rt, key.to_word(), worker, guard))
     }
 
     /// Puts a value at a key, and gives the one before. The value comes back with a refusal.
@@ -209,9 +219,9 @@ impl<K: Word64, V: Drop> CongeeArc<K, V> {
     ) -> Result<Option<Arc<V, Global>>, (Refusal, Arc<V, Global>)>
         ensures worker { worker.new ≡ worker.old }
         ensures inserted { IfOk result (λ before. Serves (is_held_by self.now.tree.id worker.old guard.now)
-            (Answers (λ _ _. false) false worker.old.number (op.Insert (K.word key) (arc_value value)) inserted) (Ok (option_map arc_value before))) }
+            (Answers {V = V} (λ _ _. false) false worker.old.number (op.Insert (K.word key) (arc_value value)) inserted) (Ok (option_map arc_value before))) }
         ensures refused { IfErr result (λ e. RefusesOwner (is_held_by self.now.tree.id worker.old guard.now)
-            (Answers (λ _ _. false) false worker.old.number (op.Insert (K.word key) (arc_value value)) inserted) e.0) }
+            (Answers {V = V} (λ _ _. false) false worker.old.number (op.Insert (K.word key) (arc_value value)) inserted) e.0) }
         ensures back { IfErr result (λ e. arc_value e.1 ≡ arc_value value) }
     {
         if !self.tree.serves(worker, guard) {
@@ -237,12 +247,9 @@ impl<K: Word64, V: Drop> CongeeArc<K, V> {
     ) -> Result<Option<Arc<V, Global>>, Refusal>
         ensures worker { worker.new ≡ worker.old }
         ensures answers { Owns (Serves (is_held_by self.now.tree.id worker.old guard.now)
-            (Answers (λ _ _. false) false worker.old.number (op.Remove (K.word key)) removed)) (λ read. read) result }
+            (Answers {V = V} (λ _ _. false) false worker.old.number (op.Remove (K.word key)) removed)) (λ read. read) result }
     {
-        match self.tree.remove(rt, key.to_word(), worker, guard) {
-            Ok(before) => Ok(owner_of(before)),
-            Err(refusal) => Err(refusal),
-        }
+        owners(self.tree.remove(rt, key.to_word(), worker, guard))
     }
 
     /// Puts the answer of `f` at a key that is present, or takes the key out where the answer is `None`. Gives the value
@@ -258,17 +265,14 @@ impl<K: Word64, V: Drop> CongeeArc<K, V> {
         requires { F.IsAlwaysCallable f }
         ensures worker { worker.new ≡ worker.old }
         ensures answers { Owns (Serves (is_held_by self.now.tree.id worker.old guard.now)
-            (Computes (λ _ _. false) false (if_owned F.step) worker.old.number (op.ComputePresent (K.word key)) f computed)) befores result }
+            (Computes {V = V} (λ _ _. false) false (if_owned F.step) worker.old.number (op.ComputePresent (K.word key)) f computed)) befores result }
     {
         let mut answers = IfOwned::new(f);
         let answer =
             self.tree
                 .compute_if_present(rt, key.to_word(), &mut answers, worker, guard);
         let _ = answers.into_inner();
-        match answer {
-            Ok(pair) => Ok(owner_of(before(pair))),
-            Err(refusal) => Err(refusal),
-        }
+        owners(befores(answer))
     }
 
     /// Whether no key has a value, at its one step.
@@ -279,7 +283,7 @@ impl<K: Word64, V: Drop> CongeeArc<K, V> {
         guard: &Guard,
     ) -> Result<bool, Refusal>
         ensures worker { worker.new ≡ worker.old }
-        ensures answers { Serves (is_held_by self.now.tree.id worker.old guard.now) (Answers (λ _ _. false) false worker.old.number op.IsEmpty emptied) result }
+        ensures answers { Serves (is_held_by self.now.tree.id worker.old guard.now) (Answers {V = V} (λ _ _. false) false worker.old.number op.IsEmpty emptied) result }
     {
         self.tree.is_empty(rt, worker, guard)
     }
@@ -287,7 +291,7 @@ impl<K: Word64, V: Drop> CongeeArc<K, V> {
     /// All keys, ascending, at its one step. It wants no guard. Refused as Memory.
     pub fn keys<R: Wait>(&self, rt: &R, worker: &mut Worker) -> Result<Vec<K>, Refusal>
         ensures worker { worker.new ≡ worker.old }
-        ensures answers { (answer : _) × Serves (is_of self.now.tree.id worker.old) (Answers (λ _ _. false) false worker.old.number op.Keys listed) answer × AreKeys K.of_word answer result }
+        ensures answers { (answer : _) × Serves (is_of self.now.tree.id worker.old) (Answers {V = V} (λ _ _. false) false worker.old.number op.Keys listed) answer × AreKeys K.of_word answer result }
     {
         are_keys(self.alloc, self.tree.keys(rt, worker))
     }
@@ -296,7 +300,7 @@ impl<K: Word64, V: Drop> CongeeArc<K, V> {
     /// Refused as Memory.
     pub fn stats<R: Wait>(&self, rt: &R, worker: &mut Worker) -> Result<NodeStats, Refusal>
         ensures worker { worker.new ≡ worker.old }
-        ensures answers { Serves (is_of self.now.tree.id worker.old) (Answers (λ _ _. false) false worker.old.number op.Stats counted) result }
+        ensures answers { Serves (is_of self.now.tree.id worker.old) (Answers {V = V} (λ _ _. false) false worker.old.number op.Stats counted) result }
     {
         self.tree.stats(rt, worker)
     }

@@ -78,11 +78,10 @@ fn either_words<V: Word64>(
 fn keys_of<K: Word64>(alloc: Global, words: &[u64]) -> Result<Vec<K>, AllocError>
     ensures { IfOk result (λ keys. keys.items ≡ map K.of_word words.now) }
 {
-    let mut keys = Vec::with_capacity(alloc, words.len())?;
-    for word in words {
-        keys.push(K::from_word(*word))?;
-    }
-    Ok(keys)
+    words
+        .iter()
+        .map(|word| K::from_word(*word))
+        .collect(alloc)
 }
 
 /// The keys of an answer.
