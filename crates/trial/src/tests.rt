@@ -3,16 +3,15 @@
 mod arcs;
 mod closing;
 mod collector;
+mod dialogue;
 mod driven;
 mod examples;
 mod face;
 mod failures;
-mod flights;
 mod forms;
 mod interleavings;
 mod journals;
 mod lies;
-mod lines;
 mod machine;
 mod misuses;
 mod owned;

@@ -7,7 +7,7 @@ use std::process::ExitCode;
 use std::test::Fail;
 
 // The status, and what was printed.
-fn played(alloc: Global, script: &[u8]) -> (u8, Vec<u8>) {
+pub fn played(alloc: Global, script: &[u8]) -> (u8, Vec<u8>) {
     let mut reader = script;
     let mut printed = Vec::new(alloc);
     let status = run(alloc, &mut reader, &mut printed);
@@ -22,50 +22,9 @@ pub fn answers(alloc: Global, script: &[u8], status: u8, replies: &[u8]) -> bool
 
 #[test]
 fn scripts_print_their_replies(rt: HostRuntime) -> Result<(), Fail> {
-    let table: [(&str, u8, &str); 12] = [
-        (
-            "new 1 1000\nreg\n0 pin\ncharged\n0 get 1\n",
-            0,
-            "ok\nworker 0\nok\ncharged 2104\nnone\n",
-        ),
-        (
-            "new 2 1000\nreg\n0 pin\n0 insert 1 1\n0 insert 2 2\n0 insert 3 3\n0 insert 4 4\n0 insert 5 5\n\
-             waiting\n0 unpin\n0 round 3\nwaiting\n0 pin\n0 get 3\n",
-            0,
-            "ok\nworker 0\nok\nnone\nnone\nnone\nnone\nnone\nwaiting 1 64\nok\nok\nwaiting 0 0\nok\nsome 3\n",
-        ),
-        (
-            "new 2 1000\nreg\n0 round 1\n0 pin\n0 insert 1 1\n0 insert 2 2\n0 insert 3 3\n0 insert 4 4\n\
-             0 insert 5 5\nwaiting\n0 unpin\n0 round 3\nwaiting\n0 pin\n0 get 3\n",
-            0,
-            "ok\nworker 0\nok\nok\nnone\nnone\nnone\nnone\nnone\nwaiting 1 64\nok\nok\nwaiting 0 0\nok\nsome 3\n",
-        ),
-        (
-            "new 2 1000\nreg\nreg\n0 pin\n0 insert 1 1\n0 insert 2 2\n0 insert 3 3\n0 insert 4 4\n0 unpin\n\
-             1 pin\n0 pin\n0 insert 5 5\n0 unpin\n0 round 10\nwaiting\n1 unpin\n0 round 3\nwaiting\n",
-            0,
-            "ok\nworker 0\nworker 1\nok\nnone\nnone\nnone\nnone\nok\nok\nok\nnone\nok\nok\nwaiting 1 64\nok\nok\nwaiting 0 0\n",
-        ),
-        (
-            "new 2 1000\nreg\nreg\n1 pin\n1 insert 1 1\n1 insert 2 2\n1 insert 3 3\n1 insert 4 4\n1 insert 5 5\n\
-             1 unpin\n0 round 3\nwaiting\n1 round 1\n0 round 3\nwaiting\n",
-            0,
-            "ok\nworker 0\nworker 1\nok\nnone\nnone\nnone\nnone\nnone\nok\nok\nwaiting 1 64\nok\nok\nwaiting 0 0\n",
-        ),
-        (
-            "new 2 1000\nreg\nreg\n0 pin\n0 insert 1 1\n0 insert 2 2\n0 insert 3 3\n0 insert 4 4\n0 insert 5 5\n\
-             0 unpin\n0 release\nwaiting\n1 round 3\nwaiting\n0 pin\n",
-            0,
-            "ok\nworker 0\nworker 1\nok\nnone\nnone\nnone\nnone\nnone\nok\nok\nwaiting 1 64\nok\nwaiting 0 0\nrefused Unknown\n",
-        ),
-        (
-            "new 1 9\nreg\n0 repin\n0 flush\n0 pin\n0 repin\n0 flush\n0 release\n0 unpin\n0 release\n0 release\nreg\n",
-            0,
-            "ok\nworker 0\nrefused Unpinned\nrefused Unpinned\nok\nok\nok\nrefused GuardOut\nok\nok\nrefused Unknown\nworker 0\n",
-        ),
+    let table: [(&str, u8, &str); 4] = [
         ("reg", 0, "refused NoTree\n"),
         ("new 2", 2, "bad line 1\n"),
-        ("new 0 9", 0, "refused Limits\n"),
         (
             "# a comment\n\njournal\nnew 1 9 journal 5\nnew 1 9\nnew 1 9\n0 get 1\n",
             0,
