@@ -22,6 +22,7 @@ mod scans;
 mod scripts;
 mod stats;
 mod surveys;
+mod texts;
 mod threads;
 mod users;
 mod worked;

@@ -1,7 +1,9 @@
 //! Dialogues: texts of turns, each a question and its answer, as `0 get 1 = some 42`, parted by semicolons.
 
 use super::scripts::answers;
+use super::texts::{named, question};
 use std::alloc::Global;
+use std::fmt::Debug;
 use std::test::Fail;
 
 /// The question of a turn, and its answer.
@@ -24,15 +26,15 @@ pub fn goes(alloc: Global, dialogue: &str) -> Result<bool, Fail> {
     Ok(answers(alloc, script.as_bytes(), 0, replies.as_bytes()))
 }
 
-/// The first dialogue that goes otherwise with the program. Its name stands before it, with a colon.
+/// The name of the first dialogue that goes otherwise with the program. It stands before the dialogue, with a colon.
 pub fn first_wrong(
     alloc: Global,
     dialogues: &[&'static str],
 ) -> Result<Option<&'static str>, Fail> {
     for dialogue in dialogues {
-        let (_name, turns) = dialogue.split_once(':').ok_or("a dialogue without a name")?;
+        let (name, turns) = named(*dialogue)?;
         if !goes(alloc, turns)? {
-            return Ok(Some(*dialogue));
+            return Ok(Some(name));
         }
     }
     Ok(None)
@@ -59,21 +61,15 @@ pub fn repeated(
     Ok(dialogue)
 }
 
+/// An answer as a text.
+pub fn told<T: Debug>(alloc: Global, answer: &T) -> Result<String, Fail> {
+    Ok(format!(in alloc; "{answer:?}")?)
+}
+
 /// What is asked by a word and numbers.
 pub trait Asked {
     /// The answer to a question, as a text.
     fn answer(&mut self, alloc: Global, word: &str, numbers: &[u64]) -> Result<String, Fail>;
-}
-
-/// The answer to a question of a word and numbers.
-fn answer<A: Asked>(alloc: Global, asked: &mut A, question: &str) -> Result<String, Fail> {
-    let mut words = question.split(' ');
-    let word = words.next().unwrap_or("");
-    let mut numbers = Vec::new(alloc);
-    for number in words {
-        numbers.push(number.parse::<u64>()?)?;
-    }
-    asked.answer(alloc, word, &numbers)
 }
 
 /// The first turn that goes otherwise.
@@ -83,8 +79,9 @@ pub fn wrong_turn<A: Asked>(
     dialogue: &'static str,
 ) -> Result<Option<&'static str>, Fail> {
     for turn in dialogue.split(';') {
-        let (question, expected) = parted(turn)?;
-        if answer(alloc, asked, question)?.as_str() != expected {
+        let (asking, expected) = parted(turn)?;
+        let (word, numbers) = question(alloc, asking)?;
+        if asked.answer(alloc, word, &numbers)?.as_str() != expected {
             return Ok(Some(turn));
         }
     }
