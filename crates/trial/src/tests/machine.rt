@@ -41,14 +41,6 @@ pub fn open(alloc: Global, opening: &Opening) -> Result<Index, Refusal> {
     World::new(alloc, limits, Limited::new(opening.limit))
 }
 
-/// Why there is no index, if there is none.
-pub fn why_not(opened: Result<Index, Refusal>) -> Option<Refusal> {
-    match opened {
-        Ok(_) => None,
-        Err(refusal) => Some(refusal),
-    }
-}
-
 /// The index, with each of its workers registered.
 pub fn open_with_workers(alloc: Global, opening: &Opening) -> Result<Index, Refusal> {
     let mut index = open(alloc, opening)?;
@@ -59,38 +51,42 @@ pub fn open_with_workers(alloc: Global, opening: &Opening) -> Result<Index, Refu
 }
 
 pub fn register(index: &mut Index) -> Outcome<u64> {
-    let step = Step {
-        worker: 0,
-        event: Event::Register,
-    };
-    index.step(step).outcome
+    let event = Event::Register;
+    index.step(Step { worker: 0, event }).outcome
+}
+
+/// A step that begins a call.
+pub fn beginning(worker: u32, op: Op<u64>) -> Step<u64> {
+    let event = Event::Begin(op);
+    Step { worker, event }
 }
 
 pub fn begin(index: &mut Index, worker: u32, op: Op<u64>) -> Report<u64> {
-    let step = Step {
-        worker,
-        event: Event::Begin(op),
-    };
-    index.step(step)
+    index.step(beginning(worker, op))
+}
+
+/// What comes to a step from outside: its exchange may fail, and its closure answers so where it is asked.
+pub fn noise(fail: bool, answer: Option<Option<u64>>) -> Noise<Id, u64> {
+    Noise {
+        fail,
+        seen: None,
+        answer,
+    }
 }
 
 /// A step of the worker's call in flight, to which this comes from outside.
+pub fn going(worker: u32, noise: Noise<Id, u64>) -> Step<u64> {
+    let event = Event::Go(noise);
+    Step { worker, event }
+}
+
 pub fn go_with(index: &mut Index, worker: u32, noise: Noise<Id, u64>) -> Report<u64> {
-    let step = Step {
-        worker,
-        event: Event::Go(noise),
-    };
-    index.step(step)
+    index.step(going(worker, noise))
 }
 
 /// A step of the worker's call in flight, whose closure answers so where it is asked.
 pub fn go(index: &mut Index, worker: u32, answer: Option<Option<u64>>) -> Report<u64> {
-    let noise = Noise {
-        fail: false,
-        seen: None,
-        answer,
-    };
-    go_with(index, worker, noise)
+    go_with(index, worker, noise(false, answer))
 }
 
 /// Whether a call that stands so goes on.
