@@ -26,4 +26,3 @@ mod texts;
 mod threads;
 mod users;
 mod worked;
-mod worlds;

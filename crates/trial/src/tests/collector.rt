@@ -144,117 +144,94 @@ fn the_collector_answers_as_worked_out(rt: HostRuntime) -> Result<(), Fail> {
 
 impl Asked for Jobs {
     fn answer(&mut self, alloc: Global, word: &str, numbers: &[u64]) -> Result<String, Fail> {
-        match numbers {
-            [] => of_all(alloc, self, word),
-            [number] => of_one(alloc, self, word, *number),
-            [first, second] => of_two(alloc, self, word, *first, *second),
-            [first, cell, turn] => of_three(alloc, self, word, (*first, *cell, *turn)),
-            _ => Err("no question")?,
+        match (word, numbers) {
+            ("register", []) => told(alloc, &self.register()),
+            ("epoch", []) => told(alloc, &self.epoch()),
+            ("waiting", []) => told(alloc, &self.waiting()),
+            ("pin", [who]) => told(alloc, &call(self, *who, Op::Pin)),
+            ("unpin", [who]) => told(alloc, &call(self, *who, Op::Unpin)),
+            ("flush", [who]) => told(alloc, &call(self, *who, Op::Flush)),
+            ("release", [who]) => told(alloc, &call(self, *who, Op::Release)),
+            ("World::flush", [who]) => told(alloc, &self.flush(*who as usize)),
+            ("World::repin", [who]) => told(alloc, &self.repin(*who as usize)),
+            ("rounds", [who, count]) => told(alloc, &rounds(self, *who, *count)),
+            ("defer", [who, count]) => told(alloc, &defers(self, *who as usize, *count)),
+            ("defer_unchecked", [who]) => told(alloc, &self.defer_unchecked(*who as usize, ())),
+            ("has_place", [who]) => told(alloc, &self.has_place(*who as usize)),
+            _ => of_cells(alloc, self, word, numbers),
         }
     }
 }
 
-fn of_all(alloc: Global, world: &mut Jobs, word: &str) -> Result<String, Fail> {
-    match word {
-        "register" => told(alloc, &world.register()),
-        "epoch" => told(alloc, &world.epoch()),
-        "waiting" => told(alloc, &world.waiting()),
-        _ => Err("no question")?,
-    }
-}
-
-/// What is asked about a participant, or with the number of a root, of bits of a tag, or of a value.
-fn of_one(alloc: Global, world: &mut Jobs, word: &str, number: u64) -> Result<String, Fail> {
-    let who = number as usize;
-    match word {
-        "pin" => told(alloc, &call(world, who, Op::Pin)),
-        "unpin" => told(alloc, &call(world, who, Op::Unpin)),
-        "flush" => told(alloc, &call(world, who, Op::Flush)),
-        "release" => told(alloc, &call(world, who, Op::Release)),
-        "World::flush" => told(alloc, &world.flush(who)),
-        "World::repin" => told(alloc, &world.repin(who)),
-        "defer_unchecked" => told(alloc, &world.defer_unchecked(who, ())),
-        "has_place" => told(alloc, &world.has_place(who)),
-        "place" => told(alloc, &world.place(Plain(number))),
-        "load" => told(alloc, &world.load(who)),
-        "store_null" => told(alloc, &world.store(0, Ptr::null().with_tag::<Plain>(who))),
-        "fetch_and" => told(alloc, &world.fetch_and(0, who)),
-        "fetch_or" => told(alloc, &world.fetch_or(0, who)),
-        "fetch_xor" => told(alloc, &world.fetch_xor(0, who)),
-        _ => Err("no question")?,
-    }
-}
-
-fn name_of(cell: u64, turn: u64) -> Result<Name, Fail> {
+fn name(cell: u64, turn: u64) -> Result<Name, Fail> {
     Ok(Name {
         cell: u32::try_from(cell)?,
         turn: u32::try_from(turn)?,
     })
 }
 
-fn of_two(
-    alloc: Global,
-    world: &mut Jobs,
-    word: &str,
-    first: u64,
-    second: u64,
-) -> Result<String, Fail> {
-    match word {
-        "rounds" => told(alloc, &rounds(world, first as usize, second)),
-        "defer" => told(alloc, &defers(world, first as usize, second)),
-        "read" => told(alloc, &world.read(name_of(first, second)?)),
-        "give_back" => told(alloc, &world.give_back(name_of(first, second)?)),
-        _ => Err("no question")?,
+/// A pointer to a value in this cell and turn.
+fn pointer(cell: u64, turn: u64, tag: u64) -> Result<Ptr, Fail> {
+    let name = Some(name(cell, turn)?);
+    Ok(Ptr { name, tag: 0 }.with_tag::<Plain>(tag as usize))
+}
+
+/// The answer of the cells, or of the root.
+fn of_cells(alloc: Global, world: &mut Jobs, word: &str, numbers: &[u64]) -> Result<String, Fail> {
+    match (word, numbers) {
+        ("place", [number]) => told(alloc, &world.place(Plain(*number))),
+        ("read", [cell, turn]) => told(alloc, &world.read(name(*cell, *turn)?)),
+        ("give_back", [cell, turn]) => told(alloc, &world.give_back(name(*cell, *turn)?)),
+        ("replace", [cell, turn, n]) => told(alloc, &world.replace(name(*cell, *turn)?, Plain(*n))),
+        ("destroy", [who, cell, turn]) => {
+            told(
+                alloc,
+                &world.defer_destroy(*who as usize, name(*cell, *turn)?),
+            )
+        }
+        _ => of_root(alloc, world, word, numbers),
     }
 }
 
-fn of_three(
-    alloc: Global,
-    world: &mut Jobs,
-    word: &str,
-    numbers: (u64, u64, u64),
-) -> Result<String, Fail> {
-    let (first, second, third) = numbers;
-    if word == "destroy" {
-        return told(
+fn of_root(alloc: Global, world: &mut Jobs, word: &str, numbers: &[u64]) -> Result<String, Fail> {
+    let null = Ptr::null();
+    match (word, numbers) {
+        ("load", [root]) => told(alloc, &world.load(*root as usize)),
+        ("store_null", [tag]) => told(
             alloc,
-            &world.defer_destroy(first as usize, name_of(second, third)?),
-        );
-    }
-    let name = name_of(first, second)?;
-    let pointer = Ptr {
-        name: Some(name),
-        tag: 0,
-    };
-    let pointer = pointer.with_tag::<Plain>(third as usize);
-    match word {
-        "replace" => told(alloc, &world.replace(name, Plain(third))),
-        "store" => told(alloc, &world.store(0, pointer)),
-        "swap" => told(alloc, &world.swap(0, pointer)),
+            &world.store(0, null.with_tag::<Plain>(*tag as usize)),
+        ),
+        ("store", [cell, turn, tag]) => told(alloc, &world.store(0, pointer(*cell, *turn, *tag)?)),
+        ("swap", [cell, turn, tag]) => told(alloc, &world.swap(0, pointer(*cell, *turn, *tag)?)),
         // Writes null where the root holds the pointer.
-        "empty" => told(alloc, &world.compare_exchange(0, pointer, Ptr::null())),
+        ("empty", [cell, turn, tag]) => {
+            told(
+                alloc,
+                &world.compare_exchange(0, pointer(*cell, *turn, *tag)?, null),
+            )
+        }
+        ("fetch_and", [tag]) => told(alloc, &world.fetch_and(0, *tag as usize)),
+        ("fetch_or", [tag]) => told(alloc, &world.fetch_or(0, *tag as usize)),
+        ("fetch_xor", [tag]) => told(alloc, &world.fetch_xor(0, *tag as usize)),
         _ => Err("no question")?,
     }
-}
-
-fn step<J: Task>(world: &mut World<Plain, J>, who: usize, event: Event) -> Outcome {
-    world.step(who, event).outcome
 }
 
 /// A whole call of at most 2,000 steps.
-fn call(world: &mut Jobs, who: usize, op: Op) -> Outcome {
-    let mut outcome = step(world, who, Event::Begin(op));
+fn call(world: &mut Jobs, who: u64, op: Op) -> Outcome {
+    let mut event = Event::Begin(op);
     for _ in 0..2000 {
+        let outcome = world.step(who as usize, event).outcome;
         if outcome != Outcome::Running {
             return outcome;
         }
-        outcome = step(world, who, Event::Go);
+        event = Event::Go;
     }
-    outcome
+    Outcome::Running
 }
 
 /// Rounds of pin, flush and unpin; the first answer that isn't `Done`.
-fn rounds(world: &mut Jobs, who: usize, count: u64) -> Outcome {
+fn rounds(world: &mut Jobs, who: u64, count: u64) -> Outcome {
     for _ in 0..count {
         for op in [Op::Pin, Op::Flush, Op::Unpin] {
             let outcome = call(world, who, op);
@@ -355,42 +332,6 @@ pub(crate) fn adds(alloc: Global, sum: &Arc<AtomicU64>, number: u64) -> Result<J
     Ok(Job::new(call))
 }
 
-/// A participant does these calls, 20 steps each.
-fn steps(world: &mut BoxedJobs, ops: &[Op]) {
-    for op in ops {
-        step(world, 0, Event::Begin(*op));
-        for _ in 0..20 {
-            step(world, 0, Event::Go);
-        }
-    }
-}
-
-fn defers_boxed(world: &mut BoxedJobs, job: Job) -> bool {
-    world.defer(0, job).is_ok()
-}
-
-/// Secures a place for the job, defers it, and goes four rounds. Whether nothing waits then.
-fn job_is_called(world: &mut BoxedJobs, job: Job) -> bool {
-    steps(world, &[Op::Pin, Op::Secure(1), Op::Unpin, Op::Pin]);
-    let deferred = defers_boxed(world, job);
-    for _ in 0..4 {
-        steps(world, &[Op::Flush, Op::Unpin, Op::Pin]);
-    }
-    deferred && world.waiting() == 0
-}
-
-/// Defers the job under a pin and leaves.
-fn job_is_left(world: &mut BoxedJobs, job: Job) -> bool {
-    whole_call(world, Op::Pin);
-    let deferred = defers_boxed(world, job);
-    whole_call(world, Op::Unpin);
-    deferred && world.release(0) == Outcome::Done
-}
-
-fn whole_call(world: &mut BoxedJobs, op: Op) {
-    world.call(0, op, 1000);
-}
-
 /// A collector with one participant.
 fn with_one(alloc: Global) -> Result<BoxedJobs, Fault> {
     let mut world = World::new(alloc, ample(1), 1)?;
@@ -398,12 +339,24 @@ fn with_one(alloc: Global) -> Result<BoxedJobs, Fault> {
     Ok(world)
 }
 
+/// The participant does these calls.
+fn calls(world: &mut BoxedJobs, ops: &[Op]) {
+    for op in ops {
+        world.call(0, *op, 1000);
+    }
+}
+
 #[test]
 fn a_job_runs_its_box(rt: HostRuntime) -> Result<(), Fail> {
     let sum = Arc::new(rt.alloc(), AtomicU64::new(0))?;
     let job = adds(rt.alloc(), &sum, 1)?;
-    let called = job_is_called(&mut with_one(rt.alloc())?, job);
-    assert!(rt; called && sum.load(Ordering::SeqCst) == 1);
+    let mut world = with_one(rt.alloc())?;
+    calls(&mut world, &[Op::Pin, Op::Secure(1), Op::Unpin, Op::Pin]);
+    assert!(rt; world.defer(0, job).is_ok());
+    for _ in 0..4 {
+        calls(&mut world, &[Op::Flush, Op::Unpin, Op::Pin]);
+    }
+    assert_eq!(rt; (world.waiting(), sum.load(Ordering::SeqCst)), (0, 1));
     Ok(())
 }
 
@@ -412,9 +365,11 @@ fn the_end_calls_what_is_left(rt: HostRuntime) -> Result<(), Fail> {
     let sum = Arc::new(rt.alloc(), AtomicU64::new(0))?;
     let job = adds(rt.alloc(), &sum, 1)?;
     let mut world = with_one(rt.alloc())?;
-    let left = job_is_left(&mut world, job);
-    let called = end(world);
-    assert!(rt; left && called == Ok(1));
-    assert!(rt; sum.load(Ordering::SeqCst) == 1);
+    calls(&mut world, &[Op::Pin]);
+    assert!(rt; world.defer(0, job).is_ok());
+    calls(&mut world, &[Op::Unpin]);
+    assert_eq!(rt; world.release(0), Outcome::Done);
+    assert_eq!(rt; end(world), Ok(1));
+    assert_eq!(rt; sum.load(Ordering::SeqCst), 1);
     Ok(())
 }

@@ -21,11 +21,11 @@ const REPLIES: &[u8] = b"ok\nworker 0\nworker 1\nok\nok\nnone\nnone\nnone\nnone\
 
 /// Gives a script by so many bytes a read, fails once, and goes on after it.
 #[derive(Drop)]
-struct Hiccup<'a> {
-    script: &'a [u8],
-    size: usize,
+pub struct Hiccup<'a> {
+    pub script: &'a [u8],
+    pub size: usize,
     /// The reads before the one that fails, if one does.
-    before: Option<u64>,
+    pub before: Option<u64>,
 }
 
 impl Read for Hiccup<'_> {

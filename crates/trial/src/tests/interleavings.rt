@@ -5,7 +5,7 @@ use super::machine::{
     AMPLE, END, Index, Opening, answer_of, are_rounds_done, begin, call, go, go_with, is_done,
     is_in_flight, noise, op_of, open_with_workers,
 };
-use super::texts::{call_of, named, pairs, parts};
+use super::texts::{call_of, named, pairs, part};
 use congee::Noise;
 use joint::{Done, Id, Op, Outcome, Refusal};
 use judge::{Call, Entry, Reply, Verdict, check};
@@ -13,7 +13,7 @@ use std::alloc::Global;
 use std::test::Fail;
 
 /// Two workers for the calls, and one that collects.
-const OPENING: Opening = Opening {
+pub const OPENING: Opening = Opening {
     workers: 3,
     cells: 12,
     ..AMPLE
@@ -36,11 +36,13 @@ pub struct Case {
 
 /// A case, as its pairs, its calls and its charges.
 pub fn case_of(alloc: Global, text: &str) -> Result<Case, Fail> {
-    let [before, first, second, one, other] = parts::<5>(text)?;
     Ok(Case {
-        pairs: pairs(alloc, before)?,
-        pair: (call_of(alloc, first)?, call_of(alloc, second)?),
-        charges: (one.parse::<u64>()?, other.parse::<u64>()?),
+        pairs: pairs(alloc, part(text, 0))?,
+        pair: (
+            call_of(alloc, part(text, 1))?,
+            call_of(alloc, part(text, 2))?,
+        ),
+        charges: (part(text, 3).parse::<u64>()?, part(text, 4).parse::<u64>()?),
     })
 }
 
@@ -157,13 +159,13 @@ fn go_on(index: &mut Index, flight: &mut Flight, other: &Flight, turn: u32) {
     }
 }
 
-/// The index with the keys of a case, and both workers pinned.
-pub fn prepared(alloc: Global, case: &Case) -> Result<Index, Refusal> {
-    let mut index = open_with_workers(alloc, &OPENING)?;
+/// An index with these pairs, whose first two workers are pinned.
+pub fn prepared(alloc: Global, opening: &Opening, pairs: &[(u64, u64)]) -> Result<Index, Refusal> {
+    let mut index = open_with_workers(alloc, opening)?;
     is_done(&mut index, 0, Op::Pin);
     is_done(&mut index, 1, Op::Pin);
-    for (key, value) in &case.pairs {
-        call(&mut index, 0, Call::Insert(*key, *value));
+    for (key, value) in pairs {
+        call(&mut index, 1, Call::Insert(*key, *value));
     }
     Ok(index)
 }
@@ -271,20 +273,25 @@ pub fn end_right(
 
 /// Whether the calls of a case, with these turns, answer and are charged as one map.
 fn is_right(alloc: Global, case: &Case, turns: u64, count: u32) -> Result<bool, Fail> {
-    let mut index = prepared(alloc, case)?;
+    let mut index = prepared(alloc, &OPENING, &case.pairs)?;
     let (first, second) = fly(&mut index, case, turns, count);
     end_right(alloc, &mut index, case, &first, &second)
 }
 
-/// How many steps a call takes after its begin, and after securing, where the other one isn't there.
-fn length(alloc: Global, case: &Case, call: Call<u64>) -> Result<u32, Refusal> {
-    let mut index = prepared(alloc, case)?;
+/// How many steps a call takes after its begin, and after securing, where no other one is there.
+pub fn length(
+    alloc: Global,
+    opening: &Opening,
+    pairs: &[(u64, u64)],
+    call: Call<u64>,
+) -> Result<u32, Refusal> {
+    let mut index = prepared(alloc, opening, pairs)?;
     let mut flight = begun(&mut index, 0, call);
-    let mut steps = 0;
+    let mut steps = 0u32;
     for _ in 0..END {
         if is_in_flight(&flight.outcome) {
             advance(&mut index, &mut flight, 0);
-            steps = u32::saturating_add(steps, 1);
+            steps = steps.saturating_add(1);
         }
     }
     Ok(steps)
@@ -293,8 +300,8 @@ fn length(alloc: Global, case: &Case, call: Call<u64>) -> Result<u32, Refusal> {
 /// How many orders of all steps of both calls were tried, if each was right.
 fn tried(alloc: Global, text: &str) -> Result<Option<u32>, Fail> {
     let case = case_of(alloc, text)?;
-    let second = length(alloc, &case, case.pair.1)?;
-    let count = length(alloc, &case, case.pair.0)?.saturating_add(second);
+    let second = length(alloc, &OPENING, &case.pairs, case.pair.1)?;
+    let count = length(alloc, &OPENING, &case.pairs, case.pair.0)?.saturating_add(second);
     let mut tried = 0u32;
     for turns in 0..1u64.wrapping_shl(count) {
         if turns.count_ones() == second {
@@ -309,8 +316,8 @@ fn tried(alloc: Global, text: &str) -> Result<Option<u32>, Fail> {
 
 /// Whether each order is right in which one call is cut in two and the other one in two or three.
 fn are_right(alloc: Global, case: &Case) -> Result<bool, Fail> {
-    let first = length(alloc, case, case.pair.0)?;
-    let second = length(alloc, case, case.pair.1)?;
+    let first = length(alloc, &OPENING, &case.pairs, case.pair.0)?;
+    let second = length(alloc, &OPENING, &case.pairs, case.pair.1)?;
     for start in 0..=first {
         for middle in 0..=second {
             let turns = 1u64
@@ -350,25 +357,14 @@ fn short_calls_answer_as_one_map_in_every_order_of_their_steps(
 }
 
 #[test]
-fn insertions_beside_each_other_answer_as_one_map(rt: HostRuntime) -> Result<(), Fail> {
-    assert_eq!(rt; first_wrong(rt.alloc(), &INSERTIONS)?, None);
-    Ok(())
-}
-
-#[test]
-fn look_ups_beside_changes_answer_as_one_map(rt: HostRuntime) -> Result<(), Fail> {
-    assert_eq!(rt; first_wrong(rt.alloc(), &LOOKS)?, None);
-    Ok(())
-}
-
-#[test]
-fn removals_beside_changes_answer_as_one_map(rt: HostRuntime) -> Result<(), Fail> {
-    assert_eq!(rt; first_wrong(rt.alloc(), &REMOVALS)?, None);
-    Ok(())
-}
-
-#[test]
-fn exchanges_and_closures_beside_changes_answer_as_one_map(rt: HostRuntime) -> Result<(), Fail> {
-    assert_eq!(rt; first_wrong(rt.alloc(), &CLOSURES)?, None);
+fn calls_beside_each_other_answer_as_one_map(rt: HostRuntime) -> Result<(), Fail> {
+    for cases in [
+        INSERTIONS.as_slice(),
+        LOOKS.as_slice(),
+        REMOVALS.as_slice(),
+        CLOSURES.as_slice(),
+    ] {
+        assert_eq!(rt; first_wrong(rt.alloc(), cases)?, None);
+    }
     Ok(())
 }

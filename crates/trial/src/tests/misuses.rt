@@ -111,62 +111,35 @@ fn guards_are_counted_to_their_greatest(rt: HostRuntime) -> Result<(), Fail> {
     Ok(())
 }
 
-/// Participants, cells, the greatest epoch, the expiry and the greatest version.
-type Bounds = (u32, u32, u64, u64, u64);
+/// What a script may say of limits: the least and the greatest, and those out of their ranges.
+const LIMITS: &str = "new 1 1 limit 2104 version 1 = ok; close = closed 0; \
+    new 256 9 limit 2104 version 1152921504606846975 = ok; close = closed 0; new 0 1 = refused Limits; \
+    new 257 1 = refused Limits; new 1 0 = refused Limits; new 1 16777216 = refused Limits; \
+    new 1 1 version 0 = refused Limits; new 1 1 version 1152921504606846976 = refused Limits; \
+    new 0 1 limit 0 = refused Limits; new 1 1 limit 2103 = refused Budget 0 2104 2103";
 
-/// The limits of an index with these bounds.
-fn limits(bounds: Bounds) -> Limits {
-    let (participants, cells, epoch_max, expiry, version_max) = bounds;
-    Limits {
-        epoch: crossbeam_epoch::Limits {
-            participants,
-            cells,
-            turn_max: u32::MAX,
-            epoch_max,
-            expiry,
-        },
-        version_max,
-        id: 0,
-    }
-}
-
-/// Why no index is opened with these bounds and this limit in bytes, if there is none.
-fn refusal_of(alloc: Global, bounds: Bounds, limit: u64) -> Option<Refusal> {
-    let opened: Result<Index, Refusal> = World::new(alloc, limits(bounds), Limited::new(limit));
+/// Why no index is opened with this greatest epoch and expiry, if there is none.
+fn refusal_of(alloc: Global, epoch_max: u64, expiry: u64) -> Option<Refusal> {
+    let usual = Limits::usual(1, 1);
+    let epoch = crossbeam_epoch::Limits {
+        epoch_max,
+        expiry,
+        ..usual.epoch
+    };
+    let limits = Limits { epoch, ..usual };
+    let opened: Result<Index, Refusal> = World::new(alloc, limits, Limited::new(2104));
     opened.err()
 }
 
 #[test]
-fn limits_out_of_their_ranges_open_no_index(rt: HostRuntime) {
-    let least = (1, 1, 3, 2, 1);
-    let greatest = (256, 9, 1 << 62, 2, (1 << 60) - 1);
-    assert_eq!(rt; refusal_of(rt.alloc(), least, 2104), None);
-    assert_eq!(rt; refusal_of(rt.alloc(), greatest, 2104), None);
-    let out = [
-        (0, 1, 3, 2, 1),
-        (257, 1, 3, 2, 1),
-        (1, 0, 3, 2, 1),
-        (1, 16_777_216, 3, 2, 1),
-        (1, 1, 2, 2, 1),
-        (1, 1, (1 << 62) + 1, 2, 1),
-        (1, 1, 3, 1, 1),
-        (1, 1, 3, 3, 1),
-        (1, 1, 3, 2, 0),
-        (1, 1, 3, 2, 1 << 60),
-    ];
-    for bounds in out {
-        assert_eq!(rt;
-            refusal_of(rt.alloc(), bounds, 0),
-            Some(Refusal::Limits),
-            "{bounds:?}"
-        );
+fn limits_out_of_their_ranges_open_no_index(rt: HostRuntime) -> Result<(), Fail> {
+    assert!(rt; goes(rt.alloc(), LIMITS)?);
+    for epoch_max in [3, 1 << 62] {
+        assert_eq!(rt; refusal_of(rt.alloc(), epoch_max, 2), None, "{epoch_max}");
     }
-    assert_eq!(rt;
-        refusal_of(rt.alloc(), least, 2103),
-        Some(Refusal::Budget {
-            charged: 0,
-            wanted: 2104,
-            limit: 2103,
-        })
-    );
+    for bounds in [(2, 2), ((1 << 62) + 1, 2), (3, 1), (3, 3)] {
+        let refused = refusal_of(rt.alloc(), bounds.0, bounds.1);
+        assert_eq!(rt; refused, Some(Refusal::Limits), "{bounds:?}");
+    }
+    Ok(())
 }

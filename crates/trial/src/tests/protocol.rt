@@ -1,5 +1,5 @@
 //! Calls that are stepped by turns on a plain store, worked out by hand.
-use super::texts::{array, call_of, named, parts, question};
+use super::texts::{array, call_of, named, part, question};
 use congee::{Child, Move, Noise, Op, Outcome, PlainStore, Seen, Step, play};
 use judge::Call;
 use std::alloc::Global;
@@ -152,20 +152,15 @@ fn told(alloc: Global, moves: &[Move<u64>]) -> Result<String, Fail> {
 }
 
 fn holds(alloc: Global, worked: &str) -> Result<bool, Fail> {
-    let [room, calls, turns, expected, nodes] = parts::<5>(worked)?;
-    let [there, back] = array::<2>(nodes)?;
-    let room = room.parse::<usize>()?;
-    let ran = run(
-        alloc,
-        room,
-        &calls_of(alloc, calls)?,
-        steps_of(alloc, turns)?,
-    )?;
+    let calls = calls_of(alloc, part(worked, 1))?;
+    let steps = steps_of(alloc, part(worked, 2))?;
+    let ran = run(alloc, part(worked, 0).parse::<usize>()?, &calls, steps)?;
+    let [there, back] = array::<2>(part(worked, 4))?;
     Ok(
         is_at_rest(&ran.store)
             && ran.store.nodes.len() as u64 == there
             && given_back(&ran.store) as u64 == back
-            && told(alloc, &ran.moves)?.trim() == expected,
+            && told(alloc, &ran.moves)?.trim() == part(worked, 3),
     )
 }
 

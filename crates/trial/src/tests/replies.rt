@@ -36,12 +36,25 @@ fn replies(alloc: Global) -> Result<String, Fail> {
 
 /// Takes so many bytes, fails once, and goes on after it.
 #[derive(Drop)]
-struct Narrow {
-    taken: Vec<u8>,
+pub struct Narrow {
+    pub taken: Vec<u8>,
     /// The bytes before the write that fails, if one does.
-    room: Option<usize>,
-    /// The most bytes of a write.
-    most: usize,
+    pub room: Option<usize>,
+    /// The most bytes that it takes at a write.
+    pub size: usize,
+    /// The most bytes that it was given at a write.
+    pub most: usize,
+}
+
+impl Narrow {
+    pub fn new(alloc: Global, room: Option<usize>, size: usize) -> Narrow {
+        Narrow {
+            taken: Vec::new(alloc),
+            room,
+            size,
+            most: 0,
+        }
+    }
 }
 
 impl Write for Narrow {
@@ -52,7 +65,7 @@ impl Write for Narrow {
             self.room = None;
             return Err(io::Error::from(ErrorKind::Interrupted));
         }
-        let n = buf.len().min(room);
+        let n = buf.len().min(room).min(self.size);
         self.taken.extend_from_slice(&buf[..n])?;
         self.room = self.room.map(|left| left.saturating_sub(n));
         Ok(n)
@@ -68,11 +81,7 @@ fn a_reply_goes_out_in_pieces(rt: HostRuntime) -> Result<(), Fail> {
     let script = script(rt.alloc())?;
     let replies = replies(rt.alloc())?;
     let mut reader = script.as_bytes();
-    let mut writer = Narrow {
-        taken: Vec::new(rt.alloc()),
-        room: None,
-        most: 0,
-    };
+    let mut writer = Narrow::new(rt.alloc(), None, 9000);
     assert_eq!(rt; run(rt.alloc(), &mut reader, &mut writer), 0);
     assert_eq!(rt; writer.taken.as_slice(), replies.as_bytes());
     // No piece is longer than 20 bytes, so that the buffer is nearly full when it goes out.
@@ -86,11 +95,7 @@ fn a_write_that_fails_within_a_reply_is_the_last(rt: HostRuntime) -> Result<(), 
     let replies = replies(rt.alloc())?;
     for room in [0, 3000, 3100, 8191, 8192, 8193, 11000, 17000, 17900] {
         let mut reader = script.as_bytes();
-        let mut writer = Narrow {
-            taken: Vec::new(rt.alloc()),
-            room: Some(room),
-            most: 0,
-        };
+        let mut writer = Narrow::new(rt.alloc(), Some(room), 9000);
         assert_eq!(rt; run(rt.alloc(), &mut reader, &mut writer), 1, "at {room}");
         assert_eq!(rt; writer.taken.len(), room, "at {room}");
         assert!(rt; replies.as_bytes().starts_with(&writer.taken), "at {room}");

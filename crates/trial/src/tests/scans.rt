@@ -1,11 +1,9 @@
 //! A scan beside a writing call, in every order of their steps and with the whole call between any two of the scan's: its
 //! list is one that a scan promises.
 
-use super::interleavings::{Flight, advance, begun, entry_of, journal_of};
-use super::machine::{
-    AMPLE, Index, Opening, are_rounds_done, begin, call, go, is_done, open_with_workers,
-};
-use super::texts::{array, call_of, named, pairs, parts};
+use super::interleavings::{Flight, advance, begun, entry_of, journal_of, length, prepared};
+use super::machine::{AMPLE, Index, Opening, are_rounds_done, begin, go, is_done};
+use super::texts::{array, call_of, named, pairs, part};
 use joint::{Done, Op, Outcome, Refusal};
 use judge::{Call, Verdict, check};
 use std::alloc::Global;
@@ -49,18 +47,17 @@ struct Case {
 
 /// A case, as the numbers of its range, its call, the pairs before and after it, and the numbers of steps.
 fn case_of(alloc: Global, text: &str) -> Result<Case, Fail> {
-    let [range, write, before, after, steps] = parts::<5>(text)?;
-    let [start, end, size] = array::<3>(range)?;
-    let [scan, call, ahead] = array::<3>(steps)?;
+    let [start, end, size] = array::<3>(part(text, 0))?;
+    let [scan, call, ahead] = array::<3>(part(text, 4))?;
     Ok(Case {
         range: Range {
             start,
             end,
             size: usize::try_from(size)?,
         },
-        write: call_of(alloc, write)?,
-        before: pairs(alloc, before)?,
-        after: pairs(alloc, after)?,
+        write: call_of(alloc, part(text, 1))?,
+        before: pairs(alloc, part(text, 2))?,
+        after: pairs(alloc, part(text, 3))?,
         steps: (u32::try_from(scan)?, u32::try_from(call)?),
         ahead: u32::try_from(ahead)?,
     })
@@ -244,17 +241,6 @@ fn are_right(alloc: Global, case: &Case, scan: &Scan, write: &Flight) -> Result<
     )
 }
 
-/// The index with the pairs of a case, and both workers pinned.
-fn prepared(alloc: Global, case: &Case) -> Result<Index, Refusal> {
-    let mut index = open_with_workers(alloc, &OPENING)?;
-    is_done(&mut index, SCANNER, Op::Pin);
-    is_done(&mut index, WRITER, Op::Pin);
-    for (key, value) in &case.before {
-        call(&mut index, WRITER, Call::Insert(*key, *value));
-    }
-    Ok(index)
-}
-
 /// So many further steps of the call, fewer where it ends.
 fn write_on(index: &mut Index, write: &mut Flight, most: u32) {
     for _ in 0..most {
@@ -289,23 +275,16 @@ fn fly(index: &mut Index, case: &Case, turns: u32, bits: u32) -> (Scan, Flight) 
 
 /// How many steps the scan takes alone, and the call.
 fn lengths(alloc: Global, case: &Case) -> Result<(u32, u32), Refusal> {
-    let mut index = prepared(alloc, case)?;
+    let mut index = prepared(alloc, &OPENING, &case.before)?;
     let mut scan = Scan::begun(&mut index, case.range);
     scan_on(&mut index, &mut scan, false, LONG);
-    let mut write = begun(&mut index, WRITER, case.write);
-    let mut steps = 0u32;
-    for _ in 0..LONG {
-        if !matches!(&write.outcome, Outcome::Done(_)) {
-            advance(&mut index, &mut write, 0);
-            steps = steps.saturating_add(1);
-        }
-    }
-    Ok((scan.steps, steps))
+    let call = length(alloc, &OPENING, &case.before, case.write)?;
+    Ok((scan.steps, call))
 }
 
 /// Whether the scan and the call are right with these turns.
 fn is_right(alloc: Global, case: &Case, turns: u32, bits: u32) -> Result<bool, Fail> {
-    let mut index = prepared(alloc, case)?;
+    let mut index = prepared(alloc, &OPENING, &case.before)?;
     let (scan, write) = fly(&mut index, case, turns, bits);
     are_right(alloc, case, &scan, &write)
 }
@@ -339,7 +318,7 @@ fn cut(index: &mut Index, case: &Case, steps: u32) -> (Scan, Flight) {
 fn begins_anew(alloc: Global, case: &Case) -> Result<bool, Fail> {
     let mut again = false;
     for steps in 1..case.steps.0 {
-        let mut index = prepared(alloc, case)?;
+        let mut index = prepared(alloc, &OPENING, &case.before)?;
         let (scan, write) = cut(&mut index, case, steps);
         if !are_right(alloc, case, &scan, &write)? {
             return Ok(false);

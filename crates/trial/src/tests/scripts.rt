@@ -1,5 +1,7 @@
 //! Scripts and the replies that they print.
 
+use super::failures::Hiccup;
+use super::replies::Narrow;
 use crate::run::{exit, run};
 use std::alloc::Global;
 use std::io::{self, ErrorKind, Read, Write};
@@ -103,162 +105,23 @@ fn endless_feeds_end(rt: HostRuntime) -> Result<(), Fail> {
     Ok(())
 }
 
-// Gives a script by seven bytes a read, and fails at one of its reads.
-#[derive(Drop)]
-struct Faulty<'a> {
-    script: &'a [u8],
-    calls: u64,
-}
-
-impl Read for Faulty<'_> {
-    fn read(&mut self, buf: &mut [u8]) -> io::Result<usize> {
-        if self.calls == 0 {
-            return Err(io::Error::from(ErrorKind::Interrupted));
-        }
-        self.calls -= 1;
-        let n = buf.len().min(7).min(self.script.len());
-        buf[..n].copy_from_slice(&self.script[..n]);
-        self.script = &self.script[n..];
-        Ok(n)
-    }
-}
-
-// Gives a script by seven bytes a read, fails at one of its reads, and goes on after it.
-#[derive(Drop)]
-struct Hiccup<'a> {
-    script: &'a [u8],
-    calls: u64,
-    failed: bool,
-}
-
-impl Read for Hiccup<'_> {
-    fn read(&mut self, buf: &mut [u8]) -> io::Result<usize> {
-        if self.calls == 0 && !self.failed {
-            self.failed = true;
-            return Err(io::Error::from(ErrorKind::Interrupted));
-        }
-        self.calls = self.calls.saturating_sub(1);
-        let n = buf.len().min(7).min(self.script.len());
-        buf[..n].copy_from_slice(&self.script[..n]);
-        self.script = &self.script[n..];
-        Ok(n)
-    }
-}
-
-// Takes what it is given, and fails at one of its flushes.
-#[derive(Drop)]
-struct Unflushed {
-    taken: Vec<u8>,
-    flushes: u64,
-}
-
-impl Write for Unflushed {
-    fn write(&mut self, buf: &[u8]) -> io::Result<usize> {
-        self.taken.extend_from_slice(buf)?;
-        Ok(buf.len())
-    }
-
-    fn flush(&mut self) -> io::Result<()> {
-        if self.flushes == 0 {
-            return Err(io::Error::from(ErrorKind::Interrupted));
-        }
-        self.flushes -= 1;
-        Ok(())
-    }
-}
-
-// Takes five bytes a write, and fails at one of its writes.
-#[derive(Drop)]
-struct Stuck {
-    taken: Vec<u8>,
-    calls: u64,
-}
-
-impl Write for Stuck {
-    fn write(&mut self, buf: &[u8]) -> io::Result<usize> {
-        if self.calls == 0 {
-            return Err(io::Error::from(ErrorKind::Interrupted));
-        }
-        self.calls -= 1;
-        let n = buf.len().min(5);
-        self.taken.extend_from_slice(&buf[..n])?;
-        Ok(n)
-    }
-
-    fn flush(&mut self) -> io::Result<()> {
-        Ok(())
-    }
-}
-
 const SCRIPT: &[u8] = b"new 2 1000\nreg\n0 pin\n0 insert 1 7\n0 get 1\ncharged\n";
 
 const REPLIES: &[u8] = b"ok\nworker 0\nok\nnone\nsome 7\ncharged 2168\n";
 
 #[test]
-fn each_read_may_fail(rt: HostRuntime) -> Result<(), Fail> {
-    for calls in 0..10 {
-        let mut reader = Faulty {
-            script: SCRIPT,
-            calls,
-        };
-        let mut printed = Vec::new(rt.alloc());
-        let status = run(rt.alloc(), &mut reader, &mut printed);
-        let whole = calls > 8;
-        assert_eq!(rt; status, if whole { 0 } else { 1 }, "at {calls}");
-        assert!(rt; REPLIES.starts_with(printed.as_slice()), "at {calls}");
-        assert!(rt;
-            printed.is_empty() || printed.ends_with(b"\n"),
-            "at {calls}"
-        );
-    }
-    Ok(())
-}
-
-#[test]
 fn each_write_may_fail(rt: HostRuntime) -> Result<(), Fail> {
-    for calls in 0..10 {
+    for room in 0..=REPLIES.len() {
         let mut reader = SCRIPT;
-        let mut writer = Stuck {
-            taken: Vec::new(rt.alloc()),
-            calls,
-        };
+        let mut writer = Narrow::new(rt.alloc(), Some(room), 5);
         let status = run(rt.alloc(), &mut reader, &mut writer);
-        let whole = calls > 7;
-        assert_eq!(rt; status, if whole { 0 } else { 1 }, "at {calls}");
-        assert!(rt; REPLIES.starts_with(writer.taken.as_slice()), "at {calls}");
-    }
-    Ok(())
-}
-
-#[test]
-fn a_read_that_fails_is_the_last(rt: HostRuntime) -> Result<(), Fail> {
-    for calls in 0..9 {
-        let mut reader = Hiccup {
-            script: SCRIPT,
-            calls,
-            failed: false,
-        };
-        let mut printed = Vec::new(rt.alloc());
-        assert_eq!(rt; run(rt.alloc(), &mut reader, &mut printed), 1, "at {calls}");
         assert_eq!(rt;
-            reader.script.len() as u64,
-            SCRIPT.len() as u64 - (7 * calls).min(SCRIPT.len() as u64),
-            "at {calls}"
+            status,
+            if room < REPLIES.len() { 1 } else { 0 },
+            "at {room}"
         );
-        assert!(rt; REPLIES.starts_with(printed.as_slice()), "at {calls}");
+        assert_eq!(rt; writer.taken.as_slice(), &REPLIES[..room], "at {room}");
     }
-    Ok(())
-}
-
-#[test]
-fn a_flush_that_fails_ends_a_script(rt: HostRuntime) -> Result<(), Fail> {
-    let mut reader = SCRIPT;
-    let mut writer = Unflushed {
-        taken: Vec::new(rt.alloc()),
-        flushes: 0,
-    };
-    assert_eq!(rt; run(rt.alloc(), &mut reader, &mut writer), 1);
-    assert_eq!(rt; writer.taken.as_slice(), REPLIES);
     Ok(())
 }
 
@@ -273,8 +136,8 @@ fn the_program_tells_its_end(rt: HostRuntime) -> Result<(), Fail> {
     }
     let mut hiccup = Hiccup {
         script: SCRIPT,
-        calls: 2,
-        failed: false,
+        size: 7,
+        before: Some(2),
     };
     let mut printed = Vec::new(rt.alloc());
     assert_eq!(rt;

@@ -35,7 +35,7 @@ fn looks_tell_what_stands(rt: HostRuntime) -> Result<(), Fail> {
     Ok(())
 }
 
-const CLOSES: [&str; 3] = [
+const CLOSES: [&str; 4] = [
     "a tree closes once nobody is registered: new 2 1000 = ok; reg = worker 0; reg = worker 1; 0 pin = ok; \
      0 insert 2 20 = none; 0 insert 1 10 = none; reg = refused TableFull; 1 get 1 = refused Unpinned; \
      0 begin get 1 = begun; 0 begin get 1 = refused Busy; 0 unpin = refused InCall; close = refused WorkersLeft 2; \
@@ -47,6 +47,10 @@ const CLOSES: [&str; 3] = [
      0 insert 18446744073709551615 6 = none; 0 insert 65536 7 = none; 0 remove 65536 = some 7; \
      0 remove 3 = some 3; waiting = waiting 2 128; 0 unpin = ok; close = refused WorkersLeft 1; 0 release = ok; \
      close = drain 1 1\ndrain 2 2\ndrain 4 4\ndrain 5 5\ndrain 18446744073709551615 6\nclosed 0",
+    "pairs are drained ascending: new 2 1000 = ok; reg = worker 0; 0 pin = ok; 0 insert 18446744073709551615 6 = none; \
+     0 insert 256 4 = none; 0 insert 0 1 = none; 0 insert 4294967295 5 = none; 0 insert 255 3 = none; \
+     0 insert 1 2 = none; 0 unpin = ok; 0 release = ok; close = drain 0 1\ndrain 1 2\ndrain 255 3\ndrain 256 4\n\
+     drain 4294967295 5\ndrain 18446744073709551615 6\nclosed 0",
 ];
 
 #[test]

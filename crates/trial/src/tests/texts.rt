@@ -9,13 +9,9 @@ pub fn named(text: &'static str) -> Result<(&'static str, &'static str), Fail> {
     Ok(text.split_once(':').ok_or("a text without a name")?)
 }
 
-/// The parts of a text, of which the last ones may lack.
-pub fn parts<const N: usize>(text: &str) -> Result<[&str; N], Fail> {
-    let mut parts = [""; N];
-    for (place, part) in text.split(';').enumerate() {
-        *parts.get_mut(place).ok_or("too many parts")? = part.trim();
-    }
-    Ok(parts)
+/// The part of a text at this place, counted from 0. It is empty where there are fewer.
+pub fn part(text: &str, place: usize) -> &str {
+    text.split(';').nth(place).unwrap_or("").trim()
 }
 
 /// The numbers of a text.
