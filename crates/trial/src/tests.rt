@@ -24,5 +24,4 @@ mod stats;
 mod surveys;
 mod texts;
 mod threads;
-mod users;
 mod worked;

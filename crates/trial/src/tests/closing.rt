@@ -9,6 +9,8 @@ type Words = Congee<u64, u64, DefaultAllocator, NoDrain>;
 
 type Numbers = U64Congee<u64, DefaultAllocator>;
 
+type Map = BTreeMap<u64, u64>;
+
 // Whether each pair is new in a tree.
 fn puts<D: Drop>(
     tree: &mut Congee<u64, u64, Limited, D>,
@@ -51,10 +53,7 @@ fn a_drainer_takes_ascending_pairs(rt: HostRuntime) -> Result<(), Fail> {
 fn number_range_is(tree: &Numbers, start: u64, end: u64, pairs: &[([u8; 8], u64)]) -> bool {
     let mut found = [([1u8; 8], 0u64); 8];
     let count = tree.range(start, end, &mut found);
-    match found.get(..count) {
-        Some(found) => found == pairs,
-        None => false,
-    }
+    found.get(..count) == Some(pairs)
 }
 
 fn gives_bytes(tree: &mut Numbers) -> Result<bool, Fail> {
@@ -73,8 +72,7 @@ fn a_number_range_gives_bytes(rt: HostRuntime) -> Result<(), Fail> {
     let mut tree: Numbers = U64Congee::new(rt.alloc(), DefaultAllocator::new())?;
     let given = gives_bytes(&mut tree);
     let allocator = tree.close();
-    assert!(rt; allocator.charged() == 0);
-    assert!(rt; given?);
+    assert!(rt; given? && allocator.charged() == 0);
     Ok(())
 }
 
@@ -132,12 +130,7 @@ const SCATTERED: [Part; 3] = [
 ];
 
 // Whether the tree and the map answer a call alike; a key is inserted with itself.
-fn agrees(
-    tree: &mut Words,
-    map: &mut BTreeMap<u64, u64>,
-    call: Call,
-    key: u64,
-) -> Result<bool, Fail> {
+fn agrees(tree: &mut Words, map: &mut Map, call: Call, key: u64) -> Result<bool, Fail> {
     Ok(match call {
         Call::Insert => tree.insert(key, key)? == map.insert(key, key)?,
         Call::Get => tree.get(&key) == map.get(&key).copied(),
@@ -145,7 +138,7 @@ fn agrees(
     })
 }
 
-fn part_agrees(tree: &mut Words, map: &mut BTreeMap<u64, u64>, part: &Part) -> Result<bool, Fail> {
+fn part_agrees(tree: &mut Words, map: &mut Map, part: &Part) -> Result<bool, Fail> {
     let Part(call, order, start, end) = part;
     for turn in *start..*end {
         if !agrees(tree, map, *call, order.key(turn))? {
@@ -158,7 +151,7 @@ fn part_agrees(tree: &mut Words, map: &mut BTreeMap<u64, u64>, part: &Part) -> R
 // Whether an empty tree answers as a map.
 fn all_agree(alloc: Global, parts: &[Part]) -> Result<bool, Fail> {
     let mut tree: Words = Congee::new(alloc, DefaultAllocator::new())?;
-    let mut map = BTreeMap::new(alloc);
+    let mut map = Map::new(alloc);
     for part in parts {
         if !part_agrees(&mut tree, &mut map, part)? {
             return Ok(false);

@@ -24,20 +24,19 @@ fn ample(participants: u32) -> Limits {
 
 #[test]
 fn limits_have_bounds(rt: HostRuntime) {
-    // Participants, cells, the greatest epoch, and the expiry.
-    let rows = [
-        (2, 1000, 1 << 62, 2, true),
-        (0, 1000, 1 << 62, 2, false),
-        (257, 1000, 1 << 62, 2, false),
-        (2, 0, 1 << 62, 2, false),
-        (2, 16_777_216, 1 << 62, 2, false),
-        (2, 1000, 2, 2, false),
-        (2, 1000, (1 << 62) + 1, 2, false),
-        (2, 1000, 1 << 62, 0, false),
-        (2, 1000, 1 << 62, 3, false),
-        (256, 16_777_215, 3, 1, true),
-    ];
-    for (participants, cells, epoch_max, expiry, expected) in rows {
+    for (limits, expected) in [
+        ((256, 16_777_215, 1 << 62, 2), true),
+        ((1, 1, 3, 1), true),
+        ((0, 1, 3, 1), false),
+        ((257, 1, 3, 1), false),
+        ((1, 0, 3, 1), false),
+        ((1, 16_777_216, 3, 1), false),
+        ((1, 1, 2, 1), false),
+        ((1, 1, (1 << 62) + 1, 1), false),
+        ((1, 1, 3, 0), false),
+        ((1, 1, 3, 3), false),
+    ] {
+        let (participants, cells, epoch_max, expiry) = limits;
         let limits = Limits {
             participants,
             cells,
@@ -83,36 +82,35 @@ type Jobs = World<Plain, ()>;
 /// told by its number, a placed value by its cell and turn, and a pointer to it by its tag behind these; `null` has a tag alone.
 const WORKED: [&str; 9] = [
     // Participant 1 pins at an older epoch than the seal of a job of participant 0.
-    "a blocked job waits: 2 1000 9 2; register = Ok(0); register = Ok(1); pin 0 = Done; unpin 0 = Done; pin 1 = Done; \
-     unpin 1 = Done; pin 1 = Done; pin 0 = Done; defer 0 1 = Ok(()); flush 0 = Done; epoch = 3; waiting = 1",
-    "an expiry of one is too little: 2 1000 9 1; register = Ok(0); register = Ok(1); pin 0 = Done; unpin 0 = Done; \
-     pin 1 = Done; unpin 1 = Done; pin 1 = Done; pin 0 = Done; defer 0 1 = Ok(()); flush 0 = Done; epoch = 3; waiting = 0",
+    "a blocked job waits: 2 1000 9 2; register = Ok(0); register = Ok(1); pin 0 = Done; unpin 0 = Done; pin 1 = Done; unpin 1 = Done; \
+     pin 1 = Done; pin 0 = Done; defer 0 1 = Ok(()); flush 0 = Done; epoch = 3; waiting = 1",
+    "an expiry of one is too little: 2 1000 9 1; register = Ok(0); register = Ok(1); pin 0 = Done; unpin 0 = Done; pin 1 = Done; \
+     unpin 1 = Done; pin 1 = Done; pin 0 = Done; defer 0 1 = Ok(()); flush 0 = Done; epoch = 3; waiting = 0",
     // It has 64 jobs; the 65th queues it.
     "a full bag is queued: 1 1000 9 2; register = Ok(0); pin 0 = Done; defer 0 65 = Ok(()); unpin 0 = Done; waiting = 65; \
      rounds 0 1 = Done; waiting = 65; rounds 0 1 = Done; waiting = 0",
     // 2,177 jobs are 35 bags.
-    "a collection takes eight bags: 1 1000 9 2; register = Ok(0); pin 0 = Done; defer 0 2177 = Ok(()); unpin 0 = Done; \
-     waiting = 2177; rounds 0 1 = Done; waiting = 2177; rounds 0 1 = Done; waiting = 1665; rounds 0 1 = Done; \
-     waiting = 1153; rounds 0 1 = Done; waiting = 641; rounds 0 1 = Done; waiting = 129; rounds 0 1 = Done; waiting = 0",
+    "a collection takes eight bags: 1 1000 9 2; register = Ok(0); pin 0 = Done; defer 0 2177 = Ok(()); unpin 0 = Done; waiting = 2177; \
+     rounds 0 1 = Done; waiting = 2177; rounds 0 1 = Done; waiting = 1665; rounds 0 1 = Done; waiting = 1153; rounds 0 1 = Done; \
+     waiting = 641; rounds 0 1 = Done; waiting = 129; rounds 0 1 = Done; waiting = 0",
     // A flush by its name seals the bag and collects; a repin by its name follows the epoch.
-    "whole calls by their names: 1 1000 9 2; register = Ok(0); World::flush 0 = Refused(Unpinned); \
-     World::repin 0 = Refused(Unpinned); defer_unchecked 0 = Err((Unpinned, ())); has_place 0 = true; has_place 1 = false; \
-     pin 0 = Done; epoch = 1; World::repin 0 = Done; defer_unchecked 0 = Ok(0); defer 0 63 = Ok(()); has_place 0 = false; \
-     World::flush 0 = Done; has_place 0 = true; epoch = 2; waiting = 64; World::repin 0 = Done; World::flush 0 = Done; \
-     epoch = 3; waiting = 0",
+    "whole calls by their names: 1 1000 9 2; register = Ok(0); World::flush 0 = Refused(Unpinned); World::repin 0 = Refused(Unpinned); \
+     defer_unchecked 0 = Err((Unpinned, ())); has_place 0 = true; has_place 1 = false; pin 0 = Done; epoch = 1; World::repin 0 = Done; \
+     defer_unchecked 0 = Ok(0); defer 0 63 = Ok(()); has_place 0 = false; World::flush 0 = Done; has_place 0 = true; epoch = 2; \
+     waiting = 64; World::repin 0 = Done; World::flush 0 = Done; epoch = 3; waiting = 0",
     // The cell has two turns.
     "cells are used again under the next turn: 1 1 1 2; register = Ok(0); place 1 = Ok(Name { cell: 0, turn: 0 }); \
      place 2 = Err((CellsFull, Plain(2))); replace 0 0 3 = Ok(Plain(1)); read 0 0 = Some(Plain(3)); store 0 0 1 = Ok(()); \
-     load 0 = Ok(Ptr { name: Some(Name { cell: 0, turn: 0 }), tag: 1 }); load 1 = Err(Unknown); store_null 0 = Ok(()); \
-     pin 0 = Done; destroy 0 0 0 = Ok(0); unpin 0 = Done; rounds 0 3 = Done; waiting = 0; read 0 0 = None; \
-     place 4 = Ok(Name { cell: 0, turn: 1 }); give_back 0 1 = Ok(Plain(4)); place 5 = Err((CellsFull, Plain(5)))",
-    "a participant that leaves queues its bag: 2 1000 9 2; register = Ok(0); register = Ok(1); register = Err(TableFull); \
-     pin 0 = Done; defer 0 1 = Ok(()); release 0 = Refused(GuardOut); unpin 0 = Done; release 0 = Done; waiting = 1; \
-     rounds 1 3 = Done; waiting = 0; register = Ok(0)",
+     load 0 = Ok(Ptr { name: Some(Name { cell: 0, turn: 0 }), tag: 1 }); load 1 = Err(Unknown); store_null 0 = Ok(()); pin 0 = Done; \
+     destroy 0 0 0 = Ok(0); unpin 0 = Done; rounds 0 3 = Done; waiting = 0; read 0 0 = None; place 4 = Ok(Name { cell: 0, turn: 1 }); \
+     give_back 0 1 = Ok(Plain(4)); place 5 = Err((CellsFull, Plain(5)))",
+    "a participant that leaves queues its bag: 2 1000 9 2; register = Ok(0); register = Ok(1); register = Err(TableFull); pin 0 = Done; \
+     defer 0 1 = Ok(()); release 0 = Refused(GuardOut); unpin 0 = Done; release 0 = Done; waiting = 1; rounds 1 3 = Done; waiting = 0; \
+     register = Ok(0)",
     // The tag is 5 modulo 4.
     "an exchange of a root looks at the tag: 1 1000 9 2; place 7 = Ok(Name { cell: 0, turn: 0 }); \
-     swap 0 0 5 = Ok(Ptr { name: None, tag: 0 }); empty 0 0 0 = Ok(Err(OtherPointer { current: Ptr { name: \
-     Some(Name { cell: 0, turn: 0 }), tag: 1 }, new: Ptr { name: None, tag: 0 } })); \
+     swap 0 0 5 = Ok(Ptr { name: None, tag: 0 }); \
+     empty 0 0 0 = Ok(Err(OtherPointer { current: Ptr { name: Some(Name { cell: 0, turn: 0 }), tag: 1 }, new: Ptr { name: None, tag: 0 } })); \
      empty 0 0 1 = Ok(Ok(Ptr { name: None, tag: 0 })); load 0 = Ok(Ptr { name: None, tag: 0 })",
     "bits of a tag are changed: 1 1000 9 2; store_null 3 = Ok(()); fetch_and 1 = Ok(Ptr { name: None, tag: 3 }); \
      fetch_xor 3 = Ok(Ptr { name: None, tag: 1 }); load 0 = Ok(Ptr { name: None, tag: 2 }); store_null 1 = Ok(()); \
@@ -133,11 +131,8 @@ fn the_collector_answers_as_worked_out(rt: HostRuntime) -> Result<(), Fail> {
             ..ample(u32::try_from(participants)?)
         };
         let mut world: Jobs = World::new(rt.alloc(), limits, 1)?;
-        assert_eq!(rt;
-            wrong_turn(rt.alloc(), &mut world, dialogue)?,
-            None,
-            "{name}"
-        );
+        let wrong = wrong_turn(rt.alloc(), &mut world, dialogue)?;
+        assert_eq!(rt; wrong, None, "{name}");
     }
     Ok(())
 }
@@ -296,10 +291,8 @@ fn a_run_takes_every_step(rt: HostRuntime) -> Result<(), Fail> {
             6 => Outcome::Done,
             _ => Outcome::Refused(Fault::Idle),
         };
-        assert!(rt;
-            report.outcome == expected && report.called.is_none(),
-            "at {number}"
-        );
+        assert_eq!(rt; report.outcome, expected, "at {number}");
+        assert!(rt; report.called.is_none(), "at {number}");
     }
     assert!(rt; world.epoch() == 1 && world.is_pinned(0));
     Ok(())

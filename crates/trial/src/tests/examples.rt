@@ -3,6 +3,9 @@
 use super::face::limits;
 use super::machine::{beginning, going, noise};
 use crate::examples::machine::{runs_and_closes, runs_as_one_map};
+use crate::examples::owned::{
+    finds_what_it_puts, finds_what_it_puts_in_numbers, opens_and_closes, opens_and_closes_numbers,
+};
 use crate::examples::stack::{Node, Stack, pops, sum_of_two};
 use congee::{Allocator, Limited};
 use crossbeam_epoch::Collector;
@@ -93,5 +96,17 @@ fn an_index_that_is_closed_leaves_the_charge(rt: HostRuntime) -> Result<(), Fail
     assert_eq!(rt; (allocator.charged(), allocator.limit()), (500, 10_000));
     let refused = runs_and_closes(rt.alloc(), allocator, schedule(rt.alloc())?);
     assert_eq!(rt; refused.err(), Some(Refusal::WorkersLeft(2)));
+    Ok(())
+}
+
+#[test]
+fn owned_trees_keep_their_contracts(rt: HostRuntime) -> Result<(), Fail> {
+    let budget = opens_and_closes(rt.alloc(), 5000)?;
+    assert!(rt; budget.charged == 0 && budget.limit == 5000);
+    let budget = opens_and_closes_numbers(rt.alloc(), 6000)?;
+    assert!(rt; budget.charged == 0 && budget.limit == 6000);
+    assert!(rt; opens_and_closes(rt.alloc(), 2103).is_err());
+    assert!(rt; finds_what_it_puts(rt.alloc(), 256, 7)? == Some(7));
+    assert!(rt; finds_what_it_puts_in_numbers(rt.alloc(), 0, 9)? == Some(9));
     Ok(())
 }

@@ -326,11 +326,7 @@ impl<'a, R: Wait> Under<'a, '_, R> {
 
     /// Whether a weak exchange writes, the older calls exchange back, and once more.
     fn sets(self, root: &Atomic<Item>, null: Link, held: Link) -> bool {
-        let Under {
-            rt,
-            alloc: _,
-            guard,
-        } = self;
+        let (rt, guard) = (self.rt, self.guard);
         let weak = root.compare_exchange_weak(rt, Shared::of(null), held, SeqCst, SeqCst, guard);
         let weak = is_written(weak);
         let back = is_written(root.compare_and_set(rt, Shared::of(held), null, SeqCst, guard));
@@ -341,11 +337,7 @@ impl<'a, R: Wait> Under<'a, '_, R> {
 
     /// Whether the tag calls give the tag before, and leave what they should.
     fn masks(self) -> bool {
-        let Under {
-            rt,
-            alloc: _,
-            guard,
-        } = self;
+        let (rt, guard) = (self.rt, self.guard);
         let null: Shared<'_, Item> = Shared::null();
         let root = Atomic::from_shared(null.with_tag(1));
         let before = root.fetch_or(rt, 2, SeqCst, guard).tag();
@@ -432,11 +424,7 @@ impl<'a, R: Wait> Under<'a, '_, R> {
 
     /// Whether a pointer under a guard is stored and exchanged, and its value taken out.
     fn writes_pointers(self, link: Link) -> Result<bool, Fault> {
-        let Under {
-            rt,
-            alloc: _,
-            guard,
-        } = self;
+        let (rt, guard) = (self.rt, self.guard);
         let root: Atomic<Item> = Atomic::default();
         let null: Shared<'a, Item> = Shared::default();
         let stored = root.store(rt, null.with_tag(3), SeqCst, guard).is_ok();
@@ -492,11 +480,7 @@ impl<'a, R: Wait> Under<'a, '_, R> {
 
     /// Whether an update that sets the tag 2 gives the pointer before.
     fn updates(self, root: &Atomic<Item>) -> bool {
-        let Under {
-            rt,
-            alloc: _,
-            guard,
-        } = self;
+        let (rt, guard) = (self.rt, self.guard);
         match root.fetch_update(
             rt,
             SeqCst,
@@ -539,11 +523,7 @@ impl<'a, R: Wait> Under<'a, '_, R> {
 
     /// Whether an update for which the closure gives this pointer writes nothing.
     fn writes_nothing_of(self, root: &Atomic<Item>, link: Link) -> bool {
-        let Under {
-            rt,
-            alloc: _,
-            guard,
-        } = self;
+        let (rt, guard) = (self.rt, self.guard);
         let given = root.fetch_update(rt, SeqCst, SeqCst, guard, |_pointer| Some(Shared::of(link)));
         given.is_err() && root.load(rt, SeqCst, guard).is_null()
     }
@@ -562,11 +542,7 @@ impl<'a, R: Wait> Under<'a, '_, R> {
 
     /// Whether two values that are boxed and placed are read and taken out again.
     fn makes(self) -> Result<bool, Fault> {
-        let Under {
-            rt,
-            alloc: _,
-            guard,
-        } = self;
+        let (rt, guard) = (self.rt, self.guard);
         let one = made(Atomic::new(rt, self.alloc, Item(1), guard))?;
         let two = made(Atomic::init(rt, self.alloc, Item(2), guard))?;
         let read = self.number_there(one.load(rt, SeqCst, guard).link());
@@ -578,15 +554,11 @@ impl<'a, R: Wait> Under<'a, '_, R> {
 
 #[test]
 fn handles_refuse(rt: HostRuntime) -> Result<(), Fail> {
-    let two_places = Limits {
-        participants: 2,
-        ..limits(1)
-    };
-    let outside = Limits {
-        expiry: 1,
-        ..two_places
-    };
-    let refused: Result<Collector<Item>, Fault> = Collector::new(&rt, rt.alloc(), outside, 1);
+    let mut limits = limits(1);
+    limits.participants = 2;
+    let two_places = limits;
+    limits.expiry = 1;
+    let refused: Result<Collector<Item>, Fault> = Collector::new(&rt, rt.alloc(), limits, 1);
     assert_eq!(rt; refused.err(), Some(Fault::Limits));
     let items: Collector<Item> = Collector::new(&rt, rt.alloc(), two_places, 1)?;
     assert!(rt; two_handles_refuse(&rt, &items)?);
@@ -698,16 +670,11 @@ pub fn seals(rt: &impl Wait, handle: &mut Handle<'_>, job: Job) -> Result<(), Fa
 fn a_handle_keeps_its_collector(rt: HostRuntime) -> Result<(), Fail> {
     let items: Collector<Item> = Collector::new(&rt, rt.alloc(), limits(1), 2)?;
     drop(items.register(&rt)?);
-    assert_eq!(rt; refused_end(items), Some((Fault::Registered(1), 2)));
+    let Err((fault, back)) = items.end() else {
+        panic!(rt; "a handle is registered");
+    };
+    assert_eq!(rt; (fault, back.id()), (Fault::Registered(1), 2));
     Ok(())
-}
-
-/// Why a collector didn't end, and its number.
-fn refused_end(items: Collector<Item>) -> Option<(Fault, u64)> {
-    match items.end() {
-        Ok(()) => None,
-        Err((fault, back)) => Some((fault, back.id())),
-    }
 }
 
 #[test]

@@ -2,8 +2,8 @@
 //! one map does, and the nodes that stand are charged.
 
 use super::machine::{
-    AMPLE, END, Index, Opening, answer_of, are_rounds_done, begin, call, go, go_with, is_done,
-    is_in_flight, noise, op_of, open_with_workers,
+    END, Index, answer_of, are_rounds_done, begin, call, go, go_with, is_done, is_in_flight, noise,
+    op_of, open,
 };
 use super::texts::{call_of, named, pairs, part};
 use congee::Noise;
@@ -12,13 +12,7 @@ use judge::{Call, Entry, Reply, Verdict, check};
 use std::alloc::Global;
 use std::test::Fail;
 
-/// Two workers for the calls, and one that collects.
-pub const OPENING: Opening = Opening {
-    workers: 3,
-    cells: 12,
-    ..AMPLE
-};
-
+/// Two workers have calls, and this one collects.
 const COLLECTOR: u32 = 2;
 
 /// More steps than one of these calls takes that begins anew once.
@@ -159,9 +153,9 @@ fn go_on(index: &mut Index, flight: &mut Flight, other: &Flight, turn: u32) {
     }
 }
 
-/// An index with these pairs, whose first two workers are pinned.
-pub fn prepared(alloc: Global, opening: &Opening, pairs: &[(u64, u64)]) -> Result<Index, Refusal> {
-    let mut index = open_with_workers(alloc, opening)?;
+/// An index of twelve nodes with these pairs and three workers, of whom the first two are pinned.
+pub fn prepared(alloc: Global, pairs: &[(u64, u64)]) -> Result<Index, Refusal> {
+    let mut index = open(alloc, 3, 12)?;
     is_done(&mut index, 0, Op::Pin);
     is_done(&mut index, 1, Op::Pin);
     for (key, value) in pairs {
@@ -273,19 +267,14 @@ pub fn end_right(
 
 /// Whether the calls of a case, with these turns, answer and are charged as one map.
 fn is_right(alloc: Global, case: &Case, turns: u64, count: u32) -> Result<bool, Fail> {
-    let mut index = prepared(alloc, &OPENING, &case.pairs)?;
+    let mut index = prepared(alloc, &case.pairs)?;
     let (first, second) = fly(&mut index, case, turns, count);
     end_right(alloc, &mut index, case, &first, &second)
 }
 
 /// How many steps a call takes after its begin, and after securing, where no other one is there.
-pub fn length(
-    alloc: Global,
-    opening: &Opening,
-    pairs: &[(u64, u64)],
-    call: Call<u64>,
-) -> Result<u32, Refusal> {
-    let mut index = prepared(alloc, opening, pairs)?;
+pub fn length(alloc: Global, pairs: &[(u64, u64)], call: Call<u64>) -> Result<u32, Refusal> {
+    let mut index = prepared(alloc, pairs)?;
     let mut flight = begun(&mut index, 0, call);
     let mut steps = 0u32;
     for _ in 0..END {
@@ -300,8 +289,8 @@ pub fn length(
 /// How many orders of all steps of both calls were tried, if each was right.
 fn tried(alloc: Global, text: &str) -> Result<Option<u32>, Fail> {
     let case = case_of(alloc, text)?;
-    let second = length(alloc, &OPENING, &case.pairs, case.pair.1)?;
-    let count = length(alloc, &OPENING, &case.pairs, case.pair.0)?.saturating_add(second);
+    let second = length(alloc, &case.pairs, case.pair.1)?;
+    let count = length(alloc, &case.pairs, case.pair.0)?.saturating_add(second);
     let mut tried = 0u32;
     for turns in 0..1u64.wrapping_shl(count) {
         if turns.count_ones() == second {
@@ -316,8 +305,8 @@ fn tried(alloc: Global, text: &str) -> Result<Option<u32>, Fail> {
 
 /// Whether each order is right in which one call is cut in two and the other one in two or three.
 fn are_right(alloc: Global, case: &Case) -> Result<bool, Fail> {
-    let first = length(alloc, &OPENING, &case.pairs, case.pair.0)?;
-    let second = length(alloc, &OPENING, &case.pairs, case.pair.1)?;
+    let first = length(alloc, &case.pairs, case.pair.0)?;
+    let second = length(alloc, &case.pairs, case.pair.1)?;
     for start in 0..=first {
         for middle in 0..=second {
             let turns = 1u64

@@ -2,12 +2,10 @@
 //! answers that nobody asked for.
 
 use super::interleavings::{
-    Case, Flight, INSERTIONS, LOOKS, OPENING, REMOVALS, advance, advance_with, begun, case_of,
-    end_right, prepared,
+    Case, Flight, INSERTIONS, LOOKS, REMOVALS, advance, advance_with, begun, case_of, end_right,
+    prepared,
 };
-use super::machine::{
-    AMPLE, END, Index, answer_of, begin, call, go, go_on, is_done, open_with_workers, replied,
-};
+use super::machine::{END, Index, answer_of, begin, call, go, go_on, is_done, open, replied};
 use super::texts::named;
 use congee::{Child, Noise, Seen};
 use crossbeam_epoch::Name;
@@ -92,7 +90,7 @@ fn fly(index: &mut Index, case: &Case, cut: u32, lie: Lie) -> (Flight, Flight) {
 fn are_right(alloc: Global, case: &Case) -> Result<bool, Fail> {
     for cut in 0..CUTS {
         for lie in LIES {
-            let mut index = prepared(alloc, &OPENING, &case.pairs)?;
+            let mut index = prepared(alloc, &case.pairs)?;
             let (first, second) = fly(&mut index, case, cut, lie);
             if !end_right(alloc, &mut index, case, &first, &second)? {
                 return Ok(false);
@@ -127,7 +125,7 @@ fn calls_that_are_lied_to_answer_as_one_map(rt: HostRuntime) -> Result<(), Fail>
 
 #[test]
 fn a_value_is_asked_for_until_there_is_one(rt: HostRuntime) -> Result<(), Fail> {
-    let mut index = open_with_workers(rt.alloc(), &AMPLE)?;
+    let mut index = open(rt.alloc(), 2, 1_000)?;
     assert!(rt; is_done(&mut index, 0, Op::Pin));
     let mut outcome = begin(&mut index, 0, Op::ComputeInsert(5)).outcome;
     for _ in 0..END {
@@ -138,13 +136,9 @@ fn a_value_is_asked_for_until_there_is_one(rt: HostRuntime) -> Result<(), Fail> 
     assert_eq!(rt; outcome, Outcome::Asks(None));
     assert_eq!(rt; go(&mut index, 0, Some(None)).outcome, Outcome::Asks(None));
     assert_eq!(rt; go(&mut index, 0, None).outcome, Outcome::Asks(None));
-    assert_eq!(rt;
-        go_on(&mut index, 0, Some(Some(6)), END, Outcome::Asks(None)),
-        replied(Reply::ComputeInsert(None))
-    );
-    assert_eq!(rt;
-        call(&mut index, 0, Call::Get(5)),
-        replied(Reply::Get(Some(6)))
-    );
+    let end = go_on(&mut index, 0, Some(Some(6)), END, Outcome::Asks(None));
+    assert_eq!(rt; end, replied(Reply::ComputeInsert(None)));
+    let found = call(&mut index, 0, Call::Get(5));
+    assert_eq!(rt; found, replied(Reply::Get(Some(6))));
     Ok(())
 }

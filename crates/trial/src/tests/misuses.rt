@@ -9,19 +9,17 @@ use std::test::Fail;
 
 /// Two workers, 1 to 4 in a full leaf, 2^56 in one of its own, and a node that waits in the bag of worker 0, which is pinned.
 const PREPARED: &str =
-    "new 2 1000 = ok; reg = worker 0; reg = worker 1; 0 pin = ok; 0 insert 1 1 = none; \
-    0 insert 2 2 = none; 0 insert 3 3 = none; 0 insert 4 4 = none; 0 insert 72057594037927936 7 = none; \
-    0 insert 281474976710656 7 = none; 0 remove 281474976710656 = some 7";
+    "new 2 1000 = ok; reg = worker 0; reg = worker 1; 0 pin = ok; 0 insert 1 1 = none; 0 insert 2 2 = none; 0 insert 3 3 = none; \
+    0 insert 4 4 = none; 0 insert 72057594037927936 7 = none; 0 insert 281474976710656 7 = none; 0 remove 281474976710656 = some 7";
 
 /// What is refused while worker 0 is in mid-call, worker 1 has no pin and no call, and nobody else is registered.
-const MISUSES: &str = "; reg = refused TableFull; 0 pin = refused Busy; 0 get 1 = refused Busy; \
-    0 insert 1 2 = refused Busy; 0 remove 1 = refused Busy; 0 present 1 drop = refused Busy; \
-    0 orinsert 1 2 = refused Busy; 0 cas 1 1 2 = refused Busy; 0 round 2 = refused Busy; \
-    0 begin get 1 = refused Busy; 0 begin unpin = refused InCall; 0 unpin = refused InCall; \
-    0 repin = refused InCall; 0 flush = refused InCall; 0 release = refused InCall; 1 go 1 = refused Idle; \
-    1 fail = refused Idle; 1 get 1 = refused Unpinned; 1 insert 1 2 = refused Unpinned; \
-    1 remove 1 = refused Unpinned; 1 unpin = refused Unpinned; 1 repin = refused Unpinned; \
-    1 flush = refused Unpinned; 1 begin get 1 = refused Unpinned; 2 go 1 = refused Unknown; \
+const MISUSES: &str =
+    "; reg = refused TableFull; 0 pin = refused Busy; 0 get 1 = refused Busy; 0 insert 1 2 = refused Busy; \
+    0 remove 1 = refused Busy; 0 present 1 drop = refused Busy; 0 orinsert 1 2 = refused Busy; 0 cas 1 1 2 = refused Busy; \
+    0 round 2 = refused Busy; 0 begin get 1 = refused Busy; 0 begin unpin = refused InCall; 0 unpin = refused InCall; \
+    0 repin = refused InCall; 0 flush = refused InCall; 0 release = refused InCall; 1 go 1 = refused Idle; 1 fail = refused Idle; \
+    1 get 1 = refused Unpinned; 1 insert 1 2 = refused Unpinned; 1 remove 1 = refused Unpinned; 1 unpin = refused Unpinned; \
+    1 repin = refused Unpinned; 1 flush = refused Unpinned; 1 begin get 1 = refused Unpinned; 2 go 1 = refused Unknown; \
     2 fail = refused Unknown; 2 pin = refused Unknown; 2 get 1 = refused Unknown; 2 release = refused Unknown; \
     4294967295 insert 1 2 = refused Unknown; new 1 9 = refused Open";
 
@@ -44,16 +42,12 @@ const POINT_CALLS: [Interrupted; 10] = [
     Interrupted("cas 1 1 drop", 13, "ok none"),
 ];
 
-/// Calls on the collector, pinned.
-const PINNED_CALLS: [Interrupted; 2] = [
-    Interrupted("repin", 2, "ok"),
-    Interrupted("flush", 5, "ok"),
-];
-
-/// And unpinned.
-const UNPINNED_CALLS: [Interrupted; 2] = [
-    Interrupted("pin", 2, "ok"),
-    Interrupted("release", 2, "ok"),
+/// Calls on the collector, pinned, and those of a worker that was unpinned first.
+const COLLECTOR_CALLS: [(&str, Interrupted); 4] = [
+    ("", Interrupted("repin", 2, "ok")),
+    ("", Interrupted("flush", 5, "ok")),
+    ("; 0 unpin = ok", Interrupted("pin", 2, "ok")),
+    ("; 0 unpin = ok", Interrupted("release", 2, "ok")),
 ];
 
 /// Whether a call goes on after misuses between any two of its steps, as if there were none. `between` is what comes before
@@ -83,11 +77,8 @@ fn a_call_on_a_key_goes_on_after_each_misuse(rt: HostRuntime) -> Result<(), Fail
 
 #[test]
 fn a_call_on_the_collector_goes_on_after_each_misuse(rt: HostRuntime) -> Result<(), Fail> {
-    for call in &PINNED_CALLS {
-        assert!(rt; goes_on(rt.alloc(), "", call)?, "{}", call.0);
-    }
-    for call in &UNPINNED_CALLS {
-        assert!(rt; goes_on(rt.alloc(), "; 0 unpin = ok", call)?, "{}", call.0);
+    for (between, call) in &COLLECTOR_CALLS {
+        assert!(rt; goes_on(rt.alloc(), *between, call)?, "{}", call.0);
     }
     Ok(())
 }
@@ -103,20 +94,19 @@ fn guards_are_counted_to_their_greatest(rt: HostRuntime) -> Result<(), Fail> {
         &first,
         GUARDS,
         "; 1 pin = ok",
-        "; 1 pin = refused Count; 1 begin pin = refused Count; 1 begin get 1 = begun; 1 pin = refused Busy; \
-         1 go 200 = some 1; 1 unpin = ok; 1 pin = ok; 1 pin = refused Count; 0 go 200 = none; \
-         0 begin release = refused GuardOut; 0 get 1 = some 1",
+        "; 1 pin = refused Count; 1 begin pin = refused Count; 1 begin get 1 = begun; 1 pin = refused Busy; 1 go 200 = some 1; \
+         1 unpin = ok; 1 pin = ok; 1 pin = refused Count; 0 go 200 = none; 0 begin release = refused GuardOut; 0 get 1 = some 1",
     )?;
     assert!(rt; goes(rt.alloc(), &dialogue)?);
     Ok(())
 }
 
 /// What a script may say of limits: the least and the greatest, and those out of their ranges.
-const LIMITS: &str = "new 1 1 limit 2104 version 1 = ok; close = closed 0; \
-    new 256 9 limit 2104 version 1152921504606846975 = ok; close = closed 0; new 0 1 = refused Limits; \
-    new 257 1 = refused Limits; new 1 0 = refused Limits; new 1 16777216 = refused Limits; \
-    new 1 1 version 0 = refused Limits; new 1 1 version 1152921504606846976 = refused Limits; \
-    new 0 1 limit 0 = refused Limits; new 1 1 limit 2103 = refused Budget 0 2104 2103";
+const LIMITS: &str =
+    "new 1 1 limit 2104 version 1 = ok; close = closed 0; new 256 9 limit 2104 version 1152921504606846975 = ok; \
+    close = closed 0; new 0 1 = refused Limits; new 257 1 = refused Limits; new 1 0 = refused Limits; new 1 16777216 = refused Limits; \
+    new 1 1 version 0 = refused Limits; new 1 1 version 1152921504606846976 = refused Limits; new 0 1 limit 0 = refused Limits; \
+    new 1 1 limit 2103 = refused Budget 0 2104 2103";
 
 /// Why no index is opened with this greatest epoch and expiry, if there is none.
 fn refusal_of(alloc: Global, epoch_max: u64, expiry: u64) -> Option<Refusal> {

@@ -8,48 +8,43 @@ use std::test::Fail;
 
 /// What is asked of a tree of ample memory.
 const AMPLE: [&str; 12] = [
-    "a value comes, changes and goes: insert 1 42 = Ok(None); get 1 = Some(42); insert 1 43 = Ok(Some(42)); \
-     remove 1 = Some(43); get 1 = None; charged = 2104",
+    "a value comes, changes and goes: insert 1 42 = Ok(None); get 1 = Some(42); insert 1 43 = Ok(Some(42)); remove 1 = Some(43); \
+     get 1 = None; charged = 2104",
     "a leaf grows through every form: fill 1 50 = true; charged = 4208; get 49 = Some(49)",
-    "an emptied inner node stays: insert 1 1 = Ok(None); insert 256 2 = Ok(None); charged = 2296; remove 1 = Some(1); \
-     empty = false; remove 256 = Some(2); empty = true; keys = []; charged = 2168",
-    "closures answer: insert 1 42 = Ok(None); next_or 1 0 = Ok(Some(42)); next_or 2 2 = Ok(None); get 1 = Some(43); \
-     get 2 = Some(2); next 1 = Some((43, Some(44))); next 3 = None; drop 1 = Some((44, None)); get 1 = None",
+    "an emptied inner node stays: insert 1 1 = Ok(None); insert 256 2 = Ok(None); charged = 2296; remove 1 = Some(1); empty = false; \
+     remove 256 = Some(2); empty = true; keys = []; charged = 2168",
+    "closures answer: insert 1 42 = Ok(None); next_or 1 0 = Ok(Some(42)); next_or 2 2 = Ok(None); get 1 = Some(43); get 2 = Some(2); \
+     next 1 = Some((43, Some(44))); next 3 = None; drop 1 = Some((44, None)); get 1 = None",
     "values are exchanged: insert 1 42 = Ok(None); exchange 1 42 43 = Ok(Some(43)); insert 1 41 = Ok(Some(43)); \
-     exchange 1 42 43 = Err(Some(41)); exchange 2 42 43 = Err(None); insert 1 42 = Ok(Some(41)); \
-     exchange 1 42 = Ok(None); get 1 = None",
+     exchange 1 42 43 = Err(Some(41)); exchange 2 42 43 = Err(None); insert 1 42 = Ok(Some(41)); exchange 1 42 = Ok(None); get 1 = None",
     "a range ends before its end: insert 4294967295 1 = Ok(None); insert 4294967247 2 = Ok(None); \
-     range 4294967066 4294967319 20 = [(4294967247, 2), (4294967295, 1)]; \
-     range 4294967000 4294967253 20 = [(4294967247, 2)]; range 5 5 20 = []; \
-     insert 18446744073709551615 3 = Ok(None); range 18446744073709551614 18446744073709551615 20 = []",
+     range 4294967066 4294967319 20 = [(4294967247, 2), (4294967295, 1)]; range 4294967000 4294967253 20 = [(4294967247, 2)]; \
+     range 5 5 20 = []; insert 18446744073709551615 3 = Ok(None); range 18446744073709551614 18446744073709551615 20 = []",
     "a range ends with its places: insert 1 10 = Ok(None); insert 2 20 = Ok(None); insert 3 30 = Ok(None); \
      range 1 4 2 = [(1, 10), (2, 20)]; range 1 4 0 = []",
     "a range starts past other prefixes: insert 4294967179 7 = Ok(None); range 1895772415 1895772670 20 = []; \
      range 4294967179 4294967434 20 = [(4294967179, 7)]",
-    "keys come ascending: keys = []; insert 18446744073709551615 1 = Ok(None); insert 3 3 = Ok(None); \
-     insert 4294967295 2 = Ok(None); insert 0 0 = Ok(None); insert 256 256 = Ok(None); \
-     keys = [0, 3, 256, 4294967295, 18446744073709551615]",
+    "keys come ascending: keys = []; insert 18446744073709551615 1 = Ok(None); insert 3 3 = Ok(None); insert 4294967295 2 = Ok(None); \
+     insert 0 0 = Ok(None); insert 256 256 = Ok(None); keys = [0, 3, 256, 4294967295, 18446744073709551615]",
     "no pair has neighbours: ends = (None, None); beside 0 = (None, None); beside 7 = (None, None); \
      beside 18446744073709551615 = (None, None)",
     "neighbours are found: insert 256 2 = Ok(None); ends = (Some((256, 2)), Some((256, 2))); beside 256 = (None, None); \
-     beside 255 = (None, Some((256, 2))); beside 257 = (Some((256, 2)), None); insert 0 1 = Ok(None); \
-     insert 259 3 = Ok(None); insert 4294967296 4 = Ok(None); insert 18446744073709551615 5 = Ok(None); \
-     ends = (Some((0, 1)), Some((18446744073709551615, 5))); beside 0 = (None, Some((256, 2))); \
-     beside 1 = (Some((0, 1)), Some((256, 2))); beside 257 = (Some((256, 2)), Some((259, 3))); \
-     beside 4294967295 = (Some((259, 3)), Some((4294967296, 4))); \
-     beside 18446744073709551615 = (Some((4294967296, 4)), None); remove 18446744073709551615 = Some(5); \
-     ends = (Some((0, 1)), Some((4294967296, 4)))",
-    "cleared trees begin anew: clear = (); charged = 2104; fill 1 50 = true; insert 18446744073709551615 5 = Ok(None); \
-     clear = (); empty = true; keys = []; ends = (None, None); get 7 = None; charged = 2104; insert 256 2 = Ok(None); \
-     insert 7 1 = Ok(None); keys = [7, 256]; beside 256 = (Some((7, 1)), None); charged = 2296",
+     beside 255 = (None, Some((256, 2))); beside 257 = (Some((256, 2)), None); insert 0 1 = Ok(None); insert 259 3 = Ok(None); \
+     insert 4294967296 4 = Ok(None); insert 18446744073709551615 5 = Ok(None); ends = (Some((0, 1)), Some((18446744073709551615, 5))); \
+     beside 0 = (None, Some((256, 2))); beside 1 = (Some((0, 1)), Some((256, 2))); beside 257 = (Some((256, 2)), Some((259, 3))); \
+     beside 4294967295 = (Some((259, 3)), Some((4294967296, 4))); beside 18446744073709551615 = (Some((4294967296, 4)), None); \
+     remove 18446744073709551615 = Some(5); ends = (Some((0, 1)), Some((4294967296, 4)))",
+    "cleared trees begin anew: clear = (); charged = 2104; fill 1 50 = true; insert 18446744073709551615 5 = Ok(None); clear = (); \
+     empty = true; keys = []; ends = (None, None); get 7 = None; charged = 2104; insert 256 2 = Ok(None); insert 7 1 = Ok(None); \
+     keys = [7, 256]; beside 256 = (Some((7, 1)), None); charged = 2296",
 ];
 
 /// What is asked of a tree that takes so many bytes at most.
 const LIMITED: [(u64, &str); 3] = [
     (
         2168,
-        "no room for a second leaf: insert 0 100 = Ok(None); insert 18446744073709551615 100 = \
-         Err(Budget { charged: 2168, wanted: 64, limit: 2168 }); insert 0 5 = Ok(Some(100))",
+        "no room for a second leaf: insert 0 100 = Ok(None); \
+         insert 18446744073709551615 100 = Err(Budget { charged: 2168, wanted: 64, limit: 2168 }); insert 0 5 = Ok(Some(100))",
     ),
     (
         2104,
@@ -58,8 +53,8 @@ const LIMITED: [(u64, &str); 3] = [
     // The split has made its first node when the second one is refused.
     (
         2295,
-        "a split gives its first node back: insert 1 1 = Ok(None); \
-         insert 256 2 = Err(Budget { charged: 2232, wanted: 64, limit: 2295 }); charged = 2168; get 256 = None",
+        "a split gives its first node back: insert 1 1 = Ok(None); insert 256 2 = Err(Budget { charged: 2232, wanted: 64, limit: 2295 }); \
+         charged = 2168; get 256 = None",
     ),
 ];
 

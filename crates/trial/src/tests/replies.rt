@@ -1,37 +1,23 @@
 //! Replies longer than what the program holds back.
 
+use super::dialogue::repeated;
 use crate::run::run;
 use std::alloc::Global;
 use std::io::{self, ErrorKind, Write};
 use std::test::Fail;
 
-/// How many pairs the tree has.
-const PAIRS: u64 = 600;
-
-/// A script that scans a tree of long values twice.
+/// A script that scans a tree of 600 long values twice.
 fn script(alloc: Global) -> Result<String, Fail> {
-    let mut script = String::from_str(alloc, "new 1 9999\nreg\n0 pin\n")?;
-    for key in 0..PAIRS {
-        let line = format!(in alloc; "0 insert {key} {}\n", u64::MAX - key)?;
-        script.push_str(&line)?;
-    }
-    script.push_str("0 range 0 9999 9999\n0 range 5 7 2\n0 unpin\n")?;
-    Ok(script)
+    let insertion = "0 insert # 17000000000000000#\n";
+    let last = "0 range 0 9999 9999\n0 range 5 7 2\n0 unpin\n";
+    repeated(alloc, "new 1 9999\nreg\n0 pin\n", 600, insertion, last)
 }
 
 /// Its replies, the first of the two scans longer than 8,192 bytes.
 fn replies(alloc: Global) -> Result<String, Fail> {
-    let mut replies = String::from_str(alloc, "ok\nworker 0\nok\n")?;
-    for _ in 0..PAIRS {
-        replies.push_str("none\n")?;
-    }
-    replies.push_str("range 600")?;
-    for key in 0..PAIRS {
-        let pair = format!(in alloc; " {key}:{}", u64::MAX - key)?;
-        replies.push_str(&pair)?;
-    }
-    replies.push_str("\nrange 2 5:18446744073709551610 6:18446744073709551609\nok\n")?;
-    Ok(replies)
+    let inserted = repeated(alloc, "ok\nworker 0\nok\n", 600, "none\n", "range 600")?;
+    let last = "\nrange 2 5:170000000000000005 6:170000000000000006\nok\n";
+    repeated(alloc, &inserted, 600, " #:17000000000000000#", last)
 }
 
 /// Takes so many bytes, fails once, and goes on after it.
@@ -93,7 +79,7 @@ fn a_reply_goes_out_in_pieces(rt: HostRuntime) -> Result<(), Fail> {
 fn a_write_that_fails_within_a_reply_is_the_last(rt: HostRuntime) -> Result<(), Fail> {
     let script = script(rt.alloc())?;
     let replies = replies(rt.alloc())?;
-    for room in [0, 3000, 3100, 8191, 8192, 8193, 11000, 17000, 17900] {
+    for room in [0, 3000, 3100, 8191, 8192, 8193, 11000, 17000, 17800] {
         let mut reader = script.as_bytes();
         let mut writer = Narrow::new(rt.alloc(), Some(room), 9000);
         assert_eq!(rt; run(rt.alloc(), &mut reader, &mut writer), 1, "at {room}");

@@ -1,15 +1,13 @@
 //! The machine's own calls: what the reports of steps tell, and a scan into places.
 
-use super::machine::{
-    AMPLE, END, Index, Opening, begin, call, go, is_done, is_in_flight, open_with_workers,
-};
+use super::machine::{END, Index, begin, call, go, is_done, is_in_flight, open};
 use joint::{Done, Kind, Op, Outcome, Report};
 use judge::Call;
 use std::test::Fail;
 
 /// The reports of a whole call: steps of the collector, and of the tree, the begin among them; how often it took effect, and
 /// kept its place; and the nodes that were destroyed.
-#[derive(Clone, Copy)]
+#[derive(Clone, Copy, Default)]
 struct Counted {
     collection: u32,
     tree: u32,
@@ -35,15 +33,8 @@ fn add(count: Counted, report: &Report<u64>) -> Counted {
 
 /// A whole call of worker 0.
 fn stepped(index: &mut Index, op: Op<u64>) -> Counted {
-    let nothing = Counted {
-        collection: 0,
-        tree: 0,
-        effects: 0,
-        kept: 0,
-        destroyed: 0,
-    };
     let mut report = begin(index, 0, op);
-    let mut count = add(nothing, &report);
+    let mut count = add(Counted::default(), &report);
     for _ in 0..END {
         if !is_in_flight(&report.outcome) {
             return count;
@@ -54,12 +45,10 @@ fn stepped(index: &mut Index, op: Op<u64>) -> Counted {
     count
 }
 
-/// Room for a full bag of nodes that wait.
-const ROOM: Opening = Opening { cells: 80, ..AMPLE };
-
 #[test]
 fn a_writing_call_secures_its_place_first(rt: HostRuntime) -> Result<(), Fail> {
-    let mut index = open_with_workers(rt.alloc(), &ROOM)?;
+    // A full bag of nodes may wait.
+    let mut index = open(rt.alloc(), 2, 80)?;
     let pin = stepped(&mut index, Op::Pin);
     // Its begin, look, publish, and a collection that goes over two places.
     assert_eq!(rt; (pin.collection, pin.tree, pin.effects), (8, 0, 0));
@@ -72,11 +61,8 @@ fn a_writing_call_secures_its_place_first(rt: HostRuntime) -> Result<(), Fail> {
         Op::ComputePresent(1),
     ] {
         let count = stepped(&mut index, op);
-        assert_eq!(rt;
-            (count.collection, count.effects, count.kept),
-            (1, 1, 0),
-            "{op:?}"
-        );
+        let told = (count.collection, count.effects, count.kept);
+        assert_eq!(rt; told, (1, 1, 0), "{op:?}");
         assert_eq!(rt; count.destroyed, 0, "{op:?}");
     }
     let look = stepped(&mut index, Op::Get(1));
@@ -97,10 +83,8 @@ fn a_writing_call_secures_its_place_first(rt: HostRuntime) -> Result<(), Fail> {
             destroyed = destroyed.saturating_add(stepped(&mut index, op).destroyed);
         }
     }
-    assert_eq!(rt;
-        (destroyed, index.waiting(), index.charged()),
-        (64, 0, 2168)
-    );
+    assert_eq!(rt; (destroyed, index.waiting()), (64, 0));
+    assert_eq!(rt; index.charged(), 2168);
     Ok(())
 }
 
@@ -114,7 +98,7 @@ fn scan(index: &mut Index, op: Op<u64>, places: &mut [(u64, u64)]) -> Option<usi
 
 #[test]
 fn a_scan_finds_the_first_pairs_of_its_range(rt: HostRuntime) -> Result<(), Fail> {
-    let mut index = open_with_workers(rt.alloc(), &AMPLE)?;
+    let mut index = open(rt.alloc(), 2, 80)?;
     is_done(&mut index, 0, Op::Pin);
     let mut found = [(0, 0); 3];
     assert_eq!(rt; scan(&mut index, Op::Range(0, 10, 4), &mut found), Some(0));

@@ -2,15 +2,12 @@
 //! list is one that a scan promises.
 
 use super::interleavings::{Flight, advance, begun, entry_of, journal_of, length, prepared};
-use super::machine::{AMPLE, Index, Opening, are_rounds_done, begin, go, is_done};
+use super::machine::{Index, are_rounds_done, begin, go, is_done};
 use super::texts::{array, call_of, named, pairs, part};
 use joint::{Done, Op, Outcome, Refusal};
 use judge::{Call, Verdict, check};
 use std::alloc::Global;
 use std::test::Fail;
-
-/// One worker for the scan, and one for the call.
-const OPENING: Opening = Opening { cells: 12, ..AMPLE };
 
 /// More steps than one of these takes that begins anew once.
 const LONG: u32 = 70;
@@ -275,16 +272,16 @@ fn fly(index: &mut Index, case: &Case, turns: u32, bits: u32) -> (Scan, Flight) 
 
 /// How many steps the scan takes alone, and the call.
 fn lengths(alloc: Global, case: &Case) -> Result<(u32, u32), Refusal> {
-    let mut index = prepared(alloc, &OPENING, &case.before)?;
+    let mut index = prepared(alloc, &case.before)?;
     let mut scan = Scan::begun(&mut index, case.range);
     scan_on(&mut index, &mut scan, false, LONG);
-    let call = length(alloc, &OPENING, &case.before, case.write)?;
+    let call = length(alloc, &case.before, case.write)?;
     Ok((scan.steps, call))
 }
 
 /// Whether the scan and the call are right with these turns.
 fn is_right(alloc: Global, case: &Case, turns: u32, bits: u32) -> Result<bool, Fail> {
-    let mut index = prepared(alloc, &OPENING, &case.before)?;
+    let mut index = prepared(alloc, &case.before)?;
     let (scan, write) = fly(&mut index, case, turns, bits);
     are_right(alloc, case, &scan, &write)
 }
@@ -318,7 +315,7 @@ fn cut(index: &mut Index, case: &Case, steps: u32) -> (Scan, Flight) {
 fn begins_anew(alloc: Global, case: &Case) -> Result<bool, Fail> {
     let mut again = false;
     for steps in 1..case.steps.0 {
-        let mut index = prepared(alloc, &OPENING, &case.before)?;
+        let mut index = prepared(alloc, &case.before)?;
         let (scan, write) = cut(&mut index, case, steps);
         if !are_right(alloc, case, &scan, &write)? {
             return Ok(false);
@@ -361,10 +358,8 @@ fn a_longer_scan_beside_a_change_of_the_nodes(rt: HostRuntime) -> Result<(), Fai
 fn a_scan_begins_anew_after_a_change(rt: HostRuntime) -> Result<(), Fail> {
     for case in CHANGES {
         let (name, text) = named(case)?;
-        assert!(rt;
-            begins_anew(rt.alloc(), &case_of(rt.alloc(), text)?)?,
-            "{name}"
-        );
+        let case = case_of(rt.alloc(), text)?;
+        assert!(rt; begins_anew(rt.alloc(), &case)?, "{name}");
     }
     Ok(())
 }

@@ -1,5 +1,6 @@
 //! Scripts and the replies that they print.
 
+use super::dialogue::repeated;
 use super::failures::Hiccup;
 use super::replies::Narrow;
 use crate::run::{exit, run};
@@ -64,23 +65,13 @@ fn bad_lines_end_a_script(rt: HostRuntime) -> Result<(), Fail> {
     Ok(())
 }
 
-// A comment with so many bytes after its sign, and a line after it.
-fn comment(alloc: Global, length: usize) -> Result<Vec<u8>, Fail> {
-    let mut script = Vec::new(alloc);
-    script.push(b'#')?;
-    for _ in 0..length {
-        script.push(b'x')?;
-    }
-    script.extend_from_slice(b"\nreg\n")?;
-    Ok(script)
-}
-
 #[test]
 fn lines_are_bounded(rt: HostRuntime) -> Result<(), Fail> {
-    let longest = comment(rt.alloc(), 999)?;
-    assert!(rt; answers(rt.alloc(), &longest, 0, b"refused NoTree\n"));
-    let longer = comment(rt.alloc(), 1000)?;
-    assert!(rt; answers(rt.alloc(), &longer, 2, b"bad line 1\n"));
+    // The comment's sign is a byte of its line.
+    let longest = repeated(rt.alloc(), "#", 999, "x", "\nreg\n")?;
+    assert!(rt; answers(rt.alloc(), longest.as_bytes(), 0, b"refused NoTree\n"));
+    let longer = repeated(rt.alloc(), "#", 1000, "x", "\nreg\n")?;
+    assert!(rt; answers(rt.alloc(), longer.as_bytes(), 2, b"bad line 1\n"));
     Ok(())
 }
 
@@ -115,11 +106,8 @@ fn each_write_may_fail(rt: HostRuntime) -> Result<(), Fail> {
         let mut reader = SCRIPT;
         let mut writer = Narrow::new(rt.alloc(), Some(room), 5);
         let status = run(rt.alloc(), &mut reader, &mut writer);
-        assert_eq!(rt;
-            status,
-            if room < REPLIES.len() { 1 } else { 0 },
-            "at {room}"
-        );
+        let is_whole = room == REPLIES.len();
+        assert_eq!(rt; status, if is_whole { 0 } else { 1 }, "at {room}");
         assert_eq!(rt; writer.taken.as_slice(), &REPLIES[..room], "at {room}");
     }
     Ok(())
@@ -136,13 +124,10 @@ fn the_program_tells_its_end(rt: HostRuntime) -> Result<(), Fail> {
     }
     let mut hiccup = Hiccup {
         script: SCRIPT,
-        size: 7,
         before: Some(2),
     };
     let mut printed = Vec::new(rt.alloc());
-    assert_eq!(rt;
-        exit(rt.alloc(), &mut hiccup, &mut printed),
-        ExitCode::FAILURE
-    );
+    let ended = exit(rt.alloc(), &mut hiccup, &mut printed);
+    assert_eq!(rt; ended, ExitCode::FAILURE);
     Ok(())
 }

@@ -43,20 +43,12 @@ fn put(tree: &mut Tree, key: u64, value: u64) -> Result<bool, Fail> {
     Ok(tree.insert(key, value)?.is_none())
 }
 
-// Keys with this first byte.
-fn put_leaf(tree: &mut Tree, high: u64, count: u64) -> Result<bool, Fail> {
-    for low in 0..count {
-        if !put(tree, high.wrapping_shl(56).wrapping_add(low), low)? {
-            return Ok(false);
-        }
-    }
-    Ok(true)
-}
-
 fn put_leaves(tree: &mut Tree) -> Result<bool, Fail> {
-    for (high, count) in &LEAVES {
-        if !put_leaf(tree, *high, *count)? {
-            return Ok(false);
+    for (high, count) in LEAVES {
+        for low in 0..count {
+            if !put(tree, high.wrapping_shl(56).wrapping_add(low), low)? {
+                return Ok(false);
+            }
         }
     }
     Ok(true)
@@ -101,18 +93,14 @@ fn surveys_leaves(tree: &mut Tree) -> Result<bool, Fail> {
 #[test]
 fn surveys_a_tree(rt: HostRuntime) -> Result<(), Fail> {
     let mut tree: Tree = Congee::new(rt.alloc(), DefaultAllocator::new())?;
-    let printed = prints_survey(rt.alloc(), &mut tree);
-    tree.close();
-    assert!(rt; printed?);
+    assert!(rt; prints_survey(rt.alloc(), &mut tree)?);
     Ok(())
 }
 
 #[test]
 fn surveys_every_form(rt: HostRuntime) -> Result<(), Fail> {
     let mut tree: Tree = Congee::new(rt.alloc(), DefaultAllocator::new())?;
-    let surveyed = surveys_leaves(&mut tree);
-    tree.close();
-    assert!(rt; surveyed?);
+    assert!(rt; surveys_leaves(&mut tree)?);
     Ok(())
 }
 

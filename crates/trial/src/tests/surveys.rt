@@ -5,23 +5,19 @@ use super::scripts::played;
 use std::test::Fail;
 
 const LOOKS: [&str; 4] = [
-    "keys and emptiness are the map's: new 2 1000 = ok; reg = worker 0; 0 pin = ok; 0 insert 1 1 = none; \
-     0 insert 256 2 = none; charged = charged 2296; 0 empty = false; 0 keys = keys 1 256; 0 remove 1 = some 1; \
-     0 remove 256 = some 2; 0 empty = true; 0 keys = keys; 0 unpin = ok; 0 round 3 = ok; charged = charged 2168",
-    "keys ascend with a pin and without: new 1 1000 = ok; reg = worker 0; 0 keys = keys; 0 pin = ok; \
-     0 empty = true; 0 insert 18446744073709551615 1 = none; 0 insert 0 1 = none; \
-     0 insert 72057594037927936 1 = none; 0 insert 1 1 = none; \
-     0 keys = keys 0 1 72057594037927936 18446744073709551615; 0 unpin = ok; \
-     0 keys = keys 0 1 72057594037927936 18446744073709551615",
-    "a survey is refused without its worker, its pin and beside its call: new 2 1000 = ok; reg = worker 0; \
-     reg = worker 1; 0 empty = refused Unpinned; 0 keys = keys; \
+    "keys and emptiness are the map's: new 2 1000 = ok; reg = worker 0; 0 pin = ok; 0 insert 1 1 = none; 0 insert 256 2 = none; \
+     charged = charged 2296; 0 empty = false; 0 keys = keys 1 256; 0 remove 1 = some 1; 0 remove 256 = some 2; 0 empty = true; \
+     0 keys = keys; 0 unpin = ok; 0 round 3 = ok; charged = charged 2168",
+    "keys ascend with a pin and without: new 1 1000 = ok; reg = worker 0; 0 keys = keys; 0 pin = ok; 0 empty = true; \
+     0 insert 18446744073709551615 1 = none; 0 insert 0 1 = none; 0 insert 72057594037927936 1 = none; 0 insert 1 1 = none; \
+     0 keys = keys 0 1 72057594037927936 18446744073709551615; 0 unpin = ok; 0 keys = keys 0 1 72057594037927936 18446744073709551615",
+    "a survey is refused without its worker, its pin and beside its call: new 2 1000 = ok; reg = worker 0; reg = worker 1; \
+     0 empty = refused Unpinned; 0 keys = keys; \
      0 stats = Level: 0 --- || N4:        0,     0.00 || N16:        0,     0.00 || N48:        0,     0.00 || N256:        1,     0.00 ||\n\
      Overall node count: 1, entry count: 0\nLoad factor: 0.00 (too low)\nActive memory usage: 0 Mb\n\
-     KV count: 0; 7 keys = refused Unknown; 0 pin = ok; 1 pin = ok; 0 insert 1 1 = none; 0 begin get 1 = begun; \
-     0 keys = refused Busy; 0 empty = refused Busy; 0 stats = refused Busy; 1 begin keys = keys 1; \
-     1 begin empty = false; 1 go 1 = refused Idle; 0 go 9 = some 1",
-    "statistics have their text: new 1 1000 = ok; reg = worker 0; 0 pin = ok; 0 insert 1 1 = none; \
-     0 insert 256 2 = none; \
+     KV count: 0; 7 keys = refused Unknown; 0 pin = ok; 1 pin = ok; 0 insert 1 1 = none; 0 begin get 1 = begun; 0 keys = refused Busy; \
+     0 empty = refused Busy; 0 stats = refused Busy; 1 begin keys = keys 1; 1 begin empty = false; 1 go 1 = refused Idle; 0 go 9 = some 1",
+    "statistics have their text: new 1 1000 = ok; reg = worker 0; 0 pin = ok; 0 insert 1 1 = none; 0 insert 256 2 = none; \
      0 stats = Level: 0 --- || N4:        0,     0.00 || N16:        0,     0.00 || N48:        0,     0.00 || N256:        1,     0.00 ||\n\
      Level: 1 --- || N4:        1,     0.50 || N16:        0,     0.00 || N48:        0,     0.00 || N256:        0,     0.00 ||\n\
      Level: 2 --- || N4:        2,     0.25 || N16:        0,     0.00 || N48:        0,     0.00 || N256:        0,     0.00 ||\n\
@@ -36,20 +32,19 @@ fn looks_tell_what_stands(rt: HostRuntime) -> Result<(), Fail> {
 }
 
 const CLOSES: [&str; 4] = [
-    "a tree closes once nobody is registered: new 2 1000 = ok; reg = worker 0; reg = worker 1; 0 pin = ok; \
-     0 insert 2 20 = none; 0 insert 1 10 = none; reg = refused TableFull; 1 get 1 = refused Unpinned; \
-     0 begin get 1 = begun; 0 begin get 1 = refused Busy; 0 unpin = refused InCall; close = refused WorkersLeft 2; \
-     0 go 100 = some 10; 0 unpin = ok; 0 release = ok; 1 release = ok; close = drain 1 10\ndrain 2 20\nclosed 0",
-    "a tree that was closed is opened anew: close = refused NoTree; new 1 9 = ok; new 1 9 = refused Open; \
-     close = closed 0; close = refused NoTree; charged = refused NoTree; new 1 1 = ok; close = closed 0",
-    "pairs are drained, and what waits goes: new 1 1000 = ok; reg = worker 0; 0 pin = ok; 0 insert 1 1 = none; \
-     0 insert 2 2 = none; 0 insert 3 3 = none; 0 insert 4 4 = none; 0 insert 5 5 = none; \
-     0 insert 18446744073709551615 6 = none; 0 insert 65536 7 = none; 0 remove 65536 = some 7; \
-     0 remove 3 = some 3; waiting = waiting 2 128; 0 unpin = ok; close = refused WorkersLeft 1; 0 release = ok; \
+    "a tree closes once nobody is registered: new 2 1000 = ok; reg = worker 0; reg = worker 1; 0 pin = ok; 0 insert 2 20 = none; \
+     0 insert 1 10 = none; reg = refused TableFull; 1 get 1 = refused Unpinned; 0 begin get 1 = begun; 0 begin get 1 = refused Busy; \
+     0 unpin = refused InCall; close = refused WorkersLeft 2; 0 go 100 = some 10; 0 unpin = ok; 0 release = ok; 1 release = ok; \
+     close = drain 1 10\ndrain 2 20\nclosed 0",
+    "a tree that was closed is opened anew: close = refused NoTree; new 1 9 = ok; new 1 9 = refused Open; close = closed 0; \
+     close = refused NoTree; charged = refused NoTree; new 1 1 = ok; close = closed 0",
+    "pairs are drained, and what waits goes: new 1 1000 = ok; reg = worker 0; 0 pin = ok; 0 insert 1 1 = none; 0 insert 2 2 = none; \
+     0 insert 3 3 = none; 0 insert 4 4 = none; 0 insert 5 5 = none; 0 insert 18446744073709551615 6 = none; 0 insert 65536 7 = none; \
+     0 remove 65536 = some 7; 0 remove 3 = some 3; waiting = waiting 2 128; 0 unpin = ok; close = refused WorkersLeft 1; 0 release = ok; \
      close = drain 1 1\ndrain 2 2\ndrain 4 4\ndrain 5 5\ndrain 18446744073709551615 6\nclosed 0",
     "pairs are drained ascending: new 2 1000 = ok; reg = worker 0; 0 pin = ok; 0 insert 18446744073709551615 6 = none; \
-     0 insert 256 4 = none; 0 insert 0 1 = none; 0 insert 4294967295 5 = none; 0 insert 255 3 = none; \
-     0 insert 1 2 = none; 0 unpin = ok; 0 release = ok; close = drain 0 1\ndrain 1 2\ndrain 255 3\ndrain 256 4\n\
+     0 insert 256 4 = none; 0 insert 0 1 = none; 0 insert 4294967295 5 = none; 0 insert 255 3 = none; 0 insert 1 2 = none; 0 unpin = ok; \
+     0 release = ok; close = drain 0 1\ndrain 1 2\ndrain 255 3\ndrain 256 4\n\
      drain 4294967295 5\ndrain 18446744073709551615 6\nclosed 0",
 ];
 

@@ -6,7 +6,7 @@ use super::collector::adds;
 use super::face::{
     Handle, Item, ItemGuard, Under, defer, destroy, limits, rounds, seals, spend, swapped,
 };
-use crossbeam_epoch::{Atomic, Collector, Fault, Job, Limits, Link, Pointable};
+use crossbeam_epoch::{Atomic, Collector, Fault, Job, Link, Pointable};
 use std::alloc::{AllocError, Global};
 use std::sync::atomic::Ordering::SeqCst;
 use std::sync::atomic::{AtomicBool, AtomicU64};
@@ -245,10 +245,8 @@ fn four_threads_take_turns_at_two_places(rt: HostRuntime) -> Result<(), Fail> {
     let second = jobs(rt.alloc(), &calls, 1 << 16, 16)?;
     let third = jobs(rt.alloc(), &calls, 1 << 32, 16)?;
     let fourth = jobs(rt.alloc(), &calls, 1 << 48, 16)?;
-    let places = Limits {
-        participants: 2,
-        ..limits(1)
-    };
+    let mut places = limits(1);
+    places.participants = 2;
     let items: Collector<Item> = Collector::new(&rt, rt.alloc(), places, 1)?;
     four_take_turns(&rt, &items, (first, second), (third, fourth))?;
     assert!(rt; items.end().is_ok());
