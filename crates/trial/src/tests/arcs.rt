@@ -8,125 +8,55 @@ type Text = Arc<String<Global>, Global>;
 
 type Texts = CongeeArc<u64, String<Global>>;
 
-/// The texts of the rows.
-#[derive(Clone, Copy)]
-enum Phrase {
-    Hello,
-    HelloWorld,
-    A,
-    B,
+fn text(alloc: Global, text: &str) -> Result<Text, Fail> {
+    Ok(Arc::new(alloc, String::from_str(alloc, text)?)?)
 }
 
-/// What is asked of a tree, and the text that is expected.
-#[derive(Clone, Copy)]
-enum Row {
-    Get(u64, Option<Phrase>),
-    /// A text at a key, and the one before.
-    Insert(u64, Phrase, Option<Phrase>),
-    Remove(u64, Option<Phrase>),
-    /// A text in place of the one that is present.
-    Replace(u64, Phrase, Option<Phrase>),
-    /// The text that is present stays.
-    Keep(u64, Option<Phrase>),
-    /// The text that is present goes.
-    Drop(u64, Option<Phrase>),
-    Keys(&'static [u64]),
-    Empty(bool),
-}
-
-const SHARED: [Row; 6] = [
-    Row::Insert(1, Phrase::Hello, None),
-    Row::Get(1, Some(Phrase::Hello)),
-    Row::Replace(1, Phrase::HelloWorld, Some(Phrase::Hello)),
-    Row::Get(1, Some(Phrase::HelloWorld)),
-    Row::Remove(1, Some(Phrase::HelloWorld)),
-    Row::Get(1, None),
-];
-
-const GONE: [Row; 7] = [
-    Row::Empty(true),
-    Row::Insert(256, Phrase::B, None),
-    Row::Insert(1, Phrase::A, None),
-    Row::Keys(&[1, 256]),
-    Row::Drop(1, Some(Phrase::A)),
-    Row::Keep(1, None),
-    Row::Empty(false),
-];
-
-fn spelled(phrase: Phrase) -> &'static str {
-    match phrase {
-        Phrase::Hello => "hello",
-        Phrase::HelloWorld => "hello world",
-        Phrase::A => "a",
-        Phrase::B => "b",
-    }
-}
-
-fn text(alloc: Global, phrase: Phrase) -> Result<Text, Fail> {
-    Ok(Arc::new(alloc, String::from_str(alloc, spelled(phrase))?)?)
-}
-
-fn is(found: Option<Text>, phrase: Option<Phrase>) -> bool {
-    match (found, phrase) {
-        (Some(found), Some(phrase)) => found.as_str() == spelled(phrase),
+fn is(found: Option<Text>, text: Option<&str>) -> bool {
+    match (found, text) {
+        (Some(found), Some(text)) => found.as_str() == text,
         (None, None) => true,
         _ => false,
     }
 }
 
-fn replaces(tree: &mut Texts, key: u64, new: &Text, before: Option<Phrase>) -> Result<bool, Fail> {
-    let replaced = tree.compute_if_present(key, |_| Arc::try_clone(new).ok())?;
-    Ok(is(replaced, before))
+// Whether a text comes, another one takes its place, and that one goes.
+fn shares(alloc: Global, tree: &mut Texts) -> Result<bool, Fail> {
+    let other = text(alloc, "hello world")?;
+    let replace = |_: Text| Arc::try_clone(&other).ok();
+    Ok(
+        is(tree.insert(1, text(alloc, "hello")?)?, None)
+            && is(tree.get(1)?, Some("hello"))
+            && is(tree.compute_if_present(1, replace)?, Some("hello"))
+            && is(tree.get(1)?, Some("hello world"))
+            && is(tree.remove(1), Some("hello world"))
+            && is(tree.get(1)?, None),
+    )
 }
 
-fn inserts(tree: &mut Texts, key: u64, new: Text, before: Option<Phrase>) -> Result<bool, Fail> {
-    Ok(is(tree.insert(key, new)?, before))
-}
-
-fn looks(tree: &Texts, row: Row) -> Result<bool, Fail> {
-    Ok(match row {
-        Row::Get(key, found) => is(tree.get(key)?, found),
-        Row::Keys(keys) => tree.keys()?.as_slice() == keys,
-        Row::Empty(empty) => tree.is_empty() == empty,
-        _ => false,
-    })
-}
-
-fn answers(alloc: Global, tree: &mut Texts, row: Row) -> Result<bool, Fail> {
-    match row {
-        Row::Insert(key, new, before) => inserts(tree, key, text(alloc, new)?, before),
-        Row::Replace(key, new, before) => replaces(tree, key, &text(alloc, new)?, before),
-        Row::Remove(key, before) => Ok(is(tree.remove(key), before)),
-        Row::Keep(key, before) => Ok(is(
-            tree.compute_if_present(key, |given| Some(given))?,
-            before,
-        )),
-        Row::Drop(key, before) => Ok(is(tree.compute_if_present(key, |_| None)?, before)),
-        _ => looks(tree, row),
-    }
-}
-
-fn all_answered(alloc: Global, tree: &mut Texts, rows: &[Row]) -> Result<bool, Fail> {
-    for row in rows {
-        if !answers(alloc, tree, *row)? {
-            return Ok(false);
-        }
-    }
-    Ok(true)
-}
-
-// Whether a tree that begins empty answers each row as expected.
-fn holds(alloc: Global, rows: &[Row]) -> Result<bool, Fail> {
-    let mut tree = CongeeArc::new(alloc)?;
-    let answered = all_answered(alloc, &mut tree, rows);
-    tree.close();
-    answered
+// Whether one of two texts goes, and the other one stays.
+fn lets_go(alloc: Global, tree: &mut Texts) -> Result<bool, Fail> {
+    Ok(
+        tree.is_empty()
+            && is(tree.insert(256, text(alloc, "b")?)?, None)
+            && is(tree.insert(1, text(alloc, "a")?)?, None)
+            && tree.keys()?.as_slice() == [1, 256].as_slice()
+            && is(tree.compute_if_present(1, |_| None)?, Some("a"))
+            && is(tree.compute_if_present(1, |given| Some(given))?, None)
+            && !tree.is_empty(),
+    )
 }
 
 #[test]
 fn texts_are_shared_and_go(rt: HostRuntime) -> Result<(), Fail> {
-    assert!(rt; holds(rt.alloc(), &SHARED)?);
-    assert!(rt; holds(rt.alloc(), &GONE)?);
+    let mut shared = CongeeArc::new(rt.alloc())?;
+    let is_shared = shares(rt.alloc(), &mut shared);
+    shared.close();
+    assert!(rt; is_shared?);
+    let mut left = CongeeArc::new(rt.alloc())?;
+    let is_gone = lets_go(rt.alloc(), &mut left);
+    left.close();
+    assert!(rt; is_gone?);
     Ok(())
 }
 
@@ -135,21 +65,21 @@ fn comes_back(tree: &mut Texts, key: u64, hello: Text) -> Result<bool, Fail> {
     match tree.insert(key, hello) {
         Ok(before) => Ok(before.is_none()),
         Err((refused, back)) => {
-            let is_refused = refused == OOMError::Memory && back.as_str() == spelled(Phrase::Hello);
-            Ok(is_refused && tree.get(key)?.is_none() && inserts(tree, key, back, None)?)
+            let is_refused = refused == OOMError::Memory && back.as_str() == "hello";
+            Ok(is_refused && tree.get(key)?.is_none() && is(tree.insert(key, back)?, None))
         }
     }
 }
 
 // The fifth value of a leaf makes it grow, which takes memory.
 fn fifth_comes_back(alloc: Global, tree: &mut Texts) -> Result<bool, Fail> {
-    let hello = text(alloc, Phrase::Hello)?;
+    let hello = text(alloc, "hello")?;
     for key in 1..5u64 {
-        if !inserts(tree, key, Arc::try_clone(&hello)?, None)? {
+        if !is(tree.insert(key, Arc::try_clone(&hello)?)?, None) {
             return Ok(false);
         }
     }
-    Ok(comes_back(tree, 5, hello)? && is(tree.get(5)?, Some(Phrase::Hello)))
+    Ok(comes_back(tree, 5, hello)? && is(tree.get(5)?, Some("hello")))
 }
 
 #[test]

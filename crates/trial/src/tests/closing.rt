@@ -1,4 +1,5 @@
 //! Owned trees that are closed, number trees, and sequences beside a `BTreeMap`.
+use super::texts::{array, numbers, part};
 use congee::{Allocator, Calls, Congee, DefaultAllocator, Limited, NoDrain, U64Congee};
 use std::alloc::Global;
 use std::collections::BTreeMap;
@@ -7,6 +8,8 @@ use std::test::Fail;
 type Words = Congee<u64, u64, DefaultAllocator, NoDrain>;
 
 type Numbers = U64Congee<u64, DefaultAllocator>;
+
+type Map = BTreeMap<u64, u64>;
 
 // Whether each pair is new in a tree.
 fn puts<D: Drop>(
@@ -41,18 +44,8 @@ fn drains(alloc: Global, pairs: &[(u64, u64)], so: &[(u64, u64)]) -> Result<bool
 #[test]
 fn a_drainer_takes_ascending_pairs(rt: HostRuntime) -> Result<(), Fail> {
     assert!(rt; drains(rt.alloc(), &[(1, 42)], &[(1, 42)])?);
-    let pairs = [
-        (u64::MAX, u64::MAX ^ 14),
-        (256, 256 ^ 13),
-        (0, 11),
-        (1, 1 ^ 12),
-    ];
-    let ascending = [
-        (0, 11),
-        (1, 1 ^ 12),
-        (256, 256 ^ 13),
-        (u64::MAX, u64::MAX ^ 14),
-    ];
+    let pairs = [(u64::MAX, 14), (256, 13), (0, 11), (1, 12)];
+    let ascending = [(0, 11), (1, 12), (256, 13), (u64::MAX, 14)];
     assert!(rt; drains(rt.alloc(), &pairs, &ascending)?);
     Ok(())
 }
@@ -60,10 +53,7 @@ fn a_drainer_takes_ascending_pairs(rt: HostRuntime) -> Result<(), Fail> {
 fn number_range_is(tree: &Numbers, start: u64, end: u64, pairs: &[([u8; 8], u64)]) -> bool {
     let mut found = [([1u8; 8], 0u64); 8];
     let count = tree.range(start, end, &mut found);
-    match found.get(..count) {
-        Some(found) => found == pairs,
-        None => false,
-    }
+    found.get(..count) == Some(pairs)
 }
 
 fn gives_bytes(tree: &mut Numbers) -> Result<bool, Fail> {
@@ -72,7 +62,8 @@ fn gives_bytes(tree: &mut Numbers) -> Result<bool, Fail> {
             && tree.get(0) == Some(42)
             && number_range_is(tree, 0, 10, &[([0u8; 8], 42)])
             && tree.insert(258, 43)?.is_none()
-            && number_range_is(tree, 1, 259, &[([0, 0, 0, 0, 0, 0, 1, 2], 43)]),
+            && number_range_is(tree, 1, 259, &[([0, 0, 0, 0, 0, 0, 1, 2], 43)])
+            && tree.remove(258) == Some(43),
     )
 }
 
@@ -81,8 +72,7 @@ fn a_number_range_gives_bytes(rt: HostRuntime) -> Result<(), Fail> {
     let mut tree: Numbers = U64Congee::new(rt.alloc(), DefaultAllocator::new())?;
     let given = gives_bytes(&mut tree);
     let allocator = tree.close();
-    assert!(rt; allocator.charged() == 0);
-    assert!(rt; given?);
+    assert!(rt; given? && allocator.charged() == 0);
     Ok(())
 }
 
@@ -139,220 +129,125 @@ const SCATTERED: [Part; 3] = [
     Part(Call::Get, Order::Scattered, 1, 100_001),
 ];
 
-/// A tree beside a map.
-trait Beside {
-    /// Whether the tree and the map answer the call alike; a key is inserted with itself.
-    fn agrees(&mut self, map: &mut BTreeMap<u64, u64>, call: Call, key: u64) -> Result<bool, Fail>;
+// Whether the tree and the map answer a call alike; a key is inserted with itself.
+fn agrees(tree: &mut Words, map: &mut Map, call: Call, key: u64) -> Result<bool, Fail> {
+    Ok(match call {
+        Call::Insert => tree.insert(key, key)? == map.insert(key, key)?,
+        Call::Get => tree.get(&key) == map.get(&key).copied(),
+        Call::Remove => tree.remove(&key) == map.remove(&key),
+    })
 }
 
-impl Beside for Words {
-    fn agrees(&mut self, map: &mut BTreeMap<u64, u64>, call: Call, key: u64) -> Result<bool, Fail> {
-        Ok(match call {
-            Call::Insert => self.insert(key, key)? == map.insert(key, key)?,
-            Call::Get => self.get(&key) == map.get(&key).copied(),
-            Call::Remove => self.remove(&key) == map.remove(&key),
-        })
-    }
-}
-
-impl Beside for Numbers {
-    fn agrees(&mut self, map: &mut BTreeMap<u64, u64>, call: Call, key: u64) -> Result<bool, Fail> {
-        Ok(match call {
-            Call::Insert => self.insert(key, key)? == map.insert(key, key)?,
-            Call::Get => self.get(key) == map.get(&key).copied(),
-            Call::Remove => self.remove(key) == map.remove(&key),
-        })
-    }
-}
-
-fn part_agrees<T: Beside>(
-    tree: &mut T,
-    map: &mut BTreeMap<u64, u64>,
-    part: &Part,
-) -> Result<bool, Fail> {
+fn part_agrees(tree: &mut Words, map: &mut Map, part: &Part) -> Result<bool, Fail> {
     let Part(call, order, start, end) = part;
     for turn in *start..*end {
-        if !tree.agrees(map, *call, order.key(turn))? {
+        if !agrees(tree, map, *call, order.key(turn))? {
             return Ok(false);
         }
     }
     Ok(true)
 }
 
-fn agrees<T: Beside>(alloc: Global, tree: &mut T, parts: &[Part]) -> Result<bool, Fail> {
-    let mut map = BTreeMap::new(alloc);
-    for part in parts {
-        if !part_agrees(tree, &mut map, part)? {
-            return Ok(false);
-        }
-    }
-    Ok(true)
-}
-
-// Whether an empty tree answers as a map, and nothing stays charged at its end.
-fn words_agree(alloc: Global, parts: &[Part]) -> Result<bool, Fail> {
+// Whether an empty tree answers as a map.
+fn all_agree(alloc: Global, parts: &[Part]) -> Result<bool, Fail> {
     let mut tree: Words = Congee::new(alloc, DefaultAllocator::new())?;
-    let agrees = agrees(alloc, &mut tree, parts);
-    let (allocator, _drainer) = tree.close();
-    Ok(agrees? && allocator.charged() == 0)
-}
-
-fn numbers_agree(alloc: Global, parts: &[Part]) -> Result<bool, Fail> {
-    let mut tree: Numbers = U64Congee::new(alloc, DefaultAllocator::new())?;
-    let agrees = agrees(alloc, &mut tree, parts);
-    let allocator = tree.close();
-    Ok(agrees? && allocator.charged() == 0)
+    let mut map = Map::new(alloc);
+    for part in parts {
+        if !part_agrees(&mut tree, &mut map, part)? {
+            return Ok(false);
+        }
+    }
+    Ok(true)
 }
 
 #[test]
 fn dense_keys_answer_as_a_map(rt: HostRuntime) -> Result<(), Fail> {
-    assert!(rt; numbers_agree(rt.alloc(), &DENSE)?);
+    assert!(rt; all_agree(rt.alloc(), &DENSE)?);
     Ok(())
 }
 
 #[test]
 fn shuffled_keys_answer_as_a_map(rt: HostRuntime) -> Result<(), Fail> {
-    assert!(rt; numbers_agree(rt.alloc(), &SHUFFLED)?);
+    assert!(rt; all_agree(rt.alloc(), &SHUFFLED)?);
     Ok(())
 }
 
 #[test]
 fn full_nodes_and_scattered_keys_answer_as_a_map(rt: HostRuntime) -> Result<(), Fail> {
-    assert!(rt; words_agree(rt.alloc(), &FULL_NODE)?);
-    assert!(rt; words_agree(rt.alloc(), &SCATTERED)?);
+    assert!(rt; all_agree(rt.alloc(), &FULL_NODE)?);
+    assert!(rt; all_agree(rt.alloc(), &SCATTERED)?);
     Ok(())
 }
 
-/// A range, in so many places, and how many pairs it finds.
-struct Range(u64, u64, usize, usize);
-
-/// A tree of so many keys, each with itself, and of pairs, with ranges over it.
-struct Ranges {
-    keys: u64,
-    pairs: &'static [(u64, u64)],
-    ranges: &'static [Range],
-    /// How many ranges of three keys, each from one key further on, find three.
-    threes: u64,
-}
-
-const FEW_KEYS: [Ranges; 3] = [
-    Ranges {
-        keys: 0,
-        pairs: &[(54227, 54227)],
-        ranges: &[Range(0, 0, 20, 0)],
-        threes: 0,
-    },
-    Ranges {
-        keys: 0,
-        pairs: &[(4261390591, 4261390591), (4294944959, 4294944959)],
-        ranges: &[Range(4261412863, 4261413116, 20, 0)],
-        threes: 0,
-    },
-    Ranges {
-        keys: 0,
-        pairs: &[(219021065, 219021065), (4279959551, 4279959551)],
-        ranges: &[Range(4294967295, 4294967548, 20, 0)],
-        threes: 0,
-    },
+/// The keys below a number are in a tree, and further ones, each with itself; ranges over it, each in so many places, and how
+/// many pairs each finds; and how many ranges of three keys, each from one key further on, find three.
+const FEW_KEYS: [&str; 5] = [
+    "0; 54227; 0 0 20 0; 0",
+    "0; 4261390591 4294944959; 4261412863 4261413116 20 0; 0",
+    "0; 219021065 4279959551; 4294967295 4294967548 20 0; 0",
+    "0; 4294967128 4294940824; 4294967039 4294967294 20 1; 0",
+    "0; 4278190080 4278189917; 4278190079 4278190334 20 1; 0",
 ];
 
-const NEAR_KEYS: [Ranges; 2] = [
-    Ranges {
-        keys: 0,
-        pairs: &[(4294967128, 4294967128), (4294940824, 4294940824)],
-        ranges: &[Range(4294967039, 4294967294, 20, 1)],
-        threes: 0,
-    },
-    Ranges {
-        keys: 0,
-        pairs: &[(4278190080, 4278190080), (4278189917, 4278189917)],
-        ranges: &[Range(4278190079, 4278190334, 20, 1)],
-        threes: 0,
-    },
+const MANY_KEYS: [&str; 2] = [
+    "1000; ; 200 210 20 10; 100",
+    "500000; ; 393216 458751 3 3, 393216 458751 13 13, 393216 458751 65 65, 500000 500065 20 0; 0",
 ];
-
-const DENSE_KEYS: Ranges = Ranges {
-    keys: 1000,
-    pairs: &[],
-    ranges: &[Range(200, 210, 20, 10)],
-    threes: 100,
-};
-
-const MANY_KEYS: Ranges = Ranges {
-    keys: 500_000,
-    pairs: &[],
-    ranges: &[
-        Range(393216, 458751, 3, 3),
-        Range(393216, 458751, 13, 13),
-        Range(393216, 458751, 65, 65),
-        Range(500000, 500065, 20, 0),
-    ],
-    threes: 0,
-};
 
 // How many pairs a range finds in up to 65 places.
-fn count(tree: &Numbers, start: u64, end: u64, places: usize) -> Option<usize> {
+fn count(tree: &Numbers, start: u64, end: u64, places: u64) -> Option<u64> {
     let mut found = [([0u8; 8], 0u64); 65];
-    let out = found.get_mut(..places)?;
-    Some(tree.range(start, end, out))
+    let out = found.get_mut(..places as usize)?;
+    Some(tree.range(start, end, out) as u64)
 }
 
-fn are_counted(tree: &Numbers, ranges: &Ranges) -> bool {
-    for Range(start, end, places, counted) in ranges.ranges {
-        if count(tree, *start, *end, *places) != Some(*counted) {
-            return false;
+fn are_counted(tree: &Numbers, ranges: &str) -> Result<bool, Fail> {
+    for range in ranges.split(',') {
+        let [start, end, places, counted] = array::<4>(range)?;
+        if count(tree, start, end, places) != Some(counted) {
+            return Ok(false);
         }
     }
-    for start in 0..ranges.threes {
-        if count(tree, start, start.wrapping_add(3), 20) != Some(3) {
-            return false;
-        }
-    }
-    true
+    Ok(true)
 }
 
-// Whether each key and each pair is new.
-fn fills(tree: &mut Numbers, ranges: &Ranges) -> Result<bool, Fail> {
-    for key in 0..ranges.keys {
+// Whether each key is new.
+fn fills(tree: &mut Numbers, below: u64, keys: &[u64]) -> Result<bool, Fail> {
+    for key in (0..below).chain(keys.iter().copied()) {
         if tree.insert(key, key)?.is_some() {
             return Ok(false);
         }
     }
-    for (key, value) in ranges.pairs {
-        if tree.insert(*key, *value)?.is_some() {
-            return Ok(false);
-        }
-    }
     Ok(true)
 }
 
-fn are_found(alloc: Global, ranges: &Ranges) -> Result<bool, Fail> {
+fn are_found(alloc: Global, text: &str) -> Result<bool, Fail> {
     let mut tree: Numbers = U64Congee::new(alloc, DefaultAllocator::new())?;
-    let new = fills(&mut tree, ranges);
-    let counted = are_counted(&tree, ranges);
-    tree.close();
-    Ok(new? && counted)
-}
-
-fn are_all_found(alloc: Global, trees: &[Ranges]) -> Result<bool, Fail> {
-    for ranges in trees {
-        if !are_found(alloc, ranges)? {
+    let new = fills(
+        &mut tree,
+        part(text, 0).parse::<u64>()?,
+        &numbers(alloc, part(text, 1))?,
+    )?;
+    for start in 0..part(text, 3).parse::<u64>()? {
+        if count(&tree, start, start.wrapping_add(3), 20) != Some(3) {
             return Ok(false);
         }
     }
-    Ok(true)
+    Ok(new && are_counted(&tree, part(text, 2))?)
 }
 
 #[test]
 fn ranges_of_few_keys(rt: HostRuntime) -> Result<(), Fail> {
-    assert!(rt; are_all_found(rt.alloc(), &FEW_KEYS)?);
-    assert!(rt; are_all_found(rt.alloc(), &NEAR_KEYS)?);
+    for text in FEW_KEYS {
+        assert!(rt; are_found(rt.alloc(), text)?, "{text}");
+    }
     Ok(())
 }
 
 #[test]
 fn ranges_of_many_keys(rt: HostRuntime) -> Result<(), Fail> {
-    assert!(rt; are_found(rt.alloc(), &DENSE_KEYS)?);
-    assert!(rt; are_found(rt.alloc(), &MANY_KEYS)?);
+    for text in MANY_KEYS {
+        assert!(rt; are_found(rt.alloc(), text)?, "{text}");
+    }
     Ok(())
 }

@@ -1,8 +1,9 @@
-//! Rows of the collector: calls in order, and beside each what it answers.
+//! Dialogues with the collector, worked out by hand: calls in order, and how each is answered.
 
+use super::dialogue::{Asked, told, wrong_turn};
+use super::texts::{array, named};
 use crossbeam_epoch::{
-    Event, Fault, Job, Limits, Links, Name, Op, OtherPointer, Outcome, Pointable, Ptr, Step, Task,
-    World,
+    Event, Fault, Job, Limits, Links, Name, Op, Outcome, Pointable, Ptr, Step, Task, World,
 };
 use std::alloc::{AllocError, Global};
 use std::marker::Send;
@@ -23,53 +24,32 @@ fn ample(participants: u32) -> Limits {
 
 #[test]
 fn limits_have_bounds(rt: HostRuntime) {
-    let good = ample(2);
-    let greatest = Limits {
-        participants: 256,
-        cells: 16_777_215,
-        turn_max: 0,
-        epoch_max: 3,
-        expiry: 1,
-    };
-    let rows = [
-        (good, true),
-        (ample(0), false),
-        (ample(257), false),
-        (Limits { cells: 0, ..good }, false),
-        (
-            Limits {
-                cells: 16_777_216,
-                ..good
-            },
-            false,
-        ),
-        (
-            Limits {
-                epoch_max: 2,
-                ..good
-            },
-            false,
-        ),
-        (
-            Limits {
-                epoch_max: (1 << 62) + 1,
-                ..good
-            },
-            false,
-        ),
-        (Limits { expiry: 0, ..good }, false),
-        (Limits { expiry: 3, ..good }, false),
-        (greatest, true),
-    ];
-    let mut right = true;
-    for (limits, expected) in rows {
-        right &= limits.is_within() == expected;
+    for (limits, expected) in [
+        ((256, 16_777_215, 1 << 62, 2), true),
+        ((1, 1, 3, 1), true),
+        ((0, 1, 3, 1), false),
+        ((257, 1, 3, 1), false),
+        ((1, 0, 3, 1), false),
+        ((1, 16_777_216, 3, 1), false),
+        ((1, 1, 2, 1), false),
+        ((1, 1, (1 << 62) + 1, 1), false),
+        ((1, 1, 3, 0), false),
+        ((1, 1, 3, 3), false),
+    ] {
+        let (participants, cells, epoch_max, expiry) = limits;
+        let limits = Limits {
+            participants,
+            cells,
+            turn_max: 0,
+            epoch_max,
+            expiry,
+        };
+        assert_eq!(rt; limits.is_within(), expected, "{limits:?}");
     }
-    assert!(rt; right);
 }
 
 /// A value without links.
-#[derive(Drop)]
+#[derive(Debug, Drop)]
 struct Plain(u64);
 
 impl Links for Plain {
@@ -98,294 +78,173 @@ impl Pointable for Plain {
 
 type Jobs = World<Plain, ()>;
 
-/// A call. Calls of roots go to root 0, but for `LoadFrom`.
-#[derive(Clone, Copy, Drop)]
-enum Act {
-    Register,
-    /// A whole call of a participant.
-    Call(usize, Op),
-    /// A whole call by its own name: `flush` or `repin`.
-    Flush(usize),
-    Repin(usize),
-    /// So many rounds of pin, flush and unpin of a participant.
-    Rounds(usize, u32),
-    /// So many deferrals of a job by a participant; the last one answers.
-    Defer(usize, u32),
-    DeferUnchecked(usize),
-    /// Whether a participant has a free place: 1, or 0.
-    HasPlace(usize),
-    DeferDestroy(usize, Name),
-    Epoch,
-    Waiting,
-    Place(u64),
-    Replace(Name, u64),
-    Read(Name),
-    GiveBack(Name),
-    LoadFrom(usize),
-    Store(Ptr),
-    Swap(Ptr),
-    /// Writes the second pointer where the root holds the first.
-    Exchange(Ptr, Ptr),
-    FetchAnd(usize),
-    FetchOr(usize),
-    FetchXor(usize),
+/// Participants, cells, the greatest turn and the expiry; then what is asked of a new collector with one root. A participant is
+/// told by its number, a placed value by its cell and turn, and a pointer to it by its tag behind these; `null` has a tag alone.
+const WORKED: [&str; 9] = [
+    // Participant 1 pins at an older epoch than the seal of a job of participant 0.
+    "a blocked job waits: 2 1000 9 2; register = Ok(0); register = Ok(1); pin 0 = Done; unpin 0 = Done; pin 1 = Done; unpin 1 = Done; \
+     pin 1 = Done; pin 0 = Done; defer 0 1 = Ok(()); flush 0 = Done; epoch = 3; waiting = 1",
+    "an expiry of one is too little: 2 1000 9 1; register = Ok(0); register = Ok(1); pin 0 = Done; unpin 0 = Done; pin 1 = Done; \
+     unpin 1 = Done; pin 1 = Done; pin 0 = Done; defer 0 1 = Ok(()); flush 0 = Done; epoch = 3; waiting = 0",
+    // It has 64 jobs; the 65th queues it.
+    "a full bag is queued: 1 1000 9 2; register = Ok(0); pin 0 = Done; defer 0 65 = Ok(()); unpin 0 = Done; waiting = 65; \
+     rounds 0 1 = Done; waiting = 65; rounds 0 1 = Done; waiting = 0",
+    // 2,177 jobs are 35 bags.
+    "a collection takes eight bags: 1 1000 9 2; register = Ok(0); pin 0 = Done; defer 0 2177 = Ok(()); unpin 0 = Done; waiting = 2177; \
+     rounds 0 1 = Done; waiting = 2177; rounds 0 1 = Done; waiting = 1665; rounds 0 1 = Done; waiting = 1153; rounds 0 1 = Done; \
+     waiting = 641; rounds 0 1 = Done; waiting = 129; rounds 0 1 = Done; waiting = 0",
+    // A flush by its name seals the bag and collects; a repin by its name follows the epoch.
+    "whole calls by their names: 1 1000 9 2; register = Ok(0); World::flush 0 = Refused(Unpinned); World::repin 0 = Refused(Unpinned); \
+     defer_unchecked 0 = Err((Unpinned, ())); has_place 0 = true; has_place 1 = false; pin 0 = Done; epoch = 1; World::repin 0 = Done; \
+     defer_unchecked 0 = Ok(0); defer 0 63 = Ok(()); has_place 0 = false; World::flush 0 = Done; has_place 0 = true; epoch = 2; \
+     waiting = 64; World::repin 0 = Done; World::flush 0 = Done; epoch = 3; waiting = 0",
+    // The cell has two turns.
+    "cells are used again under the next turn: 1 1 1 2; register = Ok(0); place 1 = Ok(Name { cell: 0, turn: 0 }); \
+     place 2 = Err((CellsFull, Plain(2))); replace 0 0 3 = Ok(Plain(1)); read 0 0 = Some(Plain(3)); store 0 0 1 = Ok(()); \
+     load 0 = Ok(Ptr { name: Some(Name { cell: 0, turn: 0 }), tag: 1 }); load 1 = Err(Unknown); store_null 0 = Ok(()); pin 0 = Done; \
+     destroy 0 0 0 = Ok(0); unpin 0 = Done; rounds 0 3 = Done; waiting = 0; read 0 0 = None; place 4 = Ok(Name { cell: 0, turn: 1 }); \
+     give_back 0 1 = Ok(Plain(4)); place 5 = Err((CellsFull, Plain(5)))",
+    "a participant that leaves queues its bag: 2 1000 9 2; register = Ok(0); register = Ok(1); register = Err(TableFull); pin 0 = Done; \
+     defer 0 1 = Ok(()); release 0 = Refused(GuardOut); unpin 0 = Done; release 0 = Done; waiting = 1; rounds 1 3 = Done; waiting = 0; \
+     register = Ok(0)",
+    // The tag is 5 modulo 4.
+    "an exchange of a root looks at the tag: 1 1000 9 2; place 7 = Ok(Name { cell: 0, turn: 0 }); \
+     swap 0 0 5 = Ok(Ptr { name: None, tag: 0 }); \
+     empty 0 0 0 = Ok(Err(OtherPointer { current: Ptr { name: Some(Name { cell: 0, turn: 0 }), tag: 1 }, new: Ptr { name: None, tag: 0 } })); \
+     empty 0 0 1 = Ok(Ok(Ptr { name: None, tag: 0 })); load 0 = Ok(Ptr { name: None, tag: 0 })",
+    "bits of a tag are changed: 1 1000 9 2; store_null 3 = Ok(()); fetch_and 1 = Ok(Ptr { name: None, tag: 3 }); \
+     fetch_xor 3 = Ok(Ptr { name: None, tag: 1 }); load 0 = Ok(Ptr { name: None, tag: 2 }); store_null 1 = Ok(()); \
+     fetch_or 2 = Ok(Ptr { name: None, tag: 1 }); load 0 = Ok(Ptr { name: None, tag: 3 }); store_null 5 = Ok(()); \
+     load 0 = Ok(Ptr { name: None, tag: 1 })",
+];
+
+#[test]
+fn the_collector_answers_as_worked_out(rt: HostRuntime) -> Result<(), Fail> {
+    for worked in WORKED {
+        let (name, text) = named(worked)?;
+        let (limits, dialogue) = text.split_once(';').ok_or("no limits")?;
+        let [participants, cells, turn_max, expiry] = array::<4>(limits)?;
+        let limits = Limits {
+            cells: u32::try_from(cells)?,
+            turn_max: u32::try_from(turn_max)?,
+            expiry,
+            ..ample(u32::try_from(participants)?)
+        };
+        let mut world: Jobs = World::new(rt.alloc(), limits, 1)?;
+        let wrong = wrong_turn(rt.alloc(), &mut world, dialogue)?;
+        assert_eq!(rt; wrong, None, "{name}");
+    }
+    Ok(())
 }
 
-/// What a call answers.
-#[derive(Clone, Copy, PartialEq, Eq, Drop)]
-enum Answer {
-    Done,
-    Number(u64),
-    Named(Name),
-    Pointer(Ptr),
-    Other(OtherPointer),
-    Refused(Fault),
-    /// Refused; the number came back.
-    Back(Fault, u64),
-}
-
-type Row = (Act, Answer);
-
-/// The number of the first row whose call answers something else.
-fn first_wrong(world: &mut Jobs, rows: &[Row]) -> Option<usize> {
-    for (number, row) in rows.iter().enumerate() {
-        let (act, expected) = *row;
-        if answer_of(world, act) != expected {
-            return Some(number);
+impl Asked for Jobs {
+    fn answer(&mut self, alloc: Global, word: &str, numbers: &[u64]) -> Result<String, Fail> {
+        match (word, numbers) {
+            ("register", []) => told(alloc, &self.register()),
+            ("epoch", []) => told(alloc, &self.epoch()),
+            ("waiting", []) => told(alloc, &self.waiting()),
+            ("pin", [who]) => told(alloc, &call(self, *who, Op::Pin)),
+            ("unpin", [who]) => told(alloc, &call(self, *who, Op::Unpin)),
+            ("flush", [who]) => told(alloc, &call(self, *who, Op::Flush)),
+            ("release", [who]) => told(alloc, &call(self, *who, Op::Release)),
+            ("World::flush", [who]) => told(alloc, &self.flush(*who as usize)),
+            ("World::repin", [who]) => told(alloc, &self.repin(*who as usize)),
+            ("rounds", [who, count]) => told(alloc, &rounds(self, *who, *count)),
+            ("defer", [who, count]) => told(alloc, &defers(self, *who as usize, *count)),
+            ("defer_unchecked", [who]) => told(alloc, &self.defer_unchecked(*who as usize, ())),
+            ("has_place", [who]) => told(alloc, &self.has_place(*who as usize)),
+            _ => of_cells(alloc, self, word, numbers),
         }
     }
-    None
 }
 
-/// Runs the rows in a new collector with one root.
-fn first_wrong_in_new(alloc: Global, limits: Limits, rows: &[Row]) -> Result<Option<usize>, Fault> {
-    let mut world: Jobs = World::new(alloc, limits, 1)?;
-    Ok(first_wrong(&mut world, rows))
+fn name(cell: u64, turn: u64) -> Result<Name, Fail> {
+    Ok(Name {
+        cell: u32::try_from(cell)?,
+        turn: u32::try_from(turn)?,
+    })
 }
 
-fn answer_of(world: &mut Jobs, act: Act) -> Answer {
-    match act {
-        Act::Register => register(world),
-        Act::Call(who, op) => call(world, who, op),
-        Act::Flush(who) => ended(world.flush(who)),
-        Act::Repin(who) => ended(world.repin(who)),
-        Act::Rounds(who, count) => rounds(world, who, count),
-        Act::Defer(who, count) => defers(world, who, count),
-        Act::DeferUnchecked(who) => defer_unchecked(world, who),
-        Act::HasPlace(who) => Answer::Number(if world.has_place(who) { 1 } else { 0 }),
-        Act::DeferDestroy(who, name) => defer_destroy(world, who, name),
-        Act::Epoch => Answer::Number(world.epoch()),
-        Act::Waiting => Answer::Number(world.waiting()),
-        Act::Place(number) => place(world, number),
-        Act::Replace(name, number) => replace(world, name, number),
-        Act::Read(name) => read(world, name),
-        Act::GiveBack(name) => give_back(world, name),
-        Act::LoadFrom(root) => pointer(world.load(root)),
-        Act::Store(new) => store(world, new),
-        Act::Swap(new) => pointer(world.swap(0, new)),
-        Act::Exchange(current, new) => exchange(world, current, new),
-        Act::FetchAnd(number) => pointer(world.fetch_and(0, number)),
-        Act::FetchOr(number) => pointer(world.fetch_or(0, number)),
-        Act::FetchXor(number) => pointer(world.fetch_xor(0, number)),
+/// A pointer to a value in this cell and turn.
+fn pointer(cell: u64, turn: u64, tag: u64) -> Result<Ptr, Fail> {
+    let name = Some(name(cell, turn)?);
+    Ok(Ptr { name, tag: 0 }.with_tag::<Plain>(tag as usize))
+}
+
+/// The answer of the cells, or of the root.
+fn of_cells(alloc: Global, world: &mut Jobs, word: &str, numbers: &[u64]) -> Result<String, Fail> {
+    match (word, numbers) {
+        ("place", [number]) => told(alloc, &world.place(Plain(*number))),
+        ("read", [cell, turn]) => told(alloc, &world.read(name(*cell, *turn)?)),
+        ("give_back", [cell, turn]) => told(alloc, &world.give_back(name(*cell, *turn)?)),
+        ("replace", [cell, turn, n]) => told(alloc, &world.replace(name(*cell, *turn)?, Plain(*n))),
+        ("destroy", [who, cell, turn]) => {
+            told(
+                alloc,
+                &world.defer_destroy(*who as usize, name(*cell, *turn)?),
+            )
+        }
+        _ => of_root(alloc, world, word, numbers),
     }
 }
 
-fn register(world: &mut Jobs) -> Answer {
-    match world.register() {
-        Ok(place) => Answer::Number(place as u64),
-        Err(fault) => Answer::Refused(fault),
+fn of_root(alloc: Global, world: &mut Jobs, word: &str, numbers: &[u64]) -> Result<String, Fail> {
+    let null = Ptr::null();
+    match (word, numbers) {
+        ("load", [root]) => told(alloc, &world.load(*root as usize)),
+        ("store_null", [tag]) => told(
+            alloc,
+            &world.store(0, null.with_tag::<Plain>(*tag as usize)),
+        ),
+        ("store", [cell, turn, tag]) => told(alloc, &world.store(0, pointer(*cell, *turn, *tag)?)),
+        ("swap", [cell, turn, tag]) => told(alloc, &world.swap(0, pointer(*cell, *turn, *tag)?)),
+        // Writes null where the root holds the pointer.
+        ("empty", [cell, turn, tag]) => {
+            told(
+                alloc,
+                &world.compare_exchange(0, pointer(*cell, *turn, *tag)?, null),
+            )
+        }
+        ("fetch_and", [tag]) => told(alloc, &world.fetch_and(0, *tag as usize)),
+        ("fetch_or", [tag]) => told(alloc, &world.fetch_or(0, *tag as usize)),
+        ("fetch_xor", [tag]) => told(alloc, &world.fetch_xor(0, *tag as usize)),
+        _ => Err("no question")?,
     }
-}
-
-fn step<J: Task>(world: &mut World<Plain, J>, who: usize, event: Event) -> Outcome {
-    world.step(who, event).outcome
 }
 
 /// A whole call of at most 2,000 steps.
-fn call(world: &mut Jobs, who: usize, op: Op) -> Answer {
-    let mut outcome = step(world, who, Event::Begin(op));
+fn call(world: &mut Jobs, who: u64, op: Op) -> Outcome {
+    let mut event = Event::Begin(op);
     for _ in 0..2000 {
-        match outcome {
-            Outcome::Running => outcome = step(world, who, Event::Go),
-            Outcome::Done => return Answer::Done,
-            Outcome::Refused(fault) => return Answer::Refused(fault),
+        let outcome = world.step(who as usize, event).outcome;
+        if outcome != Outcome::Running {
+            return outcome;
         }
+        event = Event::Go;
     }
-    Answer::Number(2000)
+    Outcome::Running
 }
 
 /// Rounds of pin, flush and unpin; the first answer that isn't `Done`.
-fn rounds(world: &mut Jobs, who: usize, count: u32) -> Answer {
+fn rounds(world: &mut Jobs, who: u64, count: u64) -> Outcome {
     for _ in 0..count {
         for op in [Op::Pin, Op::Flush, Op::Unpin] {
-            let answer = call(world, who, op);
-            if answer != Answer::Done {
-                return answer;
+            let outcome = call(world, who, op);
+            if outcome != Outcome::Done {
+                return outcome;
             }
         }
     }
-    Answer::Done
+    Outcome::Done
 }
 
-fn defers(world: &mut Jobs, who: usize, count: u32) -> Answer {
+/// So many deferrals of a job, until one is refused.
+fn defers(world: &mut Jobs, who: usize, count: u64) -> Result<(), Fault> {
     for _ in 0..count {
         if let Err((fault, ())) = world.defer(who, ()) {
-            return Answer::Refused(fault);
+            return Err(fault);
         }
     }
-    Answer::Done
-}
-
-fn defer_unchecked(world: &mut Jobs, who: usize) -> Answer {
-    match world.defer_unchecked(who, ()) {
-        Ok(ticket) => Answer::Number(ticket),
-        Err((fault, ())) => Answer::Refused(fault),
-    }
-}
-
-/// How a whole call ended.
-fn ended(outcome: Outcome) -> Answer {
-    match outcome {
-        Outcome::Running => Answer::Number(1000),
-        Outcome::Done => Answer::Done,
-        Outcome::Refused(fault) => Answer::Refused(fault),
-    }
-}
-
-fn defer_destroy(world: &mut Jobs, who: usize, name: Name) -> Answer {
-    match world.defer_destroy(who, name) {
-        Ok(ticket) => Answer::Number(ticket),
-        Err(fault) => Answer::Refused(fault),
-    }
-}
-
-fn place(world: &mut Jobs, number: u64) -> Answer {
-    match world.place(Plain(number)) {
-        Ok(name) => Answer::Named(name),
-        Err((fault, Plain(back))) => Answer::Back(fault, back),
-    }
-}
-
-fn replace(world: &mut Jobs, name: Name, number: u64) -> Answer {
-    match world.replace(name, Plain(number)) {
-        Ok(Plain(old)) => Answer::Number(old),
-        Err((fault, Plain(back))) => Answer::Back(fault, back),
-    }
-}
-
-fn read(world: &Jobs, name: Name) -> Answer {
-    match world.read(name) {
-        Some(Plain(number)) => Answer::Number(*number),
-        None => Answer::Refused(Fault::Unknown),
-    }
-}
-
-fn give_back(world: &mut Jobs, name: Name) -> Answer {
-    match world.give_back(name) {
-        Ok(Plain(number)) => Answer::Number(number),
-        Err(fault) => Answer::Refused(fault),
-    }
-}
-
-fn pointer(res: Result<Ptr, Fault>) -> Answer {
-    match res {
-        Ok(pointer) => Answer::Pointer(pointer),
-        Err(fault) => Answer::Refused(fault),
-    }
-}
-
-fn store(world: &mut Jobs, new: Ptr) -> Answer {
-    match world.store(0, new) {
-        Ok(()) => Answer::Done,
-        Err(fault) => Answer::Refused(fault),
-    }
-}
-
-fn exchange(world: &mut Jobs, current: Ptr, new: Ptr) -> Answer {
-    match world.compare_exchange(0, current, new) {
-        Ok(Ok(written)) => Answer::Pointer(written),
-        Ok(Err(other)) => Answer::Other(other),
-        Err(fault) => Answer::Refused(fault),
-    }
-}
-
-/// Participant 1 pins at an older epoch than the seal of a job of participant 0; then what the epoch is, and how many wait.
-fn blocked_rows(epoch: u64, waiting: u64) -> [Row; 12] {
-    [
-        (Act::Register, Answer::Number(0)),
-        (Act::Register, Answer::Number(1)),
-        (Act::Call(0, Op::Pin), Answer::Done),
-        (Act::Call(0, Op::Unpin), Answer::Done),
-        (Act::Call(1, Op::Pin), Answer::Done),
-        (Act::Call(1, Op::Unpin), Answer::Done),
-        (Act::Call(1, Op::Pin), Answer::Done),
-        (Act::Call(0, Op::Pin), Answer::Done),
-        (Act::Defer(0, 1), Answer::Done),
-        (Act::Call(0, Op::Flush), Answer::Done),
-        (Act::Epoch, Answer::Number(epoch)),
-        (Act::Waiting, Answer::Number(waiting)),
-    ]
-}
-
-#[test]
-fn a_blocked_job_waits_and_expiry_one_is_too_little(rt: HostRuntime) -> Result<(), Fail> {
-    for (expiry, waiting) in [(2, 1), (1, 0)] {
-        let limits = Limits { expiry, ..ample(2) };
-        let wrong = first_wrong_in_new(rt.alloc(), limits, &blocked_rows(3, waiting))?;
-        assert!(rt; wrong.is_none());
-    }
-    Ok(())
-}
-
-/// A full bag has 64 jobs; the 65th queues it.
-fn full_bag_rows() -> [Row; 9] {
-    [
-        (Act::Register, Answer::Number(0)),
-        (Act::Call(0, Op::Pin), Answer::Done),
-        (Act::Defer(0, 65), Answer::Done),
-        (Act::Call(0, Op::Unpin), Answer::Done),
-        (Act::Waiting, Answer::Number(65)),
-        (Act::Rounds(0, 1), Answer::Done),
-        (Act::Waiting, Answer::Number(65)),
-        (Act::Rounds(0, 1), Answer::Done),
-        (Act::Waiting, Answer::Number(0)),
-    ]
-}
-
-#[test]
-fn a_full_bag_is_queued(rt: HostRuntime) -> Result<(), Fail> {
-    let wrong = first_wrong_in_new(rt.alloc(), ample(1), &full_bag_rows())?;
-    assert!(rt; wrong.is_none());
-    Ok(())
-}
-
-/// 2,177 jobs are 35 bags; each collection takes eight of them.
-fn many_bags_rows() -> [Row; 17] {
-    [
-        (Act::Register, Answer::Number(0)),
-        (Act::Call(0, Op::Pin), Answer::Done),
-        (Act::Defer(0, 2177), Answer::Done),
-        (Act::Call(0, Op::Unpin), Answer::Done),
-        (Act::Waiting, Answer::Number(2177)),
-        (Act::Rounds(0, 1), Answer::Done),
-        (Act::Waiting, Answer::Number(2177)),
-        (Act::Rounds(0, 1), Answer::Done),
-        (Act::Waiting, Answer::Number(1665)),
-        (Act::Rounds(0, 1), Answer::Done),
-        (Act::Waiting, Answer::Number(1153)),
-        (Act::Rounds(0, 1), Answer::Done),
-        (Act::Waiting, Answer::Number(641)),
-        (Act::Rounds(0, 1), Answer::Done),
-        (Act::Waiting, Answer::Number(129)),
-        (Act::Rounds(0, 1), Answer::Done),
-        (Act::Waiting, Answer::Number(0)),
-    ]
-}
-
-#[test]
-fn a_collection_takes_eight_bags(rt: HostRuntime) -> Result<(), Fail> {
-    let wrong = first_wrong_in_new(rt.alloc(), ample(1), &many_bags_rows())?;
-    assert!(rt; wrong.is_none());
     Ok(())
 }
 
@@ -405,45 +264,9 @@ fn refuses_later_bags(world: &mut Jobs) -> bool {
 #[test]
 fn the_first_bag_of_a_block_alone_asks_for_memory(rt: HostRuntime) -> Result<(), Fail> {
     let mut world: Jobs = World::new(rt.alloc(), ample(1), 0)?;
-    let rows = [
-        (Act::Register, Answer::Number(0)),
-        (Act::Call(0, Op::Pin), Answer::Done),
-    ];
-    assert!(rt; first_wrong(&mut world, &rows).is_none());
+    assert_eq!(rt; world.register(), Ok(0));
+    assert_eq!(rt; call(&mut world, 0, Op::Pin), Outcome::Done);
     assert!(rt; !refuses_later_bags(&mut world));
-    Ok(())
-}
-
-/// A flush by its name seals the bag and collects; a repin by its name follows the epoch.
-fn whole_call_rows() -> [Row; 20] {
-    [
-        (Act::Register, Answer::Number(0)),
-        (Act::Flush(0), Answer::Refused(Fault::Unpinned)),
-        (Act::Repin(0), Answer::Refused(Fault::Unpinned)),
-        (Act::DeferUnchecked(0), Answer::Refused(Fault::Unpinned)),
-        (Act::HasPlace(0), Answer::Number(1)),
-        (Act::HasPlace(1), Answer::Number(0)),
-        (Act::Call(0, Op::Pin), Answer::Done),
-        (Act::Epoch, Answer::Number(1)),
-        (Act::Repin(0), Answer::Done),
-        (Act::DeferUnchecked(0), Answer::Number(0)),
-        (Act::Defer(0, 63), Answer::Done),
-        (Act::HasPlace(0), Answer::Number(0)),
-        (Act::Flush(0), Answer::Done),
-        (Act::HasPlace(0), Answer::Number(1)),
-        (Act::Epoch, Answer::Number(2)),
-        (Act::Waiting, Answer::Number(64)),
-        (Act::Repin(0), Answer::Done),
-        (Act::Flush(0), Answer::Done),
-        (Act::Epoch, Answer::Number(3)),
-        (Act::Waiting, Answer::Number(0)),
-    ]
-}
-
-#[test]
-fn whole_calls_by_their_names(rt: HostRuntime) -> Result<(), Fail> {
-    let wrong = first_wrong_in_new(rt.alloc(), ample(1), &whole_call_rows())?;
-    assert!(rt; wrong.is_none());
     Ok(())
 }
 
@@ -461,148 +284,17 @@ fn a_run_takes_every_step(rt: HostRuntime) -> Result<(), Fail> {
         event: Event::Go,
     };
     let ran = world.run(rt.alloc(), &[pin, go, go, go, go, go, go, go]);
-    let running = Outcome::Running;
-    let expected = [
-        running,
-        running,
-        running,
-        running,
-        running,
-        running,
-        Outcome::Done,
-        Outcome::Refused(Fault::Idle),
-    ];
-    assert!(rt; ran.done == 8);
-    let mut right = ran.reports.len() == 8;
-    for (report, outcome) in ran.reports.iter().zip(expected.iter()) {
-        right &= report.outcome == *outcome && report.called.is_none();
+    assert_eq!(rt; (ran.done, ran.reports.len()), (8, 8));
+    for (number, report) in ran.reports.iter().enumerate() {
+        let expected = match number {
+            0..=5 => Outcome::Running,
+            6 => Outcome::Done,
+            _ => Outcome::Refused(Fault::Idle),
+        };
+        assert_eq!(rt; report.outcome, expected, "at {number}");
+        assert!(rt; report.called.is_none(), "at {number}");
     }
-    assert!(rt; right && world.epoch() == 1 && world.is_pinned(0));
-    Ok(())
-}
-
-/// One cell, which has two turns.
-fn cell_rows() -> [Row; 18] {
-    let first = Name { cell: 0, turn: 0 };
-    let second = Name { cell: 0, turn: 1 };
-    let tagged = Ptr {
-        name: Some(first),
-        tag: 1,
-    };
-    [
-        (Act::Register, Answer::Number(0)),
-        (Act::Place(1), Answer::Named(first)),
-        (Act::Place(2), Answer::Back(Fault::CellsFull, 2)),
-        (Act::Replace(first, 3), Answer::Number(1)),
-        (Act::Read(first), Answer::Number(3)),
-        (Act::Store(tagged), Answer::Done),
-        (Act::LoadFrom(0), Answer::Pointer(tagged)),
-        (Act::LoadFrom(1), Answer::Refused(Fault::Unknown)),
-        (Act::Store(Ptr::null()), Answer::Done),
-        (Act::Call(0, Op::Pin), Answer::Done),
-        (Act::DeferDestroy(0, first), Answer::Number(0)),
-        (Act::Call(0, Op::Unpin), Answer::Done),
-        (Act::Rounds(0, 3), Answer::Done),
-        (Act::Waiting, Answer::Number(0)),
-        (Act::Read(first), Answer::Refused(Fault::Unknown)),
-        (Act::Place(4), Answer::Named(second)),
-        (Act::GiveBack(second), Answer::Number(4)),
-        // The cell's last turn is spent.
-        (Act::Place(5), Answer::Back(Fault::CellsFull, 5)),
-    ]
-}
-
-#[test]
-fn cells_are_used_again_under_the_next_turn(rt: HostRuntime) -> Result<(), Fail> {
-    let limits = Limits {
-        cells: 1,
-        turn_max: 1,
-        ..ample(1)
-    };
-    let wrong = first_wrong_in_new(rt.alloc(), limits, &cell_rows())?;
-    assert!(rt; wrong.is_none());
-    Ok(())
-}
-
-fn leaving_rows() -> [Row; 12] {
-    [
-        (Act::Register, Answer::Number(0)),
-        (Act::Register, Answer::Number(1)),
-        (Act::Register, Answer::Refused(Fault::TableFull)),
-        (Act::Call(0, Op::Pin), Answer::Done),
-        (Act::Defer(0, 1), Answer::Done),
-        (Act::Call(0, Op::Release), Answer::Refused(Fault::GuardOut)),
-        (Act::Call(0, Op::Unpin), Answer::Done),
-        (Act::Call(0, Op::Release), Answer::Done),
-        (Act::Waiting, Answer::Number(1)),
-        (Act::Rounds(1, 3), Answer::Done),
-        (Act::Waiting, Answer::Number(0)),
-        (Act::Register, Answer::Number(0)),
-    ]
-}
-
-#[test]
-fn a_participant_that_leaves_queues_its_bag(rt: HostRuntime) -> Result<(), Fail> {
-    let wrong = first_wrong_in_new(rt.alloc(), ample(2), &leaving_rows())?;
-    assert!(rt; wrong.is_none());
-    Ok(())
-}
-
-fn exchange_rows() -> [Row; 5] {
-    let name = Name { cell: 0, turn: 0 };
-    let stands = Ptr {
-        name: Some(name),
-        tag: 0,
-    };
-    // The tag is 5 modulo 4.
-    let held = Ptr { tag: 1, ..stands };
-    let null = Ptr::null();
-    let other = OtherPointer {
-        current: held,
-        new: null,
-    };
-    [
-        (Act::Place(7), Answer::Named(name)),
-        (
-            Act::Swap(stands.with_tag::<Plain>(5)),
-            Answer::Pointer(null),
-        ),
-        (Act::Exchange(stands, null), Answer::Other(other)),
-        (Act::Exchange(held, null), Answer::Pointer(null)),
-        (Act::LoadFrom(0), Answer::Pointer(null)),
-    ]
-}
-
-#[test]
-fn an_exchange_of_a_root_looks_at_the_tag(rt: HostRuntime) -> Result<(), Fail> {
-    let wrong = first_wrong_in_new(rt.alloc(), ample(1), &exchange_rows())?;
-    assert!(rt; wrong.is_none());
-    Ok(())
-}
-
-fn tag_rows() -> [Row; 9] {
-    let null = Ptr::null();
-    let one = Ptr { tag: 1, ..null };
-    let two = Ptr { tag: 2, ..null };
-    let three = Ptr { tag: 3, ..null };
-    [
-        (Act::Store(null.with_tag::<Plain>(3)), Answer::Done),
-        (Act::FetchAnd(1), Answer::Pointer(three)),
-        (Act::FetchXor(3), Answer::Pointer(one)),
-        (Act::LoadFrom(0), Answer::Pointer(two)),
-        (Act::Store(null.with_tag::<Plain>(1)), Answer::Done),
-        (Act::FetchOr(2), Answer::Pointer(one)),
-        (Act::LoadFrom(0), Answer::Pointer(three)),
-        // The tag is 5 modulo 4.
-        (Act::Store(three.with_tag::<Plain>(5)), Answer::Done),
-        (Act::LoadFrom(0), Answer::Pointer(one)),
-    ]
-}
-
-#[test]
-fn bits_of_a_tag_are_changed(rt: HostRuntime) -> Result<(), Fail> {
-    let wrong = first_wrong_in_new(rt.alloc(), ample(1), &tag_rows())?;
-    assert!(rt; wrong.is_none());
+    assert!(rt; world.epoch() == 1 && world.is_pinned(0));
     Ok(())
 }
 
@@ -617,9 +309,8 @@ fn end<J: Task>(world: World<Plain, J>) -> Result<u64, (Fault, bool)> {
 #[test]
 fn the_end_waits_for_everybody(rt: HostRuntime) -> Result<(), Fail> {
     let mut world: Jobs = World::new(rt.alloc(), ample(1), 1)?;
-    let answer = register(&mut world);
-    let refused = end(world) == Err((Fault::Registered(1), true));
-    assert!(rt; answer == Answer::Number(0) && refused);
+    world.register()?;
+    assert_eq!(rt; end(world), Err((Fault::Registered(1), true)));
     Ok(())
 }
 
@@ -634,42 +325,6 @@ pub(crate) fn adds(alloc: Global, sum: &Arc<AtomicU64>, number: u64) -> Result<J
     Ok(Job::new(call))
 }
 
-/// A participant does these calls, 20 steps each.
-fn steps(world: &mut BoxedJobs, ops: &[Op]) {
-    for op in ops {
-        step(world, 0, Event::Begin(*op));
-        for _ in 0..20 {
-            step(world, 0, Event::Go);
-        }
-    }
-}
-
-fn defers_boxed(world: &mut BoxedJobs, job: Job) -> bool {
-    world.defer(0, job).is_ok()
-}
-
-/// Secures a place for the job, defers it, and goes four rounds. Whether nothing waits then.
-fn job_is_called(world: &mut BoxedJobs, job: Job) -> bool {
-    steps(world, &[Op::Pin, Op::Secure(1), Op::Unpin, Op::Pin]);
-    let deferred = defers_boxed(world, job);
-    for _ in 0..4 {
-        steps(world, &[Op::Flush, Op::Unpin, Op::Pin]);
-    }
-    deferred && world.waiting() == 0
-}
-
-/// Defers the job under a pin and leaves.
-fn job_is_left(world: &mut BoxedJobs, job: Job) -> bool {
-    whole_call(world, Op::Pin);
-    let deferred = defers_boxed(world, job);
-    whole_call(world, Op::Unpin);
-    deferred && world.release(0) == Outcome::Done
-}
-
-fn whole_call(world: &mut BoxedJobs, op: Op) {
-    world.call(0, op, 1000);
-}
-
 /// A collector with one participant.
 fn with_one(alloc: Global) -> Result<BoxedJobs, Fault> {
     let mut world = World::new(alloc, ample(1), 1)?;
@@ -677,12 +332,24 @@ fn with_one(alloc: Global) -> Result<BoxedJobs, Fault> {
     Ok(world)
 }
 
+/// The participant does these calls.
+fn calls(world: &mut BoxedJobs, ops: &[Op]) {
+    for op in ops {
+        world.call(0, *op, 1000);
+    }
+}
+
 #[test]
 fn a_job_runs_its_box(rt: HostRuntime) -> Result<(), Fail> {
     let sum = Arc::new(rt.alloc(), AtomicU64::new(0))?;
     let job = adds(rt.alloc(), &sum, 1)?;
-    let called = job_is_called(&mut with_one(rt.alloc())?, job);
-    assert!(rt; called && sum.load(Ordering::SeqCst) == 1);
+    let mut world = with_one(rt.alloc())?;
+    calls(&mut world, &[Op::Pin, Op::Secure(1), Op::Unpin, Op::Pin]);
+    assert!(rt; world.defer(0, job).is_ok());
+    for _ in 0..4 {
+        calls(&mut world, &[Op::Flush, Op::Unpin, Op::Pin]);
+    }
+    assert_eq!(rt; (world.waiting(), sum.load(Ordering::SeqCst)), (0, 1));
     Ok(())
 }
 
@@ -691,9 +358,11 @@ fn the_end_calls_what_is_left(rt: HostRuntime) -> Result<(), Fail> {
     let sum = Arc::new(rt.alloc(), AtomicU64::new(0))?;
     let job = adds(rt.alloc(), &sum, 1)?;
     let mut world = with_one(rt.alloc())?;
-    let left = job_is_left(&mut world, job);
-    let called = end(world);
-    assert!(rt; left && called == Ok(1));
-    assert!(rt; sum.load(Ordering::SeqCst) == 1);
+    calls(&mut world, &[Op::Pin]);
+    assert!(rt; world.defer(0, job).is_ok());
+    calls(&mut world, &[Op::Unpin]);
+    assert_eq!(rt; world.release(0), Outcome::Done);
+    assert_eq!(rt; end(world), Ok(1));
+    assert_eq!(rt; sum.load(Ordering::SeqCst), 1);
     Ok(())
 }

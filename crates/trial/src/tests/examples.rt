@@ -1,9 +1,13 @@
 //! The examples, run.
 
 use super::face::limits;
+use super::machine::{beginning, going, noise};
 use crate::examples::machine::{runs_and_closes, runs_as_one_map};
+use crate::examples::owned::{
+    finds_what_it_puts, finds_what_it_puts_in_numbers, opens_and_closes, opens_and_closes_numbers,
+};
 use crate::examples::stack::{Node, Stack, pops, sum_of_two};
-use congee::{Allocator, Limited, Noise};
+use congee::{Allocator, Limited};
 use crossbeam_epoch::Collector;
 use joint::{Done, Event, Op, Outcome, Refusal, Report, Step};
 use judge::Reply;
@@ -31,21 +35,7 @@ fn the_last_number_is_popped_first(rt: HostRuntime) -> Result<(), Fail> {
 
 /// A step of the worker's call in flight, with nothing from outside.
 fn go(worker: u32) -> Step<u64> {
-    Step {
-        worker,
-        event: Event::Go(Noise {
-            fail: false,
-            seen: None,
-            answer: None,
-        }),
-    }
-}
-
-fn begin(worker: u32, op: Op<u64>) -> Step<u64> {
-    Step {
-        worker,
-        event: Event::Begin(op),
-    }
+    going(worker, noise(false, None))
 }
 
 /// Two workers come and pin; then so many steps of each, one after the other, of an insertion of the one and a look-up of
@@ -57,18 +47,18 @@ fn schedule(alloc: Global) -> Result<Vec<Step<u64>>, AllocError> {
             worker,
             event: Event::Register,
         })?;
-        steps.push(begin(worker, Op::Pin))?;
+        steps.push(beginning(worker, Op::Pin))?;
         for _ in 0..20 {
             steps.push(go(worker))?;
         }
     }
-    steps.push(begin(0, Op::Insert(7, 70)))?;
-    steps.push(begin(1, Op::Get(7)))?;
+    steps.push(beginning(0, Op::Insert(7, 70)))?;
+    steps.push(beginning(1, Op::Get(7)))?;
     for _ in 0..20 {
         steps.push(go(0))?;
         steps.push(go(1))?;
     }
-    steps.push(begin(1, Op::Get(7)))?;
+    steps.push(beginning(1, Op::Get(7)))?;
     for _ in 0..20 {
         steps.push(go(1))?;
     }
@@ -106,5 +96,17 @@ fn an_index_that_is_closed_leaves_the_charge(rt: HostRuntime) -> Result<(), Fail
     assert_eq!(rt; (allocator.charged(), allocator.limit()), (500, 10_000));
     let refused = runs_and_closes(rt.alloc(), allocator, schedule(rt.alloc())?);
     assert_eq!(rt; refused.err(), Some(Refusal::WorkersLeft(2)));
+    Ok(())
+}
+
+#[test]
+fn owned_trees_keep_their_contracts(rt: HostRuntime) -> Result<(), Fail> {
+    let budget = opens_and_closes(rt.alloc(), 5000)?;
+    assert!(rt; budget.charged == 0 && budget.limit == 5000);
+    let budget = opens_and_closes_numbers(rt.alloc(), 6000)?;
+    assert!(rt; budget.charged == 0 && budget.limit == 6000);
+    assert!(rt; opens_and_closes(rt.alloc(), 2103).is_err());
+    assert!(rt; finds_what_it_puts(rt.alloc(), 256, 7)? == Some(7));
+    assert!(rt; finds_what_it_puts_in_numbers(rt.alloc(), 0, 9)? == Some(9));
     Ok(())
 }

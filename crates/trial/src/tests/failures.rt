@@ -1,7 +1,7 @@
 //! Scripts with calls in flight whose reader, writer or memory fails once.
 
 use super::journal_lines::{FILLED, FILLS};
-use super::machine::{AMPLE, Index, call, is_done, open_with_workers, replied};
+use super::machine::{Index, call, is_done, open, replied};
 use crate::run::run;
 use joint::{Op, Outcome, Refusal};
 use judge::{Call, Reply};
@@ -20,13 +20,12 @@ const REPLIES: &[u8] = b"ok\nworker 0\nworker 1\nok\nok\nnone\nnone\nnone\nnone\
     begun\nrunning\npair 5 12\nok\nok\nok\nok\nwaiting 0 0\ncharged 2336\nok\nsome 12\n\
     range 5 1:1 2:2 3:3 4:4 5:12\n";
 
-/// Gives a script by so many bytes a read, fails once, and goes on after it.
+/// Gives a script by seven bytes a read, fails once, and goes on after it.
 #[derive(Drop)]
-struct Hiccup<'a> {
-    script: &'a [u8],
-    size: usize,
+pub struct Hiccup<'a> {
+    pub script: &'a [u8],
     /// The reads before the one that fails, if one does.
-    before: Option<u64>,
+    pub before: Option<u64>,
 }
 
 impl Read for Hiccup<'_> {
@@ -36,7 +35,7 @@ impl Read for Hiccup<'_> {
             return Err(io::Error::from(ErrorKind::Interrupted));
         }
         self.before = self.before.map(|reads| reads.saturating_sub(1));
-        let n = buf.len().min(self.size).min(self.script.len());
+        let n = buf.len().min(7).min(self.script.len());
         buf[..n].copy_from_slice(&self.script[..n]);
         self.script = &self.script[n..];
         Ok(n)
@@ -106,7 +105,6 @@ fn a_read_that_fails_once_ends_a_script_with_calls_in_flight(rt: HostRuntime) ->
     for before in 0..=READS {
         let mut reader = Hiccup {
             script: SCRIPT,
-            size: 7,
             before: Some(before),
         };
         let mut printed = Vec::new(rt.alloc());
@@ -114,11 +112,8 @@ fn a_read_that_fails_once_ends_a_script_with_calls_in_flight(rt: HostRuntime) ->
         let given = before.saturating_mul(7);
         assert_eq!(rt; status, if before == READS { 0 } else { 1 }, "at {before}");
         assert_eq!(rt; printed.as_slice(), replies_within(given), "at {before}");
-        assert_eq!(rt;
-            reader.script.len() as u64,
-            (SCRIPT.len() as u64).saturating_sub(given),
-            "at {before}"
-        );
+        let left = (SCRIPT.len() as u64).saturating_sub(given);
+        assert_eq!(rt; reader.script.len() as u64, left, "at {before}");
     }
     Ok(())
 }
@@ -128,7 +123,6 @@ fn a_flush_that_fails_once_ends_a_script_with_calls_in_flight(rt: HostRuntime) -
     for before in 0..=READS {
         let mut reader = Hiccup {
             script: SCRIPT,
-            size: 7,
             before: None,
         };
         let mut writer = Unflushed {
@@ -138,11 +132,8 @@ fn a_flush_that_fails_once_ends_a_script_with_calls_in_flight(rt: HostRuntime) -
         let status = run(rt.alloc(), &mut reader, &mut writer);
         let given = before.saturating_add(1).saturating_mul(7);
         assert_eq!(rt; status, if before == READS { 0 } else { 1 }, "at {before}");
-        assert_eq!(rt;
-            writer.taken.as_slice(),
-            replies_within(given),
-            "at {before}"
-        );
+        let replies = replies_within(given);
+        assert_eq!(rt; writer.taken.as_slice(), replies, "at {before}");
     }
     Ok(())
 }
@@ -252,8 +243,8 @@ fn ends_with(index: &mut Index, made: Call<u64>, reply: Reply<u64>) -> bool {
 
 /// An index with its workers; where memory is refused it is opened again.
 fn opened(alloc: Global) -> Result<Index, Refusal> {
-    match open_with_workers(alloc, &AMPLE) {
-        Err(Refusal::Memory) => open_with_workers(alloc, &AMPLE),
+    match open(alloc, 2, 1_000) {
+        Err(Refusal::Memory) => open(alloc, 2, 1_000),
         opened => opened,
     }
 }

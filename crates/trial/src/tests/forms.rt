@@ -5,22 +5,13 @@ use std::test::Fail;
 
 type Words = Node<u32, u64>;
 
-const FORMS: [NodeType; 4] = [NodeType::N4, NodeType::N16, NodeType::N48, NodeType::N256];
-
-/// What is asked of a node.
-#[derive(Clone, Copy)]
-enum Question {
-    /// Whether it has this size and this capacity while it's empty.
-    Measures(u64, usize),
-    /// Whether the children at 0, 65, 200 and 255 come ascending.
-    Ascends,
-    /// Whether one of the children at 3, 128 and 130 changes, and one goes.
-    Changes,
-    /// Whether it grows to the greatest form with a child at each byte.
-    Grows,
-    /// Whether the places of the bytes 1 to 6 are used again.
-    Reuses,
-}
+/// Each form, with its size in bytes and its capacity.
+const FORMS: [(NodeType, u64, usize); 4] = [
+    (NodeType::N4, 64, 4),
+    (NodeType::N16, 168, 16),
+    (NodeType::N48, 672, 48),
+    (NodeType::N256, 2104, 256),
+];
 
 fn value_of(byte: u8) -> Child<u32, u64> {
     Child::Value(byte as u64 + 1000)
@@ -38,11 +29,13 @@ fn take(node: &mut Words, byte: u8) {
     }
 }
 
-// A value at each byte, added from the last to the first.
-fn fill(node: &mut Words, bytes: &[u8]) {
+// A node with the prefix 7, 9 and a value at each byte, added from the last to the first.
+fn filled(alloc: Global, form: NodeType, bytes: &[u8]) -> Result<Words, Fail> {
+    let mut node = Node::new(alloc, form, [7, 9].as_slice())?;
     for byte in bytes.iter().rev() {
-        put(node, *byte, value_of(*byte));
+        put(&mut node, *byte, value_of(*byte));
     }
+    Ok(node)
 }
 
 // The bytes and values of the children in a range of bytes.
@@ -56,16 +49,6 @@ fn scanned(alloc: Global, node: &Words, start: u8, end: u8) -> Result<Vec<(u8, u
     Ok(pairs)
 }
 
-fn scans(
-    alloc: Global,
-    node: &Words,
-    start: u8,
-    end: u8,
-    pairs: &[(u8, u64)],
-) -> Result<bool, Fail> {
-    Ok(scanned(alloc, node, start, end)?.as_slice() == pairs)
-}
-
 fn measures(node: &Words, form: NodeType, size: u64, capacity: usize) -> bool {
     node.node_type() == form
         && node.size() == size
@@ -77,9 +60,9 @@ fn measures(node: &Words, form: NodeType, size: u64, capacity: usize) -> bool {
 fn ascends(alloc: Global, node: &Words) -> Result<bool, Fail> {
     let all = [(0, 1000), (65, 1065), (200, 1200), (255, 1255)];
     Ok(
-        scans(alloc, node, 0, 255, &all)?
-            && scans(alloc, node, 1, 200, &[(65, 1065), (200, 1200)])?
-            && scans(alloc, node, 66, 199, &[])?
+        scanned(alloc, node, 0, 255)?.as_slice() == all.as_slice()
+            && scanned(alloc, node, 1, 200)?.as_slice() == &all[1..3]
+            && scanned(alloc, node, 66, 199)?.is_empty()
             && node.child_at(2).map(|r| r.0) == Some(200)
             && node.child_at(4).is_none()
             && node.is_full() == (node.node_type() == NodeType::N4),
@@ -139,67 +122,25 @@ fn grows(alloc: Global, node: &mut Words) -> Result<bool, Fail> {
     )
 }
 
-fn reuses(node: &mut Words) -> bool {
-    for turn in 0..100u8 {
-        let byte = turn % 6 + 1;
-        take(node, byte);
-        put(node, byte, Child::Value(turn as u64));
-        if node.len() != 6 {
-            return false;
-        }
-    }
-    true
-}
-
-fn answers(alloc: Global, node: &mut Words, form: NodeType, asked: Question) -> Result<bool, Fail> {
-    match asked {
-        Question::Measures(size, capacity) => Ok(measures(node, form, size, capacity)),
-        Question::Ascends => ascends(alloc, node),
-        Question::Changes => Ok(changes(node)),
-        Question::Grows => grows(alloc, node),
-        Question::Reuses => Ok(reuses(node)),
-    }
-}
-
-// Whether a node with the prefix 7, 9 and these bytes answers as it should.
-fn holds(alloc: Global, form: NodeType, bytes: &[u8], asked: Question) -> Result<bool, Fail> {
-    let mut node = Node::new(alloc, form, [7, 9].as_slice())?;
-    fill(&mut node, bytes);
-    answers(alloc, &mut node, form, asked)
-}
-
 #[test]
 fn forms_have_their_sizes(rt: HostRuntime) -> Result<(), Fail> {
-    for (form, size, capacity) in [
-        (NodeType::N4, 64, 4),
-        (NodeType::N16, 168, 16),
-        (NodeType::N48, 672, 48),
-        (NodeType::N256, 2104, 256),
-    ] {
-        assert!(rt; holds(rt.alloc(), form, &[], Question::Measures(size, capacity))?);
+    for (form, size, capacity) in FORMS {
+        assert!(rt; measures(&filled(rt.alloc(), form, &[])?, form, size, capacity));
     }
     Ok(())
 }
 
 #[test]
 fn children_come_ascending_change_and_go(rt: HostRuntime) -> Result<(), Fail> {
-    for form in FORMS {
-        assert!(rt; holds(rt.alloc(), form, &[0, 65, 200, 255], Question::Ascends)?);
-        assert!(rt; holds(rt.alloc(), form, &[3, 128, 130], Question::Changes)?);
+    for (form, _size, _capacity) in FORMS {
+        assert!(rt; ascends(rt.alloc(), &filled(rt.alloc(), form, &[0, 65, 200, 255])?)?);
+        assert!(rt; changes(&mut filled(rt.alloc(), form, &[3, 128, 130])?));
     }
     Ok(())
 }
 
 #[test]
-fn a_node_grows_and_uses_places_again(rt: HostRuntime) -> Result<(), Fail> {
-    assert!(rt; holds(rt.alloc(), NodeType::N4, &[], Question::Grows)?);
-    assert!(rt;
-        holds(
-            rt.alloc(),
-            NodeType::N48,
-            &[1, 2, 3, 4, 5, 6],
-            Question::Reuses
-        )?
-    );
+fn a_node_grows_through_every_form(rt: HostRuntime) -> Result<(), Fail> {
+    assert!(rt; grows(rt.alloc(), &mut filled(rt.alloc(), NodeType::N4, &[])?)?);
     Ok(())
 }

@@ -2,167 +2,80 @@
 //! one map does, and the nodes that stand are charged.
 
 use super::machine::{
-    AMPLE, END, Index, Opening, answer_of, are_rounds_done, begin, call, go, go_with, is_done,
-    is_in_flight, op_of, open_with_workers,
+    END, Index, answer_of, are_rounds_done, begin, call, go, go_with, is_done, is_in_flight, noise,
+    op_of, open,
 };
+use super::texts::{call_of, named, pairs, part};
 use congee::Noise;
 use joint::{Done, Id, Op, Outcome, Refusal};
 use judge::{Call, Entry, Reply, Verdict, check};
 use std::alloc::Global;
 use std::test::Fail;
 
-/// Two workers for the calls, and one that collects.
-const OPENING: Opening = Opening {
-    workers: 3,
-    cells: 12,
-    ..AMPLE
-};
-
+/// Two workers have calls, and this one collects.
 const COLLECTOR: u32 = 2;
 
 /// More steps than one of these calls takes that begins anew once.
 const LONG: u32 = 30;
 
 /// Two calls on a small tree.
-#[derive(Clone, Copy)]
+#[derive(Drop)]
 pub struct Case {
-    pub name: &'static str,
-    /// The keys that are there before, each with itself as its value.
-    pub keys: &'static [u64],
+    /// The pairs that are there before.
+    pub pairs: Vec<(u64, u64)>,
     pub pair: (Call<u64>, Call<u64>),
     /// What the tree takes in the end, in bytes: where the first call took effect first, and where the second one did.
     pub charges: (u64, u64),
 }
 
-/// Every order of the steps of two calls that find nothing on their way.
-const SHORT: [Case; 2] = [
-    Case {
-        name: "a look-up and an insertion of one key",
-        keys: &[],
-        pair: (Call::Get(5), Call::Insert(5, 1)),
-        charges: (2168, 2168),
-    },
-    Case {
-        name: "a removal and an insertion of one key",
-        keys: &[],
-        pair: (Call::Remove(5), Call::Insert(5, 1)),
-        charges: (2168, 2104),
-    },
+/// A case, as its pairs, its calls and its charges.
+pub fn case_of(alloc: Global, text: &str) -> Result<Case, Fail> {
+    Ok(Case {
+        pairs: pairs(alloc, part(text, 0))?,
+        pair: (
+            call_of(alloc, part(text, 1))?,
+            call_of(alloc, part(text, 2))?,
+        ),
+        charges: (part(text, 3).parse::<u64>()?, part(text, 4).parse::<u64>()?),
+    })
+}
+
+/// Two calls that find nothing on their way.
+const SHORT: [&str; 2] = [
+    "a look-up and an insertion of one key: ; get 5; insert 5 1; 2168; 2168",
+    "a removal and an insertion of one key: ; remove 5; insert 5 1; 2168; 2104",
 ];
 
 /// Two calls that put values there.
-pub const INSERTIONS: [Case; 5] = [
-    Case {
-        name: "two insertions of one key",
-        keys: &[],
-        pair: (Call::Insert(5, 1), Call::Insert(5, 2)),
-        charges: (2168, 2168),
-    },
-    Case {
-        name: "two insertions whose ways part above the leaves",
-        keys: &[],
-        pair: (Call::Insert(1, 1), Call::Insert(256, 2)),
-        charges: (2296, 2296),
-    },
-    Case {
-        name: "two insertions into one leaf",
-        keys: &[1],
-        pair: (Call::Insert(2, 2), Call::Insert(3, 3)),
-        charges: (2168, 2168),
-    },
-    Case {
-        name: "two insertions into a full leaf",
-        keys: &[1, 2, 3, 4],
-        pair: (Call::Insert(5, 5), Call::Insert(0, 9)),
-        charges: (2272, 2272),
-    },
-    Case {
-        name: "a growth and a split",
-        keys: &[1, 2, 3, 4],
-        pair: (Call::Insert(5, 5), Call::Insert(256, 9)),
-        charges: (2400, 2400),
-    },
+pub const INSERTIONS: [&str; 5] = [
+    "two insertions of one key: ; insert 5 1; insert 5 2; 2168; 2168",
+    "two insertions whose ways part above the leaves: ; insert 1 1; insert 256 2; 2296; 2296",
+    "two insertions into one leaf: 1:1; insert 2 2; insert 3 3; 2168; 2168",
+    "two insertions into a full leaf: 1:1 2:2 3:3 4:4; insert 5 5; insert 0 9; 2272; 2272",
+    "a growth and a split: 1:1 2:2 3:3 4:4; insert 5 5; insert 256 9; 2400; 2400",
 ];
 
 /// A look-up while the tree changes its form.
-pub const LOOKS: [Case; 3] = [
-    Case {
-        name: "a look-up and a growth",
-        keys: &[1, 2, 3, 4],
-        pair: (Call::Get(1), Call::Insert(5, 5)),
-        charges: (2272, 2272),
-    },
-    Case {
-        name: "a look-up and a split",
-        keys: &[1],
-        pair: (Call::Get(256), Call::Insert(256, 9)),
-        charges: (2296, 2296),
-    },
-    Case {
-        name: "a look-up and a removal of a leaf",
-        keys: &[1],
-        pair: (Call::Get(1), Call::Remove(1)),
-        charges: (2104, 2104),
-    },
+pub const LOOKS: [&str; 3] = [
+    "a look-up and a growth: 1:1 2:2 3:3 4:4; get 1; insert 5 5; 2272; 2272",
+    "a look-up and a split: 1:1; get 256; insert 256 9; 2296; 2296",
+    "a look-up and a removal of a leaf: 1:1; get 1; remove 1; 2104; 2104",
 ];
 
 /// A removal while the tree changes its form.
-pub const REMOVALS: [Case; 5] = [
-    Case {
-        name: "a removal and a growth",
-        keys: &[1, 2, 3, 4],
-        pair: (Call::Remove(1), Call::Insert(5, 5)),
-        charges: (2168, 2272),
-    },
-    Case {
-        name: "a removal of a leaf and a split",
-        keys: &[1],
-        pair: (Call::Remove(1), Call::Insert(256, 9)),
-        charges: (2168, 2232),
-    },
-    Case {
-        name: "a removal of a leaf and an insertion into it",
-        keys: &[1],
-        pair: (Call::Remove(1), Call::Insert(2, 9)),
-        charges: (2168, 2168),
-    },
-    Case {
-        name: "a removal of a leaf and an insertion of its key",
-        keys: &[1],
-        pair: (Call::Remove(1), Call::Insert(1, 9)),
-        charges: (2168, 2104),
-    },
-    Case {
-        name: "two removals of a leaf",
-        keys: &[1],
-        pair: (Call::Remove(1), Call::Remove(1)),
-        charges: (2104, 2104),
-    },
+pub const REMOVALS: [&str; 5] = [
+    "a removal and a growth: 1:1 2:2 3:3 4:4; remove 1; insert 5 5; 2168; 2272",
+    "a removal of a leaf and a split: 1:1; remove 1; insert 256 9; 2168; 2232",
+    "a removal of a leaf and an insertion into it: 1:1; remove 1; insert 2 9; 2168; 2168",
+    "a removal of a leaf and an insertion of its key: 1:1; remove 1; insert 1 9; 2168; 2104",
+    "two removals of a leaf: 1:1; remove 1; remove 1; 2104; 2104",
 ];
 
 /// Calls that compare or ask.
-pub const CLOSURES: [Case; 3] = [
-    Case {
-        name: "an exchange and a compute of a present key",
-        keys: &[1],
-        pair: (
-            Call::Exchange(1, 1, Some(2)),
-            Call::ComputePresent(1, Some(9)),
-        ),
-        charges: (2168, 2168),
-    },
-    Case {
-        name: "a compute that takes a leaf out and an exchange",
-        keys: &[1],
-        pair: (Call::Exchange(1, 1, Some(2)), Call::ComputePresent(1, None)),
-        charges: (2104, 2104),
-    },
-    Case {
-        name: "a compute of any key and a removal",
-        keys: &[1],
-        pair: (Call::ComputeInsert(1, 9), Call::Remove(1)),
-        charges: (2104, 2168),
-    },
+const CLOSURES: [&str; 3] = [
+    "an exchange and a compute of a present key: 1:1; cas 1 1 2; present 1 9; 2168; 2168",
+    "a compute that takes a leaf out and an exchange: 1:1; cas 1 1 2; present 1; 2104; 2104",
+    "a compute of any key and a removal: 1:1; orinsert 1 9; remove 1; 2104; 2168",
 ];
 
 /// A call in flight, and what it told so far.
@@ -211,11 +124,7 @@ pub fn advance_with(index: &mut Index, flight: &mut Flight, turn: u32, noise: No
 
 /// A step of a call, unless it has ended.
 pub fn advance(index: &mut Index, flight: &mut Flight, turn: u32) {
-    let noise = Noise {
-        fail: false,
-        seen: None,
-        answer: answer_of(flight.call),
-    };
+    let noise = noise(false, answer_of(flight.call));
     advance_with(index, flight, turn, noise);
 }
 
@@ -244,38 +153,37 @@ fn go_on(index: &mut Index, flight: &mut Flight, other: &Flight, turn: u32) {
     }
 }
 
-/// The index with the keys of a case, and both workers pinned.
-pub fn prepared(alloc: Global, case: &Case) -> Result<Index, Refusal> {
-    let mut index = open_with_workers(alloc, &OPENING)?;
+/// An index of twelve nodes with these pairs and three workers, of whom the first two are pinned.
+pub fn prepared(alloc: Global, pairs: &[(u64, u64)]) -> Result<Index, Refusal> {
+    let mut index = open(alloc, 3, 12)?;
     is_done(&mut index, 0, Op::Pin);
     is_done(&mut index, 1, Op::Pin);
-    for key in case.keys {
-        call(&mut index, 0, Call::Insert(*key, *key));
+    for (key, value) in pairs {
+        call(&mut index, 1, Call::Insert(*key, *value));
     }
     Ok(index)
 }
 
-/// Both calls, of which the second has its turn where it is told so, and which then go on one after the other.
-fn fly(index: &mut Index, case: &Case, turns: &[bool]) -> (Flight, Flight) {
+/// Both calls, which take so many turns, the second one where a bit of `turns` tells it so, and then go on one after the other.
+fn fly(index: &mut Index, case: &Case, turns: u64, count: u32) -> (Flight, Flight) {
     let mut first = begun(index, 0, case.pair.0);
     let mut second = begun(index, 1, case.pair.1);
-    let mut turn = 0u32;
-    for is_second in turns {
-        if *is_second {
+    for turn in 0..count {
+        if turns.wrapping_shr(turn) % 2 == 1 {
             advance(index, &mut second, turn);
         } else {
             advance(index, &mut first, turn);
         }
         collect(index, &first, &second);
-        turn = turn.saturating_add(1);
     }
-    go_on(index, &mut first, &second, turn);
-    go_on(index, &mut second, &first, turn.saturating_add(1));
-    go_on(index, &mut first, &second, turn.saturating_add(2));
+    go_on(index, &mut first, &second, count);
+    go_on(index, &mut second, &first, count.saturating_add(1));
+    go_on(index, &mut first, &second, count.saturating_add(2));
     (first, second)
 }
 
-fn entry(call: Call<u64>, reply: Reply<u64>) -> Entry<u64> {
+/// A call of worker 0, with its reply.
+pub fn entry(call: Call<u64>, reply: Reply<u64>) -> Entry<u64> {
     Entry {
         worker: 0,
         call,
@@ -284,7 +192,7 @@ fn entry(call: Call<u64>, reply: Reply<u64>) -> Entry<u64> {
 }
 
 /// The call with its reply, if it has one and took effect once.
-fn entry_of(flight: &Flight) -> Option<Entry<u64>> {
+pub fn entry_of(flight: &Flight) -> Option<Entry<u64>> {
     match flight.outcome {
         Outcome::Done(Done::Reply(reply)) if flight.effects == 1 => Some(entry(flight.call, reply)),
         _ => None,
@@ -301,6 +209,15 @@ fn push_looks(index: &mut Index, journal: &mut Vec<Entry<u64>>) -> Result<(), Fa
     Ok(())
 }
 
+/// The journal of insertions of these pairs, at absent keys.
+pub fn journal_of(alloc: Global, pairs: &[(u64, u64)]) -> Result<Vec<Entry<u64>>, Fail> {
+    let mut journal = Vec::new(alloc);
+    for (key, value) in pairs {
+        journal.push(entry(Call::Insert(*key, *value), Reply::Insert(None)))?;
+    }
+    Ok(journal)
+}
+
 /// Whether the calls answer as one map does in the order in which they took effect.
 fn are_one_map(
     alloc: Global,
@@ -309,14 +226,11 @@ fn are_one_map(
     first: Entry<u64>,
     second: Entry<u64>,
 ) -> Result<bool, Fail> {
-    let mut journal = Vec::new(alloc);
-    for key in case.keys {
-        journal.push(entry(Call::Insert(*key, *key), Reply::Insert(None)))?;
-    }
+    let mut journal = journal_of(alloc, &case.pairs)?;
     journal.push(first)?;
     journal.push(second)?;
     push_looks(index, &mut journal)?;
-    let whole = case.keys.len().saturating_add(9);
+    let whole = case.pairs.len().saturating_add(9);
     Ok(journal.len() == whole && check(alloc, &journal)? == Verdict::Legal)
 }
 
@@ -352,55 +266,35 @@ pub fn end_right(
 }
 
 /// Whether the calls of a case, with these turns, answer and are charged as one map.
-fn is_right(alloc: Global, case: &Case, turns: &[bool]) -> Result<bool, Fail> {
-    let mut index = prepared(alloc, case)?;
-    let (first, second) = fly(&mut index, case, turns);
+fn is_right(alloc: Global, case: &Case, turns: u64, count: u32) -> Result<bool, Fail> {
+    let mut index = prepared(alloc, &case.pairs)?;
+    let (first, second) = fly(&mut index, case, turns, count);
     end_right(alloc, &mut index, case, &first, &second)
 }
 
-/// How many steps a call takes after its begin, and after securing, where the other one isn't there.
-fn length(alloc: Global, case: &Case, call: Call<u64>) -> Result<u32, Refusal> {
-    let mut index = prepared(alloc, case)?;
+/// How many steps a call takes after its begin, and after securing, where no other one is there.
+pub fn length(alloc: Global, pairs: &[(u64, u64)], call: Call<u64>) -> Result<u32, Refusal> {
+    let mut index = prepared(alloc, pairs)?;
     let mut flight = begun(&mut index, 0, call);
-    let mut steps = 0;
+    let mut steps = 0u32;
     for _ in 0..END {
         if is_in_flight(&flight.outcome) {
             advance(&mut index, &mut flight, 0);
-            steps = u32::saturating_add(steps, 1);
+            steps = steps.saturating_add(1);
         }
     }
     Ok(steps)
 }
 
-/// Adds so many turns.
-fn push(turns: &mut Vec<bool>, is_second: bool, count: u32) -> Result<(), Fail> {
-    for _ in 0..count {
-        turns.push(is_second)?;
-    }
-    Ok(())
-}
-
-/// Turns by the bits of `mask`.
-fn push_bits(turns: &mut Vec<bool>, mask: u32, bits: u32) -> Result<(), Fail> {
-    let mut rest = mask;
-    for _ in 0..bits {
-        turns.push(rest % 2 == 1)?;
-        rest /= 2;
-    }
-    Ok(())
-}
-
 /// How many orders of all steps of both calls were tried, if each was right.
-fn tried(alloc: Global, case: &Case) -> Result<Option<u32>, Fail> {
-    let first = length(alloc, case, case.pair.0)?;
-    let second = length(alloc, case, case.pair.1)?;
-    let bits = first.saturating_add(second);
+fn tried(alloc: Global, text: &str) -> Result<Option<u32>, Fail> {
+    let case = case_of(alloc, text)?;
+    let second = length(alloc, &case.pairs, case.pair.1)?;
+    let count = length(alloc, &case.pairs, case.pair.0)?.saturating_add(second);
     let mut tried = 0u32;
-    for mask in 0..1u32.wrapping_shl(bits) {
-        if mask.count_ones() == second {
-            let mut turns = Vec::new(alloc);
-            push_bits(&mut turns, mask, bits)?;
-            if !is_right(alloc, case, &turns)? {
+    for turns in 0..1u64.wrapping_shl(count) {
+        if turns.count_ones() == second {
+            if !is_right(alloc, &case, turns, count)? {
                 return Ok(None);
             }
             tried = tried.saturating_add(1);
@@ -411,14 +305,15 @@ fn tried(alloc: Global, case: &Case) -> Result<Option<u32>, Fail> {
 
 /// Whether each order is right in which one call is cut in two and the other one in two or three.
 fn are_right(alloc: Global, case: &Case) -> Result<bool, Fail> {
-    let first = length(alloc, case, case.pair.0)?;
-    let second = length(alloc, case, case.pair.1)?;
+    let first = length(alloc, &case.pairs, case.pair.0)?;
+    let second = length(alloc, &case.pairs, case.pair.1)?;
     for start in 0..=first {
         for middle in 0..=second {
-            let mut turns = Vec::new(alloc);
-            push(&mut turns, false, start)?;
-            push(&mut turns, true, middle)?;
-            if !is_right(alloc, case, &turns)? {
+            let turns = 1u64
+                .wrapping_shl(middle)
+                .wrapping_sub(1)
+                .wrapping_shl(start);
+            if !is_right(alloc, case, turns, start.saturating_add(middle))? {
                 return Ok(false);
             }
         }
@@ -426,46 +321,39 @@ fn are_right(alloc: Global, case: &Case) -> Result<bool, Fail> {
     Ok(true)
 }
 
+/// The name of the first case that isn't right in each of these orders.
+fn first_wrong(alloc: Global, cases: &[&'static str]) -> Result<Option<&'static str>, Fail> {
+    for case in cases {
+        let (name, text) = named(*case)?;
+        if !are_right(alloc, &case_of(alloc, text)?)? {
+            return Ok(Some(name));
+        }
+    }
+    Ok(None)
+}
+
 #[test]
 fn short_calls_answer_as_one_map_in_every_order_of_their_steps(
     rt: HostRuntime,
 ) -> Result<(), Fail> {
-    for case in &SHORT {
+    for case in SHORT {
+        let (name, text) = named(case)?;
         // A call of three steps and one of seven, at least.
-        let tried = tried(rt.alloc(), case)?;
-        assert!(rt; tried >= Some(120), "{}: {tried:?}", case.name);
+        let tried = tried(rt.alloc(), text)?;
+        assert!(rt; tried >= Some(120), "{name}: {tried:?}");
     }
     Ok(())
 }
 
 #[test]
-fn insertions_beside_each_other_answer_as_one_map(rt: HostRuntime) -> Result<(), Fail> {
-    for case in &INSERTIONS {
-        assert!(rt; are_right(rt.alloc(), case)?, "{}", case.name);
-    }
-    Ok(())
-}
-
-#[test]
-fn look_ups_beside_changes_answer_as_one_map(rt: HostRuntime) -> Result<(), Fail> {
-    for case in &LOOKS {
-        assert!(rt; are_right(rt.alloc(), case)?, "{}", case.name);
-    }
-    Ok(())
-}
-
-#[test]
-fn removals_beside_changes_answer_as_one_map(rt: HostRuntime) -> Result<(), Fail> {
-    for case in &REMOVALS {
-        assert!(rt; are_right(rt.alloc(), case)?, "{}", case.name);
-    }
-    Ok(())
-}
-
-#[test]
-fn exchanges_and_closures_beside_changes_answer_as_one_map(rt: HostRuntime) -> Result<(), Fail> {
-    for case in &CLOSURES {
-        assert!(rt; are_right(rt.alloc(), case)?, "{}", case.name);
+fn calls_beside_each_other_answer_as_one_map(rt: HostRuntime) -> Result<(), Fail> {
+    for cases in [
+        INSERTIONS.as_slice(),
+        LOOKS.as_slice(),
+        REMOVALS.as_slice(),
+        CLOSURES.as_slice(),
+    ] {
+        assert_eq!(rt; first_wrong(rt.alloc(), cases)?, None);
     }
     Ok(())
 }

@@ -1,16 +1,9 @@
 //! What no clause says: worked journals, and each public call once with ample memory.
+use super::interleavings::entry;
 use joint::audit;
 use judge::{ArcPayload, Call, Entry, Payload, Reply, Verdict, Word64, check};
 use std::sync::Arc;
 use std::test::Fail;
-
-fn entry(call: Call<u64>, reply: Reply<u64>) -> Entry<u64> {
-    Entry {
-        worker: 0,
-        call,
-        reply,
-    }
-}
 
 // One journal with each case of each call, from the empty map on.
 fn each_case() -> [Entry<u64>; 13] {
@@ -51,14 +44,9 @@ fn finds_the_first_wrong_place(rt: HostRuntime) -> Result<(), Fail> {
 }
 
 #[test]
-fn accepts_each_case_of_each_call(rt: HostRuntime) -> Result<(), Fail> {
-    assert_eq!(rt; check(rt.alloc(), &each_case())?, Verdict::Legal);
-    Ok(())
-}
-
-#[test]
-fn takes_one_reply_for_another(rt: HostRuntime) -> Result<(), Fail> {
+fn accepts_each_case_and_takes_no_reply_for_another(rt: HostRuntime) -> Result<(), Fail> {
     let mut journal = each_case();
+    assert_eq!(rt; check(rt.alloc(), &journal)?, Verdict::Legal);
     journal[6].reply = Reply::Exchange(Err(Some(5)));
     assert_eq!(rt; check(rt.alloc(), &journal)?, Verdict::Wrong(6));
     journal[0].reply = Reply::Insert(None);

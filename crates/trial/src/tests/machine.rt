@@ -11,86 +11,49 @@ pub const END: u32 = 200;
 /// An index of numbers.
 pub type Index = World<u64, Limited>;
 
-/// What an index is opened with, and how many workers register.
-#[derive(Clone, Copy)]
-pub struct Opening {
-    pub workers: u32,
-    pub cells: u32,
-    /// The most bytes that the nodes may take.
-    pub limit: u64,
-    /// The greatest version of a node.
-    pub version_max: u64,
-}
-
-/// Two workers, ample room.
-pub const AMPLE: Opening = Opening {
-    workers: 2,
-    cells: 1_000,
-    limit: u64::MAX,
-    version_max: 1_000_000,
-};
-
-/// The index, with no worker yet.
-pub fn open(alloc: Global, opening: &Opening) -> Result<Index, Refusal> {
-    let usual = Limits::usual(opening.workers, opening.cells);
-    let limits = Limits {
-        epoch: usual.epoch,
-        version_max: opening.version_max,
-        id: usual.id,
-    };
-    World::new(alloc, limits, Limited::new(opening.limit))
-}
-
-/// Why there is no index, if there is none.
-pub fn why_not(opened: Result<Index, Refusal>) -> Option<Refusal> {
-    match opened {
-        Ok(_) => None,
-        Err(refusal) => Some(refusal),
-    }
-}
-
-/// The index, with each of its workers registered.
-pub fn open_with_workers(alloc: Global, opening: &Opening) -> Result<Index, Refusal> {
-    let mut index = open(alloc, opening)?;
-    for _ in 0..opening.workers {
-        register(&mut index);
+/// An index with room for so many workers, who are registered, and so many nodes.
+pub fn open(alloc: Global, workers: u32, cells: u32) -> Result<Index, Refusal> {
+    let limits = Limits::usual(workers, cells);
+    let mut index: Index = World::new(alloc, limits, Limited::new(u64::MAX))?;
+    for _ in 0..workers {
+        let event = Event::Register;
+        index.step(Step { worker: 0, event });
     }
     Ok(index)
 }
 
-pub fn register(index: &mut Index) -> Outcome<u64> {
-    let step = Step {
-        worker: 0,
-        event: Event::Register,
-    };
-    index.step(step).outcome
+/// A step that begins a call.
+pub fn beginning(worker: u32, op: Op<u64>) -> Step<u64> {
+    let event = Event::Begin(op);
+    Step { worker, event }
 }
 
 pub fn begin(index: &mut Index, worker: u32, op: Op<u64>) -> Report<u64> {
-    let step = Step {
-        worker,
-        event: Event::Begin(op),
-    };
-    index.step(step)
+    index.step(beginning(worker, op))
+}
+
+/// What comes to a step from outside: its exchange may fail, and its closure answers so where it is asked.
+pub fn noise(fail: bool, answer: Option<Option<u64>>) -> Noise<Id, u64> {
+    Noise {
+        fail,
+        seen: None,
+        answer,
+    }
 }
 
 /// A step of the worker's call in flight, to which this comes from outside.
+pub fn going(worker: u32, noise: Noise<Id, u64>) -> Step<u64> {
+    let event = Event::Go(noise);
+    Step { worker, event }
+}
+
 pub fn go_with(index: &mut Index, worker: u32, noise: Noise<Id, u64>) -> Report<u64> {
-    let step = Step {
-        worker,
-        event: Event::Go(noise),
-    };
-    index.step(step)
+    index.step(going(worker, noise))
 }
 
 /// A step of the worker's call in flight, whose closure answers so where it is asked.
 pub fn go(index: &mut Index, worker: u32, answer: Option<Option<u64>>) -> Report<u64> {
-    let noise = Noise {
-        fail: false,
-        seen: None,
-        answer,
-    };
-    go_with(index, worker, noise)
+    go_with(index, worker, noise(false, answer))
 }
 
 /// Whether a call that stands so goes on.

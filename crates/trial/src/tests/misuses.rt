@@ -1,217 +1,66 @@
 //! What is refused, by its name, and the call in flight that goes on.
 
-use super::machine::{
-    AMPLE, END, Index, Opening, begin, call, go, go_on, is_done, is_in_flight, open,
-    open_with_workers, register, replied, why_not,
-};
-use super::scripts::answers;
+use super::dialogue::{goes, repeated};
+use super::machine::Index;
 use congee::Limited;
-use joint::{Done, Limits, Op, Outcome, Refusal, World};
-use judge::{Call, Reply};
+use joint::{Limits, Refusal, World};
 use std::alloc::Global;
 use std::test::Fail;
 
-/// A call of worker 0, pinned or not when it begins, what its closure answers, and how it ends.
-#[derive(Drop)]
-struct Interrupted {
-    is_pinned: bool,
-    op: Op<u64>,
-    answer: Option<Option<u64>>,
-    end: Outcome<u64>,
-}
+/// Two workers, 1 to 4 in a full leaf, 2^56 in one of its own, and a node that waits in the bag of worker 0, which is pinned.
+const PREPARED: &str =
+    "new 2 1000 = ok; reg = worker 0; reg = worker 1; 0 pin = ok; 0 insert 1 1 = none; 0 insert 2 2 = none; 0 insert 3 3 = none; \
+    0 insert 4 4 = none; 0 insert 72057594037927936 7 = none; 0 insert 281474976710656 7 = none; 0 remove 281474976710656 = some 7";
+
+/// What is refused while worker 0 is in mid-call, worker 1 has no pin and no call, and nobody else is registered.
+const MISUSES: &str =
+    "; reg = refused TableFull; 0 pin = refused Busy; 0 get 1 = refused Busy; 0 insert 1 2 = refused Busy; \
+    0 remove 1 = refused Busy; 0 present 1 drop = refused Busy; 0 orinsert 1 2 = refused Busy; 0 cas 1 1 2 = refused Busy; \
+    0 round 2 = refused Busy; 0 begin get 1 = refused Busy; 0 begin unpin = refused InCall; 0 unpin = refused InCall; \
+    0 repin = refused InCall; 0 flush = refused InCall; 0 release = refused InCall; 1 go 1 = refused Idle; 1 fail = refused Idle; \
+    1 get 1 = refused Unpinned; 1 insert 1 2 = refused Unpinned; 1 remove 1 = refused Unpinned; 1 unpin = refused Unpinned; \
+    1 repin = refused Unpinned; 1 flush = refused Unpinned; 1 begin get 1 = refused Unpinned; 2 go 1 = refused Unknown; \
+    2 fail = refused Unknown; 2 pin = refused Unknown; 2 get 1 = refused Unknown; 2 release = refused Unknown; \
+    4294967295 insert 1 2 = refused Unknown; new 1 9 = refused Open";
+
+/// A call of worker 0, how many steps it takes after its begin, and how it ends.
+struct Interrupted(&'static str, u32, &'static str);
 
 const POINT_CALLS: [Interrupted; 10] = [
-    Interrupted {
-        is_pinned: true,
-        op: Op::Get(1),
-        answer: None,
-        end: Outcome::Done(Done::Reply(Reply::Get(Some(1)))),
-    },
-    Interrupted {
-        is_pinned: true,
-        op: Op::Get(256),
-        answer: None,
-        end: Outcome::Done(Done::Reply(Reply::Get(None))),
-    },
+    Interrupted("get 1", 9, "some 1"),
+    Interrupted("get 256", 9, "none"),
     // The leaf grows.
-    Interrupted {
-        is_pinned: true,
-        op: Op::Insert(5, 50),
-        answer: None,
-        end: Outcome::Done(Done::Reply(Reply::Insert(None))),
-    },
+    Interrupted("insert 5 50", 18, "none"),
     // Two nodes part the ways.
-    Interrupted {
-        is_pinned: true,
-        op: Op::Insert(256, 50),
-        answer: None,
-        end: Outcome::Done(Done::Reply(Reply::Insert(None))),
-    },
-    Interrupted {
-        is_pinned: true,
-        op: Op::Insert(1, 50),
-        answer: None,
-        end: Outcome::Done(Done::Reply(Reply::Insert(Some(1)))),
-    },
-    Interrupted {
-        is_pinned: true,
-        op: Op::Remove(1),
-        answer: None,
-        end: Outcome::Done(Done::Reply(Reply::Remove(Some(1)))),
-    },
+    Interrupted("insert 256 50", 18, "none"),
+    Interrupted("insert 1 50", 15, "some 1"),
+    Interrupted("remove 1", 13, "some 1"),
     // The leaf goes with its last value.
-    Interrupted {
-        is_pinned: true,
-        op: Op::Remove(1 << 56),
-        answer: None,
-        end: Outcome::Done(Done::Reply(Reply::Remove(Some(7)))),
-    },
-    Interrupted {
-        is_pinned: true,
-        op: Op::ComputePresent(1),
-        answer: Some(Some(50)),
-        end: Outcome::Done(Done::Reply(Reply::ComputePresent(Some((1, Some(50)))))),
-    },
-    Interrupted {
-        is_pinned: true,
-        op: Op::ComputeInsert(5),
-        answer: Some(Some(50)),
-        end: Outcome::Done(Done::Reply(Reply::ComputeInsert(None))),
-    },
-    Interrupted {
-        is_pinned: true,
-        op: Op::Exchange(1, 1, None),
-        answer: None,
-        end: Outcome::Done(Done::Reply(Reply::Exchange(Ok(None)))),
-    },
+    Interrupted("remove 72057594037927936", 13, "some 7"),
+    Interrupted("present 1 add 49", 14, "pair 1 50"),
+    Interrupted("orinsert 5 50", 19, "none"),
+    Interrupted("cas 1 1 drop", 13, "ok none"),
 ];
 
-const COLLECTOR_CALLS: [Interrupted; 4] = [
-    Interrupted {
-        is_pinned: false,
-        op: Op::Pin,
-        answer: None,
-        end: Outcome::Done(Done::Unit),
-    },
-    Interrupted {
-        is_pinned: true,
-        op: Op::Repin,
-        answer: None,
-        end: Outcome::Done(Done::Unit),
-    },
-    Interrupted {
-        is_pinned: true,
-        op: Op::Flush,
-        answer: None,
-        end: Outcome::Done(Done::Unit),
-    },
-    Interrupted {
-        is_pinned: false,
-        op: Op::Release,
-        answer: None,
-        end: Outcome::Done(Done::Unit),
-    },
+/// Calls on the collector, pinned, and those of a worker that was unpinned first.
+const COLLECTOR_CALLS: [(&str, Interrupted); 4] = [
+    ("", Interrupted("repin", 2, "ok")),
+    ("", Interrupted("flush", 5, "ok")),
+    ("; 0 unpin = ok", Interrupted("pin", 2, "ok")),
+    ("; 0 unpin = ok", Interrupted("release", 2, "ok")),
 ];
 
-/// A worker's begin, or a further step where there is none, and why it is refused while worker 0 is in mid-call, worker 1
-/// has no pin and no call, and nobody else is registered.
-type Misuse = (u32, Option<Op<u64>>, Refusal);
-
-const MISUSES: [Misuse; 23] = [
-    (0, Some(Op::Pin), Refusal::Busy),
-    (0, Some(Op::Get(1)), Refusal::Busy),
-    (0, Some(Op::Insert(1, 2)), Refusal::Busy),
-    (0, Some(Op::Remove(1)), Refusal::Busy),
-    (0, Some(Op::ComputePresent(1)), Refusal::Busy),
-    (0, Some(Op::ComputeInsert(1)), Refusal::Busy),
-    (0, Some(Op::Exchange(1, 1, None)), Refusal::Busy),
-    (0, Some(Op::Unpin), Refusal::InCall),
-    (0, Some(Op::Repin), Refusal::InCall),
-    (0, Some(Op::Flush), Refusal::InCall),
-    (0, Some(Op::Release), Refusal::InCall),
-    (1, None, Refusal::Idle),
-    (1, Some(Op::Get(1)), Refusal::Unpinned),
-    (1, Some(Op::Insert(1, 2)), Refusal::Unpinned),
-    (1, Some(Op::Remove(1)), Refusal::Unpinned),
-    (1, Some(Op::Unpin), Refusal::Unpinned),
-    (1, Some(Op::Repin), Refusal::Unpinned),
-    (1, Some(Op::Flush), Refusal::Unpinned),
-    (2, None, Refusal::Unknown),
-    (2, Some(Op::Pin), Refusal::Unknown),
-    (2, Some(Op::Get(1)), Refusal::Unknown),
-    (2, Some(Op::Release), Refusal::Unknown),
-    (u32::MAX, Some(Op::Insert(1, 2)), Refusal::Unknown),
-];
-
-/// An index with 1 to 4 in a full leaf, 2^56 in one of its own, and a node that waits in the bag of worker 0.
-fn prepared(alloc: Global, is_pinned: bool) -> Result<Index, Refusal> {
-    let mut index = open_with_workers(alloc, &AMPLE)?;
-    is_done(&mut index, 0, Op::Pin);
-    for key in 1..=4u64 {
-        call(&mut index, 0, Call::Insert(key, key));
-    }
-    call(&mut index, 0, Call::Insert(1 << 56, 7));
-    call(&mut index, 0, Call::Insert(1 << 48, 7));
-    call(&mut index, 0, Call::Remove(1 << 48));
-    if !is_pinned {
-        is_done(&mut index, 0, Op::Unpin);
-    }
-    Ok(index)
-}
-
-fn is_refused(index: &mut Index, misuse: &Misuse) -> bool {
-    let (worker, op, refusal) = *misuse;
-    let report = match op {
-        Some(op) => begin(index, worker, op),
-        None => go(index, worker, None),
-    };
-    report.outcome == Outcome::Refused(refusal) && !report.decided && report.destroyed == 0
-}
-
-/// Whether each misuse is refused as it should, and what is charged and waits is as before.
-fn are_refused(index: &mut Index) -> bool {
-    let before = (index.charged(), index.waiting(), index.waiting_bytes());
-    for misuse in &MISUSES {
-        if !is_refused(index, misuse) {
-            return false;
-        }
-    }
-    register(index) == Outcome::Refused(Refusal::TableFull)
-        && before == (index.charged(), index.waiting(), index.waiting_bytes())
-}
-
-/// How a call ends, and after how many steps; after so many steps there are misuses, and whether these are refused.
-fn end_after(
-    alloc: Global,
-    call: &Interrupted,
-    at: Option<u32>,
-) -> Result<(Outcome<u64>, u32, bool), Refusal> {
-    let mut index = prepared(alloc, call.is_pinned)?;
-    let mut outcome = begin(&mut index, 0, call.op).outcome;
-    let mut steps = 0u32;
-    let mut right = true;
-    for _ in 0..END {
-        if !is_in_flight(&outcome) {
-            break;
-        }
-        if at == Some(steps) {
-            right = are_refused(&mut index);
-        }
-        outcome = go(&mut index, 0, call.answer).outcome;
-        steps = steps.saturating_add(1);
-    }
-    Ok((outcome, steps, right))
-}
-
-/// Whether a call goes on after misuses between any two of its steps, as if there were none.
-fn goes_on(alloc: Global, call: &Interrupted) -> Result<bool, Refusal> {
-    let (end, steps, _) = end_after(alloc, call, None)?;
-    if end != call.end || steps == 0 {
-        return Ok(false);
-    }
-    for at in 0..steps {
-        let (ended, taken, right) = end_after(alloc, call, Some(at))?;
-        if ended != call.end || taken != steps || !right {
+/// Whether a call goes on after misuses between any two of its steps, as if there were none. `between` is what comes before
+/// its begin.
+fn goes_on(alloc: Global, between: &str, call: &Interrupted) -> Result<bool, Fail> {
+    let Interrupted(line, steps, end) = call;
+    let last = format!(in alloc; "; 0 go 1 = {end}")?;
+    for taken in 0..*steps {
+        let left = steps.saturating_sub(taken).saturating_sub(1);
+        let rest = repeated(alloc, MISUSES, left, "; 0 go 1 = running", &last)?;
+        let begun = format!(in alloc; "{PREPARED}{between}; 0 begin {line} = begun")?;
+        let dialogue = repeated(alloc, &begun, taken, "; 0 go 1 = running", &rest)?;
+        if !goes(alloc, &dialogue)? {
             return Ok(false);
         }
     }
@@ -221,30 +70,16 @@ fn goes_on(alloc: Global, call: &Interrupted) -> Result<bool, Refusal> {
 #[test]
 fn a_call_on_a_key_goes_on_after_each_misuse(rt: HostRuntime) -> Result<(), Fail> {
     for call in &POINT_CALLS {
-        assert!(rt; goes_on(rt.alloc(), call)?, "{:?}", call.op);
+        assert!(rt; goes_on(rt.alloc(), "", call)?, "{}", call.0);
     }
     Ok(())
 }
 
 #[test]
 fn a_call_on_the_collector_goes_on_after_each_misuse(rt: HostRuntime) -> Result<(), Fail> {
-    for call in &COLLECTOR_CALLS {
-        assert!(rt; goes_on(rt.alloc(), call)?, "{:?}", call.op);
+    for (between, call) in &COLLECTOR_CALLS {
+        assert!(rt; goes_on(rt.alloc(), *between, call)?, "{}", call.0);
     }
-    Ok(())
-}
-
-#[test]
-fn a_pinned_worker_does_not_leave(rt: HostRuntime) -> Result<(), Fail> {
-    let mut index = prepared(rt.alloc(), true)?;
-    assert_eq!(rt;
-        begin(&mut index, 0, Op::Release).outcome,
-        Outcome::Refused(Refusal::GuardOut)
-    );
-    assert_eq!(rt;
-        call(&mut index, 0, Call::Get(1)),
-        replied(Reply::Get(Some(1)))
-    );
     Ok(())
 }
 
@@ -253,150 +88,48 @@ const GUARDS: u32 = 65_535;
 
 #[test]
 fn guards_are_counted_to_their_greatest(rt: HostRuntime) -> Result<(), Fail> {
-    let mut index = prepared(rt.alloc(), true)?;
-    begin(&mut index, 0, Op::Insert(5, 50));
-    for guard in 0..GUARDS {
-        assert!(rt; is_done(&mut index, 1, Op::Pin), "at {guard}");
-    }
-    assert_eq!(rt;
-        begin(&mut index, 1, Op::Pin).outcome,
-        Outcome::Refused(Refusal::Count)
-    );
-    begin(&mut index, 1, Op::Get(1));
-    assert_eq!(rt;
-        begin(&mut index, 1, Op::Pin).outcome,
-        Outcome::Refused(Refusal::Busy)
-    );
-    assert_eq!(rt;
-        go_on(&mut index, 1, None, END, Outcome::Running),
-        replied(Reply::Get(Some(1)))
-    );
-    assert!(rt; is_done(&mut index, 1, Op::Unpin));
-    assert!(rt; is_done(&mut index, 1, Op::Pin));
-    assert_eq!(rt;
-        go_on(&mut index, 0, None, END, Outcome::Running),
-        replied(Reply::Insert(None))
-    );
+    let first = format!(in rt.alloc(); "{PREPARED}; 0 begin insert 5 50 = begun")?;
+    let dialogue = repeated(
+        rt.alloc(),
+        &first,
+        GUARDS,
+        "; 1 pin = ok",
+        "; 1 pin = refused Count; 1 begin pin = refused Count; 1 begin get 1 = begun; 1 pin = refused Busy; 1 go 200 = some 1; \
+         1 unpin = ok; 1 pin = ok; 1 pin = refused Count; 0 go 200 = none; 0 begin release = refused GuardOut; 0 get 1 = some 1",
+    )?;
+    assert!(rt; goes(rt.alloc(), &dialogue)?);
     Ok(())
 }
 
-/// Participants, cells, the greatest epoch, the expiry and the greatest version.
-type Bounds = (u32, u32, u64, u64, u64);
+/// What a script may say of limits: the least and the greatest, and those out of their ranges.
+const LIMITS: &str =
+    "new 1 1 limit 2104 version 1 = ok; close = closed 0; new 256 9 limit 2104 version 1152921504606846975 = ok; \
+    close = closed 0; new 0 1 = refused Limits; new 257 1 = refused Limits; new 1 0 = refused Limits; new 1 16777216 = refused Limits; \
+    new 1 1 version 0 = refused Limits; new 1 1 version 1152921504606846976 = refused Limits; new 0 1 limit 0 = refused Limits; \
+    new 1 1 limit 2103 = refused Budget 0 2104 2103";
 
-/// The limits of an index with these bounds.
-fn limits(bounds: Bounds) -> Limits {
-    let (participants, cells, epoch_max, expiry, version_max) = bounds;
-    Limits {
-        epoch: crossbeam_epoch::Limits {
-            participants,
-            cells,
-            turn_max: u32::MAX,
-            epoch_max,
-            expiry,
-        },
-        version_max,
-        id: 0,
-    }
-}
-
-/// Why no index is opened with these bounds and this limit in bytes, if there is none.
-fn refusal_of(alloc: Global, bounds: Bounds, limit: u64) -> Option<Refusal> {
-    why_not(World::new(alloc, limits(bounds), Limited::new(limit)))
+/// Why no index is opened with this greatest epoch and expiry, if there is none.
+fn refusal_of(alloc: Global, epoch_max: u64, expiry: u64) -> Option<Refusal> {
+    let usual = Limits::usual(1, 1);
+    let epoch = crossbeam_epoch::Limits {
+        epoch_max,
+        expiry,
+        ..usual.epoch
+    };
+    let limits = Limits { epoch, ..usual };
+    let opened: Result<Index, Refusal> = World::new(alloc, limits, Limited::new(2104));
+    opened.err()
 }
 
 #[test]
-fn limits_out_of_their_ranges_open_no_index(rt: HostRuntime) {
-    let least = (1, 1, 3, 2, 1);
-    let greatest = (256, 9, 1 << 62, 2, (1 << 60) - 1);
-    assert_eq!(rt; refusal_of(rt.alloc(), least, 2104), None);
-    assert_eq!(rt; refusal_of(rt.alloc(), greatest, 2104), None);
-    let out = [
-        (0, 1, 3, 2, 1),
-        (257, 1, 3, 2, 1),
-        (1, 0, 3, 2, 1),
-        (1, 16_777_216, 3, 2, 1),
-        (1, 1, 2, 2, 1),
-        (1, 1, (1 << 62) + 1, 2, 1),
-        (1, 1, 3, 1, 1),
-        (1, 1, 3, 3, 1),
-        (1, 1, 3, 2, 0),
-        (1, 1, 3, 2, 1 << 60),
-    ];
-    for bounds in out {
-        assert_eq!(rt;
-            refusal_of(rt.alloc(), bounds, 0),
-            Some(Refusal::Limits),
-            "{bounds:?}"
-        );
+fn limits_out_of_their_ranges_open_no_index(rt: HostRuntime) -> Result<(), Fail> {
+    assert!(rt; goes(rt.alloc(), LIMITS)?);
+    for epoch_max in [3, 1 << 62] {
+        assert_eq!(rt; refusal_of(rt.alloc(), epoch_max, 2), None, "{epoch_max}");
     }
-    assert_eq!(rt;
-        refusal_of(rt.alloc(), least, 2103),
-        Some(Refusal::Budget {
-            charged: 0,
-            wanted: 2104,
-            limit: 2103,
-        })
-    );
-}
-
-#[test]
-fn scripts_print_what_is_refused_in_mid_call(rt: HostRuntime) -> Result<(), Fail> {
-    for steps in 1..6 {
-        let script = format!(in rt.alloc();
-            "new 2 1000\nreg\nreg\n0 pin\n0 insert 1 42\n0 begin insert 256 7\n0 go {steps}\n\
-             reg\n0 pin\n0 get 1\n0 insert 1 2\n0 remove 1\n0 present 1 drop\n0 orinsert 1 2\n0 cas 1 42 43\n\
-             0 unpin\n0 repin\n0 flush\n0 release\n0 round 2\n0 begin get 1\n0 begin unpin\n\
-             1 go 1\n1 fail\n1 get 1\n1 insert 1 2\n1 unpin\n1 repin\n1 flush\n1 begin get 1\n\
-             2 pin\n2 go 1\n2 fail\n4294967295 get 1\nnew 1 9\nwaiting\n0 go 1000000\n0 get 256\n0 get 1\n\
-             0 release\ncharged\n"
-        )?;
-        let replies = b"ok\nworker 0\nworker 1\nok\nnone\nbegun\nrunning\n\
-            refused TableFull\nrefused Busy\nrefused Busy\nrefused Busy\nrefused Busy\nrefused Busy\nrefused Busy\nrefused Busy\n\
-            refused InCall\nrefused InCall\nrefused InCall\nrefused InCall\nrefused Busy\nrefused Busy\nrefused InCall\n\
-            refused Idle\nrefused Idle\nrefused Unpinned\nrefused Unpinned\nrefused Unpinned\nrefused Unpinned\nrefused Unpinned\nrefused Unpinned\n\
-            refused Unknown\nrefused Unknown\nrefused Unknown\nrefused Unknown\nrefused Open\nwaiting 0 0\nnone\nsome 7\nsome 42\n\
-            refused GuardOut\ncharged 2296\n";
-        assert!(rt;
-            answers(rt.alloc(), script.as_bytes(), 0, replies),
-            "at {steps}"
-        );
+    for bounds in [(2, 2), ((1 << 62) + 1, 2), (3, 1), (3, 3)] {
+        let refused = refusal_of(rt.alloc(), bounds.0, bounds.1);
+        assert_eq!(rt; refused, Some(Refusal::Limits), "{bounds:?}");
     }
-    Ok(())
-}
-
-/// So many lines that take a guard, between these lines.
-fn many_guards(
-    alloc: Global,
-    first: &str,
-    guards: u32,
-    line: &str,
-    last: &str,
-) -> Result<Vec<u8>, Fail> {
-    let mut text = Vec::new(alloc);
-    text.extend_from_slice(first.as_bytes())?;
-    for _ in 0..guards {
-        text.extend_from_slice(line.as_bytes())?;
-    }
-    text.extend_from_slice(last.as_bytes())?;
-    Ok(text)
-}
-
-#[test]
-fn a_script_prints_that_no_guard_is_left(rt: HostRuntime) -> Result<(), Fail> {
-    let script = many_guards(
-        rt.alloc(),
-        "new 1 9\nreg\n",
-        GUARDS,
-        "0 pin\n",
-        "0 pin\n0 begin get 1\n0 pin\n0 go 100\n0 unpin\n0 pin\n0 pin\n",
-    )?;
-    let replies = many_guards(
-        rt.alloc(),
-        "ok\nworker 0\n",
-        GUARDS,
-        "ok\n",
-        "refused Count\nbegun\nrefused Busy\nnone\nok\nok\nrefused Count\n",
-    )?;
-    assert!(rt; answers(rt.alloc(), &script, 0, &replies));
     Ok(())
 }

@@ -1,339 +1,161 @@
-//! Worked calls on owned trees, as tables: what is asked of the tree and what it is to answer.
+//! Dialogues with owned trees, worked out by hand.
+
+use super::dialogue::{Asked, told, wrong_turn};
+use super::texts::named;
 use congee::{Allocator, Congee, DefaultAllocator, Limited, NoDrain, OOMError, U64Congee};
 use std::alloc::Global;
 use std::test::Fail;
 
-/// What is asked of a tree, and the answer that is expected.
-#[derive(Clone, Copy)]
-enum Row {
-    Get(u64, Option<u64>),
-    Insert(u64, u64, Option<u64>),
-    /// An insertion that is refused.
-    Refuse(u64, u64, OOMError),
-    /// Each key from the first up to the second is new.
-    Fill(u64, u64),
-    Remove(u64, Option<u64>),
-    /// The value at a key grows by one.
-    Next(u64, Option<(u64, Option<u64>)>),
-    /// The value at a key goes.
-    Drop(u64, Option<(u64, Option<u64>)>),
-    /// The value at a key grows by one; an absent key gets the number.
-    NextOr(u64, u64, Option<u64>),
-    /// The new value in place of the old one.
-    Exchange(u64, u64, Option<u64>, Result<Option<u64>, Option<u64>>),
-    /// The pairs from the first key up to the second, in so many places.
-    Range(u64, u64, usize, &'static [(u64, u64)]),
-    Keys(&'static [u64]),
-    /// The pair of the least key and that of the greatest one.
-    Ends(Option<(u64, u64)>, Option<(u64, u64)>),
-    /// The pairs of the nearest keys below and above a key.
-    Beside(u64, Option<(u64, u64)>, Option<(u64, u64)>),
-    Empty(bool),
-    /// Everything goes.
-    Clear,
-    Charged(u64),
-}
-
-const WRITTEN_AND_TAKEN: [Row; 6] = [
-    Row::Insert(1, 42, None),
-    Row::Get(1, Some(42)),
-    Row::Insert(1, 43, Some(42)),
-    Row::Remove(1, Some(43)),
-    Row::Get(1, None),
-    Row::Charged(2104),
+/// What is asked of a tree of ample memory.
+const AMPLE: [&str; 12] = [
+    "a value comes, changes and goes: insert 1 42 = Ok(None); get 1 = Some(42); insert 1 43 = Ok(Some(42)); remove 1 = Some(43); \
+     get 1 = None; charged = 2104",
+    "a leaf grows through every form: fill 1 50 = true; charged = 4208; get 49 = Some(49)",
+    "an emptied inner node stays: insert 1 1 = Ok(None); insert 256 2 = Ok(None); charged = 2296; remove 1 = Some(1); empty = false; \
+     remove 256 = Some(2); empty = true; keys = []; charged = 2168",
+    "closures answer: insert 1 42 = Ok(None); next_or 1 0 = Ok(Some(42)); next_or 2 2 = Ok(None); get 1 = Some(43); get 2 = Some(2); \
+     next 1 = Some((43, Some(44))); next 3 = None; drop 1 = Some((44, None)); get 1 = None",
+    "values are exchanged: insert 1 42 = Ok(None); exchange 1 42 43 = Ok(Some(43)); insert 1 41 = Ok(Some(43)); \
+     exchange 1 42 43 = Err(Some(41)); exchange 2 42 43 = Err(None); insert 1 42 = Ok(Some(41)); exchange 1 42 = Ok(None); get 1 = None",
+    "a range ends before its end: insert 4294967295 1 = Ok(None); insert 4294967247 2 = Ok(None); \
+     range 4294967066 4294967319 20 = [(4294967247, 2), (4294967295, 1)]; range 4294967000 4294967253 20 = [(4294967247, 2)]; \
+     range 5 5 20 = []; insert 18446744073709551615 3 = Ok(None); range 18446744073709551614 18446744073709551615 20 = []",
+    "a range ends with its places: insert 1 10 = Ok(None); insert 2 20 = Ok(None); insert 3 30 = Ok(None); \
+     range 1 4 2 = [(1, 10), (2, 20)]; range 1 4 0 = []",
+    "a range starts past other prefixes: insert 4294967179 7 = Ok(None); range 1895772415 1895772670 20 = []; \
+     range 4294967179 4294967434 20 = [(4294967179, 7)]",
+    "keys come ascending: keys = []; insert 18446744073709551615 1 = Ok(None); insert 3 3 = Ok(None); insert 4294967295 2 = Ok(None); \
+     insert 0 0 = Ok(None); insert 256 256 = Ok(None); keys = [0, 3, 256, 4294967295, 18446744073709551615]",
+    "no pair has neighbours: ends = (None, None); beside 0 = (None, None); beside 7 = (None, None); \
+     beside 18446744073709551615 = (None, None)",
+    "neighbours are found: insert 256 2 = Ok(None); ends = (Some((256, 2)), Some((256, 2))); beside 256 = (None, None); \
+     beside 255 = (None, Some((256, 2))); beside 257 = (Some((256, 2)), None); insert 0 1 = Ok(None); insert 259 3 = Ok(None); \
+     insert 4294967296 4 = Ok(None); insert 18446744073709551615 5 = Ok(None); ends = (Some((0, 1)), Some((18446744073709551615, 5))); \
+     beside 0 = (None, Some((256, 2))); beside 1 = (Some((0, 1)), Some((256, 2))); beside 257 = (Some((256, 2)), Some((259, 3))); \
+     beside 4294967295 = (Some((259, 3)), Some((4294967296, 4))); beside 18446744073709551615 = (Some((4294967296, 4)), None); \
+     remove 18446744073709551615 = Some(5); ends = (Some((0, 1)), Some((4294967296, 4)))",
+    "cleared trees begin anew: clear = (); charged = 2104; fill 1 50 = true; insert 18446744073709551615 5 = Ok(None); clear = (); \
+     empty = true; keys = []; ends = (None, None); get 7 = None; charged = 2104; insert 256 2 = Ok(None); insert 7 1 = Ok(None); \
+     keys = [7, 256]; beside 256 = (Some((7, 1)), None); charged = 2296",
 ];
 
-const LEAF_THROUGH_ALL_FORMS: [Row; 3] = [
-    Row::Fill(1, 50),
-    Row::Charged(4208),
-    Row::Get(49, Some(49)),
-];
-
-const EMPTIED_INNER_NODE_STAYS: [Row; 9] = [
-    Row::Insert(1, 1, None),
-    Row::Insert(256, 2, None),
-    Row::Charged(2296),
-    Row::Remove(1, Some(1)),
-    Row::Empty(false),
-    Row::Remove(256, Some(2)),
-    Row::Empty(true),
-    Row::Keys(&[]),
-    Row::Charged(2168),
-];
-
-const CLOSURES_ANSWER: [Row; 9] = [
-    Row::Insert(1, 42, None),
-    Row::NextOr(1, 0, Some(42)),
-    Row::NextOr(2, 2, None),
-    Row::Get(1, Some(43)),
-    Row::Get(2, Some(2)),
-    Row::Next(1, Some((43, Some(44)))),
-    Row::Next(3, None),
-    Row::Drop(1, Some((44, None))),
-    Row::Get(1, None),
-];
-
-const VALUES_ARE_EXCHANGED: [Row; 8] = [
-    Row::Insert(1, 42, None),
-    Row::Exchange(1, 42, Some(43), Ok(Some(43))),
-    Row::Insert(1, 41, Some(43)),
-    Row::Exchange(1, 42, Some(43), Err(Some(41))),
-    Row::Exchange(2, 42, Some(43), Err(None)),
-    Row::Insert(1, 42, Some(41)),
-    Row::Exchange(1, 42, None, Ok(None)),
-    Row::Get(1, None),
-];
-
-const RANGE_ENDS_BEFORE_ITS_END: [Row; 7] = [
-    Row::Insert(4294967295, 1, None),
-    Row::Insert(4294967247, 2, None),
-    Row::Range(
-        4294967066,
-        4294967319,
-        20,
-        &[(4294967247, 2), (4294967295, 1)],
+/// What is asked of a tree that takes so many bytes at most.
+const LIMITED: [(u64, &str); 3] = [
+    (
+        2168,
+        "no room for a second leaf: insert 0 100 = Ok(None); \
+         insert 18446744073709551615 100 = Err(Budget { charged: 2168, wanted: 64, limit: 2168 }); insert 0 5 = Ok(Some(100))",
     ),
-    Row::Range(4294967000, 4294967253, 20, &[(4294967247, 2)]),
-    Row::Range(5, 5, 20, &[]),
-    Row::Insert(u64::MAX, 3, None),
-    Row::Range(u64::MAX - 1, u64::MAX, 20, &[]),
-];
-
-const RANGE_ENDS_WITH_ITS_PLACES: [Row; 5] = [
-    Row::Insert(1, 10, None),
-    Row::Insert(2, 20, None),
-    Row::Insert(3, 30, None),
-    Row::Range(1, 4, 2, &[(1, 10), (2, 20)]),
-    Row::Range(1, 4, 0, &[]),
-];
-
-const RANGE_STARTS_PAST_OTHER_PREFIXES: [Row; 3] = [
-    Row::Insert(4294967179, 7, None),
-    Row::Range(1895772415, 1895772670, 20, &[]),
-    Row::Range(4294967179, 4294967434, 20, &[(4294967179, 7)]),
-];
-
-const KEYS_COME_ASCENDING: [Row; 7] = [
-    Row::Keys(&[]),
-    Row::Insert(u64::MAX, u64::MAX, None),
-    Row::Insert(3, 3, None),
-    Row::Insert(4294967295, 4294967295, None),
-    Row::Insert(0, 0, None),
-    Row::Insert(256, 256, None),
-    Row::Keys(&[0, 3, 256, 4294967295, u64::MAX]),
-];
-
-const NO_PAIR_HAS_NEIGHBOURS: [Row; 4] = [
-    Row::Ends(None, None),
-    Row::Beside(0, None, None),
-    Row::Beside(7, None, None),
-    Row::Beside(u64::MAX, None, None),
-];
-
-const NEIGHBOURS_ARE_FOUND: [Row; 17] = [
-    Row::Insert(256, 2, None),
-    Row::Ends(Some((256, 2)), Some((256, 2))),
-    Row::Beside(256, None, None),
-    Row::Beside(255, None, Some((256, 2))),
-    Row::Beside(257, Some((256, 2)), None),
-    Row::Insert(0, 1, None),
-    Row::Insert(259, 3, None),
-    Row::Insert(4294967296, 4, None),
-    Row::Insert(u64::MAX, 5, None),
-    Row::Ends(Some((0, 1)), Some((u64::MAX, 5))),
-    Row::Beside(0, None, Some((256, 2))),
-    Row::Beside(1, Some((0, 1)), Some((256, 2))),
-    Row::Beside(257, Some((256, 2)), Some((259, 3))),
-    Row::Beside(4294967295, Some((259, 3)), Some((4294967296, 4))),
-    Row::Beside(u64::MAX, Some((4294967296, 4)), None),
-    Row::Remove(u64::MAX, Some(5)),
-    Row::Ends(Some((0, 1)), Some((4294967296, 4))),
-];
-
-const CLEARED_TREES_BEGIN_ANEW: [Row; 15] = [
-    Row::Clear,
-    Row::Charged(2104),
-    Row::Fill(1, 50),
-    Row::Insert(u64::MAX, 5, None),
-    Row::Clear,
-    Row::Empty(true),
-    Row::Keys(&[]),
-    Row::Ends(None, None),
-    Row::Get(7, None),
-    Row::Charged(2104),
-    Row::Insert(256, 2, None),
-    Row::Insert(7, 1, None),
-    Row::Keys(&[7, 256]),
-    Row::Beside(256, Some((7, 1)), None),
-    Row::Charged(2296),
-];
-
-const NO_ROOM_FOR_A_SECOND_LEAF: [Row; 3] = [
-    Row::Insert(0, 100, None),
-    Row::Refuse(
-        u64::MAX,
-        100,
-        OOMError::Budget {
-            charged: 2168,
-            wanted: 64,
-            limit: 2168,
-        },
+    (
+        2104,
+        "no room for a leaf: insert 100 100 = Err(Budget { charged: 2104, wanted: 64, limit: 2104 }); charged = 2104",
     ),
-    Row::Insert(0, 5, Some(100)),
-];
-
-const NO_ROOM_FOR_A_LEAF: [Row; 2] = [
-    Row::Refuse(
-        100,
-        100,
-        OOMError::Budget {
-            charged: 2104,
-            wanted: 64,
-            limit: 2104,
-        },
+    // The split has made its first node when the second one is refused.
+    (
+        2295,
+        "a split gives its first node back: insert 1 1 = Ok(None); insert 256 2 = Err(Budget { charged: 2232, wanted: 64, limit: 2295 }); \
+         charged = 2168; get 256 = None",
     ),
-    Row::Charged(2104),
-];
-
-// The split has made its first node when the second one is refused.
-const SPLIT_GIVES_ITS_FIRST_NODE_BACK: [Row; 4] = [
-    Row::Insert(1, 1, None),
-    Row::Refuse(
-        256,
-        2,
-        OOMError::Budget {
-            charged: 2232,
-            wanted: 64,
-            limit: 2295,
-        },
-    ),
-    Row::Charged(2168),
-    Row::Get(256, None),
 ];
 
 type Tree<A> = Congee<u64, u64, A, NoDrain>;
 
+/// Whether each key from the first to before the second was absent when it was put there.
 fn fills<A: Allocator>(tree: &mut Tree<A>, start: u64, end: u64) -> Result<bool, Fail> {
-    for k in start..end {
-        if tree.insert(k, k)?.is_some() {
+    for key in start..end {
+        if tree.insert(key, key)?.is_some() {
             return Ok(false);
         }
     }
     Ok(true)
 }
 
-fn finds<A: Allocator>(
+/// The pairs from the first key to before the second, in so many places.
+fn range<A: Allocator>(
+    alloc: Global,
     tree: &Tree<A>,
     start: u64,
     end: u64,
-    places: usize,
-    pairs: &[(u64, u64)],
-) -> bool {
+    places: u64,
+) -> Result<String, Fail> {
     let mut found = [(0u64, 0u64); 20];
-    let Some(out) = found.get_mut(..places) else {
-        return false;
-    };
+    let out = found.get_mut(..places as usize).ok_or("too many places")?;
     let count = tree.range(&start, &end, out);
-    match found.get(..count) {
-        Some(found) => found == pairs,
-        None => false,
+    told(alloc, &found.get(..count).ok_or("too many pairs")?)
+}
+
+/// The value that a closure puts there: a greater one by one, or the number at an absent key.
+fn next_or(value: Option<u64>, number: u64) -> u64 {
+    value.map_or(number, |value| value.wrapping_add(1))
+}
+
+impl<A: Allocator> Asked for Tree<A> {
+    fn answer(&mut self, alloc: Global, word: &str, numbers: &[u64]) -> Result<String, Fail> {
+        match (word, numbers) {
+            ("keys", []) => told(alloc, &self.keys()?.as_slice()),
+            // The pair of the least key and that of the greatest one.
+            ("ends", []) => told(alloc, &(self.first(), self.last())),
+            ("empty", []) => told(alloc, &self.is_empty()),
+            ("charged", []) => told(alloc, &self.charged()),
+            ("clear", []) => told(alloc, &self.clear()),
+            ("get", [key]) => told(alloc, &self.get(key)),
+            // The pairs of the nearest keys below and above.
+            ("beside", [key]) => told(alloc, &(self.next_before(key), self.next_after(key))),
+            ("range", [start, end, places]) => range(alloc, self, *start, *end, *places),
+            _ => writes(alloc, self, word, numbers),
+        }
+    }
+}
+
+/// The answer to a call that writes.
+fn writes<A: Allocator>(
+    alloc: Global,
+    tree: &mut Tree<A>,
+    word: &str,
+    numbers: &[u64],
+) -> Result<String, Fail> {
+    match (word, numbers) {
+        ("insert", [key, value]) => told(alloc, &tree.insert(*key, *value)),
+        ("fill", [start, end]) => told(alloc, &fills(tree, *start, *end)?),
+        ("remove", [key]) => told(alloc, &tree.remove(key)),
+        ("next", [key]) => told(
+            alloc,
+            &tree.compute_if_present(key, |v| Some(v.wrapping_add(1))),
+        ),
+        ("drop", [key]) => told(alloc, &tree.compute_if_present(key, |_| None)),
+        ("next_or", [key, n]) => told(alloc, &tree.compute_or_insert(*key, |v| next_or(v, *n))),
+        ("exchange", [key, old]) => told(alloc, &tree.compare_exchange(key, old, None)),
+        ("exchange", [key, old, new]) => told(alloc, &tree.compare_exchange(key, old, Some(*new))),
+        _ => Err("no question")?,
     }
 }
 
-// Whether a call with a closure is answered as expected.
-fn computes<A: Allocator>(tree: &mut Tree<A>, row: Row) -> Result<bool, Fail> {
-    Ok(match row {
-        Row::Next(k, answer) => {
-            tree.compute_if_present(&k, |v| Some(v.wrapping_add(1))) == answer
-        }
-        Row::Drop(k, answer) => tree.compute_if_present(&k, |_| None) == answer,
-        Row::NextOr(k, first, before) => {
-            let next = |v: Option<u64>| v.map_or(first, |v| v.wrapping_add(1));
-            tree.compute_or_insert(k, next)? == before
-        }
-        _ => false,
-    })
-}
-
-// Whether the tree looks as expected.
-fn shows<A: Allocator>(tree: &Tree<A>, row: Row) -> Result<bool, Fail> {
-    Ok(match row {
-        Row::Range(start, end, places, pairs) => finds(tree, start, end, places, pairs),
-        Row::Keys(keys) => tree.keys()?.as_slice() == keys,
-        Row::Ends(least, greatest) => tree.first() == least && tree.last() == greatest,
-        Row::Beside(k, below, above) => {
-            tree.next_before(&k) == below && tree.next_after(&k) == above
-        }
-        Row::Empty(empty) => tree.is_empty() == empty,
-        Row::Charged(bytes) => tree.charged() == bytes,
-        _ => false,
-    })
-}
-
-fn answers<A: Allocator>(tree: &mut Tree<A>, row: Row) -> Result<bool, Fail> {
-    Ok(match row {
-        Row::Get(k, value) => tree.get(&k) == value,
-        Row::Insert(k, value, before) => tree.insert(k, value)? == before,
-        Row::Refuse(k, value, error) => tree.insert(k, value).err() == Some(error),
-        Row::Fill(start, end) => fills(tree, start, end)?,
-        Row::Remove(k, value) => tree.remove(&k) == value,
-        Row::Exchange(k, old, new, answer) => tree.compare_exchange(&k, &old, new) == answer,
-        Row::Clear => {
-            tree.clear();
-            true
-        }
-        Row::Next(..) | Row::Drop(..) | Row::NextOr(..) => computes(tree, row)?,
-        _ => shows(tree, row)?,
-    })
-}
-
-fn all_answered<A: Allocator>(tree: &mut Tree<A>, rows: &[Row]) -> Result<bool, Fail> {
-    for row in rows {
-        if !answers(tree, *row)? {
-            return Ok(false);
-        }
-    }
-    Ok(true)
-}
-
-// Whether a tree that begins empty answers each row as expected.
-fn holds<A: Allocator>(alloc: Global, allocator: A, rows: &[Row]) -> Result<bool, Fail> {
-    let mut tree = Congee::new(alloc, allocator)?;
-    let answered = all_answered(&mut tree, rows);
+/// The name and the first turn of a dialogue that goes otherwise, with a tree that begins empty.
+fn wrong<A: Allocator>(
+    alloc: Global,
+    allocator: A,
+    dialogue: &'static str,
+) -> Result<Option<(&'static str, &'static str)>, Fail> {
+    let (name, turns) = named(dialogue)?;
+    let mut tree: Tree<A> = Congee::new(alloc, allocator)?;
+    let turn = wrong_turn(alloc, &mut tree, turns);
     tree.close();
-    answered
-}
-
-fn holds_unlimited(alloc: Global, rows: &[Row]) -> Result<bool, Fail> {
-    holds(alloc, DefaultAllocator::new(), rows)
-}
-
-fn holds_within(alloc: Global, limit: u64, rows: &[Row]) -> Result<bool, Fail> {
-    holds(alloc, Limited::new(limit), rows)
+    Ok(turn?.map(|turn| (name, turn)))
 }
 
 #[test]
 fn each_call_answers(rt: HostRuntime) -> Result<(), Fail> {
-    assert!(rt; holds_unlimited(rt.alloc(), &WRITTEN_AND_TAKEN)?);
-    assert!(rt; holds_unlimited(rt.alloc(), &LEAF_THROUGH_ALL_FORMS)?);
-    assert!(rt; holds_unlimited(rt.alloc(), &EMPTIED_INNER_NODE_STAYS)?);
-    assert!(rt; holds_unlimited(rt.alloc(), &CLOSURES_ANSWER)?);
-    assert!(rt; holds_unlimited(rt.alloc(), &VALUES_ARE_EXCHANGED)?);
-    assert!(rt; holds_unlimited(rt.alloc(), &RANGE_ENDS_BEFORE_ITS_END)?);
-    assert!(rt; holds_unlimited(rt.alloc(), &RANGE_ENDS_WITH_ITS_PLACES)?);
-    assert!(rt; holds_unlimited(rt.alloc(), &RANGE_STARTS_PAST_OTHER_PREFIXES)?);
-    assert!(rt; holds_unlimited(rt.alloc(), &KEYS_COME_ASCENDING)?);
-    assert!(rt; holds_unlimited(rt.alloc(), &NO_PAIR_HAS_NEIGHBOURS)?);
-    assert!(rt; holds_unlimited(rt.alloc(), &NEIGHBOURS_ARE_FOUND)?);
-    assert!(rt; holds_unlimited(rt.alloc(), &CLEARED_TREES_BEGIN_ANEW)?);
+    for dialogue in AMPLE {
+        assert_eq!(rt; wrong(rt.alloc(), DefaultAllocator::new(), dialogue)?, None);
+    }
     Ok(())
 }
 
 #[test]
 fn a_budget_is_kept(rt: HostRuntime) -> Result<(), Fail> {
-    assert!(rt; holds_within(rt.alloc(), 2168, &NO_ROOM_FOR_A_SECOND_LEAF)?);
-    assert!(rt; holds_within(rt.alloc(), 2104, &NO_ROOM_FOR_A_LEAF)?);
-    assert!(rt; holds_within(rt.alloc(), 2295, &SPLIT_GIVES_ITS_FIRST_NODE_BACK)?);
+    for (limit, dialogue) in LIMITED {
+        assert_eq!(rt; wrong(rt.alloc(), Limited::new(limit), dialogue)?, None);
+    }
     Ok(())
 }
 
@@ -361,37 +183,22 @@ fn a_root_is_refused(rt: HostRuntime) {
     assert!(rt; refusal(rt.alloc(), 1024) == Some(refused));
 }
 
-// How often closures were asked after each of four calls: for an absent key alone where it is present, for an absent
-// key in any case, and the same for a present key.
-fn times_asked(alloc: Global) -> Result<[u64; 4], Fail> {
-    let mut tree: Tree<DefaultAllocator> = Congee::new(alloc, DefaultAllocator::new())?;
-    let mut asked = 0u64;
-    let mut times = [0u64; 4];
-    tree.compute_if_present(&1, |v| {
-        asked = asked.wrapping_add(1);
-        Some(v)
-    });
-    times[0] = asked;
-    tree.compute_or_insert(1, |_| {
-        asked = asked.wrapping_add(1);
-        7
-    })?;
-    times[1] = asked;
-    tree.compute_if_present(&1, |v| {
-        asked = asked.wrapping_add(1);
-        Some(v)
-    });
-    times[2] = asked;
-    tree.compute_or_insert(1, |_| {
-        asked = asked.wrapping_add(1);
-        8
-    })?;
-    times[3] = asked;
-    Ok(times)
-}
-
 #[test]
 fn a_closure_is_asked_once_where_it_must_answer(rt: HostRuntime) -> Result<(), Fail> {
-    assert!(rt; times_asked(rt.alloc())? == [0, 1, 2, 3]);
+    let mut tree: Tree<DefaultAllocator> = Congee::new(rt.alloc(), DefaultAllocator::new())?;
+    let mut asked = 0u64;
+    // For an absent key alone where it is present, for an absent key in any case, and the same for a present key.
+    for times in 0..2u64 {
+        tree.compute_if_present(&1, |value| {
+            asked = asked.wrapping_add(1);
+            Some(value)
+        });
+        assert_eq!(rt; asked, 2 * times);
+        tree.compute_or_insert(1, |_| {
+            asked = asked.wrapping_add(1);
+            7
+        })?;
+        assert_eq!(rt; asked, 2 * times + 1);
+    }
     Ok(())
 }

@@ -18,114 +18,37 @@ Active memory usage: 0 Mb
 KV count: 2
 ";
 
-// The nodes of the text by level and form, each with its children.
-const NODES: [(usize, NodeType, u64); 4] = [
-    (0, NodeType::N256, 1),
-    (1, NodeType::N4, 2),
-    (2, NodeType::N4, 1),
-    (2, NodeType::N4, 1),
-];
-
 fn prints(alloc: Global, stats: &NodeStats, text: &str) -> Result<bool, Fail> {
     Ok(format!(in alloc; "{stats}")?.as_str() == text)
 }
 
-fn count(stats: &mut NodeStats, level: usize, form: NodeType, children: u64) -> Result<(), Fail> {
-    if level <= stats.levels.len() {
-        stats.count(level, form, children)?;
-    }
-    Ok(())
-}
-
-fn count_nodes(stats: &mut NodeStats) -> Result<(), Fail> {
-    for (level, form, children) in NODES {
-        count(stats, level, form, children)?;
-    }
-    stats.kv_pairs = 2;
-    Ok(())
-}
-
-fn is_cloned(stats: &NodeStats) -> Result<bool, Fail> {
-    Ok(stats.clone()? == *stats)
-}
-
-#[test]
-fn prints_stats(rt: HostRuntime) -> Result<(), Fail> {
-    let mut stats = NodeStats::new(rt.alloc());
-    count_nodes(&mut stats)?;
-    assert!(rt; prints(rt.alloc(), &stats, TEXT)?);
-    assert!(rt; is_cloned(&stats)?);
-    Ok(())
-}
-
-const NONE: NodeInfo = NodeInfo {
-    node_count: 0,
-    value_count: 0,
-};
-
-/// The root alone.
-const EMPTY: [LevelStats; 1] = [LevelStats {
-    n4: NONE,
-    n16: NONE,
-    n48: NONE,
-    n256: NodeInfo {
-        node_count: 1,
-        value_count: 0,
-    },
-}];
-
 /// How many keys there are under some first bytes, so that each leaf has another form.
 const LEAVES: [(u64, u64); 4] = [(1, 4), (2, 5), (3, 17), (4, 49)];
 
-/// The root with a leaf of each form.
-const LEAF_OF_EACH_FORM: [LevelStats; 2] = [
+/// A level with one node of each form that has as many children as are given, and none of a form that has none.
+fn level([n4, n16, n48, n256]: [u64; 4]) -> LevelStats {
+    let info = |children: u64| NodeInfo {
+        node_count: if children == 0 { 0 } else { 1 },
+        value_count: children,
+    };
     LevelStats {
-        n4: NONE,
-        n16: NONE,
-        n48: NONE,
-        n256: NodeInfo {
-            node_count: 1,
-            value_count: 4,
-        },
-    },
-    LevelStats {
-        n4: NodeInfo {
-            node_count: 1,
-            value_count: 4,
-        },
-        n16: NodeInfo {
-            node_count: 1,
-            value_count: 5,
-        },
-        n48: NodeInfo {
-            node_count: 1,
-            value_count: 17,
-        },
-        n256: NodeInfo {
-            node_count: 1,
-            value_count: 49,
-        },
-    },
-];
+        n4: info(n4),
+        n16: info(n16),
+        n48: info(n48),
+        n256: info(n256),
+    }
+}
 
 fn put(tree: &mut Tree, key: u64, value: u64) -> Result<bool, Fail> {
     Ok(tree.insert(key, value)?.is_none())
 }
 
-// Keys with this first byte.
-fn put_leaf(tree: &mut Tree, high: u64, count: u64) -> Result<bool, Fail> {
-    for low in 0..count {
-        if !put(tree, high.wrapping_shl(56).wrapping_add(low), low)? {
-            return Ok(false);
-        }
-    }
-    Ok(true)
-}
-
 fn put_leaves(tree: &mut Tree) -> Result<bool, Fail> {
-    for (high, count) in &LEAVES {
-        if !put_leaf(tree, *high, *count)? {
-            return Ok(false);
+    for (high, count) in LEAVES {
+        for low in 0..count {
+            if !put(tree, high.wrapping_shl(56).wrapping_add(low), low)? {
+                return Ok(false);
+            }
         }
     }
     Ok(true)
@@ -136,29 +59,48 @@ fn surveys(tree: &Tree, levels: &[LevelStats], pairs: u64) -> Result<bool, Fail>
     Ok(stats.levels.as_slice() == levels && stats.kv_pairs == pairs)
 }
 
+// The nodes of the text, counted: each with its level, its form and its children.
+fn counted(alloc: Global) -> Result<NodeStats, Fail> {
+    let mut stats = NodeStats::new(alloc);
+    stats.count(0, NodeType::N256, 1)?;
+    for (level, children) in [(1, 2), (2, 1), (2, 1)] {
+        if level <= stats.levels.len() {
+            stats.count(level, NodeType::N4, children)?;
+        }
+    }
+    stats.kv_pairs = 2;
+    Ok(stats)
+}
+
 fn prints_survey(alloc: Global, tree: &mut Tree) -> Result<bool, Fail> {
-    Ok(put(tree, 1, 10)? && put(tree, 256, 20)? && prints(alloc, &tree.stats()?, TEXT)?)
+    let counted = counted(alloc)?;
+    Ok(
+        put(tree, 1, 10)?
+            && put(tree, 256, 20)?
+            && tree.stats()? == counted
+            && counted.clone()? == counted
+            && prints(alloc, &counted, TEXT)?,
+    )
 }
 
 fn surveys_leaves(tree: &mut Tree) -> Result<bool, Fail> {
-    Ok(surveys(tree, &EMPTY, 0)? && put_leaves(tree)? && surveys(tree, &LEAF_OF_EACH_FORM, 75)?)
+    let mut empty = level([0, 0, 0, 0]);
+    empty.n256.node_count = 1;
+    let full = [level([0, 0, 0, 4]), level([4, 5, 17, 49])];
+    Ok(surveys(tree, &[empty], 0)? && put_leaves(tree)? && surveys(tree, &full, 75)?)
 }
 
 #[test]
 fn surveys_a_tree(rt: HostRuntime) -> Result<(), Fail> {
     let mut tree: Tree = Congee::new(rt.alloc(), DefaultAllocator::new())?;
-    let printed = prints_survey(rt.alloc(), &mut tree);
-    tree.close();
-    assert!(rt; printed?);
+    assert!(rt; prints_survey(rt.alloc(), &mut tree)?);
     Ok(())
 }
 
 #[test]
 fn surveys_every_form(rt: HostRuntime) -> Result<(), Fail> {
     let mut tree: Tree = Congee::new(rt.alloc(), DefaultAllocator::new())?;
-    let surveyed = surveys_leaves(&mut tree);
-    tree.close();
-    assert!(rt; surveyed?);
+    assert!(rt; surveys_leaves(&mut tree)?);
     Ok(())
 }
 
@@ -195,67 +137,34 @@ fn cuts_hundredths_off(rt: HostRuntime) -> Result<(), Fail> {
     Ok(())
 }
 
-/// What an allocator is asked.
-#[derive(Clone, Copy)]
-enum Charge {
-    Take(u64, Result<(), OOMError>),
-    Give(u64),
-}
-
-const OF_100: [Charge; 4] = [
-    Charge::Take(64, Ok(())),
-    Charge::Take(
-        37,
-        Err(OOMError::Budget {
-            charged: 64,
-            wanted: 37,
-            limit: 100,
-        }),
-    ),
-    Charge::Take(36, Ok(())),
-    Charge::Give(64),
-];
-
-const OF_ALL: [Charge; 3] = [
-    Charge::Take(u64::MAX, Ok(())),
-    Charge::Take(
-        1,
-        Err(OOMError::Budget {
-            charged: u64::MAX,
-            wanted: 1,
-            limit: u64::MAX,
-        }),
-    ),
-    Charge::Give(u64::MAX),
-];
-
-fn answers<A: Allocator>(allocator: &mut A, charge: Charge) -> bool {
-    match charge {
-        Charge::Take(size, answer) => allocator.allocate(size) == answer,
-        Charge::Give(size) => {
-            let charged = size <= allocator.charged();
-            if charged {
-                allocator.deallocate(size);
-            }
-            charged
-        }
+fn budget(charged: u64, wanted: u64, limit: u64) -> OOMError {
+    OOMError::Budget {
+        charged,
+        wanted,
+        limit,
     }
 }
 
-// Whether the charges are answered so, and in the end so much is charged of this limit.
-fn charges<A: Allocator>(mut allocator: A, charges: &[Charge], charged: u64, limit: u64) -> bool {
-    for charge in charges {
-        if !answers(&mut allocator, *charge) {
-            return false;
-        }
+// Gives back what is charged.
+fn give<A: Allocator>(allocator: &mut A, size: u64) {
+    if size <= allocator.charged() {
+        allocator.deallocate(size);
     }
-    allocator.charged() == charged && allocator.limit() == limit
 }
 
 #[test]
 fn charges_up_to_the_limit(rt: HostRuntime) {
-    assert!(rt; charges(Limited::new(100), &OF_100, 36, 100));
-    assert!(rt; charges(DefaultAllocator::new(), &OF_ALL, 0, u64::MAX));
+    let mut some = Limited::new(100);
+    assert_eq!(rt; some.allocate(64), Ok(()));
+    assert_eq!(rt; some.allocate(37), Err(budget(64, 37, 100)));
+    assert_eq!(rt; some.allocate(36), Ok(()));
+    give(&mut some, 64);
+    assert_eq!(rt; (some.charged(), some.limit()), (36, 100));
+    let mut all = DefaultAllocator::new();
+    assert_eq!(rt; all.allocate(u64::MAX), Ok(()));
+    assert_eq!(rt; all.allocate(1), Err(budget(u64::MAX, 1, u64::MAX)));
+    give(&mut all, u64::MAX);
+    assert_eq!(rt; (all.charged(), all.limit()), (0, u64::MAX));
 }
 
 fn add_one(words: &mut Vec<u64>) -> Result<(), OOMError> {
@@ -267,15 +176,9 @@ fn shows(alloc: Global, error: OOMError) -> Result<bool, Fail> {
     Ok(format!(in alloc; "{error}")?.as_str() == "Allocator is out of memory!")
 }
 
-const ROOT_REFUSED: OOMError = OOMError::Budget {
-    charged: 0,
-    wanted: 2_104,
-    limit: 1_024,
-};
-
 #[test]
 fn shows_want_of_memory(rt: HostRuntime) -> Result<(), Fail> {
-    assert!(rt; shows(rt.alloc(), ROOT_REFUSED)?);
+    assert!(rt; shows(rt.alloc(), budget(0, 2_104, 1_024))?);
     assert!(rt; shows(rt.alloc(), OOMError::from(AllocError))?);
     add_one(&mut Vec::new(rt.alloc()))?;
     Ok(())

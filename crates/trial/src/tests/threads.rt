@@ -3,8 +3,10 @@
 ghost use Rattle.std.specs.Prelude.{◌≡◌};
 
 use super::collector::adds;
-use super::face::{Item, defer, destroy, limits, placed, rounds, seals, spend, swapped};
-use crossbeam_epoch::{Atomic, Collector, Fault, Guard, Job, Limits, Link, LocalHandle, Pointable};
+use super::face::{
+    Handle, Item, ItemGuard, Under, defer, destroy, limits, rounds, seals, spend, swapped,
+};
+use crossbeam_epoch::{Atomic, Collector, Fault, Job, Link, Pointable};
 use std::alloc::{AllocError, Global};
 use std::sync::atomic::Ordering::SeqCst;
 use std::sync::atomic::{AtomicBool, AtomicU64};
@@ -60,32 +62,20 @@ fn shares<R: Threads + Wait + Sync>(
 ) -> Result<bool, Fault> {
     let root: Atomic<Item> = Atomic::null();
     both_cross(items, &root);
-    let found = swap_in_two_threads(rt, alloc, items, &root, first, second)?;
-    let emptied = empties(rt, alloc, items, &root)?;
-    Ok(found && emptied)
-}
-
-/// `swap_in_turn` in two threads at once. Whether each load found a value.
-fn swap_in_two_threads<R: Threads + Wait + Sync>(
-    rt: &R,
-    alloc: Global,
-    items: &Collector<Item>,
-    root: &Atomic<Item>,
-    first: Vec<Job>,
-    second: Vec<Job>,
-) -> Result<bool, Fault> {
+    let swapped = &root;
     let (one, two) = thread::join(
         rt,
-        move || swap_in_turn(rt, alloc, items, root, first),
-        move || swap_in_turn(rt, alloc, items, root, second),
+        move || swap_in_turn(rt, alloc, items, swapped, first),
+        move || swap_in_turn(rt, alloc, items, swapped, second),
     );
-    Ok(one? && two?)
+    let emptied = empties(rt, alloc, items, &root)?;
+    Ok(one? && two? && emptied)
 }
 
 /// For each job, swaps a new value in under a guard, and puts off the job and the destruction of the value before.
 /// Whether each load found a value.
-fn swap_in_turn<R: Wait>(
-    rt: &R,
+fn swap_in_turn(
+    rt: &impl Wait,
     alloc: Global,
     items: &Collector<Item>,
     root: &Atomic<Item>,
@@ -102,10 +92,10 @@ fn swap_in_turn<R: Wait>(
 
 /// Swaps a new value in under a guard, and puts off the job and the destruction of the value before. Whether a load
 /// finds a value.
-fn replaces<R: Wait>(
-    rt: &R,
+fn replaces(
+    rt: &impl Wait,
     alloc: Global,
-    handle: &mut LocalHandle<'_, Item>,
+    handle: &mut Handle<'_>,
     root: &Atomic<Item>,
     job: Job,
 ) -> Result<bool, Fault> {
@@ -122,22 +112,22 @@ fn replaces<R: Wait>(
 }
 
 /// Swaps a new value in. The pointer before, and whether a load finds a value.
-fn swaps_in<R: Wait>(
-    rt: &R,
+fn swaps_in(
+    rt: &impl Wait,
     alloc: Global,
     root: &Atomic<Item>,
-    guard: &Guard<'_, Item>,
+    guard: &ItemGuard<'_>,
 ) -> Result<(Link, bool), Fault> {
-    let link = placed(rt, alloc, 1, guard)?;
-    let before = swapped(rt, root, link, guard)?;
+    let under = Under { rt, alloc, guard };
+    let before = swapped(rt, root, under.placed(1)?, guard)?;
     Ok((before, !root.load(rt, SeqCst, guard).is_null()))
 }
 
 /// Puts off the job and the destruction of the value that the pointer leads to, if it isn't null, and collects.
-fn puts_off<R: Wait>(
-    rt: &R,
-    handle: &mut LocalHandle<'_, Item>,
-    guard: &Guard<'_, Item>,
+fn puts_off(
+    rt: &impl Wait,
+    handle: &mut Handle<'_>,
+    guard: &ItemGuard<'_>,
     before: Link,
     job: Job,
 ) -> Result<(), Fault>
@@ -152,7 +142,7 @@ fn puts_off<R: Wait>(
 }
 
 /// Releases the handle.
-fn leaves<R: Wait>(rt: &R, handle: LocalHandle<'_, Item>) -> Result<(), Fault> {
+fn leaves(rt: &impl Wait, handle: Handle<'_>) -> Result<(), Fault> {
     match handle.release(rt) {
         Ok(()) => Ok(()),
         Err((fault, _back)) => Err(fault),
@@ -160,8 +150,8 @@ fn leaves<R: Wait>(rt: &R, handle: LocalHandle<'_, Item>) -> Result<(), Fault> {
 }
 
 /// Puts off the destruction of the last value and collects until nothing is left. Whether every cell is vacant then.
-fn empties<R: Wait>(
-    rt: &R,
+fn empties(
+    rt: &impl Wait,
     alloc: Global,
     items: &Collector<Item>,
     root: &Atomic<Item>,
@@ -175,11 +165,7 @@ fn empties<R: Wait>(
 }
 
 /// Puts off the destruction of the value that the pointer leads to, which becomes null.
-fn drops_last<R: Wait>(
-    rt: &R,
-    handle: &mut LocalHandle<'_, Item>,
-    root: &Atomic<Item>,
-) -> Result<(), Fault> {
+fn drops_last(rt: &impl Wait, handle: &mut Handle<'_>, root: &Atomic<Item>) -> Result<(), Fault> {
     let guard = handle.pin()?;
     let outcome = match swapped(rt, root, Link::null(), &guard) {
         Ok(last) => destroy(rt, handle, &guard, last),
@@ -190,17 +176,15 @@ fn drops_last<R: Wait>(
 }
 
 /// Whether eight values are placed.
-fn fills_all<R: Wait>(
-    rt: &R,
-    alloc: Global,
-    handle: &mut LocalHandle<'_, Item>,
-) -> Result<bool, Fault> {
-    let guard = handle.pin()?;
+fn fills_all(rt: &impl Wait, alloc: Global, handle: &mut Handle<'_>) -> Result<bool, Fault> {
+    let pinned = handle.pin()?;
+    let guard = &pinned;
+    let under = Under { rt, alloc, guard };
     let mut vacant = true;
     for number in 0..8 {
-        vacant &= placed(rt, alloc, number, &guard).is_ok();
+        vacant &= under.placed(number).is_ok();
     }
-    spend(handle, guard);
+    spend(handle, pinned);
     Ok(vacant)
 }
 
@@ -227,9 +211,9 @@ fn pins_in_two_threads<R: Threads + Wait + Sync>(
     Ok((sees?, is_seen?))
 }
 
-/// Pins, tells so by its own flag, and waits for the other's. Whether it came within 10,000 turns.
-fn meets<R: Wait>(
-    rt: &R,
+/// Pins, tells so by its own flag, and waits for the other's. Whether it came within ten million turns.
+fn meets(
+    rt: &impl Wait,
     items: &Collector<Item>,
     mine: &AtomicBool,
     other: &AtomicBool,
@@ -243,9 +227,9 @@ fn meets<R: Wait>(
     Ok(met)
 }
 
-/// Whether a flag is set within 10,000 turns.
+/// Whether a flag is set within ten million turns.
 fn comes(flag: &AtomicBool) -> bool {
-    for _ in 0..10_000 {
+    for _ in 0..10_000_000u32 {
         if flag.load(SeqCst) {
             return true;
         }
@@ -261,10 +245,8 @@ fn four_threads_take_turns_at_two_places(rt: HostRuntime) -> Result<(), Fail> {
     let second = jobs(rt.alloc(), &calls, 1 << 16, 16)?;
     let third = jobs(rt.alloc(), &calls, 1 << 32, 16)?;
     let fourth = jobs(rt.alloc(), &calls, 1 << 48, 16)?;
-    let places = Limits {
-        participants: 2,
-        ..limits(1)
-    };
+    let mut places = limits(1);
+    places.participants = 2;
     let items: Collector<Item> = Collector::new(&rt, rt.alloc(), places, 1)?;
     four_take_turns(&rt, &items, (first, second), (third, fourth))?;
     assert!(rt; items.end().is_ok());
@@ -306,7 +288,7 @@ fn two_take_turns<R: Threads + Wait + Sync>(
 }
 
 /// For each job, waits for a free place, defers the job under a guard, collects, and leaves.
-fn take_turns<R: Wait>(rt: &R, items: &Collector<Item>, jobs: Vec<Job>) -> Result<(), Fault> {
+fn take_turns(rt: &impl Wait, items: &Collector<Item>, jobs: Vec<Job>) -> Result<(), Fault> {
     for job in jobs {
         let mut handle = place_of_its_own(rt, items)?;
         seals(rt, &mut handle, job)?;
@@ -316,10 +298,7 @@ fn take_turns<R: Wait>(rt: &R, items: &Collector<Item>, jobs: Vec<Job>) -> Resul
 }
 
 /// A handle, once a place is free.
-fn place_of_its_own<'c, R: Wait>(
-    rt: &R,
-    items: &'c Collector<Item>,
-) -> Result<LocalHandle<'c, Item>, Fault> {
+fn place_of_its_own<'c>(rt: &impl Wait, items: &'c Collector<Item>) -> Result<Handle<'c>, Fault> {
     for _ in rt.forever() {
         match items.register(rt) {
             Ok(handle) => return Ok(handle),

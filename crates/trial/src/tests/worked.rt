@@ -1,565 +1,204 @@
-//! Worked runs of the machine: calls of its workers, whole and in parts, and what each tells.
+//! Dialogues with the program, worked out by hand: calls of its workers, whole and in parts, and how each is answered.
 
-use super::machine::{
-    AMPLE, END, Index, Opening, answer_of, are_rounds_done, begin, call, go_on, is_done, op_of,
-    open, register, replied, why_not,
-};
-use super::scripts::answers;
-use joint::{Op, Outcome, Refusal};
-use judge::{Call, Reply};
-use std::alloc::Global;
+use super::dialogue::{first_wrong, goes, repeated};
+use super::scripts::played;
 use std::test::Fail;
 
-/// What happens next, and what it tells.
-enum Turn {
-    /// A worker takes this place, and pins.
-    Comes(u32),
-    /// A call on the collector is done.
-    Does(u32, Op<u64>),
-    /// So many rounds of pin, flush and unpin are done.
-    Rounds(u32, u32),
-    /// A whole call, and its reply.
-    Replies(u32, Call<u64>, Reply<u64>),
-    /// A whole call that is refused.
-    Refused(u32, Call<u64>, Refusal),
-    /// Each key from the first to the last is put there as its own value, and was absent.
-    Fills(u32, u64, u64),
-    /// A call begins, goes so many steps, and is in flight.
-    Begins(u32, Call<u64>, u32),
-    /// A call in flight goes on to its end, and this is its reply.
-    Ends(u32, Reply<u64>),
-    /// Nodes and bytes that wait.
-    Waiting(u64, u64),
-    /// Bytes charged.
-    Charged(u64),
-}
-
-/// A run from an empty index on.
-struct Worked {
-    name: &'static str,
-    opening: Opening,
-    turns: &'static [Turn],
-}
-
-const ONE_WORKER: [Worked; 7] = [
-    Worked {
-        name: "a value comes, changes and goes",
-        opening: AMPLE,
-        turns: &[
-            Turn::Comes(0),
-            Turn::Replies(0, Call::Insert(1, 42), Reply::Insert(None)),
-            Turn::Replies(0, Call::Get(1), Reply::Get(Some(42))),
-            Turn::Replies(0, Call::Insert(1, 43), Reply::Insert(Some(42))),
-            Turn::Replies(0, Call::Remove(1), Reply::Remove(Some(43))),
-            Turn::Replies(0, Call::Get(1), Reply::Get(None)),
-            Turn::Does(0, Op::Unpin),
-            Turn::Rounds(0, 3),
-            Turn::Charged(2104),
-        ],
-    },
-    Worked {
-        name: "a leaf grows through every form",
-        opening: AMPLE,
-        turns: &[
-            Turn::Comes(0),
-            Turn::Fills(0, 1, 49),
-            Turn::Waiting(3, 904),
-            Turn::Charged(5112),
-            Turn::Does(0, Op::Unpin),
-            Turn::Rounds(0, 3),
-            Turn::Waiting(0, 0),
-            Turn::Charged(4208),
-        ],
-    },
-    Worked {
-        name: "the limit is reached at the second leaf",
-        opening: Opening {
-            limit: 2168,
-            ..AMPLE
-        },
-        turns: &[
-            Turn::Comes(0),
-            Turn::Replies(0, Call::Insert(0, 100), Reply::Insert(None)),
-            Turn::Refused(
-                0,
-                Call::Insert(u64::MAX, 100),
-                Refusal::Budget {
-                    charged: 2168,
-                    wanted: 64,
-                    limit: 2168,
-                },
-            ),
-            Turn::Replies(0, Call::Insert(0, 5), Reply::Insert(Some(100))),
-        ],
-    },
-    Worked {
-        name: "the limit is reached at the first leaf",
-        opening: Opening {
-            limit: 2104,
-            ..AMPLE
-        },
-        turns: &[
-            Turn::Comes(0),
-            Turn::Refused(
-                0,
-                Call::Insert(100, 100),
-                Refusal::Budget {
-                    charged: 2104,
-                    wanted: 64,
-                    limit: 2104,
-                },
-            ),
-        ],
-    },
-    Worked {
-        name: "the root has no version left",
-        opening: Opening {
-            version_max: 1,
-            ..AMPLE
-        },
-        turns: &[
-            Turn::Comes(0),
-            Turn::Replies(0, Call::Insert(1, 1), Reply::Insert(None)),
-            Turn::Refused(0, Call::Insert(1 << 56, 1), Refusal::Exhausted),
-            Turn::Replies(0, Call::Get(1), Reply::Get(Some(1))),
-            Turn::Charged(2168),
-        ],
-    },
-    Worked {
-        name: "an exchange compares first",
-        opening: AMPLE,
-        turns: &[
-            Turn::Comes(0),
-            Turn::Replies(
-                0,
-                Call::Exchange(1, 42, Some(43)),
-                Reply::Exchange(Err(None)),
-            ),
-            Turn::Replies(0, Call::Insert(1, 42), Reply::Insert(None)),
-            Turn::Replies(
-                0,
-                Call::Exchange(1, 42, Some(43)),
-                Reply::Exchange(Ok(Some(43))),
-            ),
-            Turn::Replies(0, Call::Insert(1, 41), Reply::Insert(Some(43))),
-            Turn::Replies(
-                0,
-                Call::Exchange(1, 42, Some(43)),
-                Reply::Exchange(Err(Some(41))),
-            ),
-            Turn::Replies(0, Call::Insert(1, 42), Reply::Insert(Some(41))),
-            Turn::Replies(0, Call::Exchange(1, 42, None), Reply::Exchange(Ok(None))),
-            Turn::Replies(0, Call::Get(1), Reply::Get(None)),
-        ],
-    },
-    Worked {
-        name: "a closure counts up",
-        opening: AMPLE,
-        turns: &[
-            Turn::Comes(0),
-            Turn::Replies(0, Call::Insert(1, 42), Reply::Insert(None)),
-            Turn::Replies(
-                0,
-                Call::ComputeInsert(1, 43),
-                Reply::ComputeInsert(Some(42)),
-            ),
-            Turn::Replies(0, Call::ComputeInsert(2, 2), Reply::ComputeInsert(None)),
-            Turn::Replies(0, Call::Get(1), Reply::Get(Some(43))),
-            Turn::Replies(0, Call::Get(2), Reply::Get(Some(2))),
-            Turn::Replies(
-                0,
-                Call::ComputePresent(1, Some(44)),
-                Reply::ComputePresent(Some((43, Some(44)))),
-            ),
-            Turn::Replies(
-                0,
-                Call::ComputePresent(3, None),
-                Reply::ComputePresent(None),
-            ),
-        ],
-    },
+const ONE_WORKER: [&str; 6] = [
+    "an empty tree has its root: new 1 1000 = ok; reg = worker 0; 0 pin = ok; charged = charged 2104; 0 get 1 = none",
+    "a worker pins anew and leaves: new 1 9 = ok; reg = worker 0; 0 repin = refused Unpinned; 0 flush = refused Unpinned; 0 pin = ok; \
+     0 repin = ok; 0 flush = ok; 0 release = refused GuardOut; 0 unpin = ok; 0 release = ok; 0 release = refused Unknown; reg = worker 0",
+    "a value comes, changes and goes: new 2 1000 = ok; reg = worker 0; 0 pin = ok; 0 insert 1 42 = none; 0 get 1 = some 42; \
+     0 insert 1 43 = some 42; 0 remove 1 = some 43; 0 get 1 = none; 0 unpin = ok; 0 round 3 = ok; charged = charged 2104",
+    "an exchange compares first: new 2 1000 = ok; reg = worker 0; 0 pin = ok; 0 cas 1 42 43 = err none; 0 insert 1 42 = none; \
+     0 cas 1 42 43 = ok some 43; 0 insert 1 41 = some 43; 0 cas 1 42 43 = err some 41; 0 insert 1 42 = some 41; 0 cas 1 42 drop = ok none; \
+     0 get 1 = none",
+    "a closure counts up: new 2 1000 = ok; reg = worker 0; 0 pin = ok; 0 insert 1 42 = none; 0 orinsert 1 1 = some 42; \
+     0 orinsert 2 2 = none; 0 get 1 = some 43; 0 get 2 = some 2; 0 present 1 add 1 = pair 43 44; 0 present 3 add 1 = none; \
+     0 present 1 drop = pair 44 none; 0 get 1 = none",
+    "sums wrap: new 1 9 = ok; reg = worker 0; 0 pin = ok; 0 insert 1 18446744073709551615 = none; \
+     0 present 1 add 2 = pair 18446744073709551615 1; 0 orinsert 1 18446744073709551615 = some 1; 0 get 1 = some 0",
 ];
 
-const TWO_WORKERS: [Worked; 4] = [
-    Worked {
-        name: "a call finds its leaf gone",
-        opening: AMPLE,
-        turns: &[
-            Turn::Comes(0),
-            Turn::Comes(1),
-            Turn::Replies(0, Call::Insert(1, 42), Reply::Insert(None)),
-            Turn::Begins(1, Call::Get(1), 3),
-            Turn::Replies(0, Call::Remove(1), Reply::Remove(Some(42))),
-            Turn::Replies(0, Call::Insert(1, 9), Reply::Insert(None)),
-            Turn::Ends(1, Reply::Get(Some(9))),
-        ],
-    },
-    Worked {
-        name: "two put a value at one absent key",
-        opening: AMPLE,
-        turns: &[
-            Turn::Comes(0),
-            Turn::Comes(1),
-            Turn::Begins(0, Call::Insert(7, 1), 4),
-            Turn::Begins(1, Call::Insert(7, 2), 4),
-            Turn::Ends(0, Reply::Insert(None)),
-            Turn::Ends(1, Reply::Insert(Some(1))),
-            Turn::Replies(0, Call::Get(7), Reply::Get(Some(2))),
-            Turn::Charged(2168),
-        ],
-    },
-    Worked {
-        name: "a split comes before the read",
-        opening: AMPLE,
-        turns: &[
-            Turn::Comes(0),
-            Turn::Comes(1),
-            Turn::Replies(0, Call::Insert(1, 1), Reply::Insert(None)),
-            Turn::Begins(1, Call::Get(256), 4),
-            Turn::Replies(0, Call::Insert(256, 5), Reply::Insert(None)),
-            Turn::Ends(1, Reply::Get(Some(5))),
-        ],
-    },
-    Worked {
-        name: "what one leaves behind another reclaims",
-        opening: AMPLE,
-        turns: &[
-            Turn::Comes(0),
-            Turn::Fills(0, 1, 5),
-            Turn::Does(0, Op::Unpin),
-            Turn::Comes(1),
-            Turn::Does(1, Op::Unpin),
-            Turn::Does(0, Op::Release),
-            Turn::Waiting(1, 64),
-            Turn::Rounds(1, 3),
-            Turn::Waiting(0, 0),
-        ],
-    },
+/// What a call left that took nodes out.
+const WAITING: [&str; 5] = [
+    "what a growth left is destroyed after three rounds: new 2 1000 = ok; reg = worker 0; 0 pin = ok; charged = charged 2104; \
+     0 insert 1 1 = none; 0 insert 2 2 = none; 0 insert 3 3 = none; 0 insert 4 4 = none; 0 insert 5 5 = none; waiting = waiting 1 64; \
+     charged = charged 2336; 0 unpin = ok; 0 round 3 = ok; waiting = waiting 0 0; 0 pin = ok; 0 get 3 = some 3",
+    "and so it is after a round before: new 2 1000 = ok; reg = worker 0; 0 round 1 = ok; 0 pin = ok; 0 insert 1 1 = none; \
+     0 insert 2 2 = none; 0 insert 3 3 = none; 0 insert 4 4 = none; 0 insert 5 5 = none; waiting = waiting 1 64; 0 unpin = ok; \
+     0 round 3 = ok; waiting = waiting 0 0; 0 pin = ok; 0 get 3 = some 3",
+    "a pinned worker keeps what waits: new 2 1000 = ok; reg = worker 0; reg = worker 1; 0 pin = ok; 0 insert 1 1 = none; \
+     0 insert 2 2 = none; 0 insert 3 3 = none; 0 insert 4 4 = none; 0 unpin = ok; 1 pin = ok; 0 pin = ok; 0 insert 5 5 = none; \
+     0 unpin = ok; 0 round 10 = ok; waiting = waiting 1 64; 1 unpin = ok; 0 round 3 = ok; waiting = waiting 0 0",
+    "what is in a bag waits for its worker: new 2 1000 = ok; reg = worker 0; reg = worker 1; 1 pin = ok; 1 insert 1 1 = none; \
+     1 insert 2 2 = none; 1 insert 3 3 = none; 1 insert 4 4 = none; 1 insert 5 5 = none; 1 unpin = ok; 0 round 3 = ok; \
+     waiting = waiting 1 64; 1 round 1 = ok; 0 round 3 = ok; waiting = waiting 0 0",
+    "what one leaves behind another reclaims: new 2 1000 = ok; reg = worker 0; reg = worker 1; 0 pin = ok; 0 insert 1 1 = none; \
+     0 insert 2 2 = none; 0 insert 3 3 = none; 0 insert 4 4 = none; 0 insert 5 5 = none; 0 unpin = ok; 0 release = ok; \
+     waiting = waiting 1 64; 1 round 3 = ok; waiting = waiting 0 0; 0 pin = refused Unknown",
+];
+
+/// What a tree is opened with refuses.
+const LIMITS: [&str; 7] = [
+    "no tree is open: reg = refused NoTree",
+    "no worker has a place: new 0 9 = refused Limits",
+    "no version is there: new 2 1000 version 0 = refused Limits",
+    "a limit below the root: new 2 1000 limit 1024 = refused Budget 0 2104 1024; reg = refused NoTree",
+    "the limit is reached at the first leaf: new 2 1000 limit 2104 = ok; reg = worker 0; 0 pin = ok; \
+     0 insert 100 100 = refused Budget 2104 64 2104",
+    "the limit is reached at the second leaf: new 2 1000 limit 2168 = ok; reg = worker 0; 0 pin = ok; 0 insert 0 100 = none; \
+     0 insert 18446744073709551615 100 = refused Budget 2168 64 2168; 0 insert 0 5 = some 100",
+    "the root has no version left: new 2 1000 version 1 = ok; reg = worker 0; 0 pin = ok; 0 insert 1 1 = none; \
+     0 insert 72057594037927936 1 = refused Exhausted; 0 get 1 = some 1; charged = charged 2168",
+];
+
+/// Calls that are begun and go on step by step.
+const BEGUN: [&str; 5] = [
+    "calls that end as they begin: new 2 1000 = ok; reg = worker 0; 0 begin get 1 = refused Unpinned; 0 begin unpin = refused Unpinned; \
+     0 pin = ok; 0 begin pin = ok; 0 begin repin = ok; 0 begin release = refused GuardOut; 0 begin unpin = ok; 0 begin unpin = ok; \
+     0 begin release = ok; 0 begin pin = refused Unknown",
+    "the first pin collects, a lone guard is taken anew at another epoch, and a flush that finds one ends: new 2 1000 = ok; \
+     reg = worker 0; 0 begin pin = begun; 0 go 6 = running; 0 go 1 = ok; 0 begin flush = begun; 0 go 2 = running; 0 go 1 = ok; \
+     0 begin repin = begun; 0 go 1 = running; 0 go 1 = ok; 0 begin repin = begun; 0 go 1 = ok; 0 begin flush = begun; 0 go 4 = running; \
+     0 go 1 = ok; 0 unpin = ok; 0 begin pin = begun; 0 go 1 = running; 0 go 1 = ok",
+    "a worker that leaves seals and queues its bag first: new 1 1000 = ok; reg = worker 0; 0 pin = ok; 0 insert 1 1 = none; \
+     0 remove 1 = some 1; 0 unpin = ok; 0 begin release = begun; 0 go 1 = running; 0 go 1 = ok; 0 pin = refused Unknown; \
+     waiting = waiting 1 64; reg = worker 0; 0 round 3 = ok; waiting = waiting 0 0",
+    "a pin goes on: new 1 9 = ok; reg = worker 0; 0 begin pin = begun; 0 go 2 = running; 0 go 100 = ok; 0 begin unpin = ok",
+    "a call in flight refuses others: new 2 1000 = ok; reg = worker 0; 0 go 1 = refused Idle; 0 fail = refused Idle; 0 pin = ok; \
+     0 begin get 1 = begun; 0 begin get 1 = refused Busy; 0 pin = refused Busy; 0 unpin = refused InCall; 0 flush = refused InCall; \
+     0 release = refused InCall; 0 go 100 = none; 0 go 1 = refused Idle; 1 go 1 = refused Unknown",
+];
+
+/// Calls of two workers, in flight beside each other.
+const TWO_WORKERS: [&str; 9] = [
+    "a call finds its leaf gone: new 2 1000 = ok; reg = worker 0; reg = worker 1; 0 pin = ok; 1 pin = ok; 0 insert 1 42 = none; \
+     1 begin get 1 = begun; 1 go 3 = running; 0 remove 1 = some 42; 0 insert 1 9 = none; 1 go 100 = some 9; 1 get 1 = some 9",
+    "two put a value at one absent key: new 2 1000 = ok; reg = worker 0; reg = worker 1; 0 pin = ok; 1 pin = ok; \
+     0 begin insert 7 1 = begun; 0 go 4 = running; 1 begin insert 7 2 = begun; 1 go 4 = running; 0 go 100 = none; 1 go 100 = some 1; \
+     0 get 7 = some 2; charged = charged 2168",
+    "a split comes before the read: new 2 1000 = ok; reg = worker 0; reg = worker 1; 0 pin = ok; 1 pin = ok; 0 insert 1 1 = none; \
+     1 begin get 256 = begun; 1 go 4 = running; 0 insert 256 5 = none; 1 go 100 = some 5",
+    "a look-up waits while a value is put there: new 2 1000 = ok; reg = worker 0; reg = worker 1; 0 pin = ok; 1 pin = ok; \
+     0 insert 1 10 = none; 0 begin insert 1 11 = begun; 0 go 9 = running; 1 get 1 = running; 0 go 100 = some 10; 1 go 100 = some 11",
+    "a node that was made in vain is destroyed at once: new 2 1000 limit 2232 = ok; reg = worker 0; 0 pin = ok; \
+     0 begin insert 1 1 = begun; 0 fail = running; 0 fail = running; 0 fail = running; 0 fail = running; 0 fail = running; \
+     0 fail = running; 0 fail = running; 0 go 200 = none; charged = charged 2168; waiting = waiting 0 0; \
+     0 insert 256 2 = refused Budget 2232 64 2232; charged = charged 2168; 0 get 1 = some 1",
+    "an exchange of a lock word fails: new 2 1000 = ok; reg = worker 0; 0 pin = ok; 0 insert 1 10 = none; 0 begin insert 1 11 = begun; \
+     0 go 8 = running; 0 fail = running; 0 go 100 = some 10; 0 get 1 = some 11",
+    "a look-up goes on beside a removal: new 2 1000 = ok; reg = worker 0; reg = worker 1; 0 pin = ok; 1 pin = ok; 0 insert 1 1 = none; \
+     0 insert 256 2 = none; 1 begin get 256 = begun; 1 go 6 = running; 0 remove 1 = some 1; 1 go 100 = some 2",
+    "a call waits for the lock of the root: new 2 1000 = ok; reg = worker 0; reg = worker 1; 0 pin = ok; 1 pin = ok; \
+     0 begin insert 1 1 = begun; 0 go 7 = running; 1 get 1 = running; 1 get 1 = refused Busy; 1 go 20000 = running; 0 go 100 = none; \
+     1 go 100 = some 1; 1 go 1 = refused Idle",
+    "a closure is kept for the lines that go on: new 2 1000 = ok; reg = worker 0; reg = worker 1; 0 pin = ok; 1 pin = ok; \
+     0 insert 2 2 = none; 0 begin insert 1 1 = begun; 0 go 10 = running; 1 orinsert 1 5 = running; 1 present 2 drop = refused Busy; \
+     0 go 100 = none; 1 go 100 = some 1; 0 get 1 = some 6; 0 get 2 = some 2",
 ];
 
 /// Calls that are refused while another worker's look-up is in flight.
-const REFUSED: [Worked; 6] = [
-    Worked {
-        name: "the limit is reached at the second node of a split",
-        opening: Opening {
-            limit: 2232,
-            ..AMPLE
-        },
-        turns: &[
-            Turn::Comes(0),
-            Turn::Comes(1),
-            Turn::Replies(0, Call::Insert(1, 1), Reply::Insert(None)),
-            Turn::Begins(1, Call::Get(1), 3),
-            Turn::Refused(
-                0,
-                Call::Insert(256, 2),
-                Refusal::Budget {
-                    charged: 2232,
-                    wanted: 64,
-                    limit: 2232,
-                },
-            ),
-            Turn::Charged(2168),
-            Turn::Waiting(0, 0),
-            Turn::Ends(1, Reply::Get(Some(1))),
-            Turn::Replies(1, Call::Get(256), Reply::Get(None)),
-            Turn::Replies(1, Call::Insert(1, 3), Reply::Insert(Some(1))),
-            Turn::Replies(0, Call::Insert(1 << 56, 4), Reply::Insert(None)),
-            Turn::Charged(2232),
-        ],
-    },
-    Worked {
-        name: "the limit is reached at a greater node",
-        opening: Opening {
-            limit: 2335,
-            ..AMPLE
-        },
-        turns: &[
-            Turn::Comes(0),
-            Turn::Comes(1),
-            Turn::Fills(0, 1, 4),
-            Turn::Begins(1, Call::Get(4), 4),
-            Turn::Refused(
-                0,
-                Call::ComputeInsert(5, 5),
-                Refusal::Budget {
-                    charged: 2168,
-                    wanted: 168,
-                    limit: 2335,
-                },
-            ),
-            Turn::Charged(2168),
-            Turn::Ends(1, Reply::Get(Some(4))),
-            Turn::Replies(1, Call::Remove(4), Reply::Remove(Some(4))),
-            Turn::Replies(0, Call::ComputeInsert(5, 5), Reply::ComputeInsert(None)),
-            Turn::Charged(2168),
-        ],
-    },
-    Worked {
-        name: "no cell is free for the second node of a split",
-        opening: Opening { cells: 3, ..AMPLE },
-        turns: &[
-            Turn::Comes(0),
-            Turn::Comes(1),
-            Turn::Replies(0, Call::Insert(1, 1), Reply::Insert(None)),
-            Turn::Begins(1, Call::Get(1), 5),
-            Turn::Refused(0, Call::Insert(256, 2), Refusal::Cells),
-            Turn::Charged(2168),
-            Turn::Ends(1, Reply::Get(Some(1))),
-            Turn::Replies(1, Call::Insert(1 << 56, 3), Reply::Insert(None)),
-            Turn::Refused(0, Call::Insert(2 << 56, 4), Refusal::Cells),
-            Turn::Replies(0, Call::Insert(2, 2), Reply::Insert(None)),
-            Turn::Charged(2232),
-        ],
-    },
-    Worked {
-        name: "a cell is free when what waits is destroyed",
-        opening: Opening { cells: 2, ..AMPLE },
-        turns: &[
-            Turn::Comes(0),
-            Turn::Comes(1),
-            Turn::Replies(0, Call::Insert(1, 1), Reply::Insert(None)),
-            Turn::Begins(1, Call::Get(1), 3),
-            Turn::Replies(0, Call::Remove(1), Reply::Remove(Some(1))),
-            Turn::Refused(0, Call::Insert(1, 2), Refusal::Cells),
-            Turn::Waiting(1, 64),
-            Turn::Charged(2168),
-            Turn::Ends(1, Reply::Get(None)),
-            Turn::Does(0, Op::Unpin),
-            Turn::Does(1, Op::Unpin),
-            Turn::Rounds(0, 3),
-            Turn::Does(0, Op::Pin),
-            Turn::Replies(0, Call::Insert(1, 2), Reply::Insert(None)),
-            Turn::Waiting(0, 0),
-            Turn::Charged(2168),
-        ],
-    },
-    Worked {
-        name: "the lower node has no version left and the upper one is unlocked",
-        opening: Opening {
-            version_max: 3,
-            ..AMPLE
-        },
-        turns: &[
-            Turn::Comes(0),
-            Turn::Comes(1),
-            Turn::Fills(0, 1, 4),
-            Turn::Begins(1, Call::Get(1), 5),
-            Turn::Refused(0, Call::Insert(5, 5), Refusal::Exhausted),
-            Turn::Charged(2168),
-            Turn::Ends(1, Reply::Get(Some(1))),
-            Turn::Replies(1, Call::Insert(1 << 56, 7), Reply::Insert(None)),
-            Turn::Refused(0, Call::Insert(2 << 56, 7), Refusal::Exhausted),
-            Turn::Refused(0, Call::Remove(1), Refusal::Exhausted),
-            Turn::Refused(0, Call::Insert(1, 9), Refusal::Exhausted),
-            Turn::Refused(0, Call::ComputePresent(1, Some(9)), Refusal::Exhausted),
-            Turn::Replies(0, Call::Insert(1, 1), Reply::Insert(Some(1))),
-            Turn::Waiting(0, 0),
-            Turn::Charged(2232),
-        ],
-    },
-    Worked {
-        name: "the upper node has no version left for a leaf to go",
-        opening: Opening {
-            version_max: 1,
-            ..AMPLE
-        },
-        turns: &[
-            Turn::Comes(0),
-            Turn::Comes(1),
-            Turn::Replies(0, Call::Insert(1, 1), Reply::Insert(None)),
-            Turn::Begins(1, Call::Get(1), 5),
-            Turn::Refused(0, Call::Remove(1), Refusal::Exhausted),
-            Turn::Refused(0, Call::ComputePresent(1, None), Refusal::Exhausted),
-            Turn::Refused(0, Call::Exchange(1, 1, None), Refusal::Exhausted),
-            Turn::Ends(1, Reply::Get(Some(1))),
-            Turn::Replies(0, Call::Insert(1, 2), Reply::Insert(Some(1))),
-            Turn::Refused(0, Call::Insert(1, 3), Refusal::Exhausted),
-            Turn::Replies(0, Call::Get(1), Reply::Get(Some(2))),
-            Turn::Waiting(0, 0),
-            Turn::Charged(2168),
-        ],
-    },
+const REFUSED: [&str; 6] = [
+    "the limit is reached at the second node of a split: new 2 1000 limit 2232 = ok; reg = worker 0; 0 pin = ok; reg = worker 1; \
+     1 pin = ok; 0 insert 1 1 = none; 1 begin get 1 = begun; 1 go 3 = running; 0 insert 256 2 = refused Budget 2232 64 2232; \
+     charged = charged 2168; waiting = waiting 0 0; 1 go 200 = some 1; 1 get 256 = none; 1 insert 1 3 = some 1; \
+     0 insert 72057594037927936 4 = none; charged = charged 2232",
+    "the limit is reached at a greater node: new 2 1000 limit 2335 = ok; reg = worker 0; 0 pin = ok; reg = worker 1; 1 pin = ok; \
+     0 insert 1 1 = none; 0 insert 2 2 = none; 0 insert 3 3 = none; 0 insert 4 4 = none; 1 begin get 4 = begun; 1 go 4 = running; \
+     0 orinsert 5 5 = refused Budget 2168 168 2335; charged = charged 2168; 1 go 200 = some 4; 1 remove 4 = some 4; 0 orinsert 5 5 = none; \
+     charged = charged 2168",
+    "no cell is free for the second node of a split: new 2 3 = ok; reg = worker 0; 0 pin = ok; reg = worker 1; 1 pin = ok; \
+     0 insert 1 1 = none; 1 begin get 1 = begun; 1 go 5 = running; 0 insert 256 2 = refused Cells; charged = charged 2168; \
+     1 go 200 = some 1; 1 insert 72057594037927936 3 = none; 0 insert 144115188075855872 4 = refused Cells; 0 insert 2 2 = none; \
+     charged = charged 2232",
+    "a cell is free when what waits is destroyed: new 2 2 = ok; reg = worker 0; 0 pin = ok; reg = worker 1; 1 pin = ok; \
+     0 insert 1 1 = none; 1 begin get 1 = begun; 1 go 3 = running; 0 remove 1 = some 1; 0 insert 1 2 = refused Cells; \
+     waiting = waiting 1 64; charged = charged 2168; 1 go 200 = none; 0 unpin = ok; 1 unpin = ok; 0 round 3 = ok; 0 pin = ok; \
+     0 insert 1 2 = none; waiting = waiting 0 0; charged = charged 2168",
+    "the lower node has no version left and the upper one is unlocked: new 2 1000 version 3 = ok; reg = worker 0; 0 pin = ok; \
+     reg = worker 1; 1 pin = ok; 0 insert 1 1 = none; 0 insert 2 2 = none; 0 insert 3 3 = none; 0 insert 4 4 = none; \
+     1 begin get 1 = begun; 1 go 5 = running; 0 insert 5 5 = refused Exhausted; charged = charged 2168; 1 go 200 = some 1; \
+     1 insert 72057594037927936 7 = none; 0 insert 144115188075855872 7 = refused Exhausted; 0 remove 1 = refused Exhausted; \
+     0 insert 1 9 = refused Exhausted; 0 present 1 add 8 = refused Exhausted; 0 insert 1 1 = some 1; waiting = waiting 0 0; \
+     charged = charged 2232",
+    "the upper node has no version left for a leaf to go: new 2 1000 version 1 = ok; reg = worker 0; 0 pin = ok; reg = worker 1; \
+     1 pin = ok; 0 insert 1 1 = none; 1 begin get 1 = begun; 1 go 5 = running; 0 remove 1 = refused Exhausted; \
+     0 present 1 drop = refused Exhausted; 0 cas 1 1 drop = refused Exhausted; 1 go 200 = some 1; 0 insert 1 2 = some 1; \
+     0 insert 1 3 = refused Exhausted; 0 get 1 = some 2; waiting = waiting 0 0; charged = charged 2168",
 ];
 
-/// A worker registers and pins, and whether it got this place.
-fn comes(index: &mut Index, worker: u32) -> bool {
-    register(index) == Outcome::Registered(worker) && is_done(index, worker, Op::Pin)
-}
-
-/// Whether each key from the first to the last was absent when it was put there.
-fn fills(index: &mut Index, worker: u32, first: u64, last: u64) -> bool {
-    for key in first..=last {
-        if call(index, worker, Call::Insert(key, key)) != replied(Reply::Insert(None)) {
-            return false;
-        }
-    }
-    true
-}
-
-/// How a call stands after so many steps.
-fn begins(index: &mut Index, worker: u32, call: Call<u64>, steps: u32) -> Outcome<u64> {
-    let begun = begin(index, worker, op_of(call)).outcome;
-    go_on(index, worker, answer_of(call), steps, begun)
-}
-
-/// Whether the turn tells what is expected.
-fn tells(index: &mut Index, turn: &Turn) -> bool {
-    match turn {
-        Turn::Comes(worker) => comes(index, *worker),
-        Turn::Does(worker, op) => is_done(index, *worker, *op),
-        Turn::Rounds(worker, rounds) => are_rounds_done(index, *worker, *rounds),
-        Turn::Replies(worker, made, reply) => call(index, *worker, *made) == replied(*reply),
-        Turn::Refused(worker, made, refusal) => {
-            call(index, *worker, *made) == Outcome::Refused(*refusal)
-        }
-        Turn::Fills(worker, first, last) => fills(index, *worker, *first, *last),
-        Turn::Begins(worker, made, steps) => {
-            begins(index, *worker, *made, *steps) == Outcome::Running
-        }
-        Turn::Ends(worker, reply) => {
-            go_on(index, *worker, None, END, Outcome::Running) == replied(*reply)
-        }
-        Turn::Waiting(nodes, bytes) => {
-            index.waiting() == *nodes && index.waiting_bytes() == *bytes
-        }
-        Turn::Charged(bytes) => index.charged() == *bytes,
-    }
-}
-
-/// The place of the first turn that tells something else than is expected.
-fn first_wrong(alloc: Global, worked: &Worked) -> Result<Option<usize>, Refusal> {
-    let mut index = open(alloc, &worked.opening)?;
-    for (place, turn) in worked.turns.iter().enumerate() {
-        if !tells(&mut index, turn) {
-            return Ok(Some(place));
-        }
-    }
-    Ok(None)
-}
+const RANGES: [&str; 7] = [
+    "a range is a map's: new 1 9 = ok; reg = worker 0; 0 pin = ok; 0 range 0 10 4 = range 0; 0 insert 0 42 = none; \
+     0 range 0 10 8 = range 1 0:42; 0 range 10 0 8 = range 0; 0 unpin = ok; 0 range 10 0 8 = refused Unpinned",
+    "a range ends before its end: new 1 9 = ok; reg = worker 0; 0 pin = ok; 0 insert 4294967295 1 = none; 0 insert 4294967247 2 = none; \
+     0 range 4294967066 4294967319 20 = range 2 4294967247:2 4294967295:1; 0 range 4294967000 4294967253 20 = range 1 4294967247:2; \
+     0 range 5 5 20 = range 0; 0 insert 18446744073709551615 3 = none; 0 range 18446744073709551614 18446744073709551615 20 = range 0; \
+     0 range 4294967247 4294967248 20 = range 1 4294967247:2",
+    "a range ends with its places: new 1 9 = ok; reg = worker 0; 0 pin = ok; 0 insert 1 10 = none; 0 insert 2 20 = none; \
+     0 insert 3 30 = none; 0 range 1 4 2 = range 2 1:10 2:20; 0 range 1 4 0 = range 0; 0 range 2 4 9 = range 2 2:20 3:30",
+    "a range starts past other prefixes: new 1 9 = ok; reg = worker 0; 0 pin = ok; 0 insert 4294967179 7 = none; \
+     0 range 1895772415 1895772670 20 = range 0; 0 range 4294967179 4294967434 20 = range 1 4294967179:7",
+    "a scan that meets an insertion begins anew: new 2 1000 = ok; reg = worker 0; reg = worker 1; 0 pin = ok; 1 pin = ok; \
+     0 insert 5 50 = none; 1 begin range 5 6 4 = begun; 1 go 4 = running; 0 insert 1 1 = none; 1 go 100 = range 1 5:50",
+    "two scans beside a removal: new 2 1000 = ok; reg = worker 0; reg = worker 1; 0 pin = ok; 1 pin = ok; 0 insert 5 50 = none; \
+     0 insert 6 60 = none; 1 begin range 0 9 4 = begun; 1 go 8 = running; 0 remove 5 = some 50; 0 begin range 6 7 1 = begun; \
+     1 go 100 = range 1 6:60; 0 go 100 = range 1 6:60; 1 begin range 3 3 1 = range 0; 1 go 1 = refused Idle",
+    "no tree has a range: reg = refused NoTree; 0 range 0 1 1 = refused NoTree",
+];
 
 #[test]
-fn calls_of_one_worker_tell_what_was_worked_out(rt: HostRuntime) -> Result<(), Fail> {
-    for worked in &ONE_WORKER {
-        assert_eq!(rt; first_wrong(rt.alloc(), worked)?, None, "{}", worked.name);
+fn each_line_is_answered(rt: HostRuntime) -> Result<(), Fail> {
+    for dialogues in [
+        ONE_WORKER.as_slice(),
+        WAITING.as_slice(),
+        LIMITS.as_slice(),
+        BEGUN.as_slice(),
+        TWO_WORKERS.as_slice(),
+        REFUSED.as_slice(),
+        RANGES.as_slice(),
+    ] {
+        assert_eq!(rt; first_wrong(rt.alloc(), dialogues)?, None);
     }
     Ok(())
 }
 
 #[test]
-fn calls_of_two_workers_tell_what_was_worked_out(rt: HostRuntime) -> Result<(), Fail> {
-    for worked in &TWO_WORKERS {
-        assert_eq!(rt; first_wrong(rt.alloc(), worked)?, None, "{}", worked.name);
-    }
+fn a_leaf_grows_through_every_form(rt: HostRuntime) -> Result<(), Fail> {
+    let dialogue = repeated(
+        rt.alloc(),
+        "new 2 1000 = ok; reg = worker 0; 0 pin = ok",
+        49,
+        "; 0 insert # # = none",
+        "; waiting = waiting 3 904; charged = charged 5112; 0 unpin = ok; 0 round 3 = ok; waiting = waiting 0 0; charged = charged 4208",
+    )?;
+    assert!(rt; goes(rt.alloc(), &dialogue)?);
     Ok(())
-}
-
-#[test]
-fn refused_calls_leave_all_as_it_was(rt: HostRuntime) -> Result<(), Fail> {
-    for worked in &REFUSED {
-        assert_eq!(rt; first_wrong(rt.alloc(), worked)?, None, "{}", worked.name);
-    }
-    Ok(())
-}
-
-#[test]
-fn a_limit_below_the_root_opens_no_index(rt: HostRuntime) {
-    let opening = Opening {
-        limit: 1024,
-        ..AMPLE
-    };
-    assert_eq!(rt;
-        why_not(open(rt.alloc(), &opening)),
-        Some(Refusal::Budget {
-            charged: 0,
-            wanted: 2104,
-            limit: 1024,
-        })
-    );
 }
 
 #[test]
 fn rounds_after_each_insertion_leave_nothing_waiting(rt: HostRuntime) -> Result<(), Fail> {
-    let mut index = open(rt.alloc(), &AMPLE)?;
-    register(&mut index);
-    for key in 1..=49u64 {
-        assert!(rt; is_done(&mut index, 0, Op::Pin));
-        assert!(rt; fills(&mut index, 0, key, key), "at {key}");
-        assert!(rt; is_done(&mut index, 0, Op::Unpin));
-        assert!(rt; are_rounds_done(&mut index, 0, 3), "at {key}");
-    }
-    assert_eq!(rt; index.waiting(), 0);
-    assert!(rt; is_done(&mut index, 0, Op::Pin));
-    assert_eq!(rt;
-        call(&mut index, 0, Call::Get(49)),
-        replied(Reply::Get(Some(49)))
-    );
+    let dialogue = repeated(
+        rt.alloc(),
+        "new 2 1000 = ok; reg = worker 0",
+        49,
+        "; 0 pin = ok; 0 insert # # = none; 0 unpin = ok; 0 round 3 = ok",
+        "; waiting = waiting 0 0; 0 pin = ok; 0 get 49 = some 49",
+    )?;
+    assert!(rt; goes(rt.alloc(), &dialogue)?);
     Ok(())
 }
 
-/// A text that begins so, has this for each key from 1 to 49, and ends so; the key's line stands between both parts.
-fn for_each_key(
-    alloc: Global,
-    first: &str,
-    each: (&str, &str),
-    last: &str,
-    is_script: bool,
-) -> Result<Vec<u8>, Fail> {
-    let mut text = Vec::new(alloc);
-    text.extend_from_slice(first.as_bytes())?;
-    for key in 1..=49u64 {
-        let line = if is_script {
-            format!(in alloc; "{}0 insert {key} {key}\n{}", each.0, each.1)?
-        } else {
-            format!(in alloc; "{}none\n{}", each.0, each.1)?
-        };
-        text.extend_from_slice(line.as_bytes())?;
-    }
-    text.extend_from_slice(last.as_bytes())?;
-    Ok(text)
-}
-
-/// Whether a script that puts 1 to 49 there prints these replies. Both are told by their beginning, by what stands before
-/// and after each insertion, and by their end.
-fn fills_and_prints(
-    alloc: Global,
-    script: (&str, (&str, &str), &str),
-    replies: (&str, (&str, &str), &str),
-) -> Result<bool, Fail> {
-    let script = for_each_key(alloc, script.0, script.1, script.2, true)?;
-    let replies = for_each_key(alloc, replies.0, replies.1, replies.2, false)?;
-    Ok(answers(alloc, &script, 0, &replies))
-}
-
+// A compute that is begun, goes so many steps, fails one, and goes on with its own closure.
 #[test]
-fn scripts_of_many_insertions_print_what_waits(rt: HostRuntime) -> Result<(), Fail> {
-    let at_once = fills_and_prints(
-        rt.alloc(),
-        (
-            "new 2 1000\nreg\n0 pin\n",
-            ("", ""),
-            "waiting\ncharged\n0 unpin\n0 round 3\nwaiting\ncharged\n",
-        ),
-        (
-            "ok\nworker 0\nok\n",
-            ("", ""),
-            "waiting 3 904\ncharged 5112\nok\nok\nwaiting 0 0\ncharged 4208\n",
-        ),
-    )?;
-    assert!(rt; at_once);
-    let at_rest = fills_and_prints(
-        rt.alloc(),
-        (
-            "new 2 1000\nreg\n",
-            ("0 pin\n", "0 unpin\n0 round 3\n"),
-            "waiting\n0 pin\n0 get 49\n",
-        ),
-        (
-            "ok\nworker 0\n",
-            ("ok\n", "ok\nok\n"),
-            "waiting 0 0\nok\nsome 49\n",
-        ),
-    )?;
-    assert!(rt; at_rest);
+fn a_failed_step_begins_anew(rt: HostRuntime) -> Result<(), Fail> {
+    for steps in 1..12 {
+        let script = format!(in rt.alloc();
+            "new 1 9\nreg\n0 pin\n0 insert 1 42\n0 begin present 1 add 1\n0 go {steps}\n0 fail\n0 go 100\n0 get 1\n"
+        )?;
+        let (status, printed) = played(rt.alloc(), script.as_bytes());
+        assert_eq!(rt; status, 0);
+        assert!(rt; printed.as_slice().ends_with(b"\nsome 43\n"), "at {steps}");
+    }
     Ok(())
 }
