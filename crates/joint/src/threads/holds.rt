@@ -2,7 +2,7 @@
 
 ghost use Rattle.std.specs.Prelude.{◌≡◌, None, Some};
 ghost use Rattle.std.specs.Option.{option_map};
-ghost use Rattle.joint.specs.Driving.{IsToldInCall};
+ghost use Rattle.joint.specs.Driving.{IsToldInCall, IsTurn};
 ghost use Rattle.joint.specs.Threads.{IsHold};
 
 use crate::steps::{Op, Report, Step};
@@ -49,6 +49,7 @@ impl<P: Payload + Small, A: Allocator, R: Wait> Turns<P> for Holds<'_, P, A, R> 
     ghost gives = { λ h step r h'. IsHold P.same_as P.always_copies step r };
 
     fn turn(&mut self, step: Step<P>) -> Report<P>
+        requires { IsTurn self.old.worker self.old.op.value (option_map (λ r. r.value) self.old.last) step }
         ensures worker { self.new.worker ≡ self.old.worker }
         ensures op { self.new.op ≡ self.old.op }
         ensures last { option_map (λ r. r.value) self.new.last ≡ Some result }
