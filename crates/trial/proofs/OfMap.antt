@@ -1,6 +1,6 @@
 -- A script line by line, beside the map: what it does to the tree, and how it is replied to.
 use Rattle.std.proofs.Common.{◌≡◌, ◌⊎◌, ℕ, zero, suc, nat_eq, Bool, true, false, List, [], ◌∷◌, ◌++◌, length, take, Option, None, Some, Result, Ok, Err, refl, sym, ◌∙◌, ap, subst, inl, inr, if◌then◌else◌}
-use Rattle.std.specs.Prelude.{MatchBool, MatchOption, slice_set}
+use Rattle.std.specs.Prelude.{MatchOption, slice_set}
 use Rattle.std.specs.FinMap.{get, empty}
 use Rattle.std.specs.List.{AllByRecursion, flat_map}
 use Rattle.std.specs.Option.{option_map}
@@ -51,7 +51,7 @@ use Rattle.trial.specs.Replies.{reply_to, reply_of}
 use Rattle.trial.specs.Going.{Ran}
 use Rattle.trial.specs.Script.{LineDoes, LinesAnswer, AreAnswered, Prints}
 use Rattle.trial.specs.Places.{places_at, given, left}
-use Rattle.trial.specs.Session.{Session, op_of, closure_of, is_built, refusal_of, AfterPin, Round, Rounds, GaveAway, Replies, CallReplies, Asks, limits_of, budget_of, Opens, Opened, OpensWith, Closed, StaysOpen, AnswersBuilt, Answers}
+use Rattle.trial.specs.Session.{Session, op_of, closure_of, refusal_of, AfterPin, Round, Rounds, GaveAway, Replies, CallReplies, Asks, limits_of, budget_of, Opens, Opened, OpensWith, Closed, StaysOpen, Answers}
 use Rattle.trial.specs.Texts.{printed}
 use Rattle.trial.proofs.MapSteps.{MapLaws, line_of, on_map, Rests, rests_on}
 use Rattle.trial.proofs.WholeCalls.{Ready, Decides, Finished, call_finishes}
@@ -287,22 +287,23 @@ asks_at laws (command.Begin i c) s s' r m b g w a = absurd w
 asks_at laws (command.Go i n) s s' r m b g w a = absurd w
 asks_at laws (command.Fail i) s s' r m b g w a = absurd w
 asks_at laws (command.New o) s s' r m b g w a = absurd g
-asks_at laws command.Journal s s' r m b g w a = absurd g
+asks_at laws command.Journal s s' r m b g w a = ((let P : Index → Type 0 = λ x. At x m in subst P (sym g.0) b), tt)
 asks_at laws command.Close s s' r m b g w a = absurd g
 
-opened_at : (limits : Limits) (budget : ℕ) (result : Result (Whole ℕ) Refusal) (new : Session) (r : Reply) → Opens limits 0 budget result → Opened result new r → IsAnswer r → AtMap new empty
-opened_at limits budget (Ok world) new r o g a =
+opened_at : (limits : Limits) (journal : Option ℕ) (budget : ℕ) (result : Result (Whole ℕ) Refusal) (new : Session) (r : Reply) → Opens limits journal 0 budget result → Opened result new r → IsAnswer r
+    → AtMap new empty
+opened_at limits journal budget (Ok world) new r o g a =
     let P : Session → Type 0 = λ x. AtMap x empty in
     let Q : Whole ℕ → Type 0 = λ x. Rests x empty in
-    let rests : Rests world empty = record { holds = o.2; flights = no_flights; stands = inl (o.1, refl, refl); over = λ i. refl } in
+    let rests : Rests world empty = record { holds = o.4; flights = no_flights; stands = inl (o.1, refl, refl); over = λ i. refl } in
     let callers : length g.0.callers ≡ 256 = ap length g.1.callers ∙ length-replicate {A = Caller} 256 (fresh None) in
     let scans : length g.0.scans.items ≡ 256 = ap length g.1.scans ∙ length-replicate {A = List (ℕ × ℕ)} 256 [] in
     subst P (sym g.2) (subst Q (sym g.1.world) rests, callers, scans)
-opened_at limits budget (Err e) new r o g a = absurd (no_refusal _ r g.1 a)
+opened_at limits journal budget (Err e) new r o g a = absurd (no_refusal _ r g.1 a)
 
-opens_at : (limits : Option Limits) (budget : ℕ) (new : Session) (r : Reply) → OpensWith limits budget new r → IsAnswer r → AtMap new empty
-opens_at None budget new r g a = absurd (no_refusal _ r g.1 a)
-opens_at (Some limits) budget new r g a = opened_at limits budget g.0 new r g.1 g.2 a
+opens_at : (limits : Option Limits) (journal : Option ℕ) (budget : ℕ) (new : Session) (r : Reply) → OpensWith limits journal budget new r → IsAnswer r → AtMap new empty
+opens_at None journal budget new r g a = absurd (no_refusal _ r g.1 a)
+opens_at (Some limits) journal budget new r g a = opened_at limits journal budget g.0 new r g.1 g.2 a
 
 -- where the tree was closed, nothing is open
 closed_at : (s : Index) (new : Session) (r : Reply) (m : Pairs ℕ) → Closed s new r ⊎ StaysOpen s new r → IsAnswer r → Keeps m command.Close new r
@@ -312,39 +313,29 @@ closed_at s new r m (inr x) a = absurd (no_refusal _ r x.reply a)
 asked_at : MapLaws → (c : Command) (s : Index) (new : Session) (r : Reply) (m : Pairs ℕ) → At s m → (index : Index) × (new ≡ Some index) × Asks s c index r → IsWhole c → IsAnswer r → Keeps m c new r
 asked_at laws c s new r m b g w a = let P : Session → Type 0 = λ x. Keeps m c x r in subst P (sym g.1) (asks_at laws c s g.0 r m b g.2 w a)
 
-built_at : MapLaws → (old : Session) (c : Command) (new : Session) (r : Reply) (m : Pairs ℕ) → AtMap old m → AnswersBuilt old c new r → IsWhole c → IsAnswer r → Keeps m c new r
-built_at laws None (command.New o) new r m b g w a = (opens_at (limits_of o) (budget_of o) new r g a, tt)
-built_at laws None command.Register new r m b g w a = absurd (no_refusal _ r g.1 a)
-built_at laws None command.Charged new r m b g w a = absurd (no_refusal _ r g.1 a)
-built_at laws None command.Waiting new r m b g w a = absurd (no_refusal _ r g.1 a)
-built_at laws None command.Journal new r m b g w a = absurd (no_refusal _ r g.1 a)
-built_at laws None command.Close new r m b g w a = absurd (no_refusal _ r g.1 a)
-built_at laws None (command.Call i c) new r m b g w a = absurd (no_refusal _ r g.1 a)
-built_at laws None (command.Begin i c) new r m b g w a = absurd w
-built_at laws None (command.Go i n) new r m b g w a = absurd w
-built_at laws None (command.Fail i) new r m b g w a = absurd w
-built_at laws None (command.Round i n) new r m b g w a = absurd (no_refusal _ r g.1 a)
-built_at laws (Some s) (command.New o) new r m b g w a = absurd (no_refusal _ r g.1 a)
-built_at laws (Some s) command.Register new r m b g w a = asked_at laws command.Register s new r m b g w a
-built_at laws (Some s) command.Charged new r m b g w a = asked_at laws command.Charged s new r m b g w a
-built_at laws (Some s) command.Waiting new r m b g w a = asked_at laws command.Waiting s new r m b g w a
-built_at laws (Some s) command.Journal new r m b g w a = asked_at laws command.Journal s new r m b g w a
-built_at laws (Some s) command.Close new r m b g w a = closed_at s new r m g a
-built_at laws (Some s) (command.Call i c) new r m b g w a = asked_at laws (command.Call i c) s new r m b g w a
-built_at laws (Some s) (command.Begin i c) new r m b g w a = absurd w
-built_at laws (Some s) (command.Go i n) new r m b g w a = absurd w
-built_at laws (Some s) (command.Fail i) new r m b g w a = absurd w
-built_at laws (Some s) (command.Round i n) new r m b g w a = asked_at laws (command.Round i n) s new r m b g w a
-
-either_way : (b : Bool) (X Y : Type 0) → MatchBool b X Y → X ⊎ Y
-either_way true X Y h = inl h
-either_way false X Y h = inr h
-
 answers_at : MapLaws → (old : Session) (c : Command) (new : Session) (r : Reply) (m : Pairs ℕ) → AtMap old m → Answers old c new r → IsWhole c → IsAnswer r → Keeps m c new r
-answers_at laws old c new r m b g w a = elim (either_way (is_built c) _ _ g) [
-  | inl h ↦ built_at laws old c new r m b h w a
-  | inr h ↦ absurd (no_refusal _ r h.1 a)
-]
+answers_at laws None (command.New o) new r m b g w a = (opens_at (limits_of o) o.journal (budget_of o) new r g a, tt)
+answers_at laws None command.Register new r m b g w a = absurd (no_refusal _ r g.1 a)
+answers_at laws None command.Charged new r m b g w a = absurd (no_refusal _ r g.1 a)
+answers_at laws None command.Waiting new r m b g w a = absurd (no_refusal _ r g.1 a)
+answers_at laws None command.Journal new r m b g w a = absurd (no_refusal _ r g.1 a)
+answers_at laws None command.Close new r m b g w a = absurd (no_refusal _ r g.1 a)
+answers_at laws None (command.Call i c) new r m b g w a = absurd (no_refusal _ r g.1 a)
+answers_at laws None (command.Begin i c) new r m b g w a = absurd w
+answers_at laws None (command.Go i n) new r m b g w a = absurd w
+answers_at laws None (command.Fail i) new r m b g w a = absurd w
+answers_at laws None (command.Round i n) new r m b g w a = absurd (no_refusal _ r g.1 a)
+answers_at laws (Some s) (command.New o) new r m b g w a = absurd (no_refusal _ r g.1 a)
+answers_at laws (Some s) command.Register new r m b g w a = asked_at laws command.Register s new r m b g w a
+answers_at laws (Some s) command.Charged new r m b g w a = asked_at laws command.Charged s new r m b g w a
+answers_at laws (Some s) command.Waiting new r m b g w a = asked_at laws command.Waiting s new r m b g w a
+answers_at laws (Some s) command.Journal new r m b g w a = asked_at laws command.Journal s new r m b g w a
+answers_at laws (Some s) command.Close new r m b g w a = closed_at s new r m g a
+answers_at laws (Some s) (command.Call i c) new r m b g w a = asked_at laws (command.Call i c) s new r m b g w a
+answers_at laws (Some s) (command.Begin i c) new r m b g w a = absurd w
+answers_at laws (Some s) (command.Go i n) new r m b g w a = absurd w
+answers_at laws (Some s) (command.Fail i) new r m b g w a = absurd w
+answers_at laws (Some s) (command.Round i n) new r m b g w a = asked_at laws (command.Round i n) s new r m b g w a
 
 -- commands that are carried out one after the other, a reply each
 abbrev Chain : Session → List Command → List Reply → Type 0

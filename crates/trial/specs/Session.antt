@@ -1,9 +1,11 @@
 -- What a command does to the tree of a session, and how it is replied to.
-use Rattle.std.specs.Prelude.{◌≡◌, ◌<◌, ◌⊎◌, ℕ, zero, suc, Bool, true, false, ◌&&◌, is_none, nat_eq, nat_lt, if◌then◌else◌, List, [], MatchOption, Option, None, Some, Result, Ok, Err, MatchBool, ◌^◌, ◌-◌, length}
+use Rattle.std.specs.Prelude.{◌≡◌, ◌<◌, ◌⊎◌, ℕ, zero, suc, Bool, true, false, ◌&&◌, nat_eq, nat_lt, if◌then◌else◌, List, [], MatchOption, Option, None, Some, IfSome, Result, Ok, Err, ◌^◌, ◌-◌, length}
 use Rattle.std.specs.FinMap.{entries}
 use Rattle.std.specs.List.{sum_by}
 use Rattle.crossbeam_epoch.specs.World.Ending.{registered_in}
+use Rattle.judge.specs.declared.checker.Verdict.TheVariants as verdict
 use Rattle.judge.specs.Answer.{Pairs}
+use Rattle.judge.specs.Journal.{IsLegal}
 use Rattle.congee.specs.Keys.{IsMapOf}
 use Rattle.joint.specs.declared.limits.Limits.{Limits}
 use Rattle.joint.specs.declared.refusal.Refusal.{Refusal}
@@ -14,7 +16,8 @@ use Rattle.joint.specs.declared.steps.Outcome.{Outcome}
 use Rattle.joint.specs.declared.steps.Outcome.TheVariants as outcome
 use Rattle.joint.specs.Limits.{usual}
 use Rattle.joint.specs.Listing.{bytes_of, waiting_nodes}
-use Rattle.joint.specs.Opening.{IsOpened, IsUnopened}
+use Rattle.joint.specs.Log.{opened_log}
+use Rattle.joint.specs.Opening.{HasPlaces, IsOpened, IsUnjournaled, IsUnopened}
 use Rattle.joint.specs.Forest.{nodes}
 use Rattle.joint.specs.Runs.{IsFresh}
 use Rattle.joint.specs.Whole.{Whole, Holds}
@@ -64,12 +67,6 @@ closure_of (call.PresentAdd k n) = Some (closure.Add n)
 closure_of (call.PresentDrop k) = Some closure.Drop
 closure_of (call.OrInsert k n) = Some (closure.Put n)
 closure_of _ = None
-
--- whether the line of a command is built
-abbrev pub is_built : Command → Bool
-is_built (command.New o) = is_none o.journal
-is_built command.Journal = false
-is_built _ = true
 
 -- whether a command closes the tree
 abbrev pub closes : Command → Bool
@@ -136,12 +133,20 @@ GoReplies most old who new r = (stands : Outcome ℕ) × (mid : Index) × GoesOn
 abbrev pub FailReplies : Index → ℕ → Index → Reply → Type 0
 FailReplies old who new r = (stands : Outcome ℕ) × (mid : Index) × Goes old who true stands mid × Replies mid who stands new r
 
--- what a built command does to an open tree, and its reply
+-- What is told of a journal: as many as it has entries, and that they are legal; there is none where no journal is kept. Or
+-- memory was refused for what judges them.
+pub record JournalReplies (s : Whole ℕ) (r : Reply) : Type 0 where
+  pub legal : IsLegal nat_eq s.log.entries
+  pub none : s.log.places ≡ 0 → s.log.entries ≡ []
+  pub reply : (r ≡ reply.Journal (length s.log.entries) verdict.Legal) ⊎ (r ≡ reply.Refused (refused.Tree refusal.Memory))
+
+-- what a command does to an open tree, and its reply
 abbrev pub Asks : Index → Command → Index → Reply → Type 0
 Asks old command.Register new r = (told : Outcome ℕ) × Registers old told new × (r ≡ reply_of [] told)
 Asks old command.Charged new r = (new ≡ old) × (r ≡ reply.Charged old.world.forest.charge)
 Asks old command.Waiting new r = (new ≡ old)
     × (r ≡ reply.Waiting (length (waiting_nodes old.world)) (sum_by (bytes_of old.world.forest) (waiting_nodes old.world)))
+Asks old command.Journal new r = (new ≡ old) × JournalReplies old.world r
 Asks old (command.Call w c) new r = CallReplies (op_of c) (closure_of c) old w new r
 Asks old (command.Begin w c) new r = BeginReplies (op_of c) (closure_of c) old w new r
 Asks old (command.Go w n) new r = GoReplies n old w new r
@@ -183,29 +188,36 @@ pub record StaysOpen (old : Index) (new : Session) (r : Reply) : Type 0 where
   pub workers : 0 < registered_in old.world.forest.collector
   pub reply : r ≡ reply.Refused (refused.Tree (refusal.WorkersLeft (registered_in old.world.forest.collector)))
 
--- a tree with a root alone, of which all that always does holds, or why there is none
-abbrev pub Opens : Limits → ℕ → ℕ → Result (Whole ℕ) Refusal → Type 0
-Opens limits charge limit (Ok world) = IsOpened limits charge limit world.forest × IsFresh world × Holds nat_eq true world
-Opens limits charge limit (Err e) = IsUnopened limits charge limit e
+-- the places of the journal, none where none is asked for
+abbrev pub journal_places : Option ℕ → ℕ
+journal_places None = 0
+journal_places (Some places) = places
+
+-- why there is no tree
+abbrev pub IsRefused : Limits → Option ℕ → ℕ → ℕ → Refusal → Type 0
+IsRefused limits None charge limit e = IsUnopened limits charge limit e
+IsRefused limits (Some places) charge limit e = IsUnjournaled limits places charge limit e
+
+-- a tree with a root alone and this journal, of which all that always does holds, or why there is none
+abbrev pub Opens : Limits → Option ℕ → ℕ → ℕ → Result (Whole ℕ) Refusal → Type 0
+Opens limits journal charge limit (Ok world) = IsOpened limits charge limit world.forest × IsFresh world × IfSome journal HasPlaces
+    × (world.log ≡ opened_log limits.epoch.participants (journal_places journal)) × Holds nat_eq true world
+Opens limits journal charge limit (Err e) = IsRefused limits journal charge limit e
 
 -- a tree is opened so, or refused
 abbrev pub Opened : Result (Whole ℕ) Refusal → Session → Reply → Type 0
 Opened (Ok world) new r = (index : Index) × IsUncalled world index × (new ≡ Some index) × (r ≡ reply.Ok)
 Opened (Err e) new r = (new ≡ None) × (r ≡ reply.Refused (refused.Tree e))
 
--- the limits that an opening names, and what the tree says to them
-abbrev pub OpensWith : Option Limits → ℕ → Session → Reply → Type 0
-OpensWith None budget new r = Refuses (refused.Tree refusal.Limits) None new r
-OpensWith (Some limits) budget new r = (result : Result (Whole ℕ) Refusal) × Opens limits 0 budget result × Opened result new r
+-- the limits that an opening names and its journal, and what the tree says to them
+abbrev pub OpensWith : Option Limits → Option ℕ → ℕ → Session → Reply → Type 0
+OpensWith None journal budget new r = Refuses (refused.Tree refusal.Limits) None new r
+OpensWith (Some limits) journal budget new r = (result : Result (Whole ℕ) Refusal) × Opens limits journal 0 budget result × Opened result new r
 
--- what a built command does to a session, and its reply
-abbrev pub AnswersBuilt : Session → Command → Session → Reply → Type 0
-AnswersBuilt None (command.New o) new r = OpensWith (limits_of o) (budget_of o) new r
-AnswersBuilt None c new r = Refuses refused.NoTree None new r
-AnswersBuilt (Some old) (command.New o) new r = Refuses refused.Open (Some old) new r
-AnswersBuilt (Some old) command.Close new r = Closed old new r ⊎ StaysOpen old new r
-AnswersBuilt (Some old) c new r = (index : Index) × (new ≡ Some index) × Asks old c index r
-
--- What a command does to a session, and its reply. A line that isn't built changes nothing, a tree open or not.
+-- what a command does to a session, and its reply
 abbrev pub Answers : Session → Command → Session → Reply → Type 0
-Answers old c new r = MatchBool (is_built c) (AnswersBuilt old c new r) (Refuses refused.Later old new r)
+Answers None (command.New o) new r = OpensWith (limits_of o) o.journal (budget_of o) new r
+Answers None c new r = Refuses refused.NoTree None new r
+Answers (Some old) (command.New o) new r = Refuses refused.Open (Some old) new r
+Answers (Some old) command.Close new r = Closed old new r ⊎ StaysOpen old new r
+Answers (Some old) c new r = (index : Index) × (new ≡ Some index) × Asks old c index r

@@ -2,6 +2,8 @@
 use Rattle.std.specs.Prelude.{ℕ, Bool, true, false, List, [], ◌∷◌, ◌++◌, length, None, Some, Ok, Err, decimal, codes}
 use Rattle.std.specs.List.{flat_map}
 use Rattle.congee.specs.owned.StatsText.{stats_text}
+use Rattle.judge.specs.declared.checker.Verdict.{Verdict}
+use Rattle.judge.specs.declared.checker.Verdict.TheVariants as verdict
 use Rattle.joint.specs.declared.refusal.Refusal.{Refusal}
 use Rattle.joint.specs.declared.refusal.Refusal.TheVariants as refusal
 use Rattle.trial.specs.declared.drained.Closed.{Closed}
@@ -38,7 +40,6 @@ refusal_text (refusal.SharesLeft n) = codes "SharesLeft" ++ spaced n
 abbrev pub refused_text : Refused → List ℕ
 refused_text refused.NoTree = codes "NoTree"
 refused_text refused.Open = codes "Open"
-refused_text refused.Later = codes "Later"
 refused_text (refused.Tree r) = refusal_text r
 
 -- a pair that a scan found, and all of them
@@ -51,6 +52,11 @@ pairs_text pairs = flat_map pair_text pairs
 -- a pair of a tree that was closed, on a line of its own
 abbrev pub drained_text : ℕ × ℕ → List ℕ
 drained_text pair = codes "drain" ++ spaced pair.0 ++ spaced pair.1 ++ 10 ∷ []
+
+-- whether a journal is legal, or the first entry that isn't
+abbrev pub verdict_text : Verdict → List ℕ
+verdict_text verdict.Legal = codes " legal"
+verdict_text (verdict.Wrong place) = codes " wrong" ++ spaced place
 
 -- what a tree that was closed told
 abbrev pub closed_text : Closed → List ℕ
@@ -81,6 +87,7 @@ reply_text reply.Begun = codes "begun"
 reply_text reply.Running = codes "running"
 reply_text (reply.Charged bytes) = codes "charged" ++ spaced bytes
 reply_text (reply.Waiting nodes bytes) = codes "waiting" ++ spaced nodes ++ spaced bytes
+reply_text (reply.Journal entries v) = codes "journal" ++ spaced entries ++ verdict_text v
 reply_text (reply.Refused r) = codes "refused " ++ refused_text r
 
 -- a reply as it is printed; each line of a text of statistics has its line feed

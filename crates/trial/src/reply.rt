@@ -8,6 +8,7 @@ use crate::keys::Keys;
 use crate::places::Places;
 use congee::NodeStats;
 use joint::{Done, Outcome, Refusal};
+use judge::Verdict;
 use std::fmt;
 
 /// Why a line was refused.
@@ -17,8 +18,6 @@ pub enum Refused {
     NoTree,
     /// A tree is open already.
     Open,
-    /// The line isn't built yet.
-    Later,
     /// By the tree.
     Tree(Refusal),
 }
@@ -53,6 +52,8 @@ pub enum Reply {
     Charged(u64),
     /// Nodes and bytes.
     Waiting(u64, u64),
+    /// The entries of the journal, and whether they are legal.
+    Journal(usize, Verdict),
     Refused(Refused),
 }
 
@@ -118,7 +119,6 @@ impl fmt::Display for Refused {
         let refusal = match self {
             Refused::NoTree => return write!(f, "NoTree"),
             Refused::Open => return write!(f, "Open"),
-            Refused::Later => return write!(f, "Later"),
             Refused::Tree(refusal) => refusal,
         };
         match refusal {
@@ -171,6 +171,10 @@ impl fmt::Display for Reply {
             Reply::Running => write!(f, "running"),
             Reply::Charged(bytes) => write!(f, "charged {bytes}"),
             Reply::Waiting(nodes, bytes) => write!(f, "waiting {nodes} {bytes}"),
+            Reply::Journal(entries, Verdict::Legal) => write!(f, "journal {entries} legal"),
+            Reply::Journal(entries, Verdict::Wrong(place)) => {
+                write!(f, "journal {entries} wrong {place}")
+            }
             Reply::Refused(refused) => write!(f, "refused {refused}"),
         }
     }

@@ -1,7 +1,7 @@
 //! The tree of a script, and what its commands do to it.
-ghost use Rattle.std.specs.Prelude.{◌≡◌, IfOk, IfErr, true, false};
-ghost use Rattle.trial.specs.Session.{Answers, AnswersBuilt, Replies, CallReplies, BeginReplies, GoReplies, FailReplies, Rounds, Round, AfterPin, Unwinds, OpensWith};
-ghost use Rattle.trial.specs.Session.{closes, is_built, op_of, closure_of, refusal_of, limits_of, budget_of};
+ghost use Rattle.std.specs.Prelude.{◌≡◌, IfOk, IfErr, false};
+ghost use Rattle.trial.specs.Session.{Answers, Replies, CallReplies, BeginReplies, GoReplies, FailReplies, JournalReplies, Rounds, Round, AfterPin, Unwinds, Opens, OpensWith};
+ghost use Rattle.trial.specs.Session.{closes, op_of, closure_of, refusal_of, limits_of, budget_of};
 ghost use Rattle.trial.specs.Places.{given, left, places_at};
 ghost use Rattle.trial.specs.declared.command.Command.TheVariants as Command;
 ghost use Rattle.trial.specs.declared.end.End.TheVariants as End;
@@ -15,6 +15,7 @@ use crate::places::Places;
 use crate::reply::{Refused, Reply};
 use congee::{Allocator, Limited};
 use joint::{Done, Limits, Op, Outcome, Refusal, World};
+use judge::check;
 use std::alloc::Global;
 
 /// The call of the tree that a line asks for.
@@ -52,18 +53,6 @@ fn closure(call: Call) -> Option<Closure>
         Call::OrInsert(_, n) => Some(Closure::Put(n)),
         // No other call asks.
         _ => None,
-    }
-}
-
-/// Whether a command is carried out; each other one is refused as `Later`.
-fn is_built(command: Command) -> bool
-    ensures { result ≡ is_built command }
-{
-    match command {
-        Command::New(opening) => opening.journal.is_none(),
-        Command::Journal => false,
-        // No other one has to do with a journal.
-        _ => true,
     }
 }
 
@@ -143,17 +132,29 @@ fn budget(opening: Opening) -> u64
     }
 }
 
+/// A tree within these limits, with the journal that the opening names.
+fn world(alloc: Global, limits: Limits, opening: Opening) -> Result<World<u64, Limited>, Refusal>
+    ensures { Opens limits opening.journal 0 (budget_of opening) result }
+{
+    let allocator = Limited::new(budget(opening));
+    let world = match opening.journal {
+        Some(places) => World::new_journaled(alloc, limits, allocator, places)?,
+        None => World::new(alloc, limits, allocator)?,
+    };
+    world.sound();
+    Ok(world)
+}
+
 /// Opens a tree, or tells why there is none.
 fn open(alloc: Global, opening: Opening) -> Result<(Option<Index>, Reply), End>
-    ensures ok { IfOk result (λ opened. OpensWith (limits_of opening) (budget_of opening) opened.0 opened.1) }
+    ensures ok { IfOk result (λ opened. OpensWith (limits_of opening) opening.journal (budget_of opening) opened.0 opened.1) }
     ensures err { IfErr result (λ e. e ≡ End.Memory) }
 {
     let Some(limits) = limits(opening) else {
         return Ok((None, Reply::Refused(Refused::Tree(Refusal::Limits))));
     };
-    match World::new(alloc, limits, Limited::new(budget(opening))) {
+    match world(alloc, limits, opening) {
         Ok(world) => {
-            world.sound();
             let index = Index::new(alloc, world)?;
             Ok((Some(index), Reply::Ok))
         }
@@ -163,7 +164,7 @@ fn open(alloc: Global, opening: Opening) -> Result<(Option<Index>, Reply), End>
 
 /// The reply to a command where no tree is open.
 fn answer_closed(alloc: Global, command: Command) -> Result<(Option<Index>, Reply), End>
-    ensures ok { IfOk result (λ answered. AnswersBuilt None command answered.0 answered.1) }
+    ensures ok { IfOk result (λ answered. Answers None command answered.0 answered.1) }
     ensures err { IfErr result (λ e. e ≡ End.Memory) }
 {
     match command {
@@ -229,11 +230,21 @@ fn answer_fail(alloc: Global, index: &mut Index, worker: u32) -> Result<Reply, E
     Ok(reply(alloc, index, worker, outcome))
 }
 
+/// The reply to the line that has the journal judged.
+fn answer_journal(alloc: Global, index: &Index) -> Reply
+    ensures { JournalReplies index.now.world result }
+{
+    let journal = index.world.journal();
+    match check(alloc, journal) {
+        Ok(verdict) => Reply::Journal(journal.len(), verdict),
+        Err(_) => Reply::Refused(Refused::Tree(Refusal::Memory)),
+    }
+}
+
 /// The reply to a command on the tree that is open.
 fn answer_open(alloc: Global, index: &mut Index, command: Command) -> Result<Reply, End>
-    requires built { is_built command ≡ true }
     requires stays { closes command ≡ false }
-    ensures ok { IfOk result (λ reply. AnswersBuilt (Some index.old) command (Some index.new) reply) }
+    ensures ok { IfOk result (λ reply. Answers (Some index.old) command (Some index.new) reply) }
     ensures err { IfErr result (λ e. e ≡ End.Memory) }
 {
     match command {
@@ -241,18 +252,19 @@ fn answer_open(alloc: Global, index: &mut Index, command: Command) -> Result<Rep
         Command::Register => Ok(Reply::of(Places::new(alloc), index.register())),
         Command::Charged => Ok(Reply::Charged(index.world.charged())),
         Command::Waiting => Ok(Reply::Waiting(index.world.waiting(), index.world.waiting_bytes())),
+        Command::Journal => Ok(answer_journal(alloc, index)),
         Command::Call(worker, call) => answer_call(alloc, index, worker, call),
         Command::Begin(worker, call) => Ok(answer_begin(alloc, index, worker, call)),
         Command::Go(worker, most) => answer_go(alloc, index, worker, most),
         Command::Fail(worker) => answer_fail(alloc, index, worker),
         Command::Round(worker, count) => rounds(index, worker, count),
-        Command::Journal | Command::Close => unreachable!(),
+        Command::Close => unreachable!(),
     }
 }
 
 /// Closes the tree that is open, if one is, and tells its pairs, in ascending order, and the charge that is left.
 fn close(alloc: Global, session: &mut Option<Index>) -> Result<Reply, End>
-    ensures ok { IfOk result (λ reply. AnswersBuilt session.old Command.Close session.new reply) }
+    ensures ok { IfOk result (λ reply. Answers session.old Command.Close session.new reply) }
     ensures err { IfErr result (λ e. e ≡ End.Memory) }
 {
     let Some(index) = session.take() else {
@@ -285,9 +297,6 @@ pub fn answer(alloc: Global, session: &mut Option<Index>, command: Command) -> R
     ensures ok { IfOk result (λ reply. Answers session.old command session.new reply) }
     ensures err { IfErr result (λ e. e ≡ End.Memory) }
 {
-    if !is_built(command) {
-        return Ok(Reply::Refused(Refused::Later));
-    }
     if matches!(command, Command::Close) {
         return close(alloc, session);
     }

@@ -10,6 +10,7 @@ mod failures;
 mod flights;
 mod forms;
 mod interleavings;
+mod journal_lines;
 mod journaled;
 mod journals;
 mod lies;

@@ -1,5 +1,6 @@
 //! Scripts with calls in flight whose reader, writer or memory fails once.
 
+use super::journal_lines::{FILLED, FILLS};
 use super::machine::{AMPLE, Index, call, is_done, open_with_workers, replied};
 use crate::run::run;
 use joint::{Op, Outcome, Refusal};
@@ -198,7 +199,7 @@ const LOOKED: &[u8] = b"ok\nworker 0\nworker 1\nok\nok\nnone\nnone\nnone\nbegun\
 /// program itself finds no memory it ends, after the replies to whole lines.
 #[test]
 fn a_script_goes_on_or_ends_where_memory_is_refused(rt: HostRuntime) -> Result<(), Fail> {
-    for (script, replies) in [(SCRIPT, REPLIES), (LOOKS, LOOKED)] {
+    for (script, replies) in [(SCRIPT, REPLIES), (LOOKS, LOOKED), (FILLS, FILLED)] {
         let mut reader = script;
         let mut printed = Vec::new(rt.alloc());
         let status = run(rt.alloc(), &mut reader, &mut printed);

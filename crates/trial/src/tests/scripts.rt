@@ -67,9 +67,9 @@ fn scripts_print_their_replies(rt: HostRuntime) -> Result<(), Fail> {
         ("new 2", 2, "bad line 1\n"),
         ("new 0 9", 0, "refused Limits\n"),
         (
-            "# a comment\n\njournal\nnew 1 9 journal 5\nnew 1 9\nnew 1 9\n0 get 1\n",
+            "# a comment\n\njournal\nnew 1 9\nnew 1 9\n0 get 1\n",
             0,
-            "refused Later\nrefused Later\nok\nrefused Open\nrefused Unknown\n",
+            "refused NoTree\nok\nrefused Open\nrefused Unknown\n",
         ),
         (
             "new 1 1\nreg\nreg\n0 get 1\n0 pin\n0 insert 1 1\n0 through 1 2 3\nreg\n",

@@ -1,6 +1,6 @@
 use Rattle.std.proofs.Common.{◌≡◌, ◌∙◌, ap, sym, subst, Some, inl}
 use Rattle.std.specs.FinMap.{entries}
-use Rattle.trial.specs.Session.{Session, AnswersBuilt, Closed}
+use Rattle.trial.specs.Session.{Session, Answers, Closed}
 use Rattle.trial.specs.declared.command.Command.TheVariants as command
 use Rattle.trial.specs.declared.reply.Reply.TheVariants as reply
 use Rattle.trial.proofs.Closings.{all_taken}
@@ -20,5 +20,5 @@ returns-in_ok-pairs-in-Ok-clause-ok c =
       all = λ m st. ok.1 ∙ all_taken c.new.result c.in-Ok.drained (entries m) c.new.ensures.pairs (c.in-Ok.ensures.drained m st) ok.0;
       reply = ap (λ b. reply.Closed (record { pairs = pairs; charge = b })) (c.charged.ensures ∙ c.in-Ok.ensures.charge_is);
     } in
-    let P : Session → Type 0 = λ s. AnswersBuilt s command.Close c.take.new.self told in
+    let P : Session → Type 0 = λ s. Answers s command.Close c.take.new.self told in
     subst P (sym is) (inl closed)
