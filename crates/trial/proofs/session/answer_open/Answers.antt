@@ -29,6 +29,9 @@ returns-in-Waiting-clause-ok c =
     = ap (λ n. reply.Waiting n c.waiting_bytes.result) c.waiting.ensures.count ∙ ap (reply.Waiting (length (waiting_nodes c.args.index.now.world))) c.waiting_bytes.ensures.sum in
     as_this _ _ _ _ _ c.in-Waiting.is (c.args.index.now, refl, (refl, told))
 
+pub returns-in-Journal-clause-ok : goal.returns-in-Journal-clause-ok
+returns-in-Journal-clause-ok c = as_this _ _ _ _ _ c.in-Journal.is (c.args.index.now, refl, (refl, c.answer_journal.ensures))
+
 pub returns-in-Call-clause-ok : goal.returns-in-Call-clause-ok
 returns-in-Call-clause-ok c =
     if_ok (λ r. CallReplies (op_of c.in-Call.call) (closure_of c.in-Call.call) c.args.index.now c.in-Call.worker c.answer_call.new.index r) _ c.answer_call.result
