@@ -42,7 +42,7 @@ use Rattle.joint.specs.Refusals.{of_fault}
 use Rattle.joint.specs.Reports.{target, told, collected}
 use Rattle.joint.specs.Surveys.{TellsOf}
 use Rattle.joint.specs.Threads.{IsHold}
-use Rattle.joint.specs.Whole.{BeginsAt, BeginsOnTree, Collects, Does, EntersUnless, GoesAt, IsOfCall, IsStep, Proceeds, StepsUnless, Whole, engine_of, finds_none, gives_up, interruption, is_busy, misuse, place_of, reserving, unready}
+use Rattle.joint.specs.Whole.{BeginsAt, BeginsOnTree, Collects, Does, EntersUnless, GoesAt, IsOfCall, Proceeds, StepsUnless, Whole, engine_of, finds_none, gives_up, interruption, is_busy, misuse, place_of, reserving, unready}
 
 -- not for tokens of another index
 abbrev Own : Option Fault → Type 0

@@ -72,12 +72,7 @@ impl<V: Word64, A: Allocator> U64Congee<V, A> {
 
     /// Seals the worker's removals, and destroys what no guard protects any more. Refused as Memory where they can't be
     /// queued; then nothing was done.
-    pub fn flush<R: Wait>(
-        &self,
-        rt: &R,
-        worker: &mut Worker,
-        guard: &Guard,
-    ) -> Result<(), Refusal>
+    pub fn flush<R: Wait>(&self, rt: &R, worker: &mut Worker, guard: &Guard) -> Result<(), Refusal>
         ensures worker { worker.new ≡ worker.old }
         ensures answers { Serves (is_held_by self.now.words.tree.id worker.old guard.now) (Answers nat_eq true worker.old.number op.Flush told) result }
     {
@@ -85,12 +80,7 @@ impl<V: Word64, A: Allocator> U64Congee<V, A> {
     }
 
     /// Pins the worker anew at the present epoch, where this is its only guard.
-    pub fn repin<R: Wait>(
-        &self,
-        rt: &R,
-        worker: &mut Worker,
-        guard: &Guard,
-    ) -> Result<(), Refusal>
+    pub fn repin<R: Wait>(&self, rt: &R, worker: &mut Worker, guard: &Guard) -> Result<(), Refusal>
         ensures worker { worker.new ≡ worker.old }
         ensures answers { Serves (is_held_by self.now.words.tree.id worker.old guard.now) (Answers nat_eq true worker.old.number op.Repin told) result }
     {

@@ -54,8 +54,7 @@ impl<F> IfOwned<F> {
 }
 
 impl<V: Drop, F: FnMut(Arc<V, Global>) -> Option<Arc<V, Global>>> Answer<ArcPayload<V>>
-    for IfOwned<F>
-{
+    for IfOwned<F> {
     ghost can_answer = { F.IsAlwaysCallable };
 
     ghost answers = { λ f found answer f'. if_owned F.step f found answer f' };
@@ -160,12 +159,7 @@ impl<K: Word64, V: Drop> CongeeArc<K, V> {
 
     /// Seals the worker's removals, and destroys what no guard protects any more. Refused as Memory where they can't be
     /// queued; then nothing was done.
-    pub fn flush<R: Wait>(
-        &self,
-        rt: &R,
-        worker: &mut Worker,
-        guard: &Guard,
-    ) -> Result<(), Refusal>
+    pub fn flush<R: Wait>(&self, rt: &R, worker: &mut Worker, guard: &Guard) -> Result<(), Refusal>
         ensures worker { worker.new ≡ worker.old }
         ensures answers { Serves (is_held_by self.now.tree.id worker.old guard.now) (Answers {V = V} (λ _ _. false) false worker.old.number op.Flush told) result }
     {
@@ -173,12 +167,7 @@ impl<K: Word64, V: Drop> CongeeArc<K, V> {
     }
 
     /// Pins the worker anew at the present epoch, where this is its only guard.
-    pub fn repin<R: Wait>(
-        &self,
-        rt: &R,
-        worker: &mut Worker,
-        guard: &Guard,
-    ) -> Result<(), Refusal>
+    pub fn repin<R: Wait>(&self, rt: &R, worker: &mut Worker, guard: &Guard) -> Result<(), Refusal>
         ensures worker { worker.new ≡ worker.old }
         ensures answers { Serves (is_held_by self.now.tree.id worker.old guard.now) (Answers {V = V} (λ _ _. false) false worker.old.number op.Repin told) result }
     {
@@ -268,9 +257,9 @@ impl<K: Word64, V: Drop> CongeeArc<K, V> {
             (Computes {V = V} (λ _ _. false) false (if_owned F.step) worker.old.number (op.ComputePresent (K.word key)) f computed)) befores result }
     {
         let mut answers = IfOwned::new(f);
-        let answer =
-            self.tree
-                .compute_if_present(rt, key.to_word(), &mut answers, worker, guard);
+        let answer = self
+            .tree
+            .compute_if_present(rt, key.to_word(), &mut answers, worker, guard);
         let _ = answers.into_inner();
         owners(befores(answer))
     }

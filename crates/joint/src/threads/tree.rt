@@ -460,10 +460,7 @@ impl<P: Payload + Small, A: Allocator> Tree<P, A> {
 
     /// Hands each pair to the drainer, ascending by key, and gives both back. Refused as WorkersLeft while workers are
     /// registered, and the index and the drainer come back.
-    pub(crate) fn close<D: Drainer<u64, P>>(
-        self,
-        drainer: D,
-    ) -> Result<(A, D), (Refusal, Self, D)>
+    pub(crate) fn close<D: Drainer<u64, P>>(self, drainer: D) -> Result<(A, D), (Refusal, Self, D)>
         requires { D.can_drain drainer }
         ensures closed { IfOk result (λ r. Closes D.drains drainer (A.charged_of r.0) (A.limit_of r.0) r.1) }
         ensures workers { IfErr result (λ e. HasWorkers e.0) }

@@ -78,10 +78,7 @@ fn either_words<V: Word64>(
 fn keys_of<K: Word64>(alloc: Global, words: &[u64]) -> Result<Vec<K>, AllocError>
     ensures { IfOk result (λ keys. keys.items ≡ map K.of_word words.now) }
 {
-    words
-        .iter()
-        .map(|word| K::from_word(*word))
-        .collect(alloc)
+    words.iter().map(|word| K::from_word(*word)).collect(alloc)
 }
 
 /// The keys of an answer.
@@ -158,12 +155,7 @@ impl<K: Word64, V: Word64, A: Allocator, D: Drop> Congee<K, V, A, D> {
 
     /// Seals the worker's removals, and destroys what no guard protects any more. Refused as Memory where they can't be
     /// queued; then nothing was done.
-    pub fn flush<R: Wait>(
-        &self,
-        rt: &R,
-        worker: &mut Worker,
-        guard: &Guard,
-    ) -> Result<(), Refusal>
+    pub fn flush<R: Wait>(&self, rt: &R, worker: &mut Worker, guard: &Guard) -> Result<(), Refusal>
         ensures worker { worker.new ≡ worker.old }
         ensures answers { Serves (is_held_by self.now.tree.id worker.old guard.now) (Answers nat_eq true worker.old.number op.Flush told) result }
     {
@@ -171,12 +163,7 @@ impl<K: Word64, V: Word64, A: Allocator, D: Drop> Congee<K, V, A, D> {
     }
 
     /// Pins the worker anew at the present epoch, where this is its only guard.
-    pub fn repin<R: Wait>(
-        &self,
-        rt: &R,
-        worker: &mut Worker,
-        guard: &Guard,
-    ) -> Result<(), Refusal>
+    pub fn repin<R: Wait>(&self, rt: &R, worker: &mut Worker, guard: &Guard) -> Result<(), Refusal>
         ensures worker { worker.new ≡ worker.old }
         ensures answers { Serves (is_held_by self.now.tree.id worker.old guard.now) (Answers nat_eq true worker.old.number op.Repin told) result }
     {
@@ -256,9 +243,9 @@ impl<K: Word64, V: Word64, A: Allocator, D: Drop> Congee<K, V, A, D> {
             (Computes nat_eq true (if_present F.step) worker.old.number (op.ComputePresent (K.word key.now)) f computed) result }
     {
         let mut answers = IfPresent::new(f);
-        let answer =
-            self.tree
-                .compute_if_present(rt, key.to_word(), &mut answers, worker, guard);
+        let answer = self
+            .tree
+            .compute_if_present(rt, key.to_word(), &mut answers, worker, guard);
         let _ = answers.into_inner();
         answer
     }
@@ -279,9 +266,9 @@ impl<K: Word64, V: Word64, A: Allocator, D: Drop> Congee<K, V, A, D> {
             (Computes nat_eq true (or_insert F.step) worker.old.number (op.ComputeInsert (K.word key)) f replaced)) (words V.of_word) result }
     {
         let mut answers = OrInsert::new(f);
-        let before =
-            self.tree
-                .compute_or_insert(rt, key.to_word(), &mut answers, worker, guard);
+        let before = self
+            .tree
+            .compute_or_insert(rt, key.to_word(), &mut answers, worker, guard);
         let _ = answers.into_inner();
         words(before)
     }

@@ -61,17 +61,19 @@ fn point_calls<R: Wait>(
     guard: &Guard,
 ) -> Result<bool, Refusal> {
     let raise = |value: u64| Some(value.wrapping_add(1));
-    Ok(tree.insert(rt, 1, 42, worker, guard)? == None
-        && tree.get(rt, &1, worker, guard)? == Some(42)
-        && tree.compute_or_insert(rt, 1, next, worker, guard)? == Some(42)
-        && tree.compute_or_insert(rt, 2, next, worker, guard)? == None
-        && tree.get(rt, &2, worker, guard)? == Some(2)
-        && tree.compute_if_present(rt, &1, raise, worker, guard)? == Some((43, Some(44)))
-        && tree.compute_if_present(rt, &3, raise, worker, guard)? == None
-        && tree.compare_exchange(rt, &1, &43, Some(5), worker, guard)? == Err(Some(44))
-        && tree.compare_exchange(rt, &1, &44, Some(5), worker, guard)? == Ok(Some(5))
-        && tree.remove(rt, &2, worker, guard)? == Some(2)
-        && tree.get(rt, &2, worker, guard)? == None)
+    Ok(
+        tree.insert(rt, 1, 42, worker, guard)? == None
+            && tree.get(rt, &1, worker, guard)? == Some(42)
+            && tree.compute_or_insert(rt, 1, next, worker, guard)? == Some(42)
+            && tree.compute_or_insert(rt, 2, next, worker, guard)? == None
+            && tree.get(rt, &2, worker, guard)? == Some(2)
+            && tree.compute_if_present(rt, &1, raise, worker, guard)? == Some((43, Some(44)))
+            && tree.compute_if_present(rt, &3, raise, worker, guard)? == None
+            && tree.compare_exchange(rt, &1, &43, Some(5), worker, guard)? == Err(Some(44))
+            && tree.compare_exchange(rt, &1, &44, Some(5), worker, guard)? == Ok(Some(5))
+            && tree.remove(rt, &2, worker, guard)? == Some(2)
+            && tree.get(rt, &2, worker, guard)? == None,
+    )
 }
 
 /// The calls on the whole tree, which has 1 and 5 alone.
@@ -86,11 +88,13 @@ fn whole_calls<R: Wait>(
     let keys = tree.keys(rt, worker)?;
     tree.repin(rt, worker, guard)?;
     tree.flush(rt, worker, guard)?;
-    Ok(found == 1
-        && out[0] == (1, 5)
-        && keys.as_slice() == [1].as_slice()
-        && !tree.is_empty(rt, worker, guard)?
-        && tree.stats(rt, worker)?.kv_pairs == 1)
+    Ok(
+        found == 1
+            && out[0] == (1, 5)
+            && keys.as_slice() == [1].as_slice()
+            && !tree.is_empty(rt, worker, guard)?
+            && tree.stats(rt, worker)?.kv_pairs == 1,
+    )
 }
 
 #[test]
@@ -103,7 +107,10 @@ fn each_call_comes_through(rt: HostRuntime) -> Result<(), Fail> {
     let wholes = whole_calls(&rt, &tree, &mut worker, &guard);
     let removed = tree.remove(&rt, &1, &mut worker, &guard);
     spent(tree.unpin(&rt, &mut worker, guard))?;
-    assert_eq!(rt; (points, wholes, removed), (Ok(true), Ok(true), Ok(Some(5))));
+    assert_eq!(rt;
+        (points, wholes, removed),
+        (Ok(true), Ok(true), Ok(Some(5)))
+    );
     assert_eq!(rt; (tree.waiting(&rt), tree.waiting_bytes(&rt)), (1, 64));
     for _ in 0..3 {
         tree.round(&rt, &mut worker)?;
@@ -123,8 +130,11 @@ fn each_call_comes_through(rt: HostRuntime) -> Result<(), Fail> {
 
 #[test]
 fn numbers_are_found_by_their_bytes(rt: HostRuntime) -> Result<(), Fail> {
-    let tree: U64Congee<u64> =
-        U64Congee::new(rt.alloc(), limits(1, 9, 0), DefaultAllocator::new())?;
+    let tree: U64Congee<u64> = U64Congee::new(
+        rt.alloc(),
+        limits(1, 9, 0),
+        DefaultAllocator::new(),
+    )?;
     let mut worker = tree.register(&rt)?;
     let guard = tree.pin(&rt, &mut worker)?;
     let before = tree.insert(&rt, 256, 7, &mut worker, &guard);
@@ -186,24 +196,23 @@ fn shared_calls<R: Wait>(
     guard: &Guard,
 ) -> Result<bool, Refusal> {
     let other = |_| Arc::try_clone(world).ok();
-    Ok(reads(tree.get(rt, 1, worker, guard)?, "hello")
-        && reads(
-            tree.compute_if_present(rt, 1, other, worker, guard)?,
-            "hello",
-        )
-        && reads(tree.get(rt, 1, worker, guard)?, "hello world")
-        && reads(tree.remove(rt, 1, worker, guard)?, "hello world")
-        && tree.get(rt, 1, worker, guard)?.is_none()
-        && tree.is_empty(rt, worker, guard)?)
+    Ok(
+        reads(tree.get(rt, 1, worker, guard)?, "hello")
+            && reads(
+                tree.compute_if_present(rt, 1, other, worker, guard)?,
+                "hello",
+            )
+            && reads(tree.get(rt, 1, worker, guard)?, "hello world")
+            && reads(tree.remove(rt, 1, worker, guard)?, "hello world")
+            && tree.get(rt, 1, worker, guard)?.is_none()
+            && tree.is_empty(rt, worker, guard)?,
+    )
 }
 
 #[test]
 fn texts_are_shared(rt: HostRuntime) -> Result<(), Fail> {
     let tree: Texts = CongeeArc::new(rt.alloc(), limits(1, 9, 0))?;
-    let (hello, world) = (
-        text(rt.alloc(), "hello")?,
-        text(rt.alloc(), "hello world")?,
-    );
+    let (hello, world) = (text(rt.alloc(), "hello")?, text(rt.alloc(), "hello world")?);
     let mut worker = tree.register(&rt)?;
     let guard = tree.pin(&rt, &mut worker)?;
     let inserted = tree.insert(&rt, 1, hello, &mut worker, &guard);
@@ -352,11 +361,7 @@ fn four_work<R: Threads + Wait + Sync>(rt: &R, tree: &Words) -> Result<bool, Ref
 
 #[test]
 fn two_fill_and_two_read(rt: HostRuntime) -> Result<(), Fail> {
-    let tree: Words = Congee::new(
-        rt.alloc(),
-        limits(4, 100_000, 0),
-        DefaultAllocator::new(),
-    )?;
+    let tree: Words = Congee::new(rt.alloc(), limits(4, 100_000, 0), DefaultAllocator::new())?;
     assert_eq!(rt; four_work(&rt, &tree), Ok(true));
     assert_eq!(rt; works(&rt, &tree, Task::Find), Ok(true));
     Ok(())

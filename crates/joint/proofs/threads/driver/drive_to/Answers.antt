@@ -1,4 +1,4 @@
-use Rattle.std.proofs.Common.{rules, ◌≡◌, ◌∙◌, ap, subst, sym, Some, None, Option}
+use Rattle.std.proofs.Common.{rules, ◌≡◌, ◌∙◌, ap, subst, sym, Some, None}
 use Rattle.joint.specs.declared.steps.Outcome.{Outcome}
 use Rattle.joint.specs.Driving.{Goes, IsTurn, go_step, put_by}
 use Rattle.joint.proofs.lemmas.Driving.{begins, ends, goes_on, goes_is_go}
