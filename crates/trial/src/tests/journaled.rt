@@ -44,6 +44,25 @@ fn go(index: &mut Index, worker: u32, answer: Option<Option<u64>>) -> Report<u64
     })
 }
 
+/// How the first step of a worker's call ends that doesn't just go on, of a hundred.
+fn go_on(index: &mut Index, worker: u32) -> Outcome<u64> {
+    for _ in 0..100 {
+        let outcome = go(index, worker, None).outcome;
+        if outcome != Outcome::Running {
+            return outcome;
+        }
+    }
+    Outcome::Running
+}
+
+/// Why no index with so many places is opened, if there is none.
+fn refusal_of(alloc: Global, places: u64) -> Option<Refusal> {
+    match open(alloc, places) {
+        Ok(_) => None,
+        Err(refusal) => Some(refusal),
+    }
+}
+
 #[test]
 fn a_journal_is_full(rt: HostRuntime) -> Result<(), Fail> {
     let mut index = open(rt.alloc(), 1)?;
@@ -74,7 +93,7 @@ fn a_reserved_place_is_kept_from_look_ups_and_comes_free(rt: HostRuntime) -> Res
     let some = Reply::Get(Some(1));
     let unkept = Some((Outcome::Done(Done::Reply(some)), false));
     assert_eq!(rt; end(&mut index, 1, Op::Get(1)), unkept);
-    while go(&mut index, 0, None).outcome != Outcome::Asks(Some(1)) {}
+    assert_eq!(rt; go_on(&mut index, 0), Outcome::Asks(Some(1)));
     assert_eq!(rt; index.in_flight(0), Some((Op::ComputePresent(1), None)));
     go(&mut index, 0, Some(None));
     assert_eq!(rt;
@@ -82,7 +101,7 @@ fn a_reserved_place_is_kept_from_look_ups_and_comes_free(rt: HostRuntime) -> Res
         Some((Op::ComputePresent(1), Some(None)))
     );
     assert_eq!(rt; index.in_flight(1), None);
-    while go(&mut index, 0, None).outcome == Outcome::Running {}
+    go_on(&mut index, 0);
     assert_eq!(rt; index.in_flight(0), None);
     assert_eq!(rt; index.journal().len(), 2);
     assert_eq!(rt; check(rt.alloc(), index.journal())?, Verdict::Legal);
@@ -92,7 +111,7 @@ fn a_reserved_place_is_kept_from_look_ups_and_comes_free(rt: HostRuntime) -> Res
 #[test]
 fn a_journal_has_its_places(rt: HostRuntime) -> Result<(), Fail> {
     for places in [0, 4_294_967_296] {
-        assert_eq!(rt; open(rt.alloc(), places).err(), Some(Refusal::Limits));
+        assert_eq!(rt; refusal_of(rt.alloc(), places), Some(Refusal::Limits));
     }
     let mut index = open(rt.alloc(), 3)?;
     for key in 0..3 {

@@ -118,7 +118,10 @@ fn refusal_of(alloc: Global, epoch_max: u64, expiry: u64) -> Option<Refusal> {
     };
     let limits = Limits { epoch, ..usual };
     let opened: Result<Index, Refusal> = World::new(alloc, limits, Limited::new(2104));
-    opened.err()
+    match opened {
+        Ok(_) => None,
+        Err(refusal) => Some(refusal),
+    }
 }
 
 #[test]
