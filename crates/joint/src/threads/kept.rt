@@ -143,6 +143,7 @@ impl<L: Ledger, W: Watch, A: Allocator> Kept<L, W, A> {
 
 impl<L: Ledger, W: Watch, A: Allocator> Locked<u64> for Kept<L, W, A> {
     type Nodes = A;
+
     type Memo = Op<u64>;
 
     ghost op = { λ op. op };

@@ -45,10 +45,7 @@ pub(crate) trait Locked<P: Payload + Small>: Drop {
     fn world(&self) -> &World<P, Self::Nodes>;
 
     /// Ends it, where no worker is registered.
-    fn close<D: Drainer<u64, P>>(
-        self,
-        drainer: D,
-    ) -> Result<(Self::Nodes, D), (Refusal, Self, D)>
+    fn close<D: Drainer<u64, P>>(self, drainer: D) -> Result<(Self::Nodes, D), (Refusal, Self, D)>
         requires { D.can_drain drainer }
         ensures closed { IfOk result (λ r. Closes D.drains drainer (Self.Nodes.charged_of r.0) (Self.Nodes.limit_of r.0) r.1) }
         ensures workers { IfErr result (λ e. HasWorkers e.0) }
@@ -74,6 +71,7 @@ impl<P: Payload + Small, A: Allocator> Plain<P, A> {
 
 impl<P: Payload + Small, A: Allocator> Locked<P> for Plain<P, A> {
     type Nodes = A;
+
     type Memo = Snapshot<Op<P>>;
 
     ghost op = { λ m. m.value };

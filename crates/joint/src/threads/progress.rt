@@ -68,7 +68,7 @@ impl<L: Ledger> Progress<L> {
 
     /// It has this entry, which its share and the book count where it is watched.
     pub(crate) fn note<W: Watch>(&mut self, book: &mut Book<L>, entry: Entry<u64>)
-        ensures { self.new ≡ record self.old { entry = Some entry; share = counts_more self.old.share (one_where (W.watched entry)) } }
+        ensures call { self.new ≡ record self.old { entry = Some entry; share = counts_more self.old.share (one_where (W.watched entry)) } }
         ensures book { book.new.total ≡ book.old.total + one_where (W.watched entry) }
     {
         if W::watches(&entry) {

@@ -135,4 +135,5 @@ impl<L: Ledger> Share<L> {
         ensures whole { self.old.parts ≡ L.parts → self.old.count ≡ book.old.total }
     {
         book.audit(&mut self.tokens);
-    }}
+    }
+}

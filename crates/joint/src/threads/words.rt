@@ -43,7 +43,7 @@ fn word_of<V: Word64>(word: Option<u64>) -> Option<V>
 }
 
 /// The word of a value, if there is one.
-fn to_word<V: Word64>(value: &Option<V>) -> Option<u64>
+pub(crate) fn to_word<V: Word64>(value: &Option<V>) -> Option<u64>
     ensures { result ≡ option_map V.word value.now }
 {
     match value {
@@ -53,7 +53,7 @@ fn to_word<V: Word64>(value: &Option<V>) -> Option<u64>
 }
 
 /// The value of an answer.
-fn words<V: Word64>(answer: Result<Option<u64>, Refusal>) -> Result<Option<V>, Refusal>
+pub(crate) fn words<V: Word64>(answer: Result<Option<u64>, Refusal>) -> Result<Option<V>, Refusal>
     ensures { result ≡ words V.of_word answer }
 {
     match answer {
@@ -63,7 +63,7 @@ fn words<V: Word64>(answer: Result<Option<u64>, Refusal>) -> Result<Option<V>, R
 }
 
 /// The values of an exchange's answer.
-fn either_words<V: Word64>(
+pub(crate) fn either_words<V: Word64>(
     answer: Result<Result<Option<u64>, Option<u64>>, Refusal>,
 ) -> Result<Result<Option<V>, Option<V>>, Refusal>
     ensures { result ≡ either_words V.of_word answer }
@@ -388,7 +388,7 @@ impl<K: Word64, V: Word64, A: Allocator> Congee<K, V, A, NoDrain> {
 }
 
 /// Takes words, and hands keys and values on.
-struct OfWords<K, V, D> {
+pub(crate) struct OfWords<K, V, D> {
     drainer: D,
     words: PhantomData<(K, V)>,
 }
@@ -423,7 +423,7 @@ impl<K: Word64, V: Word64, D: Drainer<K, V>> Drainer<u64, u64> for OfWords<K, V,
 }
 
 impl<K, V, D> OfWords<K, V, D> {
-    fn new(drainer: D) -> Self
+    pub(crate) fn new(drainer: D) -> Self
         ensures { result ≡ drainer }
     {
         OfWords {
@@ -433,7 +433,7 @@ impl<K, V, D> OfWords<K, V, D> {
     }
 
     /// Gives the drainer back.
-    fn into_inner(self) -> D
+    pub(crate) fn into_inner(self) -> D
         ensures { result ≡ self }
     {
         let OfWords { drainer, words: _ } = self;

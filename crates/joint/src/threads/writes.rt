@@ -4,10 +4,10 @@ ghost use Rattle.std.specs.Prelude.{◌≡◌, ℕ, [], None, Some, true};
 ghost use Rattle.std.specs.Option.{option_map};
 ghost use Rattle.joint.specs.Asked.{changes};
 ghost use Rattle.joint.specs.Driving.{IsToldInCall, IsTurn};
-ghost use Rattle.joint.specs.Writing.{IsWritingTurn, Writes, unwritten};
+ghost use Rattle.joint.specs.Writing.{IsWritingTurn, Writes, WritesMute, unwritten};
 
 use crate::steps::{Op, Report, Step};
-use crate::threads::answers::Answer;
+use crate::threads::answers::{Answer, Silent};
 use crate::threads::driver::{Turns, drive_to};
 use crate::threads::ends::End;
 use crate::threads::kept::Kept;
@@ -121,10 +121,25 @@ impl<L: Ledger, W: Watch, A: Allocator> Tree<u64, Kept<L, W, A>> {
         let mut turns = WritingHolds::new(rt, self, worker.number, op, lent);
         let end = drive_to(rt, &mut turns, worker.number, op, answers, &mut nothing);
         let Share {
-            mut tokens, count, ..
+            mut tokens,
+            count,
+            ..
         } = turns.into_share();
         mem::swap(&mut share.tokens, &mut tokens);
         share.count = count;
         end
+    }
+    /// One that asks nobody.
+    pub(crate) fn write_silently<R: Wait>(
+        &self,
+        rt: &R,
+        worker: &Worker,
+        op: Op<u64>,
+        share: &mut Share<L>,
+    ) -> End<u64>
+        requires { changes op ≡ true }
+        ensures { WritesMute W.watched worker.now.number op (λ end. end) share.old share.new result }
+    {
+        self.write(rt, worker, op, &mut Silent, share)
     }
 }
