@@ -1,6 +1,6 @@
 //! The index of words for threads, with a journal and a ledger that counts its writing calls.
 
-ghost use Rattle.std.specs.Prelude.{◌≡◌, ◌<◌, ℕ, false, length, nat_eq, IfErr, IfOk, MatchResult};
+ghost use Rattle.std.specs.Prelude.{◌≡◌, ◌<◌, ℕ, false, length, nat_eq, true, IfErr, IfOk, MatchResult};
 ghost use Rattle.std.specs.Option.{option_map};
 ghost use Rattle.joint.specs.Journals.{IsJournal};
 ghost use Rattle.joint.specs.Opening.{IsUnshared};

@@ -1,7 +1,7 @@
 //! What an index with a journal keeps under its lock: the machine, and the book of the ledger that counts its watched
 //! writing calls.
 
-ghost use Rattle.std.specs.Prelude.{◌≡◌, ◌≤◌, ◌⊎◌, ◌↔◌, ℕ, None, Some, true, nat_eq, slice_get, IsTrue, IfOk, IfErr, MatchResult};
+ghost use Rattle.std.specs.Prelude.{◌≡◌, ◌≤◌, ◌↔◌, ℕ, None, false, true, nat_eq, IsTrue, IfOk, IfErr, MatchResult};
 ghost use Rattle.joint.specs.Driving.{IsToldInCall};
 ghost use Rattle.joint.specs.Journals.{IsCounted, IsJournal, count_watched};
 ghost use Rattle.joint.specs.Opening.{HasPlaces};

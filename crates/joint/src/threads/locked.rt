@@ -22,7 +22,7 @@ pub(crate) trait Locked<P: Payload + Small>: Drop {
     type Memo: Drop;
 
     /// The call that it is of.
-    ghost op: { Memo → Op P };
+    ghost op: { Self.Memo → Op P };
 
     /// What is known of a turn of this worker's call.
     ghost holds: { ℕ → Op P → Step P → Report P → Type 0 };

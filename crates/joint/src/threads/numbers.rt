@@ -4,7 +4,7 @@ ghost use Rattle.std.specs.Prelude.{◌≡◌, false, length, nat_eq, true, IfEr
 ghost use Rattle.std.specs.Option.{option_map};
 ghost use Rattle.congee.specs.Keys.{key_bytes};
 ghost use Rattle.joint.specs.Opening.{IsUnopened};
-ghost use Rattle.joint.specs.Threads.{Answers, AreKeys, As, Computes, Hands, HasWorkers, IsHold, IsRound, Pins, Scans, Serves, is_held_by, is_of, register_step, registered};
+ghost use Rattle.joint.specs.Threads.{Answers, AreKeys, As, ByHold, Computes, Hands, HasWorkers, IsHold, IsRound, Pins, Scans, Serves, is_held_by, is_of, register_step, registered};
 ghost use Rattle.joint.specs.Threads.{computed, counted, either_words, emptied, exchanged, got, if_present, inserted, listed, or_insert, removed, replaced, scanned, told, words};
 ghost use Rattle.joint.specs.declared.steps.Op.TheVariants as op;
 

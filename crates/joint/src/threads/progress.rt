@@ -1,6 +1,6 @@
 //! What a writing call on an index with a journal has come to.
 
-ghost use Rattle.std.specs.Prelude.{◌≡◌, None, Some};
+ghost use Rattle.std.specs.Prelude.{◌≡◌, ◌+◌, Some};
 ghost use Rattle.joint.specs.Log.{hears};
 ghost use Rattle.joint.specs.Shares.{counts_more};
 ghost use Rattle.joint.specs.Journaling.{one_where};

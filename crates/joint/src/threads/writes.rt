@@ -58,14 +58,6 @@ impl<'t, L: Ledger, W: Watch, A: Allocator, R: Wait> WritingHolds<'t, L, W, A, R
             last: None,
         }
     }
-
-    /// The share back.
-    fn into_share(self) -> Share<L>
-        ensures { result ≡ self.call.share }
-    {
-        let WritingHolds { call, .. } = self;
-        call.into_share()
-    }
 }
 
 impl<L: Ledger, W: Watch, A: Allocator, R: Wait> Turns<u64> for WritingHolds<'_, L, W, A, R> {
@@ -120,11 +112,12 @@ impl<L: Ledger, W: Watch, A: Allocator> Tree<u64, Kept<L, W, A>> {
         };
         let mut turns = WritingHolds::new(rt, self, worker.number, op, lent);
         let end = drive_to(rt, &mut turns, worker.number, op, answers, &mut nothing);
+        let WritingHolds { call, .. } = turns;
         let Share {
             mut tokens,
             count,
             ..
-        } = turns.into_share();
+        } = call.into_share();
         mem::swap(&mut share.tokens, &mut tokens);
         share.count = count;
         end
