@@ -3,6 +3,7 @@ pub mod Accounts
 pub mod Advanced
 pub mod Altering
 pub mod Apart
+pub mod Appending
 pub mod Asking
 pub mod Auditing
 pub mod Backs
@@ -79,3 +80,5 @@ pub mod Walk
 pub mod Walking
 pub mod Went
 pub mod Whereabouts
+pub mod Watching
+pub mod WritingTurns

@@ -183,6 +183,32 @@ module _ {V : Type 0} (same : V → V → Bool) (always : Bool) (s s' : Whole V)
   does event (Some f) r c own x = so r (Refused (of_fault f)) (ap (λ r. r.outcome) x.0) (fault_tells V f own)
   does event None r c own x = proceeds event r c x
 
+module _ {V : Type 0} where
+  goes_on_call : (who : ℕ) (o : Outcome V) (step : Step V) → IsGo who o step → IsOfCall step.event
+  goes_on_call who Running step g = subst (λ (x : Step V). IsOfCall x.event) (sym g) (tt {0})
+  goes_on_call who (Asks found) step g = subst (λ (x : Step V). IsOfCall x.event) (sym g.1) (tt {0})
+  goes_on_call who (Found place key value) step g = subst (λ (x : Step V). IsOfCall x.event) (sym g) (tt {0})
+  goes_on_call who (Registered n) step g = absurd g
+  goes_on_call who (Done d) step g = absurd g
+  goes_on_call who (Refused e) step g = absurd g
+
+  -- a turn is a step of a call, and of its worker
+  pub turn_of_call : (who : ℕ) (op : Op V) (last : Option (Report V)) (step : Step V) → IsTurn who op last step → IsOfCall step.event
+  turn_of_call who op None step t = subst (λ (x : Step V). IsOfCall x.event) (sym t) (tt {0})
+  turn_of_call who op (Some r) step t = goes_on_call who r.outcome step t
+
+  go_worker : (who : ℕ) (o : Outcome V) (step : Step V) → IsGo who o step → step.worker ≡ who
+  go_worker who Running step g = ap (λ (x : Step V). x.worker) g
+  go_worker who (Asks found) step g = ap (λ (x : Step V). x.worker) g.1
+  go_worker who (Found place key value) step g = ap (λ (x : Step V). x.worker) g
+  go_worker who (Registered n) step g = absurd g
+  go_worker who (Done d) step g = absurd g
+  go_worker who (Refused e) step g = absurd g
+
+  pub turn_worker : (who : ℕ) (op : Op V) (last : Option (Report V)) (step : Step V) → IsTurn who op last step → step.worker ≡ who
+  turn_worker who op None step t = ap (λ (x : Step V). x.worker) t
+  turn_worker who op (Some r) step t = go_worker who r.outcome step t
+
 module _ {V : Type 0} (same : V → V → Bool) (always : Bool) where
   taken_tells : (s s' : Whole V) (step : Step V) (r : Report V) (gives : Bool) → IsOfCall step.event → StepsUnless same always gives s step r s' → IsToldInCall r.outcome
   taken_tells s s' step r true c x = subst IsToldInCall (sym (ap (λ r. r.outcome) x.report)) (tt {0})
@@ -194,29 +220,20 @@ module _ {V : Type 0} (same : V → V → Bool) (always : Bool) where
   pub step_tells : (step : Step V) (r : Report V) → IsOfCall step.event → IsHold same always step r → IsToldInCall r.outcome
   step_tells step r c h = taken_tells h.0 h.1 step r (gives_up h.0 step.worker step.event) c h.2.does
 
-  goes_on_call : (who : ℕ) (o : Outcome V) (step : Step V) → IsGo who o step → IsOfCall step.event
-  goes_on_call who Running step g = subst (λ (x : Step V). IsOfCall x.event) (sym g) (tt {0})
-  goes_on_call who (Asks found) step g = subst (λ (x : Step V). IsOfCall x.event) (sym g.1) (tt {0})
-  goes_on_call who (Found place key value) step g = subst (λ (x : Step V). IsOfCall x.event) (sym g) (tt {0})
-  goes_on_call who (Registered n) step g = absurd g
-  goes_on_call who (Done d) step g = absurd g
-  goes_on_call who (Refused e) step g = absurd g
+module _ {V Q : Type 0} (hold : ℕ → Op V → Step V → Report V → Type 0) (pair : ℕ → V → Q) (who : ℕ) (op : Op V) {S : Type 0} (worker : S → ℕ) (oper : S → Op V) where
+  abbrev Gives : S → Step V → Report V → S → Type 0
+  Gives s step r s' = hold (worker s) (oper s) step r × (worker s' ≡ worker s) × (oper s' ≡ oper s)
 
-  turn_of_call : (who : ℕ) (op : Op V) (last : Option (Report V)) (step : Step V) → IsTurn who op last step → IsOfCall step.event
-  turn_of_call who op None step t = subst (λ (x : Step V). IsOfCall x.event) (sym t) (tt {0})
-  turn_of_call who op (Some r) step t = goes_on_call who r.outcome step t
-
-  pub turn_tells : (who : ℕ) (op : Op V) (last : Option (Report V)) (step : Step V) (r : Report V) → IsTurn who op last step → IsHold same always step r → IsToldInCall r.outcome
-  turn_tells who op last step r t h = step_tells step r (turn_of_call who op last step t) h
-
-module _ {V Q : Type 0} (hold : Step V → Report V → Type 0) (pair : ℕ → V → Q) (who : ℕ) (op : Op V) where
   -- the turns, whoever gave them
-  pub anyhow : {S F : Type 0} (calls : F → Option V → Option V → F → Type 0) (ts : List (OneTurn V)) (s : S) (f : F) (last : Option (Report V)) (places : List Q) (s' : S) (places' : List Q) (o : Outcome V)
-      → AreTurns (λ _ step r _. hold step r) calls pair who op s f last places ts s' places' o
-      → AreTurns {S = Unit {0}} (λ _ step r _. hold step r) calls pair who op (tt {0}) f last places ts (tt {0}) places' o
-  anyhow calls [] s f last places s' places' o h = (refl, h.1, h.2)
-  anyhow calls (t ∷ ts) s f last places s' places' o h = (h.0, tt {0}, h.2, h.3, anyhow calls ts h.1 h.0 (Some t.report) _ s' places' o h.4)
+  pub anyhow : {F : Type 0} (calls : F → Option V → Option V → F → Type 0) (ts : List (OneTurn V)) (s : S) (f : F) (last : Option (Report V)) (places : List Q) (s' : S) (places' : List Q) (o : Outcome V) → worker s ≡ who → oper s ≡ op
+      → AreTurns Gives calls pair who op s f last places ts s' places' o
+      → AreTurns {S = Unit {0}} (λ _ step r _. hold who op step r) calls pair who op (tt {0}) f last places ts (tt {0}) places' o
+  anyhow calls [] s f last places s' places' o w q h = (refl, h.1, h.2)
+  anyhow calls (t ∷ ts) s f last places s' places' o w q h =
+      let here : hold who op t.step t.report = subst (λ y. hold who y t.step t.report) q (subst (λ y. hold y (oper s) t.step t.report) w h.3.0) in
+      (h.0, tt {0}, h.2, here, anyhow calls ts h.1 h.0 (Some t.report) _ s' places' o (h.3.1 ∙ w) (h.3.2 ∙ q) h.4)
 
+module _ {V S Q : Type 0} (gives : S → Step V → Report V → S → Type 0) (pair : ℕ → V → Q) (who : ℕ) (op : Op V) where
   goes_mute : {F : Type 0} (calls : F → Option V → Option V → F → Type 0) (o : Outcome V) (f : F) (step : Step V) (f' : F) → Goes calls who o f step f' → Goes {F = Unit {0}} (λ _ _ _ _. Unit {0}) who o (tt {0}) step (tt {0})
   goes_mute calls Running f step f' g = (g.0, refl)
   goes_mute calls (Asks found) f step f' g = (g.0, tt {0}, g.2)
@@ -230,8 +247,7 @@ module _ {V Q : Type 0} (hold : Step V → Report V → Type 0) (pair : ℕ → 
   turns_mute calls (Some r) f step f' t = goes_mute calls r.outcome f step f' t
 
   -- and whatever answered
-  pub mute : {F : Type 0} (calls : F → Option V → Option V → F → Type 0) (ts : List (OneTurn V)) (f : F) (last : Option (Report V)) (places places' : List Q) (o : Outcome V)
-      → AreTurns {S = Unit {0}} (λ _ step r _. hold step r) calls pair who op (tt {0}) f last places ts (tt {0}) places' o
-      → AreTurns {F = Unit {0}} {S = Unit {0}} (λ _ step r _. hold step r) (λ _ _ _ _. Unit {0}) pair who op (tt {0}) (tt {0}) last places ts (tt {0}) places' o
-  mute calls [] f last places places' o h = h
-  mute calls (t ∷ ts) f last places places' o h = (tt {0}, tt {0}, turns_mute calls last f t.step h.0 h.2, h.3, mute calls ts h.0 (Some t.report) _ places' o h.4)
+  pub mute : {F : Type 0} (calls : F → Option V → Option V → F → Type 0) (ts : List (OneTurn V)) (s : S) (f : F) (last : Option (Report V)) (places : List Q) (s' : S) (places' : List Q) (o : Outcome V) → AreTurns gives calls pair who op s f last places ts s' places' o
+      → AreTurns {F = Unit {0}} gives (λ _ _ _ _. Unit {0}) pair who op s (tt {0}) last places ts s' places' o
+  mute calls [] s f last places s' places' o h = h
+  mute calls (t ∷ ts) s f last places s' places' o h = (tt {0}, h.1, turns_mute calls last f t.step h.0 h.2, h.3, mute calls ts h.1 h.0 (Some t.report) _ s' places' o h.4)
