@@ -1,5 +1,5 @@
 -- Calls on an index with a journal, turn by turn: each holds the lock, and goes on only while it is itself in flight.
-use Rattle.std.specs.Prelude.{◌≡◌, ◌⊎◌, ℕ, ◌-◌, ◌<◌, ◌++◌, Bool, true, false, nat_eq, List, [], ◌∷◌, Option, None, Some, Result, Ok, Err, slice_get}
+use Rattle.std.specs.Prelude.{◌≡◌, ◌⊎◌, ℕ, ◌-◌, ◌<◌, ◌++◌, Bool, true, false, not, nat_eq, List, [], ◌∷◌, Option, None, Some, Result, Ok, Err, slice_get}
 use Rattle.judge.specs.declared.journal.Call.{Call as Entered}
 use Rattle.judge.specs.declared.journal.Entry.{Entry}
 use Rattle.judge.specs.Answer.{reply_on}
@@ -7,17 +7,18 @@ use Rattle.joint.specs.declared.refusal.Refusal.{Refusal}
 use Rattle.joint.specs.declared.refusal.Refusal.TheVariants.{Idle, SharesLeft}
 use Rattle.joint.specs.declared.steps.Done.TheVariants as done
 use Rattle.joint.specs.declared.steps.Event.{Event}
-use Rattle.joint.specs.declared.steps.Event.TheVariants.{Go}
+use Rattle.joint.specs.declared.steps.Event.TheVariants.{Register, Begin, Go}
 use Rattle.joint.specs.declared.steps.Op.{Op}
 use Rattle.joint.specs.declared.steps.Outcome.{Outcome}
 use Rattle.joint.specs.declared.steps.Outcome.TheVariants.{Running, Asks, Done, Refused}
 use Rattle.joint.specs.declared.steps.Report.{Report}
 use Rattle.joint.specs.declared.steps.Step.{Step}
-use Rattle.joint.specs.Asked.{answer_in, changes}
+use Rattle.joint.specs.Asked.{changes}
 use Rattle.joint.specs.Driving.{AreTurns, Turn, ended}
 use Rattle.joint.specs.Journals.{IsCounted}
 use Rattle.joint.specs.Journaling.{asks_at, call_of, has_place, in_list, one_where}
 use Rattle.joint.specs.Log.{hears, request_at}
+use Rattle.joint.specs.Runs.{looks_up}
 use Rattle.joint.specs.Shares.{Tally, counts_more}
 use Rattle.joint.specs.Threads.{End, IsHold}
 use Rattle.joint.specs.Whole.{Whole, IsStep}
@@ -25,15 +26,6 @@ use Rattle.joint.specs.Whole.{Whole, IsStep}
 -- the worker has this call in flight, which took this answer of its closure last
 abbrev pub IsInFlight : Whole ℕ → ℕ → Op ℕ → Option (Option ℕ) → Type 0
 IsInFlight s who op given = request_at s.log.requests who ≡ Some (record { op = op; answer = given })
-
--- a turn of a call that doesn't write: a hold; or, while the worker has another call in flight, no step
-pub record StopsReading (who : ℕ) (op : Op ℕ) (r : Report ℕ) : Type 0 where
-  pub state : Whole ℕ
-  pub other : changes op ≡ false → IsInFlight state who op None → ⊥
-  pub idle : r.outcome ≡ Refused Idle
-
-abbrev pub Reads : ℕ → Op ℕ → Step ℕ → Report ℕ → Type 0
-Reads who op step r = IsHold nat_eq true step r ⊎ StopsReading who op r
 
 -- what a writing call has come to: the last answer of its closure, its entry in the journal, and its caller's share
 pub record Progress : Type 0 where
@@ -83,17 +75,37 @@ pub record HoldsWriting (watched : Entry ℕ → Bool) (who : ℕ) (op : Op ℕ)
   pub appends : Appends watched who op (given_after op p.given step.event) p appended p'
   pub tells : r ≡ record told { outcome = told_with p'.entry told.outcome }
 
--- the next step of a call may be taken: the worker has it in flight, an answer comes only where it is wanted, and a call
--- with an entry won't have another
-pub record MayGo (s : Whole ℕ) (who : ℕ) (op : Op ℕ) (p : Progress) (event : Event ℕ) : Type 0 where
-  pub own : IsInFlight s who op p.given
-  pub wanted : (a : Option ℕ) → answer_in event ≡ Some a → asks_at (slice_get s.machines who) ≡ true
-  pub once : (e : Entry ℕ) → p.entry ≡ Some e → has_place (slice_get s.calls who) (slice_get s.machines who) ≡ false
+-- what a step appends to the journal: nothing, or the entry of the worker's call, which had its place if it writes
+pub record Appended (s s' : Whole ℕ) (who : ℕ) (op : Op ℕ) (given : Option (Option ℕ)) (event : Event ℕ) (entry : Option (Entry ℕ)) : Type 0 where
+  pub entries : s'.log.entries ≡ s.log.entries ++ in_list entry
+  pub places : s'.log.places ≡ s.log.places
+  pub of : (e : Entry ℕ) → entry ≡ Some e → IsEntryOf who op (given_after op given event) e
+  pub had : (e : Entry ℕ) → entry ≡ Some e → has_place (slice_get s.calls who) (slice_get s.machines who) ≡ not (looks_up e.call)
 
--- else none is, and the call ends
+-- a step of a call may be taken: it is its begin; or the worker has it in flight, and an answer comes only where it is
+-- wanted
+abbrev pub MayStep : Whole ℕ → ℕ → Op ℕ → Option (Option ℕ) → Event ℕ → Type 0
+MayStep s who op given Register = ⊥
+MayStep s who op given (Begin o) = Unit {0}
+MayStep s who op given (Go noise) = IsInFlight s who op given × ((a : Option ℕ) → noise.answer ≡ Some a → asks_at (slice_get s.machines who) ≡ true)
+
+-- a turn of a call that doesn't write: a hold; or, where its step may not be taken, none
+pub record StopsReading (who : ℕ) (op : Op ℕ) (step : Step ℕ) (r : Report ℕ) : Type 0 where
+  pub state : Whole ℕ
+  pub why : changes op ≡ false → MayStep state who op None step.event → ⊥
+  pub idle : r.outcome ≡ Refused Idle
+
+abbrev pub Reads : ℕ → Op ℕ → Step ℕ → Report ℕ → Type 0
+Reads who op step r = IsHold nat_eq true step r ⊎ StopsReading who op step r
+
+-- a call that has its entry won't have another
+abbrev pub WontRepeat : Whole ℕ → ℕ → Option (Entry ℕ) → Type 0
+WontRepeat s who entry = (e : Entry ℕ) → entry ≡ Some e → has_place (slice_get s.calls who) (slice_get s.machines who) ≡ false
+
+-- the same of a writing call
 pub record StopsWriting (who : ℕ) (op : Op ℕ) (p : Progress) (step : Step ℕ) (r : Report ℕ) (p' : Progress) : Type 0 where
   pub state : Whole ℕ
-  pub why : MayGo state who op p step.event → ⊥
+  pub why : MayStep state who op p.given step.event → WontRepeat state who p.entry → ⊥
   pub same : p' ≡ p
   pub ends : r.outcome ≡ settled p.entry
 

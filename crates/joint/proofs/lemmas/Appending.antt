@@ -1,5 +1,5 @@
 -- The entry that a step of a call in flight appends to the journal.
-use Rattle.std.proofs.Common.{◌≡◌, ℕ, Bool, true, false, List, ◌++◌, refl, sym, ◌∙◌, ap, subst, inl, inr}
+use Rattle.std.proofs.Common.{◌≡◌, ℕ, Bool, true, false, List, [], ◌∷◌, ◌++◌, length, refl, sym, ◌∙◌, ap, subst, inl, inr}
 use Rattle.std.specs.Prelude.{Option, None, Some, not, nat_eq, slice_get}
 use Rattle.std.proofs.lemmas.Bool.{cases_Bool, false≢true}
 use Rattle.std.proofs.lemmas.List.{append-nil}
@@ -17,13 +17,13 @@ use Rattle.joint.specs.declared.steps.Op.{Op}
 use Rattle.joint.specs.declared.steps.Op.TheVariants as op
 use Rattle.joint.specs.declared.steps.Report.{Report}
 use Rattle.joint.specs.declared.steps.Step.{Step}
-use Rattle.joint.specs.Asked.{answer_in, changes}
+use Rattle.joint.specs.Asked.{changes}
 use Rattle.joint.specs.Journaling.{asks_at, call_of, entry_of, has_place, in_list, kept_if, on_insert, on_present, with_call}
 use Rattle.joint.specs.Log.{has_room, heard_by, hears, request_at}
 use Rattle.joint.specs.Reports.{target}
 use Rattle.joint.specs.Runs.{looks_up}
 use Rattle.joint.specs.Whole.{GivesUp, Holds, IsStep, StepsUnless, TakesStep, Whole, engine_of, entry_at, gives_up, heard_at, kept_at}
-use Rattle.joint.specs.Writing.{IsEntryOf, IsInFlight, given_after}
+use Rattle.joint.specs.Writing.{Appended, IsEntryOf, IsInFlight, MayStep, given_after}
 use Rattle.joint.proofs.lemmas.Effects.{begin_undecided, effect}
 use Rattle.joint.proofs.lemmas.Kept.{same_some}
 use Rattle.joint.proofs.lemmas.Logged.{result}
@@ -87,15 +87,7 @@ entry_changes op.Keys a r c q = absurd (cc q)
 entry_changes op.IsEmpty a r c q = absurd (cc q)
 entry_changes op.Stats a r c q = absurd (cc q)
 
--- what a step of a call appends
-pub record Appended (s s' : Whole ℕ) (who : ℕ) (o : Op ℕ) (given : Option (Option ℕ)) (event : Event ℕ) : Type 0 where
-  pub kept : Option (Entry ℕ)
-  pub entries : s'.log.entries ≡ s.log.entries ++ in_list kept
-  pub places : s'.log.places ≡ s.log.places
-  pub of : (e : Entry ℕ) → kept ≡ Some e → IsEntryOf who o (given_after o given event) e
-  pub had : (e : Entry ℕ) → kept ≡ Some e → has_place (slice_get s.calls who) (slice_get s.machines who) ≡ not (looks_up e.call)
-
--- nothing
+-- what it appends, which is nothing
 pub record Still (s s' : Whole ℕ) : Type 0 where
   pub entries : s'.log.entries ≡ s.log.entries
   pub places : s'.log.places ≡ s.log.places
@@ -134,37 +126,63 @@ module _ (s s' : Whole ℕ) (who : ℕ) (h : Holds nat_eq true s) where
     abbrev asked : Request ℕ
     asked = record { op = o; answer = given }
 
-    taken : TakesStep nat_eq true s go r s' → Appended s s' who o given (Go noise)
-    taken t = record {
-      kept = kept_at s who (Go noise) t.told s';
-      entries = t.entries;
-      places = t.places;
-      of = λ e q.
-          let x : entry_at s who (Go noise) t.told s' ≡ Some e = (kept_decides _ _ _ e q).1 in
-          let heard : heard_at s who (Go noise) ≡ Some (hears noise.answer asked) = ap (heard_by (asks_at (slice_get s.machines who)) noise.answer) own ∙ heard_wanted _ noise.answer asked wanted in
-          let is : IsEntryOf who (hears noise.answer asked).op (hears noise.answer asked).answer e = entry_called who (hears noise.answer asked) _ e (ap (λ y. entry_of who y _) (sym heard) ∙ x) in
-          subst (λ c. IsEntryOf who c (hears noise.answer asked).answer e) (hears_op noise.answer asked) is;
-      had = λ e q.
-          let k = kept_decides _ _ _ e q in
-          let on = result nat_eq true s s' go t.told h t.engine h.2.flights h.2.pairs h.2.stand h.2.in_flight h.2.asked in
-          let x = effect nat_eq true s s' who (h.0, h.1) t.engine.holds h.2.flights on.flights h.2.pairs (record { each = h.2.in_flight.each; beyond = h.2.in_flight.beyond }) on.in_flight h.2.long
-          (record { step = go; report = t.told; entry = on.entry; pairs = on.pairs }) refl (Go noise) k.0 t.engine.does on.step in
-          let same : x.entry ≡ e = same_some _ _ (sym (x.noted (h.2.asked refl)) ∙ k.1) in
-          subst (λ y. has_place (slice_get s.calls who) (slice_get s.machines who) ≡ not (looks_up y.call)) same x.had;
-    }
+    abbrev Appends : Type 0
+    Appends = (kept : Option (Entry ℕ)) × Appended s s' who o given (Go noise) kept
 
-    given_up : GivesUp s who r s' → Appended s s' who o given (Go noise)
-    given_up t = record {
-      kept = None;
-      entries = ap (λ (y : Whole ℕ). y.log.entries) t.state ∙ sym (append-nil s.log.entries);
-      places = ap (λ (y : Whole ℕ). y.log.places) t.state;
-      of = λ e q. absurd (cc q);
-      had = λ e q. absurd (cc q);
-    }
+    taken : TakesStep nat_eq true s go r s' → Appends
+    taken t = (
+      kept_at s who (Go noise) t.told s',
+      record {
+        entries = t.entries;
+        places = t.places;
+        of = λ e q.
+            let x : entry_at s who (Go noise) t.told s' ≡ Some e = (kept_decides _ _ _ e q).1 in
+            let heard : heard_at s who (Go noise) ≡ Some (hears noise.answer asked) = ap (heard_by (asks_at (slice_get s.machines who)) noise.answer) own ∙ heard_wanted _ noise.answer asked wanted in
+            let is : IsEntryOf who (hears noise.answer asked).op (hears noise.answer asked).answer e = entry_called who (hears noise.answer asked) _ e (ap (λ y. entry_of who y _) (sym heard) ∙ x) in
+            subst (λ c. IsEntryOf who c (hears noise.answer asked).answer e) (hears_op noise.answer asked) is;
+        had = λ e q.
+            let k = kept_decides _ _ _ e q in
+            let on = result nat_eq true s s' go t.told h t.engine h.2.flights h.2.pairs h.2.stand h.2.in_flight h.2.asked in
+            let x = effect nat_eq true s s' who (h.0, h.1) t.engine.holds h.2.flights on.flights h.2.pairs (record { each = h.2.in_flight.each; beyond = h.2.in_flight.beyond }) on.in_flight h.2.long
+            (record { step = go; report = t.told; entry = on.entry; pairs = on.pairs }) refl (Go noise) k.0 t.engine.does on.step in
+            let same : x.entry ≡ e = same_some _ _ (sym (x.noted (h.2.asked refl)) ∙ k.1) in
+            subst (λ y. has_place (slice_get s.calls who) (slice_get s.machines who) ≡ not (looks_up y.call)) same x.had;
+      },
+    )
 
-    either : (b : Bool) → StepsUnless nat_eq true b s go r s' → Appended s s' who o given (Go noise)
+    given_up : GivesUp s who r s' → Appends
+    given_up t = (
+      None,
+      record {
+        entries = ap (λ (y : Whole ℕ). y.log.entries) t.state ∙ sym (append-nil s.log.entries);
+        places = ap (λ (y : Whole ℕ). y.log.places) t.state;
+        of = λ e q. absurd (cc q);
+        had = λ e q. absurd (cc q);
+      },
+    )
+
+    either : (b : Bool) → StepsUnless nat_eq true b s go r s' → Appends
     either true x = given_up x
     either false x = taken x
 
-    pub went : IsStep nat_eq true s go r s' → Appended s s' who o given (Go noise)
+    went : IsStep nat_eq true s go r s' → Appends
     went x = either (gives_up s who (Go noise)) x.does
+
+-- a step of a call
+pub steps_on : (s s' : Whole ℕ) (step : Step ℕ) (o : Op ℕ) (given : Option (Option ℕ)) (r : Report ℕ) → Holds nat_eq true s → IsStep nat_eq true s step r s' → MayStep s step.worker o given step.event
+    → (kept : Option (Entry ℕ)) × Appended s s' step.worker o given step.event kept
+steps_on s s' step o given r h x may = by step.event x may where
+  by : (event : Event ℕ) → IsStep nat_eq true s (record { worker = step.worker; event = event }) r s' → MayStep s step.worker o given event → (kept : Option (Entry ℕ)) × Appended s s' step.worker o given event kept
+  by Register x m = absurd m
+  by (Begin b) x m =
+      let still = begin_still s s' step.worker h b r x in
+      (None, record { entries = still.entries ∙ sym (append-nil s.log.entries); places = still.places; of = λ e q. absurd (cc q); had = λ e q. absurd (cc q) })
+  by (Go noise) x m = went s s' step.worker h noise o given r m.0 m.1 x
+
+-- the entry is the one past those before
+pub appended_at : {A : Type 0} (xs ys : List A) (o : Option A) → ys ≡ xs ++ in_list o → slice_get ys (length xs) ≡ o
+appended_at xs ys o q = ap (λ l. slice_get l (length xs)) q ∙ at xs o where
+  at : {A : Type 0} (xs : List A) (o : Option A) → slice_get (xs ++ in_list o) (length xs) ≡ o
+  at [] None = refl
+  at [] (Some a) = refl
+  at (x ∷ xs) o = at xs o

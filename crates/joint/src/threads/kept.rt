@@ -6,9 +6,9 @@ ghost use Rattle.joint.specs.Driving.{IsToldInCall};
 ghost use Rattle.joint.specs.Journals.{IsCounted, IsJournal, count_watched};
 ghost use Rattle.joint.specs.Opening.{HasPlaces};
 ghost use Rattle.joint.specs.Threads.{Closes, HasWorkers, IsHold, register_step};
-ghost use Rattle.joint.specs.Whole.{IsOfCall};
+ghost use Rattle.joint.specs.Whole.{IsOfCall, IsStep};
 ghost use Rattle.joint.specs.Asked.{changes};
-ghost use Rattle.joint.specs.Writing.{Gathers, IsInFlight, IsWritingTurn, MayGo, Reads};
+ghost use Rattle.joint.specs.Writing.{Appended, Gathers, IsInFlight, IsWritingTurn, MayStep, Reads, WontRepeat};
 ghost use Rattle.joint.specs.declared.refusal.Refusal.TheVariants as cause;
 
 use crate::refusal::Refusal;
@@ -64,23 +64,34 @@ impl<L: Ledger, W: Watch, A: Allocator> Kept<L, W, A> {
         self.world.in_flight(who) == Some((op, given))
     }
 
-    /// Whether a call that doesn't write may take its next step.
-    fn may_read(&self, who: u32, op: &Op<u64>) -> bool
-        ensures { IsTrue result ↔ (changes op.now ≡ false) × IsInFlight self.now.world who op.now None }
+    /// Whether a step of a worker's call, which took this answer last, may be taken.
+    fn may_step(
+        &self,
+        who: u32,
+        op: Op<u64>,
+        given: Option<Option<u64>>,
+        event: &Event<u64>,
+    ) -> bool
+        ensures { IsTrue result ↔ MayStep self.now.world who op given event.now }
     {
-        !op.changes() && self.has_in_flight(who, *op, None)
+        match event {
+            Event::Register => false,
+            Event::Begin(_) => true,
+            Event::Go(noise) => {
+                self.has_in_flight(who, op, given)
+                    && (noise.answer.is_none() || self.world.asks(who))
+            }
+        }
     }
 
-    /// Whether a writing call may take its next step.
-    fn may_go(&self, who: u32, op: &Op<u64>, call: &Progress<L>, event: &Event<u64>) -> bool
-        ensures { IsTrue result ↔ MayGo self.now.world who op.now call.now event.now }
+    /// Whether a call of a worker that has this entry, if any, won't have another.
+    fn wont_repeat(&self, who: u32, entry: &Option<Entry<u64>>) -> bool
+        ensures { IsTrue result ↔ WontRepeat self.now.world who entry.now }
     {
-        self.has_in_flight(who, *op, call.given)
-            && (!event.brings_answer() || self.world.asks(who))
-            && (call.entry.is_none() || !self.world.has_place(who))
+        entry.is_none() || !self.world.has_place(who)
     }
 
-    /// One turn of a writing call: its begin; then, while it may, its next step.
+    /// One turn of a writing call: its begin; then, while it may be taken, its next step.
     pub(crate) fn write(
         &mut self,
         op: &Op<u64>,
@@ -92,28 +103,19 @@ impl<L: Ledger, W: Watch, A: Allocator> Kept<L, W, A> {
         ensures turn { IsWritingTurn W.watched step.worker op.now call.old step result call.new }
         ensures told { IsToldInCall result.outcome }
     {
-        if step.event.is_go() && !self.may_go(step.worker, op, call, &step.event) {
+        let who = step.worker;
+        if !self.may_step(who, *op, call.given, &step.event)
+            || !self.wont_repeat(who, &call.entry)
+        {
             return stopped(call.settled());
         }
+        let given = call.given;
         call.hear(op, &step.event);
-        let before = self.world.journal().len();
-        let Report {
-            kind,
-            decided,
-            kept,
-            destroyed,
-            outcome,
-        } = self.world.step(step);
-        if let Some(entry) = self.world.journal().get(before).copied() {
+        let (report, entry) = step_on(&mut self.world, op, given, step);
+        if let Some(entry) = entry {
             call.note::<W>(&mut self.book, entry);
         }
-        Report {
-            kind,
-            decided,
-            kept,
-            destroyed,
-            outcome: call.told(outcome),
-        }
+        call.tell(report)
     }
 
     /// The number of watched writing calls, by a share of all parts. One that lacks parts is refused as SharesLeft.
@@ -161,15 +163,16 @@ impl<L: Ledger, W: Watch, A: Allocator> Locked<u64> for Kept<L, W, A> {
         ensures holds { Reads step.worker call.now step result }
         ensures told { IsToldInCall result.outcome }
     {
-        if step.event.is_go() && !self.may_read(step.worker, call) {
+        if call.changes() || !self.may_step(step.worker, *call, None, &step.event) {
             return stopped(Outcome::Refused(Refusal::Idle));
         }
-        self.world.step(step)
+        step_on(&mut self.world, call, None, step).0
     }
 
     fn register(&mut self) -> Report<u64>
         ensures { IsHold nat_eq true register_step result }
     {
+        self.world.sound();
         self.world.step(registration())
     }
 
@@ -193,6 +196,23 @@ impl<L: Ledger, W: Watch, A: Allocator> Locked<u64> for Kept<L, W, A> {
             Err((refusal, world, drainer)) => Err((refusal, Kept::with(world, book), drainer)),
         }
     }
+}
+
+/// A step of a worker's call, which took this answer last, and the entry that it appends to the journal.
+fn step_on<A: Allocator>(
+    world: &mut World<u64, A>,
+    op: &Op<u64>,
+    given: Option<Option<u64>>,
+    step: Step<u64>,
+) -> (Report<u64>, Option<Entry<u64>>)
+    requires { MayStep world.old step.worker op.now given step.event }
+    ensures step { IsStep nat_eq true world.old step result.0 world.new }
+    ensures appended { Appended world.old world.new step.worker op.now given step.event result.1 }
+{
+    world.sound();
+    let before = world.journal().len();
+    let report = world.step(step);
+    (report, world.journal().get(before).copied())
 }
 
 /// What a call tells that takes no step.

@@ -8,7 +8,7 @@ ghost use Rattle.joint.specs.Writing.{given_after, settled, told_with, unwritten
 
 use crate::refusal::Refusal;
 use crate::request::Request;
-use crate::steps::{Done, Event, Op, Outcome};
+use crate::steps::{Done, Event, Op, Outcome, Report};
 use crate::threads::share::Share;
 use crate::threads::watch::Watch;
 use judge::Entry;
@@ -88,7 +88,7 @@ impl<L: Ledger> Progress<L> {
     }
 
     /// How it tells the outcome of a hold.
-    pub(crate) fn told(&self, outcome: Outcome<u64>) -> Outcome<u64>
+    fn told(&self, outcome: Outcome<u64>) -> Outcome<u64>
         ensures { result ≡ told_with self.now.entry outcome }
     {
         match outcome {
@@ -97,6 +97,16 @@ impl<L: Ledger> Progress<L> {
             Outcome::Refused(refusal) if self.entry.is_none() => Outcome::Refused(refusal),
             // It has ended; a writing call finds no pairs and no worker's place.
             _ => self.settled(),
+        }
+    }
+
+    /// How it tells a hold.
+    pub(crate) fn tell(&self, report: Report<u64>) -> Report<u64>
+        ensures { result ≡ record report { outcome = told_with self.now.entry report.outcome } }
+    {
+        Report {
+            outcome: self.told(report.outcome),
+            ..report
         }
     }
 }
