@@ -26,7 +26,7 @@ impl<'t, P: Payload + Small, T: Locked<P>, R: Wait> Holds<'t, P, T, R> {
     /// Before the first turn of a call.
     pub(crate) fn new(rt: &'t R, tree: &'t Tree<P, T>, worker: u32, op: &Op<P>) -> Self
         ensures worker { result.worker ≡ worker }
-        ensures op { T.op result.call ≡ op.now }
+        ensures op { T.asked result.call ≡ op.now }
         ensures last { result.last ≡ None }
     {
         Holds {
@@ -42,18 +42,18 @@ impl<'t, P: Payload + Small, T: Locked<P>, R: Wait> Holds<'t, P, T, R> {
 impl<P: Payload + Small, T: Locked<P>, R: Wait> Turns<P> for Holds<'_, P, T, R> {
     ghost worker = { λ h. h.worker };
 
-    ghost op = { λ h. T.op h.call };
+    ghost op = { λ h. T.asked h.call };
 
     ghost last = { λ h. option_map (λ r. r.value) h.last };
 
-    ghost gives = { λ h step r h'. T.holds h.worker (T.op h.call) step r × (h'.worker ≡ h.worker) × (T.op h'.call ≡ T.op h.call) };
+    ghost gives = { λ h step r h'. T.holds h.worker (T.asked h.call) step r × (h'.worker ≡ h.worker) × (T.asked h'.call ≡ T.asked h.call) };
 
     fn turn(&mut self, step: Step<P>) -> Report<P>
-        requires { IsTurn self.old.worker (T.op self.old.call) (option_map (λ r. r.value) self.old.last) step }
+        requires { IsTurn self.old.worker (T.asked self.old.call) (option_map (λ r. r.value) self.old.last) step }
         ensures worker { self.new.worker ≡ self.old.worker }
-        ensures op { T.op self.new.call ≡ T.op self.old.call }
+        ensures op { T.asked self.new.call ≡ T.asked self.old.call }
         ensures last { option_map (λ r. r.value) self.new.last ≡ Some result }
-        ensures gives { T.holds self.old.worker (T.op self.old.call) step result × (self.new.worker ≡ self.old.worker) × (T.op self.new.call ≡ T.op self.old.call) }
+        ensures gives { T.holds self.old.worker (T.asked self.old.call) step result × (self.new.worker ≡ self.old.worker) × (T.asked self.new.call ≡ T.asked self.old.call) }
         ensures told { IsToldInCall result.outcome }
     {
         let report = self.tree.turn(self.rt, &self.call, step);

@@ -123,6 +123,7 @@ impl<L: Ledger, W: Watch, A: Allocator> Kept<L, W, A> {
         ensures gathers { Gathers W.watched L.parts share.old result }
         ensures share { share.new ≡ share.old }
     {
+        self.world.sound();
         match share.lacks() {
             0 => {
                 share.audit(&mut self.book);
@@ -136,6 +137,7 @@ impl<L: Ledger, W: Watch, A: Allocator> Kept<L, W, A> {
     pub(crate) fn entries(&self, alloc: Global) -> Result<Vec<Entry<u64>>, Refusal>
         ensures { MatchResult result (λ entries. IsJournal entries.items) (λ e. e ≡ cause.Memory) }
     {
+        self.world.sound();
         match self.world.journal().iter().copied().collect(alloc) {
             Ok(entries) => Ok(entries),
             Err(_) => Err(Refusal::Memory),
@@ -148,7 +150,7 @@ impl<L: Ledger, W: Watch, A: Allocator> Locked<u64> for Kept<L, W, A> {
 
     type Memo = Op<u64>;
 
-    ghost op = { λ op. op };
+    ghost asked = { λ op. op };
 
     ghost holds = { Reads };
 

@@ -22,19 +22,19 @@ pub(crate) trait Locked<P: Payload + Small>: Drop {
     type Memo: Drop;
 
     /// The call that it is of.
-    ghost op: { Self.Memo → Op P };
+    ghost asked: { Self.Memo → Op P };
 
     /// What is known of a turn of this worker's call.
     ghost holds: { ℕ → Op P → Step P → Report P → Type 0 };
 
     /// What to know of a call.
     fn memo(op: &Op<P>) -> Self::Memo
-        ensures { op result ≡ op.now };
+        ensures { asked result ≡ op.now };
 
     /// One turn of a worker's call.
     fn turn(&mut self, call: &Self::Memo, step: Step<P>) -> Report<P>
         requires { IsOfCall step.event }
-        ensures holds { holds step.worker (op call.now) step result }
+        ensures holds { holds step.worker (asked call.now) step result }
         ensures told { IsToldInCall result.outcome };
 
     /// A worker registers.
@@ -74,7 +74,7 @@ impl<P: Payload + Small, A: Allocator> Locked<P> for Plain<P, A> {
 
     type Memo = Snapshot<Op<P>>;
 
-    ghost op = { λ m. m.value };
+    ghost asked = { λ m. m.value };
 
     ghost holds = { ByHold P.same_as P.always_copies };
 

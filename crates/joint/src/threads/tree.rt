@@ -76,7 +76,7 @@ impl<P: Payload + Small, T: Locked<P>> Tree<P, T> {
     /// A turn of a worker's call: one hold of the lock.
     pub(crate) fn turn<R: Wait>(&self, rt: &R, call: &T::Memo, step: Step<P>) -> Report<P>
         requires { IsOfCall step.event }
-        ensures holds { T.holds step.worker (T.op call.now) step result }
+        ensures holds { T.holds step.worker (T.asked call.now) step result }
         ensures told { IsToldInCall result.outcome }
     {
         self.lock().lock(rt).turn(call, step)
