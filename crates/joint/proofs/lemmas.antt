@@ -81,4 +81,6 @@ pub mod Walking
 pub mod Went
 pub mod Whereabouts
 pub mod Watching
+pub mod WritingEnds
+pub mod WritingStep
 pub mod WritingTurns

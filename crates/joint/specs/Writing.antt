@@ -60,10 +60,20 @@ told_with e (Asks found) = Asks found
 told_with None (Refused cause) = Refused cause
 told_with e _ = settled e
 
+-- what a share counts of an entry
+abbrev pub weight : (Entry ℕ → Bool) → Option (Entry ℕ) → ℕ
+weight watched None = 0
+weight watched (Some e) = one_where (watched e)
+
+-- a call with this entry, if there is one
+abbrev pub noted : (Entry ℕ → Bool) → Progress → Option (Entry ℕ) → Progress
+noted watched p None = p
+noted watched p (Some e) = record p { entry = Some e; share = counts_more p.share (one_where (watched e)) }
+
 -- a hold appends no entry, or the call's only one, which its share counts where it is watched
 abbrev pub Appends : (Entry ℕ → Bool) → ℕ → Op ℕ → Option (Option ℕ) → Progress → Option (Entry ℕ) → Progress → Type 0
-Appends watched who op given p None p' = p' ≡ record p { given = given }
-Appends watched who op given p (Some e) p' = (p.entry ≡ None) × IsEntryOf who op given e × (p' ≡ record { given = given; entry = Some e; share = counts_more p.share (one_where (watched e)) })
+Appends watched who op given p None p' = p' ≡ noted watched (record p { given = given }) None
+Appends watched who op given p (Some e) p' = (p.entry ≡ None) × IsEntryOf who op given e × (p' ≡ noted watched (record p { given = given }) (Some e))
 
 pub record HoldsWriting (watched : Entry ℕ → Bool) (who : ℕ) (op : Op ℕ) (p : Progress) (step : Step ℕ) (r : Report ℕ) (p' : Progress) : Type 0 where
   pub before : Whole ℕ

@@ -112,9 +112,7 @@ impl<L: Ledger, W: Watch, A: Allocator> Kept<L, W, A> {
         let given = call.given;
         call.hear(op, &step.event);
         let (report, entry) = step_on(&mut self.world, op, given, step);
-        if let Some(entry) = entry {
-            call.note::<W>(&mut self.book, entry);
-        }
+        call.note::<W>(&mut self.book, entry);
         call.tell(report)
     }
 

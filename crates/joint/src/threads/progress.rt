@@ -1,10 +1,8 @@
 //! What a writing call on an index with a journal has come to.
 
-ghost use Rattle.std.specs.Prelude.{◌≡◌, ◌+◌, Some};
+ghost use Rattle.std.specs.Prelude.{◌≡◌, ◌+◌};
 ghost use Rattle.joint.specs.Log.{hears};
-ghost use Rattle.joint.specs.Shares.{counts_more};
-ghost use Rattle.joint.specs.Journaling.{one_where};
-ghost use Rattle.joint.specs.Writing.{given_after, settled, told_with, unwritten};
+ghost use Rattle.joint.specs.Writing.{given_after, noted, settled, told_with, unwritten, weight};
 
 use crate::refusal::Refusal;
 use crate::request::Request;
@@ -66,15 +64,15 @@ impl<L: Ledger> Progress<L> {
         }
     }
 
-    /// It has this entry, which its share and the book count where it is watched.
-    pub(crate) fn note<W: Watch>(&mut self, book: &mut Book<L>, entry: Entry<u64>)
-        ensures call { self.new ≡ record self.old { entry = Some entry; share = counts_more self.old.share (one_where (W.watched entry)) } }
-        ensures book { book.new.total ≡ book.old.total + one_where (W.watched entry) }
+    /// It has this entry, if there is one; its share and the book count it where it is watched.
+    pub(crate) fn note<W: Watch>(&mut self, book: &mut Book<L>, entry: Option<Entry<u64>>)
+        ensures call { self.new ≡ noted W.watched self.old entry }
+        ensures book { book.new.total ≡ book.old.total + weight W.watched entry }
     {
-        if W::watches(&entry) {
-            self.share.add_one(book);
+        if let Some(entry) = entry {
+            self.share.count_if(W::watches(&entry), book);
+            self.entry = Some(entry);
         }
-        self.entry = Some(entry);
     }
 
     /// How it ends: with the reply of its entry, or idle.

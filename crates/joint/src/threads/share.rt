@@ -1,6 +1,7 @@
 //! Shares of a ledger, which count writing calls across threads.
 
 ghost use Rattle.std.specs.Prelude.{◌≡◌, ◌+◌, ◌-◌, ◌*◌, ◌^◌, ◌%◌, ◌<◌, ◌≤◌};
+ghost use Rattle.joint.specs.Journaling.{one_where};
 ghost use Rattle.joint.specs.Shares.{Tally, counts_more};
 
 use std::marker::{Model, PhantomData};
@@ -112,13 +113,15 @@ impl<L: Ledger> Share<L> {
         self.count = self.count.wrapping_add(count);
     }
 
-    /// Counts one entry more, in the ledger's book too.
-    pub(crate) fn add_one(&mut self, book: &mut Book<L>)
-        ensures share { self.new ≡ counts_more self.old 1 }
-        ensures book { book.new.total ≡ book.old.total + 1 }
+    /// Counts one entry more, in the ledger's book too, where it is watched.
+    pub(crate) fn count_if(&mut self, watched: bool, book: &mut Book<L>)
+        ensures share { self.new ≡ counts_more self.old (one_where watched) }
+        ensures book { book.new.total ≡ book.old.total + one_where watched }
     {
-        book.add(&mut self.tokens, 1);
-        self.count = self.count.wrapping_add(1);
+        if watched {
+            book.add(&mut self.tokens, 1);
+            self.count = self.count.wrapping_add(1);
+        }
     }
 
     /// How many parts it lacks of all.

@@ -89,6 +89,26 @@ impl<L: Ledger, W: Watch, A: Allocator, R: Wait> Turns<u64> for WritingHolds<'_,
 
 impl<L: Ledger, W: Watch, A: Allocator> Tree<u64, Kept<L, W, A>> {
     /// A whole writing call of a worker's, each turn of which is a hold of the lock; it counts on this share.
+    fn drive_writing<C: Answer<u64>, R: Wait>(
+        &self,
+        rt: &R,
+        worker: &Worker,
+        op: Op<u64>,
+        answers: &mut C,
+        share: Share<L>,
+    ) -> (End<u64>, Share<L>)
+        requires ready { C.can_answer answers.old }
+        requires writing { changes op ≡ true }
+        ensures { Writes W.watched C.answers worker.now.number op answers.old (λ end. end) share result.1 result.0 }
+    {
+        let mut nothing: [(u64, u64); 0] = [];
+        let mut turns = WritingHolds::new(rt, self, worker.number, op, share);
+        let end = drive_to(rt, &mut turns, worker.number, op, answers, &mut nothing);
+        let WritingHolds { call, .. } = turns;
+        (end, call.into_share())
+    }
+
+    /// The same, on a share that the caller keeps.
     pub(crate) fn write<C: Answer<u64>, R: Wait>(
         &self,
         rt: &R,
@@ -101,7 +121,6 @@ impl<L: Ledger, W: Watch, A: Allocator> Tree<u64, Kept<L, W, A>> {
         requires writing { changes op ≡ true }
         ensures { Writes W.watched C.answers worker.now.number op answers.old (λ end. end) share.old share.new result }
     {
-        let mut nothing: [(u64, u64); 0] = [];
         let mut tokens = share.tokens.empty();
         mem::swap(&mut share.tokens, &mut tokens);
         let lent = Share {
@@ -110,18 +129,19 @@ impl<L: Ledger, W: Watch, A: Allocator> Tree<u64, Kept<L, W, A>> {
             all: share.all.again(),
             tokens,
         };
-        let mut turns = WritingHolds::new(rt, self, worker.number, op, lent);
-        let end = drive_to(rt, &mut turns, worker.number, op, answers, &mut nothing);
-        let WritingHolds { call, .. } = turns;
+        let (end, lent) = self.drive_writing(rt, worker, op, answers, lent);
         let Share {
-            mut tokens,
+            parts,
             count,
+            mut tokens,
             ..
-        } = call.into_share();
+        } = lent;
         mem::swap(&mut share.tokens, &mut tokens);
+        share.parts = parts;
         share.count = count;
         end
     }
+
     /// One that asks nobody.
     pub(crate) fn write_silently<R: Wait>(
         &self,
