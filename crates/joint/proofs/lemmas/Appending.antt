@@ -1,6 +1,6 @@
 -- The entry that a step of a call in flight appends to the journal.
 use Rattle.std.proofs.Common.{◌≡◌, ℕ, Bool, true, false, List, [], ◌∷◌, ◌++◌, length, refl, sym, ◌∙◌, ap, subst, inl, inr}
-use Rattle.std.specs.Prelude.{Option, None, Some, not, nat_eq, slice_get}
+use Rattle.std.specs.Prelude.{Option, None, Some, not, nat_eq, option_map, slice_get}
 use Rattle.std.proofs.lemmas.Bool.{cases_Bool, false≢true}
 use Rattle.std.proofs.lemmas.List.{append-nil}
 use Rattle.judge.specs.declared.journal.Call.{Call as Entered}
@@ -18,7 +18,7 @@ use Rattle.joint.specs.declared.steps.Op.TheVariants as op
 use Rattle.joint.specs.declared.steps.Report.{Report}
 use Rattle.joint.specs.declared.steps.Step.{Step}
 use Rattle.joint.specs.Asked.{changes}
-use Rattle.joint.specs.Journaling.{asks_at, call_of, entry_of, has_place, in_list, kept_if, on_insert, on_present, with_call}
+use Rattle.joint.specs.Journaling.{asks_at, call_of, entry_of, has_place, in_list, kept_if, on_insert, on_present, reply_by, with_call}
 use Rattle.joint.specs.Log.{has_room, heard_by, hears, request_at}
 use Rattle.joint.specs.Reports.{target}
 use Rattle.joint.specs.Runs.{looks_up}
@@ -87,8 +87,8 @@ entry_changes op.Keys a r c q = absurd (cc q)
 entry_changes op.IsEmpty a r c q = absurd (cc q)
 entry_changes op.Stats a r c q = absurd (cc q)
 
--- what it appends, which is nothing
-pub record Still (s s' : Whole ℕ) : Type 0 where
+-- a step that appends nothing
+record Still (s s' : Whole ℕ) : Type 0 where
   pub entries : s'.log.entries ≡ s.log.entries
   pub places : s'.log.places ≡ s.log.places
 
@@ -103,13 +103,7 @@ module _ (s s' : Whole ℕ) (who : ℕ) (h : Holds nat_eq true s) where
         let none : kept_at s who event x.told s' ≡ None = ap (λ b. kept_if b (has_room (record s.log { reserved = s'.log.reserved })) (entry_at s who event x.told s')) d in
         record { entries = x.entries ∙ ap (λ o. s.log.entries ++ in_list o) none ∙ append-nil s.log.entries; places = x.places }
 
-  pub register_still : (r : Report ℕ) → IsStep nat_eq true s (record { worker = who; event = Register }) r s' → Still s s'
-  register_still r x =
-      let t : TakesStep nat_eq true s (record { worker = who; event = Register }) r s' = x.does in
-      let on = result nat_eq true s s' (record { worker = who; event = Register }) t.told h t.engine h.2.flights h.2.pairs h.2.stand h.2.in_flight h.2.asked in
-      undecided_still Register r t on.step.undecided
-
-  pub begin_still : (o : Op ℕ) (r : Report ℕ) → IsStep nat_eq true s (record { worker = who; event = Begin o }) r s' → Still s s'
+  begin_still : (o : Op ℕ) (r : Report ℕ) → IsStep nat_eq true s (record { worker = who; event = Begin o }) r s' → Still s s'
   begin_still o r x =
       let step : Step ℕ = record { worker = who; event = Begin o } in
       let t : TakesStep nat_eq true s step r s' = x.does in
@@ -138,7 +132,8 @@ module _ (s s' : Whole ℕ) (who : ℕ) (h : Holds nat_eq true s) where
         of = λ e q.
             let x : entry_at s who (Go noise) t.told s' ≡ Some e = (kept_decides _ _ _ e q).1 in
             let heard : heard_at s who (Go noise) ≡ Some (hears noise.answer asked) = ap (heard_by (asks_at (slice_get s.machines who)) noise.answer) own ∙ heard_wanted _ noise.answer asked wanted in
-            let is : IsEntryOf who (hears noise.answer asked).op (hears noise.answer asked).answer e = entry_called who (hears noise.answer asked) _ e (ap (λ y. entry_of who y _) (sym heard) ∙ x) in
+            let told : Option (Reply ℕ) = reply_by t.told.outcome (slice_get s'.machines who) in
+            let is : IsEntryOf who (hears noise.answer asked).op (hears noise.answer asked).answer e = entry_called who (hears noise.answer asked) told e (ap (λ y. entry_of who y told) (sym heard) ∙ x) in
             subst (λ c. IsEntryOf who c (hears noise.answer asked).answer e) (hears_op noise.answer asked) is;
         had = λ e q.
             let k = kept_decides _ _ _ e q in
@@ -186,3 +181,11 @@ appended_at xs ys o q = ap (λ l. slice_get l (length xs)) q ∙ at xs o where
   at [] None = refl
   at [] (Some a) = refl
   at (x ∷ xs) o = at xs o
+
+-- what a worker has in flight, as it is told
+pub flight_is : (o : Option (Request ℕ)) (c : Op ℕ) (given : Option (Option ℕ)) → (option_map (λ (q : Request ℕ). (q.op, q.answer)) o ≡ Some (c, given) → o ≡ Some (record { op = c; answer = given }))
+flight_is None c given q = absurd (cc q)
+flight_is (Some r) c given q = let same : (r.op, r.answer) ≡ (c, given) = same_some _ _ q in ap (λ (y : Op ℕ × Option (Option ℕ)). Some (record { op = y.0; answer = y.1 })) same
+
+pub flight_tells : (o : Option (Request ℕ)) (c : Op ℕ) (given : Option (Option ℕ)) → o ≡ Some (record { op = c; answer = given }) → option_map (λ (q : Request ℕ). (q.op, q.answer)) o ≡ Some (c, given)
+flight_tells o c given q = ap (option_map (λ (q : Request ℕ). (q.op, q.answer))) q

@@ -20,9 +20,12 @@ use crate::threads::watch::Watch;
 use crate::world::World;
 use congee::{Allocator, Drainer};
 use judge::Entry;
-use std::alloc::Global;
+use std::alloc::{AllocError, Global};
 use std::marker::PhantomData;
 use std::sync::ledger::{Book, Ledger};
+
+/// A call in flight, and the last answer that it took.
+type InFlight = (Op<u64>, Option<Option<u64>>);
 
 /// The machine with its journal, and the book that counts its watched writing calls.
 pub(crate) struct Kept<L: Ledger, W: Watch, A: Allocator> {
@@ -61,7 +64,8 @@ impl<L: Ledger, W: Watch, A: Allocator> Kept<L, W, A> {
     fn has_in_flight(&self, who: u32, op: Op<u64>, given: Option<Option<u64>>) -> bool
         ensures { IsTrue result ↔ IsInFlight self.now.world who op given }
     {
-        self.world.in_flight(who) == Some((op, given))
+        let found = self.world.in_flight(who);
+        is_same(&found, &Some((op, given)))
     }
 
     /// Whether a step of a worker's call, which took this answer last, may be taken.
@@ -136,7 +140,7 @@ impl<L: Ledger, W: Watch, A: Allocator> Kept<L, W, A> {
         ensures { MatchResult result (λ entries. IsJournal entries.items) (λ e. e ≡ cause.Memory) }
     {
         self.world.sound();
-        match self.world.journal().iter().copied().collect(alloc) {
+        match copy_of(alloc, self.world.journal()) {
             Ok(entries) => Ok(entries),
             Err(_) => Err(Refusal::Memory),
         }
@@ -213,6 +217,20 @@ fn step_on<A: Allocator>(
     let before = world.journal().len();
     let report = world.step(step);
     (report, world.journal().get(before).copied())
+}
+
+/// Whether two calls in flight, if any, are the same.
+fn is_same(one: &Option<InFlight>, other: &Option<InFlight>) -> bool
+    ensures { IsTrue result ↔ (one.now ≡ other.now) }
+{
+    *one == *other
+}
+
+/// The same entries.
+fn copy_of(alloc: Global, entries: &[Entry<u64>]) -> Result<Vec<Entry<u64>>, AllocError>
+    ensures { IfOk result (λ copy. copy.items ≡ entries.now) }
+{
+    entries.iter().copied().collect(alloc)
 }
 
 /// What a call tells that takes no step.
