@@ -1,7 +1,7 @@
 //! What an index with a journal keeps under its lock: the machine, and the book of the ledger that counts its watched
 //! writing calls.
 
-ghost use Rattle.std.specs.Prelude.{◌≡◌, ◌≤◌, ◌↔◌, ℕ, None, false, true, nat_eq, IsTrue, IfOk, IfErr, MatchResult};
+ghost use Rattle.std.specs.Prelude.{◌≡◌, ◌≤◌, ◌↔◌, ℕ, None, false, true, nat_eq, slice_get, IsTrue, IfOk, IfErr, MatchResult};
 ghost use Rattle.joint.specs.Driving.{IsToldInCall};
 ghost use Rattle.joint.specs.Journals.{IsCounted, IsJournal, count_watched};
 ghost use Rattle.joint.specs.Opening.{HasPlaces};
@@ -23,9 +23,6 @@ use judge::Entry;
 use std::alloc::{AllocError, Global};
 use std::marker::PhantomData;
 use std::sync::ledger::{Book, Ledger};
-
-/// A call in flight, and the last answer that it took.
-type InFlight = (Op<u64>, Option<Option<u64>>);
 
 /// The machine with its journal, and the book that counts its watched writing calls.
 pub(crate) struct Kept<L: Ledger, W: Watch, A: Allocator> {
@@ -64,8 +61,10 @@ impl<L: Ledger, W: Watch, A: Allocator> Kept<L, W, A> {
     fn has_in_flight(&self, who: u32, op: Op<u64>, given: Option<Option<u64>>) -> bool
         ensures { IsTrue result ↔ IsInFlight self.now.world who op given }
     {
-        let found = self.world.in_flight(who);
-        is_same(&found, &Some((op, given)))
+        match self.world.in_flight(who) {
+            Some((flying, answer)) => is_same_op(&flying, &op) && is_same_answer(answer, given),
+            None => false,
+        }
     }
 
     /// Whether a step of a worker's call, which took this answer last, may be taken.
@@ -216,14 +215,34 @@ fn step_on<A: Allocator>(
     world.sound();
     let before = world.journal().len();
     let report = world.step(step);
-    (report, world.journal().get(before).copied())
+    let entry = entry_at(world.journal(), before);
+    (report, entry)
 }
 
-/// Whether two calls in flight, if any, are the same.
-fn is_same(one: &Option<InFlight>, other: &Option<InFlight>) -> bool
+/// Whether two calls are the same.
+fn is_same_op(one: &Op<u64>, other: &Op<u64>) -> bool
     ensures { IsTrue result ↔ (one.now ≡ other.now) }
 {
     *one == *other
+}
+
+/// Whether two last answers are the same.
+fn is_same_answer(one: Option<Option<u64>>, other: Option<Option<u64>>) -> bool
+    ensures { IsTrue result ↔ (one ≡ other) }
+{
+    match (one, other) {
+        (None, None) => true,
+        (Some(None), Some(None)) => true,
+        (Some(Some(one)), Some(Some(other))) => one == other,
+        _ => false,
+    }
+}
+
+/// The entry at an index, if there is one.
+fn entry_at(entries: &[Entry<u64>], at: usize) -> Option<Entry<u64>>
+    ensures { result ≡ slice_get entries.now at }
+{
+    entries.get(at).copied()
 }
 
 /// The same entries.
