@@ -1,0 +1,12 @@
+use Rattle.std.proofs.Common.{sym, ap, subst, ◌≡◌, ◌∙◌}
+use Rattle.std.specs.Prelude.{IfErr}
+use Rattle.joint.specs.Threads.{replaced, words}
+use Rattle.joint.proofs.lemmas.WritingEnds.{replace_refused, words_refused}
+use Rattle.joint.proofs.threads.journaled.Journaled.compute_or_insert.Goals as goal
+
+pub returns-clause-refused : goal.returns-clause-refused
+returns-clause-refused g c =
+    let done = c.write-end.ensures in
+    let Same = λ (e : _). c.write-end.new.share ≡ c.args.share.now in
+    let none = replace_refused g.W.Watch.watched c.args.worker.now.number done.1 c.args.share.now c.write-end.new.share _ done.0 done.4 in
+    subst (λ r. IfErr r Same) (sym (c.words.ensures ∙ ap (λ r. words g.V.Word64.of_word r) (c.replaced.ensures ∙ ap replaced done.5))) (words_refused g.V.Word64.of_word Same (replaced done.0) none)
