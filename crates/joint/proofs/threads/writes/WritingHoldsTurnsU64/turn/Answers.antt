@@ -4,8 +4,8 @@ use Rattle.joint.specs.Writing.{IsWritingTurn}
 use Rattle.joint.proofs.lemmas.Holding.{turn_of_call, turn_worker}
 use Rattle.joint.proofs.threads.writes.WritingHoldsTurnsU64.turn.Goals as goal
 
-pub write-report-requires-call : goal.write-report-requires-call
-write-report-requires-call g c = turn_of_call c.args.self.now.worker c.args.self.now.op (option_map (λ r. r.value) c.args.self.now.last) c.args.step c.requires
+pub write-report-requires-clause-call : goal.write-report-requires-clause-call
+write-report-requires-clause-call g c = turn_of_call c.args.self.now.worker c.args.self.now.op (option_map (λ r. r.value) c.args.self.now.last) c.args.step c.requires
 
 pub returns-clause-gives : goal.returns-clause-gives
 returns-clause-gives g c =
