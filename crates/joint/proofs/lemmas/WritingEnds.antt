@@ -1,6 +1,7 @@
 -- A writing call that is refused counts nothing: what it answers of its entry is a reply of its own kind.
 use Rattle.std.proofs.Common.{◌≡◌, ℕ, Bool, true, false, cond, List, refl, sym, ◌∙◌, ap, subst}
 use Rattle.std.specs.Prelude.{Option, None, Some, Result, Ok, Err, IfErr, nat_eq}
+use Rattle.std.proofs.lemmas.Bool.{false≢true}
 use Rattle.judge.specs.declared.journal.Call.{Call as Entered}
 use Rattle.judge.specs.declared.journal.Call.TheVariants as call
 use Rattle.judge.specs.declared.journal.Entry.{Entry}
@@ -8,6 +9,7 @@ use Rattle.judge.specs.declared.journal.Reply.{Reply}
 use Rattle.judge.specs.declared.journal.Reply.TheVariants as reply
 use Rattle.judge.specs.Answer.{exchange_reply, present_reply, reply_on}
 use Rattle.joint.specs.declared.refusal.Refusal.{Refusal}
+use Rattle.joint.specs.declared.refusal.Refusal.TheVariants.{Foreign}
 use Rattle.joint.specs.declared.steps.Done.{Done as Answered}
 use Rattle.joint.specs.declared.steps.Done.TheVariants as done
 use Rattle.joint.specs.declared.steps.Op.{Op}
@@ -15,9 +17,18 @@ use Rattle.joint.specs.declared.steps.Op.TheVariants as op
 use Rattle.joint.specs.Driving.{Turn}
 use Rattle.joint.specs.Journaling.{call_of, on_insert, on_present}
 use Rattle.joint.specs.Shares.{Tally}
-use Rattle.joint.specs.Threads.{End, computed, either_words, exchanged, inserted, removed, replaced, words}
+use Rattle.joint.specs.Threads.{End, Serves, computed, either_words, exchanged, inserted, removed, replaced, words}
 use Rattle.joint.specs.Writing.{Counts}
 use Rattle.joint.proofs.lemmas.Kept.{same_some}
+
+-- a call by the index's own tokens, and another
+pub served : {B : Type 0} (b : Bool) (does : Result B Refusal → Type 0) (r : Result B Refusal) → b ≡ true → does r → Serves b does r
+served true does r q d = d
+served false does r q d = absurd (false≢true q)
+
+pub foreign : {B : Type 0} (b : Bool) (does : Result B Refusal → Type 0) → b ≡ false → Serves b does (Err Foreign)
+foreign true does q = absurd (false≢true (sym q))
+foreign false does q = refl
 
 -- whatever the answer's type
 pub words_refused : {B : Type 0} (of : ℕ → B) (P : Refusal → Type 0) (r : Result (Option ℕ) Refusal) → IfErr r P → IfErr (words of r) P

@@ -1,5 +1,5 @@
 -- The turns of a writing call on an index with a journal: what its share counts.
-use Rattle.std.proofs.Common.{◌≡◌, ℕ, ◌<◌, arith, Bool, true, false, List, [], ◌∷◌, ◌++◌, refl, sym, ◌∙◌, ap, subst, inl, inr}
+use Rattle.std.proofs.Common.{◌≡◌, ℕ, ◌<◌, arith, Bool, true, false, List, [], ◌∷◌, ◌++◌, length, refl, sym, ◌∙◌, ap, subst, inl, inr}
 use Rattle.std.specs.Prelude.{◌⊎◌, Option, None, Some, Ok, Err, nat_eq, option_map}
 use Rattle.std.specs.FinMap.{FinMap, empty, get}
 use Rattle.judge.specs.declared.journal.Call.{Call as Entered}
@@ -20,6 +20,11 @@ use Rattle.joint.specs.Threads.{End}
 use Rattle.joint.specs.Whole.{Holds, Whole}
 use Rattle.joint.specs.Writing.{Appends, Counts, HoldsWriting, IsAnswered, IsEntryOf, IsWritingTurn, Progress, StopsWriting, given_after, given_by_turns, settled, told_with, unwritten}
 use Rattle.joint.proofs.lemmas.Advanced.{journal_legal}
+
+-- no items
+pub none_of : {A : Type 0} (xs : List A) → length xs ≡ 0 → xs ≡ []
+none_of [] q = refl
+none_of (x ∷ xs) q = absurd (omega (arith, q))
 
 -- the last entry of a legal journal tells what a map answers
 last_answered : (m n : Pairs ℕ) (xs : List (Entry ℕ)) (e : Entry ℕ) → Legal nat_eq m (xs ++ e ∷ []) n → IsAnswered e
