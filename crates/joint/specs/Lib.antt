@@ -1,4 +1,5 @@
 pub mod Altering
+pub mod Asked
 pub mod Auditing
 pub mod Beginning
 pub mod Calling
@@ -10,6 +11,7 @@ pub mod Forest
 pub mod Heap
 pub mod Intact
 pub mod Journaling
+pub mod Journals
 pub mod Laws
 pub mod Levels
 pub mod Limits
@@ -24,6 +26,7 @@ pub mod Refusals
 pub mod Reports
 pub mod Runs
 pub mod Scans
+pub mod Shares
 pub mod Slots
 pub mod Solid
 pub mod Survey
@@ -36,3 +39,4 @@ pub mod Ties
 pub mod View
 pub mod Whereabouts
 pub mod Whole
+pub mod Writing

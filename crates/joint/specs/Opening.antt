@@ -58,6 +58,11 @@ abbrev pub IsUnjournaled : Limits → ℕ → ℕ → ℕ → Refusal → Type 0
 IsUnjournaled limits places charge limit refusal.Limits = AreAllowed limits × HasPlaces places → ⊥
 IsUnjournaled limits places charge limit e = HasPlaces places × IsUnopened limits charge limit e
 
+-- or no part of a ledger was to count its calls
+abbrev pub IsUnshared : Limits → ℕ → ℕ → ℕ → ℕ → Refusal → Type 0
+IsUnshared limits places parts charge limit refusal.Limits = AreAllowed limits × HasPlaces places × (0 < parts) → ⊥
+IsUnshared limits places parts charge limit e = (0 < parts) × IsUnjournaled limits places charge limit e
+
 -- the collector and the counts with a root alone, before anything is charged
 pub record IsPlanted {V : Type 0} (limits : EpochLimits) (c : State (Slot V) (Unit {0})) (k : Counts) : Type 0 where
   pub clock : c ≡ with_roots (with_store (opened limits 1) c.store) top_roots

@@ -49,23 +49,27 @@ End V = Result (Answer V) Refusal
 abbrev pub IsHold : {V : Type 0} → (V → V → Bool) → Bool → Step V → Report V → Type 0
 IsHold {V} same always step r = (s : Whole V) × (s' : Whole V) × IsStep same always s step r s'
 
--- a whole call, each turn of which is a hold, and which ends so; the closure answers between two holds
-abbrev pub IsHeld : {V F Q : Type 0} → (V → V → Bool) → Bool → (F → Option V → Option V → F → Type 0) → (ℕ → V → Q) → ℕ → Op V → F → List Q → List Q → Outcome V → Type 0
-IsHeld {V} {F} {Q} same always calls pair who o f places places' outcome =
-    IsDriven {S = Unit {0}} (λ _ step r _. IsHold same always step r) calls pair who o f (tt {0}) places (tt {0}) places' outcome
+-- whatever call of whatever worker it is of
+abbrev pub ByHold : {V : Type 0} → (V → V → Bool) → Bool → ℕ → Op V → Step V → Report V → Type 0
+ByHold same always who o step r = IsHold same always step r
+
+-- a whole call, whose turns are as `hold` says of this call, and which ends so; the closure answers between two turns
+abbrev pub IsHeld : {V F Q : Type 0} → (ℕ → Op V → Step V → Report V → Type 0) → (F → Option V → Option V → F → Type 0) → (ℕ → V → Q) → ℕ → Op V → F → List Q → List Q → Outcome V → Type 0
+IsHeld {V} {F} {Q} hold calls pair who o f places places' outcome =
+    IsDriven {S = Unit {0}} (λ _ step r _. hold who o step r) calls pair who o f (tt {0}) places (tt {0}) places' outcome
 
 -- a whole call with this closure; what it answers is read off its end
-abbrev pub Computes : {V F B : Type 0} → (V → V → Bool) → Bool → (F → Option V → Option V → F → Type 0) → ℕ → Op V → F → (End V → B) → B → Type 0
-Computes {V} same always calls who o f reads result = (end : End V) × IsHeld {Q = ℕ × V} same always calls (λ k v. (k, v)) who o f [] [] (ended end) × (result ≡ reads end)
+abbrev pub Computes : {V F B : Type 0} → (ℕ → Op V → Step V → Report V → Type 0) → (F → Option V → Option V → F → Type 0) → ℕ → Op V → F → (End V → B) → B → Type 0
+Computes {V} hold calls who o f reads result = (end : End V) × IsHeld {Q = ℕ × V} hold calls (λ k v. (k, v)) who o f [] [] (ended end) × (result ≡ reads end)
 
 -- one that wants no answer of a closure, and writes the pairs that it finds to these places
-abbrev pub Scans : {V Q B : Type 0} → (V → V → Bool) → Bool → (ℕ → V → Q) → ℕ → Op V → List Q → List Q → (End V → B) → B → Type 0
-Scans {V} same always pair who o places places' reads result =
-    (end : End V) × IsHeld {F = Unit {0}} same always (λ _ _ _ _. Unit {0}) pair who o (tt {0}) places places' (ended end) × (result ≡ reads end)
+abbrev pub Scans : {V Q B : Type 0} → (ℕ → Op V → Step V → Report V → Type 0) → (ℕ → V → Q) → ℕ → Op V → List Q → List Q → (End V → B) → B → Type 0
+Scans {V} hold pair who o places places' reads result =
+    (end : End V) × IsHeld {F = Unit {0}} hold (λ _ _ _ _. Unit {0}) pair who o (tt {0}) places places' (ended end) × (result ≡ reads end)
 
 -- one that finds no pairs either
-abbrev pub Answers : {V B : Type 0} → (V → V → Bool) → Bool → ℕ → Op V → (End V → B) → B → Type 0
-Answers {V} same always who o reads result = Scans {V = V} {Q = ℕ × V} same always (λ k v. (k, v)) who o [] [] reads result
+abbrev pub Answers : {V B : Type 0} → (ℕ → Op V → Step V → Report V → Type 0) → ℕ → Op V → (End V → B) → B → Type 0
+Answers {V} hold who o reads result = Scans {V = V} {Q = ℕ × V} hold (λ k v. (k, v)) who o [] [] reads result
 
 -- a closure that is asked for a present value alone
 abbrev pub if_present : {V F : Type 0} → (F → V → Option V → F → Type 0) → F → Option V → Option V → F → Type 0
@@ -147,21 +151,21 @@ abbrev pub guarded : ℕ → ℕ → Result (Unit {0}) Refusal → Result Guard 
 guarded id who (Ok t) = Ok (record { tree = id; worker = who })
 guarded id who (Err e) = Err e
 
-abbrev pub Pins : {V : Type 0} → (V → V → Bool) → Bool → ℕ → ℕ → Result Guard Refusal → Type 0
-Pins {V} same always id who result = (end : Result (Unit {0}) Refusal) × Answers {V = V} same always who op.Pin told end × (result ≡ guarded id who end)
+abbrev pub Pins : {V : Type 0} → (ℕ → Op V → Step V → Report V → Type 0) → ℕ → ℕ → Result Guard Refusal → Type 0
+Pins {V} hold id who result = (end : Result (Unit {0}) Refusal) × Answers {V = V} hold who op.Pin told end × (result ≡ guarded id who end)
 
 -- a round: pin, flush, unpin, each a whole call; the first refusal is the round's, and after a refused flush it unpins
 abbrev pub first_of : Result (Unit {0}) Refusal → Result (Unit {0}) Refusal → Result (Unit {0}) Refusal
 first_of (Ok t) r = r
 first_of (Err e) r = Err e
 
-abbrev pub IsRoundFrom : {V : Type 0} → (V → V → Bool) → Bool → ℕ → Result (Unit {0}) Refusal → Result (Unit {0}) Refusal → Type 0
-IsRoundFrom same always who (Err e) result = result ≡ Err e
-IsRoundFrom {V} same always who (Ok t) result = (flushed : Result (Unit {0}) Refusal) × (left : Result (Unit {0}) Refusal)
-    × Answers {V = V} same always who op.Flush told flushed × Answers {V = V} same always who op.Unpin told left × (result ≡ first_of flushed left)
+abbrev pub IsRoundFrom : {V : Type 0} → (ℕ → Op V → Step V → Report V → Type 0) → ℕ → Result (Unit {0}) Refusal → Result (Unit {0}) Refusal → Type 0
+IsRoundFrom hold who (Err e) result = result ≡ Err e
+IsRoundFrom {V} hold who (Ok t) result = (flushed : Result (Unit {0}) Refusal) × (left : Result (Unit {0}) Refusal)
+    × Answers {V = V} hold who op.Flush told flushed × Answers {V = V} hold who op.Unpin told left × (result ≡ first_of flushed left)
 
-abbrev pub IsRound : {V : Type 0} → (V → V → Bool) → Bool → ℕ → Result (Unit {0}) Refusal → Type 0
-IsRound {V} same always who result = (begun : Result (Unit {0}) Refusal) × Answers {V = V} same always who op.Pin told begun × IsRoundFrom {V = V} same always who begun result
+abbrev pub IsRound : {V : Type 0} → (ℕ → Op V → Step V → Report V → Type 0) → ℕ → Result (Unit {0}) Refusal → Type 0
+IsRound {V} hold who result = (begun : Result (Unit {0}) Refusal) × Answers {V = V} hold who op.Pin told begun × IsRoundFrom {V = V} hold who begun result
 
 -- the values of words
 abbrev pub words : {B : Type 0} → (ℕ → B) → Result (Option ℕ) Refusal → Result (Option B) Refusal

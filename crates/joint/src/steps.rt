@@ -1,6 +1,7 @@
 //! What a worker asks of the machine, and what it is told.
 
-ghost use Rattle.std.specs.Prelude.{◌≡◌};
+ghost use Rattle.std.specs.Prelude.{◌≡◌, is_some};
+ghost use Rattle.joint.specs.Asked.{answer_in, changes, is_go};
 ghost use Rattle.joint.specs.Reports.{target, told, collected};
 
 use crate::id::Id;
@@ -143,7 +144,44 @@ pub struct Ran<P> {
     pub done: usize,
 }
 
+impl<P> Event<P> {
+    /// Whether a call in flight takes its next step.
+    pub(crate) fn is_go(&self) -> bool
+        ensures { result ≡ is_go self.now }
+    {
+        match self {
+            Event::Go(_) => true,
+            Event::Register | Event::Begin(_) => false,
+        }
+    }
+
+    /// Whether an answer comes to the step.
+    pub(crate) fn brings_answer(&self) -> bool
+        ensures { result ≡ is_some (answer_in self.now) }
+    {
+        match self {
+            Event::Go(noise) => noise.answer.is_some(),
+            Event::Register | Event::Begin(_) => false,
+        }
+    }
+}
+
 impl<P> Op<P> {
+    /// Whether the call may change what stands at its key.
+    pub(crate) fn changes(&self) -> bool
+        ensures { result ≡ changes self.now }
+    {
+        match self {
+            Op::Insert(..)
+            | Op::Remove(_)
+            | Op::ComputePresent(_)
+            | Op::ComputeInsert(_)
+            | Op::Exchange(..) => true,
+            // It looks at pairs, or is no call on the tree.
+            _ => false,
+        }
+    }
+
     /// The same call as its layer names it.
     pub(crate) fn target(self) -> Target<P>
         ensures { result ≡ target self }

@@ -1,6 +1,6 @@
 //! The index and its collector, one step at a time.
 
-ghost use Rattle.std.specs.Prelude.{◌≡◌, ◌+◌, ◌<◌, [], true, length, option_map, take, IfOk, IfErr, MatchResult};
+ghost use Rattle.std.specs.Prelude.{◌≡◌, ◌+◌, ◌<◌, [], true, length, option_map, slice_get, take, IfOk, IfErr, MatchResult};
 ghost use Rattle.std.specs.FinMap.{empty};
 ghost use Rattle.std.specs.List.{sum_by};
 ghost use Rattle.std.specs.Vec.{vec_len};
@@ -10,6 +10,7 @@ ghost use Rattle.congee.specs.Heap.{Stands};
 ghost use Rattle.congee.specs.Keys.{IsMapOf};
 ghost use Rattle.joint.specs.Closing.{IsClosed, IsNotClosed};
 ghost use Rattle.joint.specs.Forest.{IsBeside, nodes};
+ghost use Rattle.joint.specs.Journaling.{asks_at, has_place};
 ghost use Rattle.joint.specs.Listing.{IsListOf, bytes_of, standing_nodes, waiting_nodes};
 ghost use Rattle.joint.specs.Log.{opened_log, request_at};
 ghost use Rattle.joint.specs.Opening.{HasPlaces, IsOpened, IsUnjournaled, IsUnopened};
@@ -167,6 +168,20 @@ impl<P: Payload + Small, A: Allocator> World<P, A> {
         ensures none { self.now.log.places ≡ 0 → result.now ≡ [] }
     {
         self.log.entries()
+    }
+
+    /// Whether the next step of a worker's call takes its closure's answer.
+    pub(crate) fn asks(&self, worker: u32) -> bool
+        ensures { result ≡ asks_at (slice_get self.now.machines worker) }
+    {
+        self.engine.asks(worker as usize)
+    }
+
+    /// Whether a place of the journal is reserved for a worker's call.
+    pub(crate) fn has_place(&self, worker: u32) -> bool
+        ensures { result ≡ has_place (slice_get self.now.calls worker) (slice_get self.now.machines worker) }
+    {
+        self.engine.has_place(worker as usize)
     }
 
     /// Hands each pair to the drainer, in ascending order of the keys; then the removals that wait are carried out, and the

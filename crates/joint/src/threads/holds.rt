@@ -3,60 +3,60 @@
 ghost use Rattle.std.specs.Prelude.{◌≡◌, None, Some};
 ghost use Rattle.std.specs.Option.{option_map};
 ghost use Rattle.joint.specs.Driving.{IsToldInCall, IsTurn};
-ghost use Rattle.joint.specs.Threads.{IsHold};
 
 use crate::steps::{Op, Report, Step};
 use crate::threads::driver::Turns;
+use crate::threads::locked::Locked;
 use crate::threads::tree::Tree;
-use congee::{Allocator, Payload, Small};
+use congee::{Payload, Small};
 use std::snapshot::Snapshot;
 use std::sync::Wait;
 
 /// Takes the lock for each turn of a worker's call.
 #[derive(Drop)]
-pub(crate) struct Holds<'t, P: Payload + Small, A: Allocator, R: Wait> {
+pub(crate) struct Holds<'t, P: Payload + Small, T: Locked<P>, R: Wait> {
     rt: &'t R,
-    tree: &'t Tree<P, A>,
+    tree: &'t Tree<P, T>,
     worker: u32,
-    op: Snapshot<Op<P>>,
+    call: T::Memo,
     last: Option<Snapshot<Report<P>>>,
 }
 
-impl<'t, P: Payload + Small, A: Allocator, R: Wait> Holds<'t, P, A, R> {
+impl<'t, P: Payload + Small, T: Locked<P>, R: Wait> Holds<'t, P, T, R> {
     /// Before the first turn of a call.
-    pub(crate) fn new(rt: &'t R, tree: &'t Tree<P, A>, worker: u32, op: &Op<P>) -> Self
+    pub(crate) fn new(rt: &'t R, tree: &'t Tree<P, T>, worker: u32, op: &Op<P>) -> Self
         ensures worker { result.worker ≡ worker }
-        ensures op { result.op.value ≡ op.now }
+        ensures op { T.op result.call ≡ op.now }
         ensures last { result.last ≡ None }
     {
         Holds {
             rt,
             tree,
             worker,
-            op: Snapshot::of(op),
+            call: T::memo(op),
             last: None,
         }
     }
 }
 
-impl<P: Payload + Small, A: Allocator, R: Wait> Turns<P> for Holds<'_, P, A, R> {
+impl<P: Payload + Small, T: Locked<P>, R: Wait> Turns<P> for Holds<'_, P, T, R> {
     ghost worker = { λ h. h.worker };
 
-    ghost op = { λ h. h.op.value };
+    ghost op = { λ h. T.op h.call };
 
     ghost last = { λ h. option_map (λ r. r.value) h.last };
 
-    ghost gives = { λ h step r h'. IsHold P.same_as P.always_copies step r };
+    ghost gives = { λ h step r h'. T.holds h.worker (T.op h.call) step r × (h'.worker ≡ h.worker) × (T.op h'.call ≡ T.op h.call) };
 
     fn turn(&mut self, step: Step<P>) -> Report<P>
-        requires { IsTurn self.old.worker self.old.op.value (option_map (λ r. r.value) self.old.last) step }
+        requires { IsTurn self.old.worker (T.op self.old.call) (option_map (λ r. r.value) self.old.last) step }
         ensures worker { self.new.worker ≡ self.old.worker }
-        ensures op { self.new.op ≡ self.old.op }
+        ensures op { T.op self.new.call ≡ T.op self.old.call }
         ensures last { option_map (λ r. r.value) self.new.last ≡ Some result }
-        ensures gives { IsHold P.same_as P.always_copies step result }
+        ensures gives { T.holds self.old.worker (T.op self.old.call) step result × (self.new.worker ≡ self.old.worker) × (T.op self.new.call ≡ T.op self.old.call) }
         ensures told { IsToldInCall result.outcome }
     {
-        let report = self.tree.hold(self.rt, step);
+        let report = self.tree.turn(self.rt, &self.call, step);
         self.last = Some(Snapshot::of(&report));
         report
     }

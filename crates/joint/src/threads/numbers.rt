@@ -44,7 +44,7 @@ impl<V: Word64, A: Allocator> U64Congee<V, A> {
     /// The worker leaves its place; what it removed waits on. Refused as GuardOut while it is pinned, as Memory where
     /// its removals can't be queued, and as Foreign; it comes back.
     pub fn release<R: Wait>(&self, rt: &R, worker: Worker) -> Result<(), (Refusal, Worker)>
-        ensures { Hands (is_of self.now.words.tree.id worker) (Answers nat_eq true worker.number op.Release told) worker result }
+        ensures { Hands (is_of self.now.words.tree.id worker) (Answers (ByHold nat_eq true) worker.number op.Release told) worker result }
     {
         self.words.release(rt, worker)
     }
@@ -52,7 +52,7 @@ impl<V: Word64, A: Allocator> U64Congee<V, A> {
     /// A guard. Refused as Count where 65,535 guards of the worker are out.
     pub fn pin<R: Wait>(&self, rt: &R, worker: &mut Worker) -> Result<Guard, Refusal>
         ensures worker { worker.new ≡ worker.old }
-        ensures answers { Serves (is_of self.now.words.tree.id worker.old) (Pins nat_eq true self.now.words.tree.id worker.old.number) result }
+        ensures answers { Serves (is_of self.now.words.tree.id worker.old) (Pins (ByHold nat_eq true) self.now.words.tree.id worker.old.number) result }
     {
         self.words.pin(rt, worker)
     }
@@ -65,7 +65,7 @@ impl<V: Word64, A: Allocator> U64Congee<V, A> {
         guard: Guard,
     ) -> Result<(), (Refusal, Guard)>
         ensures worker { worker.new ≡ worker.old }
-        ensures answers { Hands (is_held_by self.now.words.tree.id worker.old guard) (Answers nat_eq true worker.old.number op.Unpin told) guard result }
+        ensures answers { Hands (is_held_by self.now.words.tree.id worker.old guard) (Answers (ByHold nat_eq true) worker.old.number op.Unpin told) guard result }
     {
         self.words.unpin(rt, worker, guard)
     }
@@ -74,7 +74,7 @@ impl<V: Word64, A: Allocator> U64Congee<V, A> {
     /// queued; then nothing was done.
     pub fn flush<R: Wait>(&self, rt: &R, worker: &mut Worker, guard: &Guard) -> Result<(), Refusal>
         ensures worker { worker.new ≡ worker.old }
-        ensures answers { Serves (is_held_by self.now.words.tree.id worker.old guard.now) (Answers nat_eq true worker.old.number op.Flush told) result }
+        ensures answers { Serves (is_held_by self.now.words.tree.id worker.old guard.now) (Answers (ByHold nat_eq true) worker.old.number op.Flush told) result }
     {
         self.words.flush(rt, worker, guard)
     }
@@ -82,7 +82,7 @@ impl<V: Word64, A: Allocator> U64Congee<V, A> {
     /// Pins the worker anew at the present epoch, where this is its only guard.
     pub fn repin<R: Wait>(&self, rt: &R, worker: &mut Worker, guard: &Guard) -> Result<(), Refusal>
         ensures worker { worker.new ≡ worker.old }
-        ensures answers { Serves (is_held_by self.now.words.tree.id worker.old guard.now) (Answers nat_eq true worker.old.number op.Repin told) result }
+        ensures answers { Serves (is_held_by self.now.words.tree.id worker.old guard.now) (Answers (ByHold nat_eq true) worker.old.number op.Repin told) result }
     {
         self.words.repin(rt, worker, guard)
     }
@@ -90,7 +90,7 @@ impl<V: Word64, A: Allocator> U64Congee<V, A> {
     /// Pin, flush, unpin. Answers the first refusal; after a refused flush it unpins too.
     pub fn round<R: Wait>(&self, rt: &R, worker: &mut Worker) -> Result<(), Refusal>
         ensures worker { worker.new ≡ worker.old }
-        ensures answers { Serves (is_of self.now.words.tree.id worker.old) (IsRound nat_eq true worker.old.number) result }
+        ensures answers { Serves (is_of self.now.words.tree.id worker.old) (IsRound (ByHold nat_eq true) worker.old.number) result }
     {
         self.words.round(rt, worker)
     }
@@ -105,7 +105,7 @@ impl<V: Word64, A: Allocator> U64Congee<V, A> {
     ) -> Result<Option<V>, Refusal>
         ensures worker { worker.new ≡ worker.old }
         ensures answers { As (Serves (is_held_by self.now.words.tree.id worker.old guard.now)
-            (Answers nat_eq true worker.old.number (op.Get key) got)) (words V.of_word) result }
+            (Answers (ByHold nat_eq true) worker.old.number (op.Get key) got)) (words V.of_word) result }
     {
         self.words.get(rt, &key, worker, guard)
     }
@@ -121,7 +121,7 @@ impl<V: Word64, A: Allocator> U64Congee<V, A> {
     ) -> Result<Option<V>, Refusal>
         ensures worker { worker.new ≡ worker.old }
         ensures answers { As (Serves (is_held_by self.now.words.tree.id worker.old guard.now)
-            (Answers nat_eq true worker.old.number (op.Insert key (V.word value)) inserted)) (words V.of_word) result }
+            (Answers (ByHold nat_eq true) worker.old.number (op.Insert key (V.word value)) inserted)) (words V.of_word) result }
     {
         self.words.insert(rt, key, value, worker, guard)
     }
@@ -136,7 +136,7 @@ impl<V: Word64, A: Allocator> U64Congee<V, A> {
     ) -> Result<Option<V>, Refusal>
         ensures worker { worker.new ≡ worker.old }
         ensures answers { As (Serves (is_held_by self.now.words.tree.id worker.old guard.now)
-            (Answers nat_eq true worker.old.number (op.Remove key) removed)) (words V.of_word) result }
+            (Answers (ByHold nat_eq true) worker.old.number (op.Remove key) removed)) (words V.of_word) result }
     {
         self.words.remove(rt, &key, worker, guard)
     }
@@ -154,7 +154,7 @@ impl<V: Word64, A: Allocator> U64Congee<V, A> {
         requires { F.IsAlwaysCallable f }
         ensures worker { worker.new ≡ worker.old }
         ensures answers { Serves (is_held_by self.now.words.tree.id worker.old guard.now)
-            (Computes nat_eq true (if_present F.step) worker.old.number (op.ComputePresent key) f computed) result }
+            (Computes (ByHold nat_eq true) (if_present F.step) worker.old.number (op.ComputePresent key) f computed) result }
     {
         self.words.compute_if_present(rt, &key, f, worker, guard)
     }
@@ -172,7 +172,7 @@ impl<V: Word64, A: Allocator> U64Congee<V, A> {
         requires { F.IsAlwaysCallable f }
         ensures worker { worker.new ≡ worker.old }
         ensures answers { As (Serves (is_held_by self.now.words.tree.id worker.old guard.now)
-            (Computes nat_eq true (or_insert F.step) worker.old.number (op.ComputeInsert key) f replaced)) (words V.of_word) result }
+            (Computes (ByHold nat_eq true) (or_insert F.step) worker.old.number (op.ComputeInsert key) f replaced)) (words V.of_word) result }
     {
         self.words.compute_or_insert(rt, key, f, worker, guard)
     }
@@ -190,7 +190,7 @@ impl<V: Word64, A: Allocator> U64Congee<V, A> {
     ) -> Result<Result<Option<V>, Option<V>>, Refusal>
         ensures worker { worker.new ≡ worker.old }
         ensures answers { As (Serves (is_held_by self.now.words.tree.id worker.old guard.now)
-            (Answers nat_eq true worker.old.number (op.Exchange key (V.word old.now) (option_map V.word new)) exchanged)) (either_words V.of_word) result }
+            (Answers (ByHold nat_eq true) worker.old.number (op.Exchange key (V.word old.now) (option_map V.word new)) exchanged)) (either_words V.of_word) result }
     {
         self.words
             .compare_exchange(rt, &key, old, new, worker, guard)
@@ -209,7 +209,7 @@ impl<V: Word64, A: Allocator> U64Congee<V, A> {
     ) -> Result<usize, Refusal>
         ensures worker { worker.new ≡ worker.old }
         ensures answers { Serves (is_held_by self.now.words.tree.id worker.old guard.now)
-            (Scans nat_eq true (λ k v. (key_bytes k, v)) worker.old.number (op.Range start end (length out.old)) out.old out.new scanned) result }
+            (Scans (ByHold nat_eq true) (λ k v. (key_bytes k, v)) worker.old.number (op.Range start end (length out.old)) out.old out.new scanned) result }
         ensures foreign { is_held_by self.now.words.tree.id worker.old guard.now ≡ false → out.new ≡ out.old }
     {
         self.words.range_to(rt, start, end, out, worker, guard)
@@ -223,7 +223,7 @@ impl<V: Word64, A: Allocator> U64Congee<V, A> {
         guard: &Guard,
     ) -> Result<bool, Refusal>
         ensures worker { worker.new ≡ worker.old }
-        ensures answers { Serves (is_held_by self.now.words.tree.id worker.old guard.now) (Answers nat_eq true worker.old.number op.IsEmpty emptied) result }
+        ensures answers { Serves (is_held_by self.now.words.tree.id worker.old guard.now) (Answers (ByHold nat_eq true) worker.old.number op.IsEmpty emptied) result }
     {
         self.words.is_empty(rt, worker, guard)
     }
@@ -231,7 +231,7 @@ impl<V: Word64, A: Allocator> U64Congee<V, A> {
     /// All keys, ascending, at its one step. It wants no guard. Refused as Memory.
     pub fn keys<R: Wait>(&self, rt: &R, worker: &mut Worker) -> Result<Vec<u64>, Refusal>
         ensures worker { worker.new ≡ worker.old }
-        ensures answers { (answer : _) × Serves (is_of self.now.words.tree.id worker.old) (Answers nat_eq true worker.old.number op.Keys listed) answer × AreKeys (λ k. k) answer result }
+        ensures answers { (answer : _) × Serves (is_of self.now.words.tree.id worker.old) (Answers (ByHold nat_eq true) worker.old.number op.Keys listed) answer × AreKeys (λ k. k) answer result }
     {
         self.words.keys(rt, worker)
     }
@@ -240,7 +240,7 @@ impl<V: Word64, A: Allocator> U64Congee<V, A> {
     /// Refused as Memory.
     pub fn stats<R: Wait>(&self, rt: &R, worker: &mut Worker) -> Result<NodeStats, Refusal>
         ensures worker { worker.new ≡ worker.old }
-        ensures answers { Serves (is_of self.now.words.tree.id worker.old) (Answers nat_eq true worker.old.number op.Stats counted) result }
+        ensures answers { Serves (is_of self.now.words.tree.id worker.old) (Answers (ByHold nat_eq true) worker.old.number op.Stats counted) result }
     {
         self.words.stats(rt, worker)
     }

@@ -4,13 +4,14 @@ ghost use Rattle.std.specs.Prelude.{◌≡◌, false, IfErr, IfOk, Ok};
 ghost use Rattle.std.specs.Arc.{arc_value};
 ghost use Rattle.std.specs.Option.{option_map};
 ghost use Rattle.joint.specs.Opening.{IsUnopened};
-ghost use Rattle.joint.specs.Threads.{Answers, AreKeys, Computes, Hands, HasWorkers, IsHold, IsRound, Owns, Pins, RefusesOwner, Serves, is_held_by, is_of, register_step, registered};
+ghost use Rattle.joint.specs.Threads.{Answers, AreKeys, ByHold, Computes, Hands, HasWorkers, IsHold, IsRound, Owns, Pins, RefusesOwner, Serves, is_held_by, is_of, register_step, registered};
 ghost use Rattle.joint.specs.Threads.{befores, computed, counted, emptied, got, if_owned, inserted, listed, owned, removed, told};
 ghost use Rattle.joint.specs.declared.steps.Op.TheVariants as op;
 
 use crate::limits::Limits;
 use crate::refusal::Refusal;
 use crate::threads::answers::Answer;
+use crate::threads::locked::Plain;
 use crate::threads::tokens::{Guard, Worker};
 use crate::threads::tree::Tree;
 use crate::threads::words::are_keys;
@@ -23,7 +24,7 @@ use std::sync::{Arc, Wait};
 /// where no more can be counted, the call is refused as Count.
 #[derive(Drop)]
 pub struct CongeeArc<K, V: Drop> {
-    tree: Tree<ArcPayload<V>, DefaultAllocator>,
+    tree: Tree<ArcPayload<V>, Plain<ArcPayload<V>, DefaultAllocator>>,
     alloc: Global,
     keys: PhantomData<K>,
 }
@@ -131,7 +132,7 @@ impl<K: Word64, V: Drop> CongeeArc<K, V> {
     /// The worker leaves its place; what it removed waits on. Refused as GuardOut while it is pinned, as Memory where
     /// its removals can't be queued, and as Foreign; it comes back.
     pub fn release<R: Wait>(&self, rt: &R, worker: Worker) -> Result<(), (Refusal, Worker)>
-        ensures { Hands (is_of self.now.tree.id worker) (Answers {V = V} (λ _ _. false) false worker.number op.Release told) worker result }
+        ensures { Hands (is_of self.now.tree.id worker) (Answers {V = V} (ByHold (λ _ _. false) false) worker.number op.Release told) worker result }
     {
         self.tree.release(rt, worker)
     }
@@ -139,7 +140,7 @@ impl<K: Word64, V: Drop> CongeeArc<K, V> {
     /// A guard. Refused as Count where 65,535 guards of the worker are out.
     pub fn pin<R: Wait>(&self, rt: &R, worker: &mut Worker) -> Result<Guard, Refusal>
         ensures worker { worker.new ≡ worker.old }
-        ensures answers { Serves (is_of self.now.tree.id worker.old) (Pins {V = V} (λ _ _. false) false self.now.tree.id worker.old.number) result }
+        ensures answers { Serves (is_of self.now.tree.id worker.old) (Pins {V = V} (ByHold (λ _ _. false) false) self.now.tree.id worker.old.number) result }
     {
         self.tree.pin(rt, worker)
     }
@@ -152,7 +153,7 @@ impl<K: Word64, V: Drop> CongeeArc<K, V> {
         guard: Guard,
     ) -> Result<(), (Refusal, Guard)>
         ensures worker { worker.new ≡ worker.old }
-        ensures answers { Hands (is_held_by self.now.tree.id worker.old guard) (Answers {V = V} (λ _ _. false) false worker.old.number op.Unpin told) guard result }
+        ensures answers { Hands (is_held_by self.now.tree.id worker.old guard) (Answers {V = V} (ByHold (λ _ _. false) false) worker.old.number op.Unpin told) guard result }
     {
         self.tree.unpin(rt, worker, guard)
     }
@@ -161,7 +162,7 @@ impl<K: Word64, V: Drop> CongeeArc<K, V> {
     /// queued; then nothing was done.
     pub fn flush<R: Wait>(&self, rt: &R, worker: &mut Worker, guard: &Guard) -> Result<(), Refusal>
         ensures worker { worker.new ≡ worker.old }
-        ensures answers { Serves (is_held_by self.now.tree.id worker.old guard.now) (Answers {V = V} (λ _ _. false) false worker.old.number op.Flush told) result }
+        ensures answers { Serves (is_held_by self.now.tree.id worker.old guard.now) (Answers {V = V} (ByHold (λ _ _. false) false) worker.old.number op.Flush told) result }
     {
         self.tree.flush(rt, worker, guard)
     }
@@ -169,7 +170,7 @@ impl<K: Word64, V: Drop> CongeeArc<K, V> {
     /// Pins the worker anew at the present epoch, where this is its only guard.
     pub fn repin<R: Wait>(&self, rt: &R, worker: &mut Worker, guard: &Guard) -> Result<(), Refusal>
         ensures worker { worker.new ≡ worker.old }
-        ensures answers { Serves (is_held_by self.now.tree.id worker.old guard.now) (Answers {V = V} (λ _ _. false) false worker.old.number op.Repin told) result }
+        ensures answers { Serves (is_held_by self.now.tree.id worker.old guard.now) (Answers {V = V} (ByHold (λ _ _. false) false) worker.old.number op.Repin told) result }
     {
         self.tree.repin(rt, worker, guard)
     }
@@ -177,7 +178,7 @@ impl<K: Word64, V: Drop> CongeeArc<K, V> {
     /// Pin, flush, unpin. Answers the first refusal; after a refused flush it unpins too.
     pub fn round<R: Wait>(&self, rt: &R, worker: &mut Worker) -> Result<(), Refusal>
         ensures worker { worker.new ≡ worker.old }
-        ensures answers { Serves (is_of self.now.tree.id worker.old) (IsRound {V = V} (λ _ _. false) false worker.old.number) result }
+        ensures answers { Serves (is_of self.now.tree.id worker.old) (IsRound {V = V} (ByHold (λ _ _. false) false) worker.old.number) result }
     {
         self.tree.round(rt, worker)
     }
@@ -192,7 +193,7 @@ impl<K: Word64, V: Drop> CongeeArc<K, V> {
     ) -> Result<Option<Arc<V, Global>>, Refusal>
         ensures worker { worker.new ≡ worker.old }
         ensures answers { Owns (Serves (is_held_by self.now.tree.id worker.old guard.now)
-            (Answers {V = V} (λ _ _. false) false worker.old.number (op.Get (K.word key)) got)) (λ read. read) result }
+            (Answers {V = V} (ByHold (λ _ _. false) false) worker.old.number (op.Get (K.word key)) got)) (λ read. read) result }
     {
         owners(self.tree.get(rt, key.to_word(), worker, guard))
     }
@@ -208,9 +209,9 @@ impl<K: Word64, V: Drop> CongeeArc<K, V> {
     ) -> Result<Option<Arc<V, Global>>, (Refusal, Arc<V, Global>)>
         ensures worker { worker.new ≡ worker.old }
         ensures inserted { IfOk result (λ before. Serves (is_held_by self.now.tree.id worker.old guard.now)
-            (Answers {V = V} (λ _ _. false) false worker.old.number (op.Insert (K.word key) (arc_value value)) inserted) (Ok (option_map arc_value before))) }
+            (Answers {V = V} (ByHold (λ _ _. false) false) worker.old.number (op.Insert (K.word key) (arc_value value)) inserted) (Ok (option_map arc_value before))) }
         ensures refused { IfErr result (λ e. RefusesOwner (is_held_by self.now.tree.id worker.old guard.now)
-            (Answers {V = V} (λ _ _. false) false worker.old.number (op.Insert (K.word key) (arc_value value)) inserted) e.0) }
+            (Answers {V = V} (ByHold (λ _ _. false) false) worker.old.number (op.Insert (K.word key) (arc_value value)) inserted) e.0) }
         ensures back { IfErr result (λ e. arc_value e.1 ≡ arc_value value) }
     {
         if !self.tree.serves(worker, guard) {
@@ -236,7 +237,7 @@ impl<K: Word64, V: Drop> CongeeArc<K, V> {
     ) -> Result<Option<Arc<V, Global>>, Refusal>
         ensures worker { worker.new ≡ worker.old }
         ensures answers { Owns (Serves (is_held_by self.now.tree.id worker.old guard.now)
-            (Answers {V = V} (λ _ _. false) false worker.old.number (op.Remove (K.word key)) removed)) (λ read. read) result }
+            (Answers {V = V} (ByHold (λ _ _. false) false) worker.old.number (op.Remove (K.word key)) removed)) (λ read. read) result }
     {
         owners(self.tree.remove(rt, key.to_word(), worker, guard))
     }
@@ -254,7 +255,7 @@ impl<K: Word64, V: Drop> CongeeArc<K, V> {
         requires { F.IsAlwaysCallable f }
         ensures worker { worker.new ≡ worker.old }
         ensures answers { Owns (Serves (is_held_by self.now.tree.id worker.old guard.now)
-            (Computes {V = V} (λ _ _. false) false (if_owned F.step) worker.old.number (op.ComputePresent (K.word key)) f computed)) befores result }
+            (Computes {V = V} (ByHold (λ _ _. false) false) (if_owned F.step) worker.old.number (op.ComputePresent (K.word key)) f computed)) befores result }
     {
         let mut answers = IfOwned::new(f);
         let answer = self
@@ -272,7 +273,7 @@ impl<K: Word64, V: Drop> CongeeArc<K, V> {
         guard: &Guard,
     ) -> Result<bool, Refusal>
         ensures worker { worker.new ≡ worker.old }
-        ensures answers { Serves (is_held_by self.now.tree.id worker.old guard.now) (Answers {V = V} (λ _ _. false) false worker.old.number op.IsEmpty emptied) result }
+        ensures answers { Serves (is_held_by self.now.tree.id worker.old guard.now) (Answers {V = V} (ByHold (λ _ _. false) false) worker.old.number op.IsEmpty emptied) result }
     {
         self.tree.is_empty(rt, worker, guard)
     }
@@ -280,7 +281,7 @@ impl<K: Word64, V: Drop> CongeeArc<K, V> {
     /// All keys, ascending, at its one step. It wants no guard. Refused as Memory.
     pub fn keys<R: Wait>(&self, rt: &R, worker: &mut Worker) -> Result<Vec<K>, Refusal>
         ensures worker { worker.new ≡ worker.old }
-        ensures answers { (answer : _) × Serves (is_of self.now.tree.id worker.old) (Answers {V = V} (λ _ _. false) false worker.old.number op.Keys listed) answer × AreKeys K.of_word answer result }
+        ensures answers { (answer : _) × Serves (is_of self.now.tree.id worker.old) (Answers {V = V} (ByHold (λ _ _. false) false) worker.old.number op.Keys listed) answer × AreKeys K.of_word answer result }
     {
         are_keys(self.alloc, self.tree.keys(rt, worker))
     }
@@ -289,7 +290,7 @@ impl<K: Word64, V: Drop> CongeeArc<K, V> {
     /// Refused as Memory.
     pub fn stats<R: Wait>(&self, rt: &R, worker: &mut Worker) -> Result<NodeStats, Refusal>
         ensures worker { worker.new ≡ worker.old }
-        ensures answers { Serves (is_of self.now.tree.id worker.old) (Answers {V = V} (λ _ _. false) false worker.old.number op.Stats counted) result }
+        ensures answers { Serves (is_of self.now.tree.id worker.old) (Answers {V = V} (ByHold (λ _ _. false) false) worker.old.number op.Stats counted) result }
     {
         self.tree.stats(rt, worker)
     }

@@ -1,15 +1,16 @@
 //! One index under one lock, which each step of a call takes anew.
 
 ghost use Rattle.std.specs.Prelude.{◌≡◌, ℕ, [], false, length, IfOk, IfErr, Ok};
-ghost use Rattle.joint.specs.Driving.{ended};
+ghost use Rattle.joint.specs.Driving.{IsToldInCall, ended};
 ghost use Rattle.joint.specs.Opening.{IsUnopened};
-ghost use Rattle.joint.specs.Threads.{Answers, Closes, Computes, Hands, HasWorkers, IsHeld, IsHold, IsRound, IsRoundFrom, Pins, Scans, Serves, is_held_by, is_of, register_step, registered};
+ghost use Rattle.joint.specs.Threads.{Answers, ByHold, Closes, Computes, Hands, HasWorkers, IsHeld, IsHold, IsRound, IsRoundFrom, Pins, Scans, Serves, is_held_by, is_of, register_step, registered};
 ghost use Rattle.joint.specs.Threads.{computed, counted, emptied, exchanged, got, inserted, listed, removed, replaced, scanned, told};
+ghost use Rattle.joint.specs.Whole.{IsOfCall};
 ghost use Rattle.joint.specs.declared.steps.Op.TheVariants as op;
 
 use crate::limits::Limits;
 use crate::refusal::Refusal;
-use crate::steps::{Event, Op, Outcome, Report, Step};
+use crate::steps::{Op, Outcome, Report, Step};
 use crate::threads::answers::{Answer, Silent};
 use crate::threads::driver::{Pair, drive_to};
 use crate::threads::ends::{
@@ -17,72 +18,49 @@ use crate::threads::ends::{
     told,
 };
 use crate::threads::holds::Holds;
+use crate::threads::locked::{Locked, Plain};
 use crate::threads::tokens::{Guard, Worker};
 use crate::world::World;
 use congee::{Allocator, Drainer, NodeStats, Payload, Small};
 use crossbeam_utils::CachePadded;
 use std::alloc::Global;
+use std::marker::PhantomData;
 use std::sync::{Mutex, Wait};
-
-/// What the lock keeps.
-struct Locked<P: Payload + Small, A: Allocator> {
-    world: World<P, A>,
-}
-
-impl<P: Payload + Small, A: Allocator> Drop for Locked<P, A> {
-    fn drop(self) {
-        let Locked { world: _ } = self;
-    }
-}
-
-impl<P: Payload + Small, A: Allocator> Locked<P, A> {
-    fn into_world(self) -> World<P, A> {
-        let Locked { world } = self;
-        world
-    }
-}
 
 /// An index under its lock.
 #[derive(Drop)]
-pub(crate) struct Tree<P: Payload + Small, A: Allocator> {
+pub(crate) struct Tree<P: Payload + Small, T: Locked<P>> {
     /// Tells it from others.
     pub(crate) id: u64,
-    locked: CachePadded<Mutex<Locked<P, A>>>,
+    locked: CachePadded<Mutex<T>>,
+    values: PhantomData<P>,
 }
 
-impl<P: Payload + Small, A: Allocator> Tree<P, A> {
-    /// An index with a root alone, named by its limits. Refused as Limits, Budget or Memory.
-    pub(crate) fn new(alloc: Global, limits: Limits, allocator: A) -> Result<Self, Refusal>
-        ensures id { IfOk result (λ t. t.id ≡ limits.id) }
-        ensures cause { IfErr result (λ e. IsUnopened limits (A.charged_of allocator) (A.limit_of allocator) e) }
-    {
-        let world = World::new(alloc, limits, allocator)?;
-        Ok(Tree::of(limits.id, world))
-    }
-
-    /// An index under a new lock.
-    fn of(id: u64, world: World<P, A>) -> Self
+impl<P: Payload + Small, T: Locked<P>> Tree<P, T> {
+    /// What is to be locked, under this name.
+    pub(crate) fn of(id: u64, kept: T) -> Self
         ensures { result.id ≡ id }
     {
         Tree {
             id,
-            locked: CachePadded::new(Mutex::new(Locked { world })),
+            locked: CachePadded::new(Mutex::new(kept)),
+            values: PhantomData,
         }
     }
 
-    /// The index out of its lock.
-    fn into_world(self) -> World<P, A> {
-        let Tree { id: _, locked } = self;
-        locked.into_inner().into_inner().into_world()
+    /// What was locked.
+    fn into_inner(self) -> T {
+        let Tree { locked, .. } = self;
+        locked.into_inner().into_inner()
     }
 
     /// Its lock.
-    fn lock(&self) -> &Mutex<Locked<P, A>> {
+    pub(crate) fn lock(&self) -> &Mutex<T> {
         &self.locked
     }
 
     /// Whether the worker is of this index.
-    fn owns(&self, worker: &Worker) -> bool
+    pub(crate) fn owns(&self, worker: &Worker) -> bool
         ensures { result ≡ is_of self.now.id worker.now }
     {
         worker.tree == self.id
@@ -95,11 +73,13 @@ impl<P: Payload + Small, A: Allocator> Tree<P, A> {
         worker.tree == self.id && guard.tree == self.id && guard.worker == worker.number
     }
 
-    /// One hold of the lock: one step of the machine.
-    pub(crate) fn hold<R: Wait>(&self, rt: &R, step: Step<P>) -> Report<P>
-        ensures { IsHold P.same_as P.always_copies step result }
+    /// A turn of a worker's call: one hold of the lock.
+    pub(crate) fn turn<R: Wait>(&self, rt: &R, call: &T::Memo, step: Step<P>) -> Report<P>
+        requires { IsOfCall step.event }
+        ensures holds { T.holds step.worker (T.op call.now) step result }
+        ensures told { IsToldInCall result.outcome }
     {
-        self.lock().lock(rt).world.step(step)
+        self.lock().lock(rt).turn(call, step)
     }
 
     /// A whole call of a worker's, each turn of which is a hold of the lock.
@@ -112,25 +92,10 @@ impl<P: Payload + Small, A: Allocator> Tree<P, A> {
         found: &mut [Q],
     ) -> End<P>
         requires { C.can_answer answers.old }
-        ensures { IsHeld P.same_as P.always_copies C.answers Q.pair worker.now.number op answers.old found.old found.new (ended result) }
+        ensures { IsHeld T.holds C.answers Q.pair worker.now.number op answers.old found.old found.new (ended result) }
     {
         let mut turns = Holds::new(rt, self, worker.number, &op);
         drive_to(rt, &mut turns, worker.number, op, answers, found)
-    }
-
-    /// One that finds no pairs.
-    fn compute<C: Answer<P>, R: Wait>(
-        &self,
-        rt: &R,
-        worker: &Worker,
-        op: Op<P>,
-        answers: &mut C,
-    ) -> End<P>
-        requires { C.can_answer answers.old }
-        ensures { IsHeld {Q = ℕ × P} P.same_as P.always_copies C.answers (λ k v. (k, v)) worker.now.number op answers.old [] [] (ended result) }
-    {
-        let mut nothing: [(u64, P); 0] = [];
-        self.drive(rt, worker, op, answers, &mut nothing)
     }
 
     /// One that asks for nothing, and writes the pairs that it finds to their places.
@@ -141,14 +106,14 @@ impl<P: Payload + Small, A: Allocator> Tree<P, A> {
         op: Op<P>,
         found: &mut [Q],
     ) -> End<P>
-        ensures { Scans P.same_as P.always_copies Q.pair worker.now.number op found.old found.new (λ end. end) result }
+        ensures { Scans T.holds Q.pair worker.now.number op found.old found.new (λ end. end) result }
     {
         self.drive(rt, worker, op, &mut Silent, found)
     }
 
     /// One that asks for nothing and finds no pairs.
     fn call<R: Wait>(&self, rt: &R, worker: &Worker, op: Op<P>) -> End<P>
-        ensures { Answers P.same_as P.always_copies worker.now.number op (λ end. end) result }
+        ensures { Answers T.holds worker.now.number op (λ end. end) result }
     {
         let mut nothing: [(u64, P); 0] = [];
         self.scan(rt, worker, op, &mut nothing)
@@ -156,7 +121,7 @@ impl<P: Payload + Small, A: Allocator> Tree<P, A> {
 
     /// One that tells nothing but that it has ended.
     fn end<R: Wait>(&self, rt: &R, worker: &Worker, op: Op<P>) -> Result<(), Refusal>
-        ensures { Answers P.same_as P.always_copies worker.now.number op told result }
+        ensures { Answers T.holds worker.now.number op told result }
     {
         told(self.call(rt, worker, op))
     }
@@ -165,11 +130,7 @@ impl<P: Payload + Small, A: Allocator> Tree<P, A> {
     pub(crate) fn register<R: Wait>(&self, rt: &R) -> Result<Worker, Refusal>
         ensures { (r : _) × IsHold P.same_as P.always_copies register_step r × (result ≡ registered self.now.id r.outcome) }
     {
-        let step = Step {
-            worker: 0,
-            event: Event::Register,
-        };
-        match self.hold(rt, step).outcome {
+        match self.lock().lock(rt).register().outcome {
             Outcome::Registered(number) => Ok(Worker {
                 tree: self.id,
                 number,
@@ -181,7 +142,7 @@ impl<P: Payload + Small, A: Allocator> Tree<P, A> {
 
     /// The worker leaves its place; it comes back with a refusal.
     pub(crate) fn release<R: Wait>(&self, rt: &R, worker: Worker) -> Result<(), (Refusal, Worker)>
-        ensures { Hands (is_of self.now.id worker) (Answers P.same_as P.always_copies worker.number op.Release told) worker result }
+        ensures { Hands (is_of self.now.id worker) (Answers T.holds worker.number op.Release told) worker result }
     {
         if !self.owns(&worker) {
             return Err((Refusal::Foreign, worker));
@@ -194,7 +155,7 @@ impl<P: Payload + Small, A: Allocator> Tree<P, A> {
 
     /// A guard.
     pub(crate) fn pin<R: Wait>(&self, rt: &R, worker: &Worker) -> Result<Guard, Refusal>
-        ensures { Serves (is_of self.now.id worker.now) (Pins P.same_as P.always_copies self.now.id worker.now.number) result }
+        ensures { Serves (is_of self.now.id worker.now) (Pins T.holds self.now.id worker.now.number) result }
     {
         if !self.owns(worker) {
             return Err(Refusal::Foreign);
@@ -215,7 +176,7 @@ impl<P: Payload + Small, A: Allocator> Tree<P, A> {
         worker: &Worker,
         guard: Guard,
     ) -> Result<(), (Refusal, Guard)>
-        ensures { Hands (is_held_by self.now.id worker.now guard) (Answers P.same_as P.always_copies worker.now.number op.Unpin told) guard result }
+        ensures { Hands (is_held_by self.now.id worker.now guard) (Answers T.holds worker.now.number op.Unpin told) guard result }
     {
         if !self.serves(worker, &guard) {
             return Err((Refusal::Foreign, guard));
@@ -236,7 +197,7 @@ impl<P: Payload + Small, A: Allocator> Tree<P, A> {
         worker: &Worker,
         guard: &Guard,
     ) -> Result<(), Refusal>
-        ensures { Serves (is_held_by self.now.id worker.now guard.now) (Answers P.same_as P.always_copies worker.now.number op.Flush told) result }
+        ensures { Serves (is_held_by self.now.id worker.now guard.now) (Answers T.holds worker.now.number op.Flush told) result }
     {
         if !self.serves(worker, guard) {
             return Err(Refusal::Foreign);
@@ -251,7 +212,7 @@ impl<P: Payload + Small, A: Allocator> Tree<P, A> {
         worker: &Worker,
         guard: &Guard,
     ) -> Result<(), Refusal>
-        ensures { Serves (is_held_by self.now.id worker.now guard.now) (Answers P.same_as P.always_copies worker.now.number op.Repin told) result }
+        ensures { Serves (is_held_by self.now.id worker.now guard.now) (Answers T.holds worker.now.number op.Repin told) result }
     {
         if !self.serves(worker, guard) {
             return Err(Refusal::Foreign);
@@ -261,7 +222,7 @@ impl<P: Payload + Small, A: Allocator> Tree<P, A> {
 
     /// Pin, flush, unpin. After a refused flush it unpins too.
     pub(crate) fn round<R: Wait>(&self, rt: &R, worker: &Worker) -> Result<(), Refusal>
-        ensures { Serves (is_of self.now.id worker.now) (IsRound P.same_as P.always_copies worker.now.number) result }
+        ensures { Serves (is_of self.now.id worker.now) (IsRound T.holds worker.now.number) result }
     {
         if !self.owns(worker) {
             return Err(Refusal::Foreign);
@@ -274,7 +235,7 @@ impl<P: Payload + Small, A: Allocator> Tree<P, A> {
 
     /// Flush, unpin, each a whole call. Answers the first refusal.
     fn flush_and_unpin<R: Wait>(&self, rt: &R, worker: &Worker) -> Result<(), Refusal>
-        ensures { IsRoundFrom P.same_as P.always_copies worker.now.number (Ok tt) result }
+        ensures { IsRoundFrom T.holds worker.now.number (Ok tt) result }
     {
         let flushed = self.end(rt, worker, Op::Flush);
         let left = self.end(rt, worker, Op::Unpin);
@@ -292,12 +253,127 @@ impl<P: Payload + Small, A: Allocator> Tree<P, A> {
         worker: &Worker,
         guard: &Guard,
     ) -> Result<Option<P>, Refusal>
-        ensures { Serves (is_held_by self.now.id worker.now guard.now) (Answers P.same_as P.always_copies worker.now.number (op.Get key) got) result }
+        ensures { Serves (is_held_by self.now.id worker.now guard.now) (Answers T.holds worker.now.number (op.Get key) got) result }
     {
         if !self.serves(worker, guard) {
             return Err(Refusal::Foreign);
         }
         got(self.call(rt, worker, Op::Get(key)))
+    }
+
+    /// Writes the pairs of a range to the places, and gives their number.
+    pub(crate) fn range<Q: Pair<P>, R: Wait>(
+        &self,
+        rt: &R,
+        start: u64,
+        end: u64,
+        found: &mut [Q],
+        worker: &Worker,
+        guard: &Guard,
+    ) -> Result<usize, Refusal>
+        ensures answers { Serves (is_held_by self.now.id worker.now guard.now)
+            (Scans T.holds Q.pair worker.now.number (op.Range start end (length found.old)) found.old found.new scanned) result }
+        ensures foreign { is_held_by self.now.id worker.now guard.now ≡ false → found.new ≡ found.old }
+    {
+        if !self.serves(worker, guard) {
+            return Err(Refusal::Foreign);
+        }
+        let scan = Op::Range(start, end, found.len());
+        scanned(self.scan(rt, worker, scan, found))
+    }
+
+    /// Whether no key has a value, at its one step.
+    pub(crate) fn is_empty<R: Wait>(
+        &self,
+        rt: &R,
+        worker: &Worker,
+        guard: &Guard,
+    ) -> Result<bool, Refusal>
+        ensures { Serves (is_held_by self.now.id worker.now guard.now) (Answers T.holds worker.now.number op.IsEmpty emptied) result }
+    {
+        if !self.serves(worker, guard) {
+            return Err(Refusal::Foreign);
+        }
+        emptied(self.call(rt, worker, Op::IsEmpty))
+    }
+
+    /// All keys, ascending, at its one step.
+    pub(crate) fn keys<R: Wait>(&self, rt: &R, worker: &Worker) -> Result<Vec<u64>, Refusal>
+        ensures { Serves (is_of self.now.id worker.now) (Answers T.holds worker.now.number op.Keys listed) result }
+    {
+        if !self.owns(worker) {
+            return Err(Refusal::Foreign);
+        }
+        listed(self.call(rt, worker, Op::Keys))
+    }
+
+    /// How the nodes are spread over levels and forms, and how many pairs there are, at its one step.
+    pub(crate) fn stats<R: Wait>(&self, rt: &R, worker: &Worker) -> Result<NodeStats, Refusal>
+        ensures { Serves (is_of self.now.id worker.now) (Answers T.holds worker.now.number op.Stats counted) result }
+    {
+        if !self.owns(worker) {
+            return Err(Refusal::Foreign);
+        }
+        counted(self.call(rt, worker, Op::Stats))
+    }
+
+    /// The bytes charged to the allocator.
+    pub(crate) fn charged<R: Wait>(&self, rt: &R) -> u64 {
+        self.lock().lock(rt).world().charged()
+    }
+
+    /// The nodes that wait for their destruction.
+    pub(crate) fn waiting<R: Wait>(&self, rt: &R) -> u64 {
+        self.lock().lock(rt).world().waiting()
+    }
+
+    /// Their sizes, in bytes.
+    pub(crate) fn waiting_bytes<R: Wait>(&self, rt: &R) -> u64 {
+        self.lock().lock(rt).world().waiting_bytes()
+    }
+
+    /// Hands each pair to the drainer, ascending by key, and gives both back. Refused as WorkersLeft while workers are
+    /// registered, and the index and the drainer come back.
+    pub(crate) fn close<D: Drainer<u64, P>>(
+        self,
+        drainer: D,
+    ) -> Result<(T::Nodes, D), (Refusal, Self, D)>
+        requires { D.can_drain drainer }
+        ensures closed { IfOk result (λ r. Closes D.drains drainer (T.Nodes.charged_of r.0) (T.Nodes.limit_of r.0) r.1) }
+        ensures workers { IfErr result (λ e. HasWorkers e.0) }
+        ensures back { IfErr result (λ e. (e.1.id ≡ self.id) × (e.2 ≡ drainer)) }
+    {
+        let id = self.id;
+        match self.into_inner().close(drainer) {
+            Ok(closed) => Ok(closed),
+            Err((refusal, kept, drainer)) => Err((refusal, Tree::of(id, kept), drainer)),
+        }
+    }
+}
+
+impl<P: Payload + Small, A: Allocator> Tree<P, Plain<P, A>> {
+    /// An index with a root alone, named by its limits. Refused as Limits, Budget or Memory.
+    pub(crate) fn new(alloc: Global, limits: Limits, allocator: A) -> Result<Self, Refusal>
+        ensures id { IfOk result (λ t. t.id ≡ limits.id) }
+        ensures cause { IfErr result (λ e. IsUnopened limits (A.charged_of allocator) (A.limit_of allocator) e) }
+    {
+        let world = World::new(alloc, limits, allocator)?;
+        Ok(Tree::of(limits.id, Plain::new(world)))
+    }
+
+    /// One that finds no pairs.
+    fn compute<C: Answer<P>, R: Wait>(
+        &self,
+        rt: &R,
+        worker: &Worker,
+        op: Op<P>,
+        answers: &mut C,
+    ) -> End<P>
+        requires { C.can_answer answers.old }
+        ensures { IsHeld {Q = ℕ × P} (ByHold P.same_as P.always_copies) C.answers (λ k v. (k, v)) worker.now.number op answers.old [] [] (ended result) }
+    {
+        let mut nothing: [(u64, P); 0] = [];
+        self.drive(rt, worker, op, answers, &mut nothing)
     }
 
     /// Puts a value at a key, and gives the one before.
@@ -309,7 +385,7 @@ impl<P: Payload + Small, A: Allocator> Tree<P, A> {
         worker: &Worker,
         guard: &Guard,
     ) -> Result<Option<P>, Refusal>
-        ensures { Serves (is_held_by self.now.id worker.now guard.now) (Answers P.same_as P.always_copies worker.now.number (op.Insert key value) inserted) result }
+        ensures { Serves (is_held_by self.now.id worker.now guard.now) (Answers (ByHold P.same_as P.always_copies) worker.now.number (op.Insert key value) inserted) result }
     {
         if !self.serves(worker, guard) {
             return Err(Refusal::Foreign);
@@ -325,7 +401,7 @@ impl<P: Payload + Small, A: Allocator> Tree<P, A> {
         worker: &Worker,
         guard: &Guard,
     ) -> Result<Option<P>, Refusal>
-        ensures { Serves (is_held_by self.now.id worker.now guard.now) (Answers P.same_as P.always_copies worker.now.number (op.Remove key) removed) result }
+        ensures { Serves (is_held_by self.now.id worker.now guard.now) (Answers (ByHold P.same_as P.always_copies) worker.now.number (op.Remove key) removed) result }
     {
         if !self.serves(worker, guard) {
             return Err(Refusal::Foreign);
@@ -343,7 +419,7 @@ impl<P: Payload + Small, A: Allocator> Tree<P, A> {
         guard: &Guard,
     ) -> Result<Option<(P, Option<P>)>, Refusal>
         requires { C.can_answer answers.old }
-        ensures { Serves (is_held_by self.now.id worker.now guard.now) (Computes P.same_as P.always_copies C.answers worker.now.number (op.ComputePresent key) answers.old computed) result }
+        ensures { Serves (is_held_by self.now.id worker.now guard.now) (Computes (ByHold P.same_as P.always_copies) C.answers worker.now.number (op.ComputePresent key) answers.old computed) result }
     {
         if !self.serves(worker, guard) {
             return Err(Refusal::Foreign);
@@ -361,7 +437,7 @@ impl<P: Payload + Small, A: Allocator> Tree<P, A> {
         guard: &Guard,
     ) -> Result<Option<P>, Refusal>
         requires { C.can_answer answers.old }
-        ensures { Serves (is_held_by self.now.id worker.now guard.now) (Computes P.same_as P.always_copies C.answers worker.now.number (op.ComputeInsert key) answers.old replaced) result }
+        ensures { Serves (is_held_by self.now.id worker.now guard.now) (Computes (ByHold P.same_as P.always_copies) C.answers worker.now.number (op.ComputeInsert key) answers.old replaced) result }
     {
         if !self.serves(worker, guard) {
             return Err(Refusal::Foreign);
@@ -379,97 +455,11 @@ impl<P: Payload + Small, A: Allocator> Tree<P, A> {
         worker: &Worker,
         guard: &Guard,
     ) -> Result<Result<Option<P>, Option<P>>, Refusal>
-        ensures { Serves (is_held_by self.now.id worker.now guard.now) (Answers P.same_as P.always_copies worker.now.number (op.Exchange key old new) exchanged) result }
+        ensures { Serves (is_held_by self.now.id worker.now guard.now) (Answers (ByHold P.same_as P.always_copies) worker.now.number (op.Exchange key old new) exchanged) result }
     {
         if !self.serves(worker, guard) {
             return Err(Refusal::Foreign);
         }
         exchanged(self.call(rt, worker, Op::Exchange(key, old, new)))
-    }
-
-    /// Writes the pairs of a range to the places, and gives their number.
-    pub(crate) fn range<Q: Pair<P>, R: Wait>(
-        &self,
-        rt: &R,
-        start: u64,
-        end: u64,
-        found: &mut [Q],
-        worker: &Worker,
-        guard: &Guard,
-    ) -> Result<usize, Refusal>
-        ensures answers { Serves (is_held_by self.now.id worker.now guard.now)
-            (Scans P.same_as P.always_copies Q.pair worker.now.number (op.Range start end (length found.old)) found.old found.new scanned) result }
-        ensures foreign { is_held_by self.now.id worker.now guard.now ≡ false → found.new ≡ found.old }
-    {
-        if !self.serves(worker, guard) {
-            return Err(Refusal::Foreign);
-        }
-        let scan = Op::Range(start, end, found.len());
-        scanned(self.scan(rt, worker, scan, found))
-    }
-
-    /// Whether no key has a value, at its one step.
-    pub(crate) fn is_empty<R: Wait>(
-        &self,
-        rt: &R,
-        worker: &Worker,
-        guard: &Guard,
-    ) -> Result<bool, Refusal>
-        ensures { Serves (is_held_by self.now.id worker.now guard.now) (Answers P.same_as P.always_copies worker.now.number op.IsEmpty emptied) result }
-    {
-        if !self.serves(worker, guard) {
-            return Err(Refusal::Foreign);
-        }
-        emptied(self.call(rt, worker, Op::IsEmpty))
-    }
-
-    /// All keys, ascending, at its one step.
-    pub(crate) fn keys<R: Wait>(&self, rt: &R, worker: &Worker) -> Result<Vec<u64>, Refusal>
-        ensures { Serves (is_of self.now.id worker.now) (Answers P.same_as P.always_copies worker.now.number op.Keys listed) result }
-    {
-        if !self.owns(worker) {
-            return Err(Refusal::Foreign);
-        }
-        listed(self.call(rt, worker, Op::Keys))
-    }
-
-    /// How the nodes are spread over levels and forms, and how many pairs there are, at its one step.
-    pub(crate) fn stats<R: Wait>(&self, rt: &R, worker: &Worker) -> Result<NodeStats, Refusal>
-        ensures { Serves (is_of self.now.id worker.now) (Answers P.same_as P.always_copies worker.now.number op.Stats counted) result }
-    {
-        if !self.owns(worker) {
-            return Err(Refusal::Foreign);
-        }
-        counted(self.call(rt, worker, Op::Stats))
-    }
-
-    /// The bytes charged to the allocator.
-    pub(crate) fn charged<R: Wait>(&self, rt: &R) -> u64 {
-        self.lock().lock(rt).world.charged()
-    }
-
-    /// The nodes that wait for their destruction.
-    pub(crate) fn waiting<R: Wait>(&self, rt: &R) -> u64 {
-        self.lock().lock(rt).world.waiting()
-    }
-
-    /// Their sizes, in bytes.
-    pub(crate) fn waiting_bytes<R: Wait>(&self, rt: &R) -> u64 {
-        self.lock().lock(rt).world.waiting_bytes()
-    }
-
-    /// Hands each pair to the drainer, ascending by key, and gives both back. Refused as WorkersLeft while workers are
-    /// registered, and the index and the drainer come back.
-    pub(crate) fn close<D: Drainer<u64, P>>(self, drainer: D) -> Result<(A, D), (Refusal, Self, D)>
-        requires { D.can_drain drainer }
-        ensures closed { IfOk result (λ r. Closes D.drains drainer (A.charged_of r.0) (A.limit_of r.0) r.1) }
-        ensures workers { IfErr result (λ e. HasWorkers e.0) }
-        ensures back { IfErr result (λ e. (e.1.id ≡ self.id) × (e.2 ≡ drainer)) }
-    {
-        let id = self.id;
-        match self.into_world().close(drainer) {
-            Ok(closed) => Ok(closed),
-            Err((refusal, world, drainer)) => Err((refusal, Tree::of(id, world), drainer)),
-        }
     }
 }

@@ -3,7 +3,7 @@
 ghost use Rattle.std.specs.Prelude.{◌≡◌, ℕ, false, length, map, nat_eq, true, IfErr, IfOk, MatchResult};
 ghost use Rattle.std.specs.Option.{option_map};
 ghost use Rattle.joint.specs.Opening.{IsUnopened};
-ghost use Rattle.joint.specs.Threads.{Answers, AreKeys, As, Closes, Computes, Hands, HasWorkers, IsHold, IsRound, Pins, Scans, Serves, is_held_by, is_of, register_step, registered};
+ghost use Rattle.joint.specs.Threads.{Answers, AreKeys, As, ByHold, Closes, Computes, Hands, HasWorkers, IsHold, IsRound, Pins, Scans, Serves, is_held_by, is_of, register_step, registered};
 ghost use Rattle.joint.specs.Threads.{computed, counted, either_of, either_words, emptied, exchanged, got, if_present, inserted, listed, or_insert, removed, replaced, scanned, told, words};
 ghost use Rattle.joint.specs.declared.steps.Op.TheVariants as op;
 
@@ -11,6 +11,7 @@ use crate::limits::Limits;
 use crate::refusal::Refusal;
 use crate::threads::answers::{IfPresent, OrInsert};
 use crate::threads::driver::Pair;
+use crate::threads::locked::Plain;
 use crate::threads::tokens::{Guard, Worker};
 use crate::threads::tree::Tree;
 use congee::{Allocator, DefaultAllocator, Drainer, NoDrain, NodeStats, Word64};
@@ -25,7 +26,7 @@ use std::sync::Wait;
 /// another worker's guard, is refused as Foreign, and does nothing.
 #[derive(Drop)]
 pub struct Congee<K, V, A: Allocator = DefaultAllocator, D = NoDrain> {
-    tree: Tree<u64, A>,
+    tree: Tree<u64, Plain<u64, A>>,
     drainer: D,
     alloc: Global,
     words: PhantomData<(K, V)>,
@@ -42,7 +43,7 @@ fn word_of<V: Word64>(word: Option<u64>) -> Option<V>
 }
 
 /// The word of a value, if there is one.
-fn to_word<V: Word64>(value: &Option<V>) -> Option<u64>
+pub(crate) fn to_word<V: Word64>(value: &Option<V>) -> Option<u64>
     ensures { result ≡ option_map V.word value.now }
 {
     match value {
@@ -52,7 +53,7 @@ fn to_word<V: Word64>(value: &Option<V>) -> Option<u64>
 }
 
 /// The value of an answer.
-fn words<V: Word64>(answer: Result<Option<u64>, Refusal>) -> Result<Option<V>, Refusal>
+pub(crate) fn words<V: Word64>(answer: Result<Option<u64>, Refusal>) -> Result<Option<V>, Refusal>
     ensures { result ≡ words V.of_word answer }
 {
     match answer {
@@ -62,7 +63,7 @@ fn words<V: Word64>(answer: Result<Option<u64>, Refusal>) -> Result<Option<V>, R
 }
 
 /// The values of an exchange's answer.
-fn either_words<V: Word64>(
+pub(crate) fn either_words<V: Word64>(
     answer: Result<Result<Option<u64>, Option<u64>>, Refusal>,
 ) -> Result<Result<Option<V>, Option<V>>, Refusal>
     ensures { result ≡ either_words V.of_word answer }
@@ -127,7 +128,7 @@ impl<K: Word64, V: Word64, A: Allocator, D: Drop> Congee<K, V, A, D> {
     /// The worker leaves its place; what it removed waits on. Refused as GuardOut while it is pinned, as Memory where
     /// its removals can't be queued, and as Foreign; it comes back.
     pub fn release<R: Wait>(&self, rt: &R, worker: Worker) -> Result<(), (Refusal, Worker)>
-        ensures { Hands (is_of self.now.tree.id worker) (Answers nat_eq true worker.number op.Release told) worker result }
+        ensures { Hands (is_of self.now.tree.id worker) (Answers (ByHold nat_eq true) worker.number op.Release told) worker result }
     {
         self.tree.release(rt, worker)
     }
@@ -135,7 +136,7 @@ impl<K: Word64, V: Word64, A: Allocator, D: Drop> Congee<K, V, A, D> {
     /// A guard. Refused as Count where 65,535 guards of the worker are out.
     pub fn pin<R: Wait>(&self, rt: &R, worker: &mut Worker) -> Result<Guard, Refusal>
         ensures worker { worker.new ≡ worker.old }
-        ensures answers { Serves (is_of self.now.tree.id worker.old) (Pins nat_eq true self.now.tree.id worker.old.number) result }
+        ensures answers { Serves (is_of self.now.tree.id worker.old) (Pins (ByHold nat_eq true) self.now.tree.id worker.old.number) result }
     {
         self.tree.pin(rt, worker)
     }
@@ -148,7 +149,7 @@ impl<K: Word64, V: Word64, A: Allocator, D: Drop> Congee<K, V, A, D> {
         guard: Guard,
     ) -> Result<(), (Refusal, Guard)>
         ensures worker { worker.new ≡ worker.old }
-        ensures answers { Hands (is_held_by self.now.tree.id worker.old guard) (Answers nat_eq true worker.old.number op.Unpin told) guard result }
+        ensures answers { Hands (is_held_by self.now.tree.id worker.old guard) (Answers (ByHold nat_eq true) worker.old.number op.Unpin told) guard result }
     {
         self.tree.unpin(rt, worker, guard)
     }
@@ -157,7 +158,7 @@ impl<K: Word64, V: Word64, A: Allocator, D: Drop> Congee<K, V, A, D> {
     /// queued; then nothing was done.
     pub fn flush<R: Wait>(&self, rt: &R, worker: &mut Worker, guard: &Guard) -> Result<(), Refusal>
         ensures worker { worker.new ≡ worker.old }
-        ensures answers { Serves (is_held_by self.now.tree.id worker.old guard.now) (Answers nat_eq true worker.old.number op.Flush told) result }
+        ensures answers { Serves (is_held_by self.now.tree.id worker.old guard.now) (Answers (ByHold nat_eq true) worker.old.number op.Flush told) result }
     {
         self.tree.flush(rt, worker, guard)
     }
@@ -165,7 +166,7 @@ impl<K: Word64, V: Word64, A: Allocator, D: Drop> Congee<K, V, A, D> {
     /// Pins the worker anew at the present epoch, where this is its only guard.
     pub fn repin<R: Wait>(&self, rt: &R, worker: &mut Worker, guard: &Guard) -> Result<(), Refusal>
         ensures worker { worker.new ≡ worker.old }
-        ensures answers { Serves (is_held_by self.now.tree.id worker.old guard.now) (Answers nat_eq true worker.old.number op.Repin told) result }
+        ensures answers { Serves (is_held_by self.now.tree.id worker.old guard.now) (Answers (ByHold nat_eq true) worker.old.number op.Repin told) result }
     {
         self.tree.repin(rt, worker, guard)
     }
@@ -173,7 +174,7 @@ impl<K: Word64, V: Word64, A: Allocator, D: Drop> Congee<K, V, A, D> {
     /// Pin, flush, unpin. Answers the first refusal; after a refused flush it unpins too.
     pub fn round<R: Wait>(&self, rt: &R, worker: &mut Worker) -> Result<(), Refusal>
         ensures worker { worker.new ≡ worker.old }
-        ensures answers { Serves (is_of self.now.tree.id worker.old) (IsRound nat_eq true worker.old.number) result }
+        ensures answers { Serves (is_of self.now.tree.id worker.old) (IsRound (ByHold nat_eq true) worker.old.number) result }
     {
         self.tree.round(rt, worker)
     }
@@ -188,7 +189,7 @@ impl<K: Word64, V: Word64, A: Allocator, D: Drop> Congee<K, V, A, D> {
     ) -> Result<Option<V>, Refusal>
         ensures worker { worker.new ≡ worker.old }
         ensures answers { As (Serves (is_held_by self.now.tree.id worker.old guard.now)
-            (Answers nat_eq true worker.old.number (op.Get (K.word key.now)) got)) (words V.of_word) result }
+            (Answers (ByHold nat_eq true) worker.old.number (op.Get (K.word key.now)) got)) (words V.of_word) result }
     {
         words(self.tree.get(rt, key.to_word(), worker, guard))
     }
@@ -204,7 +205,7 @@ impl<K: Word64, V: Word64, A: Allocator, D: Drop> Congee<K, V, A, D> {
     ) -> Result<Option<V>, Refusal>
         ensures worker { worker.new ≡ worker.old }
         ensures answers { As (Serves (is_held_by self.now.tree.id worker.old guard.now)
-            (Answers nat_eq true worker.old.number (op.Insert (K.word key) (V.word value)) inserted)) (words V.of_word) result }
+            (Answers (ByHold nat_eq true) worker.old.number (op.Insert (K.word key) (V.word value)) inserted)) (words V.of_word) result }
     {
         words(
             self.tree
@@ -222,7 +223,7 @@ impl<K: Word64, V: Word64, A: Allocator, D: Drop> Congee<K, V, A, D> {
     ) -> Result<Option<V>, Refusal>
         ensures worker { worker.new ≡ worker.old }
         ensures answers { As (Serves (is_held_by self.now.tree.id worker.old guard.now)
-            (Answers nat_eq true worker.old.number (op.Remove (K.word key.now)) removed)) (words V.of_word) result }
+            (Answers (ByHold nat_eq true) worker.old.number (op.Remove (K.word key.now)) removed)) (words V.of_word) result }
     {
         words(self.tree.remove(rt, key.to_word(), worker, guard))
     }
@@ -240,7 +241,7 @@ impl<K: Word64, V: Word64, A: Allocator, D: Drop> Congee<K, V, A, D> {
         requires { F.IsAlwaysCallable f }
         ensures worker { worker.new ≡ worker.old }
         ensures answers { Serves (is_held_by self.now.tree.id worker.old guard.now)
-            (Computes nat_eq true (if_present F.step) worker.old.number (op.ComputePresent (K.word key.now)) f computed) result }
+            (Computes (ByHold nat_eq true) (if_present F.step) worker.old.number (op.ComputePresent (K.word key.now)) f computed) result }
     {
         let mut answers = IfPresent::new(f);
         let answer = self
@@ -263,7 +264,7 @@ impl<K: Word64, V: Word64, A: Allocator, D: Drop> Congee<K, V, A, D> {
         requires { F.IsAlwaysCallable f }
         ensures worker { worker.new ≡ worker.old }
         ensures answers { As (Serves (is_held_by self.now.tree.id worker.old guard.now)
-            (Computes nat_eq true (or_insert F.step) worker.old.number (op.ComputeInsert (K.word key)) f replaced)) (words V.of_word) result }
+            (Computes (ByHold nat_eq true) (or_insert F.step) worker.old.number (op.ComputeInsert (K.word key)) f replaced)) (words V.of_word) result }
     {
         let mut answers = OrInsert::new(f);
         let before = self
@@ -286,7 +287,7 @@ impl<K: Word64, V: Word64, A: Allocator, D: Drop> Congee<K, V, A, D> {
     ) -> Result<Result<Option<V>, Option<V>>, Refusal>
         ensures worker { worker.new ≡ worker.old }
         ensures answers { As (Serves (is_held_by self.now.tree.id worker.old guard.now)
-            (Answers nat_eq true worker.old.number (op.Exchange (K.word key.now) (V.word old.now) (option_map V.word new)) exchanged)) (either_words V.of_word) result }
+            (Answers (ByHold nat_eq true) worker.old.number (op.Exchange (K.word key.now) (V.word old.now) (option_map V.word new)) exchanged)) (either_words V.of_word) result }
     {
         let (key, old, new) = (key.to_word(), old.to_word(), to_word(&new));
         either_words(self.tree.compare_exchange(rt, key, old, new, worker, guard))
@@ -305,7 +306,7 @@ impl<K: Word64, V: Word64, A: Allocator, D: Drop> Congee<K, V, A, D> {
     ) -> Result<usize, Refusal>
         ensures worker { worker.new ≡ worker.old }
         ensures answers { Serves (is_held_by self.now.tree.id worker.old guard.now)
-            (Scans nat_eq true (λ k v. (k, v)) worker.old.number (op.Range (K.word start.now) (K.word end.now) (length out.old)) out.old out.new scanned) result }
+            (Scans (ByHold nat_eq true) (λ k v. (k, v)) worker.old.number (op.Range (K.word start.now) (K.word end.now) (length out.old)) out.old out.new scanned) result }
         ensures foreign { is_held_by self.now.tree.id worker.old guard.now ≡ false → out.new ≡ out.old }
     {
         self.range_to(rt, start.to_word(), end.to_word(), out, worker, guard)
@@ -323,7 +324,7 @@ impl<K: Word64, V: Word64, A: Allocator, D: Drop> Congee<K, V, A, D> {
     ) -> Result<usize, Refusal>
         ensures worker { worker.new ≡ worker.old }
         ensures answers { Serves (is_held_by self.now.tree.id worker.old guard.now)
-            (Scans nat_eq true Q.pair worker.old.number (op.Range start end (length out.old)) out.old out.new scanned) result }
+            (Scans (ByHold nat_eq true) Q.pair worker.old.number (op.Range start end (length out.old)) out.old out.new scanned) result }
         ensures foreign { is_held_by self.now.tree.id worker.old guard.now ≡ false → out.new ≡ out.old }
     {
         self.tree.range(rt, start, end, out, worker, guard)
@@ -337,7 +338,7 @@ impl<K: Word64, V: Word64, A: Allocator, D: Drop> Congee<K, V, A, D> {
         guard: &Guard,
     ) -> Result<bool, Refusal>
         ensures worker { worker.new ≡ worker.old }
-        ensures answers { Serves (is_held_by self.now.tree.id worker.old guard.now) (Answers nat_eq true worker.old.number op.IsEmpty emptied) result }
+        ensures answers { Serves (is_held_by self.now.tree.id worker.old guard.now) (Answers (ByHold nat_eq true) worker.old.number op.IsEmpty emptied) result }
     {
         self.tree.is_empty(rt, worker, guard)
     }
@@ -345,7 +346,7 @@ impl<K: Word64, V: Word64, A: Allocator, D: Drop> Congee<K, V, A, D> {
     /// All keys, ascending, at its one step. It wants no guard. Refused as Memory.
     pub fn keys<R: Wait>(&self, rt: &R, worker: &mut Worker) -> Result<Vec<K>, Refusal>
         ensures worker { worker.new ≡ worker.old }
-        ensures answers { (answer : _) × Serves (is_of self.now.tree.id worker.old) (Answers nat_eq true worker.old.number op.Keys listed) answer × AreKeys K.of_word answer result }
+        ensures answers { (answer : _) × Serves (is_of self.now.tree.id worker.old) (Answers (ByHold nat_eq true) worker.old.number op.Keys listed) answer × AreKeys K.of_word answer result }
     {
         are_keys(self.alloc, self.tree.keys(rt, worker))
     }
@@ -354,7 +355,7 @@ impl<K: Word64, V: Word64, A: Allocator, D: Drop> Congee<K, V, A, D> {
     /// Refused as Memory.
     pub fn stats<R: Wait>(&self, rt: &R, worker: &mut Worker) -> Result<NodeStats, Refusal>
         ensures worker { worker.new ≡ worker.old }
-        ensures answers { Serves (is_of self.now.tree.id worker.old) (Answers nat_eq true worker.old.number op.Stats counted) result }
+        ensures answers { Serves (is_of self.now.tree.id worker.old) (Answers (ByHold nat_eq true) worker.old.number op.Stats counted) result }
     {
         self.tree.stats(rt, worker)
     }
@@ -387,7 +388,7 @@ impl<K: Word64, V: Word64, A: Allocator> Congee<K, V, A, NoDrain> {
 }
 
 /// Takes words, and hands keys and values on.
-struct OfWords<K, V, D> {
+pub(crate) struct OfWords<K, V, D> {
     drainer: D,
     words: PhantomData<(K, V)>,
 }
@@ -422,7 +423,7 @@ impl<K: Word64, V: Word64, D: Drainer<K, V>> Drainer<u64, u64> for OfWords<K, V,
 }
 
 impl<K, V, D> OfWords<K, V, D> {
-    fn new(drainer: D) -> Self
+    pub(crate) fn new(drainer: D) -> Self
         ensures { result ≡ drainer }
     {
         OfWords {
@@ -432,7 +433,7 @@ impl<K, V, D> OfWords<K, V, D> {
     }
 
     /// Gives the drainer back.
-    fn into_inner(self) -> D
+    pub(crate) fn into_inner(self) -> D
         ensures { result ≡ self }
     {
         let OfWords { drainer, words: _ } = self;
