@@ -1,15 +1,14 @@
-//! What the program tells of threads that called.
-ghost use Rattle.std.specs.Prelude.{◌≡◌, IfErr, OnOk};
+//! What the program tells of workers that called at once.
+ghost use Rattle.std.specs.Prelude.{◌≡◌, IfOk, Some, string_bytes};
+ghost use Rattle.trial.specs.Histories.{history_text, told_text};
 
-use crate::end::End;
-use crate::output::Output;
-use crate::printing::{put_reply, put_spaced};
-use crate::reply::Reply;
+use crate::reply::{Refused, Reply};
+use joint::Refusal;
 use judge::Verdict;
-use std::alloc::Global;
-use std::io::Write;
+use std::alloc::{AllocError, Global};
+use std::fmt;
 
-/// What is told of the calls of threads that have ended.
+/// What is told of the calls of workers that have ended.
 #[derive(Clone, Copy, Debug, PartialEq, Eq)]
 pub struct History {
     /// The entries of the journal.
@@ -22,35 +21,25 @@ pub struct History {
     pub ledger: u64,
 }
 
-/// Puts what an audit told.
-fn put_audit<W: Write>(output: &mut Output, writer: &mut W, audited: bool) -> Result<(), End>
-{
-    let text: &[u8] = if audited {
-        b"audit true\n"
-    } else {
-        b"audit false\n"
-    };
-    output.put(writer, text)
+impl fmt::Display for History {
+    ghost output = { λ h. Some (history_text h) };
+
+    fn fmt<W: fmt::Write>(&self, f: &mut fmt::Formatter<W>) -> fmt::Result {
+        let journal = Reply::Journal(self.entries, self.verdict);
+        let (audited, ledger) = (self.audited, self.ledger);
+        write!(f, "{journal}\naudit {audited}\nledger {ledger}\n")
+    }
 }
 
-/// Puts what a ledger counted.
-fn put_ledger<W: Write>(output: &mut Output, writer: &mut W, count: u64) -> Result<(), End>
+/// What is printed of a history, or of the refusal in its place.
+pub fn text(alloc: Global, history: &Result<History, Refusal>) -> Result<String, AllocError>
+    ensures { IfOk result (λ text. string_bytes text ≡ told_text history.now) }
 {
-    output.put(writer, b"ledger")?;
-    put_spaced(output, writer, count)?;
-    output.put(writer, b"\n")
-}
-
-/// Puts a history, on three lines.
-pub fn put_history<W: Write>(
-    alloc: Global,
-    output: &mut Output,
-    writer: &mut W,
-    history: &History,
-) -> Result<(), End>
-{
-    let journal = Reply::Journal(history.entries, history.verdict);
-    put_reply(alloc, output, writer, &journal)?;
-    put_audit(output, writer, history.audited)?;
-    put_ledger(output, writer, history.ledger)
+    match history {
+        Ok(history) => format!(in alloc; "{history}"),
+        Err(refusal) => {
+            let refused = Reply::Refused(Refused::Tree(*refusal));
+            format!(in alloc; "{refused}\n")
+        }
+    }
 }

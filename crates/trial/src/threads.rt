@@ -1,13 +1,13 @@
 //! Workers of an index that call at once, each in a thread of its own, and what is told of it.
-ghost use Rattle.std.specs.Prelude.{◌≡◌};
+ghost use Rattle.std.specs.Prelude.{◌≡◌, ◌+◌, ◌<◌, ℕ, IfOk, OnErr, OnOk, Ok, Some, length, slice_get, take, vec_len};
+ghost use Rattle.std.specs.Io.KnownBytes.{Appends};
 ghost use Rattle.trial.specs.Arguments.{AreAllowed};
+ghost use Rattle.trial.specs.Histories.{AreCalls, AreKept, IsHistory, Prints, Tells, told_text};
 
 use crate::end::End;
-use crate::history::{History, put_history};
-use crate::output::Output;
-use crate::printing::put_reply;
-use crate::reply::{Refused, Reply};
-use crate::worker::{Caller, Cut, Index};
+use crate::history::{History, text};
+use crate::output::print;
+use crate::worker::{Caller, Cut, Index, Worked};
 use congee::DefaultAllocator;
 use joint::{Journaled, Limits, Refusal, Share, audit};
 use judge::{Entry, check};
@@ -30,10 +30,14 @@ fn open<L: Ledger>(
     calls: u32,
 ) -> Result<(Index<L>, Share<L>), Refusal>
     requires allowed { AreAllowed workers calls }
+    requires name { blank.name ≡ L.name }
+    requires ledger { blank.parts ≡ L.parts }
+    requires parts { blank.parts ≡ workers + 1 }
+    ensures { IfOk result (λ opened. opened.1.parts ≡ workers + 1) }
 {
     let limits = Limits::usual(workers, 2 * workers * calls + CELLS);
     let places = u64::from(workers) * u64::from(calls);
-    let parts = u64::from(workers) + 1;
+    let parts = workers + 1;
     Journaled::new(alloc, limits, DefaultAllocator::new(), places, parts, blank)
 }
 
@@ -44,7 +48,11 @@ fn callers<L: Ledger, R: Wait>(
     index: &Index<L>,
     all: &mut Share<L>,
     workers: u32,
-) -> Result<Vec<Caller<L>>, Cut> {
+) -> Result<Vec<Caller<L>>, Cut>
+    requires parts { workers < all.old.parts }
+    ensures len { IfOk result (λ callers. vec_len callers ≡ workers) }
+    ensures places { IfOk result (λ callers. (i : ℕ) (caller : _) → slice_get callers.items i ≡ Some caller → caller.place ≡ i) }
+{
     let mut callers = Vec::new(alloc);
     for place in 0..workers {
         let worker = index.register(rt)?;
@@ -52,7 +60,6 @@ fn callers<L: Ledger, R: Wait>(
             place,
             worker,
             share: all.split(1),
-            own: Vec::new(alloc),
         })?;
     }
     Ok(callers)
@@ -62,16 +69,16 @@ fn callers<L: Ledger, R: Wait>(
 fn own<L: Ledger>(
     alloc: Global,
     all: &mut Share<L>,
-    worked: Vec<Result<Caller<L>, Cut>>,
-) -> Result<Vec<Vec<Entry<u64>>>, Cut> {
+    worked: Vec<Result<Worked<L>, Cut>>,
+    calls: u32,
+) -> Result<Vec<Vec<Entry<u64>>>, Cut>
+    requires worked { (i : ℕ) (w : _) → slice_get worked.items i ≡ Some (Ok w) → AreCalls calls i w.own.items × (length w.own.items ≡ calls) }
+    ensures len { IfOk result (λ own. vec_len own ≡ vec_len worked) }
+    ensures kept { IfOk result (λ own. AreKept calls own.items) }
+{
     let mut own = Vec::new(alloc);
-    for caller in worked {
-        let Caller {
-            place: _,
-            worker: _,
-            share,
-            own: kept,
-        } = caller?;
+    for one in worked {
+        let Worked { share, own: kept } = one?;
         all.merge(share);
         own.push(kept)?;
     }
@@ -87,14 +94,17 @@ fn history_by<L: Ledger + Send + Sync, R: Threads + Wait + Sync>(
     calls: u32,
 ) -> Result<History, Cut>
     requires allowed { AreAllowed workers calls }
+    requires name { blank.name ≡ L.name }
+    requires ledger { blank.parts ≡ L.parts }
+    requires parts { blank.parts ≡ workers + 1 }
+    ensures { IfOk result (λ history. IsHistory workers calls history) }
 {
     let (index, mut all) = open::<L>(alloc, blank, workers, calls)?;
     let callers = callers(rt, alloc, &index, &mut all, workers)?;
     let shared = &index;
-    let worked = thread::map_vec(rt, callers, &|caller: Caller<L>| {
-        caller.work(rt, shared, calls)
-    })?;
-    let own = own(alloc, &mut all, worked)?;
+    let work = |caller: Caller<L>| caller.work(rt, alloc, shared, calls);
+    let worked = thread::map_vec(rt, callers, &work)?;
+    let own = own(alloc, &mut all, worked, calls)?;
     let ledger = index.gather(rt, &mut all)?;
     let journal = index.entries(rt)?;
     Ok(History {
@@ -113,27 +123,33 @@ fn history<R: Threads + Wait + Sync>(
     calls: u32,
 ) -> Result<History, Cut>
     requires allowed { AreAllowed workers calls }
+    ensures { IfOk result (λ history. IsHistory workers calls history) }
 {
     let blank = Blank::new(u64::from(workers) + 1);
     history_by::<Brand, R>(rt, alloc, blank, workers, calls)
 }
 
 /// Prints what came of the workers' calls.
-fn print<W: Write>(
+fn tell<W: Write>(
     alloc: Global,
     writer: &mut W,
-    history: Result<History, Cut>,
-) -> Result<(), End> {
-    let mut output = Output::new();
-    match history {
-        Ok(history) => put_history(alloc, &mut output, writer, &history)?,
-        Err(Cut::Refused(refusal)) => {
-            let refused = Reply::Refused(Refused::Tree(refusal));
-            put_reply(alloc, &mut output, writer, &refused)?;
-        }
-        Err(Cut::Memory) => return Err(End::Memory),
+    told: &Result<History, Refusal>,
+) -> Result<(), End>
+    ensures ok { OnOk result (Appends (W.contents writer.old) (W.contents writer.new) (told_text told.now)) }
+    ensures err { OnErr result ((n : ℕ) × Appends (W.contents writer.old) (W.contents writer.new) (take n (told_text told.now))) }
+{
+    let text = text(alloc, told)?;
+    print(writer, text.as_bytes())
+}
+
+/// Prints what came of the workers' calls, and tells the exit status.
+fn end<W: Write>(alloc: Global, writer: &mut W, told: Result<History, Refusal>) -> u8
+    ensures { (workers calls : ℕ) → IfOk told (IsHistory workers calls) → Prints (Tells workers calls result) (W.contents writer.old) (W.contents writer.new) }
+{
+    match tell(alloc, writer, &told) {
+        Ok(()) if told.is_ok() => 0,
+        _ => 1,
     }
-    output.flush(writer)
 }
 
 /// Lets so many workers make so many calls each on one index, at once, prints the history, and tells the exit status: 0, or 1
@@ -146,10 +162,12 @@ pub fn threads<R: Threads + Wait + Sync, W: Write>(
     writer: &mut W,
 ) -> u8
     requires allowed { AreAllowed workers calls }
+    ensures { Prints (Tells workers calls result) (W.contents writer.old) (W.contents writer.new) }
 {
-    let history = history(rt, alloc, workers, calls);
-    match print(alloc, writer, history) {
-        Ok(()) if history.is_ok() => 0,
-        _ => 1,
+    match history(rt, alloc, workers, calls) {
+        Ok(history) => end(alloc, writer, Ok(history)),
+        Err(Cut::Refused(refusal)) => end(alloc, writer, Err(refusal)),
+        // Nothing is printed then.
+        Err(Cut::Memory) => 1,
     }
 }

@@ -1,4 +1,7 @@
 //! A worker of the program that lets threads call.
+ghost use Rattle.std.specs.Prelude.{◌≡◌, IfOk, length};
+ghost use Rattle.trial.specs.Histories.{AreCalls, call_at, key_at};
+ghost use Rattle.trial.specs.declared.worker.Cut.TheVariants as why;
 
 use congee::DefaultAllocator;
 use joint::{Every, Guard, Journaled, Refusal, Share, Worker};
@@ -20,7 +23,7 @@ pub enum Cut {
 }
 
 impl From<Refusal> for Cut {
-    ghost from_gives = { λ refusal cut. cut ≡ Refused refusal };
+    ghost from_gives = { λ refusal cut. cut ≡ why.Refused refusal };
 
     fn from(refusal: Refusal) -> Cut {
         Cut::Refused(refusal)
@@ -28,7 +31,7 @@ impl From<Refusal> for Cut {
 }
 
 impl From<AllocError> for Cut {
-    ghost from_gives = { λ _ cut. cut ≡ Memory };
+    ghost from_gives = { λ _ cut. cut ≡ why.Memory };
 
     fn from(_: AllocError) -> Cut {
         Cut::Memory
@@ -36,19 +39,25 @@ impl From<AllocError> for Cut {
 }
 
 impl<T: Drop> From<AllocFailed<T>> for Cut {
-    ghost from_gives = { λ _ cut. cut ≡ Memory };
+    ghost from_gives = { λ _ cut. cut ≡ why.Memory };
 
     fn from(_: AllocFailed<T>) -> Cut {
         Cut::Memory
     }
 }
 
-/// A worker that makes calls, and keeps what it was told.
+/// A worker that is to call.
 #[derive(Drop)]
 pub struct Caller<L: Ledger> {
     /// Which of the workers it is, counted from 0.
     pub place: u32,
     pub worker: Worker,
+    pub share: Share<L>,
+}
+
+/// What a worker brings back from its calls.
+#[derive(Drop)]
+pub struct Worked<L: Ledger> {
     pub share: Share<L>,
     /// The entries of its calls, in its order.
     pub own: Vec<Entry<u64>>,
@@ -57,6 +66,7 @@ pub struct Caller<L: Ledger> {
 impl<L: Ledger> Caller<L> {
     /// The key of its call of this number.
     fn key(&self, number: u32) -> u64
+        ensures { result ≡ key_at self.now.place number }
     {
         (7 * u64::from(self.place) + u64::from(number)) % 64
     }
@@ -69,7 +79,10 @@ impl<L: Ledger> Caller<L> {
         guard: &Guard,
         number: u32,
         calls: u32,
-    ) -> Result<Entry<u64>, Refusal> {
+    ) -> Result<Entry<u64>, Refusal>
+        ensures made { IfOk result (λ entry. entry.call ≡ call_at calls self.old.place number) }
+        ensures place { self.new.place ≡ self.old.place }
+    {
         let key = self.key(number);
         let (share, worker) = (&mut self.share, &mut self.worker);
         let (call, reply) = match number % 4 {
@@ -101,7 +114,10 @@ impl<L: Ledger> Caller<L> {
         index: &Index<L>,
         number: u32,
         calls: u32,
-    ) -> Result<Entry<u64>, Refusal> {
+    ) -> Result<Entry<u64>, Refusal>
+        ensures made { IfOk result (λ entry. entry.call ≡ call_at calls self.old.place number) }
+        ensures place { self.new.place ≡ self.old.place }
+    {
         let guard = index.pin(rt, &mut self.worker)?;
         let called = self.call(rt, index, &guard, number, calls);
         match index.unpin(rt, &mut self.worker, guard) {
@@ -114,12 +130,24 @@ impl<L: Ledger> Caller<L> {
     }
 
     /// Makes all its calls, one after the other.
-    pub fn work<R: Wait>(self, rt: &R, index: &Index<L>, calls: u32) -> Result<Caller<L>, Cut> {
+    pub fn work<R: Wait>(
+        self,
+        rt: &R,
+        alloc: Global,
+        index: &Index<L>,
+        calls: u32,
+    ) -> Result<Worked<L>, Cut>
+        ensures made { IfOk result (λ worked. AreCalls calls self.place worked.own.items) }
+        ensures all { IfOk result (λ worked. length worked.own.items ≡ calls) }
+    {
         let mut caller = self;
+        let mut own = Vec::new(alloc);
         for number in 0..calls {
-            let entry = caller.call_pinned(rt, index, number, calls)?;
-            caller.own.push(entry)?;
+            own.push(caller.call_pinned(rt, index, number, calls)?)?;
         }
-        Ok(caller)
+        Ok(Worked {
+            share: caller.share,
+            own,
+        })
     }
 }
