@@ -1,5 +1,5 @@
 //! What the program's arguments ask for.
-ghost use Rattle.std.specs.Prelude.{◌≡◌, ◌^◌, ◌<◌, ◌≤◌, ℕ, IfSome, IfNone, decimal};
+ghost use Rattle.std.specs.Prelude.{◌≡◌, ◌^◌, ◌<◌, ◌≤◌, ℕ, IfSome, Some, decimal};
 ghost use Rattle.trial.specs.Arguments.{Asks, AsksThreads};
 ghost use Rattle.trial.specs.declared.arguments.Asked.{Asked};
 
@@ -24,7 +24,7 @@ pub enum Asked {
 #[tactic(auto, using(std::proofs::lemmas::Fmt::decimal_injective))]
 fn number_to(word: &[u8], most: u32) -> Option<u32>
     ensures found { IfSome result (λ n. (word.now ≡ decimal n) × (1 ≤ n) × (n ≤ most)) }
-    ensures none { IfNone result ((n : ℕ) → 1 ≤ n → n ≤ most → word.now ≡ decimal n → ⊥) }
+    ensures only { (n : ℕ) → 1 ≤ n → n ≤ most → word.now ≡ decimal n → result ≡ Some n }
 {
     match number(word)? {
         n if 1 <= n && n <= most as u64 => Some(n as u32),
@@ -35,7 +35,7 @@ fn number_to(word: &[u8], most: u32) -> Option<u32>
 /// What the words ask for that stand after `threads`.
 fn threads(workers: &[u8], calls: &[u8]) -> Option<Asked>
     ensures asked { IfSome result (λ asked. AsksThreads workers.now calls.now asked) }
-    ensures none { IfNone result ((asked : Asked) → AsksThreads workers.now calls.now asked → ⊥) }
+    ensures only { (asked : Asked) → AsksThreads workers.now calls.now asked → result ≡ Some asked }
 {
     Some(Asked::Threads {
         workers: number_to(workers, WORKERS_MAX)?,
@@ -46,7 +46,7 @@ fn threads(workers: &[u8], calls: &[u8]) -> Option<Asked>
 /// What the arguments ask for, without the program's name; none where they ask for nothing that the program does.
 pub fn read(arguments: &[String]) -> Option<Asked>
     ensures asked { IfSome result (λ asked. Asks arguments.now asked) }
-    ensures none { IfNone result ((asked : Asked) → Asks arguments.now asked → ⊥) }
+    ensures only { (asked : Asked) → Asks arguments.now asked → result ≡ Some asked }
 {
     match arguments {
         [] => Some(Asked::Script),

@@ -1,4 +1,5 @@
-//! Reads a script from standard input, one command a line, and prints the replies.
+//! Reads a script from standard input, one command a line, and prints the replies; or lets threads call on one index, and
+//! prints whether their history is legal.
 #![tactic(auto)]
 
 mod arguments;
@@ -43,10 +44,9 @@ fn words(rt: &HostRuntime) -> io::Result<Vec<String>> {
 fn main(rt: HostRuntime) -> ExitCode {
     let mut reader = rt.reader();
     let mut writer = io::writer(&rt);
-    let status = match words(&rt) {
+    match words(&rt) {
         Ok(words) => start::start(&rt, rt.alloc(), &words, &mut reader, &mut writer),
-        Err(error) if error.kind() == ErrorKind::OutOfMemory => 1,
+        Err(error) if error.kind() == ErrorKind::OutOfMemory => ExitCode::FAILURE,
         Err(_) => start::usage(&mut writer),
-    };
-    ExitCode::from(status)
+    }
 }

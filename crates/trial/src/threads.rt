@@ -102,7 +102,9 @@ fn history_by<L: Ledger + Send + Sync, R: Threads + Wait + Sync>(
     let (index, mut all) = open::<L>(alloc, blank, workers, calls)?;
     let callers = callers(rt, alloc, &index, &mut all, workers)?;
     let shared = &index;
-    let work = |caller: Caller<L>| caller.work(rt, alloc, shared, calls);
+    let work = move |caller: Caller<L>| -> Result<Worked<L>, Cut>
+        ensures { IfOk result (λ worked. AreCalls calls caller.place worked.own.items × (length worked.own.items ≡ calls)) }
+    { caller.work(rt, alloc, shared, calls) };
     let worked = thread::map_vec(rt, callers, &work)?;
     let own = own(alloc, &mut all, worked, calls)?;
     let ledger = index.gather(rt, &mut all)?;
@@ -125,8 +127,7 @@ fn history<R: Threads + Wait + Sync>(
     requires allowed { AreAllowed workers calls }
     ensures { IfOk result (λ history. IsHistory workers calls history) }
 {
-    let blank = Blank::new(u64::from(workers) + 1);
-    history_by::<Brand, R>(rt, alloc, blank, workers, calls)
+    history_by::<Brand, R>(rt, alloc, Blank::new(workers as u64 + 1), workers, calls)
 }
 
 /// Prints what came of the workers' calls.
@@ -136,7 +137,7 @@ fn tell<W: Write>(
     told: &Result<History, Refusal>,
 ) -> Result<(), End>
     ensures ok { OnOk result (Appends (W.contents writer.old) (W.contents writer.new) (told_text told.now)) }
-    ensures err { OnErr result ((n : ℕ) × Appends (W.contents writer.old) (W.contents writer.new) (take n (told_text told.now))) }
+    ensures front { (n : ℕ) × Appends (W.contents writer.old) (W.contents writer.new) (take n (told_text told.now)) }
 {
     let text = text(alloc, told)?;
     print(writer, text.as_bytes())
