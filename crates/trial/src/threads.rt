@@ -131,11 +131,7 @@ fn history<R: Threads + Wait + Sync>(
 }
 
 /// Prints what came of the workers' calls.
-fn tell<W: Write>(
-    alloc: Global,
-    writer: &mut W,
-    told: &Result<History, Refusal>,
-) -> Result<(), End>
+fn tell<W: Write>(alloc: Global, writer: &mut W, told: &Result<History, Refusal>) -> Result<(), End>
     ensures ok { OnOk result (Appends (W.contents writer.old) (W.contents writer.new) (told_text told.now)) }
     ensures front { (n : ℕ) × Appends (W.contents writer.old) (W.contents writer.new) (take n (told_text told.now)) }
 {

@@ -5,18 +5,20 @@ use Rattle.trial.specs.Histories.{AreCalls}
 use Rattle.trial.proofs.threads.history_by.Goals as goal
 
 pub own-requires : goal.own-requires
-own-requires g c = record { worked = λ i w e.
-    let ws = c.in_ok-worked.worked.items in
-    let cs = c.in_ok-callers.callers.items in
-    let read = get_or_from_slice_get ws i (Ok w) (Ok w) e in
-    let within : i < length ws = slice_get_within ws i (Ok w) e in
-    let lens : length ws ≡ length cs = search rules in
-    let lt : i < length cs = subst (λ n. i < n) lens within in
-    let given = (c.in_ok-worked.ensures.each i (Ok w) lt).1 in
-    let post : IfOk (slice_index_or ws i (Ok w)) (λ v. AreCalls c.args.calls given.job.place v.own.items × (length v.own.items ≡ c.args.calls)) = given.call.met in
-    let made = subst (λ r. IfOk r (λ v. AreCalls c.args.calls given.job.place v.own.items × (length v.own.items ≡ c.args.calls))) read post in
-    let at = c.in_ok-callers.ensures.places i given.job (slice_get-get_or cs i given.job lt ∙ ap Some (given.job_is given.job)) in
-    subst (λ p. AreCalls c.args.calls p w.own.items × (length w.own.items ≡ c.args.calls)) at made }
+own-requires g c = record {
+  worked = λ i w e.
+      let ws = c.in_ok-worked.worked.items in
+      let cs = c.in_ok-callers.callers.items in
+      let read = get_or_from_slice_get ws i (Ok w) (Ok w) e in
+      let within : i < length ws = slice_get_within ws i (Ok w) e in
+      let lens : length ws ≡ length cs = search rules in
+      let lt : i < length cs = subst (λ n. i < n) lens within in
+      let given = (c.in_ok-worked.ensures.each i (Ok w) lt).1 in
+      let post : IfOk (slice_index_or ws i (Ok w)) (λ v. AreCalls c.args.calls given.job.place v.own.items × (length v.own.items ≡ c.args.calls)) = given.call.met in
+      let made = subst (λ r. IfOk r (λ v. AreCalls c.args.calls given.job.place v.own.items × (length v.own.items ≡ c.args.calls))) read post in
+      let at = c.in_ok-callers.ensures.places i given.job (slice_get-get_or cs i given.job lt ∙ ap Some (given.job_is given.job)) in
+      subst (λ p. AreCalls c.args.calls p w.own.items × (length w.own.items ≡ c.args.calls)) at made;
+}
 
 pub returns : goal.returns
 returns g c =
