@@ -61,6 +61,6 @@ abbrev pub Tells : ℕ → ℕ → ℕ → List ℕ → Type 0
 Tells workers calls status text = (told : Result History Refusal) × IfOk told (IsHistory workers calls)
     × (((status ≡ 0) × IsOk told × (text ≡ told_text told)) ⊎ ((status ≡ 1) × (n : ℕ) × (text ≡ take n (told_text told))))
 
--- a text of this kind was printed
-abbrev pub Prints : (List ℕ → Type 0) → Option (List ℕ) → Option (List ℕ) → Type 0
-Prints Text held holds = (text : List ℕ) × Text text × Appends held holds text
+-- the writer took a text of this kind
+abbrev pub Takes : (List ℕ → Type 0) → Option (List ℕ) → Option (List ℕ) → Type 0
+Takes Text held holds = (text : List ℕ) × Text text × Appends held holds text

@@ -3,7 +3,7 @@ ghost use Rattle.std.specs.Prelude.{◌≡◌, ℕ};
 ghost use Rattle.std.specs.Process.{exit_status};
 ghost use Rattle.trial.specs.Arguments.{Asks, TellsUsage};
 ghost use Rattle.trial.specs.Going.{Ran};
-ghost use Rattle.trial.specs.Histories.{Prints, Tells};
+ghost use Rattle.trial.specs.Histories.{Takes, Tells};
 ghost use Rattle.trial.specs.MapReplies.{MapAnswers};
 ghost use Rattle.trial.specs.Script.{AreAnswered, status_of};
 ghost use Rattle.trial.specs.declared.arguments.Asked.{Asked};
@@ -23,9 +23,9 @@ use std::thread::Threads;
 /// What is printed where the arguments ask for nothing that the program does.
 const USAGE: &[u8] = b"usage: trial [threads N M]\n";
 
-/// Prints the usage, and tells the exit status: 2, or 1 where the writer fails.
+/// Takes the usage, and tells the exit status: 2, or 1 where the writer fails.
 fn status_of_usage<W: Write>(writer: &mut W) -> u8
-    ensures { Prints (TellsUsage result) (W.contents writer.old) (W.contents writer.new) }
+    ensures { Takes (TellsUsage result) (W.contents writer.old) (W.contents writer.new) }
 {
     match print(writer, USAGE) {
         Ok(()) => 2,
@@ -33,9 +33,9 @@ fn status_of_usage<W: Write>(writer: &mut W) -> u8
     }
 }
 
-/// Prints the usage. The process ends with 2, or with 1 where the writer fails.
+/// Takes the usage. The process ends with 2, or with 1 where the writer fails.
 pub fn usage<W: Write>(writer: &mut W) -> ExitCode
-    ensures { Prints (TellsUsage (exit_status result)) (W.contents writer.old) (W.contents writer.new) }
+    ensures { Takes (TellsUsage (exit_status result)) (W.contents writer.old) (W.contents writer.new) }
 {
     ExitCode::from(status_of_usage(writer))
 }
@@ -53,8 +53,8 @@ pub fn start<T: Threads + Wait + Sync, R: Read, W: Write>(
     ensures map { Asks arguments.now ask.Script → (end : End) × (exit_status result ≡ status_of end)
         × Ran MapAnswers (R.remaining reader.old) (R.remaining reader.new) (W.contents writer.old) (W.contents writer.new) end }
     ensures threads { (workers calls : ℕ) → Asks arguments.now (ask.Threads workers calls)
-        → Prints (Tells workers calls (exit_status result)) (W.contents writer.old) (W.contents writer.new) }
-    ensures usage { ((asked : Asked) → Asks arguments.now asked → ⊥) → Prints (TellsUsage (exit_status result)) (W.contents writer.old) (W.contents writer.new) }
+        → Takes (Tells workers calls (exit_status result)) (W.contents writer.old) (W.contents writer.new) }
+    ensures usage { ((asked : Asked) → Asks arguments.now asked → ⊥) → Takes (TellsUsage (exit_status result)) (W.contents writer.old) (W.contents writer.new) }
 {
     match arguments::read(arguments) {
         Some(Asked::Script) => exit(alloc, reader, writer),

@@ -2,7 +2,7 @@
 ghost use Rattle.std.specs.Prelude.{◌≡◌, ◌+◌, ◌<◌, ℕ, IfOk, OnErr, OnOk, Ok, Some, length, slice_get, take, vec_len};
 ghost use Rattle.std.specs.Io.KnownBytes.{Appends};
 ghost use Rattle.trial.specs.Arguments.{AreAllowed};
-ghost use Rattle.trial.specs.Histories.{AreCalls, AreKept, IsHistory, Prints, Tells, told_text};
+ghost use Rattle.trial.specs.Histories.{AreCalls, AreKept, IsHistory, Takes, Tells, told_text};
 
 use crate::end::End;
 use crate::history::{History, text};
@@ -130,7 +130,7 @@ fn history<R: Threads + Wait + Sync>(
     history_by::<Brand, R>(rt, alloc, Blank::new(workers as u64 + 1), workers, calls)
 }
 
-/// Prints what came of the workers' calls.
+/// Takes what came of the workers' calls.
 fn tell<W: Write>(alloc: Global, writer: &mut W, told: &Result<History, Refusal>) -> Result<(), End>
     ensures ok { OnOk result (Appends (W.contents writer.old) (W.contents writer.new) (told_text told.now)) }
     ensures front { (n : ℕ) × Appends (W.contents writer.old) (W.contents writer.new) (take n (told_text told.now)) }
@@ -139,9 +139,9 @@ fn tell<W: Write>(alloc: Global, writer: &mut W, told: &Result<History, Refusal>
     print(writer, text.as_bytes())
 }
 
-/// Prints what came of the workers' calls, and tells the exit status.
+/// Takes what came of the workers' calls, and tells the exit status.
 fn end<W: Write>(alloc: Global, writer: &mut W, told: Result<History, Refusal>) -> u8
-    ensures { (workers calls : ℕ) → IfOk told (IsHistory workers calls) → Prints (Tells workers calls result) (W.contents writer.old) (W.contents writer.new) }
+    ensures { (workers calls : ℕ) → IfOk told (IsHistory workers calls) → Takes (Tells workers calls result) (W.contents writer.old) (W.contents writer.new) }
 {
     match tell(alloc, writer, &told) {
         Ok(()) if told.is_ok() => 0,
@@ -159,7 +159,7 @@ pub fn threads<R: Threads + Wait + Sync, W: Write>(
     writer: &mut W,
 ) -> u8
     requires allowed { AreAllowed workers calls }
-    ensures { Prints (Tells workers calls result) (W.contents writer.old) (W.contents writer.new) }
+    ensures { Takes (Tells workers calls result) (W.contents writer.old) (W.contents writer.new) }
 {
     match history(rt, alloc, workers, calls) {
         Ok(history) => end(alloc, writer, Ok(history)),
