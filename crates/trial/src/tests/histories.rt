@@ -3,10 +3,11 @@
 ghost use Rattle.std.specs.Prelude.{◌≡◌, IfOk};
 
 use super::replies::Narrow;
+use crate::drained::Drained;
 use crate::examples::history::writes_of_two;
 use crate::start::start;
 use crate::threads::threads;
-use congee::DefaultAllocator;
+use congee::{Allocator, DefaultAllocator};
 use joint::{Congee, Every, Guard, Journaled, Limits, Refusal, Share, Worker, audit};
 use judge::{Call, Entry, Reply, Verdict, check};
 use std::alloc::{AllocError, Global};
@@ -17,7 +18,7 @@ use std::sync::ledger::{Blank, Ledger};
 use std::test::Fail;
 use std::thread::Threads;
 
-type Words<L> = Journaled<L, Every, u64, u64>;
+type Words<L> = Journaled<L, Every, u64, u64, DefaultAllocator, Drained>;
 
 /// An index of two workers and so many places, with a share of both parts.
 fn words<L: Ledger>(
@@ -31,7 +32,16 @@ fn words<L: Ledger>(
     ensures { IfOk result (λ r. r.1.parts ≡ 2) }
 {
     let limits = Limits::usual(2, 1_000);
-    Journaled::new(alloc, limits, DefaultAllocator::new(), places, 2, blank)
+    let allocator = DefaultAllocator::new();
+    Journaled::new_with_drainer(
+        alloc,
+        limits,
+        allocator,
+        Drained::new(alloc),
+        places,
+        2,
+        blank,
+    )
 }
 
 /// Whether a guard was spent; a refused one is let go.
@@ -93,6 +103,18 @@ fn whole_calls<L: Ledger, R: Wait>(
     )
 }
 
+/// An index with 1 and 5 alone, which no worker is left of, hands them on as it is closed.
+fn closes_with<L: Ledger, R: Wait + Abort>(rt: &R, tree: Words<L>) -> Result<(), Fail> {
+    match tree.close(rt) {
+        Ok((allocator, drained)) => {
+            assert_eq!(rt; allocator.charged(), 0);
+            assert_eq!(rt; drained.pairs.as_slice(), [(1, 5)].as_slice());
+            Ok(())
+        }
+        Err(_) => Err("a worker is left".into()),
+    }
+}
+
 /// Each call once: the writing ones are counted and written down.
 fn writes_down<L: Ledger, R: Wait + Abort>(rt: &R, alloc: Global, blank: Blank) -> Result<(), Fail>
     requires name { blank.name ≡ L.name }
@@ -127,8 +149,7 @@ fn writes_down<L: Ledger, R: Wait + Abort>(rt: &R, alloc: Global, blank: Blank) 
         Err((refusal, tree)) => {
             assert_eq!(rt; refusal, Refusal::WorkersLeft(1));
             assert!(rt; tree.release(rt, worker).is_ok());
-            assert!(rt; tree.close(rt).is_ok());
-            Ok(())
+            closes_with(rt, tree)
         }
     }
 }
@@ -313,10 +334,10 @@ fn a_history_wants_memory(rt: HostRuntime) -> Result<(), Fail> {
 #[test]
 fn many_workers_call_at_once(rt: HostRuntime) -> Result<(), Fail> {
     let mut printed = Vec::new(rt.alloc());
-    assert_eq!(rt; threads(&rt, rt.alloc(), 16, 500, &mut printed), 0);
+    assert_eq!(rt; threads(&rt, rt.alloc(), 16, 200, &mut printed), 0);
     assert_eq!(rt;
         printed.as_slice(),
-        b"journal 8000 legal\naudit true\nledger 6000\n".as_slice()
+        b"journal 3200 legal\naudit true\nledger 2400\n".as_slice()
     );
     Ok(())
 }
