@@ -109,9 +109,10 @@ fn history_by<L: Ledger + Send + Sync, R: Threads + Wait + Sync>(
     let own = own(alloc, &mut all, worked, calls)?;
     let ledger = index.gather(rt, &mut all)?;
     let journal = index.entries(rt)?;
+    let verdict = check(alloc, &journal)?;
     Ok(History {
         entries: journal.len(),
-        verdict: check(alloc, &journal)?,
+        verdict,
         audited: audit(&journal, &own),
         ledger,
     })

@@ -27,7 +27,7 @@ returns g c =
       own = c.in_ok-own.own.items;
       stood = stood;
       entries = search rules;
-      verdict = c.in_ok-check.ensures.legal.1 (subst (λ l. IsLegal nat_eq l) (sym stood.2 ∙ (let e : c.in_ok-journal.journal.items ≡ c.deref.result.now = search rules in e)) stood.1.legal);
+      verdict = c.in_ok-verdict.ensures.legal.1 (subst (λ l. IsLegal nat_eq l) (sym stood.2 ∙ (let e : c.in_ok-journal.journal.items ≡ c.deref.result.now = search rules in e)) stood.1.legal);
       all = search rules;
       kept = c.in_ok-own.ensures.kept;
       audited = search rules;
