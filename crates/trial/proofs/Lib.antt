@@ -17,3 +17,4 @@ pub mod WholeScans
 pub mod Surveys
 pub mod Closings
 pub mod OfMap
+pub mod Keeping

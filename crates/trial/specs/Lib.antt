@@ -13,3 +13,5 @@ pub mod Script
 pub mod MapReplies
 pub mod Turns
 pub mod Going
+pub mod Arguments
+pub mod Histories

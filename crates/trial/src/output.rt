@@ -43,6 +43,18 @@ fn write_all<W: Write>(writer: &mut W, bytes: &[u8]) -> Result<(), End>
     Ok(())
 }
 
+/// Writes a text, and flushes the writer.
+pub fn print<W: Write>(writer: &mut W, text: &[u8]) -> Result<(), End>
+    ensures ok { OnOk result (Appends (W.contents writer.old) (W.contents writer.new) text.now) }
+    ensures err { IfErr result (λ e. (e ≡ End.Writing) × (n : ℕ) × Appends (W.contents writer.old) (W.contents writer.new) (take n text.now)) }
+{
+    write_all(writer, text)?;
+    match writer.flush() {
+        Ok(()) => Ok(()),
+        Err(_) => Err(End::Writing),
+    }
+}
+
 impl Output {
     /// Nothing is held back.
     pub fn new() -> Output

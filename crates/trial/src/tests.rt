@@ -9,6 +9,7 @@ mod examples;
 mod face;
 mod failures;
 mod forms;
+mod histories;
 mod interleavings;
 mod journal_lines;
 mod journaled;

@@ -66,6 +66,7 @@ fn point_calls<R: Wait>(
             && tree.get(rt, &1, worker, guard)? == Some(42)
             && tree.compute_or_insert(rt, 1, next, worker, guard)? == Some(42)
             && tree.compute_or_insert(rt, 2, next, worker, guard)? == None
+            && tree.get(rt, &1, worker, guard)? == Some(43)
             && tree.get(rt, &2, worker, guard)? == Some(2)
             && tree.compute_if_present(rt, &1, raise, worker, guard)? == Some((43, Some(44)))
             && tree.compute_if_present(rt, &3, raise, worker, guard)? == None

@@ -1,0 +1,35 @@
+use Rattle.std.proofs.Common.{◌≡◌, ◌<◌, ℕ, Ok, Some, IfOk, arith, ap, length, nat_eq, rules, refl, sym, ◌∙◌, subst, slice_index_or}
+use Rattle.std.proofs.lemmas.Option.{get_or_from_slice_get, slice_get_within, slice_get-get_or}
+use Rattle.judge.specs.Journal.{IsLegal}
+use Rattle.trial.specs.Histories.{AreCalls}
+use Rattle.trial.proofs.threads.history_by.Goals as goal
+
+pub own-requires : goal.own-requires
+own-requires g c = record {
+  worked = λ i w e.
+      let ws = c.in_ok-worked.worked.items in
+      let cs = c.in_ok-callers.callers.items in
+      let read = get_or_from_slice_get ws i (Ok w) (Ok w) e in
+      let within : i < length ws = slice_get_within ws i (Ok w) e in
+      let lens : length ws ≡ length cs = search rules in
+      let lt : i < length cs = subst (λ n. i < n) lens within in
+      let given = (c.in_ok-worked.ensures.each i (Ok w) lt).1 in
+      let post : IfOk (slice_index_or ws i (Ok w)) (λ v. AreCalls c.args.calls given.job.place v.own.items × (length v.own.items ≡ c.args.calls)) = given.call.met in
+      let made = subst (λ r. IfOk r (λ v. AreCalls c.args.calls given.job.place v.own.items × (length v.own.items ≡ c.args.calls))) read post in
+      let at = c.in_ok-callers.ensures.places i given.job (slice_get-get_or cs i given.job lt ∙ ap Some (given.job_is given.job)) in
+      subst (λ p. AreCalls c.args.calls p w.own.items × (length w.own.items ≡ c.args.calls)) at made;
+}
+
+pub returns : goal.returns
+returns g c =
+    let stood = c.in_ok-journal.ensures in record {
+      journal = c.in_ok-journal.journal.items;
+      own = c.in_ok-own.own.items;
+      stood = stood;
+      entries = search rules;
+      verdict = c.in_ok-verdict.ensures.legal.1 (subst (λ l. IsLegal nat_eq l) (sym stood.2 ∙ (let e : c.in_ok-journal.journal.items ≡ c.deref.result.now = search rules in e)) stood.1.legal);
+      all = search rules;
+      kept = c.in_ok-own.ensures.kept;
+      audited = search rules;
+      ledger = c.in_ok-ledger.ensures.gathers.2;
+    }

@@ -1,0 +1,32 @@
+-- What the program's arguments ask for.
+use Rattle.std.specs.Prelude.{◌≡◌, ◌≤◌, ◌⊎◌, ℕ, List, [], ◌∷◌, decimal, codes, string_bytes, take}
+use Rattle.std.specs.declared.alloc.Global.{Global}
+use Rattle.std.specs.declared.string.String.{String}
+use Rattle.trial.specs.declared.arguments.Asked.{Asked}
+use Rattle.trial.specs.declared.arguments.Asked.TheVariants as ask
+
+-- the numbers of workers and of calls that may be asked for
+pub record AreAllowed (workers calls : ℕ) : Type 0 where
+  pub some_workers : 1 ≤ workers
+  pub few_workers : workers ≤ 16
+  pub some_calls : 1 ≤ calls
+  pub few_calls : calls ≤ 10000
+
+-- two words that are the decimals of such numbers
+abbrev pub AsksThreads : List ℕ → List ℕ → Asked → Type 0
+AsksThreads first second ask.Script = ⊥
+AsksThreads first second (ask.Threads workers calls) = (first ≡ decimal workers) × (second ≡ decimal calls) × AreAllowed workers calls
+
+-- no words ask for a script, and `threads` with two such decimals for threads
+abbrev pub Asks : List (String Global) → Asked → Type 0
+Asks [] asked = asked ≡ ask.Script
+Asks (word ∷ first ∷ second ∷ []) asked = (string_bytes word ≡ codes "threads") × AsksThreads (string_bytes first) (string_bytes second) asked
+Asks _ asked = ⊥
+
+-- what is printed where they ask for nothing that the program does
+abbrev pub usage_text : List ℕ
+usage_text = codes "usage: trial [threads N M]\n"
+
+-- the status is 2 where it was printed, and 1 where the writer failed
+abbrev pub TellsUsage : ℕ → List ℕ → Type 0
+TellsUsage status text = ((status ≡ 2) × (text ≡ usage_text)) ⊎ ((status ≡ 1) × (n : ℕ) × (text ≡ take n usage_text))
