@@ -94,7 +94,7 @@ impl<P: Payload + Small, A: Allocator> World<P, A> {
             event: Event::Go(noise),
         });
         self.log.recount(before, self.engine.has_place(who));
-        let reply = self.engine.reply(who, &told);
+        let reply = self.engine.reply(who, &told.outcome);
         let kept = keep(&mut self.log, told.decided, entry(worker, &request, reply));
         note(&mut self.log, who, is_in_flight(&told.outcome), request);
         with_kept(told, kept)
@@ -174,9 +174,14 @@ fn is_in_flight<P>(outcome: &Outcome<P>) -> bool
 }
 
 /// The report, with whether the journal keeps the call.
-fn with_kept<P>(mut report: Report<P>, kept: bool) -> Report<P>
+fn with_kept<P>(report: Report<P>, kept: bool) -> Report<P>
     ensures { result ≡ record report { kept = kept } }
 {
-    report.kept = kept;
-    report
+    Report {
+        kind: report.kind,
+        decided: report.decided,
+        kept,
+        destroyed: report.destroyed,
+        outcome: report.outcome,
+    }
 }

@@ -7,7 +7,7 @@ use crate::call::Call;
 use crate::engine::Engine;
 use crate::id::Id;
 use crate::request::copy_reply;
-use crate::steps::{Done, Outcome, Report};
+use crate::steps::{Done, Outcome};
 use congee::protocol::{Kind, Phase};
 use congee::{Allocator, Machine, Payload, Small};
 use judge::Reply;
@@ -55,14 +55,11 @@ impl<P: Payload + Small, A: Allocator> Engine<P, A> {
         }
     }
 
-    /// The reply of a worker's call that took effect in the step with this report; `None` also where a value can't be copied.
-    pub(crate) fn reply(&self, who: usize, told: &Report<P>) -> Option<Reply<P>>
-        ensures always { P.always_copies ≡ true → told.now.decided ≡ true → result ≡ reply_by told.now.outcome (slice_get self.now.machines.items who) }
+    /// The reply of a worker's call that took effect in a step with this outcome; `None` also where a value can't be copied.
+    pub(crate) fn reply(&self, who: usize, outcome: &Outcome<P>) -> Option<Reply<P>>
+        ensures always { P.always_copies ≡ true → result ≡ reply_by outcome.now (slice_get self.now.machines.items who) }
     {
-        if !told.decided {
-            return None;
-        }
-        match &told.outcome {
+        match outcome {
             Outcome::Running => self.reply_held(who),
             Outcome::Done(Done::Reply(reply)) => copy_reply(reply),
             // It asks, has found a pair or was refused, or it is no call on one key.

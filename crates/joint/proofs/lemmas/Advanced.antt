@@ -154,11 +154,11 @@ module _ {V : Type 0} (same : V → V → Bool) (always : Bool) where
       er ∙ ap (λ y. record told { kept = y }) (ek ∙ ap (λ (y : Log V). is_some (kept_if d (has_room y) x)) e2 ∙ ap (λ (y : Log V). is_some (kept_if d (has_room (count_of y b a)) x)) e1
       ∙ ap (λ y. is_some (kept_if d (has_room (count_of (out_of l worker) y a)) x)) eb ∙ ap (λ y. is_some (kept_if d (has_room (count_of (out_of l worker) b' y)) x)) ea)
 
-  -- without room, or of a call that takes no effect, an entry is none to the journal
-  same_kept : (l : Log V) (d : Bool) (x y : Option (Entry V)) → (d ≡ true → has_room l ≡ true → x ≡ y) → kept_if d (has_room l) x ≡ kept_if d (has_room l) y
+  -- without room an entry is none to the journal
+  same_kept : (l : Log V) (d : Bool) (x y : Option (Entry V)) → (has_room l ≡ true → x ≡ y) → kept_if d (has_room l) x ≡ kept_if d (has_room l) y
   same_kept l true x y e = by (has_room l) refl where
     by : (r : Bool) → has_room l ≡ r → kept_if true (has_room l) x ≡ kept_if true (has_room l) y
-    by true q = ap (kept_if true (has_room l)) (e refl q)
+    by true q = ap (kept_if true (has_room l)) (e q)
     by false q = ap (λ b. kept_if true b x) q ∙ sym (ap (λ b. kept_if true b y) q)
   same_kept l false x y e = refl
 
@@ -182,12 +182,12 @@ module _ {V : Type 0} (same : V → V → Bool) (always : Bool) where
     room_always : has_room counted ≡ true → always ≡ true
     room_always z = h.2.copies (let n : length s.log.entries + recounted s.log.places before after s.log.reserved < s.log.places = has_room_is counted z in omega (arith, n))
 
-    kept_same : s'.log ≡ left → (always ≡ true → told.decided ≡ true → x ≡ entry_of worker q (reply_by told.outcome (slice_get s'.machines worker))) → kept_if told.decided (has_room counted) x ≡ kept_at s worker (Go noise) told s'
+    kept_same : s'.log ≡ left → (always ≡ true → x ≡ entry_of worker q (reply_by told.outcome (slice_get s'.machines worker))) → kept_if told.decided (has_room counted) x ≡ kept_at s worker (Go noise) told s'
     kept_same l y =
-        same_kept counted told.decided x (entry_at s worker (Go noise) told s') (λ d z. y (room_always z) d ∙ ap (λ o. entry_of worker o (reply_by told.outcome (slice_get s'.machines worker))) (i (room_always z)))
+        same_kept counted told.decided x (entry_at s worker (Go noise) told s') (λ z. y (room_always z) ∙ ap (λ o. entry_of worker o (reply_by told.outcome (slice_get s'.machines worker))) (i (room_always z)))
         ∙ ap (λ b. kept_if told.decided b (entry_at s worker (Go noise) told s')) (sym (same_room l))
 
-    pub go_step : s'.log ≡ left → (always ≡ true → told.decided ≡ true → x ≡ entry_of worker q (reply_by told.outcome (slice_get s'.machines worker))) → r ≡ record told { kept = is_some (kept_if told.decided (has_room counted) x) }
+    pub go_step : s'.log ≡ left → (always ≡ true → x ≡ entry_of worker q (reply_by told.outcome (slice_get s'.machines worker))) → r ≡ record told { kept = is_some (kept_if told.decided (has_room counted) x) }
         → IsStep same always s (record { worker = worker; event = Go noise }) r s'
     go_step l y is =
         let on : Bool = is_in_flight told.outcome in

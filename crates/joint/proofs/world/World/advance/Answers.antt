@@ -24,7 +24,7 @@ invariant_of-self g c =
     (λ a. c.hear-request.ensures.heard a ∙ ap (λ b. heard_by b c.args.noise.answer (request_at c.self.inside.log.requests c.args.worker)) c.asks.ensures)
     (went_by g.P.Payload.same_as g.P.Payload.always_copies c.self.inside.log c.hear-request.new.log c.recount.new.self c.keep-kept.new.log c.note.new.log c.args.worker c.has_place-before.result c.has_place.result _ _ c.step-told.result.decided c.entry.result c.is_in_flight.result _ c.hear-request.result
     c.hear-request.ensures.left c.recount.ensures c.has_place-before.ensures c.has_place.ensures c.keep-kept.ensures.log c.note.ensures c.is_in_flight.ensures)
-    (λ a d. c.entry.ensures a ∙ ap (entry_of c.args.worker c.hear-request.result) (c.reply-reply.ensures.always a d))
+    (λ a. c.entry.ensures a ∙ ap (entry_of c.args.worker c.hear-request.result) (c.reply-reply.ensures.always a))
     (kept_by g.P.Payload.same_as g.P.Payload.always_copies c.self.inside.log c.hear-request.new.log c.recount.new.self c.args.worker c.has_place-before.result c.has_place.result _ _ c.step-told.result.decided c.keep-kept.result c.entry.result c.step-told.result c.with_kept.result
     c.hear-request.ensures.left c.recount.ensures c.has_place-before.ensures c.has_place.ensures c.keep-kept.ensures.kept c.with_kept.ensures)).holds
 
@@ -37,6 +37,6 @@ returns g c =
     (λ a. c.hear-request.ensures.heard a ∙ ap (λ b. heard_by b c.args.noise.answer (request_at c.self.inside.log.requests c.args.worker)) c.asks.ensures)
     (went_by g.P.Payload.same_as g.P.Payload.always_copies c.self.inside.log c.hear-request.new.log c.recount.new.self c.keep-kept.new.log c.note.new.log c.args.worker c.has_place-before.result c.has_place.result _ _ c.step-told.result.decided c.entry.result c.is_in_flight.result _ c.hear-request.result
     c.hear-request.ensures.left c.recount.ensures c.has_place-before.ensures c.has_place.ensures c.keep-kept.ensures.log c.note.ensures c.is_in_flight.ensures)
-    (λ a d. c.entry.ensures a ∙ ap (entry_of c.args.worker c.hear-request.result) (c.reply-reply.ensures.always a d))
+    (λ a. c.entry.ensures a ∙ ap (entry_of c.args.worker c.hear-request.result) (c.reply-reply.ensures.always a))
     (kept_by g.P.Payload.same_as g.P.Payload.always_copies c.self.inside.log c.hear-request.new.log c.recount.new.self c.args.worker c.has_place-before.result c.has_place.result _ _ c.step-told.result.decided c.keep-kept.result c.entry.result c.step-told.result c.with_kept.result
     c.hear-request.ensures.left c.recount.ensures c.has_place-before.ensures c.has_place.ensures c.keep-kept.ensures.kept c.with_kept.ensures))
