@@ -48,7 +48,7 @@ fn put_range<W: Write>(output: &mut Output, writer: &mut W, places: &Places) -> 
 }
 
 /// Puts a number after a space.
-pub fn put_spaced<W: Write>(output: &mut Output, writer: &mut W, n: u64) -> Result<(), End>
+fn put_spaced<W: Write>(output: &mut Output, writer: &mut W, n: u64) -> Result<(), End>
     ensures ok { OnOk result (Passes (W.contents writer.old) output.old (W.contents writer.new) output.new (spaced n)) }
     ensures err { IfErr result (λ e. (e ≡ End.Writing) × Breaks (W.contents writer.old) output.old (W.contents writer.new) (spaced n)) }
 {
