@@ -11,6 +11,13 @@ get_pushed [] x y (suc i) e = absurd cc
 get_pushed (z ∷ zs) x y zero e = inl e
 get_pushed (z ∷ zs) x y (suc i) e = elim (get_pushed zs x y i e) [ inl h ↦ inl h | inr h ↦ inr (ap suc h.0, h.1) ]
 
+-- one more that is at its place
+pub placed_pushed : {X : Type 0} (place : X → ℕ) (xs : List X) (x : X) → ((i : ℕ) (y : X) → slice_get xs i ≡ Some y → place y ≡ i) → place x ≡ length xs → (i : ℕ) (y : X) → slice_get (xs ++ x ∷ []) i ≡ Some y → place y ≡ i
+placed_pushed place xs x each here i y g = elim (get_pushed xs x y i g) [
+  | inl before ↦ each i y before
+  | inr last ↦ ap place (sym last.1) ∙ here ∙ sym last.0
+]
+
 -- one call more
 pub calls_pushed : (calls worker : ℕ) (own : List (Entry ℕ)) (e : Entry ℕ) → AreCalls calls worker own → e.call ≡ call_at calls worker (length own) → AreCalls calls worker (own ++ e ∷ [])
 calls_pushed calls worker own e made h i x g = elim (get_pushed own e x i g) [

@@ -41,6 +41,26 @@ fn open<L: Ledger>(
     Journaled::new(alloc, limits, DefaultAllocator::new(), places, parts, blank)
 }
 
+/// A worker at its place, with a share of one part.
+fn caller<L: Ledger, R: Wait>(
+    rt: &R,
+    index: &Index<L>,
+    all: &mut Share<L>,
+    place: u32,
+) -> Result<Caller<L>, Refusal>
+    requires parts { 1 < all.old.parts }
+    ensures place { IfOk result (λ caller. caller.place ≡ place) }
+    ensures parts { OnOk result (all.new.parts + 1 ≡ all.old.parts) }
+{
+    let worker = index.register(rt)?;
+    let share = all.split(1);
+    Ok(Caller {
+        place,
+        worker,
+        share,
+    })
+}
+
 /// So many workers, each with a share of one part.
 fn callers<L: Ledger, R: Wait>(
     rt: &R,
@@ -55,12 +75,7 @@ fn callers<L: Ledger, R: Wait>(
 {
     let mut callers = Vec::new(alloc);
     for place in 0..workers {
-        let worker = index.register(rt)?;
-        callers.push(Caller {
-            place,
-            worker,
-            share: all.split(1),
-        })?;
+        callers.push(caller(rt, index, all, place)?)?;
     }
     Ok(callers)
 }
