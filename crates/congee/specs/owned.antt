@@ -9,6 +9,7 @@ pub mod Levels
 pub mod Owned
 pub mod Place
 pub mod Ranges
+pub mod Renames
 pub mod Sizes
 pub mod OwnedSteps
 pub mod Wanted

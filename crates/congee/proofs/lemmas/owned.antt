@@ -13,6 +13,7 @@ pub mod OwnerLemmas
 pub mod Popped
 pub mod Puts
 pub mod RangeLemmas
+pub mod Renaming
 pub mod Root
 pub mod Scanned
 pub mod Sizes
