@@ -17,6 +17,8 @@ pub mod Renaming
 pub mod Root
 pub mod Scanned
 pub mod Sizes
+pub mod SlotLens
+pub mod Slots
 pub mod Tables
 pub mod Totals
 pub mod Weights
