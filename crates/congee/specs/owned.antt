@@ -15,6 +15,7 @@ pub mod Renames
 pub mod Sizes
 pub mod Slots
 pub mod Storage
+pub mod Stores
 pub mod OwnedSteps
 pub mod Wanted
 pub mod Naming
@@ -24,3 +25,4 @@ pub mod Table
 pub mod Weights
 pub mod Stats
 pub mod StatsText
+pub mod Ways

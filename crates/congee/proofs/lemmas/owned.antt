@@ -25,5 +25,6 @@ pub mod Weights
 pub mod Wanting
 pub mod Ways
 pub mod Tallies
+pub mod Stored
 pub mod Surveys
 pub mod StatsTexts

@@ -1,11 +1,8 @@
--- What is true of the slots of an owned tree's nodes, and what single changes do to the nodes.
-use Rattle.std.specs.Prelude.{◌≡◌, ◌≢◌, ℕ, ◌+◌, ◌%◌, ◌<◌, ◌≤◌, length, Option, None, Some}
-use Rattle.std.specs.FinMap as map
-use Rattle.slab.specs.Slab.{Slab, Updates, get, slab_len}
-use Rattle.congee.specs.forms.Forms.{Becomes, children_of, prefix_of}
-use Rattle.congee.specs.owned.Arena.{Nodes}
-use Rattle.congee.specs.owned.Slots.{inner_child, nodes_in, with_children}
-use Rattle.congee.specs.declared.forms.base_node.Node.{Node}
+-- What is true of the slots of an owned tree's nodes.
+use Rattle.std.specs.Prelude.{◌≡◌, ℕ, ◌+◌, ◌<◌, ◌≤◌, length, Option, None, Some}
+use Rattle.slab.specs.Slab.{Slab, get, slab_len}
+use Rattle.congee.specs.forms.Forms.{prefix_of}
+use Rattle.congee.specs.owned.Slots.{nodes_in}
 use Rattle.congee.specs.declared.owned.nodes.Lone.{Lone}
 use Rattle.congee.specs.declared.owned.nodes.Slot.{Slot}
 use Rattle.congee.specs.declared.owned.nodes.Slot.TheVariants.{Inner, Leaf}
@@ -23,9 +20,3 @@ module _ {P : Type 0} where
     pub counted : slab_len (nodes_in slab) ≡ slab_len slab + inline
     pub room : slab_len slab + inline ≤ slab.capacity
     pub kinds : (slot : ℕ) → HasKind (get slab slot)
-
-  -- the root stands alone, where no node stood
-  pub record IsRootAlone (s : Nodes P) (root : Node ℕ (Lone P)) : Type 0 where
-    pub before : Nodes P
-    pub none : (n : ℕ) → get before n ≡ None
-    pub puts : Updates before s 0 (Some (with_children (inner_child 0) root))
