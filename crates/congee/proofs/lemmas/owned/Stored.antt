@@ -1,5 +1,5 @@
 -- What stands under a name after the node in one slot changed.
-use Rattle.std.proofs.Common.{◌≡◌, ◌≢◌, ℕ, zero, suc, ◌+◌, ◌*◌, ◌/◌, ◌%◌, ◌<◌, ◌≤◌, false, inl, inr, List, [], ◌∷◌, length, take, get_or, refl, sym, ap, subst, ◌∙◌, arith}
+use Rattle.std.proofs.Common.{◌≡◌, ◌≢◌, ℕ, zero, suc, ◌+◌, ◌*◌, ◌/◌, ◌%◌, ◌<◌, ◌≤◌, ◌==◌, false, inl, inr, List, [], ◌∷◌, length, take, get_or, refl, sym, ap, subst, ◌∙◌, arith}
 use Rattle.std.specs.Prelude.{Option, None, Some, IsSome, is_some}
 use Rattle.std.specs.Ordering.{nat_cmp}
 use Rattle.std.specs.FinMap as map
@@ -8,8 +8,10 @@ use Rattle.std.proofs.lemmas.List.FromFn.{length-map-range_with_len}
 use Rattle.slab.specs.Slab.{Slab, get, ContainsKey, Updates, slab_len}
 use Rattle.congee.specs.forms.Forms.{Becomes, children_of, form_of, is_full_of, prefix_of}
 use Rattle.congee.specs.forms.Mapped.{mapped}
-use Rattle.congee.specs.owned.Arena.{Nodes}
-use Rattle.congee.specs.owned.Kinds.{IsValue, prefix_in, form_in, len_in, full_in}
+use Rattle.congee.specs.Heap.{Hung, Nothing, Holds, child_for, fits}
+use Rattle.std.proofs.lemmas.List.{length-take-le}
+use Rattle.congee.specs.owned.Arena.{Nodes, hung_in, heap_of, node_of}
+use Rattle.congee.specs.owned.Kinds.{IsValue, prefix_in, form_in, len_in, full_in, inner_get}
 use Rattle.congee.specs.owned.Naming.{offset_of, IsByte}
 use Rattle.congee.specs.owned.Slots.{slot_name, inline_name, inner_child, leaf_child, lone_node, with_children, slot_node, inline_at, lone_in, under_offset, in_slot, node_named, nodes_in}
 use Rattle.congee.specs.declared.forms.base_node.Node.{Node}
@@ -20,7 +22,7 @@ use Rattle.congee.specs.declared.owned.nodes.Slot.{Slot}
 use Rattle.congee.specs.declared.owned.nodes.Slot.TheVariants.{Inner, Leaf}
 use Rattle.congee.proofs.lemmas.Tree.{same_or_not}
 use Rattle.congee.proofs.lemmas.forms.MappedLemmas.{some_mapped, none_mapped, mapped_none}
-use Rattle.congee.proofs.lemmas.owned.Moves.{len_one}
+use Rattle.congee.proofs.lemmas.owned.Moves.{len_one, insert_at, insert_beside}
 use Rattle.congee.proofs.lemmas.owned.SlotLens.{counted, len_named}
 use Rattle.congee.proofs.lemmas.owned.Slots.{get_named, get_offset, get_slot, get_inline, beside_slot, in_offset, low_offset, with_mapped, with_form, with_prefix, with_len, with_full}
 use Rattle.congee.proofs.lemmas.owned.Totals.{total, total_same}
@@ -130,7 +132,7 @@ module _ {P : Type 0} (i : ℕ) where
   seen_full (Leaf n) = with_full leaf_child n
 
 pub lone_full : {P : Type 0} (lone : Lone P) → is_full_of (lone_node lone) ≡ false
-lone_full lone = rw (len_one (get_or lone.key 7 0) (Value lone.value)) refl
+lone_full lone = ap (λ n. n == 4) (len_one (get_or lone.key 7 0) (Value lone.value))
 
 pub lone_len : {P : Type 0} (lone : Lone P) → map.len (children_of (lone_node lone)) ≡ 1
 lone_len lone = len_one (get_or lone.key 7 0) (Value lone.value)
@@ -169,6 +171,56 @@ module _ {P : Type 0} (s : Slab (Slot (Lone P) P)) (v : Nodes P) (is : nodes_in 
       let L = named_lone_at b e l (rw h refl) in
       let R : Nodes P → Type 0 = λ w. get w (257 * i + (b + 1)) ≡ Some (lone_node L.lone) in
       (L.lone, named_lone_seen b L.lone y e (subst R is L.seen) h)
+
+  pub lone_in_view : (b : ℕ) → b < 256 → ContainsKey v (257 * i + (b + 1)) → LoneAt s i b
+  lone_in_view b l h = let R : Nodes P → Type 0 = λ w. ContainsKey w (257 * i + (b + 1)) in lone_there s i b l (subst R (sym is) h)
+
+-- its place holds a value
+pub lone_value : {P : Type 0} (s : Slab (Slot (Lone P) P)) (i b : ℕ) → LoneAt s i b → (x : Slot (Lone P) P) → get s i ≡ Some x → IsValue (inner_get x b)
+lone_value s i b k x e =
+    let z : Some (Inner k.node) ≡ Some x = sym k.stands ∙ e in
+    let y : Inner k.node ≡ x = cc in
+    subst (λ w. IsValue (inner_get w b)) y (subst IsValue (sym k.child) tt)
+
+-- and this one is seen there
+pub lone_seen : {P : Type 0} (s : Slab (Slot (Lone P) P)) (v : Nodes P) (is : nodes_in s ≡ v) (i b : ℕ) → LoneAt s i b → (x : Slot (Lone P) P) (lone : Lone P) → get s i ≡ Some x → inner_get x b ≡ Some (Value lone)
+    → get v (257 * i + (b + 1)) ≡ Some (lone_node lone)
+lone_seen s v is i b k x lone e q =
+    let z : Some (Inner k.node) ≡ Some x = sym k.stands ∙ e in
+    let y : Inner k.node ≡ x = cc in
+    let c : Some (Value k.lone) ≡ Some (Value lone) = sym k.child ∙ (ap (λ w. inner_get w b) y ∙ q) in
+    let l : k.lone ≡ lone = cc in
+    let R : Nodes _ → Type 0 = λ w. get w (257 * i + (b + 1)) ≡ Some (lone_node lone) in
+    subst R is (k.seen ∙ ap (λ w. Some (lone_node w)) l)
+
+-- what it has for a key
+module _ {P : Type 0} (v : Nodes P) (name : ℕ) (lone : Lone P) (key : List ℕ) (e : get v name ≡ Some (lone_node lone)) (whole : length lone.key ≡ 8) where
+  lone_seven : length (take 7 lone.key) ≡ 7
+  lone_seven = length-take-le 7 lone.key (omega (arith, whole))
+
+  lone_has : (x : Hung P) → hung_in (map.get (map.insert map.empty (get_or lone.key 7 0) (Value lone.value)) (get_or key 7 0)) ≡ x → child_for (heap_of v name) key ≡ x
+  lone_has x h =
+      let n : heap_of v name ≡ node_of (Some (lone_node lone)) = ap node_of e in
+      rw (n, lone_seven) h
+
+  pub lone_holds : get_or lone.key 7 0 ≡ get_or key 7 0 → child_for (heap_of v name) key ≡ Holds lone.value
+  lone_holds q = lone_has (Holds lone.value) (ap hung_in (ap (map.get (map.insert map.empty (get_or lone.key 7 0) (Value lone.value))) (sym q) ∙ insert_at map.empty (get_or lone.key 7 0) (Value lone.value)))
+
+  pub lone_misses : (get_or lone.key 7 0 ≡ get_or key 7 0 → ⊥) → child_for (heap_of v name) key ≡ Nothing
+  lone_misses ne = lone_has Nothing (ap hung_in (insert_beside map.empty (get_or lone.key 7 0) (Value lone.value) (get_or key 7 0) (λ q. ne (sym q)) ∙ map.get-empty _ (get_or key 7 0)))
+
+-- whether a slot's node has a prefix of the key
+pub slot_fits : {P : Type 0} (s : Slab (Slot (Lone P) P)) (v : Nodes P) (is : nodes_in s ≡ v) (i : ℕ) (x : Slot (Lone P) P) (key : List ℕ) → get s i ≡ Some x → fits (heap_of v (257 * i)).prefix key ≡ fits (prefix_in x) key
+slot_fits s v is i x key e =
+    let n : heap_of v (257 * i) ≡ node_of (Some (slot_node i x)) = ap node_of (ap (λ w. get w (257 * i)) (sym is) ∙ slot_seen s i x e) in
+    ap (λ w. fits w.prefix key) n ∙ ap (λ p. fits p key) (seen_prefix i x)
+
+-- what was read there
+pub lone_read : {P : Type 0} (s : Slab (Slot (Lone P) P)) (i b : ℕ) (k : LoneAt s i b) (x : Slot (Lone P) P) (n : Node ℕ (Lone P)) → get s i ≡ Some x → x ≡ Inner n → map.get (children_of n) b ≡ Some (Value k.lone)
+lone_read s i b k x n e q =
+    let z : Some (Inner k.node) ≡ Some (Inner n) = sym k.stands ∙ (e ∙ ap Some q) in
+    let y : k.node ≡ n = cc in
+    subst (λ m. map.get (children_of m) b ≡ Some (Value k.lone)) y k.child
 
 -- fewer nodes stand in slots than have names
 module _ {P : Type 0} (s : Slab (Slot (Lone P) P)) where
