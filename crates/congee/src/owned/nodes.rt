@@ -3,6 +3,8 @@ ghost use Rattle.std.specs.Prelude.{◌≡◌, ◌+◌, ◌*◌, ◌/◌, ◌%�
 ghost use Rattle.std.specs.FinMap as map;
 ghost use Rattle.slab.specs.Slab.{Slab as SlabOf, get, ContainsKey, HasRoomFor, SameValues, Updates};
 ghost use Rattle.congee.specs.forms.Forms.{Becomes, children_of, form_of, is_full_of, prefix_of};
+ghost use Rattle.congee.specs.declared.keys.TheConstants.{KEY_BYTES};
+ghost use Rattle.congee.specs.declared.forms.prefix.TheConstants.{MAX_PREFIX_LEN};
 
 use crate::forms::base_node::{Node, NodeType};
 use crate::forms::child::{Child, Small};
@@ -19,6 +21,8 @@ use std::marker::Model;
 pub(crate) struct Lone<P> {
     key: [u8; KEY_BYTES],
     value: P,
+    ghost whole: { length key ≡ KEY_BYTES },
+    ghost last: { slice_index key MAX_PREFIX_LEN < 256 },
 }
 
 impl<P: Stored> Small for Lone<P> {

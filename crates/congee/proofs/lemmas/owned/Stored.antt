@@ -194,17 +194,17 @@ lone_seen s v is i b k x lone e q =
     subst R is (k.seen ∙ ap (λ w. Some (lone_node w)) l)
 
 -- what it has for a key
-module _ {P : Type 0} (v : Nodes P) (name : ℕ) (lone : Lone P) (key : List ℕ) (e : get v name ≡ Some (lone_node lone)) (whole : length lone.key ≡ 8) where
+module _ {P : Type 0} (v : Nodes P) (name : ℕ) (lone : Lone P) (key : List ℕ) (e : get v name ≡ Some (lone_node lone)) where
   lone_seven : length (take 7 lone.key) ≡ 7
-  lone_seven = length-take-le 7 lone.key (omega (arith, whole))
+  lone_seven = length-take-le 7 lone.key (omega (arith, lone.whole))
 
-  lone_has : (x : Hung P) → hung_in (map.get (map.insert map.empty (get_or lone.key 7 0) (Value lone.value)) (get_or key 7 0)) ≡ x → child_for (heap_of v name) key ≡ x
+  lone_has : (x : Hung P) → hung_in (map.get (children_of (lone_node lone)) (get_or key 7 0)) ≡ x → child_for (heap_of v name) key ≡ x
   lone_has x h =
       let n : heap_of v name ≡ node_of (Some (lone_node lone)) = ap node_of e in
       rw (n, lone_seven) h
 
   pub lone_holds : get_or lone.key 7 0 ≡ get_or key 7 0 → child_for (heap_of v name) key ≡ Holds lone.value
-  lone_holds q = lone_has (Holds lone.value) (ap hung_in (ap (map.get (map.insert map.empty (get_or lone.key 7 0) (Value lone.value))) (sym q) ∙ insert_at map.empty (get_or lone.key 7 0) (Value lone.value)))
+  lone_holds q = lone_has (Holds lone.value) (ap hung_in (ap (map.get (children_of (lone_node lone))) (sym q) ∙ insert_at map.empty (get_or lone.key 7 0) (Value lone.value)))
 
   pub lone_misses : (get_or lone.key 7 0 ≡ get_or key 7 0 → ⊥) → child_for (heap_of v name) key ≡ Nothing
   lone_misses ne = lone_has Nothing (ap hung_in (insert_beside map.empty (get_or lone.key 7 0) (Value lone.value) (get_or key 7 0) (λ q. ne (sym q)) ∙ map.get-empty _ (get_or key 7 0)))

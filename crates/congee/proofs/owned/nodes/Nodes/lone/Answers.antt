@@ -8,10 +8,12 @@ index-requires g c =
     let k = lone_there c.self.inside.slab c.args.slot c.args.byte small (rw c.self.view_is c.requires) in
     rw k.stands refl
 
-pub lone-requires-clause-present : goal.lone-requires-clause-present
-lone-requires-clause-present g c =
-    let small : c.args.byte < 256 = search rules in
-    lone_value c.self.inside.slab c.args.slot c.args.byte (lone_there c.self.inside.slab c.args.slot c.args.byte small (rw c.self.view_is c.requires)) c.index.result.now c.index.ensures
+pub lone-requires : goal.lone-requires
+lone-requires g c =
+    let small : c.args.byte < 256 = search rules in (
+      g.met.P.Stored.fits,
+      record { present = lone_value c.self.inside.slab c.args.slot c.args.byte (lone_there c.self.inside.slab c.args.slot c.args.byte small (rw c.self.view_is c.requires)) c.index.result.now c.index.ensures },
+    )
 
 pub returns : goal.returns
 returns g c =
