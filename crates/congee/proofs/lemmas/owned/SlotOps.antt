@@ -196,6 +196,14 @@ module _ {P : Type 0} (s : Slab (Slot (Lone P) P)) (v : Nodes P) (is : nodes_in 
       others = others bec.prefix same_remove;
     }
 
+-- so many more leaves may come into their parents' places
+pub spare_room : {P : Type 0} (s : Slab (Slot (Lone P) P)) (v : Nodes P) → nodes_in s ≡ v → (inline : ℕ) → IsStored s inline → (n : ℕ) → HasRoomFor v n → slab_len s + inline + n ≤ s.capacity
+unfolding nodes_in
+spare_room s v is inline st n r =
+    let a : slab_len (nodes_in s) ≡ slab_len v = ap slab_len is in
+    let c : s.capacity ≡ v.capacity = ap (λ w. w.capacity) is in
+    let k = st.counted in omega (arith, a, c, k, r)
+
 -- the name of a node with a slot
 pub own_slot : (at i : ℕ) (byte : Option ℕ) → 257 * i + offset_of byte ≡ at → IsByte byte → HasOwnSlot at → at ≡ 257 * i
 own_slot at i None e l o = omega (arith, e)
@@ -222,14 +230,6 @@ module _ {P : Type 0} (s : Slab (Slot (Lone P) P)) (v : Nodes P) (is : nodes_in 
   pub slot_room : (x : Slot (Lone P) P) → get s i ≡ Some x → ((y : Node ℕ P) → get v at ≡ Some y → is_full_of y ≡ false) → full_in x ≡ false
   slot_room x e h = inner_room s v at i there.0 (at_node there.0 there.1) x e (h there.0 there.1)
 
-  -- so many more leaves may come into their parents' places
-  pub slot_spare : (n : ℕ) → HasRoomFor v n → slab_len s + inline + n ≤ s.capacity
-  unfolding nodes_in
-  slot_spare n r =
-      let a : slab_len (nodes_in s) ≡ slab_len v = ap slab_len is in
-      let c : s.capacity ≡ v.capacity = ap (λ w. w.capacity) is in
-      let k = st.counted in omega (arith, a, c, k, r)
-
   pub same_capacity : (x x' : Slot (Lone P) P) → (nodes_in (with_value s i x')).capacity ≡ v.capacity
   unfolding nodes_in
   same_capacity x x' = ap (λ w. w.capacity) is
@@ -243,7 +243,7 @@ module _ {P : Type 0} (s : Slab (Slot (Lone P) P)) (v : Nodes P) (is : nodes_in 
         let k = at_node there.0 there.1 in
         let a = inner_after x x' k.node (λ m. map.insert m b (Value lone)) (kept there.0 k) ib in
         let none : map.get (children_of k.node) b ≡ None = absent_in i k.node a.node there.0 k.seen b (free there.0 there.1) in
-        let r = slot_spare 1 room in
+        let r = spare_room s v is inline st 1 room in
         let c : counted (lone_in (map.get (children_of k.node) b)) ≡ 0 = ap (λ o. counted (lone_in o)) none in
         subst (λ z. IsStored (with_value s i z) (inline + 1)) (sym a.is)
             (stored_insert s v is at i b there.0 k low a.node (Value lone) a.becomes inline (inline + 1) st (omega (arith, c)) (omega (arith, r)))
