@@ -594,9 +594,9 @@ impl<P: Stored> Nodes<P> {
         requires present { (x : Form ℕ P) → get self.old at ≡ Some x → HasInline (map.get (children_of x) byte) }
         ensures takes { (x : Form ℕ P) → get self.old at ≡ Some x → LosesLeaf self.old self.new at x byte result }
     {
-        self.inline -= 1;
         match self.slab[at.slot].take_child(byte) {
             Child::Value(lone) => {
+                self.inline -= 1;
                 let Lone { key: _, value } = lone;
                 value
             }

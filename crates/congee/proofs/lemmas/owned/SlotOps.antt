@@ -204,6 +204,11 @@ spare_room s v is inline st n r =
     let c : s.capacity ≡ v.capacity = ap (λ w. w.capacity) is in
     let k = st.counted in omega (arith, a, c, k, r)
 
+-- a change of one slot leaves the room
+pub same_room : {P : Type 0} (s : Slab (Slot (Lone P) P)) (v : Nodes P) → nodes_in s ≡ v → (i : ℕ) (x' : Slot (Lone P) P) → (nodes_in (with_value s i x')).capacity ≡ v.capacity
+unfolding nodes_in
+same_room s v is i x' = ap (λ w. w.capacity) is
+
 -- the name of a node with a slot
 pub own_slot : (at i : ℕ) (byte : Option ℕ) → 257 * i + offset_of byte ≡ at → IsByte byte → HasOwnSlot at → at ≡ 257 * i
 own_slot at i None e l o = omega (arith, e)
@@ -319,6 +324,12 @@ module _ {P : Type 0} (s : Slab (Slot (Lone P) P)) (v : Nodes P) (is : nodes_in 
               let more = lone_counts s i b low (rw seen refl) in
               let c = st.counted in omega (arith, more, c);
         }
+
+    pub inline_read : (t : InlineThere) (r : Child ℕ (Lone P)) → inner_get x b ≡ Some r → r ≡ Value t.lone
+    inline_read t r e = let z : Some r ≡ Some (Value t.lone) = sym e ∙ t.here in cc
+
+    pub inline_same : (t : InlineThere) (r : Child ℕ (Lone P)) → inner_get x b ≡ Some r → (lone : Lone P) → r ≡ Value lone → t.lone ≡ lone
+    inline_same t r e lone q = let z : Value {C = ℕ} t.lone ≡ Value lone = sym (inline_read t r e) ∙ q in cc
 
     pub take_leaf_stored : (t : InlineThere) → InnerBecomes x x' (λ m. map.remove m b) → IsStored (with_value s i x') (inline - 1)
     take_leaf_stored t ib =
