@@ -18,6 +18,7 @@ pub mod Root
 pub mod Scanned
 pub mod Sizes
 pub mod SlotChanges
+pub mod SlotComes
 pub mod SlotLeaves
 pub mod SlotLens
 pub mod SlotOps

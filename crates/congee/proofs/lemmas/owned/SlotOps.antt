@@ -209,6 +209,10 @@ pub same_room : {P : Type 0} (s : Slab (Slot (Lone P) P)) (v : Nodes P) → node
 unfolding nodes_in
 same_room s v is i x' = ap (λ w. w.capacity) is
 
+pub same_view_room : {P : Type 0} (s s' : Slab (Slot (Lone P) P)) (v : Nodes P) → nodes_in s ≡ v → s'.capacity ≡ s.capacity → (nodes_in s').capacity ≡ v.capacity
+unfolding nodes_in
+same_view_room s s' v is e = e ∙ ap (λ w. w.capacity) is
+
 -- the name of a node with a slot
 pub own_slot : (at i : ℕ) (byte : Option ℕ) → 257 * i + offset_of byte ≡ at → IsByte byte → HasOwnSlot at → at ≡ 257 * i
 own_slot at i None e l o = omega (arith, e)
@@ -329,7 +333,7 @@ module _ {P : Type 0} (s : Slab (Slot (Lone P) P)) (v : Nodes P) (is : nodes_in 
     inline_read t r e = let z : Some r ≡ Some (Value t.lone) = sym e ∙ t.here in cc
 
     pub inline_same : (t : InlineThere) (r : Child ℕ (Lone P)) → inner_get x b ≡ Some r → (lone : Lone P) → r ≡ Value lone → t.lone ≡ lone
-    inline_same t r e lone q = let z : Value {C = ℕ} t.lone ≡ Value lone = sym (inline_read t r e) ∙ q in cc
+    inline_same t r e lone q = let a : Child ℕ (Lone P) = Value t.lone in let c : Child ℕ (Lone P) = Value lone in let z : a ≡ c = sym (inline_read t r e) ∙ q in cc
 
     pub take_leaf_stored : (t : InlineThere) → InnerBecomes x x' (λ m. map.remove m b) → IsStored (with_value s i x') (inline - 1)
     take_leaf_stored t ib =
