@@ -6,6 +6,7 @@ pub mod Cursors
 pub mod Drains
 pub mod Edits
 pub mod Filled
+pub mod Folding
 pub mod Freeing
 pub mod Joins
 pub mod Moves
