@@ -480,33 +480,50 @@ impl<P: Stored> Nodes<P> {
         ensures { (x : Form ℕ P) → get self.now at ≡ Some x → MatchOption result ((b : ℕ) → from ≤ b → map.get (children_of x) b ≡ None)
             (λ r. IsFirst (children_of x) from r.0 (child_now r.1)) }
     {
-        if let Some(byte) = at.byte {
-            let lone = self.lone(at.slot, byte);
-            let last = lone.key[MAX_PREFIX_LEN];
-            if from <= last as usize {
-                return Some((last, Child::Value(&lone.value)));
-            }
-            return None;
+        match at.byte {
+            Some(byte) => self.first_inline(at.slot, byte, from),
+            None => self.first_in_slot(at.slot, from),
         }
-        match &self.slab[at.slot] {
-            Slot::Inner(n) => {
-                let (byte, child) = n.first_from(from)?;
-                let child = match child {
-                    Child::Blank => Child::Blank,
-                    Child::Node(below) => Child::Node(Name::of(*below)),
-                    Child::Value(_) => Child::Node(Name::inline(at.slot, byte)),
-                };
-                Some((byte, child))
-            }
-            Slot::Leaf(n) => {
-                let (byte, child) = n.first_from(from)?;
-                let child = match child {
-                    Child::Blank => Child::Blank,
-                    Child::Node(below) => Child::Node(Name::of(*below)),
-                    Child::Value(value) => Child::Value(value),
-                };
-                Some((byte, child))
-            }
+    }
+
+    // The value of a leaf in the place of its parent, if its byte isn't below `from`.
+    fn first_inline(&self, slot: usize, byte: u8, from: usize) -> Option<(u8, Child<Name, &P>)>
+        requires { ContainsKey self.now (257 * slot + (byte + 1)) }
+        ensures { (x : Form ℕ P) → get self.now (257 * slot + (byte + 1)) ≡ Some x
+            → MatchOption result ((b : ℕ) → from ≤ b → map.get (children_of x) b ≡ None)
+            (λ r. IsFirst (children_of x) from r.0 (child_now r.1)) }
+    {
+        let lone = self.lone(slot, byte);
+        let last = lone.key[MAX_PREFIX_LEN];
+        if from <= last as usize {
+            Some((last, Child::Value(&lone.value)))
+        } else {
+            None
+        }
+    }
+
+    // The child of the least byte from `from` on of the node in a slot.
+    fn first_in_slot(&self, slot: usize, from: usize) -> Option<(u8, Child<Name, &P>)>
+        requires { ContainsKey self.now (257 * slot) }
+        ensures { (x : Form ℕ P) → get self.now (257 * slot) ≡ Some x
+            → MatchOption result ((b : ℕ) → from ≤ b → map.get (children_of x) b ≡ None)
+            (λ r. IsFirst (children_of x) from r.0 (child_now r.1)) }
+    {
+        match &self.slab[slot] {
+            Slot::Inner(n) => match n.first_from(from) {
+                None => None,
+                Some((byte, Child::Blank)) => Some((byte, Child::Blank)),
+                Some((byte, Child::Node(below))) => Some((byte, Child::Node(Name::of(*below)))),
+                Some((byte, Child::Value(_))) => {
+                    Some((byte, Child::Node(Name::inline(slot, byte))))
+                }
+            },
+            Slot::Leaf(n) => match n.first_from(from) {
+                None => None,
+                Some((byte, Child::Blank)) => Some((byte, Child::Blank)),
+                Some((byte, Child::Node(below))) => Some((byte, Child::Node(Name::of(*below)))),
+                Some((byte, Child::Value(value))) => Some((byte, Child::Value(value))),
+            },
         }
     }
 
@@ -531,6 +548,7 @@ impl<P: Stored> Nodes<P> {
         requires spare { HasRoomFor self.old 1 }
         ensures hangs { (x : Form ℕ P) → get self.old at ≡ Some x → HangsLeaf self.old self.new at x byte key.now value }
     {
+        prove!(self.inline < self.slab.capacity());
         self.slab[at.slot].put_child(byte, Child::Value(Lone { key: *key, value }));
         self.inline += 1;
     }
@@ -578,9 +596,9 @@ impl<P: Stored> Nodes<P> {
         requires present { (x : Form ℕ P) → get self.old at ≡ Some x → HasInline (map.get (children_of x) byte) }
         ensures takes { (x : Form ℕ P) → get self.old at ≡ Some x → LosesLeaf self.old self.new at x byte result }
     {
-        self.inline -= 1;
         match self.slab[at.slot].take_child(byte) {
             Child::Value(lone) => {
+                self.inline -= 1;
                 let Lone { key: _, value } = lone;
                 value
             }

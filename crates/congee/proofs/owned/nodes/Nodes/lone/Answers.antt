@@ -12,7 +12,7 @@ pub lone-requires : goal.lone-requires
 lone-requires g c =
     let small : c.args.byte < 256 = search rules in (
       g.met.P.Stored.fits,
-      record { present = lone_value c.self.inside.slab c.args.slot c.args.byte (lone_there c.self.inside.slab c.args.slot c.args.byte small (rw c.self.view_is c.requires)) c.index.result.now c.index.ensures },
+      lone_value c.self.inside.slab c.args.slot c.args.byte (lone_there c.self.inside.slab c.args.slot c.args.byte small (rw c.self.view_is c.requires)) c.index.result.now c.index.ensures,
     )
 
 pub returns : goal.returns
