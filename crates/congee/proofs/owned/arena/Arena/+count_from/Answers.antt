@@ -12,10 +12,10 @@ use Rattle.congee.proofs.owned.arena.Arena.+count_from.Goals as goal
 use Rattle.congee.proofs.owned.arena.Arena.+count_from.Goals.{in-Node+in_ok-count_from, in_default-child}
 
 pub loop-byte-init : goal.loop-byte-init
-loop-byte-init g t c = λ x is. (
-  begun c.args.self.now.nodes c.args.stats.now c.count.new.self c.args.level x (rw (← (c.node_type.ensures x is), ← (c.len.ensures.count x is)) c.in_ok-count.ensures.counted),
-  λ b d l e. absurd (omega (arith, l)),
-)
+loop-byte-init g t c = λ x is.
+    let form = c.node_type.ensures x is in
+    let count = c.len.ensures.count x is in
+    (begun c.args.self.now.nodes c.args.stats.now c.count.new.self c.args.level x (rw (← form, ← count) c.in_ok-count.ensures.counted), λ b d l e. absurd (omega (arith, l)))
 
 pub count_from-requires : goal.count_from-requires
 count_from-requires g t c κs within =
