@@ -32,4 +32,5 @@ pub mod Ways
 pub mod Tallies
 pub mod Stored
 pub mod Surveys
+pub mod Standing
 pub mod StatsTexts

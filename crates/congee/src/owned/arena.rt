@@ -41,8 +41,8 @@ impl<P: Stored, A: Allocator> Arena<P, A> {
         requires { IsTree self.now.nodes }
         ensures { Located self.now.nodes key.now result }
     {
-        let mut above = Name::default();
-        let mut at = Name::default();
+        let mut above = Name::root();
+        let mut at = Name::root();
         loop {
             let spot = match self.nodes.look(at, key) {
                 Way::Free => Spot::Free,

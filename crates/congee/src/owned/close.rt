@@ -17,8 +17,19 @@ use crate::allocator::Allocator;
 use crate::forms::base_node::NodeType;
 use crate::owned::arena::{Arena, Stored};
 use crate::owned::drainer::Drainer;
+use crate::owned::nodes::Nodes;
 use crate::owned::scan::beginning;
 use judge::Word64;
+
+/// The sum of the nodes' sizes, in bytes.
+fn bytes_charged<P: Stored, A: Allocator>(nodes: &Nodes<P>, allocator: &A) -> u64
+    requires { bytes_of nodes.now ≤ A.charged_of allocator.now }
+    ensures { result ≡ bytes_of nodes.now }
+{
+    // The sum is no more than the charge, so it fits.
+    let _charged = allocator.charged();
+    nodes.bytes()
+}
 
 impl<P: Stored, A: Allocator> Arena<P, A> {
     /// Takes every pair out, and every node but the root, whose bytes alone stay charged.
@@ -33,7 +44,7 @@ impl<P: Stored, A: Allocator> Arena<P, A> {
         ensures balance { Balances A.charged_of self.old self.new }
         ensures limit { KeepsLimit A.limit_of self.old self.new }
     {
-        let others = self.nodes.bytes() - NodeType::N256.size();
+        let others = bytes_charged(&self.nodes, &self.allocator) - NodeType::N256.size();
         self.allocator.deallocate(others);
         self.nodes.clear();
     }
@@ -48,7 +59,8 @@ impl<P: Stored, A: Allocator> Arena<P, A> {
             nodes,
             mut allocator,
         } = self;
-        allocator.deallocate(nodes.bytes());
+        let bytes = bytes_charged(&nodes, &allocator);
+        allocator.deallocate(bytes);
         allocator
     }
 }

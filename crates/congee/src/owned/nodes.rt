@@ -118,6 +118,8 @@ impl<P: Stored> Model for Nodes<P> {
 /// The key of a leaf's pair: the leaf's prefix, and the last byte.
 pub(crate) fn key_from(prefix: &[u8], last: u8) -> [u8; KEY_BYTES]
     requires { length prefix.now ≡ MAX_PREFIX_LEN }
+    ensures bytes { (j : ℕ) → j < MAX_PREFIX_LEN → slice_index result j ≡ slice_index prefix.now j }
+    ensures last { slice_index result MAX_PREFIX_LEN ≡ last }
 {
     let mut key = [last; KEY_BYTES];
     for i in 0..MAX_PREFIX_LEN {

@@ -49,7 +49,7 @@ impl<P: Stored, A: Allocator> Arena<P, A> {
         requires { IsTree self.now.nodes }
         ensures { option_copied result ≡ value_at (heap_of self.now.nodes) key.now }
     {
-        let mut at = Name::default();
+        let mut at = Name::root();
         loop {
             match self.nodes.look(at, key) {
                 Way::Free => return None,

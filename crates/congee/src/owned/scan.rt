@@ -37,7 +37,10 @@ pub(crate) fn beginning() -> Cursor
     ensures { result.items ≡ record { node = 0; from = 0 } ∷ [] }
 {
     let mut cursor = Cursor::new();
-    cursor.push(Branch::default());
+    cursor.push(Branch {
+        node: Name::root(),
+        from: 0,
+    });
     cursor
 }
 
@@ -59,7 +62,7 @@ impl<P: Stored, A: Allocator> Arena<P, A> {
     {
         let bytes = bytes_of_key(&key);
         let mut cursor = Cursor::new();
-        let mut at = Name::default();
+        let mut at = Name::root();
         loop {
             let mut from = bytes[self.nodes.prefix(at).len()] as usize;
             match self.nodes.look(at, &bytes) {

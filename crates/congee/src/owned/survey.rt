@@ -69,7 +69,7 @@ impl<P: Stored, A: Allocator> Arena<P, A> {
         ensures charged { OnOk result (sizes_of (nodes_of self.now.nodes) ≡ bytes_of self.now.nodes) }
     {
         let mut stats = NodeStats::new(alloc);
-        self.count_from(Name::default(), 0, &mut stats)?;
+        self.count_from(Name::root(), 0, &mut stats)?;
         stats.kv_pairs = self.count_pairs();
         Ok(stats)
     }
