@@ -5,6 +5,7 @@ mod congee;
 mod congee_arc;
 mod drainer;
 mod edit;
+mod nodes;
 mod pairs;
 mod place;
 mod scan;

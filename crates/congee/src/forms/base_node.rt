@@ -89,6 +89,8 @@ pub enum Node<C: Small, P: Boxed<C>> {
 }
 
 impl<C: Small, P: Small> Node<C, P> {
+    ghost use Rattle.congee.specs.declared.forms.base_node.NodeType.TheVariants.{N4 as T4};
+
     /// An empty node with a prefix of at most seven bytes. `N4` asks for no memory.
     pub fn new(alloc: Global, form: NodeType, prefix: &[u8]) -> Result<Self, AllocError>
         requires fits { length prefix.now ≤ MAX_PREFIX_LEN }
@@ -123,6 +125,19 @@ impl<C: Small, P: Small> Node<C, P> {
                     children: Masked::new(),
                 },
             )?),
+        })
+    }
+
+    /// An empty node of the least form, with a prefix of at most seven bytes.
+    pub(crate) fn least(prefix: &[u8]) -> Self
+        requires fits { length prefix.now ≤ MAX_PREFIX_LEN }
+        ensures form { form_of result ≡ T4 }
+        ensures prefix { prefix_of result ≡ prefix.now }
+        ensures children { children_of result ≡ map.empty }
+    {
+        Node::N4(Node4 {
+            prefix: Prefix::new(prefix),
+            children: Sorted::new(),
         })
     }
 

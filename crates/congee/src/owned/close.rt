@@ -14,23 +14,11 @@ ghost use Rattle.congee.specs.owned.Table.{pairs_of};
 ghost use Rattle.congee.specs.owned.Wanted.{WantsLeaf, wants_of};
 
 use crate::allocator::Allocator;
-use crate::forms::base_node::Node;
+use crate::forms::base_node::NodeType;
 use crate::owned::arena::{Arena, Stored};
 use crate::owned::drainer::Drainer;
 use crate::owned::scan::beginning;
 use judge::Word64;
-use slab::Slab;
-
-/// Takes the nodes' bytes off the budget.
-fn take_off<P: Stored, A: Allocator>(nodes: &Slab<Node<usize, P>>, allocator: &mut A)
-    requires covered { bytes_of nodes.now ≤ A.charged_of allocator.old }
-    ensures charge { A.charged_of allocator.new + bytes_of nodes.now ≡ A.charged_of allocator.old }
-    ensures limit { A.limit_of allocator.new ≡ A.limit_of allocator.old }
-{
-    for (_, node) in nodes.iter() {
-        allocator.deallocate(node.size());
-    }
-}
 
 impl<P: Stored, A: Allocator> Arena<P, A> {
     /// Takes every pair out, and every node but the root, whose bytes alone stay charged.
@@ -45,11 +33,9 @@ impl<P: Stored, A: Allocator> Arena<P, A> {
         ensures balance { Balances A.charged_of self.old self.new }
         ensures limit { KeepsLimit A.limit_of self.old self.new }
     {
-        let mut root = self.nodes.remove(0);
-        take_off(&self.nodes, &mut self.allocator);
+        let others = self.nodes.bytes() - NodeType::N256.size();
+        self.allocator.deallocate(others);
         self.nodes.clear();
-        root.clear();
-        self.nodes.insert_reserved(root);
     }
 
     /// Drops the nodes, and gives the allocator back with their bytes taken off.
@@ -62,7 +48,7 @@ impl<P: Stored, A: Allocator> Arena<P, A> {
             nodes,
             mut allocator,
         } = self;
-        take_off(&nodes, &mut allocator);
+        allocator.deallocate(nodes.bytes());
         allocator
     }
 }

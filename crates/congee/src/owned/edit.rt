@@ -15,11 +15,19 @@ ghost use Rattle.congee.specs.declared.forms.base_node.Node.{Node as Form};
 ghost use Rattle.congee.specs.declared.forms.base_node.NodeType.TheVariants.{N4};
 
 use crate::allocator::{Allocator, OOMError};
-use crate::forms::child::Child;
+use crate::forms::base_node::NodeType;
 use crate::forms::prefix::MAX_PREFIX_LEN;
 use crate::keys::KEY_BYTES;
 use crate::owned::arena::{Arena, Stored};
+use crate::owned::nodes::Name;
 use std::alloc::Global;
+
+/// A node that was hung over another, and the byte under which that one hangs in it.
+#[derive(Drop)]
+struct Fork {
+    over: Name,
+    other: u8,
+}
 
 /// The first place where a key and a prefix that it lacks differ.
 pub(crate) fn first_apart(key: &[u8; KEY_BYTES], prefix: &[u8]) -> usize
@@ -36,33 +44,29 @@ pub(crate) fn first_apart(key: &[u8; KEY_BYTES], prefix: &[u8]) -> usize
 
 impl<P: Stored, A: Allocator> Arena<P, A> {
     /// The key's byte at a node.
-    fn byte_at(&self, at: usize, key: &[u8; KEY_BYTES]) -> u8
+    fn byte_at(&self, at: Name, key: &[u8; KEY_BYTES]) -> u8
         requires { ContainsKey self.now.nodes at }
         ensures { result ≡ slice_index key.now (length (heap_of self.now.nodes at).prefix) }
     {
-        key[self.nodes[at].prefix().len()]
+        key[self.nodes.prefix(at).len()]
     }
 
     /// Puts another value in the place of the key's.
-    pub(crate) fn replace(&mut self, at: usize, key: &[u8; KEY_BYTES], value: P) -> P
+    pub(crate) fn replace(&mut self, at: Name, key: &[u8; KEY_BYTES], value: P) -> P
         requires tree { IsTree self.old.nodes }
         requires way { OnWay self.old.nodes key.now at }
         requires held { IsHeld self.old.nodes key.now at }
         ensures { Swaps self.old self.new key.now (Some result) (Some value) }
     {
         let byte = self.byte_at(at, key);
-        match self.swap(at, byte, Child::Value(value)) {
-            Child::Value(old) => old,
-            // The node holds the key's value at this byte.
-            _ => unreachable!(),
-        }
+        self.nodes.swap_value(at, byte, value)
     }
 
-    /// Puts a value into a leaf that has none for the key, or hands it back.
-    pub(crate) fn add_value(
+    /// Puts a value into a leaf with a slot of its own that has none for the key, or hands it back.
+    fn add_beside(
         &mut self,
         alloc: Global,
-        at: usize,
+        at: Name,
         key: &[u8; KEY_BYTES],
         value: P,
     ) -> Result<(), (OOMError, P)>
@@ -80,25 +84,43 @@ impl<P: Stored, A: Allocator> Arena<P, A> {
             return Err((e, value));
         }
         let byte = self.byte_at(at, key);
-        self.hang(at, byte, Child::Value(value));
+        self.nodes.hang_value(at, byte, value);
         Ok(())
     }
 
-    /// Gives a node that was just made the key's value.
-    fn fill_leaf(&mut self, name: usize, key: &[u8; KEY_BYTES], value: P)
-        requires fresh { FreshNode self.old.nodes name (take MAX_PREFIX_LEN key.now) }
-        ensures fills { Fills self.old.nodes self.new.nodes name key.now value }
-        ensures bytes { bytes_of self.new.nodes ≡ bytes_of self.old.nodes }
-        ensures allocator { self.new.allocator ≡ self.old.allocator }
+    /// Puts a value into a leaf that has none for the key, or hands it back.
+    pub(crate) fn add_value(
+        &mut self,
+        alloc: Global,
+        above: Name,
+        at: Name,
+        key: &[u8; KEY_BYTES],
+        value: P,
+    ) -> Result<(), (OOMError, P)>
+        requires tree { IsTree self.old.nodes }
+        requires way { Reached self.old.nodes key.now above at }
+        requires free { child_for (heap_of self.old.nodes at) key.now ≡ Nothing }
+        requires leaf { length (heap_of self.old.nodes at).prefix ≡ MAX_PREFIX_LEN }
+        requires covered { Covers A.charged_of self.old }
+        ensures adds { OnOk result (Adds A.charged_of A.limit_of self.old self.new
+            key.now None value (Some (room_for (heap_of self.old.nodes at)))) }
+        ensures refused { IfErr result (Denies A.charged_of A.limit_of self.old self.new
+            key.now value (Some (room_for (heap_of self.old.nodes at)))) }
     {
-        self.hang(name, key[MAX_PREFIX_LEN], Child::Value(value));
+        if !at.is_inline() {
+            return self.add_beside(alloc, at, key, value);
+        }
+        let up = self.byte_at(above, key);
+        let leaf = self.nodes.unfold(above, up);
+        // A leaf with one value has room for another, so this is never refused.
+        self.add_beside(alloc, leaf, key, value)
     }
 
     /// Hangs a leaf for the key below an inner node that has nothing for it, or hands the value back.
     pub(crate) fn add_leaf(
         &mut self,
         alloc: Global,
-        at: usize,
+        at: Name,
         key: &[u8; KEY_BYTES],
         value: P,
     ) -> Result<(), (OOMError, P)>
@@ -112,17 +134,15 @@ impl<P: Stored, A: Allocator> Arena<P, A> {
         ensures refused { IfErr result (Denies A.charged_of A.limit_of self.old self.new
             key.now value (Some (size_of N4 ∷ room_for (heap_of self.old.nodes at)))) }
     {
-        let leaf = match self.make(alloc, &key[..MAX_PREFIX_LEN]) {
-            Ok(leaf) => leaf,
-            Err(e) => return Err((e, value)),
-        };
-        if let Err(e) = self.make_room(alloc, at) {
-            self.give_back(leaf);
+        if let Err(e) = self.ready(1) {
             return Err((e, value));
         }
-        self.fill_leaf(leaf, key, value);
+        if let Err(e) = self.make_room(alloc, at) {
+            self.allocator.deallocate(NodeType::N4.size());
+            return Err((e, value));
+        }
         let byte = self.byte_at(at, key);
-        self.hang(at, byte, Child::Node(leaf));
+        self.nodes.hang_leaf(at, byte, key, value);
         Ok(())
     }
 
@@ -130,12 +150,13 @@ impl<P: Stored, A: Allocator> Arena<P, A> {
     pub(crate) fn add(
         &mut self,
         alloc: Global,
-        at: usize,
+        above: Name,
+        at: Name,
         key: &[u8; KEY_BYTES],
         value: P,
     ) -> Result<(), (OOMError, P)>
         requires tree { IsTree self.old.nodes }
-        requires way { OnWay self.old.nodes key.now at }
+        requires way { Reached self.old.nodes key.now above at }
         requires free { child_for (heap_of self.old.nodes at) key.now ≡ Nothing }
         requires covered { Covers A.charged_of self.old }
         ensures adds { OnOk result (Adds A.charged_of A.limit_of self.old self.new
@@ -143,57 +164,58 @@ impl<P: Stored, A: Allocator> Arena<P, A> {
         ensures refused { IfErr result (Denies A.charged_of A.limit_of self.old self.new
             key.now value (Some (free_wants (heap_of self.old.nodes at)))) }
     {
-        if self.nodes[at].prefix().len() == MAX_PREFIX_LEN {
-            self.add_value(alloc, at, key, value)
+        if self.nodes.is_leaf(at) {
+            self.add_value(alloc, above, at, key, value)
         } else {
             self.add_leaf(alloc, at, key, value)
         }
     }
 
     /// Takes a value out of a leaf that has others.
-    pub(crate) fn take_value(&mut self, at: usize, key: &[u8; KEY_BYTES]) -> P
+    pub(crate) fn take_value(&mut self, above: Name, at: Name, key: &[u8; KEY_BYTES]) -> P
         requires tree { IsTree self.old.nodes }
         requires way { OnWay self.old.nodes key.now at }
         requires held { IsHeld self.old.nodes key.now at }
+        requires hangs { Hangs self.old.nodes key.now above at }
         requires others { (x : Form ℕ P) → get self.old.nodes at ≡ Some x → map.len (children_of x) ≢ 1 }
         ensures { Swaps self.old self.new key.now (Some result) None }
     {
         let byte = self.byte_at(at, key);
-        match self.unhang(at, byte) {
-            Child::Value(old) => old,
-            // The node holds the key's value at this byte.
-            _ => unreachable!(),
+        let value = self.nodes.take_value(at, byte);
+        if self.nodes.node_type(at) == NodeType::N4 && self.nodes.len(at) == 1 {
+            let up = self.byte_at(above, key);
+            self.nodes.fold(above, up, at);
         }
+        value
     }
 
-    /// Gives a node that was just made a leaf for the key, and beside it the node that parts from the key there.
-    fn fill_fork(
-        &mut self,
-        name: usize,
-        key: &[u8; KEY_BYTES],
-        common: usize,
-        leaf: usize,
-        other: u8,
-        below: usize,
-    )
-        requires fresh { FreshNode self.old.nodes name (take common key.now) }
-        requires within { common < KEY_BYTES }
-        requires apart { slice_index key.now common ≢ other }
-        ensures forks { Forks self.old.nodes self.new.nodes name (take common key.now) (slice_index key.now common) leaf other below }
-        ensures bytes { bytes_of self.new.nodes ≡ bytes_of self.old.nodes }
-        ensures allocator { self.new.allocator ≡ self.old.allocator }
+    /// Hangs a node of the bytes that the key shares with the child `below` over that child and a leaf for the key.
+    fn fork(&mut self, at: Name, below: Name, key: &[u8; KEY_BYTES], value: P) -> Fork
+        requires tree { IsTree self.old.nodes }
+        requires way { OnWay self.old.nodes key.now at }
+        requires hangs { child_for (heap_of self.old.nodes at) key.now ≡ Below below }
+        requires differs { fits (heap_of self.old.nodes below).prefix key.now ≡ false }
+        requires stands { ContainsKey self.old.nodes below }
+        requires own { HasOwnSlot below }
+        requires room { HasRoomFor self.old.nodes 2 }
     {
-        self.hang(name, key[common], Child::Node(leaf));
-        self.hang(name, other, Child::Node(below));
+        let prefix = self.nodes.prefix(below);
+        let common = first_apart(key, prefix);
+        let other = prefix[common];
+        let over = self.nodes.make(&key[..common]);
+        self.nodes.hang_leaf(over, key[common], key, value);
+        self.nodes.hang_node(over, other, below);
+        let up = self.byte_at(at, key);
+        self.nodes.swap_node(at, up, over);
+        Fork { over, other }
     }
 
     /// Hangs a node of the bytes that the key shares with the child `below` over that child and a leaf for the key,
     /// or hands the value back.
     pub(crate) fn split(
         &mut self,
-        alloc: Global,
-        at: usize,
-        below: usize,
+        at: Name,
+        below: Name,
         key: &[u8; KEY_BYTES],
         value: P,
     ) -> Result<(), (OOMError, P)>
@@ -207,28 +229,26 @@ impl<P: Stored, A: Allocator> Arena<P, A> {
         ensures refused { IfErr result (Denies A.charged_of A.limit_of self.old self.new
             key.now value (Some (size_of N4 ∷ size_of N4 ∷ []))) }
     {
-        let common = first_apart(key, self.nodes[below].prefix());
-        let other = self.nodes[below].prefix()[common];
-        let over = match self.make(alloc, &key[..common]) {
-            Ok(over) => over,
-            Err(e) => return Err((e, value)),
-        };
-        let leaf = match self.make(alloc, &key[..MAX_PREFIX_LEN]) {
-            Ok(leaf) => leaf,
-            Err(e) => {
-                self.give_back(over);
-                return Err((e, value));
-            }
-        };
-        self.fill_leaf(leaf, key, value);
-        self.fill_fork(over, key, common, leaf, other, below);
-        let byte = self.byte_at(at, key);
-        self.swap(at, byte, Child::Node(over));
+        if let Err(e) = self.ready(1) {
+            return Err((e, value));
+        }
+        if let Err(e) = self.ready(2) {
+            self.allocator.deallocate(NodeType::N4.size());
+            return Err((e, value));
+        }
+        if !below.is_inline() {
+            self.fork(at, below, key, value);
+            return Ok(());
+        }
+        let up = self.byte_at(at, key);
+        let leaf = self.nodes.unfold(at, up);
+        let Fork { over, other } = self.fork(at, leaf, key, value);
+        self.nodes.fold(over, other, leaf);
         Ok(())
     }
 
     /// Takes a leaf's only value out, and the leaf with it.
-    pub(crate) fn drop_leaf(&mut self, above: usize, at: usize, key: &[u8; KEY_BYTES]) -> P
+    pub(crate) fn drop_leaf(&mut self, above: Name, at: Name, key: &[u8; KEY_BYTES]) -> P
         requires tree { IsTree self.old.nodes }
         requires way { OnWay self.old.nodes key.now at }
         requires held { IsHeld self.old.nodes key.now at }
@@ -238,16 +258,18 @@ impl<P: Stored, A: Allocator> Arena<P, A> {
         ensures { Frees A.charged_of A.limit_of self.old self.new
             key.now (Some result) None (size_by (heap_of self.old.nodes at).capacity) }
     {
-        let byte = self.byte_at(at, key);
-        let last = self.unhang(at, byte);
+        let size = self.nodes.node_type(at).size();
         let up = self.byte_at(above, key);
-        self.unhang(above, up);
-        let size = self.nodes.remove(at).size();
+        let value = if at.is_inline() {
+            self.nodes.unhang_leaf(above, up)
+        } else {
+            let byte = self.byte_at(at, key);
+            let value = self.nodes.take_value(at, byte);
+            self.nodes.unhang_node(above, up);
+            self.nodes.remove(at);
+            value
+        };
         self.allocator.deallocate(size);
-        match last {
-            Child::Value(old) => old,
-            // The leaf's last child is the key's value.
-            _ => unreachable!(),
-        }
+        value
     }
 }

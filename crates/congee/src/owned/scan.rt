@@ -16,6 +16,8 @@ use crate::forms::prefix::MAX_PREFIX_LEN;
 use crate::keys::{KEY_BYTES, bytes_of_key};
 use crate::owned::arena::{Arena, Stored};
 use crate::owned::edit::first_apart;
+use crate::owned::nodes::{Name, key_from};
+use crate::owned::place::Way;
 use arrayvec::ArrayVec;
 use judge::Word64;
 use std::alloc::{AllocError, Global};
@@ -23,7 +25,7 @@ use std::alloc::{AllocError, Global};
 /// A node on a scan's way, and the least of its bytes that the scan has yet to look at: 256 where none is left.
 #[derive(Clone, Copy, Default)]
 pub(crate) struct Branch {
-    node: usize,
+    node: Name,
     from: usize,
 }
 
@@ -35,7 +37,7 @@ pub(crate) fn beginning() -> Cursor
     ensures { result.items ≡ record { node = 0; from = 0 } ∷ [] }
 {
     let mut cursor = Cursor::new();
-    cursor.push(Branch { node: 0, from: 0 });
+    cursor.push(Branch::default());
     cursor
 }
 
@@ -45,11 +47,7 @@ fn key_of(prefix: &[u8], byte: u8) -> u64
     ensures begins { fits prefix.now (key_bytes result) ≡ true }
     ensures ends { slice_index (key_bytes result) MAX_PREFIX_LEN ≡ byte }
 {
-    let mut bytes = [byte; KEY_BYTES];
-    for i in 0..MAX_PREFIX_LEN {
-        bytes[i] = prefix[i];
-    }
-    u64::from_be_bytes(bytes)
+    u64::from_be_bytes(key_from(prefix, byte))
 }
 
 impl<P: Stored, A: Allocator> Arena<P, A> {
@@ -61,37 +59,35 @@ impl<P: Stored, A: Allocator> Arena<P, A> {
     {
         let bytes = bytes_of_key(&key);
         let mut cursor = Cursor::new();
-        let mut at = 0;
+        let mut at = Name::default();
         loop {
-            let node = &self.nodes[at];
-            let depth = node.prefix().len();
-            let mut from = bytes[depth] as usize;
-            let below = match node.get_child(bytes[depth]) {
-                None => {
+            let mut from = bytes[self.nodes.prefix(at).len()] as usize;
+            match self.nodes.look(at, &bytes) {
+                Way::Free => {
                     cursor.push(Branch { node: at, from });
                     return cursor;
                 }
-                Some(Child::Blank) => unreachable!(),
-                Some(Child::Value(_)) => {
+                Way::Held(_) => {
                     cursor.push(Branch { node: at, from });
                     return cursor;
                 }
-                Some(Child::Node(below)) => *below,
-            };
-            if !self.nodes[below].is_prefix_of(&bytes) {
-                let prefix = self.nodes[below].prefix();
-                let apart = first_apart(&bytes, prefix);
-                if prefix[apart] < bytes[apart] {
-                    from += 1;
+                Way::Apart(below) => {
+                    let prefix = self.nodes.prefix(below);
+                    let apart = first_apart(&bytes, prefix);
+                    if prefix[apart] < bytes[apart] {
+                        from += 1;
+                    }
+                    cursor.push(Branch { node: at, from });
+                    return cursor;
                 }
-                cursor.push(Branch { node: at, from });
-                return cursor;
+                Way::Below(below) => {
+                    cursor.push(Branch {
+                        node: at,
+                        from: from + 1,
+                    });
+                    at = below;
+                }
             }
-            cursor.push(Branch {
-                node: at,
-                from: from + 1,
-            });
-            at = below;
         }
     }
 
@@ -106,8 +102,7 @@ impl<P: Stored, A: Allocator> Arena<P, A> {
             (λ r. IsFirst (pairs_of self.now.nodes) from r.0 r.1.now × IsAt self.now.nodes cursor.new.items (r.0 + 1)) }
     {
         while let Some(Branch { node: at, from }) = cursor.pop() {
-            let node = &self.nodes[at];
-            let Some((byte, child)) = node.first_from(from) else {
+            let Some((byte, child)) = self.nodes.first_from(at, from) else {
                 continue;
             };
             cursor.push(Branch {
@@ -116,9 +111,9 @@ impl<P: Stored, A: Allocator> Arena<P, A> {
             });
             match child {
                 Child::Blank => unreachable!(),
-                Child::Value(value) => return Some((key_of(node.prefix(), byte), value)),
+                Child::Value(value) => return Some((key_of(self.nodes.prefix(at), byte), value)),
                 Child::Node(below) => cursor.push(Branch {
-                    node: *below,
+                    node: below,
                     from: 0,
                 }),
             }
