@@ -1,5 +1,5 @@
 -- What stands under a name after the node in one slot changed.
-use Rattle.std.proofs.Common.{◌≡◌, ◌≢◌, ℕ, zero, suc, ◌+◌, ◌*◌, ◌/◌, ◌%◌, ◌<◌, ◌≤◌, false, inl, inr, List, [], ◌∷◌, length, take, get_or, refl, sym, ap, subst, ◌∙◌, arith}
+use Rattle.std.proofs.Common.{◌≡◌, ◌≢◌, ℕ, zero, suc, ◌+◌, ◌*◌, ◌/◌, ◌%◌, ◌<◌, ◌≤◌, ◌==◌, false, inl, inr, List, [], ◌∷◌, length, take, get_or, refl, sym, ap, subst, ◌∙◌, arith}
 use Rattle.std.specs.Prelude.{Option, None, Some, IsSome, is_some}
 use Rattle.std.specs.Ordering.{nat_cmp}
 use Rattle.std.specs.FinMap as map
@@ -130,7 +130,7 @@ module _ {P : Type 0} (i : ℕ) where
   seen_full (Leaf n) = with_full leaf_child n
 
 pub lone_full : {P : Type 0} (lone : Lone P) → is_full_of (lone_node lone) ≡ false
-lone_full lone = rw (len_one (get_or lone.key 7 0) (Value lone.value)) refl
+lone_full lone = ap (λ n. n == 4) (len_one (get_or lone.key 7 0) (Value lone.value))
 
 pub lone_len : {P : Type 0} (lone : Lone P) → map.len (children_of (lone_node lone)) ≡ 1
 lone_len lone = len_one (get_or lone.key 7 0) (Value lone.value)
@@ -169,6 +169,16 @@ module _ {P : Type 0} (s : Slab (Slot (Lone P) P)) (v : Nodes P) (is : nodes_in 
       let L = named_lone_at b e l (rw h refl) in
       let R : Nodes P → Type 0 = λ w. get w (257 * i + (b + 1)) ≡ Some (lone_node L.lone) in
       (L.lone, named_lone_seen b L.lone y e (subst R is L.seen) h)
+
+  pub lone_in_view : (b : ℕ) → b < 256 → ContainsKey v (257 * i + (b + 1)) → LoneAt s i b
+  lone_in_view b l h = let R : Nodes P → Type 0 = λ w. ContainsKey w (257 * i + (b + 1)) in lone_there s i b l (subst R (sym is) h)
+
+-- what was read there
+pub lone_read : {P : Type 0} (s : Slab (Slot (Lone P) P)) (i b : ℕ) (k : LoneAt s i b) (x : Slot (Lone P) P) (n : Node ℕ (Lone P)) → get s i ≡ Some x → x ≡ Inner n → map.get (children_of n) b ≡ Some (Value k.lone)
+lone_read s i b k x n e q =
+    let z : Some (Inner k.node) ≡ Some (Inner n) = sym k.stands ∙ (e ∙ ap Some q) in
+    let y : k.node ≡ n = cc in
+    subst (λ m. map.get (children_of m) b ≡ Some (Value k.lone)) y k.child
 
 -- fewer nodes stand in slots than have names
 module _ {P : Type 0} (s : Slab (Slot (Lone P) P)) where
