@@ -28,3 +28,4 @@ pub mod Tallies
 pub mod Stored
 pub mod Surveys
 pub mod StatsTexts
+pub mod Hangings

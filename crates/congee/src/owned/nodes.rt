@@ -409,6 +409,7 @@ impl<P: Stored> Nodes<P> {
         requires { ContainsKey self.now at }
         ensures count { (x : Form ℕ P) → get self.now at ≡ Some x → result ≡ map.len (children_of x) }
         ensures bytes { (x : Form ℕ P) → get self.now at ≡ Some x → (b : ℕ) → IsSome (map.get (children_of x) b) → b < 256 }
+        ensures inline { (HasOwnSlot at → ⊥) → result ≡ 1 }
     {
         match at.byte {
             None => self.slab[at.slot].len(),
@@ -618,6 +619,8 @@ impl<P: Stored> Nodes<P> {
         ensures renames { (x : Form ℕ P) (leaf : ℕ) → get self.old at ≡ Some x → map.get (children_of x) byte ≡ Some (Sub leaf)
             → Renames self.old self.new at byte leaf result }
         ensures own { HasOwnSlot result }
+        ensures lone { (y : Form ℕ P) → get self.new result ≡ Some y → HasOne y }
+        ensures keeps { (n : ℕ) → HasRoomFor self.old n → HasRoomFor self.new n }
         ensures capacity { self.new.capacity ≡ self.old.capacity }
     {
         let Lone { key, value } = match self.slab[at.slot].take_child(byte) {
