@@ -12,6 +12,7 @@ use Rattle.congee.specs.owned.Arena.{Nodes, hung_in, node_of, heap_of, ledger_of
 use Rattle.congee.specs.owned.Sizes.{bytes_of, bytes_at}
 use Rattle.congee.specs.owned.Changes.{Differs, MapChange, AddsLeaf, AddsFork, DropsLeaf, DiffersAt}
 use Rattle.congee.specs.owned.OwnedSteps.{Sets, Makes, MakesRoom, SameNodes, IsHeld, Hosts}
+use Rattle.congee.specs.owned.Kinds.{IsValue}
 use Rattle.congee.specs.owned.Stores.{HangsLeaf, LosesLeaf, IsLone, HasOne}
 use Rattle.congee.specs.owned.Wanted.{size_by}
 use Rattle.congee.specs.declared.forms.base_node.Node.{Node as Form}
@@ -84,6 +85,13 @@ module _ {P : Type 0} where
       of (Some Blank) g = absurd (no_blank s t key n st (h ∙ sym g))
       of (Some (Sub d)) g = ap (λ z. Some (Sub z)) (let f : Below {P} d ≡ Below c = g in cc)
       of (Some (Value w)) g = absurd (cc)
+
+  -- the key's value stands under its byte
+  pub held_value : (s : Nodes P) (key : List ℕ) (at byte : ℕ) → IsHeld s key at → byte ≡ get_or key (length (heap_of s at).prefix) 0
+      → (x : Form ℕ P) → get s at ≡ Some x → IsValue (map.get (children_of x) byte)
+  held_value s key at byte h b x e =
+      let k : map.get (children_of x) byte ≡ Some (Value h.value) = ap (map.get (children_of x)) b ∙ held_is s key at x e h in
+      rw k tt
 
   -- a node with nodes below it is no leaf
   pub above_inner : (s : Nodes P) → IsTree s → (key : List ℕ) (n c : ℕ) → ContainsKey s n → child_for (heap_of s n) key ≡ Below c
