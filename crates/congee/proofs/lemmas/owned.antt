@@ -17,7 +17,10 @@ pub mod Renaming
 pub mod Root
 pub mod Scanned
 pub mod Sizes
+pub mod SlotChanges
+pub mod SlotLeaves
 pub mod SlotLens
+pub mod SlotOps
 pub mod Slots
 pub mod Tables
 pub mod Totals

@@ -3,6 +3,8 @@ ghost use Rattle.std.specs.Prelude.{◌≡◌, ◌+◌, ◌*◌, ◌/◌, ◌%�
 ghost use Rattle.std.specs.FinMap as map;
 ghost use Rattle.slab.specs.Slab.{Slab as SlabOf, get, ContainsKey, HasRoomFor, SameValues, Updates};
 ghost use Rattle.congee.specs.forms.Forms.{Becomes, children_of, form_of, is_full_of, prefix_of};
+ghost use Rattle.congee.specs.declared.keys.TheConstants.{KEY_BYTES};
+ghost use Rattle.congee.specs.declared.forms.prefix.TheConstants.{MAX_PREFIX_LEN};
 
 use crate::forms::base_node::{Node, NodeType};
 use crate::forms::child::{Child, Small};
@@ -19,6 +21,8 @@ use std::marker::Model;
 pub(crate) struct Lone<P> {
     key: [u8; KEY_BYTES],
     value: P,
+    ghost whole: { length key ≡ KEY_BYTES },
+    ghost last: { slice_index key MAX_PREFIX_LEN < 256 },
 }
 
 impl<P: Stored> Small for Lone<P> {
@@ -122,6 +126,17 @@ pub(crate) fn key_from(prefix: &[u8], last: u8) -> [u8; KEY_BYTES]
     key
 }
 
+impl<P> Lone<P> {
+    ghost use Rattle.congee.specs.Heap.{fits};
+
+    // Whether the leaf's prefix is the beginning of the key.
+    fn leads(&self, key: &[u8; KEY_BYTES]) -> bool
+        ensures { result ≡ fits (take MAX_PREFIX_LEN self.now.key) key.now }
+    {
+        self.key[..MAX_PREFIX_LEN] == key[..MAX_PREFIX_LEN]
+    }
+}
+
 impl<L: Small, P: Small> Slot<L, P> {
     ghost use Rattle.congee.specs.Heap.{fits};
     ghost use Rattle.congee.specs.forms.Forms.{capacity_of};
@@ -182,6 +197,22 @@ impl<L: Small, P: Small> Slot<L, P> {
         match self {
             Slot::Inner(n) => n.grow(alloc),
             Slot::Leaf(n) => n.grow(alloc),
+        }
+    }
+
+    // A value of an inner node.
+    fn lone(&self, byte: u8) -> &L
+        requires present { IsValue (inner_get self.now byte) }
+        ensures { inner_get self.now byte ≡ Some (Value result.now) }
+    {
+        match self {
+            Slot::Inner(n) => match n.get_child(byte) {
+                Some(Child::Value(lone)) => lone,
+                Some(Child::Node(_)) => unreachable!(),
+                Some(Child::Blank) => unreachable!(),
+                None => unreachable!(),
+            },
+            Slot::Leaf(_) => unreachable!(),
         }
     }
 
@@ -314,13 +345,7 @@ impl<P: Stored> Nodes<P> {
         requires { ContainsKey self.now (257 * slot + (byte + 1)) }
         ensures { get self.now (257 * slot + (byte + 1)) ≡ Some (lone_node result.now) }
     {
-        match &self.slab[slot] {
-            Slot::Inner(n) => match n.get_child(byte) {
-                Some(Child::Value(lone)) => lone,
-                _ => unreachable!(),
-            },
-            Slot::Leaf(_) => unreachable!(),
-        }
+        self.slab[slot].lone(byte)
     }
 
     /// What a node has for a key.
@@ -329,14 +354,32 @@ impl<P: Stored> Nodes<P> {
         requires stands { ContainsKey self.now at }
         ensures { Leads self.now key.now at result }
     {
-        if let Some(byte) = at.byte {
-            let lone = self.lone(at.slot, byte);
-            if lone.key[MAX_PREFIX_LEN] == key[MAX_PREFIX_LEN] {
-                return Way::Held(&lone.value);
-            }
-            return Way::Free;
+        match at.byte {
+            Some(byte) => self.look_inline(at.slot, byte, key),
+            None => self.look_slot(at.slot, key),
         }
-        match &self.slab[at.slot] {
+    }
+
+    // What a leaf in the place of its parent has for a key.
+    fn look_inline(&self, slot: usize, byte: u8, key: &[u8; KEY_BYTES]) -> Way<'_, P>
+        requires { ContainsKey self.now (257 * slot + (byte + 1)) }
+        ensures { Leads self.now key.now (257 * slot + (byte + 1)) result }
+    {
+        let lone = self.lone(slot, byte);
+        if lone.key[MAX_PREFIX_LEN] == key[MAX_PREFIX_LEN] {
+            Way::Held(&lone.value)
+        } else {
+            Way::Free
+        }
+    }
+
+    // What a node in a slot has for a key.
+    fn look_slot(&self, slot: usize, key: &[u8; KEY_BYTES]) -> Way<'_, P>
+        requires tree { IsTree self.now }
+        requires stands { ContainsKey self.now (257 * slot) }
+        ensures { Leads self.now key.now (257 * slot) result }
+    {
+        match &self.slab[slot] {
             Slot::Inner(n) => {
                 let byte = key[n.prefix().len()];
                 match n.get_child(byte) {
@@ -344,19 +387,20 @@ impl<P: Stored> Nodes<P> {
                     Some(Child::Blank) => unreachable!(),
                     Some(Child::Node(below)) => self.turn(*below, key),
                     Some(Child::Value(lone)) => {
-                        if lone.key[..MAX_PREFIX_LEN] == key[..MAX_PREFIX_LEN] {
-                            Way::Below(Name::inline(at.slot, byte))
+                        let name = Name::inline(slot, byte);
+                        if lone.leads(key) {
+                            Way::Below(name)
                         } else {
-                            Way::Apart(Name::inline(at.slot, byte))
+                            Way::Apart(name)
                         }
                     }
                 }
             }
             Slot::Leaf(n) => match n.get_child(key[n.prefix().len()]) {
                 None => Way::Free,
-                Some(Child::Value(value)) => Way::Held(value),
                 Some(Child::Blank) => unreachable!(),
                 Some(Child::Node(below)) => self.turn(*below, key),
+                Some(Child::Value(value)) => Way::Held(value),
             },
         }
     }
@@ -408,6 +452,7 @@ impl<P: Stored> Nodes<P> {
     pub(crate) fn len(&self, at: Name) -> usize
         requires { ContainsKey self.now at }
         ensures count { (x : Form ℕ P) → get self.now at ≡ Some x → result ≡ map.len (children_of x) }
+        ensures inline { (HasOwnSlot at → ⊥) → result ≡ 1 }
         ensures bytes { (x : Form ℕ P) → get self.now at ≡ Some x → (b : ℕ) → IsSome (map.get (children_of x) b) → b < 256 }
         ensures inline { (HasOwnSlot at → ⊥) → result ≡ 1 }
     {
@@ -434,33 +479,50 @@ impl<P: Stored> Nodes<P> {
         ensures { (x : Form ℕ P) → get self.now at ≡ Some x → MatchOption result ((b : ℕ) → from ≤ b → map.get (children_of x) b ≡ None)
             (λ r. IsFirst (children_of x) from r.0 (child_now r.1)) }
     {
-        if let Some(byte) = at.byte {
-            let lone = self.lone(at.slot, byte);
-            let last = lone.key[MAX_PREFIX_LEN];
-            if from <= last as usize {
-                return Some((last, Child::Value(&lone.value)));
-            }
-            return None;
+        match at.byte {
+            Some(byte) => self.first_inline(at.slot, byte, from),
+            None => self.first_in_slot(at.slot, from),
         }
-        match &self.slab[at.slot] {
-            Slot::Inner(n) => {
-                let (byte, child) = n.first_from(from)?;
-                let child = match child {
-                    Child::Blank => Child::Blank,
-                    Child::Node(below) => Child::Node(Name::of(*below)),
-                    Child::Value(_) => Child::Node(Name::inline(at.slot, byte)),
-                };
-                Some((byte, child))
-            }
-            Slot::Leaf(n) => {
-                let (byte, child) = n.first_from(from)?;
-                let child = match child {
-                    Child::Blank => Child::Blank,
-                    Child::Node(below) => Child::Node(Name::of(*below)),
-                    Child::Value(value) => Child::Value(value),
-                };
-                Some((byte, child))
-            }
+    }
+
+    // The value of a leaf in the place of its parent, if its byte isn't below `from`.
+    fn first_inline(&self, slot: usize, byte: u8, from: usize) -> Option<(u8, Child<Name, &P>)>
+        requires { ContainsKey self.now (257 * slot + (byte + 1)) }
+        ensures { (x : Form ℕ P) → get self.now (257 * slot + (byte + 1)) ≡ Some x
+            → MatchOption result ((b : ℕ) → from ≤ b → map.get (children_of x) b ≡ None)
+            (λ r. IsFirst (children_of x) from r.0 (child_now r.1)) }
+    {
+        let lone = self.lone(slot, byte);
+        let last = lone.key[MAX_PREFIX_LEN];
+        if from <= last as usize {
+            Some((last, Child::Value(&lone.value)))
+        } else {
+            None
+        }
+    }
+
+    // The child of the least byte from `from` on of the node in a slot.
+    fn first_in_slot(&self, slot: usize, from: usize) -> Option<(u8, Child<Name, &P>)>
+        requires { ContainsKey self.now (257 * slot) }
+        ensures { (x : Form ℕ P) → get self.now (257 * slot) ≡ Some x
+            → MatchOption result ((b : ℕ) → from ≤ b → map.get (children_of x) b ≡ None)
+            (λ r. IsFirst (children_of x) from r.0 (child_now r.1)) }
+    {
+        match &self.slab[slot] {
+            Slot::Inner(n) => match n.first_from(from) {
+                None => None,
+                Some((byte, Child::Blank)) => Some((byte, Child::Blank)),
+                Some((byte, Child::Node(below))) => Some((byte, Child::Node(Name::of(*below)))),
+                Some((byte, Child::Value(_))) => {
+                    Some((byte, Child::Node(Name::inline(slot, byte))))
+                }
+            },
+            Slot::Leaf(n) => match n.first_from(from) {
+                None => None,
+                Some((byte, Child::Blank)) => Some((byte, Child::Blank)),
+                Some((byte, Child::Node(below))) => Some((byte, Child::Node(Name::of(*below)))),
+                Some((byte, Child::Value(value))) => Some((byte, Child::Value(value))),
+            },
         }
     }
 
@@ -485,6 +547,7 @@ impl<P: Stored> Nodes<P> {
         requires spare { HasRoomFor self.old 1 }
         ensures hangs { (x : Form ℕ P) → get self.old at ≡ Some x → HangsLeaf self.old self.new at x byte key.now value }
     {
+        prove!(self.inline < self.slab.capacity());
         self.slab[at.slot].put_child(byte, Child::Value(Lone { key: *key, value }));
         self.inline += 1;
     }
@@ -532,9 +595,9 @@ impl<P: Stored> Nodes<P> {
         requires present { (x : Form ℕ P) → get self.old at ≡ Some x → HasInline (map.get (children_of x) byte) }
         ensures takes { (x : Form ℕ P) → get self.old at ≡ Some x → LosesLeaf self.old self.new at x byte result }
     {
-        self.inline -= 1;
         match self.slab[at.slot].take_child(byte) {
             Child::Value(lone) => {
+                self.inline -= 1;
                 let Lone { key: _, value } = lone;
                 value
             }
@@ -618,6 +681,8 @@ impl<P: Stored> Nodes<P> {
         requires present { (x : Form ℕ P) → get self.old at ≡ Some x → HasInline (map.get (children_of x) byte) }
         ensures renames { (x : Form ℕ P) (leaf : ℕ) → get self.old at ≡ Some x → map.get (children_of x) byte ≡ Some (Sub leaf)
             → Renames self.old self.new at byte leaf result }
+        ensures lone { (y : Form ℕ P) → get self.new result ≡ Some y → HasOne y }
+        ensures keeps { (n : ℕ) → HasRoomFor self.old n → HasRoomFor self.new n }
         ensures own { HasOwnSlot result }
         ensures lone { (y : Form ℕ P) → get self.new result ≡ Some y → HasOne y }
         ensures keeps { (n : ℕ) → HasRoomFor self.old n → HasRoomFor self.new n }
