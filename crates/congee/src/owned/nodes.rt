@@ -454,7 +454,6 @@ impl<P: Stored> Nodes<P> {
         ensures count { (x : Form ℕ P) → get self.now at ≡ Some x → result ≡ map.len (children_of x) }
         ensures inline { (HasOwnSlot at → ⊥) → result ≡ 1 }
         ensures bytes { (x : Form ℕ P) → get self.now at ≡ Some x → (b : ℕ) → IsSome (map.get (children_of x) b) → b < 256 }
-        ensures inline { (HasOwnSlot at → ⊥) → result ≡ 1 }
     {
         match at.byte {
             None => self.slab[at.slot].len(),
@@ -684,8 +683,6 @@ impl<P: Stored> Nodes<P> {
         ensures lone { (y : Form ℕ P) → get self.new result ≡ Some y → HasOne y }
         ensures keeps { (n : ℕ) → HasRoomFor self.old n → HasRoomFor self.new n }
         ensures own { HasOwnSlot result }
-        ensures lone { (y : Form ℕ P) → get self.new result ≡ Some y → HasOne y }
-        ensures keeps { (n : ℕ) → HasRoomFor self.old n → HasRoomFor self.new n }
         ensures capacity { self.new.capacity ≡ self.old.capacity }
     {
         let Lone { key, value } = match self.slab[at.slot].take_child(byte) {

@@ -11,9 +11,10 @@ use Rattle.congee.specs.forms.Forms.{prefix_of, children_of, form_of, size_of, c
 use Rattle.congee.specs.owned.Arena.{Nodes, hung_in, node_of, heap_of, ledger_of, IsTree, OnWay, Hangs}
 use Rattle.congee.specs.owned.Sizes.{bytes_of, bytes_at}
 use Rattle.congee.specs.owned.Changes.{Differs, MapChange, AddsLeaf, AddsFork, DropsLeaf, DiffersAt}
+use Rattle.congee.specs.owned.Naming.{HasOwnSlot}
 use Rattle.congee.specs.owned.OwnedSteps.{Sets, Makes, MakesRoom, SameNodes, IsHeld, Hosts}
 use Rattle.congee.specs.owned.Kinds.{IsValue}
-use Rattle.congee.specs.owned.Stores.{HangsLeaf, LosesLeaf, IsLone, HasOne}
+use Rattle.congee.specs.owned.Stores.{HangsLeaf, LosesLeaf, IsLone, HasOne, HasNode, HasInline}
 use Rattle.congee.specs.owned.Wanted.{size_by}
 use Rattle.congee.specs.declared.forms.base_node.Node.{Node as Form}
 use Rattle.congee.specs.declared.forms.base_node.NodeType.TheVariants.{N4}
@@ -102,12 +103,59 @@ module _ {P : Type 0} where
       let p : length (heap_of s n).prefix ≡ length (prefix_of x) = ap length (prefix_at s n x e) in
       omega (arith, i.longer, l, p)
 
+  -- such a node has a slot of its own, or lies in its parent's place
+  pub child_node : (s : Nodes P) → IsTree s → (key : List ℕ) (n c b : ℕ) → ContainsKey s n → child_for (heap_of s n) key ≡ Below c → HasOwnSlot c
+      → b ≡ get_or key (length (heap_of s n).prefix) 0 → (x : Form ℕ P) → get s n ≡ Some x → HasNode (map.get (children_of x) b)
+  child_node s t key n c b st h own is x e = subst HasNode (sym (child_there s t key n c st h x e b is)) own
+
+  pub child_inline : (s : Nodes P) → IsTree s → (key : List ℕ) (n c b : ℕ) → ContainsKey s n → child_for (heap_of s n) key ≡ Below c → (HasOwnSlot c → ⊥)
+      → b ≡ get_or key (length (heap_of s n).prefix) 0 → (x : Form ℕ P) → get s n ≡ Some x → HasInline (map.get (children_of x) b)
+  child_inline s t key n c b st h inline is x e = subst HasInline (sym (child_there s t key n c st h x e b is)) inline
+
+  -- the same where the node above is as it was
+  pub up_inner : (s s' : Nodes P) → IsTree s → (key : List ℕ) (above at : ℕ) → get s' above ≡ get s above → Hangs s key above at
+      → (x : Form ℕ P) → get s' above ≡ Some x → length (prefix_of x) < 7
+  up_inner s s' t key above at same h x e = above_inner s t key above at h.way.stands h.child x (sym same ∙ e)
+
+  pub up_node : (s s' : Nodes P) → IsTree s → (key : List ℕ) (above at : ℕ) → get s' above ≡ get s above → Hangs s key above at
+      → (b : ℕ) → HasOwnSlot at → b ≡ get_or key (length (heap_of s' above).prefix) 0 → (x : Form ℕ P) → get s' above ≡ Some x → HasNode (map.get (children_of x) b)
+  up_node s s' t key above at same h b own is x e =
+      child_node s t key above at b h.way.stands h.child own (is ∙ ap (λ o. get_or key (length (node_of o).prefix) 0) same) x (sym same ∙ e)
+
+  -- a leaf whose value was taken, and which was taken out of its parent, is a leaf still
+  pub left_leaf : (s0 s1 s2 : Nodes P) (key : List ℕ) (above at byte up : ℕ) → IsTree s0 → OnWay s0 key at → IsHeld s0 key at → Hangs s0 key above at
+      → ((x : Form ℕ P) → get s0 at ≡ Some x → Sets s0 s1 at x (map.remove (children_of x) byte))
+      → ((x : Form ℕ P) → get s1 above ≡ Some x → Sets s1 s2 above x (map.remove (children_of x) up))
+      → (x : Form ℕ P) → get s2 at ≡ Some x → length (prefix_of x) ≡ 7
+  left_leaf s0 s1 s2 key above at byte up t w h hangs sets1 sets2 x e =
+      let l = node_at s0 at w.stands in
+      let n = node_at s0 above hangs.way.stands in
+      let ne : above ≢ at = above_apart s0 t key above at hangs in
+      let j = sets1 l.0 l.1 in
+      let k = sets2 n.0 (j.updates.others above ne ∙ n.1) in
+      let is : x ≡ j.node = one_node s2 at x j.node e (k.updates.others at (λ q. ne (sym q)) ∙ j.updates.changed) in
+      ap length (ap prefix_of is ∙ (j.becomes.prefix ∙ sym (prefix_at s0 at l.0 l.1))) ∙ held_seven s0 key at t w h
+
   -- a leaf of the key's comes in below an inner node
   pub hung_roomy : (s0 s1 s2 : Nodes P) (at : ℕ) → ContainsKey s0 at → SameNodes s0 s1 → ((x : Form ℕ P) → get s1 at ≡ Some x → MakesRoom s1 s2 at x) → Roomy s0 s2 at
   hung_roomy s0 s1 s2 at st same g =
       let n = node_at s0 at st in
       let k = g n.0 (same at ∙ n.1) in
       record { before = n.0; was = n.1; node = k.node; now = k.updates.changed; prefix = k.prefixed; children = k.children; room = k.room; wide = k.wide }
+
+  pub roomy_inner : (s s' : Nodes P) (at : ℕ) → Roomy s s' at → length (heap_of s at).prefix < 7 → (x : Form ℕ P) → get s' at ≡ Some x → length (prefix_of x) < 7
+  roomy_inner s s' at r l x e =
+      let p : length (prefix_of x) ≡ length (heap_of s at).prefix = ap length (ap prefix_of (one_node s' at x r.node e r.now) ∙ (r.prefix ∙ sym (prefix_at s at r.before r.was))) in
+      omega (arith, p, l)
+
+  pub roomy_leaf : (s s' : Nodes P) (at : ℕ) → Roomy s s' at → length (heap_of s at).prefix ≡ 7 → (x : Form ℕ P) → get s' at ≡ Some x → length (prefix_of x) ≡ 7
+  roomy_leaf s s' at r l x e = ap length (ap prefix_of (one_node s' at x r.node e r.now) ∙ (r.prefix ∙ sym (prefix_at s at r.before r.was))) ∙ l
+
+  pub same_heap : (s s' : Nodes P) (n : ℕ) → SameNodes s s' → heap_of s' n ≡ heap_of s n
+  same_heap s s' n e = ap node_of (e n)
+
+  pub same_stands : (s s' : Nodes P) (n : ℕ) → SameNodes s s' → ContainsKey s n → ContainsKey s' n
+  same_stands s s' n e h = subst IsSome (sym (e n)) h
 
   pub leaf_hung : (s0 s1 s2 s3 : Nodes P) (key : List ℕ) (at byte : ℕ) (v : P) → length key ≡ 8 → IsTree s0 → OnWay s0 key at
       → child_for (heap_of s0 at) key ≡ Nothing → length (heap_of s0 at).prefix < 7
