@@ -11,6 +11,7 @@ ghost use Rattle.congee.specs.owned.Changes.{DiffersAt, MapChange};
 ghost use Rattle.congee.specs.owned.Edits.{Adds, Denies, Drops, Frees, Swaps};
 ghost use Rattle.congee.specs.owned.Naming.{HasOwnSlot};
 ghost use Rattle.congee.specs.owned.OwnedSteps.{Hosts, IsHeld};
+ghost use Rattle.congee.specs.owned.Renames.{Renamed};
 ghost use Rattle.congee.specs.owned.Wanted.{room_for, free_wants, size_by};
 ghost use Rattle.congee.specs.declared.forms.base_node.Node.{Node as Form};
 ghost use Rattle.congee.specs.declared.forms.base_node.NodeType.TheVariants.{N4};
@@ -175,6 +176,7 @@ impl<P: Stored, A: Allocator> Arena<P, A> {
 
     /// Takes a value out of a leaf that has others.
     pub(crate) fn take_value(&mut self, above: Name, at: Name, key: &[u8; KEY_BYTES]) -> P
+        requires own { HasOwnSlot at }
         requires tree { IsTree self.old.nodes }
         requires way { OnWay self.old.nodes key.now at }
         requires held { IsHeld self.old.nodes key.now at }
@@ -184,11 +186,24 @@ impl<P: Stored, A: Allocator> Arena<P, A> {
     {
         let byte = self.byte_at(at, key);
         let value = self.nodes.take_value(at, byte);
-        if self.nodes.node_type(at) == NodeType::N4 && self.nodes.len(at) == 1 {
-            let up = self.byte_at(above, key);
-            self.nodes.fold(above, up, at);
-        }
+        self.tuck(above, at, key);
         value
+    }
+
+    /// Puts a leaf of the least form with one value into its parent's place.
+    fn tuck(&mut self, above: Name, at: Name, key: &[u8; KEY_BYTES])
+        requires own { HasOwnSlot at }
+        requires tree { IsTree self.old.nodes }
+        requires hangs { Hangs self.old.nodes key.now above at }
+        requires leaf { length (heap_of self.old.nodes at).prefix ≡ MAX_PREFIX_LEN }
+        ensures renamed { Renamed self.old.nodes self.new.nodes }
+        ensures allocator { self.new.allocator ≡ self.old.allocator }
+    {
+        if self.nodes.node_type(at) != NodeType::N4 || self.nodes.len(at) != 1 {
+            return;
+        }
+        let up = self.byte_at(above, key);
+        self.nodes.fold(above, up, at);
     }
 
     /// Hangs a node of the bytes that the key shares with the child `below` over that child and a leaf for the key.

@@ -1,6 +1,6 @@
 -- What becomes of the tree where a leaf with one value comes into the place of its parent, or goes from there.
 use Rattle.std.proofs.Common.{rules, ◌≡◌, ◌≢◌, ℕ, ◌+◌, ◌<◌, ◌≤◌, ◌==◌, false, true, cond, inl, inr, List, [], ◌∷◌, length, take, get_or, refl, sym, ◌∙◌, ap, subst, arith}
-use Rattle.std.specs.Prelude.{Option, Some, None, IsSome}
+use Rattle.std.specs.Prelude.{Option, Some, None, IsSome, IsTrue, Bool, ◌↔◌, ◌%◌}
 use Rattle.std.specs.Ordering.{nat_cmp}
 use Rattle.std.specs.FinMap as map
 use Rattle.std.specs.FinMap.{gets}
@@ -8,26 +8,29 @@ use Rattle.slab.specs.Slab.{get, ContainsKey, Updates, HasRoomFor, slab_len}
 use Rattle.congee.specs.Heap.{Below, Holds, Nothing, fits, child_for}
 use Rattle.congee.specs.Ledger.{Linked}
 use Rattle.congee.specs.forms.Forms.{prefix_of, children_of, form_of, size_of, capacity_of, is_full_of}
-use Rattle.congee.specs.owned.Arena.{Nodes, hung_in, node_of, heap_of, ledger_of, IsTree, OnWay, Hangs}
+use Rattle.congee.specs.owned.Arena.{Nodes, hung_in, node_of, heap_of, ledger_of, IsTree, OnWay, Hangs, Reached}
 use Rattle.congee.specs.owned.Sizes.{bytes_of, bytes_at}
 use Rattle.congee.specs.owned.Changes.{Differs, MapChange, AddsLeaf, AddsFork, DropsLeaf, DiffersAt}
 use Rattle.congee.specs.owned.Naming.{HasOwnSlot}
 use Rattle.congee.specs.owned.OwnedSteps.{Sets, Makes, MakesRoom, SameNodes, IsHeld, Hosts}
 use Rattle.congee.specs.owned.Kinds.{IsValue}
+use Rattle.congee.specs.owned.Renames.{Renames, Renamed}
 use Rattle.congee.specs.owned.Stores.{HangsLeaf, LosesLeaf, IsLone, HasOne, HasNode, HasInline}
-use Rattle.congee.specs.owned.Wanted.{size_by}
+use Rattle.congee.specs.owned.Wanted.{size_by, room_for}
 use Rattle.congee.specs.declared.forms.base_node.Node.{Node as Form}
 use Rattle.congee.specs.declared.forms.base_node.NodeType.TheVariants.{N4}
 use Rattle.congee.specs.declared.forms.child.Child.{Child}
 use Rattle.congee.specs.declared.forms.child.Child.TheVariants.{Blank, Node as Sub, Value}
 use Rattle.congee.proofs.lemmas.Fits.{same_test, other_test}
 use Rattle.congee.proofs.lemmas.Tree.{same_or_not}
+use Rattle.congee.proofs.lemmas.forms.Full.{full_at, full_is}
 use Rattle.congee.proofs.lemmas.owned.Joins.{add_leaf_done, drop_leaf_done, add_fork_done}
 use Rattle.congee.proofs.lemmas.owned.Moves.{node_at, one_node, apart_of, prefix_at, stands_at, differs_insert, differs_remove, insert_at, insert_beside, len_one, single, free_is, held_is, held_seven, Roomy, roomy_byte}
+use Rattle.congee.proofs.lemmas.owned.Renaming.{renamed}
 use Rattle.congee.proofs.lemmas.owned.Sizes.{bytes_named, sets_bytes, makes_bytes}
 use Rattle.congee.proofs.lemmas.owned.SlotLens.{counted, len_update}
 use Rattle.congee.proofs.lemmas.owned.Totals.{total_update}
-use Rattle.congee.proofs.lemmas.owned.Wanting.{sized}
+use Rattle.congee.proofs.lemmas.owned.Wanting.{sized, roomy_none}
 use Rattle.congee.proofs.lemmas.owned.Ways.{linked_of, is_child, short_prefix, below_stands, no_blank, above_apart}
 
 module _ {P : Type 0} where
@@ -382,3 +385,104 @@ module _ {P : Type 0} where
         low = low pair.0 (subst IsSome (sym there) (search rules));
         lone = record { form = form; prefix = seven; children = pair.1.1 ∙ ap (map.insert map.empty pair.0) q };
       }
+
+-- what a name tells of its node's place
+pub own_of : (b : Bool) (n : ℕ) → IsTrue b ↔ (HasOwnSlot n → ⊥) → b ≡ false → HasOwnSlot n
+own_of b n h e = elim (same_or_not (n % 257) 0) [
+  | inl p ↦ p
+  | inr ne ↦ absurd (let z : false ≡ true = sym e ∙ h.1 ne in cc)
+]
+
+pub inline_of : (b : Bool) (n : ℕ) → IsTrue b ↔ (HasOwnSlot n → ⊥) → b ≡ true → HasOwnSlot n → ⊥
+inline_of b n h e = h.0 e
+
+module _ {P : Type 0} where
+  -- a leaf of the key's way that took a slot
+  pub record Unfolded (s s' : Nodes P) (key : List ℕ) (above at leaf : ℕ) : Type 0 where
+    pub renamed : Renamed s s'
+    pub way : OnWay s' key leaf
+    pub heap : heap_of s' leaf ≡ heap_of s at
+    pub up : OnWay s' key above
+    pub child : child_for (heap_of s' above) key ≡ Below leaf
+
+  pub unfolded : (s s' : Nodes P) (key : List ℕ) (above at up leaf : ℕ) → IsTree s → OnWay s key above → child_for (heap_of s above) key ≡ Below at
+      → up ≡ get_or key (length (heap_of s above).prefix) 0
+      → ((x : Form ℕ P) (c : ℕ) → get s above ≡ Some x → map.get (children_of x) up ≡ Some (Sub c) → Renames s s' above up c leaf)
+      → fits (heap_of s at).prefix key ≡ true → Unfolded s s' key above at leaf
+  unfolded s s' key above at up leaf t w h b ren fit =
+      let n = node_at s above w.stands in
+      let r = ren n.0 at n.1 (child_there s t key above at w.stands h n.0 n.1 up b) in
+      let heap : heap_of s' leaf ≡ heap_of s at = ap node_of (r.stands ∙ sym r.stood) in
+      let old : r.old ≡ n.0 = one_node s above r.old n.0 r.was n.1 in
+      let p : (heap_of s' above).prefix ≡ (heap_of s above).prefix = prefix_at s' above r.new r.now ∙ (r.becomes.prefix ∙ sym (prefix_at s above r.old r.was)) in
+      let k : get_or key (length (heap_of s' above).prefix) 0 ≡ up = ap (λ q. get_or key (length q) 0) p ∙ sym b in
+      let c : (heap_of s' above).children up ≡ Below leaf = ap (λ o. (node_of o).children up) r.now ∙ (ap (λ m. hung_in (map.get m up)) r.becomes.children ∙ ap hung_in (insert_at (children_of r.old) up (Sub leaf))) in
+      record {
+        renamed = renamed s s' above up at leaf t r;
+        way = record { stands = stands_at s' leaf r.node r.stands; fitted = ap (λ z. fits z.prefix key) heap ∙ fit };
+        heap = heap;
+        up = record { stands = stands_at s' above r.new r.now; fitted = ap (λ q. fits q key) p ∙ w.fitted };
+        child = ap (heap_of s' above).children k ∙ c;
+      }
+
+  -- the node above a leaf, and the leaf, after a value of the leaf's was taken
+  pub taken_hangs : (s s' : Nodes P) (key : List ℕ) (above at byte : ℕ) → IsTree s → OnWay s key at → Hangs s key above at
+      → ((x : Form ℕ P) → get s at ≡ Some x → Sets s s' at x (map.remove (children_of x) byte)) → Hangs s' key above at
+  taken_hangs s s' key above at byte t w h sets =
+      let l = node_at s at w.stands in
+      let same : get s' above ≡ get s above = (sets l.0 l.1).updates.others above (above_apart s t key above at h) in
+      let heap : heap_of s' above ≡ heap_of s above = ap node_of same in
+      record {
+        way = record { stands = subst IsSome (sym same) h.way.stands; fitted = ap (λ n. fits n.prefix key) heap ∙ h.way.fitted };
+        child = ap (λ n. child_for n key) heap ∙ h.child;
+      }
+
+  pub taken_prefix : (s s' : Nodes P) (at byte : ℕ) → ContainsKey s at
+      → ((x : Form ℕ P) → get s at ≡ Some x → Sets s s' at x (map.remove (children_of x) byte)) → (heap_of s' at).prefix ≡ (heap_of s at).prefix
+  taken_prefix s s' at byte st sets =
+      let l = node_at s at st in
+      let k = sets l.0 l.1 in
+      prefix_at s' at k.node k.updates.changed ∙ (k.becomes.prefix ∙ sym (prefix_at s at l.0 l.1))
+
+  -- a node that hangs in the tree stands
+  pub hung_stands : (s : Nodes P) → IsTree s → (key : List ℕ) (above at : ℕ) → Hangs s key above at → ContainsKey s at
+  hung_stands s t key above at h = below_stands s t above at key h.way.stands h.child
+
+  pub not_renamed : (s : Nodes P) → IsTree s → Renamed s s
+  not_renamed s t = record { tree = t; values = λ k. refl; bytes = refl }
+
+  -- a node that was just made, and then got a leaf
+  pub made_inner : (s s' : Nodes P) (n : ℕ) (p : List ℕ) → Makes s s' n p → length p < 7 → (x : Form ℕ P) → get s' n ≡ Some x → length (prefix_of x) < 7
+  made_inner s s' n p m l x e =
+      let q : length (prefix_of x) ≡ length p = ap length (ap prefix_of (one_node s' n x m.node e m.updates.changed) ∙ m.prefixed) in
+      omega (arith, q, l)
+
+  module _ (s s' s'' : Nodes P) (n : ℕ) (p : List ℕ) (byte : ℕ) (key : List ℕ) (v : P) (m : Makes s s' n p) (h : HangsLeaf s' s'' n m.node byte key v) where
+    pub hung_inner : length p < 7 → (x : Form ℕ P) → get s'' n ≡ Some x → length (prefix_of x) < 7
+    hung_inner l x e =
+        let q : length (prefix_of x) ≡ length p = ap length (ap prefix_of (one_node s'' n x h.node e h.now) ∙ (h.becomes.prefix ∙ m.prefixed)) in
+        omega (arith, q, l)
+
+    pub hung_absent : (other : ℕ) → byte ≢ other → (x : Form ℕ P) → get s'' n ≡ Some x → map.get (children_of x) other ≡ None
+    hung_absent other ne x e =
+        ap (λ y. map.get (children_of y) other) (one_node s'' n x h.node e h.now)
+        ∙ (ap (λ z. map.get z other) h.becomes.children
+        ∙ (insert_beside (children_of m.node) byte (Sub h.leaf) other (λ q. ne (sym q))
+        ∙ (ap (λ z. map.get z other) m.children ∙ map.get-empty _ other)))
+
+    pub hung_room : (x : Form ℕ P) → get s'' n ≡ Some x → is_full_of x ≡ false
+    hung_room x e =
+        let c : children_of h.node ≡ map.insert map.empty byte (Sub h.leaf) = h.becomes.children ∙ ap (λ z. map.insert z byte (Sub h.leaf)) m.children in
+        ap is_full_of (one_node s'' n x h.node e h.now)
+        ∙ (full_is h.node ∙ (ap (λ t. full_at t (map.len (children_of h.node))) (h.becomes.form ∙ m.form) ∙ (ap (λ z. full_at N4 (map.len z)) c ∙ ap (full_at N4) (len_one byte (Sub h.leaf)))))
+
+  pub fork_hangs : (s : Nodes P) (key : List ℕ) (at below : ℕ) → OnWay s key at → child_for (heap_of s at) key ≡ Below below → Hangs s key at below
+  fork_hangs s key at below w h = record { way = w; child = h }
+
+  -- a leaf's only child leaves room
+  pub one_room : (s : Nodes P) (n : ℕ) (y : Form ℕ P) → get s n ≡ Some y → HasOne y → room_for (heap_of s n) ≡ []
+  one_room s n y e h = ap (λ o. room_for (node_of o)) e ∙ roomy_none y (full_is y ∙ (ap (λ t. full_at t (map.len (children_of y))) h.lone.form ∙ (ap (λ z. full_at N4 (map.len z)) h.lone.children ∙ ap (full_at N4) (len_one h.last (Value h.value)))))
+
+  -- a leaf in its parent's place isn't the root
+  pub inline_hangs : (s : Nodes P) (key : List ℕ) (above at : ℕ) → Reached s key above at → (HasOwnSlot at → ⊥) → Hangs s key above at
+  inline_hangs s key above at r inline = r.hangs (λ e. inline (subst HasOwnSlot (sym e) refl))
