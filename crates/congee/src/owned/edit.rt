@@ -251,6 +251,25 @@ impl<P: Stored, A: Allocator> Arena<P, A> {
         self.nodes.fold(over, other, leaf);
     }
 
+    /// The same over either.
+    fn host(&mut self, at: Name, below: Name, key: &[u8; KEY_BYTES], value: P)
+        requires tree { IsTree self.old.nodes }
+        requires way { OnWay self.old.nodes key.now at }
+        requires hangs { child_for (heap_of self.old.nodes at) key.now ≡ Below below }
+        requires differs { fits (heap_of self.old.nodes below).prefix key.now ≡ false }
+        requires room { HasRoomFor self.old.nodes 2 }
+        ensures tree { IsTree self.new.nodes }
+        ensures change { MapChange self.old.nodes self.new.nodes key.now None (Some value) }
+        ensures bytes { bytes_of self.new.nodes ≡ bytes_of self.old.nodes + size_of N4 + size_of N4 }
+        ensures allocator { self.new.allocator ≡ self.old.allocator }
+    {
+        if below.is_inline() {
+            self.part(at, below, key, value);
+            return;
+        }
+        self.fork(at, below, key, value);
+    }
+
     /// Hangs a node of the bytes that the key shares with the child `below` over that child and a leaf for the key,
     /// or hands the value back.
     pub(crate) fn split(
@@ -277,11 +296,7 @@ impl<P: Stored, A: Allocator> Arena<P, A> {
             self.allocator.deallocate(NodeType::N4.size());
             return Err((e, value));
         }
-        if below.is_inline() {
-            self.part(at, below, key, value);
-        } else {
-            self.fork(at, below, key, value);
-        }
+        self.host(at, below, key, value);
         Ok(())
     }
 
@@ -297,13 +312,24 @@ impl<P: Stored, A: Allocator> Arena<P, A> {
             key.now (Some result) None (size_by (heap_of self.old.nodes at).capacity) }
     {
         let size = self.nodes.node_type(at).size();
-        let value = if at.is_inline() {
-            self.drop_inline(above, at, key)
-        } else {
-            self.drop_slot(above, at, key)
-        };
+        let value = self.drop_alone(above, at, key);
         self.allocator.deallocate(size);
         value
+    }
+
+    /// A leaf with one value goes.
+    fn drop_alone(&mut self, above: Name, at: Name, key: &[u8; KEY_BYTES]) -> P
+        requires tree { IsTree self.old.nodes }
+        requires way { OnWay self.old.nodes key.now at }
+        requires held { IsHeld self.old.nodes key.now at }
+        requires hangs { Hangs self.old.nodes key.now above at }
+        requires last { (x : Form ℕ P) → get self.old.nodes at ≡ Some x → map.len (children_of x) ≡ 1 }
+        ensures { Drops self.old self.new key.now at result }
+    {
+        if at.is_inline() {
+            return self.drop_inline(above, at, key);
+        }
+        self.drop_slot(above, at, key)
     }
 
     /// A leaf that lies in its parent's place goes.
@@ -312,7 +338,6 @@ impl<P: Stored, A: Allocator> Arena<P, A> {
         requires way { OnWay self.old.nodes key.now at }
         requires held { IsHeld self.old.nodes key.now at }
         requires hangs { Hangs self.old.nodes key.now above at }
-        requires last { (x : Form ℕ P) → get self.old.nodes at ≡ Some x → map.len (children_of x) ≡ 1 }
         requires inline { HasOwnSlot at → ⊥ }
         ensures { Drops self.old self.new key.now at result }
     {

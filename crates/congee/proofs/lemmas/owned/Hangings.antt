@@ -1,11 +1,11 @@
 -- What becomes of the tree where a leaf with one value comes into the place of its parent, or goes from there.
-use Rattle.std.proofs.Common.{rules, ◌≡◌, ◌≢◌, ℕ, ◌+◌, ◌<◌, ◌≤◌, ◌==◌, false, true, cond, inl, inr, List, [], ◌∷◌, length, take, get_or, refl, sym, ◌∙◌, ap, subst, arith}
+use Rattle.std.proofs.Common.{rules, ◌≡◌, ◌≢◌, ℕ, zero, suc, ◌+◌, ◌<◌, ◌≤◌, ◌==◌, false, true, cond, inl, inr, List, [], ◌∷◌, length, take, get_or, refl, sym, ◌∙◌, ap, subst, arith}
 use Rattle.std.specs.Prelude.{Option, Some, None, IsSome, IsTrue, Bool, ◌↔◌, ◌%◌}
 use Rattle.std.specs.Ordering.{nat_cmp}
 use Rattle.std.specs.FinMap as map
 use Rattle.std.specs.FinMap.{gets}
 use Rattle.slab.specs.Slab.{get, ContainsKey, Updates, HasRoomFor, slab_len}
-use Rattle.congee.specs.Heap.{Below, Holds, Nothing, fits, child_for}
+use Rattle.congee.specs.Heap.{Below, Holds, Nothing, fits, child_for, value_at}
 use Rattle.congee.specs.Ledger.{Linked}
 use Rattle.congee.specs.forms.Forms.{prefix_of, children_of, form_of, size_of, capacity_of, is_full_of}
 use Rattle.congee.specs.owned.Arena.{Nodes, hung_in, node_of, heap_of, ledger_of, IsTree, OnWay, Hangs, Reached}
@@ -27,11 +27,11 @@ use Rattle.congee.proofs.lemmas.forms.Full.{full_at, full_is}
 use Rattle.congee.proofs.lemmas.owned.Joins.{add_leaf_done, drop_leaf_done, add_fork_done}
 use Rattle.congee.proofs.lemmas.owned.Moves.{node_at, one_node, apart_of, prefix_at, stands_at, differs_insert, differs_remove, insert_at, insert_beside, len_one, single, free_is, held_is, held_seven, Roomy, roomy_byte}
 use Rattle.congee.proofs.lemmas.owned.Renaming.{renamed}
-use Rattle.congee.proofs.lemmas.owned.Sizes.{bytes_named, sets_bytes, makes_bytes}
+use Rattle.congee.proofs.lemmas.owned.Sizes.{bytes_named, bytes_same, sets_bytes, makes_bytes}
 use Rattle.congee.proofs.lemmas.owned.SlotLens.{counted, len_update}
 use Rattle.congee.proofs.lemmas.owned.Totals.{total_update}
 use Rattle.congee.proofs.lemmas.owned.Wanting.{sized, roomy_none}
-use Rattle.congee.proofs.lemmas.owned.Ways.{linked_of, is_child, short_prefix, below_stands, no_blank, above_apart}
+use Rattle.congee.proofs.lemmas.owned.Ways.{linked_of, is_child, short_prefix, below_stands, no_blank, above_apart, same_tree}
 
 module _ {P : Type 0} where
   -- the room after two names changed
@@ -386,6 +386,15 @@ module _ {P : Type 0} where
         lone = record { form = form; prefix = seven; children = pair.1.1 ∙ ap (map.insert map.empty pair.0) q };
       }
 
+-- so many of a list's first elements are no more
+pub short_take : (n : ℕ) (xs : List ℕ) → n < 7 → length (take n xs) < 7
+short_take n xs l = let e = most n xs in omega (arith, e, l)
+  where
+    most : (n : ℕ) (xs : List ℕ) → length (take n xs) ≤ n
+    most zero xs = omega arith
+    most (suc n) [] = omega arith
+    most (suc n) (x ∷ xs) = let e = most n xs in omega (arith, e)
+
 -- what a name tells of its node's place
 pub own_of : (b : Bool) (n : ℕ) → IsTrue b ↔ (HasOwnSlot n → ⊥) → b ≡ false → HasOwnSlot n
 own_of b n h e = elim (same_or_not (n % 257) 0) [
@@ -400,7 +409,7 @@ module _ {P : Type 0} where
   -- a leaf of the key's way that took a slot
   pub record Unfolded (s s' : Nodes P) (key : List ℕ) (above at leaf : ℕ) : Type 0 where
     pub renamed : Renamed s s'
-    pub way : OnWay s' key leaf
+    pub stands : ContainsKey s' leaf
     pub heap : heap_of s' leaf ≡ heap_of s at
     pub up : OnWay s' key above
     pub child : child_for (heap_of s' above) key ≡ Below leaf
@@ -408,8 +417,8 @@ module _ {P : Type 0} where
   pub unfolded : (s s' : Nodes P) (key : List ℕ) (above at up leaf : ℕ) → IsTree s → OnWay s key above → child_for (heap_of s above) key ≡ Below at
       → up ≡ get_or key (length (heap_of s above).prefix) 0
       → ((x : Form ℕ P) (c : ℕ) → get s above ≡ Some x → map.get (children_of x) up ≡ Some (Sub c) → Renames s s' above up c leaf)
-      → fits (heap_of s at).prefix key ≡ true → Unfolded s s' key above at leaf
-  unfolded s s' key above at up leaf t w h b ren fit =
+      → Unfolded s s' key above at leaf
+  unfolded s s' key above at up leaf t w h b ren =
       let n = node_at s above w.stands in
       let r = ren n.0 at n.1 (child_there s t key above at w.stands h n.0 n.1 up b) in
       let heap : heap_of s' leaf ≡ heap_of s at = ap node_of (r.stands ∙ sym r.stood) in
@@ -419,7 +428,7 @@ module _ {P : Type 0} where
       let c : (heap_of s' above).children up ≡ Below leaf = ap (λ o. (node_of o).children up) r.now ∙ (ap (λ m. hung_in (map.get m up)) r.becomes.children ∙ ap hung_in (insert_at (children_of r.old) up (Sub leaf))) in
       record {
         renamed = renamed s s' above up at leaf t r;
-        way = record { stands = stands_at s' leaf r.node r.stands; fitted = ap (λ z. fits z.prefix key) heap ∙ fit };
+        stands = stands_at s' leaf r.node r.stands;
         heap = heap;
         up = record { stands = stands_at s' above r.new r.now; fitted = ap (λ q. fits q key) p ∙ w.fitted };
         child = ap (heap_of s' above).children k ∙ c;
@@ -486,3 +495,12 @@ module _ {P : Type 0} where
   -- a leaf in its parent's place isn't the root
   pub inline_hangs : (s : Nodes P) (key : List ℕ) (above at : ℕ) → Reached s key above at → (HasOwnSlot at → ⊥) → Hangs s key above at
   inline_hangs s key above at r inline = r.hangs (λ e. inline (subst HasOwnSlot (sym e) refl))
+
+  -- nodes that are the same take the same room, and are the same tree
+  pub same_renamed : (s s' : Nodes P) → SameNodes s s' → IsTree s → Renamed s s'
+  same_renamed s s' e t =
+      let h : heap_of s' ≡ heap_of s = λ i n. ap node_of (e n) i in
+      record { tree = same_tree s s' e t; values = λ k. ap (λ z. value_at z k) h; bytes = bytes_same s s' e }
+
+  pub same_way : (s s' : Nodes P) (key : List ℕ) (n : ℕ) → SameNodes s s' → OnWay s key n → OnWay s' key n
+  same_way s s' key n e w = record { stands = same_stands s s' n e w.stands; fitted = ap (λ z. fits z.prefix key) (same_heap s s' n e) ∙ w.fitted }
