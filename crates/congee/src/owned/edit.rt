@@ -110,12 +110,35 @@ impl<P: Stored, A: Allocator> Arena<P, A> {
         ensures refused { IfErr result (Denies A.charged_of A.limit_of self.old self.new
             key.now value (Some (room_for (heap_of self.old.nodes at)))) }
     {
-        if !at.is_inline() {
-            return self.add_beside(alloc, at, key, value);
+        if at.is_inline() {
+            return self.add_inline(alloc, above, at, key, value);
         }
+        self.add_beside(alloc, at, key, value)
+    }
+
+    /// Puts a value into a leaf that lies in its parent's place. It has room for another, so this is never refused.
+    fn add_inline(
+        &mut self,
+        alloc: Global,
+        above: Name,
+        at: Name,
+        key: &[u8; KEY_BYTES],
+        value: P,
+    ) -> Result<(), (OOMError, P)>
+        requires tree { IsTree self.old.nodes }
+        requires way { OnWay self.old.nodes key.now at }
+        requires hangs { Hangs self.old.nodes key.now above at }
+        requires inline { HasOwnSlot at → ⊥ }
+        requires free { child_for (heap_of self.old.nodes at) key.now ≡ Nothing }
+        requires leaf { length (heap_of self.old.nodes at).prefix ≡ MAX_PREFIX_LEN }
+        requires covered { Covers A.charged_of self.old }
+        ensures adds { OnOk result (Adds A.charged_of A.limit_of self.old self.new
+            key.now None value (Some (room_for (heap_of self.old.nodes at)))) }
+        ensures refused { IfErr result (Denies A.charged_of A.limit_of self.old self.new
+            key.now value (Some (room_for (heap_of self.old.nodes at)))) }
+    {
         let up = self.byte_at(above, key);
         let leaf = self.nodes.unfold(above, up);
-        // A leaf with one value has room for another, so this is never refused.
         self.add_beside(alloc, leaf, key, value)
     }
 

@@ -16,7 +16,10 @@ use Rattle.congee.specs.owned.OwnedSteps.{Sets, Makes, MakesRoom, SameNodes, IsH
 use Rattle.congee.specs.owned.Kinds.{IsValue}
 use Rattle.congee.specs.owned.Renames.{Renames, Renamed}
 use Rattle.congee.specs.owned.Stores.{HangsLeaf, LosesLeaf, IsLone, HasOne, HasNode, HasInline}
-use Rattle.congee.specs.owned.Wanted.{size_by, room_for}
+use Rattle.congee.specs.owned.Wanted.{IsRefused, size_by, room_for}
+use Rattle.congee.specs.owned.Edits.{Denies}
+use Rattle.congee.specs.declared.allocator.OOMError.{OOMError}
+use Rattle.congee.specs.declared.owned.arena.Arena.{Arena}
 use Rattle.congee.specs.declared.forms.base_node.Node.{Node as Form}
 use Rattle.congee.specs.declared.forms.base_node.NodeType.TheVariants.{N4}
 use Rattle.congee.specs.declared.forms.child.Child.{Child}
@@ -504,3 +507,17 @@ module _ {P : Type 0} where
 
   pub same_way : (s s' : Nodes P) (key : List ℕ) (n : ℕ) → SameNodes s s' → OnWay s key n → OnWay s' key n
   same_way s s' key n e w = record { stands = same_stands s s' n e w.stands; fitted = ap (λ z. fits z.prefix key) (same_heap s s' n e) ∙ w.fitted }
+
+  -- a node over others, by its record
+  pub hosts_inner : (s : Nodes P) (at byte below : ℕ) → Hosts s at byte below → (x : Form ℕ P) → get s at ≡ Some x → length (prefix_of x) < 7
+  hosts_inner s at byte below h x e =
+      let p : length (prefix_of x) ≡ length (prefix_of h.node) = ap (λ y. length (prefix_of y)) (one_node s at x h.node e h.stands) in
+      omega (arith, p, h.inner)
+
+  pub hosts_child : (s : Nodes P) (at byte below : ℕ) → Hosts s at byte below → (x : Form ℕ P) → get s at ≡ Some x → map.get (children_of x) byte ≡ Some (Sub below)
+  hosts_child s at byte below h x e = ap (λ y. map.get (children_of y) byte) (one_node s at x h.node e h.stands) ∙ h.child
+
+-- an insertion into a leaf with room is never refused
+pub never_denied : {P A : Type 0} (charged limit : A → ℕ) (old new : Arena P A) (key : List ℕ) (v : P) (wants : List ℕ) (refusal : OOMError × P)
+    → wants ≡ [] → Denies charged limit old new key v (Some wants) refusal → ⊥
+never_denied charged limit old new key v wants refusal e d = subst (λ w. IsRefused (Some w) (charged old.allocator) (limit old.allocator) refusal.0) e d.cause

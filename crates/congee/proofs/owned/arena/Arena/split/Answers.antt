@@ -1,0 +1,30 @@
+use Rattle.std.proofs.Common.{rules, refl, inl, ◌≡◌, ap, ◌∙◌, sym, subst, arith}
+use Rattle.congee.specs.Heap.{fits, child_for}
+use Rattle.congee.proofs.lemmas.owned.Answered.{at_apart}
+use Rattle.congee.proofs.lemmas.owned.Renaming.{change_renamed}
+use Rattle.congee.proofs.lemmas.owned.Sizes.{bytes_same}
+use Rattle.congee.proofs.lemmas.owned.Hangings.{same_heap, same_way, same_renamed}
+use Rattle.congee.proofs.lemmas.owned.Wanting.{refused_second}
+use Rattle.congee.proofs.owned.arena.Arena.split.Goals as goal
+
+pub returns-in-Err-clause-refused : goal.returns-in-Err-clause-refused
+returns-in-Err-clause-refused g c = record {
+  absent = at_apart c.args.self.now.nodes c.args.key.now c.args.at c.args.below c.requires.tree c.requires.way c.requires.hangs c.requires.differs;
+  cause = inl c.in-Err.ensures.refused;
+  back = refl;
+  same = c.ready.ensures.same;
+  balance = omega (arith, bytes_same c.args.self.now.nodes c.ready.new.self.nodes c.ready.ensures.same, c.in-Err.ensures.unchanged);
+  same_limit = c.ready.ensures.limit;
+}
+
+pub host-requires-clause-tree : goal.host-requires-clause-tree
+host-requires-clause-tree g c = (same_renamed c.args.self.now.nodes c.ready-2.new.self.nodes (λ n. c.ready-2.ensures.same n ∙ c.ready.ensures.same n) c.requires.tree).tree
+
+pub host-requires-clause-way : goal.host-requires-clause-way
+host-requires-clause-way g c = same_way c.args.self.now.nodes c.ready-2.new.self.nodes c.args.key.now c.args.at (λ n. c.ready-2.ensures.same n ∙ c.ready.ensures.same n) c.requires.way
+
+pub host-requires-clause-hangs : goal.host-requires-clause-hangs
+host-requires-clause-hangs g c = ap (λ n. child_for n c.args.key.now) (same_heap c.args.self.now.nodes c.ready-2.new.self.nodes c.args.at (λ n. c.ready-2.ensures.same n ∙ c.ready.ensures.same n)) ∙ c.requires.hangs
+
+pub host-requires-clause-differs : goal.host-requires-clause-differs
+host-requires-clause-differs g c = ap (λ n. fits n.prefix c.args.key.now) (same_heap c.args.self.now.nodes c.ready-2.new.self.nodes c.args.below (λ n. c.ready-2.ensures.same n ∙ c.ready.ensures.same n)) ∙ c.requires.differs
