@@ -287,10 +287,10 @@ wider_stored s s' inline st e c =
     }
 
 -- a least node without children has room
-pub least_absent : {C P : Type 0} (n : Node C P) (b : ℕ) → children_of n ≡ map.empty → map.get (children_of n) b ≡ None
+pub least_absent : {P : Type 0} (n : Node ℕ P) (b : ℕ) → children_of n ≡ map.empty → map.get (children_of n) b ≡ None
 least_absent n b e = ap (λ m. map.get m b) e ∙ map.get-empty _ b
 
-pub least_room : {C P : Type 0} (n : Node C P) → form_of n ≡ N4 → children_of n ≡ map.empty → is_full_of n ≡ false
+pub least_room : {P : Type 0} (n : Node ℕ P) → form_of n ≡ N4 → children_of n ≡ map.empty → is_full_of n ≡ false
 least_room n f e = full_is n ∙ (ap (λ t. full_at t (map.len (children_of n))) f ∙ ap (full_at N4) (ap map.len e ∙ map.len-empty nat_cmp _))
 
 pub uses : (n : ℕ) → n ≡ n

@@ -243,6 +243,14 @@ module _ {P : Type 0} (s : Slab (Slot (Lone P) P)) (v : Nodes P) (is : nodes_in 
   unfolding nodes_in
   same_capacity x x' = ap (λ w. w.capacity) is
 
+  -- a leaf that lies there has a name
+  pub inline_seen_there : (b : ℕ) → b < 256 → ((y : Node ℕ P) → get v at ≡ Some y → HasInline (map.get (children_of y) b)) → ContainsKey v (257 * i + (b + 1))
+  inline_seen_there b low has =
+      let k = at_node there.0 there.1 in
+      let l = inline_in i k.node k.node there.0 k.seen b (has there.0 there.1) in
+      let seen = ap (λ w. get w (257 * i + (b + 1))) (sym is) ∙ (lone_before s i k.node k.node b k.stands low refl (λ r ne. refl) ∙ ap lone_in l.here) in
+      rw seen refl
+
   module _ (x x' : Slot (Lone P) P) (e : get s i ≡ Some x) (b : ℕ) (low : b < 256) where
     kept : (y : Node ℕ P) → (k : AtInner s v at i y) → x ≡ Inner k.node
     kept y k = inner_slot s v at i y k x e
