@@ -1,6 +1,7 @@
 -- A leaf that takes a slot, or comes into its parent's place: names alone change.
 use Rattle.std.proofs.Common.{◌≡◌, ◌≢◌, ℕ, ◌%◌, ◌<◌, inl, inr, List, length, take, get_or, refl, sym, ap, subst, ◌∙◌, arith}
 use Rattle.std.specs.Prelude.{Option, None, Some}
+use Rattle.std.specs.Ordering.{nat_cmp}
 use Rattle.std.specs.FinMap as map
 use Rattle.slab.specs.Slab.{get, Updates, slab_len}
 use Rattle.congee.specs.forms.Forms.{Becomes, children_of, form_of, prefix_of}
@@ -31,7 +32,7 @@ same_least (N48 n) y e f p c = absurd (cc)
 same_least (N256 n) y e f p c = absurd (cc)
 
 -- taken out and put in
-pub put_again : {X : Type 0} (m : map.FinMap _ X) (b : ℕ) (x : X) → map.insert (map.remove m b) b x ≡ map.insert m b x
+pub put_again : {X : Type 0} (m : map.FinMap nat_cmp X) (b : ℕ) (x : X) → map.insert (map.remove m b) b x ≡ map.insert m b x
 put_again m b x = same_answers _ _ (λ q. elim (same_or_not q b) [
   | inl e ↦ (let Q : ℕ → Type 0 = λ k. map.get (map.insert (map.remove m b) b x) k ≡ map.get (map.insert m b x) k in
       subst Q (sym e) (insert_at (map.remove m b) b x ∙ sym (insert_at m b x)))
@@ -40,7 +41,7 @@ put_again m b x = same_answers _ _ (λ q. elim (same_or_not q b) [
 
 module _ {P : Type 0} where
   -- a leaf's only value, by what it answers
-  pub one_child : (m : map.FinMap _ (Child ℕ P)) (k : ℕ) (c : Child ℕ P) → map.get m k ≡ Some c → ((b : ℕ) → b ≢ k → map.get m b ≡ None) → m ≡ map.insert map.empty k c
+  pub one_child : (m : map.FinMap nat_cmp (Child ℕ P)) (k : ℕ) (c : Child ℕ P) → map.get m k ≡ Some c → ((b : ℕ) → b ≢ k → map.get m b ≡ None) → m ≡ map.insert map.empty k c
   one_child m k c e ne = same_answers _ _ (λ q. elim (same_or_not q k) [
     | inl w ↦ (let Q : ℕ → Type 0 = λ z. map.get m z ≡ map.get (map.insert map.empty k c) z in subst Q (sym w) (e ∙ sym (insert_at map.empty k c)))
     | inr w ↦ ne q w ∙ sym (insert_beside map.empty k c q w ∙ map.get-empty _ q)
@@ -50,7 +51,7 @@ module _ {P : Type 0} where
   pub unfold_done : (v v1 v2 v3 : Nodes P) (at b leaf name : ℕ) (y : Node ℕ P) (value : P) → get v at ≡ Some y → map.get (children_of y) b ≡ Some (Sub leaf) → (k : LosesLeaf v v1 at y b value)
       → get v1 name ≡ None → Updates v1 v2 name (Some k.was) → leaf ≢ name → ((x : Node ℕ P) → get v2 at ≡ Some x → Sets v2 v3 at x (map.insert (children_of x) b (Sub name))) → Renames v v3 at b leaf name
   unfold_done v v1 v2 v3 at b leaf name y value e child k free puts ne sets =
-      let q : k.leaf ≡ leaf = (let z : Some (Sub {P = P} k.leaf) ≡ Some (Sub leaf) = sym k.child ∙ child in cc) in
+      let q : k.leaf ≡ leaf = (let a : Child ℕ P = Sub k.leaf in let d : Child ℕ P = Sub leaf in let z : Some a ≡ Some d = sym k.child ∙ child in cc) in
       let al : at ≢ leaf = (λ w. let z : None ≡ Some k.node = sym k.left ∙ (ap (get v1) (q ∙ sym w) ∙ k.now) in cc) in
       let an : at ≢ name = apart_of v1 at name k.node k.now free in
       let there : get v2 at ≡ Some k.node = puts.others at an ∙ k.now in
