@@ -6,6 +6,7 @@ pub mod Cursors
 pub mod Drains
 pub mod Edits
 pub mod Filled
+pub mod Folding
 pub mod Freeing
 pub mod Joins
 pub mod Moves
@@ -18,6 +19,7 @@ pub mod Root
 pub mod Scanned
 pub mod Sizes
 pub mod SlotChanges
+pub mod SlotComes
 pub mod SlotLeaves
 pub mod SlotLens
 pub mod SlotOps

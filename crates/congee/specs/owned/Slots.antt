@@ -1,5 +1,6 @@
 -- The nodes of an owned tree by their names: a node in a slot of a slab, or a leaf with one value in the place of its parent.
 use Rattle.std.specs.Prelude.{ℕ, zero, suc, ◌+◌, ◌*◌, ◌/◌, ◌%◌, List, length, map, take, slice_index, slice_index_or, Option, None, Some}
+use denote.RawPtr.{null_ptr}
 use Rattle.std.specs.List.{range_with_len}
 use Rattle.std.specs.FinMap as finite
 use Rattle.slab.specs.Slab.{Slab}
@@ -44,12 +45,12 @@ module _ {P : Type 0} where
   leaf_child byte (Value value) = Value value
 
 module _ {P Q : Type 0} where
-  -- a node with each child changed by its byte
+  -- a node with each child changed by its byte; where it lies in memory isn't told
   abbrev pub with_children : (ℕ → Child ℕ P → Child ℕ Q) → Node ℕ P → Node ℕ Q
   with_children f (N4 n) = N4 (record { prefix = n.prefix; children = mapped f n.children })
-  with_children f (N16 n) = N16 (record { ptr = n.ptr; alloc = n.alloc; value = record { prefix = n.value.prefix; children = mapped f n.value.children } })
-  with_children f (N48 n) = N48 (record { ptr = n.ptr; alloc = n.alloc; value = record { prefix = n.value.prefix; children = mapped f n.value.children } })
-  with_children f (N256 n) = N256 (record { ptr = n.ptr; alloc = n.alloc; value = record { prefix = n.value.prefix; children = mapped f n.value.children } })
+  with_children f (N16 n) = N16 (record { ptr = null_ptr; alloc = record { memory = record { seal = tt } }; value = record { prefix = n.value.prefix; children = mapped f n.value.children } })
+  with_children f (N48 n) = N48 (record { ptr = null_ptr; alloc = record { memory = record { seal = tt } }; value = record { prefix = n.value.prefix; children = mapped f n.value.children } })
+  with_children f (N256 n) = N256 (record { ptr = null_ptr; alloc = record { memory = record { seal = tt } }; value = record { prefix = n.value.prefix; children = mapped f n.value.children } })
 
 module _ {P : Type 0} where
   -- the node in a slot

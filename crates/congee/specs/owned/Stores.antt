@@ -57,6 +57,7 @@ module _ {P : Type 0} where
   -- a least leaf for the key, with one value, hangs below node x under a free name
   pub record HangsLeaf (s s' : Nodes P) (at : ℕ) (x : Node ℕ P) (byte : ℕ) (key : List ℕ) (value : P) : Type 0 where
     pub leaf : ℕ
+    pub inline : HasOwnSlot leaf → ⊥
     pub made : Node ℕ P
     pub form : form_of made ≡ N4
     pub has : IsLeafOf made key value
@@ -80,6 +81,14 @@ module _ {P : Type 0} where
     pub now : get s' at ≡ Some node
     pub left : get s' leaf ≡ None
     pub others : (m : ℕ) → m ≢ at → m ≢ leaf → get s' m ≡ get s m
+
+  -- a least leaf for the key, with one value, comes in under a name that was free
+  pub record MakesLeaf (s s' : Nodes P) (name : ℕ) (key : List ℕ) (value : P) : Type 0 where
+    pub node : Node ℕ P
+    pub form : form_of node ≡ N4
+    pub has : IsLeafOf node key value
+    pub vacant : get s name ≡ None
+    pub updates : Updates s s' name (Some node)
 
   -- node x takes the next greater form
   pub record GrowsTo (s s' : Nodes P) (at : ℕ) (x : Node ℕ P) : Type 0 where

@@ -313,7 +313,7 @@ impl<P: Stored> Nodes<P> {
     ghost use Rattle.congee.specs.owned.Renames.{Renames};
     ghost use Rattle.congee.specs.owned.Sizes.{bytes_of};
     ghost use Rattle.congee.specs.owned.Slots.{inner_child, lone_node, with_children};
-    ghost use Rattle.congee.specs.owned.Stores.{Folds, GrowsTo, HasOne, HangsLeaf, HasInline, HasNode, IsAlone, IsLone, LeavesRoot, LosesLeaf, child_now};
+    ghost use Rattle.congee.specs.owned.Stores.{Folds, GrowsTo, HasOne, HangsLeaf, HasInline, HasNode, IsAlone, IsLone, LeavesRoot, LosesLeaf, MakesLeaf, child_now};
     ghost use Rattle.congee.specs.owned.Ways.{IsTurn, Leads};
     ghost use Rattle.congee.specs.declared.forms.base_node.Node.{Node as Form};
     ghost use Rattle.congee.specs.declared.forms.child.Child.TheVariants.{Node as Sub, Value};
@@ -553,6 +553,32 @@ impl<P: Stored> Nodes<P> {
         self.inline += 1;
     }
 
+    /// Puts a leaf for the key, with one value, in the place of a node with a slot of its own.
+    fn swap_leaf(&mut self, at: Name, byte: u8, key: &[u8; KEY_BYTES], value: P)
+        requires stands { ContainsKey self.old at }
+        requires inner { (x : Form ℕ P) → get self.old at ≡ Some x → length (prefix_of x) < MAX_PREFIX_LEN }
+        requires present { (x : Form ℕ P) → get self.old at ≡ Some x → HasNode (map.get (children_of x) byte) }
+        requires spare { HasRoomFor self.old 1 }
+        ensures hangs { (x : Form ℕ P) → get self.old at ≡ Some x → HangsLeaf self.old self.new at x byte key.now value }
+        ensures capacity { self.new.capacity ≡ self.old.capacity }
+    {
+        prove!(self.inline < self.slab.capacity());
+        self.slab[at.slot].change_child(byte, Child::Value(Lone { key: *key, value }));
+        self.inline += 1;
+    }
+
+    /// Makes a leaf for the key, with one value, that hangs nowhere yet.
+    fn make_leaf(&mut self, key: &[u8; KEY_BYTES], value: P) -> Name
+        requires room { HasRoomFor self.old 1 }
+        ensures made { MakesLeaf self.old self.new result key.now value }
+        ensures own { HasOwnSlot result }
+        ensures capacity { self.new.capacity ≡ self.old.capacity }
+    {
+        let mut leaf = Node::least(&key[..MAX_PREFIX_LEN]);
+        leaf.insert(key[MAX_PREFIX_LEN], Child::Value(value));
+        Name::of(self.slab.insert_reserved(Slot::Leaf(leaf)))
+    }
+
     /// Hangs a node with a slot of its own under a free byte of an inner node that has room.
     pub(crate) fn hang_node(&mut self, at: Name, byte: u8, below: Name)
         requires stands { ContainsKey self.old at }
@@ -595,6 +621,7 @@ impl<P: Stored> Nodes<P> {
         requires inner { (x : Form ℕ P) → get self.old at ≡ Some x → length (prefix_of x) < MAX_PREFIX_LEN }
         requires present { (x : Form ℕ P) → get self.old at ≡ Some x → HasInline (map.get (children_of x) byte) }
         ensures takes { (x : Form ℕ P) → get self.old at ≡ Some x → LosesLeaf self.old self.new at x byte result }
+        ensures capacity { self.new.capacity ≡ self.old.capacity }
     {
         match self.slab[at.slot].take_child(byte) {
             Child::Value(lone) => {
@@ -660,6 +687,7 @@ impl<P: Stored> Nodes<P> {
         requires stands { ContainsKey self.old at }
         requires leaf { (x : Form ℕ P) → get self.old at ≡ Some x → length (prefix_of x) ≡ MAX_PREFIX_LEN }
         ensures gone { Updates self.old self.new at None }
+        ensures capacity { self.new.capacity ≡ self.old.capacity }
     {
         self.slab.remove(at.slot);
     }
@@ -687,16 +715,11 @@ impl<P: Stored> Nodes<P> {
         ensures own { HasOwnSlot result }
         ensures capacity { self.new.capacity ≡ self.old.capacity }
     {
-        let Lone { key, value } = match self.slab[at.slot].take_child(byte) {
-            Child::Value(lone) => lone,
-            _ => unreachable!(),
-        };
-        let mut leaf = Node::least(&key[..MAX_PREFIX_LEN]);
-        leaf.insert(key[MAX_PREFIX_LEN], Child::Value(value));
-        let slot = self.slab.insert_reserved(Slot::Leaf(leaf));
-        self.slab[at.slot].put_child(byte, Child::Node(slot));
-        self.inline -= 1;
-        Name::of(slot)
+        let key = self.lone(at.slot, byte).key;
+        let value = self.unhang_leaf(at, byte);
+        let leaf = self.make_leaf(&key, value);
+        self.hang_node(at, byte, leaf);
+        leaf
     }
 
     /// Puts the least leaf with one value that hangs under a byte into its parent's place.
@@ -709,21 +732,14 @@ impl<P: Stored> Nodes<P> {
         ensures folds { Folds self.old self.new at byte leaf }
         ensures capacity { self.new.capacity ≡ self.old.capacity }
     {
-        let mut leaf = match self.slab.remove(leaf.slot) {
-            Slot::Leaf(leaf) => leaf,
-            Slot::Inner(_) => unreachable!(),
-        };
-        let last = match leaf.first_from(0) {
+        let last = match self.first_from(leaf, 0) {
             Some((last, _)) => last,
             None => unreachable!(),
         };
-        let key = key_from(leaf.prefix(), last);
-        let value = match leaf.remove(last) {
-            Child::Value(value) => value,
-            _ => unreachable!(),
-        };
-        self.slab[at.slot].change_child(byte, Child::Value(Lone { key, value }));
-        self.inline += 1;
+        let key = key_from(self.prefix(leaf), last);
+        let value = self.take_value(leaf, last);
+        self.remove(leaf);
+        self.swap_leaf(at, byte, &key, value);
     }
 
     /// The sum of the sizes of all nodes, in bytes.

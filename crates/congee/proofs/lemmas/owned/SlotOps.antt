@@ -140,15 +140,15 @@ module _ {P : Type 0} (s : Slab (Slot (Lone P) P)) (v : Nodes P) (is : nodes_in 
         stored_after s i k.node n' b k.stands low bec.prefix same_insert inline inline' st (let h : counted (lone_in (map.get (children_of n') b)) ≡ counted (lone_in (Some c)) = ap (λ o. counted (lone_in o)) here_insert in omega (arith, e, h)) r
 
   -- a leaf for the key comes there
-  pub hangs_leaf : (lone : Lone P) (key : List ℕ) (value : P) → lone.key ≡ key → lone.value ≡ value → map.get (children_of y) b ≡ None → Becomes k.node n' (map.insert (children_of k.node) b (Value lone)) → HangsLeaf v new at y b key value
+  pub hangs_leaf : (lone : Lone P) (key : List ℕ) (value : P) → lone.key ≡ key → lone.value ≡ value → lone_in (map.get (children_of k.node) b) ≡ None → Becomes k.node n' (map.insert (children_of k.node) b (Value lone)) → HangsLeaf v new at y b key value
   hangs_leaf lone key value ek ev free bec =
-      let none : map.get (children_of k.node) b ≡ None = absent_in i k.node n' y k.seen b free in
       record {
+        inline = λ o. absurd (omega (arith, o, low));
         leaf = 257 * i + (b + 1);
         made = lone_node lone;
         form = refl;
         has = subst (λ w. IsLeafOf (lone_node lone) key w) ev (lone_leaf lone key ek);
-        vacant = was_lone bec.prefix (same_insert (Value lone) bec) ∙ ap lone_in none;
+        vacant = was_lone bec.prefix (same_insert (Value lone) bec) ∙ free;
         taken = now_lone bec.prefix (same_insert (Value lone) bec) ∙ ap lone_in (here_insert (Value lone) bec);
         node = with_children (inner_child i) n';
         becomes = insert_seen i k.node n' y k.seen b (Value lone) bec;
@@ -209,6 +209,10 @@ pub same_room : {P : Type 0} (s : Slab (Slot (Lone P) P)) (v : Nodes P) → node
 unfolding nodes_in
 same_room s v is i x' = ap (λ w. w.capacity) is
 
+pub same_view_room : {P : Type 0} (s s' : Slab (Slot (Lone P) P)) (v : Nodes P) → nodes_in s ≡ v → s'.capacity ≡ s.capacity → (nodes_in s').capacity ≡ v.capacity
+unfolding nodes_in
+same_view_room s s' v is e = e ∙ ap (λ w. w.capacity) is
+
 -- the name of a node with a slot
 pub own_slot : (at i : ℕ) (byte : Option ℕ) → 257 * i + offset_of byte ≡ at → IsByte byte → HasOwnSlot at → at ≡ 257 * i
 own_slot at i None e l o = omega (arith, e)
@@ -243,22 +247,21 @@ module _ {P : Type 0} (s : Slab (Slot (Lone P) P)) (v : Nodes P) (is : nodes_in 
     kept : (y : Node ℕ P) → (k : AtInner s v at i y) → x ≡ Inner k.node
     kept y k = inner_slot s v at i y k x e
 
-    pub hang_leaf_stored : (lone : Lone P) → HasRoomFor v 1 → ((y : Node ℕ P) → get v at ≡ Some y → map.get (children_of y) b ≡ None) → InnerBecomes x x' (λ m. map.insert m b (Value lone)) → IsStored (with_value s i x') (inline + 1)
+    pub hang_leaf_stored : (lone : Lone P) → HasRoomFor v 1 → ((y : Node ℕ P) → (k : AtInner s v at i y) → get v at ≡ Some y → lone_in (map.get (children_of k.node) b) ≡ None) → InnerBecomes x x' (λ m. map.insert m b (Value lone)) → IsStored (with_value s i x') (inline + 1)
     hang_leaf_stored lone room free ib =
         let k = at_node there.0 there.1 in
         let a = inner_after x x' k.node (λ m. map.insert m b (Value lone)) (kept there.0 k) ib in
-        let none : map.get (children_of k.node) b ≡ None = absent_in i k.node a.node there.0 k.seen b (free there.0 there.1) in
         let r = spare_room s v is inline st 1 room in
-        let c : counted (lone_in (map.get (children_of k.node) b)) ≡ 0 = ap (λ o. counted (lone_in o)) none in
+        let c : counted (lone_in (map.get (children_of k.node) b)) ≡ 0 = ap counted (free there.0 k there.1) in
         subst (λ z. IsStored (with_value s i z) (inline + 1)) (sym a.is)
             (stored_insert s v is at i b there.0 k low a.node (Value lone) a.becomes inline (inline + 1) st (omega (arith, c)) (omega (arith, r)))
 
-    pub hang_leaf_done : (lone : Lone P) (key : List ℕ) (value : P) → lone.key ≡ key → lone.value ≡ value → ((y : Node ℕ P) → get v at ≡ Some y → map.get (children_of y) b ≡ None) → InnerBecomes x x' (λ m. map.insert m b (Value lone))
+    pub hang_leaf_done : (lone : Lone P) (key : List ℕ) (value : P) → lone.key ≡ key → lone.value ≡ value → ((y : Node ℕ P) → (k : AtInner s v at i y) → get v at ≡ Some y → lone_in (map.get (children_of k.node) b) ≡ None) → InnerBecomes x x' (λ m. map.insert m b (Value lone))
         → (y : Node ℕ P) → get v at ≡ Some y → HangsLeaf v (nodes_in (with_value s i x')) at y b key value
     hang_leaf_done lone key value ek ev free ib y h =
         let k = at_node y h in
         let a = inner_after x x' k.node (λ m. map.insert m b (Value lone)) (kept y k) ib in
-        subst (λ z. HangsLeaf v (nodes_in (with_value s i z)) at y b key value) (sym a.is) (hangs_leaf s v is at i b y k low a.node lone key value ek ev (free y h) a.becomes)
+        subst (λ z. HangsLeaf v (nodes_in (with_value s i z)) at y b key value) (sym a.is) (hangs_leaf s v is at i b y k low a.node lone key value ek ev (free y k h) a.becomes)
 
     -- a node with a slot comes where nothing or such a node was
     pub put_node_stored : (below : ℕ) → ((y : Node ℕ P) → (k : AtInner s v at i y) → get v at ≡ Some y → lone_in (map.get (children_of k.node) b) ≡ None) → InnerBecomes x x' (λ m. map.insert m b (Sub below)) → IsStored (with_value s i x') inline
@@ -329,7 +332,7 @@ module _ {P : Type 0} (s : Slab (Slot (Lone P) P)) (v : Nodes P) (is : nodes_in 
     inline_read t r e = let z : Some r ≡ Some (Value t.lone) = sym e ∙ t.here in cc
 
     pub inline_same : (t : InlineThere) (r : Child ℕ (Lone P)) → inner_get x b ≡ Some r → (lone : Lone P) → r ≡ Value lone → t.lone ≡ lone
-    inline_same t r e lone q = let z : Value {C = ℕ} t.lone ≡ Value lone = sym (inline_read t r e) ∙ q in cc
+    inline_same t r e lone q = let a : Child ℕ (Lone P) = Value t.lone in let c : Child ℕ (Lone P) = Value lone in let z : a ≡ c = sym (inline_read t r e) ∙ q in cc
 
     pub take_leaf_stored : (t : InlineThere) → InnerBecomes x x' (λ m. map.remove m b) → IsStored (with_value s i x') (inline - 1)
     take_leaf_stored t ib =
