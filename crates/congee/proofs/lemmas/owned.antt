@@ -34,3 +34,4 @@ pub mod Stored
 pub mod Surveys
 pub mod Standing
 pub mod StatsTexts
+pub mod Hangings

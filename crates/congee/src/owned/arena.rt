@@ -1,6 +1,5 @@
 //! The nodes of an owned tree: the way of a key, and the changes of single nodes.
-ghost use Rattle.std.specs.Prelude.{◌≡◌, ◌+◌, ℕ, length, ◌<◌, ◌≤◌, Some, None, false, IsSome, IfOk, IfErr, OnOk, OnErr};
-ghost use Rattle.std.specs.FinMap as map;
+ghost use Rattle.std.specs.Prelude.{◌≡◌, ◌+◌, ℕ, ◌≤◌, Some, IfErr, OnOk, OnErr};
 ghost use Rattle.slab.specs.Slab.{get, ContainsKey, HasRoomFor};
 
 use crate::allocator::{Allocator, OOMError};
@@ -44,25 +43,35 @@ impl<P: Stored, A: Allocator> Arena<P, A> {
         let mut above = Name::root();
         let mut at = Name::root();
         loop {
-            let spot = match self.nodes.look(at, key) {
-                Way::Free => Spot::Free,
-                Way::Held(_) => Spot::Held,
-                Way::Apart(below) => Spot::Apart(below),
+            match self.nodes.look(at, key) {
+                Way::Free => return Place {
+                    above,
+                    at,
+                    spot: Spot::Free,
+                },
+                Way::Held(_) => return Place {
+                    above,
+                    at,
+                    spot: Spot::Held,
+                },
+                Way::Apart(below) => return Place {
+                    above,
+                    at,
+                    spot: Spot::Apart(below),
+                },
                 Way::Below(below) => {
                     above = at;
                     at = below;
-                    continue;
                 }
-            };
-            return Place { above, at, spot };
+            }
         }
     }
 }
 
 impl<P: Stored, A: Allocator> Arena<P, A> {
-    ghost use Rattle.congee.specs.forms.Forms.{children_of, is_full_of, size_of};
+    ghost use Rattle.congee.specs.forms.Forms.{size_of};
     ghost use Rattle.congee.specs.owned.Arena.{heap_of};
-    ghost use Rattle.congee.specs.owned.OwnedSteps.{Sets, Makes, MakesRoom, SameNodes, IsRefusal};
+    ghost use Rattle.congee.specs.owned.OwnedSteps.{MakesRoom, SameNodes, IsRefusal};
     ghost use Rattle.congee.specs.owned.Charge.{Balances, Covers, Grows, IsRefusedBy, KeepsLimit};
     ghost use Rattle.congee.specs.owned.Wanted.{room_for};
     ghost use Rattle.congee.specs.declared.forms.base_node.Node.{Node as Form};
@@ -96,6 +105,7 @@ impl<P: Stored, A: Allocator> Arena<P, A> {
         ensures limit { KeepsLimit A.limit_of self.old self.new }
         ensures refused { IfErr result (λ e. IsRefusedBy A.charged_of A.limit_of self.old (room_for (heap_of self.old.nodes at)) e) }
         ensures grown { OnOk result (Grows self.old self.new (room_for (heap_of self.old.nodes at))) }
+        ensures keeps { (n : ℕ) → HasRoomFor self.old.nodes n → HasRoomFor self.new.nodes n }
     {
         if !self.nodes.is_full(at) {
             return Ok(());

@@ -1,15 +1,17 @@
 //! The changes at the end of a key's way: a value comes in, gives place to another, or goes.
-ghost use Rattle.std.specs.Prelude.{◌≡◌, ◌≢◌, ℕ, [], ◌∷◌, length, slice_index, take, ◌<◌, ◌≤◌, Some, None, false, IfErr, OnOk};
+ghost use Rattle.std.specs.Prelude.{◌≡◌, ◌≢◌, ◌+◌, ℕ, [], ◌∷◌, length, slice_index, ◌<◌, ◌≤◌, Some, None, false, IfErr, OnOk};
 ghost use Rattle.std.specs.FinMap as map;
-ghost use Rattle.slab.specs.Slab.{get, ContainsKey};
+ghost use Rattle.slab.specs.Slab.{get, ContainsKey, HasRoomFor};
 ghost use Rattle.congee.specs.Heap.{Below, Nothing, fits, child_for};
 ghost use Rattle.congee.specs.forms.Forms.{children_of, size_of};
-ghost use Rattle.congee.specs.owned.Arena.{IsTree, OnWay, Hangs, heap_of};
+ghost use Rattle.congee.specs.owned.Arena.{IsTree, OnWay, Hangs, Reached, heap_of};
 ghost use Rattle.congee.specs.owned.Charge.{Covers};
 ghost use Rattle.congee.specs.owned.Sizes.{bytes_of};
-ghost use Rattle.congee.specs.owned.Changes.{DiffersAt};
-ghost use Rattle.congee.specs.owned.Edits.{Adds, Denies, Frees, Swaps};
-ghost use Rattle.congee.specs.owned.OwnedSteps.{FreshNode, Fills, Forks, IsHeld};
+ghost use Rattle.congee.specs.owned.Changes.{DiffersAt, MapChange};
+ghost use Rattle.congee.specs.owned.Edits.{Adds, Denies, Drops, Frees, Swaps};
+ghost use Rattle.congee.specs.owned.Naming.{HasOwnSlot};
+ghost use Rattle.congee.specs.owned.OwnedSteps.{Hosts, IsHeld};
+ghost use Rattle.congee.specs.owned.Renames.{Renamed};
 ghost use Rattle.congee.specs.owned.Wanted.{room_for, free_wants, size_by};
 ghost use Rattle.congee.specs.declared.forms.base_node.Node.{Node as Form};
 ghost use Rattle.congee.specs.declared.forms.base_node.NodeType.TheVariants.{N4};
@@ -70,6 +72,7 @@ impl<P: Stored, A: Allocator> Arena<P, A> {
         key: &[u8; KEY_BYTES],
         value: P,
     ) -> Result<(), (OOMError, P)>
+        requires own { HasOwnSlot at }
         requires tree { IsTree self.old.nodes }
         requires way { OnWay self.old.nodes key.now at }
         requires free { child_for (heap_of self.old.nodes at) key.now ≡ Nothing }
@@ -107,12 +110,35 @@ impl<P: Stored, A: Allocator> Arena<P, A> {
         ensures refused { IfErr result (Denies A.charged_of A.limit_of self.old self.new
             key.now value (Some (room_for (heap_of self.old.nodes at)))) }
     {
-        if !at.is_inline() {
-            return self.add_beside(alloc, at, key, value);
+        if at.is_inline() {
+            return self.add_inline(alloc, above, at, key, value);
         }
+        self.add_beside(alloc, at, key, value)
+    }
+
+    /// Puts a value into a leaf that lies in its parent's place. It has room for another, so this is never refused.
+    fn add_inline(
+        &mut self,
+        alloc: Global,
+        above: Name,
+        at: Name,
+        key: &[u8; KEY_BYTES],
+        value: P,
+    ) -> Result<(), (OOMError, P)>
+        requires tree { IsTree self.old.nodes }
+        requires way { OnWay self.old.nodes key.now at }
+        requires hangs { Hangs self.old.nodes key.now above at }
+        requires inline { HasOwnSlot at → ⊥ }
+        requires free { child_for (heap_of self.old.nodes at) key.now ≡ Nothing }
+        requires leaf { length (heap_of self.old.nodes at).prefix ≡ MAX_PREFIX_LEN }
+        requires covered { Covers A.charged_of self.old }
+        ensures adds { OnOk result (Adds A.charged_of A.limit_of self.old self.new
+            key.now None value (Some (room_for (heap_of self.old.nodes at)))) }
+        ensures refused { IfErr result (Denies A.charged_of A.limit_of self.old self.new
+            key.now value (Some (room_for (heap_of self.old.nodes at)))) }
+    {
         let up = self.byte_at(above, key);
         let leaf = self.nodes.unfold(above, up);
-        // A leaf with one value has room for another, so this is never refused.
         self.add_beside(alloc, leaf, key, value)
     }
 
@@ -173,6 +199,7 @@ impl<P: Stored, A: Allocator> Arena<P, A> {
 
     /// Takes a value out of a leaf that has others.
     pub(crate) fn take_value(&mut self, above: Name, at: Name, key: &[u8; KEY_BYTES]) -> P
+        requires own { HasOwnSlot at }
         requires tree { IsTree self.old.nodes }
         requires way { OnWay self.old.nodes key.now at }
         requires held { IsHeld self.old.nodes key.now at }
@@ -182,11 +209,24 @@ impl<P: Stored, A: Allocator> Arena<P, A> {
     {
         let byte = self.byte_at(at, key);
         let value = self.nodes.take_value(at, byte);
-        if self.nodes.node_type(at) == NodeType::N4 && self.nodes.len(at) == 1 {
-            let up = self.byte_at(above, key);
-            self.nodes.fold(above, up, at);
-        }
+        self.tuck(above, at, key);
         value
+    }
+
+    /// Puts a leaf of the least form with one value into its parent's place.
+    fn tuck(&mut self, above: Name, at: Name, key: &[u8; KEY_BYTES])
+        requires own { HasOwnSlot at }
+        requires tree { IsTree self.old.nodes }
+        requires hangs { Hangs self.old.nodes key.now above at }
+        requires leaf { length (heap_of self.old.nodes at).prefix ≡ MAX_PREFIX_LEN }
+        ensures renamed { Renamed self.old.nodes self.new.nodes }
+        ensures allocator { self.new.allocator ≡ self.old.allocator }
+    {
+        if self.nodes.node_type(at) != NodeType::N4 || self.nodes.len(at) != 1 {
+            return;
+        }
+        let up = self.byte_at(above, key);
+        self.nodes.fold(above, up, at);
     }
 
     /// Hangs a node of the bytes that the key shares with the child `below` over that child and a leaf for the key.
@@ -195,9 +235,14 @@ impl<P: Stored, A: Allocator> Arena<P, A> {
         requires way { OnWay self.old.nodes key.now at }
         requires hangs { child_for (heap_of self.old.nodes at) key.now ≡ Below below }
         requires differs { fits (heap_of self.old.nodes below).prefix key.now ≡ false }
-        requires stands { ContainsKey self.old.nodes below }
         requires own { HasOwnSlot below }
         requires room { HasRoomFor self.old.nodes 2 }
+        ensures tree { IsTree self.new.nodes }
+        ensures change { MapChange self.old.nodes self.new.nodes key.now None (Some value) }
+        ensures bytes { bytes_of self.new.nodes ≡ bytes_of self.old.nodes + size_of N4 + size_of N4 }
+        ensures hosts { Hosts self.new.nodes result.over result.other below }
+        ensures same { get self.new.nodes below ≡ get self.old.nodes below }
+        ensures allocator { self.new.allocator ≡ self.old.allocator }
     {
         let prefix = self.nodes.prefix(below);
         let common = first_apart(key, prefix);
@@ -208,6 +253,44 @@ impl<P: Stored, A: Allocator> Arena<P, A> {
         let up = self.byte_at(at, key);
         self.nodes.swap_node(at, up, over);
         Fork { over, other }
+    }
+
+    /// The same over a leaf that lies in its parent's place: it then lies in that of the new node.
+    fn part(&mut self, at: Name, below: Name, key: &[u8; KEY_BYTES], value: P)
+        requires tree { IsTree self.old.nodes }
+        requires way { OnWay self.old.nodes key.now at }
+        requires hangs { child_for (heap_of self.old.nodes at) key.now ≡ Below below }
+        requires differs { fits (heap_of self.old.nodes below).prefix key.now ≡ false }
+        requires inline { HasOwnSlot below → ⊥ }
+        requires room { HasRoomFor self.old.nodes 2 }
+        ensures tree { IsTree self.new.nodes }
+        ensures change { MapChange self.old.nodes self.new.nodes key.now None (Some value) }
+        ensures bytes { bytes_of self.new.nodes ≡ bytes_of self.old.nodes + size_of N4 + size_of N4 }
+        ensures allocator { self.new.allocator ≡ self.old.allocator }
+    {
+        let up = self.byte_at(at, key);
+        let leaf = self.nodes.unfold(at, up);
+        let Fork { over, other } = self.fork(at, leaf, key, value);
+        self.nodes.fold(over, other, leaf);
+    }
+
+    /// The same over either.
+    fn host(&mut self, at: Name, below: Name, key: &[u8; KEY_BYTES], value: P)
+        requires tree { IsTree self.old.nodes }
+        requires way { OnWay self.old.nodes key.now at }
+        requires hangs { child_for (heap_of self.old.nodes at) key.now ≡ Below below }
+        requires differs { fits (heap_of self.old.nodes below).prefix key.now ≡ false }
+        requires room { HasRoomFor self.old.nodes 2 }
+        ensures tree { IsTree self.new.nodes }
+        ensures change { MapChange self.old.nodes self.new.nodes key.now None (Some value) }
+        ensures bytes { bytes_of self.new.nodes ≡ bytes_of self.old.nodes + size_of N4 + size_of N4 }
+        ensures allocator { self.new.allocator ≡ self.old.allocator }
+    {
+        if below.is_inline() {
+            self.part(at, below, key, value);
+            return;
+        }
+        self.fork(at, below, key, value);
     }
 
     /// Hangs a node of the bytes that the key shares with the child `below` over that child and a leaf for the key,
@@ -236,14 +319,7 @@ impl<P: Stored, A: Allocator> Arena<P, A> {
             self.allocator.deallocate(NodeType::N4.size());
             return Err((e, value));
         }
-        if !below.is_inline() {
-            self.fork(at, below, key, value);
-            return Ok(());
-        }
-        let up = self.byte_at(at, key);
-        let leaf = self.nodes.unfold(at, up);
-        let Fork { over, other } = self.fork(at, leaf, key, value);
-        self.nodes.fold(over, other, leaf);
+        self.host(at, below, key, value);
         Ok(())
     }
 
@@ -259,17 +335,54 @@ impl<P: Stored, A: Allocator> Arena<P, A> {
             key.now (Some result) None (size_by (heap_of self.old.nodes at).capacity) }
     {
         let size = self.nodes.node_type(at).size();
-        let up = self.byte_at(above, key);
-        let value = if at.is_inline() {
-            self.nodes.unhang_leaf(above, up)
-        } else {
-            let byte = self.byte_at(at, key);
-            let value = self.nodes.take_value(at, byte);
-            self.nodes.unhang_node(above, up);
-            self.nodes.remove(at);
-            value
-        };
+        let value = self.drop_alone(above, at, key);
         self.allocator.deallocate(size);
+        value
+    }
+
+    /// A leaf with one value goes.
+    fn drop_alone(&mut self, above: Name, at: Name, key: &[u8; KEY_BYTES]) -> P
+        requires tree { IsTree self.old.nodes }
+        requires way { OnWay self.old.nodes key.now at }
+        requires held { IsHeld self.old.nodes key.now at }
+        requires hangs { Hangs self.old.nodes key.now above at }
+        requires last { (x : Form ℕ P) → get self.old.nodes at ≡ Some x → map.len (children_of x) ≡ 1 }
+        ensures { Drops self.old self.new key.now at result }
+    {
+        if at.is_inline() {
+            return self.drop_inline(above, at, key);
+        }
+        self.drop_slot(above, at, key)
+    }
+
+    /// A leaf that lies in its parent's place goes.
+    fn drop_inline(&mut self, above: Name, at: Name, key: &[u8; KEY_BYTES]) -> P
+        requires tree { IsTree self.old.nodes }
+        requires way { OnWay self.old.nodes key.now at }
+        requires held { IsHeld self.old.nodes key.now at }
+        requires hangs { Hangs self.old.nodes key.now above at }
+        requires inline { HasOwnSlot at → ⊥ }
+        ensures { Drops self.old self.new key.now at result }
+    {
+        let up = self.byte_at(above, key);
+        self.nodes.unhang_leaf(above, up)
+    }
+
+    /// A leaf with a slot of its own goes.
+    fn drop_slot(&mut self, above: Name, at: Name, key: &[u8; KEY_BYTES]) -> P
+        requires tree { IsTree self.old.nodes }
+        requires way { OnWay self.old.nodes key.now at }
+        requires held { IsHeld self.old.nodes key.now at }
+        requires hangs { Hangs self.old.nodes key.now above at }
+        requires last { (x : Form ℕ P) → get self.old.nodes at ≡ Some x → map.len (children_of x) ≡ 1 }
+        requires own { HasOwnSlot at }
+        ensures { Drops self.old self.new key.now at result }
+    {
+        let byte = self.byte_at(at, key);
+        let value = self.nodes.take_value(at, byte);
+        let up = self.byte_at(above, key);
+        self.nodes.unhang_node(above, up);
+        self.nodes.remove(at);
         value
     }
 }

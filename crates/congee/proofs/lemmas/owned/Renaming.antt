@@ -154,14 +154,14 @@ renamed s s' p b n m t k = let r = renamed_is s s' p b n m t k in record { tree 
 
 module _ {P : Type 0} where
   -- the map changes as it does beside a renaming
-  change_renamed : (s s' s'' : Nodes P) (key : List ℕ) (before after : Option P) → Renamed s s' → MapChange s' s'' key before after → MapChange s s'' key before after
+  pub change_renamed : (s s' s'' : Nodes P) (key : List ℕ) (before after : Option P) → Renamed s s' → MapChange s' s'' key before after → MapChange s s'' key before after
   change_renamed s s' s'' key before after r c = record {
     was = sym (r.values key) ∙ c.was;
     now = c.now;
     others = λ k l ne. c.others k l ne ∙ r.values k;
   }
 
-  renamed_change : (s s' s'' : Nodes P) (key : List ℕ) (before after : Option P) → MapChange s s' key before after → Renamed s' s'' → MapChange s s'' key before after
+  pub renamed_change : (s s' s'' : Nodes P) (key : List ℕ) (before after : Option P) → MapChange s s' key before after → Renamed s' s'' → MapChange s s'' key before after
   renamed_change s s' s'' key before after c r = record {
     was = c.was;
     now = r.values key ∙ c.now;

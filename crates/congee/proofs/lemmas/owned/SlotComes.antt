@@ -1,5 +1,5 @@
 -- A node comes into a free slot, leaves its slot, or takes its next form.
-use Rattle.std.proofs.Common.{◌≡◌, ◌≢◌, ℕ, zero, suc, ◌+◌, ◌*◌, ◌/◌, ◌%◌, ◌<◌, ◌≤◌, true, false, inl, inr, List, length, get_or, refl, sym, ap, subst, ◌∙◌, arith}
+use Rattle.std.proofs.Common.{◌≡◌, ◌≢◌, ℕ, zero, suc, ◌+◌, ◌*◌, ◌/◌, ◌%◌, ◌<◌, ◌≤◌, true, false, inl, inr, List, length, take, get_or, refl, sym, ap, subst, ◌∙◌, arith}
 use Rattle.std.specs.List.{range_with_len}
 use Rattle.std.specs.Prelude.{count_by, is_some, map as list_map, Option, None, Some, IsSome, Result, Ok, Err, OnOk, OnErr}
 use Rattle.std.specs.Ordering.{nat_cmp}
@@ -14,16 +14,18 @@ use Rattle.congee.specs.owned.Naming.{HasOwnSlot, offset_of, IsByte}
 use Rattle.congee.specs.owned.OwnedSteps.{Makes}
 use Rattle.congee.specs.owned.Slots.{inner_child, leaf_child, lone_node, with_children, slot_node, lone_in, inline_at, in_slot, node_named, nodes_in}
 use Rattle.congee.specs.owned.Storage.{HasKind, IsStored}
-use Rattle.congee.specs.owned.Stores.{GrowsTo}
+use Rattle.congee.specs.owned.Stores.{GrowsTo, MakesLeaf}
 use Rattle.congee.specs.declared.forms.base_node.Node.{Node}
 use Rattle.congee.specs.declared.forms.base_node.NodeType.TheVariants.{N4}
 use Rattle.congee.specs.declared.forms.child.Child.{Child}
+use Rattle.congee.specs.declared.forms.child.Child.TheVariants.{Value}
 use Rattle.congee.specs.declared.owned.nodes.Lone.{Lone}
 use Rattle.congee.specs.declared.owned.nodes.Slot.{Slot}
 use Rattle.congee.specs.declared.owned.nodes.Slot.TheVariants.{Inner, Leaf}
 use Rattle.congee.proofs.lemmas.Tree.{same_or_not}
-use Rattle.congee.proofs.lemmas.forms.MappedLemmas.{mapped_empty}
-use Rattle.congee.proofs.lemmas.owned.Moves.{node_at}
+use Rattle.congee.proofs.lemmas.forms.MappedLemmas.{mapped_empty, mapped_insert}
+use Rattle.congee.proofs.lemmas.forms.Full.{full_at, full_is}
+use Rattle.congee.proofs.lemmas.owned.Moves.{node_at, insert_at, insert_beside}
 use Rattle.congee.proofs.lemmas.owned.SlotLens.{counted, len_update}
 use Rattle.congee.proofs.lemmas.owned.SlotOps.{own_slot}
 use Rattle.congee.proofs.lemmas.owned.Slots.{get_offset, beside_slot, in_offset, low_offset, with_form, with_prefix, with_mapped, with_full}
@@ -93,6 +95,36 @@ module _ {P : Type 0} (s s' : Slab (Slot (Lone P) P)) (v : Nodes P) (is : nodes_
         updates = w;
       } in
       subst (λ k. Makes v (nodes_in s') k prefix) (sym e) (subst (λ w. Makes w (nodes_in s') (257 * i) prefix) is made)
+
+-- a leaf with one value comes into a free slot
+module _ {P : Type 0} (s s' : Slab (Slot (Lone P) P)) (v : Nodes P) (is : nodes_in s ≡ v) (inline : ℕ) (st : IsStored s inline) (i : ℕ) (n : Node ℕ P) (free : get s i ≡ None) (u : Updates s s' i (Some (Leaf n))) where
+  no_inline : (b : ℕ) → in_slot i (Some (Leaf n)) (suc b) ≡ in_slot i (get s i) (suc b)
+  no_inline b = sym (ap (λ o. in_slot i o (suc b)) free)
+
+  pub leaf_comes_stored : length (prefix_of n) ≡ 7 → s'.capacity ≡ s.capacity → slab_len s + inline + 1 ≤ s.capacity → IsStored s' inline
+  leaf_comes_stored seven cap room =
+      let l = len_update s s' i (Some (Leaf n)) u in
+      let c : counted (get s i) ≡ 0 = ap counted free in
+      slot_stored s s' i inline (Some (Leaf n)) st u no_inline seven cap (omega (arith, l, c, cap, room))
+
+  pub leaf_comes_made : (key : List ℕ) (value : P) → form_of n ≡ N4 → prefix_of n ≡ take 7 key → children_of n ≡ map.insert map.empty (get_or key 7 0) (Value value) → (name : ℕ) → name ≡ 257 * i → MakesLeaf v (nodes_in s') name key value
+  leaf_comes_made key value form p ch name e =
+      let w = slot_updates s s' i (Some (Leaf n)) u no_inline in
+      let vacant : get (nodes_in s) (257 * i) ≡ None = ap (get (nodes_in s)) (let z : 257 * i ≡ 257 * i + 0 = omega arith in z) ∙ (get_offset s i 0 (omega arith) ∙ ap (λ o. in_slot i o 0) free) in
+      let c : children_of (with_children leaf_child n) ≡ map.insert map.empty (get_or key 7 0) (Value value) =
+          with_mapped leaf_child n ∙ (ap (mapped leaf_child) ch ∙ (mapped_insert leaf_child map.empty (get_or key 7 0) (Value value) ∙ ap (λ m. map.insert m (get_or key 7 0) (Value value)) (mapped_empty leaf_child))) in
+      let made : MakesLeaf (nodes_in s) (nodes_in s') (257 * i) key value = record {
+        node = with_children leaf_child n;
+        form = with_form leaf_child n ∙ form;
+        has = record {
+          prefix = with_prefix leaf_child n ∙ p;
+          value = ap (λ m. map.get m (get_or key 7 0)) c ∙ insert_at map.empty (get_or key 7 0) (Value value);
+          beside = λ b ne. ap (λ m. map.get m b) c ∙ (insert_beside map.empty (get_or key 7 0) (Value value) b ne ∙ map.get-empty _ b);
+        };
+        vacant = vacant;
+        updates = w;
+      } in
+      subst (λ k. MakesLeaf v (nodes_in s') k key value) (sym e) (subst (λ w. MakesLeaf w (nodes_in s') (257 * i) key value) is made)
 
 -- a leaf leaves its slot
 module _ {P : Type 0} (s s' : Slab (Slot (Lone P) P)) (v : Nodes P) (is : nodes_in s ≡ v) (inline : ℕ) (st : IsStored s inline) (at i : ℕ) (byte : Option ℕ) (name : 257 * i + offset_of byte ≡ at) (low : IsByte byte)
@@ -253,6 +285,13 @@ wider_stored s s' inline st e c =
       room = omega (arith, a, r, c);
       kinds = λ j. subst HasKind (ap (λ l. get_or l j None) (sym e)) (st.kinds j);
     }
+
+-- a least node without children has room
+pub least_absent : {C P : Type 0} (n : Node C P) (b : ℕ) → children_of n ≡ map.empty → map.get (children_of n) b ≡ None
+least_absent n b e = ap (λ m. map.get m b) e ∙ map.get-empty _ b
+
+pub least_room : {C P : Type 0} (n : Node C P) → form_of n ≡ N4 → children_of n ≡ map.empty → is_full_of n ≡ false
+least_room n f e = full_is n ∙ (ap (λ t. full_at t (map.len (children_of n))) f ∙ ap (full_at N4) (ap map.len e ∙ map.len-empty nat_cmp _))
 
 pub uses : (n : ℕ) → n ≡ n
 uses n = refl
