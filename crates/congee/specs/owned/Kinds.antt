@@ -1,5 +1,5 @@
 -- A slot's node, of either kind.
-use Rattle.std.specs.Prelude.{◌≡◌, ℕ, Bool, List, Option, None, Some}
+use Rattle.std.specs.Prelude.{◌≡◌, ◌<◌, ℕ, Bool, List, Option, None, Some, IsSome}
 use Rattle.std.specs.Ordering.{nat_cmp}
 use Rattle.std.specs.FinMap as map
 use Rattle.congee.specs.forms.Forms.{Becomes, children_of, form_of, is_full_of, next_form, prefix_of}
@@ -40,6 +40,11 @@ module _ {L P : Type 0} where
   abbrev pub full_in : Slot L P → Bool
   full_in (Inner n) = is_full_of n
   full_in (Leaf n) = is_full_of n
+
+  -- what hangs in the node hangs at bytes
+  abbrev pub HasLowBytes : Slot L P → Type 0
+  HasLowBytes (Inner n) = (b : ℕ) → IsSome (map.get (children_of n) b) → b < 256
+  HasLowBytes (Leaf n) = (b : ℕ) → IsSome (map.get (children_of n) b) → b < 256
 
   abbrev pub IsInner : Slot L P → Type 0
   IsInner (Inner n) = Unit {0}

@@ -143,7 +143,7 @@ impl<L: Small, P: Small> Slot<L, P> {
     ghost use Rattle.congee.specs.Heap.{fits};
     ghost use Rattle.congee.specs.forms.Forms.{capacity_of};
     ghost use Rattle.congee.specs.declared.forms.child.Child.TheVariants.{Value};
-    ghost use Rattle.congee.specs.owned.Kinds.{prefix_in, form_in, len_in, full_in, IsInner, IsLeaf, inner_get, leaf_get, IsValue, Cleared, InnerBecomes, LeafBecomes, Grown};
+    ghost use Rattle.congee.specs.owned.Kinds.{prefix_in, form_in, len_in, full_in, HasLowBytes, IsInner, IsLeaf, inner_get, leaf_get, IsValue, Cleared, InnerBecomes, LeafBecomes, Grown};
 
     fn prefix(&self) -> &[u8]
         ensures bytes { result.now ≡ prefix_in self.now }
@@ -176,6 +176,7 @@ impl<L: Small, P: Small> Slot<L, P> {
     fn len(&self) -> usize
         ensures count { result ≡ len_in self.now }
         ensures fits { result ≤ capacity_of (form_in self.now) }
+        ensures bytes { HasLowBytes self.now }
     {
         match self {
             Slot::Inner(n) => n.len(),

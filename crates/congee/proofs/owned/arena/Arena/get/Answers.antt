@@ -4,7 +4,7 @@ use Rattle.congee.proofs.lemmas.owned.Ways.{below_stands, falls, root_reached}
 use Rattle.congee.proofs.owned.arena.Arena.get.Goals as goal
 
 pub loop-value-init : goal.loop-value-init
-loop-value-init g c = (root_reached c.args.self.now.nodes c.args.key.now c.requires).way
+loop-value-init g c = rw c.root-at.ensures (root_reached c.args.self.now.nodes c.args.key.now c.requires).way
 
 pub loop-value-smaller : goal.loop-value-smaller
 loop-value-smaller g c = falls c.args.self.now.nodes c.requires c.args.key.now c.loop-value.at c.in-Below.below c.loop-value.invariant.stands c.in-Below.ensures.0

@@ -56,12 +56,6 @@ returns-in-Held g c =
 pub prefix-prefix-requires : goal.prefix-prefix-requires
 prefix-prefix-requires g c = below_stands c.args.self.now.nodes c.requires c.loop-cursor.at c.in-Apart.below c.bytes_of_key-bytes.result c.loop-cursor.invariant.way.stands c.in-Apart.ensures.0
 
-pub first_apart-requires-clause-differs : goal.first_apart-requires-clause-differs
-first_apart-requires-clause-differs g c =
-    let s = c.args.self.now.nodes in
-    let stands = below_stands s c.requires c.loop-cursor.at c.in-Apart.below c.bytes_of_key-bytes.result c.loop-cursor.invariant.way.stands c.in-Apart.ensures.0 in
-    ap (λ p. fits p c.bytes_of_key-bytes.result) (prefix_read s c.in-Apart.below c.prefix-prefix.result.now stands c.prefix-prefix.ensures.bytes) ∙ c.in-Apart.ensures.1
-
 pub overflow_add-from : goal.overflow_add-from
 overflow_add-from g c = omega (arith, (here g (goal.at.overflow_add-from g c).After-prefix).low)
 
@@ -91,7 +85,7 @@ returns-in-Apart g c =
     record { cursor = end.0; at = end.1 }
 
 pub loop-cursor-init : goal.loop-cursor-init
-loop-cursor-init g c = sets_out c.args.self.now.nodes c.requires c.new-cursor.result.items c.args.key c.new-cursor.ensures
+loop-cursor-init g c = rw c.root-at.ensures (sets_out c.args.self.now.nodes c.requires c.new-cursor.result.items c.args.key c.new-cursor.ensures)
 
 pub loop-cursor-smaller : goal.loop-cursor-smaller
 loop-cursor-smaller g c = falls c.args.self.now.nodes c.requires c.bytes_of_key-bytes.result c.loop-cursor.at c.in-Below.below c.loop-cursor.invariant.way.stands c.in-Below.ensures.0
