@@ -4,6 +4,7 @@ use Rattle.std.specs.Prelude.{Option, Some, None, IsSome, IsTrue, Bool, ◌↔�
 use Rattle.std.specs.Ordering.{nat_cmp}
 use Rattle.std.specs.FinMap as map
 use Rattle.std.specs.FinMap.{gets}
+use Rattle.std.specs.Cmp.{nat_cmp_total}
 use Rattle.slab.specs.Slab.{get, ContainsKey, Updates, HasRoomFor, slab_len}
 use Rattle.congee.specs.Heap.{Below, Holds, Nothing, fits, child_for, value_at}
 use Rattle.congee.specs.Ledger.{Linked}
@@ -90,7 +91,7 @@ module _ {P : Type 0} where
       of : (o : Option (Child ℕ P)) → hung_in o ≡ Below c → o ≡ Some (Sub c)
       of None g = absurd (cc)
       of (Some Blank) g = absurd (no_blank s t key n st (h ∙ sym g))
-      of (Some (Sub d)) g = ap (λ z. Some (Sub z)) (let f : Below {P} d ≡ Below c = g in cc)
+      of (Some (Sub d)) g = ap (λ z. Some (Sub z)) (let f : Below d ≡ Below c = g in cc)
       of (Some (Value w)) g = absurd (cc)
 
   -- the key's value stands under its byte
@@ -300,7 +301,7 @@ module _ {P : Type 0} where
     k = loses n.0 n.1
 
     is_at : k.leaf ≡ at
-    is_at = let z : Some (Sub {ℕ} {P} k.leaf) ≡ Some (Sub at) = sym k.child ∙ child_there s t key above at hangs.way.stands hangs.child n.0 n.1 up bu in cc
+    is_at = let z : Some (Sub k.leaf) ≡ Some (Sub at) = sym k.child ∙ child_there s t key above at hangs.way.stands hangs.child n.0 n.1 up bu in cc
 
     stood : get s at ≡ Some k.was
     stood = subst (λ z. get s z ≡ Some k.was) is_at k.stood
@@ -348,7 +349,7 @@ only_pair {X} m l = of (map.entries m) refl
   where
     of : (es : List (ℕ × X)) → map.entries m ≡ es → (k : ℕ) × (x : X) × (m ≡ map.insert map.empty k x)
     of [] e = absurd (let z : map.len m ≡ 0 = map.len-entries m ∙ ap length e in omega (arith, z, l))
-    of ((k, x) ∷ []) e = (k, x, map.same_entries_map m (map.insert map.empty k x) (e ∙ sym (map.entries-insert map.empty k x ∙ ap (map.put nat_cmp k x) none)))
+    of ((k, x) ∷ []) e = (k, x, map.same_entries_map m (map.insert map.empty k x) (e ∙ sym (map.entries-insert nat_cmp_total map.empty k x ∙ ap (map.put nat_cmp k x) none)))
       where
         none : map.entries (map.empty {X = X} {R = nat_cmp}) ≡ []
         none = none_of (map.entries map.empty) (sym (map.len-entries map.empty) ∙ map.len-empty nat_cmp X)

@@ -103,3 +103,35 @@ pub swap_node-requires-clause-present : goal.swap_node-requires-clause-present
 swap_node-requires-clause-present g c =
     up_node c.args.self.now.nodes c.hang_node.new.self c.requires.tree c.args.key.now c.args.at c.args.below (there g (goal.at.swap_node-requires-clause-present g c).After-hang_node)
     (fork_hangs c.args.self.now.nodes c.args.key.now c.args.at c.args.below c.requires.way c.requires.hangs) c.byte_at-up.result c.requires.own c.byte_at-up.ensures
+
+pub returns-clause-tree : goal.returns-clause-tree
+returns-clause-tree g c =
+    let len : length c.args.key.now ≡ 8 = search rules in
+    (fork_hung c.args.self.now.nodes c.make-over.new.self c.hang_leaf.new.self c.hang_node.new.self c.args.key.now c.first_apart-common.result c.make-over.result _ c.args.below c.args.value (forked g (goal.at.returns-clause-tree g c).After-hang_node)
+    c.swap_node.new.self c.args.at c.byte_at-up.result len c.requires.tree c.requires.way c.requires.hangs c.requires.differs c.byte_at-up.ensures c.swap_node.ensures.swaps).0.0
+
+pub returns-clause-change : goal.returns-clause-change
+returns-clause-change g c =
+    let len : length c.args.key.now ≡ 8 = search rules in
+    (fork_hung c.args.self.now.nodes c.make-over.new.self c.hang_leaf.new.self c.hang_node.new.self c.args.key.now c.first_apart-common.result c.make-over.result _ c.args.below c.args.value (forked g (goal.at.returns-clause-change g c).After-hang_node)
+    c.swap_node.new.self c.args.at c.byte_at-up.result len c.requires.tree c.requires.way c.requires.hangs c.requires.differs c.byte_at-up.ensures c.swap_node.ensures.swaps).0.1
+
+pub returns-clause-bytes : goal.returns-clause-bytes
+returns-clause-bytes g c =
+    let len : length c.args.key.now ≡ 8 = search rules in
+    let r = fork_hung c.args.self.now.nodes c.make-over.new.self c.hang_leaf.new.self c.hang_node.new.self c.args.key.now c.first_apart-common.result c.make-over.result _ c.args.below c.args.value (forked g (goal.at.returns-clause-bytes g c).After-hang_node)
+        c.swap_node.new.self c.args.at c.byte_at-up.result len c.requires.tree c.requires.way c.requires.hangs c.requires.differs c.byte_at-up.ensures c.swap_node.ensures.swaps in
+    omega (arith, r.1)
+
+pub returns-clause-hosts : goal.returns-clause-hosts
+returns-clause-hosts g c =
+    let len : length c.args.key.now ≡ 8 = search rules in
+    fork_hosts c.args.self.now.nodes c.make-over.new.self c.hang_leaf.new.self c.hang_node.new.self c.args.key.now c.first_apart-common.result c.make-over.result _ c.args.below c.args.value (forked g (goal.at.returns-clause-hosts g c).After-hang_node)
+    c.swap_node.new.self c.args.at c.byte_at-up.result len c.requires.tree c.requires.way c.requires.hangs c.requires.differs c.byte_at-up.ensures c.swap_node.ensures.swaps
+    (short_take c.first_apart-common.result c.args.key.now (omega (arith, c.first_apart-common.ensures.within, c.prefix.ensures.fits)))
+
+pub returns-clause-same : goal.returns-clause-same
+returns-clause-same g c =
+    let len : length c.args.key.now ≡ 8 = search rules in
+    fork_below c.args.self.now.nodes c.make-over.new.self c.hang_leaf.new.self c.hang_node.new.self c.args.key.now c.first_apart-common.result c.make-over.result _ c.args.below c.args.value (forked g (goal.at.returns-clause-same g c).After-hang_node)
+    c.swap_node.new.self c.args.at c.byte_at-up.result len c.requires.tree c.requires.way c.requires.hangs c.requires.differs c.byte_at-up.ensures c.swap_node.ensures.swaps

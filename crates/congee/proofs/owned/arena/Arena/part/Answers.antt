@@ -28,3 +28,31 @@ fork-requires-clause-differs g c =
 
 pub fork-requires-clause-room : goal.fork-requires-clause-room
 fork-requires-clause-room g c = c.unfold-leaf.ensures.keeps 2 c.requires.room
+
+pub fold-requires-clause-stands : goal.fold-requires-clause-stands
+fold-requires-clause-stands g c = stands_at c.fork.new.self.nodes c.fork.result.over c.fork.ensures.hosts.node c.fork.ensures.hosts.stands
+
+pub fold-requires-clause-inner : goal.fold-requires-clause-inner
+fold-requires-clause-inner g c = hosts_inner c.fork.new.self.nodes c.fork.result.over c.fork.result.other c.unfold-leaf.result c.fork.ensures.hosts
+
+pub fold-requires-clause-present : goal.fold-requires-clause-present
+fold-requires-clause-present g c = hosts_child c.fork.new.self.nodes c.fork.result.over c.fork.result.other c.unfold-leaf.result c.fork.ensures.hosts
+
+pub fold-requires-clause-lone : goal.fold-requires-clause-lone
+fold-requires-clause-lone g c = λ y e. c.unfold-leaf.ensures.lone y (sym c.fork.ensures.same ∙ e)
+
+pub returns-clause-tree : goal.returns-clause-tree
+returns-clause-tree g c = (renamed c.fork.new.self.nodes c.fold.new.self c.fork.result.over c.fork.result.other c.unfold-leaf.result c.fold.ensures.folds.name c.fork.ensures.tree c.fold.ensures.folds.renames).tree
+
+pub returns-clause-change : goal.returns-clause-change
+returns-clause-change g c =
+    let u = unfolded c.args.self.now.nodes c.unfold-leaf.new.self c.args.key.now c.args.at c.args.below c.byte_at-up.result c.unfold-leaf.result c.requires.tree c.requires.way c.requires.hangs c.byte_at-up.ensures c.unfold-leaf.ensures.renames in
+    let f = renamed c.fork.new.self.nodes c.fold.new.self c.fork.result.over c.fork.result.other c.unfold-leaf.result c.fold.ensures.folds.name c.fork.ensures.tree c.fold.ensures.folds.renames in
+    change_renamed c.args.self.now.nodes c.unfold-leaf.new.self c.fold.new.self c.args.key.now _ _ u.renamed
+    (renamed_change c.unfold-leaf.new.self c.fork.new.self.nodes c.fold.new.self c.args.key.now _ _ c.fork.ensures.change f)
+
+pub returns-clause-bytes : goal.returns-clause-bytes
+returns-clause-bytes g c =
+    let u = unfolded c.args.self.now.nodes c.unfold-leaf.new.self c.args.key.now c.args.at c.args.below c.byte_at-up.result c.unfold-leaf.result c.requires.tree c.requires.way c.requires.hangs c.byte_at-up.ensures c.unfold-leaf.ensures.renames in
+    let f = renamed c.fork.new.self.nodes c.fold.new.self c.fork.result.over c.fork.result.other c.unfold-leaf.result c.fold.ensures.folds.name c.fork.ensures.tree c.fold.ensures.folds.renames in
+    omega (arith, u.renamed.bytes, f.bytes, c.fork.ensures.bytes)

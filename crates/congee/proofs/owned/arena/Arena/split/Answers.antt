@@ -28,3 +28,17 @@ host-requires-clause-hangs g c = ap (λ n. child_for n c.args.key.now) (same_hea
 
 pub host-requires-clause-differs : goal.host-requires-clause-differs
 host-requires-clause-differs g c = ap (λ n. fits n.prefix c.args.key.now) (same_heap c.args.self.now.nodes c.ready-2.new.self.nodes c.args.below (λ n. c.ready-2.ensures.same n ∙ c.ready.ensures.same n)) ∙ c.requires.differs
+
+pub returns-clause-adds : goal.returns-clause-adds
+returns-clause-adds g c =
+    let r = same_renamed c.args.self.now.nodes c.ready-2.new.self.nodes (λ n. c.ready-2.ensures.same n ∙ c.ready.ensures.same n) c.requires.tree in
+    let charge : g.A.Allocator.charged_of c.host.new.self.allocator ≡ g.A.Allocator.charged_of c.ready-2.new.self.allocator = ap g.A.Allocator.charged_of c.host.ensures.allocator in
+    record {
+      edits = record {
+        tree = c.host.ensures.tree;
+        change = change_renamed c.args.self.now.nodes c.ready-2.new.self.nodes c.host.new.self.nodes c.args.key.now _ _ r c.host.ensures.change;
+        balance = omega (arith, charge, r.bytes, c.host.ensures.bytes, c.in_default.ensures.charge, c.in_default-2.ensures.charge);
+        same_limit = ap g.A.Allocator.limit_of c.host.ensures.allocator ∙ (c.ready-2.ensures.limit ∙ c.ready.ensures.limit);
+      };
+      bytes = omega (arith, r.bytes, c.host.ensures.bytes);
+    }
