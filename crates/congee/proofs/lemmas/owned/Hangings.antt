@@ -1,6 +1,6 @@
 -- What becomes of the tree where a leaf with one value comes into the place of its parent, or goes from there.
 use Rattle.std.proofs.Common.{rules, ◌≡◌, ◌≢◌, ℕ, zero, suc, ◌+◌, ◌<◌, ◌≤◌, ◌==◌, false, true, cond, inl, inr, List, [], ◌∷◌, length, take, get_or, refl, sym, ◌∙◌, ap, subst, arith}
-use Rattle.std.specs.Prelude.{Option, Some, None, IsSome, IsTrue, Bool, ◌↔◌, ◌%◌}
+use Rattle.std.specs.Prelude.{Option, Some, None, IsSome, IsTrue, Bool, ◌↔◌, ◌%◌, Result, Ok, Err, OnOk, IfErr}
 use Rattle.std.specs.Ordering.{nat_cmp}
 use Rattle.std.specs.FinMap as map
 use Rattle.std.specs.FinMap.{gets}
@@ -522,3 +522,13 @@ module _ {P : Type 0} where
 pub never_denied : {P A : Type 0} (charged limit : A → ℕ) (old new : Arena P A) (key : List ℕ) (v : P) (wants : List ℕ) (refusal : OOMError × P)
     → wants ≡ [] → Denies charged limit old new key v (Some wants) refusal → ⊥
 never_denied charged limit old new key v wants refusal e d = subst (λ w. IsRefused (Some w) (charged old.allocator) (limit old.allocator) refusal.0) e d.cause
+
+-- what an outcome tells, told on
+pub adds_in : {T E : Type 0} {A B : Type 0} (r : Result T E) → (A → B) → OnOk r A → OnOk r B
+adds_in (Ok x) f a = f a
+adds_in (Err e) f a = a
+
+-- an error that can't be is none, and tells anything
+pub never_in : {T E : Type 0} {A B : E → Type 0} (r : Result T E) → ((e : E) → A e → ⊥) → IfErr r A → IfErr r B
+never_in (Ok x) f a = a
+never_in (Err e) f a = absurd (f e a)
