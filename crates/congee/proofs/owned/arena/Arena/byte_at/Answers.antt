@@ -1,4 +1,3 @@
-use Rattle.congee.proofs.lemmas.owned.Hangings.{bytes_two}
 use Rattle.std.proofs.Common.{◌≡◌, length, get_or, ap, sym, ◌∙◌}
 use Rattle.congee.proofs.lemmas.owned.Moves.{node_at, prefix_at}
 use Rattle.congee.proofs.owned.arena.Arena.byte_at.Goals as goal
