@@ -1,6 +1,6 @@
 -- What becomes of the tree where a leaf with one value comes into the place of its parent, or goes from there.
 use Rattle.std.proofs.Common.{rules, ◌≡◌, ◌≢◌, ℕ, zero, suc, ◌+◌, ◌<◌, ◌≤◌, ◌==◌, false, true, cond, inl, inr, List, [], ◌∷◌, length, take, get_or, refl, sym, ◌∙◌, ap, subst, arith}
-use Rattle.std.specs.Prelude.{Option, Some, None, IsSome, IsTrue, Bool, ◌↔◌, ◌%◌}
+use Rattle.std.specs.Prelude.{Option, Some, None, IsSome, IsTrue, Bool, ◌↔◌, ◌%◌, Result, Ok, Err, OnOk, IfErr}
 use Rattle.std.specs.Ordering.{nat_cmp}
 use Rattle.std.specs.FinMap as map
 use Rattle.std.specs.FinMap.{gets}
@@ -294,51 +294,51 @@ module _ {P : Type 0} where
   -- a leaf goes from its parent's place
   module _ (s s' : Nodes P) (key : List ℕ) (above at up : ℕ) (v : P) (len : length key ≡ 8) (t : IsTree s) (w : OnWay s key at) (h : IsHeld s key at) (hangs : Hangs s key above at)
       (bu : up ≡ get_or key (length (heap_of s above).prefix) 0) (loses : (x : Form ℕ P) → get s above ≡ Some x → LosesLeaf s s' above x up v) where
-    n : (x : Form ℕ P) × (get s above ≡ Some x)
-    n = node_at s above hangs.way.stands
+    upper : (x : Form ℕ P) × (get s above ≡ Some x)
+    upper = node_at s above hangs.way.stands
 
-    k : LosesLeaf s s' above n.0 up v
-    k = loses n.0 n.1
+    loss : LosesLeaf s s' above upper.0 up v
+    loss = loses upper.0 upper.1
 
-    is_at : k.leaf ≡ at
-    is_at = let z : Some (Sub k.leaf) ≡ Some (Sub at) = sym k.child ∙ child_there s t key above at hangs.way.stands hangs.child n.0 n.1 up bu in cc
+    is_at : loss.leaf ≡ at
+    is_at = let z : Some (Sub loss.leaf) ≡ Some (Sub at) = sym loss.child ∙ child_there s t key above at hangs.way.stands hangs.child upper.0 upper.1 up bu in cc
 
-    stood : get s at ≡ Some k.was
-    stood = subst (λ z. get s z ≡ Some k.was) is_at k.stood
+    stood : get s at ≡ Some loss.was
+    stood = subst (λ z. get s z ≡ Some loss.was) is_at loss.stood
 
     pub lost : (IsTree s' × MapChange s s' key (Some v) None) × (bytes_of s' + size_by (heap_of s at).capacity ≡ bytes_of s)
     lost =
         let seven : length (heap_of s at).prefix ≡ 7 = held_seven s key at t w h in
-        let pl : (heap_of s at).prefix ≡ prefix_of k.was = prefix_at s at k.was stood in
-        let byte : ℕ = get_or key (length (prefix_of k.was)) 0 in
-        let held : map.get (children_of k.was) byte ≡ Some (Value h.value) = subst (λ p. map.get (children_of k.was) (get_or key (length p) 0) ≡ Some (Value h.value)) pl (held_is s key at k.was stood h) in
-        let last : byte ≡ k.last = elim (same_or_not byte k.last) [
+        let pl : (heap_of s at).prefix ≡ prefix_of loss.was = prefix_at s at loss.was stood in
+        let byte : ℕ = get_or key (length (prefix_of loss.was)) 0 in
+        let held : map.get (children_of loss.was) byte ≡ Some (Value h.value) = subst (λ p. map.get (children_of loss.was) (get_or key (length p) 0) ≡ Some (Value h.value)) pl (held_is s key at loss.was stood h) in
+        let last : byte ≡ loss.last = elim (same_or_not byte loss.last) [
           | inl e ↦ e
-          | inr ne ↦ absurd (let z : Some (Value h.value) ≡ None = sym held ∙ (ap (λ m. map.get m byte) k.lone.children ∙ (insert_beside map.empty k.last (Value v) byte ne ∙ map.get-empty _ byte)) in cc)
+          | inr ne ↦ absurd (let z : Some (Value h.value) ≡ None = sym held ∙ (ap (λ m. map.get m byte) loss.lone.children ∙ (insert_beside map.empty loss.last (Value v) byte ne ∙ map.get-empty _ byte)) in cc)
         ] in
-        let value : map.get (children_of k.was) byte ≡ Some (Value v) = ap (map.get (children_of k.was)) last ∙ (ap (λ m. map.get m k.last) k.lone.children ∙ insert_at map.empty k.last (Value v)) in
-        let one : map.len (children_of k.was) ≡ 1 = ap map.len k.lone.children ∙ len_one k.last (Value v) in
-        let D : ℕ → Type 0 = λ z. Differs n.0 k.node z None in
-        let bn : up ≡ get_or key (length (prefix_of n.0)) 0 = bu ∙ ap (λ p. get_or key (length p) 0) (prefix_at s above n.0 n.1) in
+        let value : map.get (children_of loss.was) byte ≡ Some (Value v) = ap (map.get (children_of loss.was)) last ∙ (ap (λ m. map.get m loss.last) loss.lone.children ∙ insert_at map.empty loss.last (Value v)) in
+        let one : map.len (children_of loss.was) ≡ 1 = ap map.len loss.lone.children ∙ len_one loss.last (Value v) in
+        let D : ℕ → Type 0 = λ z. Differs upper.0 loss.node z None in
+        let bn : up ≡ get_or key (length (prefix_of upper.0)) 0 = bu ∙ ap (λ p. get_or key (length p) 0) (prefix_at s above upper.0 upper.1) in
         let drops : DropsLeaf s s' key above at v = record {
-          before = n.0;
-          after = k.node;
-          last = k.was;
-          was = n.1;
-          now = k.now;
-          differs = subst D bn (differs_remove n.0 k.node up k.becomes);
+          before = upper.0;
+          after = loss.node;
+          last = loss.was;
+          was = upper.1;
+          now = loss.now;
+          differs = subst D bn (differs_remove upper.0 loss.node up loss.becomes);
           stood = stood;
           value = value;
-          beside = λ q nq. single (children_of k.was) byte (Value v) q one value nq;
-          left = subst (λ z. get s' z ≡ None) is_at k.left;
-          others = λ m nm na. k.others m nm (λ e. na (e ∙ is_at));
+          beside = λ q nq. single (children_of loss.was) byte (Value v) q one value nq;
+          left = subst (λ z. get s' z ≡ None) is_at loss.left;
+          others = λ m nm na. loss.others m nm (λ e. na (e ∙ is_at));
         } in
-        let two = bytes_two s s' above k.leaf (λ e. above_apart s t key above at hangs (e ∙ is_at)) k.others in
-        let a : bytes_at (get s above) ≡ size_of (form_of n.0) = ap bytes_at n.1 in
-        let b : bytes_at (get s k.leaf) ≡ 64 = ap bytes_at k.stood ∙ ap size_of k.lone.form in
-        let c : bytes_at (get s' above) ≡ size_of (form_of n.0) = ap bytes_at k.now ∙ ap size_of k.becomes.form in
-        let d : bytes_at (get s' k.leaf) ≡ 0 = ap bytes_at k.left in
-        let size : size_by (heap_of s at).capacity ≡ 64 = ap (λ o. size_by (node_of o).capacity) stood ∙ (sized k.was ∙ ap size_of k.lone.form) in (
+        let two = bytes_two s s' above loss.leaf (λ e. above_apart s t key above at hangs (e ∙ is_at)) loss.others in
+        let a : bytes_at (get s above) ≡ size_of (form_of upper.0) = ap bytes_at upper.1 in
+        let b : bytes_at (get s loss.leaf) ≡ 64 = ap bytes_at loss.stood ∙ ap size_of loss.lone.form in
+        let c : bytes_at (get s' above) ≡ size_of (form_of upper.0) = ap bytes_at loss.now ∙ ap size_of loss.becomes.form in
+        let d : bytes_at (get s' loss.leaf) ≡ 0 = ap bytes_at loss.left in
+        let size : size_by (heap_of s at).capacity ≡ 64 = ap (λ o. size_by (node_of o).capacity) stood ∙ (sized loss.was ∙ ap size_of loss.lone.form) in (
           drop_leaf_done s s' key above at v len t w hangs seven drops,
           omega (arith, two, a, b, c, d, size),
         )
@@ -363,15 +363,15 @@ module _ {P : Type 0} where
   -- a leaf of the least form with one child has a value there
   pub has_one : (s : Nodes P) → IsTree s → (n : ℕ) (y : Form ℕ P) → get s n ≡ Some y → form_of y ≡ N4 → length (prefix_of y) ≡ 7 → map.len (children_of y) ≡ 1
       → ((b : ℕ) → IsSome (map.get (children_of y) b) → b < 256) → HasOne y
-  has_one s t n y e form seven one low = of pair.1.0 refl
+  has_one s t n y e form seven one low = of pair.1 refl
     where
       pair : (k : ℕ) × (x : Child ℕ P) × (children_of y ≡ map.insert map.empty k x)
       pair = only_pair (children_of y) one
 
-      there : map.get (children_of y) pair.0 ≡ Some pair.1.0
-      there = ap (λ m. map.get m pair.0) pair.1.1 ∙ insert_at map.empty pair.0 pair.1.0
+      there : map.get (children_of y) pair.0 ≡ Some pair.1
+      there = ap (λ m. map.get m pair.0) pair.2 ∙ insert_at map.empty pair.0 pair.1
 
-      no_node : (c : ℕ) → hung_in (Some pair.1.0) ≡ Below c → ⊥
+      no_node : (c : ℕ) → hung_in (Some pair.1) ≡ Below c → ⊥
       no_node c q =
           let st : ContainsKey s n = stands_at s n y e in
           let h : (heap_of s n).children pair.0 ≡ Below c = ap (λ o. (node_of o).children pair.0) e ∙ (ap hung_in there ∙ q) in
@@ -380,14 +380,14 @@ module _ {P : Type 0} where
           let p : length (heap_of s n).prefix ≡ 7 = ap (λ o. length (node_of o).prefix) e ∙ seven in
           omega (arith, i.longer, l, p)
 
-      of : (x : Child ℕ P) → pair.1.0 ≡ x → HasOne y
+      of : (x : Child ℕ P) → pair.1 ≡ x → HasOne y
       of Blank q = absurd (no_node 0 (ap (λ z. hung_in (Some z)) q))
       of (Sub c) q = absurd (no_node c (ap (λ z. hung_in (Some z)) q))
       of (Value v) q = record {
         last = pair.0;
         value = v;
         low = low pair.0 (subst IsSome (sym there) (search rules));
-        lone = record { form = form; prefix = seven; children = pair.1.1 ∙ ap (map.insert map.empty pair.0) q };
+        lone = record { form = form; prefix = seven; children = pair.2 ∙ ap (map.insert map.empty pair.0) q };
       }
 
 -- so many of a list's first elements are no more
@@ -522,3 +522,13 @@ module _ {P : Type 0} where
 pub never_denied : {P A : Type 0} (charged limit : A → ℕ) (old new : Arena P A) (key : List ℕ) (v : P) (wants : List ℕ) (refusal : OOMError × P)
     → wants ≡ [] → Denies charged limit old new key v (Some wants) refusal → ⊥
 never_denied charged limit old new key v wants refusal e d = subst (λ w. IsRefused (Some w) (charged old.allocator) (limit old.allocator) refusal.0) e d.cause
+
+-- what an outcome tells, told on
+pub adds_in : {T E : Type 0} {A B : Type 0} (r : Result T E) → (A → B) → OnOk r A → OnOk r B
+adds_in (Ok x) f a = f a
+adds_in (Err e) f a = a
+
+-- an error that can't be is none, and tells anything
+pub never_in : {T E : Type 0} {A B : E → Type 0} (r : Result T E) → ((e : E) → A e → ⊥) → IfErr r A → IfErr r B
+never_in (Ok x) f a = a
+never_in (Err e) f a = absurd (f e a)
