@@ -41,7 +41,6 @@ pub(crate) const N256_SIZE: u64 = 2104;
 
 impl NodeType {
     /// How many children a node of this form can have.
-    #[tactic(auto, using(crate::proofs::lemmas::owned::Folding::uses))]
     pub fn capacity(self) -> usize
         ensures { result ≡ capacity_of self }
     {

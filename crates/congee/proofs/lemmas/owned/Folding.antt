@@ -102,6 +102,3 @@ module _ {P : Type 0} where
           others = λ m ma ml mn. h.others m ma mn ∙ (gone.others m ml ∙ same m ml);
         };
       }
-
-pub uses : (n : ℕ) → n ≡ n
-uses n = refl

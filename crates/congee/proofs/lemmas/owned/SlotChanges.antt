@@ -138,6 +138,3 @@ module _ {P : Type 0} (s : Slab (Slot (Lone P) P)) (i : ℕ) (n n' : Node ℕ (L
       | inr ne ↦ subst HasKind (sym (updates.others j ne)) (k.kinds j)
     ];
   }
-
-pub uses : (n : ℕ) → n ≡ n
-uses n = refl

@@ -292,6 +292,3 @@ least_absent n b e = ap (λ m. map.get m b) e ∙ map.get-empty _ b
 
 pub least_room : {P : Type 0} (n : Node ℕ P) → form_of n ≡ N4 → children_of n ≡ map.empty → is_full_of n ≡ false
 least_room n f e = full_is n ∙ (ap (λ t. full_at t (map.len (children_of n))) f ∙ ap (full_at N4) (ap map.len e ∙ map.len-empty nat_cmp _))
-
-pub uses : (n : ℕ) → n ≡ n
-uses n = refl

@@ -208,6 +208,3 @@ module _ {P : Type 0} (s : Slab (Slot (Lone P) P)) (v : Nodes P) (is : nodes_in 
             };
             updates = at_name y k a.node a.is;
           }
-
-pub uses : (n : ℕ) → n ≡ n
-uses n = refl

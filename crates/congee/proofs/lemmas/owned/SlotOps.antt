@@ -358,6 +358,3 @@ module _ {P : Type 0} (s : Slab (Slot (Lone P) P)) (v : Nodes P) (is : nodes_in 
         let a = inner_after x x' k.node (λ m. map.remove m b) (kept y k) ib in
         let here : map.get (children_of k.node) b ≡ Some (Value t.lone) = sym (ap (λ w. inner_get w b) (kept y k)) ∙ t.here in
         subst (λ z. LosesLeaf v (nodes_in (with_value s i z)) at y b value) (sym a.is) (loses_leaf s v is at i b y k low a.node a.becomes t.lone value ev here (has y h))
-
-pub uses : (n : ℕ) → n ≡ n
-uses n = refl

@@ -17,7 +17,6 @@ use Rattle.congee.specs.declared.owned.nodes.Lone.{Lone}
 use Rattle.congee.specs.declared.owned.nodes.Slot.{Slot}
 use Rattle.congee.specs.declared.owned.nodes.Slot.TheVariants.{Inner, Leaf}
 use Rattle.congee.proofs.lemmas.Tree.{same_or_not}
-use Rattle.congee.proofs.lemmas.owned.SlotLens as lens
 use Rattle.congee.proofs.lemmas.forms.MappedLemmas.{len_mapped}
 
 none_past : {X : Type 0} (xs : List (Option X)) (n : ℕ) → length xs ≤ n → get_or xs n None ≡ None
@@ -97,6 +96,3 @@ module _ {P Q : Type 0} (f : ℕ → Child ℕ P → Child ℕ Q) where
     prefix = with_prefix n' ∙ (b.prefix ∙ sym (with_prefix n));
     children = with_mapped n' ∙ ap (mapped f) b.children;
   }
-
-pub uses : (n : ℕ) → n ≡ n
-uses n = refl
