@@ -19,7 +19,12 @@ pub trait Stored: Small {
     ghost use Rattle.congee.specs.contracts.owned.nodes.Lone.{the_row as lone_row};
     ghost use Rattle.congee.specs.contracts.owned.nodes.Slot.{the_row as slot_row};
 
+    ghost use Rattle.congee.specs.contracts.forms.base_node.Node.{the_row as node_row};
+    ghost use Rattle.std.specs.Borrow.{usize as word};
+
     ghost lone_small: { IsSmall (layout (lone_row Self.row)) };
+
+    ghost leaf_fits: { FitsInMemory (node_row word Self.row) };
 
     ghost fits: { FitsInMemory (slot_row (lone_row Self.row) Self.row) };
 }
@@ -126,6 +131,8 @@ impl Stored for u64 {
     ghost use Rattle.std.proofs.Common.{rules};
 
     ghost lone_small = { Prim.search rules };
+
+    ghost leaf_fits = { Prim.search rules };
 
     ghost fits = { Prim.search rules };
 }

@@ -38,6 +38,8 @@ impl<V: Drop> Stored for ArcPayload<V> {
 
     ghost lone_small = { Prim.search rules };
 
+    ghost leaf_fits = { Prim.search rules };
+
     ghost fits = { Prim.search rules };
 }
 

@@ -33,7 +33,7 @@ same_least (N256 n) y e f p c = absurd (cc)
 
 -- taken out and put in
 pub put_again : {X : Type 0} (m : map.FinMap nat_cmp X) (b : ℕ) (x : X) → map.insert (map.remove m b) b x ≡ map.insert m b x
-put_again m b x = same_answers _ _ (λ q. elim (same_or_not q b) [
+put_again m b x = same_answers {X = ℕ} {Y = ℕ} (λ k y. y) _ _ (λ q. elim (same_or_not q b) [
   | inl e ↦ (let Q : ℕ → Type 0 = λ k. map.get (map.insert (map.remove m b) b x) k ≡ map.get (map.insert m b x) k in
       subst Q (sym e) (insert_at (map.remove m b) b x ∙ sym (insert_at m b x)))
   | inr ne ↦ insert_beside (map.remove m b) b x q ne ∙ (remove_beside m b q ne ∙ sym (insert_beside m b x q ne))
@@ -42,8 +42,8 @@ put_again m b x = same_answers _ _ (λ q. elim (same_or_not q b) [
 module _ {P : Type 0} where
   -- a leaf's only value, by what it answers
   pub one_child : (m : map.FinMap nat_cmp (Child ℕ P)) (k : ℕ) (c : Child ℕ P) → map.get m k ≡ Some c → ((b : ℕ) → b ≢ k → map.get m b ≡ None) → m ≡ map.insert map.empty k c
-  one_child m k c e ne = same_answers _ _ (λ q. elim (same_or_not q k) [
-    | inl w ↦ (let Q : ℕ → Type 0 = λ z. map.get m z ≡ map.get (map.insert map.empty k c) z in subst Q (sym w) (e ∙ sym (insert_at map.empty k c)))
+  one_child m k c e ne = same_answers {X = ℕ} {Y = ℕ} (λ k y. y) _ _ (λ q. elim (same_or_not q k) [
+    | inl w ↦ (let Q : ℕ → Type 0 = λ z. map.get m z ≡ map.get (map.insert {R = nat_cmp} map.empty k c) z in subst Q (sym w) (e ∙ sym (insert_at map.empty k c)))
     | inr w ↦ ne q w ∙ sym (insert_beside map.empty k c q w ∙ map.get-empty _ q)
   ])
 

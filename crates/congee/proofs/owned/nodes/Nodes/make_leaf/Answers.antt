@@ -7,6 +7,12 @@ use Rattle.congee.proofs.lemmas.owned.SlotComes.{leaf_comes_stored, leaf_comes_m
 use Rattle.congee.proofs.lemmas.owned.SlotOps.{spare_room, same_view_room}
 use Rattle.congee.proofs.owned.nodes.Nodes.make_leaf.Goals as goal
 
+pub insert-requires : goal.insert-requires
+insert-requires g c = (
+  g.met.P.Stored.leaf_fits,
+  (least_absent c.least-leaf.result (get_or c.args.key.now 7 0) c.least-leaf.ensures.children, least_room c.least-leaf.result c.least-leaf.ensures.form c.least-leaf.ensures.children),
+)
+
 pub insert_reserved-requires : goal.insert_reserved-requires
 insert_reserved-requires g c = let r = spare_room c.self.inside.slab c.args.self.now c.self.view_is c.self.inside.inline c.self.invariant 1 c.requires.room in omega (arith, r)
 
