@@ -529,6 +529,6 @@ adds_in (Ok x) f a = f a
 adds_in (Err e) f a = a
 
 -- an error that can't be is none, and tells anything
-pub never_in : {T E : Type 0} {A B : E → Type 0} (r : Result T E) → ((e : E) → A e → ⊥) → IfErr r A → IfErr r B
-never_in (Ok x) f a = a
-never_in (Err e) f a = absurd (f e a)
+pub never_in : {T E : Type 0} (A B : E → Type 0) (r : Result T E) → ((e : E) → A e → ⊥) → IfErr r A → IfErr r B
+never_in A B (Ok x) f a = a
+never_in A B (Err e) f a = absurd (f e a)

@@ -46,4 +46,4 @@ returns-clause-refused g c =
     let u = unfolded c.args.self.now.nodes c.unfold-leaf.new.self c.args.key.now c.args.above c.args.at c.byte_at-up.result c.unfold-leaf.result c.requires.tree c.requires.hangs.way c.requires.hangs.child c.byte_at-up.ensures c.unfold-leaf.ensures.renames in
     let n = node_at c.unfold-leaf.new.self c.unfold-leaf.result u.stands in
     let room : room_for (heap_of c.unfold-leaf.new.self c.unfold-leaf.result) ≡ [] = one_room c.unfold-leaf.new.self c.unfold-leaf.result n.0 n.1 (c.unfold-leaf.ensures.lone n.0 n.1) in
-    never_in c.add_beside.result (λ e d. never_denied g.A.Allocator.charged_of g.A.Allocator.limit_of (record { nodes = c.unfold-leaf.new.self; allocator = c.args.self.now.allocator }) c.add_beside.new.self c.args.key.now c.args.value _ e room d) c.add_beside.ensures.refused
+    never_in _ _ c.add_beside.result (λ e d. never_denied g.A.Allocator.charged_of g.A.Allocator.limit_of (record { nodes = c.unfold-leaf.new.self; allocator = c.args.self.now.allocator }) c.add_beside.new.self c.args.key.now c.args.value _ e room d) c.add_beside.ensures.refused
