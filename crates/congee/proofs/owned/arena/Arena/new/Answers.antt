@@ -1,4 +1,4 @@
-use Rattle.std.proofs.Common.{ap, subst, sym, refl, ◌∙◌}
+use Rattle.std.proofs.Common.{ap, ◌∙◌}
 use Rattle.congee.proofs.lemmas.forms.MappedLemmas.{mapped_empty}
 use Rattle.congee.proofs.lemmas.owned.Clears.{RootLeft, root_left}
 use Rattle.congee.proofs.lemmas.owned.Slots.{with_form, with_mapped, with_prefix}
@@ -15,7 +15,7 @@ Left g c = RootLeft c.in-Ok-new.nodes
 left : (g : Over) (c : In-Ok-new g) → Left g c
 left g c =
     let f = inner_child 0 in
-    root_left c.in-Ok-new.nodes (with_children f c.in-Ok.root) c.in-Ok-new.ensures
+    root_left c.in-Ok-new.nodes (with_children f c.in-Ok.root) c.in-Ok-new.ensures.root
     (with_prefix f c.in-Ok.root ∙ c.in-Ok.ensures.prefix)
     (with_mapped f c.in-Ok.root ∙ (ap (mapped f) c.in-Ok.ensures.children ∙ mapped_empty f))
     (with_form f c.in-Ok.root ∙ c.in-Ok.ensures.form)
