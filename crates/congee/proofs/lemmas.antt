@@ -3,6 +3,7 @@ pub mod Graft
 pub mod Keys
 pub mod Link
 pub mod Orders
+pub mod Rename
 pub mod Split
 pub mod Tree
 pub mod Unlink

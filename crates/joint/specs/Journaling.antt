@@ -1,5 +1,5 @@
 -- What a call's entry is, when it comes into the journal, and who has a place there reserved.
-use Rattle.std.specs.Prelude.{ℕ, ◌+◌, Bool, true, false, ◌&&◌, List, [], ◌∷◌, Option, None, Some}
+use Rattle.std.specs.Prelude.{ℕ, ◌+◌, Bool, true, false, ◌&&◌, List, [], ◌∷◌, Option, None, Some, IsSome}
 use Rattle.judge.specs.declared.journal.Call.{Call as Entered}
 use Rattle.judge.specs.declared.journal.Call.TheVariants as call
 use Rattle.judge.specs.declared.journal.Entry.{Entry}
@@ -107,6 +107,13 @@ call_of (ComputePresent k) answer r = on_present k answer r
 call_of (ComputeInsert k) answer r = on_insert k (given_by answer)
 call_of (Exchange k old new) answer r = Some (call.Exchange k old new)
 call_of _ answer r = None
+
+-- a call on a computed value has an answer of its closure; one on a present key alone needs none where the key was absent
+abbrev pub HasAnswer : {V : Type 0} → Op V → Option (Option V) → Reply V → Type 0
+HasAnswer (ComputePresent k) answer (reply.ComputePresent None) = Unit {0}
+HasAnswer (ComputePresent k) answer r = IsSome answer
+HasAnswer (ComputeInsert k) answer r = IsSome answer
+HasAnswer _ answer r = Unit {0}
 
 abbrev pub with_call : {V : Type 0} → ℕ → Reply V → Option (Entered V) → Option (Entry V)
 with_call who r None = None

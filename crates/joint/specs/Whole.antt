@@ -1,5 +1,5 @@
 -- The whole machine: what always holds of it, and one step of it with what it writes down.
-use Rattle.std.specs.Prelude.{◌≡◌, ℕ, ◌+◌, ◌<◌, ◌≤◌, ◌&&◌, ◌++◌, Bool, true, false, List, Option, None, Some, is_some, length, slice_get, slice_set, if◌then◌else◌}
+use Rattle.std.specs.Prelude.{◌≡◌, ℕ, ◌+◌, ◌<◌, ◌≤◌, ◌&&◌, ◌++◌, Bool, true, false, List, Option, None, Some, IsSome, is_some, length, slice_get, slice_set, if◌then◌else◌}
 use Rattle.std.specs.FinMap.{empty}
 use Rattle.judge.specs.Answer.{Pairs}
 use Rattle.judge.specs.Journal.{Legal}
@@ -8,7 +8,7 @@ use Rattle.congee.specs.declared.protocol.op.Op.{Op as Point}
 use Rattle.congee.specs.declared.protocol.op.Op.TheVariants as point
 use Rattle.congee.specs.declared.protocol.phase.Kind.{Kind}
 use Rattle.congee.specs.Keys.{IsMapOf}
-use Rattle.congee.specs.protocol.Play.{Flight, Pending, Question, Asked, parts}
+use Rattle.congee.specs.protocol.Play.{Flight, Pending, Question, Asked, Replied, parts}
 use Rattle.congee.specs.protocol.Protocol.{Asking}
 use Rattle.joint.specs.declared.call.Call.TheVariants.{Idle}
 use Rattle.joint.specs.declared.refusal.Refusal.TheVariants.{JournalFull}
@@ -53,14 +53,15 @@ pub record IsRequestOf {V : Type 0} (q : Request V) (k : ℕ) (kind : Kind V) (v
   pub same_kind : (parts point).1 ≡ kind
   pub value : value_of q.op q.answer ≡ v
 
--- a call on a computed value alone asks
-abbrev pub IsQuestionOf : {V : Type 0} → Kind V → Question V → Type 0
-IsQuestionOf kind (Asked found) = Asking kind
-IsQuestionOf kind _ = Unit {0}
+-- a call on a computed value alone asks, and a question that was replied to has its answer
+abbrev pub IsQuestionOf : {V : Type 0} → Kind V → Question V → Option (Option V) → Type 0
+IsQuestionOf kind (Asked found) answer = Asking kind
+IsQuestionOf kind (Replied found) answer = IsSome answer
+IsQuestionOf kind _ answer = Unit {0}
 
 -- a request is written down until its call takes effect
 abbrev pub IsAsked : {V : Type 0} → Option (Request V) → Flight V → Type 0
-IsAsked {V} o (Pending k kind v question) = (q : Request V) × (o ≡ Some q) × IsRequestOf q k kind v × IsQuestionOf kind question
+IsAsked {V} o (Pending k kind v question) = (q : Request V) × (o ≡ Some q) × IsRequestOf q k kind v × IsQuestionOf kind question q.answer
 IsAsked o _ = Unit {0}
 
 -- what is written down fits the calls in flight and the pairs that stand

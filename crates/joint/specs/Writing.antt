@@ -1,6 +1,5 @@
 -- Calls on an index with a journal, turn by turn: each holds the lock, and goes on only while it is itself in flight.
 use Rattle.std.specs.Prelude.{◌≡◌, ◌⊎◌, ℕ, ◌-◌, ◌<◌, ◌++◌, Bool, true, false, not, nat_eq, List, [], ◌∷◌, Option, None, Some, Result, Ok, Err, slice_get}
-use Rattle.judge.specs.declared.journal.Call.{Call as Entered}
 use Rattle.judge.specs.declared.journal.Entry.{Entry}
 use Rattle.judge.specs.Answer.{reply_on}
 use Rattle.joint.specs.declared.refusal.Refusal.{Refusal}
@@ -16,7 +15,7 @@ use Rattle.joint.specs.declared.steps.Step.{Step}
 use Rattle.joint.specs.Asked.{changes}
 use Rattle.joint.specs.Driving.{AreTurns, Turn, ended}
 use Rattle.joint.specs.Journals.{IsCounted}
-use Rattle.joint.specs.Journaling.{asks_at, call_of, has_place, in_list, one_where}
+use Rattle.joint.specs.Journaling.{HasAnswer, asks_at, call_of, has_place, in_list, one_where}
 use Rattle.joint.specs.Log.{hears, request_at}
 use Rattle.joint.specs.Runs.{looks_up}
 use Rattle.joint.specs.Shares.{Tally, counts_more}
@@ -47,6 +46,7 @@ given_by_turns op given (t ∷ ts) = given_by_turns op (given_after op given t.s
 pub record IsEntryOf (who : ℕ) (op : Op ℕ) (given : Option (Option ℕ)) (e : Entry ℕ) : Type 0 where
   pub worker : e.worker ≡ who
   pub call : call_of op given e.reply ≡ Some e.call
+  pub answered : HasAnswer op given e.reply
 
 -- a call ends with its entry's reply, and is idle where it has none
 abbrev pub settled : Option (Entry ℕ) → Outcome ℕ

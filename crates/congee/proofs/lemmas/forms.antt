@@ -9,6 +9,7 @@ pub mod Grown
 pub mod IndexLemmas
 pub mod PackedPrefixes
 pub mod MapLemmas
+pub mod MappedLemmas
 pub mod MaskLemmas
 pub mod MoveLemmas
 pub mod OffsetLemmas

@@ -6,7 +6,7 @@ use Rattle.congee.specs.owned.Changes.{MapChange}
 use Rattle.congee.specs.owned.Charge.{Balances, KeepsLimit}
 use Rattle.congee.specs.owned.OwnedSteps.{SameNodes}
 use Rattle.congee.specs.owned.Sizes.{bytes_of}
-use Rattle.congee.specs.owned.Wanted.{IsRefused, gain_of}
+use Rattle.congee.specs.owned.Wanted.{IsRefused, gain_of, size_by}
 use Rattle.congee.specs.declared.allocator.OOMError.{OOMError}
 use Rattle.congee.specs.declared.owned.arena.Arena.{Arena}
 
@@ -43,3 +43,10 @@ module _ {P A : Type 0} where
   pub record Frees (charged limit : A → ℕ) (old new : Arena P A) (key : List ℕ) (before after : Option P) (freed : ℕ) : Type 0 where
     pub edits : Edits charged limit old new key before after
     pub bytes : bytes_of new.nodes + freed ≡ bytes_of old.nodes
+
+  -- the leaf at a name goes with its only value, the key's; the budget isn't touched yet
+  pub record Drops (old new : Arena P A) (key : List ℕ) (at : ℕ) (value : P) : Type 0 where
+    pub tree : IsTree new.nodes
+    pub change : MapChange old.nodes new.nodes key (Some value) None
+    pub bytes : bytes_of new.nodes + size_by (heap_of old.nodes at).capacity ≡ bytes_of old.nodes
+    pub allocator : new.allocator ≡ old.allocator

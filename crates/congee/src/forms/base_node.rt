@@ -89,6 +89,8 @@ pub enum Node<C: Small, P: Boxed<C>> {
 }
 
 impl<C: Small, P: Small> Node<C, P> {
+    ghost use Rattle.congee.specs.declared.forms.base_node.NodeType.TheVariants.{N4 as T4};
+
     /// An empty node with a prefix of at most seven bytes. `N4` asks for no memory.
     pub fn new(alloc: Global, form: NodeType, prefix: &[u8]) -> Result<Self, AllocError>
         requires fits { length prefix.now ≤ MAX_PREFIX_LEN }
@@ -126,7 +128,21 @@ impl<C: Small, P: Small> Node<C, P> {
         })
     }
 
+    /// An empty node of the least form, with a prefix of at most seven bytes.
+    pub(crate) fn least(prefix: &[u8]) -> Self
+        requires fits { length prefix.now ≤ MAX_PREFIX_LEN }
+        ensures form { form_of result ≡ T4 }
+        ensures prefix { prefix_of result ≡ prefix.now }
+        ensures children { children_of result ≡ map.empty }
+    {
+        Node::N4(Node4 {
+            prefix: Prefix::new(prefix),
+            children: Sorted::new(),
+        })
+    }
+
     /// The form.
+    #[inline(always)]
     pub fn node_type(&self) -> NodeType
         ensures { result ≡ form_of self.now }
     {
@@ -146,6 +162,7 @@ impl<C: Small, P: Small> Node<C, P> {
     }
 
     /// The first bytes of every key below the node.
+    #[inline(always)]
     pub fn prefix(&self) -> &[u8]
         ensures bytes { result.now ≡ prefix_of self.now }
         ensures fits { length result.now ≤ MAX_PREFIX_LEN }
@@ -159,6 +176,7 @@ impl<C: Small, P: Small> Node<C, P> {
     }
 
     /// Whether its prefix is the beginning of the key.
+    #[inline(always)]
     pub(crate) fn is_prefix_of(&self, key: &[u8; KEY_BYTES]) -> bool
         ensures { result ≡ fits (prefix_of self.now) key.now }
     {
@@ -171,6 +189,7 @@ impl<C: Small, P: Small> Node<C, P> {
     }
 
     /// How many children there are.
+    #[inline(always)]
     pub fn len(&self) -> usize
         ensures count { result ≡ map.len (children_of self.now) }
         ensures fits { result ≤ capacity_of (form_of self.now) }
@@ -185,6 +204,7 @@ impl<C: Small, P: Small> Node<C, P> {
     }
 
     /// Whether no further child fits. A node of 256 is never full.
+    #[inline(always)]
     pub fn is_full(&self) -> bool
         ensures { result ≡ is_full_of self.now }
     {
@@ -197,6 +217,7 @@ impl<C: Small, P: Small> Node<C, P> {
     }
 
     /// The child of a byte.
+    #[inline(always)]
     pub fn get_child(&self, byte: u8) -> Option<&Child<C, P>>
         ensures { option_copied result ≡ map.get (children_of self.now) byte }
     {
@@ -209,6 +230,7 @@ impl<C: Small, P: Small> Node<C, P> {
     }
 
     /// The child of the least byte from `from` on.
+    #[inline(always)]
     pub fn first_from(&self, from: usize) -> Option<(u8, &Child<C, P>)>
         ensures { MatchOption result ((b : ℕ) → from ≤ b → map.get (children_of self.now) b ≡ None)
             (λ r. IsFirst (children_of self.now) from r.0 r.1.now) }
@@ -250,6 +272,7 @@ impl<C: Small, P: Small> Node<C, P> {
     }
 
     /// Adds a child under a byte that has none, to a node that is not full.
+    #[inline(always)]
     pub fn insert(&mut self, byte: u8, child: Child<C, P>)
         requires absent { map.get (children_of self.old) byte ≡ None }
         requires room { is_full_of self.old ≡ false }
@@ -264,6 +287,7 @@ impl<C: Small, P: Small> Node<C, P> {
     }
 
     /// Puts another child under a byte that has one, and gives the one before.
+    #[inline(always)]
     pub fn change(&mut self, byte: u8, child: Child<C, P>) -> Child<C, P>
         requires present { IsSome (map.get (children_of self.old) byte) }
         ensures before { map.get (children_of self.old) byte ≡ Some result }
@@ -278,6 +302,7 @@ impl<C: Small, P: Small> Node<C, P> {
     }
 
     /// Takes out the child of a byte that has one.
+    #[inline(always)]
     pub fn remove(&mut self, byte: u8) -> Child<C, P>
         requires present { IsSome (map.get (children_of self.old) byte) }
         ensures before { map.get (children_of self.old) byte ≡ Some result }

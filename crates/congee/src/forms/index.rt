@@ -50,6 +50,7 @@ impl Index {
     }
 
     /// The least byte from `from` on that has a place.
+    #[inline(always)]
     pub(crate) fn first_from(&self, from: usize) -> Option<u8>
         ensures { MatchOption result ((b : ℕ) → from ≤ b → b < 256 → place_of self.now b ≡ 48)
             (λ r. (from ≤ r) × (place_of self.now r ≢ 48) × ((b : ℕ) → from ≤ b → b < r → place_of self.now b ≡ 48)) }

@@ -34,6 +34,7 @@ impl<X> Model for Indexed<X> {
 
 impl<X> Indexed<X> {
     /// How many children there are.
+    #[inline(always)]
     pub(crate) fn len(&self) -> usize
         ensures count { result ≡ map.len self.now }
         ensures fits { result ≤ 48 }
@@ -43,6 +44,7 @@ impl<X> Indexed<X> {
     }
 
     /// The child of a byte.
+    #[inline(always)]
     pub(crate) fn get_child(&self, byte: u8) -> Option<&X>
         ensures { option_copied result ≡ map.get self.now byte }
     {
@@ -54,6 +56,7 @@ impl<X> Indexed<X> {
     }
 
     /// The child of the least byte from `from` on.
+    #[inline(always)]
     pub(crate) fn first_from(&self, from: usize) -> Option<(u8, &X)>
         ensures { MatchOption result ((b : ℕ) → from ≤ b → map.get self.now b ≡ None)
             (λ r. IsFirst self.now from r.0 r.1.now) }
@@ -84,6 +87,7 @@ impl<X: Default + Drop> Indexed<X> {
     }
 
     /// Adds a child under a byte that has none.
+    #[inline(always)]
     pub(crate) fn insert(&mut self, byte: u8, child: X)
         requires absent { map.get self.old byte ≡ None }
         requires room { map.len self.old ≢ 48 }
@@ -94,6 +98,7 @@ impl<X: Default + Drop> Indexed<X> {
     }
 
     /// Puts another child under a byte, and gives the one before.
+    #[inline(always)]
     pub(crate) fn change(&mut self, byte: u8, child: X) -> X
         requires present { IsSome (map.get self.old byte) }
         ensures before { map.get self.old byte ≡ Some result }
@@ -104,6 +109,7 @@ impl<X: Default + Drop> Indexed<X> {
     }
 
     /// Takes out the child of a byte.
+    #[inline(always)]
     pub(crate) fn remove(&mut self, byte: u8) -> X
         requires present { IsSome (map.get self.old byte) }
         ensures before { map.get self.old byte ≡ Some result }

@@ -40,6 +40,7 @@ impl Mask {
     }
 
     /// The least byte from `from` on whose bit is set.
+    #[inline(always)]
     fn first_from(&self, from: usize) -> Option<u8>
         ensures { MatchOption result ((b : ℕ) → from ≤ b → b < 256 → bit_of self.now.bytes b ≡ 0)
             (λ r. (from ≤ r) × (bit_of self.now.bytes r ≡ 1) × ((b : ℕ) → from ≤ b → b < r → bit_of self.now.bytes b ≡ 0)) }
@@ -82,6 +83,7 @@ impl<X> Model for Masked<X> {
 
 impl<X> Masked<X> {
     /// How many children there are.
+    #[inline(always)]
     pub(crate) fn len(&self) -> usize
         ensures count { result ≡ map.len self.now }
         ensures fits { result ≤ 256 }
@@ -91,6 +93,7 @@ impl<X> Masked<X> {
     }
 
     /// The child of a byte.
+    #[inline(always)]
     pub(crate) fn get_child(&self, byte: u8) -> Option<&X>
         ensures { option_copied result ≡ map.get self.now byte }
     {
@@ -102,6 +105,7 @@ impl<X> Masked<X> {
     }
 
     /// The child of the least byte from `from` on.
+    #[inline(always)]
     pub(crate) fn first_from(&self, from: usize) -> Option<(u8, &X)>
         ensures { MatchOption result ((b : ℕ) → from ≤ b → map.get self.now b ≡ None)
             (λ r. IsFirst self.now from r.0 r.1.now) }
@@ -130,6 +134,7 @@ impl<X: Default + Drop> Masked<X> {
     }
 
     /// Adds a child under a byte that has none.
+    #[inline(always)]
     pub(crate) fn insert(&mut self, byte: u8, child: X)
         requires absent { map.get self.old byte ≡ None }
         ensures { self.new ≡ map.insert self.old byte child }
@@ -140,6 +145,7 @@ impl<X: Default + Drop> Masked<X> {
     }
 
     /// Puts another child under a byte, and gives the one before.
+    #[inline(always)]
     pub(crate) fn change(&mut self, byte: u8, child: X) -> X
         requires present { IsSome (map.get self.old byte) }
         ensures before { map.get self.old byte ≡ Some result }
@@ -149,6 +155,7 @@ impl<X: Default + Drop> Masked<X> {
     }
 
     /// Takes out the child of a byte.
+    #[inline(always)]
     pub(crate) fn remove(&mut self, byte: u8) -> X
         requires present { IsSome (map.get self.old byte) }
         ensures before { map.get self.old byte ≡ Some result }

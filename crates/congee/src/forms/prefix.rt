@@ -44,6 +44,7 @@ impl Prefix {
     }
 
     /// How many bytes it has.
+    #[inline(always)]
     pub(crate) fn len(&self) -> usize
         ensures count { result ≡ length self.now }
         ensures fits { result ≤ MAX_PREFIX_LEN }
@@ -60,6 +61,7 @@ impl Prefix {
     }
 
     /// Whether it is the beginning of the key.
+    #[inline(always)]
     pub(crate) fn is_prefix_of(&self, key: &[u8; KEY_BYTES]) -> bool
         ensures { result ≡ fits self.now key.now }
     {

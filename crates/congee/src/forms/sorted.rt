@@ -48,6 +48,7 @@ fn place_of<const N: usize>(keys: &ArrayVec<u8, N>, byte: usize) -> usize
 
 impl<X, const N: usize> Sorted<X, N> {
     /// How many children there are.
+    #[inline(always)]
     pub(crate) fn len(&self) -> usize
         ensures count { result ≡ map.len self.now }
         ensures fits { result ≤ N }
@@ -57,6 +58,7 @@ impl<X, const N: usize> Sorted<X, N> {
     }
 
     /// The child of a byte.
+    #[inline(always)]
     pub(crate) fn get_child(&self, byte: u8) -> Option<&X>
         ensures { option_copied result ≡ map.get self.now byte }
     {
@@ -68,6 +70,7 @@ impl<X, const N: usize> Sorted<X, N> {
     }
 
     /// The child of the least byte from `from` on.
+    #[inline(always)]
     pub(crate) fn first_from(&self, from: usize) -> Option<(u8, &X)>
         ensures { MatchOption result ((b : ℕ) → from ≤ b → map.get self.now b ≡ None)
             (λ r. IsFirst self.now from r.0 r.1.now) }
@@ -95,6 +98,7 @@ impl<X: Default + Drop, const N: usize> Sorted<X, N> {
     }
 
     /// Adds a child under a byte that has none.
+    #[inline(always)]
     pub(crate) fn insert(&mut self, byte: u8, child: X)
         requires absent { map.get self.old byte ≡ None }
         requires room { map.len self.old ≢ N }
@@ -106,6 +110,7 @@ impl<X: Default + Drop, const N: usize> Sorted<X, N> {
     }
 
     /// Puts another child under a byte, and gives the one before.
+    #[inline(always)]
     pub(crate) fn change(&mut self, byte: u8, child: X) -> X
         requires present { IsSome (map.get self.old byte) }
         ensures before { map.get self.old byte ≡ Some result }
@@ -116,6 +121,7 @@ impl<X: Default + Drop, const N: usize> Sorted<X, N> {
     }
 
     /// Takes out the child of a byte.
+    #[inline(always)]
     pub(crate) fn remove(&mut self, byte: u8) -> X
         requires present { IsSome (map.get self.old byte) }
         ensures before { map.get self.old byte ≡ Some result }

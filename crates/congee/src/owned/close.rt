@@ -14,22 +14,21 @@ ghost use Rattle.congee.specs.owned.Table.{pairs_of};
 ghost use Rattle.congee.specs.owned.Wanted.{WantsLeaf, wants_of};
 
 use crate::allocator::Allocator;
-use crate::forms::base_node::Node;
+use crate::forms::base_node::NodeType;
 use crate::owned::arena::{Arena, Stored};
 use crate::owned::drainer::Drainer;
+use crate::owned::nodes::Nodes;
 use crate::owned::scan::beginning;
 use judge::Word64;
-use slab::Slab;
 
-/// Takes the nodes' bytes off the budget.
-fn take_off<P: Stored, A: Allocator>(nodes: &Slab<Node<usize, P>>, allocator: &mut A)
-    requires covered { bytes_of nodes.now ≤ A.charged_of allocator.old }
-    ensures charge { A.charged_of allocator.new + bytes_of nodes.now ≡ A.charged_of allocator.old }
-    ensures limit { A.limit_of allocator.new ≡ A.limit_of allocator.old }
+/// The sum of the nodes' sizes, in bytes.
+fn bytes_charged<P: Stored, A: Allocator>(nodes: &Nodes<P>, allocator: &A) -> u64
+    requires { bytes_of nodes.now ≤ A.charged_of allocator.now }
+    ensures { result ≡ bytes_of nodes.now }
 {
-    for (_, node) in nodes.iter() {
-        allocator.deallocate(node.size());
-    }
+    // The sum is no more than the charge, so it fits.
+    let _charged = allocator.charged();
+    nodes.bytes()
 }
 
 impl<P: Stored, A: Allocator> Arena<P, A> {
@@ -45,11 +44,9 @@ impl<P: Stored, A: Allocator> Arena<P, A> {
         ensures balance { Balances A.charged_of self.old self.new }
         ensures limit { KeepsLimit A.limit_of self.old self.new }
     {
-        let mut root = self.nodes.remove(0);
-        take_off(&self.nodes, &mut self.allocator);
+        let others = bytes_charged(&self.nodes, &self.allocator) - NodeType::N256.size();
+        self.allocator.deallocate(others);
         self.nodes.clear();
-        root.clear();
-        self.nodes.insert_reserved(root);
     }
 
     /// Drops the nodes, and gives the allocator back with their bytes taken off.
@@ -62,7 +59,8 @@ impl<P: Stored, A: Allocator> Arena<P, A> {
             nodes,
             mut allocator,
         } = self;
-        take_off(&nodes, &mut allocator);
+        let bytes = bytes_charged(&nodes, &allocator);
+        allocator.deallocate(bytes);
         allocator
     }
 }

@@ -1,25 +1,35 @@
 //! The changes at the end of a key's way: a value comes in, gives place to another, or goes.
-ghost use Rattle.std.specs.Prelude.{◌≡◌, ◌≢◌, ℕ, [], ◌∷◌, length, slice_index, take, ◌<◌, ◌≤◌, Some, None, false, IfErr, OnOk};
+ghost use Rattle.std.specs.Prelude.{◌≡◌, ◌≢◌, ◌+◌, ℕ, [], ◌∷◌, length, slice_index, ◌<◌, ◌≤◌, Some, None, false, IfErr, OnOk};
 ghost use Rattle.std.specs.FinMap as map;
-ghost use Rattle.slab.specs.Slab.{get, ContainsKey};
+ghost use Rattle.slab.specs.Slab.{get, ContainsKey, HasRoomFor};
 ghost use Rattle.congee.specs.Heap.{Below, Nothing, fits, child_for};
 ghost use Rattle.congee.specs.forms.Forms.{children_of, size_of};
-ghost use Rattle.congee.specs.owned.Arena.{IsTree, OnWay, Hangs, heap_of};
+ghost use Rattle.congee.specs.owned.Arena.{IsTree, OnWay, Hangs, Reached, heap_of};
 ghost use Rattle.congee.specs.owned.Charge.{Covers};
 ghost use Rattle.congee.specs.owned.Sizes.{bytes_of};
-ghost use Rattle.congee.specs.owned.Changes.{DiffersAt};
-ghost use Rattle.congee.specs.owned.Edits.{Adds, Denies, Frees, Swaps};
-ghost use Rattle.congee.specs.owned.OwnedSteps.{FreshNode, Fills, Forks, IsHeld};
+ghost use Rattle.congee.specs.owned.Changes.{DiffersAt, MapChange};
+ghost use Rattle.congee.specs.owned.Edits.{Adds, Denies, Drops, Frees, Swaps};
+ghost use Rattle.congee.specs.owned.Naming.{HasOwnSlot};
+ghost use Rattle.congee.specs.owned.OwnedSteps.{Hosts, IsHeld};
+ghost use Rattle.congee.specs.owned.Renames.{Renamed};
 ghost use Rattle.congee.specs.owned.Wanted.{room_for, free_wants, size_by};
 ghost use Rattle.congee.specs.declared.forms.base_node.Node.{Node as Form};
 ghost use Rattle.congee.specs.declared.forms.base_node.NodeType.TheVariants.{N4};
 
 use crate::allocator::{Allocator, OOMError};
-use crate::forms::child::Child;
+use crate::forms::base_node::NodeType;
 use crate::forms::prefix::MAX_PREFIX_LEN;
 use crate::keys::KEY_BYTES;
 use crate::owned::arena::{Arena, Stored};
+use crate::owned::nodes::Name;
 use std::alloc::Global;
+
+/// A node that was hung over another, and the byte under which that one hangs in it.
+#[derive(Drop)]
+struct Fork {
+    over: Name,
+    other: u8,
+}
 
 /// The first place where a key and a prefix that it lacks differ.
 pub(crate) fn first_apart(key: &[u8; KEY_BYTES], prefix: &[u8]) -> usize
@@ -36,36 +46,35 @@ pub(crate) fn first_apart(key: &[u8; KEY_BYTES], prefix: &[u8]) -> usize
 
 impl<P: Stored, A: Allocator> Arena<P, A> {
     /// The key's byte at a node.
-    fn byte_at(&self, at: usize, key: &[u8; KEY_BYTES]) -> u8
+    #[inline(always)]
+    fn byte_at(&self, at: Name, key: &[u8; KEY_BYTES]) -> u8
         requires { ContainsKey self.now.nodes at }
         ensures { result ≡ slice_index key.now (length (heap_of self.now.nodes at).prefix) }
     {
-        key[self.nodes[at].prefix().len()]
+        key[self.nodes.prefix(at).len()]
     }
 
     /// Puts another value in the place of the key's.
-    pub(crate) fn replace(&mut self, at: usize, key: &[u8; KEY_BYTES], value: P) -> P
+    #[inline(always)]
+    pub(crate) fn replace(&mut self, at: Name, key: &[u8; KEY_BYTES], value: P) -> P
         requires tree { IsTree self.old.nodes }
         requires way { OnWay self.old.nodes key.now at }
         requires held { IsHeld self.old.nodes key.now at }
         ensures { Swaps self.old self.new key.now (Some result) (Some value) }
     {
         let byte = self.byte_at(at, key);
-        match self.swap(at, byte, Child::Value(value)) {
-            Child::Value(old) => old,
-            // The node holds the key's value at this byte.
-            _ => unreachable!(),
-        }
+        self.nodes.swap_value(at, byte, value)
     }
 
-    /// Puts a value into a leaf that has none for the key, or hands it back.
-    pub(crate) fn add_value(
+    /// Puts a value into a leaf with a slot of its own that has none for the key, or hands it back.
+    fn add_beside(
         &mut self,
         alloc: Global,
-        at: usize,
+        at: Name,
         key: &[u8; KEY_BYTES],
         value: P,
     ) -> Result<(), (OOMError, P)>
+        requires own { HasOwnSlot at }
         requires tree { IsTree self.old.nodes }
         requires way { OnWay self.old.nodes key.now at }
         requires free { child_for (heap_of self.old.nodes at) key.now ≡ Nothing }
@@ -80,25 +89,67 @@ impl<P: Stored, A: Allocator> Arena<P, A> {
             return Err((e, value));
         }
         let byte = self.byte_at(at, key);
-        self.hang(at, byte, Child::Value(value));
+        self.nodes.hang_value(at, byte, value);
         Ok(())
     }
 
-    /// Gives a node that was just made the key's value.
-    fn fill_leaf(&mut self, name: usize, key: &[u8; KEY_BYTES], value: P)
-        requires fresh { FreshNode self.old.nodes name (take MAX_PREFIX_LEN key.now) }
-        ensures fills { Fills self.old.nodes self.new.nodes name key.now value }
-        ensures bytes { bytes_of self.new.nodes ≡ bytes_of self.old.nodes }
-        ensures allocator { self.new.allocator ≡ self.old.allocator }
+    /// Puts a value into a leaf that has none for the key, or hands it back.
+    pub(crate) fn add_value(
+        &mut self,
+        alloc: Global,
+        above: Name,
+        at: Name,
+        key: &[u8; KEY_BYTES],
+        value: P,
+    ) -> Result<(), (OOMError, P)>
+        requires tree { IsTree self.old.nodes }
+        requires way { Reached self.old.nodes key.now above at }
+        requires free { child_for (heap_of self.old.nodes at) key.now ≡ Nothing }
+        requires leaf { length (heap_of self.old.nodes at).prefix ≡ MAX_PREFIX_LEN }
+        requires covered { Covers A.charged_of self.old }
+        ensures adds { OnOk result (Adds A.charged_of A.limit_of self.old self.new
+            key.now None value (Some (room_for (heap_of self.old.nodes at)))) }
+        ensures refused { IfErr result (Denies A.charged_of A.limit_of self.old self.new
+            key.now value (Some (room_for (heap_of self.old.nodes at)))) }
     {
-        self.hang(name, key[MAX_PREFIX_LEN], Child::Value(value));
+        if at.is_inline() {
+            return self.add_inline(alloc, above, at, key, value);
+        }
+        self.add_beside(alloc, at, key, value)
+    }
+
+    /// Puts a value into a leaf that lies in its parent's place. It has room for another, so this is never refused.
+    fn add_inline(
+        &mut self,
+        alloc: Global,
+        above: Name,
+        at: Name,
+        key: &[u8; KEY_BYTES],
+        value: P,
+    ) -> Result<(), (OOMError, P)>
+        requires tree { IsTree self.old.nodes }
+        requires way { OnWay self.old.nodes key.now at }
+        requires hangs { Hangs self.old.nodes key.now above at }
+        requires inline { HasOwnSlot at → ⊥ }
+        requires free { child_for (heap_of self.old.nodes at) key.now ≡ Nothing }
+        requires leaf { length (heap_of self.old.nodes at).prefix ≡ MAX_PREFIX_LEN }
+        requires covered { Covers A.charged_of self.old }
+        ensures adds { OnOk result (Adds A.charged_of A.limit_of self.old self.new
+            key.now None value (Some (room_for (heap_of self.old.nodes at)))) }
+        ensures refused { IfErr result (Denies A.charged_of A.limit_of self.old self.new
+            key.now value (Some (room_for (heap_of self.old.nodes at)))) }
+    {
+        let up = self.byte_at(above, key);
+        let leaf = self.nodes.unfold(above, up);
+        self.add_beside(alloc, leaf, key, value)
     }
 
     /// Hangs a leaf for the key below an inner node that has nothing for it, or hands the value back.
+    #[inline(always)]
     pub(crate) fn add_leaf(
         &mut self,
         alloc: Global,
-        at: usize,
+        at: Name,
         key: &[u8; KEY_BYTES],
         value: P,
     ) -> Result<(), (OOMError, P)>
@@ -112,30 +163,30 @@ impl<P: Stored, A: Allocator> Arena<P, A> {
         ensures refused { IfErr result (Denies A.charged_of A.limit_of self.old self.new
             key.now value (Some (size_of N4 ∷ room_for (heap_of self.old.nodes at)))) }
     {
-        let leaf = match self.make(alloc, &key[..MAX_PREFIX_LEN]) {
-            Ok(leaf) => leaf,
-            Err(e) => return Err((e, value)),
-        };
-        if let Err(e) = self.make_room(alloc, at) {
-            self.give_back(leaf);
+        if let Err(e) = self.ready(1) {
             return Err((e, value));
         }
-        self.fill_leaf(leaf, key, value);
+        if let Err(e) = self.make_room(alloc, at) {
+            self.allocator.deallocate(NodeType::N4.size());
+            return Err((e, value));
+        }
         let byte = self.byte_at(at, key);
-        self.hang(at, byte, Child::Node(leaf));
+        self.nodes.hang_leaf(at, byte, key, value);
         Ok(())
     }
 
     /// Puts a value in below a node that has nothing for the key, or hands it back.
+    #[inline(always)]
     pub(crate) fn add(
         &mut self,
         alloc: Global,
-        at: usize,
+        above: Name,
+        at: Name,
         key: &[u8; KEY_BYTES],
         value: P,
     ) -> Result<(), (OOMError, P)>
         requires tree { IsTree self.old.nodes }
-        requires way { OnWay self.old.nodes key.now at }
+        requires way { Reached self.old.nodes key.now above at }
         requires free { child_for (heap_of self.old.nodes at) key.now ≡ Nothing }
         requires covered { Covers A.charged_of self.old }
         ensures adds { OnOk result (Adds A.charged_of A.limit_of self.old self.new
@@ -143,57 +194,117 @@ impl<P: Stored, A: Allocator> Arena<P, A> {
         ensures refused { IfErr result (Denies A.charged_of A.limit_of self.old self.new
             key.now value (Some (free_wants (heap_of self.old.nodes at)))) }
     {
-        if self.nodes[at].prefix().len() == MAX_PREFIX_LEN {
-            self.add_value(alloc, at, key, value)
+        if self.nodes.is_leaf(at) {
+            self.add_value(alloc, above, at, key, value)
         } else {
             self.add_leaf(alloc, at, key, value)
         }
     }
 
     /// Takes a value out of a leaf that has others.
-    pub(crate) fn take_value(&mut self, at: usize, key: &[u8; KEY_BYTES]) -> P
+    #[inline(always)]
+    pub(crate) fn take_value(&mut self, above: Name, at: Name, key: &[u8; KEY_BYTES]) -> P
+        requires own { HasOwnSlot at }
         requires tree { IsTree self.old.nodes }
         requires way { OnWay self.old.nodes key.now at }
         requires held { IsHeld self.old.nodes key.now at }
+        requires hangs { Hangs self.old.nodes key.now above at }
         requires others { (x : Form ℕ P) → get self.old.nodes at ≡ Some x → map.len (children_of x) ≢ 1 }
         ensures { Swaps self.old self.new key.now (Some result) None }
     {
         let byte = self.byte_at(at, key);
-        match self.unhang(at, byte) {
-            Child::Value(old) => old,
-            // The node holds the key's value at this byte.
-            _ => unreachable!(),
-        }
+        let value = self.nodes.take_value(at, byte);
+        self.tuck(above, at, key);
+        value
     }
 
-    /// Gives a node that was just made a leaf for the key, and beside it the node that parts from the key there.
-    fn fill_fork(
-        &mut self,
-        name: usize,
-        key: &[u8; KEY_BYTES],
-        common: usize,
-        leaf: usize,
-        other: u8,
-        below: usize,
-    )
-        requires fresh { FreshNode self.old.nodes name (take common key.now) }
-        requires within { common < KEY_BYTES }
-        requires apart { slice_index key.now common ≢ other }
-        ensures forks { Forks self.old.nodes self.new.nodes name (take common key.now) (slice_index key.now common) leaf other below }
-        ensures bytes { bytes_of self.new.nodes ≡ bytes_of self.old.nodes }
+    /// Puts a leaf of the least form with one value into its parent's place.
+    #[inline(always)]
+    fn tuck(&mut self, above: Name, at: Name, key: &[u8; KEY_BYTES])
+        requires own { HasOwnSlot at }
+        requires tree { IsTree self.old.nodes }
+        requires hangs { Hangs self.old.nodes key.now above at }
+        requires leaf { length (heap_of self.old.nodes at).prefix ≡ MAX_PREFIX_LEN }
+        ensures renamed { Renamed self.old.nodes self.new.nodes }
         ensures allocator { self.new.allocator ≡ self.old.allocator }
     {
-        self.hang(name, key[common], Child::Node(leaf));
-        self.hang(name, other, Child::Node(below));
+        if self.nodes.node_type(at) != NodeType::N4 || self.nodes.len(at) != 1 {
+            return;
+        }
+        let up = self.byte_at(above, key);
+        self.nodes.fold(above, up, at);
+    }
+
+    /// Hangs a node of the bytes that the key shares with the child `below` over that child and a leaf for the key.
+    fn fork(&mut self, at: Name, below: Name, key: &[u8; KEY_BYTES], value: P) -> Fork
+        requires tree { IsTree self.old.nodes }
+        requires way { OnWay self.old.nodes key.now at }
+        requires hangs { child_for (heap_of self.old.nodes at) key.now ≡ Below below }
+        requires differs { fits (heap_of self.old.nodes below).prefix key.now ≡ false }
+        requires own { HasOwnSlot below }
+        requires room { HasRoomFor self.old.nodes 2 }
+        ensures tree { IsTree self.new.nodes }
+        ensures change { MapChange self.old.nodes self.new.nodes key.now None (Some value) }
+        ensures bytes { bytes_of self.new.nodes ≡ bytes_of self.old.nodes + size_of N4 + size_of N4 }
+        ensures hosts { Hosts self.new.nodes result.over result.other below }
+        ensures same { get self.new.nodes below ≡ get self.old.nodes below }
+        ensures allocator { self.new.allocator ≡ self.old.allocator }
+    {
+        let prefix = self.nodes.prefix(below);
+        let common = first_apart(key, prefix);
+        let other = prefix[common];
+        let over = self.nodes.make(&key[..common]);
+        self.nodes.hang_leaf(over, key[common], key, value);
+        self.nodes.hang_node(over, other, below);
+        let up = self.byte_at(at, key);
+        self.nodes.swap_node(at, up, over);
+        Fork { over, other }
+    }
+
+    /// The same over a leaf that lies in its parent's place: it then lies in that of the new node.
+    fn part(&mut self, at: Name, below: Name, key: &[u8; KEY_BYTES], value: P)
+        requires tree { IsTree self.old.nodes }
+        requires way { OnWay self.old.nodes key.now at }
+        requires hangs { child_for (heap_of self.old.nodes at) key.now ≡ Below below }
+        requires differs { fits (heap_of self.old.nodes below).prefix key.now ≡ false }
+        requires inline { HasOwnSlot below → ⊥ }
+        requires room { HasRoomFor self.old.nodes 2 }
+        ensures tree { IsTree self.new.nodes }
+        ensures change { MapChange self.old.nodes self.new.nodes key.now None (Some value) }
+        ensures bytes { bytes_of self.new.nodes ≡ bytes_of self.old.nodes + size_of N4 + size_of N4 }
+        ensures allocator { self.new.allocator ≡ self.old.allocator }
+    {
+        let up = self.byte_at(at, key);
+        let leaf = self.nodes.unfold(at, up);
+        let Fork { over, other } = self.fork(at, leaf, key, value);
+        self.nodes.fold(over, other, leaf);
+    }
+
+    /// The same over either.
+    fn host(&mut self, at: Name, below: Name, key: &[u8; KEY_BYTES], value: P)
+        requires tree { IsTree self.old.nodes }
+        requires way { OnWay self.old.nodes key.now at }
+        requires hangs { child_for (heap_of self.old.nodes at) key.now ≡ Below below }
+        requires differs { fits (heap_of self.old.nodes below).prefix key.now ≡ false }
+        requires room { HasRoomFor self.old.nodes 2 }
+        ensures tree { IsTree self.new.nodes }
+        ensures change { MapChange self.old.nodes self.new.nodes key.now None (Some value) }
+        ensures bytes { bytes_of self.new.nodes ≡ bytes_of self.old.nodes + size_of N4 + size_of N4 }
+        ensures allocator { self.new.allocator ≡ self.old.allocator }
+    {
+        if below.is_inline() {
+            self.part(at, below, key, value);
+            return;
+        }
+        self.fork(at, below, key, value);
     }
 
     /// Hangs a node of the bytes that the key shares with the child `below` over that child and a leaf for the key,
     /// or hands the value back.
     pub(crate) fn split(
         &mut self,
-        alloc: Global,
-        at: usize,
-        below: usize,
+        at: Name,
+        below: Name,
         key: &[u8; KEY_BYTES],
         value: P,
     ) -> Result<(), (OOMError, P)>
@@ -207,28 +318,20 @@ impl<P: Stored, A: Allocator> Arena<P, A> {
         ensures refused { IfErr result (Denies A.charged_of A.limit_of self.old self.new
             key.now value (Some (size_of N4 ∷ size_of N4 ∷ []))) }
     {
-        let common = first_apart(key, self.nodes[below].prefix());
-        let other = self.nodes[below].prefix()[common];
-        let over = match self.make(alloc, &key[..common]) {
-            Ok(over) => over,
-            Err(e) => return Err((e, value)),
-        };
-        let leaf = match self.make(alloc, &key[..MAX_PREFIX_LEN]) {
-            Ok(leaf) => leaf,
-            Err(e) => {
-                self.give_back(over);
-                return Err((e, value));
-            }
-        };
-        self.fill_leaf(leaf, key, value);
-        self.fill_fork(over, key, common, leaf, other, below);
-        let byte = self.byte_at(at, key);
-        self.swap(at, byte, Child::Node(over));
+        if let Err(e) = self.ready(1) {
+            return Err((e, value));
+        }
+        if let Err(e) = self.ready(2) {
+            self.allocator.deallocate(NodeType::N4.size());
+            return Err((e, value));
+        }
+        self.host(at, below, key, value);
         Ok(())
     }
 
     /// Takes a leaf's only value out, and the leaf with it.
-    pub(crate) fn drop_leaf(&mut self, above: usize, at: usize, key: &[u8; KEY_BYTES]) -> P
+    #[inline(always)]
+    pub(crate) fn drop_leaf(&mut self, above: Name, at: Name, key: &[u8; KEY_BYTES]) -> P
         requires tree { IsTree self.old.nodes }
         requires way { OnWay self.old.nodes key.now at }
         requires held { IsHeld self.old.nodes key.now at }
@@ -238,16 +341,57 @@ impl<P: Stored, A: Allocator> Arena<P, A> {
         ensures { Frees A.charged_of A.limit_of self.old self.new
             key.now (Some result) None (size_by (heap_of self.old.nodes at).capacity) }
     {
-        let byte = self.byte_at(at, key);
-        let last = self.unhang(at, byte);
-        let up = self.byte_at(above, key);
-        self.unhang(above, up);
-        let size = self.nodes.remove(at).size();
+        let size = self.nodes.node_type(at).size();
+        let value = self.drop_alone(above, at, key);
         self.allocator.deallocate(size);
-        match last {
-            Child::Value(old) => old,
-            // The leaf's last child is the key's value.
-            _ => unreachable!(),
+        value
+    }
+
+    /// A leaf with one value goes.
+    #[inline(always)]
+    fn drop_alone(&mut self, above: Name, at: Name, key: &[u8; KEY_BYTES]) -> P
+        requires tree { IsTree self.old.nodes }
+        requires way { OnWay self.old.nodes key.now at }
+        requires held { IsHeld self.old.nodes key.now at }
+        requires hangs { Hangs self.old.nodes key.now above at }
+        requires last { (x : Form ℕ P) → get self.old.nodes at ≡ Some x → map.len (children_of x) ≡ 1 }
+        ensures { Drops self.old self.new key.now at result }
+    {
+        if at.is_inline() {
+            return self.drop_inline(above, at, key);
         }
+        self.drop_slot(above, at, key)
+    }
+
+    /// A leaf that lies in its parent's place goes.
+    #[inline(always)]
+    fn drop_inline(&mut self, above: Name, at: Name, key: &[u8; KEY_BYTES]) -> P
+        requires tree { IsTree self.old.nodes }
+        requires way { OnWay self.old.nodes key.now at }
+        requires held { IsHeld self.old.nodes key.now at }
+        requires hangs { Hangs self.old.nodes key.now above at }
+        requires inline { HasOwnSlot at → ⊥ }
+        ensures { Drops self.old self.new key.now at result }
+    {
+        let up = self.byte_at(above, key);
+        self.nodes.unhang_leaf(above, up)
+    }
+
+    /// A leaf with a slot of its own goes.
+    fn drop_slot(&mut self, above: Name, at: Name, key: &[u8; KEY_BYTES]) -> P
+        requires tree { IsTree self.old.nodes }
+        requires way { OnWay self.old.nodes key.now at }
+        requires held { IsHeld self.old.nodes key.now at }
+        requires hangs { Hangs self.old.nodes key.now above at }
+        requires last { (x : Form ℕ P) → get self.old.nodes at ≡ Some x → map.len (children_of x) ≡ 1 }
+        requires own { HasOwnSlot at }
+        ensures { Drops self.old self.new key.now at result }
+    {
+        let byte = self.byte_at(at, key);
+        let value = self.nodes.take_value(at, byte);
+        let up = self.byte_at(above, key);
+        self.nodes.unhang_node(above, up);
+        self.nodes.remove(at);
+        value
     }
 }

@@ -15,11 +15,10 @@ ghost use Rattle.congee.specs.owned.Wanted.{WantsLeaf, freed_of, freed_by, wants
 
 use crate::allocator::{Allocator, OOMError};
 use crate::forms::base_node::{Node, NodeType};
-use crate::forms::child::Child;
 use crate::keys::KEY_BYTES;
 use crate::owned::arena::{Arena, Stored};
-use crate::owned::place::Spot;
-use slab::Slab;
+use crate::owned::nodes::{Name, Nodes};
+use crate::owned::place::{Place, Spot, Way};
 use std::alloc::Global;
 
 impl<P: Stored, A: Allocator> Arena<P, A> {
@@ -39,9 +38,8 @@ impl<P: Stored, A: Allocator> Arena<P, A> {
         let Ok(root) = Node::new(alloc, NodeType::N256, &[]) else {
             return Err(OOMError::Memory);
         };
-        let mut nodes = Slab::new(alloc);
-        match nodes.insert(root) {
-            Ok(_) => Ok(Arena { nodes, allocator }),
+        match Nodes::new(alloc, root) {
+            Ok(nodes) => Ok(Arena { nodes, allocator }),
             Err(_) => Err(OOMError::Memory),
         }
     }
@@ -51,20 +49,13 @@ impl<P: Stored, A: Allocator> Arena<P, A> {
         requires { IsTree self.now.nodes }
         ensures { option_copied result ≡ value_at (heap_of self.now.nodes) key.now }
     {
-        let mut at = 0usize;
+        let mut at = Name::root();
         loop {
-            let node = &self.nodes[at];
-            match node.get_child(key[node.prefix().len()]) {
-                None => return None,
-                Some(Child::Blank) => unreachable!(),
-                Some(Child::Value(value)) => return Some(value),
-                Some(Child::Node(below)) => {
-                    let below = *below;
-                    if !self.nodes[below].is_prefix_of(key) {
-                        return None;
-                    }
-                    at = below;
-                }
+            match self.nodes.look(at, key) {
+                Way::Free => return None,
+                Way::Apart(_) => return None,
+                Way::Held(value) => return Some(value),
+                Way::Below(below) => at = below,
             }
         }
     }
@@ -83,15 +74,15 @@ impl<P: Stored, A: Allocator> Arena<P, A> {
         ensures refused { IfErr result (Denies A.charged_of A.limit_of self.old self.new
             key.now value (wants_at (heap_of self.old.nodes) key.now)) }
     {
-        let place = self.locate(key);
-        match place.spot {
-            Spot::Held => Ok(Some(self.replace(place.at, key, value))),
+        let Place { above, at, spot } = self.locate(key);
+        match spot {
+            Spot::Held => Ok(Some(self.replace(at, key, value))),
             Spot::Free => {
-                self.add(alloc, place.at, key, value)?;
+                self.add(alloc, above, at, key, value)?;
                 Ok(None)
             }
             Spot::Apart(below) => {
-                self.split(alloc, place.at, below, key, value)?;
+                self.split(at, below, key, value)?;
                 Ok(None)
             }
         }
@@ -107,10 +98,10 @@ impl<P: Stored, A: Allocator> Arena<P, A> {
         let place = self.locate(key);
         match place.spot {
             Spot::Held => {
-                if self.nodes[place.at].len() == 1 {
+                if self.nodes.len(place.at) == 1 {
                     return Some(self.drop_leaf(place.above, place.at, key));
                 }
-                Some(self.take_value(place.at, key))
+                Some(self.take_value(place.above, place.at, key))
             }
             Spot::Free => None,
             Spot::Apart(_) => None,

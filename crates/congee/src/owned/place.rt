@@ -1,20 +1,64 @@
-//! Where a key's way through a tree ends.
+//! Where a key's way through a tree ends, and what hangs there.
+ghost use Rattle.std.specs.Prelude.{◌≡◌, ℕ, MatchOption};
+ghost use Rattle.congee.specs.owned.Stores.{child_now};
+ghost use Rattle.congee.specs.declared.forms.child.Child.TheVariants.{Node as Sub};
+
+use crate::owned::nodes::Name;
+
+/// What a node has for a key.
+#[derive(Drop)]
+pub(crate) enum Way<'a, P> {
+    /// Nothing.
+    Free,
+    /// A value.
+    Held(&'a P),
+    /// A node whose prefix the key has.
+    Below(Name),
+    /// A node whose prefix the key lacks.
+    Apart(Name),
+}
+
+/// What hangs under a byte.
+#[derive(Drop)]
+pub(crate) enum Found<'a, P> {
+    /// A blank, which is never put in.
+    Blank,
+    /// A node with a slot of its own.
+    Node(Name),
+    /// A leaf with one value, which lies there: its name, and its pair.
+    Leaf(Name, u64, &'a P),
+    /// A value.
+    Value(&'a P),
+}
+
+impl<P> Found<'_, P> {
+    /// The node, with a slot of its own or not.
+    pub(crate) fn node(&self) -> Option<Name>
+        ensures { MatchOption result ((c : ℕ) → child_now self.now ≡ Sub c → ⊥) (λ c. child_now self.now ≡ Sub c) }
+    {
+        match self {
+            Found::Node(name) => Some(*name),
+            Found::Leaf(name, _, _) => Some(*name),
+            _ => None,
+        }
+    }
+}
 
 /// What the last node has below the key's byte.
 #[derive(Drop)]
-pub enum Spot {
+pub(crate) enum Spot {
     /// A value.
     Held,
     /// Nothing.
     Free,
     /// A node whose prefix the key lacks.
-    Apart(usize),
+    Apart(Name),
 }
 
 /// The end of a key's way: the last node, the one above it, and what the last one has for the key.
 #[derive(Drop)]
-pub struct Place {
-    pub above: usize,
-    pub at: usize,
+pub(crate) struct Place {
+    pub above: Name,
+    pub at: Name,
     pub spot: Spot,
 }

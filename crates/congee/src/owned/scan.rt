@@ -11,11 +11,12 @@ ghost use Rattle.congee.specs.owned.Table.{pairs_of};
 ghost use Rattle.congee.specs.owned.Ranges.{entries_by, in_range, keys_by};
 
 use crate::allocator::Allocator;
-use crate::forms::child::Child;
 use crate::forms::prefix::MAX_PREFIX_LEN;
-use crate::keys::{KEY_BYTES, bytes_of_key};
+use crate::keys::{KEY_BYTES, bytes_of_key, key_of_bytes};
 use crate::owned::arena::{Arena, Stored};
 use crate::owned::edit::first_apart;
+use crate::owned::nodes::{Name, key_from};
+use crate::owned::place::{Found, Way};
 use arrayvec::ArrayVec;
 use judge::Word64;
 use std::alloc::{AllocError, Global};
@@ -23,7 +24,7 @@ use std::alloc::{AllocError, Global};
 /// A node on a scan's way, and the least of its bytes that the scan has yet to look at: 256 where none is left.
 #[derive(Clone, Copy, Default)]
 pub(crate) struct Branch {
-    node: usize,
+    node: Name,
     from: usize,
 }
 
@@ -35,21 +36,21 @@ pub(crate) fn beginning() -> Cursor
     ensures { result.items ≡ record { node = 0; from = 0 } ∷ [] }
 {
     let mut cursor = Cursor::new();
-    cursor.push(Branch { node: 0, from: 0 });
+    cursor.push(Branch {
+        node: Name::root(),
+        from: 0,
+    });
     cursor
 }
 
 /// The key of a leaf's pair: the leaf's prefix, and the byte.
+#[inline(always)]
 fn key_of(prefix: &[u8], byte: u8) -> u64
     requires { length prefix.now ≡ MAX_PREFIX_LEN }
     ensures begins { fits prefix.now (key_bytes result) ≡ true }
     ensures ends { slice_index (key_bytes result) MAX_PREFIX_LEN ≡ byte }
 {
-    let mut bytes = [byte; KEY_BYTES];
-    for i in 0..MAX_PREFIX_LEN {
-        bytes[i] = prefix[i];
-    }
-    u64::from_be_bytes(bytes)
+    key_of_bytes(&key_from(prefix, byte))
 }
 
 impl<P: Stored, A: Allocator> Arena<P, A> {
@@ -61,41 +62,40 @@ impl<P: Stored, A: Allocator> Arena<P, A> {
     {
         let bytes = bytes_of_key(&key);
         let mut cursor = Cursor::new();
-        let mut at = 0;
+        let mut at = Name::root();
         loop {
-            let node = &self.nodes[at];
-            let depth = node.prefix().len();
-            let mut from = bytes[depth] as usize;
-            let below = match node.get_child(bytes[depth]) {
-                None => {
+            let mut from = bytes[self.nodes.prefix(at).len()] as usize;
+            match self.nodes.look(at, &bytes) {
+                Way::Free => {
                     cursor.push(Branch { node: at, from });
                     return cursor;
                 }
-                Some(Child::Blank) => unreachable!(),
-                Some(Child::Value(_)) => {
+                Way::Held(_) => {
                     cursor.push(Branch { node: at, from });
                     return cursor;
                 }
-                Some(Child::Node(below)) => *below,
-            };
-            if !self.nodes[below].is_prefix_of(&bytes) {
-                let prefix = self.nodes[below].prefix();
-                let apart = first_apart(&bytes, prefix);
-                if prefix[apart] < bytes[apart] {
-                    from += 1;
+                Way::Apart(below) => {
+                    let prefix = self.nodes.prefix(below);
+                    let apart = first_apart(&bytes, prefix);
+                    if prefix[apart] < bytes[apart] {
+                        from += 1;
+                    }
+                    cursor.push(Branch { node: at, from });
+                    return cursor;
                 }
-                cursor.push(Branch { node: at, from });
-                return cursor;
+                Way::Below(below) => {
+                    cursor.push(Branch {
+                        node: at,
+                        from: from + 1,
+                    });
+                    at = below;
+                }
             }
-            cursor.push(Branch {
-                node: at,
-                from: from + 1,
-            });
-            at = below;
         }
     }
 
     /// The next pair. The cursor is past it then.
+    #[inline(always)]
     pub(crate) fn next_along(&self, cursor: &mut Cursor) -> Option<(u64, &P)>
         requires tree { IsTree self.now.nodes }
         requires cursor { IsCursor self.now.nodes cursor.old.items }
@@ -106,8 +106,7 @@ impl<P: Stored, A: Allocator> Arena<P, A> {
             (λ r. IsFirst (pairs_of self.now.nodes) from r.0 r.1.now × IsAt self.now.nodes cursor.new.items (r.0 + 1)) }
     {
         while let Some(Branch { node: at, from }) = cursor.pop() {
-            let node = &self.nodes[at];
-            let Some((byte, child)) = node.first_from(from) else {
+            let Some((byte, child)) = self.nodes.first_from(at, from) else {
                 continue;
             };
             cursor.push(Branch {
@@ -115,10 +114,11 @@ impl<P: Stored, A: Allocator> Arena<P, A> {
                 from: byte as usize + 1,
             });
             match child {
-                Child::Blank => unreachable!(),
-                Child::Value(value) => return Some((key_of(node.prefix(), byte), value)),
-                Child::Node(below) => cursor.push(Branch {
-                    node: *below,
+                Found::Blank => unreachable!(),
+                Found::Value(value) => return Some((key_of(self.nodes.prefix(at), byte), value)),
+                Found::Leaf(_, key, value) => return Some((key, value)),
+                Found::Node(below) => cursor.push(Branch {
+                    node: below,
                     from: 0,
                 }),
             }

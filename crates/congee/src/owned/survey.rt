@@ -11,16 +11,16 @@ ghost use Rattle.congee.specs.owned.Table.{pairs_of};
 ghost use Rattle.congee.specs.owned.Weights.{HasBytesFrom, sizes_of};
 
 use crate::allocator::Allocator;
-use crate::forms::child::Child;
 use crate::keys::KEY_BYTES;
 use crate::owned::arena::{Arena, Stored};
+use crate::owned::nodes::Name;
 use crate::owned::scan::beginning;
 use crate::owned::stats::NodeStats;
 use std::alloc::{AllocError, Global};
 
 impl<P: Stored, A: Allocator> Arena<P, A> {
     /// Counts a node on a level, and the nodes below it.
-    fn count_from(&self, at: usize, level: usize, stats: &mut NodeStats) -> Result<(), AllocError>
+    fn count_from(&self, at: Name, level: usize, stats: &mut NodeStats) -> Result<(), AllocError>
         requires tree { IsTree self.now.nodes }
         requires stands { ContainsKey self.now.nodes at }
         requires level { level ≤ length (heap_of self.now.nodes at).prefix }
@@ -30,12 +30,11 @@ impl<P: Stored, A: Allocator> Arena<P, A> {
         ensures levels { OnOk result (vec_len stats.old.levels ≤ vec_len stats.new.levels) }
         ensures bytes { OnOk result (HasBytesFrom (get self.now.nodes) KEY_BYTES at) }
     {
-        let node = &self.nodes[at];
-        stats.count(level, node.node_type(), node.len() as u64)?;
+        stats.count(level, self.nodes.node_type(at), self.nodes.len(at) as u64)?;
         let mut from = 0;
-        while let Some((byte, child)) = node.first_from(from) {
-            if let Child::Node(below) = child {
-                self.count_from(*below, level + 1, stats)?;
+        while let Some((byte, child)) = self.nodes.first_from(at, from) {
+            if let Some(below) = child.node() {
+                self.count_from(below, level + 1, stats)?;
             }
             from = byte as usize + 1;
         }
@@ -69,7 +68,7 @@ impl<P: Stored, A: Allocator> Arena<P, A> {
         ensures charged { OnOk result (sizes_of (nodes_of self.now.nodes) ≡ bytes_of self.now.nodes) }
     {
         let mut stats = NodeStats::new(alloc);
-        self.count_from(0, 0, &mut stats)?;
+        self.count_from(Name::root(), 0, &mut stats)?;
         stats.kv_pairs = self.count_pairs();
         Ok(stats)
     }

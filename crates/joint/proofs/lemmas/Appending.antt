@@ -1,10 +1,9 @@
 -- The entry that a step of a call in flight appends to the journal.
-use Rattle.std.proofs.Common.{◌≡◌, ℕ, Bool, true, false, List, [], ◌∷◌, ◌++◌, length, refl, sym, ◌∙◌, ap, subst, inl, inr}
+use Rattle.std.proofs.Common.{◌≡◌, ℕ, Bool, true, false, List, [], ◌∷◌, ◌++◌, length, refl, sym, ◌∙◌, ap, subst}
 use Rattle.std.specs.Prelude.{Option, None, Some, not, nat_eq, option_map, slice_get}
-use Rattle.std.proofs.lemmas.Bool.{cases_Bool, false≢true}
+use Rattle.std.proofs.lemmas.Bool.{false≢true}
 use Rattle.std.proofs.lemmas.List.{append-nil}
 use Rattle.judge.specs.declared.journal.Call.{Call as Entered}
-use Rattle.judge.specs.declared.journal.Call.TheVariants as call
 use Rattle.judge.specs.declared.journal.Entry.{Entry}
 use Rattle.judge.specs.declared.journal.Reply.{Reply}
 use Rattle.judge.specs.declared.journal.Reply.TheVariants as reply
@@ -18,12 +17,12 @@ use Rattle.joint.specs.declared.steps.Op.TheVariants as op
 use Rattle.joint.specs.declared.steps.Report.{Report}
 use Rattle.joint.specs.declared.steps.Step.{Step}
 use Rattle.joint.specs.Asked.{changes}
-use Rattle.joint.specs.Journaling.{asks_at, call_of, entry_of, has_place, in_list, kept_if, on_insert, on_present, reply_by, with_call}
-use Rattle.joint.specs.Log.{has_room, heard_by, hears, request_at}
+use Rattle.joint.specs.Journaling.{HasAnswer, asks_at, call_of, entry_of, has_place, in_list, kept_if, on_insert, on_present, reply_by, with_call}
+use Rattle.joint.specs.Log.{has_room, heard_by, hears}
 use Rattle.joint.specs.Reports.{target}
 use Rattle.joint.specs.Runs.{looks_up}
-use Rattle.joint.specs.Whole.{GivesUp, Holds, IsStep, StepsUnless, TakesStep, Whole, engine_of, entry_at, gives_up, heard_at, kept_at}
-use Rattle.joint.specs.Writing.{Appended, IsEntryOf, IsInFlight, MayStep, given_after}
+use Rattle.joint.specs.Whole.{GivesUp, Holds, IsStep, StepsUnless, TakesStep, Whole, entry_at, gives_up, heard_at, kept_at}
+use Rattle.joint.specs.Writing.{Appended, IsEntryOf, IsInFlight, MayStep}
 use Rattle.joint.proofs.lemmas.Effects.{begin_undecided, effect}
 use Rattle.joint.proofs.lemmas.Kept.{same_some}
 use Rattle.joint.proofs.lemmas.Logged.{result}
@@ -35,15 +34,15 @@ kept_decides true false o e q = absurd (cc q)
 kept_decides false room o e q = absurd (cc q)
 
 -- an entry has its worker, and the call as it was asked for
-called_by : (who : ℕ) (q : Request ℕ) (r : Reply ℕ) (o : Option (Entered ℕ)) (e : Entry ℕ) → o ≡ call_of q.op q.answer r → with_call who r o ≡ Some e → IsEntryOf who q.op q.answer e
-called_by who q r None e c x = absurd (cc x)
-called_by who q r (Some k) e c x =
+called_by : (who : ℕ) (q : Request ℕ) (r : Reply ℕ) (o : Option (Entered ℕ)) (e : Entry ℕ) → o ≡ call_of q.op q.answer r → with_call who r o ≡ Some e → HasAnswer q.op q.answer e.reply → IsEntryOf who q.op q.answer e
+called_by who q r None e c x a = absurd (cc x)
+called_by who q r (Some k) e c x a =
     let same : record { worker = who; call = k; reply = r } ≡ e = same_some _ _ x in
-    subst (IsEntryOf who q.op q.answer) same (record { worker = refl; call = sym c })
+    record { worker = sym (ap (λ (y : Entry ℕ). y.worker) same); call = ap (call_of q.op q.answer) (sym (ap (λ (y : Entry ℕ). y.reply) same)) ∙ (sym c ∙ ap (λ (y : Entry ℕ). Some y.call) same); answered = a }
 
-entry_called : (who : ℕ) (q : Request ℕ) (o : Option (Reply ℕ)) (e : Entry ℕ) → entry_of who (Some q) o ≡ Some e → IsEntryOf who q.op q.answer e
-entry_called who q None e x = absurd (cc x)
-entry_called who q (Some r) e x = called_by who q r (call_of q.op q.answer r) e refl x
+entry_called : (who : ℕ) (q : Request ℕ) (o : Option (Reply ℕ)) (e : Entry ℕ) → entry_of who (Some q) o ≡ Some e → HasAnswer q.op q.answer e.reply → IsEntryOf who q.op q.answer e
+entry_called who q None e x a = absurd (cc x)
+entry_called who q (Some r) e x a = called_by who q r (call_of q.op q.answer r) e refl x a
 
 -- a call hears the answer that is wanted
 heard_wanted : (asks : Bool) (answer : Option (Option ℕ)) (q : Request ℕ) → ((a : Option ℕ) → answer ≡ Some a → asks ≡ true) → heard_by asks answer (Some q) ≡ Some (hears answer q)
@@ -123,6 +122,26 @@ module _ (s s' : Whole ℕ) (who : ℕ) (h : Holds nat_eq true s) where
     abbrev Appends : Type 0
     Appends = (kept : Option (Entry ℕ)) × Appended s s' who o given (Go noise) kept
 
+    abbrev hearing : Request ℕ
+    hearing = hears noise.answer asked
+
+    heard : heard_at s who (Go noise) ≡ Some hearing
+    heard = ap (heard_by (asks_at (slice_get s.machines who)) noise.answer) own ∙ heard_wanted _ noise.answer asked wanted
+
+    -- the entry that is kept has its closure's answer, and its place where it writes
+    record Keeps (e : Entry ℕ) : Type 0 where
+      pub answered : HasAnswer hearing.op hearing.answer e.reply
+      pub had : has_place (slice_get s.calls who) (slice_get s.machines who) ≡ not (looks_up e.call)
+
+    keeps : (t : TakesStep nat_eq true s go r s') (e : Entry ℕ) → kept_at s who (Go noise) t.told s' ≡ Some e → Keeps e
+    keeps t e q =
+        let k = kept_decides _ _ _ e q in
+        let on = result nat_eq true s s' go t.told h t.engine h.2.flights h.2.pairs h.2.stand h.2.in_flight h.2.asked in
+        let x = effect nat_eq true s s' who (h.0, h.1) t.engine.holds h.2.flights on.flights h.2.pairs (record { each = h.2.in_flight.each; beyond = h.2.in_flight.beyond }) on.in_flight h.2.long
+        (record { step = go; report = t.told; entry = on.entry; pairs = on.pairs }) refl (Go noise) k.0 t.engine.does on.step in
+        let same : x.entry ≡ e = same_some _ _ (sym (x.noted (h.2.asked refl)) ∙ k.1) in
+        subst Keeps same (record { answered = x.answered (h.2.asked refl) hearing heard; had = x.had })
+
     taken : TakesStep nat_eq true s go r s' → Appends
     taken t = (
       kept_at s who (Go noise) t.told s',
@@ -131,17 +150,10 @@ module _ (s s' : Whole ℕ) (who : ℕ) (h : Holds nat_eq true s) where
         places = t.places;
         of = λ e q.
             let x : entry_at s who (Go noise) t.told s' ≡ Some e = (kept_decides _ _ _ e q).1 in
-            let heard : heard_at s who (Go noise) ≡ Some (hears noise.answer asked) = ap (heard_by (asks_at (slice_get s.machines who)) noise.answer) own ∙ heard_wanted _ noise.answer asked wanted in
             let told : Option (Reply ℕ) = reply_by t.told.outcome (slice_get s'.machines who) in
-            let is : IsEntryOf who (hears noise.answer asked).op (hears noise.answer asked).answer e = entry_called who (hears noise.answer asked) told e (ap (λ y. entry_of who y told) (sym heard) ∙ x) in
-            subst (λ c. IsEntryOf who c (hears noise.answer asked).answer e) (hears_op noise.answer asked) is;
-        had = λ e q.
-            let k = kept_decides _ _ _ e q in
-            let on = result nat_eq true s s' go t.told h t.engine h.2.flights h.2.pairs h.2.stand h.2.in_flight h.2.asked in
-            let x = effect nat_eq true s s' who (h.0, h.1) t.engine.holds h.2.flights on.flights h.2.pairs (record { each = h.2.in_flight.each; beyond = h.2.in_flight.beyond }) on.in_flight h.2.long
-            (record { step = go; report = t.told; entry = on.entry; pairs = on.pairs }) refl (Go noise) k.0 t.engine.does on.step in
-            let same : x.entry ≡ e = same_some _ _ (sym (x.noted (h.2.asked refl)) ∙ k.1) in
-            subst (λ y. has_place (slice_get s.calls who) (slice_get s.machines who) ≡ not (looks_up y.call)) same x.had;
+            let is : IsEntryOf who hearing.op hearing.answer e = entry_called who hearing told e (ap (λ y. entry_of who y told) (sym heard) ∙ x) (keeps t e q).answered in
+            subst (λ c. IsEntryOf who c hearing.answer e) (hears_op noise.answer asked) is;
+        had = λ e q. (keeps t e q).had;
       },
     )
 

@@ -134,12 +134,12 @@ module _ {V : Type 0} (same : V → V → Bool) (always : Bool) (s s' : Whole V)
     past_or_in : (n i : ℕ) → (n ≤ i) ⊎ (i < n)
     past_or_in n i = grind arith
 
-  pub pending_next : (noise : Noise Id V) (k : ℕ) (kd : Kind V) (v : Option V) (q : Question V) → fs w ≡ Pending k kd v q → Heard (heard_by (asks_at (slice_get s.machines w)) noise.answer (request_at qs w)) k kd (heard kd q noise.answer v)
+  pub pending_next : (noise : Noise Id V) (k : ℕ) (kd : Kind V) (v : Option V) (q : Question V) → fs w ≡ Pending k kd v q → Heard (heard_by (asks_at (slice_get s.machines w)) noise.answer (request_at qs w)) k kd (heard kd q noise.answer v) (resolved kd q noise.answer)
   pending_next noise k kd v q e =
       let a : IsAsked (request_at qs w) (Pending k kd v q) = subst (λ (x : Flight V). IsAsked (request_at qs w) x) e (each w) in
       let b : asks_at (slice_get s.machines w) ≡ is_asked q = asks_here same always (engine_of s) w holds fs fl ∙ ap asks e in
-      let P : Bool → Type 0 = λ z. Heard (heard_by z noise.answer (request_at qs w)) k kd (heard kd q noise.answer v) in
-      let Q : Option (Request V) → Type 0 = λ o. Heard (heard_by (is_asked q) noise.answer o) k kd (heard kd q noise.answer v) in
+      let P : Bool → Type 0 = λ z. Heard (heard_by z noise.answer (request_at qs w)) k kd (heard kd q noise.answer v) (resolved kd q noise.answer) in
+      let Q : Option (Request V) → Type 0 = λ o. Heard (heard_by (is_asked q) noise.answer o) k kd (heard kd q noise.answer v) (resolved kd q noise.answer) in
       subst P (sym b) (subst Q (sym a.1) (heard_is a.0 k kd v q noise.answer a.2 a.3))
 
   pending_case : (noise : Noise Id V) (k : ℕ) (kd : Kind V) (v : Option V) (q : Question V) (l : Line V) (d : Bool) (f' : Flight V) (on : Bool) → fs w ≡ Pending k kd v q → is_in_flight l.report.outcome ≡ on

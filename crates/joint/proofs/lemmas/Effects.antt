@@ -24,17 +24,18 @@ use Rattle.joint.specs.declared.steps.Outcome.TheVariants.{Running, Asks, Found,
 use Rattle.joint.specs.declared.steps.Target.{Target}
 use Rattle.joint.specs.declared.steps.Target.TheVariants as target
 use Rattle.joint.specs.Intact.{is_reserving}
-use Rattle.joint.specs.Journaling.{call_of, entry_of, has_place, may_write, places_of, reply_by, with_call}
+use Rattle.joint.specs.Journaling.{HasAnswer, call_of, entry_of, has_place, may_write, places_of, reply_by, with_call}
 use Rattle.joint.specs.Log.{counted, has_room, request_at}
 use Rattle.joint.specs.Reports.{target, told}
 use Rattle.joint.specs.Runs.{Flights, Line, Stays, BeginsOr, BeginMap, PendingStep, TakesEffect, GoMap, EventMap, AreInFlight, with_flight, looks_up}
-use Rattle.joint.specs.Whole.{Whole, EngineHolds, IsAsked, Does, engine_of, entry_at, misuse}
+use Rattle.joint.specs.Whole.{Whole, EngineHolds, IsAsked, Does, engine_of, entry_at, heard_at, misuse}
 use Rattle.joint.proofs.lemmas.Apart.{Apart, counts_one, places_counted}
 use Rattle.joint.proofs.lemmas.Asking.{pending_next}
 use Rattle.joint.proofs.lemmas.Entering.{first_undecided}
 use Rattle.joint.proofs.lemmas.Flights.{ends_stays, flight_here}
 use Rattle.joint.proofs.lemmas.Placed.{concluded_writes, place_here, place_writes, reply_here}
-use Rattle.joint.proofs.lemmas.Requested.{Heard, request_call, writes_on}
+use Rattle.joint.proofs.lemmas.Kept.{same_some}
+use Rattle.joint.proofs.lemmas.Requested.{request_answered, request_call, writes_on}
 
 module _ {V : Type 0} where
   call_key : (k : ℕ) (kd : Kind V) (v found : Option V) (c : Entered V) → IsCall k kd v found c → key_of c ≡ k
@@ -80,6 +81,7 @@ module _ {V : Type 0} (same : V → V → Bool) (always : Bool) (s s' : Whole V)
     pub is_entry : l.entry ≡ Some entry
     pub answers : Answers same m entry l.pairs
     pub noted : ((i : ℕ) → IsAsked (request_at s.log.requests i) (fs i)) → entry_at s w event l.report s' ≡ Some entry
+    pub answered : ((i : ℕ) → IsAsked (request_at s.log.requests i) (fs i)) → (q : Request V) → heard_at s w event ≡ Some q → HasAnswer q.op q.answer entry.reply
     pub had : before ≡ not (looks_up entry.call)
     pub has : after ≡ false
 
@@ -91,6 +93,10 @@ module _ {V : Type 0} (same : V → V → Bool) (always : Bool) (s s' : Whole V)
   reply_told r (moved.Found place key x) f' t e c = absurd c
   reply_told r (moved.Scanned count) f' t e c = absurd c
 
+  -- the map's reply at the call's key is the entry's
+  replies_of : (noise : Noise Id V) (k : ℕ) (kd : Kind V) (v : Option V) (q : Question V) (f' : Flight V) (t : TakesEffect same k kd (heard kd q noise.answer v) (resolved kd q noise.answer) m l f') → reply_on same t.entry.call (get m k) ≡ t.entry.reply
+  replies_of noise k kd v q f' t = ap (λ x. reply_on same t.entry.call (get m x)) (sym (call_key k kd (heard kd q noise.answer v) (get m k) t.entry.call t.call)) ∙ ap (λ z. z.0) t.answers
+
   effect_of : (noise : Noise Id V) (k : ℕ) (kd : Kind V) (v : Option V) (q : Question V) (f' : Flight V) → fs w ≡ Pending k kd v q → fs' w ≡ f' → is_reserving (slice_get s.calls w) ≡ false
       → TakesEffect same k kd (heard kd q noise.answer v) (resolved kd q noise.answer) m l f' → Effect (Go noise)
   effect_of noise k kd v q f' e e' n t = record {
@@ -98,10 +104,17 @@ module _ {V : Type 0} (same : V → V → Bool) (always : Bool) (s s' : Whole V)
     is_entry = t.is_entry;
     answers = t.answers;
     noted = λ each.
-        let h : Heard _ k kd (heard kd q noise.answer v) = pending_next same always s s' w holds fs m fl long each noise k kd v q e in
-        let replies : reply_on same t.entry.call (get m k) ≡ t.entry.reply = ap (λ x. reply_on same t.entry.call (get m x)) (sym (call_key k kd (heard kd q noise.answer v) (get m k) t.entry.call t.call)) ∙ ap (λ z. z.0) t.answers in
+        let h = pending_next same always s s' w holds fs m fl long each noise k kd v q e in
+        let replies = replies_of noise k kd v q f' t in
         entry_is w _ h.request _ t.entry.reply t.entry.call t.entry h.is (reply_told t.entry.reply t.outcome f' t.told_so e' t.concludes)
         (ap (call_of h.request.op h.request.answer) (sym replies) ∙ request_call h.request same k kd (heard kd q noise.answer v) (get m k) t.entry.call h.of t.call) (t.worker ∙ we) refl refl;
+    answered = λ each asked is.
+        let h = pending_next same always s s' w holds fs m fl long each noise k kd v q e in
+        let same_request : h.request ≡ asked = same_some _ _ (sym h.is ∙ is) in
+        let replies = replies_of noise k kd v q f' t in
+        subst (λ r. HasAnswer asked.op asked.answer r) replies
+        (subst (λ (y : Request V). HasAnswer y.op y.answer (reply_on same t.entry.call (get m k))) same_request
+        (request_answered h.request same k kd (heard kd q noise.answer v) (get m k) t.entry.call (resolved kd q noise.answer) h.of t.call t.heeds h.question));
     had = place_here same always (engine_of s) w holds fs fl n ∙ ap writes_on e ∙ call_looks k kd (heard kd q noise.answer v) (get m k) t.entry.call t.call;
     has = place_writes same always (engine_of s') w holds' fs' fl' (ap writes_on e' ∙ concluded_writes t.entry.reply t.outcome f' t.concludes);
   }

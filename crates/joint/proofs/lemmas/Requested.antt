@@ -14,7 +14,7 @@ use Rattle.congee.specs.declared.protocol.phase.Kind.{Kind}
 use Rattle.congee.specs.declared.protocol.phase.Kind.TheVariants as kind
 use Rattle.congee.specs.declared.protocol.phase.Phase.{Phase}
 use Rattle.congee.specs.declared.protocol.phase.Phase.TheVariants as phase
-use Rattle.congee.specs.protocol.Play.{Flight, Pending, Decided, Question, Unasked, Asked, Replied, heard, Carries, Undecided, parts, flight_in, heeding, begun, flight}
+use Rattle.congee.specs.protocol.Play.{Flight, Pending, Decided, Question, Unasked, Asked, Replied, Heeds, heard, resolved, after_none, Carries, Undecided, parts, flight_in, heeding, begun, flight}
 use Rattle.congee.specs.protocol.Protocol.{Asking, IsCall}
 use Rattle.joint.specs.declared.id.Id.{Id}
 use Rattle.joint.specs.declared.request.Request.{Request}
@@ -22,7 +22,7 @@ use Rattle.joint.specs.declared.steps.Op.{Op}
 use Rattle.joint.specs.declared.steps.Op.TheVariants.{Get, Insert, Remove, ComputePresent, ComputeInsert, Exchange, Range}
 use Rattle.joint.specs.declared.steps.Target.TheVariants.{Tree}
 use Rattle.joint.specs.Intact.{root}
-use Rattle.joint.specs.Journaling.{call_of, is_asking, is_pending, may_write, reply_in}
+use Rattle.joint.specs.Journaling.{HasAnswer, call_of, is_asking, is_pending, may_write, reply_in}
 use Rattle.joint.specs.Log.{asked, hears, heard_by}
 use Rattle.joint.specs.Reports.{target}
 use Rattle.joint.specs.Whole.{value_of, IsOnKey, IsRequestOf, IsQuestionOf, IsAsked}
@@ -100,25 +100,47 @@ module _ {V : Type 0} where
   hear_some (Range start end size) x kd p t e a = absurd (let i : point.Range start end size ≡ p = cc in subst (λ (y : Kind V). Asking y) (sym (ap (λ (y : Point V). (parts y).1) i ∙ e)) a)
   hear_some _ x kd p t e a = absurd (cc t)
 
+  -- the question is settled by no value too, but where one is wanted
+  none_settles : (op : Op V) (answer : Option (Option V)) (kd : Kind V) (found : Option V) (p : Point V) → target op ≡ Tree p → (parts p).1 ≡ kd → Asking kd
+      → IsQuestionOf kd (after_none kd found) (hears (Some None) (record { op = op; answer = answer })).answer
+  none_settles (ComputePresent k) answer kd found p t e a =
+      let i : point.ComputePresent k ≡ p = cc in
+      let P : Kind V → Type 0 = λ x. IsQuestionOf x (after_none x found) (Some None) in
+      subst P (ap (λ (y : Point V). (parts y).1) i ∙ e) refl
+  none_settles (ComputeInsert k) answer kd found p t e a =
+      let i : point.ComputeInsert k ≡ p = cc in
+      let P : Kind V → Type 0 = λ x. IsQuestionOf x (after_none x found) answer in
+      subst P (ap (λ (y : Point V). (parts y).1) i ∙ e) tt
+  none_settles (Get k) answer kd found p t e a = absurd (let i : point.Get k ≡ p = cc in subst (λ (x : Kind V). Asking x) (sym (ap (λ (y : Point V). (parts y).1) i ∙ e)) a)
+  none_settles (Insert k w) answer kd found p t e a = absurd (let i : point.Insert k w ≡ p = cc in subst (λ (x : Kind V). Asking x) (sym (ap (λ (y : Point V). (parts y).1) i ∙ e)) a)
+  none_settles (Remove k) answer kd found p t e a = absurd (let i : point.Remove k ≡ p = cc in subst (λ (x : Kind V). Asking x) (sym (ap (λ (y : Point V). (parts y).1) i ∙ e)) a)
+  none_settles (Exchange k old new) answer kd found p t e a = absurd (let i : point.Exchange k old new ≡ p = cc in subst (λ (x : Kind V). Asking x) (sym (ap (λ (y : Point V). (parts y).1) i ∙ e)) a)
+  none_settles (Range start end size) answer kd found p t e a = absurd (let i : point.Range start end size ≡ p = cc in subst (λ (x : Kind V). Asking x) (sym (ap (λ (y : Point V). (parts y).1) i ∙ e)) a)
+  none_settles _ answer kd found p t e a = absurd (cc t)
+
   -- what the step of a call hears
-  pub record Heard (o : Option (Request V)) (k : ℕ) (kd : Kind V) (v : Option V) : Type 0 where
+  pub record Heard (o : Option (Request V)) (k : ℕ) (kd : Kind V) (v : Option V) (u : Question V) : Type 0 where
     pub request : Request V
     pub is : o ≡ Some request
     pub of : IsRequestOf request k kd v
+    pub question : IsQuestionOf kd u request.answer
 
-  pub heard_is : (q : Request V) (k : ℕ) (kd : Kind V) (v : Option V) (u : Question V) (answer : Option (Option V)) → IsRequestOf q k kd v → IsQuestionOf kd u → Heard (heard_by (is_asked u) answer (Some q)) k kd (heard kd u answer v)
-  heard_is q k kd v Unasked answer r a = record { request = q; is = refl; of = r }
-  heard_is q k kd v (Replied o) answer r a = record { request = q; is = refl; of = r }
-  heard_is q k kd v (Asked o) None r a = record { request = q; is = refl; of = r }
+  pub heard_is : (q : Request V) (k : ℕ) (kd : Kind V) (v : Option V) (u : Question V) (answer : Option (Option V)) → IsRequestOf q k kd v → IsQuestionOf kd u q.answer
+      → Heard (heard_by (is_asked u) answer (Some q)) k kd (heard kd u answer v) (resolved kd u answer)
+  heard_is q k kd v Unasked answer r a = record { request = q; is = refl; of = r; question = a }
+  heard_is q k kd v (Replied o) answer r a = record { request = q; is = refl; of = r; question = a }
+  heard_is q k kd v (Asked o) None r a = record { request = q; is = refl; of = r; question = a }
   heard_is q k kd v (Asked o) (Some None) r a = record {
     request = hears (Some None) q;
     is = refl;
     of = record { point = r.point; on_tree = r.on_tree; on_key = r.on_key; key = r.key; same_kind = r.same_kind; value = hear_none q.op q.answer kd v r.point r.on_tree r.same_kind a r.value };
+    question = none_settles q.op q.answer kd o r.point r.on_tree r.same_kind a;
   }
   heard_is q k kd v (Asked o) (Some (Some x)) r a = record {
     request = hears (Some (Some x)) q;
     is = refl;
     of = record { point = r.point; on_tree = r.on_tree; on_key = r.on_key; key = r.key; same_kind = r.same_kind; value = hear_some q.op x kd r.point r.on_tree r.same_kind a };
+    question = refl;
   }
 
   -- its entry's call is the one that the map answers
@@ -162,6 +184,31 @@ module _ {V : Type 0} where
       let Q : Kind V → Type 0 = λ x. IsCall (parts r.point).0 x v found c in
       call_by q.op q.answer same r.point v found c r.on_tree r.on_key r.value (subst Q (sym r.same_kind) (subst P (sym r.key) i))
 
+  -- and where it is of a computed value, an answer was given
+  answered_by : (op : Op V) (answer : Option (Option V)) (same : V → V → Bool) (p : Point V) (v found : Option V) (c : Entered V) (u : Question V) → target op ≡ Tree p → IsCall (parts p).0 (parts p).1 v found c
+      → Heeds (parts p).1 found u → IsQuestionOf (parts p).1 u answer → HasAnswer op answer (reply_on same c found)
+  answered_by (ComputePresent k) answer same p v found c u t i h a =
+      let e : point.ComputePresent k ≡ p = cc in
+      by found (subst (λ (x : Point V). IsCall (parts x).0 (parts x).1 v found c) (sym e) i) (subst (λ (x : Point V). Heeds (parts x).1 found u) (sym e) h) (subst (λ (x : Point V). IsQuestionOf (parts x).1 u answer) (sym e) a)
+    where
+      by : (o : Option V) → IsCall k kind.ComputePresent v o c → Heeds kind.ComputePresent o u → IsQuestionOf kind.ComputePresent u answer → HasAnswer (ComputePresent k) answer (reply_on same c o)
+      by None i h a = let P : Entered V → Type 0 = λ x. HasAnswer (ComputePresent k) answer (reply_on same x None) in subst P (sym i) tt
+      by (Some w) i h a =
+          let P : Entered V → Type 0 = λ x. HasAnswer (ComputePresent k) answer (reply_on same x (Some w)) in
+          subst P (sym i) (subst (λ x. IsQuestionOf kind.ComputePresent x answer) h a)
+  answered_by (ComputeInsert k) answer same p v found c u t i h a =
+      let e : point.ComputeInsert k ≡ p = cc in
+      let h1 : u ≡ Replied found = subst (λ (x : Point V). Heeds (parts x).1 found u) (sym e) h in
+      subst (λ x. IsQuestionOf kind.ComputeInsert x answer) h1 (subst (λ (x : Point V). IsQuestionOf (parts x).1 u answer) (sym e) a)
+  answered_by _ answer same p v found c u t i h a = tt
+
+  pub request_answered : (q : Request V) (same : V → V → Bool) (k : ℕ) (kd : Kind V) (v found : Option V) (c : Entered V) (u : Question V) → IsRequestOf q k kd v → IsCall k kd v found c → Heeds kd found u → IsQuestionOf kd u q.answer
+      → HasAnswer q.op q.answer (reply_on same c found)
+  request_answered q same k kd v found c u r i h a =
+      let P : ℕ → Type 0 = λ x. IsCall x kd v found c in
+      let Q : Kind V → Type 0 = λ x. IsCall (parts r.point).0 x v found c in
+      answered_by q.op q.answer same r.point v found c u r.on_tree (subst Q (sym r.same_kind) (subst P (sym r.key) i)) (subst (λ x. Heeds x found u) (sym r.same_kind) h) (subst (λ x. IsQuestionOf x u q.answer) (sym r.same_kind) a)
+
   -- a request as its call begins
   value_begins : (op : Op V) (p : Point V) → target op ≡ Tree p → IsOnKey p → value_of op None ≡ (parts p).2
   value_begins (Get k) p t n = let e : point.Get k ≡ p = cc in ap (λ (x : Point V). (parts x).2) e
@@ -186,12 +233,12 @@ module _ {V : Type 0} where
   begins_asked op (point.Exchange k old new) t = begins_as op (point.Exchange k old new) t tt
 
   -- a step that doesn't decide leaves the request of a call that stays in flight as it was heard
-  carried : (o : Option (Request V)) (k : ℕ) (kd : Kind V) (v : Option V) (q q' : Question V) → Heard o k kd v → Carries q q' → IsAsked o (Pending k kd v q')
+  carried : (o : Option (Request V)) (k : ℕ) (kd : Kind V) (v : Option V) (q q' : Question V) → Heard o k kd v q → Carries q q' → IsAsked o (Pending k kd v q')
   carried o k kd v q Unasked h c = (h.request, h.is, h.of, tt)
-  carried o k kd v q (Replied x) h c = (h.request, h.is, h.of, tt)
+  carried o k kd v q (Replied x) h c = (h.request, h.is, h.of, subst (λ u. IsQuestionOf kd u h.request.answer) c h.question)
   carried o k kd v q (Asked x) h c = absurd c
 
-  pub undecided_asked : (o : Option (Request V)) (k : ℕ) (kd : Kind V) (v : Option V) (q : Question V) (m : Moved V) (f' : Flight V) → Heard o k kd v → Undecided k kd v q m f' → IsAsked o f'
+  pub undecided_asked : (o : Option (Request V)) (k : ℕ) (kd : Kind V) (v : Option V) (q : Question V) (m : Moved V) (f' : Flight V) → Heard o k kd v q → Undecided k kd v q m f' → IsAsked o f'
   undecided_asked o k kd v q moved.Running f' h u = subst (λ (x : Flight V). IsAsked o x) (sym u.2) (carried o k kd v q u.0 h u.1)
   undecided_asked o k kd v q (moved.Asks x) f' h u = subst (λ (y : Flight V). IsAsked o y) (sym u.1) (h.request, h.is, h.of, u.0)
   undecided_asked o k kd v q (moved.Done r) f' h u = absurd u

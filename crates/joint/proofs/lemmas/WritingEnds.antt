@@ -1,5 +1,5 @@
 -- A writing call that is refused counts nothing: what it answers of its entry is a reply of its own kind.
-use Rattle.std.proofs.Common.{◌≡◌, ℕ, Bool, true, false, cond, List, refl, sym, ◌∙◌, ap, subst}
+use Rattle.std.proofs.Common.{◌≡◌, ℕ, Bool, true, false, cond, List, refl, sym, ◌∙◌, subst}
 use Rattle.std.specs.Prelude.{Option, None, Some, Result, Ok, Err, IfErr, nat_eq}
 use Rattle.std.proofs.lemmas.Bool.{false≢true}
 use Rattle.judge.specs.declared.journal.Call.{Call as Entered}
@@ -10,7 +10,6 @@ use Rattle.judge.specs.declared.journal.Reply.TheVariants as reply
 use Rattle.judge.specs.Answer.{exchange_reply, present_reply, reply_on}
 use Rattle.joint.specs.declared.refusal.Refusal.{Refusal}
 use Rattle.joint.specs.declared.refusal.Refusal.TheVariants.{Foreign}
-use Rattle.joint.specs.declared.steps.Done.{Done as Answered}
 use Rattle.joint.specs.declared.steps.Done.TheVariants as done
 use Rattle.joint.specs.declared.steps.Op.{Op}
 use Rattle.joint.specs.declared.steps.Op.TheVariants as op

@@ -1,10 +1,8 @@
 -- One hold of the lock of an index with a journal: its turn of the call, and what the ledger counts of it.
-use Rattle.std.proofs.Common.{◌≡◌, ℕ, ◌+◌, arith, Bool, true, false, not, List, ◌++◌, refl, sym, ◌∙◌, ap, subst, inl, inr}
+use Rattle.std.proofs.Common.{◌≡◌, ℕ, ◌+◌, arith, Bool, true, false, not, refl, sym, ◌∙◌, ap, inl}
 use Rattle.std.specs.Prelude.{Option, None, Some, nat_eq, slice_get}
 use Rattle.std.proofs.lemmas.Bool.{false≢true}
 use Rattle.judge.specs.declared.journal.Entry.{Entry}
-use Rattle.joint.specs.declared.refusal.Refusal.{Refusal}
-use Rattle.joint.specs.declared.refusal.Refusal.TheVariants as cause
 use Rattle.joint.specs.declared.steps.Event.{Event}
 use Rattle.joint.specs.declared.steps.Op.{Op}
 use Rattle.joint.specs.declared.steps.Outcome.{Outcome}
@@ -13,11 +11,11 @@ use Rattle.joint.specs.declared.steps.Report.{Report}
 use Rattle.joint.specs.declared.steps.Step.{Step}
 use Rattle.joint.specs.Asked.{changes}
 use Rattle.joint.specs.Driving.{IsToldInCall}
-use Rattle.joint.specs.Journaling.{has_place, one_where}
+use Rattle.joint.specs.Journaling.{has_place}
 use Rattle.joint.specs.Journals.{count_watched}
 use Rattle.joint.specs.Runs.{looks_up}
 use Rattle.joint.specs.Whole.{IsStep, Whole}
-use Rattle.joint.specs.Writing.{Appended, Appends, IsEntryOf, IsWritingTurn, Progress, WontRepeat, given_after, noted, settled, told_with, weight}
+use Rattle.joint.specs.Writing.{Appended, Appends, IsWritingTurn, Progress, WontRepeat, given_after, noted, settled, told_with, weight}
 use Rattle.joint.proofs.lemmas.Appending.{entry_changes}
 use Rattle.joint.proofs.lemmas.Watching.{look_up_watched, none_watched, write_watched}
 

@@ -1,8 +1,7 @@
 -- The turns of a writing call on an index with a journal: what its share counts.
-use Rattle.std.proofs.Common.{◌≡◌, ℕ, ◌<◌, arith, Bool, true, false, List, [], ◌∷◌, ◌++◌, length, refl, sym, ◌∙◌, ap, subst, inl, inr}
+use Rattle.std.proofs.Common.{◌≡◌, ℕ, arith, Bool, true, List, [], ◌∷◌, ◌++◌, length, refl, sym, ◌∙◌, ap, subst, inl, inr}
 use Rattle.std.specs.Prelude.{◌⊎◌, Option, None, Some, Ok, Err, nat_eq, option_map}
-use Rattle.std.specs.FinMap.{FinMap, empty, get}
-use Rattle.judge.specs.declared.journal.Call.{Call as Entered}
+use Rattle.std.specs.FinMap.{empty, get}
 use Rattle.judge.specs.declared.journal.Entry.{Entry}
 use Rattle.judge.specs.Answer.{Pairs, answer, key_of}
 use Rattle.judge.specs.Journal.{IsLegal, Legal}
@@ -17,8 +16,7 @@ use Rattle.joint.specs.Driving.{AreTurns, Turn, Turns, ended}
 use Rattle.joint.specs.Journaling.{in_list, one_where}
 use Rattle.joint.specs.Shares.{Tally, counts_more}
 use Rattle.joint.specs.Threads.{End}
-use Rattle.joint.specs.Whole.{Holds, Whole}
-use Rattle.joint.specs.Writing.{Appends, Counts, HoldsWriting, IsAnswered, IsEntryOf, IsWritingTurn, Progress, StopsWriting, given_after, given_by_turns, settled, told_with, unwritten}
+use Rattle.joint.specs.Writing.{Appends, Counts, HoldsWriting, IsAnswered, IsEntryOf, IsWritingTurn, Progress, given_after, given_by_turns, settled, told_with, unwritten}
 use Rattle.joint.proofs.lemmas.Advanced.{journal_legal}
 
 -- no items

@@ -89,6 +89,10 @@ enum Order {
     Dense,
     Shuffled,
     Scattered,
+    /// A leaf of its own for each.
+    Lone,
+    /// The next key in each such leaf.
+    Paired,
 }
 
 impl Order {
@@ -97,11 +101,14 @@ impl Order {
             Order::Dense => turn,
             Order::Shuffled => turn.wrapping_mul(7919) % 30_000,
             Order::Scattered => { turn.wrapping_mul(11400714819323198485) & 0x7fff_ffff_ffff_ffff }
+            Order::Lone => turn.wrapping_mul(256),
+            Order::Paired => turn.wrapping_mul(256).wrapping_add(1),
         }
     }
 }
 
 /// One call with the keys of the turns from the first up to the second.
+#[derive(Clone, Copy)]
 struct Part(Call, Order, u64, u64);
 
 const DENSE: [Part; 4] = [
@@ -127,6 +134,19 @@ const SCATTERED: [Part; 3] = [
     Part(Call::Insert, Order::Scattered, 1, 100_001),
     Part(Call::Remove, Order::Scattered, 1, 50_001),
     Part(Call::Get, Order::Scattered, 1, 100_001),
+];
+
+/// What is done with the leaves below one node: each gets a second value, and loses the first one, and then the other way.
+const LEAVES: [(Call, Order); 9] = [
+    (Call::Insert, Order::Lone),
+    (Call::Insert, Order::Paired),
+    (Call::Get, Order::Lone),
+    (Call::Remove, Order::Lone),
+    (Call::Get, Order::Paired),
+    (Call::Insert, Order::Lone),
+    (Call::Remove, Order::Paired),
+    (Call::Get, Order::Lone),
+    (Call::Get, Order::Paired),
 ];
 
 // Whether the tree and the map answer a call alike; a key is inserted with itself.
@@ -176,6 +196,26 @@ fn shuffled_keys_answer_as_a_map(rt: HostRuntime) -> Result<(), Fail> {
 fn full_nodes_and_scattered_keys_answer_as_a_map(rt: HostRuntime) -> Result<(), Fail> {
     assert!(rt; all_agree(rt.alloc(), &FULL_NODE)?);
     assert!(rt; all_agree(rt.alloc(), &SCATTERED)?);
+    Ok(())
+}
+
+// Whether a tree answers as a map, whose leaves have one value and two by turns, below a node of each form.
+fn leaves_agree(alloc: Global) -> Result<bool, Fail> {
+    let mut tree: Words = Congee::new(alloc, DefaultAllocator::new())?;
+    let mut map = Map::new(alloc);
+    for leaves in [4, 16, 48, 256] {
+        for (call, order) in LEAVES {
+            if !part_agrees(&mut tree, &mut map, &Part(call, order, 0, leaves))? {
+                return Ok(false);
+            }
+        }
+    }
+    Ok(true)
+}
+
+#[test]
+fn leaves_with_one_value_and_with_two_answer_as_a_map(rt: HostRuntime) -> Result<(), Fail> {
+    assert!(rt; leaves_agree(rt.alloc())?);
     Ok(())
 }
 

@@ -334,10 +334,10 @@ fn a_history_wants_memory(rt: HostRuntime) -> Result<(), Fail> {
 #[test]
 fn many_workers_call_at_once(rt: HostRuntime) -> Result<(), Fail> {
     let mut printed = Vec::new(rt.alloc());
-    assert_eq!(rt; threads(&rt, rt.alloc(), 16, 625, &mut printed), 0);
+    assert_eq!(rt; threads(&rt, rt.alloc(), 16, 10_000, &mut printed), 0);
     assert_eq!(rt;
         printed.as_slice(),
-        b"journal 10000 legal\naudit true\nledger 7504\n".as_slice()
+        b"journal 160000 legal\naudit true\nledger 120000\n".as_slice()
     );
     Ok(())
 }

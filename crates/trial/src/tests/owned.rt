@@ -7,7 +7,7 @@ use std::alloc::Global;
 use std::test::Fail;
 
 /// What is asked of a tree of ample memory.
-const AMPLE: [&str; 12] = [
+const AMPLE: [&str; 14] = [
     "a value comes, changes and goes: insert 1 42 = Ok(None); get 1 = Some(42); insert 1 43 = Ok(Some(42)); remove 1 = Some(43); \
      get 1 = None; charged = 2104",
     "a leaf grows through every form: fill 1 50 = true; charged = 4208; get 49 = Some(49)",
@@ -37,6 +37,17 @@ const AMPLE: [&str; 12] = [
     "cleared trees begin anew: clear = (); charged = 2104; fill 1 50 = true; insert 18446744073709551615 5 = Ok(None); clear = (); \
      empty = true; keys = []; ends = (None, None); get 7 = None; charged = 2104; insert 256 2 = Ok(None); insert 7 1 = Ok(None); \
      keys = [7, 256]; beside 256 = (Some((7, 1)), None); charged = 2296",
+    "a leaf gets a second value and loses it: insert 256 1 = Ok(None); charged = 2168; insert 257 2 = Ok(None); charged = 2168; \
+     get 256 = Some(1); get 257 = Some(2); remove 256 = Some(1); charged = 2168; get 256 = None; get 257 = Some(2); keys = [257]; \
+     insert 256 3 = Ok(None); remove 257 = Some(2); get 256 = Some(3); insert 256 4 = Ok(Some(3)); remove 256 = Some(4); charged = 2104; \
+     empty = true",
+    "so it is below a node that grows: insert 256 1 = Ok(None); insert 512 2 = Ok(None); charged = 2296; insert 257 3 = Ok(None); \
+     insert 768 4 = Ok(None); insert 1024 5 = Ok(None); charged = 2424; insert 1280 6 = Ok(None); charged = 2592; \
+     remove 257 = Some(3); insert 1281 7 = Ok(None); remove 1280 = Some(6); charged = 2592; get 256 = Some(1); get 1281 = Some(7); \
+     beside 512 = (Some((256, 1)), Some((768, 4))); range 256 1281 20 = [(256, 1), (512, 2), (768, 4), (1024, 5)]; \
+     range 512 769 20 = [(512, 2), (768, 4)]; insert 72057594037927936 8 = Ok(None); insert 72057594037993472 9 = Ok(None); \
+     charged = 2784; get 72057594037927936 = Some(8); remove 1281 = Some(7); charged = 2720; get 1281 = None; \
+     keys = [256, 512, 768, 1024, 72057594037927936, 72057594037993472]",
 ];
 
 /// What is asked of a tree that takes so many bytes at most.

@@ -14,6 +14,7 @@ use Rattle.congee.specs.Ledger.{IsChild}
 use Rattle.congee.specs.forms.Bytes.{IsFirst}
 use Rattle.congee.specs.owned.Changes.{DiffersAt}
 use Rattle.congee.specs.owned.Cursor.{HangsBelow, IsDescent, IsCursor, HasAhead, IsAhead, IsAt, steps_left}
+use Rattle.congee.specs.owned.Stores.{StandsWith}
 use Rattle.congee.specs.owned.Table.{pairs_of}
 use Rattle.congee.specs.forms.Forms.{children_of}
 use Rattle.congee.specs.declared.forms.base_node.Node.{Node as Form}
@@ -23,7 +24,9 @@ use Rattle.congee.proofs.lemmas.owned.Answered.{at_free, at_apart, at_held}
 use Rattle.congee.proofs.lemmas.Fits.{fits_byte, fits_trans, same_key}
 use Rattle.congee.proofs.lemmas.Graft.{on_test}
 use Rattle.congee.proofs.lemmas.Keys.{key_length}
+use Rattle.congee.proofs.lemmas.Link.{Leaf}
 use Rattle.congee.proofs.lemmas.Orders.{less, byte_small}
+use Rattle.congee.proofs.lemmas.owned.Joins.{leaf_of}
 use Rattle.congee.proofs.lemmas.owned.Tables.{pairs_stand}
 use Rattle.congee.proofs.lemmas.owned.Ways.{linked_of, stands_of, short_prefix, below_stands, root_reached}
 
@@ -419,6 +422,23 @@ module _ {P : Type 0} (s : Nodes P) (t : IsTree s) where
               | inr g ↦ inl (one_key n byte k q x last.stands lk (small q hq) e f v.fitted (omega (arith, eb, g, w.past)))
             ])
       ]
+
+  -- a leaf with one value, which the cursor passes without going into it: so it is with its pair
+  pub found_inline : (before steps : List Branch) (n from byte below k from' : ℕ) (x : P) → IsCursor s (steps ++ step n from ∷ []) → from ≤ byte → byte + 1 ≤ 256 → k < 2 ^ 64
+      → ((b : ℕ) → from ≤ b → b < byte → (heap_of s n).children b ≡ Nothing) → (heap_of s n).children byte ≡ Below below → StandsWith s below k x
+      → SameAhead s before (steps ++ step n from ∷ []) → IsAt s before from'
+      → IsFirst (pairs_of s) from' k x × IsAt s (steps ++ step n (byte + 1) ∷ []) (k + 1)
+  found_inline before steps n from byte below k from' x h lo hi lk free e l same at =
+      let passed : List Branch = steps ++ step n (byte + 1) ∷ [] in
+      let leaf : Leaf (heap_of s) below (key_bytes k) x = leaf_of s (key_bytes k) below l.leaf x (key_length k) l.is l.has in
+      let last : ℕ = get_or (key_bytes k) (length (heap_of s below).prefix) 0 in
+      let small : last < 256 = byte_small k (length (heap_of s below).prefix) (omega (arith, leaf.seven)) in
+      let down : IsCursor s (passed ++ step below 0 ∷ []) = cursor_down s steps n from byte below hi e h in
+      let ahead = entered before steps n from byte below h lo free e same in
+      let both = found before passed below 0 last k from' x down (omega arith) lk (λ b a z. leaf.empty b (λ q. absurd (omega (arith, q, z)))) leaf.value leaf.fitted refl ahead at in
+      let beyond : IsCursor s (passed ++ step below (last + 1) ∷ []) = cursor_moved s passed below 0 (last + 1) (omega (arith, small)) down in
+      let gone = popped (passed ++ step below (last + 1) ∷ []) passed below (last + 1) beyond (λ b a. leaf.empty b (λ q. absurd (omega (arith, q, a)))) (record { same = λ q has. (λ a. a, λ a. a) }) in
+      (both.0, record { ahead = λ q has. (λ a. (gone.same q has).0 ((both.1.ahead q has).0 a), λ a. (both.1.ahead q has).1 ((gone.same q has).1 a)) })
 
   -- nothing is left
   pub ended : (before : List Branch) (from : ℕ) → SameAhead s before [] → IsAt s before from → (q : ℕ) → from ≤ q → map.get (pairs_of s) q ≡ None

@@ -1,9 +1,10 @@
 -- The room that the nodes take, after a change of one of them.
-use Rattle.std.proofs.Common.{◌≡◌, ◌≢◌, ℕ, zero, suc, ◌+◌, List, [], ◌∷◌, get_or, refl, sym, ap, subst, ◌∙◌, arith, inl, inr}
+use Rattle.std.proofs.Common.{◌≡◌, ◌≢◌, ℕ, zero, suc, ◌+◌, ◌≤◌, List, [], ◌∷◌, length, get_or, refl, sym, ap, subst, ◌∙◌, arith, inl, inr}
 use Rattle.std.specs.Prelude.{Option, None, Some}
 use Rattle.slab.specs.Slab.{get, Updates, ContainsKey, with_value, entries, entries_from}
 use Rattle.slab.proofs.SlabLemmas.{Updates-with_value}
 use Rattle.congee.proofs.lemmas.Tree.{same_or_not}
+use Rattle.congee.proofs.lemmas.owned.Totals.{total, total_first, total_beyond}
 use Rattle.congee.specs.forms.Forms.{form_of, size_of}
 use Rattle.congee.specs.owned.Arena.{Nodes}
 use Rattle.congee.specs.owned.Sizes.{bytes_at, bytes_in, bytes_of}
@@ -94,3 +95,21 @@ module _ {P : Type 0} where
 
   pub bytes_left_first : (s : Nodes P) → bytes_left (entries s) ≡ bytes_of s
   bytes_left_first s = left_from 0 s.slots
+
+  -- the sizes by name
+  pub bytes_total : (xs : List (Option (Node ℕ P))) → bytes_in xs ≡ total (λ n. bytes_at (get_or xs n None)) (length xs)
+  unfolding total
+  bytes_total [] = refl
+  bytes_total (x ∷ xs) = ap (λ n. bytes_at x + n) (bytes_total xs) ∙ sym (total_first (λ n. bytes_at (get_or (x ∷ xs) n None)) (length xs))
+
+  -- nothing stands past the slots
+  pub past_slots : (s : Nodes P) (n : ℕ) → length s.slots ≤ n → get s n ≡ None
+  past_slots s n l = of s.slots n l
+    where
+      of : (xs : List (Option (Node ℕ P))) (n : ℕ) → length xs ≤ n → get_or xs n None ≡ None
+      of [] n l = refl
+      of (x ∷ xs) zero l = absurd (omega (arith, l))
+      of (x ∷ xs) (suc n) l = of xs n (omega (arith, l))
+
+  pub bytes_named : (s : Nodes P) (bound : ℕ) → length s.slots ≤ bound → bytes_of s ≡ total (λ n. bytes_at (get s n)) bound
+  bytes_named s bound l = bytes_total s.slots ∙ sym (total_beyond (λ n. bytes_at (get s n)) (length s.slots) bound l (λ i h. ap bytes_at (past_slots s i h)))

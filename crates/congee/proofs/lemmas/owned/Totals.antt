@@ -1,5 +1,6 @@
 -- Sums over the numbers below a bound.
-use Rattle.std.proofs.Common.{◌≡◌, ◌≢◌, ℕ, zero, suc, ◌+◌, ◌<◌, inl, inr, refl, sym, ap, arith}
+use Rattle.std.proofs.Common.{◌≡◌, ◌≢◌, ℕ, zero, suc, ◌+◌, ◌<◌, ◌≤◌, inl, inr, refl, sym, ap, arith}
+use Rattle.std.proofs.lemmas.Bool.{cases_lt}
 use Rattle.congee.proofs.lemmas.Tree.{same_or_not}
 
 -- the sum of what a function gives for the numbers below a bound
@@ -57,3 +58,28 @@ pub total_first : (f : ℕ → ℕ) (n : ℕ) → total f (suc n) ≡ f 0 + tota
 unfolding total
 total_first f zero = omega arith
 total_first f (suc n) = let r = total_first f n in omega (arith, r)
+
+-- nothing from a bound on
+pub total_beyond : (f : ℕ → ℕ) (n m : ℕ) → n ≤ m → ((i : ℕ) → n ≤ i → f i ≡ 0) → total f m ≡ total f n
+unfolding total
+total_beyond f n zero l e = ap (total f) (let z : 0 ≡ n = omega (arith, l) in z)
+total_beyond f n (suc m) l e = elim (cases_lt m n) [
+  | inl lt ↦ ap (total f) (let z : suc m ≡ n = omega (arith, l, lt) in z)
+  | inr ge ↦ (let r = total_beyond f n m ge e in let h = e m ge in omega (arith, r, h))
+]
+
+-- another number at one place
+pub total_update : (f g : ℕ → ℕ) (n k : ℕ) → k < n → ((i : ℕ) → i ≢ k → g i ≡ f i) → total g n + f k ≡ total f n + g k
+unfolding total
+total_update f g zero k l e = absurd (omega (arith, l))
+total_update f g (suc n) k l e = elim (same_or_not k n) [
+  | inl p ↦
+      (let r = total_same g f n (λ i m. e i (omega (arith, m, p))) in
+      let a : f n ≡ f k = ap f (sym p) in
+      let b : g n ≡ g k = ap g (sym p) in
+      omega (arith, r, a, b))
+  | inr ne ↦
+      (let r = total_update f g n k (omega (arith, l, ne)) e in
+      let h = e n (λ q. ne (sym q)) in
+      omega (arith, r, h))
+]

@@ -21,6 +21,7 @@ use Rattle.congee.proofs.lemmas.Fits.{same_test, other_test}
 use Rattle.congee.proofs.lemmas.Tree.{same_or_not}
 use Rattle.congee.proofs.lemmas.owned.Cursors.{nothing_blank}
 use Rattle.congee.proofs.lemmas.owned.Moves.{node_at}
+use Rattle.congee.proofs.lemmas.owned.Sizes.{bytes_total, past_slots}
 use Rattle.congee.proofs.lemmas.owned.Totals.{total, total_same, total_none, total_one, total_add, total_swap, total_first}
 use Rattle.congee.proofs.lemmas.owned.Ways.{linked_of, stands_of, short_prefix}
 
@@ -141,24 +142,11 @@ module _ {P : Type 0} where
       ∙ at_same (Below c) c (g c) refl)
   hung_total g (Holds v) l e = sym (total_none (λ m. 0) l (λ i b. refl))
 
-  bytes_total : (xs : List (Option (Form ℕ P))) → bytes_in xs ≡ total (λ n. bytes_at (get_or xs n None)) (length xs)
-  unfolding total
-  bytes_total [] = refl
-  bytes_total (x ∷ xs) = ap (λ n. bytes_at x + n) (bytes_total xs) ∙ sym (total_first (λ n. bytes_at (get_or (x ∷ xs) n None)) (length xs))
-
 module _ {P : Type 0} (s : Nodes P) (t : IsTree s) where
-  past : (n : ℕ) → length s.slots ≤ n → get s n ≡ None
-  past n l = of s.slots n l
-    where
-      of : (xs : List (Option (Form ℕ P))) (n : ℕ) → length xs ≤ n → get_or xs n None ≡ None
-      of [] n l = refl
-      of (x ∷ xs) zero l = absurd (omega (arith, l))
-      of (x ∷ xs) (suc n) l = of xs n (omega (arith, l))
-
   within : (n : ℕ) → ContainsKey s n → n < length s.slots
   within n h = elim (cases_lt n (length s.slots)) [
     | inl l ↦ l
-    | inr g ↦ absurd (let e : is_some (get s n) ≡ false = ap is_some (past n g) in cc (h, e))
+    | inr g ↦ absurd (let e : is_some (get s n) ≡ false = ap is_some (past_slots s n g) in cc (h, e))
   ]
 
   -- what a node weighs that isn't there

@@ -1,38 +1,25 @@
-use Rattle.std.proofs.Common.{rules, ◌≡◌, sym, false}
-use Rattle.congee.specs.Heap.{Below, Holds, Nothing, fits, child_for}
-use Rattle.congee.specs.owned.Arena.{heap_of}
+use Rattle.std.proofs.Common.{sym}
 use Rattle.congee.proofs.lemmas.owned.Answered.{at_held, at_free, at_apart}
-use Rattle.congee.proofs.lemmas.owned.Ways.{below_stands, falls, no_blank}
+use Rattle.congee.proofs.lemmas.owned.Ways.{below_stands, falls, root_reached}
 use Rattle.congee.proofs.owned.arena.Arena.get.Goals as goal
 
-pub index-requires : goal.index-requires
-index-requires g c =
-    let e : child_for (heap_of c.args.self.now.nodes c.loop-value.at) c.args.key.now ≡ Below c.in-Some-Node.below = search rules in
-    below_stands c.args.self.now.nodes c.requires c.loop-value.at c.in-Some-Node.below c.args.key.now c.loop-value.invariant.stands e
+pub loop-value-init : goal.loop-value-init
+loop-value-init g c = rw c.root-at.ensures (root_reached c.args.self.now.nodes c.args.key.now c.requires).way
 
 pub loop-value-smaller : goal.loop-value-smaller
-loop-value-smaller g c =
-    let e : child_for (heap_of c.args.self.now.nodes c.loop-value.at) c.args.key.now ≡ Below c.in-Some-Node.below = search rules in
-    falls c.args.self.now.nodes c.requires c.args.key.now c.loop-value.at c.in-Some-Node.below c.loop-value.invariant.stands e
+loop-value-smaller g c = falls c.args.self.now.nodes c.requires c.args.key.now c.loop-value.at c.in-Below.below c.loop-value.invariant.stands c.in-Below.ensures.0
 
-pub unreachable-requires : goal.unreachable-requires
-unreachable-requires g c =
-    let e : child_for (heap_of c.args.self.now.nodes c.loop-value.at) c.args.key.now ≡ Below 0 = search rules in
-    no_blank c.args.self.now.nodes c.requires c.args.key.now c.loop-value.at c.loop-value.invariant.stands e
+pub loop-value-preserved : goal.loop-value-preserved
+loop-value-preserved g c = record {
+  stands = below_stands c.args.self.now.nodes c.requires c.loop-value.at c.in-Below.below c.args.key.now c.loop-value.invariant.stands c.in-Below.ensures.0;
+  fitted = c.in-Below.ensures.1;
+}
 
-pub returns-in-None : goal.returns-in-None
-returns-in-None g c =
-    let e : child_for (heap_of c.args.self.now.nodes c.loop-value.at) c.args.key.now ≡ Nothing = search rules in
-    sym (at_free c.args.self.now.nodes c.args.key.now c.loop-value.at c.requires c.loop-value.invariant e)
+pub returns-in-Free : goal.returns-in-Free
+returns-in-Free g c = sym (at_free c.args.self.now.nodes c.args.key.now c.loop-value.at c.requires c.loop-value.invariant c.in-Free.ensures)
 
-pub returns-in-Some-Value : goal.returns-in-Some-Value
-returns-in-Some-Value g c =
-    let e : child_for (heap_of c.args.self.now.nodes c.loop-value.at) c.args.key.now ≡ Holds c.in-Some-Value.value = search rules in
-    sym (at_held c.args.self.now.nodes c.args.key.now c.loop-value.at c.in-Some-Value.value c.requires c.loop-value.invariant e)
+pub returns-in-Held : goal.returns-in-Held
+returns-in-Held g c = sym (at_held c.args.self.now.nodes c.args.key.now c.loop-value.at c.in-Held.value.now c.requires c.loop-value.invariant c.in-Held.ensures)
 
-pub returns-then-not-is_prefix_of : goal.returns-then-not-is_prefix_of
-returns-then-not-is_prefix_of g c =
-    let s = c.args.self.now.nodes in
-    let e : child_for (heap_of s c.loop-value.at) c.args.key.now ≡ Below c.in-Some-Node.below = search rules in
-    let f : fits (heap_of s c.in-Some-Node.below).prefix c.args.key.now ≡ false = search rules in
-    sym (at_apart s c.args.key.now c.loop-value.at c.in-Some-Node.below c.requires c.loop-value.invariant e f)
+pub returns-in-Apart : goal.returns-in-Apart
+returns-in-Apart g c = sym (at_apart c.args.self.now.nodes c.args.key.now c.loop-value.at c.in-Apart.field-0 c.requires c.loop-value.invariant c.in-Apart.ensures.0 c.in-Apart.ensures.1)

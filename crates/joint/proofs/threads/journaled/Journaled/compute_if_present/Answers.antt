@@ -1,6 +1,5 @@
-use Rattle.std.proofs.Common.{rules, refl, sym, ap, subst, ◌≡◌, ◌∙◌}
-use Rattle.std.specs.Prelude.{Err, IfErr}
-use Rattle.joint.specs.declared.refusal.Refusal.TheVariants.{Foreign}
+use Rattle.std.proofs.Common.{rules, sym, ap, subst, ◌≡◌, ◌∙◌}
+use Rattle.std.specs.Prelude.{IfErr}
 use Rattle.joint.specs.Threads.{is_held_by, computed}
 use Rattle.joint.proofs.lemmas.WritingEnds.{served, present_refused}
 use Rattle.joint.proofs.threads.journaled.Journaled.compute_if_present.Goals as goal

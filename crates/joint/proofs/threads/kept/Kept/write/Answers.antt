@@ -1,6 +1,5 @@
 use Rattle.std.proofs.Common.{rules, arith, sym, ap, subst, ◌∙◌}
 use Rattle.std.specs.Prelude.{IsTrue, nat_eq, true}
-use Rattle.joint.specs.declared.steps.Outcome.{Outcome}
 use Rattle.joint.specs.declared.steps.Report.{Report}
 use Rattle.joint.specs.Driving.{IsToldInCall}
 use Rattle.joint.specs.Writing.{IsWritingTurn, Progress, given_after, noted}

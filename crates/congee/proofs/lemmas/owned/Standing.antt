@@ -1,0 +1,29 @@
+-- A node that stands under a name, and what is read of it.
+use Rattle.std.proofs.Common.{rules, ◌≡◌, ℕ, List, refl, sym, ◌∙◌}
+use Rattle.std.specs.Prelude.{Option, Some, None, IsSome}
+use Rattle.slab.specs.Slab.{get, ContainsKey}
+use Rattle.congee.specs.forms.Forms.{prefix_of}
+use Rattle.congee.specs.owned.Arena.{Nodes, heap_of}
+use Rattle.congee.specs.declared.forms.base_node.Node.{Node as Form}
+use Rattle.congee.proofs.lemmas.owned.Ways.{prefix_is}
+
+module _ {P : Type 0} where
+  -- the node of a name
+  pub record Standing (s : Nodes P) (n : ℕ) : Type 0 where
+    pub node : Form ℕ P
+    pub is : get s n ≡ Some node
+
+  pub standing : (s : Nodes P) (n : ℕ) → ContainsKey s n → Standing s n
+  standing s n h =
+      let it = of (get s n) h in
+      record { node = it.0; is = it.1 }
+    where
+      of : (o : Option (Form ℕ P)) → IsSome o → (x : Form ℕ P) × (o ≡ Some x)
+      of None h = absurd (cc h)
+      of (Some x) h = (x, refl)
+
+  -- its prefix, as it was read
+  pub prefix_read : (s : Nodes P) (n : ℕ) (p : List ℕ) → ContainsKey s n → ((x : Form ℕ P) → get s n ≡ Some x → p ≡ prefix_of x) → p ≡ (heap_of s n).prefix
+  prefix_read s n p h e =
+      let x = standing s n h in
+      e x.node x.is ∙ sym (prefix_is s n x.node x.is)

@@ -1,0 +1,136 @@
+use Rattle.std.proofs.Common.{rules, ◌≡◌, length, get_or, refl, sym, ap, subst, arith, IsSome}
+use Rattle.slab.specs.Slab.{get}
+use Rattle.congee.specs.owned.Changes.{DiffersAt}
+use Rattle.congee.proofs.lemmas.owned.Moves.{node_at, prefix_at, stands_at, fresh_absent, fresh_room, fresh_made}
+use Rattle.congee.proofs.lemmas.owned.Ways.{below_stands}
+use Rattle.congee.proofs.lemmas.owned.Hangings.{Forked, forked_at, fork_hung, fork_hosts, fork_below, fork_hangs, made_inner, hung_inner, hung_absent, hung_room, room_made, up_inner, up_node, short_take}
+use Rattle.congee.proofs.owned.arena.Arena.fork.Given.{Over}
+use Rattle.congee.proofs.owned.arena.Arena.fork.Goals.{After-hang_node}
+use Rattle.congee.proofs.owned.arena.Arena.fork.Goals as goal
+
+pub prefix-prefix-requires : goal.prefix-prefix-requires
+prefix-prefix-requires g c = below_stands c.args.self.now.nodes c.requires.tree c.args.at c.args.below c.args.key.now c.requires.way.stands c.requires.hangs
+
+pub first_apart-common-requires-clause-differs : goal.first_apart-common-requires-clause-differs
+first_apart-common-requires-clause-differs g c =
+    let n = node_at c.args.self.now.nodes c.args.below (below_stands c.args.self.now.nodes c.requires.tree c.args.at c.args.below c.args.key.now c.requires.way.stands c.requires.hangs) in
+    rw (c.prefix-prefix.ensures.bytes n.0 n.1, ← prefix_at c.args.self.now.nodes c.args.below n.0 n.1) c.requires.differs
+
+pub make-over-requires-clause-inner : goal.make-over-requires-clause-inner
+make-over-requires-clause-inner g c = short_take c.first_apart-common.result c.args.key.now (omega (arith, c.first_apart-common.ensures.within, c.prefix-prefix.ensures.fits))
+
+pub make-over-requires-clause-room : goal.make-over-requires-clause-room
+make-over-requires-clause-room g c = omega (arith, c.requires.room)
+
+pub hang_leaf-requires-clause-stands : goal.hang_leaf-requires-clause-stands
+hang_leaf-requires-clause-stands g c = stands_at c.make-over.new.self c.make-over.result c.make-over.ensures.made.node c.make-over.ensures.made.updates.changed
+
+pub hang_leaf-requires-clause-inner : goal.hang_leaf-requires-clause-inner
+hang_leaf-requires-clause-inner g c = made_inner c.args.self.now.nodes c.make-over.new.self c.make-over.result _ c.make-over.ensures.made
+    (short_take c.first_apart-common.result c.args.key.now (omega (arith, c.first_apart-common.ensures.within, c.prefix-prefix.ensures.fits)))
+
+pub hang_leaf-requires-clause-absent : goal.hang_leaf-requires-clause-absent
+hang_leaf-requires-clause-absent g c = λ x e. fresh_absent c.make-over.new.self c.make-over.result _ (fresh_made c.args.self.now.nodes c.make-over.new.self c.make-over.new.self c.make-over.result _ c.make-over.ensures.made refl) x e _
+
+pub hang_leaf-requires-clause-room : goal.hang_leaf-requires-clause-room
+hang_leaf-requires-clause-room g c = λ x e. fresh_room c.make-over.new.self c.make-over.result _ (fresh_made c.args.self.now.nodes c.make-over.new.self c.make-over.new.self c.make-over.result _ c.make-over.ensures.made refl) x e
+
+pub hang_leaf-requires-clause-spare : goal.hang_leaf-requires-clause-spare
+hang_leaf-requires-clause-spare g c = room_made c.args.self.now.nodes c.make-over.new.self c.make-over.result 1 _ c.make-over.ensures.made c.make-over.ensures.capacity c.requires.room
+
+pub hang_node-requires-clause-stands : goal.hang_node-requires-clause-stands
+hang_node-requires-clause-stands g c =
+    let m = c.make-over.ensures.made in
+    let h = c.hang_leaf.ensures.hangs m.node m.updates.changed in
+    stands_at c.hang_leaf.new.self c.make-over.result h.node h.now
+
+pub hang_node-requires-clause-inner : goal.hang_node-requires-clause-inner
+hang_node-requires-clause-inner g c =
+    let m = c.make-over.ensures.made in
+    hung_inner c.args.self.now.nodes c.make-over.new.self c.hang_leaf.new.self c.make-over.result _ _ _ c.args.value m (c.hang_leaf.ensures.hangs m.node m.updates.changed)
+    (short_take c.first_apart-common.result c.args.key.now (omega (arith, c.first_apart-common.ensures.within, c.prefix-prefix.ensures.fits)))
+
+pub hang_node-requires-clause-absent : goal.hang_node-requires-clause-absent
+hang_node-requires-clause-absent g c =
+    let m = c.make-over.ensures.made in
+    hung_absent c.args.self.now.nodes c.make-over.new.self c.hang_leaf.new.self c.make-over.result _ _ _ c.args.value m (c.hang_leaf.ensures.hangs m.node m.updates.changed) _ c.first_apart-common.ensures.apart
+
+pub hang_node-requires-clause-room : goal.hang_node-requires-clause-room
+hang_node-requires-clause-room g c =
+    let m = c.make-over.ensures.made in
+    hung_room c.args.self.now.nodes c.make-over.new.self c.hang_leaf.new.self c.make-over.result _ _ _ c.args.value m (c.hang_leaf.ensures.hangs m.node m.updates.changed)
+
+-- the node over the other one, as it was made and filled
+abbrev IsForked : (g : Over) → After-hang_node g → Type 0
+IsForked g c = Forked c.args.self.now.nodes c.make-over.new.self c.hang_leaf.new.self c.hang_node.new.self c.args.key.now c.first_apart-common.result c.make-over.result (get_or c.prefix-prefix.result.now c.first_apart-common.result 0) c.args.below c.args.value
+
+forked : (g : Over) (c : After-hang_node g) → IsForked g c
+forked g c =
+    let n = node_at c.args.self.now.nodes c.args.below (below_stands c.args.self.now.nodes c.requires.tree c.args.at c.args.below c.args.key.now c.requires.way.stands c.requires.hangs) in
+    let p = c.prefix-prefix.ensures.bytes n.0 n.1 in
+    let m = c.make-over.ensures.made in
+    let h = c.hang_leaf.ensures.hangs m.node m.updates.changed in
+    record {
+      lower = n.0;
+      stands = n.1;
+      parts = subst (λ q. DiffersAt c.args.key.now q c.first_apart-common.result) p c.first_apart-common.ensures;
+      other_is = ap (λ q. get_or q c.first_apart-common.result 0) p;
+      made = m;
+      hangs = h;
+      forks = c.hang_node.ensures.hangs h.node h.now;
+    }
+
+-- the node at hand is as it was
+abbrev IsThere : (g : Over) → After-hang_node g → Type 0
+IsThere g c = get c.hang_node.new.self c.args.at ≡ get c.args.self.now.nodes c.args.at
+
+there : (g : Over) (c : After-hang_node g) → IsThere g c
+there g c = forked_at c.args.self.now.nodes c.make-over.new.self c.hang_leaf.new.self c.hang_node.new.self c.args.key.now c.first_apart-common.result c.make-over.result _ c.args.below c.args.value (forked g c) c.args.at c.requires.way.stands
+
+pub byte_at-up-requires : goal.byte_at-up-requires
+byte_at-up-requires g c = subst IsSome (sym (there g c)) c.requires.way.stands
+
+pub swap_node-requires-clause-stands : goal.swap_node-requires-clause-stands
+swap_node-requires-clause-stands g c = subst IsSome (sym (there g (goal.at.swap_node-requires-clause-stands g c).After-hang_node)) c.requires.way.stands
+
+pub swap_node-requires-clause-inner : goal.swap_node-requires-clause-inner
+swap_node-requires-clause-inner g c =
+    up_inner c.args.self.now.nodes c.hang_node.new.self c.requires.tree c.args.key.now c.args.at c.args.below (there g (goal.at.swap_node-requires-clause-inner g c).After-hang_node)
+    (fork_hangs c.args.self.now.nodes c.args.key.now c.args.at c.args.below c.requires.way c.requires.hangs)
+
+pub swap_node-requires-clause-present : goal.swap_node-requires-clause-present
+swap_node-requires-clause-present g c =
+    up_node c.args.self.now.nodes c.hang_node.new.self c.requires.tree c.args.key.now c.args.at c.args.below (there g (goal.at.swap_node-requires-clause-present g c).After-hang_node)
+    (fork_hangs c.args.self.now.nodes c.args.key.now c.args.at c.args.below c.requires.way c.requires.hangs) c.byte_at-up.result c.requires.own c.byte_at-up.ensures
+
+pub returns-clause-tree : goal.returns-clause-tree
+returns-clause-tree g c =
+    let len : length c.args.key.now ≡ 8 = search rules in
+    (fork_hung c.args.self.now.nodes c.make-over.new.self c.hang_leaf.new.self c.hang_node.new.self c.args.key.now c.first_apart-common.result c.make-over.result _ c.args.below c.args.value (forked g (goal.at.returns-clause-tree g c).After-hang_node)
+    c.swap_node.new.self c.args.at c.byte_at-up.result len c.requires.tree c.requires.way c.requires.hangs c.requires.differs c.byte_at-up.ensures c.swap_node.ensures.swaps).0.0
+
+pub returns-clause-change : goal.returns-clause-change
+returns-clause-change g c =
+    let len : length c.args.key.now ≡ 8 = search rules in
+    (fork_hung c.args.self.now.nodes c.make-over.new.self c.hang_leaf.new.self c.hang_node.new.self c.args.key.now c.first_apart-common.result c.make-over.result _ c.args.below c.args.value (forked g (goal.at.returns-clause-change g c).After-hang_node)
+    c.swap_node.new.self c.args.at c.byte_at-up.result len c.requires.tree c.requires.way c.requires.hangs c.requires.differs c.byte_at-up.ensures c.swap_node.ensures.swaps).0.1
+
+pub returns-clause-bytes : goal.returns-clause-bytes
+returns-clause-bytes g c =
+    let len : length c.args.key.now ≡ 8 = search rules in
+    let r = fork_hung c.args.self.now.nodes c.make-over.new.self c.hang_leaf.new.self c.hang_node.new.self c.args.key.now c.first_apart-common.result c.make-over.result _ c.args.below c.args.value (forked g (goal.at.returns-clause-bytes g c).After-hang_node)
+    c.swap_node.new.self c.args.at c.byte_at-up.result len c.requires.tree c.requires.way c.requires.hangs c.requires.differs c.byte_at-up.ensures c.swap_node.ensures.swaps in
+    omega (arith, r.1)
+
+pub returns-clause-hosts : goal.returns-clause-hosts
+returns-clause-hosts g c =
+    let len : length c.args.key.now ≡ 8 = search rules in
+    fork_hosts c.args.self.now.nodes c.make-over.new.self c.hang_leaf.new.self c.hang_node.new.self c.args.key.now c.first_apart-common.result c.make-over.result _ c.args.below c.args.value (forked g (goal.at.returns-clause-hosts g c).After-hang_node)
+    c.swap_node.new.self c.args.at c.byte_at-up.result len c.requires.tree c.requires.way c.requires.hangs c.requires.differs c.byte_at-up.ensures c.swap_node.ensures.swaps
+    (short_take c.first_apart-common.result c.args.key.now (omega (arith, c.first_apart-common.ensures.within, c.prefix-prefix.ensures.fits)))
+
+pub returns-clause-same : goal.returns-clause-same
+returns-clause-same g c =
+    let len : length c.args.key.now ≡ 8 = search rules in
+    fork_below c.args.self.now.nodes c.make-over.new.self c.hang_leaf.new.self c.hang_node.new.self c.args.key.now c.first_apart-common.result c.make-over.result _ c.args.below c.args.value (forked g (goal.at.returns-clause-same g c).After-hang_node)
+    c.swap_node.new.self c.args.at c.byte_at-up.result len c.requires.tree c.requires.way c.requires.hangs c.requires.differs c.byte_at-up.ensures c.swap_node.ensures.swaps

@@ -1,0 +1,87 @@
+-- A slot's node, of either kind.
+use Rattle.std.specs.Prelude.{◌≡◌, ◌<◌, ℕ, Bool, List, Option, None, Some, IsSome}
+use Rattle.std.specs.Ordering.{nat_cmp}
+use Rattle.std.specs.FinMap as map
+use Rattle.congee.specs.forms.Forms.{Becomes, children_of, form_of, is_full_of, next_form, prefix_of}
+use Rattle.congee.specs.declared.forms.base_node.Node.{Node}
+use Rattle.congee.specs.declared.forms.base_node.NodeType.{NodeType}
+use Rattle.congee.specs.declared.forms.child.Child.{Child}
+use Rattle.congee.specs.declared.forms.child.Child.TheVariants.{Blank, Node as Sub, Value}
+use Rattle.congee.specs.declared.owned.nodes.Slot.{Slot}
+use Rattle.congee.specs.declared.owned.nodes.Slot.TheVariants.{Inner, Leaf}
+
+-- the node as before in the next greater form
+pub record IsGrown {C P : Type 0} (old new : Node C P) : Type 0 where
+  pub form : form_of new ≡ next_form (form_of old)
+  pub prefix : prefix_of new ≡ prefix_of old
+  pub children : children_of new ≡ children_of old
+
+module _ {P : Type 0} where
+  -- a value is there
+  abbrev pub IsValue : Option (Child ℕ P) → Type 0
+  IsValue None = ⊥
+  IsValue (Some Blank) = ⊥
+  IsValue (Some (Sub name)) = ⊥
+  IsValue (Some (Value value)) = Unit {0}
+
+module _ {L P : Type 0} where
+  abbrev pub prefix_in : Slot L P → List ℕ
+  prefix_in (Inner n) = prefix_of n
+  prefix_in (Leaf n) = prefix_of n
+
+  abbrev pub form_in : Slot L P → NodeType
+  form_in (Inner n) = form_of n
+  form_in (Leaf n) = form_of n
+
+  abbrev pub len_in : Slot L P → ℕ
+  len_in (Inner n) = map.len (children_of n)
+  len_in (Leaf n) = map.len (children_of n)
+
+  abbrev pub full_in : Slot L P → Bool
+  full_in (Inner n) = is_full_of n
+  full_in (Leaf n) = is_full_of n
+
+  -- what hangs in the node hangs at bytes
+  abbrev pub HasLowBytes : Slot L P → Type 0
+  HasLowBytes (Inner n) = (b : ℕ) → IsSome (map.get (children_of n) b) → b < 256
+  HasLowBytes (Leaf n) = (b : ℕ) → IsSome (map.get (children_of n) b) → b < 256
+
+  abbrev pub IsInner : Slot L P → Type 0
+  IsInner (Inner n) = Unit {0}
+  IsInner (Leaf n) = ⊥
+
+  abbrev pub IsLeaf : Slot L P → Type 0
+  IsLeaf (Inner n) = ⊥
+  IsLeaf (Leaf n) = Unit {0}
+
+  -- what an inner node has under a byte, and what a leaf has
+  abbrev pub inner_get : Slot L P → ℕ → Option (Child ℕ L)
+  inner_get (Inner n) byte = map.get (children_of n) byte
+  inner_get (Leaf n) byte = None
+
+  abbrev pub leaf_get : Slot L P → ℕ → Option (Child ℕ P)
+  leaf_get (Inner n) byte = None
+  leaf_get (Leaf n) byte = map.get (children_of n) byte
+
+  abbrev pub Cleared : Slot L P → Slot L P → Type 0
+  Cleared (Inner n) (Inner m) = Becomes n m map.empty
+  Cleared (Leaf n) (Leaf m) = Becomes n m map.empty
+  Cleared (Inner n) (Leaf m) = ⊥
+  Cleared (Leaf n) (Inner m) = ⊥
+
+  -- the children alone change, as a function says
+  abbrev pub InnerBecomes : Slot L P → Slot L P → (map.FinMap nat_cmp (Child ℕ L) → map.FinMap nat_cmp (Child ℕ L)) → Type 0
+  InnerBecomes (Inner n) (Inner m) f = Becomes n m (f (children_of n))
+  InnerBecomes (Inner n) (Leaf m) f = ⊥
+  InnerBecomes (Leaf n) m f = ⊥
+
+  abbrev pub LeafBecomes : Slot L P → Slot L P → (map.FinMap nat_cmp (Child ℕ P) → map.FinMap nat_cmp (Child ℕ P)) → Type 0
+  LeafBecomes (Leaf n) (Leaf m) f = Becomes n m (f (children_of n))
+  LeafBecomes (Leaf n) (Inner m) f = ⊥
+  LeafBecomes (Inner n) m f = ⊥
+
+  abbrev pub Grown : Slot L P → Slot L P → Type 0
+  Grown (Inner n) (Inner m) = IsGrown n m
+  Grown (Leaf n) (Leaf m) = IsGrown n m
+  Grown (Inner n) (Leaf m) = ⊥
+  Grown (Leaf n) (Inner m) = ⊥

@@ -1,0 +1,20 @@
+-- Where a node leads a key.
+use Rattle.std.specs.Prelude.{◌≡◌, ℕ, true, false, List}
+use Rattle.congee.specs.Heap.{Nothing, Below as Under, Holds, fits, child_for}
+use Rattle.congee.specs.owned.Arena.{Nodes, heap_of}
+use Rattle.congee.specs.declared.owned.place.Way.{Way}
+use Rattle.congee.specs.declared.owned.place.Way.TheVariants.{Free, Held, Below, Apart}
+
+-- what the node has for the key
+abbrev pub Leads : {P : Type 0} → Nodes P → List ℕ → ℕ → Way P → Type 0
+Leads s key at Free = child_for (heap_of s at) key ≡ Nothing
+Leads s key at (Held value) = child_for (heap_of s at) key ≡ Holds value.now
+Leads s key at (Below c) = (child_for (heap_of s at) key ≡ Under c) × (fits (heap_of s c).prefix key ≡ true)
+Leads s key at (Apart c) = (child_for (heap_of s at) key ≡ Under c) × (fits (heap_of s c).prefix key ≡ false)
+
+-- whether the key has the prefix of the node of this name
+abbrev pub IsTurn : {P : Type 0} → Nodes P → List ℕ → ℕ → Way P → Type 0
+IsTurn s key name Free = ⊥
+IsTurn s key name (Held value) = ⊥
+IsTurn s key name (Below c) = (c ≡ name) × (fits (heap_of s c).prefix key ≡ true)
+IsTurn s key name (Apart c) = (c ≡ name) × (fits (heap_of s c).prefix key ≡ false)
