@@ -25,6 +25,7 @@ use congee::protocol::{Kind, Phase, Stage};
 use congee::{Allocator, Machine, Move, Noise, Op, Payload, Small, Step, step_of};
 use crossbeam_epoch::{Event, Name, Outcome, Report};
 use std::alloc::{AllocError, Global};
+use std::mem;
 
 /// What the collector's laws say of the cells.
 pub(crate) fn cell_laws<P: Payload + Small>()
@@ -312,7 +313,7 @@ impl<P: Payload + Small, A: Allocator> Engine<P, A> {
         ensures nodes { self.new.nodes ≡ self.old.nodes }
         ensures calls { self.new.calls ≡ self.old.calls }
     {
-        self.machines[who] = machine;
+        drop(mem::replace(&mut self.machines[who], machine));
     }
 
     /// Begins a writing call in the place of a pinned worker: it takes no step yet.

@@ -17,7 +17,10 @@ pub(crate) fn told<P: Drop>(end: End<P>) -> Result<(), Refusal>
 {
     match end {
         Ok(Done::Unit) => Ok(()),
-        Ok(_) => Err(Refusal::Idle),
+        Ok(other) => {
+            drop(other);
+            Err(Refusal::Idle)
+        }
         Err(refusal) => Err(refusal),
     }
 }
@@ -28,7 +31,10 @@ pub(crate) fn got<P: Drop>(end: End<P>) -> Result<Option<P>, Refusal>
 {
     match end {
         Ok(Done::Reply(Reply::Get(found))) => Ok(found),
-        Ok(_) => Err(Refusal::Idle),
+        Ok(other) => {
+            drop(other);
+            Err(Refusal::Idle)
+        }
         Err(refusal) => Err(refusal),
     }
 }
@@ -39,7 +45,10 @@ pub(crate) fn inserted<P: Drop>(end: End<P>) -> Result<Option<P>, Refusal>
 {
     match end {
         Ok(Done::Reply(Reply::Insert(before))) => Ok(before),
-        Ok(_) => Err(Refusal::Idle),
+        Ok(other) => {
+            drop(other);
+            Err(Refusal::Idle)
+        }
         Err(refusal) => Err(refusal),
     }
 }
@@ -50,7 +59,10 @@ pub(crate) fn removed<P: Drop>(end: End<P>) -> Result<Option<P>, Refusal>
 {
     match end {
         Ok(Done::Reply(Reply::Remove(before))) => Ok(before),
-        Ok(_) => Err(Refusal::Idle),
+        Ok(other) => {
+            drop(other);
+            Err(Refusal::Idle)
+        }
         Err(refusal) => Err(refusal),
     }
 }
@@ -61,7 +73,10 @@ pub(crate) fn computed<P: Drop>(end: End<P>) -> Result<Option<(P, Option<P>)>, R
 {
     match end {
         Ok(Done::Reply(Reply::ComputePresent(pair))) => Ok(pair),
-        Ok(_) => Err(Refusal::Idle),
+        Ok(other) => {
+            drop(other);
+            Err(Refusal::Idle)
+        }
         Err(refusal) => Err(refusal),
     }
 }
@@ -72,7 +87,10 @@ pub(crate) fn replaced<P: Drop>(end: End<P>) -> Result<Option<P>, Refusal>
 {
     match end {
         Ok(Done::Reply(Reply::ComputeInsert(before))) => Ok(before),
-        Ok(_) => Err(Refusal::Idle),
+        Ok(other) => {
+            drop(other);
+            Err(Refusal::Idle)
+        }
         Err(refusal) => Err(refusal),
     }
 }
@@ -83,7 +101,10 @@ pub(crate) fn exchanged<P: Drop>(end: End<P>) -> Result<Result<Option<P>, Option
 {
     match end {
         Ok(Done::Reply(Reply::Exchange(answer))) => Ok(answer),
-        Ok(_) => Err(Refusal::Idle),
+        Ok(other) => {
+            drop(other);
+            Err(Refusal::Idle)
+        }
         Err(refusal) => Err(refusal),
     }
 }
@@ -94,7 +115,10 @@ pub(crate) fn scanned<P: Drop>(end: End<P>) -> Result<usize, Refusal>
 {
     match end {
         Ok(Done::Scanned(count)) => Ok(count),
-        Ok(_) => Err(Refusal::Idle),
+        Ok(other) => {
+            drop(other);
+            Err(Refusal::Idle)
+        }
         Err(refusal) => Err(refusal),
     }
 }
@@ -105,7 +129,10 @@ pub(crate) fn emptied<P: Drop>(end: End<P>) -> Result<bool, Refusal>
 {
     match end {
         Ok(Done::Empty(empty)) => Ok(empty),
-        Ok(_) => Err(Refusal::Idle),
+        Ok(other) => {
+            drop(other);
+            Err(Refusal::Idle)
+        }
         Err(refusal) => Err(refusal),
     }
 }
@@ -116,7 +143,10 @@ pub(crate) fn listed<P: Drop>(end: End<P>) -> Result<Vec<u64>, Refusal>
 {
     match end {
         Ok(Done::Keys(keys)) => Ok(keys),
-        Ok(_) => Err(Refusal::Idle),
+        Ok(other) => {
+            drop(other);
+            Err(Refusal::Idle)
+        }
         Err(refusal) => Err(refusal),
     }
 }
@@ -127,7 +157,10 @@ pub(crate) fn counted<P: Drop>(end: End<P>) -> Result<NodeStats, Refusal>
 {
     match end {
         Ok(Done::Stats(stats)) => Ok(stats),
-        Ok(_) => Err(Refusal::Idle),
+        Ok(other) => {
+            drop(other);
+            Err(Refusal::Idle)
+        }
         Err(refusal) => Err(refusal),
     }
 }

@@ -136,7 +136,10 @@ impl<P: Payload + Small, T: Locked<P>> Tree<P, T> {
                 number,
             }),
             Outcome::Refused(refusal) => Err(refusal),
-            _ => Err(Refusal::Idle),
+            other => {
+                drop(other);
+                Err(Refusal::Idle)
+            }
         }
     }
 
