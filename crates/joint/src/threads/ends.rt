@@ -1,6 +1,7 @@
 //! How calls read their end. The end of another call, which none of them meets, makes Idle.
 
-ghost use Rattle.std.specs.Prelude.{◌≡◌};
+ghost use Rattle.std.specs.Prelude.{◌≡◌, Err};
+ghost use Rattle.joint.specs.declared.refusal.Refusal.TheVariants as cause;
 ghost use Rattle.joint.specs.Threads.{computed, counted, emptied, exchanged, got, inserted, listed, removed, replaced, scanned, told};
 
 use crate::refusal::Refusal;
@@ -11,16 +12,21 @@ use judge::Reply;
 /// How a whole call ends.
 pub(crate) type End<P> = Result<Done<P>, Refusal>;
 
+/// The end of another call. It is let go as a whole: in place, each of its variants would be a step of the proof.
+fn no_end<P: Drop, T>(other: Done<P>) -> Result<T, Refusal>
+    ensures { result ≡ Err cause.Idle }
+{
+    drop(other);
+    Err(Refusal::Idle)
+}
+
 /// Of a pin, an unpin, a repin, a flush or a release.
 pub(crate) fn told<P: Drop>(end: End<P>) -> Result<(), Refusal>
     ensures { result ≡ told end }
 {
     match end {
         Ok(Done::Unit) => Ok(()),
-        Ok(other) => {
-            drop(other);
-            Err(Refusal::Idle)
-        }
+        Ok(other) => no_end(other),
         Err(refusal) => Err(refusal),
     }
 }
@@ -31,10 +37,7 @@ pub(crate) fn got<P: Drop>(end: End<P>) -> Result<Option<P>, Refusal>
 {
     match end {
         Ok(Done::Reply(Reply::Get(found))) => Ok(found),
-        Ok(other) => {
-            drop(other);
-            Err(Refusal::Idle)
-        }
+        Ok(other) => no_end(other),
         Err(refusal) => Err(refusal),
     }
 }
@@ -45,10 +48,7 @@ pub(crate) fn inserted<P: Drop>(end: End<P>) -> Result<Option<P>, Refusal>
 {
     match end {
         Ok(Done::Reply(Reply::Insert(before))) => Ok(before),
-        Ok(other) => {
-            drop(other);
-            Err(Refusal::Idle)
-        }
+        Ok(other) => no_end(other),
         Err(refusal) => Err(refusal),
     }
 }
@@ -59,10 +59,7 @@ pub(crate) fn removed<P: Drop>(end: End<P>) -> Result<Option<P>, Refusal>
 {
     match end {
         Ok(Done::Reply(Reply::Remove(before))) => Ok(before),
-        Ok(other) => {
-            drop(other);
-            Err(Refusal::Idle)
-        }
+        Ok(other) => no_end(other),
         Err(refusal) => Err(refusal),
     }
 }
@@ -73,10 +70,7 @@ pub(crate) fn computed<P: Drop>(end: End<P>) -> Result<Option<(P, Option<P>)>, R
 {
     match end {
         Ok(Done::Reply(Reply::ComputePresent(pair))) => Ok(pair),
-        Ok(other) => {
-            drop(other);
-            Err(Refusal::Idle)
-        }
+        Ok(other) => no_end(other),
         Err(refusal) => Err(refusal),
     }
 }
@@ -87,10 +81,7 @@ pub(crate) fn replaced<P: Drop>(end: End<P>) -> Result<Option<P>, Refusal>
 {
     match end {
         Ok(Done::Reply(Reply::ComputeInsert(before))) => Ok(before),
-        Ok(other) => {
-            drop(other);
-            Err(Refusal::Idle)
-        }
+        Ok(other) => no_end(other),
         Err(refusal) => Err(refusal),
     }
 }
@@ -101,10 +92,7 @@ pub(crate) fn exchanged<P: Drop>(end: End<P>) -> Result<Result<Option<P>, Option
 {
     match end {
         Ok(Done::Reply(Reply::Exchange(answer))) => Ok(answer),
-        Ok(other) => {
-            drop(other);
-            Err(Refusal::Idle)
-        }
+        Ok(other) => no_end(other),
         Err(refusal) => Err(refusal),
     }
 }
@@ -115,10 +103,7 @@ pub(crate) fn scanned<P: Drop>(end: End<P>) -> Result<usize, Refusal>
 {
     match end {
         Ok(Done::Scanned(count)) => Ok(count),
-        Ok(other) => {
-            drop(other);
-            Err(Refusal::Idle)
-        }
+        Ok(other) => no_end(other),
         Err(refusal) => Err(refusal),
     }
 }
@@ -129,10 +114,7 @@ pub(crate) fn emptied<P: Drop>(end: End<P>) -> Result<bool, Refusal>
 {
     match end {
         Ok(Done::Empty(empty)) => Ok(empty),
-        Ok(other) => {
-            drop(other);
-            Err(Refusal::Idle)
-        }
+        Ok(other) => no_end(other),
         Err(refusal) => Err(refusal),
     }
 }
@@ -143,10 +125,7 @@ pub(crate) fn listed<P: Drop>(end: End<P>) -> Result<Vec<u64>, Refusal>
 {
     match end {
         Ok(Done::Keys(keys)) => Ok(keys),
-        Ok(other) => {
-            drop(other);
-            Err(Refusal::Idle)
-        }
+        Ok(other) => no_end(other),
         Err(refusal) => Err(refusal),
     }
 }
@@ -157,10 +136,7 @@ pub(crate) fn counted<P: Drop>(end: End<P>) -> Result<NodeStats, Refusal>
 {
     match end {
         Ok(Done::Stats(stats)) => Ok(stats),
-        Ok(other) => {
-            drop(other);
-            Err(Refusal::Idle)
-        }
+        Ok(other) => no_end(other),
         Err(refusal) => Err(refusal),
     }
 }
