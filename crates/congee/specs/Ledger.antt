@@ -1,7 +1,8 @@
 -- What is true of the tree and stands in no node: which nodes are in the tree, below which node each hangs,
 -- who made it and who holds its lock.
-use Rattle.std.specs.Prelude.{◌≡◌, ◌≢◌, ℕ, ◌<◌, ◌≤◌, Bool, true, false, [], length, slice_index, Option, None}
+use Rattle.std.specs.Prelude.{◌≡◌, ◌≢◌, ℕ, ◌<◌, ◌≤◌, Bool, true, false, List, [], length, slice_index, Option, None}
 use Rattle.congee.specs.Heap.{Node, Below, Holds, Stands, fits, is_free}
+use Rattle.congee.specs.Keys.{key_bytes}
 use Rattle.congee.specs.declared.forms.prefix.TheConstants.{MAX_PREFIX_LEN}
 
 -- not made yet; held by call i, never in reach; in the tree; taken out of it; given back unused; destroyed
@@ -61,14 +62,21 @@ pub record Tree {V : Type 0} (a : ℕ → Note) (h : ℕ → Node V) : Type 0 wh
   pub down : (n b c : ℕ) → (a n).status ≡ Linked → (h n).children b ≡ Below c → IsChild a h n b c
   pub up : (n : ℕ) → (a n).status ≡ Linked → n ≢ 0 → HasParent a h n
 
+-- the bytes are the first of a key
+unfoldable pub BeginsKey : List ℕ → Type 0
+BeginsKey p = (k : ℕ) × (fits p (key_bytes k) ≡ true)
+
 -- a node's lock word and life: one that isn't locked has no owner, one that was taken out is locked or obsolete, a
--- name that no node had is no node's, what is or was in reach stands, and what is in the tree wasn't handed over
+-- name that no node had is no node's, what is or was in reach stands, and what is in the tree is neither marked nor
+-- handed over, and is on the way of a key
 pub record WordAt {V : Type 0} (x : Note) (n : Node V) : Type 0 where
   pub free : n.locked ≡ false → x.owner ≡ None
   pub gone : x.status ≡ Gone → is_free n ≡ false
   pub unmade : n.made ≡ false → x.status ≡ Unmade
   pub stands : is_published x.status ≡ true → Stands n
   pub unretired : x.status ≡ Linked → n.retired ≡ false
+  pub live : x.status ≡ Linked → n.obsolete ≡ false
+  pub keyed : x.status ≡ Linked → BeginsKey n.prefix
 
 -- of every node; and the root has 256 places
 pub record LockWords {V : Type 0} (a : ℕ → Note) (h : ℕ → Node V) : Type 0 where

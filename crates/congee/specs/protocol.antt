@@ -1,5 +1,7 @@
 pub mod Events
 pub mod Steps
+pub mod PlainSteps
+pub mod Alike
 pub mod Protocol
 pub mod Answers
 pub mod Play
@@ -20,3 +22,5 @@ pub mod Bounds
 pub mod Causes
 pub mod Leaving
 pub mod Seeing
+pub mod Alone
+pub mod Trace

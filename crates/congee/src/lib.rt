@@ -1,5 +1,18 @@
 //! The adaptive radix tree of `congee`: node forms, trees of one owner, and the protocol of a call on a shared tree.
 //!
+//! A key is eight bytes, the greatest first, so the order of keys is that of numbers. A path from the root spells a key:
+//! each node maps the key's next byte to a child, and the last one, a leaf, maps its last byte to the value. Bytes that
+//! all keys below a node share make no nodes of their own: the node stores them as its prefix, and a look-up compares
+//! them on its way.
+//!
+//! A node is as big as it must be. Four forms hold at most 4, 16, 48 and 256 children: the small ones as sorted bytes,
+//! the third with an index of 256 places, the greatest with a place for each byte. A node that is full is replaced by
+//! one of the next form; none is made smaller again. An insertion whose key leaves a node's prefix midway splits it:
+//! a new node gets what is common, and the old node and a new leaf below it. A leaf whose last value is taken goes too.
+//!
+//! A scan goes down to the least key that isn't less than its start, and on from child to child in the order of bytes,
+//! so it gives pairs in ascending order and stops at its end or at its last place.
+//!
 //! `forms` has the nodes: four forms, each a finite map from bytes to children with a capacity and a
 //! fixed prefix. `owned` has the trees of one owner, whose nodes stand in an arena. `protocol` has a
 //! call on a shared tree, a step at a time, over any store of nodes. All charge an `allocator`.

@@ -3,6 +3,7 @@ pub mod Exchange
 pub mod Handle
 pub mod Ordering
 pub mod Participant
+pub mod Pinned
 pub mod Pins
 pub mod Pointer
 pub mod Queue

@@ -12,5 +12,7 @@ pub mod Reach
 pub mod Steps
 pub mod Store
 pub mod Tickets
+pub mod WaitFree
 pub mod Roots
 pub mod Sealing
+pub mod Rounds

@@ -1,12 +1,16 @@
 -- Lemmas of the machine of tree and collector.
 pub mod Accounts
 pub mod Advanced
+pub mod Alone
+pub mod AloneCalls
+pub mod AloneCounts
 pub mod Altering
 pub mod Apart
 pub mod Appending
 pub mod Asking
 pub mod Auditing
 pub mod Backs
+pub mod Bags
 pub mod Begun
 pub mod Beside
 pub mod CollectStep
@@ -26,6 +30,7 @@ pub mod Entering
 pub mod Events
 pub mod Exchanging
 pub mod Few
+pub mod Filing
 pub mod Flights
 pub mod Found
 pub mod Fresh
@@ -46,7 +51,13 @@ pub mod NameLists
 pub mod Opened
 pub mod Paths
 pub mod Placed
+pub mod PlainAgain
+pub mod PlainCalls
+pub mod PlainStart
+pub mod PlainSteps
+pub mod PlainTells
 pub mod Planting
+pub mod Promises
 pub mod Reaching
 pub mod Recounting
 pub mod Registered
@@ -58,6 +69,7 @@ pub mod Requested
 pub mod Resting
 pub mod Retiring
 pub mod Running
+pub mod Rounds
 pub mod Runs
 pub mod Scans
 pub mod Secured
@@ -78,6 +90,7 @@ pub mod Views
 pub mod Waiting
 pub mod Walk
 pub mod Walking
+pub mod Wanted
 pub mod Went
 pub mod Whereabouts
 pub mod Watching

@@ -1,5 +1,5 @@
 -- A value in its cell that becomes another one.
-use Rattle.std.specs.Prelude.{◌≡◌, ◌≢◌, ℕ, ◌+◌, ◌<◌, ◌↔◌, true, false, List, length, None, Some}
+use Rattle.std.specs.Prelude.{◌≡◌, ◌≢◌, ℕ, ◌+◌, ◌<◌, true, false, List, length, None, Some}
 use Rattle.crossbeam_epoch.specs.declared.names.Name.{Name}
 use Rattle.crossbeam_epoch.specs.World.Store.{Store, Sets, IsNext, cell_at, value_at, was_given, is_usable, placed}
 use Rattle.congee.specs.declared.forms.base_node.NodeType.{NodeType}
@@ -8,8 +8,8 @@ use Rattle.congee.specs.declared.forms.child.Child.TheVariants.{Blank}
 use Rattle.congee.specs.declared.protocol.store.Refusal.{Refusal}
 use Rattle.congee.specs.declared.protocol.store.Refusal.TheVariants.{Budget, Cells, Memory}
 use Rattle.congee.specs.forms.Forms.{capacity_of, size_of}
-use Rattle.congee.specs.Heap.{Nothing, Below, Holds}
-use Rattle.congee.specs.protocol.Events.{hung, weight}
+use Rattle.congee.specs.Heap.{Nothing, Holds}
+use Rattle.congee.specs.protocol.Events.{hung, weight, kept, HoldsValues, HoldsNodes}
 use Rattle.joint.specs.declared.id.Id.{Id}
 use Rattle.joint.specs.declared.slot.Slot.{Slot}
 use Rattle.joint.specs.Forest.{total, size}
@@ -94,7 +94,10 @@ pub record HandsOver {P : Type 0} (a b a' b' : Slot P) : Type 0 where
   pub capacity : (node_of b').capacity ≡ (node_of b).capacity
   pub children : (k : ℕ) → (node_of b').children k ≡ (node_of a).children k
   pub count : (node_of b').count ≡ (node_of a).count
-  pub stay : (k d : ℕ) → ((node_of a').children k ≡ Below d) ↔ ((node_of a).children k ≡ Below d)
+  pub capacity_old : (node_of a').capacity ≡ (node_of a).capacity
+  pub left : (k : ℕ) → (node_of a').children k ≡ kept ((node_of a).children k)
+  pub none_left : HoldsValues (node_of a) → (node_of a').count ≡ 0
+  pub all_left : HoldsNodes (node_of a) → (node_of a').count ≡ (node_of a).count
 
 -- the values of two names are others, and nothing else is
 pub record Exchanges {T : Type 0} (st : Store T) (m n : Name) (a b a' b' : T) (st' : Store T) : Type 0 where

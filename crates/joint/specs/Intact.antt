@@ -23,6 +23,7 @@ use Rattle.congee.specs.protocol.Play.{begun, parts}
 use Rattle.joint.specs.declared.call.Call.{Call}
 use Rattle.joint.specs.declared.call.Call.TheVariants.{Idle, Collecting, Reserving, Securing, Walking}
 use Rattle.joint.specs.declared.id.Id.{Id}
+use Rattle.joint.specs.Filed.{IsFiled}
 use Rattle.joint.specs.Forest.{Forest}
 use Rattle.joint.specs.Machines.{IsSafe, Collected, Walked}
 use Rattle.joint.specs.Sound.{IsUnderWay, IsSecured}
@@ -55,6 +56,7 @@ pub record IsIntact {V : Type 0} (same : V → V → Bool) (always : Bool) (s : 
   pub machines : length ms ≡ length calls
   pub table : length s.collector.table ≡ length calls
   pub few : length calls ≤ 256
+  pub filed : IsFiled s
   pub each : (i : ℕ) (k : Call V) (m : Machine Id V) → slice_get calls i ≡ Some k → slice_get ms i ≡ Some m → IsAt k (place s.collector i) m
 
 -- the call in flight after a step of the collector that was reported so: the one that runs on, or none

@@ -1,9 +1,11 @@
 -- What the laws of the collector and of the calls on a tree say, as far as the machine of both rests on them.
-use Rattle.std.specs.Prelude.{◌≡◌, ◌≢◌, ℕ, ◌<◌, length, ◌⊎◌, Bool, true, false, List, ◌∷◌, Option, None, Some, is_some, slice_get}
+use Rattle.std.specs.Prelude.{◌≡◌, ◌≢◌, ℕ, ◌<◌, ◌≤◌, length, ◌⊎◌, Bool, true, false, List, ◌∷◌, Option, None, Some, is_some, slice_get}
 use Rattle.std.specs.List.{Contains}
 use Rattle.std.proofs.Math.ListN.{set}
 use Rattle.crossbeam_epoch.specs.Limits.{bag_places}
+use Rattle.crossbeam_epoch.specs.declared.bag.Entry.{Entry}
 use Rattle.crossbeam_epoch.specs.declared.bag.Work.{Work}
+use Rattle.crossbeam_epoch.specs.declared.limits.Limits.{Limits}
 use Rattle.crossbeam_epoch.specs.declared.names.Name.{Name}
 use Rattle.crossbeam_epoch.specs.declared.names.Ptr.{Ptr}
 use Rattle.crossbeam_epoch.specs.declared.world.report.Event.{Event}
@@ -11,20 +13,26 @@ use Rattle.crossbeam_epoch.specs.declared.world.report.Event.TheVariants as even
 use Rattle.crossbeam_epoch.specs.declared.world.participant.Phase.TheVariants as stage
 use Rattle.crossbeam_epoch.specs.declared.world.report.Op.{Op}
 use Rattle.crossbeam_epoch.specs.declared.world.report.Report.{Report}
-use Rattle.crossbeam_epoch.specs.World.Fits.{Fits}
+use Rattle.crossbeam_epoch.specs.World.Fits.{Fits, weight}
 use Rattle.crossbeam_epoch.specs.World.History.{Mark, AreCalledLater, WasDeferred, began}
-use Rattle.crossbeam_epoch.specs.World.Machine.{State, place, deferred, registered, with_store}
+use Rattle.crossbeam_epoch.specs.World.Machine.{State, place, deferred, opened, registered, with_roots, with_store}
 use Rattle.crossbeam_epoch.specs.World.Progress.{Orderly, Moves, Begins, GoesOn, IsOn, KeepsCalls as Holds}
+use Rattle.crossbeam_epoch.specs.World.Sealing.{IsSealing}
 use Rattle.crossbeam_epoch.specs.World.Reach.{Act, Moment, with_act, marks_of, step_act, changes_pin, IsBy, IsDestruction, InReach, IsIn, WasIn, WasLive, Visible, EntersLive, DestructionsTold, IsCareful, IsNow, Tells, links_of}
 use Rattle.crossbeam_epoch.specs.World.Steps.{IsReport, after}
 use Rattle.crossbeam_epoch.specs.World.Store.{Store, Sets, value_at, was_given, emptied}
 use Rattle.congee.specs.declared.forms.base_node.NodeType.{NodeType}
 use Rattle.congee.specs.declared.protocol.machine.Machine.{Machine}
 use Rattle.congee.specs.declared.protocol.machine.Move.{Move}
+use Rattle.congee.specs.declared.protocol.op.Op.{Op as Point}
 use Rattle.congee.specs.declared.protocol.phase.Kind.{Kind}
 use Rattle.congee.specs.declared.protocol.phase.Phase.{Phase}
 use Rattle.congee.specs.declared.protocol.phase.Phase.TheVariants.{Ended}
 use Rattle.congee.specs.declared.protocol.store.Refusal.{Refusal}
+use Rattle.congee.specs.declared.protocol.store.Refusal.TheVariants.{Exhausted}
+use Rattle.congee.specs.declared.protocol.store.Seen.{Seen}
+use Rattle.congee.specs.protocol.Alike.{Ordered, HeapAlike, CallAlike, IsUnrefused, Longer, MovedAlike, SparedAlike}
+use Rattle.congee.specs.protocol.Alone.{NoOtherLocks, IsUndisturbed, HasAnswer, IsPast, StepsOn, steps_left, steps_whole}
 use Rattle.congee.specs.protocol.Answers.{Keeps}
 use Rattle.congee.specs.protocol.Bounds.{Within}
 use Rattle.congee.specs.protocol.Destroys.{Destroys, Spares}
@@ -35,7 +43,8 @@ use Rattle.congee.specs.Keys.{key_bytes}
 use Rattle.congee.specs.protocol.Leaving.{StepLeaves}
 use Rattle.congee.specs.Ledger.{Note, Held, Linked, Tree}
 use Rattle.congee.specs.protocol.Opening.{FreshRoot}
-use Rattle.congee.specs.protocol.Play.{IsNew, IsIdle, ProtocolAt, Settled}
+use Rattle.congee.specs.protocol.Play.{first_phase, IsNew, IsIdle, ProtocolAt, Settled, begun}
+use Rattle.congee.specs.protocol.PlainSteps.{Mark as Unnamed, plain_step}
 use Rattle.congee.specs.protocol.Protocol.{Known}
 use Rattle.congee.specs.protocol.Steps.{Stepped}
 
@@ -65,6 +74,13 @@ pub record CellLaws {T : Type 0} (J : Type 0) (names : T → List Name) : Type 0
   pub deferred_orderly : (s : State T J) (who : ℕ) (work : Work J) → who < length s.table → length (place s who).bag < bag_places → Orderly s → Holds s (deferred s who work) (λ f. f (record { ticket = s.next; work = work }))
   pub registered_orderly : (s : State T J) (n : ℕ) → n < length s.table → Orderly s → Orderly (registered s n)
   pub moves : (s : State T J) (who : ℕ) (event : Event) (r : Report) → Orderly s → IsReport s who event r → Moves s who r.called (after s who event r.outcome)
+  pub opened_jobs : (limits : Limits) (roots : ℕ) (f : Entry J → ℕ) → weight f (opened {T = T} limits roots) ≡ 0
+  pub registered_jobs : (s : State T J) (n : ℕ) → n < length s.table → Orderly s → Holds s (registered s n) (λ f. 0)
+  -- no empty bag is queued, and no seal is past the epoch
+  pub seals_opened : (limits : Limits) (roots : ℕ) → IsSealing {T = T} {J = J} (opened limits roots)
+  pub seals_step : (h : List Mark) (s : State T J) (who : ℕ) (event : Event) (r : Report) → Fits h s → IsReport s who event r → IsSealing s → IsSealing (after s who event r.outcome)
+  pub seals_registered : (s : State T J) (n : ℕ) → n < length s.table → IsSealing s → IsSealing (registered s n)
+  pub seals_stored : (s : State T J) (st : Store T) (roots : List Ptr) → IsSealing s → IsSealing (with_roots (with_store s st) roots)
 
 -- of calls on a tree whose nodes have these numbers
 pub record CallLaws {C V : Type 0} (number : C → ℕ) (same : V → V → Bool) (always : Bool) : Type 0 where
@@ -83,7 +99,27 @@ LeavesLaw {C} {V} number same always most why = (i : ℕ) (a : ℕ → Note) (h 
     → ProtocolAt number same always a h ms → Holdings number a h ms → slice_get ms i ≡ Some m → (k : Keeps number same always i a m h m' h' d) → Stepped number same always most why m h fail answer m' h' d
     → StepLeaves number i a k.notes h h' m m'
 
+-- of one step of a call that is taken alone
+abbrev pub AloneLaw : {C V : Type 0} → (C → ℕ) → (V → V → Bool) → Bool → ℕ → (NodeType → Refusal → Type 0) → Type 0
+AloneLaw {C} {V} number same always most why = (i : ℕ) (a : ℕ → Note) (h h' : ℕ → Node V) (ms : List (Machine C V)) (m m' : Machine C V) (d : Move V) (answer : Option (Option V))
+    → ProtocolAt number same always a h ms → Holdings number a h ms → slice_get ms i ≡ Some m → NoOtherLocks number i ms → IsUndisturbed number h m.phase → HasAnswer m.kind m.phase answer → (IsPast m.phase → ⊥)
+    → Stepped number same always most why m h false answer m' h' d → StepsOn number h m.phase h' m'.phase
+
+-- and of a whole one after its begin
+abbrev pub WholeLaw : {C : Type 0} → (V : Type 0) → (C → ℕ) → Type 0
+WholeLaw {C} V number = (a : ℕ → Note) (h : ℕ → Node V) (root : C) (o : Point V) → Tree a h → steps_left number h (first_phase root o) ≤ steps_whole h o
+
 -- of a collector's calls, from their begin to their end
 pub record ProgressLaws (T J : Type 0) : Type 0 where
   pub begins : (s : State T J) (who : ℕ) (op : Op) (r : Report) → (place s who).phase ≡ stage.Idle → IsReport s who (event.Begin op) r → Begins s who op r.outcome (after s who (event.Begin op) r.outcome)
   pub goes_on : (s : State T J) (who : ℕ) (op : Op) (r : Report) → Orderly s → IsOn op (place s who) → IsReport s who event.Go r → GoesOn s who op r.outcome (after s who event.Go r.outcome)
+
+-- of calls on a tree, and of the same calls by numbers, over a store with this limit of versions and these causes of refusals
+pub record NumberLaws {C V : Type 0} (number : C → ℕ) (same : V → V → Bool) (always : Bool) (most : ℕ) (why : NodeType → Refusal → Type 0) : Type 0 where
+  pub steps : (seen : Option (Seen Unnamed V)) (i : ℕ) (a : ℕ → Note) (h g h' : ℕ → Node V) (ms : List (Machine C V)) (m m' : Machine C V) (d : Move V) (fail : Bool) (answer : Option (Option V)) (order : List ℕ) (q : Machine ℕ V) (k : ℕ)
+      → ((form : NodeType) → why form Exhausted → ⊥) → ProtocolAt number same always a h ms → slice_get ms i ≡ Some m → Stepped number same always most why m h fail answer m' h' d → IsUnrefused d.outcome → Ordered order h → HeapAlike order h g → k ≡ length order → CallAlike order number h m q
+      → MovedAlike order number h' m' d q (plain_step same most q (record { fail = fail; seen = seen; answer = answer }) g k)
+  pub others : (i j : ℕ) (a : ℕ → Note) (h h' : ℕ → Node V) (ms : List (Machine C V)) (m m' other : Machine C V) (d : Move V) (order order' : List ℕ) (q : Machine ℕ V)
+      → ProtocolAt number same always a h ms → slice_get ms j ≡ Some other → j ≢ i → Keeps number same always i a m h m' h' d → Longer order order' → CallAlike order number h other q → CallAlike order' number h' other q
+  pub spared : (order : List ℕ) (h h' : ℕ → Node V) (ms : List (Machine C V)) → Destroys number h ms h' → SparedAlike order number h ms h'
+  pub begins : (order : List ℕ) (h : ℕ → Node V) (root : C) (n : ℕ) (op : Point V) → slice_get order n ≡ Some (number root) → CallAlike order number h (begun root op) (begun n op)

@@ -1,3 +1,4 @@
+pub mod Alone
 pub mod Altering
 pub mod Asked
 pub mod Auditing
@@ -6,6 +7,7 @@ pub mod Calling
 pub mod Closing
 pub mod Driving
 pub mod Engine
+pub mod Filed
 pub mod Flying
 pub mod Forest
 pub mod Heap
@@ -22,8 +24,12 @@ pub mod MapCode
 pub mod NameLemmas
 pub mod Names
 pub mod Opening
+pub mod Pinned
+pub mod Plain
+pub mod Promises
 pub mod Refusals
 pub mod Reports
+pub mod Rounds
 pub mod Runs
 pub mod Scans
 pub mod Shares
@@ -37,6 +43,7 @@ pub mod Threads
 pub mod RoomLemmas
 pub mod Ties
 pub mod View
+pub mod Wanted
 pub mod Whereabouts
 pub mod Whole
 pub mod Writing

@@ -21,6 +21,7 @@ use Rattle.congee.specs.protocol.Answers.{SameMap}
 use Rattle.congee.specs.protocol.Bounds.{Within}
 use Rattle.joint.specs.declared.id.Id.{Id}
 use Rattle.joint.specs.declared.slot.Slot.{Slot}
+use Rattle.joint.specs.Filed.{IsFiled}
 use Rattle.joint.specs.Forest.{Forest, nodes, Refuses, IsBeside, IsCharged}
 use Rattle.congee.specs.protocol.Destroys.{Destroys}
 use Rattle.congee.specs.protocol.Play.{StepPlays}
@@ -95,6 +96,7 @@ pub record Walked {V : Type 0} (same : V → V → Bool) (always : Bool) (s : Fo
   pub plays : StepPlays id_number same always s.version_max (Refuses s) (nodes s) ms step d (nodes s') ms'
   pub beside : IsBeside s s'
   pub clock : s'.collector ≡ after_walk (retiring_at (slice_get ms step.who)) (with_store s.collector s'.collector.store) step.who
+  pub filed : IsFiled s → IsFiled s'
 
 -- one step of the collector under calls on the tree: the pairs stay, what goes waited, and no call has it
 pub record Collected {V : Type 0} (same : V → V → Bool) (always : Bool) (s : Forest V) (ms : List (Machine Id V)) (who : ℕ) (event : Event) (r : Report) (s' : Forest V) : Type 0 where
@@ -106,3 +108,4 @@ pub record Collected {V : Type 0} (same : V → V → Bool) (always : Bool) (s :
   pub destroys : Destroys id_number (nodes s) ms (nodes s')
   pub beside : IsBeside s s'
   pub charged : IsCharged s'
+  pub filed : IsFiled s → IsFiled s'

@@ -8,6 +8,7 @@ use Rattle.crossbeam_epoch.specs.World.Store.{opened_store}
 use Rattle.congee.specs.declared.forms.base_node.NodeType.TheVariants.{N256}
 use Rattle.crossbeam_epoch.specs.World.Progress.{IsResting}
 use Rattle.crossbeam_epoch.specs.World.Reach.{Quiet, moment, Tells}
+use Rattle.congee.specs.Heap.{Node}
 use Rattle.congee.specs.protocol.Bounds.{Within}
 use Rattle.congee.specs.protocol.Opening.{FreshRoot}
 use Rattle.joint.specs.declared.limits.Limits.{Limits}
@@ -28,10 +29,17 @@ top = record { cell = 0; turn = 0 }
 abbrev pub top_roots : List Ptr
 top_roots = record { name = Some top; tag = 0 } ∷ []
 
+-- the root has no child, and nobody has locked or marked it
+pub record IsNewRoot {V : Type 0} (n : Node V) : Type 0 where
+  pub childless : n.count ≡ 0
+  pub first : n.version ≡ 0
+  pub live : n.obsolete ≡ false
+
 -- a root alone, charged within the limit; nobody is registered, and one root of the collector holds it
 pub record IsOpened {V : Type 0} (limits : Limits) (charge limit : ℕ) (s : Forest V) : Type 0 where
   pub allowed : AreAllowed limits
   pub fresh : FreshRoot (nodes s)
+  pub bare : IsNewRoot (nodes s 0)
   pub within : Within limits.version_max (nodes s)
   pub rooted : Rooted s.collector.roots top
   pub resting : IsResting s.collector

@@ -1,12 +1,12 @@
 -- A node whose places hold children alone.
-use Rattle.std.specs.Prelude.{◌≡◌, ℕ, ◌==◌, ◌<◌, ◌⊎◌, ◌↔◌, Bool, false, Option, None, Some, IsSome, Box}
+use Rattle.std.specs.Prelude.{◌≡◌, ℕ, ◌==◌, ◌<◌, ◌⊎◌, Bool, false, Option, None, Some, IsSome, Box}
 use Rattle.std.specs.Ordering.{nat_cmp}
 use Rattle.std.specs.FinMap as map
 use Rattle.congee.specs.declared.forms.base_node.Node.{Node as Form}
 use Rattle.congee.specs.declared.forms.child.Child.{Child}
 use Rattle.congee.specs.declared.forms.child.Child.TheVariants.{Blank, Node as Sub, Value}
 use Rattle.congee.specs.declared.protocol.store.Seen.{Seen}
-use Rattle.congee.specs.protocol.Events.{hung}
+use Rattle.congee.specs.protocol.Events.{hung, kept}
 use Rattle.congee.specs.forms.Forms.{children_of, form_of, prefix_of, capacity_of}
 use Rattle.congee.specs.Heap.{Hung, Below, Holds}
 use Rattle.joint.specs.declared.id.Id.{Id}
@@ -49,4 +49,6 @@ pub record IsLeft {P : Type 0} (n n' : Form Id P) : Type 0 where
   pub form : form_of n' ≡ form_of n
   pub prefix : prefix_of n' ≡ prefix_of n
   pub solid : IsSolid (children_of n')
-  pub stay : (k d : ℕ) → (child_at n' k ≡ Below d) ↔ (child_at n k ≡ Below d)
+  pub left : (k : ℕ) → child_at n' k ≡ kept (child_at n k)
+  pub none_left : ((k c : ℕ) → child_at n k ≡ Below c → ⊥) → map.len (children_of n') ≡ 0
+  pub all_left : ((k : ℕ) (v : P) → child_at n k ≡ Holds v → ⊥) → map.len (children_of n') ≡ map.len (children_of n)

@@ -1,11 +1,12 @@
 //! One step of the index, with what is written down of it.
 
-ghost use Rattle.std.specs.Prelude.{◌≡◌, ◌++◌, ◌&&◌, true, false, None, is_some, slice_get, slice_set};
+ghost use Rattle.std.specs.Prelude.{◌≡◌, ◌<◌, ◌++◌, ◌&&◌, true, false, None, is_some, slice_get, slice_set};
 ghost use Rattle.joint.specs.Intact.{is_reserving};
-ghost use Rattle.joint.specs.Journaling.{entry_of, in_list, kept_if};
+ghost use Rattle.joint.specs.Journaling.{entry_of, has_place, in_list, kept_if, reply_by};
 ghost use Rattle.joint.specs.Log.{has_room, heard_by, is_full, noted, request_at};
 ghost use Rattle.joint.specs.Whole.{is_in_flight, IsStep};
 
+use crate::engine::Engine;
 use crate::id::Id;
 use crate::log::Log;
 use crate::refusal::Refusal;
@@ -14,7 +15,7 @@ use crate::steps::{Event, Kind, Op, Outcome, Report, Step};
 use crate::turns::refused;
 use crate::world::World;
 use congee::{Allocator, Noise, Payload, Small};
-use judge::{Entry, Reply};
+use judge::Entry;
 
 impl<P: Payload + Small, A: Allocator> World<P, A> {
     /// One step.
@@ -87,17 +88,18 @@ impl<P: Payload + Small, A: Allocator> World<P, A> {
         ensures { IsStep P.same_as P.always_copies self.old (record { worker = worker; event = Event.Go noise }) result self.new }
     {
         let who = worker as usize;
-        let request = hear(&mut self.log, who, self.engine.asks(who), &noise.answer);
-        let before = self.engine.has_place(who);
-        let told = self.engine.step(Step {
+        hear(&mut self.log, who, self.engine.asks(who), &noise.answer);
+        let before = has_place(&self.engine, &self.log, who);
+        let mut told = self.engine.step(Step {
             worker,
             event: Event::Go(noise),
         });
-        self.log.recount(before, self.engine.has_place(who));
-        let reply = self.engine.reply(who, &told.outcome);
-        let kept = keep(&mut self.log, told.decided, entry(worker, &request, reply));
-        note(&mut self.log, who, is_in_flight(&told.outcome), request);
-        with_kept(told, kept)
+        let after = has_place(&self.engine, &self.log, who);
+        self.log.recount(before, after);
+        let entry = entry(&self.engine, &self.log, worker, &told);
+        told.kept = keep(&mut self.log, told.decided, entry);
+        note(&mut self.log, who, !is_in_flight(&told.outcome), None);
+        told
     }
 }
 
@@ -110,19 +112,33 @@ fn note<P: Drop>(log: &mut Log<P>, who: usize, on: bool, request: Option<Request
     }
 }
 
-/// What a worker asked for, with the answer that its call takes in this step; `None` also where a value can't be copied. It
-/// comes out of its place.
-fn hear<P: Payload>(
-    log: &mut Log<P>,
-    who: usize,
-    asks: bool,
-    answer: &Option<Option<P>>,
-) -> Option<Request<P>>
-    ensures heard { P.always_copies ≡ true → result ≡ heard_by asks answer.now (request_at log.old.requests who) }
-    ensures left { log.new ≡ record log.old { requests = slice_set log.old.requests who None } }
+/// What a worker asked for takes the answer that its call takes in this step; it goes where a value can't be copied.
+fn hear<P: Payload>(log: &mut Log<P>, who: usize, asks: bool, answer: &Option<Option<P>>)
+    ensures heard { P.always_copies ≡ true → request_at log.new.requests who ≡ heard_by asks answer.now (request_at log.old.requests who) }
+    ensures left { log.new ≡ record log.old { requests = slice_set log.old.requests who (request_at log.new.requests who) } }
 {
-    let request = log.put_request(who, None);
-    if asks { request?.hear(answer) } else { request }
+    if asks {
+        let request = log.put_request(who, None);
+        log.put_request(who, heard(request, answer));
+    }
+}
+
+/// A request with the answer that its call takes.
+fn heard<P: Payload>(request: Option<Request<P>>, answer: &Option<Option<P>>) -> Option<Request<P>>
+    ensures { P.always_copies ≡ true → result ≡ heard_by true answer.now request }
+{
+    request?.hear(answer)
+}
+
+/// Whether a place of the journal is reserved for a worker's call, where one is kept.
+fn has_place<P: Payload + Small, A: Allocator>(
+    engine: &Engine<P, A>,
+    log: &Log<P>,
+    who: usize,
+) -> bool
+    ensures { 0 < log.now.places → result ≡ has_place (slice_get engine.now.calls.items who) (slice_get engine.now.machines.items who) }
+{
+    log.is_kept() && engine.has_place(who)
 }
 
 /// Writes the entry of a call down that took effect, where a place is free that nobody has reserved; tells whether it did.
@@ -142,16 +158,21 @@ fn keep<P: Payload>(log: &mut Log<P>, decided: bool, entry: Option<Entry<P>>) ->
     }
 }
 
-/// The entry of a call with its reply.
-fn entry<P: Payload>(
+/// The entry of a worker's call that took effect in a step with this report, where the journal has room for it.
+fn entry<P: Payload + Small, A: Allocator>(
+    engine: &Engine<P, A>,
+    log: &Log<P>,
     worker: u32,
-    request: &Option<Request<P>>,
-    reply: Option<Reply<P>>,
+    told: &Report<P>,
 ) -> Option<Entry<P>>
-    ensures { P.always_copies ≡ true → result ≡ entry_of worker request.now reply }
+    ensures { P.always_copies ≡ true → told.now.decided ≡ true → has_room log.now ≡ true → result ≡ entry_of worker (request_at log.now.requests worker) (reply_by told.now.outcome (slice_get engine.now.machines.items worker)) }
 {
-    let reply = reply?;
-    let call = request.as_ref()?.call(&reply)?;
+    if !told.decided || !log.has_room() {
+        return None;
+    }
+    let who = worker as usize;
+    let reply = engine.reply(who, &told.outcome)?;
+    let call = log.request(who)?.call(&reply)?;
     Some(Entry {
         worker,
         call,
@@ -170,18 +191,5 @@ fn is_in_flight<P>(outcome: &Outcome<P>) -> bool
         Outcome::Registered(_) => false,
         Outcome::Done(_) => false,
         Outcome::Refused(_) => false,
-    }
-}
-
-/// The report, with whether the journal keeps the call.
-fn with_kept<P>(report: Report<P>, kept: bool) -> Report<P>
-    ensures { result ≡ record report { kept = kept } }
-{
-    Report {
-        kind: report.kind,
-        decided: report.decided,
-        kept,
-        destroyed: report.destroyed,
-        outcome: report.outcome,
     }
 }

@@ -1,12 +1,14 @@
 //! Whole calls.
 
-ghost use Rattle.std.specs.Prelude.{◌≡◌, slice_set};
+ghost use Rattle.std.specs.Prelude.{◌≡◌, ℕ, List, false, slice_set};
 ghost use Rattle.judge.specs.Answer.{Pairs};
 ghost use Rattle.congee.specs.Keys.{IsMapOf};
+ghost use Rattle.joint.specs.Alone.{CallEndsAlone};
 ghost use Rattle.joint.specs.Calling.{FillsPlaces, IsCalled, TellsMap, goes_on, kept_report, next_step, put, put_away};
 ghost use Rattle.joint.specs.Forest.{IsBeside, nodes};
 ghost use Rattle.joint.specs.Runs.{AreInFlight, Flights};
 
+use crate::laws::runs_alone;
 use crate::steps::{Event, Op, Outcome, Report, Step};
 use crate::world::World;
 use congee::{Allocator, Noise, Payload, Small};
@@ -27,7 +29,9 @@ impl<P: Payload + Small, A: Allocator> World<P, A> {
         ensures scan { (fs : Flights P) (m : Pairs P) → IsMapOf (nodes self.old.forest) m → AreInFlight self.old fs → FillsPlaces m op result found.new }
         ensures beside { IsBeside self.old.forest self.new.forest }
         ensures survey { (fs : Flights P) (m : Pairs P) → IsMapOf (nodes self.old.forest) m → AreInFlight self.old fs → TellsMap m op result }
+        ensures alone { CallEndsAlone self.old who op most result }
     {
+        runs_alone::<P, A>();
         self.sound();
         self.take_steps(who, op, most, found)
     }
@@ -88,20 +92,27 @@ fn keep<P: Drop>(report: Report<P>, found: &mut [(u64, P)]) -> Report<P>
     ensures found { found.new ≡ put report.outcome found.old }
     ensures report { result ≡ kept_report report }
 {
-    let Report {
-        kind,
-        decided,
-        kept,
-        destroyed,
-        outcome,
-    } = report;
-    let outcome = put(outcome, found);
+    if !is_found(&report.outcome) {
+        return report;
+    }
     Report {
-        kind,
-        decided,
-        kept,
-        destroyed,
-        outcome,
+        outcome: put(report.outcome, found),
+        ..report
+    }
+}
+
+/// Whether a pair was found.
+fn is_found<P>(outcome: &Outcome<P>) -> bool
+    ensures found { result ≡ false → (places : List (ℕ × P)) → put outcome.now places ≡ places }
+    ensures outcome { result ≡ false → put_away outcome.now ≡ outcome.now }
+{
+    match outcome {
+        Outcome::Running => false,
+        Outcome::Asks(_) => false,
+        Outcome::Found { .. } => true,
+        Outcome::Registered(_) => false,
+        Outcome::Done(_) => false,
+        Outcome::Refused(_) => false,
     }
 }
 

@@ -37,6 +37,7 @@ pub(crate) fn cell_laws<P: Payload + Small>()
     crossbeam_epoch::World::<Slot<P>, ()>::cells();
     crossbeam_epoch::World::<Slot<P>, ()>::seen();
     crossbeam_epoch::World::<Slot<P>, ()>::order();
+    crossbeam_epoch::World::<Slot<P>, ()>::seals();
 }
 
 /// What the tree's laws say of the calls.
@@ -101,13 +102,6 @@ fn call_after<P: Payload + Small>(outcome: Outcome, call: Call<P>) -> Call<P>
         Outcome::Done => Call::Idle,
         Outcome::Refused(_) => Call::Idle,
     }
-}
-
-/// The call in flight after a step on the tree.
-fn walking_unless<P: Payload + Small>(over: bool) -> Call<P>
-    ensures { result ≡ (if over then Call.Idle else Call.Walking) }
-{
-    if over { Call::Idle } else { Call::Walking }
 }
 
 /// Whether a scan has told its end.
@@ -240,6 +234,7 @@ impl<P: Payload + Small, A: Allocator> Engine<P, A> {
         ensures walked { Walked P.same_as P.always_copies self.old.nodes self.old.machines.items (record { who = who; noise = noise }) result self.new.nodes self.new.machines.items }
         ensures calls { self.new.calls ≡ self.old.calls }
     {
+        cell_laws::<P>();
         let owed = retiring(&self.machines, who);
         let moved = step_tree(&mut self.nodes, &mut self.machines, Step { who, noise });
         if let Some(node) = owed {
@@ -433,8 +428,9 @@ impl<P: Payload + Small, A: Allocator> Engine<P, A> {
         call_laws::<P>();
         let moved = self.walk(who, noise);
         self.clear(who);
-        let over = self.is_over(who);
-        self.set_call(who, walking_unless(over));
+        if self.is_over(who) {
+            self.set_call(who, Call::Idle);
+        }
         moved
     }
 }

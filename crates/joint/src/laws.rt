@@ -1,22 +1,34 @@
 //! What any list of steps of the machine means.
 
-ghost use Rattle.std.specs.Prelude.{List, ◌++◌};
-ghost use Rattle.std.specs.FinMap.{empty};
+ghost use Rattle.std.specs.Prelude.{◌≡◌, ◌≤◌, ℕ, List, Option, [], ◌∷◌, ◌++◌, length};
+ghost use Rattle.std.specs.FinMap.{empty, len};
 ghost use Rattle.judge.specs.Answer.{Pairs};
 ghost use Rattle.judge.specs.Journal.{Legal};
+ghost use Rattle.congee.specs.Heap.{Node};
 ghost use Rattle.congee.specs.Keys.{IsMapOf};
+ghost use Rattle.congee.specs.protocol.Alone.{tree_nodes, tree_pairs};
+ghost use Rattle.congee.specs.protocol.PlainSteps.{Plain};
+ghost use Rattle.joint.specs.declared.limits.Limits.{Limits};
+ghost use Rattle.joint.specs.declared.steps.Op.{Op as Asks};
 ghost use Rattle.joint.specs.declared.steps.Report.{Report as Told};
 ghost use Rattle.joint.specs.declared.steps.Step.{Step as Asked};
+ghost use Rattle.joint.specs.Alone.{AllEndAlone, CallEndsAlone};
+ghost use Rattle.joint.specs.Calling.{IsCalled};
 ghost use Rattle.joint.specs.Forest.{nodes};
+ghost use Rattle.joint.specs.Levels.{nodes_of};
 ghost use Rattle.joint.specs.Listing.{IsListOf, waiting_nodes};
-ghost use Rattle.joint.specs.Runs.{Taken, AreTaken, IsRun, Line, Flights, IsMapRun, entries, pairs_after, AreInFlight, PlaysMap, AllHold, AllSpare, IsFresh, no_flights};
+ghost use Rattle.joint.specs.Opening.{IsOpened};
+ghost use Rattle.joint.specs.Plain.{Agree, AreSame, AreTold, AreUnrefused, FollowsRun, answers, opened_plain, projection};
+ghost use Rattle.joint.specs.Rounds.{IsQuiet, Round, AreRounds, steps_in, bags_left, rounds_wanted, CameBack};
+ghost use Rattle.joint.specs.Runs.{Taken, AreTaken, after_all, IsRun, Line, Flights, IsMapRun, entries, pairs_after, AreInFlight, PlaysMap, AllHold, AllSpare, IsFresh, no_flights};
 ghost use Rattle.joint.specs.Scans.{ScansHold, EmptyScansHold};
 ghost use Rattle.joint.specs.Whereabouts.{AllSomewhere, IsWaiting};
 ghost use Rattle.joint.specs.Whole.{Whole, Holds};
 
-use crate::engine::call_laws;
+use crate::engine::{call_laws, progress};
 use crate::id::Id;
 use crate::nodes::Nodes;
+use crate::slot::Slot;
 use congee::{Allocator, Machine, Payload, Small};
 
 /// A list of steps is the run of a map: calls that took effect answer as one map, in the order of their deciding steps,
@@ -41,6 +53,28 @@ pub(crate) fn runs_spare<P: Payload + Small, A: Allocator>()
     Machine::<Id, P>::leaves::<Nodes<P, A>>();
 }
 
+/// A call whose steps nobody else's come between, while no other call holds a lock, ends within its number of steps.
+pub fn runs_alone<P: Payload + Small, A: Allocator>()
+    ensures runs { (s : Whole P) (taken : List (Taken P)) → Holds P.same_as P.always_copies s → AreTaken P.same_as P.always_copies s taken → AllEndAlone s taken }
+    ensures calls { (s : Whole P) (who : ℕ) (op : Asks P) (most : ℕ) (places : List (ℕ × P)) (result : Option (Told P)) (places' : List (ℕ × P)) (s' : Whole P) → Holds P.same_as P.always_copies s → IsCalled P.same_as P.always_copies s who op most places result places' s' → CallEndsAlone s who op most result }
+{
+    call_laws::<P>();
+    progress::<P>();
+    Machine::<Id, P>::alone::<Nodes<P, A>>();
+}
+
+/// The nodes of a tree that bound a scan alone are those that statistics count.
+pub fn counts_nodes<P: Payload + Small>()
+    ensures { (h : ℕ → Node P) → tree_nodes h ≡ length (nodes_of h) }
+{}
+
+/// In each state the values in the tree that bound a scan alone are as many as the pairs that stand there.
+pub fn counts_pairs<P: Payload + Small>()
+    ensures { (s : Whole P) (m : Pairs P) → Holds P.same_as P.always_copies s → IsMapOf (nodes s.forest) m → tree_pairs (nodes s.forest) ≡ len m }
+{
+    Machine::<Id, P>::counts_pairs();
+}
+
 /// In each state each node that was ever made is in one place: held by the call that made it, in the tree, waiting for its
 /// destruction, or destroyed.
 pub(crate) fn whereabouts<P: Payload + Small>()
@@ -55,4 +89,27 @@ pub(crate) fn waits<P: Payload + Small>()
     ensures { (s : Whole P) → Holds P.same_as P.always_copies s → IsListOf (IsWaiting s) (waiting_nodes s) }
 {
     call_laws::<P>();
+}
+
+/// Memory comes back: after two whole rounds of one worker from a quiet state on, and one more for each eight bags that are
+/// queued after the first flush, or nodes that waited, each node that stands is in the tree, or waits in the unsealed bag of
+/// another worker.
+pub fn comes_back<P: Payload + Small>()
+    ensures bags { (s : Whole P) (who : ℕ) (rounds : List (Round P)) → Holds P.same_as P.always_copies s → IsQuiet s → AreRounds who rounds → AreTaken P.same_as P.always_copies s (steps_in rounds) → rounds_wanted (bags_left s rounds) ≤ length rounds → CameBack (after_all s (steps_in rounds)) who }
+    ensures nodes { (s : Whole P) (who : ℕ) (rounds : List (Round P)) → Holds P.same_as P.always_copies s → IsQuiet s → AreRounds who rounds → AreTaken P.same_as P.always_copies s (steps_in rounds) → rounds_wanted (length (waiting_nodes s)) ≤ length rounds → CameBack (after_all s (steps_in rounds)) who }
+{
+    call_laws::<P>();
+    crossbeam_epoch::World::<Slot<P>, ()>::rounds();
+    crossbeam_epoch::World::<Slot<P>, ()>::parts();
+}
+
+/// Reclamation can't be seen: a run that refuses nothing tells on the tree what the plain run of its steps there tells, and
+/// leaves both agreeing. So two such runs with equal steps on the tree tell the same. An index as it opens agrees with the
+/// plain run's first state.
+pub fn runs_plain<P: Payload + Small, A: Allocator>()
+    ensures follows { (s s' : Whole P) (steps : List (Asked P)) (reports : List (Told P)) (order : List ℕ) (p : Plain P) → Holds P.same_as P.always_copies s → IsRun P.same_as P.always_copies s steps reports s' → AreUnrefused reports → Agree s order p → FollowsRun P.same_as s.forest.version_max steps reports s' order p }
+    ensures alike { (most : ℕ) (p : Plain P) (a b : List (Asked P)) (q r : List (Told P)) → AreTold P.same_as most p (projection a q) (answers a q) → AreTold P.same_as most p (projection b r) (answers b r) → AreUnrefused q → AreUnrefused r → projection a q ≡ projection b r → AreSame (answers a q) (answers b r) }
+    ensures opens { (limits : Limits) (charge limit : ℕ) (s : Whole P) → IsOpened limits charge limit s.forest → IsFresh s → Agree s (0 ∷ []) opened_plain }
+{
+    Machine::<Id, P>::numbered::<Nodes<P, A>>();
 }

@@ -13,12 +13,14 @@ pub struct Limits {
     pub epoch: crossbeam_epoch::Limits,
     /// The greatest version of a node, 1 to 2^60 - 1.
     pub version_max: u64,
-    /// The name of a threaded index, which its caller chooses.
+    /// The number of a threaded index, which its caller chooses. Each index wants a number of its own: where two have the
+    /// same, a worker and a guard of the one are taken by the other, and can read and write there.
     pub id: u64,
 }
 
 impl Limits {
-    /// So many workers and cells, every other limit at its greatest, expiry 2, id 0.
+    /// So many workers and cells, every other limit at its greatest, expiry 2, number 0. Beside another index give each a
+    /// number of its own, as `Limits::usual(2, 1000).with_id(1)`: a worker of one is taken by another of the same number.
     pub fn usual(participants: u32, cells: u32) -> Limits
         ensures { result ≡ usual participants cells }
     {
@@ -33,6 +35,13 @@ impl Limits {
             version_max: 1_152_921_504_606_846_975,
             id: 0,
         }
+    }
+
+    /// The same limits, for the index of this number.
+    pub fn with_id(self, id: u64) -> Limits
+        ensures { result ≡ record self { id = id } }
+    {
+        Limits { id, ..self }
     }
 
     /// Whether each limit is in its range.

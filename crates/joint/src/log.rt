@@ -1,6 +1,6 @@
 //! What the machine writes down of its workers' calls.
 
-ghost use Rattle.std.specs.Prelude.{◌≡◌, ◌<◌, None, [], ◌∷◌, ◌++◌, true, false, replicate, slice_set, IfOk};
+ghost use Rattle.std.specs.Prelude.{◌≡◌, ◌<◌, ltb, None, [], ◌∷◌, ◌++◌, true, false, replicate, slice_set, IfOk};
 ghost use Rattle.std.specs.Option.{option_copied};
 ghost use Rattle.joint.specs.Log.{has_room, is_full, opened_log, recounted, request_at};
 
@@ -69,6 +69,13 @@ impl<P: Drop> Log<P> {
         ensures { result ≡ has_room self.now }
     {
         self.entries.len() + self.reserved < self.places
+    }
+
+    /// Whether a journal is kept.
+    pub(crate) fn is_kept(&self) -> bool
+        ensures { result ≡ ltb 0 self.now.places }
+    {
+        0 < self.places
     }
 
     /// Whether a journal is kept in which no such place is free.

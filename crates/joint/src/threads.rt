@@ -1,4 +1,9 @@
 //! What belongs to the index for threads: whole calls, turn by turn, and the audit of a journal.
+//!
+//! `tree` has an index under its lock (`locked`, or with a journal `kept`). A call is driven (`driver`): its turns are
+//! begun and gone on with one hold each (`holds`, `writes`), its closure answers between two of them (`answers`), and
+//! how it reads its end stands in `ends`. `words`, `numbers`, `owners` and `journaled` are the types that threads
+//! share, called with a worker and a guard (`tokens`).
 
 pub(crate) mod answers;
 pub(crate) mod auditing;

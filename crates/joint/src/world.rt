@@ -1,6 +1,6 @@
 //! The index and its collector, one step at a time.
 
-ghost use Rattle.std.specs.Prelude.{◌≡◌, ◌+◌, ◌<◌, [], true, length, option_map, slice_get, take, IfOk, IfErr, MatchResult};
+ghost use Rattle.std.specs.Prelude.{◌≡◌, ◌+◌, ◌<◌, ◌≤◌, ℕ, List, [], true, length, option_map, slice_get, take, IfOk, IfErr, MatchResult};
 ghost use Rattle.std.specs.FinMap.{empty};
 ghost use Rattle.std.specs.List.{sum_by};
 ghost use Rattle.std.specs.Vec.{vec_len};
@@ -8,21 +8,28 @@ ghost use Rattle.judge.specs.Answer.{Pairs};
 ghost use Rattle.judge.specs.Journal.{IsLegal, Legal};
 ghost use Rattle.congee.specs.Heap.{Stands};
 ghost use Rattle.congee.specs.Keys.{IsMapOf};
+ghost use Rattle.congee.specs.protocol.PlainSteps.{Plain};
+ghost use Rattle.joint.specs.Alone.{AllEndAlone};
 ghost use Rattle.joint.specs.Closing.{IsClosed, IsNotClosed};
 ghost use Rattle.joint.specs.Forest.{IsBeside, nodes};
 ghost use Rattle.joint.specs.Journaling.{asks_at, has_place};
 ghost use Rattle.joint.specs.Listing.{IsListOf, bytes_of, standing_nodes, waiting_nodes};
 ghost use Rattle.joint.specs.Log.{opened_log, request_at};
 ghost use Rattle.joint.specs.Opening.{HasPlaces, IsOpened, IsUnjournaled, IsUnopened};
+ghost use Rattle.joint.specs.declared.limits.Limits.{Limits as Bounds};
+ghost use Rattle.joint.specs.Plain.{Agree, AreUnrefused, FollowsRun};
+ghost use Rattle.joint.specs.Promises.{KeepsPromises};
+ghost use Rattle.joint.specs.Rounds.{IsQuiet, Round, AreRounds, steps_in, bags_left, rounds_wanted, CameBack};
 ghost use Rattle.joint.specs.Runs.{Flights, AreInFlight, IsRun, RunsJournal, RunsMap, AllSpare, IsFresh, no_flights};
 ghost use Rattle.joint.specs.Scans.{ScansHold, EmptyScansHold};
 ghost use Rattle.joint.specs.Whereabouts.{AllSomewhere, IsWaiting};
 ghost use Rattle.joint.specs.Whole.{Holds};
 
 use crate::engine::Engine;
-use crate::laws::{runs_spare, waits, whereabouts};
+use crate::laws::{comes_back, runs_alone, runs_plain, runs_spare, waits, whereabouts};
 use crate::limits::Limits;
 use crate::log::Log;
+use crate::promises::keeps_promises;
 use crate::refusal::Refusal;
 use crate::steps::{Op, Ran, Report, Step};
 use congee::{Allocator, Drainer, Payload, Small};
@@ -94,7 +101,8 @@ impl<P: Payload + Small, A: Allocator> World<P, A> {
         let _ = &self.engine;
     }
 
-    /// These steps, one after another, until there is no memory for a report.
+    /// These steps, one after another, until there is no memory for a report. From the opening on, `promises` says in one
+    /// place all that is promised of a run.
     pub fn run(&mut self, alloc: Global, steps: Vec<Step<P>>) -> Ran<P>
         ensures done { result.done ≡ vec_len result.reports }
         ensures run { IsRun P.same_as P.always_copies self.old (take result.done steps.items) result.reports.items self.new }
@@ -105,8 +113,17 @@ impl<P: Payload + Small, A: Allocator> World<P, A> {
         ensures fresh_journal { IsFresh self.old → RunsJournal P.same_as no_flights empty self.old (take result.done steps.items) result.reports.items self.new }
         ensures beside { IsBeside self.old.forest self.new.forest }
         ensures spares { (run : IsRun P.same_as P.always_copies self.old (take result.done steps.items) result.reports.items self.new) → AllSpare self.old run.taken }
+        ensures comes_back { (run : IsRun P.same_as P.always_copies self.old (take result.done steps.items) result.reports.items self.new) (who : ℕ) (rounds : List (Round P)) → IsQuiet self.old → AreRounds who rounds → run.taken ≡ steps_in rounds → rounds_wanted (bags_left self.old rounds) ≤ length rounds → CameBack self.new who }
+        ensures all_come_back { (run : IsRun P.same_as P.always_copies self.old (take result.done steps.items) result.reports.items self.new) (who : ℕ) (rounds : List (Round P)) → IsQuiet self.old → AreRounds who rounds → run.taken ≡ steps_in rounds → rounds_wanted (length (waiting_nodes self.old)) ≤ length rounds → CameBack self.new who }
+        ensures alone { (run : IsRun P.same_as P.always_copies self.old (take result.done steps.items) result.reports.items self.new) → AllEndAlone self.old run.taken }
+        ensures plain { (order : List ℕ) (p : Plain P) → AreUnrefused result.reports.items → Agree self.old order p → FollowsRun P.same_as self.old.forest.version_max (take result.done steps.items) result.reports.items self.new order p }
+        ensures promises { (limits : Bounds) (charge limit : ℕ) → IsOpened limits charge limit self.old.forest → IsFresh self.old → KeepsPromises P.same_as P.always_copies limits (take result.done steps.items) result.reports.items self.new }
     {
+        keeps_promises::<P, A>();
         runs_spare::<P, A>();
+        comes_back::<P>();
+        runs_alone::<P, A>();
+        runs_plain::<P, A>();
         self.sound();
         self.take_all(alloc, steps)
     }

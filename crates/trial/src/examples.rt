@@ -1,7 +1,12 @@
 //! Functions of users of the libraries, who have nothing but the contracts.
 
+pub mod collector;
 pub mod counter;
 pub mod history;
+pub mod journal;
 pub mod machine;
 pub mod owned;
+pub mod pages;
+pub mod promises;
 pub(crate) mod stack;
+pub mod threaded;

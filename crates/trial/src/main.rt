@@ -1,5 +1,15 @@
 //! Reads a script from standard input, one command a line, and prints the replies; or lets threads call on one index, and
 //! prints whether their history is legal.
+//!
+//! A script is read in pieces of 8,192 bytes and cut into lines (`run`, `script`). A line is read as words (`line`), which
+//! spell a command (`parser`), and the session answers it (`session`) on the index that the script opened. A call is made
+//! whole, or it is begun and taken so many steps further, line by line: so a script says in which order the steps of many
+//! workers' calls come (`index`). What was answered is written out before more is read (`printing`, `output`). The first
+//! line that is no command, or the first fault of reader, writer or memory, ends the program, and its status tells which.
+//!
+//! With `threads N M` instead, N threads make M calls each on one index with a journal (`threads`, `worker`). Each keeps
+//! its calls and what they answered; at the end the journal is judged, each thread's own list is held beside it, and the
+//! ledger's count of writing calls beside both (`history`).
 #![tactic(auto)]
 
 mod arguments;

@@ -1,5 +1,6 @@
 //! The tests of all five crates, which see of the libraries what a user sees.
 
+mod alone;
 mod arcs;
 mod closing;
 mod collector;
@@ -21,9 +22,12 @@ mod owned;
 mod protocol;
 mod replies;
 mod reports;
+mod rounds;
 mod scans;
+mod schedules;
 mod scripts;
 mod stats;
+mod stored;
 mod surveys;
 mod texts;
 mod threaded;

@@ -9,6 +9,7 @@ pub mod Regrow
 pub mod Owners
 pub mod Parting
 pub mod Sound
+pub mod Keyed
 pub mod Locks
 pub mod Settling
 pub mod Plans
@@ -22,6 +23,7 @@ pub mod Watches
 pub mod Handing
 pub mod Unlinking
 pub mod Turns
+pub mod Traces
 pub mod Opening
 pub mod PlainHeaps
 pub mod PlainLemmas
@@ -48,3 +50,17 @@ pub mod Giving
 pub mod Naming
 pub mod Leaving
 pub mod Renewing
+pub mod AlonePoints
+pub mod AloneSweeps
+pub mod AlonePairs
+pub mod Alone
+pub mod Leftovers
+pub mod AlikeHeaps
+pub mod AlikeTurns
+pub mod AlikeReads
+pub mod AlikeScans
+pub mod AlikeLater
+pub mod AlikeChanges
+pub mod AlikeSteps
+pub mod AlikeKnown
+pub mod AlikeCalls

@@ -1,5 +1,5 @@
 -- What each of the store's calls does to the nodes.
-use Rattle.std.specs.Prelude.{◌≡◌, ◌≢◌, ℕ, ◌+◌, ◌==◌, ◌&&◌, ◌<◌, ◌≤◌, ◌⊎◌, not, Bool, true, false, List, length, slice_index, Result, Ok, Err, cond, ◌↔◌}
+use Rattle.std.specs.Prelude.{◌≡◌, ◌≢◌, ℕ, ◌+◌, ◌==◌, ◌&&◌, ◌<◌, ◌≤◌, ◌⊎◌, not, Bool, true, false, List, length, slice_index, Result, Ok, Err, cond}
 use Rattle.congee.specs.declared.forms.child.Child.{Child}
 use Rattle.congee.specs.declared.forms.child.Child.TheVariants as child
 use Rattle.congee.specs.declared.protocol.store.Reading.{Reading}
@@ -127,6 +127,12 @@ pub record TakesOver {V : Type 0} (old node : Node V) : Type 0 where
   pub room : old.count < node.capacity
   pub alike : HoldsAlike old
 
+-- what is left of a child that went over into another node: the name of a node
+abbrev pub kept : {V : Type 0} → Hung V → Hung V
+kept Nothing = Nothing
+kept (Below c) = Below c
+kept (Holds v) = Nothing
+
 -- the children of node m go over into node c: its values are moved, its nodes stay in m too
 pub record TakeOverGives {V : Type 0} (h : ℕ → Node V) (m c : ℕ) (h' : ℕ → Node V) : Type 0 where
   pub children : (b : ℕ) → (h' c).children b ≡ (h m).children b
@@ -139,8 +145,11 @@ pub record TakeOverGives {V : Type 0} (h : ℕ → Node V) (m c : ℕ) (h' : ℕ
   pub locked : (h' c).locked ≡ (h c).locked
   pub obsolete : (h' c).obsolete ≡ (h c).obsolete
   pub retired : (h' c).retired ≡ (h c).retired
-  pub nodes_stay : (b d : ℕ) → ((h' m).children b ≡ Below d) ↔ ((h m).children b ≡ Below d)
+  pub left : (b : ℕ) → (h' m).children b ≡ kept ((h m).children b)
+  pub none_left : HoldsValues (h m) → (h' m).count ≡ 0
+  pub all_left : HoldsNodes (h m) → (h' m).count ≡ (h m).count
   pub prefix_old : (h' m).prefix ≡ (h m).prefix
+  pub capacity_old : (h' m).capacity ≡ (h m).capacity
   pub version_old : (h' m).version ≡ (h m).version
   pub locked_old : (h' m).locked ≡ (h m).locked
   pub obsolete_old : (h' m).obsolete ≡ (h m).obsolete

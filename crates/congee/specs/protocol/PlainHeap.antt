@@ -80,3 +80,4 @@ pub record HandsOver (m c m' c' : PlainNode) : Type 0 where
   pub new : SameWord c c'
   pub moved : c'.children.items ≡ m.children.items
   pub stay : NamesStay m.children.items m'.children.items
+  pub long : length m'.children.items ≡ length m.children.items

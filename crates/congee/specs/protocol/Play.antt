@@ -258,13 +258,7 @@ NextAt number same always most why h ms None s d h' ms' = (d ≡ record { decide
 NextAt {C} {V} number same always most why h ms (Some m) s d h' ms' = (m' : Machine C V) × Stepped number same always most why m h s.noise.fail s.noise.answer m' h' d
     × IsCause why most always m.phase d.outcome × (ms' ≡ set ms s.who m')
 
-abbrev pub Nexts : {C V : Type 0} → (C → ℕ) → (V → V → Bool) → Bool → ℕ → ((ℕ → Node V) → NodeType → Refusal → Type 0) → (ℕ → Node V) → List (Machine C V) → List (Step C V) → List (Move V) → (ℕ → Node V) → List (Machine C V) → Type 0
-Nexts number same always most why h ms [] [] h' ms' = (h' ≡ h) × (ms' ≡ ms)
-Nexts number same always most why h ms [] (d ∷ ds) h' ms' = ⊥
-Nexts number same always most why h ms (s ∷ ss) [] h' ms' = ⊥
-Nexts {C} {V} number same always most why h ms (s ∷ ss) (d ∷ ds) h' ms' = (h1 : ℕ → Node V) × (ms1 : List (Machine C V)) × NextAt number same always most (why h) h ms (slice_get ms s.who) s d h1 ms1 × Nexts number same always most why h1 ms1 ss ds h' ms'
-
--- the same steps on nodes and map: after each of them that map stands in those nodes, and each call is watched so
+-- such steps one after another, on nodes and map: after each of them that map stands in those nodes, and each call is watched so
 abbrev pub Chain : {C V : Type 0} → (C → ℕ) → (V → V → Bool) → Bool → ℕ → ((ℕ → Node V) → NodeType → Refusal → Type 0) → (ℕ → Node V) → List (Machine C V) → List (Flight V) → Pairs V → List (Step C V) → List (Move V) → (ℕ → Node V) → List (Machine C V) → List (Flight V) → Pairs V → Type 0
 Chain number same always most why h ms fs m [] [] h' ms' fs' m' = (h' ≡ h) × (ms' ≡ ms) × (fs' ≡ fs) × (m' ≡ m)
 Chain number same always most why h ms fs m [] (d ∷ ds) h' ms' fs' m' = ⊥
@@ -284,7 +278,6 @@ FromRoot {C} {V} number same always most why h ms steps moves h' ms' = (m' : Pai
 pub record Plays {C V : Type 0} (number : C → ℕ) (same : V → V → Bool) (always : Bool) (most : ℕ) (why : (ℕ → Node V) → NodeType → Refusal → Type 0) (h : ℕ → Node V) (ms : List (Machine C V)) (steps : List (Step C V)) (moves : List (Move V))
     (h' : ℕ → Node V) (ms' : List (Machine C V)) : Type 0 where
   pub protocol : Protocol number same always h' ms'
-  pub nexts : Nexts number same always most why h ms steps moves h' ms'
   pub run : PlaysMap number same always most why h ms steps moves h' ms'
   pub from_root : RootAlone h → FromRoot number same always most why h ms steps moves h' ms'
   pub apart : Apart number h' ms'

@@ -26,7 +26,7 @@ use Rattle.congee.specs.protocol.Events.{hung, Parts}
 use Rattle.congee.specs.protocol.Steps.{adds}
 use Rattle.congee.specs.protocol.SweepKnown.{SweepKnown}
 pub use Rattle.congee.specs.protocol.Seats.{Seated, Fresh}
-use Rattle.congee.specs.Ledger.{Note, Unmade, Held, Linked, Gone, is_published, is_spent, Tree, LockWords}
+use Rattle.congee.specs.Ledger.{Note, Unmade, Held, Linked, Gone, is_published, is_spent, BeginsKey, Tree, LockWords}
 use Rattle.congee.specs.declared.forms.prefix.TheConstants.{MAX_PREFIX_LEN}
 
 -- node n was read in the node above, at the byte
@@ -70,6 +70,8 @@ pub record Made {V : Type 0} (i : ℕ) (a : ℕ → Note) (h : ℕ → Node V) (
   pub kept : (h c).destroyed ≡ false
   pub unretired : (h c).retired ≡ false
   pub unlocked : (h c).locked ≡ false
+  pub live : (h c).obsolete ≡ false
+  pub keyed : BeginsKey (h c).prefix
 
 -- a node of the tree whose lock call i holds
 pub record Holding (i : ℕ) (a : ℕ → Note) (n : ℕ) : Type 0 where

@@ -1,7 +1,7 @@
 //! One node of a plain list.
-ghost use Rattle.std.specs.Prelude.{◌≡◌, ◌≢◌, ℕ, ◌+◌, ◌-◌, ◌^◌, ◌<◌, ◌≤◌, Bool, true, false, List, length, take, IfOk, MatchOption, ◌↔◌};
-ghost use Rattle.congee.specs.Heap.{fits, Nothing, Below};
-ghost use Rattle.congee.specs.protocol.Events.{Parts, hung, ReadGives};
+ghost use Rattle.std.specs.Prelude.{◌≡◌, ◌≢◌, ℕ, ◌+◌, ◌-◌, ◌^◌, ◌<◌, ◌≤◌, Bool, true, false, List, length, take, IfOk, MatchOption};
+ghost use Rattle.congee.specs.Heap.{fits, Nothing};
+ghost use Rattle.congee.specs.protocol.Events.{Parts, hung, kept, ReadGives};
 ghost use Rattle.congee.specs.declared.forms.prefix.TheConstants.{MAX_PREFIX_LEN};
 ghost use Rattle.congee.specs.protocol.Plain.{is_there, count_of, child_at, NamesStay};
 
@@ -83,7 +83,7 @@ fn blanks(alloc: Global) -> Result<Vec<Child<usize, u64>>, AllocError>
 
 /// The name of a node that hangs there.
 fn only_name(child: &Child<usize, u64>) -> Child<usize, u64>
-    ensures { (d : ℕ) → (hung (λ n. n) result ≡ Below d) ↔ (hung (λ n. n) child.now ≡ Below d) }
+    ensures { hung (λ n. n) result ≡ kept (hung (λ n. n) child.now) }
 {
     match child {
         Child::Node(name) => Child::Node(*name),

@@ -5,7 +5,9 @@ ghost use Rattle.std.proofs.Math.ListN.{take};
 ghost use Rattle.congee.specs.protocol.Bounds.{Within};
 ghost use Rattle.congee.specs.protocol.Causes.{RefusesAt};
 ghost use Rattle.congee.specs.protocol.Destroys.{Spares};
-ghost use Rattle.congee.specs.protocol.Play.{Begins, Protocol, Plays, StepPlays};
+ghost use Rattle.congee.specs.protocol.Opening.{FreshRoot};
+ghost use Rattle.congee.specs.protocol.Play.{Begins, Protocol, Plays, Settled, StepPlays};
+ghost use Rattle.congee.specs.protocol.Trace.{IsTrace, AllEndAlone};
 
 use crate::protocol::machine::{Machine, Move, Noise, Outcome};
 use crate::protocol::store::{NodeName, Store};
@@ -32,7 +34,8 @@ pub struct Played<P> {
 }
 
 /// Lets calls that have not begun take these steps, one after another, until there is no memory for a move. A step
-/// of a call that isn't there reports `Running`, and does nothing.
+/// of a call that isn't there reports `Running`, and does nothing. A call whose steps nobody else's come between ends
+/// within 60 steps, and a scan within five for each node, two for each pair and two more.
 pub fn play<C: NodeName + Drop, P: Payload, S: Store<C, P>>(
     alloc: Global,
     store: &mut S,
@@ -45,8 +48,11 @@ pub fn play<C: NodeName + Drop, P: Payload, S: Store<C, P>>(
     ensures limit { S.version_max store.new ≡ S.version_max store.old }
     ensures rest { S.rest store.new ≡ S.rest store.old }
     ensures within { Within (S.version_max store.new) (S.heap store.new) }
+    ensures nexts { IsTrace C.number P.same_as P.always_copies (S.version_max store.old) (RefusesAt S.heap S.version_max S.rest S.refuses store.old) (S.heap store.old) machines.old (take result.done steps.items) result.moves.items (S.heap store.new) machines.new }
     ensures run { Plays C.number P.same_as P.always_copies (S.version_max store.old) (RefusesAt S.heap S.version_max S.rest S.refuses store.old) (S.heap store.old) machines.old (take result.done steps.items) result.moves.items (S.heap store.new) machines.new }
     ensures spares { Spares C.number P.same_as P.always_copies (S.heap store.new) machines.new }
+    ensures alone { (trace : IsTrace C.number P.same_as P.always_copies (S.version_max store.old) (RefusesAt S.heap S.version_max S.rest S.refuses store.old) (S.heap store.old) machines.old (take result.done steps.items) result.moves.items (S.heap store.new) machines.new) → Settled C.number P.same_as P.always_copies (S.heap store.old) machines.old → AllEndAlone C.number (S.heap store.old) machines.old trace.traced }
+    ensures alone_fresh { (trace : IsTrace C.number P.same_as P.always_copies (S.version_max store.old) (RefusesAt S.heap S.version_max S.rest S.refuses store.old) (S.heap store.old) machines.old (take result.done steps.items) result.moves.items (S.heap store.new) machines.new) → FreshRoot (S.heap store.old) → AllEndAlone C.number (S.heap store.old) machines.old trace.traced }
 {
     let mut moves = Vec::new(alloc);
     let mut rest = steps.into_iter();

@@ -18,8 +18,13 @@ pub mod Runs
 pub mod Sealing
 pub mod Stages
 pub mod Tables
+pub mod Takings
 pub mod Tellings
 pub mod Told
 pub mod Undated
+pub mod WaitFree
 pub mod Whole
+pub mod Wholes
+pub mod Collecting
+pub mod Rounds
 pub mod Within

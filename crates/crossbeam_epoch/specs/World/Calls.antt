@@ -1,5 +1,5 @@
 -- A whole call as its list of steps.
-use Rattle.std.specs.Prelude.{◌≡◌, ℕ, zero, suc, ◌≤◌, List, [], ◌∷◌, ◌++◌, length, Option, Some, None, MatchOption}
+use Rattle.std.specs.Prelude.{◌≡◌, ℕ, zero, suc, ◌+◌, ◌≤◌, List, [], ◌∷◌, ◌++◌, length, Option, Some, None, MatchOption}
 use Rattle.std.specs.List.{Contains}
 use Rattle.crossbeam_epoch.specs.declared.world.report.Event.{Event}
 use Rattle.crossbeam_epoch.specs.declared.world.report.Event.TheVariants.{Begin, Go}
@@ -55,6 +55,6 @@ pub record Extends {T J : Type 0} (names : T → List Name) (s : State T J) (who
   pub told : (h : List Moment) → Tells names h s → Tells names (moments_after names s (call_steps who op (length reports)) reports h) s'
   pub shown : (log : List Noted) (h : List Mark) → Shows log h s → Shows (log_after (call_steps who op (length reports)) reports log) (history_after s (call_steps who op (length reports)) reports h) s'
 
--- a whole call, at most 1,000 steps of it; what it answers is how it stands after the last one
+-- a whole call, as many steps of it as the longest call takes at most; what it answers is how it stands after the last one
 abbrev pub IsWholeCall : {T J : Type 0} → (names : T → List Name) → State T J → (who : ℕ) → Op → Outcome → State T J → Type 0
-IsWholeCall names s who op outcome s' = (reports : List Report) × (newest : Report) × IsCall s who op 1000 reports (Some newest) s' × (outcome ≡ newest.outcome) × Extends names s who op reports s'
+IsWholeCall names s who op outcome s' = (reports : List Report) × (newest : Report) × IsCall s who op (length s.table + 527) reports (Some newest) s' × (outcome ≡ newest.outcome) × Extends names s who op reports s'

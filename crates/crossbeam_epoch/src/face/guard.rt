@@ -42,6 +42,15 @@ impl<'c, T: Drop, J: Task> Guard<'c, T, J> {
         self.epoch
     }
 
+    /// Ends a guard that no handle takes; its participant stays pinned.
+    pub(crate) fn forget(self) {
+        let Guard {
+            collector: _,
+            seat: _,
+            epoch: _,
+        } = self;
+    }
+
     /// The collector of its handle.
     pub fn collector(&self) -> Option<&'c Collector<T, J>>
         ensures { IsSomeAnd result (λ c. c.now ≡ self.now.collector.now) }

@@ -1,9 +1,10 @@
 //! Handles of participants.
 
 ghost use Rattle.std.specs.Prelude.{◌≡◌, ◌<◌, ◌≤◌, ◌+◌, ◌-◌, ◌++◌, ◌∷◌, [], true, false, nat_lt, nat_le, nat_eq};
-ghost use Rattle.std.specs.Prelude.{length, MatchResult, IfOk, IfErr, OnOk};
+ghost use Rattle.std.specs.Prelude.{length, Err, MatchResult, IfOk, IfErr, OnOk};
 ghost use Rattle.std.specs.Bool.{MatchBool};
 ghost use Rattle.crossbeam_epoch.specs.Face.Handle.{owns, with_room, SealsUnder};
+ghost use Rattle.crossbeam_epoch.specs.Face.Pinned.{IsPinnedFor, IsUnpinnedAfter};
 ghost use Rattle.crossbeam_epoch.specs.Face.Participant.{IsPinned};
 ghost use Rattle.crossbeam_epoch.specs.Face.Pins.{IsDue};
 ghost use Rattle.crossbeam_epoch.specs.Face.Tokens.{known, IsOf, unpinned_view};
@@ -110,6 +111,7 @@ impl<'c, T: Drop, J: Task> LocalHandle<'c, T, J> {
         ensures counted { MatchResult result
             (λ _. self.new ≡ record self.old { guards = self.old.guards + 1; epoch = self.new.epoch; knows = self.new.knows })
             (λ e. (e ≡ Fault.Count) × (self.old.guards ≡ 65535) × (self.new ≡ self.old)) }
+        ensures room { OnOk result (self.old.guards < 65535) }
         ensures nested { 0 < self.old.guards → self.new.epoch ≡ self.old.epoch }
         ensures word { IsPinned self.new.guards self.new.epoch self.new.knows }
     {
@@ -148,6 +150,35 @@ impl<'c, T: Drop, J: Task> LocalHandle<'c, T, J> {
         self.collector.pins.unpin(&mut self.token, self.seat.place);
         self.guards = 0;
         Ok(())
+    }
+
+    /// Pins the participant, calls `f` with the handle and the guard, and spends the guard, whatever `f` answered: so `?`
+    /// may leave `f`. Answers what `f` did; where `f` left the handle with as many guards as it found, so is it left with
+    /// as many as before. Refused as `Count` with 65,535 guards out; then `f` isn't called. Refused as `Foreign` where `f`
+    /// left another handle in this one's place; then that one is as `f` left it, and the participant stays pinned.
+    pub fn pinned<O: Drop, F: FnOnce(&mut Self, &Guard<'c, T, J>) -> Result<O, Fault>>(
+        &mut self,
+        f: F,
+    ) -> Result<O, Fault>
+    where
+        F: Drop,
+        requires { F.IsAlwaysCallable f }
+        ensures called { self.old.guards < 65535 → (p : _) × (q : _) × (r : _) × (p' : _)
+            × IsPinnedFor self.old p.now q.now × F.post f p q r p' × IsUnpinnedAfter p'.now q.now r self.new result }
+        ensures guards { ((p : _) (q : _) (r : _) (p' : _) → F.post f p q r p' → (p'.now.guards ≡ p.now.guards) × (p'.now.seat ≡ p.now.seat))
+            → self.new.guards ≡ self.old.guards }
+        ensures count { 65535 ≤ self.old.guards → (result ≡ Err Fault.Count) × (self.new ≡ self.old) }
+        ensures word { IsPinned self.new.guards self.new.epoch self.new.knows }
+    {
+        let guard = self.pin()?;
+        let answer = f(self, &guard);
+        match self.unpin(guard) {
+            Ok(()) => answer,
+            Err((fault, guard)) => {
+                guard.forget();
+                Err(fault)
+            }
+        }
     }
 
     /// Whether the guard is one of this handle's.

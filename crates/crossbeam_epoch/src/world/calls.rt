@@ -1,12 +1,14 @@
 //! Steps, runs of steps, and whole calls.
 
-ghost use Rattle.std.specs.Prelude.{◌≡◌, true, ◌<◌, ◌≤◌, List, ◌∷◌, length, take as first_of, vec_len, None, Some, ◌+◌};
+ghost use Rattle.std.specs.Prelude.{◌≡◌, ◌≢◌, true, ◌<◌, ◌≤◌, ℕ, List, ◌∷◌, length, take as first_of, vec_len, None, Some, ◌+◌};
 ghost use Rattle.crossbeam_epoch.specs.World.Machine.{place};
 ghost use Rattle.crossbeam_epoch.specs.World.Steps.{after, busy_fault, marks, IsReport, state_after, AreReports, history_after};
 ghost use Rattle.crossbeam_epoch.specs.declared.world.report.Report.{Report};
 ghost use Rattle.crossbeam_epoch.specs.World.Calls.{IsCall, IsWholeCall, Extends};
 ghost use Rattle.crossbeam_epoch.specs.World.Fits.{Fits};
 ghost use Rattle.crossbeam_epoch.specs.World.History.{Mark};
+ghost use Rattle.crossbeam_epoch.specs.World.Progress.{Orderly, IsOn, steps_left};
+ghost use Rattle.crossbeam_epoch.specs.World.WaitFree.{most_steps, steps_in_flight, AllEndInTime, IsOver};
 ghost use Rattle.crossbeam_epoch.specs.World.Log.{Noted, Stepped, log_after, Shows};
 ghost use Rattle.crossbeam_epoch.specs.World.Reach.{Moment, step_act, moments_after, Tells, NextMoment};
 
@@ -18,8 +20,8 @@ use crate::world::participant::Phase;
 use crate::world::report::{Event, Op, Outcome, Ran, Report, Step};
 use std::alloc::Global;
 
-/// The most steps of a whole call; a collection alone takes fewer than 800.
-const MOST: usize = 1000;
+/// The most steps of a call, beside one for each place of the table.
+const MOST: usize = 527;
 
 impl<T: Links + Pointable + Drop, J: Task> World<T, J> {
     /// One atomic step.
@@ -51,6 +53,8 @@ impl<T: Links + Pointable + Drop, J: Task> World<T, J> {
         ensures kept { (h : List Mark) → Fits h self.old → Fits (history_after self.old (first_of result.done steps.now) result.reports.items h) self.new }
         ensures told { (h : List Moment) → Tells T.names h self.old → Tells T.names (moments_after T.names self.old (first_of result.done steps.now) result.reports.items h) self.new }
         ensures shown { (log : List Noted) (h : List Mark) → Shows log h self.old → Shows (log_after (first_of result.done steps.now) result.reports.items log) (history_after self.old (first_of result.done steps.now) result.reports.items h) self.new }
+        ensures ends { Orderly self.old → AllEndInTime (length self.old.table) (first_of result.done steps.now) result.reports.items }
+        ensures ends_on { (who : ℕ) (op : Op) → Orderly self.old → IsOn op (place self.old who) → steps_in_flight who (first_of result.done steps.now) result.reports.items < steps_left self.old who }
     {
         let mut reports = Vec::new(alloc);
         for step in steps {
@@ -69,6 +73,7 @@ impl<T: Links + Pointable + Drop, J: Task> World<T, J> {
     /// A whole call, at most so many steps of it; answers its last report, none where `most` is 0.
     pub fn call(&mut self, who: usize, op: Op, most: usize) -> Option<Report>
         ensures call { (reports : List Report) × IsCall self.old who op most reports result self.new × Extends T.names self.old who op reports self.new }
+        ensures ends { Orderly self.old → most_steps (length self.old.table) op ≤ most → IsOver result }
     {
         let mut newest = None;
         let mut event = Event::Begin(op);
@@ -84,9 +89,10 @@ impl<T: Links + Pointable + Drop, J: Task> World<T, J> {
         newest
     }
 
-    /// A whole flush: the bag is sealed and queued, and a collection follows. Running only if it isn't over after 1,000 steps.
+    /// A whole flush: the bag is sealed and queued, and a collection follows.
     pub fn flush(&mut self, who: usize) -> Outcome
         ensures call { IsWholeCall T.names self.old who Op.Flush result self.new }
+        ensures ends { Orderly self.old → result ≢ Outcome.Running }
     {
         self.whole(who, Op::Flush)
     }
@@ -94,6 +100,7 @@ impl<T: Links + Pointable + Drop, J: Task> World<T, J> {
     /// A whole repin: a lone guard is pinned anew at the present epoch.
     pub fn repin(&mut self, who: usize) -> Outcome
         ensures call { IsWholeCall T.names self.old who Op.Repin result self.new }
+        ensures ends { Orderly self.old → result ≢ Outcome.Running }
     {
         self.whole(who, Op::Repin)
     }
@@ -101,15 +108,18 @@ impl<T: Links + Pointable + Drop, J: Task> World<T, J> {
     /// A whole leave: the bag is sealed and queued, and the place is free.
     pub fn release(&mut self, who: usize) -> Outcome
         ensures call { IsWholeCall T.names self.old who Op.Release result self.new }
+        ensures ends { Orderly self.old → result ≢ Outcome.Running }
     {
         self.whole(who, Op::Release)
     }
 
-    /// A whole call, at most `MOST` steps of it; answers how it stands after the last one.
+    /// A whole call; answers how it stands after its last step.
     fn whole(&mut self, who: usize, op: Op) -> Outcome
         ensures call { IsWholeCall T.names self.old who op result self.new }
+        ensures ends { Orderly self.old → result ≢ Outcome.Running }
     {
-        match self.call(who, op, MOST) {
+        let most = self.participants.len() + MOST;
+        match self.call(who, op, most) {
             Some(report) => report.outcome,
             None => Outcome::Running,
         }

@@ -1,6 +1,7 @@
 //! What follows for a user from a history that fits.
 
-ghost use Rattle.std.specs.Prelude.{◌≡◌, ◌≢◌, ◌⊎◌, ◌<◌, ◌≤◌, ◌+◌, ℕ, true, false, List, [], ◌∷◌, Option, None, Some, is_some, length, Contains, nat_lt, if◌then◌else◌};
+ghost use Rattle.std.specs.Prelude.{◌≡◌, ◌≢◌, ◌⊎◌, ◌<◌, ◌≤◌, ◌+◌, ℕ, true, false, List, [], ◌∷◌, Option, None, Some, is_some, length, Contains, nat_lt, ◌++◌, if◌then◌else◌};
+ghost use Rattle.std.specs.Int.{div_ceil};
 ghost use Rattle.crossbeam_epoch.specs.declared.names.Name.{Name};
 ghost use Rattle.crossbeam_epoch.specs.declared.names.Ptr.{Ptr};
 ghost use Rattle.crossbeam_epoch.specs.World.Machine.{State, place, opened, registered, deferred, after_deferral, with_store, with_roots, name_of};
@@ -16,9 +17,10 @@ ghost use Rattle.crossbeam_epoch.specs.World.Log.{Noted, Stepped, Accepted, log_
 ghost use Rattle.crossbeam_epoch.specs.World.Calls.{IsGoing, IsCall};
 ghost use Rattle.crossbeam_epoch.specs.World.Progress.{Orderly, Moves, Begins, IsOn, GoesOn, IsResting, KeepsCalls, collects};
 ghost use Rattle.crossbeam_epoch.specs.World.Reach.{Act, Moment, with_act, marks_of, moment, moments_after, step_act, InReach, IsIn, WasIn, WasLive, changes_pin, IsBy, IsDestruction, IsNow, EntersLive, DestructionsTold, Tells, IsCareful, KeepsLinks, Visible, links_of};
+ghost use Rattle.crossbeam_epoch.specs.World.Rounds.{IsQuiet, Finishes, IsRound, AreRounds, TakesOff, IsSealedBag, IsEmptied};
 ghost use Rattle.crossbeam_epoch.specs.Limits.{bag_places};
 
-use crate::bag::{Entry, Work};
+use crate::bag::{Entry, Sealed, Work};
 use crate::limits::Limits;
 use crate::names::{Links, Pointable};
 use crate::task::Task;
@@ -119,6 +121,7 @@ impl<T: Links + Pointable + Drop, J: Task> World<T, J> {
         ensures empty { (limits : Limits) (roots : ℕ) (f : Entry J → ℕ) → weight f (opened {T = T} limits roots) ≡ 0 }
         ensures registered { (s : State T J) (n : ℕ) → n < length s.table → Orderly s → KeepsCalls s (registered s n) (λ f. 0) }
         ensures deferred { (s : State T J) (who : ℕ) (work : Work J) → who < length s.table → length (place s who).bag < bag_places → Orderly s → KeepsCalls s (deferred s who work) (λ f. f (record { ticket = s.next; work = work })) }
+        ensures deferral { (s : State T J) (who : ℕ) (work : Work J) → defer_fault s who ≡ None → Orderly s → KeepsCalls s (after_deferral s who work) (λ f. f (record { ticket = s.next; work = work })) }
     {}
 
     /// No empty bag is queued, and no seal is past the epoch, after any list of steps and whatever calls came between them.
@@ -157,5 +160,17 @@ impl<T: Links + Pointable + Drop, J: Task> World<T, J> {
         ensures begins { (s : State T J) (who : ℕ) (op : Op) → IsGoing s who op 0 None (Event.Begin op) s }
         ensures more { (s now new : State T J) (who : ℕ) (op : Op) (n : ℕ) (newest : Option Report) (event : Event) (r : Report) → IsGoing s who op n newest event now → IsReport now who event r → new ≡ after now who event r.outcome → r.outcome ≡ Outcome.Running → IsGoing s who op (n + 1) (Some r) Event.Go new }
         ensures ends { (s now new : State T J) (who : ℕ) (op : Op) (n most : ℕ) (newest : Option Report) (event : Event) (r : Report) → n < most → IsGoing s who op n newest event now → IsReport now who event r → new ≡ after now who event r.outcome → (r.outcome ≡ Outcome.Running → ⊥) → (reports : List Report) × IsCall s who op most reports (Some r) new }
+    {}
+
+    /// While nobody else steps: each round of a participant from a quiet state on advances the epoch by one, and after its
+    /// flush no seal is past that epoch. A flush queues the participant's bag if it isn't empty, and takes off the queue's
+    /// front what is due by the epoch that it leaves. After the first flush of such rounds one more of them, and one for each
+    /// eight bags that are queued then, empty the queue; and there are no more such bags than jobs waited before.
+    pub fn rounds()
+        ensures advances { (h : List Moment) (s s' : State T J) (who : ℕ) → Tells T.names h s → Orderly s → IsSealing s → IsQuiet s → IsRound s who s' → s'.epoch ≡ s.epoch + 1 }
+        ensures seals { (h : List Moment) (s s' : State T J) (who : ℕ) → Tells T.names h s → Orderly s → IsSealing s → IsQuiet s → (r : IsRound s who s') → (b : Sealed J) → Contains r.flushed.queue b → b.seal ≤ s.epoch + 1 }
+        ensures takes { (h : List Moment) (s s' : State T J) (who : ℕ) → Tells T.names h s → Orderly s → IsSealing s → Finishes s who Op.Flush s' → (sealed : List (Sealed J)) × IsSealedBag (place s who).bag sealed × TakesOff s.limits.expiry s'.epoch (s.queue ++ sealed) s'.queue }
+        ensures bags { (h : List Moment) (s s' : State T J) (who : ℕ) → Tells T.names h s → Orderly s → IsSealing s → IsQuiet s → (r : IsRound s who s') → length r.flushed.queue ≤ job_count s }
+        ensures empties { (h : List Moment) (s s1 s' : State T J) (who n : ℕ) → Tells T.names h s → Orderly s → IsSealing s → s.limits.expiry ≡ 2 → IsQuiet s → (r : IsRound s who s1) → AreRounds s1 who n s' → 1 + div_ceil (length r.flushed.queue) 8 ≤ n → IsEmptied s who s' }
     {}
 }

@@ -1,9 +1,9 @@
 -- The steps of the whole machine, from those of the layers below and what is written down of them.
 use Rattle.std.proofs.Common.{◌≡◌, ◌<◌, ◌≤◌, ℕ, zero, suc, ◌+◌, ◌^◌, arith, Bool, true, false, List, [], ◌∷◌, ◌++◌, length, refl, sym, ◌∙◌, ap, subst, inl, inr}
-use Rattle.std.specs.Prelude.{Option, None, Some, ◌&&◌, is_some, ltb, slice_get, slice_set, if◌then◌else◌}
+use Rattle.std.specs.Prelude.{Option, None, Some, ◌&&◌, is_some, ltb, not, slice_get, slice_set, if◌then◌else◌}
 use Rattle.std.specs.FinMap.{empty, get}
 use Rattle.std.proofs.lemmas.Bool.{cases_Bool, ltb-true, ltb-false}
-use Rattle.std.proofs.lemmas.List.{append-nil, length-replicate, length-set, set-set}
+use Rattle.std.proofs.lemmas.List.{append-nil, get_or_past, get_or-set_same, length-replicate, length-set, set-get_or, set-set}
 use Rattle.judge.specs.declared.journal.Entry.{Entry}
 use Rattle.judge.specs.Answer.{Pairs}
 use Rattle.judge.specs.Journal.{IsLegal, Legal}
@@ -26,7 +26,7 @@ use Rattle.joint.specs.declared.steps.Step.{Step}
 use Rattle.joint.specs.Forest.{nodes}
 use Rattle.joint.specs.Intact.{is_reserving}
 use Rattle.joint.specs.Journaling.{entry_of, has_place, in_list, kept_if, one_where, places_of, reply_by}
-use Rattle.joint.specs.Log.{Log, asked, has_room, is_full, noted, opened_log, recounted}
+use Rattle.joint.specs.Log.{Log, asked, has_room, heard_by, is_full, noted, opened_log, recounted, request_at}
 use Rattle.joint.specs.Reports.{target}
 use Rattle.joint.specs.Runs.{IsFresh, no_flights}
 use Rattle.joint.specs.Whole.{Whole, EngineHolds, Holds, IsEngineStep, IsLogged, IsStep, StepsUnless, engine_of, entry_at, gives_up, heard_at, is_in_flight, kept_at, quiet, requests_after}
@@ -106,14 +106,14 @@ module _ {V : Type 0} (same : V → V → Bool) (always : Bool) where
         next_requests true z = ap (slice_set s.log.requests worker) z
         next_requests false z = refl
 
-  -- a further step: what the worker asked for comes out of its place, the places reserved are counted anew, the entry is
-  -- written down where there is room, and what it asked for comes back where its call goes on
+  -- a further step: what the worker asked for takes its answer, the places reserved are counted anew, the entry is written
+  -- down where there is room, and what it asked for goes where its call doesn't go on
   abbrev pub went_log : Log V → ℕ → Bool → Bool → Bool → Option (Entry V) → Bool → Option (Request V) → Log V
   went_log l worker before after decided entry on q =
-      let out : Log V = record l { requests = slice_set l.requests worker None } in
-      let counted : Log V = record out { reserved = recounted l.places before after l.reserved } in
+      let heard : Log V = record l { requests = slice_set l.requests worker q } in
+      let counted : Log V = record heard { reserved = recounted l.places before after l.reserved } in
       let kept : Log V = record counted { entries = l.entries ++ in_list (kept_if decided (has_room counted) entry) } in
-      noted kept worker on q
+      noted kept worker (not on) None
 
   went_entries : (l : Log V) (worker : ℕ) (b a d : Bool) (x : Option (Entry V)) (on : Bool) (q : Option (Request V)) → (went_log l worker b a d x on q).entries ≡ l.entries ++ in_list (kept_if d (has_room (record l { reserved = recounted l.places b a l.reserved })) x)
   went_entries l worker b a d x true q = refl
@@ -128,12 +128,24 @@ module _ {V : Type 0} (same : V → V → Bool) (always : Bool) where
   went_reserved l worker b a d x false q = refl
 
   went_requests : (l : Log V) (worker : ℕ) (b a d : Bool) (x : Option (Entry V)) (on : Bool) (q : Option (Request V)) → (went_log l worker b a d x on q).requests ≡ slice_set l.requests worker (if on then q else None)
-  went_requests l worker b a d x true q = set-set l.requests worker None q
-  went_requests l worker b a d x false q = refl
+  went_requests l worker b a d x true q = refl
+  went_requests l worker b a d x false q = set-set l.requests worker q None
+
+  -- the request in a worker's place once it has heard an answer; beyond the places there is none
+  heard_here : (qs : List (Option (Request V))) (w : ℕ) (answer : Option (Option V)) (o : Option (Request V)) → o ≡ heard_by true answer (request_at qs w) → request_at (slice_set qs w o) w ≡ heard_by true answer (request_at qs w)
+  heard_here qs w answer o e = elim (cases_Bool (ltb w (length qs))) [
+    | inl x ↦ get_or-set_same qs w o None (ltb-true w (length qs) x) ∙ e
+    | inr x ↦ (let p : length qs ≤ w = ltb-false w (length qs) x in
+        get_or_past (slice_set qs w o) w None (let n : length (slice_set qs w o) ≡ length qs = length-set qs w o in omega (arith, p, n))
+        ∙ sym (ap (heard_by true answer) (get_or_past qs w None p)))
+  ]
+
+  put_here : (qs : List (Option (Request V))) (w : ℕ) (o : Option (Request V)) → slice_set qs w o ≡ slice_set qs w (request_at (slice_set qs w o) w)
+  put_here qs w o = sym (set-get_or (slice_set qs w o) w None) ∙ set-set qs w o (request_at (slice_set qs w o) w)
 
   -- by its parts
-  abbrev out_of : Log V → ℕ → Log V
-  out_of l worker = record l { requests = slice_set l.requests worker None }
+  abbrev heard_of : Log V → ℕ → Option (Request V) → Log V
+  heard_of l worker q = record l { requests = slice_set l.requests worker q }
 
   abbrev count_of : Log V → Bool → Bool → Log V
   count_of l b a = record l { reserved = recounted l.places b a l.reserved }
@@ -141,24 +153,47 @@ module _ {V : Type 0} (same : V → V → Bool) (always : Bool) where
   abbrev kept_of : Log V → Bool → Option (Entry V) → Log V
   kept_of l d x = record l { entries = l.entries ++ in_list (kept_if d (has_room l) x) }
 
-  pub went_by : (l l1 l2 l3 l4 : Log V) (worker : ℕ) (b a b' a' d : Bool) (x : Option (Entry V)) (on on' : Bool) (q : Option (Request V)) → l1 ≡ out_of l worker → l2 ≡ count_of l1 b a → b ≡ b' → a ≡ a' → l3 ≡ kept_of l2 d x → l4 ≡ noted l3 worker on q → on ≡ on'
+  pub hear_put : (l l1 l2 : Log V) (w : ℕ) (h : Option (Request V)) → l1 ≡ heard_of l w None → l2 ≡ heard_of l1 w h → l2 ≡ heard_of l w h
+  hear_put l l1 l2 w h e1 e2 = e2 ∙ ap (λ (y : Log V). heard_of y w h) e1 ∙ ap (λ qs. record l { requests = qs }) (set-set l.requests w None h)
+
+  pub hear_left : (l l' : Log V) (w : ℕ) (h : Option (Request V)) → l' ≡ heard_of l w h → l' ≡ heard_of l w (request_at l'.requests w)
+  hear_left l l' w h e = e ∙ ap (λ qs. record l { requests = qs }) (put_here l.requests w h) ∙ ap (λ (y : Log V). heard_of l w (request_at y.requests w)) (sym e)
+
+  pub hear_heard : (l l' : Log V) (w : ℕ) (answer : Option (Option V)) (h : Option (Request V)) → l' ≡ heard_of l w h → h ≡ heard_by true answer (request_at l.requests w) → request_at l'.requests w ≡ heard_by true answer (request_at l.requests w)
+  hear_heard l l' w answer h e i = ap (λ (y : Log V). request_at y.requests w) e ∙ heard_here l.requests w answer h i
+
+  pub went_by : (l l1 l2 l3 l4 : Log V) (worker : ℕ) (b a b' a' d : Bool) (x : Option (Entry V)) (on on' : Bool) (q : Option (Request V)) → l1 ≡ heard_of l worker q → l2 ≡ count_of l1 b a → recounted l.places b a l.reserved ≡ recounted l.places b' a' l.reserved → l3 ≡ kept_of l2 d x → l4 ≡ noted l3 worker (not on) None → on ≡ on'
       → l4 ≡ went_log l worker b' a' d x on' q
-  went_by l l1 l2 l3 l4 worker b a b' a' d x on on' q e1 e2 eb ea e3 e4 eo =
-      e4 ∙ ap (λ (y : Log V). noted y worker on q) e3 ∙ ap (λ (y : Log V). noted (kept_of y d x) worker on q) e2 ∙ ap (λ (y : Log V). noted (kept_of (count_of y b a) d x) worker on q) e1
-      ∙ ap (λ y. noted (kept_of (count_of (out_of l worker) y a) d x) worker on q) eb ∙ ap (λ y. noted (kept_of (count_of (out_of l worker) b' y) d x) worker on q) ea
-      ∙ ap (λ y. noted (kept_of (count_of (out_of l worker) b' a') d x) worker y q) eo
+  went_by l l1 l2 l3 l4 worker b a b' a' d x on on' q e1 e2 ec e3 e4 eo =
+      e4 ∙ ap (λ (y : Log V). noted y worker (not on) None) e3 ∙ ap (λ (y : Log V). noted (kept_of y d x) worker (not on) None) e2 ∙ ap (λ (y : Log V). noted (kept_of (count_of y b a) d x) worker (not on) None) e1
+      ∙ ap (λ n. noted (kept_of (record (heard_of l worker q) { reserved = n }) d x) worker (not on) None) ec
+      ∙ ap (λ y. noted (kept_of (count_of (heard_of l worker q) b' a') d x) worker (not y) None) eo
 
-  pub kept_by : (l l1 l2 : Log V) (worker : ℕ) (b a b' a' d k : Bool) (x : Option (Entry V)) (told r : Report V) → l1 ≡ out_of l worker → l2 ≡ count_of l1 b a → b ≡ b' → a ≡ a' → k ≡ is_some (kept_if d (has_room l2) x) → r ≡ record told { kept = k }
+  pub room_by : (l l1 l2 : Log V) (worker : ℕ) (q : Option (Request V)) (b a b' a' : Bool) → l1 ≡ heard_of l worker q → l2 ≡ count_of l1 b a → recounted l.places b a l.reserved ≡ recounted l.places b' a' l.reserved → has_room l2 ≡ has_room (record l { reserved = recounted l.places b' a' l.reserved })
+  room_by l l1 l2 worker q b a b' a' e1 e2 ec =
+      ap has_room e2 ∙ ap (λ (y : Log V). has_room (count_of y b a)) e1 ∙ ap (λ n. has_room (record (heard_of l worker q) { reserved = n })) ec
+
+  pub kept_by : (l l1 l2 : Log V) (worker : ℕ) (q : Option (Request V)) (b a b' a' d k : Bool) (x : Option (Entry V)) (told r : Report V) → l1 ≡ heard_of l worker q → l2 ≡ count_of l1 b a → recounted l.places b a l.reserved ≡ recounted l.places b' a' l.reserved → k ≡ is_some (kept_if d (has_room l2) x) → r ≡ record told { kept = k }
       → r ≡ record told { kept = is_some (kept_if d (has_room (record l { reserved = recounted l.places b' a' l.reserved })) x) }
-  kept_by l l1 l2 worker b a b' a' d k x told r e1 e2 eb ea ek er =
-      er ∙ ap (λ y. record told { kept = y }) (ek ∙ ap (λ (y : Log V). is_some (kept_if d (has_room y) x)) e2 ∙ ap (λ (y : Log V). is_some (kept_if d (has_room (count_of y b a)) x)) e1
-      ∙ ap (λ y. is_some (kept_if d (has_room (count_of (out_of l worker) y a)) x)) eb ∙ ap (λ y. is_some (kept_if d (has_room (count_of (out_of l worker) b' y)) x)) ea)
+  kept_by l l1 l2 worker q b a b' a' d k x told r e1 e2 ec ek er =
+      er ∙ ap (λ y. record told { kept = y }) (ek ∙ ap (λ y. is_some (kept_if d y x)) (room_by l l1 l2 worker q b a b' a' e1 e2 ec))
 
-  -- without room an entry is none to the journal
-  same_kept : (l : Log V) (d : Bool) (x y : Option (Entry V)) → (has_room l ≡ true → x ≡ y) → kept_if d (has_room l) x ≡ kept_if d (has_room l) y
+  -- where no journal is kept nothing is counted
+  pub recounted_same : (places : ℕ) (b a b' a' : Bool) (n : ℕ) → (0 < places → b ≡ b') → (0 < places → a ≡ a') → recounted places b a n ≡ recounted places b' a' n
+  recounted_same zero b a b' a' n eb ea = refl
+  recounted_same (suc p) b a b' a' n eb ea = ap (λ y. recounted (suc p) y a n) (eb (omega arith)) ∙ ap (λ y. recounted (suc p) b' y n) (ea (omega arith))
+
+  pub none_full : (l : Log V) → (0 < l.places → is_full l ≡ false) → is_full l ≡ false
+  none_full l f = elim (cases_Bool (ltb 0 l.places)) [
+    | inl x ↦ f (ltb-true 0 l.places x)
+    | inr x ↦ ap (λ b. b && not (has_room l)) x
+  ]
+
+  -- an entry is none to the journal where the call hasn't taken effect or there is no room
+  same_kept : (l : Log V) (d : Bool) (x y : Option (Entry V)) → (d ≡ true → has_room l ≡ true → x ≡ y) → kept_if d (has_room l) x ≡ kept_if d (has_room l) y
   same_kept l true x y e = by (has_room l) refl where
     by : (r : Bool) → has_room l ≡ r → kept_if true (has_room l) x ≡ kept_if true (has_room l) y
-    by true q = ap (kept_if true (has_room l)) (e q)
+    by true q = ap (kept_if true (has_room l)) (e refl q)
     by false q = ap (λ b. kept_if true b x) q ∙ sym (ap (λ b. kept_if true b y) q)
   same_kept l false x y e = refl
 
@@ -182,12 +217,12 @@ module _ {V : Type 0} (same : V → V → Bool) (always : Bool) where
     room_always : has_room counted ≡ true → always ≡ true
     room_always z = h.2.copies (let n : length s.log.entries + recounted s.log.places before after s.log.reserved < s.log.places = has_room_is counted z in omega (arith, n))
 
-    kept_same : s'.log ≡ left → (always ≡ true → x ≡ entry_of worker q (reply_by told.outcome (slice_get s'.machines worker))) → kept_if told.decided (has_room counted) x ≡ kept_at s worker (Go noise) told s'
+    kept_same : s'.log ≡ left → (always ≡ true → told.decided ≡ true → has_room counted ≡ true → x ≡ entry_of worker q (reply_by told.outcome (slice_get s'.machines worker))) → kept_if told.decided (has_room counted) x ≡ kept_at s worker (Go noise) told s'
     kept_same l y =
-        same_kept counted told.decided x (entry_at s worker (Go noise) told s') (λ z. y (room_always z) ∙ ap (λ o. entry_of worker o (reply_by told.outcome (slice_get s'.machines worker))) (i (room_always z)))
+        same_kept counted told.decided x (entry_at s worker (Go noise) told s') (λ d z. y (room_always z) d z ∙ ap (λ o. entry_of worker o (reply_by told.outcome (slice_get s'.machines worker))) (i (room_always z)))
         ∙ ap (λ b. kept_if told.decided b (entry_at s worker (Go noise) told s')) (sym (same_room l))
 
-    pub go_step : s'.log ≡ left → (always ≡ true → x ≡ entry_of worker q (reply_by told.outcome (slice_get s'.machines worker))) → r ≡ record told { kept = is_some (kept_if told.decided (has_room counted) x) }
+    pub go_step : s'.log ≡ left → (always ≡ true → told.decided ≡ true → has_room counted ≡ true → x ≡ entry_of worker q (reply_by told.outcome (slice_get s'.machines worker))) → r ≡ record told { kept = is_some (kept_if told.decided (has_room counted) x) }
         → IsStep same always s (record { worker = worker; event = Go noise }) r s'
     go_step l y is =
         let on : Bool = is_in_flight told.outcome in

@@ -69,7 +69,7 @@ module _ {V : Type 0} (same : V → V → Bool) (always : Bool) where
     step_beside event None r x = proceeds event r x
     step_beside event (Some f) r x = alike s.forest s'.forest (ap (λ y. y.forest) x.1)
 
-  whole_step : (s : Whole V) (step : Step V) (r : Report V) (s' : Whole V) (b : Bool) → StepsUnless same always b s step r s' → IsBeside s.forest s'.forest
+  pub whole_step : (s : Whole V) (step : Step V) (r : Report V) (s' : Whole V) (b : Bool) → StepsUnless same always b s step r s' → IsBeside s.forest s'.forest
   whole_step s step r s' true x = alike s.forest s'.forest (ap (λ y. y.forest) x.state)
   whole_step s step r s' false x = step_beside (engine_of s) (engine_of s') step.worker step.event (misuse (engine_of s) step.worker step.event) x.told x.engine.does
 

@@ -3,7 +3,7 @@ use Rattle.std.proofs.Common.{◌≡◌, ℕ, Bool, List, ◌∷◌, sym, subst}
 use Rattle.crossbeam_epoch.specs.declared.world.report.Event.{Event}
 use Rattle.crossbeam_epoch.specs.declared.world.report.Report.{Report}
 use Rattle.crossbeam_epoch.specs.World.Progress.{Moves}
-use Rattle.crossbeam_epoch.specs.World.Reach.{Moment, moment, step_act, Tells}
+use Rattle.crossbeam_epoch.specs.World.Reach.{Moment, marks_of, moment, step_act, Tells}
 use Rattle.crossbeam_epoch.specs.World.Steps.{IsReport, after}
 use Rattle.congee.specs.declared.protocol.machine.Machine.{Machine}
 use Rattle.congee.specs.protocol.Answers.{SameMap}
@@ -17,6 +17,7 @@ use Rattle.joint.specs.Laws.{CellLaws, CallLaws}
 use Rattle.joint.specs.Machines.{slot_names, IsSafe, Rests, Collected}
 use Rattle.joint.specs.View.{view, id_number}
 use Rattle.joint.proofs.lemmas.Collected.{collected, destroys, spares_all}
+use Rattle.joint.proofs.lemmas.Filing.{filed_collected}
 use Rattle.joint.proofs.lemmas.SlotViews.{slot_view}
 
 pub swept : {V : Type 0} (same : V → V → Bool) (always : Bool) → CellLaws {T = Slot V} (Unit {0}) slot_names → CallLaws {C = Id} {V = V} id_number same always
@@ -43,4 +44,5 @@ swept {V} same always cells calls s s' ms who event r i rests report e m told be
       destroys = gone;
       beside = beside;
       charged = charged;
+      filed = filed_collected cells s s' who event r (marks_of i.sound.past) i.sound.sound.tells.fits report e m;
     }

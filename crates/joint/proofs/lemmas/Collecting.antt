@@ -77,6 +77,7 @@ module _ {V : Type 0} (same : V → V → Bool) (always : Bool) (s : Forest V) (
     machines = intact.machines ∙ sym (length-set calls who k');
     table = c.moves.table ∙ intact.table ∙ sym (length-set calls who k');
     few = rw (length-set calls who k') intact.few;
+    filed = c.filed intact.filed;
     each = λ i k m at here. elim (either calls who i k' k at) [
       | inl e ↦ (
           let P : ℕ → Type 0 = λ j. IsAt k' (place s'.collector j) m in

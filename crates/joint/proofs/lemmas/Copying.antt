@@ -1,5 +1,5 @@
 -- The children of a node as they are copied or moved into another.
-use Rattle.std.proofs.Common.{◌≡◌, ℕ, zero, suc, ◌+◌, ◌<◌, ◌≤◌, false, List, [], ◌∷◌, length, Option, None, Some, IsSome, refl, sym, ◌∙◌, ap, subst, inl, inr, arith}
+use Rattle.std.proofs.Common.{◌≡◌, ℕ, zero, suc, ◌+◌, ◌<◌, ◌≤◌, true, false, List, [], ◌∷◌, length, Option, None, Some, IsSome, refl, sym, ◌∙◌, ap, subst, inl, inr, arith}
 use Rattle.std.specs.Prelude.{Box}
 use Rattle.std.specs.Box.{with_value}
 use Rattle.std.specs.declared.alloc.Global.{Global}
@@ -17,6 +17,7 @@ use Rattle.congee.specs.Heap.{Nothing, Below, Holds}
 use Rattle.congee.proofs.lemmas.forms.BetweenLemmas.{get_find}
 use Rattle.congee.proofs.lemmas.forms.Entries.{find}
 use Rattle.congee.proofs.lemmas.forms.MapLemmas.{len_less}
+use Rattle.congee.proofs.lemmas.protocol.Leftovers.{kept_node, kept_value}
 use Rattle.joint.specs.declared.id.Id.{Id}
 use Rattle.joint.specs.declared.slot.Slot.{Slot}
 use Rattle.joint.specs.declared.slot.Word.{Word}
@@ -119,19 +120,48 @@ module _ {P : Type 0} where
   pub no_blank : (n : Form Id P) (from b : ℕ) (x : Child Id P) → IsSolid (children_of n) → IsFirst (children_of n) from b x → x ≡ Blank → ⊥
   no_blank n from b x solid one e = solid b (one.here ∙ ap Some e)
 
-  pub left_same : (n : Form Id P) → IsSolid (children_of n) → IsLeft n n
-  left_same n solid = record { form = refl; prefix = refl; solid = solid; stay = λ k d. (λ e. e, λ e. e) }
+  -- a map without a key
+  no_key : (m : map.FinMap nat_cmp (Child Id P)) → ((k : ℕ) → map.get m k ≡ None) → map.len m ≡ 0
+  no_key m none = elim (cases_eq (map.len m) 0) [
+    | inl e ↦ e
+    | inr ne ↦ absurd (
+        let long : length (map.entries m) ≡ map.len m = sym (map.len-entries m) in
+        let key : (k : ℕ) × IsSome (map.get m k) = some_key m (map.entries m) refl (omega (arith, long, ne)) in
+        let z : map.get m key.0 ≡ None = none key.0 in
+        let q : false ≡ true = subst (λ (o : Option (Child Id P)). IsSome o) z key.1 in
+        cc q)
+  ]
 
-  pub left_none : (n n' : Form Id P) → ((k d : ℕ) → child_at n k ≡ Below d → ⊥) → Becomes n n' map.empty → IsLeft n n'
-  left_none n n' values becomes = record {
+  -- a node that holds neither nodes nor values
+  no_child : (n : Form Id P) → IsSolid (children_of n) → ((k d : ℕ) → child_at n k ≡ Below d → ⊥) → ((k : ℕ) (v : P) → child_at n k ≡ Holds v → ⊥) → map.len (children_of n) ≡ 0
+  no_child n solid values names = no_key (children_of n) (λ k. by k (map.get (children_of n) k) refl) where
+    by : (k : ℕ) (o : Option (Child Id P)) → map.get (children_of n) k ≡ o → map.get (children_of n) k ≡ None
+    by k None e = e
+    by k (Some Blank) e = absurd (solid k e)
+    by k (Some (Sub c)) e = absurd (values k _ (ap hung_at e))
+    by k (Some (Value v)) e = absurd (names k v (ap hung_at e))
+
+  pub left_same : (n : Form Id P) → IsSolid (children_of n) → ((k : ℕ) (v : P) → child_at n k ≡ Holds v → ⊥) → IsLeft n n
+  left_same n solid names = record {
+    form = refl;
+    prefix = refl;
+    solid = solid;
+    left = λ k. sym (kept_node (child_at n k) (names k));
+    none_left = λ values. no_child n solid values names;
+    all_left = λ _. refl;
+  }
+
+  pub left_none : (n n' : Form Id P) → IsSolid (children_of n) → ((k d : ℕ) → child_at n k ≡ Below d → ⊥) → Becomes n n' map.empty → IsLeft n n'
+  left_none n n' solid values becomes = record {
     form = becomes.form;
     prefix = becomes.prefix;
     solid = subst IsSolid (sym becomes.children) empty_solid;
-    stay = λ k d. (
-      λ e. (let z : child_at n' k ≡ Nothing = ap (λ m. hung_at (map.get m k)) becomes.children ∙ ap hung_at (map.get-empty nat_cmp k) in let q : Nothing ≡ Below d = sym z ∙ e in absurd (cc q)),
-      λ e. absurd (values k d e),
-    );
-  }
+    left = λ k. ap (λ m. hung_at (map.get m k)) becomes.children ∙ ap hung_at (map.get-empty nat_cmp k) ∙ sym (kept_value (child_at n k) (values k));
+    none_left = λ _. none;
+    all_left = λ names. none ∙ sym (no_child n solid values names);
+  } where
+    none : map.len (children_of n') ≡ 0
+    none = ap map.len becomes.children ∙ no_key map.empty (λ k. map.get-empty nat_cmp k)
 
   -- the slots of two nodes
   abbrev slot_with : Slot P → Option (Box (Form Id P) Global) → Slot P
@@ -160,7 +190,10 @@ module _ {P : Type 0} where
     capacity = ap capacity_of moved.form;
     children = λ k. ap (λ x. hung_at (map.get x k)) moved.children;
     count = ap map.len moved.children;
-    stay = left.stay;
+    capacity_old = ap capacity_of left.form;
+    left = left.left;
+    none_left = left.none_left;
+    all_left = left.all_left;
   }
 
   pub hands_slots : (a b : Slot P) (n m : Box (Form Id P) Global) (n' m' : Form Id P) → a.node ≡ Some n → b.node ≡ Some m → IsWhole a.node → Becomes m.value m' (children_of n.value) → IsLeft n.value n'

@@ -1,12 +1,18 @@
 -- What always holds stays where the children of one node go over into another.
 use Rattle.std.proofs.Common.{◌≡◌, ◌≢◌, ℕ, ◌+◌, Bool, refl, sym, ◌∙◌, ap, subst, inl, inr, arith}
-use Rattle.std.specs.Prelude.{Some, if◌then◌else◌}
+use Rattle.std.specs.Prelude.{Option, None, Some, Box, if◌then◌else◌}
+use Rattle.std.specs.declared.alloc.Global.{Global}
 use Rattle.crossbeam_epoch.specs.declared.names.Name.{Name}
 use Rattle.crossbeam_epoch.specs.World.Machine.{State, with_store}
 use Rattle.crossbeam_epoch.specs.World.Store.{Store, value_at, was_given}
-use Rattle.congee.specs.protocol.Events.{TakesOver, TakeOverGives}
-use Rattle.congee.specs.Heap.{Node}
+use Rattle.std.specs.Ordering.{nat_cmp}
+use Rattle.std.specs.FinMap as map
+use Rattle.congee.specs.forms.Forms.{children_of}
+use Rattle.congee.specs.protocol.Events.{kept, HoldsValues, HoldsNodes, TakesOver, TakeOverGives}
+use Rattle.congee.specs.Heap.{Nothing}
 use Rattle.joint.specs.declared.counts.Counts.{Counts}
+use Rattle.congee.specs.declared.forms.base_node.Node.{Node as Form}
+use Rattle.joint.specs.declared.id.Id.{Id}
 use Rattle.joint.specs.declared.slot.Slot.{Slot}
 use Rattle.joint.specs.Altering.{Exchanges, HandsOver}
 use Rattle.joint.specs.Forest.{Forest, nodes, with_collector, frame, size, waits, waiting_size, sizes, waiting, waiting_bytes, IsTally, IsKept}
@@ -14,32 +20,46 @@ use Rattle.joint.specs.NameLemmas.{number_named}
 use Rattle.joint.specs.Names.{number, named}
 use Rattle.joint.specs.Solid.{IsWhole}
 use Rattle.joint.specs.Tallies.{tally_at}
-use Rattle.joint.specs.View.{heap, view, node_of}
+use Rattle.joint.specs.View.{heap, view, hung_at, count_in, child_in, node_of}
 use Rattle.joint.proofs.lemmas.Altering.{same_or}
 use Rattle.joint.proofs.lemmas.Kept.{same_some, node_is, node_in, orderly_stored, same_frame}
 
-pub same_gives : {V : Type 0} (h : ℕ → Node V) (k : ℕ) → TakeOverGives h k k h
-same_gives h k = record {
-  children = λ b. refl;
-  count = refl;
-  prefix = refl;
-  capacity = refl;
-  version = refl;
-  made = refl;
-  destroyed = refl;
-  locked = refl;
-  obsolete = refl;
-  retired = refl;
-  nodes_stay = λ b d. (λ e. e, λ e. e);
-  prefix_old = refl;
-  version_old = refl;
-  locked_old = refl;
-  obsolete_old = refl;
-  made_old = refl;
-  destroyed_old = refl;
-  retired_old = refl;
-  others = λ x nc nm. refl;
-}
+-- an empty node has no children
+bare_view : {P : Type 0} (g : Bool) (v : Option (Slot P)) → (view g v).count ≡ 0 → (b : ℕ) → (view g v).children b ≡ Nothing
+bare_view {P} g None e b = refl
+bare_view {P} g (Some s) e b = by s.node e where
+  by : (o : Option (Box (Form Id P) Global)) → count_in o ≡ 0 → child_in o b ≡ Nothing
+  by None e = refl
+  by (Some n) e = ap (λ m. hung_at (map.get m b)) (map.empty_of_len (children_of n.value) e) ∙ ap hung_at (map.get-empty nat_cmp b)
+
+-- it takes over from itself
+pub same_gives : {P : Type 0} (F : Forest P) (m n : ℕ) → m ≡ n → TakesOver (nodes F m) (nodes F n) → TakeOverGives (nodes F) m n (nodes F)
+same_gives F m n q t = subst (λ k. TakeOverGives (nodes F) m k (nodes F)) q (itself (subst (λ k. TakesOver (nodes F m) (nodes F k)) (sym q) t)) where
+  itself : TakesOver (nodes F m) (nodes F m) → TakeOverGives (nodes F) m m (nodes F)
+  itself t = record {
+    children = λ b. refl;
+    count = refl;
+    prefix = refl;
+    capacity = refl;
+    version = refl;
+    made = refl;
+    destroyed = refl;
+    locked = refl;
+    obsolete = refl;
+    retired = refl;
+    left = λ b. (let z : (nodes F m).children b ≡ Nothing = bare_view _ _ t.empty b in z ∙ ap kept (sym z));
+    none_left = λ v. t.empty;
+    all_left = λ v. refl;
+    prefix_old = refl;
+    capacity_old = refl;
+    version_old = refl;
+    locked_old = refl;
+    obsolete_old = refl;
+    made_old = refl;
+    destroyed_old = refl;
+    retired_old = refl;
+    others = λ x nc nm. refl;
+  }
 
 module _ {P : Type 0} (F : Forest P) (c' : State (Slot P) (Unit {0})) (beside : c' ≡ with_store F.collector c'.store) (m n : Name) (a b a' b' : Slot P) (ex : Exchanges F.collector.store m n a b a' b' c'.store) (hands : HandsOver a b a' b') where
   abbrev st : Store (Slot P)
@@ -121,10 +141,10 @@ module _ {P : Type 0} (F : Forest P) (c' : State (Slot P) (Unit {0})) (beside : 
           locked = ap (λ x. x.locked) nb ∙ ap (λ x. x.locked) hands.word ∙ sym (ap (λ x. x.locked) ob);
           obsolete = ap (λ x. x.obsolete) nb ∙ ap (λ x. x.obsolete) hands.word ∙ sym (ap (λ x. x.obsolete) ob);
           retired = ap (λ x. x.retired) nb ∙ ap (λ x. x.retired) hands.word ∙ sym (ap (λ x. x.retired) ob);
-          nodes_stay = λ k d. (
-            λ e. ap (λ x. x.children k) oa ∙ (hands.stay k d).0 (sym (ap (λ x. x.children k) na) ∙ e),
-            λ e. ap (λ x. x.children k) na ∙ (hands.stay k d).1 (sym (ap (λ x. x.children k) oa) ∙ e),
-          );
+          left = λ k. ap (λ x. x.children k) na ∙ hands.left k ∙ ap kept (sym (ap (λ x. x.children k) oa));
+          none_left = λ v. ap (λ x. x.count) na ∙ hands.none_left (subst (λ x. HoldsValues x) oa v);
+          all_left = λ v. ap (λ x. x.count) na ∙ hands.all_left (subst (λ x. HoldsNodes x) oa v) ∙ sym (ap (λ x. x.count) oa);
+          capacity_old = ap (λ x. x.capacity) na ∙ hands.capacity_old ∙ sym (ap (λ x. x.capacity) oa);
           prefix_old = ap (λ x. x.prefix) na ∙ hands.prefix_old ∙ sym (ap (λ x. x.prefix) oa);
           version_old = ap (λ x. x.version) na ∙ ap (λ x. x.version) hands.word_old ∙ sym (ap (λ x. x.version) oa);
           locked_old = ap (λ x. x.locked) na ∙ ap (λ x. x.locked) hands.word_old ∙ sym (ap (λ x. x.locked) oa);

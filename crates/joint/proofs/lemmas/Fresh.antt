@@ -22,6 +22,7 @@ use Rattle.joint.specs.Opening.{IsOpened, top}
 use Rattle.joint.specs.Runs.{IsFresh}
 use Rattle.joint.specs.View.{view, id_number}
 use Rattle.joint.specs.Whole.{EngineHolds}
+use Rattle.joint.proofs.lemmas.Filing.{filed_opened}
 use Rattle.joint.proofs.lemmas.Opened as open_it
 use Rattle.joint.proofs.lemmas.SlotViews.{slot_view}
 
@@ -69,6 +70,7 @@ module _ {V : Type 0} (same : V → V → Bool) (always : Bool) (cells : CellLaw
     machines = length-replicate n resting ∙ sym (length-replicate n Idle);
     table = table ∙ sym (length-replicate n Idle);
     few = (let P : ℕ → Type 0 = λ k. k ≤ 256 in subst P (sym (length-replicate {A = Call V} n Idle)) begin.allowed.participants);
+    filed = filed_opened cells limits charge limit s begin;
     each = at_first;
   }
 

@@ -34,7 +34,7 @@ module _ {V : Type 0} where
   begun_writes (point.Exchange k old new) e = refl
   begun_writes (point.Range start end size) e = absurd (cc e)
 
-  begun_asks : (op : Point V) → asks (flight (begun root op)) ≡ false
+  pub begun_asks : (op : Point V) → asks (flight (begun root op)) ≡ false
   begun_asks (point.Get k) = refl
   begun_asks (point.Insert k v) = refl
   begun_asks (point.Remove k) = refl

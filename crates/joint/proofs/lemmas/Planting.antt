@@ -204,6 +204,7 @@ module _ {P : Type 0} (limits : Limits) (F : Forest P) (k : Counts) (planted : I
       stands = record { made = ap (λ x. x.made) root_node; kept = ap (λ x. x.destroyed) root_node };
       wide = ap (λ x. x.capacity) root_node ∙ new.capacity;
       unretired = ap (λ x. x.retired) root_node ∙ free;
+      live = ap (λ x. x.obsolete) root_node ∙ ap (λ w. w.obsolete) new.word;
     };
     unlocked = ap (λ x. x.locked) root_node ∙ ap (λ w. w.locked) new.word;
     others = λ n ne. ap (λ x. x.made) (other_node n ne);
@@ -222,6 +223,11 @@ module _ {P : Type 0} (limits : Limits) (F : Forest P) (k : Counts) (planted : I
   is_opened charge limit fits base charged limit_is versions = record {
     allowed = allowed;
     fresh = fresh_root;
+    bare = record {
+      childless = ap (λ x. x.count) root_node ∙ new.empty;
+      first = ap (λ x. x.version) root_node ∙ ap (λ w. w.version) new.word;
+      live = ap (λ x. x.obsolete) root_node ∙ ap (λ w. w.obsolete) new.word;
+    };
     within = within_root limits.version_max;
     rooted = record { only = ap (λ x. x.roots) planted.clock; first = refl };
     resting = planted.resting;

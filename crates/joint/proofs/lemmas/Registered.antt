@@ -22,6 +22,7 @@ use Rattle.joint.specs.Machines.{slot_names}
 use Rattle.joint.specs.Names.{number}
 use Rattle.joint.specs.Sound.{Guards, Sound}
 use Rattle.joint.specs.View.{view, heap, id_number}
+use Rattle.joint.proofs.lemmas.Filing.{filed_registered}
 use Rattle.joint.proofs.lemmas.Paths.{in_tree}
 use Rattle.joint.proofs.lemmas.Reaching.{Reaches, was_in}
 use Rattle.joint.proofs.lemmas.SlotViews.{slot_view}
@@ -119,6 +120,7 @@ module _ {V : Type 0} (same : V → V → Bool) (always : Bool) (cells : CellLaw
     machines = intact.machines;
     table = length-set c.table n put ∙ intact.table;
     few = intact.few;
+    filed = filed_registered cells s n inside sound.orderly intact.filed;
     each = λ i k m at got. elim (cases_eq i n) [
       | inl e ↦ (
           let x : IsAt k (place c n) m = subst (λ (j : ℕ). IsAt k (place c j) m) e (intact.each i k m at got) in

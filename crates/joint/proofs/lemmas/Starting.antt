@@ -80,6 +80,7 @@ module _ {V : Type 0} (same : V → V → Bool) (always : Bool) (laws : CallLaws
     machines = length-set ms who m ∙ intact.machines ∙ sym (length-set calls who Walking);
     table = intact.table ∙ sym (length-set calls who Walking);
     few = rw (length-set calls who Walking) intact.few;
+    filed = intact.filed;
     each = λ i k x at here. elim (either calls who i Walking k at) [
       | inl e ↦ (
           let P : Call V → Type 0 = λ y. IsAt y (place s.collector i) x in

@@ -12,8 +12,10 @@ use Rattle.congee.specs.protocol.Play.{StepPlays}
 use Rattle.joint.specs.declared.id.Id.{Id}
 use Rattle.joint.specs.declared.slot.Slot.{Slot}
 use Rattle.joint.specs.Forest.{Forest, nodes, frame, Refuses, IsBeside, with_collector}
-use Rattle.joint.specs.Machines.{IsSafe, Owes, IsSafeOrOwes, retiring_at, after_walk, Walked}
+use Rattle.joint.specs.Laws.{CellLaws}
+use Rattle.joint.specs.Machines.{slot_names, IsSafe, Owes, IsSafeOrOwes, retiring_at, after_walk, Walked}
 use Rattle.joint.specs.View.{heap, id_number}
+use Rattle.joint.proofs.lemmas.Filing.{filed_walked, filed_handed}
 
 -- a list of as many is written back whole
 pub written : {A : Type 0} (n : ℕ) (old new : List A) → length old ≡ n → length new ≡ length old → take n (new ++ drop (length new) old) ≡ new
@@ -21,7 +23,7 @@ written n old new l e =
     let none : drop (length new) old ≡ [] = drop_all (length new) old (omega (arith, e)) in
     ap (λ xs. take n (new ++ xs)) none ∙ ap (take n) (append-nil new) ∙ take_all n new (omega (arith, l, e))
 
-module _ {V : Type 0} (same : V → V → Bool) (always : Bool) (s s' : Forest V) (ms ms' : List (Machine Id V)) (step : Step Id V) (d : Move V)
+module _ {V : Type 0} (same : V → V → Bool) (always : Bool) (cells : CellLaws {T = Slot V} (Unit {0}) slot_names) (s s' : Forest V) (ms ms' : List (Machine Id V)) (step : Step Id V) (d : Move V)
     (plays : StepPlays id_number same always s.version_max (Refuses s) (nodes s) ms step d (nodes s') ms') (fr : frame s' ≡ frame s) where
   beside : IsBeside s s'
   beside = record { base = ap (λ x. x.base) fr; limit = ap (λ x. x.limit) fr; versions = ap (λ x. x.version_max) fr }
@@ -34,14 +36,14 @@ module _ {V : Type 0} (same : V → V → Bool) (always : Bool) (s s' : Forest V
   walked_none e safe =
       let P : Option Id → Type 0 = λ x. IsSafeOrOwes same always x s' ms' step.who in
       let Q : Option Id → Type 0 = λ x. s'.collector ≡ after_walk x (with_store s.collector s'.collector.store) step.who in
-      record { safe = subst P e safe; plays = plays; beside = beside; clock = subst Q (sym e) clock }
+      record { safe = subst P e safe; plays = plays; beside = beside; clock = subst Q (sym e) clock; filed = filed_walked cells same always s s' ms ms' step d plays clock e }
 
   pub owes_some : (n : Id) → retiring_at (slice_get ms step.who) ≡ Some n → IsSafeOrOwes same always (retiring_at (slice_get ms step.who)) s' ms' step.who → Owes same always s' ms' step.who n
   owes_some n e safe = let P : Option Id → Type 0 = λ x. IsSafeOrOwes same always x s' ms' step.who in subst P e safe
 
   -- one is, and is handed over
-  pub walked_some : (n : Id) → retiring_at (slice_get ms step.who) ≡ Some n → (s2 : Forest V) → s2 ≡ with_collector s' (deferred s'.collector step.who (Remove n.name)) → IsSafe same always s2 ms' → Walked same always s ms step d s2 ms'
-  walked_some n e s2 is safe =
+  pub walked_some : (n : Id) → retiring_at (slice_get ms step.who) ≡ Some n → (s2 : Forest V) → s2 ≡ with_collector s' (deferred s'.collector step.who (Remove n.name)) → IsSafe same always s ms → Owes same always s' ms' step.who n → IsSafe same always s2 ms' → Walked same always s ms step d s2 ms'
+  walked_some n e s2 is before owes safe =
       let store : s2.collector.store ≡ s'.collector.store = ap (λ x. x.collector.store) is in
       let P : Store (Slot V) → Type 0 = λ st. StepPlays id_number same always s.version_max (Refuses s) (nodes s) ms step d (heap st) ms' in
       let Q : Option Id → Type 0 = λ x. s2.collector ≡ after_walk x (with_store s.collector s2.collector.store) step.who in
@@ -52,10 +54,11 @@ module _ {V : Type 0} (same : V → V → Bool) (always : Bool) (s s' : Forest V
         plays = subst P (sym store) plays;
         beside = record { base = ap (λ x. x.base) is ∙ beside.base; limit = ap (λ x. x.limit) is ∙ beside.limit; versions = ap (λ x. x.version_max) is ∙ beside.versions };
         clock = subst Q (sym e) here;
+        filed = filed_handed cells same always s s' ms ms' step d plays n e clock before owes s2 is;
       }
 
 -- the same over the vector of the calls, as it is lent out and written back
-module _ {V : Type 0} (same : V → V → Bool) (always : Bool) (s s' : Forest V) (items lent read new : List (Machine Id V)) (n : ℕ) (step : Step Id V) (d : Move V)
+module _ {V : Type 0} (same : V → V → Bool) (always : Bool) (cells : CellLaws {T = Slot V} (Unit {0}) slot_names) (s s' : Forest V) (items lent read new : List (Machine Id V)) (n : ℕ) (step : Step Id V) (d : Move V)
     (value : lent ≡ items) (seen : read ≡ items) (len : length lent ≡ n) (long : length new ≡ length lent)
     (plays : StepPlays id_number same always s.version_max (Refuses s) (nodes s) lent step d (nodes s') new) (fr : frame s' ≡ frame s)
     (safe : IsSafeOrOwes same always (retiring_at (slice_get lent step.who)) s' new step.who) where
@@ -75,15 +78,15 @@ module _ {V : Type 0} (same : V → V → Bool) (always : Bool) (s s' : Forest V
   at_items o e = sym (e ∙ ap (λ xs. retiring_at (slice_get xs step.who)) seen)
 
   pub owed : (o : Id) → Some o ≡ retiring_at (slice_get read step.who) → Owes same always s' back step.who o
-  owed o e = let P : List (Machine Id V) → Type 0 = λ xs. Owes same always s' xs step.who o in subst P (sym whole) (owes_some same always s s' items new step d played fr o (at_items (Some o) e) safe_or)
+  owed o e = let P : List (Machine Id V) → Type 0 = λ xs. Owes same always s' xs step.who o in subst P (sym whole) (owes_some same always cells s s' items new step d played fr o (at_items (Some o) e) safe_or)
 
   pub walked : None ≡ retiring_at (slice_get read step.who) → Walked same always s items step d s' back
-  walked e = let P : List (Machine Id V) → Type 0 = λ xs. Walked same always s items step d s' xs in subst P (sym whole) (walked_none same always s s' items new step d played fr (at_items None e) safe_or)
+  walked e = let P : List (Machine Id V) → Type 0 = λ xs. Walked same always s items step d s' xs in subst P (sym whole) (walked_none same always cells s s' items new step d played fr (at_items None e) safe_or)
 
-  pub walked_over : (o : Id) → Some o ≡ retiring_at (slice_get read step.who) → (s2 : Forest V) (ms2 : List (Machine Id V)) → ms2 ≡ back → s2 ≡ with_collector s' (deferred s'.collector step.who (Remove o.name)) → IsSafe same always s2 ms2
+  pub walked_over : (o : Id) → Some o ≡ retiring_at (slice_get read step.who) → (s2 : Forest V) (ms2 : List (Machine Id V)) → ms2 ≡ back → s2 ≡ with_collector s' (deferred s'.collector step.who (Remove o.name)) → IsSafe same always s items → IsSafe same always s2 ms2
       → Walked same always s items step d s2 ms2
-  walked_over o e s2 ms2 same2 is ok =
+  walked_over o e s2 ms2 same2 is before ok =
       let q : ms2 ≡ new = same2 ∙ whole in
       let P : List (Machine Id V) → Type 0 = λ xs. Walked same always s items step d s2 xs in
       let Q : List (Machine Id V) → Type 0 = λ xs. IsSafe same always s2 xs in
-      subst P (sym q) (walked_some same always s s' items new step d played fr o (at_items (Some o) e) s2 is (subst Q q ok))
+      subst P (sym q) (walked_some same always cells s s' items new step d played fr o (at_items (Some o) e) s2 is before (owes_some same always cells s s' items new step d played fr o (at_items (Some o) e) safe_or) (subst Q q ok))

@@ -129,6 +129,7 @@ module _ {V : Type 0} (same : V → V → Bool) (always : Bool) (laws : CallLaws
       machines = long ∙ intact.machines ∙ sym (length-set calls step.who next);
       table = table ∙ intact.table ∙ sym (length-set calls step.who next);
       few = rw (length-set calls step.who next) intact.few;
+      filed = walked.filed intact.filed;
       each = λ i k m at here. elim (either calls step.who i next k at) [
         | inl e ↦ (
             let q : Some final ≡ Some m = sym now_here ∙ subst (λ (j : ℕ). slice_get ms' j ≡ Some m) e.0 here in

@@ -4,6 +4,7 @@ ghost use Rattle.std.specs.Prelude.{◌≡◌, ◌<◌, ℕ, false, length, nat_
 ghost use Rattle.std.specs.Option.{option_map};
 ghost use Rattle.joint.specs.Journals.{IsJournal};
 ghost use Rattle.joint.specs.Opening.{IsUnshared};
+ghost use Rattle.joint.specs.Pinned.{CallsPinned, KeepsWorker};
 ghost use Rattle.joint.specs.Threads.{Answers, AreKeys, As, Closes, Hands, HasWorkers, IsHold, IsRound, Pins, Scans, Serves, is_held_by, is_of, register_step, registered};
 ghost use Rattle.joint.specs.Threads.{computed, counted, either_words, emptied, exchanged, got, if_present, inserted, listed, or_insert, removed, replaced, scanned, told, words};
 ghost use Rattle.joint.specs.Writing.{Gathers, Reads, Writes, WritesMute};
@@ -46,6 +47,8 @@ impl<L: Ledger, W: Watch, K: Word64, V: Word64, A: Allocator, D: Drop> Journaled
     /// An index with a root alone, which the allocator is charged for, a journal of so many places, and the share of all
     /// parts of the new ledger. Refused as Limits, also where there is no part, or no place or more than 4,294,967,295;
     /// as Budget or Memory. All is dropped then.
+    ///
+    /// Its number is `limits.id`; each index wants one of its own (`Limits::with_id`).
     pub fn new_with_drainer(
         alloc: Global,
         limits: Limits,
@@ -111,6 +114,24 @@ impl<L: Ledger, W: Watch, K: Word64, V: Word64, A: Allocator, D: Drop> Journaled
         ensures answers { Hands (is_held_by self.now.tree.id worker.old guard) (Answers Reads worker.old.number op.Unpin told) guard result }
     {
         self.tree.unpin(rt, worker, guard)
+    }
+
+    /// Pins the worker, calls `f` with worker and guard, and spends the guard, whatever `f` answered: so `?` may leave `f`.
+    /// Answers what `f` did. A refused pin is the answer, and `f` isn't called then. A refused unpin is the answer too: it
+    /// comes where `f` left another worker in this one's place, as Foreign; the worker stays pinned then.
+    pub fn pinned<O: Drop, R: Wait, F: FnOnce(&mut Worker, &Guard) -> Result<O, Refusal>>(
+        &self,
+        rt: &R,
+        worker: &mut Worker,
+        f: F,
+    ) -> Result<O, Refusal>
+    where
+        F: Drop,
+        requires { F.IsAlwaysCallable f }
+        ensures answers { CallsPinned Reads self.now.tree.id F.FnOnce f worker.old worker.new result }
+        ensures worker { KeepsWorker F.FnOnce f → worker.new ≡ worker.old }
+    {
+        self.tree.pinned(rt, worker, f)
     }
 
     /// Seals the worker's removals, and destroys what no guard protects any more. Refused as Memory where they can't be
@@ -360,6 +381,8 @@ impl<L: Ledger, W: Watch, K: Word64, V: Word64, A: Allocator> Journaled<L, W, K,
     /// An index with a root alone, which the allocator is charged for, a journal of so many places, and the share of all
     /// parts of the new ledger. Refused as Limits, also where there is no part, or no place or more than 4,294,967,295;
     /// as Budget or Memory. All is dropped then.
+    ///
+    /// Its number is `limits.id`; each index wants one of its own (`Limits::with_id`).
     pub fn new(
         alloc: Global,
         limits: Limits,

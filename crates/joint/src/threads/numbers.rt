@@ -4,6 +4,7 @@ ghost use Rattle.std.specs.Prelude.{◌≡◌, false, length, nat_eq, true, IfEr
 ghost use Rattle.std.specs.Option.{option_map};
 ghost use Rattle.congee.specs.Keys.{key_bytes};
 ghost use Rattle.joint.specs.Opening.{IsUnopened};
+ghost use Rattle.joint.specs.Pinned.{CallsPinned, KeepsWorker};
 ghost use Rattle.joint.specs.Threads.{Answers, AreKeys, As, ByHold, Computes, Hands, HasWorkers, IsHold, IsRound, Pins, Scans, Serves, is_held_by, is_of, register_step, registered};
 ghost use Rattle.joint.specs.Threads.{computed, counted, either_words, emptied, exchanged, got, if_present, inserted, listed, or_insert, removed, replaced, scanned, told, words};
 ghost use Rattle.joint.specs.declared.steps.Op.TheVariants as op;
@@ -25,6 +26,8 @@ pub struct U64Congee<V, A: Allocator = DefaultAllocator> {
 impl<V: Word64, A: Allocator> U64Congee<V, A> {
     /// An index with a root alone, which the allocator is charged for. Refused as Limits, Budget or Memory; the allocator
     /// is dropped then.
+    ///
+    /// Its number is `limits.id`; each index wants one of its own (`Limits::with_id`).
     pub fn new(alloc: Global, limits: Limits, allocator: A) -> Result<Self, Refusal>
         ensures id { IfOk result (λ t. t.words.tree.id ≡ limits.id) }
         ensures cause { IfErr result (λ e. IsUnopened limits (A.charged_of allocator) (A.limit_of allocator) e) }
@@ -68,6 +71,24 @@ impl<V: Word64, A: Allocator> U64Congee<V, A> {
         ensures answers { Hands (is_held_by self.now.words.tree.id worker.old guard) (Answers (ByHold nat_eq true) worker.old.number op.Unpin told) guard result }
     {
         self.words.unpin(rt, worker, guard)
+    }
+
+    /// Pins the worker, calls `f` with worker and guard, and spends the guard, whatever `f` answered: so `?` may leave `f`.
+    /// Answers what `f` did. A refused pin is the answer, and `f` isn't called then. A refused unpin is the answer too: it
+    /// comes where `f` left another worker in this one's place, as Foreign; the worker stays pinned then.
+    pub fn pinned<O: Drop, R: Wait, F: FnOnce(&mut Worker, &Guard) -> Result<O, Refusal>>(
+        &self,
+        rt: &R,
+        worker: &mut Worker,
+        f: F,
+    ) -> Result<O, Refusal>
+    where
+        F: Drop,
+        requires { F.IsAlwaysCallable f }
+        ensures answers { CallsPinned (ByHold nat_eq true) self.now.words.tree.id F.FnOnce f worker.old worker.new result }
+        ensures worker { KeepsWorker F.FnOnce f → worker.new ≡ worker.old }
+    {
+        self.words.pinned(rt, worker, f)
     }
 
     /// Seals the worker's removals, and destroys what no guard protects any more. Refused as Memory where they can't be

@@ -4,6 +4,7 @@ ghost use Rattle.std.specs.Prelude.{◌≡◌, false, IfErr, IfOk, Ok};
 ghost use Rattle.std.specs.Arc.{arc_value};
 ghost use Rattle.std.specs.Option.{option_map};
 ghost use Rattle.joint.specs.Opening.{IsUnopened};
+ghost use Rattle.joint.specs.Pinned.{CallsPinned, KeepsWorker};
 ghost use Rattle.joint.specs.Threads.{Answers, AreKeys, ByHold, Computes, Hands, HasWorkers, IsHold, IsRound, Owns, Pins, RefusesOwner, Serves, is_held_by, is_of, register_step, registered};
 ghost use Rattle.joint.specs.Threads.{befores, computed, counted, emptied, got, if_owned, inserted, listed, owned, removed, told};
 ghost use Rattle.joint.specs.declared.steps.Op.TheVariants as op;
@@ -111,6 +112,8 @@ fn befores<P: Drop>(answer: Result<Option<(P, Option<P>)>, Refusal>) -> Result<O
 
 impl<K: Word64, V: Drop> CongeeArc<K, V> {
     /// An index with a root alone. Refused as Limits or Memory.
+    ///
+    /// Its number is `limits.id`; each index wants one of its own (`Limits::with_id`).
     pub fn new(alloc: Global, limits: Limits) -> Result<Self, Refusal>
         ensures id { IfOk result (λ t. t.tree.id ≡ limits.id) }
     {
@@ -156,6 +159,24 @@ impl<K: Word64, V: Drop> CongeeArc<K, V> {
         ensures answers { Hands (is_held_by self.now.tree.id worker.old guard) (Answers {V = V} (ByHold (λ _ _. false) false) worker.old.number op.Unpin told) guard result }
     {
         self.tree.unpin(rt, worker, guard)
+    }
+
+    /// Pins the worker, calls `f` with worker and guard, and spends the guard, whatever `f` answered: so `?` may leave `f`.
+    /// Answers what `f` did. A refused pin is the answer, and `f` isn't called then. A refused unpin is the answer too: it
+    /// comes where `f` left another worker in this one's place, as Foreign; the worker stays pinned then.
+    pub fn pinned<O: Drop, R: Wait, F: FnOnce(&mut Worker, &Guard) -> Result<O, Refusal>>(
+        &self,
+        rt: &R,
+        worker: &mut Worker,
+        f: F,
+    ) -> Result<O, Refusal>
+    where
+        F: Drop,
+        requires { F.IsAlwaysCallable f }
+        ensures answers { CallsPinned {V = V} (ByHold (λ _ _. false) false) self.now.tree.id F.FnOnce f worker.old worker.new result }
+        ensures worker { KeepsWorker F.FnOnce f → worker.new ≡ worker.old }
+    {
+        self.tree.pinned(rt, worker, f)
     }
 
     /// Seals the worker's removals, and destroys what no guard protects any more. Refused as Memory where they can't be

@@ -3,6 +3,7 @@
 ghost use Rattle.std.specs.Prelude.{◌≡◌, ℕ, [], false, length, IfOk, IfErr, Ok};
 ghost use Rattle.joint.specs.Driving.{IsToldInCall, ended};
 ghost use Rattle.joint.specs.Opening.{IsUnopened};
+ghost use Rattle.joint.specs.Pinned.{CallsPinned, KeepsWorker};
 ghost use Rattle.joint.specs.Threads.{Answers, ByHold, Closes, Computes, Hands, HasWorkers, IsHeld, IsHold, IsRound, IsRoundFrom, Pins, Scans, Serves, is_held_by, is_of, register_step, registered};
 ghost use Rattle.joint.specs.Threads.{computed, counted, emptied, exchanged, got, inserted, listed, removed, replaced, scanned, told};
 ghost use Rattle.joint.specs.Whole.{IsOfCall};
@@ -190,6 +191,30 @@ impl<P: Payload + Small, T: Locked<P>> Tree<P, T> {
                 Ok(())
             }
             Err(refusal) => Err((refusal, guard)),
+        }
+    }
+
+    /// Pins, calls `f` with worker and guard, and unpins, whatever `f` answered.
+    pub(crate) fn pinned<O: Drop, R: Wait, F: FnOnce(&mut Worker, &Guard) -> Result<O, Refusal>>(
+        &self,
+        rt: &R,
+        worker: &mut Worker,
+        f: F,
+    ) -> Result<O, Refusal>
+    where
+        F: Drop,
+        requires { F.IsAlwaysCallable f }
+        ensures answers { CallsPinned T.holds self.now.id F.FnOnce f worker.old worker.new result }
+        ensures worker { KeepsWorker F.FnOnce f → worker.new ≡ worker.old }
+    {
+        let guard = self.pin(rt, worker)?;
+        let answer = f(worker, &guard);
+        match self.unpin(rt, worker, guard) {
+            Ok(()) => answer,
+            Err((refusal, guard)) => {
+                guard.forget();
+                Err(refusal)
+            }
         }
     }
 

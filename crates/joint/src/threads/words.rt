@@ -3,6 +3,7 @@
 ghost use Rattle.std.specs.Prelude.{◌≡◌, ℕ, false, length, map, nat_eq, true, IfErr, IfOk, MatchResult};
 ghost use Rattle.std.specs.Option.{option_map};
 ghost use Rattle.joint.specs.Opening.{IsUnopened};
+ghost use Rattle.joint.specs.Pinned.{CallsPinned, KeepsWorker};
 ghost use Rattle.joint.specs.Threads.{Answers, AreKeys, As, ByHold, Closes, Computes, Hands, HasWorkers, IsHold, IsRound, Pins, Scans, Serves, is_held_by, is_of, register_step, registered};
 ghost use Rattle.joint.specs.Threads.{computed, counted, either_of, either_words, emptied, exchanged, got, if_present, inserted, listed, or_insert, removed, replaced, scanned, told, words};
 ghost use Rattle.joint.specs.declared.steps.Op.TheVariants as op;
@@ -99,6 +100,8 @@ pub(crate) fn are_keys<K: Word64>(
 impl<K: Word64, V: Word64, A: Allocator, D: Drop> Congee<K, V, A, D> {
     /// An index with a root alone, which the allocator is charged for. Refused as Limits, Budget or Memory; both are
     /// dropped then.
+    ///
+    /// Its number is `limits.id`; each index wants one of its own (`Limits::with_id`).
     pub fn new_with_drainer(
         alloc: Global,
         limits: Limits,
@@ -152,6 +155,24 @@ impl<K: Word64, V: Word64, A: Allocator, D: Drop> Congee<K, V, A, D> {
         ensures answers { Hands (is_held_by self.now.tree.id worker.old guard) (Answers (ByHold nat_eq true) worker.old.number op.Unpin told) guard result }
     {
         self.tree.unpin(rt, worker, guard)
+    }
+
+    /// Pins the worker, calls `f` with worker and guard, and spends the guard, whatever `f` answered: so `?` may leave `f`.
+    /// Answers what `f` did. A refused pin is the answer, and `f` isn't called then. A refused unpin is the answer too: it
+    /// comes where `f` left another worker in this one's place, as Foreign; the worker stays pinned then.
+    pub fn pinned<O: Drop, R: Wait, F: FnOnce(&mut Worker, &Guard) -> Result<O, Refusal>>(
+        &self,
+        rt: &R,
+        worker: &mut Worker,
+        f: F,
+    ) -> Result<O, Refusal>
+    where
+        F: Drop,
+        requires { F.IsAlwaysCallable f }
+        ensures answers { CallsPinned (ByHold nat_eq true) self.now.tree.id F.FnOnce f worker.old worker.new result }
+        ensures worker { KeepsWorker F.FnOnce f → worker.new ≡ worker.old }
+    {
+        self.tree.pinned(rt, worker, f)
     }
 
     /// Seals the worker's removals, and destroys what no guard protects any more. Refused as Memory where they can't be
@@ -379,6 +400,8 @@ impl<K: Word64, V: Word64, A: Allocator, D: Drop> Congee<K, V, A, D> {
 impl<K: Word64, V: Word64, A: Allocator> Congee<K, V, A, NoDrain> {
     /// An index with a root alone, which the allocator is charged for. Refused as Limits, Budget or Memory; the allocator
     /// is dropped then.
+    ///
+    /// Its number is `limits.id`; each index wants one of its own (`Limits::with_id`).
     pub fn new(alloc: Global, limits: Limits, allocator: A) -> Result<Self, Refusal>
         ensures id { IfOk result (λ t. t.tree.id ≡ limits.id) }
         ensures cause { IfErr result (λ e. IsUnopened limits (A.charged_of allocator) (A.limit_of allocator) e) }

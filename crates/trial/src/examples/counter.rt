@@ -10,15 +10,11 @@ pub type Shared = Congee<u64, u64>;
 
 /// Adds one to the number at a key, under a guard of its own. An absent key counts as 0.
 fn add<R: Wait>(rt: &R, index: &Shared, key: u64, worker: &mut Worker) -> Result<(), Refusal> {
-    let guard = index.pin(rt, worker)?;
-    let more = |number: Option<u64>| number.unwrap_or(0).wrapping_add(1);
-    let added = index.compute_or_insert(rt, key, more, worker, &guard);
-    if let Err((refusal, guard)) = index.unpin(rt, worker, guard) {
-        guard.forget();
-        return Err(refusal);
-    }
-    added?;
-    Ok(())
+    index.pinned(rt, worker, |worker, guard| {
+        let more = |number: Option<u64>| number.unwrap_or(0).wrapping_add(1);
+        index.compute_or_insert(rt, key, more, worker, guard)?;
+        Ok(())
+    })
 }
 
 /// Adds one so many times, as a worker of its own.

@@ -47,13 +47,9 @@ fn writes<L: Ledger, R: Wait>(
     let mut share = share;
     let mut worker = index.register(rt)?;
     for key in from..from.saturating_add(count) {
-        let guard = index.pin(rt, &mut worker)?;
-        let found = put_and_scan(rt, index, key, &mut share, &mut worker, &guard);
-        if let Err((refusal, guard)) = index.unpin(rt, &mut worker, guard) {
-            guard.forget();
-            return Err(refusal);
-        }
-        found?;
+        index.pinned(rt, &mut worker, |worker, guard| {
+            put_and_scan(rt, index, key, &mut share, worker, guard)
+        })?;
     }
     match index.release(rt, worker) {
         Ok(()) => Ok(share),
@@ -74,7 +70,7 @@ fn known_of_two<L: Ledger + Send + Sync, R: Threads + Wait + Sync>(
     ensures journal { IfOk result (λ known. IsJournal known.journal.items) }
     ensures written { IfOk result (λ known. IsCounted (λ _. true) known.written) }
 {
-    let limits = Limits::usual(2, 1_000);
+    let limits = Limits::usual(2, 1_000).with_id(1);
     let (index, mut one): (Recorded<L>, Share<L>) = Journaled::new(
         alloc,
         limits,

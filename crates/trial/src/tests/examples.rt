@@ -1,17 +1,26 @@
 //! The examples, run.
 
 use super::face::limits;
-use super::machine::{beginning, going, noise};
+use super::machine::{
+    END, Index, begin, beginning, go as step_on, going, is_in_flight, noise, open,
+};
+use crate::examples::collector::put_off;
+use crate::examples::journal::{Store, is_honest};
 use crate::examples::machine::{runs_and_closes, runs_as_one_map};
 use crate::examples::owned::{
     finds_what_it_puts, finds_what_it_puts_in_numbers, opens_and_closes, opens_and_closes_numbers,
 };
+use crate::examples::pages::{Numbers, Sum, drained, page_from, sum_by_pages};
+use crate::examples::promises::{answer_alike, gives_memory_back};
 use crate::examples::stack::{Node, Stack, pops, sum_of_two};
-use congee::{Allocator, Limited};
-use crossbeam_epoch::Collector;
-use joint::{Done, Event, Op, Outcome, Refusal, Report, Step};
-use judge::Reply;
+use crate::examples::threaded::{first_calls, shared_values};
+use congee::{Allocator, Congee, DefaultAllocator, Limited};
+use crossbeam_epoch::{Collector, Job};
+use joint::{Done, Event, Kind, Limits, Op, Outcome, Refusal, Report, Step};
+use judge::{Call, Entry, Reply};
 use std::alloc::{AllocError, Global};
+use std::sync::Arc;
+use std::sync::atomic::{AtomicU64, Ordering};
 use std::test::Fail;
 use std::vec::Vec;
 
@@ -108,5 +117,153 @@ fn owned_trees_keep_their_contracts(rt: HostRuntime) -> Result<(), Fail> {
     assert!(rt; opens_and_closes(rt.alloc(), 2103).is_err());
     assert!(rt; finds_what_it_puts(rt.alloc(), 256, 7)? == Some(7));
     assert!(rt; finds_what_it_puts_in_numbers(rt.alloc(), 0, 9)? == Some(9));
+    Ok(())
+}
+
+/// The steps of a whole call of worker 0 on this index, which takes them.
+fn record(index: &mut Index, steps: &mut Vec<Step<u64>>, op: Op<u64>) -> Result<(), AllocError> {
+    steps.push(beginning(0, op))?;
+    let mut outcome = begin(index, 0, op).outcome;
+    for _ in 0..END {
+        if !is_in_flight(&outcome) {
+            break;
+        }
+        steps.push(go(0))?;
+        outcome = step_on(index, 0, None).outcome;
+    }
+    Ok(())
+}
+
+/// Two workers come, and one of them fills a leaf until it is exchanged for a greater one. Behind each insertion it goes so
+/// many rounds, and so many in the end.
+fn grown(alloc: Global, between: u32, behind: u32) -> Result<Vec<Step<u64>>, Fail> {
+    let mut index = open(alloc, 2, 1000)?;
+    let mut steps = Vec::new(alloc);
+    for _ in 0..2 {
+        steps.push(Step {
+            worker: 0,
+            event: Event::Register,
+        })?;
+    }
+    for key in 1..6 {
+        for op in [Op::Pin, Op::Insert(key, key), Op::Get(key), Op::Unpin] {
+            record(&mut index, &mut steps, op)?;
+        }
+        for _ in 0..if key < 5 { between } else { behind } {
+            for op in [Op::Pin, Op::Flush, Op::Unpin] {
+                record(&mut index, &mut steps, op)?;
+            }
+        }
+    }
+    Ok(steps)
+}
+
+#[test]
+fn rounds_give_memory_back_unseen(rt: HostRuntime) -> Result<(), Fail> {
+    let limits = Limits::usual(2, 1000);
+    let (index, _) = gives_memory_back(rt.alloc(), limits, grown(rt.alloc(), 0, 0)?)?;
+    assert_eq!(rt; (index.waiting(), index.charged()), (1, 2104 + 64 + 168));
+    let (index, _) = gives_memory_back(rt.alloc(), limits, grown(rt.alloc(), 0, 3)?)?;
+    assert_eq!(rt; (index.waiting(), index.charged()), (0, 2104 + 168));
+    let (plain, swept) = answer_alike(
+        rt.alloc(),
+        limits,
+        grown(rt.alloc(), 0, 0)?,
+        grown(rt.alloc(), 2, 3)?,
+    )?;
+    assert!(rt; plain.done < swept.done);
+    let told = plain
+        .reports
+        .iter()
+        .filter(|report| report.kind == Kind::Tree);
+    let again = swept
+        .reports
+        .iter()
+        .filter(|report| report.kind == Kind::Tree);
+    assert!(rt; told.eq(again));
+    Ok(())
+}
+
+#[test]
+fn the_first_calls_find_what_was_put(rt: HostRuntime) -> Result<(), Fail> {
+    assert_eq!(rt; first_calls(&rt, rt.alloc())?, (Some(42), 1));
+    Ok(())
+}
+
+/// Whether this text is owned.
+fn is_text(owner: &Option<Arc<String, Global>>, text: &str) -> bool {
+    match owner {
+        Some(owner) => owner.as_str() == text,
+        None => false,
+    }
+}
+
+#[test]
+fn an_owner_is_read_and_the_next_one_is_taken_out(rt: HostRuntime) -> Result<(), Fail> {
+    let hello = Arc::new(rt.alloc(), String::from_str(rt.alloc(), "hello")?)?;
+    let world = Arc::new(rt.alloc(), String::from_str(rt.alloc(), "hello world")?)?;
+    let (read, taken) = shared_values(&rt, rt.alloc(), hello, world)?;
+    assert!(rt; is_text(&read, "hello"));
+    assert!(rt; is_text(&taken, "hello world"));
+    Ok(())
+}
+
+#[test]
+fn a_lie_is_found(rt: HostRuntime) -> Result<(), Fail> {
+    let mut store = Store::new(rt.alloc());
+    store.put(0, 7, 70)?;
+    store.get(1, 7)?;
+    store.put(1, 7, 71)?;
+    assert_eq!(rt; is_honest(rt.alloc(), store.journal.as_slice())?, true);
+    // What another one wrote down, that it still found the first number.
+    store.journal.push(Entry {
+        worker: 2,
+        call: Call::Get(7),
+        reply: Reply::Get(Some(70)),
+    })?;
+    assert_eq!(rt; is_honest(rt.alloc(), store.journal.as_slice())?, false);
+    Ok(())
+}
+
+#[test]
+fn a_tree_is_read_by_pages_and_drained(rt: HostRuntime) -> Result<(), Fail> {
+    let sum = Sum {
+        of_values: 0,
+        last_key: None,
+    };
+    let mut tree: Numbers<Sum> = Congee::new_with_drainer(
+        rt.alloc(),
+        DefaultAllocator::new(),
+        sum,
+    )?;
+    for key in 0..40 {
+        tree.insert(key * 1_000, key)?;
+    }
+    let mut page = [(0, 0); 3];
+    assert_eq!(rt; page_from(&tree, 38_001, &mut page), 1);
+    assert_eq!(rt; page[0], (39_000, 39));
+    assert_eq!(rt; sum_by_pages(&tree), 780);
+    let sum = drained(tree);
+    assert_eq!(rt; (sum.of_values, sum.last_key), (780, Some(39_000)));
+    Ok(())
+}
+
+#[test]
+fn what_was_put_off_is_called(rt: HostRuntime) -> Result<(), Fail> {
+    let called = Arc::new(rt.alloc(), AtomicU64::new(0))?;
+    let collector: Collector<u64> = Collector::new(&rt, rt.alloc(), limits(10), 1)?;
+    let mut handle = collector.register(&rt)?;
+    for _ in 0..5 {
+        let counts = Arc::try_clone(&called)?;
+        let call = move || {
+            counts.fetch_add(1, Ordering::SeqCst);
+        };
+        put_off(&rt, &mut handle, Job::new(Box::new(rt.alloc(), call)?))?;
+    }
+    assert!(rt; !handle.is_pinned());
+    assert!(rt; called.load(Ordering::SeqCst) >= 1);
+    assert!(rt; handle.release(&rt).is_ok());
+    assert!(rt; collector.end().is_ok());
+    assert_eq!(rt; called.load(Ordering::SeqCst), 5);
     Ok(())
 }

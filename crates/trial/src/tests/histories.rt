@@ -3,6 +3,7 @@
 ghost use Rattle.std.specs.Prelude.{◌≡◌, IfOk};
 
 use super::replies::Narrow;
+use super::threaded::{next, spent};
 use crate::drained::Drained;
 use crate::examples::history::writes_of_two;
 use crate::start::start;
@@ -44,24 +45,6 @@ fn words<L: Ledger>(
     )
 }
 
-/// Whether a guard was spent; a refused one is let go.
-fn spent(unpinned: Result<(), (Refusal, Guard)>) -> Result<(), Refusal> {
-    match unpinned {
-        Ok(()) => Ok(()),
-        Err((refusal, guard)) => {
-            guard.forget();
-            Err(refusal)
-        }
-    }
-}
-
-fn next(value: Option<u64>) -> u64 {
-    match value {
-        Some(value) => value.wrapping_add(1),
-        None => 2,
-    }
-}
-
 /// The calls on one key, one after the other, as a map answers them: six write.
 fn writing_calls<L: Ledger, R: Wait>(
     rt: &R,
@@ -76,8 +59,8 @@ fn writing_calls<L: Ledger, R: Wait>(
             && tree.compute_or_insert(rt, 1, next, share, worker, guard)? == Some(42)
             && tree.compute_if_present(rt, &1, raise, share, worker, guard)? == Some((43, Some(44)))
             && tree.compare_exchange(rt, &1, &44, Some(5), share, worker, guard)? == Ok(Some(5))
-            && tree.insert(rt, 2, 6, share, worker, guard)? == None
-            && tree.remove(rt, &2, share, worker, guard)? == Some(6)
+            && tree.insert(rt, 256, 6, share, worker, guard)? == None
+            && tree.remove(rt, &256, share, worker, guard)? == Some(6)
             && tree.get(rt, &1, worker, guard)? == Some(5),
     )
 }
@@ -136,14 +119,14 @@ fn writes_down<L: Ledger, R: Wait + Abort>(rt: &R, alloc: Global, blank: Blank) 
     let journal = tree.entries(rt)?;
     assert_eq!(rt; journal.len(), 7);
     assert_eq!(rt; check(alloc, &journal)?, Verdict::Legal);
+    // The root, the node over two leaves, and these, of which one went.
+    let state = (tree.charged(rt), tree.waiting(rt), tree.waiting_bytes(rt));
+    assert_eq!(rt; state, (2296, 1, 64));
     for _ in 0..3 {
         tree.round(rt, &mut worker)?;
     }
-    // The root and a leaf.
-    assert_eq!(rt;
-        (tree.charged(rt), tree.waiting(rt), tree.waiting_bytes(rt)),
-        (2168, 0, 0)
-    );
+    let state = (tree.charged(rt), tree.waiting(rt), tree.waiting_bytes(rt));
+    assert_eq!(rt; state, (2232, 0, 0));
     match tree.close(rt) {
         Ok(_) => Err("closed with a worker".into()),
         Err((refusal, tree)) => {
@@ -334,10 +317,10 @@ fn a_history_wants_memory(rt: HostRuntime) -> Result<(), Fail> {
 #[test]
 fn many_workers_call_at_once(rt: HostRuntime) -> Result<(), Fail> {
     let mut printed = Vec::new(rt.alloc());
-    assert_eq!(rt; threads(&rt, rt.alloc(), 16, 10_000, &mut printed), 0);
+    assert_eq!(rt; threads(&rt, rt.alloc(), 16, 100, &mut printed), 0);
     assert_eq!(rt;
         printed.as_slice(),
-        b"journal 160000 legal\naudit true\nledger 120000\n".as_slice()
+        b"journal 1600 legal\naudit true\nledger 1200\n".as_slice()
     );
     Ok(())
 }

@@ -58,7 +58,10 @@ pub fn go(index: &mut Index, worker: u32, answer: Option<Option<u64>>) -> Report
 
 /// Whether a call that stands so goes on.
 pub fn is_in_flight(outcome: &Outcome<u64>) -> bool {
-    matches!(outcome, Outcome::Running | Outcome::Asks(_))
+    matches!(
+        outcome,
+        Outcome::Running | Outcome::Asks(_) | Outcome::Found { .. }
+    )
 }
 
 /// So many further steps at most of the worker's call, which stands so.
@@ -108,9 +111,12 @@ pub fn call(index: &mut Index, worker: u32, call: Call<u64>) -> Outcome<u64> {
     }
 }
 
+/// More steps than a call on the collector takes.
+const LONG: usize = 1_000;
+
 /// A whole call on the collector, and whether it is done.
 pub fn is_done(index: &mut Index, worker: u32, op: Op<u64>) -> bool {
-    match index.call(worker, op, END as usize, &mut []) {
+    match index.call(worker, op, LONG, &mut []) {
         Some(report) => report.outcome == Outcome::Done(Done::Unit),
         None => false,
     }

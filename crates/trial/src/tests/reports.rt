@@ -1,9 +1,12 @@
 //! The machine's own calls: what the reports of steps tell, and a scan into places.
 
-use super::machine::{END, Index, begin, call, go, is_done, is_in_flight, open};
+use super::machine::{Index, begin, call, go, is_done, is_in_flight, open};
 use joint::{Done, Kind, Op, Outcome, Report};
 use judge::Call;
 use std::test::Fail;
+
+/// More steps than any of these calls takes.
+const LONG: u32 = 2_000;
 
 /// The reports of a whole call: steps of the collector, and of the tree, the begin among them; how often it took effect, and
 /// kept its place; and the nodes that were destroyed.
@@ -31,25 +34,31 @@ fn add(count: Counted, report: &Report<u64>) -> Counted {
     }
 }
 
-/// A whole call of worker 0.
-fn stepped(index: &mut Index, op: Op<u64>) -> Counted {
-    let mut report = begin(index, 0, op);
+/// The reports of a whole call of a worker, whose closure answers so.
+fn reports_of(index: &mut Index, worker: u32, op: Op<u64>, answer: Option<Option<u64>>) -> Counted {
+    let mut report = begin(index, worker, op);
     let mut count = add(Counted::default(), &report);
-    for _ in 0..END {
+    for _ in 0..LONG {
         if !is_in_flight(&report.outcome) {
             return count;
         }
-        report = go(index, 0, None);
+        report = go(index, worker, answer);
         count = add(count, &report);
     }
     count
+}
+
+/// How many steps a whole call of a worker takes, its begin among them.
+pub fn steps(index: &mut Index, worker: u32, op: Op<u64>, answer: Option<Option<u64>>) -> u32 {
+    let count = reports_of(index, worker, op, answer);
+    count.collection.saturating_add(count.tree)
 }
 
 #[test]
 fn a_writing_call_secures_its_place_first(rt: HostRuntime) -> Result<(), Fail> {
     // A full bag of nodes may wait.
     let mut index = open(rt.alloc(), 2, 80)?;
-    let pin = stepped(&mut index, Op::Pin);
+    let pin = reports_of(&mut index, 0, Op::Pin, None);
     // Its begin, look, publish, and a collection that goes over two places.
     assert_eq!(rt; (pin.collection, pin.tree, pin.effects), (8, 0, 0));
     for op in [
@@ -60,12 +69,12 @@ fn a_writing_call_secures_its_place_first(rt: HostRuntime) -> Result<(), Fail> {
         Op::Remove(1),
         Op::ComputePresent(1),
     ] {
-        let count = stepped(&mut index, op);
+        let count = reports_of(&mut index, 0, op, None);
         let told = (count.collection, count.effects, count.kept);
         assert_eq!(rt; told, (1, 1, 0), "{op:?}");
         assert_eq!(rt; count.destroyed, 0, "{op:?}");
     }
-    let look = stepped(&mut index, Op::Get(1));
+    let look = reports_of(&mut index, 0, Op::Get(1), None);
     assert_eq!(rt; (look.collection, look.effects, look.kept), (0, 1, 0));
     // The bag has room for 64 nodes, and one is in it.
     for round in 0..63 {
@@ -74,13 +83,13 @@ fn a_writing_call_secures_its_place_first(rt: HostRuntime) -> Result<(), Fail> {
     }
     assert_eq!(rt; (index.waiting(), index.waiting_bytes()), (64, 4096));
     // It is sealed, and queued.
-    let put = stepped(&mut index, Op::Insert(1, 1));
+    let put = reports_of(&mut index, 0, Op::Insert(1, 1), None);
     assert_eq!(rt; (put.collection, put.destroyed), (3, 0));
     assert!(rt; is_done(&mut index, 0, Op::Unpin));
     let mut destroyed = 0u64;
     for _ in 0..3 {
         for op in [Op::Pin, Op::Flush, Op::Unpin] {
-            destroyed = destroyed.saturating_add(stepped(&mut index, op).destroyed);
+            destroyed = destroyed.saturating_add(reports_of(&mut index, 0, op, None).destroyed);
         }
     }
     assert_eq!(rt; (destroyed, index.waiting()), (64, 0));

@@ -1,7 +1,7 @@
 //! The index for threads: what no clause says, that its calls come through, and that closures run between two holds.
 
 use crate::examples::counter::count_in_two_threads;
-use congee::DefaultAllocator;
+use congee::{Allocator, DefaultAllocator, Limited};
 use joint::{Congee, CongeeArc, Guard, Limits, Refusal, U64Congee, Worker};
 use std::alloc::Global;
 use std::sync::atomic::AtomicBool;
@@ -28,7 +28,7 @@ fn words(alloc: Global, id: u64) -> Result<Words, Refusal> {
 }
 
 /// Whether a guard was spent; a refused one is let go.
-fn spent(unpinned: Result<(), (Refusal, Guard)>) -> Result<(), Refusal> {
+pub fn spent(unpinned: Result<(), (Refusal, Guard)>) -> Result<(), Refusal> {
     match unpinned {
         Ok(()) => Ok(()),
         Err((refusal, guard)) => {
@@ -46,7 +46,8 @@ fn left(released: Result<(), (Refusal, Worker)>) -> Result<(), Refusal> {
     }
 }
 
-fn next(value: Option<u64>) -> u64 {
+/// One more than the value, or 2.
+pub fn next(value: Option<u64>) -> u64 {
     match value {
         Some(value) => value.wrapping_add(1),
         None => 2,
@@ -131,19 +132,33 @@ fn each_call_comes_through(rt: HostRuntime) -> Result<(), Fail> {
 
 #[test]
 fn numbers_are_found_by_their_bytes(rt: HostRuntime) -> Result<(), Fail> {
-    let tree: U64Congee<u64> = U64Congee::new(
-        rt.alloc(),
-        limits(1, 9, 0),
-        DefaultAllocator::new(),
-    )?;
+    let mut allocator = Limited::new(10_000);
+    allocator.allocate(500)?;
+    let tree: U64Congee<u64, Limited> = U64Congee::new(rt.alloc(), limits(1, 9, 0), allocator)?;
     let mut worker = tree.register(&rt)?;
     let guard = tree.pin(&rt, &mut worker)?;
     let before = tree.insert(&rt, 256, 7, &mut worker, &guard);
     let mut out = [([1; 8], 0)];
     let found = tree.range(&rt, 0, 1_000, &mut out, &mut worker, &guard);
+    let removed = tree.remove(&rt, 256, &mut worker, &guard);
     spent(tree.unpin(&rt, &mut worker, guard))?;
-    assert_eq!(rt; (before, found), (Ok(None), Ok(1)));
+    assert_eq!(rt; (before, found, removed), (Ok(None), Ok(1), Ok(Some(7))));
     assert_eq!(rt; out, [([0, 0, 0, 0, 0, 0, 1, 0], 7)]);
+    let state = (
+        tree.charged(&rt),
+        tree.waiting(&rt),
+        tree.waiting_bytes(&rt),
+    );
+    assert_eq!(rt; state, (500 + 2168, 1, 64));
+    let Err((refusal, tree)) = tree.close(&rt) else {
+        panic!(rt; "closed with a worker");
+    };
+    assert_eq!(rt; refusal, Refusal::WorkersLeft(1));
+    left(tree.release(&rt, worker))?;
+    match tree.close(&rt) {
+        Ok(allocator) => assert_eq!(rt; (allocator.charged(), allocator.limit()), (500, 10_000)),
+        Err((refusal, _)) => return Err(refusal.into()),
+    }
     Ok(())
 }
 
@@ -221,6 +236,16 @@ fn texts_are_shared(rt: HostRuntime) -> Result<(), Fail> {
     spent(tree.unpin(&rt, &mut worker, guard))?;
     assert!(rt; matches!(inserted, Ok(None)));
     assert_eq!(rt; answers, Ok(true));
+    let state = (
+        tree.charged(&rt),
+        tree.waiting(&rt),
+        tree.waiting_bytes(&rt),
+    );
+    assert_eq!(rt; state, (2168, 1, 64));
+    let Err((refusal, tree)) = tree.close(&rt) else {
+        panic!(rt; "closed with a worker");
+    };
+    assert_eq!(rt; refusal, Refusal::WorkersLeft(1));
     left(tree.release(&rt, worker))?;
     assert!(rt; tree.close(&rt).is_ok());
     Ok(())
@@ -291,8 +316,8 @@ fn reads_along<R: Wait>(
     Ok(same)
 }
 
-/// Whether the flag is set within 10,000 turns.
-fn comes(flag: &AtomicBool) -> bool {
+/// Whether the flag is set within 10,000 turns, each of which yields to other threads.
+pub fn comes(flag: &AtomicBool) -> bool {
     for _ in 0..10_000 {
         if flag.load(SeqCst) {
             return true;

@@ -6,6 +6,7 @@ use super::collector::adds;
 use super::face::{
     Handle, Item, ItemGuard, Under, defer, destroy, limits, rounds, seals, spend, swapped,
 };
+use super::threaded::comes;
 use crossbeam_epoch::{Atomic, Collector, Fault, Job, Link, Pointable};
 use std::alloc::{AllocError, Global};
 use std::sync::atomic::Ordering::SeqCst;
@@ -211,7 +212,7 @@ fn pins_in_two_threads<R: Threads + Wait + Sync>(
     Ok((sees?, is_seen?))
 }
 
-/// Pins, tells so by its own flag, and waits for the other's. Whether it came within ten million turns.
+/// Pins, tells so by its own flag, and waits for the other's. Whether it came in time.
 fn meets(
     rt: &impl Wait,
     items: &Collector<Item>,
@@ -225,17 +226,6 @@ fn meets(
     spend(&mut handle, guard);
     leaves(rt, handle)?;
     Ok(met)
-}
-
-/// Whether a flag is set within ten million turns.
-fn comes(flag: &AtomicBool) -> bool {
-    for _ in 0..10_000_000u32 {
-        if flag.load(SeqCst) {
-            return true;
-        }
-        thread::yield_now();
-    }
-    flag.load(SeqCst)
 }
 
 #[test]

@@ -189,6 +189,29 @@ fn rounds_after_each_insertion_leave_nothing_waiting(rt: HostRuntime) -> Result<
     Ok(())
 }
 
+/// A line takes 10,000 steps of a call at most, and a scan of 1,500 leaves takes more.
+#[test]
+fn a_long_scan_goes_on(rt: HostRuntime) -> Result<(), Fail> {
+    let scan =
+        "; 0 range 0 2000000 9999 = running; 0 get 1000 = refused Busy; 0 go 9999 = range 1500";
+    let scan = repeated(
+        rt.alloc(),
+        scan,
+        1_500,
+        " #000:#",
+        "; 0 go 1 = refused Idle",
+    )?;
+    let dialogue = repeated(
+        rt.alloc(),
+        "new 1 9999 = ok; reg = worker 0; 0 pin = ok",
+        1_500,
+        "; 0 insert #000 # = none",
+        &scan,
+    )?;
+    assert!(rt; goes(rt.alloc(), &dialogue)?);
+    Ok(())
+}
+
 // A compute that is begun, goes so many steps, fails one, and goes on with its own closure.
 #[test]
 fn a_failed_step_begins_anew(rt: HostRuntime) -> Result<(), Fail> {

@@ -78,7 +78,7 @@ module _ {C V : Type 0} (number : C → ℕ) (same : V → V → Bool) (always :
   leaf_made s turn h' (Err e) m g = kept_at number same always i a h k kind given given _ turn h' g.1 (refused_back number same always i a h k kind given h' e (back_none i a h h' t w g.0))
   leaf_made s turn h' (Ok c) m g =
       let e : KeepsMap i a h (making a i (number c)) h' = make_still i a h (number c) N4 (key_bytes k) 7 h' t w g.0 in
-      let leaf : Made i (making a i (number c)) h' (key_bytes k) (number c) 7 0 = made_new i a h (number c) N4 (key_bytes k) 7 0 h' g.0 (omega arith) in
+      let leaf : Made i (making a i (number c)) h' (key_bytes k) (number c) 7 0 = made_new i a h (number c) N4 k 7 0 h' g.0 (omega arith) in
       kept_at number same always i a h k kind given given _ turn h' g.1
       (kept_after number same always i a h k kind given given _ (making a i (number c)) h' e
       (unless_full_sound number same always i (making a i (number c)) h' k e.effect.tree e.effect.words kind given s (Some c) (Link c) s.full s.above refl refl m.3 m.4 m.0
@@ -129,7 +129,7 @@ module _ {C V : Type 0} (number : C → ℕ) (same : V → V → Bool) (always :
   greater_made s p (Some leaf) turn h' (Err e) m g = kept_at number same always i a h k kind given given _ turn h' g.1 (refused_back number same always i a h k kind given h' e (back_node i a h (key_bytes k) (number leaf) 7 0 h' t w m.3.1 g.0))
   greater_made s p leaf turn h' (Ok c) m g =
       let e : KeepsMap i a h (making a i (number c)) h' = make_still i a h (number c) (form_above s.count) (key_bytes k) s.depth h' t w g.0 in
-      let new : Made i (making a i (number c)) h' (key_bytes k) (number c) s.depth s.count = made_new i a h (number c) (form_above s.count) (key_bytes k) s.depth s.count h' g.0 (room_above s.count m.5) in
+      let new : Made i (making a i (number c)) h' (key_bytes k) (number c) s.depth s.count = made_new i a h (number c) (form_above s.count) k s.depth s.count h' g.0 (room_above s.count m.5) in
       kept_at number same always i a h k kind given given _ turn h' g.1
       (kept_after number same always i a h k kind given given _ (making a i (number c)) h' e
       (ready_sound number same always i (making a i (number c)) h' k e.effect.tree e.effect.words kind given _ m.4 m.0
@@ -157,7 +157,7 @@ module _ {C V : Type 0} (number : C → ℕ) (same : V → V → Bool) (always :
             parts_after _ h' e.effect (number at.node) common m.2.published m.3,
             byte_after _ h' e.effect (number at.node) common byte m.2.published m.4,
             m.5,
-            made_new i a h (number c) N4 (key_bytes k) common 1 h' g.0 (omega arith),
+            made_new i a h (number c) N4 k common 1 h' g.0 (omega arith),
           );
           answer = e.map;
         };
@@ -179,7 +179,7 @@ module _ {C V : Type 0} (number : C → ℕ) (same : V → V → Bool) (always :
             above = child_after _ h' e.effect p (number at.node) m.1;
             placed = (parts_after _ h' e.effect (number at.node) common m.2.published m.3, byte_after _ h' e.effect (number at.node) common byte m.2.published m.4);
             fresh = record { seated = seat; holds = λ _. tt };
-            made = (old.1, made_new i a h (number c) N4 (key_bytes k) 7 0 h' g.0 (omega arith), old.0);
+            made = (old.1, made_new i a h (number c) N4 k 7 0 h' g.0 (omega arith), old.0);
           },
         ),
         tt,

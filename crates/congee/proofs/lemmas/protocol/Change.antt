@@ -4,7 +4,7 @@ use Rattle.std.specs.Prelude.{Option, None, Some}
 use Rattle.congee.specs.Heap.{Node, Hung, Nothing, Below, Holds, Stands, fits, child_for, of_child, value_at}
 use Rattle.congee.specs.protocol.Events.{ChangeGives}
 use Rattle.congee.specs.protocol.Steps.{value_hung}
-use Rattle.congee.specs.Ledger.{Note, Unmade, Held, Linked, Gone, is_published, IsChild, HasParent, Tree, LockWords}
+use Rattle.congee.specs.Ledger.{Note, Unmade, Held, Linked, Gone, is_published, BeginsKey, IsChild, HasParent, Tree, LockWords}
 use Rattle.congee.specs.protocol.Protocol.{Made, Holding, TakenOut, IsValue, value_in, Effect}
 use Rattle.congee.proofs.lemmas.Fits.{same_key}
 use Rattle.congee.proofs.lemmas.Tree.{same_or_not, finds, aside}
@@ -32,6 +32,7 @@ pub record StaysLocked {V : Type 0} (i : ℕ) (a : ℕ → Note) (h : ℕ → No
   pub made : (h' n).made ≡ (h n).made
   pub destroyed : (h' n).destroyed ≡ (h n).destroyed
   pub retired : (h' n).retired ≡ (h n).retired
+  pub obsolete : (h' n).obsolete ≡ (h n).obsolete
 
 pub under_touch : {V : Type 0} (i : ℕ) (a : ℕ → Note) (h : ℕ → Node V) (a' : ℕ → Note) (h' : ℕ → Node V) (n : ℕ) → LockWords a h → StaysLocked i a h a' h' n → Touched i a h a' h' n
 under_touch i a h a' h' n w u =
@@ -44,6 +45,8 @@ under_touch i a h a' h' n w u =
       unmade = λ f. let z : (a n).status ≡ Unmade = (w.each n).unmade (sym u.made ∙ f) in let y : is_published (a n).status ≡ false = ap is_published z in absurd (let p : is_published (a n).status ≡ true = u.published in cc);
       stands = λ _. let s : Stands (h n) = (w.each n).stands u.published in record { made = u.made ∙ s.made; kept = u.destroyed ∙ s.kept };
       unretired = λ l. u.retired ∙ (w.each n).unretired (u.linked l);
+      live = λ l. u.obsolete ∙ (w.each n).live (u.linked l);
+      keyed = λ l. rw u.prefix ((w.each n).keyed (u.linked l));
     })
     (fares_mine i (a n) (a' n) (h n) (h' n) u.owner u.owner_after u.published_after u.retired)
 
@@ -61,6 +64,7 @@ under_change i a h a' h1 h' n b x o e f k = record {
   made = k.made ∙ ap (λ z. z.made) f;
   destroyed = k.destroyed ∙ ap (λ z. z.destroyed) f;
   retired = k.retired ∙ ap (λ z. z.retired) f;
+  obsolete = k.obsolete ∙ ap (λ z. z.obsolete) f;
 }
 
 -- a made node that comes into the tree
@@ -69,6 +73,8 @@ pub record Live {V : Type 0} (n : Node V) : Type 0 where
   pub kept : n.destroyed ≡ false
   pub unretired : n.retired ≡ false
   pub unlocked : n.locked ≡ false
+  pub live : n.obsolete ≡ false
+  pub keyed : BeginsKey n.prefix
 
 abbrev pub joined : ℕ → Note
 joined p = record { status = Linked; owner = None; parent = p }
@@ -82,14 +88,16 @@ joined_touch i a h a' h' key c size least p m e l =
       unmade = λ f. let z : true ≡ false = sym l.made ∙ f in cc;
       stands = λ _. record { made = l.made; kept = l.kept };
       unretired = λ _. l.unretired;
+      live = λ _. l.live;
+      keyed = λ _. l.keyed;
     })
     (fares_free i (a c) (a' c) (h c) (h' c) (rw e refl) (rw e refl) l.unlocked)
 
 pub live_made : {V : Type 0} (i : ℕ) (a : ℕ → Note) (h : ℕ → Node V) (key : List ℕ) (c size least : ℕ) → Made i a h key c size least → Live (h c)
-live_made i a h key c size least m = record { made = m.made; kept = m.kept; unretired = m.unretired; unlocked = m.unlocked }
+live_made i a h key c size least m = record { made = m.made; kept = m.kept; unretired = m.unretired; unlocked = m.unlocked; live = m.live; keyed = m.keyed }
 
 pub live_changed : {V : Type 0} (h : ℕ → Node V) (c b : ℕ) (x : Hung V) (h' : ℕ → Node V) → ChangeGives h c b x h' → Live (h c) → Live (h' c)
-live_changed h c b x h' k l = record { made = k.made ∙ l.made; kept = k.destroyed ∙ l.kept; unretired = k.retired ∙ l.unretired; unlocked = k.locked ∙ l.unlocked }
+live_changed h c b x h' k l = record { made = k.made ∙ l.made; kept = k.destroyed ∙ l.kept; unretired = k.retired ∙ l.unretired; unlocked = k.locked ∙ l.unlocked; live = k.obsolete ∙ l.live; keyed = rw k.prefix l.keyed }
 
 pub live_same : {V : Type 0} (n n' : Node V) → n' ≡ n → Live n → Live n'
 live_same {V} n n' e l = let P : Node V → Type 0 = λ z. Live z in subst P (sym e) l
@@ -287,6 +295,7 @@ unlink_changed i a h key p b m v h' len t w o fit eb hung om leaf k =
             made = rw em refl;
             destroyed = rw em refl;
             retired = rw em refl;
+            obsolete = rw em refl;
           })))
       | inr q ↦ elim (same_or_not x p) [
         | inl r ↦ (let P : ℕ → Type 0 = λ y. Touched i a h (left_out a i m) h' y in

@@ -195,6 +195,8 @@ module _ {C V : Type 0} (number : C → ℕ) (same : V → V → Bool) (always :
       unmade = λ e. absurd (let z : (h' n).made ≡ true = x.0.made in cc);
       stands = λ e. absurd (let z : is_published (a' n).status ≡ false = ap is_published x.1 in cc);
       unretired = λ e. absurd (let z : Linked ≡ Destroyed = sym e ∙ x.1 in cc);
+      live = λ e. absurd (let z : Linked ≡ Destroyed = sym e ∙ x.1 in cc);
+      keyed = λ e. absurd (let z : Linked ≡ Destroyed = sym e ∙ x.1 in cc);
     }
   ]
 

@@ -58,6 +58,8 @@ made_same i a h a' h' key c size least e f x = record {
   kept = rw e x.kept;
   unretired = rw e x.unretired;
   unlocked = rw e x.unlocked;
+  live = rw e x.live;
+  keyed = rw e x.keyed;
 }
 
 -- a step on one published node leaves the made ones

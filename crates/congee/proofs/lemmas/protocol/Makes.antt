@@ -7,6 +7,7 @@ use Rattle.congee.specs.declared.protocol.phase.Single.TheVariants.{Set, Link}
 use Rattle.congee.specs.declared.protocol.phase.Double.{Double}
 use Rattle.congee.specs.declared.protocol.phase.Double.TheVariants.{Unlink, Grow, GrowLink, Split}
 use Rattle.congee.specs.Heap.{Node, is_taken}
+use Rattle.congee.specs.Keys.{key_bytes}
 use Rattle.congee.specs.protocol.Events.{NewNode, BackGives, places}
 use Rattle.congee.specs.protocol.Steps.{BackOne, BackTwo}
 use Rattle.congee.specs.Ledger.{Note, Held, Back, is_published, Tree, LockWords}
@@ -16,6 +17,7 @@ use Rattle.congee.proofs.lemmas.protocol.Touch.{fares_same, fares_back, noted_sa
 use Rattle.congee.proofs.lemmas.protocol.Words.{KeepsMap, making, backed, back_still}
 use Rattle.congee.proofs.lemmas.protocol.Change.{made_apart}
 use Rattle.congee.proofs.lemmas.protocol.Locks.{made_same}
+use Rattle.congee.proofs.lemmas.protocol.Keyed.{begins_key}
 
 -- two steps of one call, one after the other
 rely_then : {V : Type 0} (j : ℕ) (a : ℕ → Note) (h : ℕ → Node V) (a1 : ℕ → Note) (h1 : ℕ → Node V) (a2 : ℕ → Note) (h2 : ℕ → Node V)
@@ -96,8 +98,8 @@ back_two number i a h key (GrowLink c leaf byte) size q h' t w m g = back_nodes 
 back_two number i a h key (Split top leaf common byte) size q h' t w m g = back_nodes i a h key (number top) common 1 (number leaf) g.0 h' t w m.0 m.1 m.2 g.1 g.2
 
 -- a new node, made
-pub made_new : {V : Type 0} (i : ℕ) (a : ℕ → Note) (h : ℕ → Node V) (c : ℕ) (form : NodeType) (key : List ℕ) (size least : ℕ) (h' : ℕ → Node V) → NewNode h c form key size h' → least < places form → Made i (making a i c) h' key c size least
-made_new i a h c form key size least h' g room =
+pub made_new : {V : Type 0} (i : ℕ) (a : ℕ → Note) (h : ℕ → Node V) (c : ℕ) (form : NodeType) (k size least : ℕ) (h' : ℕ → Node V) → NewNode h c form (key_bytes k) size h' → least < places form → Made i (making a i c) h' (key_bytes k) c size least
+made_new i a h c form k size least h' g room =
     let same : making a i c c ≡ record { status = Held i; owner = None; parent = 0 } = noted_same a c _ in
     record {
       held = rw same refl;
@@ -111,6 +113,8 @@ made_new i a h c form key size least h' g room =
       kept = g.kept;
       unretired = g.unretired;
       unlocked = g.free;
+      live = g.live;
+      keyed = begins_key _ k g.fitted;
     }
 
 -- and one that was made before

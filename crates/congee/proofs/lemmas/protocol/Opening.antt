@@ -12,6 +12,7 @@ use Rattle.congee.specs.protocol.Holdings.{Rests}
 use Rattle.congee.specs.protocol.Play.{IsNew, Begins}
 use Rattle.congee.proofs.lemmas.Fits.{equal}
 use Rattle.congee.proofs.lemmas.protocol.Touch.{by_test}
+use Rattle.congee.proofs.lemmas.protocol.Keyed.{begins_key}
 
 unfoldable pub opened : ℕ → Note
 opened n = cond (n == 0) (record { status = Linked; owner = None; parent = 0 }) (record { status = Unmade; owner = None; parent = 0 })
@@ -59,6 +60,8 @@ module _ {V : Type 0} (h : ℕ → Node V) (r : RootAlone h) where
       unmade = λ e. opened_unmade n (λ z. let f : (h 0).made ≡ false = (let P : ℕ → Type 0 = λ x. (h x).made ≡ false in subst P z e) in let g : (h 0).made ≡ true = r.stands.made in cc);
       stands = λ p. let P : ℕ → Type 0 = λ x. Stands (h x) in subst P (sym (opened_published n p)) r.stands;
       unretired = λ l. let P : ℕ → Type 0 = λ x. (h x).retired ≡ false in subst P (sym (opened_linked n l)) r.unretired;
+      live = λ l. let P : ℕ → Type 0 = λ x. (h x).obsolete ≡ false in subst P (sym (opened_linked n l)) r.live;
+      keyed = λ l. begins_key (h n).prefix 0 (rw (opened_linked n l, r.empty) refl);
     };
     wide = r.wide;
   }

@@ -1,5 +1,5 @@
 -- Changes of single nodes of a plain list.
-use Rattle.std.proofs.Common.{◌≡◌, ◌≢◌, ℕ, zero, suc, ◌<◌, ◌≤◌, ◌==◌, Bool, true, false, List, [], ◌∷◌, ◌++◌, length, get_or, set, take, drop, refl, sym, ◌∙◌, ap, arith}
+use Rattle.std.proofs.Common.{◌≡◌, ◌≢◌, ℕ, subst, zero, suc, ◌<◌, ◌≤◌, ◌==◌, Bool, true, false, List, [], ◌∷◌, ◌++◌, length, get_or, set, take, drop, refl, sym, ◌∙◌, ap, arith}
 use Rattle.std.specs.Prelude.{None, Some, slice_index}
 use Rattle.std.proofs.Math.Seq.{take-append_seam}
 use Rattle.std.proofs.lemmas.List.{length-set, length-take-le, get_or-take}
@@ -11,11 +11,12 @@ use Rattle.congee.specs.declared.forms.base_node.NodeType.TheVariants.{N4, N16, 
 use Rattle.congee.specs.declared.protocol.store.Seen.{Seen}
 use Rattle.congee.specs.declared.protocol.store.Upgrade.TheVariants.{Locked, Failed}
 use Rattle.congee.specs.forms.Forms.{capacity_of}
-use Rattle.congee.specs.protocol.Events.{hung, places, ChangeGives, TakeOverGives, NewNode, UpgradeGives, SeenTruly}
+use Rattle.congee.specs.protocol.Events.{hung, places, ChangeGives, HoldsValues, HoldsNodes, TakeOverGives, NewNode, UpgradeGives, SeenTruly}
 use Rattle.congee.specs.protocol.Bounds.{Within}
 use Rattle.congee.specs.protocol.Plain.{count_of, child_at}
 use Rattle.congee.specs.protocol.PlainHeap.{plain_node_of, plain_heap, IsFresh, IsTruly, SameWord, HandsOver}
-use Rattle.congee.proofs.lemmas.protocol.PlainLemmas.{child_set, child_beside, count_set, alone, lacking}
+use Rattle.congee.proofs.lemmas.protocol.PlainLemmas.{child_set, child_beside, count_set, alone, lacking, none_left, all_left}
+use Rattle.congee.proofs.lemmas.protocol.Leftovers.{kept_node, kept_value}
 use Rattle.congee.proofs.lemmas.owned.Joins.{front_fits}
 use Rattle.congee.proofs.lemmas.Graft.{on_test}
 use Rattle.congee.proofs.lemmas.Fits.{equal}
@@ -122,7 +123,10 @@ taken_over nodes i n x y x' y' from to hands h' ei en others = record {
   locked = rw (en, to) hands.new.locked_is;
   obsolete = rw (en, to) hands.new.obsolete_is;
   retired = rw (en, to) hands.new.retired_is;
-  nodes_stay = λ b d. rw (ei, from) (hands.stay b d);
+  left = λ b. rw (ei, from) (hands.stay b);
+  none_left = λ v. let P : Node ℕ → Type 0 = λ z. HoldsValues z in rw ei (none_left x'.children.items (λ b. hands.stay b ∙ kept_value (child_at x.children.items b) ((subst P from v) b)));
+  all_left = λ v. let P : Node ℕ → Type 0 = λ z. HoldsNodes z in rw (ei, from) (all_left x.children.items x'.children.items hands.long (λ b. hands.stay b ∙ kept_node (child_at x.children.items b) ((subst P from v) b)));
+  capacity_old = rw (ei, from, hands.old.form_is) refl;
   prefix_old = rw (ei, from) hands.old.prefix_is;
   version_old = rw (ei, from) hands.old.version_is;
   locked_old = rw (ei, from) hands.old.locked_is;

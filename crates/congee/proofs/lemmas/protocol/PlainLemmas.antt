@@ -1,12 +1,12 @@
 -- The places of a plain node.
-use Rattle.std.proofs.Common.{◌≡◌, ◌≢◌, ℕ, zero, suc, ◌<◌, ◌≤◌, ◌+◌, List, [], ◌∷◌, ◌++◌, length, get_or, set, take, drop, refl, ◌∙◌, ap, subst, arith, inl, inr, cond, ◌↔◌}
+use Rattle.std.proofs.Common.{◌≡◌, ◌≢◌, ℕ, zero, suc, ◌<◌, ◌≤◌, ◌+◌, List, [], ◌∷◌, ◌++◌, length, get_or, set, take, drop, refl, ◌∙◌, ap, subst, arith, inl, inr, cond, sym}
 use Rattle.std.proofs.lemmas.List.Sums.{sum_by_push, sum_by-cons, sum_by-set, count_by-le-length}
 use Rattle.std.proofs.Math.Seq.{take-append_seam}
 use Rattle.std.proofs.lemmas.Bool.{cases_lt}
 use Rattle.congee.specs.declared.forms.child.Child.{Child}
 use Rattle.congee.specs.declared.forms.child.Child.TheVariants.{Blank, Node, Value}
-use Rattle.congee.specs.Heap.{Nothing, Below}
-use Rattle.congee.specs.protocol.Events.{hung, weight}
+use Rattle.congee.specs.Heap.{Nothing}
+use Rattle.congee.specs.protocol.Events.{hung, weight, kept}
 use Rattle.congee.specs.protocol.Plain.{is_there, count_of, child_at, NamesStay}
 
 pub count_blank : (xs : List (Child ℕ ℕ)) → count_of xs ≡ 0 → count_of (xs ++ Blank ∷ []) ≡ 0
@@ -70,7 +70,7 @@ empty_at Blank e = refl
 empty_at (Node c) e = absurd (omega (arith, e))
 empty_at (Value v) e = absurd (omega (arith, e))
 
-pub none_there : (xs : List (Child ℕ ℕ)) → count_of xs ≡ 0 → (b : ℕ) → child_at xs b ≡ Nothing
+none_there : (xs : List (Child ℕ ℕ)) → count_of xs ≡ 0 → (b : ℕ) → child_at xs b ≡ Nothing
 none_there [] e b = refl
 none_there (x ∷ xs) e zero = empty_at x (omega (arith, e, count_cons x xs))
 none_there (x ∷ xs) e (suc b) = none_there xs (omega (arith, e, count_cons x xs)) b
@@ -96,7 +96,7 @@ lacking (x ∷ xs) (suc i) l e = omega (arith, lacking xs i (omega arith) e, at_
 
 -- the names below a bound are copied
 abbrev pub NamesBelow : ℕ → List (Child ℕ ℕ) → List (Child ℕ ℕ) → Type 0
-NamesBelow i from to = (b d : ℕ) → b < i → (child_at to b ≡ Below d) ↔ (child_at from b ≡ Below d)
+NamesBelow i from to = (b : ℕ) → b < i → child_at to b ≡ kept (child_at from b)
 
 pub child_any : (xs : List (Child ℕ ℕ)) (b : ℕ) (z : Child ℕ ℕ) → b < length xs → hung (λ n. n) (get_or xs b z) ≡ child_at xs b
 child_any [] b z l = absurd (omega arith)
@@ -104,18 +104,30 @@ child_any (y ∷ xs) zero z l = refl
 child_any (y ∷ xs) (suc b) z l = child_any xs b z (omega arith)
 
 pub names_go : (from to : List (Child ℕ ℕ)) (i : ℕ) (z x : Child ℕ ℕ) → length from ≡ length to → i < length from
-    → NamesBelow i from to → ((d : ℕ) → (hung (λ n. n) x ≡ Below d) ↔ (hung (λ n. n) (get_or from i z) ≡ Below d)) → NamesBelow (i + 1) from (set to i x)
-names_go from to i z x same l before name b d bound = elim (cases_lt b i) [
-  | inl lt ↦ rw (child_beside to i x b (λ e. absurd (omega (arith, lt, e)))) (before b d lt)
-  | inr ge ↦ (let e : i ≡ b = omega (arith, bound, ge) in let P : ℕ → Type 0 = λ y. (child_at (set to i x) y ≡ Below d) ↔ (child_at from y ≡ Below d) in
-      subst P e (rw (child_set to i x (omega (arith, l, same)), ← child_any from i z l) (name d)))
+    → NamesBelow i from to → hung (λ n. n) x ≡ kept (hung (λ n. n) (get_or from i z)) → NamesBelow (i + 1) from (set to i x)
+names_go from to i z x same l before name b bound = elim (cases_lt b i) [
+  | inl lt ↦ child_beside to i x b (λ e. absurd (omega (arith, lt, e))) ∙ before b lt
+  | inr ge ↦ (let e : i ≡ b = omega (arith, bound, ge) in let P : ℕ → Type 0 = λ y. child_at (set to i x) y ≡ kept (child_at from y) in
+      subst P e (child_set to i x (omega (arith, l, same)) ∙ name ∙ ap kept (child_any from i z l)))
 ]
 
 pub names_end : (from to : List (Child ℕ ℕ)) → length from ≡ length to → NamesBelow (length from) from to → NamesStay from to
-names_end from to same below b d = elim (cases_lt b (length from)) [
-  | inl lt ↦ below b d lt
-  | inr ge ↦ rw (past from b ge, past to b (omega (arith, ge, same))) ((λ e. e), (λ e. e))
+names_end from to same below b = elim (cases_lt b (length from)) [
+  | inl lt ↦ below b lt
+  | inr ge ↦ past to b (omega (arith, ge, same)) ∙ ap kept (sym (past from b ge))
 ]
+
+-- how many are left
+pub none_left : (xs : List (Child ℕ ℕ)) → ((b : ℕ) → child_at xs b ≡ Nothing) → count_of xs ≡ 0
+none_left [] e = refl
+none_left (x ∷ xs) e = (let w : weight (hung (λ n. n) x) ≡ 0 = ap weight (e 0) in omega (arith, w, count_cons x xs, none_left xs (λ b. e (suc b))))
+
+pub all_left : (xs ys : List (Child ℕ ℕ)) → length ys ≡ length xs → ((b : ℕ) → child_at ys b ≡ child_at xs b) → count_of ys ≡ count_of xs
+all_left [] [] l e = refl
+all_left [] (y ∷ ys) l e = absurd (omega (arith, l))
+all_left (x ∷ xs) [] l e = absurd (omega (arith, l))
+all_left (x ∷ xs) (y ∷ ys) l e =
+    (let w : weight (hung (λ n. n) y) ≡ weight (hung (λ n. n) x) = ap weight (e 0) in omega (arith, w, count_cons x xs, count_cons y ys, all_left xs ys (omega (arith, l)) (λ b. e (suc b))))
 
 -- a list that is written over as a whole
 pub all_written : (to xs : List (Child ℕ ℕ)) (size : ℕ) → size ≡ length to → take size (to ++ drop (length to) xs) ≡ to

@@ -38,4 +38,6 @@ module _ {V : Type 0} (K : ℕ → Type 0) (i : ℕ) (a : ℕ → Note) (h : ℕ
         kept = rw e.0 x.kept;
         unretired = rw e.0 x.unretired;
         unlocked = rw e.0 x.unlocked;
+        live = rw e.0 x.live;
+        keyed = rw e.0 x.keyed;
       }

@@ -54,6 +54,7 @@ under_above i a h a' g h' n b x o e eo f k = record {
   made = k.made ∙ ap (λ z. z.made) f;
   destroyed = k.destroyed ∙ ap (λ z. z.destroyed) f;
   retired = k.retired ∙ ap (λ z. z.retired) f;
+  obsolete = k.obsolete ∙ ap (λ z. z.obsolete) f;
 }
 
 -- the old node, whose values may have been moved
@@ -71,10 +72,11 @@ under_taken i a h a' g g1 h' m c o l p po e k f = record {
   made = ap (λ z. z.made) f ∙ (k.made_old ∙ ap (λ z. z.made) e);
   destroyed = ap (λ z. z.destroyed) f ∙ (k.destroyed_old ∙ ap (λ z. z.destroyed) e);
   retired = ap (λ z. z.retired) f ∙ (k.retired_old ∙ ap (λ z. z.retired) e);
+  obsolete = ap (λ z. z.obsolete) f ∙ (k.obsolete_old ∙ ap (λ z. z.obsolete) e);
 }
 
 live_taken : {V : Type 0} (h : ℕ → Node V) (m c : ℕ) (h' : ℕ → Node V) → TakeOverGives h m c h' → Live (h c) → Live (h' c)
-live_taken h m c h' k l = record { made = k.made ∙ l.made; kept = k.destroyed ∙ l.kept; unretired = k.retired ∙ l.unretired; unlocked = k.locked ∙ l.unlocked }
+live_taken h m c h' k l = record { made = k.made ∙ l.made; kept = k.destroyed ∙ l.kept; unretired = k.retired ∙ l.unretired; unlocked = k.locked ∙ l.unlocked; live = k.obsolete ∙ l.live; keyed = rw k.prefix l.keyed }
 
 module _ {V : Type 0} (i : ℕ) (a : ℕ → Note) (h : ℕ → Node V) (key : List ℕ) (len : length key ≡ 8) (t : Tree a h) (w : LockWords a h) where
   -- a full leaf gives way to a greater one with the value

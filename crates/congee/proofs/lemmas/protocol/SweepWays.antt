@@ -32,7 +32,7 @@ pick_true true x y e = refl
 pick_true false x y e = absurd cc
 
 module _ {C : Type 0} where
-  put_slots : (i : ℕ) (r : Rung C) (p : Path C) → i < 8 → slots (put_rung i r p) ≡ set (slots p) i r
+  pub put_slots : (i : ℕ) (r : Rung C) (p : Path C) → i < 8 → slots (put_rung i r p) ≡ set (slots p) i r
   put_slots zero r p l = refl
   put_slots (suc zero) r p l = refl
   put_slots (suc (suc zero)) r p l = refl

@@ -137,6 +137,8 @@ word_moved {V} x y n n' e s o w =
       unmade = λ f. s ∙ w.unmade f;
       stands = λ p. w.stands (sym (ap is_published s) ∙ p);
       unretired = λ l. w.unretired (sym s ∙ l);
+      live = λ l. w.live (sym s ∙ l);
+      keyed = λ l. w.keyed (sym s ∙ l);
     })
 
 module _ {V : Type 0} (i : ℕ) (a : ℕ → Note) (h : ℕ → Node V) (a' : ℕ → Note) (h' : ℕ → Node V) where

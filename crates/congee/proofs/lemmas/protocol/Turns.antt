@@ -26,7 +26,8 @@ use Rattle.congee.specs.declared.protocol.sweep.Sweep.{Sweep as Scan}
 use Rattle.congee.specs.declared.protocol.sweep.Stage.{Stage}
 use Rattle.congee.specs.declared.protocol.phase.Phase.TheVariants.{New, Sweep}
 use Rattle.congee.specs.protocol.Answers.{StepAnswers, Keeps, KeepsProtocol}
-use Rattle.congee.specs.protocol.Play.{Flight, Watched, WatchedAt, IsOfPoint, IsBegin, Follows, Following, flight_in, flight, EachKnown, Protocol, ProtocolAt, Settled, Begins, NextAt, Nexts, Chain, Plays, IsMoved, StepPlays}
+use Rattle.congee.specs.protocol.Play.{Flight, Watched, WatchedAt, IsOfPoint, IsBegin, Follows, Following, flight_in, flight, EachKnown, Protocol, ProtocolAt, Settled, Begins, NextAt, Chain, Plays, IsMoved, StepPlays}
+use Rattle.congee.specs.protocol.Trace.{Traced, AreTraced, nodes_after, calls_after, IsTrace}
 use Rattle.congee.specs.protocol.Holdings.{LockedBy, MadeBy, TakenBy, Holdings, Rests, Apart}
 use Rattle.congee.specs.protocol.Names.{names, KeepsOrigin}
 use Rattle.congee.proofs.lemmas.protocol.Each.{each_any}
@@ -64,14 +65,14 @@ module _ {C V : Type 0} (number : C → ℕ) (same : V → V → Bool) (always :
   ]
 
   -- what a step of one call leaves, on a ledger
-  abbrev After : (ℕ → Node V) → List (Machine C V) → ℕ → Machine C V → (ℕ → Node V) → (ℕ → Note) → Type 0
+  abbrev pub After : (ℕ → Node V) → List (Machine C V) → ℕ → Machine C V → (ℕ → Node V) → (ℕ → Note) → Type 0
   After h ms i m' h' a = (a' : ℕ → Note) × ProtocolAt number same always a' h' (set ms i m') × (Holdings number a h ms → Holdings number a' h' (set ms i m') × ((hands : StepHands number h ms i h' (set ms i m')) → StepTakes number h ms i h' (set ms i m') hands))
 
   abbrev Now_after : (i : ℕ) → (a : ℕ → Note) → (h : ℕ → Node V) → (a' : ℕ → Note) → (h' : ℕ → Node V) → (m m' : Machine C V) → LockWords a h → Tree a h → LockWords a' h' → Tree a' h' → ((n : ℕ) → Fares i (a n) (a' n) (h n) (h' n)) → Type 0
   Now_after i a h a' h' m m' w t w' t' f = Holds_now number same always i a h a' h' (key_bytes m.key) w w' t' f m'.phase
 
   -- the step of one call, on a ledger
-  turned_at : (most : ℕ) (why : NodeType → Refusal → Type 0) (h : ℕ → Node V) (ms : List (Machine C V)) (i : ℕ) (fail : Bool) (answer : Option (Option V)) (m m' : Machine C V) (h' : ℕ → Node V) (d : Move V) (a : ℕ → Note)
+  pub turned_at : (most : ℕ) (why : NodeType → Refusal → Type 0) (h : ℕ → Node V) (ms : List (Machine C V)) (i : ℕ) (fail : Bool) (answer : Option (Option V)) (m m' : Machine C V) (h' : ℕ → Node V) (d : Move V) (a : ℕ → Note)
       → ProtocolAt number same always a h ms → slice_get ms i ≡ Some m → Stepped number same always most why m h fail answer m' h' d → KeepsProtocol number same always m h m' h' d
       → After h ms i m' h' a
   turned_at most why h ms i fail answer m m' h' d a p e g keeps =
@@ -228,15 +229,38 @@ module _ {C V : Type 0} (number : C → ℕ) (same : V → V → Bool) (always :
   chain_more h ms fs m (x ∷ ss) (y ∷ ds) h1 ms1 fs1 m1 s d h2 ms2 fs2 m2 r st fl n q =
       (r.0, r.1, r.2, r.3, r.4, r.5, r.6, r.7, chain_more r.0 r.1 r.2 r.3 ss ds h1 ms1 fs1 m1 s d h2 ms2 fs2 m2 r.8 st fl n q)
 
-  nexts_more : (h : ℕ → Node V) (ms : List (Machine C V)) (ss : List (Step C V)) (ds : List (Move V)) (h1 : ℕ → Node V) (ms1 : List (Machine C V)) (s : Step C V) (d : Move V) (h2 : ℕ → Node V) (ms2 : List (Machine C V))
-      → Nexts number same always most why h ms ss ds h1 ms1 → NextAt number same always most (why h1) h1 ms1 (slice_get ms1 s.who) s d h2 ms2 → Nexts number same always most why h ms (ss ++ s ∷ []) (ds ++ d ∷ []) h2 ms2
-  nexts_more h ms [] [] h1 ms1 s d h2 ms2 r q =
-      let P : (ℕ → Node V) → Type 0 = λ x. NextAt number same always most (why x) x ms (slice_get ms s.who) s d h2 ms2 in
+  -- one step more of a trace
+  traced_more : (h : ℕ → Node V) (ms : List (Machine C V)) (ts : List (Traced C V)) (t : Traced C V) → AreTraced number same always most why h ms ts
+      → NextAt number same always most (why (nodes_after h ts)) (nodes_after h ts) (calls_after ms ts) (slice_get (calls_after ms ts) t.step.who) t.step t.move t.nodes t.calls → AreTraced number same always most why h ms (ts ++ t ∷ [])
+  traced_more h ms [] t r n = (n, tt)
+  traced_more h ms (x ∷ ts) t r n = (r.0, traced_more x.nodes x.calls ts t r.1 n)
+
+  nodes_more : (h : ℕ → Node V) (ts : List (Traced C V)) (t : Traced C V) → nodes_after h (ts ++ t ∷ []) ≡ t.nodes
+  nodes_more h [] t = refl
+  nodes_more h (x ∷ ts) t = nodes_more x.nodes ts t
+
+  calls_more : (ms : List (Machine C V)) (ts : List (Traced C V)) (t : Traced C V) → calls_after ms (ts ++ t ∷ []) ≡ t.calls
+  calls_more ms [] t = refl
+  calls_more ms (x ∷ ts) t = calls_more x.calls ts t
+
+  map_more : {A B : Type 0} (f : A → B) (xs : List A) (x : A) → map f (xs ++ x ∷ []) ≡ map f xs ++ f x ∷ []
+  map_more f [] x = refl
+  map_more f (y ∷ xs) x = ap (λ zs. f y ∷ zs) (map_more f xs x)
+
+  trace_more : (h : ℕ → Node V) (ms : List (Machine C V)) (ss : List (Step C V)) (ds : List (Move V)) (h1 : ℕ → Node V) (ms1 : List (Machine C V)) (s : Step C V) (d : Move V) (h2 : ℕ → Node V) (ms2 : List (Machine C V))
+      → IsTrace number same always most why h ms ss ds h1 ms1 → NextAt number same always most (why h1) h1 ms1 (slice_get ms1 s.who) s d h2 ms2 → IsTrace number same always most why h ms (ss ++ s ∷ []) (ds ++ d ∷ []) h2 ms2
+  trace_more h ms ss ds h1 ms1 s d h2 ms2 r q =
+      let t : Traced C V = record { step = s; move = d; nodes = h2; calls = ms2 } in
+      let P : (ℕ → Node V) → Type 0 = λ x. NextAt number same always most (why x) x (calls_after ms r.traced) (slice_get (calls_after ms r.traced) s.who) s d h2 ms2 in
       let Q : List (Machine C V) → Type 0 = λ x. NextAt number same always most (why h1) h1 x (slice_get x s.who) s d h2 ms2 in
-      (h2, ms2, subst P r.0 (subst Q r.1 q), (refl, refl))
-  nexts_more h ms [] (y ∷ ds) h1 ms1 s d h2 ms2 r q = absurd r
-  nexts_more h ms (x ∷ ss) [] h1 ms1 s d h2 ms2 r q = absurd r
-  nexts_more h ms (x ∷ ss) (y ∷ ds) h1 ms1 s d h2 ms2 r q = (r.0, r.1, r.2, nexts_more r.0 r.1 ss ds h1 ms1 s d h2 ms2 r.3 q)
+      record {
+        traced = r.traced ++ t ∷ [];
+        each = traced_more h ms r.traced t r.each (subst P (sym r.nodes_are) (subst Q (sym r.calls_are) q));
+        steps_are = map_more (λ (x : Traced C V). x.step) r.traced t ∙ ap (λ xs. xs ++ s ∷ []) r.steps_are;
+        moves_are = map_more (λ (x : Traced C V). x.move) r.traced t ∙ ap (λ xs. xs ++ d ∷ []) r.moves_are;
+        nodes_are = nodes_more h r.traced t;
+        calls_are = calls_more ms r.traced t;
+      }
 
   -- what the calls hold is their own
   apart : (h : ℕ → Node V) (ms : List (Machine C V)) → Protocol number same always h ms → Apart number h ms
@@ -263,7 +287,6 @@ module _ {C V : Type 0} (number : C → ℕ) (same : V → V → Bool) (always :
       → ((form : NodeType) (e : Refusal) → near form e → why h form e) → Plays number same always most why h0 ms0 ss ds h ms → StepPlays number same always most near h ms s d h' ms' → Plays number same always most why h0 ms0 (ss ++ s ∷ []) (ds ++ d ∷ []) h' ms'
   plays_more near h0 ms0 ss ds h ms s d h' ms' f p q = record {
     protocol = q.protocol;
-    nexts = nexts_more h0 ms0 ss ds h ms s d h' ms' p.nexts (next_weaker number same always most near (why h) h ms (slice_get ms s.who) s d h' ms' f q.next);
     run = λ m st. more_map near h0 ms0 ss ds h ms s d h' ms' m f (p.run m st) q;
     from_root = λ o. more_map near h0 ms0 ss ds h ms s d h' ms' empty f (p.from_root o) q;
     apart = apart h' ms' q.protocol;
@@ -307,7 +330,6 @@ module _ {C V : Type 0} (number : C → ℕ) (same : V → V → Bool) (always :
   pub plays_none : (h : ℕ → Node V) (ms : List (Machine C V)) → Begins number h ms → Plays number same always most why h ms [] [] h ms
   plays_none h ms b = record {
     protocol = begun_protocol h ms b;
-    nexts = (refl, refl);
     run = λ m st. (m, map flight ms, st, follow_new ms b.new, (refl, refl, refl, refl));
     from_root = λ o. (empty, map flight ms, standing_none h o, follow_new ms b.new, (refl, refl, refl, refl));
     apart = apart h ms (begun_protocol h ms b);
@@ -325,6 +347,7 @@ module _ {C V : Type 0} (number : C → ℕ) (same : V → V → Bool) (always :
     pub split : all ≡ taken ++ rest
     pub count : length taken ≡ done
     pub plays : Plays number same always most why h0 ms0 taken ds h ms
+    pub trace : IsTrace number same always most why h0 ms0 taken ds h ms
 
   pub progress_none : (h : ℕ → Node V) (ms : List (Machine C V)) (all rest : List (Step C V)) (done : ℕ) (ds : List (Move V)) → rest ≡ all → done ≡ 0 → ds ≡ [] → Begins number h ms → Progress h ms all rest done ds h ms
   progress_none h ms all rest done ds e n q b = record {
@@ -332,6 +355,7 @@ module _ {C V : Type 0} (number : C → ℕ) (same : V → V → Bool) (always :
     split = sym e;
     count = sym n;
     plays = (let P : List (Move V) → Type 0 = λ x. Plays number same always most why h ms [] x h ms in subst P (sym q) (plays_none h ms b));
+    trace = record { traced = []; each = tt; steps_are = refl; moves_are = sym q; nodes_are = refl; calls_are = refl };
   }
 
   pub progress_more : (near : NodeType → Refusal → Type 0) (h0 : ℕ → Node V) (ms0 : List (Machine C V)) (all rest rest' : List (Step C V)) (done done1 done' : ℕ) (ds ds1 ds' : List (Move V)) (h : ℕ → Node V) (ms : List (Machine C V)) (s : Step C V) (d : Move V) (h' : ℕ → Node V) (ms' : List (Machine C V))
@@ -342,11 +366,24 @@ module _ {C V : Type 0} (number : C → ℕ) (same : V → V → Bool) (always :
     count = (let l : length (p.taken ++ s ∷ []) ≡ length p.taken + 1 = length-append p.taken (s ∷ []) in let c : length p.taken ≡ done = p.count in omega (arith, l, c, n1, n));
     plays = (let P : List (Move V) → Type 0 = λ y. Plays number same always most why h0 ms0 (p.taken ++ s ∷ []) y h' ms' in
         subst P (sym (q ∙ ap (λ y. y ++ d ∷ []) q1)) (plays_more near h0 ms0 p.taken ds h ms s d h' ms' f p.plays x));
+    trace = (let P : List (Move V) → Type 0 = λ y. IsTrace number same always most why h0 ms0 (p.taken ++ s ∷ []) y h' ms' in
+        subst P (sym (q ∙ ap (λ y. y ++ d ∷ []) q1)) (trace_more h0 ms0 p.taken ds h ms s d h' ms' p.trace (next_weaker number same always most near (why h) h ms (slice_get ms s.who) s d h' ms' f x.next)));
   }
+
+  -- the steps taken are the first ones of all
+  taken_first : (h0 : ℕ → Node V) (ms0 : List (Machine C V)) (all rest : List (Step C V)) (done done' : ℕ) (ds : List (Move V)) (h : ℕ → Node V) (ms : List (Machine C V)) → (p : Progress h0 ms0 all rest done ds h ms) → done' ≡ done → take done' all ≡ p.taken
+  taken_first h0 ms0 all rest done done' ds h ms p n = ap (λ x. take x all) (n ∙ sym p.count) ∙ (ap (take (length p.taken)) p.split ∙ take-append_seam p.taken rest)
 
   pub progress_end : (h0 : ℕ → Node V) (ms0 : List (Machine C V)) (all rest : List (Step C V)) (done done' : ℕ) (ds ds' : List (Move V)) (h : ℕ → Node V) (ms : List (Machine C V))
       → Progress h0 ms0 all rest done ds h ms → done' ≡ done → ds' ≡ ds → Plays number same always most why h0 ms0 (take done' all) ds' h ms
   progress_end h0 ms0 all rest done done' ds ds' h ms p n q =
-      let e : take done' all ≡ p.taken = ap (λ x. take x all) (n ∙ sym p.count) ∙ (ap (take (length p.taken)) p.split ∙ take-append_seam p.taken rest) in
+      let e = taken_first h0 ms0 all rest done done' ds h ms p n in
       let P : List (Step C V) → Type 0 = λ x. Plays number same always most why h0 ms0 x ds' h ms in
       let Q : List (Move V) → Type 0 = λ x. Plays number same always most why h0 ms0 p.taken x h ms in subst P (sym e) (subst Q (sym q) p.plays)
+
+  pub trace_end : (h0 : ℕ → Node V) (ms0 : List (Machine C V)) (all rest : List (Step C V)) (done done' : ℕ) (ds ds' : List (Move V)) (h : ℕ → Node V) (ms : List (Machine C V))
+      → Progress h0 ms0 all rest done ds h ms → done' ≡ done → ds' ≡ ds → IsTrace number same always most why h0 ms0 (take done' all) ds' h ms
+  trace_end h0 ms0 all rest done done' ds ds' h ms p n q =
+      let e = taken_first h0 ms0 all rest done done' ds h ms p n in
+      let P : List (Step C V) → Type 0 = λ x. IsTrace number same always most why h0 ms0 x ds' h ms in
+      let Q : List (Move V) → Type 0 = λ x. IsTrace number same always most why h0 ms0 p.taken x h ms in subst P (sym e) (subst Q (sym q) p.trace)

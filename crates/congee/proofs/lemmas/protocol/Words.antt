@@ -69,6 +69,8 @@ lock_still i a h n v h' t w s k g =
         unmade = λ f. rw same ((w.each n).unmade (rw g.after at f));
         stands = λ p. let q : Stands (h n) = (w.each n).stands s.published in record { made = rw g.after q.made; kept = rw g.after q.kept };
         unretired = λ e. rw g.after ((w.each n).unretired l);
+        live = λ e. rw g.after ((w.each n).live l);
+        keyed = λ e. rw g.after ((w.each n).keyed l);
       };
       fares = fares_locked i (a n) _ (h n) (h' n) (taken_not_locked (h n) v k) (rw same refl) (rw same l) (rw g.after refl);
     })
@@ -96,6 +98,8 @@ unlock_still i a h n h' t w o g =
         unmade = λ f. rw same ((w.each n).unmade (rw g.after at f));
         stands = λ p. let q : Stands (h n) = (w.each n).stands (ap is_published o.linked) in record { made = rw g.after q.made; kept = rw g.after q.kept };
         unretired = λ e. rw g.after ((w.each n).unretired o.linked);
+        live = λ e. rw g.after ((w.each n).live o.linked);
+        keyed = λ e. rw g.after ((w.each n).keyed o.linked);
       };
       fares = fares_free i (a n) _ (h n) (h' n) (rw same refl) (rw same o.linked) (rw g.after refl);
     })
@@ -123,6 +127,8 @@ obsolete_still i a h p n h' t w o g =
         unmade = λ f. (w.each n).unmade (rw g.after at f);
         stands = λ q. let s : Stands (h n) = (w.each n).stands q in record { made = rw g.after s.made; kept = rw g.after s.kept };
         unretired = λ e. let z : Gone ≡ Linked = sym o.gone ∙ e in cc;
+        live = λ e. let z : Gone ≡ Linked = sym o.gone ∙ e in cc;
+        keyed = λ e. let z : Gone ≡ Linked = sym o.gone ∙ e in cc;
       };
       fares = fares_mine i (a n) (a n) (h n) (h' n) o.owner o.owner (ap is_published o.gone) (rw g.after refl);
     })
@@ -152,6 +158,8 @@ retire_still i a h p n h' t w o g =
         unmade = λ f. rw same ((w.each n).unmade (rw g.after at f));
         stands = λ q. let s : Stands (h n) = (w.each n).stands (ap is_published o.gone) in record { made = rw g.after s.made; kept = rw g.after s.kept };
         unretired = λ e. let z : Gone ≡ Linked = sym o.gone ∙ (rw same at e) in cc;
+        live = λ e. let z : Gone ≡ Linked = sym o.gone ∙ (rw same at e) in cc;
+        keyed = λ e. let z : Gone ≡ Linked = sym o.gone ∙ (rw same at e) in cc;
       };
       fares = fares_retired i (a n) _ (h n) (h' n) o.gone (rw same refl) (rw same o.gone) (rw g.after refl);
     })
@@ -233,6 +241,8 @@ make_still i a h c form key size h' t w g =
         unmade = λ f. let z : true ≡ false = sym g.made ∙ f in cc;
         stands = λ p. let z : false ≡ true = rw same at p in cc;
         unretired = λ e. let z : Held i ≡ Linked = rw same at e in cc;
+        live = λ e. let z : Held i ≡ Linked = rw same at e in cc;
+        keyed = λ e. let z : Held i ≡ Linked = rw same at e in cc;
       };
       fares = fares_made i (a c) _ (h c) (h' c) g.unmade (rw same refl) (rw same refl);
     })
@@ -258,6 +268,8 @@ back_still i a h key c size least h' t w m g =
         unmade = λ f. let z : true ≡ false = sym g.made ∙ f in cc;
         stands = λ p. let z : false ≡ true = rw same at p in cc;
         unretired = λ e. let z : Back ≡ Linked = rw same at e in cc;
+        live = λ e. let z : Back ≡ Linked = rw same at e in cc;
+        keyed = λ e. let z : Back ≡ Linked = rw same at e in cc;
       };
       fares = fares_back i (a c) _ (h c) (h' c) (rw same refl) (rw same refl) g.gone;
     })

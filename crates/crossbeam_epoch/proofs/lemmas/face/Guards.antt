@@ -2,7 +2,7 @@
 use Rattle.std.proofs.Common.{◌≡◌, ◌≢◌, ℕ, ◌+◌, ◌<◌, ◌≤◌, Bool, true, false, refl, sym, ap, ◌∙◌, subst, arith, Option, Some, None, List, [], length, Result, Ok, Err}
 use Rattle.std.specs.Prelude.{nat_lt, nat_le, nat_eq, OnOk, IfErr, IfSome, IsSomeAnd, ◌⊎◌, if◌then◌else◌}
 use Rattle.std.specs.Bool.{MatchBool}
-use Rattle.std.proofs.lemmas.Bool.{eq-eqb, lt-ltb, ltb-true}
+use Rattle.std.proofs.lemmas.Bool.{true≢false, eq-eqb, lt-ltb, ltb-true}
 use Rattle.std.proofs.lemmas.Bool.Decides.{nat_tests}
 use Rattle.crossbeam_epoch.specs.declared.face.guard.Seat.{Seat}
 use Rattle.crossbeam_epoch.specs.declared.face.seats.View.{View}
@@ -104,3 +104,14 @@ pinned_with n p a e v out is = let h = out_is n out in rw h (subst (λ (u : View
 
 pub where_alone : (n : ℕ) (A B : Type 0) → n ≡ 1 → A → MatchBool (nat_eq n 1) A B
 where_alone n A B one a = let h : nat_eq n 1 ≡ true = grind (arith, nat_tests, one) in rw h a
+
+-- a guard is a handle's own, or it isn't
+pub own_guard : (b : Bool) (A B : Type 0) → b ≡ true → A → MatchBool b A B
+own_guard b A B own a = rw own a
+
+pub other_guard : (b : Bool) (A B : Type 0) → b ≡ false → B → MatchBool b A B
+other_guard b A B other x = rw other x
+
+-- a guard of a handle is still its own where the handle has the seat and the number of guards that it had
+pub still_own : (n m : ℕ) (mine was guard : Seat) → n ≡ m → mine ≡ was → owns m was guard ≡ true → owns n mine guard ≡ false → ⊥
+still_own n m mine was guard same place own other = true≢false (sym own ∙ sym (ap (λ (k : ℕ). owns k was guard) same) ∙ sym (ap (λ (x : Seat). owns n x guard) place) ∙ other)

@@ -26,8 +26,8 @@ use Rattle.crossbeam_epoch.specs.declared.world.report.Outcome.{Outcome}
 use Rattle.crossbeam_epoch.specs.declared.world.report.Outcome.TheVariants.{Running, Done, Refused}
 use Rattle.crossbeam_epoch.specs.declared.world.report.Report.{Report}
 use Rattle.crossbeam_epoch.specs.World.Fits.{HandFits, at_place, in_bag, weight}
-use Rattle.crossbeam_epoch.specs.World.Machine.{State, place, blank, with_place, in_phase, published, relooked, repinned, secured, queued, released, inspection, is_due, no_bag, taken, after_call, called_one, no_entry, destroys, after_work, opened, registered, deferred}
-use Rattle.crossbeam_epoch.specs.World.Steps.{fault, event_fault, begun, gone, moved, needs_memory, after, called_entry, called_by, called_in, IsOutcome, IsReport}
+use Rattle.crossbeam_epoch.specs.World.Machine.{State, place, blank, with_place, in_phase, published, relooked, repinned, secured, queued, released, inspection, is_due, no_bag, taken, after_call, called_one, no_entry, destroys, after_work, opened, registered, deferred, deferred_anew, after_deferral}
+use Rattle.crossbeam_epoch.specs.World.Steps.{fault, event_fault, begun, gone, moved, needs_memory, after, quiet_fault, or_count, defer_fault, called_entry, called_by, called_in, IsOutcome, IsReport}
 use Rattle.crossbeam_epoch.specs.World.Store.{Store, value_at, emptied}
 use Rattle.crossbeam_epoch.specs.World.Progress.{Orderly, JobsAfter, EmptiesAt, Empties, Moves, KeepsCalls, IsResting, collects}
 use Rattle.crossbeam_epoch.proofs.lemmas.world.Moves.{none_in, contains_tail, none_in_hand}
@@ -405,3 +405,48 @@ module _ {T J : Type 0} where
             let set = sum_by-set (at_place f) s.table who p blank lt in
             omega (arith, set, sum_by-append f old.bag (entry ∷ []));
       }
+
+  -- a full bag is queued, and the job goes into an empty one
+  anew_keeps : (s : State T J) (who : ℕ) (work : Work J) → who < length s.table → Orderly s → KeepsCalls s (deferred_anew s who work) (λ f. f (record { ticket = s.next; work = work }))
+  anew_keeps s who work lt o =
+      let old = place s who in
+      let entry : Entry J = record { ticket = s.next; work = work } in
+      let p = record old { bag = entry ∷ [] } in
+      let bag : Sealed J = record { seal = s.epoch; jobs = old.bag } in
+      record {
+        orderly = record {
+          hands = λ q. elim (cases_eq q who) [
+            | inl is ↦ rw (is, get_or-set_same s.table who p blank lt) (o.hands who)
+            | inr ne ↦ rw (get_or-set_other s.table who q p blank ne) (o.hands q)
+          ];
+          bags = λ q. elim (cases_eq q who) [
+            | inl is ↦ rw (is, get_or-set_same s.table who p blank lt) (omega arith)
+            | inr ne ↦ rw (get_or-set_other s.table who q p blank ne) (o.bags q)
+          ];
+          held = λ q. elim (cases_eq q who) [
+            | inl is ↦ rw (is, get_or-set_same s.table who p blank lt) (o.held who)
+            | inr ne ↦ rw (get_or-set_other s.table who q p blank ne) (o.held q)
+          ];
+          sealed = small_push s.queue bag o.sealed (o.bags who);
+        };
+        phases = λ q. elim (cases_eq q who) [
+          | inl is ↦ rw is (ap (λ (x : Participant J). x.phase) (get_or-set_same s.table who p blank lt))
+          | inr ne ↦ ap (λ (x : Participant J). x.phase) (get_or-set_other s.table who q p blank ne)
+        ];
+        jobs = λ f.
+            let set = sum_by-set (at_place f) s.table who p blank lt in
+            omega (arith, set, sum_by-append (in_bag f) s.queue (bag ∷ []));
+      }
+
+  by_full : (s : State T J) (who : ℕ) (work : Work J) (b : Bool) → (length (place s who).bag == 64) ≡ b → who < length s.table → Orderly s
+      → KeepsCalls s (if b then deferred_anew s who work else deferred s who work) (λ f. f (record { ticket = s.next; work = work }))
+  by_full s who work true e lt o = anew_keeps s who work lt o
+  by_full s who work false e lt o =
+      let le = o.bags who in
+      let room : length (place s who).bag < 64 = grind (arith, nat_tests) in
+      deferred_keeps s who work lt room o
+
+  pub deferral_keeps : (s : State T J) (who : ℕ) (work : Work J) → defer_fault s who ≡ None → Orderly s → KeepsCalls s (after_deferral s who work) (λ f. f (record { ticket = s.next; work = work }))
+  deferral_keeps s who work e o =
+      let k = known (place s who).registered (or_count s.next (quiet_fault (place s who).phase (place s who))) e in
+      by_full s who work (length (place s who).bag == 64) refl (in_table s who k.0) o

@@ -1,6 +1,7 @@
 use Rattle.std.proofs.Common.{refl, ◌∙◌, ap}
 use Rattle.std.specs.Vec.{vec_len}
-use Rattle.congee.proofs.lemmas.protocol.Turns.{progress_none, progress_more, progress_end}
+use Rattle.congee.proofs.lemmas.protocol.Turns.{progress_none, progress_more, progress_end, trace_end}
+use Rattle.congee.proofs.lemmas.protocol.Traces.{all_end_alone, fresh_end_alone}
 use Rattle.congee.proofs.lemmas.protocol.Destroys.{spares}
 use Rattle.congee.proofs.protocol.run.play.Goals as goal
 use Rattle.congee.proofs.protocol.run.play.Goals.{in-Some+then-is_err, in_default}
@@ -23,6 +24,12 @@ loop-step-preserved g c = record {
       (rw c.loop-step.invariant.limit at c.step_of-moved.ensures.plays);
 }
 
+pub returns-clause-nexts : goal.returns-clause-nexts
+returns-clause-nexts g c = elim c.match-next.branch [
+  | in-Some+then-is_err w ↦ trace_end _ _ _ _ _ _ _ _ _ _ _ _ _ _ _ c.loop-step.invariant.progress (c.len-done.ensures ∙ (ap (λ v. vec_len v) w.moves-is ∙ w.reserve.ensures.len)) (ap (λ v. v.items) w.moves-is ∙ w.reserve.ensures.items)
+  | in_default w ↦ trace_end _ _ _ _ _ _ _ _ _ _ _ _ _ _ _ c.loop-step.invariant.progress (c.len-done.ensures ∙ ap (λ v. vec_len v) w.moves-is) (ap (λ v. v.items) w.moves-is)
+]
+
 pub returns-clause-run : goal.returns-clause-run
 returns-clause-run g c = elim c.match-next.branch [
   | in-Some+then-is_err w ↦ progress_end _ _ _ _ _ _ _ _ _ _ _ _ _ _ _ c.loop-step.invariant.progress (c.len-done.ensures ∙ (ap (λ v. vec_len v) w.moves-is ∙ w.reserve.ensures.len)) (ap (λ v. v.items) w.moves-is ∙ w.reserve.ensures.items)
@@ -31,3 +38,9 @@ returns-clause-run g c = elim c.match-next.branch [
 
 pub returns-clause-spares : goal.returns-clause-spares
 returns-clause-spares g c = spares _ _ _ _ _
+
+pub returns-clause-alone : goal.returns-clause-alone
+returns-clause-alone g c trace z = all_end_alone _ _ _ _ _ g.met.P.Payload.same_is_equal _ _ trace.traced z trace.each
+
+pub returns-clause-alone_fresh : goal.returns-clause-alone_fresh
+returns-clause-alone_fresh g c trace f = fresh_end_alone _ _ _ _ _ g.met.P.Payload.same_is_equal _ _ trace.traced c.requires.begins f trace.each

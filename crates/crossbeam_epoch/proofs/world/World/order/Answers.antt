@@ -1,4 +1,4 @@
-use Rattle.crossbeam_epoch.proofs.lemmas.world.Progress.{moves, opened_rests, opened_weighs, registered_keeps, deferred_keeps}
+use Rattle.crossbeam_epoch.proofs.lemmas.world.Progress.{moves, opened_rests, opened_weighs, registered_keeps, deferred_keeps, deferral_keeps}
 use Rattle.crossbeam_epoch.proofs.world.World.order.Goals as goal
 
 pub returns : goal.returns
@@ -8,4 +8,5 @@ returns g c = record {
   empty = λ limits roots f. opened_weighs g.row.T.Denot limits roots f;
   registered = λ s n lt o. registered_keeps s n lt o;
   deferred = λ s who work lt room o. deferred_keeps s who work lt room o;
+  deferral = λ s who work e o. deferral_keeps s who work e o;
 }

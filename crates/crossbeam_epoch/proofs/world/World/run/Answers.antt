@@ -4,6 +4,7 @@ use Rattle.crossbeam_epoch.specs.World.Steps.{state_after, AreReports}
 use Rattle.crossbeam_epoch.proofs.lemmas.world.Runs.{fits_run, run_more}
 use Rattle.crossbeam_epoch.proofs.lemmas.world.Logs.{shows_run}
 use Rattle.crossbeam_epoch.proofs.lemmas.world.Told.{tells_run}
+use Rattle.crossbeam_epoch.proofs.lemmas.world.WaitFree.{in_time, all_in_time}
 use Rattle.crossbeam_epoch.proofs.world.World.run.Goals as goal
 use Rattle.crossbeam_epoch.proofs.world.World.run.Goals.{else-loop-step-test, then-loop-step-test+then-is_err}
 
@@ -36,5 +37,7 @@ returns g c =
       state = state;
       kept = λ h f. rw state (fits_run h c.args.self.now steps reports.items legal f);
       told = λ h t. rw state (tells_run g.T.Links.names h c.args.self.now steps reports.items legal t);
+      ends = λ o. all_in_time c.args.self.now steps reports.items o legal;
+      ends_on = λ who op o on. in_time c.args.self.now who op steps reports.items o on legal;
       shown = λ log h w. rw state (shows_run log h c.args.self.now steps reports.items legal w);
     }

@@ -1,4 +1,7 @@
-use Rattle.joint.proofs.lemmas.Exchanging.{takes_in, kept_exchanged, gives_exchanged}
+use Rattle.std.proofs.Common.{refl, ap}
+use Rattle.joint.specs.declared.id.Id.{Id}
+use Rattle.joint.specs.Names.{number}
+use Rattle.joint.proofs.lemmas.Exchanging.{same_gives, takes_in, kept_exchanged, gives_exchanged}
 use Rattle.joint.proofs.lemmas.Kept.{there_in}
 use Rattle.joint.proofs.store.NodesStoreId.take_over.Goals as goal
 
@@ -16,3 +19,6 @@ invariant_of-self g c = kept_exchanged _ c.hand_over.new.collector c.hand_over.e
 
 pub returns-then-not-is-clause-gives : goal.returns-then-not-is-clause-gives
 returns-then-not-is-clause-gives g c = gives_exchanged _ c.hand_over.new.collector c.hand_over.ensures.beside c.args.old.name c.args.node.name _ _ _ _ c.hand_over.ensures.slots.1.1.1.1.0 c.hand_over.ensures.slots.1.1.1.1.1 _ c.self.view_is
+
+pub returns-else-not-is-clause-gives : goal.returns-else-not-is-clause-gives
+returns-else-not-is-clause-gives g c = same_gives c.args.self.now _ _ (ap (λ (i : Id). number i.name) (c.if-not-is.ensures.same refl)) c.requires.room

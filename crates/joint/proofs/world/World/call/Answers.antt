@@ -17,3 +17,6 @@ returns-clause-survey g c fs m st fl =
 
 pub returns-clause-beside : goal.returns-clause-beside
 returns-clause-beside g c = run_beside g.P.Payload.same_as g.P.Payload.always_copies _ _ _ _ c.take_steps.ensures.run
+
+pub returns-clause-alone : goal.returns-clause-alone
+returns-clause-alone g c = c.runs_alone.ensures.calls _ _ _ _ _ _ _ _ c.sound.ensures.holds c.take_steps.ensures

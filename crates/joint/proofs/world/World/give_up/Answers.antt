@@ -39,3 +39,8 @@ returns g c noise =
     ∙ ap (λ y. record { forest = c.self.inside.engine.nodes; machines = c.self.inside.engine.machines.items; calls = y; log = c.note.new.log }) c.abandon.ensures.calls
     ∙ ap (λ y. record { forest = c.self.inside.engine.nodes; machines = c.self.inside.engine.machines.items; calls = slice_set c.self.inside.engine.calls.items c.args.who Idle; log = y }) c.note.ensures)
     c.refused.ensures)
+
+pub abandon-requires-clause-on : goal.abandon-requires-clause-on
+abandon-requires-clause-on g c =
+    let G : Whole g.row.P.Denot → Type 0 = λ s. (is_reserving (slice_get s.calls c.args.who) && is_full s.log) ≡ true in
+    and_left g.P.Payload.same_as g.P.Payload.always_copies _ _ (subst G (sym c.self.view_is) c.requires)

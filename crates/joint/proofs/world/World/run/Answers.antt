@@ -1,4 +1,5 @@
 use Rattle.joint.proofs.lemmas.Beside.{run_beside}
+use Rattle.joint.proofs.lemmas.Rounds.{in_run}
 use Rattle.joint.proofs.lemmas.Running.{run_map, run_fresh, run_journal, fresh_journal}
 use Rattle.joint.proofs.lemmas.Scans.{scans_hold, empty_scans_hold}
 use Rattle.joint.proofs.world.World.run.Goals as goal
@@ -23,3 +24,18 @@ returns-clause-journal g c fs m st fl = run_journal g.P.Payload.same_as g.P.Payl
 
 pub returns-clause-fresh_journal : goal.returns-clause-fresh_journal
 returns-clause-fresh_journal g c fresh = fresh_journal g.P.Payload.same_as g.P.Payload.always_copies _ _ _ _ fresh c.sound.ensures.holds c.take_all.ensures.run
+
+pub returns-clause-comes_back : goal.returns-clause-comes_back
+returns-clause-comes_back g c run who rounds quiet are is enough = in_run g.P.Payload.same_as g.P.Payload.always_copies _ _ _ _ who rounds (λ taken. c.comes_back.ensures.bags _ who rounds c.sound.ensures.holds quiet are taken enough) run is
+
+pub returns-clause-all_come_back : goal.returns-clause-all_come_back
+returns-clause-all_come_back g c run who rounds quiet are is enough = in_run g.P.Payload.same_as g.P.Payload.always_copies _ _ _ _ who rounds (λ taken. c.comes_back.ensures.nodes _ who rounds c.sound.ensures.holds quiet are taken enough) run is
+
+pub returns-clause-alone : goal.returns-clause-alone
+returns-clause-alone g c r = c.runs_alone.ensures.runs _ r.taken c.sound.ensures.holds r.each
+
+pub returns-clause-plain : goal.returns-clause-plain
+returns-clause-plain g c order p un a = c.runs_plain.ensures.follows _ _ _ _ order p c.sound.ensures.holds c.take_all.ensures.run un a
+
+pub returns-clause-promises : goal.returns-clause-promises
+returns-clause-promises g c limits charge limit opened fresh = c.keeps_promises.ensures.keeps limits charge limit _ _ _ _ opened fresh c.sound.ensures.holds c.take_all.ensures.run

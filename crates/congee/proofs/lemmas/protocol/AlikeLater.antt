@@ -1,0 +1,164 @@
+-- A call stays the same by numbers while other nodes are made, and while others change the nodes.
+use Rattle.std.proofs.Common.{◌≡◌, ℕ, List}
+use Rattle.std.specs.Prelude.{Option, None, Some, slice_get}
+use Rattle.congee.specs.declared.forms.child.Child.{Child}
+use Rattle.congee.specs.declared.forms.child.Child.TheVariants as child
+use Rattle.congee.specs.declared.protocol.store.Least.{Least}
+use Rattle.congee.specs.declared.protocol.store.Least.TheVariants as least
+use Rattle.congee.specs.declared.protocol.store.Seat.{Seat}
+use Rattle.congee.specs.declared.protocol.phase.Parent.{Parent}
+use Rattle.congee.specs.declared.protocol.phase.Site.{Site}
+use Rattle.congee.specs.declared.protocol.phase.Single.{Single}
+use Rattle.congee.specs.declared.protocol.phase.Single.TheVariants.{Set, Link}
+use Rattle.congee.specs.declared.protocol.phase.One.{One}
+use Rattle.congee.specs.declared.protocol.phase.Double.{Double}
+use Rattle.congee.specs.declared.protocol.phase.Double.TheVariants.{Unlink, Grow, GrowLink, Split}
+use Rattle.congee.specs.declared.protocol.phase.Two.{Two}
+use Rattle.congee.specs.declared.protocol.phase.Plan.{Plan}
+use Rattle.congee.specs.declared.protocol.phase.Plan.TheVariants.{Here, Above}
+use Rattle.congee.specs.declared.protocol.phase.Phase.{Phase}
+use Rattle.congee.specs.declared.protocol.phase.Phase.TheVariants.{New, Version, Read, Check, CheckUncopied, CheckMiss, CheckDown, CheckOld, MakeLeaf, MakeGreater, MakeTop, MakeBeside, AskOld, AskNew, Confirm, CheckAbove, UpgradeOne, ChangeOne, UpgradeAbove, UpgradeBelow, ChangeTwo, Obsolete, Retire, UnlockBelow, Unlock, Unwind, Sweep, Ended}
+use Rattle.congee.specs.declared.protocol.sweep.Rung.{Rung}
+use Rattle.congee.specs.declared.protocol.sweep.Stage.{Stage}
+use Rattle.congee.specs.declared.protocol.sweep.Stage.TheVariants as stage
+use Rattle.congee.specs.declared.protocol.sweep.Sweep.{Sweep as Scan}
+use Rattle.congee.specs.declared.protocol.machine.Machine.{Machine}
+use Rattle.congee.specs.Heap.{Node}
+use Rattle.congee.specs.protocol.SweepSteps.{slots}
+use Rattle.congee.specs.protocol.Alike.{Named, SeatAlike, ParentAlike, AboveAlike, SeatedAlike, MadeAlike, SiteAlike, ReadAlike, SingleAlike, OneAlike, DoubleAlike, TwoAlike, PlanAlike, ChildAlike, SeesAlike, RungAlike, PlaceAlike, LeastAlike, IsTaken, StageAlike, ScanAlike, PhaseAlike, CallAlike}
+
+module _ {C : Type 0} (order order' : List ℕ) (number : C → ℕ) (f : (n c : ℕ) → slice_get order n ≡ Some c → slice_get order' n ≡ Some c) where
+  pub named_later : (c : C) (n : ℕ) → Named order number c n → Named order' number c n
+  named_later c n x = f n (number c) x
+
+  pub seat_later : (s : Seat C) (u : Seat ℕ) → SeatAlike order number s u → SeatAlike order' number s u
+  seat_later s u x = record { node = named_later s.node u.node x.node; version = x.version }
+
+  pub parent_later : (p : Parent C) (q : Parent ℕ) → ParentAlike order number p q → ParentAlike order' number p q
+  parent_later p q x = record { seat = seat_later p.seat q.seat x.seat; byte = x.byte }
+
+  pub above_later : (p : Option (Parent C)) (q : Option (Parent ℕ)) → AboveAlike order number p q → AboveAlike order' number p q
+  above_later None q x = x
+  above_later (Some p) q x = (x.0, x.1, parent_later p x.0 x.2)
+
+  pub seated_later : (p : Option (Seat C)) (q : Option (Seat ℕ)) → SeatedAlike order number p q → SeatedAlike order' number p q
+  seated_later None q x = x
+  seated_later (Some p) q x = (x.0, x.1, seat_later p x.0 x.2)
+
+  pub made_later : (p : Option C) (q : Option ℕ) → MadeAlike order number p q → MadeAlike order' number p q
+  made_later None q x = x
+  made_later (Some c) q x = (x.0, x.1, named_later c x.0 x.2)
+
+  pub site_later : (s : Site C) (u : Site ℕ) → SiteAlike order number s u → SiteAlike order' number s u
+  site_later s u x = record { above = above_later s.above u.above x.above; at = seat_later s.at u.at x.at; depth = x.depth; byte = x.byte }
+
+  pub read_later : (s : Site C) (u : Site ℕ) → ReadAlike order number s u → ReadAlike order' number s u
+  read_later s u x = record { site = site_later s u x.site; count = x.count }
+
+  single_later : (s : Single C) (u : Single ℕ) → SingleAlike order number s u → SingleAlike order' number s u
+  single_later Set u x = x
+  single_later (Link leaf) u x = (x.0, x.1, named_later leaf x.0 x.2)
+
+  pub one_later : (s : One C) (u : One ℕ) → OneAlike order number s u → OneAlike order' number s u
+  one_later s u x = record { at = seat_later s.at u.at x.at; byte = x.byte; change = single_later s.change u.change x.change }
+
+  double_later : (s : Double C) (u : Double ℕ) → DoubleAlike order number s u → DoubleAlike order' number s u
+  double_later Unlink u x = x
+  double_later (Grow c) u x = (x.0, x.1, named_later c x.0 x.2)
+  double_later (GrowLink c leaf byte) u x = (x.0, x.1, x.2, named_later c x.0 x.3, named_later leaf x.1 x.4)
+  double_later (Split top leaf common byte) u x = (x.0, x.1, x.2, named_later top x.0 x.3, named_later leaf x.1 x.4)
+
+  pub two_later : (s : Two C) (u : Two ℕ) → TwoAlike order number s u → TwoAlike order' number s u
+  two_later s u x = record { above = parent_later s.above u.above x.above; at = seat_later s.at u.at x.at; change = double_later s.change u.change x.change }
+
+  plan_later : (s : Plan C) (u : Plan ℕ) → PlanAlike order number s u → PlanAlike order' number s u
+  plan_later (Here check one) u x = (x.0, x.1, x.2, seated_later check x.0 x.3, one_later one x.1 x.4)
+  plan_later (Above two) u x = (x.0, x.1, two_later two x.0 x.2)
+
+  rung_later : (r : Rung C) (q : Rung ℕ) → RungAlike order number r q → RungAlike order' number r q
+  rung_later r q x = record { at = seat_later r.at q.at x.at; region = x.region; from = x.from }
+
+  place_later : (r : Option (Rung C)) (q : Option (Rung ℕ)) → PlaceAlike order number r q → PlaceAlike order' number r q
+  place_later None q x = x
+  place_later (Some r) q x = (x.0, x.1, rung_later r x.0 x.2)
+
+  module _ {V : Type 0} where
+    child_later : (c : Child C V) (d : Child ℕ V) → ChildAlike order number c d → ChildAlike order' number c d
+    child_later child.Blank d x = x
+    child_later (child.Node c) d x = (x.0, x.1, named_later c x.0 x.2)
+    child_later (child.Value v) d x = x
+
+    sees_later : (s : Site C) (c : Child C V) (u : Site ℕ) (d : Child ℕ V) → SeesAlike order number s c u d → SeesAlike order' number s c u d
+    sees_later s c u d x = record { hangs = child_later c d x.hangs; count = x.count; full = x.full }
+
+    least_later : (r : Least C V) (q : Least ℕ V) → LeastAlike order number r q → LeastAlike order' number r q
+    least_later least.Nothing q x = x
+    least_later (least.Node byte c) q x = (x.0, x.1, named_later c x.0 x.2)
+    least_later (least.Value byte v) q x = x
+    least_later least.Uncopied q x = tt
+
+    module _ (h h' : ℕ → Node V) where
+      -- where the lock word is the one that was taken, it was so before
+      abbrev pub Still : Seat C → Type 0
+      Still s = IsTaken order number h' s → IsTaken order number h s
+
+      abbrev pub StillAt : Stage C V → Type 0
+      StillAt (stage.Check r x) = Still r.at
+      StillAt _ = Unit {0}
+
+      abbrev pub StillTaken : Phase C V → Type 0
+      StillTaken (Check s c) = Still s.at
+      StillTaken (Sweep s) = StillAt s.stage
+      StillTaken _ = Unit {0}
+
+      stage_later : (x : Stage C V) (y : Stage ℕ V) → StillAt x → StageAlike order number h x y → StageAlike order' number h' x y
+      stage_later stage.New y s e = e
+      stage_later (stage.Enter c z) y s e = (e.0, e.1, named_later c e.0 e.2)
+      stage_later (stage.Look r) y s e = (e.0, e.1, rung_later r e.0 e.2)
+      stage_later (stage.Check r x) y s e = (e.0, e.1, e.2, rung_later r e.0 e.3, λ t. least_later x e.1 (e.4 (s t)))
+      stage_later stage.Full y s e = e
+      stage_later stage.Over y s e = e
+
+      scan_later : (s : Scan C V) (t : Scan ℕ V) → StillAt s.stage → ScanAlike order number h s t → ScanAlike order' number h' s t
+      scan_later s t k x = record {
+        start = x.start;
+        end = x.end;
+        size = x.size;
+        count = x.count;
+        len = x.len;
+        way = λ i l. place_later (slice_get (slots s.above) i) (slice_get (slots t.above) i) (x.way i l);
+        stage = stage_later s.stage t.stage k x.stage;
+      }
+
+      pub phase_later : (p : Phase C V) (q : Phase ℕ V) → StillTaken p → PhaseAlike order number h p q → PhaseAlike order' number h' p q
+      phase_later New q k x = x
+      phase_later (Version above c) q k x = (x.0, x.1, x.2, above_later above x.0 x.3, named_later c x.1 x.4)
+      phase_later (Read above at) q k x = (x.0, x.1, x.2, above_later above x.0 x.3, seat_later at x.1 x.4)
+      phase_later (Check s c) q k x = (x.0, x.1, x.2, site_later s x.0 x.3, λ t. sees_later s c x.0 x.1 (x.4 (k t)))
+      phase_later (CheckUncopied at) q k x = (x.0, x.1, x.2, seat_later at x.0.at x.3)
+      phase_later (CheckMiss p at common byte) q k x = (x.0, x.1, x.2, parent_later p x.0 x.3, seat_later at x.1 x.4)
+      phase_later (CheckDown p at c) q k x = (x.0, x.1, x.2, x.3, seat_later p x.0 x.4, parent_later at x.1 x.5, named_later c x.2 x.6)
+      phase_later (CheckOld p s v) q k x = (x.0, x.1, x.2, seat_later p x.0 x.3, read_later s x.1 x.4)
+      phase_later (MakeLeaf s) q k x = (x.0, x.1, read_later s x.0 x.2, x.3)
+      phase_later (MakeGreater s p leaf) q k x = (x.0, x.1, x.2, x.3, read_later s x.0 x.4, parent_later p x.1 x.5, made_later leaf x.2 x.6)
+      phase_later (MakeTop p at common byte) q k x = (x.0, x.1, x.2, parent_later p x.0 x.3, seat_later at x.1 x.4)
+      phase_later (MakeBeside p at common byte top) q k x = (x.0, x.1, x.2, x.3, parent_later p x.0 x.4, seat_later at x.1 x.5, named_later top x.2 x.6)
+      phase_later (AskOld s v) q k x = (x.0, x.1, read_later s x.0 x.2)
+      phase_later (AskNew plan) q k x = (x.0, x.1, plan_later plan x.0 x.2)
+      phase_later (Confirm at r) q k x = (x.0, x.1, seat_later at x.0 x.2)
+      phase_later (CheckAbove p one r) q k x = (x.0, x.1, x.2, seat_later p x.0 x.3, one_later one x.1 x.4)
+      phase_later (UpgradeOne one r) q k x = (x.0, x.1, one_later one x.0 x.2)
+      phase_later (ChangeOne one r) q k x = (x.0, x.1, one_later one x.0 x.2)
+      phase_later (UpgradeAbove two r) q k x = (x.0, x.1, two_later two x.0 x.2)
+      phase_later (UpgradeBelow two r) q k x = (x.0, x.1, two_later two x.0 x.2)
+      phase_later (ChangeTwo two r) q k x = (x.0, x.1, two_later two x.0 x.2)
+      phase_later (Obsolete c p r) q k x = (x.0, x.1, x.2, named_later c x.0 x.3, named_later p x.1 x.4)
+      phase_later (Retire c p r) q k x = (x.0, x.1, x.2, named_later c x.0 x.3, named_later p x.1 x.4)
+      phase_later (UnlockBelow c p r) q k x = (x.0, x.1, x.2, named_later c x.0 x.3, named_later p x.1 x.4)
+      phase_later (Unlock c r) q k x = (x.0, x.1, named_later c x.0 x.2)
+      phase_later (Unwind c e) q k x = (x.0, x.1, named_later c x.0 x.2)
+      phase_later (Sweep s) q k x = (x.0, x.1, scan_later s x.0 k x.2)
+      phase_later Ended q k x = x
+
+      pub call_later : (m : Machine C V) (q : Machine ℕ V) → StillTaken m.phase → CallAlike order number h m q → CallAlike order' number h' m q
+      call_later m q k x = record { root = named_later m.root q.root x.root; key = x.key; kind = x.kind; given = x.given; phase = phase_later m.phase q.phase k x.phase }

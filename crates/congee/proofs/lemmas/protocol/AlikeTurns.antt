@@ -1,0 +1,268 @@
+-- The next phase of a call on a store, and that of the same call by numbers.
+use Rattle.std.proofs.Common.{◌≡◌, ℕ, ◌==◌, Bool, true, false, cond, List, refl, sym, ◌∙◌, ap, subst, inl, inr, ◌⊎◌}
+use Rattle.std.specs.Prelude.{Option, None, Some, Ok, Err}
+use Rattle.judge.specs.declared.journal.Reply.{Reply}
+use Rattle.judge.specs.declared.journal.Reply.TheVariants as reply
+use Rattle.congee.specs.declared.forms.child.Child.{Child}
+use Rattle.congee.specs.declared.forms.child.Child.TheVariants as child
+use Rattle.congee.specs.declared.protocol.store.Refusal.{Refusal}
+use Rattle.congee.specs.declared.protocol.store.Refusal.TheVariants as refusal
+use Rattle.congee.specs.declared.protocol.store.Seat.{Seat}
+use Rattle.congee.specs.declared.protocol.phase.Kind.{Kind}
+use Rattle.congee.specs.declared.protocol.phase.Kind.TheVariants.{Get, Insert, Remove, ComputePresent, ComputeInsert, Exchange}
+use Rattle.congee.specs.declared.protocol.phase.Parent.{Parent}
+use Rattle.congee.specs.declared.protocol.phase.Site.{Site}
+use Rattle.congee.specs.declared.protocol.phase.Single.{Single}
+use Rattle.congee.specs.declared.protocol.phase.Single.TheVariants.{Set}
+use Rattle.congee.specs.declared.protocol.phase.Double.{Double}
+use Rattle.congee.specs.declared.protocol.phase.Double.TheVariants.{Unlink, Grow, GrowLink, Split}
+use Rattle.congee.specs.declared.protocol.phase.Two.{Two}
+use Rattle.congee.specs.declared.protocol.phase.Plan.{Plan}
+use Rattle.congee.specs.declared.protocol.phase.Plan.TheVariants.{Here, Above}
+use Rattle.congee.specs.declared.protocol.phase.Phase.{Phase}
+use Rattle.congee.specs.declared.protocol.phase.Phase.TheVariants.{Version, Read, CheckDown, CheckOld, MakeLeaf, MakeGreater, MakeTop, AskOld, AskNew, Confirm, CheckAbove, UpgradeOne, UpgradeAbove, Obsolete, UnlockBelow}
+use Rattle.congee.specs.declared.protocol.turn.Turn.{Turn}
+use Rattle.congee.specs.Heap.{Node}
+use Rattle.congee.specs.protocol.Alike.{Named, SeatAlike, ParentAlike, AboveAlike, SeatedAlike, MadeAlike, SiteAlike, ReadAlike, SingleAlike, DoubleAlike, TwoAlike, PlanAlike, SeesAlike, PhaseAlike, TurnAlike, IsUnrefused}
+use Rattle.congee.specs.protocol.Steps.{quiet, again, answered, finished, refused, decided, asking, adds, asks_new, absent_reply, after_version, down, started, ready, seat_above, plan_here, unless_full, missing, absent, CopyFailed, IsAsked, replaced, taken_out, emptied, is_same, IsAtOld, IsAdded, IsExchanged, IsCompared, IsPresent, IsChecked, after_miss, IsGiven, IsGivenNew, greater, after_change, unwound}
+use Rattle.congee.specs.protocol.PlainSteps.{asked, at_old, added, exchanged, present, checked, given_old, given_new}
+use Rattle.congee.specs.declared.forms.prefix.TheConstants.{MAX_PREFIX_LEN}
+
+module _ {C V : Type 0} (order : List ℕ) (number : C → ℕ) (h : ℕ → Node V) where
+  abbrev pub Alike : Turn C V → Turn ℕ V → Type 0
+  Alike t u = TurnAlike order number h t u
+
+  pub quiet_alike : (p : Phase C V) (q : Phase ℕ V) → PhaseAlike order number h p q → Alike (quiet p) (quiet q)
+  quiet_alike p q x = record { report = refl; phase = x }
+
+  pub asking_alike : (p : Phase C V) (q : Phase ℕ V) (o : Option V) → PhaseAlike order number h p q → Alike (asking p o) (asking q o)
+  asking_alike p q o x = record { report = refl; phase = x }
+
+  pub decided_alike : (p : Phase C V) (q : Phase ℕ V) → PhaseAlike order number h p q → Alike (decided p) (decided q)
+  decided_alike p q x = record { report = refl; phase = x }
+
+  pub answered_alike : (r : Reply V) → Alike (answered r) (answered r)
+  answered_alike r = record { report = refl; phase = refl }
+
+  pub finished_alike : (r : Reply V) → Alike (finished r) (finished r)
+  finished_alike r = record { report = refl; phase = refl }
+
+  pub refused_alike : (e : Refusal) → Alike (refused e) (refused e)
+  refused_alike e = record { report = refl; phase = refl }
+
+  -- one side's turn by another name
+  pub alike_at : (t s : Turn C V) (u : Turn ℕ V) → t ≡ s → Alike s u → Alike t u
+  alike_at t s u e x = let P : Turn C V → Type 0 = λ z. Alike z u in subst P (sym e) x
+
+  pub alike_to : (t : Turn C V) (u w : Turn ℕ V) → w ≡ u → Alike t u → Alike t w
+  alike_to t u w e x = let P : Turn ℕ V → Type 0 = λ z. Alike t z in subst P (sym e) x
+
+  pub again_alike : (root : C) (n : ℕ) → Named order number root n → Alike (again root) (again n)
+  again_alike root n x = quiet_alike (Version None root) (Version None n) (None, n, refl, refl, x)
+
+  pub version_alike : (root : C) (m : ℕ) (above : Option (Parent C)) (o : Option (Parent ℕ)) (c : C) (n : ℕ) (v : Option ℕ) → Named order number root m → AboveAlike order number above o → Named order number c n
+      → Alike (after_version root above c v) (after_version m o n v)
+  version_alike root m above o c n None r a x = again_alike root m r
+  version_alike root m above o c n (Some v) r a x = quiet_alike (Read above (record { node = c; version = v })) (Read o (record { node = n; version = v })) (o, record { node = n; version = v }, refl, a, record { node = x; version = refl })
+
+  abbrev parent_of : Site C → Parent C
+  parent_of s = record { seat = s.at; byte = s.byte }
+
+  abbrev parent_to : Site ℕ → Parent ℕ
+  parent_to s = record { seat = s.at; byte = s.byte }
+
+  parent_alike : (s : Site C) (u : Site ℕ) → SiteAlike order number s u → ParentAlike order number (parent_of s) (parent_to u)
+  parent_alike s u x = record { seat = x.at; byte = x.byte }
+
+  pub down_alike : (b : Bool) (s : Site C) (u : Site ℕ) (above : Option (Parent C)) (o : Option (Parent ℕ)) (c : C) (n : ℕ) → SiteAlike order number s u → AboveAlike order number above o → Named order number c n
+      → Alike (down b s above c) (down b u o n)
+  down_alike false s u above o c n x a y = quiet_alike (Version (Some (parent_of s)) c) (Version (Some (parent_to u)) n) (Some (parent_to u), n, refl, (parent_to u, refl, parent_alike s u x), y)
+  down_alike true s u None o c n x a y =
+      alike_to (down true s None c) (down true u None n) (down true u o n) (ap (λ z. down true u z n) a)
+      (quiet_alike (Version (Some (parent_of s)) c) (Version (Some (parent_to u)) n) (Some (parent_to u), n, refl, (parent_to u, refl, parent_alike s u x), y))
+  down_alike true s u (Some p) o c n x a y =
+      alike_to (down true s (Some p) c) (down true u (Some a.0) n) (down true u o n) (ap (λ z. down true u z n) a.1)
+      (quiet_alike (CheckDown p.seat (parent_of s) c) (CheckDown a.0.seat (parent_to u) n) (a.0.seat, parent_to u, n, refl, a.2.seat, parent_alike s u x, y))
+
+  pub started_alike : (plan : Plan C) (y : Plan ℕ) (r : Reply V) → PlanAlike order number plan y → Alike (started plan r) (started y r)
+  started_alike (Here None one) y r x =
+      alike_to _ (started (Here None x.1) r) (started y r) (ap (λ z. started z r) (x.2 ∙ ap (λ z. Here z x.1) x.3)) (quiet_alike (UpgradeOne one r) (UpgradeOne x.1 r) (x.1, refl, x.4))
+  started_alike (Here (Some p) one) y r x =
+      alike_to _ (started (Here (Some x.3.0) x.1) r) (started y r) (ap (λ z. started z r) (x.2 ∙ ap (λ z. Here z x.1) x.3.1)) (quiet_alike (CheckAbove p one r) (CheckAbove x.3.0 x.1 r) (x.3.0, x.1, refl, x.3.2, x.4))
+  started_alike (Above two) y r x =
+      alike_to _ (started (Above x.0) r) (started y r) (ap (λ z. started z r) x.1) (quiet_alike (UpgradeAbove two r) (UpgradeAbove x.0 r) (x.0, refl, x.2))
+
+  pub ready_alike : (kind : Kind V) (plan : Plan C) (y : Plan ℕ) → PlanAlike order number plan y → Alike (ready kind plan) (ready kind y)
+  ready_alike kind plan y x = by (asks_new kind) where
+    by : (b : Bool) → Alike (cond b (asking (AskNew plan) None) (started plan (absent_reply kind))) (cond b (asking (AskNew y) None) (started y (absent_reply kind)))
+    by true = asking_alike (AskNew plan) (AskNew y) None (y, refl, x)
+    by false = started_alike plan y (absent_reply kind) x
+
+  seated_above : (above : Option (Parent C)) (o : Option (Parent ℕ)) → AboveAlike order number above o → SeatedAlike order number (seat_above above) (seat_above o)
+  seated_above None o x = ap seat_above x
+  seated_above (Some p) o x = (x.0.seat, ap seat_above x.1, x.2.seat)
+
+  here_alike : (s : Site C) (u : Site ℕ) (change : Single C) (y : Single ℕ) → SiteAlike order number s u → SingleAlike order number change y → PlanAlike order number (plan_here s change) (plan_here u y)
+  here_alike s u change y x a = (seat_above u.above, record { at = u.at; byte = u.byte; change = y }, refl, seated_above s.above u.above x.above, record { at = x.at; byte = x.byte; change = a })
+
+  pub full_alike : (kind : Kind V) (s : Site C) (u : Site ℕ) (b : Bool) (above : Option (Parent C)) (o : Option (Parent ℕ)) (leaf : Option C) (l : Option ℕ) (change : Single C) (y : Single ℕ)
+      → ReadAlike order number s u → AboveAlike order number above o → MadeAlike order number leaf l → SingleAlike order number change y → Alike (unless_full kind s b above leaf change) (unless_full kind u b o l y)
+  full_alike kind s u true (Some p) o leaf l change y x a m d =
+      alike_to _ (unless_full kind u true (Some a.0) l y) (unless_full kind u true o l y) (ap (λ z. unless_full kind u true z l y) a.1)
+      (quiet_alike (MakeGreater s p leaf) (MakeGreater u a.0 l) (u, a.0, l, refl, x, a.2, m))
+  full_alike kind s u true None o leaf l change y x a m d =
+      alike_to _ (unless_full kind u true None l y) (unless_full kind u true o l y) (ap (λ z. unless_full kind u true z l y) a)
+      (ready_alike kind (plan_here s change) (plan_here u y) (here_alike s u change y x.site d))
+  full_alike kind s u false above o leaf l change y x a m d = ready_alike kind (plan_here s change) (plan_here u y) (here_alike s u change y x.site d)
+
+  missing_alike : (kind : Kind V) (s : Site C) (u : Site ℕ) → ReadAlike order number s u → u.full ≡ s.full → Alike (missing kind s) (missing kind u)
+  missing_alike kind s u x f =
+      alike_to (missing kind s) (by_depth (s.depth == MAX_PREFIX_LEN) s.full) (missing kind u) (ap (λ z. by_depth (z == MAX_PREFIX_LEN) u.full) x.site.depth ∙ ap (λ z. by_depth (s.depth == MAX_PREFIX_LEN) z) f) (each (s.depth == MAX_PREFIX_LEN))
+    where
+      by_depth : Bool → Bool → Turn ℕ V
+      by_depth b full = cond b (unless_full kind u full u.above None Set) (quiet (MakeLeaf u))
+
+      each : (b : Bool) → Alike (cond b (unless_full kind s s.full s.above None Set) (quiet (MakeLeaf s))) (cond b (unless_full kind u s.full u.above None Set) (quiet (MakeLeaf u)))
+      each true = full_alike kind s u s.full s.above u.above None None Set Set x x.site.above refl refl
+      each false = quiet_alike (MakeLeaf s) (MakeLeaf u) (u, refl, x, f)
+
+  pub absent_alike : (kind : Kind V) (s : Site C) (u : Site ℕ) → ReadAlike order number s u → u.full ≡ s.full → Alike (absent kind s) (absent kind u)
+  absent_alike kind s u x f = by (adds kind) where
+    by : (b : Bool) → Alike (cond b (missing kind s) (answered (absent_reply kind))) (cond b (missing kind u) (answered (absent_reply kind)))
+    by true = missing_alike kind s u x f
+    by false = answered_alike (absent_reply kind)
+
+  set_alike : (s : Site C) (u : Site ℕ) (r : Reply V) → SiteAlike order number s u
+      → Alike (quiet (UpgradeOne (record { at = s.at; byte = s.byte; change = Set }) r)) (quiet (UpgradeOne (record { at = u.at; byte = u.byte; change = Set }) r))
+  set_alike s u r x = quiet_alike (UpgradeOne (record { at = s.at; byte = s.byte; change = Set }) r) (UpgradeOne (record { at = u.at; byte = u.byte; change = Set }) r)
+      (record { at = u.at; byte = u.byte; change = Set }, refl, record { at = x.at; byte = x.byte; change = refl })
+
+  confirm_alike : (at : Seat C) (a : Seat ℕ) (r : Reply V) → SeatAlike order number at a → Alike (quiet (Confirm at r)) (quiet (Confirm a r))
+  confirm_alike at a r x = quiet_alike (Confirm at r) (Confirm a r) (a, refl, x)
+
+  pub replaced_alike : (s : Site C) (u : Site ℕ) (b : Bool) (r : Reply V) → SiteAlike order number s u → Alike (replaced s b r) (replaced u b r)
+  replaced_alike s u true r x = confirm_alike s.at u.at r x.at
+  replaced_alike s u false r x = set_alike s u r x
+
+  taken_alike : (s : Site C) (u : Site ℕ) (b : Bool) (above : Option (Parent C)) (o : Option (Parent ℕ)) (r : Reply V) → SiteAlike order number s u → AboveAlike order number above o → Alike (taken_out s b above r) (taken_out u b o r)
+  taken_alike s u true (Some p) o r x a =
+      alike_to _ (taken_out u true (Some a.0) r) (taken_out u true o r) (ap (λ z. taken_out u true z r) a.1)
+      (quiet_alike (UpgradeAbove (record { above = p; at = s.at; change = Unlink }) r) (UpgradeAbove (record { above = a.0; at = u.at; change = Unlink }) r)
+      (record { above = a.0; at = u.at; change = Unlink }, refl, record { above = a.2; at = x.at; change = refl }))
+  taken_alike s u true None o r x a = alike_to _ (taken_out u true None r) (taken_out u true o r) (ap (λ z. taken_out u true z r) a) (set_alike s u r x)
+  taken_alike s u false above o r x a = set_alike s u r x
+
+  pub emptied_alike : (s : Site C) (u : Site ℕ) (r : Reply V) → ReadAlike order number s u → Alike (emptied s r) (emptied u r)
+  emptied_alike s u r x =
+      alike_to (emptied s r) (taken_out u (s.count == 1) u.above r) (emptied u r) (ap (λ z. taken_out u (z == 1) u.above r) x.count) (taken_alike s u (s.count == 1) s.above u.above r x.site x.site.above)
+
+  -- no copy failed
+  copied : (always : Bool) (t : Turn C V) → IsUnrefused t.report.outcome → CopyFailed always t → ⊥
+  copied always t n x =
+      let e : refusal.Count ≡ refusal.Exhausted = n refusal.Count (ap (λ z. z.report.outcome) x.1) in
+      cc
+
+  pub asked_alike : (always : Bool) (s : Site C) (u : Site ℕ) (v : V) (t : Turn C V) → ReadAlike order number s u → IsUnrefused t.report.outcome → IsAsked always s v t → Alike t (asked u v)
+  asked_alike always s u v t x n (inl e) = alike_at t _ (asked u v) e (asking_alike (AskOld s v) (AskOld u v) (Some v) (u, refl, x))
+  asked_alike always s u v t x n (inr f) = absurd (copied always t n f)
+
+  pub old_alike : (always : Bool) (same : V → V → Bool) (kind : Kind V) (new : Option V) (s : Site C) (u : Site ℕ) (v : V) (t : Turn C V) → ReadAlike order number s u → IsUnrefused t.report.outcome → IsAtOld always same kind new s v t
+      → Alike t (at_old same kind new u v)
+  old_alike always same Insert new s u v t x n e = alike_at t _ _ e (replaced_alike s u (is_same same v new) (reply.Insert (Some v)) x.site)
+  old_alike always same Get new s u v t x n e = asked_alike always s u v t x n e
+  old_alike always same Remove new s u v t x n e = asked_alike always s u v t x n e
+  old_alike always same ComputePresent new s u v t x n e = asked_alike always s u v t x n e
+  old_alike always same ComputeInsert new s u v t x n e = asked_alike always s u v t x n e
+  old_alike always same (Exchange old) new s u v t x n e = asked_alike always s u v t x n e
+
+  added_alike : (always : Bool) (same : V → V → Bool) (kind : Kind V) (new : Option V) (s : Site C) (u : Site ℕ) (above : Option (Parent C)) (o : Option (Parent ℕ)) (v : V) (t : Turn C V)
+      → ReadAlike order number s u → AboveAlike order number above o → IsUnrefused t.report.outcome → IsAdded always same kind new s above v t → Alike t (added same kind new u o v)
+  added_alike always same kind new s u None o v t x a n e = alike_to t (added same kind new u None v) (added same kind new u o v) (ap (λ z. added same kind new u z v) a) (old_alike always same kind new s u v t x n e)
+  added_alike always same kind new s u (Some p) o v t x a n e =
+      alike_to t (added same kind new u (Some a.0) v) (added same kind new u o v) (ap (λ z. added same kind new u z v) a.1)
+      (alike_at t _ _ e (quiet_alike (CheckOld p.seat s v) (CheckOld a.0.seat u v) (a.0.seat, u, refl, a.2.seat, x)))
+
+  exchanged_alike : (always : Bool) (same : V → V → Bool) (new : Option V) (s : Site C) (u : Site ℕ) (v : V) (t : Turn C V) → ReadAlike order number s u → IsUnrefused t.report.outcome → IsExchanged always same new s v t
+      → Alike t (exchanged same new u v)
+  exchanged_alike always same None s u v t x n e = alike_at t _ _ e (emptied_alike s u (reply.Exchange (Ok None)) x)
+  exchanged_alike always same (Some w) s u v t x n (inl e) = alike_at t _ _ e (replaced_alike s u (same v w) (reply.Exchange (Ok (Some w))) x.site)
+  exchanged_alike always same (Some w) s u v t x n (inr f) = absurd (copied always t n f)
+
+  compared_alike : (always : Bool) (same : V → V → Bool) (b : Bool) (new : Option V) (s : Site C) (u : Site ℕ) (v : V) (t : Turn C V) → ReadAlike order number s u → IsUnrefused t.report.outcome → IsCompared b always same new s v t
+      → Alike t (cond b (exchanged same new u v) (quiet (Confirm u.at (reply.Exchange (Err (Some v))))))
+  compared_alike always same true new s u v t x n e = exchanged_alike always same new s u v t x n (e.0 refl)
+  compared_alike always same false new s u v t x n e = alike_at t _ _ (e.1 refl) (confirm_alike s.at u.at (reply.Exchange (Err (Some v))) x.site.at)
+
+  present_alike : (always : Bool) (same : V → V → Bool) (kind : Kind V) (new : Option V) (s : Site C) (u : Site ℕ) (v : V) (t : Turn C V) → ReadAlike order number s u → IsUnrefused t.report.outcome → IsPresent always same kind new s v t
+      → Alike t (present same kind new u v)
+  present_alike always same Get new s u v t x n e = alike_at t _ _ e (answered_alike (reply.Get (Some v)))
+  present_alike always same Insert new s u v t x n e = added_alike always same Insert new s u s.above u.above v t x x.site.above n e
+  present_alike always same Remove new s u v t x n e = alike_at t _ _ e (emptied_alike s u (reply.Remove (Some v)) x)
+  present_alike always same ComputePresent new s u v t x n e = asked_alike always s u v t x n e
+  present_alike always same ComputeInsert new s u v t x n e = added_alike always same ComputeInsert new s u s.above u.above v t x x.site.above n e
+  present_alike always same (Exchange old) new s u v t x n e = compared_alike always same (same v old) new s u v t x n e
+
+  pub checked_alike : (always : Bool) (same : V → V → Bool) (kind : Kind V) (new : Option V) (s : Site C) (c : Child C V) (u : Site ℕ) (d : Child ℕ V) (t : Turn C V) → SiteAlike order number s u → SeesAlike order number s c u d
+      → IsUnrefused t.report.outcome → IsChecked always same kind new s c t → Alike t (checked same kind new u d)
+  checked_alike always same kind new s child.Blank u d t x y n e =
+      alike_to t (checked same kind new u child.Blank) (checked same kind new u d) (ap (checked same kind new u) y.hangs) (alike_at t _ _ e (absent_alike kind s u (record { site = x; count = y.count }) (y.full refl)))
+  checked_alike always same kind new s (child.Node c) u d t x y n e =
+      alike_to t (checked same kind new u (child.Node y.hangs.0)) (checked same kind new u d) (ap (checked same kind new u) y.hangs.1) (alike_at t _ _ e (down_alike (adds kind) s u s.above u.above c y.hangs.0 x x.above y.hangs.2))
+  checked_alike always same kind new s (child.Value v) u d t x y n e =
+      alike_to t (checked same kind new u (child.Value v)) (checked same kind new u d) (ap (checked same kind new u) y.hangs) (present_alike always same kind new s u v t (record { site = x; count = y.count }) n e)
+
+  pub miss_alike : (kind : Kind V) (p : Parent C) (q : Parent ℕ) (at : Seat C) (a : Seat ℕ) (common byte : ℕ) → ParentAlike order number p q → SeatAlike order number at a → Alike (after_miss kind p at common byte) (after_miss kind q a common byte)
+  miss_alike kind p q at a common byte x y = by (adds kind) where
+    by : (b : Bool) → Alike (cond b (quiet (MakeTop p at common byte)) (answered (absent_reply kind))) (cond b (quiet (MakeTop q a common byte)) (answered (absent_reply kind)))
+    by true = quiet_alike (MakeTop p at common byte) (MakeTop q a common byte) (q, a, refl, x, y)
+    by false = answered_alike (absent_reply kind)
+
+  -- the closure's answer
+  pub record GivenAlike (new' : Option V) (t : Turn C V) (w : Option V × Turn ℕ V) : Type 0 where
+    pub given : w.0 ≡ new'
+    pub turn : Alike t w.1
+
+  some_given : (always : Bool) (same : V → V → Bool) (s : Site C) (u : Site ℕ) (v y : V) (t : Turn C V) → ReadAlike order number s u → IsUnrefused t.report.outcome
+      → (t ≡ replaced s (same v y) (reply.ComputePresent (Some (v, Some y)))) ⊎ CopyFailed always t → Alike t (replaced u (same v y) (reply.ComputePresent (Some (v, Some y))))
+  some_given always same s u v y t x n (inl e) = alike_at t _ _ e (replaced_alike s u (same v y) (reply.ComputePresent (Some (v, Some y))) x.site)
+  some_given always same s u v y t x n (inr f) = absurd (copied always t n f)
+
+  pub given_alike : (always : Bool) (same : V → V → Bool) (kind : Kind V) (s : Site C) (u : Site ℕ) (v : V) (answer : Option (Option V)) (new new' : Option V) (t : Turn C V) → ReadAlike order number s u → IsUnrefused t.report.outcome
+      → IsGiven always same kind s v answer new new' t → GivenAlike new' t (given_old same kind u v answer new)
+  given_alike always same kind s u v None new new' t x n e = record { given = sym e.0; turn = asked_alike always s u v t x n e.1 }
+  given_alike always same ComputeInsert s u v (Some None) new new' t x n e = record { given = sym e.0; turn = asked_alike always s u v t x n e.1 }
+  given_alike always same ComputeInsert s u v (Some (Some y)) new new' t x n e = record { given = sym e.0; turn = alike_at t _ _ e.1 (replaced_alike s u (same v y) (reply.ComputeInsert (Some v)) x.site) }
+  given_alike always same Get s u v (Some None) new new' t x n e = record { given = sym e.0; turn = alike_at t _ _ e.1 (emptied_alike s u (reply.ComputePresent (Some (v, None))) x) }
+  given_alike always same Insert s u v (Some None) new new' t x n e = record { given = sym e.0; turn = alike_at t _ _ e.1 (emptied_alike s u (reply.ComputePresent (Some (v, None))) x) }
+  given_alike always same Remove s u v (Some None) new new' t x n e = record { given = sym e.0; turn = alike_at t _ _ e.1 (emptied_alike s u (reply.ComputePresent (Some (v, None))) x) }
+  given_alike always same ComputePresent s u v (Some None) new new' t x n e = record { given = sym e.0; turn = alike_at t _ _ e.1 (emptied_alike s u (reply.ComputePresent (Some (v, None))) x) }
+  given_alike always same (Exchange old) s u v (Some None) new new' t x n e = record { given = sym e.0; turn = alike_at t _ _ e.1 (emptied_alike s u (reply.ComputePresent (Some (v, None))) x) }
+  given_alike always same Get s u v (Some (Some y)) new new' t x n e = record { given = sym e.0; turn = some_given always same s u v y t x n e.1 }
+  given_alike always same Insert s u v (Some (Some y)) new new' t x n e = record { given = sym e.0; turn = some_given always same s u v y t x n e.1 }
+  given_alike always same Remove s u v (Some (Some y)) new new' t x n e = record { given = sym e.0; turn = some_given always same s u v y t x n e.1 }
+  given_alike always same ComputePresent s u v (Some (Some y)) new new' t x n e = record { given = sym e.0; turn = some_given always same s u v y t x n e.1 }
+  given_alike always same (Exchange old) s u v (Some (Some y)) new new' t x n e = record { given = sym e.0; turn = some_given always same s u v y t x n e.1 }
+
+  pub new_alike : (plan : Plan C) (y : Plan ℕ) (answer : Option (Option V)) (new new' : Option V) (t : Turn C V) → PlanAlike order number plan y → IsGivenNew plan answer new new' t → GivenAlike new' t (given_new y answer new)
+  new_alike plan y (Some (Some v)) new new' t x e = record { given = sym e.0; turn = alike_at t _ _ e.1 (started_alike plan y (reply.ComputeInsert None) x) }
+  new_alike plan y (Some None) new new' t x e = record { given = sym e.0; turn = alike_at t _ _ e.1 (asking_alike (AskNew plan) (AskNew y) None (y, refl, x)) }
+  new_alike plan y None new new' t x e = record { given = sym e.0; turn = alike_at t _ _ e.1 (asking_alike (AskNew plan) (AskNew y) None (y, refl, x)) }
+
+  pub greater_alike : (s : Site C) (u : Site ℕ) (leaf : Option C) (l : Option ℕ) (c : C) (n : ℕ) → SiteAlike order number s u → MadeAlike order number leaf l → Named order number c n → DoubleAlike order number (greater s leaf c) (greater u l n)
+  greater_alike s u None l c n x m y = (n, ap (λ z. greater u z n) m, y)
+  greater_alike s u (Some leaf) l c n x m y = (n, m.0, ap (λ z. greater u z n) m.1 ∙ ap (λ z. GrowLink n m.0 z) x.byte, y, m.2)
+
+  out : (two : Two C) (u : Two ℕ) (r : Reply V) → TwoAlike order number two u → Alike (decided (Obsolete two.at.node two.above.seat.node r)) (decided (Obsolete u.at.node u.above.seat.node r))
+  out two u r x = decided_alike (Obsolete two.at.node two.above.seat.node r) (Obsolete u.at.node u.above.seat.node r) (u.at.node, u.above.seat.node, refl, x.at.node, x.above.seat.node)
+
+  pub change_alike : (two : Two C) (u : Two ℕ) (r : Reply V) → TwoAlike order number two u → (d : Double C) (y : Double ℕ) → DoubleAlike order number d y → Alike (after_change two r d) (after_change u r y)
+  change_alike two u r x Unlink y e = alike_to _ (after_change u r Unlink) _ (ap (after_change u r) e) (out two u r x)
+  change_alike two u r x (Grow c) y e = alike_to _ (after_change u r (Grow e.0)) _ (ap (after_change u r) e.1) (out two u r x)
+  change_alike two u r x (GrowLink c leaf byte) y e = alike_to _ (after_change u r (GrowLink e.0 e.1 byte)) _ (ap (after_change u r) e.2) (out two u r x)
+  change_alike two u r x (Split top leaf common byte) y e =
+      alike_to _ (after_change u r (Split e.0 e.1 common byte)) _ (ap (after_change u r) e.2)
+      (decided_alike (UnlockBelow two.at.node two.above.seat.node r) (UnlockBelow u.at.node u.above.seat.node r) (u.at.node, u.above.seat.node, refl, x.at.node, x.above.seat.node))
+
+  pub unwound_alike : (root : C) (n : ℕ) (e : Option Refusal) → Named order number root n → Alike (unwound root e) (unwound n e)
+  unwound_alike root n None x = again_alike root n x
+  unwound_alike root n (Some e) x = refused_alike e

@@ -1,0 +1,244 @@
+-- Nodes and calls on a store, and the same ones known by numbers: the nodes are numbered in the order in which they were
+-- made. What a call on a store read of a node that has changed since is of no account: the check that follows fails.
+use Rattle.std.specs.Prelude.{◌≡◌, ℕ, ◌<◌, true, List, ◌++◌, length, Option, None, Some, slice_get}
+use Rattle.congee.specs.declared.forms.child.Child.{Child}
+use Rattle.congee.specs.declared.forms.child.Child.TheVariants as child
+use Rattle.congee.specs.declared.protocol.store.Least.{Least}
+use Rattle.congee.specs.declared.protocol.store.Least.TheVariants as least
+use Rattle.congee.specs.declared.protocol.store.Refusal.{Refusal}
+use Rattle.congee.specs.declared.protocol.store.Refusal.TheVariants as refusal
+use Rattle.congee.specs.declared.protocol.store.Seat.{Seat}
+use Rattle.congee.specs.declared.protocol.phase.Parent.{Parent}
+use Rattle.congee.specs.declared.protocol.phase.Site.{Site}
+use Rattle.congee.specs.declared.protocol.phase.Single.{Single}
+use Rattle.congee.specs.declared.protocol.phase.Single.TheVariants.{Set, Link}
+use Rattle.congee.specs.declared.protocol.phase.One.{One}
+use Rattle.congee.specs.declared.protocol.phase.Double.{Double}
+use Rattle.congee.specs.declared.protocol.phase.Double.TheVariants.{Unlink, Grow, GrowLink, Split}
+use Rattle.congee.specs.declared.protocol.phase.Two.{Two}
+use Rattle.congee.specs.declared.protocol.phase.Plan.{Plan}
+use Rattle.congee.specs.declared.protocol.phase.Plan.TheVariants.{Here, Above}
+use Rattle.congee.specs.declared.protocol.phase.Phase.{Phase}
+use Rattle.congee.specs.declared.protocol.phase.Phase.TheVariants.{New, Version, Read, Check, CheckUncopied, CheckMiss, CheckDown, CheckOld, MakeLeaf, MakeGreater, MakeTop, MakeBeside, AskOld, AskNew, Confirm, CheckAbove, UpgradeOne, ChangeOne, UpgradeAbove, UpgradeBelow, ChangeTwo, Obsolete, Retire, UnlockBelow, Unlock, Unwind, Sweep, Ended}
+use Rattle.congee.specs.declared.protocol.sweep.Rung.{Rung}
+use Rattle.congee.specs.declared.protocol.sweep.Stage.{Stage}
+use Rattle.congee.specs.declared.protocol.sweep.Stage.TheVariants as stage
+use Rattle.congee.specs.declared.protocol.sweep.Sweep.{Sweep as Scan}
+use Rattle.congee.specs.declared.protocol.turn.Turn.{Turn}
+use Rattle.congee.specs.declared.protocol.machine.Machine.{Machine}
+use Rattle.congee.specs.declared.protocol.machine.Move.{Move}
+use Rattle.congee.specs.declared.protocol.machine.Outcome.{Outcome}
+use Rattle.congee.specs.declared.protocol.machine.Outcome.TheVariants.{Refused}
+use Rattle.congee.specs.Heap.{Node, Hung, Nothing, Below, Holds, Stands, is_taken}
+use Rattle.congee.specs.protocol.SweepSteps.{slots}
+use Rattle.congee.specs.protocol.PlainSteps.{Went, call_after}
+
+-- the nodes in the order in which they were made, by the store's numbers: each that was made has one place
+pub record Ordered {V : Type 0} (order : List ℕ) (h : ℕ → Node V) : Type 0 where
+  pub made : (n c : ℕ) → slice_get order n ≡ Some c → (h c).made ≡ true
+  pub each : (c : ℕ) → (h c).made ≡ true → (n : ℕ) × (slice_get order n ≡ Some c)
+  pub once : (m n c : ℕ) → slice_get order m ≡ Some c → slice_get order n ≡ Some c → m ≡ n
+
+abbrev pub HungAlike : {V : Type 0} → List ℕ → Hung V → Hung V → Type 0
+HungAlike order Nothing y = y ≡ Nothing
+HungAlike order (Below c) y = (n : ℕ) × (y ≡ Below n) × (slice_get order n ≡ Some c)
+HungAlike order (Holds v) y = y ≡ Holds v
+
+-- a node that stands, and the same one as others know it
+pub record NodeAlike {V : Type 0} (order : List ℕ) (x y : Node V) : Type 0 where
+  pub stands : Stands y
+  pub prefix : y.prefix ≡ x.prefix
+  pub count : y.count ≡ x.count
+  pub capacity : y.capacity ≡ x.capacity
+  pub version : y.version ≡ x.version
+  pub locked : y.locked ≡ x.locked
+  pub obsolete : y.obsolete ≡ x.obsolete
+  pub retired : y.retired ≡ x.retired
+  pub children : (b : ℕ) → HungAlike order (x.children b) (y.children b)
+
+-- the store's nodes that aren't destroyed, and the same ones by their numbers
+abbrev pub HeapAlike : {V : Type 0} → List ℕ → (ℕ → Node V) → (ℕ → Node V) → Type 0
+HeapAlike order h g = (n c : ℕ) → slice_get order n ≡ Some c → Stands (h c) → NodeAlike order (h c) (g n)
+
+module _ {C : Type 0} (order : List ℕ) (number : C → ℕ) where
+  -- the number of the node that the name is of
+  abbrev pub Named : C → ℕ → Type 0
+  Named c n = slice_get order n ≡ Some (number c)
+
+  pub record SeatAlike (s : Seat C) (u : Seat ℕ) : Type 0 where
+    pub node : Named s.node u.node
+    pub version : u.version ≡ s.version
+
+  pub record ParentAlike (p : Parent C) (q : Parent ℕ) : Type 0 where
+    pub seat : SeatAlike p.seat q.seat
+    pub byte : q.byte ≡ p.byte
+
+  abbrev pub AboveAlike : Option (Parent C) → Option (Parent ℕ) → Type 0
+  AboveAlike None o = o ≡ None
+  AboveAlike (Some p) o = (q : Parent ℕ) × (o ≡ Some q) × ParentAlike p q
+
+  abbrev pub SeatedAlike : Option (Seat C) → Option (Seat ℕ) → Type 0
+  SeatedAlike None o = o ≡ None
+  SeatedAlike (Some s) o = (u : Seat ℕ) × (o ≡ Some u) × SeatAlike s u
+
+  abbrev pub MadeAlike : Option C → Option ℕ → Type 0
+  MadeAlike None o = o ≡ None
+  MadeAlike (Some c) o = (n : ℕ) × (o ≡ Some n) × Named c n
+
+  pub record SiteAlike (s : Site C) (u : Site ℕ) : Type 0 where
+    pub above : AboveAlike s.above u.above
+    pub at : SeatAlike s.at u.at
+    pub depth : u.depth ≡ s.depth
+    pub byte : u.byte ≡ s.byte
+
+  -- with what was read there
+  pub record ReadAlike (s : Site C) (u : Site ℕ) : Type 0 where
+    pub site : SiteAlike s u
+    pub count : u.count ≡ s.count
+
+  abbrev pub SingleAlike : Single C → Single ℕ → Type 0
+  SingleAlike Set x = x ≡ Set
+  SingleAlike (Link leaf) x = (n : ℕ) × (x ≡ Link n) × Named leaf n
+
+  pub record OneAlike (one : One C) (u : One ℕ) : Type 0 where
+    pub at : SeatAlike one.at u.at
+    pub byte : u.byte ≡ one.byte
+    pub change : SingleAlike one.change u.change
+
+  abbrev pub DoubleAlike : Double C → Double ℕ → Type 0
+  DoubleAlike Unlink x = x ≡ Unlink
+  DoubleAlike (Grow c) x = (n : ℕ) × (x ≡ Grow n) × Named c n
+  DoubleAlike (GrowLink c leaf byte) x = (n : ℕ) × (l : ℕ) × (x ≡ GrowLink n l byte) × Named c n × Named leaf l
+  DoubleAlike (Split top leaf common byte) x = (n : ℕ) × (l : ℕ) × (x ≡ Split n l common byte) × Named top n × Named leaf l
+
+  pub record TwoAlike (two : Two C) (u : Two ℕ) : Type 0 where
+    pub above : ParentAlike two.above u.above
+    pub at : SeatAlike two.at u.at
+    pub change : DoubleAlike two.change u.change
+
+  abbrev pub PlanAlike : Plan C → Plan ℕ → Type 0
+  PlanAlike (Here check one) x = (o : Option (Seat ℕ)) × (u : One ℕ) × (x ≡ Here o u) × SeatedAlike check o × OneAlike one u
+  PlanAlike (Above two) x = (u : Two ℕ) × (x ≡ Above u) × TwoAlike two u
+
+  pub record RungAlike (r : Rung C) (q : Rung ℕ) : Type 0 where
+    pub at : SeatAlike r.at q.at
+    pub region : q.region ≡ r.region
+    pub from : q.from ≡ r.from
+
+  abbrev pub PlaceAlike : Option (Rung C) → Option (Rung ℕ) → Type 0
+  PlaceAlike None o = o ≡ None
+  PlaceAlike (Some r) o = (q : Rung ℕ) × (o ≡ Some q) × RungAlike r q
+
+  module _ {V : Type 0} where
+    abbrev pub ChildAlike : Child C V → Child ℕ V → Type 0
+    ChildAlike child.Blank x = x ≡ child.Blank
+    ChildAlike (child.Node c) x = (n : ℕ) × (x ≡ child.Node n) × Named c n
+    ChildAlike (child.Value v) x = x ≡ child.Value v
+
+    -- what a read saw of a node that is as it was then
+    pub record SeesAlike (s : Site C) (c : Child C V) (u : Site ℕ) (d : Child ℕ V) : Type 0 where
+      pub hangs : ChildAlike c d
+      pub count : u.count ≡ s.count
+      pub full : c ≡ child.Blank → u.full ≡ s.full
+
+    -- a value that couldn't be copied is refused at the check
+    abbrev pub LeastAlike : Least C V → Least ℕ V → Type 0
+    LeastAlike least.Nothing x = x ≡ least.Nothing
+    LeastAlike (least.Node byte c) x = (n : ℕ) × (x ≡ least.Node byte n) × Named c n
+    LeastAlike (least.Value byte v) x = x ≡ least.Value byte v
+    LeastAlike least.Uncopied x = Unit {0}
+
+    module _ (h : ℕ → Node V) where
+      -- the node's lock word is still the one that was taken
+      abbrev pub IsTaken : Seat C → Type 0
+      IsTaken s = is_taken (h (number s.node)) s.version ≡ true
+
+      abbrev pub StageAlike : Stage C V → Stage ℕ V → Type 0
+      StageAlike stage.New x = x ≡ stage.New
+      StageAlike (stage.Enter c y) x = (n : ℕ) × (x ≡ stage.Enter n y) × Named c n
+      StageAlike (stage.Look r) x = (q : Rung ℕ) × (x ≡ stage.Look q) × RungAlike r q
+      StageAlike (stage.Check r f) x = (q : Rung ℕ) × (g : Least ℕ V) × (x ≡ stage.Check q g) × RungAlike r q × (IsTaken r.at → LeastAlike f g)
+      StageAlike stage.Full x = x ≡ stage.Full
+      StageAlike stage.Over x = x ≡ stage.Over
+
+      pub record ScanAlike (s : Scan C V) (t : Scan ℕ V) : Type 0 where
+        pub start : t.start ≡ s.start
+        pub end : t.end ≡ s.end
+        pub size : t.size ≡ s.size
+        pub count : t.count ≡ s.count
+        pub len : t.above.len ≡ s.above.len
+        pub way : (i : ℕ) → i < s.above.len → PlaceAlike (slice_get (slots s.above) i) (slice_get (slots t.above) i)
+        pub stage : StageAlike s.stage t.stage
+
+      -- where a call stands between two of its steps
+      abbrev pub PhaseAlike : Phase C V → Phase ℕ V → Type 0
+      PhaseAlike New x = x ≡ New
+      PhaseAlike (Version above c) x = (o : Option (Parent ℕ)) × (n : ℕ) × (x ≡ Version o n) × AboveAlike above o × Named c n
+      PhaseAlike (Read above at) x = (o : Option (Parent ℕ)) × (u : Seat ℕ) × (x ≡ Read o u) × AboveAlike above o × SeatAlike at u
+      PhaseAlike (Check s c) x = (u : Site ℕ) × (d : Child ℕ V) × (x ≡ Check u d) × SiteAlike s u × (IsTaken s.at → SeesAlike s c u d)
+      PhaseAlike (CheckUncopied at) x = (u : Site ℕ) × (d : Child ℕ V) × (x ≡ Check u d) × SeatAlike at u.at
+      PhaseAlike (CheckMiss p at common byte) x = (q : Parent ℕ) × (u : Seat ℕ) × (x ≡ CheckMiss q u common byte) × ParentAlike p q × SeatAlike at u
+      PhaseAlike (CheckDown p at c) x = (u : Seat ℕ) × (q : Parent ℕ) × (n : ℕ) × (x ≡ CheckDown u q n) × SeatAlike p u × ParentAlike at q × Named c n
+      PhaseAlike (CheckOld p s v) x = (q : Seat ℕ) × (u : Site ℕ) × (x ≡ CheckOld q u v) × SeatAlike p q × ReadAlike s u
+      PhaseAlike (MakeLeaf s) x = (u : Site ℕ) × (x ≡ MakeLeaf u) × ReadAlike s u × (u.full ≡ s.full)
+      PhaseAlike (MakeGreater s p leaf) x = (u : Site ℕ) × (q : Parent ℕ) × (o : Option ℕ) × (x ≡ MakeGreater u q o) × ReadAlike s u × ParentAlike p q × MadeAlike leaf o
+      PhaseAlike (MakeTop p at common byte) x = (q : Parent ℕ) × (u : Seat ℕ) × (x ≡ MakeTop q u common byte) × ParentAlike p q × SeatAlike at u
+      PhaseAlike (MakeBeside p at common byte top) x = (q : Parent ℕ) × (u : Seat ℕ) × (n : ℕ) × (x ≡ MakeBeside q u common byte n) × ParentAlike p q × SeatAlike at u × Named top n
+      PhaseAlike (AskOld s v) x = (u : Site ℕ) × (x ≡ AskOld u v) × ReadAlike s u
+      PhaseAlike (AskNew plan) x = (y : Plan ℕ) × (x ≡ AskNew y) × PlanAlike plan y
+      PhaseAlike (Confirm at r) x = (u : Seat ℕ) × (x ≡ Confirm u r) × SeatAlike at u
+      PhaseAlike (CheckAbove p one r) x = (q : Seat ℕ) × (u : One ℕ) × (x ≡ CheckAbove q u r) × SeatAlike p q × OneAlike one u
+      PhaseAlike (UpgradeOne one r) x = (u : One ℕ) × (x ≡ UpgradeOne u r) × OneAlike one u
+      PhaseAlike (ChangeOne one r) x = (u : One ℕ) × (x ≡ ChangeOne u r) × OneAlike one u
+      PhaseAlike (UpgradeAbove two r) x = (u : Two ℕ) × (x ≡ UpgradeAbove u r) × TwoAlike two u
+      PhaseAlike (UpgradeBelow two r) x = (u : Two ℕ) × (x ≡ UpgradeBelow u r) × TwoAlike two u
+      PhaseAlike (ChangeTwo two r) x = (u : Two ℕ) × (x ≡ ChangeTwo u r) × TwoAlike two u
+      PhaseAlike (Obsolete c p r) x = (n : ℕ) × (q : ℕ) × (x ≡ Obsolete n q r) × Named c n × Named p q
+      PhaseAlike (Retire c p r) x = (n : ℕ) × (q : ℕ) × (x ≡ Retire n q r) × Named c n × Named p q
+      PhaseAlike (UnlockBelow c p r) x = (n : ℕ) × (q : ℕ) × (x ≡ UnlockBelow n q r) × Named c n × Named p q
+      PhaseAlike (Unlock c r) x = (n : ℕ) × (x ≡ Unlock n r) × Named c n
+      PhaseAlike (Unwind c e) x = (n : ℕ) × (x ≡ Unwind n e) × Named c n
+      PhaseAlike (Sweep s) x = (t : Scan ℕ V) × (x ≡ Sweep t) × ScanAlike s t
+      PhaseAlike Ended x = x ≡ Ended
+
+      -- a step's report, and the phase after it
+      pub record TurnAlike (t : Turn C V) (u : Turn ℕ V) : Type 0 where
+        pub report : u.report ≡ t.report
+        pub phase : PhaseAlike t.phase u.phase
+
+      pub record CallAlike (m : Machine C V) (q : Machine ℕ V) : Type 0 where
+        pub root : Named m.root q.root
+        pub key : q.key ≡ m.key
+        pub kind : q.kind ≡ m.kind
+        pub given : q.given ≡ m.given
+        pub phase : PhaseAlike m.phase q.phase
+
+-- a step that wasn't refused for want of a node or of a copy; that no version is left is told alike by both
+abbrev pub IsUnrefused : {V : Type 0} → Outcome V → Type 0
+IsUnrefused o = (e : Refusal) → o ≡ Refused e → e ≡ refusal.Exhausted
+
+-- some nodes more were made
+abbrev pub Longer : List ℕ → List ℕ → Type 0
+Longer order order' = (new : List ℕ) × (order' ≡ order ++ new)
+
+-- a step of a call on a store went as that by numbers: it reports the same, and leaves call and nodes the same; a node that it
+-- made has the next number
+pub record WentAlike {C V : Type 0} (order : List ℕ) (number : C → ℕ) (h : ℕ → Node V) (given : Option V) (t : Turn C V) (w : Went V) : Type 0 where
+  pub now : List ℕ
+  pub longer : Longer order now
+  pub ordered : Ordered now h
+  pub made : w.made ≡ length now
+  pub given_is : w.given ≡ given
+  pub turn : TurnAlike now number h t w.turn
+  pub heap : HeapAlike now h w.heap
+
+-- and the call is the same after it
+pub record MovedAlike {C V : Type 0} (order : List ℕ) (number : C → ℕ) (h : ℕ → Node V) (m : Machine C V) (d : Move V) (q : Machine ℕ V) (w : Went V) : Type 0 where
+  pub went : WentAlike order number h m.given (record { phase = m.phase; report = d }) w
+  pub call : CallAlike went.now number h m (call_after q w)
+
+-- the destruction of some nodes leaves nodes and calls the same, as far as what was handed over had been made
+pub record SparedAlike {C V : Type 0} (order : List ℕ) (number : C → ℕ) (h : ℕ → Node V) (ms : List (Machine C V)) (h' : ℕ → Node V) : Type 0 where
+  pub calls : (i : ℕ) (m : Machine C V) (q : Machine ℕ V) → slice_get ms i ≡ Some m → CallAlike order number h m q → CallAlike order number h' m q
+  pub nodes : (g : ℕ → Node V) → HeapAlike order h g → HeapAlike order h' g
+  pub order_is : ((c : ℕ) → (h c).retired ≡ true → (h c).made ≡ true) → Ordered order h → Ordered order h'

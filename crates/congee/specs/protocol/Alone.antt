@@ -1,0 +1,237 @@
+-- A call whose steps nobody else's come between: what is sure before each of them, and how many are left at most.
+use Rattle.std.specs.Prelude.{ltb, ◌≡◌, ◌≢◌, ℕ, zero, suc, ◌+◌, ◌*◌, ◌-◌, ◌<◌, true, List, [], ◌∷◌, length, slice_get, Option, None, Some, cond}
+use Rattle.congee.specs.declared.protocol.store.Seat.{Seat}
+use Rattle.congee.specs.declared.protocol.store.Least.{Least}
+use Rattle.congee.specs.declared.protocol.store.Least.TheVariants as least
+use Rattle.congee.specs.declared.protocol.op.Op.{Op}
+use Rattle.congee.specs.declared.protocol.op.Op.TheVariants as op
+use Rattle.congee.specs.declared.protocol.phase.Kind.{Kind}
+use Rattle.congee.specs.declared.protocol.phase.Kind.TheVariants.{ComputeInsert}
+use Rattle.congee.specs.declared.protocol.phase.Site.{Site}
+use Rattle.congee.specs.declared.protocol.phase.Plan.{Plan}
+use Rattle.congee.specs.declared.protocol.phase.Plan.TheVariants.{Here, Above}
+use Rattle.congee.specs.declared.protocol.phase.Phase.{Phase}
+use Rattle.congee.specs.declared.protocol.phase.Phase.TheVariants.{New, Version, Read, Check, CheckUncopied, CheckMiss, CheckDown, CheckOld, MakeLeaf, MakeGreater, MakeTop, MakeBeside, AskOld, AskNew, Confirm, CheckAbove, UpgradeOne, ChangeOne, UpgradeAbove, UpgradeBelow, ChangeTwo, Obsolete, Retire, UnlockBelow, Unlock, Unwind, Sweep, Ended}
+use Rattle.congee.specs.declared.protocol.machine.Machine.{Machine}
+use Rattle.congee.specs.declared.protocol.sweep.Rung.{Rung}
+use Rattle.congee.specs.declared.protocol.sweep.Stage.{Stage}
+use Rattle.congee.specs.declared.protocol.sweep.Stage.TheVariants as stage
+use Rattle.congee.specs.declared.protocol.sweep.Sweep.{Sweep as Scan}
+use Rattle.congee.specs.Heap.{Node, Hung, Nothing, Below, Holds, is_free, is_taken}
+use Rattle.congee.specs.protocol.Holdings.{LockedBy}
+use Rattle.congee.specs.protocol.Steps.{seat_above}
+use Rattle.congee.specs.protocol.SweepSteps.{rungs_of}
+use Rattle.congee.specs.declared.keys.TheConstants.{KEY_BYTES}
+use Rattle.congee.specs.declared.forms.prefix.TheConstants.{MAX_PREFIX_LEN}
+
+-- the nodes whose lock words a call is yet to compare with the ones that it took
+abbrev pub seats_if : {C : Type 0} → Option (Seat C) → List (Seat C)
+seats_if None = []
+seats_if (Some p) = p ∷ []
+
+abbrev pub seats_site : {C : Type 0} → Site C → List (Seat C)
+seats_site s = s.at ∷ seats_if (seat_above s.above)
+
+abbrev pub seats_plan : {C : Type 0} → Plan C → List (Seat C)
+seats_plan (Here check one) = one.at ∷ seats_if check
+seats_plan (Above two) = two.above.seat ∷ two.at ∷ []
+
+abbrev pub seats_rungs : {C : Type 0} → List (Rung C) → List (Seat C)
+seats_rungs [] = []
+seats_rungs (r ∷ rest) = r.at ∷ seats_rungs rest
+
+abbrev pub seats_sweep : {C V : Type 0} → Scan C V → Stage C V → List (Seat C)
+seats_sweep s stage.New = []
+seats_sweep s (stage.Enter n x) = seats_rungs (rungs_of s.above)
+seats_sweep s (stage.Look r) = r.at ∷ seats_rungs (rungs_of s.above)
+seats_sweep s (stage.Check r x) = r.at ∷ seats_rungs (rungs_of s.above)
+seats_sweep s stage.Full = []
+seats_sweep s stage.Over = []
+
+abbrev pub seats : {C V : Type 0} → Phase C V → List (Seat C)
+seats New = []
+seats (Version above n) = seats_if (seat_above above)
+seats (Read above at) = at ∷ seats_if (seat_above above)
+seats (Check s c) = seats_site s
+seats (CheckUncopied at) = at ∷ []
+seats (CheckMiss p at common byte) = p.seat ∷ at ∷ []
+seats (CheckDown p at c) = p ∷ at.seat ∷ []
+seats (CheckOld p s v) = p ∷ seats_site s
+seats (MakeLeaf s) = seats_site s
+seats (MakeGreater s p leaf) = p.seat ∷ s.at ∷ []
+seats (MakeTop p at common byte) = p.seat ∷ at ∷ []
+seats (MakeBeside p at common byte top) = p.seat ∷ at ∷ []
+seats (AskOld s v) = seats_site s
+seats (AskNew plan) = seats_plan plan
+seats (Confirm at r) = at ∷ []
+seats (CheckAbove p one r) = p ∷ one.at ∷ []
+seats (UpgradeOne one r) = one.at ∷ []
+seats (ChangeOne one r) = []
+seats (UpgradeAbove two r) = two.above.seat ∷ two.at ∷ []
+seats (UpgradeBelow two r) = two.at ∷ []
+seats (ChangeTwo two r) = []
+seats (Obsolete n p r) = []
+seats (Retire n p r) = []
+seats (UnlockBelow n p r) = []
+seats (Unlock n r) = []
+seats (Unwind n e) = []
+seats (Sweep s) = seats_sweep s s.stage
+seats Ended = []
+
+-- each lock word is the one taken
+abbrev pub AreTaken : {C V : Type 0} → (C → ℕ) → (ℕ → Node V) → List (Seat C) → Type 0
+AreTaken number h [] = Unit {0}
+AreTaken number h (s ∷ rest) = (is_taken (h (number s.node)) s.version ≡ true) × AreTaken number h rest
+
+-- no exchange of a lock word has failed but at the greatest version, and the node that a scan is to enter is free
+abbrev pub IsFreeAt : {C V : Type 0} → (C → ℕ) → (ℕ → Node V) → Stage C V → Type 0
+IsFreeAt number h (stage.Enter n x) = is_free (h (number n)) ≡ true
+IsFreeAt number h _ = Unit {0}
+
+abbrev pub IsClear : {C V : Type 0} → (C → ℕ) → (ℕ → Node V) → Phase C V → Type 0
+IsClear number h (Unwind n None) = ⊥
+IsClear number h (Sweep s) = IsFreeAt number h s.stage
+IsClear number h _ = Unit {0}
+
+-- nobody has changed what the call is yet to rely on
+abbrev pub IsUndisturbed : {C V : Type 0} → (C → ℕ) → (ℕ → Node V) → Phase C V → Type 0
+IsUndisturbed number h s = AreTaken number h (seats s) × IsClear number h s
+
+-- no other call holds a lock
+abbrev pub NoOtherLocks : {C V : Type 0} → (C → ℕ) → ℕ → List (Machine C V) → Type 0
+NoOtherLocks {C} {V} number i ms = (j n : ℕ) (m : Machine C V) → j ≢ i → slice_get ms j ≡ Some m → LockedBy number m.phase n → ⊥
+
+-- the closure gave an answer to its call's question
+abbrev pub IsAnswer : {V : Type 0} → Kind V → Option (Option V) → Type 0
+IsAnswer kind None = ⊥
+IsAnswer ComputeInsert (Some None) = ⊥
+IsAnswer kind (Some o) = Unit {0}
+
+-- where the next step takes one
+abbrev pub HasAnswer : {C V : Type 0} → Kind V → Phase C V → Option (Option V) → Type 0
+HasAnswer kind (AskOld s v) answer = IsAnswer kind answer
+HasAnswer kind (AskNew plan) answer = IsAnswer kind answer
+HasAnswer kind _ answer = Unit {0}
+
+-- the call has ended
+abbrev pub IsPast : {C V : Type 0} → Phase C V → Type 0
+IsPast (Sweep s) = s.stage ≡ stage.Over
+IsPast Ended = Unit {0}
+IsPast _ = ⊥
+
+-- it is one on a key, and has not ended
+abbrev pub IsPoint : {C V : Type 0} → Phase C V → Type 0
+IsPoint (Sweep s) = ⊥
+IsPoint Ended = ⊥
+IsPoint _ = Unit {0}
+
+-- the sum over the bytes from one on and below another one
+unfoldable pub sum_from : (ℕ → ℕ) → ℕ → ℕ → ℕ
+sum_from g from zero = 0
+sum_from g from (suc b) = sum_from g from b + cond (ltb b from) 0 (g b)
+
+-- a call on one key takes four steps at most at each node that it passes, and this many more from the last one on
+abbrev pub steps_down : ℕ → List ℕ → ℕ
+steps_down more prefix = more + 4 * (MAX_PREFIX_LEN - length prefix)
+
+module _ {V : Type 0} where
+  -- the nodes, and the pairs, at and below what hangs at a byte
+  abbrev pub nodes_at : (ℕ → ℕ) → Hung V → ℕ
+  nodes_at go Nothing = 0
+  nodes_at go (Below c) = go c
+  nodes_at go (Holds v) = 0
+
+  abbrev pub pairs_at : (ℕ → ℕ) → Hung V → ℕ
+  pairs_at go Nothing = 0
+  pairs_at go (Below c) = go c
+  pairs_at go (Holds v) = 1
+
+  -- those at and below a node, over so many levels at most
+  unfoldable pub nodes_under : (ℕ → Node V) → ℕ → ℕ → ℕ
+  nodes_under h zero n = 0
+  nodes_under h (suc f) n = 1 + sum_from (λ b. nodes_at (λ c. nodes_under h f c) ((h n).children b)) 0 256
+
+  unfoldable pub pairs_under : (ℕ → Node V) → ℕ → ℕ → ℕ
+  pairs_under h zero n = 0
+  pairs_under h (suc f) n = sum_from (λ b. pairs_at (λ c. pairs_under h f c) ((h n).children b)) 0 256
+
+  -- those of a tree
+  abbrev pub tree_nodes : (ℕ → Node V) → ℕ
+  tree_nodes h = nodes_under h KEY_BYTES 0
+
+  abbrev pub tree_pairs : (ℕ → Node V) → ℕ
+  tree_pairs h = pairs_under h KEY_BYTES 0
+
+  -- the steps of a scan at what hangs at a byte: a value is found and told; a node is found, its version is taken, and it
+  -- is looked through
+  abbrev pub steps_at : (ℕ → ℕ) → Hung V → ℕ
+  steps_at go Nothing = 0
+  steps_at go (Below c) = 3 + go c
+  steps_at go (Holds v) = 2
+
+  -- and at a node from one of its bytes on, until it is left: the last two find nothing more
+  unfoldable pub steps_under : (ℕ → Node V) → ℕ → ℕ → ℕ → ℕ
+  steps_under h zero n from = 0
+  steps_under h (suc f) n from = 2 + sum_from (λ b. steps_at (λ c. steps_under h f c 0) ((h n).children b)) from 256
+
+  -- at the nodes of its way
+  abbrev pub steps_way : {C : Type 0} → (C → ℕ) → (ℕ → Node V) → ℕ → List (Rung C) → ℕ
+  steps_way number h f [] = 0
+  steps_way number h f (r ∷ rest) = steps_under h f (number r.at.node) r.from + steps_way number h (f - 1) rest
+
+  -- at a node in which this was found
+  abbrev pub steps_found : {C : Type 0} → (C → ℕ) → (ℕ → Node V) → ℕ → Rung C → Least C V → ℕ
+  steps_found number h f r least.Nothing = 1
+  steps_found number h f r (least.Node byte c) = 2 + steps_under h (f - 1) (number c) 0 + steps_under h f (number r.at.node) (byte + 1)
+  steps_found number h f r (least.Value byte v) = 1 + steps_under h f (number r.at.node) (byte + 1)
+  steps_found number h f r least.Uncopied = 1
+
+  -- the steps that a scan takes at most from here on
+  abbrev pub steps_sweep : {C : Type 0} → (C → ℕ) → (ℕ → Node V) → Scan C V → Stage C V → ℕ
+  steps_sweep number h s stage.New = 1 + steps_under h KEY_BYTES 0 0
+  steps_sweep number h s (stage.Enter n x) = 1 + steps_under h (KEY_BYTES - s.above.len) (number n) 0 + steps_way number h KEY_BYTES (rungs_of s.above)
+  steps_sweep number h s (stage.Look r) = steps_under h (KEY_BYTES - s.above.len) (number r.at.node) r.from + steps_way number h KEY_BYTES (rungs_of s.above)
+  steps_sweep number h s (stage.Check r x) = steps_found number h (KEY_BYTES - s.above.len) r x + steps_way number h KEY_BYTES (rungs_of s.above)
+  steps_sweep number h s stage.Full = 1
+  steps_sweep number h s stage.Over = 0
+
+  -- the steps that a call takes at most from here on
+  abbrev pub steps_left : {C : Type 0} → (C → ℕ) → (ℕ → Node V) → Phase C V → ℕ
+  steps_left number h New = steps_down 12 []
+  steps_left number h (Version above n) = steps_down 12 (h (number n)).prefix
+  steps_left number h (Read above at) = steps_down 11 (h (number at.node)).prefix
+  steps_left number h (Check s c) = steps_down 10 (h (number s.at.node)).prefix
+  steps_left number h (CheckUncopied at) = 1
+  steps_left number h (CheckMiss p at common byte) = 10
+  steps_left number h (CheckDown p at c) = steps_down 13 (h (number c)).prefix
+  steps_left number h (CheckOld p s v) = 8
+  steps_left number h (MakeLeaf s) = 9
+  steps_left number h (MakeGreater s p leaf) = 8
+  steps_left number h (MakeTop p at common byte) = 9
+  steps_left number h (MakeBeside p at common byte top) = 8
+  steps_left number h (AskOld s v) = 7
+  steps_left number h (AskNew plan) = 7
+  steps_left number h (Confirm at r) = 1
+  steps_left number h (CheckAbove p one r) = 4
+  steps_left number h (UpgradeOne one r) = 3
+  steps_left number h (ChangeOne one r) = 2
+  steps_left number h (UpgradeAbove two r) = 6
+  steps_left number h (UpgradeBelow two r) = 5
+  steps_left number h (ChangeTwo two r) = 4
+  steps_left number h (Obsolete n p r) = 3
+  steps_left number h (Retire n p r) = 2
+  steps_left number h (UnlockBelow n p r) = 2
+  steps_left number h (Unlock n r) = 1
+  steps_left number h (Unwind n e) = 1
+  steps_left number h (Sweep s) = steps_sweep number h s s.stage
+  steps_left number h Ended = 0
+
+-- and a whole call after its begin: on one key, or a scan
+abbrev pub steps_whole : {V : Type 0} → (ℕ → Node V) → Op V → ℕ
+steps_whole h (op.Range start end size) = 5 * tree_nodes h + 2 * tree_pairs h
+steps_whole h _ = 40
+
+-- what a step of a call taken alone leaves: the call is undisturbed, and nearer to its end
+pub record StepsOn {C V : Type 0} (number : C → ℕ) (h : ℕ → Node V) (s : Phase C V) (h' : ℕ → Node V) (s' : Phase C V) : Type 0 where
+  pub undisturbed : IsUndisturbed number h' s'
+  pub nearer : steps_left number h' s' < steps_left number h s
