@@ -13,12 +13,16 @@ use Rattle.joint.specs.Runs.{Taken, after_all, IsRun, RunsMap, AllSpare, IsFresh
 use Rattle.joint.specs.Scans.{ScansHold, EmptyScansHold}
 use Rattle.joint.specs.Whole.{Whole}
 
+-- an index with these limits as it was opened: a root alone, and no call in flight
+pub record IsNew {V : Type 0} (limits : Limits) (s : Whole V) : Type 0 where
+  pub opened : (charge : ℕ) × (limit : ℕ) × IsOpened limits charge limit s.forest
+  pub fresh : IsFresh s
+
 -- a run of these steps, which told this, from the opening of an index with these limits to the state s'
 pub record KeepsPromises {V : Type 0} (same : V → V → Bool) (always : Bool) (limits : Limits) (steps : List (Step V)) (reports : List (Report V)) (s' : Whole V) : Type 0 where
   -- the index as it was opened
   pub opened : Whole V
-  pub opens : (charge : ℕ) × (limit : ℕ) × IsOpened limits charge limit opened.forest
-  pub fresh : IsFresh opened
+  pub is_new : IsNew limits opened
   -- the calls on single keys that took effect answer as one ordered map, in the order of their deciding steps, each within
   -- its call
   pub one_map : RunsMap same no_flights empty steps reports s'

@@ -4,10 +4,9 @@ ghost use Rattle.std.specs.Prelude.{◌≡◌, ℕ, List};
 ghost use Rattle.joint.specs.declared.limits.Limits.{Limits};
 ghost use Rattle.joint.specs.declared.steps.Report.{Report as Told};
 ghost use Rattle.joint.specs.declared.steps.Step.{Step as Asked};
-ghost use Rattle.joint.specs.Opening.{IsOpened};
 ghost use Rattle.joint.specs.Plain.{AreSame, AreUnrefused, answers, projection};
-ghost use Rattle.joint.specs.Promises.{KeepsPromises};
-ghost use Rattle.joint.specs.Runs.{IsRun, IsFresh};
+ghost use Rattle.joint.specs.Promises.{IsNew, KeepsPromises};
+ghost use Rattle.joint.specs.Runs.{IsRun};
 ghost use Rattle.joint.specs.Whole.{Whole, Holds};
 
 use crate::laws::{comes_back, runs_alone, runs_plain, runs_spare};
@@ -23,7 +22,7 @@ use congee::{Allocator, Payload, Small};
 /// Two such runs of indexes with one greatest version, neither of which refuses anything, tell the same where their steps on
 /// the tree are the same, whatever their collectors did.
 pub fn keeps_promises<P: Payload + Small, A: Allocator>()
-    ensures keeps { (limits : Limits) (charge limit : ℕ) (s s' : Whole P) (steps : List (Asked P)) (reports : List (Told P)) → IsOpened limits charge limit s.forest → IsFresh s → Holds P.same_as P.always_copies s → IsRun P.same_as P.always_copies s steps reports s' → KeepsPromises P.same_as P.always_copies limits steps reports s' }
+    ensures keeps { (limits : Limits) (s s' : Whole P) (steps : List (Asked P)) (reports : List (Told P)) → IsNew limits s → Holds P.same_as P.always_copies s → IsRun P.same_as P.always_copies s steps reports s' → KeepsPromises P.same_as P.always_copies limits steps reports s' }
     ensures alike { (limits others : Limits) (s q : Whole P) (a b : List (Asked P)) (told again : List (Told P)) → limits.version_max ≡ others.version_max → KeepsPromises P.same_as P.always_copies limits a told s → KeepsPromises P.same_as P.always_copies others b again q → AreUnrefused told → AreUnrefused again → projection a told ≡ projection b again → AreSame (answers a told) (answers b again) }
 {
     runs_spare::<P, A>();

@@ -18,7 +18,7 @@ ghost use Rattle.joint.specs.Log.{opened_log, request_at};
 ghost use Rattle.joint.specs.Opening.{HasPlaces, IsOpened, IsUnjournaled, IsUnopened};
 ghost use Rattle.joint.specs.declared.limits.Limits.{Limits as Bounds};
 ghost use Rattle.joint.specs.Plain.{Agree, AreUnrefused, FollowsRun};
-ghost use Rattle.joint.specs.Promises.{KeepsPromises};
+ghost use Rattle.joint.specs.Promises.{IsNew, KeepsPromises};
 ghost use Rattle.joint.specs.Rounds.{IsQuiet, Round, AreRounds, steps_in, bags_left, rounds_wanted, CameBack};
 ghost use Rattle.joint.specs.Runs.{Flights, AreInFlight, IsRun, RunsJournal, RunsMap, AllSpare, IsFresh, no_flights};
 ghost use Rattle.joint.specs.Scans.{ScansHold, EmptyScansHold};
@@ -65,6 +65,7 @@ impl<P: Payload + Small, A: Allocator> World<P, A> {
     pub fn new(alloc: Global, limits: Limits, allocator: A) -> Result<Self, Refusal>
         ensures opened { IfOk result (λ w. IsOpened limits (A.charged_of allocator) (A.limit_of allocator) w.forest) }
         ensures fresh { IfOk result (λ w. IsFresh w) }
+        ensures is_new { IfOk result (λ w. IsNew limits w) }
         ensures cause { IfErr result (λ e. IsUnopened limits (A.charged_of allocator) (A.limit_of allocator) e) }
         ensures journal { IfOk result (λ w. w.log ≡ opened_log limits.epoch.participants 0) }
     {
@@ -81,6 +82,7 @@ impl<P: Payload + Small, A: Allocator> World<P, A> {
         requires { 0 < places → P.always_copies ≡ true }
         ensures opened { IfOk result (λ w. IsOpened limits (A.charged_of allocator) (A.limit_of allocator) w.forest) }
         ensures fresh { IfOk result (λ w. IsFresh w) }
+        ensures is_new { IfOk result (λ w. IsNew limits w) }
         ensures cause { IfErr result (λ e. IsUnopened limits (A.charged_of allocator) (A.limit_of allocator) e) }
         ensures log { IfOk result (λ w. w.log ≡ opened_log limits.epoch.participants places) }
     {
@@ -117,7 +119,7 @@ impl<P: Payload + Small, A: Allocator> World<P, A> {
         ensures all_come_back { (run : IsRun P.same_as P.always_copies self.old (take result.done steps.items) result.reports.items self.new) (who : ℕ) (rounds : List (Round P)) → IsQuiet self.old → AreRounds who rounds → run.taken ≡ steps_in rounds → rounds_wanted (length (waiting_nodes self.old)) ≤ length rounds → CameBack self.new who }
         ensures alone { (run : IsRun P.same_as P.always_copies self.old (take result.done steps.items) result.reports.items self.new) → AllEndAlone self.old run.taken }
         ensures plain { (order : List ℕ) (p : Plain P) → AreUnrefused result.reports.items → Agree self.old order p → FollowsRun P.same_as self.old.forest.version_max (take result.done steps.items) result.reports.items self.new order p }
-        ensures promises { (limits : Bounds) (charge limit : ℕ) → IsOpened limits charge limit self.old.forest → IsFresh self.old → KeepsPromises P.same_as P.always_copies limits (take result.done steps.items) result.reports.items self.new }
+        ensures promises { (limits : Bounds) → IsNew limits self.old → KeepsPromises P.same_as P.always_copies limits (take result.done steps.items) result.reports.items self.new }
     {
         keeps_promises::<P, A>();
         runs_spare::<P, A>();
@@ -228,6 +230,7 @@ impl<A: Allocator> World<u64, A> {
     ) -> Result<Self, Refusal>
         ensures opened { IfOk result (λ w. IsOpened limits (A.charged_of allocator) (A.limit_of allocator) w.forest) }
         ensures fresh { IfOk result (λ w. IsFresh w) }
+        ensures is_new { IfOk result (λ w. IsNew limits w) }
         ensures cause { IfErr result (λ e. IsUnjournaled limits places (A.charged_of allocator) (A.limit_of allocator) e) }
         ensures journal { IfOk result (λ w. HasPlaces places × (w.log ≡ opened_log limits.epoch.participants places)) }
     {

@@ -6,12 +6,11 @@ use Rattle.joint.specs.declared.steps.Report.{Report}
 use Rattle.joint.specs.declared.steps.Step.{Step}
 use Rattle.joint.specs.Alone.{AllEndAlone}
 use Rattle.joint.specs.Listing.{waiting_nodes}
-use Rattle.joint.specs.Opening.{IsOpened}
 use Rattle.congee.specs.protocol.PlainSteps.{Plain}
 use Rattle.joint.specs.Plain.{AreTold, AreUnrefused, answers, opened_plain, projection, AreSame}
-use Rattle.joint.specs.Promises.{KeepsPromises}
+use Rattle.joint.specs.Promises.{IsNew, KeepsPromises}
 use Rattle.joint.specs.Rounds.{IsQuiet, Round, AreRounds, steps_in, bags_left, rounds_wanted, CameBack}
-use Rattle.joint.specs.Runs.{Taken, AreTaken, after_all, IsRun, AllHold, AllSpare, IsFresh}
+use Rattle.joint.specs.Runs.{Taken, AreTaken, after_all, IsRun, AllHold, AllSpare}
 use Rattle.joint.specs.Whole.{Whole, Holds}
 use Rattle.joint.proofs.lemmas.Rounds.{split, after_both}
 use Rattle.joint.proofs.lemmas.Running.{run_fresh}
@@ -49,21 +48,20 @@ module _ {V : Type 0} (same : V → V → Bool) (always : Bool) where
       let e : after_all s taken ≡ after_all (after_all s before) (steps_in rounds) = ap (after_all s) is ∙ after_both same always s before (steps_in rounds) in
       subst Q (sym e) (back (after_all s before) who rounds (holds_on s before (steps_in rounds) h (all_hold same always s (before ++ steps_in rounds) all)) quiet are rest enough)
 
-  module _ (limits : Limits) (charge limit : ℕ) (s s' : Whole V) (steps : List (Step V)) (reports : List (Report V)) (opened : IsOpened limits charge limit s.forest) (fresh : IsFresh s) (h : Holds same always s) (run : IsRun same always s steps reports s') where
+  module _ (limits : Limits) (s s' : Whole V) (steps : List (Step V)) (reports : List (Report V)) (opening : IsNew limits s) (h : Holds same always s) (run : IsRun same always s steps reports s') where
     pub keeps : Back bags_left → Back (λ x rounds. length (waiting_nodes x)) → AllSpare s run.taken → AllEndAlone s run.taken → (AreUnrefused reports → AreTold same s.forest.version_max opened_plain (projection steps reports) (answers steps reports))
         → KeepsPromises same always limits steps reports s'
     keeps bags nodes spares alone told =
-        let plays = run_fresh same always s steps reports s' fresh h run in
+        let plays = run_fresh same always s steps reports s' opening.fresh h run in
         let P : ℕ → Type 0 = λ z. AreTold same z opened_plain (projection steps reports) (answers steps reports) in
         let Q : Whole V → ℕ → Type 0 = λ z who. CameBack z who in
         record {
           opened = s;
-          opens = (charge, limit, opened);
-          fresh = fresh;
+          is_new = opening;
           one_map = plays;
           scans = scans_hold same _ _ plays.lines plays.flights plays.run;
           empty_scans = empty_scans_hold same _ _ plays.lines plays.flights plays.run;
-          unseen = λ u. subst P opened.versions (told u);
+          unseen = λ u. subst P opening.opened.1.1.versions (told u);
           run = run;
           spares = spares;
           comes_back = λ before after who rounds. within (λ x r. length (waiting_nodes x)) nodes s run.taken before after who rounds h run.each;

@@ -38,4 +38,4 @@ pub returns-clause-plain : goal.returns-clause-plain
 returns-clause-plain g c order p un a = c.runs_plain.ensures.follows _ _ _ _ order p c.sound.ensures.holds c.take_all.ensures.run un a
 
 pub returns-clause-promises : goal.returns-clause-promises
-returns-clause-promises g c limits charge limit opened fresh = c.keeps_promises.ensures.keeps limits charge limit _ _ _ _ opened fresh c.sound.ensures.holds c.take_all.ensures.run
+returns-clause-promises g c limits opening = c.keeps_promises.ensures.keeps limits _ _ _ _ opening c.sound.ensures.holds c.take_all.ensures.run
