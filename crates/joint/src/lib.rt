@@ -66,7 +66,7 @@ pub use refusal::Refusal;
 pub use run_laws::answers_wanted;
 pub use steps::{Done, Event, Kind, Op, Outcome, Ran, Report, Step, Survey};
 pub use threads::auditing::audit;
-pub use threads::driver::{Turns, drive};
+pub use threads::driver::{Turns, drive, turns_tell};
 pub use threads::journaled::Journaled;
 pub use threads::numbers::U64Congee;
 pub use threads::owners::CongeeArc;
