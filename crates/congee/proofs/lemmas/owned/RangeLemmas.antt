@@ -53,7 +53,7 @@ module _ {X : Type 0} where
         ]
       ]
 
-  none_before_zero : (start : ℕ) (es : List (ℕ × X)) → in_range start 0 es ≡ []
+  pub none_before_zero : (start : ℕ) (es : List (ℕ × X)) → in_range start 0 es ≡ []
   none_before_zero start [] = refl
   none_before_zero start ((k, x) ∷ r) =
       let rest = none_before_zero start r in
