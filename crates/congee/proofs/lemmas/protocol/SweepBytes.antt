@@ -42,7 +42,7 @@ module _ (x : Region) where
   quotient n = ap (λ w. n / w) (width_is x.depth)
 
   -- whether all keys below the node come before the range, where some come before its end
-  beyond : (start : ℕ) → Bool
+  abbrev beyond : ℕ → Bool
   beyond start = cond (ltb x.base start) (ltb 255 ((start - x.base) / width x.depth)) false
 
   within : (start last : ℕ) → x.base ≤ last → is_outside start last x ≡ beyond start

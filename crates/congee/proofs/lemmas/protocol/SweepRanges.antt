@@ -19,6 +19,24 @@ all_places start last size l = ap (λ b. cond b size 0) (le-leb start last l)
 no_places : (start last size : ℕ) → last < start → cond (leb start last) size 0 ≡ 0
 no_places start last size l = ap (λ b. cond b size 0) (lt-leb start last l)
 
+module _ {V : Type 0} where
+  -- one without a place finds nothing, as one does whose range has no key
+  none_found : (start end size from to places : ℕ) (states : List (Pairs V)) (found : List (ℕ × V)) → places ≡ 0 → end ≤ start → IsScan from to places states found → IsScan start end size states found
+  none_found start end size from to places states [] z l s = record {
+    rises = tt;
+    few = omega arith;
+    within = tt;
+    stood = tt;
+    complete = λ k lo hi t. absurd (omega (arith, lo, hi, l));
+  }
+  none_found start end size from to places states (x ∷ found) z l s = absurd (let f = s.few in omega (arith, f, z))
+
+  no_scan : (start end size from to places : ℕ) → places ≡ 0 → end ≤ start → IsScanOf {V = V} start end size (Unbegun from to places)
+  no_scan start end size from to places z l = record { from = from; to = to; places = places; unbegun = refl; promises = λ states found s. none_found start end size from to places states found z l s }
+
+  that_scan : (start end size : ℕ) (f : Flight V) → f ≡ Unbegun start end size → IsScanOf start end size f
+  that_scan start end size f e = record { from = start; to = end; places = size; unbegun = e; promises = λ states found s. s }
+
 module _ {C V : Type 0} where
   -- a scan's range has a key where there is a place
   pub range_before : (s : Scan C V) (root : C) (start end size : ℕ) → s ≡ new_sweep root start (end - 1) (cond (ltb start end) size 0) → end < 2 ^ 64 → HasRange s
@@ -38,23 +56,6 @@ module _ {C V : Type 0} where
       | inr le ↦ le
     ];
   })
-
-  -- one without a place finds nothing, as one does whose range has no key
-  none_found : (start end size from to places : ℕ) (states : List (Pairs V)) (found : List (ℕ × V)) → places ≡ 0 → end ≤ start → IsScan from to places states found → IsScan start end size states found
-  none_found start end size from to places states [] z l s = record {
-    rises = tt;
-    few = omega arith;
-    within = tt;
-    stood = tt;
-    complete = λ k lo hi t. absurd (omega (arith, lo, hi, l));
-  }
-  none_found start end size from to places states (x ∷ found) z l s = absurd (let f = s.few in omega (arith, f, z))
-
-  no_scan : (start end size from to places : ℕ) → places ≡ 0 → end ≤ start → IsScanOf start end size (Unbegun from to places)
-  no_scan start end size from to places z l = record { from = from; to = to; places = places; unbegun = refl; promises = λ states found s. none_found start end size from to places states found z l s }
-
-  that_scan : (start end size : ℕ) (f : Flight V) → f ≡ Unbegun start end size → IsScanOf start end size f
-  that_scan start end size f e = record { from = start; to = end; places = size; unbegun = e; promises = λ states found s. s }
 
   pub of_range : (root : C) (o : Op V) → IsOfRange (range_of o) (flight (begun root o))
   of_range root (op.Get k) = tt
