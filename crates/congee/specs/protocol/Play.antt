@@ -208,7 +208,6 @@ flight_in k kind v _ = Pending k kind v Unasked
 abbrev pub flight : {C V : Type 0} → Machine C V → Flight V
 flight m = flight_in m.key m.kind m.given m.phase
 
-
 -- how a scan is watched, by what it has settled
 abbrev pub ScanFollows : {C V : Type 0} → Scan C V → Flight V → Type 0
 ScanFollows {C} {V} s f = ((f ≡ Unbegun s.start (suc s.last) s.size) × (s.stage ≡ stage.New)) ⊎ (((f ≡ Over) × (s.stage ≡ stage.Over))
