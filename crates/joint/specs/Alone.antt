@@ -6,7 +6,7 @@ use Rattle.congee.specs.protocol.Alone.{NoOtherLocks, HasAnswer, tree_nodes, tre
 use Rattle.joint.specs.declared.id.Id.{Id}
 use Rattle.joint.specs.declared.steps.Event.TheVariants.{Begin, Go}
 use Rattle.joint.specs.declared.steps.Op.{Op}
-use Rattle.joint.specs.declared.steps.Op.TheVariants.{Pin, Unpin, Repin, Flush, Release, Range, Keys, IsEmpty, Stats}
+use Rattle.joint.specs.declared.steps.Op.TheVariants.{Pin, Unpin, Repin, Flush, Release, Range, RangeInclusive, Keys, IsEmpty, Stats}
 use Rattle.joint.specs.declared.steps.Report.{Report}
 use Rattle.joint.specs.Calling.{goes_on}
 use Rattle.joint.specs.Forest.{nodes}
@@ -44,6 +44,7 @@ steps_alone s Repin = length s.forest.collector.table + 530
 steps_alone s Flush = length s.forest.collector.table + 530
 steps_alone s Release = length s.forest.collector.table + 530
 steps_alone s (Range start end size) = 5 * tree_nodes (nodes s.forest) + 2 * tree_pairs (nodes s.forest) + 2
+steps_alone s (RangeInclusive start last size) = 5 * tree_nodes (nodes s.forest) + 2 * tree_pairs (nodes s.forest) + 2
 steps_alone s Keys = 1
 steps_alone s IsEmpty = 1
 steps_alone s Stats = 1

@@ -5,12 +5,13 @@ use Rattle.congee.specs.protocol.Sweeps.{IsScan}
 use Rattle.joint.specs.declared.steps.Done.TheVariants.{Scanned}
 use Rattle.joint.specs.declared.steps.Event.TheVariants.{Begin, Go}
 use Rattle.joint.specs.declared.steps.Op.{Op}
-use Rattle.joint.specs.declared.steps.Op.TheVariants.{Range, Keys, IsEmpty, Stats}
+use Rattle.joint.specs.declared.steps.Op.TheVariants.{Keys, IsEmpty, Stats}
 use Rattle.joint.specs.declared.steps.Outcome.{Outcome}
 use Rattle.joint.specs.declared.steps.Outcome.TheVariants.{Running, Asks, Found, Registered, Done, Refused}
 use Rattle.joint.specs.declared.steps.Report.{Report}
 use Rattle.joint.specs.declared.steps.Step.{Step}
 use Rattle.joint.specs.declared.steps.Survey.TheVariants as survey
+use Rattle.joint.specs.Reports.{range_of}
 use Rattle.joint.specs.Runs.{IsRun}
 use Rattle.joint.specs.Surveys.{MapTells}
 use Rattle.joint.specs.Whole.{Whole, is_busy, is_in_flight, misuse}
@@ -79,9 +80,12 @@ pub record IsCalled {V : Type 0} (same : V → V → Bool) (always : Bool) (s : 
 
 -- a scan that is done has filled the first of its places with what a scan promises, by the pairs that stood: nobody
 -- changed them meanwhile
+abbrev pub FillsOf : {V : Type 0} → Option (ℕ × ℕ × ℕ) → Pairs V → Option (Report V) → List (ℕ × V) → Type 0
+FillsOf {V} (Some (start, end, size)) m (Some r) places' = (count : ℕ) → r.outcome ≡ Done (Scanned count) → size ≤ length places' → (count ≤ length places') × IsScan {V = V} start end size (m ∷ []) (take count places')
+FillsOf range m r places' = Unit {0}
+
 abbrev pub FillsPlaces : {V : Type 0} → Pairs V → Op V → Option (Report V) → List (ℕ × V) → Type 0
-FillsPlaces {V} m (Range start end size) (Some r) places' = (count : ℕ) → r.outcome ≡ Done (Scanned count) → size ≤ length places' → (count ≤ length places') × IsScan {V = V} start end size (m ∷ []) (take count places')
-FillsPlaces m op r places' = Unit {0}
+FillsPlaces m op r places' = FillsOf (range_of op) m r places'
 
 -- a call of one step, where it is done, told of the pairs that stood
 abbrev pub TellsMap : {V : Type 0} → Pairs V → Op V → Option (Report V) → Type 0

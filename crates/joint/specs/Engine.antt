@@ -1,5 +1,5 @@
 -- The machine beside what it writes down, and one step of it: what a worker asks, what it is told, and the state after it.
-use Rattle.std.specs.Prelude.{◌≡◌, ℕ, ◌-◌, ◌<◌, ◌==◌, ltb, ◌⊎◌, Bool, true, false, List, Option, None, Some, is_none, cond, if◌then◌else◌, length, slice_get, slice_set}
+use Rattle.std.specs.Prelude.{◌≡◌, ℕ, ◌-◌, ◌<◌, ◌==◌, ltb, leb, ◌⊎◌, Bool, true, false, List, Option, None, Some, is_none, cond, if◌then◌else◌, length, slice_get, slice_set}
 use Rattle.std.specs.List.{Contains}
 use Rattle.crossbeam_epoch.specs.declared.fault.Fault.{Fault}
 use Rattle.crossbeam_epoch.specs.declared.fault.Fault.TheVariants as fault
@@ -168,6 +168,7 @@ pub record Enters {V : Type 0} (s : Whole V) (who : ℕ) (op : Point V) (r : Rep
 -- whether a call is a scan that can find nothing: there is no key in its range, or no place for a pair
 abbrev pub finds_none : {V : Type 0} → Point V → Bool
 finds_none (point.Range start end size) = cond (ltb start end) (size == 0) true
+finds_none (point.RangeInclusive start last size) = cond (leb start last) (size == 0) true
 finds_none _ = false
 
 -- it ends as it begins
@@ -210,6 +211,7 @@ pub record Walks {V : Type 0} (same : V → V → Bool) (always : Bool) (s : Who
 abbrev pub BeginsOnTree : {V : Type 0} → (V → V → Bool) → Bool → Whole V → ℕ → Point V → Report V → Whole V → Type 0
 BeginsOnTree same always s who (point.Get k) r s' = Enters s who (point.Get k) r s'
 BeginsOnTree {V} same always s who (point.Range start end size) r s' = EntersUnless (finds_none {V = V} (point.Range start end size)) s who (point.Range start end size) r s'
+BeginsOnTree {V} same always s who (point.RangeInclusive start last size) r s' = EntersUnless (finds_none {V = V} (point.RangeInclusive start last size)) s who (point.RangeInclusive start last size) r s'
 BeginsOnTree same always s who op r s' = Reserves s who op r s'
 
 -- a call of one step tells of the tree as it stands

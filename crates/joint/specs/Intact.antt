@@ -32,6 +32,7 @@ use Rattle.joint.specs.Sound.{IsUnderWay, IsSecured}
 abbrev pub writes : {V : Type 0} → Op V → Bool
 writes (point.Get k) = false
 writes (point.Range start end size) = false
+writes (point.RangeInclusive start last size) = false
 writes _ = true
 
 -- the scan has told its end

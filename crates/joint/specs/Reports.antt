@@ -1,4 +1,5 @@
 -- What a worker is told, from what the layer below tells.
+use Rattle.std.specs.Prelude.{ℕ, suc, Option, None, Some}
 use Rattle.crossbeam_epoch.specs.declared.world.report.Op.TheVariants as turn
 use Rattle.crossbeam_epoch.specs.declared.world.report.Outcome.{Outcome as Turned}
 use Rattle.crossbeam_epoch.specs.declared.world.report.Outcome.TheVariants as turned
@@ -6,7 +7,7 @@ use Rattle.congee.specs.declared.protocol.op.Op.TheVariants as point
 use Rattle.congee.specs.declared.protocol.machine.Outcome.{Outcome as Moved}
 use Rattle.congee.specs.declared.protocol.machine.Outcome.TheVariants as moved
 use Rattle.joint.specs.declared.steps.Op.{Op}
-use Rattle.joint.specs.declared.steps.Op.TheVariants.{Pin, Unpin, Repin, Flush, Release, Get, Insert, Remove, ComputePresent, ComputeInsert, Exchange, Range, Keys, IsEmpty, Stats}
+use Rattle.joint.specs.declared.steps.Op.TheVariants.{Pin, Unpin, Repin, Flush, Release, Get, Insert, Remove, ComputePresent, ComputeInsert, Exchange, Range, RangeInclusive, Keys, IsEmpty, Stats}
 use Rattle.joint.specs.declared.steps.Target.{Target}
 use Rattle.joint.specs.declared.steps.Survey.TheVariants as survey
 use Rattle.joint.specs.declared.steps.Target.TheVariants.{Collector, Tree, Survey}
@@ -29,9 +30,16 @@ target (ComputePresent k) = Tree (point.ComputePresent k)
 target (ComputeInsert k) = Tree (point.ComputeInsert k)
 target (Exchange k old new) = Tree (point.Exchange k old new)
 target (Range start end size) = Tree (point.Range start end size)
+target (RangeInclusive start last size) = Tree (point.RangeInclusive start last size)
 target Keys = Survey survey.Keys
 target IsEmpty = Survey survey.IsEmpty
 target Stats = Survey survey.Stats
+
+-- the range of a scan, from its first key to before its end, and the number of its places
+abbrev pub range_of : {V : Type 0} → Op V → Option (ℕ × ℕ × ℕ)
+range_of (Range start end size) = Some (start, end, size)
+range_of (RangeInclusive start last size) = Some (start, suc last, size)
+range_of _ = None
 
 -- how a call on the tree stands
 abbrev pub told : {V : Type 0} → Moved V → Outcome V

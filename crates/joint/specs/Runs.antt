@@ -12,9 +12,8 @@ use Rattle.congee.specs.declared.protocol.op.Op.{Op as Point}
 use Rattle.congee.specs.declared.protocol.phase.Kind.{Kind}
 use Rattle.congee.specs.Keys.{IsMapOf}
 use Rattle.congee.specs.protocol.Opening.{RootAlone}
-use Rattle.congee.specs.protocol.Play.{Flight, Pending, Decided, Over, Unbegun, Scanning, Question, begun, flight, heard, resolved, Undecided, Heeds, Concludes, ScanTells}
+use Rattle.congee.specs.protocol.Play.{Flight, Pending, Decided, Over, Unbegun, Scanning, Question, range_of, begun, flight, heard, resolved, Undecided, Heeds, Concludes, ScanTells}
 use Rattle.congee.specs.protocol.Protocol.{IsCall}
-use Rattle.congee.specs.declared.protocol.op.Op.TheVariants as point
 use Rattle.congee.specs.protocol.Sweeps.{IsScan}
 use Rattle.joint.specs.declared.call.Call.{Call}
 use Rattle.joint.specs.declared.call.Call.TheVariants.{Idle}
@@ -91,8 +90,12 @@ pub record FindsNone {V : Type 0} (start end size count : ℕ) (fs : Flights V) 
   pub scan : IsScan {V = V} start end size (m ∷ []) []
   pub stays : Stays fs m l fs'
 
+abbrev pub EndsEmpty : {V : Type 0} → Option (ℕ × ℕ × ℕ) → ℕ → Flights V → Pairs V → Line V → Flights V → Type 0
+EndsEmpty None count fs m l fs' = ⊥
+EndsEmpty (Some (start, end, size)) count fs m l fs' = FindsNone start end size count fs m l fs'
+
 abbrev pub EndsAtOnce : {V : Type 0} → Flights V → Pairs V → Point V → Answer V → Line V → Flights V → Type 0
-EndsAtOnce fs m (point.Range start end size) (Scanned count) l fs' = FindsNone start end size count fs m l fs'
+EndsAtOnce fs m op (Scanned count) l fs' = EndsEmpty (range_of op) count fs m l fs'
 EndsAtOnce fs m op done l fs' = ⊥
 
 abbrev pub BeginsOr : {V : Type 0} → Flights V → Pairs V → Point V → Outcome V → Line V → Flights V → Type 0

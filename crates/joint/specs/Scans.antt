@@ -1,13 +1,14 @@
 -- What a scan finds, by the lines of a run: from the one in which it begins to the one in which it is done.
-use Rattle.std.specs.Prelude.{◌≡◌, ℕ, ◌==◌, ◌&&◌, ◌≤◌, Bool, true, false, List, [], ◌∷◌, ◌++◌, length, map, take}
+use Rattle.std.specs.Prelude.{◌≡◌, ℕ, ◌==◌, ◌&&◌, ◌≤◌, Bool, true, false, List, [], ◌∷◌, ◌++◌, length, map, take, Some}
 use Rattle.congee.specs.protocol.Sweeps.{IsScan, written}
 use Rattle.joint.specs.declared.steps.Done.TheVariants.{Scanned}
 use Rattle.joint.specs.declared.steps.Event.{Event}
 use Rattle.joint.specs.declared.steps.Event.TheVariants.{Begin, Go}
-use Rattle.joint.specs.declared.steps.Op.TheVariants.{Range}
+use Rattle.joint.specs.declared.steps.Op.{Op}
 use Rattle.joint.specs.declared.steps.Outcome.{Outcome}
 use Rattle.joint.specs.declared.steps.Outcome.TheVariants.{Running, Found, Done}
 use Rattle.joint.specs.Calling.{goes_on}
+use Rattle.joint.specs.Reports.{range_of}
 use Rattle.joint.specs.Runs.{Line}
 
 -- whether the line is a further step of the worker's call in flight
@@ -39,8 +40,10 @@ AllCome w (l ∷ ls) places = Comes (goes w l) l.report.outcome places × AllCom
 
 -- the worker begins a scan of start <= k < end into so many places
 pub record BeginsScan {V : Type 0} (w start end size : ℕ) (l : Line V) : Type 0 where
+  pub op : Op V
+  pub range : range_of op ≡ Some (start, end, size)
   pub worker : l.step.worker ≡ w
-  pub event : l.step.event ≡ Begin (Range start end size)
+  pub event : l.step.event ≡ Begin op
   pub accepted : l.report.outcome ≡ Running
 
 -- the worker's call in flight doesn't end in these lines
@@ -67,5 +70,5 @@ ScansHold {V} lines = (before during after : List (Line V)) (begin end : Line V)
 
 -- and each that is done as it begins
 abbrev pub EmptyScansHold : {V : Type 0} → List (Line V) → Type 0
-EmptyScansHold {V} lines = (before after : List (Line V)) (l : Line V) (from to size count : ℕ) → lines ≡ before ++ l ∷ after
-    → l.step.event ≡ Begin (Range from to size) → l.report.outcome ≡ Done (Scanned count) → (count ≡ 0) × IsScan {V = V} from to size (l.pairs ∷ []) []
+EmptyScansHold {V} lines = (before after : List (Line V)) (l : Line V) (op : Op V) (from to size count : ℕ) → lines ≡ before ++ l ∷ after
+    → l.step.event ≡ Begin op → range_of op ≡ Some (from, to, size) → l.report.outcome ≡ Done (Scanned count) → (count ≡ 0) × IsScan {V = V} from to size (l.pairs ∷ []) []

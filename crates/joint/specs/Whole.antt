@@ -42,6 +42,7 @@ value_of _ answer = None
 
 abbrev pub IsOnKey : {V : Type 0} → Point V → Type 0
 IsOnKey (point.Range start end size) = ⊥
+IsOnKey (point.RangeInclusive start last size) = ⊥
 IsOnKey _ = Unit {0}
 
 -- what the worker asked for is a call on this key, with this value

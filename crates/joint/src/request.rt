@@ -120,6 +120,7 @@ fn copy_op<P: Payload>(op: &Op<P>) -> Option<Op<P>>
         Op::ComputeInsert(key) => Op::ComputeInsert(*key),
         Op::Exchange(key, old, new) => Op::Exchange(*key, old.copy()?, copy_value(new)?),
         Op::Range(start, end, size) => Op::Range(*start, *end, *size),
+        Op::RangeInclusive(start, last, size) => Op::RangeInclusive(*start, *last, *size),
         Op::Keys => Op::Keys,
         Op::IsEmpty => Op::IsEmpty,
         Op::Stats => Op::Stats,

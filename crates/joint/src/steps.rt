@@ -56,6 +56,8 @@ pub enum Op<P> {
     Exchange(u64, P, Option<P>),
     /// Finds the pairs from the first key up to the second, so many at most.
     Range(u64, u64, usize),
+    /// Finds the pairs from the first key to the second, itself included, so many at most.
+    RangeInclusive(u64, u64, usize),
     /// Tells all keys that stand at its one step. It wants no guard.
     Keys,
     /// Tells whether no key stands at its one step.
@@ -177,6 +179,9 @@ impl<P> Op<P> {
             Op::ComputeInsert(key) => Target::Tree(congee::Op::ComputeInsert(key)),
             Op::Exchange(key, old, new) => Target::Tree(congee::Op::Exchange(key, old, new)),
             Op::Range(start, end, size) => Target::Tree(congee::Op::Range(start, end, size)),
+            Op::RangeInclusive(start, last, size) => {
+                Target::Tree(congee::Op::RangeInclusive(start, last, size))
+            }
             Op::Keys => Target::Survey(Survey::Keys),
             Op::IsEmpty => Target::Survey(Survey::IsEmpty),
             Op::Stats => Target::Survey(Survey::Stats),

@@ -335,6 +335,7 @@ fn writes<P>(op: &congee::Op<P>) -> bool
     match op {
         congee::Op::Get(_) => false,
         congee::Op::Range(_, _, _) => false,
+        congee::Op::RangeInclusive(_, _, _) => false,
         // An insertion, a removal, a compute or an exchange.
         _ => true,
     }
@@ -346,6 +347,7 @@ fn finds_none<P>(op: &congee::Op<P>) -> bool
 {
     match op {
         congee::Op::Range(start, end, size) => *start >= *end || *size == 0,
+        congee::Op::RangeInclusive(start, last, size) => *start > *last || *size == 0,
         // A call on one key is no scan.
         _ => false,
     }

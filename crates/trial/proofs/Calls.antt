@@ -54,16 +54,17 @@ pair_call_sound _ a b c h i e = absurd (cc)
 pub at_most : (n m : ℕ) → nat_le n m ≡ true → n ≤ m
 at_most n m h = grind (arith, nat_tests)
 
-range_sound : (a b n : ℕ) (c : Call) → a < 2 ^ 64 → b < 2 ^ 64 → (if nat_le n 10000 then Some (call.Range a b n) else None) ≡ Some c
-    → IsCall (Key key.Range ∷ Number a ∷ Number b ∷ Number n ∷ []) c
-range_sound a b n c h i e =
-    let parts = passed (nat_le n 10000) (call.Range a b n) c e in
-    subst (IsCall (Key key.Range ∷ Number a ∷ Number b ∷ Number n ∷ [])) parts.1 (refl, (h, i, at_most n 10000 parts.0))
+scan_sound : (k : Keyword) (a b n : ℕ) (scan c : Call) → (n ≤ 10000 → IsCall (Key k ∷ Number a ∷ Number b ∷ Number n ∷ []) scan) → (if nat_le n 10000 then Some scan else None) ≡ Some c
+    → IsCall (Key k ∷ Number a ∷ Number b ∷ Number n ∷ []) c
+scan_sound k a b n scan c is e =
+    let parts = passed (nat_le n 10000) scan c e in
+    subst (IsCall (Key k ∷ Number a ∷ Number b ∷ Number n ∷ [])) parts.1 (is (at_most n 10000 parts.0))
 
 triple_call_sound : (k : Keyword) (a b d : ℕ) (c : Call) → a < 2 ^ 64 → b < 2 ^ 64 → d < 2 ^ 64 → triple_call_of k a b d ≡ Some c
     → IsCall (Key k ∷ Number a ∷ Number b ∷ Number d ∷ []) c
 triple_call_sound key.Cas a b d c h i j e = found_so (IsCall (Key key.Cas ∷ Number a ∷ Number b ∷ Number d ∷ [])) (call.Exchange a b d) c (refl, (h, i, j)) e
-triple_call_sound key.Range a b d c h i j e = range_sound a b d c h i e
+triple_call_sound key.Range a b d c h i j e = scan_sound key.Range a b d (call.Range a b d) c (λ l. (refl, (h, i, l))) e
+triple_call_sound key.Through a b d c h i j e = scan_sound key.Through a b d (call.Through a b d) c (λ l. (refl, (h, i, l))) e
 triple_call_sound _ a b d c h i j e = absurd (cc)
 
 pub call_sound : (ws : List Word) (c : Call) → Small ws → call_of ws ≡ Some c → IsCall ws c

@@ -152,6 +152,7 @@ call_complete (call.OrInsert k n) h = refl
 call_complete (call.Exchange k old new) h = refl
 call_complete (call.ExchangeDrop k old) h = refl
 call_complete (call.Range a b n) h = ap (λ t. cond t (Some (call.Range a b n)) None) (le_true n 10000 h.2)
+call_complete (call.Through a b n) h = ap (λ t. cond t (Some (call.Through a b n)) None) (le_true n 10000 h.2)
 
 counted_complete : (n : ℕ) (x : Command) → IsCount n → counted n x ≡ Some x
 counted_complete n x h =
@@ -180,6 +181,7 @@ not_other w (call.OrInsert k n) = refl
 not_other w (call.Exchange k o n) = refl
 not_other w (call.ExchangeDrop k o) = refl
 not_other w (call.Range a b n) = refl
+not_other w (call.Through a b n) = refl
 
 opening_complete : (p d : ℕ) (limit version journal : Option ℕ)
     → opening_of p d (option_words key.Limit limit ++ option_words key.Version version ++ option_words key.Journal journal)

@@ -9,7 +9,7 @@ use Rattle.trial.specs.Words.{text_of}
 abbrev pub all : List Keyword
 all = key.New ∷ key.Limit ∷ key.Version ∷ key.Journal ∷ key.Reg ∷ key.Pin ∷ key.Unpin ∷ key.Repin ∷ key.Flush
     ∷ key.Release ∷ key.Round ∷ key.Get ∷ key.Remove ∷ key.Insert ∷ key.Present ∷ key.Add ∷ key.Drop ∷ key.OrInsert
-    ∷ key.Cas ∷ key.Range ∷ key.Keys ∷ key.Empty ∷ key.Stats ∷ key.Begin ∷ key.Go ∷ key.Fail ∷ key.Charged
+    ∷ key.Cas ∷ key.Range ∷ key.Through ∷ key.Keys ∷ key.Empty ∷ key.Stats ∷ key.Begin ∷ key.Go ∷ key.Fail ∷ key.Charged
     ∷ key.Waiting ∷ key.Close ∷ []
 
 -- a keyword's place in the table
@@ -34,15 +34,16 @@ place_of key.Drop = 16
 place_of key.OrInsert = 17
 place_of key.Cas = 18
 place_of key.Range = 19
-place_of key.Keys = 20
-place_of key.Empty = 21
-place_of key.Stats = 22
-place_of key.Begin = 23
-place_of key.Go = 24
-place_of key.Fail = 25
-place_of key.Charged = 26
-place_of key.Waiting = 27
-place_of key.Close = 28
+place_of key.Through = 20
+place_of key.Keys = 21
+place_of key.Empty = 22
+place_of key.Stats = 23
+place_of key.Begin = 24
+place_of key.Go = 25
+place_of key.Fail = 26
+place_of key.Charged = 27
+place_of key.Waiting = 28
+place_of key.Close = 29
 
 pub at_place : (k d : Keyword) → get_or all (place_of k) d ≡ k
 at_place key.New d = refl
@@ -65,6 +66,7 @@ at_place key.Drop d = refl
 at_place key.OrInsert d = refl
 at_place key.Cas d = refl
 at_place key.Range d = refl
+at_place key.Through d = refl
 at_place key.Keys d = refl
 at_place key.Empty d = refl
 at_place key.Stats d = refl
@@ -75,7 +77,7 @@ at_place key.Charged d = refl
 at_place key.Waiting d = refl
 at_place key.Close d = refl
 
-pub place_below : (k : Keyword) → place_of k < 29
+pub place_below : (k : Keyword) → place_of k < 30
 place_below key.New = lit< tt
 place_below key.Limit = lit< tt
 place_below key.Version = lit< tt
@@ -96,6 +98,7 @@ place_below key.Drop = lit< tt
 place_below key.OrInsert = lit< tt
 place_below key.Cas = lit< tt
 place_below key.Range = lit< tt
+place_below key.Through = lit< tt
 place_below key.Keys = lit< tt
 place_below key.Empty = lit< tt
 place_below key.Stats = lit< tt
@@ -131,6 +134,7 @@ named_text key.Drop = refl
 named_text key.OrInsert = refl
 named_text key.Cas = refl
 named_text key.Range = refl
+named_text key.Through = refl
 named_text key.Keys = refl
 named_text key.Empty = refl
 named_text key.Stats = refl
@@ -169,6 +173,7 @@ begins_with_letter key.Drop = lit< tt
 begins_with_letter key.OrInsert = lit< tt
 begins_with_letter key.Cas = lit< tt
 begins_with_letter key.Range = lit< tt
+begins_with_letter key.Through = lit< tt
 begins_with_letter key.Keys = lit< tt
 begins_with_letter key.Empty = lit< tt
 begins_with_letter key.Stats = lit< tt
@@ -200,6 +205,7 @@ is_not_empty key.Drop = lit< tt
 is_not_empty key.OrInsert = lit< tt
 is_not_empty key.Cas = lit< tt
 is_not_empty key.Range = lit< tt
+is_not_empty key.Through = lit< tt
 is_not_empty key.Keys = lit< tt
 is_not_empty key.Empty = lit< tt
 is_not_empty key.Stats = lit< tt

@@ -139,6 +139,7 @@ key_plain key.Drop = refl
 key_plain key.OrInsert = refl
 key_plain key.Cas = refl
 key_plain key.Range = refl
+key_plain key.Through = refl
 key_plain key.Keys = refl
 key_plain key.Empty = refl
 key_plain key.Stats = refl
@@ -193,6 +194,7 @@ call_plain (call.OrInsert k n) h = (tt, (h.0, (h.1, tt)))
 call_plain (call.Exchange k old new) h = (tt, (h.0, (h.1, (h.2, tt))))
 call_plain (call.ExchangeDrop k old) h = (tt, (h.0, (h.1, (tt, tt))))
 call_plain (call.Range a b n) h = (tt, (h.0, (h.1, (omega (arith, h.2), tt))))
+call_plain (call.Through a b n) h = (tt, (h.0, (h.1, (omega (arith, h.2), tt))))
 
 pub command_plain : (c : Command) → CommandFits c → ArePlain (command_words c)
 command_plain (command.New o) h = (tt, (h.0, (h.1, append_plain _ _ (append_plain _ _ (option_plain key.Limit o.limit h.2) (option_plain key.Version o.version h.3)) (option_plain key.Journal o.journal h.4))))
@@ -252,6 +254,7 @@ call_few (call.OrInsert k n) = omega arith
 call_few (call.Exchange k o n) = omega arith
 call_few (call.ExchangeDrop k o) = omega arith
 call_few (call.Range a b n) = omega arith
+call_few (call.Through a b n) = omega arith
 
 pub command_few : (c : Command) → length (command_words c) ≤ 9
 command_few (command.New o) = omega (

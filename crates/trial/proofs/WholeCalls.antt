@@ -13,7 +13,7 @@ use Rattle.congee.specs.declared.protocol.op.Op.TheVariants as asks
 use Rattle.congee.specs.declared.protocol.phase.Kind.{Kind}
 use Rattle.congee.specs.declared.protocol.phase.Kind.TheVariants.{Get, Insert, Remove, ComputePresent, ComputeInsert, Exchange}
 use Rattle.congee.specs.Keys.{IsMapOf}
-use Rattle.congee.specs.protocol.Play.{Flight, Pending, Decided, Over, Question, Unasked, Asked as Wants, Replied, begun, flight, heard as answered_last, resolved, Undecided, Heeds, Carries, Concludes}
+use Rattle.congee.specs.protocol.Play.{Flight, Pending, Decided, Over, Question, Unasked, Asked as Wants, Replied, begun, range_of, flight, heard as answered_last, resolved, Undecided, Heeds, Carries, Concludes}
 use Rattle.congee.specs.protocol.Protocol.{IsCall, Asking}
 use Rattle.joint.specs.declared.refusal.Refusal.{Refusal}
 use Rattle.joint.specs.declared.refusal.Refusal.TheVariants as refusal
@@ -28,7 +28,7 @@ use Rattle.joint.specs.Forest.{nodes}
 use Rattle.joint.specs.Intact.{root}
 use Rattle.joint.specs.Refusals.{of_tree}
 use Rattle.joint.specs.Reports.{target, told}
-use Rattle.joint.specs.Runs.{Flights, with_flight, Line, BeginsFlight, BeginsOr, BeginMap, EndsAtOnce, PendingStep, Advances, GoMap, AreInFlight}
+use Rattle.joint.specs.Runs.{Flights, with_flight, Line, BeginsFlight, BeginsOr, BeginMap, EndsEmpty, EndsAtOnce, PendingStep, Advances, GoMap, AreInFlight}
 use Rattle.joint.specs.Whole.{Holds}
 use Rattle.trial.specs.declared.caller.Caller.{Caller}
 use Rattle.trial.specs.declared.caller.Closure.{Closure}
@@ -270,15 +270,27 @@ course_ends laws w k kind given closure m p left s stands last s' ps fits d (end
 course_ends laws w k kind given closure m p left s stands last s' ps fits d (goes n s1 mid s2 st next told1 run step more) c a =
     course_ends laws w k kind given closure m p n mid next last s' ps fits d more (course_goes laws w k kind given closure m p s mid stands next fits d run c step) a
 
+-- a call on one key has no range
+no_range : (asked : Asked ℕ) (k : ℕ) (kind : Kind ℕ) (given : Option ℕ) → flight (begun root asked) ≡ Pending k kind given Unasked → range_of asked ≡ None
+no_range (asks.Get x) k kind given e = refl
+no_range (asks.Insert x v) k kind given e = refl
+no_range (asks.Remove x) k kind given e = refl
+no_range (asks.ComputePresent x) k kind given e = refl
+no_range (asks.ComputeInsert x) k kind given e = refl
+no_range (asks.Exchange x old new) k kind given e = refl
+no_range (asks.Range start end size) k kind given e = absurd (cc e)
+no_range (asks.RangeInclusive start last size) k kind given e = absurd (cc e)
+
 -- only a scan ends as it begins
 never_at_once : (asked : Asked ℕ) (k : ℕ) (kind : Kind ℕ) (given : Option ℕ) (fs : Flights ℕ) (m : Pairs ℕ) (d : Ending ℕ) (l : Line ℕ) (fs' : Flights ℕ) → flight (begun root asked) ≡ Pending k kind given Unasked → EndsAtOnce fs m asked d l fs' → ⊥
-never_at_once (asks.Get x) k kind given fs m d l fs' e y = y
-never_at_once (asks.Insert x v) k kind given fs m d l fs' e y = y
-never_at_once (asks.Remove x) k kind given fs m d l fs' e y = y
-never_at_once (asks.ComputePresent x) k kind given fs m d l fs' e y = y
-never_at_once (asks.ComputeInsert x) k kind given fs m d l fs' e y = y
-never_at_once (asks.Exchange x old new) k kind given fs m d l fs' e y = y
-never_at_once (asks.Range start end size) k kind given fs m d l fs' e y = cc e
+never_at_once asked k kind given fs m (done.Scanned count) l fs' e y =
+    let P : Option (ℕ × ℕ × ℕ) → Type 0 = λ o. EndsEmpty o count fs m l fs' in
+    subst P (no_range asked k kind given e) y
+never_at_once asked k kind given fs m done.Unit l fs' e y = y
+never_at_once asked k kind given fs m (done.Reply r) l fs' e y = y
+never_at_once asked k kind given fs m (done.Keys keys) l fs' e y = y
+never_at_once asked k kind given fs m (done.Empty b) l fs' e y = y
+never_at_once asked k kind given fs m (done.Stats stats) l fs' e y = y
 
 -- the first step of the call
 course_begins : MapLaws → (w k : ℕ) (kind : Kind ℕ) (given : Option ℕ) (closure : Option Closure) (m : Pairs ℕ) (p : Point ℕ) (op : Op ℕ) (asked : Asked ℕ) (s s' : Index) (first : Outcome ℕ)

@@ -38,6 +38,7 @@ call_words (call.OrInsert k n) = Key key.OrInsert ∷ Number k ∷ Number n ∷ 
 call_words (call.Exchange k old new) = Key key.Cas ∷ Number k ∷ Number old ∷ Number new ∷ []
 call_words (call.ExchangeDrop k old) = Key key.Cas ∷ Number k ∷ Number old ∷ Key key.Drop ∷ []
 call_words (call.Range a b n) = Key key.Range ∷ Number a ∷ Number b ∷ Number n ∷ []
+call_words (call.Through a b n) = Key key.Through ∷ Number a ∷ Number b ∷ Number n ∷ []
 call_words call.Keys = Key key.Keys ∷ []
 call_words call.Empty = Key key.Empty ∷ []
 call_words call.Stats = Key key.Stats ∷ []
@@ -72,7 +73,7 @@ IsCount n = (1 ≤ n) × (n ≤ 1000000)
 abbrev pub OpeningFits : Opening → Type 0
 OpeningFits o = IsNumber o.participants × IsNumber o.cells × IfSome o.limit IsNumber × IfSome o.version IsNumber × IfSome o.journal IsNumber
 
--- the numbers of a call are the script's, and a range asks for 10,000 pairs at most
+-- the numbers of a call are the script's, and a scan asks for 10,000 pairs at most
 abbrev pub CallFits : Call → Type 0
 CallFits (call.Get k) = IsNumber k
 CallFits (call.Remove k) = IsNumber k
@@ -83,6 +84,7 @@ CallFits (call.OrInsert k n) = IsNumber k × IsNumber n
 CallFits (call.Exchange k old new) = IsNumber k × IsNumber old × IsNumber new
 CallFits (call.ExchangeDrop k old) = IsNumber k × IsNumber old
 CallFits (call.Range a b n) = IsNumber a × IsNumber b × (n ≤ 10000)
+CallFits (call.Through a b n) = IsNumber a × IsNumber b × (n ≤ 10000)
 CallFits _ = ⊤
 
 -- the numbers of a command are within its bounds

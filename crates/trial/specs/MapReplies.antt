@@ -1,5 +1,5 @@
 -- What a script is replied to by a finite map alone.
-use Rattle.std.specs.Prelude.{◌≡◌, ℕ, ◌+◌, ◌%◌, ◌^◌, ⊤, Bool, true, false, is_some, nat_eq, List, [], ◌∷◌, ◌++◌, length, take, Option, None, Some, if◌then◌else◌}
+use Rattle.std.specs.Prelude.{◌≡◌, ℕ, suc, ◌+◌, ◌%◌, ◌^◌, ⊤, Bool, true, false, is_some, nat_eq, List, [], ◌∷◌, ◌++◌, length, take, Option, None, Some, if◌then◌else◌}
 use Rattle.std.specs.FinMap.{get, empty, entries}
 use Rattle.std.specs.List.{AllByRecursion, flat_map}
 use Rattle.std.specs.Option.{option_map}
@@ -54,6 +54,7 @@ is_nil (x ∷ xs) = false
 -- the reply of the map m to a call on one key, on a range of keys or on all, and the map after it
 abbrev pub call_reply : Pairs ℕ → Call → Option (Reply × Pairs ℕ)
 call_reply m (call.Range start end size) = Some (reply.Range (take size (in_range start end (entries m))), m)
+call_reply m (call.Through start last size) = Some (reply.Range (take size (in_range start (suc last) (entries m))), m)
 call_reply m call.Keys = Some (reply.Keys (keys_of m), m)
 call_reply m call.Empty = Some (reply.Empty (is_nil (entries m)), m)
 call_reply m c = option_map (λ p. as_reply (answer nat_eq m p)) (point_of m c)

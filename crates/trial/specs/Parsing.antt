@@ -38,6 +38,7 @@ pair_call_of _ k v = None
 abbrev pub triple_call_of : Keyword → ℕ → ℕ → ℕ → Option Call
 triple_call_of key.Cas k old new = Some (call.Exchange k old new)
 triple_call_of key.Range a b n = if nat_le n 10000 then Some (call.Range a b n) else None
+triple_call_of key.Through a b n = if nat_le n 10000 then Some (call.Through a b n) else None
 triple_call_of _ a b n = None
 
 -- the call that the words name

@@ -57,6 +57,7 @@ op_of (call.OrInsert k n) = op.ComputeInsert k
 op_of (call.Exchange k old new) = op.Exchange k old (Some new)
 op_of (call.ExchangeDrop k old) = op.Exchange k old None
 op_of (call.Range start end size) = op.Range start end size
+op_of (call.Through start last size) = op.RangeInclusive start last size
 op_of call.Keys = op.Keys
 op_of call.Empty = op.IsEmpty
 op_of call.Stats = op.Stats

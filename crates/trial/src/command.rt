@@ -36,6 +36,8 @@ pub enum Call {
     ExchangeDrop(u64, u64),
     /// The keys from the first up to the second, so many at most.
     Range(u64, u64, u64),
+    /// The keys from the first to the second, itself included, so many at most.
+    Through(u64, u64, u64),
     Keys,
     Empty,
     Stats,

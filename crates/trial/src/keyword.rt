@@ -25,6 +25,7 @@ pub enum Keyword {
     OrInsert,
     Cas,
     Range,
+    Through,
     Keys,
     Empty,
     Stats,
@@ -36,7 +37,7 @@ pub enum Keyword {
     Close,
 }
 
-const ALL: [Keyword; 29] = [
+const ALL: [Keyword; 30] = [
     Keyword::New,
     Keyword::Limit,
     Keyword::Version,
@@ -57,6 +58,7 @@ const ALL: [Keyword; 29] = [
     Keyword::OrInsert,
     Keyword::Cas,
     Keyword::Range,
+    Keyword::Through,
     Keyword::Keys,
     Keyword::Empty,
     Keyword::Stats,
@@ -94,6 +96,7 @@ impl Keyword {
             Keyword::OrInsert => b"orinsert",
             Keyword::Cas => b"cas",
             Keyword::Range => b"range",
+            Keyword::Through => b"through",
             Keyword::Keys => b"keys",
             Keyword::Empty => b"empty",
             Keyword::Stats => b"stats",

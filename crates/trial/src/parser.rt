@@ -7,7 +7,7 @@ use crate::command::{Call, Command, Opening};
 use crate::keyword::Keyword;
 use crate::word::Word;
 
-/// The most pairs that a range may ask for.
+/// The most pairs that a scan may ask for.
 const PAIRS_MAX: u64 = 10_000;
 
 /// The most steps or rounds that a line may ask for.
@@ -59,6 +59,7 @@ fn triple_call(key: Keyword, a: u64, b: u64, c: u64) -> Option<Call>
     match key {
         Keyword::Cas => Some(Call::Exchange(a, b, c)),
         Keyword::Range if c <= PAIRS_MAX => Some(Call::Range(a, b, c)),
+        Keyword::Through if c <= PAIRS_MAX => Some(Call::Through(a, b, c)),
         _ => None,
     }
 }

@@ -37,6 +37,7 @@ fn op(call: Call) -> Op<u64>
         Call::Exchange(key, old, new) => Op::Exchange(key, old, Some(new)),
         Call::ExchangeDrop(key, old) => Op::Exchange(key, old, None),
         Call::Range(start, end, size) => Op::Range(start, end, size as usize),
+        Call::Through(start, last, size) => Op::RangeInclusive(start, last, size as usize),
         Call::Keys => Op::Keys,
         Call::Empty => Op::IsEmpty,
         Call::Stats => Op::Stats,

@@ -41,6 +41,7 @@ pub mod SweepWants
 pub mod SweepRely
 pub mod SweepNames
 pub mod SweepFlights
+pub mod SweepRanges
 pub mod Seats
 pub mod RegionBytes
 pub mod Bounds

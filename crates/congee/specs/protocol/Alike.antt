@@ -163,7 +163,7 @@ module _ {C : Type 0} (order : List ℕ) (number : C → ℕ) where
 
       pub record ScanAlike (s : Scan C V) (t : Scan ℕ V) : Type 0 where
         pub start : t.start ≡ s.start
-        pub end : t.end ≡ s.end
+        pub last : t.last ≡ s.last
         pub size : t.size ≡ s.size
         pub count : t.count ≡ s.count
         pub len : t.above.len ≡ s.above.len

@@ -229,6 +229,7 @@ module _ {V : Type 0} where
 -- and a whole call after its begin: on one key, or a scan
 abbrev pub steps_whole : {V : Type 0} → (ℕ → Node V) → Op V → ℕ
 steps_whole h (op.Range start end size) = 5 * tree_nodes h + 2 * tree_pairs h
+steps_whole h (op.RangeInclusive start last size) = 5 * tree_nodes h + 2 * tree_pairs h
 steps_whole h _ = 40
 
 -- what a step of a call taken alone leaves: the call is undisturbed, and nearer to its end

@@ -167,7 +167,7 @@ followed h s r least.Uncopied = over s (told.Refused refusal.Count)
 abbrev pub swung : {V : Type 0} → ℕ → Option (Seen Mark V) → (ℕ → Node V) → Scan ℕ V → Stage ℕ V → Swung ℕ V
 swung root seen h s stage.New = begins root s (version_of (h root))
 swung root seen h s (stage.Enter n x) = entered root s n x (version_of (h n))
-swung root seen h s (stage.Look r) = goes s s.above (stage.Check r (least_of (h r.at.node) r.at.version r.from (last_byte s.end r.region) seen))
+swung root seen h s (stage.Look r) = goes s s.above (stage.Check r (least_of (h r.at.node) r.at.version r.from (last_byte s.last r.region) seen))
 swung root seen h s (stage.Check r x) = cond (is_taken (h r.at.node) r.at.version) (followed h s r x) (anew root s)
 swung root seen h s stage.Full = over s (told.Done s.count)
 swung root seen h s stage.Over = over s told.Running

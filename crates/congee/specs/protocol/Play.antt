@@ -1,5 +1,5 @@
 -- What any number of calls do, stepped in any order: each is watched from its begin to its end, beside the map.
-use Rattle.std.specs.Prelude.{set, ◌≡◌, ℕ, ◌<◌, ◌≤◌, ◌^◌, ◌⊎◌, Bool, true, false, List, [], ◌∷◌, length, take, map, Option, None, Some, slice_get}
+use Rattle.std.specs.Prelude.{set, ◌≡◌, ℕ, suc, ◌-◌, ltb, leb, cond, ◌<◌, ◌≤◌, ◌^◌, ◌⊎◌, Bool, true, false, List, [], ◌∷◌, length, take, map, Option, None, Some, slice_get}
 use Rattle.std.specs.FinMap.{get, empty}
 use Rattle.judge.specs.declared.journal.Call.{Call}
 use Rattle.judge.specs.declared.journal.Reply.{Reply}
@@ -21,7 +21,7 @@ use Rattle.congee.specs.declared.protocol.sweep.Sweep.{Sweep as Scan}
 use Rattle.congee.specs.declared.protocol.sweep.Stage.TheVariants as stage
 use Rattle.congee.specs.protocol.Sweeps.{IsScan, written}
 use Rattle.congee.specs.protocol.SweepSteps.{new_sweep}
-use Rattle.congee.specs.protocol.SweepKnown.{Tracks}
+use Rattle.congee.specs.protocol.SweepKnown.{HasRange, Tracks}
 use Rattle.congee.specs.protocol.Steps.{Stepped}
 use Rattle.congee.specs.Keys.{IsMapOf}
 use Rattle.congee.specs.Ledger.{Note, Tree, LockWords}
@@ -45,20 +45,28 @@ parts (op.ComputePresent k) = (k, ComputePresent, None)
 parts (op.ComputeInsert k) = (k, ComputeInsert, None)
 parts (op.Exchange k old new) = (k, Exchange old, new)
 parts (op.Range start end size) = (start, Get, None)
+parts (op.RangeInclusive start last size) = (start, Get, None)
 
--- its first step
+-- the range of a scan, from its first key to before its end, and the number of its places
+abbrev pub range_of : {V : Type 0} → Op V → Option (ℕ × ℕ × ℕ)
+range_of (op.Range start end size) = Some (start, end, size)
+range_of (op.RangeInclusive start last size) = Some (start, suc last, size)
+range_of _ = None
+
+-- its first step; a scan is one to the greatest key of its range, and has no place where its range has no key
 abbrev pub first_phase : {C V : Type 0} → C → Op V → Phase C V
-first_phase root (op.Range start end size) = Sweep (new_sweep root start end size)
+first_phase root (op.Range start end size) = Sweep (new_sweep root start (end - 1) (cond (ltb start end) size 0))
+first_phase root (op.RangeInclusive start last size) = Sweep (new_sweep root start last (cond (leb start last) size 0))
 first_phase root _ = New
 
 -- the machine of a call that has not begun
 abbrev pub begun : {C V : Type 0} → C → Op V → Machine C V
 begun root o = record { root = root; key = (parts o).0; kind = (parts o).1; given = (parts o).2; phase = first_phase root o }
 
--- a call that has not begun, on a key of 64 bits
+-- a call that has not begun; a scan's range is one of keys of 64 bits
 abbrev pub IsBegin : {C V : Type 0} → Kind V → Option V → Phase C V → Type 0
 IsBegin kind given New = HasGift kind given
-IsBegin kind given (Sweep s) = (s.stage ≡ stage.New) × (s.end < 2 ^ 64)
+IsBegin kind given (Sweep s) = (s.stage ≡ stage.New) × HasRange s
 IsBegin kind given _ = ⊥
 
 pub record IsNew {C V : Type 0} (m : Machine C V) : Type 0 where
@@ -193,7 +201,7 @@ flight_in k kind v (Obsolete n p r) = Decided r
 flight_in k kind v (Retire n p r) = Decided r
 flight_in k kind v (UnlockBelow n p r) = Decided r
 flight_in k kind v (Unlock n r) = Decided r
-flight_in k kind v (Sweep s) = Unbegun s.start s.end s.size
+flight_in k kind v (Sweep s) = Unbegun s.start (suc s.last) s.size
 flight_in k kind v Ended = Over
 flight_in k kind v _ = Pending k kind v Unasked
 
@@ -202,8 +210,8 @@ flight m = flight_in m.key m.kind m.given m.phase
 
 -- how a scan is watched, by what it has settled
 abbrev pub ScanFollows : {C V : Type 0} → Scan C V → Flight V → Type 0
-ScanFollows {C} {V} s f = ((f ≡ Unbegun s.start s.end s.size) × (s.stage ≡ stage.New)) ⊎ (((f ≡ Over) × (s.stage ≡ stage.Over))
-    ⊎ ((states : List (Pairs V)) × (places : List (ℕ × V)) × (f ≡ Scanning s.start s.end s.size states places) × Tracks s states places))
+ScanFollows {C} {V} s f = ((f ≡ Unbegun s.start (suc s.last) s.size) × (s.stage ≡ stage.New)) ⊎ (((f ≡ Over) × (s.stage ≡ stage.Over))
+    ⊎ ((states : List (Pairs V)) × (places : List (ℕ × V)) × (f ≡ Scanning s.start (suc s.last) s.size states places) × Tracks s states places))
 
 abbrev pub IsOfPoint : {V : Type 0} → Flight V → Type 0
 IsOfPoint (Pending k kind v q) = Unit {0}
@@ -211,6 +219,19 @@ IsOfPoint (Decided r) = Unit {0}
 IsOfPoint Over = Unit {0}
 IsOfPoint (Unbegun start end size) = ⊥
 IsOfPoint (Scanning start end size states places) = ⊥
+
+-- a scan before its begin, which promises what one of this range does
+pub record IsScanOf {V : Type 0} (start end size : ℕ) (f : Flight V) : Type 0 where
+  pub from : ℕ
+  pub to : ℕ
+  pub places : ℕ
+  pub unbegun : f ≡ Unbegun from to places
+  pub promises : (states : List (Pairs V)) (found : List (ℕ × V)) → IsScan from to places states found → IsScan start end size states found
+
+-- a call that has not begun is a scan of this range, or is no scan
+abbrev pub IsOfRange : {V : Type 0} → Option (ℕ × ℕ × ℕ) → Flight V → Type 0
+IsOfRange None f = IsOfPoint f
+IsOfRange (Some (start, end, size)) f = IsScanOf start end size f
 
 abbrev pub Follows : {C V : Type 0} → Machine C V → Flight V → Type 0
 Follows {C} {V} m f = (IsOfPoint f × (f ≡ flight m)) ⊎ ((s : Scan C V) × (m.phase ≡ Sweep s) × ScanFollows s f)

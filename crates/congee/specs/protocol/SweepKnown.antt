@@ -18,33 +18,38 @@ use Rattle.congee.specs.protocol.SweepEvents.{IsAny, LeastTruly}
 use Rattle.congee.specs.protocol.SweepSteps.{rungs_of, last_byte}
 use Rattle.congee.specs.declared.keys.TheConstants.{KEY_BYTES}
 
--- a node on the way, with so many above it: its keys are those of the region, and the first comes before the range's end
-pub record RungKnown {C V : Type 0} (number : C → ℕ) (a : ℕ → Note) (h : ℕ → Node V) (end above : ℕ) (r : Rung C) : Type 0 where
+-- a node on the way, with so many above it: its keys are those of the region, and the first is at most the range's last
+pub record RungKnown {C V : Type 0} (number : C → ℕ) (a : ℕ → Note) (h : ℕ → Node V) (last above : ℕ) (r : Rung C) : Type 0 where
   pub seated : Seated a h (number r.at.node) r.at.version
   pub region : IsRegion (h (number r.at.node)).prefix r.region.base r.region.depth
   pub deep : above ≤ r.region.depth
-  pub within : r.region.base < end
+  pub within : r.region.base ≤ last
   pub bound : r.from ≤ 256
 
 abbrev pub RungsKnown : {C V : Type 0} → (C → ℕ) → (ℕ → Note) → (ℕ → Node V) → ℕ → ℕ → List (Rung C) → Type 0
-RungsKnown number a h end above [] = Unit {0}
-RungsKnown number a h end above (r ∷ rest) = RungKnown number a h end above r × RungsKnown number a h end (suc above) rest
+RungsKnown number a h last above [] = Unit {0}
+RungsKnown number a h last above (r ∷ rest) = RungKnown number a h last above r × RungsKnown number a h last (suc above) rest
+
+-- a scan's range ends with a key, and has one where there is a place
+pub record HasRange {C V : Type 0} (s : Sweep C V) : Type 0 where
+  pub bound : s.last < 2 ^ 64
+  pub range : 0 < s.size → s.start ≤ s.last
 
 -- the way of a scan, with a place for what it finds next
 pub record WayKnown {C V : Type 0} (number : C → ℕ) (a : ℕ → Note) (h : ℕ → Node V) (s : Sweep C V) : Type 0 where
-  pub range : s.start < s.end
-  pub bound : s.end < 2 ^ 64
+  pub range : s.start ≤ s.last
+  pub bound : s.last < 2 ^ 64
   pub room : s.count < s.size
   pub fits : s.above.len ≤ KEY_BYTES
-  pub rungs : RungsKnown number a h s.end 0 (rungs_of s.above)
+  pub rungs : RungsKnown number a h s.last 0 (rungs_of s.above)
 
 -- what the scan knows before each step
 abbrev pub SweepKnownAt : {C V : Type 0} → (C → ℕ) → Bool → (ℕ → Note) → (ℕ → Node V) → Sweep C V → Stage C V → Type 0
-SweepKnownAt number always a h s stage.New = s.end < 2 ^ 64
+SweepKnownAt number always a h s stage.New = HasRange s
 SweepKnownAt number always a h s (stage.Enter n x) = WayKnown number a h s × (is_published (a (number n)).status ≡ true) × IsRegion (h (number n)).prefix x.base x.depth × (s.above.len ≤ x.depth)
-SweepKnownAt number always a h s (stage.Look r) = WayKnown number a h s × RungKnown number a h s.end s.above.len r
-SweepKnownAt number always a h s (stage.Check r x) = WayKnown number a h s × RungKnown number a h s.end s.above.len r × IsAny always x
-    × Fresh a h (number r.at.node) r.at.version (λ n. LeastTruly number n r.from (last_byte s.end r.region) x)
+SweepKnownAt number always a h s (stage.Look r) = WayKnown number a h s × RungKnown number a h s.last s.above.len r
+SweepKnownAt number always a h s (stage.Check r x) = WayKnown number a h s × RungKnown number a h s.last s.above.len r × IsAny always x
+    × Fresh a h (number r.at.node) r.at.version (λ n. LeastTruly number n r.from (last_byte s.last r.region) x)
 SweepKnownAt number always a h s stage.Full = Unit {0}
 SweepKnownAt number always a h s stage.Over = Unit {0}
 
@@ -93,8 +98,8 @@ IsWay start end states (r ∷ rest) x = (end ≤ end_of r.region) × LeadsOn sta
 -- a scan at a region, with the keys below a number settled by what it found
 pub record Under {C V : Type 0} (s : Sweep C V) (states : List (FinMap nat_cmp V)) (places : List (ℕ × V)) (x : Region) (upto : ℕ) : Type 0 where
   pub counted : s.count ≤ length places
-  pub way : IsWay s.start s.end states (rungs_of s.above) x
-  pub swept : Swept s.start s.end s.size upto states (take s.count places)
+  pub way : IsWay s.start (suc s.last) states (rungs_of s.above) x
+  pub swept : Swept s.start (suc s.last) s.size upto states (take s.count places)
 
 pub record Aimed {C V : Type 0} (s : Sweep C V) (states : List (FinMap nat_cmp V)) (places : List (ℕ × V)) (r : Rung C) : Type 0 where
   pub under : Under s states places r.region (start_of r)
@@ -104,7 +109,7 @@ pub record IsFull {C V : Type 0} (s : Sweep C V) (states : List (FinMap nat_cmp 
   pub counted : s.count ≤ length places
   pub all : s.count ≡ s.size
   pub upto : ℕ
-  pub swept : Swept s.start s.end s.size upto states (take s.count places)
+  pub swept : Swept s.start (suc s.last) s.size upto states (take s.count places)
 
 -- what the scan has settled before each step, by the maps that stood at its own steps so far, and what its caller has of
 -- the places
@@ -130,11 +135,11 @@ placed places (told.Refused e) = places
 abbrev pub Tells : {C V : Type 0} → Sweep C V → List (FinMap nat_cmp V) → List (ℕ × V) → Stage C V → Told V → Type 0
 Tells s states places x told.Running = Unit {0}
 Tells s states places x (told.Found place k v) = place ≤ length places
-Tells s states places x (told.Done count) = (count ≤ length places) × IsScan s.start s.end s.size states (take count places) × (x ≡ stage.Over)
+Tells s states places x (told.Done count) = (count ≤ length places) × IsScan s.start (suc s.last) s.size states (take count places) × (x ≡ stage.Over)
 Tells s states places x (told.Refused e) = x ≡ stage.Over
 
 -- the same range and places
 pub record SameCall {C V : Type 0} (s s' : Sweep C V) : Type 0 where
   pub start_is : s'.start ≡ s.start
-  pub end_is : s'.end ≡ s.end
+  pub last_is : s'.last ≡ s.last
   pub size_is : s'.size ≡ s.size

@@ -26,14 +26,14 @@ whole = record { base = 0; depth = 0 }
 
 -- no key of the range begins with the prefix
 abbrev pub is_outside : ℕ → ℕ → Region → Bool
-is_outside start end x = cond (ltb x.base end) (cond (ltb x.base start) (ltb 255 ((start - x.base) / width x.depth)) false) true
+is_outside start last x = cond (ltb last x.base) true (cond (ltb x.base start) (ltb 255 ((start - x.base) / width x.depth)) false)
 
 -- the least byte, and the greatest, that a key of the range has after the prefix
 abbrev pub first_byte : ℕ → Region → ℕ
 first_byte start x = cond (ltb x.base start) (cond (ltb 255 ((start - x.base) / width x.depth)) 255 ((start - x.base) / width x.depth)) 0
 
 abbrev pub last_byte : ℕ → Region → ℕ
-last_byte end x = cond (ltb 255 ((end - 1 - x.base) / width x.depth)) 255 ((end - 1 - x.base) / width x.depth)
+last_byte last x = cond (ltb 255 ((last - x.base) / width x.depth)) 255 ((last - x.base) / width x.depth)
 
 -- the places of the nodes above
 abbrev pub slots : {C : Type 0} → Path C → List (Rung C)
@@ -63,16 +63,16 @@ moved r byte = record { at = r.at; region = r.region; from = byte + 1 }
 
 -- a scan with so many places filled, on this way, before this step
 abbrev pub sweep_at : {C V : Type 0} → Sweep C V → ℕ → Path C → Stage C V → Sweep C V
-sweep_at s count above x = record { start = s.start; end = s.end; size = s.size; count = count; above = above; stage = x }
+sweep_at s count above x = record { start = s.start; last = s.last; size = s.size; count = count; above = above; stage = x }
 
 abbrev pub root_rung : {C : Type 0} → C → Rung C
 root_rung root = record { at = record { node = root; version = 0 }; region = whole; from = 0 }
 
--- a scan before its begin; no place above is taken
+-- a scan of start <= k <= last before its begin; no place above is taken
 abbrev pub new_sweep : {C V : Type 0} → C → ℕ → ℕ → ℕ → Sweep C V
-new_sweep root start end size = record {
+new_sweep root start last size = record {
   start = start;
-  end = end;
+  last = last;
   size = size;
   count = 0;
   above = record { first = root_rung root; second = root_rung root; third = root_rung root; fourth = root_rung root; fifth = root_rung root; sixth = root_rung root; seventh = root_rung root; eighth = root_rung root; len = 0 };
@@ -102,7 +102,7 @@ left s = left_to s (last_of s.above)
 
 abbrev pub entered : {C V : Type 0} → C → Sweep C V → C → Region → Option ℕ → Swung C V
 entered root s n x None = anew root s
-entered root s n x (Some v) = cond (is_outside s.start s.end x) (left s)
+entered root s n x (Some v) = cond (is_outside s.start s.last x) (left s)
     (goes s s.above (stage.Look (record { at = record { node = n; version = v }; region = x; from = first_byte s.start x })))
 
 abbrev pub filled : {C V : Type 0} → Sweep C V → Rung C → ℕ → V → Swung C V
@@ -122,15 +122,15 @@ pub record IsFollowedIf {C V : Type 0} (taken : Bool) (number : C → ℕ) (h : 
   pub goes_on : taken ≡ true → IsFollowed number h s r x u
   pub goes_back : taken ≡ false → u ≡ anew root s
 
--- the root is entered; in an empty range, or without a place, the scan is over
+-- the root is entered; without a place the scan is over
 abbrev pub begins : {C V : Type 0} → C → Sweep C V → Option ℕ → Swung C V
-begins root s o = cond (ltb s.start s.end) (cond (s.size == 0) (over s (told.Done 0)) (entered root (anew root s).0 root whole o)) (over s (told.Done 0))
+begins root s o = cond (s.size == 0) (over s (told.Done 0)) (entered root (anew root s).0 root whole o)
 
 -- the step of a scan
 abbrev pub SweptAt : {C V : Type 0} → (C → ℕ) → Bool → C → Sweep C V → Stage C V → (ℕ → Node V) → Swung C V → Type 0
 SweptAt number always root s stage.New h u = u ≡ begins root s (version_of (h (number root)))
 SweptAt number always root s (stage.Enter n x) h u = u ≡ entered root s n x (version_of (h (number n)))
-SweptAt {C} {V} number always root s (stage.Look r) h u = (x : Least C V) × LeastGives number always (h (number r.at.node)) r.at.version r.from (last_byte s.end r.region) x × (u ≡ goes s s.above (stage.Check r x))
+SweptAt {C} {V} number always root s (stage.Look r) h u = (x : Least C V) × LeastGives number always (h (number r.at.node)) r.at.version r.from (last_byte s.last r.region) x × (u ≡ goes s s.above (stage.Check r x))
 SweptAt number always root s (stage.Check r x) h u = IsFollowedIf (is_taken (h (number r.at.node)) r.at.version) number h root s r x u
 SweptAt number always root s stage.Full h u = u ≡ over s (told.Done s.count)
 SweptAt number always root s stage.Over h u = u ≡ over s told.Running
@@ -148,7 +148,7 @@ MayFollow number h r least.Uncopied = Unit {0}
 abbrev pub MaySweepAt : {C V : Type 0} → (C → ℕ) → C → Sweep C V → Stage C V → (ℕ → Node V) → Type 0
 MaySweepAt number root s stage.New h = Stands (h (number root))
 MaySweepAt number root s (stage.Enter n x) h = Stands (h (number n)) × (x.depth ≤ MAX_PREFIX_LEN) × (s.above.len ≤ KEY_BYTES)
-MaySweepAt number root s (stage.Look r) h = Stands (h (number r.at.node)) × (r.region.depth ≤ MAX_PREFIX_LEN) × (r.region.base < s.end)
+MaySweepAt number root s (stage.Look r) h = Stands (h (number r.at.node)) × (r.region.depth ≤ MAX_PREFIX_LEN) × (r.region.base ≤ s.last)
 MaySweepAt number root s (stage.Check r x) h = Stands (h (number r.at.node)) × (s.above.len < KEY_BYTES) × (s.count < s.size) × (is_taken (h (number r.at.node)) r.at.version ≡ true → MayFollow number h r x)
 MaySweepAt number root s stage.Full h = Unit {0}
 MaySweepAt number root s stage.Over h = Unit {0}

@@ -78,6 +78,7 @@ AllGoOn (t ∷ ts) = (goes_on t.move.outcome ≡ true) × AllGoOn ts
 -- within how many steps a call ends that is taken alone: by the nodes and the pairs of the tree for a scan
 abbrev pub steps_alone : {V : Type 0} → (ℕ → Node V) → Op V → ℕ
 steps_alone h (op.Range start end size) = 5 * tree_nodes h + 2 * tree_pairs h + 2
+steps_alone h (op.RangeInclusive start last size) = 5 * tree_nodes h + 2 * tree_pairs h + 2
 steps_alone h _ = 60
 
 -- where a call has not begun, no other call holds a lock, and the next n steps are the call's, so many don't leave it in

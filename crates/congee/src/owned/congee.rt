@@ -320,6 +320,20 @@ impl<K: Word64, V: Word64, A: Allocator, D: Drop> Congee<K, V, A, D> {
         self.arena.range(start, end, out)
     }
 
+    /// Writes the pairs with start <= key <= last into `out`, ascending, as many as fit, each key as its eight bytes.
+    pub(crate) fn range_to_by_bytes(
+        &self,
+        start: u64,
+        last: u64,
+        out: &mut [([u8; KEY_BYTES], u64)],
+    ) -> usize
+        ensures pairs { take result out.new ≡ by_bytes (take (length out.old) (in_range start (last + 1) (map.entries self.now.pairs))) }
+        ensures count { result ≡ length (take (length out.old) (in_range start (last + 1) (map.entries self.now.pairs))) }
+        ensures past { drop result out.new ≡ drop result out.old }
+    {
+        self.arena.range_to(start, last, out)
+    }
+
     /// Writes the pairs with start <= key < end into `out`, ascending, as many as fit, and gives their number.
     /// The places past them stay as they were.
     #[tactic(auto, using(crate::proofs::lemmas::owned::EntryRanges::same_entries))]
@@ -329,6 +343,17 @@ impl<K: Word64, V: Word64, A: Allocator, D: Drop> Congee<K, V, A, D> {
         ensures past { drop result out.new ≡ drop result out.old }
     {
         self.arena.range(start.to_word(), end.to_word(), out)
+    }
+
+    /// Writes the pairs with start <= key <= last into `out`, ascending, as many as fit, and gives their number. The places
+    /// past them stay as they were.
+    #[tactic(auto, using(crate::proofs::lemmas::owned::EntryRanges::same_entries))]
+    pub fn range_inclusive(&self, start: &K, last: &K, out: &mut [(u64, u64)]) -> usize
+        ensures pairs { take result out.new ≡ take (length out.old) (in_range (K.word start.now) (K.word last.now + 1) (map.entries self.now.pairs)) }
+        ensures count { result ≡ length (take (length out.old) (in_range (K.word start.now) (K.word last.now + 1) (map.entries self.now.pairs))) }
+        ensures past { drop result out.new ≡ drop result out.old }
+    {
+        self.arena.range_to(start.to_word(), last.to_word(), out)
     }
 
     /// Each leaf of the tree has a value.

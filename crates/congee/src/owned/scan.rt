@@ -192,11 +192,25 @@ impl<A: Allocator> Arena<u64, A> {
         ensures count { result ≡ length (take (length out.old) (in_range start end (map.entries (pairs_of self.now.nodes)))) }
         ensures past { drop result out.new ≡ drop result out.old }
     {
+        match end.checked_sub(1) {
+            Some(last) => self.range_to(start, last, out),
+            None => 0,
+        }
+    }
+
+    /// Writes the pairs with start <= key <= last, ascending, as many as fit, and gives their number.
+    #[inline(always)]
+    pub(crate) fn range_to<E: Listed>(&self, start: u64, last: u64, out: &mut [E]) -> usize
+        requires { IsTree self.now.nodes }
+        ensures pairs { take result out.new ≡ entries_by E.entry (take (length out.old) (in_range start (last + 1) (map.entries (pairs_of self.now.nodes)))) }
+        ensures count { result ≡ length (take (length out.old) (in_range start (last + 1) (map.entries (pairs_of self.now.nodes)))) }
+        ensures past { drop result out.new ≡ drop result out.old }
+    {
         let mut cursor = self.seek(start);
         let mut count = 0;
         while count < out.len() {
             match self.next_along(&mut cursor) {
-                Some((key, value)) if key < end => {
+                Some((key, value)) if key <= last => {
                     out[count] = E::of(key, *value);
                     count += 1;
                 }

@@ -205,6 +205,21 @@ impl<V: Word64, A: Allocator> U64Congee<V, A> {
         self.tree.range_by_bytes(start, end, out)
     }
 
+    /// Writes the pairs with start <= key <= last into `out`, ascending, as many as fit, each key as its eight bytes, the
+    /// highest first. Gives their number. The places past them stay as they were.
+    pub fn range_inclusive(
+        &self,
+        start: u64,
+        last: u64,
+        out: &mut [([u8; KEY_BYTES], u64)],
+    ) -> usize
+        ensures pairs { take result out.new ≡ by_bytes (take (length out.old) (in_range start (last + 1) (map.entries self.now.tree.pairs))) }
+        ensures count { result ≡ length (take (length out.old) (in_range start (last + 1) (map.entries self.now.tree.pairs))) }
+        ensures past { drop result out.new ≡ drop result out.old }
+    {
+        self.tree.range_to_by_bytes(start, last, out)
+    }
+
     /// Drops the pairs and the nodes. Gives the allocator back with the charge with which it came in.
     pub fn close(self) -> A
         ensures charged { A.charged_of result + self.tree.bytes ≡ A.charged_of self.tree.allocator }

@@ -3,7 +3,7 @@ ghost use Rattle.std.specs.Prelude.{◌≡◌, ◌≢◌, ℕ, ◌+◌, ◌<◌,
 ghost use Rattle.congee.specs.Heap.{Node, Nothing, Below, Stands, is_taken, version_of};
 ghost use Rattle.congee.specs.protocol.Answers.{KeepsProtocol};
 ghost use Rattle.congee.specs.protocol.Names.{KeepsOrigin};
-ghost use Rattle.congee.specs.protocol.Play.{begun, IsNew, Begins};
+ghost use Rattle.congee.specs.protocol.Play.{begun, flight, range_of, IsNew, IsOfRange, Begins};
 ghost use Rattle.congee.specs.protocol.Opening.{RootAlone};
 ghost use Rattle.congee.specs.Keys.{key_bytes};
 ghost use Rattle.congee.specs.protocol.Steps.{quiet, answered, form_above, refused, decided, after_change, after_miss, IsIf, IsChecked, IsAtOld, Acts, IsReleasing, IsGiven, IsGivenNew, BackOne, BackTwo, BackLeaf, MadeLeaf, MadeGreater, MadeTop, MadeBeside, UpgradedOne, UpgradedAbove, UpgradedBelow, ChangedOne, ChangedTwo, IsCheckedAbove, MayStep, MayBackOne, MayBackTwo, MayBackLeaf, MayChangeOne, MayChangeTwo, Changeable, Blank, PutsGreater, PutsFork, PhaseStepped, Stepped};
@@ -82,6 +82,7 @@ impl<C: NodeName, P: Payload> Machine<C, P> {
     pub fn new(root: C, op: Op<P>) -> Self
         ensures call { result ≡ begun root op }
         ensures new { IsNew result }
+        ensures scan { IsOfRange (range_of op) (flight result) }
         ensures begins { (h : ℕ → Node P) → RootAlone h → C.number root ≡ 0 → Begins C.number h (result ∷ []) }
         ensures joins { (h : ℕ → Node P) (ms : List (Machine C P)) → Begins C.number h ms → C.number root ≡ 0 → Begins C.number h (ms ++ result ∷ []) }
     {

@@ -1,5 +1,5 @@
-//! The calls on one key, as they begin.
-ghost use Rattle.std.specs.Prelude.{◌≡◌, ◌<◌, ◌^◌, Option};
+//! The calls on one key and the scans, as they begin.
+ghost use Rattle.std.specs.Prelude.{◌≡◌, ◌<◌, ◌^◌, cond, Option};
 ghost use Rattle.congee.specs.declared.protocol.phase.Kind.{Kind};
 ghost use Rattle.congee.specs.protocol.Protocol.{HasGift};
 ghost use Rattle.congee.specs.protocol.Play.{parts, first_phase, IsBegin};
@@ -8,7 +8,7 @@ use crate::protocol::phase::{Kind, Phase};
 use crate::protocol::store::NodeName;
 use crate::protocol::sweep::Sweep;
 
-/// A call on one key, before its closure has answered anything.
+/// A call on one key or a scan, before its closure has answered anything.
 #[derive(Drop)]
 pub enum Op<P> {
     /// Looks the key up.
@@ -25,6 +25,8 @@ pub enum Op<P> {
     Exchange(u64, P, Option<P>),
     /// Finds the pairs of the keys from the first number to before the second, ascending, for so many places at most.
     Range(u64, u64, usize),
+    /// Finds those of the keys from the first number to the second, itself included.
+    RangeInclusive(u64, u64, usize),
 }
 
 impl<P> Op<P> {
@@ -35,7 +37,15 @@ impl<P> Op<P> {
     {
         match self {
             Op::Range(start, end, size) => Phase::Sweep {
-                sweep: Sweep::new(root, *start, *end, *size),
+                sweep: Sweep::new(
+                    root,
+                    *start,
+                    end.saturating_sub(1),
+                    places_where(*start < *end, *size),
+                ),
+            },
+            Op::RangeInclusive(start, last, size) => Phase::Sweep {
+                sweep: Sweep::new(root, *start, *last, places_where(*start <= *last, *size)),
             },
             Op::Get(_) => Phase::New,
             Op::Insert(_, _) => Phase::New,
@@ -60,6 +70,14 @@ impl<P> Op<P> {
             Op::ComputeInsert(key) => (key, Kind::ComputeInsert, None),
             Op::Exchange(key, old, new) => (key, Kind::Exchange { old }, new),
             Op::Range(start, _, _) => (start, Kind::Get, None),
+            Op::RangeInclusive(start, _, _) => (start, Kind::Get, None),
         }
     }
+}
+
+/// How many places a scan looks for pairs to fill: none where its range has no key.
+fn places_where(has_key: bool, size: usize) -> usize
+    ensures { result ≡ cond has_key size 0 }
+{
+    if has_key { size } else { 0 }
 }

@@ -1,5 +1,5 @@
 //! A scan of a tree that others change meanwhile, as a machine that takes one step at a time.
-ghost use Rattle.std.specs.Prelude.{◌≡◌, ◌+◌, ◌*◌, ◌-◌, ◌<◌, ◌≤◌, ◌==◌, length, true, false, cond};
+ghost use Rattle.std.specs.Prelude.{◌≡◌, ◌+◌, ◌*◌, ◌-◌, ◌<◌, ◌≤◌, ◌==◌, length, true, cond};
 ghost use Rattle.congee.specs.Heap.{Stands, is_taken, version_of};
 ghost use Rattle.congee.specs.protocol.Regions.{IsRegion};
 ghost use Rattle.congee.specs.declared.protocol.sweep.Stage.TheVariants as stage;
@@ -75,13 +75,14 @@ pub enum Told<P> {
     Refused(Refusal),
 }
 
-/// A scan of the keys from `start` to before `end`, into so many places at most.
+/// A scan of the keys from `start` to `last`, into so many places at most. One that has no place can have any two numbers
+/// for its range.
 #[derive(Drop)]
 pub struct Sweep<C: NodeName, P> {
     /// The least key.
     pub start: u64,
-    /// The first key past the range.
-    pub end: u64,
+    /// The greatest key of the range.
+    pub last: u64,
     /// How many places there are.
     pub size: usize,
     /// How many of them are filled.
@@ -124,18 +125,16 @@ impl Region {
     }
 
     /// Whether no key of the range is among them.
-    fn is_outside(self, start: u64, end: u64) -> bool
+    fn is_outside(self, start: u64, last: u64) -> bool
         requires { self.depth ≤ MAX_PREFIX_LEN }
-        ensures { result ≡ is_outside start end self }
+        ensures { result ≡ is_outside start last self }
     {
-        if self.base < end {
-            if self.base < start {
-                (start - self.base) >> self.shift() > 255
-            } else {
-                false
-            }
-        } else {
+        if last < self.base {
             true
+        } else if self.base < start {
+            (start - self.base) >> self.shift() > 255
+        } else {
+            false
         }
     }
 
@@ -153,12 +152,12 @@ impl Region {
     }
 
     /// The greatest one.
-    fn last_byte(self, end: u64) -> u8
+    fn last_byte(self, last: u64) -> u8
         requires depth { self.depth ≤ MAX_PREFIX_LEN }
-        requires within { self.base < end }
-        ensures { result ≡ last_byte end self }
+        requires within { self.base ≤ last }
+        ensures { result ≡ last_byte last self }
     {
-        let byte = (end - 1 - self.base) >> self.shift();
+        let byte = (last - self.base) >> self.shift();
         if byte > 255 { 255 } else { byte as u8 }
     }
 }
@@ -215,8 +214,8 @@ impl<C: NodeName> Rung<C> {
 
 impl<C: NodeName, P> Sweep<C, P> {
     /// A scan before its begin.
-    pub(crate) fn new(root: C, start: u64, end: u64, size: usize) -> Self
-        ensures { result ≡ new_sweep root start end size }
+    pub(crate) fn new(root: C, start: u64, last: u64, size: usize) -> Self
+        ensures { result ≡ new_sweep root start last size }
     {
         let first = Rung {
             at: Seat {
@@ -228,7 +227,7 @@ impl<C: NodeName, P> Sweep<C, P> {
         };
         Sweep {
             start,
-            end,
+            last,
             size,
             count: 0,
             above: Path {
@@ -262,7 +261,7 @@ impl<C: NodeName, P: Payload> Sweep<C, P> {
             Stage::New => self.begin(store, root),
             Stage::Enter { node, region } => self.enter(root, node, region, store.version(node)),
             Stage::Look { rung } => {
-                let last = rung.region.last_byte(self.end);
+                let last = rung.region.last_byte(self.last);
                 let found = store.least(rung.at, rung.from, last, seen.take());
                 self.go(Stage::Check { rung, found })
             }
@@ -311,20 +310,16 @@ impl<C: NodeName, P: Payload> Sweep<C, P> {
         })
     }
 
-    /// Enters the root. Where the range is empty, or there is no place, the scan is over.
+    /// Enters the root. Where there is no place, the scan is over.
     fn begin<S: Store<C, P>>(&mut self, store: &S, root: C) -> Told<P>
         requires { Stands (S.heap store.now (C.number root)) }
         ensures { (self.new, result) ≡ begins root self.old (version_of (S.heap store.now (C.number root))) }
     {
-        if self.start < self.end {
-            if self.size == 0 {
-                self.stop(Told::Done { count: 0 })
-            } else {
-                drop(self.again(root));
-                self.enter(root, root, Region::whole(), store.version(root))
-            }
-        } else {
+        if self.size == 0 {
             self.stop(Told::Done { count: 0 })
+        } else {
+            drop(self.again(root));
+            self.enter(root, root, Region::whole(), store.version(root))
         }
     }
 
@@ -355,7 +350,7 @@ impl<C: NodeName, P: Payload> Sweep<C, P> {
         match version {
             None => self.again(root),
             Some(version) => {
-                if region.is_outside(self.start, self.end) {
+                if region.is_outside(self.start, self.last) {
                     self.leave()
                 } else {
                     let from = region.first_byte(self.start) as u16;

@@ -21,7 +21,7 @@ use Rattle.congee.specs.declared.protocol.op.Op.TheVariants as point
 use Rattle.congee.specs.declared.protocol.phase.Phase.{Phase}
 use Rattle.congee.specs.declared.protocol.phase.Phase.TheVariants.{Sweep, Ended}
 use Rattle.congee.specs.Heap.{Node}
-use Rattle.congee.specs.protocol.Alone.{NoOtherLocks, IsUndisturbed, HasAnswer, IsPast, StepsOn, steps_left, tree_nodes, tree_pairs}
+use Rattle.congee.specs.protocol.Alone.{NoOtherLocks, IsUndisturbed, HasAnswer, IsPast, StepsOn, steps_left, steps_whole, tree_nodes, tree_pairs}
 use Rattle.congee.specs.protocol.Play.{Settled, begun, first_phase}
 use Rattle.congee.specs.protocol.Steps.{Stepped}
 use Rattle.joint.specs.declared.call.Call.{Call}
@@ -100,6 +100,7 @@ module _ {V : Type 0} where
   begun_left h (point.ComputeInsert k) e = refl
   begun_left h (point.Exchange k old new) e = refl
   begun_left h (point.Range start end size) e = absurd (cc e)
+  begun_left h (point.RangeInclusive start last size) e = absurd (cc e)
 
   -- a call that is under way has not ended
   not_past : (x : Phase Id V) → IsUnderWay x → is_done x ≡ false → IsPast x → ⊥
@@ -297,11 +298,13 @@ module _ {V : Type 0} (same : V → V → Bool) (always : Bool) (laws : CallLaws
         omega arith,
       )
 
-      scan_begins : (start end size : ℕ) (r : Report V) (b : Bool) → OthersUnlocked s w → EntersUnless b s w (point.Range start end size) r s' → is_in_flight r.outcome ≡ true → Begun (5 * tree_nodes (nodes s.forest) + 2 * tree_pairs (nodes s.forest) + 2)
-      scan_begins start end size r true free x on = absurd (false≢true (sym (ap (λ y. is_in_flight y.outcome) x.report) ∙ on))
-      scan_begins start end size r false free x on =
+      scan_begins : (p : Point V) (r : Report V) (b : Bool) → steps_whole (nodes s.forest) p ≡ 5 * tree_nodes (nodes s.forest) + 2 * tree_pairs (nodes s.forest) → OthersUnlocked s w → EntersUnless b s w p r s' → is_in_flight r.outcome ≡ true
+          → Begun (5 * tree_nodes (nodes s.forest) + 2 * tree_pairs (nodes s.forest) + 2)
+      scan_begins p r true whole free x on = absurd (false≢true (sym (ap (λ y. is_in_flight y.outcome) x.report) ∙ on))
+      scan_begins p r false whole free x on =
           let settled : Settled id_number same always (nodes s.forest) s.machines = holds.0.safe.sound.sound.settled in
-          enters (point.Range start end size) r (5 * tree_nodes (nodes s.forest) + 2 * tree_pairs (nodes s.forest)) _ free x (whole_left settled.0 (nodes s.forest) root (point.Range start end size) settled.1.tree) (omega arith)
+          let P : ℕ → Type 0 = λ k. steps_left id_number (nodes s.forest) (first_phase root p) ≤ k in
+          enters p r (5 * tree_nodes (nodes s.forest) + 2 * tree_pairs (nodes s.forest)) _ free x (subst P whole (whole_left settled.0 (nodes s.forest) root p settled.1.tree)) (omega arith)
 
       call_begins : (r : Report V) → OthersUnlocked s w → BeginsAt same always s w (target o) r s' → is_in_flight r.outcome ≡ true → Begun (steps_alone s o)
       call_begins r free x on = of o x
@@ -321,7 +324,8 @@ module _ {V : Type 0} (same : V → V → Bool) (always : Bool) (laws : CallLaws
           of (op.ComputePresent k) y = reserves (point.ComputePresent k) r free y
           of (op.ComputeInsert k) y = reserves (point.ComputeInsert k) r free y
           of (op.Exchange k old new) y = reserves (point.Exchange k old new) r free y
-          of (op.Range start end size) y = scan_begins start end size r (finds_none {V = V} (point.Range start end size)) free y on
+          of (op.Range start end size) y = scan_begins (point.Range start end size) r (finds_none {V = V} (point.Range start end size)) refl free y on
+          of (op.RangeInclusive start last size) y = scan_begins (point.RangeInclusive start last size) r (finds_none {V = V} (point.RangeInclusive start last size)) refl free y on
           of op.Keys y = absurd (survey_on survey.Keys y)
           of op.IsEmpty y = absurd (survey_on survey.IsEmpty y)
           of op.Stats y = absurd (survey_on survey.Stats y)

@@ -17,7 +17,7 @@ use Rattle.congee.specs.protocol.Play.{Flight, Pending, Decided, Over, Unbegun, 
 use Rattle.joint.specs.declared.id.Id.{Id}
 use Rattle.joint.specs.declared.steps.Event.TheVariants.{Begin}
 use Rattle.joint.specs.declared.steps.Op.{Op}
-use Rattle.joint.specs.declared.steps.Op.TheVariants.{Pin, Unpin, Repin, Flush, Release, Range, Keys, IsEmpty, Stats}
+use Rattle.joint.specs.declared.steps.Op.TheVariants.{Pin, Unpin, Repin, Flush, Release, Range, RangeInclusive, Keys, IsEmpty, Stats}
 use Rattle.joint.specs.declared.steps.Outcome.{Outcome}
 use Rattle.joint.specs.declared.steps.Outcome.TheVariants.{Running, Asks, Found, Registered, Done, Refused}
 use Rattle.joint.specs.declared.steps.Report.{Report}
@@ -166,6 +166,7 @@ module _ {V : Type 0} (same : V → V → Bool) (always : Bool) where
   no_call s Flush = omega arith
   no_call s Release = omega arith
   no_call s (Range start end size) = omega arith
+  no_call s (RangeInclusive start last size) = omega arith
   no_call s Keys = omega arith
   no_call s IsEmpty = omega arith
   no_call s Stats = omega arith

@@ -73,6 +73,7 @@ module _ {V : Type 0} (same : V → V → Bool) (always : Bool) (s s' : Whole V)
   begins_tree : (op : Point V) (r : Report V) → BeginsOnTree same always s w op r s' → Apart s s' w
   begins_tree (point.Get k) r x = record { calls = one_set s.calls s'.calls w _ (ap (λ y. y.calls) x.state); machines = one_set s.machines s'.machines w _ (ap (λ y. y.machines) x.state) }
   begins_tree (point.Range start end size) r x = scan_begins (point.Range start end size) r (finds_none {V = V} (point.Range start end size)) x
+  begins_tree (point.RangeInclusive start last size) r x = scan_begins (point.RangeInclusive start last size) r (finds_none {V = V} (point.RangeInclusive start last size)) x
   begins_tree (point.Insert k v) r x = record { calls = one_set s.calls s'.calls w _ (ap (λ y. y.calls) x.state); machines = one_same s.machines s'.machines w (ap (λ y. y.machines) x.state) }
   begins_tree (point.Remove k) r x = record { calls = one_set s.calls s'.calls w _ (ap (λ y. y.calls) x.state); machines = one_same s.machines s'.machines w (ap (λ y. y.machines) x.state) }
   begins_tree (point.ComputePresent k) r x = record { calls = one_set s.calls s'.calls w _ (ap (λ y. y.calls) x.state); machines = one_same s.machines s'.machines w (ap (λ y. y.machines) x.state) }

@@ -38,6 +38,7 @@ module _ {V : Type 0} (same : V → V → Bool) (always : Bool) where
     begins_tree : (op : Point V) (r : Report V) → BeginsOnTree same always s w op r s' → IsBeside s.forest s'.forest
     begins_tree (point.Get k) r x = alike s.forest s'.forest (ap (λ y. y.forest) x.state)
     begins_tree (point.Range start end size) r x = scan_begins (point.Range start end size) r (finds_none {V = V} (point.Range start end size)) x
+    begins_tree (point.RangeInclusive start last size) r x = scan_begins (point.RangeInclusive start last size) r (finds_none {V = V} (point.RangeInclusive start last size)) x
     begins_tree (point.Insert k v) r x = alike s.forest s'.forest (ap (λ y. y.forest) x.state)
     begins_tree (point.Remove k) r x = alike s.forest s'.forest (ap (λ y. y.forest) x.state)
     begins_tree (point.ComputePresent k) r x = alike s.forest s'.forest (ap (λ y. y.forest) x.state)

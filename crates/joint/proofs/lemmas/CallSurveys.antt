@@ -5,7 +5,7 @@ use Rattle.judge.specs.Answer.{Pairs}
 use Rattle.joint.specs.declared.steps.Event.{Event}
 use Rattle.joint.specs.declared.steps.Event.TheVariants.{Begin}
 use Rattle.joint.specs.declared.steps.Op.{Op}
-use Rattle.joint.specs.declared.steps.Op.TheVariants.{Pin, Unpin, Repin, Flush, Release, Get, Insert, Remove, ComputePresent, ComputeInsert, Exchange, Range, Keys, IsEmpty, Stats}
+use Rattle.joint.specs.declared.steps.Op.TheVariants.{Pin, Unpin, Repin, Flush, Release, Get, Insert, Remove, ComputePresent, ComputeInsert, Exchange, Range, RangeInclusive, Keys, IsEmpty, Stats}
 use Rattle.joint.specs.declared.steps.Outcome.{Outcome}
 use Rattle.joint.specs.declared.steps.Outcome.TheVariants.{Running, Asks, Found, Registered, Done, Refused}
 use Rattle.joint.specs.declared.steps.Report.{Report}
@@ -79,3 +79,4 @@ module _ {V : Type 0} (same : V → V → Bool) (w : ℕ) (fs : Flights V) (m : 
   tells (ComputeInsert k) reports result steps is x on last = tt
   tells (Exchange k old new) reports result steps is x on last = tt
   tells (Range start end size) reports result steps is x on last = tt
+  tells (RangeInclusive start last size) reports result steps is x on last = tt

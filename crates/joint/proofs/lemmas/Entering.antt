@@ -89,13 +89,14 @@ module _ {V : Type 0} (same : V → V → Bool) (always : Bool) (s s' : Whole V)
         let l : w < length s.machines = subst (λ n. w < n) (sym holds.0.machines) begin_within in
         even (ap (λ x. has_place x (slice_get s'.machines w)) (at_place s.calls s'.calls w Walking begin_within (ap (λ y. y.calls) e)) ∙ ap (has_place (Some Walking)) (machine_place s.machines s'.machines w (begun root p) l (ap (λ y. y.machines) e)) ∙ n)
 
-    scan_begins : (start end size : ℕ) (r : Report V) (none : Bool) → EntersUnless none s w (point.Range start end size) r s' → after ≡ before
-    scan_begins start end size r true x = unchanged x.state
-    scan_begins start end size r false x = reads (point.Range start end size) x.state refl
+    scan_begins : (p : Point V) (r : Report V) (none : Bool) → has_place (Some Walking) (Some (begun root p)) ≡ false → EntersUnless none s w p r s' → after ≡ before
+    scan_begins p r true n x = unchanged x.state
+    scan_begins p r false n x = reads p x.state n
 
     begins_tree : (p : Point V) (r : Report V) → BeginsOnTree same always s w p r s' → after ≡ before
     begins_tree (point.Get k) r x = reads (point.Get k) x.state refl
-    begins_tree (point.Range start end size) r x = scan_begins start end size r (finds_none {V = V} (point.Range start end size)) x
+    begins_tree (point.Range start end size) r x = scan_begins (point.Range start end size) r (finds_none {V = V} (point.Range start end size)) refl x
+    begins_tree (point.RangeInclusive start last size) r x = scan_begins (point.RangeInclusive start last size) r (finds_none {V = V} (point.RangeInclusive start last size)) refl x
     begins_tree (point.Insert k v) r x = none_at _ (ap (λ y. y.calls) x.state) (λ o. refl)
     begins_tree (point.Remove k) r x = none_at _ (ap (λ y. y.calls) x.state) (λ o. refl)
     begins_tree (point.ComputePresent k) r x = none_at _ (ap (λ y. y.calls) x.state) (λ o. refl)

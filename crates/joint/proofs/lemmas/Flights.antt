@@ -1,21 +1,21 @@
 -- The calls on the tree that are in flight, each watched beside its machine.
 use Rattle.std.proofs.Common.{◌≡◌, ◌≢◌, ◌<◌, ℕ, zero, suc, ◌+◌, arith, Bool, true, List, [], ◌∷◌, refl, sym, ◌∙◌, ap, subst, inl, inr}
 use Rattle.std.proofs.Math.ListN.{set}
-use Rattle.std.specs.Prelude.{Some, length, slice_get, ◌==◌, if◌then◌else◌}
+use Rattle.std.specs.Prelude.{Option, None, Some, length, slice_get, ◌==◌, if◌then◌else◌}
 use Rattle.std.proofs.lemmas.Bool.{cases_Bool, eqb-true, eqb-false, true_from_ne_false}
 use Rattle.congee.specs.declared.protocol.machine.Machine.{Machine}
 use Rattle.congee.specs.declared.protocol.op.Op.{Op as Point}
 use Rattle.congee.specs.declared.protocol.op.Op.TheVariants as point
 use Rattle.congee.specs.declared.protocol.phase.Phase.TheVariants.{Ended, Sweep}
 use Rattle.judge.specs.Answer.{Pairs}
-use Rattle.congee.specs.protocol.Play.{Flight, Pending, Over, Unasked, begun, parts, flight, Follows, Following}
+use Rattle.congee.specs.protocol.Play.{Flight, Pending, Over, Unasked, begun, parts, range_of, flight, Follows, Following}
 use Rattle.joint.specs.declared.call.Call.{Call}
 use Rattle.joint.specs.declared.call.Call.TheVariants.{Idle, Collecting, Reserving, Securing, Walking}
 use Rattle.joint.specs.declared.id.Id.{Id}
 use Rattle.joint.specs.declared.steps.Done.{Done as Answer}
 use Rattle.joint.specs.declared.steps.Done.TheVariants as done
 use Rattle.joint.specs.Intact.{root, writes}
-use Rattle.joint.specs.Runs.{Flights, Line, Stays, EndsAtOnce, with_flight, InFlight}
+use Rattle.joint.specs.Runs.{Flights, Line, Stays, EndsEmpty, EndsAtOnce, with_flight, InFlight}
 
 pub eqb_same : (w : ℕ) → (w == w) ≡ true
 eqb_same w = true_from_ne_false (w == w) (λ e. eqb-false w w e refl)
@@ -36,19 +36,17 @@ module _ {V : Type 0} where
   ]
 
   -- a call on the tree that ends as it begins is a scan, and leaves the map
+  empty_stays : (o : Option (ℕ × ℕ × ℕ)) (count : ℕ) (fs : Flights V) (m : Pairs V) (l : Line V) (fs' : Flights V) → EndsEmpty o count fs m l fs' → Stays fs m l fs'
+  empty_stays None count fs m l fs' x = absurd x
+  empty_stays (Some (start, end, size)) count fs m l fs' x = x.stays
+
   pub ends_stays : (fs : Flights V) (m : Pairs V) (op : Point V) (d : Answer V) (l : Line V) (fs' : Flights V) → EndsAtOnce fs m op d l fs' → Stays fs m l fs'
-  ends_stays fs m (point.Range start end size) (done.Scanned count) l fs' x = x.stays
-  ends_stays fs m (point.Range start end size) done.Unit l fs' x = absurd x
-  ends_stays fs m (point.Range start end size) (done.Reply r) l fs' x = absurd x
-  ends_stays fs m (point.Range start end size) (done.Keys keys) l fs' x = absurd x
-  ends_stays fs m (point.Range start end size) (done.Empty b) l fs' x = absurd x
-  ends_stays fs m (point.Range start end size) (done.Stats stats) l fs' x = absurd x
-  ends_stays fs m (point.Get k) d l fs' x = absurd x
-  ends_stays fs m (point.Insert k v) d l fs' x = absurd x
-  ends_stays fs m (point.Remove k) d l fs' x = absurd x
-  ends_stays fs m (point.ComputePresent k) d l fs' x = absurd x
-  ends_stays fs m (point.ComputeInsert k) d l fs' x = absurd x
-  ends_stays fs m (point.Exchange k old new) d l fs' x = absurd x
+  ends_stays fs m op (done.Scanned count) l fs' x = empty_stays (range_of op) count fs m l fs' x
+  ends_stays fs m op done.Unit l fs' x = absurd x
+  ends_stays fs m op (done.Reply r) l fs' x = absurd x
+  ends_stays fs m op (done.Keys keys) l fs' x = absurd x
+  ends_stays fs m op (done.Empty b) l fs' x = absurd x
+  ends_stays fs m op (done.Stats stats) l fs' x = absurd x
 
   -- a call that may hand a node over, and has not begun
   pub pending : (op : Point V) → writes op ≡ true → flight (begun root op) ≡ Pending (parts op).0 (parts op).1 (parts op).2 Unasked
@@ -59,6 +57,7 @@ module _ {V : Type 0} where
   pending (point.ComputeInsert k) p = refl
   pending (point.Exchange k old new) p = refl
   pending (point.Range start end size) p = absurd (cc p)
+  pending (point.RangeInclusive start last size) p = absurd (cc p)
 
   pub begun_follows : (op : Point V) → Follows (begun root op) (flight (begun root op))
   begun_follows (point.Get k) = inl (tt, refl)
@@ -68,6 +67,7 @@ module _ {V : Type 0} where
   begun_follows (point.ComputeInsert k) = inl (tt, refl)
   begun_follows (point.Exchange k old new) = inl (tt, refl)
   begun_follows (point.Range start end size) = inr (_, refl, inl (refl, refl))
+  begun_follows (point.RangeInclusive start last size) = inr (_, refl, inl (refl, refl))
 
   -- a call that has ended is watched no longer
   pub ended : (m : Machine Id V) (f : Flight V) → m.phase ≡ Ended → Follows m f → f ≡ Over

@@ -151,6 +151,7 @@ module _ {V : Type 0} (same : V → V → Bool) (always : Bool) (s s' : Whole V)
   begins_tree : (op : Point V) (r : Report V) → BeginsOnTree same always s who op r s' → Tells r
   begins_tree (point.Get k) r x = so r Running (ap (λ r. r.outcome) x.report) (tt {0})
   begins_tree (point.Range start end size) r x = enters (finds_none {V = V} (point.Range start end size)) (point.Range start end size) r x
+  begins_tree (point.RangeInclusive start last size) r x = enters (finds_none {V = V} (point.RangeInclusive start last size)) (point.RangeInclusive start last size) r x
   begins_tree (point.Insert k v) r x = so r Running (ap (λ r. r.outcome) x.report) (tt {0})
   begins_tree (point.Remove k) r x = so r Running (ap (λ r. r.outcome) x.report) (tt {0})
   begins_tree (point.ComputePresent k) r x = so r Running (ap (λ r. r.outcome) x.report) (tt {0})

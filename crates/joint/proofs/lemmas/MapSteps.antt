@@ -1,8 +1,8 @@
 -- One step of the machine, on the map: the pairs that stood, and the calls on the tree that are in flight.
-use Rattle.std.proofs.Common.{◌≡◌, ◌≢◌, ◌<◌, ◌≤◌, ◌==◌, ℕ, arith, Bool, true, false, List, [], ◌∷◌, refl, sym, ◌∙◌, ap, subst, inl, inr}
+use Rattle.std.proofs.Common.{◌≡◌, ◌≢◌, ◌<◌, ◌≤◌, ◌==◌, ℕ, suc, arith, Bool, true, false, List, [], ◌∷◌, refl, sym, ◌∙◌, ap, subst, inl, inr}
 use Rattle.std.proofs.Math.ListN.{set}
-use Rattle.std.specs.Prelude.{Option, None, Some, cond, ltb, length, slice_get, slice_set, if◌then◌else◌}
-use Rattle.std.proofs.lemmas.Bool.{cases_Bool, eqb-true, false≢true, lt-ltb}
+use Rattle.std.specs.Prelude.{Option, None, Some, cond, ltb, leb, length, slice_get, slice_set, if◌then◌else◌}
+use Rattle.std.proofs.lemmas.Bool.{cases_Bool, eqb-true, false≢true, lt-ltb, le-leb}
 use Rattle.std.proofs.lemmas.List.{length-set, set-set, get_or_past}
 use Rattle.std.proofs.lemmas.Option.{slice_get_within, slice_get_cases}
 use Rattle.judge.specs.declared.journal.Entry.{Entry}
@@ -55,7 +55,7 @@ use Rattle.joint.specs.Intact.{IsAt, IsIntact, call_after, secured_call, secured
 use Rattle.joint.specs.Refusals.{of_fault}
 use Rattle.joint.specs.Reports.{target, told}
 use Rattle.joint.specs.Surveys.{MapTells}
-use Rattle.joint.specs.Runs.{Flights, with_flight, Line, Stays, BeginMap, BeginsOr, PendingStep, FlightStep, GoMap, EventMap, InFlight, AreInFlight}
+use Rattle.joint.specs.Runs.{Flights, with_flight, Line, Stays, BeginMap, BeginsOr, FindsNone, EndsAtOnce, PendingStep, FlightStep, GoMap, EventMap, InFlight, AreInFlight}
 use Rattle.joint.specs.Whole.{Whole, EngineHolds, misuse, is_busy, place_of, quiet, collection, finds_none, Collects, Enters, EntersUnless, Reserves, GoesOnReserving, SecuresFirst, reserving, Walks, BeginsAt, BeginsOnTree, GoesAt, Proceeds, Does as Acts}
 use Rattle.joint.proofs.lemmas.Collecting.{either}
 use Rattle.joint.proofs.lemmas.Reserving.{same_nodes, next_calls, next_here}
@@ -70,18 +70,18 @@ stands_on h h' m same st = record {
   none_beyond = st.none_beyond;
 }
 
--- a scan that can find nothing keeps its promise with no pair
-no_place : (start end size : ℕ) (b : Bool) → ltb start end ≡ b → cond b (size == 0) true ≡ true → start < end → size ≡ 0
-no_place start end size true e z l = eqb-true size 0 z
-no_place start end size false e z l = absurd (false≢true (sym e ∙ lt-ltb start end l))
+-- a scan that can find nothing keeps its promise with no pair: it has no place, where its range has a key
+no_place : (A : Type 0) (size : ℕ) (b : Bool) → (A → b ≡ true) → cond b (size == 0) true ≡ true → A → size ≡ 0
+no_place A size true has z a = eqb-true size 0 z
+no_place A size false has z a = absurd (false≢true (has a))
 
-scan_of_none : {V : Type 0} (start end size : ℕ) (m : Pairs V) → finds_none {V = V} (point.Range start end size) ≡ true → IsScan {V = V} start end size (m ∷ []) []
-scan_of_none start end size m n = record {
+scan_of_none : {V : Type 0} (start end size : ℕ) (m : Pairs V) → (start < end → size ≡ 0) → IsScan {V = V} start end size (m ∷ []) []
+scan_of_none start end size m none = record {
   rises = tt;
   few = omega arith;
   within = tt;
   stood = tt;
-  complete = λ k a b x. inr (sym (no_place start end size (ltb start end) refl n (omega (arith, a, b))), tt);
+  complete = λ k a b x. inr (sym (none (omega (arith, a, b))), tt);
 }
 
 -- a step that goes on with making a place free is refused for want of memory alone
@@ -249,19 +249,33 @@ module _ {V : Type 0} (same : V → V → Bool) (always : Bool) (s s' : Whole V)
   }
 
   -- a scan that can find nothing is done at once, and what it found is what it promises
-  found_none : (event : Event V) (start end size : ℕ) (r : Report V) → finds_none {V = V} (point.Range start end size) ≡ true → fs w ≡ Over → r ≡ quiet kind.Tree (Done (Scanned 0)) → BeginsOr fs m (point.Range start end size) r.outcome (line event r None m) fs
-  found_none event start end size r n f e =
-      let P : Report V → Type 0 = λ y. BeginsOr fs m (point.Range start end size) y.outcome (line event y None m) fs in
-      subst P (sym e) (record { free = f; none = refl; scan = scan_of_none start end size m n; stays = stays event (quiet kind.Tree (Done (Scanned 0))) m refl })
+  none_in : (event : Event V) (start end size : ℕ) → (start < end → size ≡ 0) → fs w ≡ Over → FindsNone start end size 0 fs m (line event (quiet kind.Tree (Done (Scanned 0))) None m) fs
+  none_in event start end size n f = record { free = f; none = refl; scan = scan_of_none start end size m n; stays = stays event (quiet kind.Tree (Done (Scanned 0))) m refl }
 
-  begins_scan : (event : Event V) (start end size : ℕ) (r : Report V) (none : Bool) → finds_none {V = V} (point.Range start end size) ≡ none → fs w ≡ Over → w < length s.calls → EntersUnless none s w (point.Range start end size) r s'
-      → Result event r (λ l f'. BeginsOr fs m (point.Range start end size) l.report.outcome l f')
-  begins_scan event start end size r true n f l x = unchanged event r (λ y f'. BeginsOr fs m (point.Range start end size) y.report.outcome y f') x.state (found_none event start end size r n f x.report)
-  begins_scan event start end size r false n f l x = enters event (point.Range start end size) r f l x
+  ends_at_once : (event : Event V) (op : Point V) → finds_none op ≡ true → fs w ≡ Over → EndsAtOnce fs m op (Scanned 0) (line event (quiet kind.Tree (Done (Scanned 0))) None m) fs
+  ends_at_once event (point.Range start end size) n f = none_in event start end size (no_place (start < end) size (ltb start end) (lt-ltb start end) n) f
+  ends_at_once event (point.RangeInclusive start last size) n f =
+      none_in event start (suc last) size (λ l. no_place (start ≤ last) size (leb start last) (le-leb start last) n (omega (arith, l))) f
+  ends_at_once event (point.Get k) n f = absurd (cc n)
+  ends_at_once event (point.Insert k v) n f = absurd (cc n)
+  ends_at_once event (point.Remove k) n f = absurd (cc n)
+  ends_at_once event (point.ComputePresent k) n f = absurd (cc n)
+  ends_at_once event (point.ComputeInsert k) n f = absurd (cc n)
+  ends_at_once event (point.Exchange k old new) n f = absurd (cc n)
+
+  found_none : (event : Event V) (op : Point V) (r : Report V) → finds_none op ≡ true → fs w ≡ Over → r ≡ quiet kind.Tree (Done (Scanned 0)) → BeginsOr fs m op r.outcome (line event r None m) fs
+  found_none event op r n f e =
+      let P : Report V → Type 0 = λ y. BeginsOr fs m op y.outcome (line event y None m) fs in
+      subst P (sym e) (ends_at_once event op n f)
+
+  begins_scan : (event : Event V) (op : Point V) (r : Report V) (none : Bool) → finds_none op ≡ none → fs w ≡ Over → w < length s.calls → EntersUnless none s w op r s' → Result event r (λ l f'. BeginsOr fs m op l.report.outcome l f')
+  begins_scan event op r true n f l x = unchanged event r (λ y f'. BeginsOr fs m op y.report.outcome y f') x.state (found_none event op r n f x.report)
+  begins_scan event op r false n f l x = enters event op r f l x
 
   begins_tree : (event : Event V) (op : Point V) (r : Report V) → fs w ≡ Over → w < length s.calls → BeginsOnTree same always s w op r s' → Result event r (λ l f'. BeginsOr fs m op l.report.outcome l f')
   begins_tree event (point.Get k) r f l x = enters event (point.Get k) r f l x
-  begins_tree event (point.Range start end size) r f l x = begins_scan event start end size r (finds_none {V = V} (point.Range start end size)) refl f l x
+  begins_tree event (point.Range start end size) r f l x = begins_scan event (point.Range start end size) r (finds_none {V = V} (point.Range start end size)) refl f l x
+  begins_tree event (point.RangeInclusive start last size) r f l x = begins_scan event (point.RangeInclusive start last size) r (finds_none {V = V} (point.RangeInclusive start last size)) refl f l x
   begins_tree event (point.Insert k v) r f l x = reserves event (point.Insert k v) r f l x
   begins_tree event (point.Remove k) r f l x = reserves event (point.Remove k) r f l x
   begins_tree event (point.ComputePresent k) r f l x = reserves event (point.ComputePresent k) r f l x

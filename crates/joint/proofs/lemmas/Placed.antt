@@ -33,6 +33,7 @@ module _ {V : Type 0} where
   begun_writes (point.ComputeInsert k) e = refl
   begun_writes (point.Exchange k old new) e = refl
   begun_writes (point.Range start end size) e = absurd (cc e)
+  begun_writes (point.RangeInclusive start last size) e = absurd (cc e)
 
   pub begun_asks : (op : Point V) → asks (flight (begun root op)) ≡ false
   begun_asks (point.Get k) = refl
@@ -42,6 +43,7 @@ module _ {V : Type 0} where
   begun_asks (point.ComputeInsert k) = refl
   begun_asks (point.Exchange k old new) = refl
   begun_asks (point.Range start end size) = refl
+  begun_asks (point.RangeInclusive start last size) = refl
 
   begun_replied : (op : Point V) → replied (flight (begun root op)) ≡ None
   begun_replied (point.Get k) = refl
@@ -51,6 +53,7 @@ module _ {V : Type 0} where
   begun_replied (point.ComputeInsert k) = refl
   begun_replied (point.Exchange k old new) = refl
   begun_replied (point.Range start end size) = refl
+  begun_replied (point.RangeInclusive start last size) = refl
 
   -- a scan neither writes nor asks nor has a reply
   record OfScan (f : Flight V) : Type 0 where

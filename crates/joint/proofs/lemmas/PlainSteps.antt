@@ -99,6 +99,7 @@ module _ {V : Type 0} (same : V → V → Bool) (always : Bool) (laws : (f : For
     point_at : (op : Point V) (r : Report V) → BeginsOnTree same always (engine_of s) w op r (engine_of s') → Goal (start op) r
     point_at (point.Get k) r x = begun_at (point.Get k) r x.report refl (enters same always (engine_of s) law order p w (engine_of s') (point.Get k) r a x)
     point_at (point.Range from to size) r x = scan_at (point.Range from to size) r (finds_none {V = V} (point.Range from to size)) refl x
+    point_at (point.RangeInclusive from to size) r x = scan_at (point.RangeInclusive from to size) r (finds_none {V = V} (point.RangeInclusive from to size)) refl x
     point_at (point.Insert k v) r x = reserves_at (point.Insert k v) r refl x
     point_at (point.Remove k) r x = reserves_at (point.Remove k) r refl x
     point_at (point.ComputePresent k) r x = reserves_at (point.ComputePresent k) r refl x
@@ -116,6 +117,7 @@ module _ {V : Type 0} (same : V → V → Bool) (always : Bool) (laws : (f : For
     begin_kind : (op : Point V) (r : Report V) → BeginsOnTree same always (engine_of s) w op r (engine_of s') → r.kind ≡ kind.Tree
     begin_kind (point.Get k) r x = ap (λ z. z.kind) x.report
     begin_kind (point.Range from to size) r x = scan_kind (point.Range from to size) r (finds_none {V = V} (point.Range from to size)) x
+    begin_kind (point.RangeInclusive from to size) r x = scan_kind (point.RangeInclusive from to size) r (finds_none {V = V} (point.RangeInclusive from to size)) x
     begin_kind (point.Insert k v) r x = ap (λ z. z.kind) x.report
     begin_kind (point.Remove k) r x = ap (λ z. z.kind) x.report
     begin_kind (point.ComputePresent k) r x = ap (λ z. z.kind) x.report

@@ -1,11 +1,10 @@
 -- Whether a report says that the journal keeps a call is nothing to the map.
 use Rattle.std.proofs.Common.{ℕ, Bool, true, false, inl, inr}
-use Rattle.std.specs.Prelude.{Option}
+use Rattle.std.specs.Prelude.{Option, None, Some}
 use Rattle.judge.specs.Answer.{Pairs}
 use Rattle.congee.specs.declared.protocol.op.Op.{Op as Point}
-use Rattle.congee.specs.declared.protocol.op.Op.TheVariants as point
 use Rattle.congee.specs.declared.protocol.phase.Kind.{Kind}
-use Rattle.congee.specs.protocol.Play.{Flight, Pending, Decided, Over, Unbegun, Scanning, Question, heard, resolved}
+use Rattle.congee.specs.protocol.Play.{Flight, Pending, Decided, Over, Unbegun, Scanning, Question, range_of, heard, resolved}
 use Rattle.joint.specs.declared.steps.Done.{Done as Answer}
 use Rattle.joint.specs.declared.steps.Done.TheVariants as done
 use Rattle.joint.specs.declared.steps.Event.{Event}
@@ -15,7 +14,7 @@ use Rattle.joint.specs.declared.steps.Outcome.TheVariants.{Running, Asks, Found,
 use Rattle.joint.specs.declared.steps.Target.{Target}
 use Rattle.joint.specs.declared.steps.Target.TheVariants as target
 use Rattle.joint.specs.Reports.{target}
-use Rattle.joint.specs.Runs.{Line, Flights, Stays, BeginsFlight, EndsAtOnce, BeginsOr, BeginMap, PendingStep, GoMap, EventMap}
+use Rattle.joint.specs.Runs.{Line, Flights, Stays, BeginsFlight, EndsEmpty, EndsAtOnce, BeginsOr, BeginMap, PendingStep, GoMap, EventMap}
 
 module _ {V : Type 0} (b : Bool) where
   abbrev pub rekept : Line V → Line V
@@ -27,19 +26,17 @@ module _ {V : Type 0} (b : Bool) where
   begins : (fs : Flights V) (m : Pairs V) (op : Point V) (l : Line V) (fs' : Flights V) → BeginsFlight fs m op l fs' → BeginsFlight fs m op (rekept l) fs'
   begins fs m op l fs' x = record { free = x.free; accepted = x.accepted; undecided = x.undecided; no_entry = x.no_entry; same_pairs = x.same_pairs; begins = x.begins }
 
+  ends_empty : (o : Option (ℕ × ℕ × ℕ)) (count : ℕ) (fs : Flights V) (m : Pairs V) (l : Line V) (fs' : Flights V) → EndsEmpty o count fs m l fs' → EndsEmpty o count fs m (rekept l) fs'
+  ends_empty None count fs m l fs' x = x
+  ends_empty (Some (start, end, size)) count fs m l fs' x = record { free = x.free; none = x.none; scan = x.scan; stays = stays fs m l fs' x.stays }
+
   ends : (fs : Flights V) (m : Pairs V) (op : Point V) (d : Answer V) (l : Line V) (fs' : Flights V) → EndsAtOnce fs m op d l fs' → EndsAtOnce fs m op d (rekept l) fs'
-  ends fs m (point.Range start end size) (done.Scanned count) l fs' x = record { free = x.free; none = x.none; scan = x.scan; stays = stays fs m l fs' x.stays }
-  ends fs m (point.Range start end size) done.Unit l fs' x = x
-  ends fs m (point.Range start end size) (done.Reply r) l fs' x = x
-  ends fs m (point.Range start end size) (done.Keys keys) l fs' x = x
-  ends fs m (point.Range start end size) (done.Empty e) l fs' x = x
-  ends fs m (point.Range start end size) (done.Stats stats) l fs' x = x
-  ends fs m (point.Get k) d l fs' x = x
-  ends fs m (point.Insert k v) d l fs' x = x
-  ends fs m (point.Remove k) d l fs' x = x
-  ends fs m (point.ComputePresent k) d l fs' x = x
-  ends fs m (point.ComputeInsert k) d l fs' x = x
-  ends fs m (point.Exchange k old new) d l fs' x = x
+  ends fs m op (done.Scanned count) l fs' x = ends_empty (range_of op) count fs m l fs' x
+  ends fs m op done.Unit l fs' x = x
+  ends fs m op (done.Reply r) l fs' x = x
+  ends fs m op (done.Keys keys) l fs' x = x
+  ends fs m op (done.Empty e) l fs' x = x
+  ends fs m op (done.Stats stats) l fs' x = x
 
   begins_or : (fs : Flights V) (m : Pairs V) (op : Point V) (o : Outcome V) (l : Line V) (fs' : Flights V) → BeginsOr fs m op o l fs' → BeginsOr fs m op o (rekept l) fs'
   begins_or fs m op (Refused e) l fs' x = stays fs m l fs' x

@@ -119,6 +119,7 @@ module _ {V : Type 0} (same : V → V → Bool) (always : Bool) (laws : CallLaws
   begins_tree : (op : Point V) (r : Report V) → is_busy (slice_get s.calls w) ≡ false → w < length s.calls → BeginsOnTree same always s w op r s' → Tells r
   begins_tree (point.Get k) r fr l x = put r Walking l (ap (λ y. y.calls) x.state) (sym (ap (λ y. is_in_flight y.outcome) x.report))
   begins_tree (point.Range start end size) r fr l x = scan_begins (finds_none {V = V} (point.Range start end size)) (point.Range start end size) r fr l x
+  begins_tree (point.RangeInclusive start last size) r fr l x = scan_begins (finds_none {V = V} (point.RangeInclusive start last size)) (point.RangeInclusive start last size) r fr l x
   begins_tree (point.Insert k v) r fr l x = put r (Reserving (point.Insert k v)) l (ap (λ y. y.calls) x.state) (sym (ap (λ y. is_in_flight y.outcome) x.report))
   begins_tree (point.Remove k) r fr l x = put r (Reserving (point.Remove k)) l (ap (λ y. y.calls) x.state) (sym (ap (λ y. is_in_flight y.outcome) x.report))
   begins_tree (point.ComputePresent k) r fr l x = put r (Reserving (point.ComputePresent k)) l (ap (λ y. y.calls) x.state) (sym (ap (λ y. is_in_flight y.outcome) x.report))

@@ -19,7 +19,7 @@ use Rattle.congee.specs.protocol.Protocol.{Asking, IsCall}
 use Rattle.joint.specs.declared.id.Id.{Id}
 use Rattle.joint.specs.declared.request.Request.{Request}
 use Rattle.joint.specs.declared.steps.Op.{Op}
-use Rattle.joint.specs.declared.steps.Op.TheVariants.{Get, Insert, Remove, ComputePresent, ComputeInsert, Exchange, Range}
+use Rattle.joint.specs.declared.steps.Op.TheVariants.{Get, Insert, Remove, ComputePresent, ComputeInsert, Exchange, Range, RangeInclusive}
 use Rattle.joint.specs.declared.steps.Target.TheVariants.{Tree}
 use Rattle.joint.specs.Intact.{root}
 use Rattle.joint.specs.Journaling.{HasAnswer, call_of, is_asking, is_pending, may_write, reply_in}
@@ -88,6 +88,7 @@ module _ {V : Type 0} where
   hear_none (Remove k) answer kd v p t e a q = absurd (let i : point.Remove k ≡ p = cc in subst (λ (x : Kind V). Asking x) (sym (ap (λ (y : Point V). (parts y).1) i ∙ e)) a)
   hear_none (Exchange k old new) answer kd v p t e a q = absurd (let i : point.Exchange k old new ≡ p = cc in subst (λ (x : Kind V). Asking x) (sym (ap (λ (y : Point V). (parts y).1) i ∙ e)) a)
   hear_none (Range start end size) answer kd v p t e a q = absurd (let i : point.Range start end size ≡ p = cc in subst (λ (x : Kind V). Asking x) (sym (ap (λ (y : Point V). (parts y).1) i ∙ e)) a)
+  hear_none (RangeInclusive start last size) answer kd v p t e a q = absurd (let i : point.RangeInclusive start last size ≡ p = cc in subst (λ (x : Kind V). Asking x) (sym (ap (λ (y : Point V). (parts y).1) i ∙ e)) a)
   hear_none _ answer kd v p t e a q = absurd (cc t)
 
   hear_some : (op : Op V) (x : V) (kd : Kind V) (p : Point V) → target op ≡ Tree p → (parts p).1 ≡ kd → Asking kd → value_of op (Some (Some x)) ≡ Some x
@@ -98,6 +99,7 @@ module _ {V : Type 0} where
   hear_some (Remove k) x kd p t e a = absurd (let i : point.Remove k ≡ p = cc in subst (λ (y : Kind V). Asking y) (sym (ap (λ (y : Point V). (parts y).1) i ∙ e)) a)
   hear_some (Exchange k old new) x kd p t e a = absurd (let i : point.Exchange k old new ≡ p = cc in subst (λ (y : Kind V). Asking y) (sym (ap (λ (y : Point V). (parts y).1) i ∙ e)) a)
   hear_some (Range start end size) x kd p t e a = absurd (let i : point.Range start end size ≡ p = cc in subst (λ (y : Kind V). Asking y) (sym (ap (λ (y : Point V). (parts y).1) i ∙ e)) a)
+  hear_some (RangeInclusive start last size) x kd p t e a = absurd (let i : point.RangeInclusive start last size ≡ p = cc in subst (λ (y : Kind V). Asking y) (sym (ap (λ (y : Point V). (parts y).1) i ∙ e)) a)
   hear_some _ x kd p t e a = absurd (cc t)
 
   -- the question is settled by no value too, but where one is wanted
@@ -116,6 +118,7 @@ module _ {V : Type 0} where
   none_settles (Remove k) answer kd found p t e a = absurd (let i : point.Remove k ≡ p = cc in subst (λ (x : Kind V). Asking x) (sym (ap (λ (y : Point V). (parts y).1) i ∙ e)) a)
   none_settles (Exchange k old new) answer kd found p t e a = absurd (let i : point.Exchange k old new ≡ p = cc in subst (λ (x : Kind V). Asking x) (sym (ap (λ (y : Point V). (parts y).1) i ∙ e)) a)
   none_settles (Range start end size) answer kd found p t e a = absurd (let i : point.Range start end size ≡ p = cc in subst (λ (x : Kind V). Asking x) (sym (ap (λ (y : Point V). (parts y).1) i ∙ e)) a)
+  none_settles (RangeInclusive start last size) answer kd found p t e a = absurd (let i : point.RangeInclusive start last size ≡ p = cc in subst (λ (x : Kind V). Asking x) (sym (ap (λ (y : Point V). (parts y).1) i ∙ e)) a)
   none_settles _ answer kd found p t e a = absurd (cc t)
 
   -- what the step of a call hears
@@ -176,6 +179,7 @@ module _ {V : Type 0} where
       let j : c ≡ call.Exchange k old v = subst (λ (x : Point V). IsCall (parts x).0 (parts x).1 v found c) (sym e) i in
       ap (λ y. Some (call.Exchange k old y)) q ∙ ap Some (sym j)
   call_by (Range start end size) answer same p v found c t n q i = absurd (let e : point.Range start end size ≡ p = cc in subst (λ (x : Point V). IsOnKey x) (sym e) n)
+  call_by (RangeInclusive start last size) answer same p v found c t n q i = absurd (let e : point.RangeInclusive start last size ≡ p = cc in subst (λ (x : Point V). IsOnKey x) (sym e) n)
   call_by _ answer same p v found c t n q i = absurd (cc t)
 
   pub request_call : (q : Request V) (same : V → V → Bool) (k : ℕ) (kd : Kind V) (v found : Option V) (c : Entered V) → IsRequestOf q k kd v → IsCall k kd v found c → call_of q.op q.answer (reply_on same c found) ≡ Some c
@@ -218,6 +222,7 @@ module _ {V : Type 0} where
   value_begins (ComputeInsert k) p t n = let e : point.ComputeInsert k ≡ p = cc in ap (λ (x : Point V). (parts x).2) e
   value_begins (Exchange k old new) p t n = let e : point.Exchange k old new ≡ p = cc in ap (λ (x : Point V). (parts x).2) e
   value_begins (Range start end size) p t n = absurd (let e : point.Range start end size ≡ p = cc in subst (λ (x : Point V). IsOnKey x) (sym e) n)
+  value_begins (RangeInclusive start last size) p t n = absurd (let e : point.RangeInclusive start last size ≡ p = cc in subst (λ (x : Point V). IsOnKey x) (sym e) n)
   value_begins _ p t n = absurd (cc t)
 
   begins_as : (op : Op V) (p : Point V) → target op ≡ Tree p → IsOnKey p → IsAsked (asked op) (Pending (parts p).0 (parts p).1 (parts p).2 Unasked)
@@ -225,6 +230,7 @@ module _ {V : Type 0} where
 
   pub begins_asked : (op : Op V) (p : Point V) → target op ≡ Tree p → IsAsked (asked op) (flight (begun root p))
   begins_asked op (point.Range start end size) t = tt
+  begins_asked op (point.RangeInclusive start last size) t = tt
   begins_asked op (point.Get k) t = begins_as op (point.Get k) t tt
   begins_asked op (point.Insert k v) t = begins_as op (point.Insert k v) t tt
   begins_asked op (point.Remove k) t = begins_as op (point.Remove k) t tt

@@ -8,19 +8,23 @@ use Rattle.congee.specs.declared.protocol.machine.Outcome.{Outcome as Moved}
 use Rattle.congee.specs.declared.protocol.machine.Outcome.TheVariants as moved
 use Rattle.congee.specs.declared.protocol.op.Op.{Op as Point}
 use Rattle.congee.specs.declared.protocol.op.Op.TheVariants as point
-use Rattle.congee.specs.protocol.Play.{Flight, Pending, Decided, Over, Unbegun, Scanning, ScanTells}
+use Rattle.congee.specs.protocol.Play.{Flight, Pending, Decided, Over, Unbegun, Scanning, ScanTells, IsScanOf, IsOfRange, begun, flight, range_of as range_in}
 use Rattle.congee.specs.protocol.Sweeps.{IsScan, Stood, AllStood, Throughout}
 use Rattle.joint.specs.declared.steps.Done.TheVariants.{Scanned}
 use Rattle.joint.specs.declared.steps.Event.{Event}
 use Rattle.joint.specs.declared.steps.Event.TheVariants.{Register, Begin, Go}
+use Rattle.joint.specs.declared.steps.Op.{Op}
+use Rattle.joint.specs.declared.steps.Op.TheVariants as call
 use Rattle.joint.specs.declared.steps.Outcome.{Outcome}
 use Rattle.joint.specs.declared.steps.Outcome.TheVariants.{Running, Asks, Found, Registered, Done, Refused}
 use Rattle.joint.specs.declared.steps.Target.{Target}
 use Rattle.joint.specs.declared.steps.Target.TheVariants as target
 use Rattle.joint.specs.Calling.{goes_on}
-use Rattle.joint.specs.Reports.{target, told}
-use Rattle.joint.specs.Runs.{Line, Flights, with_flight, BeginMap, BeginsOr, GoMap, EventMap, MapStep, IsMapRun, Scans, pairs_after}
+use Rattle.joint.specs.Intact.{root}
+use Rattle.joint.specs.Reports.{range_of, target, told}
+use Rattle.joint.specs.Runs.{Line, Flights, with_flight, BeginMap, BeginsOr, EndsEmpty, GoMap, EventMap, MapStep, IsMapRun, Scans, pairs_after}
 use Rattle.joint.specs.Scans.{is_go, goes, placed, told_to, Comes, AllCome, BeginsScan, GoesOn, EndsScan, ScansHold, EmptyScansHold}
+use Rattle.congee.proofs.lemmas.protocol.SweepRanges.{of_range}
 use Rattle.joint.proofs.lemmas.Flights.{ends_stays, flight_here, flight_apart}
 
 -- one of several
@@ -61,6 +65,17 @@ module _ {V : Type 0} where
     stood = all_stood_more few all found more s.stood;
     complete = λ k a b t. s.complete k a b (has_more few all k more t);
   }
+
+  -- a call on a range is a scan of it
+  pub record OnRange (op : Op V) (start end size : ℕ) : Type 0 where
+    pub point : Point V
+    pub on_tree : target op ≡ target.Tree point
+    pub range : range_in point ≡ Some (start, end, size)
+
+  pub on_range : (op : Op V) (start end size : ℕ) → range_of op ≡ Some (start, end, size) → OnRange op start end size
+  on_range (call.Range a b c) start end size e = record { point = point.Range a b c; on_tree = refl; range = e }
+  on_range (call.RangeInclusive a b c) start end size e = record { point = point.RangeInclusive a b c; on_tree = refl; range = e }
+  on_range _ start end size e = absurd (cc e)
 
 module _ {V : Type 0} (same : V → V → Bool) where
   -- a later part of a run is one
@@ -218,13 +233,33 @@ module _ {V : Type 0} (same : V → V → Bool) where
               subst P (sym g) ((tt, y.0), y.1, y.2))
         ]
 
-  -- its begin
-  pub begins_at : (fs : Flights V) (m : Pairs V) (w start end size : ℕ) (all : List (Pairs V)) (l : Line V) (fs1 : Flights V) → BeginsScan w start end size l → MapStep same fs m l fs1 → Under w start end size all fs1 [] × (l.pairs ≡ m)
+  -- its begin: it is in flight as a scan that promises what one of its range does
+  pub record BegunScan (w start end size : ℕ) (all : List (Pairs V)) (m : Pairs V) (l : Line V) (fs1 : Flights V) : Type 0 where
+    pub from : ℕ
+    pub to : ℕ
+    pub places : ℕ
+    pub under : Under w from to places all fs1 []
+    pub promises : (states : List (Pairs V)) (found : List (ℕ × V)) → IsScan from to places states found → IsScan start end size states found
+    pub same_pairs : l.pairs ≡ m
+
+  pub begins_at : (fs : Flights V) (m : Pairs V) (w start end size : ℕ) (all : List (Pairs V)) (l : Line V) (fs1 : Flights V) → BeginsScan w start end size l → MapStep same fs m l fs1 → BegunScan w start end size all m l fs1
   begins_at fs m w start end size all l fs1 b x =
+      let r = on_range b.op start end size b.range in
       let P : Event V → Type 0 = λ e. EventMap same fs m e l fs1 in
-      let Q : Outcome V → Type 0 = λ o. BeginsOr fs m (point.Range start end size) o l fs1 in
-      let y = subst Q b.accepted (subst P b.event x) in
-      (inl (ap (λ g. g w) y.begins ∙ ap (λ v. with_flight fs v (Unbegun start end size) w) b.worker ∙ flight_here fs w (Unbegun start end size), refl), y.same_pairs)
+      let T : Target V → Type 0 = λ t. BeginMap fs m t l fs1 in
+      let Q : Outcome V → Type 0 = λ o. BeginsOr fs m r.point o l fs1 in
+      let y = subst Q b.accepted (subst T r.on_tree (subst P b.event x)) in
+      let f : Flight V = flight (begun root r.point) in
+      let R : Option (ℕ × ℕ × ℕ) → Type 0 = λ o. IsOfRange o f in
+      let k : IsScanOf start end size f = subst R r.range (of_range root r.point) in
+      record {
+        from = k.from;
+        to = k.to;
+        places = k.places;
+        under = inl (ap (λ g. g w) y.begins ∙ ap (λ v. with_flight fs v f w) b.worker ∙ flight_here fs w f ∙ k.unbegun, refl);
+        promises = k.promises;
+        same_pairs = y.same_pairs;
+      }
 
   pub scans_hold : (fs : Flights V) (m : Pairs V) (lines : List (Line V)) (fs' : Flights V) → IsMapRun same fs m lines fs' → ScansHold lines
   scans_hold fs m lines fs' r before during after b e w start end size count is begins on ends =
@@ -232,15 +267,18 @@ module _ {V : Type 0} (same : V → V → Bool) where
       let x = later fs m before (b ∷ (during ++ e ∷ after)) fs' (subst P is r) in
       let all : List (Pairs V) = map (λ l. l.pairs) (b ∷ during) in
       let y = begins_at x.0 (pairs_after m before) w start end size all b x.1.0 begins x.1.1 in
-      let z = during_lines w start end size all x.1.0 b.pairs [] during after e fs' count (inl refl) (λ p i. inr i) y.0 x.1.2 on ends in
-      record { in_order = z.0; filled = z.1; scan = z.2 }
+      let z = during_lines w y.from y.to y.places all x.1.0 b.pairs [] during after e fs' count (inl refl) (λ p i. inr i) y.under x.1.2 on ends in
+      record { in_order = z.0; filled = z.1; scan = y.promises all (take count (told_to w during [])) z.2 }
 
   pub empty_scans_hold : (fs : Flights V) (m : Pairs V) (lines : List (Line V)) (fs' : Flights V) → IsMapRun same fs m lines fs' → EmptyScansHold lines
-  empty_scans_hold fs m lines fs' r before after l start end size count is begins done =
+  empty_scans_hold fs m lines fs' r before after l op start end size count is begins range done =
+      let q = on_range op start end size range in
       let P : List (Line V) → Type 0 = λ ls. IsMapRun same fs m ls fs' in
       let x = later fs m before (l ∷ after) fs' (subst P is r) in
       let Q : Event V → Type 0 = λ e. EventMap same x.0 (pairs_after m before) e l x.1.0 in
-      let R : Outcome V → Type 0 = λ o. BeginsOr x.0 (pairs_after m before) (point.Range start end size) o l x.1.0 in
-      let y = subst R done (subst Q begins x.1.1) in
+      let T : Target V → Type 0 = λ t. BeginMap x.0 (pairs_after m before) t l x.1.0 in
+      let R : Outcome V → Type 0 = λ o. BeginsOr x.0 (pairs_after m before) q.point o l x.1.0 in
+      let E : Option (ℕ × ℕ × ℕ) → Type 0 = λ o. EndsEmpty o count x.0 (pairs_after m before) l x.1.0 in
+      let y = subst E q.range (subst R done (subst T q.on_tree (subst Q begins x.1.1))) in
       let S : Pairs V → Type 0 = λ p. IsScan {V = V} start end size (p ∷ []) [] in
       (y.none, subst S (sym y.stays.same_pairs) y.scan)

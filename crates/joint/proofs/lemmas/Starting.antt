@@ -8,7 +8,7 @@ use Rattle.crossbeam_epoch.specs.declared.world.participant.Phase.TheVariants as
 use Rattle.crossbeam_epoch.specs.World.Machine.{place}
 use Rattle.congee.specs.declared.protocol.machine.Machine.{Machine}
 use Rattle.congee.specs.declared.protocol.op.Op.{Op}
-use Rattle.congee.specs.declared.protocol.op.Op.TheVariants.{Get, Insert, Remove, ComputePresent, ComputeInsert, Exchange, Range}
+use Rattle.congee.specs.declared.protocol.op.Op.TheVariants.{Get, Insert, Remove, ComputePresent, ComputeInsert, Exchange, Range, RangeInclusive}
 use Rattle.congee.specs.declared.protocol.phase.Kind.{Kind}
 use Rattle.congee.specs.declared.protocol.phase.Phase.{Phase}
 use Rattle.congee.specs.declared.protocol.phase.Phase.TheVariants.{New, Ended}
@@ -38,6 +38,7 @@ pub record Begins {V : Type 0} (kind : Kind V) (phase : Phase Id V) : Type 0 whe
 
 first : {V : Type 0} (op : Op V) → Begins (parts op).1 (first_phase root op)
 first (Range start end size) = record { names_none = refl; no_made = λ k x. x; under_way = tt; not_done = refl; secured = λ jobs x. tt }
+first (RangeInclusive start last size) = record { names_none = refl; no_made = λ k x. x; under_way = tt; not_done = refl; secured = λ jobs x. tt }
 first (Get k) = record { names_none = refl; no_made = λ k x. x; under_way = tt; not_done = refl; secured = λ jobs x. x }
 first (Insert k v) = record { names_none = refl; no_made = λ k x. x; under_way = tt; not_done = refl; secured = λ jobs x. x }
 first (Remove k) = record { names_none = refl; no_made = λ k x. x; under_way = tt; not_done = refl; secured = λ jobs x. x }

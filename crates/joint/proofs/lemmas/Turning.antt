@@ -120,6 +120,7 @@ module _ {V : Type 0} (same : V → V → Bool) (always : Bool) (w : Whole V) (w
     enter : (op : Point V) (r : Report V) (w' : Whole V) → finds_none op ≡ false → writes op ≡ false → Enters w who op r w' → BeginsOnTree same always w who op r w'
     enter (point.Get k) r w' n e b = b
     enter (point.Range start end size) r w' n e b = let P : Bool → Type 0 = λ x. EntersUnless x w who (point.Range start end size) r w' in subst P (sym n) b
+    enter (point.RangeInclusive start last size) r w' n e b = let P : Bool → Type 0 = λ x. EntersUnless x w who (point.RangeInclusive start last size) r w' in subst P (sym n) b
     enter (point.Insert k v) r w' n e b = absurd (cc e)
     enter (point.Remove k) r w' n e b = absurd (cc e)
     enter (point.ComputePresent k) r w' n e b = absurd (cc e)
@@ -129,6 +130,7 @@ module _ {V : Type 0} (same : V → V → Bool) (always : Bool) (w : Whole V) (w
     reserve : (op : Point V) (r : Report V) (w' : Whole V) → writes op ≡ true → Reserves w who op r w' → BeginsOnTree same always w who op r w'
     reserve (point.Get k) r w' e b = absurd (cc e)
     reserve (point.Range start end size) r w' e b = absurd (cc e)
+    reserve (point.RangeInclusive start last size) r w' e b = absurd (cc e)
     reserve (point.Insert k v) r w' e b = b
     reserve (point.Remove k) r w' e b = b
     reserve (point.ComputePresent k) r w' e b = b
@@ -138,6 +140,7 @@ module _ {V : Type 0} (same : V → V → Bool) (always : Bool) (w : Whole V) (w
     -- a scan that can find nothing
     at_once : (op : Point V) (r : Report V) → finds_none op ≡ true → r ≡ quiet kind.Tree (outcome.Done (Scanned 0)) → BeginsOnTree same always w who op r w
     at_once (point.Range start end size) r n q = let P : Bool → Type 0 = λ x. EntersUnless x w who (point.Range start end size) r w in subst P (sym n) (record { state = refl; report = q })
+    at_once (point.RangeInclusive start last size) r n q = let P : Bool → Type 0 = λ x. EntersUnless x w who (point.RangeInclusive start last size) r w in subst P (sym n) (record { state = refl; report = q })
     at_once (point.Get k) r n q = absurd (cc n)
     at_once (point.Insert k v) r n q = absurd (cc n)
     at_once (point.Remove k) r n q = absurd (cc n)

@@ -311,8 +311,28 @@ impl<L: Ledger, W: Watch, K: Word64, V: Word64, A: Allocator, D: Drop> Journaled
             (Scans Reads (λ k v. (k, v)) worker.old.number (op.Range (K.word start.now) (K.word end.now) (length out.old)) out.old out.new scanned) result }
         ensures foreign { is_held_by self.now.tree.id worker.old guard.now ≡ false → out.new ≡ out.old }
     {
-        self.tree
-            .range(rt, start.to_word(), end.to_word(), out, worker, guard)
+        let scan = Op::Range(start.to_word(), end.to_word(), out.len());
+        self.tree.find(rt, scan, out, worker, guard)
+    }
+
+    /// Writes the pairs with start <= key <= last into `out`, ascending, as many as fit, and gives their number. The places
+    /// past them may have been written to.
+    pub fn range_inclusive<R: Wait>(
+        &self,
+        rt: &R,
+        start: &K,
+        last: &K,
+        out: &mut [(u64, u64)],
+        worker: &mut Worker,
+        guard: &Guard,
+    ) -> Result<usize, Refusal>
+        ensures worker { worker.new ≡ worker.old }
+        ensures answers { Serves (is_held_by self.now.tree.id worker.old guard.now)
+            (Scans Reads (λ k v. (k, v)) worker.old.number (op.RangeInclusive (K.word start.now) (K.word last.now) (length out.old)) out.old out.new scanned) result }
+        ensures foreign { is_held_by self.now.tree.id worker.old guard.now ≡ false → out.new ≡ out.old }
+    {
+        let scan = Op::RangeInclusive(start.to_word(), last.to_word(), out.len());
+        self.tree.find(rt, scan, out, worker, guard)
     }
 
     /// Whether no key has a value, at its one step.

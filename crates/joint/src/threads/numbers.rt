@@ -11,6 +11,7 @@ ghost use Rattle.joint.specs.declared.steps.Op.TheVariants as op;
 
 use crate::limits::Limits;
 use crate::refusal::Refusal;
+use crate::steps::Op;
 use crate::threads::tokens::{Guard, Worker};
 use crate::threads::words::Congee;
 use congee::{Allocator, DefaultAllocator, KEY_BYTES, NoDrain, NodeStats, Word64};
@@ -233,7 +234,28 @@ impl<V: Word64, A: Allocator> U64Congee<V, A> {
             (Scans (ByHold nat_eq true) (λ k v. (key_bytes k, v)) worker.old.number (op.Range start end (length out.old)) out.old out.new scanned) result }
         ensures foreign { is_held_by self.now.words.tree.id worker.old guard.now ≡ false → out.new ≡ out.old }
     {
-        self.words.range_to(rt, start, end, out, worker, guard)
+        let scan = Op::Range(start, end, out.len());
+        self.words.find(rt, scan, out, worker, guard)
+    }
+
+    /// Writes the pairs with start <= key <= last into `out`, ascending, as many as fit, each key as its eight bytes, the
+    /// highest first, and gives their number. The places past them may have been written to.
+    pub fn range_inclusive<R: Wait>(
+        &self,
+        rt: &R,
+        start: u64,
+        last: u64,
+        out: &mut [([u8; KEY_BYTES], u64)],
+        worker: &mut Worker,
+        guard: &Guard,
+    ) -> Result<usize, Refusal>
+        ensures worker { worker.new ≡ worker.old }
+        ensures answers { Serves (is_held_by self.now.words.tree.id worker.old guard.now)
+            (Scans (ByHold nat_eq true) (λ k v. (key_bytes k, v)) worker.old.number (op.RangeInclusive start last (length out.old)) out.old out.new scanned) result }
+        ensures foreign { is_held_by self.now.words.tree.id worker.old guard.now ≡ false → out.new ≡ out.old }
+    {
+        let scan = Op::RangeInclusive(start, last, out.len());
+        self.words.find(rt, scan, out, worker, guard)
     }
 
     /// Whether no key has a value, at its one step.

@@ -289,25 +289,23 @@ impl<P: Payload + Small, T: Locked<P>> Tree<P, T> {
         got(self.call(rt, worker, Op::Get(key)))
     }
 
-    /// Writes the pairs of a range to the places, and gives their number.
-    pub(crate) fn range<Q: Pair<P>, R: Wait>(
+    /// Writes the pairs that a scan finds to the places, and gives their number.
+    pub(crate) fn find<Q: Pair<P>, R: Wait>(
         &self,
         rt: &R,
-        start: u64,
-        end: u64,
+        op: Op<P>,
         found: &mut [Q],
         worker: &Worker,
         guard: &Guard,
     ) -> Result<usize, Refusal>
         ensures answers { Serves (is_held_by self.now.id worker.now guard.now)
-            (Scans T.holds Q.pair worker.now.number (op.Range start end (length found.old)) found.old found.new scanned) result }
+            (Scans T.holds Q.pair worker.now.number op found.old found.new scanned) result }
         ensures foreign { is_held_by self.now.id worker.now guard.now ≡ false → found.new ≡ found.old }
     {
         if !self.serves(worker, guard) {
             return Err(Refusal::Foreign);
         }
-        let scan = Op::Range(start, end, found.len());
-        scanned(self.scan(rt, worker, scan, found))
+        scanned(self.scan(rt, worker, op, found))
     }
 
     /// Whether no key has a value, at its one step.

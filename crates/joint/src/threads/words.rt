@@ -10,6 +10,7 @@ ghost use Rattle.joint.specs.declared.steps.Op.TheVariants as op;
 
 use crate::limits::Limits;
 use crate::refusal::Refusal;
+use crate::steps::Op;
 use crate::threads::answers::{IfPresent, OrInsert};
 use crate::threads::driver::Pair;
 use crate::threads::locked::Plain;
@@ -330,25 +331,45 @@ impl<K: Word64, V: Word64, A: Allocator, D: Drop> Congee<K, V, A, D> {
             (Scans (ByHold nat_eq true) (λ k v. (k, v)) worker.old.number (op.Range (K.word start.now) (K.word end.now) (length out.old)) out.old out.new scanned) result }
         ensures foreign { is_held_by self.now.tree.id worker.old guard.now ≡ false → out.new ≡ out.old }
     {
-        self.range_to(rt, start.to_word(), end.to_word(), out, worker, guard)
+        let scan = Op::Range(start.to_word(), end.to_word(), out.len());
+        self.find(rt, scan, out, worker, guard)
     }
 
-    /// The same, with places for pairs of any form.
-    pub(crate) fn range_to<Q: Pair<u64>, R: Wait>(
+    /// Writes the pairs with start <= key <= last into `out`, ascending, as many as fit, and gives their number. The places
+    /// past them may have been written to.
+    pub fn range_inclusive<R: Wait>(
         &self,
         rt: &R,
-        start: u64,
-        end: u64,
+        start: &K,
+        last: &K,
+        out: &mut [(u64, u64)],
+        worker: &mut Worker,
+        guard: &Guard,
+    ) -> Result<usize, Refusal>
+        ensures worker { worker.new ≡ worker.old }
+        ensures answers { Serves (is_held_by self.now.tree.id worker.old guard.now)
+            (Scans (ByHold nat_eq true) (λ k v. (k, v)) worker.old.number (op.RangeInclusive (K.word start.now) (K.word last.now) (length out.old)) out.old out.new scanned) result }
+        ensures foreign { is_held_by self.now.tree.id worker.old guard.now ≡ false → out.new ≡ out.old }
+    {
+        let scan = Op::RangeInclusive(start.to_word(), last.to_word(), out.len());
+        self.find(rt, scan, out, worker, guard)
+    }
+
+    /// A scan, with places for pairs of any form.
+    pub(crate) fn find<Q: Pair<u64>, R: Wait>(
+        &self,
+        rt: &R,
+        op: Op<u64>,
         out: &mut [Q],
         worker: &mut Worker,
         guard: &Guard,
     ) -> Result<usize, Refusal>
         ensures worker { worker.new ≡ worker.old }
         ensures answers { Serves (is_held_by self.now.tree.id worker.old guard.now)
-            (Scans (ByHold nat_eq true) Q.pair worker.old.number (op.Range start end (length out.old)) out.old out.new scanned) result }
+            (Scans (ByHold nat_eq true) Q.pair worker.old.number op out.old out.new scanned) result }
         ensures foreign { is_held_by self.now.tree.id worker.old guard.now ≡ false → out.new ≡ out.old }
     {
-        self.tree.range(rt, start, end, out, worker, guard)
+        self.tree.find(rt, op, out, worker, guard)
     }
 
     /// Whether no key has a value, at its one step.

@@ -65,11 +65,13 @@ fn calls_on_a_key_are_short(rt: HostRuntime) -> Result<(), Fail> {
 }
 
 /// Calls on the whole tree, the steps of each, and how many are enough: for a scan by fifteen nodes and eleven pairs.
-const WHOLE_CALLS: [(Op<u64>, u32, u32); 7] = [
+const WHOLE_CALLS: [(Op<u64>, u32, u32); 9] = [
     (Op::Range(0, u64::MAX, 20), 96, 99),
     (Op::Range(0, u64::MAX, 11), 93, 99),
     (Op::Range(5, u64::MAX, 20), 88, 99),
     (Op::Range(257, u64::MAX, 20), 81, 99),
+    (Op::RangeInclusive(0, u64::MAX, 20), 96, 99),
+    (Op::RangeInclusive(0, u64::MAX, 11), 93, 99),
     (Op::Keys, 1, 1),
     (Op::IsEmpty, 1, 1),
     (Op::Stats, 1, 1),

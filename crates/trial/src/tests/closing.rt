@@ -56,6 +56,12 @@ fn number_range_is(tree: &Numbers, start: u64, end: u64, pairs: &[([u8; 8], u64)
     found.get(..count) == Some(pairs)
 }
 
+fn number_scan_is(tree: &Numbers, start: u64, last: u64, pairs: &[([u8; 8], u64)]) -> bool {
+    let mut found = [([1u8; 8], 0u64); 8];
+    let count = tree.range_inclusive(start, last, &mut found);
+    found.get(..count) == Some(pairs)
+}
+
 fn gives_bytes(tree: &mut Numbers) -> Result<bool, Fail> {
     Ok(
         tree.insert(0, 42)?.is_none()
@@ -63,6 +69,7 @@ fn gives_bytes(tree: &mut Numbers) -> Result<bool, Fail> {
             && number_range_is(tree, 0, 10, &[([0u8; 8], 42)])
             && tree.insert(258, 43)?.is_none()
             && number_range_is(tree, 1, 259, &[([0, 0, 0, 0, 0, 0, 1, 2], 43)])
+            && number_scan_is(tree, 1, 258, &[([0, 0, 0, 0, 0, 0, 1, 2], 43)])
             && tree.remove(258) == Some(43),
     )
 }
@@ -288,6 +295,58 @@ fn ranges_of_few_keys(rt: HostRuntime) -> Result<(), Fail> {
 fn ranges_of_many_keys(rt: HostRuntime) -> Result<(), Fail> {
     for text in MANY_KEYS {
         assert!(rt; are_found(rt.alloc(), text)?, "{text}");
+    }
+    Ok(())
+}
+
+/// Numbers from which scans to the greatest key start.
+const STARTS: [u64; 7] = [
+    0,
+    1,
+    300,
+    99_999,
+    1 << 40,
+    u64::MAX - 1,
+    u64::MAX,
+];
+
+// Whether a scan to the greatest key finds the map's pairs, and leaves the place past them as it was.
+fn ends_agree(tree: &Words, map: &Map, start: u64) -> bool {
+    let mut found = [(7, 7); 65];
+    let count = tree.range_inclusive(&start, &u64::MAX, &mut found);
+    let mut pairs = map.range(start..=u64::MAX);
+    for pair in found.iter().take(count) {
+        if pairs.next() != Some((&pair.0, &pair.1)) {
+            return false;
+        }
+    }
+    (count == 65 || pairs.next().is_none() && found[count] == (7, 7))
+        && tree.range(&start, &u64::MAX, &mut found) <= count
+}
+
+// Whether such scans agree with a map's, by keys of so many turns.
+fn scans_agree(alloc: Global, order: Order, turns: u64, greatest: bool) -> Result<bool, Fail> {
+    let mut tree: Words = Congee::new(alloc, DefaultAllocator::new())?;
+    let mut map = Map::new(alloc);
+    let keys = Part(Call::Insert, order, 0, turns);
+    let mut alike = part_agrees(&mut tree, &mut map, &keys)?;
+    if greatest {
+        alike &= agrees(&mut tree, &mut map, Call::Insert, u64::MAX)?;
+    }
+    for start in STARTS {
+        alike &= ends_agree(&tree, &map, start);
+    }
+    Ok(alike)
+}
+
+#[test]
+fn scans_to_the_greatest_key_answer_as_a_map(rt: HostRuntime) -> Result<(), Fail> {
+    for order in [Order::Dense, Order::Scattered, Order::Lone] {
+        for turns in [0, 1, 20, 500] {
+            for greatest in [false, true] {
+                assert!(rt; scans_agree(rt.alloc(), order, turns, greatest)?);
+            }
+        }
     }
     Ok(())
 }

@@ -74,12 +74,16 @@ fn whole_calls<L: Ledger, R: Wait>(
 ) -> Result<bool, Refusal> {
     let mut out = [(0, 0); 4];
     let found = tree.range(rt, &0, &10, &mut out, worker, guard)?;
+    let mut ends = [(0, 0); 4];
+    let with_end = tree.range_inclusive(rt, &1, &1, &mut ends, worker, guard)?;
     let keys = tree.keys(rt, worker)?;
     tree.repin(rt, worker, guard)?;
     tree.flush(rt, worker, guard)?;
     Ok(
         found == 1
             && out[0] == (1, 5)
+            && with_end == 1
+            && ends[0] == (1, 5)
             && keys.as_slice() == [1].as_slice()
             && !tree.is_empty(rt, worker, guard)?
             && tree.stats(rt, worker)?.kv_pairs == 1,

@@ -7,7 +7,7 @@ use std::alloc::Global;
 use std::test::Fail;
 
 /// What is asked of a tree of ample memory.
-const AMPLE: [&str; 14] = [
+const AMPLE: [&str; 15] = [
     "a value comes, changes and goes: insert 1 42 = Ok(None); get 1 = Some(42); insert 1 43 = Ok(Some(42)); remove 1 = Some(43); \
      get 1 = None; charged = 2104",
     "a leaf grows through every form: fill 1 50 = true; charged = 4208; get 49 = Some(49)",
@@ -20,6 +20,11 @@ const AMPLE: [&str; 14] = [
     "a range ends before its end: insert 4294967295 1 = Ok(None); insert 4294967247 2 = Ok(None); \
      range 4294967066 4294967319 20 = [(4294967247, 2), (4294967295, 1)]; range 4294967000 4294967253 20 = [(4294967247, 2)]; \
      range 5 5 20 = []; insert 18446744073709551615 3 = Ok(None); range 18446744073709551614 18446744073709551615 20 = []",
+    "a scan has the pair of its end: through 0 18446744073709551615 20 = []; insert 5 50 = Ok(None); insert 6 60 = Ok(None); \
+     through 5 5 20 = [(5, 50)]; through 5 6 1 = [(5, 50)]; through 6 5 20 = []; through 5 6 0 = []; \
+     insert 18446744073709551615 7 = Ok(None); through 18446744073709551615 18446744073709551615 20 = [(18446744073709551615, 7)]; \
+     through 0 18446744073709551614 20 = [(5, 50), (6, 60)]; range 0 0 20 = []; through 0 0 20 = []; insert 0 1 = Ok(None); \
+     through 0 0 20 = [(0, 1)]",
     "a range ends with its places: insert 1 10 = Ok(None); insert 2 20 = Ok(None); insert 3 30 = Ok(None); \
      range 1 4 2 = [(1, 10), (2, 20)]; range 1 4 0 = []",
     "a range starts past other prefixes: insert 4294967179 7 = Ok(None); range 1895772415 1895772670 20 = []; \
@@ -95,6 +100,20 @@ fn range<A: Allocator>(
     told(alloc, &found.get(..count).ok_or("too many pairs")?)
 }
 
+/// Those of the keys to the second, itself included.
+fn through<A: Allocator>(
+    alloc: Global,
+    tree: &Tree<A>,
+    start: u64,
+    last: u64,
+    places: u64,
+) -> Result<String, Fail> {
+    let mut found = [(0u64, 0u64); 20];
+    let out = found.get_mut(..places as usize).ok_or("too many places")?;
+    let count = tree.range_inclusive(&start, &last, out);
+    told(alloc, &found.get(..count).ok_or("too many pairs")?)
+}
+
 /// The value that a closure puts there: a greater one by one, or the number at an absent key.
 fn next_or(value: Option<u64>, number: u64) -> u64 {
     value.map_or(number, |value| value.wrapping_add(1))
@@ -113,6 +132,7 @@ impl<A: Allocator> Asked for Tree<A> {
             // The pairs of the nearest keys below and above.
             ("beside", [key]) => told(alloc, &(self.next_before(key), self.next_after(key))),
             ("range", [start, end, places]) => range(alloc, self, *start, *end, *places),
+            ("through", [start, last, places]) => through(alloc, self, *start, *last, *places),
             _ => writes(alloc, self, word, numbers),
         }
     }

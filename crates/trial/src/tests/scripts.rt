@@ -34,7 +34,7 @@ fn scripts_print_their_replies(rt: HostRuntime) -> Result<(), Fail> {
             "refused NoTree\nok\nrefused Open\nrefused Unknown\n",
         ),
         (
-            "new 1 1\nreg\nreg\n0 get 1\n0 pin\n0 insert 1 1\n0 through 1 2 3\nreg\n",
+            "new 1 1\nreg\nreg\n0 get 1\n0 pin\n0 insert 1 1\n0 between 1 2 3\nreg\n",
             2,
             "ok\nworker 0\nrefused TableFull\nrefused Unpinned\nok\nrefused Cells\nbad line 7\n",
         ),
@@ -48,7 +48,7 @@ fn scripts_print_their_replies(rt: HostRuntime) -> Result<(), Fail> {
 
 #[test]
 fn bad_lines_end_a_script(rt: HostRuntime) -> Result<(), Fail> {
-    let table: [&[u8]; 9] = [
+    let table: [&[u8]; 13] = [
         b"reg\n\xff\nreg\n",
         b"reg\nreg\0\nreg\n",
         b"reg\nreg\r\nreg\n",
@@ -57,6 +57,10 @@ fn bad_lines_end_a_script(rt: HostRuntime) -> Result<(), Fail> {
         b"reg\n0  get 1\nreg\n",
         b"reg\n4294967296 pin\nreg\n",
         b"reg\n0 round 0\nreg\n",
+        b"reg\n0 through 1 2 10001\nreg\n",
+        b"reg\n0 through 1 2\nreg\n",
+        b"reg\n0 through 1 2 3 4\nreg\n",
+        b"reg\n0 through 1 18446744073709551616 3\nreg\n",
         b"reg\nget 1",
     ];
     for script in table {

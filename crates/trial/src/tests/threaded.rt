@@ -87,12 +87,16 @@ fn whole_calls<R: Wait>(
 ) -> Result<bool, Refusal> {
     let mut out = [(0, 0); 4];
     let found = tree.range(rt, &0, &10, &mut out, worker, guard)?;
+    let mut ends = [(0, 0); 4];
+    let with_end = tree.range_inclusive(rt, &1, &1, &mut ends, worker, guard)?;
     let keys = tree.keys(rt, worker)?;
     tree.repin(rt, worker, guard)?;
     tree.flush(rt, worker, guard)?;
     Ok(
         found == 1
             && out[0] == (1, 5)
+            && with_end == 1
+            && ends[0] == (1, 5)
             && keys.as_slice() == [1].as_slice()
             && !tree.is_empty(rt, worker, guard)?
             && tree.stats(rt, worker)?.kv_pairs == 1,
@@ -140,10 +144,13 @@ fn numbers_are_found_by_their_bytes(rt: HostRuntime) -> Result<(), Fail> {
     let before = tree.insert(&rt, 256, 7, &mut worker, &guard);
     let mut out = [([1; 8], 0)];
     let found = tree.range(&rt, 0, 1_000, &mut out, &mut worker, &guard);
+    let mut ends = [([1; 8], 0)];
+    let with_end = tree.range_inclusive(&rt, 256, 256, &mut ends, &mut worker, &guard);
     let removed = tree.remove(&rt, 256, &mut worker, &guard);
     spent(tree.unpin(&rt, &mut worker, guard))?;
     assert_eq!(rt; (before, found, removed), (Ok(None), Ok(1), Ok(Some(7))));
     assert_eq!(rt; out, [([0, 0, 0, 0, 0, 0, 1, 0], 7)]);
+    assert_eq!(rt; (with_end, ends), (Ok(1), out));
     let state = (
         tree.charged(&rt),
         tree.waiting(&rt),

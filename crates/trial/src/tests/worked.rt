@@ -4,7 +4,7 @@ use super::dialogue::{first_wrong, goes, repeated};
 use super::scripts::played;
 use std::test::Fail;
 
-const ONE_WORKER: [&str; 6] = [
+const ONE_WORKER: [&str; 9] = [
     "an empty tree has its root: new 1 1000 = ok; reg = worker 0; 0 pin = ok; charged = charged 2104; 0 get 1 = none",
     "a worker pins anew and leaves: new 1 9 = ok; reg = worker 0; 0 repin = refused Unpinned; 0 flush = refused Unpinned; 0 pin = ok; \
      0 repin = ok; 0 flush = ok; 0 release = refused GuardOut; 0 unpin = ok; 0 release = ok; 0 release = refused Unknown; reg = worker 0",
@@ -18,6 +18,16 @@ const ONE_WORKER: [&str; 6] = [
      0 present 1 drop = pair 44 none; 0 get 1 = none",
     "sums wrap: new 1 9 = ok; reg = worker 0; 0 pin = ok; 0 insert 1 18446744073709551615 = none; \
      0 present 1 add 2 = pair 18446744073709551615 1; 0 orinsert 1 18446744073709551615 = some 1; 0 get 1 = some 0",
+    "the greatest key is scanned with the end included: new 1 9 = ok; reg = worker 0; 0 pin = ok; 0 insert 18446744073709551615 7 = none; \
+     0 range 18446744073709551614 18446744073709551615 4 = range 0; \
+     0 through 18446744073709551614 18446744073709551615 4 = range 1 18446744073709551615:7; \
+     0 through 18446744073709551615 18446744073709551615 1 = range 1 18446744073709551615:7",
+    "a scan has the pair of its end: new 1 9 = ok; reg = worker 0; 0 pin = ok; 0 insert 5 50 = none; 0 insert 6 60 = none; \
+     0 through 5 5 4 = range 1 5:50; 0 through 5 6 1 = range 1 5:50; 0 through 6 5 4 = range 0; \
+     0 through 0 18446744073709551615 9 = range 2 5:50 6:60; 0 through 0 18446744073709551615 10000 = range 2 5:50 6:60",
+    "it goes on step by step: new 1 9 = ok; reg = worker 0; 0 through 5 5 4 = refused Unpinned; 0 pin = ok; 0 insert 5 50 = none; \
+     0 begin through 6 5 4 = range 0; 0 begin through 5 5 0 = range 0; 0 begin through 5 5 4 = begun; 0 through 5 5 4 = refused Busy; \
+     0 go 1 = running; 0 go 100 = range 1 5:50",
 ];
 
 /// What a call left that took nodes out.

@@ -27,7 +27,7 @@ module _ {T : Type 0} where
   pub rest_kept : (out old : List T) (i : ℕ) (p : T) → i < length out → drop i out ≡ drop i old → drop (i + 1) (set out i p) ≡ drop (i + 1) old
   rest_kept out old i p l h = drop-set-lt (i + 1) out i p (omega arith) ∙ sym (drop-drop 1 i out) ∙ ap (drop 1) h ∙ drop-drop 1 i old
 
-  take_none : (n : ℕ) (es : List T) → es ≡ [] → take n es ≡ []
+  pub take_none : (n : ℕ) (es : List T) → es ≡ [] → take n es ≡ []
   take_none zero [] e = refl
   take_none (suc n) [] e = refl
   take_none n (x ∷ es) e = absurd (cc e)
@@ -58,6 +58,11 @@ module _ {X : Type 0} where
   none_before_zero start ((k, x) ∷ r) =
       let rest = none_before_zero start r in
       elim (cases_lt k start) [ inl l ↦ grind (arith, nat_tests, l, rest) | inr l ↦ grind (arith, nat_tests, l, rest) ]
+
+  -- a range that ends before each number
+  pub none_before : (start end : ℕ) (es : List (ℕ × X)) → (1 ≤ end → ⊥) → in_range start end es ≡ []
+  none_before start zero es n = none_before_zero start es
+  none_before start (suc end) es n = absurd (n (omega arith))
 
   pub range_none : (m : map.FinMap nat_cmp X) (start end : ℕ) → ((q : ℕ) → start ≤ q → q < end → map.get m q ≡ None) → in_range start end (map.entries m) ≡ []
   range_none m start zero h = none_before_zero start (map.entries m)

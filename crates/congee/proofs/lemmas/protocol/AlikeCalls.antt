@@ -1,8 +1,9 @@
 -- A call among others, and the same call by numbers.
-use Rattle.std.proofs.Common.{◌≡◌, ℕ, Bool, List, length, refl, sym, ◌∙◌, ap, subst, arith}
-use Rattle.std.specs.Prelude.{Option, Some, slice_get}
+use Rattle.std.proofs.Common.{◌≡◌, ℕ, ◌-◌, Bool, cond, List, length, refl, sym, ◌∙◌, ap, subst, arith}
+use Rattle.std.specs.Prelude.{Option, Some, slice_get, ltb, leb}
 use Rattle.congee.specs.declared.forms.base_node.NodeType.{NodeType}
 use Rattle.congee.specs.declared.protocol.op.Op.{Op}
+use Rattle.congee.specs.declared.protocol.phase.Phase.TheVariants.{Sweep}
 use Rattle.congee.specs.declared.protocol.op.Op.TheVariants as op
 use Rattle.congee.specs.declared.protocol.store.Refusal.{Refusal}
 use Rattle.congee.specs.declared.protocol.store.Refusal.TheVariants as refusal
@@ -59,8 +60,12 @@ module _ {C V : Type 0} (number : C → ℕ) (same : V → V → Bool) (always :
 
 -- a call that has not begun
 module _ {C V : Type 0} (number : C → ℕ) where
+  new_scan : (order : List ℕ) (h : ℕ → Node V) (root : C) (n start last size : ℕ) → PhaseAlike order number h (Sweep (new_sweep root start last size)) (Sweep (new_sweep n start last size))
+  new_scan order h root n start last size = (new_sweep n start last size, refl, record { start = refl; last = refl; size = refl; count = refl; len = refl; way = λ i l. absurd (omega (arith, l)); stage = refl })
+
   new_call : (order : List ℕ) (h : ℕ → Node V) (root : C) (n : ℕ) (o : Op V) → Named order number root n → PhaseAlike order number h (first_phase root o) (first_phase n o)
-  new_call order h root n (op.Range start end size) e = (new_sweep n start end size, refl, record { start = refl; end = refl; size = refl; count = refl; len = refl; way = λ i l. absurd (omega (arith, l)); stage = refl })
+  new_call order h root n (op.Range start end size) e = new_scan order h root n start (end - 1) (cond (ltb start end) size 0)
+  new_call order h root n (op.RangeInclusive start last size) e = new_scan order h root n start last (cond (leb start last) size 0)
   new_call order h root n (op.Get k) e = refl
   new_call order h root n (op.Insert k v) e = refl
   new_call order h root n (op.Remove k) e = refl

@@ -122,7 +122,7 @@ module _ {C : Type 0} (order order' : List ℕ) (number : C → ℕ) (f : (n c :
       scan_later : (s : Scan C V) (t : Scan ℕ V) → StillAt s.stage → ScanAlike order number h s t → ScanAlike order' number h' s t
       scan_later s t k x = record {
         start = x.start;
-        end = x.end;
+        last = x.last;
         size = x.size;
         count = x.count;
         len = x.len;

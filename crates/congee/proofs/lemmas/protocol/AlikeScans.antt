@@ -93,10 +93,10 @@ module _ {C V : Type 0} (order : List ℕ) (number : C → ℕ) (h : ℕ → Nod
 
   -- the same scan by numbers, on this way and before this step
   abbrev twin : Scan C V → Path ℕ → Stage ℕ V → Scan ℕ V
-  twin s Q y = record { start = s.start; end = s.end; size = s.size; count = s.count; above = Q; stage = y }
+  twin s Q y = record { start = s.start; last = s.last; size = s.size; count = s.count; above = Q; stage = y }
 
   at_alike : (s : Scan C V) (Q : Path ℕ) (z : Stage ℕ V) (count : ℕ) (P' : Path C) (Q' : Path ℕ) (x : Stage C V) (y : Stage ℕ V) → WayAlike P' Q' → StageAlike order number h x y → ScanAlike order number h (sweep_at s count P' x) (sweep_at (twin s Q z) count Q' y)
-  at_alike s Q z count P' Q' x y w e = record { start = refl; end = refl; size = refl; count = refl; len = w.len; way = w.way; stage = e }
+  at_alike s Q z count P' Q' x y w e = record { start = refl; last = refl; size = refl; count = refl; len = w.len; way = w.way; stage = e }
 
   pub record SwungAlike (u : Swung C V) (w : Swung ℕ V) : Type 0 where
     pub told : w.1 ≡ u.1
@@ -125,7 +125,7 @@ module _ {C V : Type 0} (order : List ℕ) (number : C → ℕ) (h : ℕ → Nod
 
     entered_alike : (root : C) (m : ℕ) (c : C) (n : ℕ) (x : Region) (v : Option ℕ) → Named order number root m → Named order number c n → SwungAlike (entered root s c x v) (entered m t n x v)
     entered_alike root m c n x None r e = anew_alike root m r
-    entered_alike root m c n x (Some v) r e = by (is_outside s.start s.end x) where
+    entered_alike root m c n x (Some v) r e = by (is_outside s.start s.last x) where
       by : (b : Bool) → SwungAlike (cond b (left s) (goes s s.above (stage.Look (record { at = record { node = c; version = v }; region = x; from = first_byte s.start x })))) (cond b (left t) (goes t Q (stage.Look (record { at = record { node = n; version = v }; region = x; from = first_byte s.start x }))))
       by true = left_alike
       by false = goes_alike s.above Q (stage.Look (record { at = record { node = c; version = v }; region = x; from = first_byte s.start x })) (stage.Look (record { at = record { node = n; version = v }; region = x; from = first_byte s.start x })) w
@@ -170,25 +170,23 @@ module _ {C V : Type 0} (order : List ℕ) (number : C → ℕ) (h : ℕ → Nod
 
     swung_at : (p : Stage C V) (y : Stage ℕ V) (u : Swung C V) → StageAlike order number h p y → MaySweepAt number root s p h → IsUnrefused (outcome_of u.1) → SweptAt number always root s p h u → SwungAlike u (swung m seen g q y)
     swung_at stage.New y u a may un k =
-        to_alike u (begins m q (version_of (h (number root)))) _ (ap (swung m seen g q) a ∙ ap (begins m q) (version_here root m r may)) (at_alike_swung u _ _ k (by (ltb s.start s.end) (s.size == 0)))
+        to_alike u (begins m q (version_of (h (number root)))) _ (ap (swung m seen g q) a ∙ ap (begins m q) (version_here root m r may)) (at_alike_swung u _ _ k (by (s.size == 0)))
       where
-        by : (b d : Bool) → SwungAlike (cond b (cond d (over s (told.Done 0)) (entered root (anew root s).0 root whole (version_of (h (number root))))) (over s (told.Done 0)))
-            (cond b (cond d (over q (told.Done 0)) (entered m (anew m q).0 m whole (version_of (h (number root))))) (over q (told.Done 0)))
-        by true true = over_alike s Q z w (told.Done 0)
-        by true false = entered_alike (anew root s).0 (cleared Q) (stage.Enter m whole) (way_cleared s.above Q) root m root m whole (version_of (h (number root))) r r
-        by false d = over_alike s Q z w (told.Done 0)
+        by : (d : Bool) → SwungAlike (cond d (over s (told.Done 0)) (entered root (anew root s).0 root whole (version_of (h (number root))))) (cond d (over q (told.Done 0)) (entered m (anew m q).0 m whole (version_of (h (number root)))))
+        by true = over_alike s Q z w (told.Done 0)
+        by false = entered_alike (anew root s).0 (cleared Q) (stage.Enter m whole) (way_cleared s.above Q) root m root m whole (version_of (h (number root))) r r
     swung_at (stage.Enter c b) y u a may un k =
         to_alike u (entered m q a.0 b (version_of (h (number c)))) _ (ap (swung m seen g q) a.1 ∙ ap (entered m q a.0 b) (version_here c a.0 a.2 may.0)) (at_alike_swung u _ _ k (entered_alike s Q z w root m c a.0 b (version_of (h (number c))) r a.2))
     swung_at (stage.Look ru) y u a may un k =
         let node : NodeAlike order (h (number ru.at.node)) (g a.0.at.node) = x a.0.at.node (number ru.at.node) a.2.at.node may.0 in
-        let found : Least ℕ V = least_of (g a.0.at.node) a.0.at.version a.0.from (last_byte s.end a.0.region) seen in
-        to_alike u (goes q Q (stage.Check a.0 (least_of (g a.0.at.node) a.0.at.version a.0.from (last_byte s.end a.0.region) seen))) _ (ap (swung m seen g q) a.1)
-        (at_alike_swung u _ _ k.2 (goes_alike s Q z w s.above Q (stage.Check ru k.0) (stage.Check a.0 (least_of (g a.0.at.node) a.0.at.version a.0.from (last_byte s.end a.0.region) seen)) w (
+        let found : Least ℕ V = least_of (g a.0.at.node) a.0.at.version a.0.from (last_byte s.last a.0.region) seen in
+        to_alike u (goes q Q (stage.Check a.0 (least_of (g a.0.at.node) a.0.at.version a.0.from (last_byte s.last a.0.region) seen))) _ (ap (swung m seen g q) a.1)
+        (at_alike_swung u _ _ k.2 (goes_alike s Q z w s.above Q (stage.Check ru k.0) (stage.Check a.0 (least_of (g a.0.at.node) a.0.at.version a.0.from (last_byte s.last a.0.region) seen)) w (
           a.0,
-          least_of (g a.0.at.node) a.0.at.version a.0.from (last_byte s.end a.0.region) seen,
+          least_of (g a.0.at.node) a.0.at.version a.0.from (last_byte s.last a.0.region) seen,
           refl,
           a.2,
-          λ t. least_alike order number always (h (number ru.at.node)) (g a.0.at.node) ru.at.version a.0.at.version ru.from a.0.from (last_byte s.end ru.region) (last_byte s.end a.0.region) seen k.0 node a.2.at.version a.2.from (ap (last_byte s.end) a.2.region) k.1 t,
+          λ t. least_alike order number always (h (number ru.at.node)) (g a.0.at.node) ru.at.version a.0.at.version ru.from a.0.from (last_byte s.last ru.region) (last_byte s.last a.0.region) seen k.0 node a.2.at.version a.2.from (ap (last_byte s.last) a.2.region) k.1 t,
         )))
     swung_at (stage.Check ru f) y u a may un k =
         let node : NodeAlike order (h (number ru.at.node)) (g a.0.at.node) = x a.0.at.node (number ru.at.node) a.3.at.node may.0 in
@@ -207,8 +205,8 @@ module _ {C V : Type 0} (order : List ℕ) (number : C → ℕ) (h : ℕ → Nod
   swung_alike g x always root m r seen s t u e may un k =
       let A : Scan ℕ V → Type 0 = λ y. SwungAlike u (swung m seen g y y.stage) in
       let same : t ≡ twin s t.above t.stage =
-      ap (λ y. record { start = y; end = t.end; size = t.size; count = t.count; above = t.above; stage = t.stage }) e.start
-      ∙ ap (λ y. record { start = s.start; end = y; size = t.size; count = t.count; above = t.above; stage = t.stage }) e.end
-      ∙ ap (λ y. record { start = s.start; end = s.end; size = y; count = t.count; above = t.above; stage = t.stage }) e.size
-      ∙ ap (λ y. record { start = s.start; end = s.end; size = s.size; count = y; above = t.above; stage = t.stage }) e.count in
+      ap (λ y. record { start = y; last = t.last; size = t.size; count = t.count; above = t.above; stage = t.stage }) e.start
+      ∙ ap (λ y. record { start = s.start; last = y; size = t.size; count = t.count; above = t.above; stage = t.stage }) e.last
+      ∙ ap (λ y. record { start = s.start; last = s.last; size = y; count = t.count; above = t.above; stage = t.stage }) e.size
+      ∙ ap (λ y. record { start = s.start; last = s.last; size = s.size; count = y; above = t.above; stage = t.stage }) e.count in
       subst A (sym same) (swung_at g x always root m r seen s t.above t.stage (record { len = e.len; way = e.way }) s.stage t.stage u e.stage may un k)

@@ -75,6 +75,7 @@ whole_left number a h root (op.ComputePresent k) tr = omega arith
 whole_left number a h root (op.ComputeInsert k) tr = omega arith
 whole_left number a h root (op.Exchange k old new) tr = omega arith
 whole_left number a h root (op.Range start end size) tr = let e = under_counts a h tr 8 0 tr.root (omega arith) in omega (arith, e)
+whole_left number a h root (op.RangeInclusive start last size) tr = let e = under_counts a h tr 8 0 tr.root (omega arith) in omega (arith, e)
 
 -- nothing is relied on before the first step
 pub begins_on : {C V : Type 0} (number : C → ℕ) (h : ℕ → Node V) (root : C) (o : Op V) → IsUndisturbed number h (first_phase root o)
@@ -85,3 +86,4 @@ begins_on number h root (op.ComputePresent k) = (tt, tt)
 begins_on number h root (op.ComputeInsert k) = (tt, tt)
 begins_on number h root (op.Exchange k old new) = (tt, tt)
 begins_on number h root (op.Range start end size) = (tt, tt)
+begins_on number h root (op.RangeInclusive start last size) = (tt, tt)

@@ -168,7 +168,7 @@ module _ {C V : Type 0} (number : C → ℕ) (h : ℕ → Node V) where
         → steps_under h (8 - s.above.len) (number c) 0 + steps_way number h 8 (rungs_of s.above) < n → NearScan (entered root s c x (version_of (h (number c))))
     enters root s c x free fits t l =
         scan_to (entered root s c x (Some (h (number c)).version)) (entered root s c x (version_of (h (number c)))) (ap (entered root s c x) (version_free (h (number c)) free))
-        (by_test (λ (z : Swung C V). NearScan z) (is_outside s.start s.end x) _ _ (λ _. lefts s fits t (omega (arith, l)))
+        (by_test (λ (z : Swung C V). NearScan z) (is_outside s.start s.last x) _ _ (λ _. lefts s fits t (omega (arith, l)))
         (λ _. (((taken_now (h (number c)) free, t), tt), (let u = under_less h (8 - s.above.len) (number c) (first_byte s.start x) in omega (arith, l, u)), λ q. absurd (cc q))))
 
     fills : (s : Sweep C V) (r : Rung C) (byte : ℕ) (v : V) → is_taken (h (number r.at.node)) r.at.version ≡ true → AreTaken number h (seats_rungs (rungs_of s.above)) → 1 < n
@@ -184,7 +184,7 @@ module _ {C V : Type 0} (number : C → ℕ) (always : Bool) (a : ℕ → Note) 
   found_fewer f r least.Uncopied last p any truly = let t = under_two h f (number r.at.node) r.from p in omega (arith, t)
 
   follows : (s : Sweep C V) (r : Rung C) (x : Least C V) (u : Swung C V) → s.above.len < 8 → AreTaken number h (r.at ∷ seats_rungs (rungs_of s.above)) → (a (number r.at.node)).status ≡ Linked
-      → LeastTruly number (h (number r.at.node)) r.from (last_byte s.end r.region) x → IsFollowed number h s r x u → NearScan number h (steps_found number h (8 - s.above.len) r x + steps_way number h 8 (rungs_of s.above)) u
+      → LeastTruly number (h (number r.at.node)) r.from (last_byte s.last r.region) x → IsFollowed number h s r x u → NearScan number h (steps_found number h (8 - s.above.len) r x + steps_way number h 8 (rungs_of s.above)) u
   follows s r least.Nothing u short t l truly e = scan_to number h _ _ u e (lefts number h _ s (omega (arith, short)) t.1 (omega arith))
   follows s r (least.Node byte c) u short t l truly e =
       let path : rungs_of (pushed s.above (moved r byte)) ≡ rungs_of s.above ++ moved r byte ∷ [] = path_pushed s.above (moved r byte) short in
@@ -214,14 +214,12 @@ module _ {C V : Type 0} (number : C → ℕ) (always : Bool) (a : ℕ → Note) 
       let none : steps_way number h 8 (rungs_of (cleared s.above)) ≡ 0 = ap (steps_way number h 8) (path_empty s.above) in
       let top : steps_under h 8 (number root) 0 ≡ steps_under h 8 0 0 = ap (λ y. steps_under h 8 y 0) z in
       let at_root : (a (number root)).status ≡ Linked = (let P : ℕ → Type 0 = λ y. (a y).status ≡ Linked in subst P (sym z) tr.root) in
-      scan_to number h _ _ u e (by_test (λ (y : Swung C V). NearScan number h (1 + steps_under h 8 0 0) y) (ltb s.start s.end) _ _
-      (λ _. by_test (λ (y : Swung C V). NearScan number h (1 + steps_under h 8 0 0) y) (s.size == 0) _ _ (λ _. ((tt, tt), omega arith, λ _. refl))
+      scan_to number h _ _ u e (by_test (λ (y : Swung C V). NearScan number h (1 + steps_under h 8 0 0) y) (s.size == 0) _ _ (λ _. ((tt, tt), omega arith, λ _. refl))
       (λ _. enters number h _ root cl root whole (free (number root) at_root) (omega arith) (subst T (sym (path_empty s.above)) tt) (omega (arith, none, top))))
-      (λ _. ((tt, tt), omega arith, λ _. refl)))
   scans_on s (stage.Enter n x) u k t f ne e = scan_to number h _ _ u e (enters number h _ root s n x f k.0.fits t (omega arith))
   scans_on s (stage.Look r) u k t f ne e =
       let short : s.above.len < 8 = (let d = k.1.deep in let sh = k.1.region.short in omega (arith, d, sh)) in
-      scan_to number h _ (goes s s.above (stage.Check r e.0)) u e.2 ((t, tt), (let x = found_fewer (8 - s.above.len) r e.0 (last_byte s.end r.region) (omega (arith, short)) e.1.0 (e.1.1 t.0) in omega (arith, x)), λ q. absurd (cc q))
+      scan_to number h _ (goes s s.above (stage.Check r e.0)) u e.2 ((t, tt), (let x = found_fewer (8 - s.above.len) r e.0 (last_byte s.last r.region) (omega (arith, short)) e.1.0 (e.1.1 t.0) in omega (arith, x)), λ q. absurd (cc q))
   scans_on s (stage.Check r x) u k t f ne e =
       let short : s.above.len < 8 = (let d = k.1.deep in let sh = k.1.region.short in omega (arith, d, sh)) in
       follows s r x u short t (taken_linked a h w (number r.at.node) r.at.version k.1.seated.published t.0) (k.3.holds t.0) (e.goes_on t.0)

@@ -221,10 +221,10 @@ module _ {C V : Type 0} (number : C → ℕ) (always : Bool) (root : C) (s : Sca
 
   told_entered : (y : Scan C V) (n : C) (x : Region) (o : Option ℕ) → Told_only (entered root y n x o)
   told_entered y n x None = told_runs
-  told_entered y n x (Some v) = by_test (λ (z : Swung C V). Told_only z) (is_outside y.start y.end x) _ _ (λ _. told_left y (last_of y.above)) (λ _. told_runs)
+  told_entered y n x (Some v) = by_test (λ (z : Swung C V). Told_only z) (is_outside y.start y.last x) _ _ (λ _. told_left y (last_of y.above)) (λ _. told_runs)
 
   told_begun : (o : Option ℕ) → Told_only (begins root s o)
-  told_begun o = by_test (λ (z : Swung C V). Told_only z) (ltb s.start s.end) _ _ (λ _. by_test (λ (z : Swung C V). Told_only z) (s.size == 0) _ _ (λ _. told_done _) (λ _. told_entered (anew root s).0 root whole o)) (λ _. told_done _)
+  told_begun o = by_test (λ (z : Swung C V). Told_only z) (s.size == 0) _ _ (λ _. told_done _) (λ _. told_entered (anew root s).0 root whole o)
 
   told_followed : (h : ℕ → Node V) (r : Rung C) (x : Least C V) (u : Swung C V) → IsAny always x → IsFollowed number h s r x u → Told_only u
   told_followed h r least.Nothing u a p = told_to _ u p (told_left s (last_of s.above))

@@ -94,9 +94,9 @@ module _ {C V : Type 0} (number : C → ℕ) (same : V → V → Bool) (always :
 
   sweep_at : (s : Scan C V) (x : Stage C V) → SweepKnownAt number always a h s x → Each In (names_sweep_at number s x)
   sweep_at s stage.New x = tt
-  sweep_at s (stage.Enter n y) x = (x.1, rungs_in s.end 0 (rungs_of s.above) x.0.rungs)
-  sweep_at s (stage.Look r) x = (x.1.seated.published, rungs_in s.end 0 (rungs_of s.above) x.0.rungs)
-  sweep_at s (stage.Check r y) x = (x.1.seated.published, rungs_in s.end 0 (rungs_of s.above) x.0.rungs)
+  sweep_at s (stage.Enter n y) x = (x.1, rungs_in s.last 0 (rungs_of s.above) x.0.rungs)
+  sweep_at s (stage.Look r) x = (x.1.seated.published, rungs_in s.last 0 (rungs_of s.above) x.0.rungs)
+  sweep_at s (stage.Check r y) x = (x.1.seated.published, rungs_in s.last 0 (rungs_of s.above) x.0.rungs)
   sweep_at s stage.Full x = tt
   sweep_at s stage.Over x = tt
 

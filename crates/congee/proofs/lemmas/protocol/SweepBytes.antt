@@ -1,5 +1,5 @@
 -- The bytes of a node that a range of keys has.
-use Rattle.std.proofs.Common.{◌≡◌, ℕ, zero, suc, ◌<◌, ◌≤◌, ◌+◌, ◌*◌, ◌-◌, ◌/◌, ◌^◌, ◌==◌, true, false, cond, List, inl, inr, refl, sym, ap, ◌∙◌, arith}
+use Rattle.std.proofs.Common.{◌≡◌, ℕ, zero, suc, ◌<◌, ◌≤◌, ◌+◌, ◌*◌, ◌-◌, ◌/◌, ◌^◌, ◌==◌, Bool, true, false, cond, List, inl, inr, refl, sym, ap, ◌∙◌, arith}
 use Rattle.std.proofs.Math.Dec.{ltb}
 use Rattle.std.proofs.lemmas.Nat.{pow-add}
 use Rattle.std.proofs.lemmas.Bool.{cases_lt}
@@ -41,46 +41,53 @@ module _ (x : Region) where
   quotient : (n : ℕ) → n / width x.depth ≡ n / span (x.depth + 1)
   quotient n = ap (λ w. n / w) (width_is x.depth)
 
+  -- whether all keys below the node come before the range, where some come before its end
+  abbrev beyond : ℕ → Bool
+  beyond start = cond (ltb x.base start) (ltb 255 ((start - x.base) / width x.depth)) false
+
+  within : (start last : ℕ) → x.base ≤ last → is_outside start last x ≡ beyond start
+  within start last ge = low_no last x.base true (beyond start) ge
+
   -- the greatest byte
-  pub last_small : (end : ℕ) → last_byte end x ≤ 255
-  last_small end = elim (cases_lt 255 ((end - 1 - x.base) / width x.depth)) [
-    | inl l ↦ (let e : last_byte end x ≡ 255 = low_yes 255 ((end - 1 - x.base) / width x.depth) 255 ((end - 1 - x.base) / width x.depth) l in omega (arith, e))
-    | inr l ↦ (let e : last_byte end x ≡ (end - 1 - x.base) / width x.depth = low_no 255 ((end - 1 - x.base) / width x.depth) 255 ((end - 1 - x.base) / width x.depth) l in omega (arith, e, l))
+  pub last_small : (last : ℕ) → last_byte last x ≤ 255
+  last_small last = elim (cases_lt 255 ((last - x.base) / width x.depth)) [
+    | inl l ↦ (let e : last_byte last x ≡ 255 = low_yes 255 ((last - x.base) / width x.depth) 255 ((last - x.base) / width x.depth) l in omega (arith, e))
+    | inr l ↦ (let e : last_byte last x ≡ (last - x.base) / width x.depth = low_no 255 ((last - x.base) / width x.depth) 255 ((last - x.base) / width x.depth) l in omega (arith, e, l))
   ]
 
-  pub last_within : (end : ℕ) → x.base < end → start_at x.base x.depth (last_byte end x) < end
-  last_within end b =
-      let q : (end - 1 - x.base) / width x.depth ≡ (end - 1 - x.base) / span (x.depth + 1) = quotient (end - 1 - x.base) in
-      let p = multiple_bounds (end - 1 - x.base) (span (x.depth + 1)) (span_pos (x.depth + 1)) in
-      elim (cases_lt 255 ((end - 1 - x.base) / width x.depth)) [
-        | inl l ↦ (let e : last_byte end x ≡ 255 = low_yes 255 ((end - 1 - x.base) / width x.depth) 255 ((end - 1 - x.base) / width x.depth) l in
-            let m : 255 * span (x.depth + 1) ≤ (end - 1 - x.base) / span (x.depth + 1) * span (x.depth + 1) = mul-le-mul_right {m = 255} {n = (end - 1 - x.base) / span (x.depth + 1)} (span (x.depth + 1)) (omega (arith, l, q)) in
-            let z : last_byte end x * span (x.depth + 1) ≡ 255 * span (x.depth + 1) = ap (λ n. n * span (x.depth + 1)) e in
+  pub last_within : (last : ℕ) → x.base ≤ last → start_at x.base x.depth (last_byte last x) ≤ last
+  last_within last b =
+      let q : (last - x.base) / width x.depth ≡ (last - x.base) / span (x.depth + 1) = quotient (last - x.base) in
+      let p = multiple_bounds (last - x.base) (span (x.depth + 1)) (span_pos (x.depth + 1)) in
+      elim (cases_lt 255 ((last - x.base) / width x.depth)) [
+        | inl l ↦ (let e : last_byte last x ≡ 255 = low_yes 255 ((last - x.base) / width x.depth) 255 ((last - x.base) / width x.depth) l in
+            let m : 255 * span (x.depth + 1) ≤ (last - x.base) / span (x.depth + 1) * span (x.depth + 1) = mul-le-mul_right {m = 255} {n = (last - x.base) / span (x.depth + 1)} (span (x.depth + 1)) (omega (arith, l, q)) in
+            let z : last_byte last x * span (x.depth + 1) ≡ 255 * span (x.depth + 1) = ap (λ n. n * span (x.depth + 1)) e in
             omega (arith, z, m, p.0, b))
-        | inr l ↦ (let e : last_byte end x ≡ (end - 1 - x.base) / width x.depth = low_no 255 ((end - 1 - x.base) / width x.depth) 255 ((end - 1 - x.base) / width x.depth) l in
-            let z : last_byte end x * span (x.depth + 1) ≡ (end - 1 - x.base) / span (x.depth + 1) * span (x.depth + 1) = ap (λ n. n * span (x.depth + 1)) (e ∙ q) in
+        | inr l ↦ (let e : last_byte last x ≡ (last - x.base) / width x.depth = low_no 255 ((last - x.base) / width x.depth) 255 ((last - x.base) / width x.depth) l in
+            let z : last_byte last x * span (x.depth + 1) ≡ (last - x.base) / span (x.depth + 1) * span (x.depth + 1) = ap (λ n. n * span (x.depth + 1)) (e ∙ q) in
             omega (arith, z, p.0, b))
       ]
 
   -- no key of the range has a greater one
-  pub last_covers : (end k byte : ℕ) → x.base ≤ k → k < end → byte < 256 → start_at x.base x.depth byte ≤ k → byte ≤ last_byte end x
-  last_covers end k byte lo hi small at =
-      let q : (end - 1 - x.base) / width x.depth ≡ (end - 1 - x.base) / span (x.depth + 1) = quotient (end - 1 - x.base) in
-      let p = multiple_bounds (end - 1 - x.base) (span (x.depth + 1)) (span_pos (x.depth + 1)) in
-      let up : byte ≤ (end - 1 - x.base) / span (x.depth + 1) = between_one (span (x.depth + 1)) byte ((end - 1 - x.base) / span (x.depth + 1)) (omega (arith, at, hi, lo, p.1)) in
-      elim (cases_lt 255 ((end - 1 - x.base) / width x.depth)) [
-        | inl l ↦ (let e : last_byte end x ≡ 255 = low_yes 255 ((end - 1 - x.base) / width x.depth) 255 ((end - 1 - x.base) / width x.depth) l in omega (arith, e, small))
-        | inr l ↦ (let e : last_byte end x ≡ (end - 1 - x.base) / width x.depth = low_no 255 ((end - 1 - x.base) / width x.depth) 255 ((end - 1 - x.base) / width x.depth) l in omega (arith, e, up, q))
+  pub last_covers : (last k byte : ℕ) → x.base ≤ k → k ≤ last → byte < 256 → start_at x.base x.depth byte ≤ k → byte ≤ last_byte last x
+  last_covers last k byte lo hi small at =
+      let q : (last - x.base) / width x.depth ≡ (last - x.base) / span (x.depth + 1) = quotient (last - x.base) in
+      let p = multiple_bounds (last - x.base) (span (x.depth + 1)) (span_pos (x.depth + 1)) in
+      let up : byte ≤ (last - x.base) / span (x.depth + 1) = between_one (span (x.depth + 1)) byte ((last - x.base) / span (x.depth + 1)) (omega (arith, at, hi, lo, p.1)) in
+      elim (cases_lt 255 ((last - x.base) / width x.depth)) [
+        | inl l ↦ (let e : last_byte last x ≡ 255 = low_yes 255 ((last - x.base) / width x.depth) 255 ((last - x.base) / width x.depth) l in omega (arith, e, small))
+        | inr l ↦ (let e : last_byte last x ≡ (last - x.base) / width x.depth = low_no 255 ((last - x.base) / width x.depth) 255 ((last - x.base) / width x.depth) l in omega (arith, e, up, q))
       ]
 
   -- the keys of a node that is left aside aren't in the range
-  pub outside : (start end k : ℕ) → x.depth ≤ 7 → is_outside start end x ≡ true → start ≤ k → k < end → x.base ≤ k → k < x.base + span x.depth → ⊥
-  outside start end k d e lo hi at under = elim (cases_lt x.base end) [
-    | inr ge ↦ omega (arith, ge, hi, at)
-    | inl lt ↦ elim (cases_lt x.base start) [
-      | inr ge ↦ (let f : is_outside start end x ≡ false = low_yes x.base end (cond (ltb x.base start) (ltb 255 ((start - x.base) / width x.depth)) false) true lt ∙ low_no x.base start (ltb 255 ((start - x.base) / width x.depth)) false ge in let z : true ≡ false = sym e ∙ f in cc)
+  pub outside : (start last k : ℕ) → x.depth ≤ 7 → is_outside start last x ≡ true → start ≤ k → k ≤ last → x.base ≤ k → k < x.base + span x.depth → ⊥
+  outside start last k d e lo hi at under = elim (cases_lt last x.base) [
+    | inl lt ↦ omega (arith, lt, hi, at)
+    | inr ge ↦ elim (cases_lt x.base start) [
+      | inr le ↦ (let f : is_outside start last x ≡ false = within start last ge ∙ low_no x.base start (ltb 255 ((start - x.base) / width x.depth)) false le in let z : true ≡ false = sym e ∙ f in cc)
       | inl less ↦ elim (cases_lt 255 ((start - x.base) / width x.depth)) [
-        | inr le ↦ (let f : is_outside start end x ≡ ltb 255 ((start - x.base) / width x.depth) = low_yes x.base end (cond (ltb x.base start) (ltb 255 ((start - x.base) / width x.depth)) false) true lt ∙ low_yes x.base start (ltb 255 ((start - x.base) / width x.depth)) false less in
+        | inr le ↦ (let f : is_outside start last x ≡ ltb 255 ((start - x.base) / width x.depth) = within start last ge ∙ low_yes x.base start (ltb 255 ((start - x.base) / width x.depth)) false less in
             let g : ltb 255 ((start - x.base) / width x.depth) ≡ false = grind (arith, nat_tests, le) in let z : true ≡ false = sym e ∙ f ∙ g in cc)
         | inl far ↦ (
             let q : (start - x.base) / width x.depth ≡ (start - x.base) / span (x.depth + 1) = quotient (start - x.base) in
@@ -93,10 +100,10 @@ module _ (x : Region) where
   ]
 
   -- a node that isn't left aside
-  pub inside_end : (start end : ℕ) → is_outside start end x ≡ false → x.base < end
-  inside_end start end e = elim (cases_lt x.base end) [
-    | inl lt ↦ lt
-    | inr ge ↦ (let f : is_outside start end x ≡ true = low_no x.base end (cond (ltb x.base start) (ltb 255 ((start - x.base) / width x.depth)) false) true ge in absurd (let z : false ≡ true = sym e ∙ f in cc))
+  pub inside_last : (start last : ℕ) → is_outside start last x ≡ false → x.base ≤ last
+  inside_last start last e = elim (cases_lt last x.base) [
+    | inr ge ↦ ge
+    | inl lt ↦ (let f : is_outside start last x ≡ true = low_yes last x.base true (beyond start) lt in absurd (let z : false ≡ true = sym e ∙ f in cc))
   ]
 
   pub first_small : (start : ℕ) → first_byte start x ≤ 255
@@ -110,32 +117,32 @@ module _ (x : Region) where
   ]
 
   -- the keys of the node before its first byte come before the range, and those of that byte don't all
-  pub first_before : (start end k : ℕ) → is_outside start end x ≡ false → start ≤ k → x.base ≤ k → k < start_at x.base x.depth (first_byte start x) → ⊥
-  first_before start end k e lo at hi = elim (cases_lt x.base start) [
+  pub first_before : (start last k : ℕ) → is_outside start last x ≡ false → start ≤ k → x.base ≤ k → k < start_at x.base x.depth (first_byte start x) → ⊥
+  first_before start last k e lo at hi = elim (cases_lt x.base start) [
     | inr ge ↦ (let f : first_byte start x ≡ 0 = low_no x.base start (cond (ltb 255 ((start - x.base) / width x.depth)) 255 ((start - x.base) / width x.depth)) 0 ge in
         let z : first_byte start x * span (x.depth + 1) ≡ 0 * span (x.depth + 1) = ap (λ n. n * span (x.depth + 1)) f in omega (arith, z, hi, at))
-    | inl lt ↦ (let z = near start end lt e in let q : (start - x.base) / width x.depth ≡ (start - x.base) / span (x.depth + 1) = quotient (start - x.base) in
+    | inl lt ↦ (let z = near start last lt e in let q : (start - x.base) / width x.depth ≡ (start - x.base) / span (x.depth + 1) = quotient (start - x.base) in
         let p = multiple_bounds (start - x.base) (span (x.depth + 1)) (span_pos (x.depth + 1)) in
         let y : first_byte start x * span (x.depth + 1) ≡ (start - x.base) / span (x.depth + 1) * span (x.depth + 1) = ap (λ n. n * span (x.depth + 1)) (z ∙ q) in omega (arith, y, p.0, hi, lo, lt))
   ] where
-    near : (start end : ℕ) → x.base < start → is_outside start end x ≡ false → first_byte start x ≡ (start - x.base) / width x.depth
-    near start end lt e =
-        let b : x.base < end = inside_end start end e in
+    near : (start last : ℕ) → x.base < start → is_outside start last x ≡ false → first_byte start x ≡ (start - x.base) / width x.depth
+    near start last lt e =
+        let b : x.base ≤ last = inside_last start last e in
         low_yes x.base start (cond (ltb 255 ((start - x.base) / width x.depth)) 255 ((start - x.base) / width x.depth)) 0 lt ∙ elim (cases_lt 255 ((start - x.base) / width x.depth)) [
           | inr l ↦ low_no 255 ((start - x.base) / width x.depth) 255 ((start - x.base) / width x.depth) l
-          | inl l ↦ absurd (let f : is_outside start end x ≡ ltb 255 ((start - x.base) / width x.depth) = low_yes x.base end (cond (ltb x.base start) (ltb 255 ((start - x.base) / width x.depth)) false) true b ∙ low_yes x.base start (ltb 255 ((start - x.base) / width x.depth)) false lt in
+          | inl l ↦ absurd (let f : is_outside start last x ≡ ltb 255 ((start - x.base) / width x.depth) = within start last b ∙ low_yes x.base start (ltb 255 ((start - x.base) / width x.depth)) false lt in
               let g : ltb 255 ((start - x.base) / width x.depth) ≡ true = grind (arith, nat_tests, l) in let z : false ≡ true = sym e ∙ f ∙ g in cc)
         ]
 
-  pub first_aims : (start end : ℕ) → is_outside start end x ≡ false → start < start_at x.base x.depth (first_byte start x) + span (x.depth + 1)
-  first_aims start end e = elim (cases_lt x.base start) [
+  pub first_aims : (start last : ℕ) → is_outside start last x ≡ false → start < start_at x.base x.depth (first_byte start x) + span (x.depth + 1)
+  first_aims start last e = elim (cases_lt x.base start) [
     | inr ge ↦ (let p = span_pos (x.depth + 1) in omega (arith, ge, p))
-    | inl lt ↦ (let b : x.base < end = inside_end start end e in
+    | inl lt ↦ (let b : x.base ≤ last = inside_last start last e in
         let q : (start - x.base) / width x.depth ≡ (start - x.base) / span (x.depth + 1) = quotient (start - x.base) in
         let p = multiple_bounds (start - x.base) (span (x.depth + 1)) (span_pos (x.depth + 1)) in
         let z : first_byte start x ≡ (start - x.base) / width x.depth = low_yes x.base start (cond (ltb 255 ((start - x.base) / width x.depth)) 255 ((start - x.base) / width x.depth)) 0 lt ∙ elim (cases_lt 255 ((start - x.base) / width x.depth)) [
           | inr l ↦ low_no 255 ((start - x.base) / width x.depth) 255 ((start - x.base) / width x.depth) l
-          | inl l ↦ absurd (let f : is_outside start end x ≡ ltb 255 ((start - x.base) / width x.depth) = low_yes x.base end (cond (ltb x.base start) (ltb 255 ((start - x.base) / width x.depth)) false) true b ∙ low_yes x.base start (ltb 255 ((start - x.base) / width x.depth)) false lt in
+          | inl l ↦ absurd (let f : is_outside start last x ≡ ltb 255 ((start - x.base) / width x.depth) = within start last b ∙ low_yes x.base start (ltb 255 ((start - x.base) / width x.depth)) false lt in
               let g : ltb 255 ((start - x.base) / width x.depth) ≡ true = grind (arith, nat_tests, l) in let y : false ≡ true = sym e ∙ f ∙ g in cc)
         ] in
         let y : first_byte start x * span (x.depth + 1) ≡ (start - x.base) / span (x.depth + 1) * span (x.depth + 1) = ap (λ n. n * span (x.depth + 1)) (z ∙ q) in

@@ -91,10 +91,10 @@ module _ {C V : Type 0} (number : C → ℕ) (same : V → V → Bool) (always :
 
   -- a scan under way
   tells : (s s' : Scan C V) (states : List (Pairs V)) (places : List (ℕ × V)) (o : Told V) → Tracks s' (m ∷ states) (placed places o) → Tells s (m ∷ states) places s'.stage o → SameCall s s'
-      → (f' : Flight V) × ScanTells s.start s.end s.size (m ∷ states) places (outcome_of o) f' × ScanFollows s' f'
-  tells s s' states places told.Running tr te sc = (Scanning s.start s.end s.size (m ∷ states) places, refl, inr (inr (m ∷ states, places, rw (sc.start_is, sc.end_is, sc.size_is) refl, tr)))
+      → (f' : Flight V) × ScanTells s.start (suc s.last) s.size (m ∷ states) places (outcome_of o) f' × ScanFollows s' f'
+  tells s s' states places told.Running tr te sc = (Scanning s.start (suc s.last) s.size (m ∷ states) places, refl, inr (inr (m ∷ states, places, rw (sc.start_is, sc.last_is, sc.size_is) refl, tr)))
   tells s s' states places (told.Found place k v) tr te sc =
-      (Scanning s.start s.end s.size (m ∷ states) (placed places (told.Found place k v)), (te, refl), inr (inr (m ∷ states, placed places (told.Found place k v), rw (sc.start_is, sc.end_is, sc.size_is) refl, tr)))
+      (Scanning s.start (suc s.last) s.size (m ∷ states) (placed places (told.Found place k v)), (te, refl), inr (inr (m ∷ states, placed places (told.Found place k v), rw (sc.start_is, sc.last_is, sc.size_is) refl, tr)))
   tells s s' states places (told.Done count) tr te sc = (Over, (te.0, te.1, refl), inr (inl (refl, te.2)))
   tells s s' states places (told.Refused e) tr te sc = (Over, refl, inr (inl (refl, te)))
 

@@ -68,15 +68,15 @@ module _ {V : Type 0} (a : ℕ → Note) (h : ℕ → Node V) (t : Tree a h) (m 
       lacks_free k s f (none _ (byte_low (h n).prefix base depth r k from s f past) (byte_high (h n).prefix base depth r k to s f before))
 
   -- no byte of the range from there on has a child
-  pub lacks_rest : (x : Region) → x.base ≡ base → x.depth ≡ depth → (from end k : ℕ) → k < 2 ^ 64 → base ≤ k → k < base + span depth → k < end → start_at base depth from ≤ k
-      → ((q : ℕ) → from ≤ q → q ≤ last_byte end x → (h n).children q ≡ Nothing) → Lacked (m ∷ states) k
-  lacks_rest x eb ed from end k s lo hi less past none =
+  pub lacks_rest : (x : Region) → x.base ≡ base → x.depth ≡ depth → (from last k : ℕ) → k < 2 ^ 64 → base ≤ k → k < base + span depth → k ≤ last → start_at base depth from ≤ k
+      → ((q : ℕ) → from ≤ q → q ≤ last_byte last x → (h n).children q ≡ Nothing) → Lacked (m ∷ states) k
+  lacks_rest x eb ed from last k s lo hi less past none =
       let f = within_keys (h n).prefix base depth r k s lo hi in
       let w = byte_within (h n).prefix base depth r k s f in
       let small : get_or (key_bytes k) (length (h n).prefix) 0 < 256 = byte_small k (length (h n).prefix) (omega (arith, r.depth_is, r.short)) in
       let P : ℕ → ℕ → Type 0 = λ u v. start_at u v (get_or (key_bytes k) (length (h n).prefix) 0) ≤ k in
       let at : start_at x.base x.depth (get_or (key_bytes k) (length (h n).prefix) 0) ≤ k = subst (λ u. P u x.depth) (sym eb) (subst (λ v. P base v) (sym ed) w.0) in
-      lacks_free k s f (none _ (byte_low (h n).prefix base depth r k from s f past) (last_covers x end k _ (omega (arith, eb, lo)) less small at))
+      lacks_free k s f (none _ (byte_low (h n).prefix base depth r k from s f past) (last_covers x last k _ (omega (arith, eb, lo)) less small at))
 
   -- the value under a byte of a leaf
   pub has_value : (b : ℕ) (v : V) → b < 256 → (h n).children b ≡ Holds v → (depth ≡ 7) × (base + b < 2 ^ 64) × (get m (base + b) ≡ Some v)

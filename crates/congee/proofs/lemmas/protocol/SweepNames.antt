@@ -1,7 +1,6 @@
 -- Where the names of a scan come from.
-use Rattle.std.proofs.Common.{◌≡◌, ℕ, ◌<◌, ◌+◌, ◌^◌, ◌==◌, inl, inr, Bool, cond, List, [], ◌∷◌, ◌++◌, sym, ap, subst, arith}
+use Rattle.std.proofs.Common.{◌≡◌, ℕ, ◌<◌, ◌≤◌, ◌+◌, ◌^◌, ◌==◌, inl, inr, Bool, cond, List, [], ◌∷◌, ◌++◌, sym, ap, subst, arith}
 use Rattle.std.specs.Prelude.{Option, None, Some}
-use Rattle.std.proofs.lemmas.Bool.{cases_lt}
 use Rattle.congee.specs.declared.protocol.store.Region.{Region}
 use Rattle.congee.specs.declared.protocol.store.Least.{Least}
 use Rattle.congee.specs.declared.protocol.store.Least.TheVariants as least
@@ -19,7 +18,7 @@ use Rattle.congee.specs.protocol.SweepKnown.{RungKnown, RungsKnown, WayKnown, Sw
 use Rattle.congee.proofs.lemmas.protocol.Each.{Each}
 use Rattle.congee.proofs.lemmas.Graft.{on_test}
 use Rattle.congee.proofs.lemmas.protocol.Touch.{taken_linked}
-use Rattle.congee.proofs.lemmas.protocol.SweepBytes.{is_some, low_yes, low_no}
+use Rattle.congee.proofs.lemmas.protocol.SweepBytes.{is_some}
 use Rattle.congee.proofs.lemmas.protocol.SweepWays.{pick_false, pick_true, path_pushed, path_empty, path_last}
 
 module _ {C V : Type 0} (number : C → ℕ) (always : Bool) (a : ℕ → Note) (h : ℕ → Node V) (K : ℕ → Type 0) (root : C) (top : K (number root))
@@ -49,12 +48,12 @@ module _ {C V : Type 0} (number : C → ℕ) (always : Bool) (a : ℕ → Note) 
 
   entered_has : (s : Sweep C V) (n : C) (x : Region) (o : Option ℕ) → WayKnown number a h s → K (number n) → Each K (names_rungs number (rungs_of s.above)) → Has (entered root s n x o)
   entered_has s n x None k y e = anew_has s
-  entered_has s n x (Some v) k y e = on_test (is_outside s.start s.end x)
-      (λ out. has_as (left s) (entered root s n x (Some v)) (pick_true (is_outside s.start s.end x) (left s) (goes s s.above (stage.Look (record { at = record { node = n; version = v }; region = x; from = first_byte s.start x }))) out) (left_has s k e))
-      (λ ins. has_as (goes s s.above (stage.Look (record { at = record { node = n; version = v }; region = x; from = first_byte s.start x }))) (entered root s n x (Some v)) (pick_false (is_outside s.start s.end x) (left s) (goes s s.above (stage.Look (record { at = record { node = n; version = v }; region = x; from = first_byte s.start x }))) ins) (y, e))
+  entered_has s n x (Some v) k y e = on_test (is_outside s.start s.last x)
+      (λ out. has_as (left s) (entered root s n x (Some v)) (pick_true (is_outside s.start s.last x) (left s) (goes s s.above (stage.Look (record { at = record { node = n; version = v }; region = x; from = first_byte s.start x }))) out) (left_has s k e))
+      (λ ins. has_as (goes s s.above (stage.Look (record { at = record { node = n; version = v }; region = x; from = first_byte s.start x }))) (entered root s n x (Some v)) (pick_false (is_outside s.start s.last x) (left s) (goes s s.above (stage.Look (record { at = record { node = n; version = v }; region = x; from = first_byte s.start x }))) ins) (y, e))
 
-  followed_has : (s : Sweep C V) (r : Rung C) (found : Least C V) (u : Swung C V) → WayKnown number a h s → RungKnown number a h s.end s.above.len r → K (number r.at.node) → Each K (names_rungs number (rungs_of s.above))
-      → (a (number r.at.node)).status ≡ Linked → LeastTruly number (h (number r.at.node)) r.from (last_byte s.end r.region) found → IsFollowed number h s r found u → Has u
+  followed_has : (s : Sweep C V) (r : Rung C) (found : Least C V) (u : Swung C V) → WayKnown number a h s → RungKnown number a h s.last s.above.len r → K (number r.at.node) → Each K (names_rungs number (rungs_of s.above))
+      → (a (number r.at.node)).status ≡ Linked → LeastTruly number (h (number r.at.node)) r.from (last_byte s.last r.region) found → IsFollowed number h s r found u → Has u
   followed_has s r least.Nothing u k q y e l truly f = has_as (left s) u f (left_has s k e)
   followed_has s r (least.Node byte c) u k q y e l truly f = has_as (goes s (pushed s.above (moved r byte)) (stage.Enter c f.0)) u f.2 (
     hangs (number r.at.node) byte (number c) l truly.here,
@@ -68,21 +67,17 @@ module _ {C V : Type 0} (number : C → ℕ) (always : Bool) (a : ℕ → Note) 
   followed_has s r least.Uncopied u k q y e l truly f = has_as (over s (told.Refused refusal.Count)) u f tt
 
   -- no node is above the root
-  way_anew : (s : Sweep C V) → s.start < s.end → s.end < 2 ^ 64 → 0 < s.size → WayKnown number a h (anew root s).0
-  way_anew s lt b room = let P : List (Rung C) → Type 0 = λ xs. RungsKnown number a h s.end 0 xs in record { range = lt; bound = b; room = room; fits = omega arith; rungs = subst P (sym (path_empty s.above)) tt }
+  way_anew : (s : Sweep C V) → s.start ≤ s.last → s.last < 2 ^ 64 → 0 < s.size → WayKnown number a h (anew root s).0
+  way_anew s lt b room = let P : List (Rung C) → Type 0 = λ xs. RungsKnown number a h s.last 0 xs in record { range = lt; bound = b; room = room; fits = omega arith; rungs = subst P (sym (path_empty s.above)) tt }
 
   has_at : (s : Sweep C V) (x : Stage C V) (u : Swung C V) → SweepKnownAt number always a h s x → SweptAt number always root s x h u → Each K (names_sweep_at number s x) → Has u
   has_at s stage.New u k f e =
       let o : Option ℕ = version_of (h (number root)) in
       let none : Swung C V = over s (told.Done 0) in
       let some : Swung C V = entered root (anew root s).0 root whole o in
-      has_as (begins root s o) u f (elim (cases_lt s.start s.end) [
-        | inr ge ↦ has_as none (begins root s o) (low_no s.start s.end (cond (s.size == 0) none some) none ge) tt
-        | inl lt ↦ has_as (cond (s.size == 0) none some) (begins root s o) (low_yes s.start s.end (cond (s.size == 0) none some) none lt) (on_test (s.size == 0)
-            (λ y. has_as none (cond (s.size == 0) none some) (pick_true (s.size == 0) none some y) tt)
-            (λ n. has_as some (cond (s.size == 0) none some) (pick_false (s.size == 0) none some n)
-            (entered_has (anew root s).0 root whole o (way_anew s lt k (is_some s.size n)) top (anew_has s).1)))
-      ])
+      has_as (begins root s o) u f (on_test (s.size == 0)
+      (λ y. has_as none (begins root s o) (pick_true (s.size == 0) none some y) tt)
+      (λ n. has_as some (begins root s o) (pick_false (s.size == 0) none some n) (entered_has (anew root s).0 root whole o (way_anew s (k.range (is_some s.size n)) k.bound (is_some s.size n)) top (anew_has s).1)))
   has_at s (stage.Enter n x) u k f e = has_as (entered root s n x (version_of (h (number n)))) u f (entered_has s n x (version_of (h (number n))) k.0 e.0 e.1)
   has_at s (stage.Look r) u k f e = has_as (goes s s.above (stage.Check r f.0)) u f.2 e
   has_at s (stage.Check r found) u k f e = on_test (is_taken (h (number r.at.node)) r.at.version)

@@ -18,8 +18,8 @@ module _ {C V : Type 0} (number : C → ℕ) (always : Bool) (K : ℕ → Type 0
   region_kept : (n : ℕ) (x : Region) → K n → is_published (a n).status ≡ true → IsRegion (h n).prefix x.base x.depth → IsRegion (h' n).prefix x.base x.depth
   region_kept n x k p q = subst (λ y. IsRegion y x.base x.depth) (sym (r.prefix n k p)) q
 
-  rung_kept : (end above : ℕ) (x : Rung C) → K (number x.at.node) → RungKnown number a h end above x → RungKnown number a' h' end above x
-  rung_kept end above x k g = record {
+  rung_kept : (last above : ℕ) (x : Rung C) → K (number x.at.node) → RungKnown number a h last above x → RungKnown number a' h' last above x
+  rung_kept last above x k g = record {
     seated = seated_kept K i a h a' h' r (number x.at.node) x.at.version k g.seated;
     region = region_kept (number x.at.node) x.region k g.seated.published g.region;
     deep = g.deep;
@@ -27,18 +27,18 @@ module _ {C V : Type 0} (number : C → ℕ) (always : Bool) (K : ℕ → Type 0
     bound = g.bound;
   }
 
-  rungs_kept : (end above : ℕ) (xs : List (Rung C)) → Each K (names_rungs number xs) → RungsKnown number a h end above xs → RungsKnown number a' h' end above xs
-  rungs_kept end above [] k g = tt
-  rungs_kept end above (x ∷ xs) k g = (rung_kept end above x k.0 g.0, rungs_kept end (suc above) xs k.1 g.1)
+  rungs_kept : (last above : ℕ) (xs : List (Rung C)) → Each K (names_rungs number xs) → RungsKnown number a h last above xs → RungsKnown number a' h' last above xs
+  rungs_kept last above [] k g = tt
+  rungs_kept last above (x ∷ xs) k g = (rung_kept last above x k.0 g.0, rungs_kept last (suc above) xs k.1 g.1)
 
   way_kept : (s : Sweep C V) → Each K (names_rungs number (rungs_of s.above)) → WayKnown number a h s → WayKnown number a' h' s
-  way_kept s k g = record { range = g.range; bound = g.bound; room = g.room; fits = g.fits; rungs = rungs_kept s.end 0 (rungs_of s.above) k g.rungs }
+  way_kept s k g = record { range = g.range; bound = g.bound; room = g.room; fits = g.fits; rungs = rungs_kept s.last 0 (rungs_of s.above) k g.rungs }
 
   kept_at : (s : Sweep C V) (x : Stage C V) → Each K (names_sweep_at number s x) → SweepKnownAt number always a h s x → SweepKnownAt number always a' h' s x
   kept_at s stage.New k g = g
   kept_at s (stage.Enter n x) k g = (way_kept s k.1 g.0, r.published (number n) k.0 g.1, region_kept (number n) x k.0 g.1 g.2, g.3)
-  kept_at s (stage.Look x) k g = (way_kept s k.1 g.0, rung_kept s.end s.above.len x k.0 g.1)
-  kept_at s (stage.Check x f) k g = (way_kept s k.1 g.0, rung_kept s.end s.above.len x k.0 g.1, g.2, fresh_kept K i a h a' h' r (number x.at.node) x.at.version _ k.0 g.3)
+  kept_at s (stage.Look x) k g = (way_kept s k.1 g.0, rung_kept s.last s.above.len x k.0 g.1)
+  kept_at s (stage.Check x f) k g = (way_kept s k.1 g.0, rung_kept s.last s.above.len x k.0 g.1, g.2, fresh_kept K i a h a' h' r (number x.at.node) x.at.version _ k.0 g.3)
   kept_at s stage.Full k g = tt
   kept_at s stage.Over k g = tt
 

@@ -1,5 +1,5 @@
 -- A scan's step leaves the scan what it is to know.
-use Rattle.std.proofs.Common.{◌≡◌, ◌≢◌, ℕ, ◌<◌, ◌+◌, ◌-◌, ◌^◌, ◌==◌, inl, inr, Bool, true, false, cond, List, [], ◌∷◌, ◌++◌, length, refl, sym, ap, ◌∙◌, subst, arith}
+use Rattle.std.proofs.Common.{◌≡◌, ◌≢◌, ℕ, ◌<◌, ◌≤◌, ◌+◌, ◌-◌, ◌^◌, ◌==◌, inl, inr, Bool, true, false, cond, List, [], ◌∷◌, ◌++◌, length, refl, sym, ap, ◌∙◌, subst, arith}
 use Rattle.std.specs.Prelude.{Option, None, Some}
 use Rattle.std.proofs.lemmas.Bool.{cases_lt}
 use Rattle.congee.specs.declared.protocol.store.Region.{Region}
@@ -20,7 +20,7 @@ use Rattle.congee.specs.protocol.SweepKnown.{RungKnown, RungsKnown, WayKnown, Sw
 use Rattle.congee.proofs.lemmas.Fits.{same_test}
 use Rattle.congee.proofs.lemmas.Graft.{on_test}
 use Rattle.congee.proofs.lemmas.protocol.Touch.{taken_linked}
-use Rattle.congee.proofs.lemmas.protocol.SweepBytes.{is_some, low_yes, low_no, inside_end, first_small}
+use Rattle.congee.proofs.lemmas.protocol.SweepBytes.{is_some, inside_last, first_small}
 use Rattle.congee.proofs.lemmas.protocol.SweepWays.{pick_false, pick_true, path_pushed, path_empty, path_last, path_count, rungs_longer, rungs_shorter}
 use Rattle.congee.proofs.lemmas.protocol.SweepKept.{child_deeper}
 
@@ -37,9 +37,9 @@ module _ {C V : Type 0} (number : C → ℕ) (always : Bool) (a : ℕ → Note) 
   way_at : (s : Sweep C V) (x : Stage C V) → WayKnown number a h s → WayKnown number a h (sweep_at s s.count s.above x)
   way_at s x k = record { range = k.range; bound = k.bound; room = k.room; fits = k.fits; rungs = k.rungs }
 
-  anew_stays : (s : Sweep C V) → s.start < s.end → s.end < 2 ^ 64 → 0 < s.size → Stays (anew root s)
+  anew_stays : (s : Sweep C V) → s.start ≤ s.last → s.last < 2 ^ 64 → 0 < s.size → Stays (anew root s)
   anew_stays s lt b room =
-      let P : List (Rung C) → Type 0 = λ xs. RungsKnown number a h s.end 0 xs in
+      let P : List (Rung C) → Type 0 = λ xs. RungsKnown number a h s.last 0 xs in
       let U : ℕ → Type 0 = λ n. is_published (a n).status ≡ true in
       let W : ℕ → Type 0 = λ n. IsRegion (h n).prefix 0 0 in (
         record { range = lt; bound = b; room = room; fits = omega arith; rungs = subst P (sym (path_empty s.above)) tt },
@@ -53,13 +53,13 @@ module _ {C V : Type 0} (number : C → ℕ) (always : Bool) (a : ℕ → Note) 
     | inl e ↦ stays_as (over s (told.Done s.count)) (left s) (ap (left_to s) e.0) tt
     | inr e ↦ (
         let r : Rung C = e.0 in
-        let P : List (Rung C) → Type 0 = λ xs. RungsKnown number a h s.end 0 xs in
-        let rungs = rungs_shorter number a h s.end 0 (rungs_of (popped s.above)) r (subst P e.2 k.rungs) in
+        let P : List (Rung C) → Type 0 = λ xs. RungsKnown number a h s.last 0 xs in
+        let rungs = rungs_shorter number a h s.last 0 (rungs_of (popped s.above)) r (subst P e.2 k.rungs) in
         let counts = path_count (popped s.above) (let f = k.fits in omega (arith, f)) in
         let count : 0 + length (rungs_of (popped s.above)) ≡ s.above.len - 1 = omega (arith, counts) in
         stays_as (goes s (popped s.above) (stage.Look r)) (left s) (ap (left_to s) e.1) (
           record { range = k.range; bound = k.bound; room = k.room; fits = (let f = k.fits in omega (arith, f)); rungs = rungs.0 },
-          subst (λ n. RungKnown number a h s.end n r) count rungs.1,
+          subst (λ n. RungKnown number a h s.last n r) count rungs.1,
         )
         )
   ]
@@ -67,15 +67,15 @@ module _ {C V : Type 0} (number : C → ℕ) (always : Bool) (a : ℕ → Note) 
   entered_stays : (s : Sweep C V) (n : C) (x : Region) → SweepKnownAt number always a h s (stage.Enter n x) → Stays (entered root s n x (version_of (h (number n))))
   entered_stays s n x k = on_test (is_free (h (number n)))
       (λ free. stays_as (entered root s n x (Some (h (number n)).version)) (entered root s n x (version_of (h (number n)))) (ap (entered root s n x) (pick_true (is_free (h (number n))) (Some (h (number n)).version) None free))
-      (on_test (is_outside s.start s.end x)
-      (λ out. stays_as (left s) (entered root s n x (Some (h (number n)).version)) (pick_true (is_outside s.start s.end x) (left s) (seen (h (number n)).version) out) (left_stays s k.0))
-      (λ ins. stays_as (seen (h (number n)).version) (entered root s n x (Some (h (number n)).version)) (pick_false (is_outside s.start s.end x) (left s) (seen (h (number n)).version) ins) (
+      (on_test (is_outside s.start s.last x)
+      (λ out. stays_as (left s) (entered root s n x (Some (h (number n)).version)) (pick_true (is_outside s.start s.last x) (left s) (seen (h (number n)).version) out) (left_stays s k.0))
+      (λ ins. stays_as (seen (h (number n)).version) (entered root s n x (Some (h (number n)).version)) (pick_false (is_outside s.start s.last x) (left s) (seen (h (number n)).version) ins) (
         way_at s _ k.0,
         record {
           seated = record { published = k.1; up = omega arith };
           region = k.2;
           deep = k.3;
-          within = inside_end x s.start s.end ins;
+          within = inside_last x s.start s.last ins;
           bound = (let f = first_small x s.start in omega (arith, f));
         },
       ))))
@@ -85,11 +85,11 @@ module _ {C V : Type 0} (number : C → ℕ) (always : Bool) (a : ℕ → Note) 
       seen : ℕ → Swung C V
       seen v = goes s s.above (stage.Look (record { at = record { node = n; version = v }; region = x; from = first_byte s.start x }))
 
-  moved_known : (s : Sweep C V) (r : Rung C) (byte : ℕ) → byte < 256 → RungKnown number a h s.end s.above.len r → RungKnown number a h s.end s.above.len (moved r byte)
+  moved_known : (s : Sweep C V) (r : Rung C) (byte : ℕ) → byte < 256 → RungKnown number a h s.last s.above.len r → RungKnown number a h s.last s.above.len (moved r byte)
   moved_known s r byte small q = record { seated = q.seated; region = q.region; deep = q.deep; within = q.within; bound = omega (arith, small) }
 
-  followed_stays : (s : Sweep C V) (r : Rung C) (found : Least C V) (u : Swung C V) → WayKnown number a h s → RungKnown number a h s.end s.above.len r → IsAny always found
-      → (a (number r.at.node)).status ≡ Linked → LeastTruly number (h (number r.at.node)) r.from (last_byte s.end r.region) found → IsFollowed number h s r found u → Stays u
+  followed_stays : (s : Sweep C V) (r : Rung C) (found : Least C V) (u : Swung C V) → WayKnown number a h s → RungKnown number a h s.last s.above.len r → IsAny always found
+      → (a (number r.at.node)).status ≡ Linked → LeastTruly number (h (number r.at.node)) r.from (last_byte s.last r.region) found → IsFollowed number h s r found u → Stays u
   followed_stays s r least.Nothing u k q any l truly e = stays_as (left s) u e (left_stays s k)
   followed_stays s r (least.Node byte c) u k q small l truly e =
       let x : Region = e.0 in
@@ -97,14 +97,14 @@ module _ {C V : Type 0} (number : C → ℕ) (always : Bool) (a : ℕ → Note) 
       let counts = path_count s.above k.fits in
       let count : 0 + length (rungs_of s.above) ≡ s.above.len = omega (arith, counts) in
       let path : rungs_of (pushed s.above (moved r byte)) ≡ rungs_of s.above ++ moved r byte ∷ [] = path_pushed s.above (moved r byte) (let d = q.deep in let sh = q.region.short in omega (arith, d, sh)) in
-      let P : List (Rung C) → Type 0 = λ xs. RungsKnown number a h s.end 0 xs in
+      let P : List (Rung C) → Type 0 = λ xs. RungsKnown number a h s.last 0 xs in
       stays_as (goes s (pushed s.above (moved r byte)) (stage.Enter c x)) u e.2 (
         record {
           range = k.range;
           bound = k.bound;
           room = k.room;
           fits = (let d = q.deep in let sh = q.region.short in omega (arith, d, sh));
-          rungs = subst P (sym path) (rungs_longer number a h s.end 0 (rungs_of s.above) (moved r byte) k.rungs (subst (λ i. RungKnown number a h s.end i (moved r byte)) (sym count) (moved_known s r byte small q)));
+          rungs = subst P (sym path) (rungs_longer number a h s.last 0 (rungs_of s.above) (moved r byte) k.rungs (subst (λ i. RungKnown number a h s.last i (moved r byte)) (sym count) (moved_known s r byte small q)));
         },
         ap is_published (t.down (number r.at.node) byte (number c) l truly.here).linked,
         e.1,
@@ -131,13 +131,9 @@ module _ {C V : Type 0} (number : C → ℕ) (always : Bool) (a : ℕ → Note) 
       let o : Option ℕ = version_of (h (number root)) in
       let none : Swung C V = over s (told.Done 0) in
       let some : Swung C V = entered root (anew root s).0 root whole o in
-      stays_as (begins root s o) u e (elim (cases_lt s.start s.end) [
-        | inr ge ↦ stays_as none (begins root s o) (low_no s.start s.end (cond (s.size == 0) none some) none ge) tt
-        | inl lt ↦ stays_as (cond (s.size == 0) none some) (begins root s o) (low_yes s.start s.end (cond (s.size == 0) none some) none lt) (on_test (s.size == 0)
-            (λ y. stays_as none (cond (s.size == 0) none some) (pick_true (s.size == 0) none some y) tt)
-            (λ n. stays_as some (cond (s.size == 0) none some) (pick_false (s.size == 0) none some n)
-            (entered_stays (anew root s).0 root whole (anew_stays s lt k (is_some s.size n)))))
-      ])
+      stays_as (begins root s o) u e (on_test (s.size == 0)
+      (λ y. stays_as none (begins root s o) (pick_true (s.size == 0) none some y) tt)
+      (λ n. stays_as some (begins root s o) (pick_false (s.size == 0) none some n) (entered_stays (anew root s).0 root whole (anew_stays s (k.range (is_some s.size n)) k.bound (is_some s.size n)))))
   stays_at s (stage.Enter n x) u k e = stays_as (entered root s n x (version_of (h (number n)))) u e (entered_stays s n x k)
   stays_at s (stage.Look r) u k e = stays_as (goes s s.above (stage.Check r e.0)) u e.2 (way_at s _ k.0, k.1, e.1.0, record { seated = k.1.seated; holds = e.1.1 })
   stays_at s (stage.Check r found) u k e = on_test (is_taken (h (number r.at.node)) r.at.version)

@@ -16,8 +16,8 @@ use Rattle.congee.proofs.lemmas.protocol.Touch.{taken_linked}
 use Rattle.congee.proofs.lemmas.protocol.SweepBytes.{region_top}
 
 module _ {C V : Type 0} (number : C → ℕ) (always : Bool) (a : ℕ → Note) (h : ℕ → Node V) (t : Tree a h) (w : LockWords a h) (root : C) (z : number root ≡ 0) where
-  may_follow : (s : Sweep C V) (r : Rung C) (x : Least C V) → RungKnown number a h s.end s.above.len r → IsAny always x → (a (number r.at.node)).status ≡ Linked
-      → LeastTruly number (h (number r.at.node)) r.from (last_byte s.end r.region) x → MayFollow number h r x
+  may_follow : (s : Sweep C V) (r : Rung C) (x : Least C V) → RungKnown number a h s.last s.above.len r → IsAny always x → (a (number r.at.node)).status ≡ Linked
+      → LeastTruly number (h (number r.at.node)) r.from (last_byte s.last r.region) x → MayFollow number h r x
   may_follow s r least.Nothing k any l e = tt
   may_follow s r (least.Node byte c) k any l e = ((w.each (number c)).stands (ap is_published (t.down (number r.at.node) byte (number c) l e.here).linked), any)
   may_follow s r (least.Value byte v) k any l e =

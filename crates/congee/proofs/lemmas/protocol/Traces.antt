@@ -52,10 +52,12 @@ module _ {C V : Type 0} where
   -- and so it is as it begins
   first_shows : (root : C) (o : Op V) → Shows (first_phase root o) false
   first_shows root (op.Range start end size) = tt
+  first_shows root (op.RangeInclusive start last size) = tt
   first_shows root _ = tt
 
   first_not_past : (root : C) (o : Op V) → IsPast (first_phase root o) → ⊥
   first_not_past root (op.Range start end size) p = cc p
+  first_not_past root (op.RangeInclusive start last size) p = cc p
   first_not_past root _ p = p
 
 module _ {C V : Type 0} (number : C → ℕ) (same : V → V → Bool) (always : Bool) (most : ℕ) (why : (ℕ → Node V) → NodeType → Refusal → Type 0) (law : (p q : V) → same p q ≡ true → p ≡ q) where
@@ -142,6 +144,7 @@ module _ {C V : Type 0} (number : C → ℕ) (same : V → V → Bool) (always :
   -- a number of steps, and fewer than those in which a call ends
   within : (h : ℕ → Node V) (o : Op V) (n k : ℕ) → n ≤ k → k ≤ steps_whole h o → n < steps_alone h o
   within h (op.Range start end size) n k l m = omega (arith, l, m)
+  within h (op.RangeInclusive start last size) n k l m = omega (arith, l, m)
   within h (op.Get key) n k l m = omega (arith, l, m)
   within h (op.Insert key v) n k l m = omega (arith, l, m)
   within h (op.Remove key) n k l m = omega (arith, l, m)
