@@ -68,6 +68,7 @@ pub mod Reserving
 pub mod Requested
 pub mod Resting
 pub mod Retiring
+pub mod RunJournals
 pub mod Running
 pub mod Rounds
 pub mod Runs

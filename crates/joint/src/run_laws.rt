@@ -1,10 +1,15 @@
 //! What a reader may conclude of runs by what they told.
 
-ghost use Rattle.std.specs.Prelude.{◌≡◌, ◌==◌, ℕ, List, false, slice_get};
+ghost use Rattle.std.specs.Prelude.{◌≡◌, ◌==◌, ◌<◌, ℕ, List, [], false, slice_get};
+ghost use Rattle.std.specs.FinMap.{empty};
+ghost use Rattle.judge.specs.Answer.{Pairs};
+ghost use Rattle.judge.specs.Journal.{Legal};
+ghost use Rattle.congee.specs.Keys.{IsMapOf};
+ghost use Rattle.joint.specs.Forest.{nodes};
 ghost use Rattle.joint.specs.declared.steps.Report.{Report as Told};
 ghost use Rattle.joint.specs.declared.steps.Step.{Step as Asked};
 ghost use Rattle.joint.specs.Journaling.{asks_at};
-ghost use Rattle.joint.specs.Runs.{Taken, AreTaken, after_all, IsFresh};
+ghost use Rattle.joint.specs.Runs.{Taken, AreTaken, after_all, IsRun, Flights, AreInFlight, RunsJournal, IsFresh, no_flights};
 ghost use Rattle.joint.specs.Wanted.{wants_after, wants_if};
 ghost use Rattle.joint.specs.Whole.{Whole, Holds, IsStep};
 
@@ -15,4 +20,14 @@ pub fn answers_wanted<P: Payload + Small>()
     ensures step { (s : Whole P) (step : Asked P) (r : Told P) (s' : Whole P) (who : ℕ) → Holds P.same_as P.always_copies s → IsStep P.same_as P.always_copies s step r s' → asks_at (slice_get s'.machines who) ≡ wants_if (asks_at (slice_get s.machines who)) (step.worker == who) step.event r.outcome }
     ensures run { (s : Whole P) (taken : List (Taken P)) (who : ℕ) → Holds P.same_as P.always_copies s → AreTaken P.same_as P.always_copies s taken → asks_at (slice_get (after_all s taken).machines who) ≡ wants_after who (asks_at (slice_get s.machines who)) taken }
     ensures fresh { (s : Whole P) (taken : List (Taken P)) (who : ℕ) → IsFresh s → Holds P.same_as P.always_copies s → AreTaken P.same_as P.always_copies s taken → asks_at (slice_get (after_all s taken).machines who) ≡ wants_after who false taken }
+{}
+
+/// The journal of any run, of whole calls too: it goes on with the entries of the writing calls that took effect in it and of
+/// the look-ups that were kept, in deciding order. In each state it is legal and replays to the pairs that stand; where none
+/// is kept it is empty.
+pub fn runs_journal<P: Payload + Small>()
+    ensures goes_on { (s : Whole P) (steps : List (Asked P)) (reports : List (Told P)) (s' : Whole P) (fs : Flights P) (m : Pairs P) → Holds P.same_as P.always_copies s → IsRun P.same_as P.always_copies s steps reports s' → IsMapOf (nodes s.forest) m → AreInFlight s fs → RunsJournal P.same_as fs m s steps reports s' }
+    ensures fresh { (s : Whole P) (steps : List (Asked P)) (reports : List (Told P)) (s' : Whole P) → IsFresh s → Holds P.same_as P.always_copies s → IsRun P.same_as P.always_copies s steps reports s' → RunsJournal P.same_as no_flights empty s steps reports s' }
+    ensures replays { (s : Whole P) (m : Pairs P) → Holds P.same_as P.always_copies s → 0 < s.log.places → IsMapOf (nodes s.forest) m → Legal P.same_as empty s.log.entries m }
+    ensures none { (s : Whole P) → Holds P.same_as P.always_copies s → s.log.places ≡ 0 → s.log.entries ≡ [] }
 {}
