@@ -26,6 +26,7 @@ pub mod Draining
 pub mod Driving
 pub mod Effects
 pub mod Ending
+pub mod Ends
 pub mod Entering
 pub mod Events
 pub mod Exchanging
@@ -59,6 +60,7 @@ pub mod PlainTells
 pub mod Planting
 pub mod Promises
 pub mod Reaching
+pub mod Readers
 pub mod Recounting
 pub mod Registered
 pub mod Registering

@@ -6,6 +6,7 @@ pub mod Beginning
 pub mod Calling
 pub mod Closing
 pub mod Driving
+pub mod Ends
 pub mod Engine
 pub mod Filed
 pub mod Flying

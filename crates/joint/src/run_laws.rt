@@ -1,18 +1,21 @@
 //! What a reader may conclude of runs by what they told.
 
-ghost use Rattle.std.specs.Prelude.{◌≡◌, ◌==◌, ◌<◌, ℕ, List, [], false, slice_get};
+ghost use Rattle.std.specs.Prelude.{◌≡◌, ◌==◌, ◌<◌, ℕ, List, [], true, false, slice_get};
 ghost use Rattle.std.specs.FinMap.{empty};
 ghost use Rattle.judge.specs.Answer.{Pairs};
 ghost use Rattle.judge.specs.Journal.{Legal};
 ghost use Rattle.congee.specs.Keys.{IsMapOf};
+ghost use Rattle.joint.specs.Ends.{AllEndWell, IdleUnasked, IsBetween, ReadersRefused};
 ghost use Rattle.joint.specs.Forest.{nodes};
 ghost use Rattle.joint.specs.declared.steps.Report.{Report as Told};
 ghost use Rattle.joint.specs.declared.steps.Step.{Step as Asked};
 ghost use Rattle.joint.specs.Journaling.{asks_at};
+ghost use Rattle.joint.specs.Log.{opened_log};
 ghost use Rattle.joint.specs.Runs.{Taken, AreTaken, after_all, IsRun, Flights, AreInFlight, RunsJournal, IsFresh, no_flights};
 ghost use Rattle.joint.specs.Wanted.{wants_after, wants_if};
-ghost use Rattle.joint.specs.Whole.{Whole, Holds, IsStep};
+ghost use Rattle.joint.specs.Whole.{Whole, Holds, IsStep, is_busy};
 
+use crate::engine::progress;
 use congee::{Payload, Small};
 
 /// A call's next step takes its closure's answer exactly where the newest of its further steps has asked.
@@ -31,3 +34,20 @@ pub fn runs_journal<P: Payload + Small>()
     ensures replays { (s : Whole P) (m : Pairs P) → Holds P.same_as P.always_copies s → 0 < s.log.places → IsMapOf (nodes s.forest) m → Legal P.same_as empty s.log.entries m }
     ensures none { (s : Whole P) → Holds P.same_as P.always_copies s → s.log.places ≡ 0 → s.log.entries ≡ [] }
 {}
+
+/// A call that is over, done or refused, leaves its worker between calls: none in flight, no lock held, no node made that
+/// isn't hung, none owed; and so it is in each state where a worker has no call in flight. A misused step leaves nodes and
+/// calls as they were. Of a worker without a call nothing is written down as asked.
+pub fn calls_end<P: Payload + Small>()
+    ensures between { (s : Whole P) (who : ℕ) → Holds P.same_as P.always_copies s → is_busy (slice_get s.calls who) ≡ false → IsBetween s who }
+    ensures run { (s : Whole P) (taken : List (Taken P)) → Holds P.same_as P.always_copies s → AreTaken P.same_as P.always_copies s taken → AllEndWell s taken }
+    ensures unasked { (s : Whole P) (taken : List (Taken P)) → P.always_copies ≡ true → Holds P.same_as P.always_copies s → AreTaken P.same_as P.always_copies s taken → IdleUnasked s → IdleUnasked (after_all s taken) }
+    ensures opened { (s : Whole P) (workers places : ℕ) → s.log ≡ opened_log workers places → IdleUnasked s }
+{}
+
+/// A look-up, a scan, the question whether the index is empty and a pin are refused for misuse or as Count alone.
+pub fn readers_refused<P: Payload + Small>()
+    ensures { (s : Whole P) (taken : List (Taken P)) → Holds P.same_as P.always_copies s → AreTaken P.same_as P.always_copies s taken → ReadersRefused s taken }
+{
+    progress::<P>();
+}
