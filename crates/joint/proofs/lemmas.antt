@@ -43,6 +43,9 @@ pub mod Hanging
 pub mod Kept
 pub mod Holding
 pub mod Keyed
+pub mod Leaves
+pub mod LeavesSteps
+pub mod Left
 pub mod Listing
 pub mod Logged
 pub mod Made

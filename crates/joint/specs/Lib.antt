@@ -16,6 +16,7 @@ pub mod Intact
 pub mod Journaling
 pub mod Journals
 pub mod Laws
+pub mod Leaving
 pub mod Levels
 pub mod Limits
 pub mod Listing
