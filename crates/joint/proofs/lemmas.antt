@@ -45,6 +45,7 @@ pub mod Holding
 pub mod Keyed
 pub mod Leaves
 pub mod LeavesSteps
+pub mod LeavesRuns
 pub mod Left
 pub mod Listing
 pub mod Logged

@@ -10,12 +10,13 @@ ghost use Rattle.joint.specs.Forest.{nodes};
 ghost use Rattle.joint.specs.declared.steps.Report.{Report as Told};
 ghost use Rattle.joint.specs.declared.steps.Step.{Step as Asked};
 ghost use Rattle.joint.specs.Journaling.{asks_at};
+ghost use Rattle.joint.specs.Leaving.{LocksApart, LocksHeld, MarkedLeft};
 ghost use Rattle.joint.specs.Log.{opened_log};
 ghost use Rattle.joint.specs.Runs.{Taken, AreTaken, after_all, IsRun, Flights, AreInFlight, RunsJournal, IsFresh, no_flights};
 ghost use Rattle.joint.specs.Wanted.{wants_after, wants_if};
 ghost use Rattle.joint.specs.Whole.{Whole, Holds, IsStep, is_busy};
 
-use crate::engine::progress;
+use crate::engine::{call_laws, progress};
 use congee::{Payload, Small};
 
 /// A call's next step takes its closure's answer exactly where the newest of its further steps has asked.
@@ -50,4 +51,14 @@ pub fn readers_refused<P: Payload + Small>()
     ensures { (s : Whole P) (taken : List (Taken P)) → Holds P.same_as P.always_copies s → AreTaken P.same_as P.always_copies s taken → ReadersRefused s taken }
 {
     progress::<P>();
+}
+
+/// In each state no two calls hold one lock, what a call holds is locked, and a node that was marked obsolete has left the
+/// tree.
+pub fn locks_apart<P: Payload + Small>()
+    ensures apart { (s : Whole P) → Holds P.same_as P.always_copies s → LocksApart s }
+    ensures held { (s : Whole P) → Holds P.same_as P.always_copies s → LocksHeld s }
+    ensures marked { (s : Whole P) → Holds P.same_as P.always_copies s → MarkedLeft s }
+{
+    call_laws::<P>();
 }

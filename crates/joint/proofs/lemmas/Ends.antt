@@ -43,7 +43,7 @@ ended_by (Reserving op) p m e a = absurd (false≢true (sym e))
 ended_by (Securing op) p m e a = absurd (false≢true (sym e))
 ended_by Walking p m e a = absurd (false≢true (sym e))
 
-and_left : (a b : Bool) → (a && b) ≡ true → a ≡ true
+pub and_left : (a b : Bool) → (a && b) ≡ true → a ≡ true
 and_left true b e = refl
 and_left false b e = e
 

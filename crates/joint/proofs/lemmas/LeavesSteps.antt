@@ -24,6 +24,7 @@ use Rattle.congee.specs.Ledger.{Note, Linked}
 use Rattle.congee.specs.protocol.Destroys.{Destroys, Lost}
 use Rattle.congee.specs.protocol.Handing.{InTree, is_waiting}
 use Rattle.congee.specs.protocol.Holdings.{TakenBy}
+use Rattle.congee.specs.protocol.Leaving.{StepLeaves}
 use Rattle.congee.specs.protocol.Play.{Flight, Decided, IsMoved, Settled, flight_in}
 use Rattle.congee.specs.protocol.Steps.{PhaseStepped}
 use Rattle.joint.specs.declared.call.Call.{Call}
@@ -37,7 +38,7 @@ use Rattle.joint.specs.declared.steps.Target.{Target}
 use Rattle.joint.specs.declared.steps.Target.TheVariants as target
 use Rattle.joint.specs.Forest.{Forest, nodes, Refuses}
 use Rattle.joint.specs.Intact.{IsAt, rested}
-use Rattle.joint.specs.Laws.{CallLaws}
+use Rattle.joint.specs.Laws.{CallLaws, LeavesLaw}
 use Rattle.joint.specs.Leaving.{TakesOut, HandsOver}
 use Rattle.joint.specs.Reports.{target}
 use Rattle.joint.specs.View.{id_number}
@@ -58,12 +59,14 @@ pub record SameLeft {V : Type 0} (p q : Node V) : Type 0 where
   pub locked : q.locked ≡ p.locked
   pub marked : p.obsolete ≡ true → q.obsolete ≡ true
   pub children : (b : ℕ) → q.children b ≡ p.children b
+  pub made : q.made ≡ p.made
+  pub kept : q.destroyed ≡ p.destroyed
 
 pub same_left : {V : Type 0} (p q : Node V) → q ≡ p → SameLeft p q
-same_left p q e = record { locked = ap (λ y. y.locked) e; marked = λ o. ap (λ y. y.obsolete) e ∙ o; children = λ b. ap (λ y. y.children b) e }
+same_left p q e = record { locked = ap (λ y. y.locked) e; marked = λ o. ap (λ y. y.obsolete) e ∙ o; children = λ b. ap (λ y. y.children b) e; made = ap (λ y. y.made) e; kept = ap (λ y. y.destroyed) e }
 
 -- the step of the call that takes a node out
-pub record IsTaking {V : Type 0} (s s' : Whole V) (w : ℕ) (event : Event V) (r : Report V) : Type 0 where
+pub record IsTaking {V : Type 0} (s : Whole V) (w : ℕ) (event : Event V) : Type 0 where
   pub noise : Noise Id V
   pub goes : event ≡ Go noise
   pub walking : slice_get s.calls w ≡ Some Walking
@@ -72,14 +75,20 @@ pub record IsTaking {V : Type 0} (s s' : Whole V) (w : ℕ) (event : Event V) (r
   -- it hadn't taken effect
   pub pending : (reply : Reply V) → flight_in old.key old.kind old.given old.phase ≡ Decided reply → ⊥
 
-pub record Parts {V : Type 0} (s s' : Whole V) (w : ℕ) (event : Event V) (r : Report V) : Type 0 where
-  pub leaves : (n : ℕ) → InTree (nodes s.forest) n → InTree (nodes s'.forest) n ⊎ (TakesOut s s' w n × IsTaking s s' w event r)
+-- a node that was made is destroyed
+pub record IsLost {V : Type 0} (n : Node V) : Type 0 where
+  pub made : n.made ≡ true
+  pub destroyed : n.destroyed ≡ true
+
+pub record Parts {V : Type 0} (s s' : Whole V) (w : ℕ) (event : Event V) : Type 0 where
+  pub leaves : (n : ℕ) → InTree (nodes s.forest) n → InTree (nodes s'.forest) n ⊎ (TakesOut s s' w n × IsTaking s w event)
   pub owed : (i n : ℕ) → IsTakenBy s i n → IsTakenBy s' i n ⊎ ((w ≡ i) × HandsOver s.forest s'.forest i n)
   pub handed : (n : ℕ) → is_waiting (nodes s.forest n) ≡ false → is_waiting (nodes s'.forest n) ≡ true → IsTakenBy s w n × HandsOver s.forest s'.forest w n
-  pub waits : (n : ℕ) → is_waiting (nodes s.forest n) ≡ true → (nodes s'.forest n ≡ nodes s.forest n) ⊎ ((nodes s'.forest n).destroyed ≡ true)
-  pub taken : (i n : ℕ) → IsTakenBy s i n → SameLeft (nodes s.forest n) (nodes s'.forest n) ⊎ ((nodes s'.forest n).destroyed ≡ true)
+  pub waits : (n : ℕ) → is_waiting (nodes s.forest n) ≡ true → (nodes s'.forest n ≡ nodes s.forest n) ⊎ IsLost (nodes s'.forest n)
+  pub lost : (n : ℕ) → IsLost (nodes s.forest n) → IsLost (nodes s'.forest n)
+  pub taken : (i n : ℕ) → IsTakenBy s i n → SameLeft (nodes s.forest n) (nodes s'.forest n) ⊎ IsLost (nodes s'.forest n)
 
-module _ {V : Type 0} (same : V → V → Bool) (always : Bool) (laws : CallLaws {C = Id} {V = V} id_number same always) where
+module _ {V : Type 0} (same : V → V → Bool) (always : Bool) where
   taken_walks : (k : Call V) (p : Participant (Unit {0})) (m : Machine Id V) (n : ℕ) → IsAt k p m → TakenBy id_number m.phase n → k ≡ Walking
   taken_walks Walking p m n a x = refl
   taken_walks Idle p m n a x = absurd (let P : Phase Id V → Type 0 = λ y. TakenBy id_number y n in subst P a.1 x)
@@ -103,6 +112,7 @@ module _ {V : Type 0} (same : V → V → Bool) (always : Bool) (laws : CallLaws
   reply_taken most why root k kind fail answer given given' (Unlock c u) h h' t r n e x y = absurd (let P : Said Id V → Type 0 = λ z. TakenBy id_number z.phase n in subst P x.2 y)
   reply_taken most why root k kind fail answer given given' _ h h' t r n e x y = absurd (cc e)
 
+module _ {V : Type 0} (same : V → V → Bool) (always : Bool) (laws : CallLaws {C = Id} {V = V} id_number same always) (leaves_law : (f : Forest V) → LeavesLaw {C = Id} {V = V} id_number same always f.version_max (Refuses f)) where
   module _ (s s' : Whole V) (w : ℕ) (holds : EngineHolds same always s) (event : Event V) (r : Report V) where
     abbrev settled : Settled id_number same always (nodes s.forest) s.machines
     settled = holds.0.safe.sound.sound.settled
@@ -111,17 +121,18 @@ module _ {V : Type 0} (same : V → V → Bool) (always : Bool) (laws : CallLaws
     KeepsTaken = (i n : ℕ) → IsTakenBy s i n → IsTakenBy s' i n
 
     -- no node changes
-    calm : nodes s'.forest ≡ nodes s.forest → KeepsTaken → Parts s s' w event r
+    calm : nodes s'.forest ≡ nodes s.forest → KeepsTaken → Parts s s' w event
     calm e k = record {
       leaves = λ n x. inl (let P : (ℕ → Node V) → Type 0 = λ h. InTree h n in subst P (sym e) x);
       owed = λ i n x. inl (k i n x);
       handed = λ n b a. absurd (false≢true (sym b ∙ sym (ap (λ h. is_waiting (h n)) e) ∙ a));
       waits = λ n b. inl (ap (λ h. h n) e);
+      lost = λ n l. subst (λ (y : Node V). IsLost y) (sym (ap (λ h. h n) e)) l;
       taken = λ i n x. inl (same_left (nodes s.forest n) (nodes s'.forest n) (ap (λ h. h n) e));
     }
 
     -- nodes that were handed over are destroyed
-    destroyed : Destroys id_number (nodes s.forest) s.machines (nodes s'.forest) → KeepsTaken → Parts s s' w event r
+    destroyed : Destroys id_number (nodes s.forest) s.machines (nodes s'.forest) → KeepsTaken → Parts s s' w event
     destroyed d k = record {
       leaves = λ n x. inl (x.0, leads_same (nodes s.forest) (nodes s'.forest) settled.0 (λ a b c l e. (settled.1.tree.down a b c l e).linked) linked_stays x.0 0 n settled.1.tree.root x.1);
       owed = λ i n x. inl (k i n x);
@@ -129,8 +140,9 @@ module _ {V : Type 0} (same : V → V → Bool) (always : Bool) (laws : CallLaws
         | inl e ↦ absurd (false≢true (sym b ∙ sym (ap is_waiting e) ∙ a))
         | inr l ↦ absurd (let y = waits_is (nodes s'.forest n) a in false≢true (sym y.1.kept ∙ l.destroyed))
       ];
-      waits = λ n b. elim (d.each n) [ inl e ↦ inl e | inr l ↦ inr l.destroyed ];
-      taken = λ i n x. elim (d.each n) [ inl e ↦ inl (same_left (nodes s.forest n) (nodes s'.forest n) e) | inr l ↦ inr l.destroyed ];
+      waits = λ n b. elim (d.each n) [ inl e ↦ inl e | inr l ↦ inr (record { made = l.made; destroyed = l.destroyed }) ];
+      lost = λ n b. elim (d.each n) [ inl e ↦ subst (λ (y : Node V). IsLost y) (sym e) b | inr l ↦ record { made = l.made; destroyed = l.destroyed } ];
+      taken = λ i n x. elim (d.each n) [ inl e ↦ inl (same_left (nodes s.forest n) (nodes s'.forest n) e) | inr l ↦ inr (record { made = l.made; destroyed = l.destroyed }) ];
     }
       where
         linked_stays : (n : ℕ) → (settled.0 n).status ≡ Linked → nodes s'.forest n ≡ nodes s.forest n
@@ -142,11 +154,11 @@ module _ {V : Type 0} (same : V → V → Bool) (always : Bool) (laws : CallLaws
     -- the calls of others keep what they have taken out, and the worker's own has nothing where it doesn't walk
     apart_keeps : Apart s s' w → (slice_get s.calls w ≡ Some Walking → ⊥) → KeepsTaken
     apart_keeps a never i n x = elim (cases_Bool (i == w)) [
-      | inl b ↦ absurd (never (let e : i ≡ w = eqb-true i w b in subst (λ j. slice_get s.calls j ≡ Some Walking) e (walking_of s holds i n x)))
+      | inl b ↦ absurd (never (let e : i ≡ w = eqb-true i w b in subst (λ j. slice_get s.calls j ≡ Some Walking) e (walking_of same always s holds i n x)))
       | inr b ↦ (x.0, a.machines.other i (eqb-false i w b) ∙ x.1, x.2)
     ]
 
-    unchanged : s' ≡ s → Parts s s' w event r
+    unchanged : s' ≡ s → Parts s s' w event
     unchanged e = calm (ap (λ y. nodes y.forest) e) (λ i n x. (x.0, ap (λ y. slice_get y.machines i) e ∙ x.1, x.2))
 
     -- a call on the tree takes a step
@@ -217,10 +229,10 @@ module _ {V : Type 0} (same : V → V → Bool) (always : Bool) (laws : CallLaws
       ]
         where
           by : Owes (nodes s.forest) (nodes s'.forest) old.0.phase moved.now.phase n → SameLeft (nodes s.forest n) (nodes s'.forest n)
-          by (Marks y z) = record { locked = ap (λ v. v.locked) z.after; marked = λ o. ap (λ v. v.obsolete) z.after; children = λ b. ap (λ v. v.children b) z.after }
-          by (Hands c q u e is z) = record { locked = ap (λ v. v.locked) z.after; marked = λ o. ap (λ v. v.obsolete) z.after ∙ o; children = λ b. ap (λ v. v.children b) z.after }
+          by (Marks y z) = record { locked = ap (λ v. v.locked) z.after; marked = λ o. ap (λ v. v.obsolete) z.after; children = λ b. ap (λ v. v.children b) z.after; made = ap (λ v. v.made) z.after; kept = ap (λ v. v.destroyed) z.after }
+          by (Hands c q u e is z) = record { locked = ap (λ v. v.locked) z.after; marked = λ o. ap (λ v. v.obsolete) z.after ∙ o; children = λ b. ap (λ v. v.children b) z.after; made = ap (λ v. v.made) z.after; kept = ap (λ v. v.destroyed) z.after }
 
-      walks_leaves : (n : ℕ) → InTree (nodes s.forest) n → InTree (nodes s'.forest) n ⊎ (TakesOut s s' w n × IsTaking s s' w event r)
+      walks_leaves : (n : ℕ) → InTree (nodes s.forest) n → InTree (nodes s'.forest) n ⊎ (TakesOut s s' w n × IsTaking s w event)
       walks_leaves n i = elim (leaves.tree same always laws s.forest s'.forest s.machines k.step.between turn k.move holds.0.safe k.step.walked old.0 old.1 n i) [
         | inl x ↦ inl x
         | inr x ↦ inr (
@@ -238,26 +250,31 @@ module _ {V : Type 0} (same : V → V → Bool) (always : Bool) (laws : CallLaws
             old = old.0;
             at = old.1;
             pending = λ u e. (
-                let c = reply_taken s.forest.version_max (Refuses s.forest) old.0.root old.0.key old.0.kind noise.fail noise.answer old.0.given moved.now.given old.0.phase (nodes s.forest) (nodes s'.forest) (record { phase = moved.now.phase; report = k.move }) u n e moved.step.step x.taken in
+                let c = reply_taken same always s.forest.version_max (Refuses s.forest) old.0.root old.0.key old.0.kind noise.fail noise.answer old.0.given moved.now.given old.0.phase (nodes s.forest) (nodes s'.forest) (record { phase = moved.now.phase; report = k.move }) u n e moved.step.step x.taken in
                 x.none c.0 c.1);
           },
         )
       ]
 
-      walks : Parts s s' w event r
+      left : StepLeaves id_number w settled.0 (leaves.keeps same always laws s.forest s'.forest s.machines k.step.between turn k.move holds.0.safe k.step.walked old.0 old.1).notes (nodes s.forest) (nodes s'.forest) old.0 moved.now
+      left = leaves_law s.forest w settled.0 (nodes s.forest) (nodes s'.forest) s.machines old.0 moved.now k.move noise.fail noise.answer settled.1 settled.2 old.1
+          (leaves.keeps same always laws s.forest s'.forest s.machines k.step.between turn k.move holds.0.safe k.step.walked old.0 old.1) moved.step
+
+      walks : Parts s s' w event
       walks = record {
         leaves = walks_leaves;
         owed = walks_owed;
         handed = walks_handed;
         waits = λ n b. inl (k.step.walked.plays.untouched n b);
+        lost = λ n b. subst (λ (y : Node V). IsLost y) (sym (left.dead n b.made b.destroyed)) b;
         taken = λ i n x. inl (walks_left i n x);
       }
 
-    begins_tree : (op : Point V) → KeepsTaken → BeginsOnTree same always s w op r s' → Parts s s' w event r
+    begins_tree : (op : Point V) → KeepsTaken → BeginsOnTree same always s w op r s' → Parts s s' w event
     begins_tree (point.Get k) t x = calm (ap (λ y. nodes y.forest) x.state) t
     begins_tree (point.Range start end size) t x = scan_begins (finds_none {V = V} (point.Range start end size)) x
       where
-        scan_begins : (none : Bool) → EntersUnless none s w (point.Range start end size) r s' → Parts s s' w event r
+        scan_begins : (none : Bool) → EntersUnless none s w (point.Range start end size) r s' → Parts s s' w event
         scan_begins true x = calm (ap (λ y. nodes y.forest) x.state) t
         scan_begins false x = calm (ap (λ y. nodes y.forest) x.state) t
     begins_tree (point.Insert k v) t x = calm (ap (λ y. nodes y.forest) x.state) t
@@ -266,12 +283,12 @@ module _ {V : Type 0} (same : V → V → Bool) (always : Bool) (laws : CallLaws
     begins_tree (point.ComputeInsert k) t x = calm (ap (λ y. nodes y.forest) x.state) t
     begins_tree (point.Exchange k old new) t x = calm (ap (λ y. nodes y.forest) x.state) t
 
-    begins : (t : Target V) → KeepsTaken → BeginsAt same always s w t r s' → Parts s s' w event r
+    begins : (t : Target V) → KeepsTaken → BeginsAt same always s w t r s' → Parts s s' w event
     begins (target.Collector op) t x = destroyed x.step.destroys t
     begins (target.Tree op) t x = begins_tree op t x
     begins (target.Survey k) t x = unchanged x.state
 
-    goes : (k : Option (Call V)) (noise : Noise Id V) → event ≡ Go noise → slice_get s.calls w ≡ k → Apart s s' w → GoesAt same always s w k noise r s' → Parts s s' w event r
+    goes : (k : Option (Call V)) (noise : Noise Id V) → event ≡ Go noise → slice_get s.calls w ≡ k → Apart s s' w → GoesAt same always s w k noise r s' → Parts s s' w event
     goes None noise is e a x = absurd x
     goes (Some Idle) noise is e a x = absurd x
     goes (Some (Collecting op)) noise is e a x = destroyed x.step.destroys (apart_keeps a (λ q. let z : Some (Collecting op) ≡ Some Walking = sym e ∙ q in cc))
@@ -283,7 +300,7 @@ module _ {V : Type 0} (same : V → V → Bool) (always : Bool) (laws : CallLaws
     goes (Some (Securing op)) noise is e a x = destroyed x.step.collected.destroys (apart_keeps a (λ q. let z : Some (Securing op) ≡ Some Walking = sym e ∙ q in cc))
     goes (Some Walking) noise is e a x = walks noise is e x
 
-  pub step_parts : (s s' : Whole V) (w : ℕ) (holds : EngineHolds same always s) (event : Event V) (o : Option Fault) (r : Report V) → misuse s w event ≡ o → Does same always s w event o r s' → Parts s s' w event r
+  pub step_parts : (s s' : Whole V) (w : ℕ) (holds : EngineHolds same always s) (event : Event V) (o : Option Fault) (r : Report V) → misuse s w event ≡ o → Does same always s w event o r s' → Parts s s' w event
   step_parts s s' w holds event (Some f) r e x = unchanged s s' w holds event r x.1
   step_parts s s' w holds Register None r e (inl x) = calm s s' w holds Register r (ap (λ y. nodes y.forest) x.1.state) (λ i n y. (y.0, ap (λ z. slice_get z.machines i) x.1.state ∙ y.1, y.2))
   step_parts s s' w holds Register None r e (inr x) = unchanged s s' w holds Register r x.state

@@ -107,9 +107,9 @@ module _ {V : Type 0} where
   at_answer : (r : Reply V) (t : Turn Id V) → t ≡ answered r → Reads t.phase
   at_answer r t e = let P : Turn Id V → Type 0 = λ y. Reads y.phase in subst P (sym e) tt
 
-  version_reads : (r : Id) (above : Option (Parent Id)) (n : Id) (v : Option ℕ) → Reads {V = V} (after_version r above n v).phase
-  version_reads r above n None = tt
-  version_reads r above n (Some v) = tt
+  version_reads : (V : Type 0) (r : Id) (above : Option (Parent Id)) (n : Id) (v : Option ℕ) → Reads {V = V} (after_version r above n v).phase
+  version_reads V r above n None = tt
+  version_reads V r above n (Some v) = tt
 
   read_reads : (r : Id) (above : Option (Parent Id)) (at : Seat Id) (x : Reading Id V) → Reads {V = V} (after_read r above at x).phase
   read_reads r None at (Differs common byte) = tt
@@ -130,8 +130,8 @@ module _ {V : Type 0} where
 
   phase_reads : (same : V → V → Bool) (always : Bool) (most : ℕ) (why : NodeType → Cause → Type 0) (r : Id) (key : List ℕ) (fail : Bool) (answer : Option (Option V)) (new : Option V) (p : Phase Id V) (h : ℕ → Node V) (new' : Option V) (t : Turn Id V) (h' : ℕ → Node V)
       → Reads p → PhaseStepped id_number same always most why r key kind.Get fail answer new p h new' t h' → Reads t.phase
-  phase_reads same always most why r key fail answer new New h new' t h' u x = let P : Turn Id V → Type 0 = λ y. Reads y.phase in subst P (sym x.2) (version_reads r None r _)
-  phase_reads same always most why r key fail answer new (Version above n) h new' t h' u x = let P : Turn Id V → Type 0 = λ y. Reads y.phase in subst P (sym x.2) (version_reads r above n _)
+  phase_reads same always most why r key fail answer new New h new' t h' u x = let P : Turn Id V → Type 0 = λ y. Reads y.phase in subst P (sym x.2) (version_reads V r None r _)
+  phase_reads same always most why r key fail answer new (Version above n) h new' t h' u x = let P : Turn Id V → Type 0 = λ y. Reads y.phase in subst P (sym x.2) (version_reads V r above n _)
   phase_reads same always most why r key fail answer new (Read above at) h new' t h' u x = let P : Turn Id V → Type 0 = λ y. Reads y.phase in subst P (sym x.4) (read_reads r above at x.2)
   phase_reads same always most why r key fail answer new (Check s c) h new' t h' u x = if_reads _ r _ t (checked_reads same always new s c t) x.2
   phase_reads same always most why r key fail answer new (CheckUncopied at) h new' t h' u x = if_reads _ r _ t (λ e. let P : Turn Id V → Type 0 = λ y. Reads y.phase in subst P (sym e) tt) x.2
@@ -154,7 +154,7 @@ module _ {V : Type 0} where
   told_count : (always : Bool) (most : ℕ) (why : NodeType → Cause → Type 0) (p : Phase Id V) (o : Moved V) (e : Refusal) → Reads p → IsCause why most always p o → told o ≡ Refused e → e ≡ Count
   told_count always most why p (moved.Refused c) e u x q =
       let n : c ≡ cause.Count = cause_count always most why p c u x in
-      let z : Refused {V = V} (of_tree c) ≡ Refused e = q in
+      let z : Refused (of_tree c) ≡ Refused e = q in
       let y : of_tree c ≡ e = cc in sym y ∙ ap of_tree n
   told_count always most why p moved.Running e u x q = absurd (cc q)
   told_count always most why p (moved.Asks a) e u x q = absurd (cc q)
@@ -279,7 +279,7 @@ module _ {V : Type 0} (same : V → V → Bool) (always : Bool) (turns : Progres
 
       enters : (p : Point V) (r : Report V) → (begun root p).kind ≡ kind.Get → Reads (begun root p).phase → Enters s w p r s' → Begun r
       enters p r k u x = (
-        (λ e q. let z : Running {V = V} ≡ Refused e = sym (ap (λ y. y.outcome) x.report) ∙ q in cc),
+        (λ e q. let z : Running ≡ Refused e = sym (ap (λ y. y.outcome) x.report) ∙ q in cc),
         (λ b.
             let c : slice_get s'.calls w ≡ Some Walking = placed Walking within (ap (λ y. y.calls) x.state) in
             let m : slice_get s'.machines w ≡ Some (begun root p) = ap (λ y. slice_get y.machines w) x.state ∙ set_at s.machines w (begun root p) (within_machines within) in
@@ -290,7 +290,7 @@ module _ {V : Type 0} (same : V → V → Bool) (always : Bool) (turns : Progres
 
       scan_begins : (start end size : ℕ) (r : Report V) (b : Bool) → EntersUnless b s w (point.Range start end size) r s' → Begun r
       scan_begins start end size r true x = (
-        (λ e q. let z : Done {V = V} _ ≡ Refused e = sym (ap (λ y. y.outcome) x.report) ∙ q in cc),
+        (λ e q. let z : Done _ ≡ Refused e = sym (ap (λ y. y.outcome) x.report) ∙ q in cc),
         (λ b. absurd (false≢true (sym (ap (λ y. is_in_flight y.outcome) x.report) ∙ b))),
       )
       scan_begins start end size r false x = enters (point.Range start end size) r refl tt x
@@ -371,7 +371,7 @@ module _ {V : Type 0} (same : V → V → Bool) (always : Bool) (turns : Progres
         → (IsOfCall event → (e : Refusal) → r.outcome ≡ Refused e → ((f : Fault) × (misuse s w event ≡ Some f) × (e ≡ of_fault f)) ⊎ (e ≡ Count)) × (is_busy (slice_get t.after.calls w) ≡ true → ReaderAt t.after w)
     own_by event (Some f) r m u d = (
       (λ c e q.
-          let z : Refused {V = V} (of_fault f) ≡ Refused e = sym (ap (λ y. y.outcome) d.0) ∙ q in
+          let z : Refused (of_fault f) ≡ Refused e = sym (ap (λ y. y.outcome) d.0) ∙ q in
           inl (f, m, (let y : of_fault f ≡ e = cc in sym y))),
       (λ b. unchanged (engine_of s) (engine_of t.after) w d.1 u),
     )
@@ -427,7 +427,7 @@ module _ {V : Type 0} (same : V → V → Bool) (always : Bool) (turns : Progres
         → ((e : Refusal) → r.outcome ≡ Refused e → (g : Fault) × (misuse s w (Begin o) ≡ Some g) × (e ≡ of_fault g)) × (is_in_flight r.outcome ≡ true → ReaderAt t.after w)
     begun_by o (Some f) r m q d = (
       (λ e y.
-          let z : Refused {V = V} (of_fault f) ≡ Refused e = sym (ap (λ y. y.outcome) d.0) ∙ y in
+          let z : Refused (of_fault f) ≡ Refused e = sym (ap (λ y. y.outcome) d.0) ∙ y in
           (f, m, (let y : of_fault f ≡ e = cc in sym y))),
       (λ b. absurd (false≢true (sym (ap (λ y. is_in_flight y.outcome) d.0) ∙ b))),
     )
@@ -435,8 +435,8 @@ module _ {V : Type 0} (same : V → V → Bool) (always : Bool) (turns : Progres
         let g = reader_begins (engine_of s) (engine_of t.after) w (h.0, h.1) o r m q d in
         ((λ e y. absurd (g.0 e y)), g.1)
 
-    begun : (o : Op V) → t.step.event ≡ Begin o → is_reading o ≡ true → IsStep same always s t.step t.report t.after → RefusesReader s t × (is_in_flight t.report.outcome ≡ true → ReaderAt t.after w)
-    begun o e q is =
+    reads_begun : (o : Op V) → t.step.event ≡ Begin o → is_reading o ≡ true → IsStep same always s t.step t.report t.after → RefusesReader s t × (is_in_flight t.report.outcome ≡ true → ReaderAt t.after w)
+    reads_begun o e q is =
         let P : Event V → Type 0 = λ y. IsStep same always s (record { worker = w; event = y }) t.report t.after in
         let x = subst P e is in
         let y = begun_by o (misuse s w (Begin o)) x.does.told refl q x.does.engine.does in
@@ -452,6 +452,6 @@ module _ {V : Type 0} (same : V → V → Bool) (always : Bool) (turns : Progres
   pub readers : (s : Whole V) (ts : List (Taken V)) → Holds same always s → AreTaken same always s ts → ReadersRefused s ts
   readers s [] h x = tt
   readers s (t ∷ ts) h x = (
-    (λ o e q. let b = begun s t h o e q x.0 in (b.0, λ on. all_refuse t.step.worker t.after ts x.0.holds x.1 (b.1 on))),
+    (λ o e q. let b = reads_begun s t h o e q x.0 in (b.0, λ on. all_refuse t.step.worker t.after ts x.0.holds x.1 (b.1 on))),
     readers t.after ts x.0.holds x.1,
   )
