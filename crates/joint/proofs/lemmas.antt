@@ -5,6 +5,7 @@ pub mod Alone
 pub mod AloneCalls
 pub mod AloneCounts
 pub mod Altering
+pub mod Answering
 pub mod Apart
 pub mod Appending
 pub mod Asking

@@ -1,5 +1,6 @@
 pub mod Alone
 pub mod Altering
+pub mod Answering
 pub mod Asked
 pub mod Auditing
 pub mod Beginning

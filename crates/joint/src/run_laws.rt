@@ -5,19 +5,24 @@ ghost use Rattle.std.specs.FinMap.{empty};
 ghost use Rattle.judge.specs.Answer.{Pairs};
 ghost use Rattle.judge.specs.Journal.{Legal};
 ghost use Rattle.congee.specs.Keys.{IsMapOf};
+ghost use Rattle.joint.specs.Answering.{AllDecide};
 ghost use Rattle.joint.specs.Ends.{AllEndWell, IdleUnasked, IsBetween, ReadersRefused};
 ghost use Rattle.joint.specs.Forest.{nodes};
 ghost use Rattle.joint.specs.declared.steps.Report.{Report as Told};
 ghost use Rattle.joint.specs.declared.steps.Step.{Step as Asked};
 ghost use Rattle.joint.specs.Journaling.{asks_at};
-ghost use Rattle.joint.specs.Leaving.{LocksApart, LocksHeld, MarkedLeft};
+ghost use Rattle.joint.specs.Leaving.{AllLeaveOnce, LeftLocked, LocksApart, LocksHeld, MarkedLeft};
 ghost use Rattle.joint.specs.Log.{opened_log};
-ghost use Rattle.joint.specs.Runs.{Taken, AreTaken, after_all, IsRun, Flights, AreInFlight, RunsJournal, IsFresh, no_flights};
+ghost use Rattle.joint.specs.declared.limits.Limits.{Limits};
+ghost use Rattle.joint.specs.Promises.{IsNew};
+ghost use Rattle.joint.specs.Runs.{Taken, AreTaken, after_all, IsRun, Line, Flights, IsMapRun, AreInFlight, RunsJournal, IsFresh, no_flights};
 ghost use Rattle.joint.specs.Wanted.{wants_after, wants_if};
 ghost use Rattle.joint.specs.Whole.{Whole, Holds, IsStep, is_busy};
 
 use crate::engine::{call_laws, progress};
-use congee::{Payload, Small};
+use crate::id::Id;
+use crate::nodes::Nodes;
+use congee::{Allocator, Machine, Payload, Small};
 
 /// A call's next step takes its closure's answer exactly where the newest of its further steps has asked.
 pub fn answers_wanted<P: Payload + Small>()
@@ -62,3 +67,21 @@ pub fn locks_apart<P: Payload + Small>()
 {
     call_laws::<P>();
 }
+
+/// Each node that leaves the tree in a run leaves it by the step in which a call takes effect, one at most of each call; the
+/// call then hands it over once, by one deferral of its destruction, under its worker's guard and into the place that was
+/// made free for it. Until it is destroyed it stays out of the tree, locked, with its child nodes.
+pub fn nodes_leave<P: Payload + Small, A: Allocator>()
+    ensures run { (s : Whole P) (taken : List (Taken P)) → Holds P.same_as P.always_copies s → AreTaken P.same_as P.always_copies s taken → AllLeaveOnce s taken }
+    ensures locked { (s : Whole P) (taken : List (Taken P)) → Holds P.same_as P.always_copies s → AreTaken P.same_as P.always_copies s taken → LeftLocked s → LeftLocked (after_all s taken) }
+    ensures opened { (limits : Limits) (s : Whole P) → IsNew limits s → LeftLocked s }
+{
+    call_laws::<P>();
+    Machine::<Id, P>::leaves::<Nodes<P, A>>();
+}
+
+/// A call on one key is refused before it took effect, or takes effect in one of its steps; from then on it decides nothing
+/// more, isn't refused, and is done with the reply that its entry has.
+pub fn calls_answer<P: Payload + Small>()
+    ensures { (fs : Flights P) (m : Pairs P) (lines : List (Line P)) (fs' : Flights P) → IsMapRun P.same_as fs m lines fs' → AllDecide lines }
+{}

@@ -99,6 +99,10 @@ IsReader _ m = ⊥
 abbrev pub ReaderAt : {V : Type 0} → Whole V → ℕ → Type 0
 ReaderAt s w = IsReader (slice_get s.calls w) (slice_get s.machines w)
 
+version_reads : (V : Type 0) (r : Id) (above : Option (Parent Id)) (n : Id) (v : Option ℕ) → Reads {V = V} (after_version r above n v).phase
+version_reads V r above n None = tt
+version_reads V r above n (Some v) = tt
+
 -- a reading call stays one, and is refused as Count alone
 module _ {V : Type 0} where
   at_again : (r : Id) (t : Turn Id V) → t ≡ again r → Reads t.phase
@@ -106,10 +110,6 @@ module _ {V : Type 0} where
 
   at_answer : (r : Reply V) (t : Turn Id V) → t ≡ answered r → Reads t.phase
   at_answer r t e = let P : Turn Id V → Type 0 = λ y. Reads y.phase in subst P (sym e) tt
-
-  version_reads : (V : Type 0) (r : Id) (above : Option (Parent Id)) (n : Id) (v : Option ℕ) → Reads {V = V} (after_version r above n v).phase
-  version_reads V r above n None = tt
-  version_reads V r above n (Some v) = tt
 
   read_reads : (r : Id) (above : Option (Parent Id)) (at : Seat Id) (x : Reading Id V) → Reads {V = V} (after_read r above at x).phase
   read_reads r None at (Differs common byte) = tt
@@ -132,11 +132,11 @@ module _ {V : Type 0} where
       → Reads p → PhaseStepped id_number same always most why r key kind.Get fail answer new p h new' t h' → Reads t.phase
   phase_reads same always most why r key fail answer new New h new' t h' u x = let P : Turn Id V → Type 0 = λ y. Reads y.phase in subst P (sym x.2) (version_reads V r None r _)
   phase_reads same always most why r key fail answer new (Version above n) h new' t h' u x = let P : Turn Id V → Type 0 = λ y. Reads y.phase in subst P (sym x.2) (version_reads V r above n _)
-  phase_reads same always most why r key fail answer new (Read above at) h new' t h' u x = let P : Turn Id V → Type 0 = λ y. Reads y.phase in subst P (sym x.4) (read_reads r above at x.2)
+  phase_reads same always most why r key fail answer new (Read above at) h new' t h' u x = let P : Turn Id V → Type 0 = λ y. Reads y.phase in subst P (sym x.2.2) (read_reads r above at x.2.0)
   phase_reads same always most why r key fail answer new (Check s c) h new' t h' u x = if_reads _ r _ t (checked_reads same always new s c t) x.2
   phase_reads same always most why r key fail answer new (CheckUncopied at) h new' t h' u x = if_reads _ r _ t (λ e. let P : Turn Id V → Type 0 = λ y. Reads y.phase in subst P (sym e) tt) x.2
   phase_reads same always most why r key fail answer new (CheckMiss p at common byte) h new' t h' u x = if_reads _ r _ t (λ e. let P : Turn Id V → Type 0 = λ y. Reads y.phase in subst P (sym e) tt) x.2
-  phase_reads same always most why r key fail answer new (Sweep s) h new' t h' u x = let P : Turn Id V → Type 0 = λ y. Reads y.phase in subst P (sym x.5) tt
+  phase_reads same always most why r key fail answer new (Sweep s) h new' t h' u x = let P : Turn Id V → Type 0 = λ y. Reads y.phase in subst P (sym x.2.3) tt
   phase_reads same always most why r key fail answer new Ended h new' t h' u x = let P : Turn Id V → Type 0 = λ y. Reads y.phase in subst P (sym x.2) tt
   phase_reads same always most why r key fail answer new _ h new' t h' u x = absurd u
 
