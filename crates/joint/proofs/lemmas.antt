@@ -5,6 +5,7 @@ pub mod Alone
 pub mod AloneCalls
 pub mod AloneCounts
 pub mod Altering
+pub mod Answering
 pub mod Apart
 pub mod Appending
 pub mod Asking
@@ -26,6 +27,7 @@ pub mod Draining
 pub mod Driving
 pub mod Effects
 pub mod Ending
+pub mod Ends
 pub mod Entering
 pub mod Events
 pub mod Exchanging
@@ -42,6 +44,10 @@ pub mod Hanging
 pub mod Kept
 pub mod Holding
 pub mod Keyed
+pub mod Leaves
+pub mod LeavesSteps
+pub mod LeavesRuns
+pub mod Left
 pub mod Listing
 pub mod Logged
 pub mod Made
@@ -59,6 +65,7 @@ pub mod PlainTells
 pub mod Planting
 pub mod Promises
 pub mod Reaching
+pub mod Readers
 pub mod Recounting
 pub mod Registered
 pub mod Registering
@@ -68,6 +75,7 @@ pub mod Reserving
 pub mod Requested
 pub mod Resting
 pub mod Retiring
+pub mod RunJournals
 pub mod Running
 pub mod Rounds
 pub mod Runs

@@ -1,11 +1,13 @@
 pub mod Alone
 pub mod Altering
+pub mod Answering
 pub mod Asked
 pub mod Auditing
 pub mod Beginning
 pub mod Calling
 pub mod Closing
 pub mod Driving
+pub mod Ends
 pub mod Engine
 pub mod Filed
 pub mod Flying
@@ -15,6 +17,7 @@ pub mod Intact
 pub mod Journaling
 pub mod Journals
 pub mod Laws
+pub mod Leaving
 pub mod Levels
 pub mod Limits
 pub mod Listing

@@ -223,12 +223,13 @@ AreLines [] (l ∷ ls) = ⊥
 AreLines (t ∷ ts) [] = ⊥
 AreLines (t ∷ ts) (l ∷ ls) = IsLine t l × AreLines ts ls
 
--- what a list of steps makes of the pairs m that stood and of the calls in flight
+-- what a list of steps makes of the pairs m that stood, to those that stand at its end, and of the calls in flight
 pub record PlaysMap {V : Type 0} (same : V → V → Bool) (fs : Flights V) (m : Pairs V) (s : Whole V) (taken : List (Taken V)) : Type 0 where
   pub lines : List (Line V)
   pub flights : Flights V
   pub are_lines : AreLines taken lines
   pub run : IsMapRun same fs m lines flights
+  pub stand : IsMapOf (nodes (after_all s taken).forest) (pairs_after m lines)
   pub in_flight : AreInFlight (after_all s taken) flights
 
 -- each state after a step is one in which this always holds

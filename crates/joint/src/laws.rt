@@ -47,7 +47,7 @@ pub fn runs_join<P: Payload + Small>()
 {}
 
 /// No step of a run destroys a node in use.
-pub(crate) fn runs_spare<P: Payload + Small, A: Allocator>()
+pub fn runs_spare<P: Payload + Small, A: Allocator>()
     ensures { (s : Whole P) (taken : List (Taken P)) → Holds P.same_as P.always_copies s → AreTaken P.same_as P.always_copies s taken → AllSpare s taken }
 {
     Machine::<Id, P>::leaves::<Nodes<P, A>>();
@@ -77,7 +77,7 @@ pub fn counts_pairs<P: Payload + Small>()
 
 /// In each state each node that was ever made is in one place: held by the call that made it, in the tree, waiting for its
 /// destruction, or destroyed.
-pub(crate) fn whereabouts<P: Payload + Small>()
+pub fn whereabouts<P: Payload + Small>()
     ensures { (s : Whole P) → Holds P.same_as P.always_copies s → AllSomewhere s }
 {
     call_laws::<P>();
@@ -85,7 +85,7 @@ pub(crate) fn whereabouts<P: Payload + Small>()
 
 /// In each state the nodes that wait are those that were handed over and those that calls have taken out of the tree, each
 /// once.
-pub(crate) fn waits<P: Payload + Small>()
+pub fn waits<P: Payload + Small>()
     ensures { (s : Whole P) → Holds P.same_as P.always_copies s → IsListOf (IsWaiting s) (waiting_nodes s) }
 {
     call_laws::<P>();

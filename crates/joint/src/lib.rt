@@ -58,12 +58,13 @@ mod world;
 
 pub use id::Id;
 pub use laws::{
-    comes_back, counts_nodes, counts_pairs, runs_alone, runs_join, runs_map, runs_plain,
+    comes_back, counts_nodes, counts_pairs, runs_alone, runs_join, runs_map, runs_plain, runs_spare,
+    waits, whereabouts,
 };
 pub use limits::Limits;
 pub use promises::keeps_promises;
 pub use refusal::Refusal;
-pub use run_laws::answers_wanted;
+pub use run_laws::{answers_wanted, calls_answer, calls_end, locks_apart, nodes_leave, readers_refused, runs_journal};
 pub use steps::{Done, Event, Kind, Op, Outcome, Ran, Report, Step, Survey};
 pub use threads::auditing::audit;
 pub use threads::driver::{Turns, drive, turns_tell};

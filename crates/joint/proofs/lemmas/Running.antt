@@ -54,7 +54,7 @@ module _ {V : Type 0} (same : V → V → Bool) (always : Bool) where
       let Q : List (Report V) → Type 0 = λ x. IsRun same always s p.taken x s' in
       subst P (sym e) (subst Q (sym q) p.run)
 
-  -- the lines of steps have their questions and reports, and the last one's pairs stand
+  -- the lines of steps have their questions and reports
   lines_steps : (ts : List (Taken V)) (ls : List (Line V)) → AreLines ts ls → map (λ (l : Line V). l.step) ls ≡ map (λ (t : Taken V). t.step) ts
   lines_steps [] [] x = refl
   lines_steps [] (l ∷ ls) x = absurd x
@@ -66,12 +66,6 @@ module _ {V : Type 0} (same : V → V → Bool) (always : Bool) where
   lines_reports [] (l ∷ ls) x = absurd x
   lines_reports (t ∷ ts) [] x = absurd x
   lines_reports (t ∷ ts) (l ∷ ls) x = let a : l.report ≡ t.report = x.0.report in let b = lines_reports ts ls x.1 in cc (a, b)
-
-  lines_stand : (s : Whole V) (m : Pairs V) (ts : List (Taken V)) (ls : List (Line V)) → IsMapOf (nodes s.forest) m → AreLines ts ls → IsMapOf (nodes (after_all s ts).forest) (pairs_after m ls)
-  lines_stand s m [] [] st x = st
-  lines_stand s m [] (l ∷ ls) st x = absurd x
-  lines_stand s m (t ∷ ts) [] st x = absurd x
-  lines_stand s m (t ∷ ts) (l ∷ ls) st x = lines_stand t.after l.pairs ts ls x.0.stand x.1
 
   pub run_map : (s : Whole V) (steps : List (Step V)) (reports : List (Report V)) (s' : Whole V) (fs : Flights V) (m : Pairs V) → Holds same always s → IsRun same always s steps reports s' → IsMapOf (nodes s.forest) m → AreInFlight s fs
       → RunsMap same fs m steps reports s'
@@ -85,7 +79,7 @@ module _ {V : Type 0} (same : V → V → Bool) (always : Bool) where
         steps_are = lines_steps r.taken p.lines p.are_lines ∙ r.steps_are;
         reports_are = lines_reports r.taken p.lines p.are_lines ∙ r.reports_are;
         run = p.run;
-        stand = subst P r.last (lines_stand s m r.taken p.lines st p.are_lines);
+        stand = subst P r.last p.stand;
         in_flight = subst Q r.last p.in_flight;
         legal = entries_legal same always fs m p.lines p.flights p.run;
       }

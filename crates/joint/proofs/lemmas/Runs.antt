@@ -34,7 +34,7 @@ use Rattle.joint.proofs.lemmas.Mapped.{Mapped, mapped}
 module _ {V : Type 0} (same : V → V → Bool) (always : Bool) where
   -- the pairs stand and the calls are watched from step to step
   pub runs_map : (s : Whole V) (taken : List (Taken V)) (fs : Flights V) (m : Pairs V) → Holds same always s → AreTaken same always s taken → IsMapOf (nodes s.forest) m → AreInFlight s fs → PlaysMap same fs m s taken
-  runs_map s [] fs m h x st fl = record { lines = []; flights = fs; are_lines = tt; run = refl; in_flight = fl }
+  runs_map s [] fs m h x st fl = record { lines = []; flights = fs; are_lines = tt; run = refl; stand = st; in_flight = fl }
   runs_map s (t ∷ ts) fs m h x st fl =
       let a : Mapped same always s t.step t.report t.after fs m = mapped same always s t.step t.after fs m h x.0.holds st fl t.report x.0 in
       let l : Line V = record { step = t.step; report = t.report; entry = a.entry; pairs = a.pairs } in
@@ -44,6 +44,7 @@ module _ {V : Type 0} (same : V → V → Bool) (always : Bool) where
         flights = on.flights;
         are_lines = (record { step = refl; report = refl; stand = a.stand }, on.are_lines);
         run = (a.flights, a.map, on.run);
+        stand = on.stand;
         in_flight = on.in_flight;
       }
 
