@@ -88,6 +88,8 @@ pub mod Standing
 pub mod Starting
 pub mod Surveying
 pub mod Stepped
+pub mod Stretches
+pub mod StretchRuns
 pub mod Telling
 pub mod Tickets
 pub mod TreeStep

@@ -38,6 +38,7 @@ pub mod Scans
 pub mod Shares
 pub mod Slots
 pub mod Solid
+pub mod Stretches
 pub mod Survey
 pub mod Surveys
 pub mod Sound

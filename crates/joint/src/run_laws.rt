@@ -16,10 +16,11 @@ ghost use Rattle.joint.specs.Log.{opened_log};
 ghost use Rattle.joint.specs.declared.limits.Limits.{Limits};
 ghost use Rattle.joint.specs.Promises.{IsNew};
 ghost use Rattle.joint.specs.Runs.{Taken, AreTaken, after_all, IsRun, Line, Flights, IsMapRun, AreInFlight, RunsJournal, IsFresh, no_flights};
+ghost use Rattle.joint.specs.Stretches.{SeesNode, StandsOn};
 ghost use Rattle.joint.specs.Wanted.{wants_after, wants_if};
 ghost use Rattle.joint.specs.Whole.{Whole, Holds, IsStep, is_busy};
 
-use crate::engine::{call_laws, progress};
+use crate::engine::{call_laws, cell_laws, progress};
 use crate::id::Id;
 use crate::nodes::Nodes;
 use congee::{Allocator, Machine, Payload, Small};
@@ -85,3 +86,13 @@ pub fn nodes_leave<P: Payload + Small, A: Allocator>()
 pub fn calls_answer<P: Payload + Small>()
     ensures { (fs : Flights P) (m : Pairs P) (lines : List (Line P)) (fs' : Flights P) → IsMapRun P.same_as fs m lines fs' → AllDecide lines }
 {}
+
+/// A node that is in the tree while a worker is pinned, or whose name the worker's call has read and checked, stands until the
+/// stretch of the worker's guard ends, whether the call still has its name or not.
+pub fn guards_keep<P: Payload + Small, A: Allocator>()
+    ensures { (who n : ℕ) (s : Whole P) (taken : List (Taken P)) → Holds P.same_as P.always_copies s → AreTaken P.same_as P.always_copies s taken → SeesNode s who n → StandsOn who n s taken }
+{
+    call_laws::<P>();
+    cell_laws::<P>();
+    Machine::<Id, P>::leaves::<Nodes<P, A>>();
+}

@@ -130,7 +130,7 @@ module _ {V : Type 0} (same : V → V → Bool) where
           (x.no_entry, subst P (sym x.full) tt)
       pending_on k kd v q w m l ls f true is on after x =
           let P : Outcome V → Type 0 = λ o. GoesOrAnswers x.entry.reply o (Answers w x.entry.reply ls) in
-          (x.entry, (x.is_entry, (x.worker ∙ is, subst P (sym x.told_so) (concludes_on x.entry.reply x.outcome f (Answers w x.entry.reply ls) (λ q. after x.entry.reply q) x.concludes))))
+          (x.entry, x.is_entry, x.worker ∙ is, subst P (sym x.told_so) (concludes_on x.entry.reply x.outcome f (Answers w x.entry.reply ls) (λ q. after x.entry.reply q) x.concludes))
 
   -- a call on one key waits to take effect from its begin on
   begins_pending : (p : Point V) → IsOnKey p → flight (begun root p) ≡ Pending (parts p).0 (parts p).1 (parts p).2 Unasked

@@ -43,6 +43,9 @@ use Rattle.joint.proofs.lemmas.Flights.{set_at}
 use Rattle.joint.proofs.lemmas.Left.{IsOwed, taken_owed, taken_locked}
 use Rattle.joint.proofs.lemmas.Resting.{cleared_is}
 
+abbrev nobody : ℕ → Option ℕ
+nobody i = None
+
 module _ {V : Type 0} where
   -- the node that each call has taken out
   abbrev took_of : Phase Id V → Option ℕ
@@ -56,9 +59,6 @@ module _ {V : Type 0} where
 
   abbrev took : List (Machine Id V) → ℕ → Option ℕ
   took ms i = took_in (slice_get ms i)
-
-  abbrev nobody : ℕ → Option ℕ
-  nobody i = None
 
   none_leaves : (ms : List (Machine Id V)) → Leaving nobody ms
   none_leaves ms i n e = absurd (let q : None ≡ Some n = e in cc)

@@ -195,7 +195,7 @@ module _ {V : Type 0} (same : V → V → Bool) (always : Bool) (s s' : Whole V)
     tree_past (point.Remove k) r x off = absurd (enters_on r x.report off)
     tree_past (point.ComputePresent k) r x off = absurd (enters_on r x.report off)
     tree_past (point.ComputeInsert k) r x off = absurd (enters_on r x.report off)
-    tree_past (point.Exchange k old new) r x off = absurd (enters_on r x.report off)
+    tree_past (point.Exchange k a b) r x off = absurd (enters_on r x.report off)
 
     begins_past : (t : Target V) (r : Report V) → BeginsAt same always s w t r s' → is_in_flight r.outcome ≡ false → After
     begins_past (target.Collector c) r x off = collects_past (turning.Begin c) c r (begin_within same always s s' w holds op none) x

@@ -281,7 +281,7 @@ module _ {V : Type 0} (same : V → V → Bool) (always : Bool) (laws : CallLaws
     begins_tree (point.Remove k) t x = calm (ap (λ y. nodes y.forest) x.state) t
     begins_tree (point.ComputePresent k) t x = calm (ap (λ y. nodes y.forest) x.state) t
     begins_tree (point.ComputeInsert k) t x = calm (ap (λ y. nodes y.forest) x.state) t
-    begins_tree (point.Exchange k old new) t x = calm (ap (λ y. nodes y.forest) x.state) t
+    begins_tree (point.Exchange k a b) t x = calm (ap (λ y. nodes y.forest) x.state) t
 
     begins : (t : Target V) → KeepsTaken → BeginsAt same always s w t r s' → Parts s s' w event
     begins (target.Collector op) t x = destroyed x.step.destroys t

@@ -39,9 +39,10 @@ use Rattle.congee.specs.declared.protocol.store.Refusal.TheVariants as cause
 use Rattle.congee.specs.declared.protocol.store.Seat.{Seat}
 use Rattle.congee.specs.declared.protocol.turn.Turn.{Turn}
 use Rattle.congee.specs.Heap.{Node, is_taken}
+use Rattle.congee.specs.Keys.{key_bytes}
 use Rattle.congee.specs.protocol.Causes.{Causes, IsCause}
 use Rattle.congee.specs.protocol.Play.{IsMoved, begun}
-use Rattle.congee.specs.protocol.Steps.{PhaseStepped, IsIf, IsChecked, after_version, after_read, after_miss, again, answered, down}
+use Rattle.congee.specs.protocol.Steps.{PhaseStepped, IsIf, IsChecked, after_version, after_read, after_miss, again, answered, refused}
 use Rattle.joint.specs.declared.call.Call.{Call}
 use Rattle.joint.specs.declared.call.Call.TheVariants.{Idle, Collecting, Reserving, Securing, Walking}
 use Rattle.joint.specs.declared.id.Id.{Id}
@@ -133,9 +134,9 @@ module _ {V : Type 0} where
   phase_reads same always most why r key fail answer new New h new' t h' u x = let P : Turn Id V → Type 0 = λ y. Reads y.phase in subst P (sym x.2) (version_reads V r None r _)
   phase_reads same always most why r key fail answer new (Version above n) h new' t h' u x = let P : Turn Id V → Type 0 = λ y. Reads y.phase in subst P (sym x.2) (version_reads V r above n _)
   phase_reads same always most why r key fail answer new (Read above at) h new' t h' u x = let P : Turn Id V → Type 0 = λ y. Reads y.phase in subst P (sym x.2.2) (read_reads r above at x.2.0)
-  phase_reads same always most why r key fail answer new (Check s c) h new' t h' u x = if_reads _ r _ t (checked_reads same always new s c t) x.2
-  phase_reads same always most why r key fail answer new (CheckUncopied at) h new' t h' u x = if_reads _ r _ t (λ e. let P : Turn Id V → Type 0 = λ y. Reads y.phase in subst P (sym e) tt) x.2
-  phase_reads same always most why r key fail answer new (CheckMiss p at common byte) h new' t h' u x = if_reads _ r _ t (λ e. let P : Turn Id V → Type 0 = λ y. Reads y.phase in subst P (sym e) tt) x.2
+  phase_reads same always most why r key fail answer new (Check s c) h new' t h' u x = if_reads _ r (IsChecked {C = Id} {V = V} always same kind.Get new s c) t (checked_reads same always new s c t) x.2
+  phase_reads same always most why r key fail answer new (CheckUncopied at) h new' t h' u x = if_reads _ r (λ (y : Turn Id V). y ≡ refused cause.Count) t (λ e. let P : Turn Id V → Type 0 = λ y. Reads y.phase in subst P (sym e) tt) x.2
+  phase_reads same always most why r key fail answer new (CheckMiss p at common byte) h new' t h' u x = if_reads _ r (λ (y : Turn Id V). y ≡ after_miss kind.Get p at common byte) t (λ e. let P : Turn Id V → Type 0 = λ y. Reads y.phase in subst P (sym e) tt) x.2
   phase_reads same always most why r key fail answer new (Sweep s) h new' t h' u x = let P : Turn Id V → Type 0 = λ y. Reads y.phase in subst P (sym x.2.3) tt
   phase_reads same always most why r key fail answer new Ended h new' t h' u x = let P : Turn Id V → Type 0 = λ y. Reads y.phase in subst P (sym x.2) tt
   phase_reads same always most why r key fail answer new _ h new' t h' u x = absurd u
@@ -230,8 +231,8 @@ module _ {V : Type 0} (same : V → V → Bool) (always : Bool) (turns : Progres
         let mv : IsMoved id_number same always s.forest.version_max (Refuses s.forest) (nodes s.forest) s.machines m (record { who = w; noise = noise }) x.move (nodes s'.forest) x.step.between = x.step.walked.plays.moved m at in
         let now : slice_get s'.machines w ≡ Some (rested mv.now) =
         ap (λ xs. slice_get xs w) (x.step.machines ∙ cleared_is s.machines x.step.between w m mv.now at mv.calls) ∙ set_at s.machines w (rested mv.now) (within_machines (slice_get_within s.calls w Walking e)) in
-        let P : Kind V → Type 0 = λ k. PhaseStepped id_number same always s.forest.version_max (Refuses s.forest) m.root _ k noise.fail noise.answer m.given m.phase (nodes s.forest) mv.now.given (record { phase = mv.now.phase; report = x.move }) (nodes s'.forest) in
-        let reads : Reads mv.now.phase = phase_reads same always s.forest.version_max (Refuses s.forest) m.root _ noise.fail noise.answer m.given m.phase (nodes s.forest) mv.now.given (record { phase = mv.now.phase; report = x.move }) (nodes s'.forest) u.1 (subst P u.0 mv.step.step) in
+        let P : Kind V → Type 0 = λ k. PhaseStepped id_number same always s.forest.version_max (Refuses s.forest) m.root (key_bytes m.key) k noise.fail noise.answer m.given m.phase (nodes s.forest) mv.now.given (record { phase = mv.now.phase; report = x.move }) (nodes s'.forest) in
+        let reads : Reads mv.now.phase = phase_reads same always s.forest.version_max (Refuses s.forest) m.root (key_bytes m.key) noise.fail noise.answer m.given m.phase (nodes s.forest) mv.now.given (record { phase = mv.now.phase; report = x.move }) (nodes s'.forest) u.1 (subst P u.0 mv.step.step) in
         (
           (λ f q. told_count always s.forest.version_max (Refuses s.forest) m.phase x.move.outcome f u.1 mv.cause (sym (ap (λ y. y.outcome) x.report) ∙ q)),
           (λ b. by (over_at (slice_get s'.machines w)) (rested mv.now) now (rested_reads mv.now (mv.step.kind ∙ u.0, reads)) b (placed _ (slice_get_within s.calls w Walking e) x.calls)),
