@@ -57,6 +57,7 @@ pub mod PlainStart
 pub mod PlainSteps
 pub mod PlainTells
 pub mod Planting
+pub mod Points
 pub mod Promises
 pub mod Reaching
 pub mod Recounting

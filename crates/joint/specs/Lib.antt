@@ -26,6 +26,7 @@ pub mod Names
 pub mod Opening
 pub mod Pinned
 pub mod Plain
+pub mod Points
 pub mod Promises
 pub mod Refusals
 pub mod Reports

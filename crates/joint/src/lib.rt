@@ -41,6 +41,7 @@ mod limits;
 mod log;
 mod nodes;
 mod opening;
+mod point_laws;
 mod promises;
 mod reading;
 mod refusal;
@@ -61,6 +62,7 @@ pub use laws::{
     comes_back, counts_nodes, counts_pairs, runs_alone, runs_join, runs_map, runs_plain,
 };
 pub use limits::Limits;
+pub use point_laws::calls_on_key;
 pub use promises::keeps_promises;
 pub use refusal::Refusal;
 pub use run_laws::answers_wanted;
