@@ -1,5 +1,5 @@
 -- One step of the tree, on the map of its pairs.
-use Rattle.std.proofs.Common.{◌≡◌, ◌⊎◌, ℕ, ◌<◌, ◌≤◌, ◌==◌, zero, suc, nat_eq, arith, Bool, true, false, List, [], ◌∷◌, length, Option, Some, refl, sym, ◌∙◌, ap, subst, inl, inr, if◌then◌else◌}
+use Rattle.std.proofs.Common.{◌≡◌, ◌⊎◌, ℕ, ◌<◌, ◌≤◌, ◌==◌, zero, suc, nat_eq, arith, Bool, true, false, List, [], ◌∷◌, length, Option, None, Some, refl, sym, ◌∙◌, ap, subst, inl, inr, if◌then◌else◌}
 use Rattle.std.specs.Prelude.{slice_get, slice_set}
 use Rattle.std.specs.FinMap.{empty}
 use Rattle.std.proofs.lemmas.Bool.{cases_Bool, eqb-true, eqb-false, true_from_ne_false}
@@ -7,29 +7,23 @@ use Rattle.judge.specs.Answer.{Pairs}
 use Rattle.judge.specs.declared.journal.Entry.{Entry}
 use Rattle.congee.specs.Keys.{IsMapOf}
 use Rattle.congee.specs.protocol.Play.{Flight, Over}
+use Rattle.joint.specs.declared.steps.Op.{Op}
 use Rattle.joint.specs.declared.steps.Report.{Report}
 use Rattle.joint.specs.declared.steps.Step.{Step}
 use Rattle.joint.specs.Forest.{nodes}
-use Rattle.joint.specs.Runs.{Taken, AreTaken, Line, Flights, no_flights, with_flight, Stays, MapStep, IsMapRun, IsLine, AreLines, AreInFlight, PlaysMap, IsFresh}
+use Rattle.joint.specs.Points.{AreOfCall, LeavesMap, answered_after, told_after}
+use Rattle.joint.specs.Reports.{target}
+use Rattle.joint.specs.Runs.{Taken, AreTaken, after_all, Line, Flights, no_flights, with_flight, Stays, MapStep, IsMapRun, IsLine, AreLines, AreInFlight, PlaysMap, IsFresh}
 use Rattle.joint.specs.Whole.{Whole, Holds, IsStep}
 
--- what the machine promises of lists of steps
+-- what the machine promises of lists of steps, of whole calls, and of a tree as it is opened
 pub record MapLaws : Type 0 where
   pub plays : (s : Whole ℕ) (taken : List (Taken ℕ)) (fs : Flights ℕ) (m : Pairs ℕ) → Holds nat_eq true s → AreTaken nat_eq true s taken
       → IsMapOf (nodes s.forest) m → AreInFlight s fs → PlaysMap nat_eq fs m s taken
-  pub fresh : (s : Whole ℕ) (taken : List (Taken ℕ)) → IsFresh s → Holds nat_eq true s → AreTaken nat_eq true s taken → PlaysMap nat_eq no_flights empty s taken
-
--- the pairs that stand and the calls in flight: those of a tree as it is opened, or these
-abbrev pub Stands : Whole ℕ → Pairs ℕ → Flights ℕ → Type 0
-Stands s m fs = (IsFresh s × (m ≡ empty) × (fs ≡ no_flights)) ⊎ (IsMapOf (nodes s.forest) m × AreInFlight s fs)
-
-pub plays_from : MapLaws → (s : Whole ℕ) (m : Pairs ℕ) (fs : Flights ℕ) (taken : List (Taken ℕ)) → Holds nat_eq true s → Stands s m fs → AreTaken nat_eq true s taken
-    → PlaysMap nat_eq fs m s taken
-plays_from laws s m fs taken h (inl w) t =
-    let P : Pairs ℕ → Type 0 = λ x. PlaysMap nat_eq no_flights x s taken in
-    let Q : Flights ℕ → Type 0 = λ x. PlaysMap nat_eq x m s taken in
-    subst Q (sym w.2) (subst P (sym w.1) (laws.fresh s taken w.0 h t))
-plays_from laws s m fs taken h (inr w) t = laws.plays s taken fs m h t w.0 w.1
+  pub calls : (s : Whole ℕ) (first : Taken ℕ) (more : List (Taken ℕ)) (fs : Flights ℕ) (m : Pairs ℕ) (who : ℕ) (op : Op ℕ) → Holds nat_eq true s → AreTaken nat_eq true s (first ∷ more)
+      → IsMapOf (nodes s.forest) m → AreInFlight s fs → AreOfCall who op first more
+      → LeavesMap nat_eq fs m who (answered_after first.report.outcome None more) (target op) (told_after first.report.outcome more) (after_all s (first ∷ more))
+  pub fresh : (s : Whole ℕ) → IsFresh s → IsMapOf (nodes s.forest) empty × AreInFlight s no_flights
 
 abbrev pub line_of : Step ℕ → Report ℕ → Option (Entry ℕ) → Pairs ℕ → Line ℕ
 line_of step r e m = record { step = step; report = r; entry = e; pairs = m }
@@ -57,18 +51,19 @@ on_lines t fs m (l ∷ []) fs' are run flying =
     on_line t fs m l run.0 are.0 run.1 (subst P run.2 flying)
 on_lines t fs m (l ∷ k ∷ ls) fs' are run flying = absurd are.1
 
-pub on_map : MapLaws → (s : Whole ℕ) (m : Pairs ℕ) (fs : Flights ℕ) (step : Step ℕ) (r : Report ℕ) (s' : Whole ℕ) → Holds nat_eq true s → Stands s m fs
+pub on_map : MapLaws → (s : Whole ℕ) (m : Pairs ℕ) (fs : Flights ℕ) (step : Step ℕ) (r : Report ℕ) (s' : Whole ℕ) → Holds nat_eq true s → IsMapOf (nodes s.forest) m → AreInFlight s fs
     → IsStep nat_eq true s step r s' → OnMap fs m step r s'
-on_map laws s m fs step r s' h st is =
+on_map laws s m fs step r s' h st fl is =
     let t : Taken ℕ = record { step = step; report = r; after = s' } in
-    let p = plays_from laws s m fs (t ∷ []) h st (is, tt) in
+    let p = laws.plays s (t ∷ []) fs m h (is, tt) st fl in
     on_lines t fs m p.lines p.flights p.are_lines p.run p.in_flight
 
 -- nothing of the tree is in flight
 pub record Rests (s : Whole ℕ) (m : Pairs ℕ) : Type 0 where
   pub holds : Holds nat_eq true s
   pub flights : Flights ℕ
-  pub stands : Stands s m flights
+  pub stand : IsMapOf (nodes s.forest) m
+  pub in_flight : AreInFlight s flights
   pub over : (i : ℕ) → flights i ≡ Over
 
 -- nor is it after a step that leaves the map
@@ -76,7 +71,7 @@ pub rests_on : (fs : Flights ℕ) (m : Pairs ℕ) (step : Step ℕ) (r : Report 
     → Stays fs m (line_of step r o.entry o.pairs) o.flights → Rests s' m
 rests_on fs m step r s' over h o k =
     let P : Pairs ℕ → Type 0 = λ x. IsMapOf (nodes s'.forest) x in
-    record { holds = h; flights = o.flights; stands = inr (subst P k.same_pairs o.stand, o.in_flight); over = λ i. ap (λ (f : Flights ℕ). f i) k.same_flights ∙ over i }
+    record { holds = h; flights = o.flights; stand = subst P k.same_pairs o.stand; in_flight = o.in_flight; over = λ i. ap (λ (f : Flights ℕ). f i) k.same_flights ∙ over i }
 
 eqb_same : (w : ℕ) → (w == w) ≡ true
 eqb_same w = true_from_ne_false (w == w) (λ e. eqb-false w w e refl)

@@ -9,9 +9,7 @@ use Rattle.judge.specs.Answer.{Pairs, answer}
 use Rattle.judge.specs.declared.journal.Call.{Call as Point}
 use Rattle.judge.specs.declared.journal.Call.TheVariants as point
 use Rattle.congee.specs.declared.protocol.op.Op.TheVariants as asked
-use Rattle.congee.specs.declared.protocol.phase.Kind.TheVariants as kind
-use Rattle.congee.specs.protocol.Play.{Flight, Question, Unasked, Asked as Wants, Replied, Heeds}
-use Rattle.congee.specs.protocol.Protocol.{IsCall}
+use Rattle.congee.specs.protocol.Play.{Flight}
 use Rattle.joint.specs.declared.limits.Limits.{Limits}
 use Rattle.joint.specs.declared.refusal.Refusal.{Refusal}
 use Rattle.joint.specs.declared.steps.Event.TheVariants.{Begin, Go}
@@ -24,6 +22,7 @@ use Rattle.joint.specs.declared.steps.Survey.{Survey}
 use Rattle.joint.specs.declared.steps.Survey.TheVariants as survey
 use Rattle.joint.specs.declared.steps.Target.{Target}
 use Rattle.joint.specs.declared.steps.Target.TheVariants as target
+use Rattle.joint.specs.Points.{Answered as Last, IsPresent, IsComputed}
 use Rattle.joint.specs.Reports.{target}
 use Rattle.joint.specs.Runs.{no_flights, BeginMap, GoMap}
 use Rattle.joint.specs.Whole.{Whole}
@@ -54,7 +53,7 @@ use Rattle.trial.specs.Places.{places_at, given, left}
 use Rattle.trial.specs.Session.{Session, op_of, closure_of, refusal_of, AfterPin, Round, Rounds, GaveAway, Replies, CallReplies, Asks, limits_of, budget_of, Opens, Opened, OpensWith, Closed, StaysOpen, Answers}
 use Rattle.trial.specs.Texts.{printed}
 use Rattle.trial.proofs.MapSteps.{MapLaws, line_of, on_map, Rests, rests_on}
-use Rattle.trial.proofs.WholeCalls.{Ready, Decides, Finished, call_finishes}
+use Rattle.trial.proofs.WholeCalls.{ByClosure, Finished, call_finishes}
 use Rattle.trial.proofs.Surveys.{Surveyed, survey_finishes, keys_reply, empty_reply}
 use Rattle.trial.proofs.WholeScans.{filled_length, scan_finishes}
 
@@ -69,19 +68,19 @@ as_long false xs i x e = e
 -- steps that are of no call on the tree leave the map
 registers_at : MapLaws → (s s' : Index) (told : Outcome ℕ) (m : Pairs ℕ) → At s m → Registers s told s' → At s' m
 registers_at laws s s' told m b g =
-    let o = on_map laws s.world m b.0.flights _ g.0.0 s'.world b.0.holds b.0.stands g.0.1 in
+    let o = on_map laws s.world m b.0.flights _ g.0.0 s'.world b.0.holds b.0.stand b.0.in_flight g.0.1 in
     (rests_on b.0.flights m _ g.0.0 s'.world b.0.over g.0.1.holds o o.moves, ap length g.1 ∙ b.1, ap (λ (x : _). length x.items) g.2 ∙ b.2)
 
 begins_at : MapLaws → (w : ℕ) (o : Op ℕ) (t : _) (f : Option Closure) (s s' : Index) (told : Outcome ℕ) (m : Pairs ℕ) → target o ≡ target.Collector t → At s m → Begins s w o f told s' → At s' m
 begins_at laws w op t f s s' told m e b g =
-    let o = on_map laws s.world m b.0.flights _ g.0.0 s'.world b.0.holds b.0.stands g.0.1 in
+    let o = on_map laws s.world m b.0.flights _ g.0.0 s'.world b.0.holds b.0.stand b.0.in_flight g.0.1 in
     let P : Target ℕ → Type 0 = λ x. BeginMap b.0.flights m x (line_of (record { worker = w; event = Begin op }) g.0.0 o.entry o.pairs) o.flights in
     (rests_on b.0.flights m _ g.0.0 s'.world b.0.over g.0.1.holds o (subst P e o.moves), ap length g.1 ∙ as_long (is_running told) s.callers w (fresh f) b.1, ap length g.2 ∙ as_long (is_running told) s.scans.items w [] b.2)
 
 goes_at : MapLaws → (w : ℕ) (s s' : Index) (told : Outcome ℕ) (m : Pairs ℕ) → At s m → Goes s w false told s' → At s' m
 goes_at laws w s s' told m b g =
     let c = caller_at s.callers w in
-    let o = on_map laws s.world m b.0.flights _ g.0.0 s'.world b.0.holds b.0.stands g.0.1 in
+    let o = on_map laws s.world m b.0.flights _ g.0.0 s'.world b.0.holds b.0.stand b.0.in_flight g.0.1 in
     let P : Flight ℕ → Type 0 = λ x. GoMap nat_eq b.0.flights x m c.answer (line_of (record { worker = w; event = Go (noise_of c false) }) g.0.0 o.entry o.pairs) o.flights in
     (rests_on b.0.flights m _ g.0.0 s'.world b.0.over g.0.1.holds o (subst P (b.0.over w) o.moves), ap length g.1 ∙ length-set s.callers w _ ∙ b.1, ap length g.2 ∙ filled_length s.scans.items w told ∙ b.2)
 
@@ -112,45 +111,27 @@ rounds_at laws w (suc k) s s' r m b g =
     let mid = round_at laws w s g.0 g.1 m b g.2 in
     after_round_at g.0 s' g.1 r m (Rounds k g.0 w s' r) mid (λ x. rounds_at laws w k g.0 s' r m mid x) g.3
 
--- what a call on one key is once it took effect
-as_given : (given v : Option ℕ) (q : Question ℕ) → Ready None given v q → v ≡ given
-as_given given v Unasked r = r
-as_given given v (Wants o) r = absurd r
-as_given given v (Replied o) r = absurd r
+-- the call that a line's is, with its closure's answer
+adds_at : (k n : ℕ) (found : Option ℕ) (last : Last ℕ) (c : Point ℕ) → ByClosure (Some (closure.Add n)) last → IsPresent k found last c → c ≡ point.ComputePresent k (option_map (wrapped n) found)
+adds_at k n None last c b is = is
+adds_at k n (Some x) last c b is =
+    let P : Last ℕ → Type 0 = λ y. ByClosure (Some (closure.Add n)) y in
+    is.2 ∙ ap (point.ComputePresent k) (subst P is.1 b)
 
-inserts : (m : Pairs ℕ) (k x : ℕ) → Decides k kind.Insert (Some x) None m (point.Insert k x)
-inserts m k x v q c r is h = let P : Option ℕ → Type 0 = λ y. IsCall k kind.Insert y (get m k) c in subst P (as_given (Some x) v q r) is
+drops_at : (k : ℕ) (found : Option ℕ) (last : Last ℕ) (c : Point ℕ) → ByClosure (Some closure.Drop) last → IsPresent k found last c → c ≡ point.ComputePresent k None
+drops_at k None last c b is = is
+drops_at k (Some x) last c b is =
+    let P : Last ℕ → Type 0 = λ y. ByClosure (Some closure.Drop) y in
+    is.2 ∙ ap (point.ComputePresent k) (subst P is.1 b)
 
-exchanges : (m : Pairs ℕ) (k old : ℕ) (given : Option ℕ) → Decides k (kind.Exchange old) given None m (point.Exchange k old given)
-exchanges m k old given v q c r is h = is ∙ ap (point.Exchange k old) (as_given given v q r)
+put_is : (n v : ℕ) (found : Option ℕ) → Some v ≡ answer_of (closure.Put n) found → v ≡ or_wrapped n found
+put_is n v None e = cc e
+put_is n v (Some x) e = cc e
 
-heeded : (f : Closure) (given v found : Option ℕ) (q : Question ℕ) → Ready (Some f) given v q → q ≡ Replied found → v ≡ answer_of f found
-heeded f given v found q r h = let P : Question ℕ → Type 0 = λ x. Ready (Some f) given v x in subst P h r
-
-adds_at : (m : Pairs ℕ) (k n : ℕ) (found : Option ℕ) → get m k ≡ found → (v : Option ℕ) (q : Question ℕ) (c : Point ℕ) → Ready (Some (closure.Add n)) None v q
-    → IsCall k kind.ComputePresent v found c → Heeds kind.ComputePresent found q → c ≡ point.ComputePresent k (option_map (wrapped n) (get m k))
-adds_at m k n None e v q c r is h = is ∙ ap (λ o. point.ComputePresent k (option_map (wrapped n) o)) (sym e)
-adds_at m k n (Some x) e v q c r is h =
-    is ∙ ap (point.ComputePresent k) (heeded (closure.Add n) None v (Some x) q r h) ∙ ap (λ o. point.ComputePresent k (option_map (wrapped n) o)) (sym e)
-
-adds : (m : Pairs ℕ) (k n : ℕ) → Decides k kind.ComputePresent None (Some (closure.Add n)) m (point.ComputePresent k (option_map (wrapped n) (get m k)))
-adds m k n v q c r is h = adds_at m k n (get m k) refl v q c r is h
-
-drops_at : (k : ℕ) (found v : Option ℕ) (q : Question ℕ) (c : Point ℕ) → Ready (Some closure.Drop) None v q → IsCall k kind.ComputePresent v found c → Heeds kind.ComputePresent found q
-    → c ≡ point.ComputePresent k None
-drops_at k None v q c r is h = is
-drops_at k (Some x) v q c r is h = is ∙ ap (point.ComputePresent k) (heeded closure.Drop None v (Some x) q r h)
-
-drops : (m : Pairs ℕ) (k : ℕ) → Decides k kind.ComputePresent None (Some closure.Drop) m (point.ComputePresent k None)
-drops m k v q c r is h = drops_at k (get m k) v q c r is h
-
-puts_at : (k n : ℕ) (found v : Option ℕ) (q : Question ℕ) (c : Point ℕ) → Ready (Some (closure.Put n)) None v q → IsCall k kind.ComputeInsert v found c → Heeds kind.ComputeInsert found q
-    → c ≡ point.ComputeInsert k (or_wrapped n found)
-puts_at k n None v q c r is h = let P : Option ℕ → Type 0 = λ y. IsCall k kind.ComputeInsert y None c in subst P (heeded (closure.Put n) None v None q r h) is
-puts_at k n (Some x) v q c r is h = let P : Option ℕ → Type 0 = λ y. IsCall k kind.ComputeInsert y (Some x) c in subst P (heeded (closure.Put n) None v (Some x) q r h) is
-
-puts : (m : Pairs ℕ) (k n : ℕ) → Decides k kind.ComputeInsert None (Some (closure.Put n)) m (point.ComputeInsert k (or_wrapped n (get m k)))
-puts m k n v q c r is h = puts_at k n (get m k) v q c r is h
+puts_at : (k n : ℕ) (found : Option ℕ) (last : Last ℕ) (c : Point ℕ) → ByClosure (Some (closure.Put n)) last → IsComputed k found last c → c ≡ point.ComputeInsert k (or_wrapped n found)
+puts_at k n found last c b is =
+    let P : Last ℕ → Type 0 = λ y. ByClosure (Some (closure.Put n)) y in
+    is.2 ∙ ap (point.ComputeInsert k) (put_is n is.0 found (subst P is.1 b))
 
 -- as many scans as before
 begun_scans : (w : ℕ) (o : Op ℕ) (f : Option Closure) (s s' : Index) (told : Outcome ℕ) → length s.scans.items ≡ 256 → Begins s w o f told s' → length s'.scans.items ≡ 256
@@ -211,7 +192,7 @@ agreed false (Some told) r rs a = absurd a
 finished : (w : ℕ) (o : Op ℕ) (f : Option Closure) (m : Pairs ℕ) (p : Point ℕ) (s mid s' : Index) (stands : Outcome ℕ) (r : Reply) → At s m → Calls s w o f stands mid → Replies mid w stands s' r
     → Finished m p mid (reply_of (given stands (places_at mid.scans.items w)) stands) → At s' (answer nat_eq m p).1 × (r ≡ reply_to (answer nat_eq m p).0)
 finished w o f m p s mid s' stands r b g told e =
-    (replied_at w mid s' stands (answer nat_eq m p).1 (e.rests, e.callers, called_scans w o f s mid stands b.2 g) told.0, told.1 ∙ e.reply)
+    (replied_at w mid s' stands (answer nat_eq m p).1 (e.rests, called_callers w o f s mid stands b.1 g, called_scans w o f s mid stands b.2 g) told.0, told.1 ∙ e.reply)
 
 -- the tree after a call of one step
 surveyed_at : (w : ℕ) (k : Survey) (s mid s' : Index) (stands : Outcome ℕ) (m : Pairs ℕ) → At s m → Surveyed m k s mid stands → GaveAway mid w stands s' → At s' m
@@ -224,28 +205,28 @@ call_at : MapLaws → (w : ℕ) (c : Call) (s s' : Index) (r : Reply) (m : Pairs
     → At s' (map_after m (command.Call w c)) × Agrees (is_on_keys (command.Call w c)) (answer_to m (command.Call w c)) r
 call_at laws w (call.Get k) s s' r m b g a =
     finished w (op.Get k) None m (point.Get k) s g.1 s' g.0 r b g.2 g.3
-    (call_finishes laws w k kind.Get None None m (point.Get k) (op.Get k) (asked.Get k) s g.1 g.0 _ refl refl tt (λ v q c x is h. is) b.0 b.1 g.2 (told_answer r _ g.3.1 a))
+    (call_finishes laws w (op.Get k) (asked.Get k) None m (point.Get k) s g.1 g.0 _ refl tt (λ last c x is. is) b.0 g.2 (told_answer r _ g.3.1 a))
 call_at laws w (call.Remove k) s s' r m b g a =
     finished w (op.Remove k) None m (point.Remove k) s g.1 s' g.0 r b g.2 g.3
-    (call_finishes laws w k kind.Remove None None m (point.Remove k) (op.Remove k) (asked.Remove k) s g.1 g.0 _ refl refl tt (λ v q c x is h. is) b.0 b.1 g.2 (told_answer r _ g.3.1 a))
+    (call_finishes laws w (op.Remove k) (asked.Remove k) None m (point.Remove k) s g.1 g.0 _ refl tt (λ last c x is. is) b.0 g.2 (told_answer r _ g.3.1 a))
 call_at laws w (call.Insert k v) s s' r m b g a =
     finished w (op.Insert k v) None m (point.Insert k v) s g.1 s' g.0 r b g.2 g.3
-    (call_finishes laws w k kind.Insert (Some v) None m (point.Insert k v) (op.Insert k v) (asked.Insert k v) s g.1 g.0 _ refl refl tt (inserts m k v) b.0 b.1 g.2 (told_answer r _ g.3.1 a))
+    (call_finishes laws w (op.Insert k v) (asked.Insert k v) None m (point.Insert k v) s g.1 g.0 _ refl tt (λ last c x is. is) b.0 g.2 (told_answer r _ g.3.1 a))
 call_at laws w (call.PresentAdd k n) s s' r m b g a =
     finished w (op.ComputePresent k) (Some (closure.Add n)) m (point.ComputePresent k (option_map (wrapped n) (get m k))) s g.1 s' g.0 r b g.2 g.3
-    (call_finishes laws w k kind.ComputePresent None (Some (closure.Add n)) m (point.ComputePresent k (option_map (wrapped n) (get m k))) (op.ComputePresent k) (asked.ComputePresent k) s g.1 g.0 _ refl refl tt (adds m k n) b.0 b.1 g.2 (told_answer r _ g.3.1 a))
+    (call_finishes laws w (op.ComputePresent k) (asked.ComputePresent k) (Some (closure.Add n)) m (point.ComputePresent k (option_map (wrapped n) (get m k))) s g.1 g.0 _ refl tt (λ last c x is. adds_at k n (get m k) last c x is) b.0 g.2 (told_answer r _ g.3.1 a))
 call_at laws w (call.PresentDrop k) s s' r m b g a =
     finished w (op.ComputePresent k) (Some closure.Drop) m (point.ComputePresent k None) s g.1 s' g.0 r b g.2 g.3
-    (call_finishes laws w k kind.ComputePresent None (Some closure.Drop) m (point.ComputePresent k None) (op.ComputePresent k) (asked.ComputePresent k) s g.1 g.0 _ refl refl tt (drops m k) b.0 b.1 g.2 (told_answer r _ g.3.1 a))
+    (call_finishes laws w (op.ComputePresent k) (asked.ComputePresent k) (Some closure.Drop) m (point.ComputePresent k None) s g.1 g.0 _ refl tt (λ last c x is. drops_at k (get m k) last c x is) b.0 g.2 (told_answer r _ g.3.1 a))
 call_at laws w (call.OrInsert k n) s s' r m b g a =
     finished w (op.ComputeInsert k) (Some (closure.Put n)) m (point.ComputeInsert k (or_wrapped n (get m k))) s g.1 s' g.0 r b g.2 g.3
-    (call_finishes laws w k kind.ComputeInsert None (Some (closure.Put n)) m (point.ComputeInsert k (or_wrapped n (get m k))) (op.ComputeInsert k) (asked.ComputeInsert k) s g.1 g.0 _ refl refl tt (puts m k n) b.0 b.1 g.2 (told_answer r _ g.3.1 a))
+    (call_finishes laws w (op.ComputeInsert k) (asked.ComputeInsert k) (Some (closure.Put n)) m (point.ComputeInsert k (or_wrapped n (get m k))) s g.1 g.0 _ refl tt (λ last c x is. puts_at k n (get m k) last c x is) b.0 g.2 (told_answer r _ g.3.1 a))
 call_at laws w (call.Exchange k old new) s s' r m b g a =
     finished w (op.Exchange k old (Some new)) None m (point.Exchange k old (Some new)) s g.1 s' g.0 r b g.2 g.3
-    (call_finishes laws w k (kind.Exchange old) (Some new) None m (point.Exchange k old (Some new)) (op.Exchange k old (Some new)) (asked.Exchange k old (Some new)) s g.1 g.0 _ refl refl tt (exchanges m k old (Some new)) b.0 b.1 g.2 (told_answer r _ g.3.1 a))
+    (call_finishes laws w (op.Exchange k old (Some new)) (asked.Exchange k old (Some new)) None m (point.Exchange k old (Some new)) s g.1 g.0 _ refl tt (λ last c x is. is) b.0 g.2 (told_answer r _ g.3.1 a))
 call_at laws w (call.ExchangeDrop k old) s s' r m b g a =
     finished w (op.Exchange k old None) None m (point.Exchange k old None) s g.1 s' g.0 r b g.2 g.3
-    (call_finishes laws w k (kind.Exchange old) None None m (point.Exchange k old None) (op.Exchange k old None) (asked.Exchange k old None) s g.1 g.0 _ refl refl tt (exchanges m k old None) b.0 b.1 g.2 (told_answer r _ g.3.1 a))
+    (call_finishes laws w (op.Exchange k old None) (asked.Exchange k old None) None m (point.Exchange k old None) s g.1 g.0 _ refl tt (λ last c x is. is) b.0 g.2 (told_answer r _ g.3.1 a))
 call_at laws w call.Pin s s' r m b g a = (replied_at w g.1 s' g.0 m (calls_at laws w op.Pin _ None s g.1 g.0 m refl b g.2) g.3.0, tt)
 call_at laws w call.Unpin s s' r m b g a = (replied_at w g.1 s' g.0 m (calls_at laws w op.Unpin _ None s g.1 g.0 m refl b g.2) g.3.0, tt)
 call_at laws w call.Repin s s' r m b g a = (replied_at w g.1 s' g.0 m (calls_at laws w op.Repin _ None s g.1 g.0 m refl b g.2) g.3.0, tt)
@@ -290,20 +271,21 @@ asks_at laws (command.New o) s s' r m b g w a = absurd g
 asks_at laws command.Journal s s' r m b g w a = ((let P : Index → Type 0 = λ x. At x m in subst P (sym g.0) b), tt)
 asks_at laws command.Close s s' r m b g w a = absurd g
 
-opened_at : (limits : Limits) (journal : Option ℕ) (budget : ℕ) (result : Result (Whole ℕ) Refusal) (new : Session) (r : Reply) → Opens limits journal 0 budget result → Opened result new r → IsAnswer r
+opened_at : MapLaws → (limits : Limits) (journal : Option ℕ) (budget : ℕ) (result : Result (Whole ℕ) Refusal) (new : Session) (r : Reply) → Opens limits journal 0 budget result → Opened result new r → IsAnswer r
     → AtMap new empty
-opened_at limits journal budget (Ok world) new r o g a =
+opened_at laws limits journal budget (Ok world) new r o g a =
     let P : Session → Type 0 = λ x. AtMap x empty in
     let Q : Whole ℕ → Type 0 = λ x. Rests x empty in
-    let rests : Rests world empty = record { holds = o.4; flights = no_flights; stands = inl (o.1, refl, refl); over = λ i. refl } in
+    let new_tree = laws.fresh world o.1 in
+    let rests : Rests world empty = record { holds = o.4; flights = no_flights; stand = new_tree.0; in_flight = new_tree.1; over = λ i. refl } in
     let callers : length g.0.callers ≡ 256 = ap length g.1.callers ∙ length-replicate {A = Caller} 256 (fresh None) in
     let scans : length g.0.scans.items ≡ 256 = ap length g.1.scans ∙ length-replicate {A = List (ℕ × ℕ)} 256 [] in
     subst P (sym g.2) (subst Q (sym g.1.world) rests, callers, scans)
-opened_at limits journal budget (Err e) new r o g a = absurd (no_refusal _ r g.1 a)
+opened_at laws limits journal budget (Err e) new r o g a = absurd (no_refusal _ r g.1 a)
 
-opens_at : (limits : Option Limits) (journal : Option ℕ) (budget : ℕ) (new : Session) (r : Reply) → OpensWith limits journal budget new r → IsAnswer r → AtMap new empty
-opens_at None journal budget new r g a = absurd (no_refusal _ r g.1 a)
-opens_at (Some limits) journal budget new r g a = opened_at limits journal budget g.0 new r g.1 g.2 a
+opens_at : MapLaws → (limits : Option Limits) (journal : Option ℕ) (budget : ℕ) (new : Session) (r : Reply) → OpensWith limits journal budget new r → IsAnswer r → AtMap new empty
+opens_at laws None journal budget new r g a = absurd (no_refusal _ r g.1 a)
+opens_at laws (Some limits) journal budget new r g a = opened_at laws limits journal budget g.0 new r g.1 g.2 a
 
 -- where the tree was closed, nothing is open
 closed_at : (s : Index) (new : Session) (r : Reply) (m : Pairs ℕ) → Closed s new r ⊎ StaysOpen s new r → IsAnswer r → Keeps m command.Close new r
@@ -314,7 +296,7 @@ asked_at : MapLaws → (c : Command) (s : Index) (new : Session) (r : Reply) (m 
 asked_at laws c s new r m b g w a = let P : Session → Type 0 = λ x. Keeps m c x r in subst P (sym g.1) (asks_at laws c s g.0 r m b g.2 w a)
 
 answers_at : MapLaws → (old : Session) (c : Command) (new : Session) (r : Reply) (m : Pairs ℕ) → AtMap old m → Answers old c new r → IsWhole c → IsAnswer r → Keeps m c new r
-answers_at laws None (command.New o) new r m b g w a = (opens_at (limits_of o) o.journal (budget_of o) new r g a, tt)
+answers_at laws None (command.New o) new r m b g w a = (opens_at laws (limits_of o) o.journal (budget_of o) new r g a, tt)
 answers_at laws None command.Register new r m b g w a = absurd (no_refusal _ r g.1 a)
 answers_at laws None command.Charged new r m b g w a = absurd (no_refusal _ r g.1 a)
 answers_at laws None command.Waiting new r m b g w a = absurd (no_refusal _ r g.1 a)

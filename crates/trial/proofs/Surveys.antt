@@ -58,7 +58,7 @@ gone_on w left s stands told s' (goes n s1 mid s2 st next t1 run step more) e = 
 begins : MapLaws → (w : ℕ) (o : Op ℕ) (k : Survey) (f : Option Closure) (m : Pairs ℕ) (s s' : Index) (told : Outcome ℕ) → target o ≡ target.Survey k → Rests s.world m → Begins s w o f told s'
     → Surveyed m k s s' told
 begins laws w o k f m s s' told is b g =
-    let x = on_map laws s.world m b.flights _ g.0.0 s'.world b.holds b.stands g.0.1 in
+    let x = on_map laws s.world m b.flights _ g.0.0 s'.world b.holds b.stand b.in_flight g.0.1 in
     let P : Target ℕ → Type 0 = λ t. BeginMap b.flights m t (line_of (record { worker = w; event = Begin o }) g.0.0 x.entry x.pairs) x.flights in
     let moves : BeginMap b.flights m (target.Survey k) (line_of (record { worker = w; event = Begin o }) g.0.0 x.entry x.pairs) x.flights = subst P is x.moves in
     let tells : MapTells m k told = subst (MapTells m k) (sym g.0.2) moves.tells in

@@ -94,7 +94,7 @@ told_so w start end size m states places before f s stands (moved.Found place ke
 told_so w start end size m states places before f s stands (moved.Done t) same is u e n = absurd u
 told_so w start end size m states places before f s stands (moved.Scanned count) same is u e n =
     let kept : s.scans.items ≡ before = n.scans ∙ ap (filled before w) e in
-    let rests : Rests s.world m = record { holds = n.holds; flights = n.flights; stands = inr (n.stand, n.in_flight); over = none_alone n.flights w (lone w m f Over before s stands n u.2) } in
+    let rests : Rests s.world m = record { holds = n.holds; flights = n.flights; stand = n.stand; in_flight = n.in_flight; over = none_alone n.flights w (lone w m f Over before s stands n u.2) } in
     Ended count rests e (ap (take count) (ap (λ x. places_at x w) kept ∙ is) ∙ scan_of_one m start end size states (take count places) same u.1)
 told_so w start end size m states places before f s stands (moved.Refused cause) same is u e n = Failed (of_tree cause) e
 
@@ -103,7 +103,7 @@ sweeps : MapLaws → (w start end size : ℕ) (m : Pairs ℕ) (s s' : Index) (st
     → Sweep w start end size m s' next
 sweeps laws w start end size m s s' stands next run (Before fs h st fl al is r len) g =
     let c = caller_at s.callers w in
-    let o = on_map laws s.world m fs _ g.0.0 s'.world h (inr (st, fl)) g.0.1 in
+    let o = on_map laws s.world m fs _ g.0.0 s'.world h st fl g.0.1 in
     let P : Flight ℕ → Type 0 = λ x. GoMap nat_eq fs x m c.answer (line_of (record { worker = w; event = Go (noise_of c false) }) g.0.0 o.entry o.pairs) o.flights in
     let a : Advances nat_eq fs (Unbegun start end size) m c.answer (line_of (record { worker = w; event = Go (noise_of c false) }) g.0.0 o.entry o.pairs) o.flights = subst P al.here o.moves in
     let small = within s.world fs w (Unbegun start end size) h fl al.here (λ e. cc) in
@@ -113,7 +113,7 @@ sweeps laws w start end size m s s' stands next run (Before fs h st fl al is r l
     told_so w start end size m (m ∷ []) [] s.scans.items a.next s' next a.step.outcome (refl, tt) is a.step.tells (g.0.2 ∙ a.step.told_so) n
 sweeps laws w start end size m s s' stands next run (During fs states places h st fl al same is r len) g =
     let c = caller_at s.callers w in
-    let o = on_map laws s.world m fs _ g.0.0 s'.world h (inr (st, fl)) g.0.1 in
+    let o = on_map laws s.world m fs _ g.0.0 s'.world h st fl g.0.1 in
     let P : Flight ℕ → Type 0 = λ x. GoMap nat_eq fs x m c.answer (line_of (record { worker = w; event = Go (noise_of c false) }) g.0.0 o.entry o.pairs) o.flights in
     let a : Advances nat_eq fs (Scanning start end size states places) m c.answer (line_of (record { worker = w; event = Go (noise_of c false) }) g.0.0 o.entry o.pairs) o.flights = subst P al.here o.moves in
     let small = within s.world fs w (Scanning start end size states places) h fl al.here (λ e. cc) in
@@ -129,7 +129,7 @@ sweep_begins : MapLaws → (w start end size : ℕ) (m : Pairs ℕ) (s s' : Inde
     → Begins s w (Range start end size) closure first s' → Sweep w start end size m s' first
 sweep_begins laws w start end size m s s' closure first b len g = begun_so g.0.0.outcome refl o.moves where
   o : OnMap b.flights m (record { worker = w; event = Begin (Range start end size) }) g.0.0 s'.world
-  o = on_map laws s.world m b.flights _ g.0.0 s'.world b.holds b.stands g.0.1
+  o = on_map laws s.world m b.flights _ g.0.0 s'.world b.holds b.stand b.in_flight g.0.1
 
   l : Line ℕ
   l = line_of (record { worker = w; event = Begin (Range start end size) }) g.0.0 o.entry o.pairs
