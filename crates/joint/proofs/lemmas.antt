@@ -42,6 +42,7 @@ pub mod Hanging
 pub mod Kept
 pub mod Holding
 pub mod Keyed
+pub mod Leaving
 pub mod Listing
 pub mod Logged
 pub mod Made
@@ -57,7 +58,6 @@ pub mod PlainStart
 pub mod PlainSteps
 pub mod PlainTells
 pub mod Planting
-pub mod Points
 pub mod Promises
 pub mod Reaching
 pub mod Recounting

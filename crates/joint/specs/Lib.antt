@@ -15,6 +15,7 @@ pub mod Intact
 pub mod Journaling
 pub mod Journals
 pub mod Laws
+pub mod Leaving
 pub mod Levels
 pub mod Limits
 pub mod Listing
@@ -26,7 +27,6 @@ pub mod Names
 pub mod Opening
 pub mod Pinned
 pub mod Plain
-pub mod Points
 pub mod Promises
 pub mod Refusals
 pub mod Reports

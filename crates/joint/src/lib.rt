@@ -39,9 +39,9 @@ mod journaling;
 mod laws;
 mod limits;
 mod log;
+mod map_laws;
 mod nodes;
 mod opening;
-mod point_laws;
 mod promises;
 mod reading;
 mod refusal;
@@ -62,7 +62,7 @@ pub use laws::{
     comes_back, counts_nodes, counts_pairs, runs_alone, runs_join, runs_map, runs_plain,
 };
 pub use limits::Limits;
-pub use point_laws::calls_on_key;
+pub use map_laws::calls_map;
 pub use promises::keeps_promises;
 pub use refusal::Refusal;
 pub use run_laws::answers_wanted;

@@ -11,7 +11,7 @@ use Rattle.joint.specs.declared.steps.Op.{Op}
 use Rattle.joint.specs.declared.steps.Report.{Report}
 use Rattle.joint.specs.declared.steps.Step.{Step}
 use Rattle.joint.specs.Forest.{nodes}
-use Rattle.joint.specs.Points.{AreOfCall, LeavesMap, answered_after, told_after}
+use Rattle.joint.specs.Leaving.{AreOfCall, LeavesMap, answered_after, told_after}
 use Rattle.joint.specs.Reports.{target}
 use Rattle.joint.specs.Runs.{Taken, AreTaken, after_all, Line, Flights, no_flights, with_flight, Stays, MapStep, IsMapRun, IsLine, AreLines, AreInFlight, PlaysMap, IsFresh}
 use Rattle.joint.specs.Whole.{Whole, Holds, IsStep}

@@ -14,7 +14,7 @@ use Rattle.joint.specs.declared.steps.Outcome.{Outcome}
 use Rattle.joint.specs.declared.steps.Outcome.TheVariants as outcome
 use Rattle.joint.specs.declared.steps.Target.{Target}
 use Rattle.joint.specs.declared.steps.Target.TheVariants as target
-use Rattle.joint.specs.Points.{AllGoOn, Answered as Last, answered_by, answered_after, IsOnMap, TookEffect, LeavesKey, LeavesMap, told_after}
+use Rattle.joint.specs.Leaving.{AllGoOn, Answered as Last, answered_by, answered_after, IsOnMap, TookEffect, LeavesKey, LeavesMap, told_after}
 use Rattle.joint.specs.Reports.{target}
 use Rattle.joint.specs.Runs.{Taken, AreTaken, after_all, Flights, AreInFlight}
 use Rattle.joint.specs.Whole.{Whole, Holds, IsOnKey, is_in_flight}

@@ -1,10 +1,10 @@
 use Rattle.joint.specs.Forest.{nodes}
-use Rattle.joint.proofs.lemmas.Points.{leaves_map}
+use Rattle.joint.proofs.lemmas.Leaving.{leaves_map}
 use Rattle.joint.proofs.lemmas.Runs.{standing_empty, fresh_flights}
-use Rattle.joint.proofs.point_laws.calls_on_key.Goals as goal
+use Rattle.joint.proofs.map_laws.calls_map.Goals as goal
 
-pub returns-clause-alone : goal.returns-clause-alone
-returns-clause-alone g c = leaves_map g.P.Payload.same_as g.P.Payload.always_copies
+pub returns-clause-leaves : goal.returns-clause-leaves
+returns-clause-leaves g c = leaves_map g.P.Payload.same_as g.P.Payload.always_copies
 
 pub returns-clause-fresh : goal.returns-clause-fresh
 returns-clause-fresh g c s fresh =

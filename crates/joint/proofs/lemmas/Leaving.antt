@@ -1,4 +1,4 @@
--- A call on one key that takes its steps alone answers as the map that stood.
+-- A call that no other worker's step comes between answers as the map that stood, or leaves it.
 use Rattle.std.proofs.Common.{◌≡◌, ℕ, ◌==◌, zero, suc, Bool, true, false, List, [], ◌∷◌, refl, sym, ◌∙◌, ap, subst, inl, inr, if◌then◌else◌}
 use Rattle.std.specs.Prelude.{Option, None, Some, length, map, option_map, replicate}
 use Rattle.std.specs.FinMap.{get}
@@ -16,7 +16,7 @@ use Rattle.congee.specs.declared.protocol.op.Op.TheVariants as point
 use Rattle.congee.specs.declared.protocol.phase.Kind.{Kind as Does}
 use Rattle.congee.specs.declared.protocol.phase.Kind.TheVariants as does
 use Rattle.congee.specs.Keys.{IsMapOf}
-use Rattle.congee.specs.protocol.Play.{Flight, Pending, Decided, Over, Question, Unasked, Asked, Replied, begun, parts, flight, heard, resolved, Carries, Undecided, Heeds, Concludes}
+use Rattle.congee.specs.protocol.Play.{Flight, Pending, Decided, Over, Question, Unasked, Asked, Replied, begun, parts, flight, Unbegun, Scanning, heard, resolved, Carries, Undecided, Heeds, Concludes, ScanTells}
 use Rattle.congee.specs.protocol.Protocol.{IsCall, Asking}
 use Rattle.joint.specs.declared.id.Id.{Id}
 use Rattle.joint.specs.declared.steps.Done.{Done as Answer}
@@ -27,16 +27,20 @@ use Rattle.joint.specs.declared.steps.Outcome.{Outcome}
 use Rattle.joint.specs.declared.steps.Outcome.TheVariants.{Running, Asks, Found, Registered, Done, Refused}
 use Rattle.joint.specs.declared.steps.Report.{Report}
 use Rattle.joint.specs.declared.steps.Step.{Step}
+use Rattle.joint.specs.declared.steps.Survey.{Survey}
+use Rattle.joint.specs.declared.steps.Survey.TheVariants as survey
 use Rattle.joint.specs.declared.steps.Target.{Target}
 use Rattle.joint.specs.declared.steps.Target.TheVariants as target
 use Rattle.joint.specs.Calling.{IsCalled, goes_on, next_step, steps_of, GoOn, last_of, last_or, put_away, kept_report}
 use Rattle.joint.specs.Forest.{nodes}
 use Rattle.joint.specs.Intact.{root}
-use Rattle.joint.specs.Points.{GoesOn, AllGoOn, AreOfCall, told_after, Answered, answered_by, answer_in, answered_after, IsPresent, IsComputed, IsOnMap, TookEffect, IsUndecided, IsDecided, IsDoneWith, LeavesKey, LeavesMap, CallLeaves}
+use Rattle.joint.specs.Leaving.{GoesOn, AllGoOn, AreOfCall, told_after, Answered, answered_by, answer_in, answered_after, IsPresent, IsComputed, IsOnMap, TookEffect, IsUndecided, IsDecided, IsOfScan, LeavesAll, IsDoneWith, LeavesKey, IsScanning, LeavesScan, LeavesMap, CallLeaves}
 use Rattle.joint.specs.Reports.{target, told}
-use Rattle.joint.specs.Runs.{Taken, AreTaken, after_all, IsRun, Line, Flights, with_flight, BeginsFlight, EndsAtOnce, BeginsOr, BeginMap, MapStep, PendingStep, Advances, GoMap, InFlight, AreInFlight}
-use Rattle.joint.specs.Whole.{Whole, Holds, IsOnKey, IsStep, is_in_flight}
-use Rattle.joint.proofs.lemmas.Flights.{flight_here}
+use Rattle.joint.specs.Runs.{Taken, AreTaken, after_all, IsRun, Line, Flights, with_flight, Stays, BeginsFlight, EndsAtOnce, BeginsOr, BeginMap, MapStep, PendingStep, Advances, GoMap, InFlight, AreInFlight}
+use Rattle.joint.specs.Surveys.{MapTells}
+use Rattle.joint.specs.Whole.{Whole, Holds, IsOnKey, IsStep, engine_of, is_in_flight}
+use Rattle.joint.proofs.lemmas.Entering.{begin_free}
+use Rattle.joint.proofs.lemmas.Flights.{ends_stays, flight_here}
 use Rattle.joint.proofs.lemmas.Mapped.{Mapped, mapped}
 
 -- flights that are the same one by one
@@ -377,33 +381,228 @@ module _ {V : Type 0} (same : V → V → Bool) (always : Bool) (fs : Flights V)
     begun_so (Done d) is z = absurd (never_at_once fs m p d l y.flights on_key z)
 
   -- the whole call
-  call_leaves : (op : Op V) (s : Whole V) (first : Taken V) (more : List (Taken V)) → target op ≡ target.Tree p → Holds same always s → AreTaken same always s (first ∷ more) → IsMapOf (nodes s.forest) m → AreInFlight s fs
-      → AreOfCall w op first more → LeavesKey same fs m w (answered_after first.report.outcome None more) p (told_after first.report.outcome more) (after_all s (first ∷ more))
-  call_leaves op s first more on_tree h x st fl c =
-      let P : Step V → Type 0 = λ y. IsStep same always s y first.report first.after in
-      leaves _ _ _ (ends more None first.report.outcome first.after x.0.holds (begins op s first.report first.after on_tree h st fl (subst P c.begins x.0)) x.1 c.goes_on)
+  pub key_leaves : (op : Op V) (s : Whole V) (first : Taken V) (more : List (Taken V)) → target op ≡ target.Tree p → Holds same always s → IsMapOf (nodes s.forest) m → AreInFlight s fs
+      → IsStep same always s (record { worker = w; event = Begin op }) first.report first.after → AreTaken same always first.after more → AllGoOn w first.report.outcome more
+      → LeavesKey same fs m w (answered_after first.report.outcome None more) p (told_after first.report.outcome more) (after_all first.after more)
+  key_leaves op s first more on_tree h st fl x y g =
+      leaves _ _ _ (ends more None first.report.outcome first.after x.holds (begins op s first.report first.after on_tree h st fl x) y g)
 
-module _ {V : Type 0} (same : V → V → Bool) (fs : Flights V) (m : Pairs V) (w : ℕ) where
-  -- of any call
-  on_one_key : (t : Target V) (last : Answered V) (said : Outcome V) (s : Whole V) → ((p : Point V) → t ≡ target.Tree p → IsOnKey p → LeavesKey same fs m w last p said s) → LeavesMap same fs m w last t said s
-  on_one_key (target.Tree (point.Get k)) last said s f = f (point.Get k) refl tt
-  on_one_key (target.Tree (point.Insert k v)) last said s f = f (point.Insert k v) refl tt
-  on_one_key (target.Tree (point.Remove k)) last said s f = f (point.Remove k) refl tt
-  on_one_key (target.Tree (point.ComputePresent k)) last said s f = f (point.ComputePresent k) refl tt
-  on_one_key (target.Tree (point.ComputeInsert k)) last said s f = f (point.ComputeInsert k) refl tt
-  on_one_key (target.Tree (point.Exchange k old new)) last said s f = f (point.Exchange k old new) refl tt
-  on_one_key (target.Tree (point.Range start end size)) last said s f = tt
-  on_one_key (target.Collector op) last said s f = tt
-  on_one_key (target.Survey k) last said s f = tt
+module _ {V : Type 0} (same : V → V → Bool) (always : Bool) (fs : Flights V) (m : Pairs V) (w : ℕ) where
+  abbrev begin_of : Op V → Step V
+  begin_of op = record { worker = w; event = Begin op }
+
+  abbrev gone : Noise Id V → Step V
+  gone noise = record { worker = w; event = Go noise }
+
+  -- a worker whose begin was accepted had no call in flight
+  free_of : (op : Op V) (s : Whole V) (r : Report V) (s' : Whole V) → Holds same always s → AreInFlight s fs → IsStep same always s (begin_of op) r s' → is_in_flight r.outcome ≡ true → fs w ≡ Over
+  free_of op s r s' h fl x on =
+      (begin_free same always (engine_of s) (engine_of s') w (h.0, h.1) fs (record { each = fl.each; beyond = fl.beyond }) op x.does.told x.does.engine.does (sym (ap (λ z. is_in_flight z.outcome) x.does.report) ∙ on)).0
+
+  stays : (l : Line V) (fs' : Flights V) (s : Whole V) → Stays fs m l fs' → IsMapOf (nodes s.forest) l.pairs → AreInFlight s fs' → LeavesAll fs m s
+  stays l fs' s x st fl =
+      let P : Pairs V → Type 0 = λ n. IsMapOf (nodes s.forest) n in
+      let Q : Flights V → Type 0 = λ n. AreInFlight s n in
+      (subst P x.same_pairs st, subst Q x.same_flights fl)
+
+  -- a call that isn't on the tree
+  quiet_step : (noise : Noise Id V) (s : Whole V) (r : Report V) (s' : Whole V) → fs w ≡ Over → Holds same always s → LeavesAll fs m s → IsStep same always s (gone noise) r s' → LeavesAll fs m s'
+  quiet_step noise s r s' free h b x =
+      let y : Mapped same always s (gone noise) r s' fs m = mapped same always s (gone noise) s' fs m h x.holds b.0 b.1 r x in
+      let l : Line V = record { step = gone noise; report = r; entry = y.entry; pairs = y.pairs } in
+      let P : Flight V → Type 0 = λ z. GoMap same fs z m noise.answer l y.flights in
+      stays l y.flights s' (subst P free y.map) y.stand y.in_flight
+
+  quiet_steps : (more : List (Taken V)) (said : Outcome V) (s : Whole V) → fs w ≡ Over → Holds same always s → LeavesAll fs m s → AreTaken same always s more → AllGoOn w said more → LeavesAll fs m (after_all s more)
+  quiet_steps [] said s free h b x g = b
+  quiet_steps (t ∷ ts) said s free h b x g =
+      let P : Step V → Type 0 = λ y. IsStep same always s y t.report t.after in
+      quiet_steps ts t.report.outcome t.after free x.0.holds (quiet_step g.0.noise s t.report t.after free h b (subst P g.0.step x.0)) x.1 g.1
+
+  quiet_begin : (op : Op V) (t : _) (s : Whole V) (r : Report V) (s' : Whole V) → target op ≡ target.Collector t → Holds same always s → LeavesAll fs m s → IsStep same always s (begin_of op) r s' → LeavesAll fs m s'
+  quiet_begin op t s r s' e h b x =
+      let y : Mapped same always s (begin_of op) r s' fs m = mapped same always s (begin_of op) s' fs m h x.holds b.0 b.1 r x in
+      let l : Line V = record { step = begin_of op; report = r; entry = y.entry; pairs = y.pairs } in
+      let P : Target V → Type 0 = λ z. BeginMap fs m z l y.flights in
+      stays l y.flights s' (subst P e y.map) y.stand y.in_flight
+
+  quiet_call : (op : Op V) (t : _) (s : Whole V) (first : Taken V) (more : List (Taken V)) → target op ≡ target.Collector t → Holds same always s → LeavesAll fs m s → IsStep same always s (begin_of op) first.report first.after
+      → AreTaken same always first.after more → AllGoOn w first.report.outcome more → LeavesAll fs m (after_all first.after more)
+  quiet_call op t s first [] e h b x y g = quiet_begin op t s first.report first.after e h b x
+  quiet_call op t s first (u ∷ us) e h b x y g =
+      quiet_steps (u ∷ us) first.report.outcome first.after (free_of op s first.report first.after h b.1 x g.0.in_flight) x.holds (quiet_begin op t s first.report first.after e h b x) y g
+
+  -- one of one step
+  survey_step : (op : Op V) (k : Survey) (s : Whole V) (r : Report V) (s' : Whole V) → target op ≡ target.Survey k → Holds same always s → LeavesAll fs m s → IsStep same always s (begin_of op) r s' → MapTells m k r.outcome × LeavesAll fs m s'
+  survey_step op k s r s' e h b x =
+      let y : Mapped same always s (begin_of op) r s' fs m = mapped same always s (begin_of op) s' fs m h x.holds b.0 b.1 r x in
+      let l : Line V = record { step = begin_of op; report = r; entry = y.entry; pairs = y.pairs } in
+      let P : Target V → Type 0 = λ z. BeginMap fs m z l y.flights in
+      let z : BeginMap fs m (target.Survey k) l y.flights = subst P e y.map in
+      (z.tells, stays l y.flights s' z.stays y.stand y.in_flight)
+
+  told_ended : (k : Survey) (o : Outcome V) → MapTells m k o → is_in_flight o ≡ false
+  told_ended k (Refused e) t = refl
+  told_ended k (Done d) t = refl
+  told_ended k (Registered n) t = refl
+  told_ended survey.Keys Running t = absurd t
+  told_ended survey.IsEmpty Running t = absurd t
+  told_ended survey.Stats Running t = absurd t
+  told_ended survey.Keys (Asks found) t = absurd t
+  told_ended survey.IsEmpty (Asks found) t = absurd t
+  told_ended survey.Stats (Asks found) t = absurd t
+  told_ended survey.Keys (Found place key value) t = absurd t
+  told_ended survey.IsEmpty (Found place key value) t = absurd t
+  told_ended survey.Stats (Found place key value) t = absurd t
+
+  survey_call : (op : Op V) (k : Survey) (s : Whole V) (first : Taken V) (more : List (Taken V)) → target op ≡ target.Survey k → Holds same always s → LeavesAll fs m s → IsStep same always s (begin_of op) first.report first.after
+      → AllGoOn w first.report.outcome more → MapTells m k (told_after first.report.outcome more) × LeavesAll fs m (after_all first.after more)
+  survey_call op k s first [] e h b x g = survey_step op k s first.report first.after e h b x
+  survey_call op k s first (u ∷ us) e h b x g =
+      let z = survey_step op k s first.report first.after e h b x in
+      absurd (let f : true ≡ false = sym g.0.in_flight ∙ told_ended k first.report.outcome z.0 in cc f)
+
+  -- a scan
+  abbrev Sweeps : Outcome V → Whole V → Type 0
+  Sweeps Running s = IsScanning fs m w s
+  Sweeps (Found place key value) s = IsScanning fs m w s
+  Sweeps (Done d) s = LeavesAll fs m s
+  Sweeps (Refused e) s = LeavesAll fs m s
+  Sweeps (Asks found) s = ⊥
+  Sweeps (Registered n) s = ⊥
+
+  scan_leaves : (said : Outcome V) (s : Whole V) → Sweeps said s → LeavesScan fs m w (is_in_flight said) s
+  scan_leaves Running s x = x
+  scan_leaves (Found place key value) s x = x
+  scan_leaves (Done d) s x = x
+  scan_leaves (Refused e) s x = x
+  scan_leaves (Asks found) s x = absurd x
+  scan_leaves (Registered n) s x = absurd x
+
+  scan_told : (start end size : ℕ) (states : List (Pairs V)) (places : List (ℕ × V)) (o : Moved V) (f : Flight V) (said : Outcome V) (s : Whole V) → fs w ≡ Over → said ≡ told o → ScanTells start end size states places o f
+      → AreInFlight s (with_flight fs w f) → IsMapOf (nodes s.forest) m → Sweeps said s
+  scan_told start end size states places moved.Running f said s free e u fl st =
+      let P : Outcome V → Type 0 = λ x. Sweeps x s in
+      let Q : Flight V → Type 0 = λ x. IsOfScan x in
+      subst P (sym e) (record { free = free; flight = f; of_scan = subst Q (sym u) tt; in_flight = fl; stand = st })
+  scan_told start end size states places (moved.Found place key x) f said s free e u fl st =
+      let P : Outcome V → Type 0 = λ y. Sweeps y s in
+      let Q : Flight V → Type 0 = λ y. IsOfScan y in
+      subst P (sym e) (record { free = free; flight = f; of_scan = subst Q (sym u.1) tt; in_flight = fl; stand = st })
+  scan_told start end size states places (moved.Scanned count) f said s free e u fl st =
+      let P : Outcome V → Type 0 = λ y. Sweeps y s in
+      let Q : Flight V → Type 0 = λ y. AreInFlight s (with_flight fs w y) in
+      subst P (sym e) (st, as_before s fs w free (subst Q u.2 fl))
+  scan_told start end size states places (moved.Refused cause) f said s free e u fl st =
+      let P : Outcome V → Type 0 = λ y. Sweeps y s in
+      let Q : Flight V → Type 0 = λ y. AreInFlight s (with_flight fs w y) in
+      subst P (sym e) (st, as_before s fs w free (subst Q u fl))
+  scan_told start end size states places (moved.Asks o) f said s free e u fl st = absurd u
+  scan_told start end size states places (moved.Done r) f said s free e u fl st = absurd u
+
+  scan_advances : (f : Flight V) (answer : Option (Option V)) (l : Line V) (fs' : Flights V) (s : Whole V) → IsOfScan f → fs w ≡ Over → l.step.worker ≡ w → GoMap same (with_flight fs w f) f m answer l fs'
+      → IsMapOf (nodes s.forest) l.pairs → AreInFlight s fs' → Sweeps l.report.outcome s
+  scan_advances (Unbegun start end size) answer l fs' s o free here a st fl =
+      let P : Pairs V → Type 0 = λ n. IsMapOf (nodes s.forest) n in
+      let Q : Flights V → Type 0 = λ n. AreInFlight s n in
+      let R : ℕ → Type 0 = λ n. fs' ≡ with_flight (with_flight fs w (Unbegun start end size)) n a.next in
+      scan_told start end size (m ∷ []) [] a.step.outcome a.next l.report.outcome s free a.step.told_so a.step.tells
+      (once_more s fs w (Unbegun start end size) a.next (subst Q (subst R here a.advances) fl)) (subst P a.step.same_pairs st)
+  scan_advances (Scanning start end size states places) answer l fs' s o free here a st fl =
+      let P : Pairs V → Type 0 = λ n. IsMapOf (nodes s.forest) n in
+      let Q : Flights V → Type 0 = λ n. AreInFlight s n in
+      let R : ℕ → Type 0 = λ n. fs' ≡ with_flight (with_flight fs w (Scanning start end size states places)) n a.next in
+      scan_told start end size (m ∷ states) places a.step.outcome a.next l.report.outcome s free a.step.told_so a.step.tells
+      (once_more s fs w (Scanning start end size states places) a.next (subst Q (subst R here a.advances) fl)) (subst P a.step.same_pairs st)
+  scan_advances (Pending k kind v q) answer l fs' s o free here a st fl = absurd o
+  scan_advances (Decided r) answer l fs' s o free here a st fl = absurd o
+  scan_advances Over answer l fs' s o free here a st fl = absurd o
+
+  scan_step : (noise : Noise Id V) (s : Whole V) (r : Report V) (s' : Whole V) → Holds same always s → IsScanning fs m w s → IsStep same always s (gone noise) r s' → Sweeps r.outcome s'
+  scan_step noise s r s' h b x =
+      let on : Flights V = with_flight fs w b.flight in
+      let y : Mapped same always s (gone noise) r s' on m = mapped same always s (gone noise) s' on m h x.holds b.stand b.in_flight r x in
+      let l : Line V = record { step = gone noise; report = r; entry = y.entry; pairs = y.pairs } in
+      let P : Flight V → Type 0 = λ z. GoMap same on z m noise.answer l y.flights in
+      scan_advances b.flight noise.answer l y.flights s' b.of_scan b.free refl (subst P (flight_here fs w b.flight) y.map) y.stand y.in_flight
+
+  scanning : (said : Outcome V) (s : Whole V) → is_in_flight said ≡ true → Sweeps said s → IsScanning fs m w s
+  scanning Running s on x = x
+  scanning (Found place key value) s on x = x
+  scanning (Done d) s on x = absurd (cc on)
+  scanning (Refused e) s on x = absurd (cc on)
+  scanning (Asks found) s on x = absurd x
+  scanning (Registered n) s on x = absurd x
+
+  scan_steps : (more : List (Taken V)) (said : Outcome V) (s : Whole V) → Holds same always s → Sweeps said s → AreTaken same always s more → AllGoOn w said more → Sweeps (told_after said more) (after_all s more)
+  scan_steps [] said s h b x g = b
+  scan_steps (t ∷ ts) said s h b x g =
+      let P : Step V → Type 0 = λ y. IsStep same always s y t.report t.after in
+      scan_steps ts t.report.outcome t.after x.0.holds (scan_step g.0.noise s t.report t.after h (scanning said s g.0.in_flight b) (subst P g.0.step x.0)) x.1 g.1
+
+  scan_begins : (op : Op V) (start end size : ℕ) (s : Whole V) (r : Report V) (s' : Whole V) → target op ≡ target.Tree (point.Range start end size) → Holds same always s → LeavesAll fs m s → IsStep same always s (begin_of op) r s' → Sweeps r.outcome s'
+  scan_begins op start end size s r s' e h b x = begun_so r.outcome refl begin where
+    y : Mapped same always s (begin_of op) r s' fs m
+    y = mapped same always s (begin_of op) s' fs m h x.holds b.0 b.1 r x
+
+    l : Line V
+    l = record { step = begin_of op; report = r; entry = y.entry; pairs = y.pairs }
+
+    begin : BeginsOr fs m (point.Range start end size) r.outcome l y.flights
+    begin = let P : Target V → Type 0 = λ t. BeginMap fs m t l y.flights in subst P e y.map
+
+    in_flight : BeginsFlight fs m (point.Range start end size) l y.flights → Sweeps r.outcome s'
+    in_flight z =
+        let P : Outcome V → Type 0 = λ o. Sweeps o s' in
+        let Q : Pairs V → Type 0 = λ n. IsMapOf (nodes s'.forest) n in
+        let R : Flights V → Type 0 = λ n. AreInFlight s' n in
+        subst P (sym z.accepted) (record { free = z.free; flight = Unbegun start end size; of_scan = tt; in_flight = subst R z.begins y.in_flight; stand = subst Q z.same_pairs y.stand })
+
+    begun_so : (o : Outcome V) → r.outcome ≡ o → BeginsOr fs m (point.Range start end size) o l y.flights → Sweeps r.outcome s'
+    begun_so (Refused e1) is z = let P : Outcome V → Type 0 = λ o. Sweeps o s' in subst P (sym is) (stays l y.flights s' z y.stand y.in_flight)
+    begun_so (Done d) is z = let P : Outcome V → Type 0 = λ o. Sweeps o s' in subst P (sym is) (stays l y.flights s' (ends_stays fs m (point.Range start end size) d l y.flights z) y.stand y.in_flight)
+    begun_so Running is z = in_flight z
+    begun_so (Asks found) is z = in_flight z
+    begun_so (Found place key value) is z = in_flight z
+    begun_so (Registered n) is z = in_flight z
+
+  -- any call
+  by_target : (op : Op V) (t : Target V) (s : Whole V) (first : Taken V) (more : List (Taken V)) → target op ≡ t → Holds same always s → LeavesAll fs m s → IsStep same always s (begin_of op) first.report first.after
+      → AreTaken same always first.after more → AllGoOn w first.report.outcome more → LeavesMap same fs m w (answered_after first.report.outcome None more) t (told_after first.report.outcome more) (after_all first.after more)
+  by_target op (target.Collector t) s first more e h b x y g = quiet_call op t s first more e h b x y g
+  by_target op (target.Survey k) s first more e h b x y g = survey_call op k s first more e h b x g
+  by_target op (target.Tree (point.Range start end size)) s first more e h b x y g = scan_leaves _ _ (scan_steps more first.report.outcome first.after x.holds (scan_begins op start end size s first.report first.after e h b x) y g)
+  by_target op (target.Tree (point.Get k)) s first more e h b x y g = key_leaves same always fs m w (point.Get k) tt op s first more e h b.0 b.1 x y g
+  by_target op (target.Tree (point.Insert k v)) s first more e h b x y g = key_leaves same always fs m w (point.Insert k v) tt op s first more e h b.0 b.1 x y g
+  by_target op (target.Tree (point.Remove k)) s first more e h b x y g = key_leaves same always fs m w (point.Remove k) tt op s first more e h b.0 b.1 x y g
+  by_target op (target.Tree (point.ComputePresent k)) s first more e h b x y g = key_leaves same always fs m w (point.ComputePresent k) tt op s first more e h b.0 b.1 x y g
+  by_target op (target.Tree (point.ComputeInsert k)) s first more e h b x y g = key_leaves same always fs m w (point.ComputeInsert k) tt op s first more e h b.0 b.1 x y g
+  by_target op (target.Tree (point.Exchange k old new)) s first more e h b x y g = key_leaves same always fs m w (point.Exchange k old new) tt op s first more e h b.0 b.1 x y g
 
   -- a report of it has no pair to put away
   away_key : (p : Point V) (last : Answered V) (said : Outcome V) (s : Whole V) → LeavesKey same fs m w last p said s → LeavesKey same fs m w last p (put_away said) s
   away_key p last Running s x = x
   away_key p last (Asks o) s x = x
   away_key p last (Found place key value) s x = absurd x
-  away_key p last (Registered n) s x = x
+  away_key p last (Registered n) s x = absurd x
   away_key p last (Done d) s x = x
   away_key p last (Refused e) s x = x
+
+  away_scan : (said : Outcome V) → is_in_flight said ≡ is_in_flight (put_away said)
+  away_scan Running = refl
+  away_scan (Asks o) = refl
+  away_scan (Found place key value) = refl
+  away_scan (Registered n) = refl
+  away_scan (Done d) = refl
+  away_scan (Refused e) = refl
+
+  away_told : (said : Outcome V) → is_in_flight said ≡ false → said ≡ put_away said
+  away_told (Found place key value) e = absurd (cc e)
+  away_told Running e = refl
+  away_told (Asks o) e = refl
+  away_told (Registered n) e = refl
+  away_told (Done d) e = refl
+  away_told (Refused r) e = refl
 
   away : (t : Target V) (last : Answered V) (said : Outcome V) (s : Whole V) → LeavesMap same fs m w last t said s → LeavesMap same fs m w last t (put_away said) s
   away (target.Tree (point.Get k)) last said s x = away_key (point.Get k) last said s x
@@ -412,14 +611,16 @@ module _ {V : Type 0} (same : V → V → Bool) (fs : Flights V) (m : Pairs V) (
   away (target.Tree (point.ComputePresent k)) last said s x = away_key (point.ComputePresent k) last said s x
   away (target.Tree (point.ComputeInsert k)) last said s x = away_key (point.ComputeInsert k) last said s x
   away (target.Tree (point.Exchange k old new)) last said s x = away_key (point.Exchange k old new) last said s x
-  away (target.Tree (point.Range start end size)) last said s x = tt
-  away (target.Collector op) last said s x = tt
-  away (target.Survey k) last said s x = tt
+  away (target.Tree (point.Range start end size)) last said s x = subst (λ b. LeavesScan fs m w b s) (away_scan said) x
+  away (target.Collector op) last said s x = x
+  away (target.Survey k) last said s x = (subst (λ o. MapTells m k o) (away_told said (told_ended k said x.0)) x.0, x.1)
 
 module _ {V : Type 0} (same : V → V → Bool) (always : Bool) where
   pub leaves_map : (s : Whole V) (first : Taken V) (more : List (Taken V)) (fs : Flights V) (m : Pairs V) (who : ℕ) (op : Op V) → Holds same always s → AreTaken same always s (first ∷ more) → IsMapOf (nodes s.forest) m → AreInFlight s fs
       → AreOfCall who op first more → LeavesMap same fs m who (answered_after first.report.outcome None more) (target op) (told_after first.report.outcome more) (after_all s (first ∷ more))
-  leaves_map s first more fs m who op h x st fl c = on_one_key same fs m who (target op) _ _ _ (λ p e u. call_leaves same always fs m who p u op s first more e h x st fl c)
+  leaves_map s first more fs m who op h x st fl c =
+      let P : Step V → Type 0 = λ y. IsStep same always s y first.report first.after in
+      by_target same always fs m who op (target op) s first more refl h (st, fl) (subst P c.begins x.0) x.1 c.goes_on
 
 module _ {V : Type 0} (who : ℕ) where
   abbrev reports_of : List (Taken V) → List (Report V)
@@ -469,7 +670,7 @@ module _ {V : Type 0} (same : V → V → Bool) (always : Bool) (s : Whole V) (f
       let P : Answered V → Type 0 = λ a. LeavesMap same fs m who a (target op) (told_after t.report.outcome ts) s' in
       let Q : Outcome V → Type 0 = λ o. LeavesMap same fs m who None (target op) o s' in
       let y : Q (last_or t.report (reports_of who ts)).outcome = subst Q (told_last who ts t.report) (subst P (unanswered who ts t.report.outcome _ more) z) in
-      subst (λ r. CallLeaves same fs m who op r s') last (away same fs m who (target op) None _ s' y)
+      subst (λ r. CallLeaves same fs m who op r s') last (away same always fs m who (target op) None _ s' y)
 
   pub called_leaves : (most : ℕ) (places : List (ℕ × V)) (result : Option (Report V)) (places' : List (ℕ × V)) (s' : Whole V) → IsCalled same always s who op most places result places' s' → CallLeaves same fs m who op result s'
   called_leaves most places result places' s' c =

@@ -1,6 +1,6 @@
--- A worker's call on one key that no other worker's step comes between: what it answers of the pairs that stood, and which
--- pairs stand then.
-use Rattle.std.specs.Prelude.{◌≡◌, ℕ, ◌⊎◌, Bool, true, List, [], ◌∷◌, Option, None, Some}
+-- A worker's call that no other worker's step comes between: what it answers of the pairs that stood, and which pairs stand
+-- then.
+use Rattle.std.specs.Prelude.{◌≡◌, ℕ, ◌⊎◌, Bool, true, false, List, [], ◌∷◌, Option, None, Some}
 use Rattle.std.specs.FinMap.{get}
 use Rattle.judge.specs.declared.journal.Call.{Call as Entered}
 use Rattle.judge.specs.declared.journal.Call.TheVariants as entered
@@ -10,7 +10,7 @@ use Rattle.congee.specs.declared.protocol.machine.Noise.{Noise}
 use Rattle.congee.specs.declared.protocol.op.Op.{Op as Point}
 use Rattle.congee.specs.declared.protocol.op.Op.TheVariants as point
 use Rattle.congee.specs.Keys.{IsMapOf}
-use Rattle.congee.specs.protocol.Play.{Over, Pending, Decided, Question, parts}
+use Rattle.congee.specs.protocol.Play.{Flight, Over, Pending, Decided, Unbegun, Scanning, Question, parts}
 use Rattle.joint.specs.declared.id.Id.{Id}
 use Rattle.joint.specs.declared.steps.Done.{Done as Answer}
 use Rattle.joint.specs.declared.steps.Done.TheVariants as done
@@ -26,6 +26,7 @@ use Rattle.joint.specs.Flying.{Flights, with_flight, AreInFlight}
 use Rattle.joint.specs.Forest.{nodes}
 use Rattle.joint.specs.Reports.{target}
 use Rattle.joint.specs.Runs.{Taken}
+use Rattle.joint.specs.Surveys.{MapTells}
 use Rattle.joint.specs.Whole.{Whole, is_in_flight}
 
 -- a further step of a worker's call, which is in flight after a step that told this
@@ -108,6 +109,15 @@ pub record IsDecided {V : Type 0} (same : V → V → Bool) (fs : Flights V) (m 
   pub in_flight : AreInFlight s (with_flight fs who (Decided reply))
   pub effect : TookEffect same m last p reply s
 
+abbrev pub IsOfScan : {V : Type 0} → Flight V → Type 0
+IsOfScan (Unbegun start end size) = Unit {0}
+IsOfScan (Scanning start end size states places) = Unit {0}
+IsOfScan _ = ⊥
+
+-- it leaves the pairs, and the calls in flight are those that were
+abbrev pub LeavesAll : {V : Type 0} → Flights V → Pairs V → Whole V → Type 0
+LeavesAll fs m s = IsMapOf (nodes s.forest) m × AreInFlight s fs
+
 abbrev pub IsDoneWith : {V : Type 0} → (V → V → Bool) → Flights V → Pairs V → Answered V → Point V → Answer V → Whole V → Type 0
 IsDoneWith same fs m last p (done.Reply r) s = TookEffect same m last p r s × AreInFlight s fs
 IsDoneWith same fs m last p _ s = ⊥
@@ -118,16 +128,30 @@ abbrev pub LeavesKey : {V : Type 0} → (V → V → Bool) → Flights V → Pai
 LeavesKey same fs m who last p Running s = IsUndecided fs m who p s ⊎ IsDecided same fs m who last p s
 LeavesKey same fs m who last p (Asks found) s = IsUndecided fs m who p s
 LeavesKey same fs m who last p (Done d) s = IsDoneWith same fs m last p d s
-LeavesKey same fs m who last p (Refused e) s = IsMapOf (nodes s.forest) m × AreInFlight s fs
+LeavesKey same fs m who last p (Refused e) s = LeavesAll fs m s
 LeavesKey same fs m who last p _ s = ⊥
 
--- the same of any call, where it is one on one key
+-- a scan in flight, which leaves the pairs
+pub record IsScanning {V : Type 0} (fs : Flights V) (m : Pairs V) (who : ℕ) (s : Whole V) : Type 0 where
+  pub free : fs who ≡ Over
+  pub flight : Flight V
+  pub of_scan : IsOfScan flight
+  pub in_flight : AreInFlight s (with_flight fs who flight)
+  pub stand : IsMapOf (nodes s.forest) m
+
+abbrev pub LeavesScan : {V : Type 0} → Flights V → Pairs V → ℕ → Bool → Whole V → Type 0
+LeavesScan fs m who true s = IsScanning fs m who s
+LeavesScan fs m who false s = LeavesAll fs m s
+
+-- what a worker's call that stands so makes of the map: one on one key what the map makes of it; every other one leaves the
+-- pairs, and one of one step tells of them
 abbrev pub LeavesMap : {V : Type 0} → (V → V → Bool) → Flights V → Pairs V → ℕ → Answered V → Target V → Outcome V → Whole V → Type 0
-LeavesMap same fs m who last (target.Tree (point.Range start end size)) told s = Unit {0}
+LeavesMap same fs m who last (target.Tree (point.Range start end size)) told s = LeavesScan fs m who (is_in_flight told) s
 LeavesMap same fs m who last (target.Tree p) told s = LeavesKey same fs m who last p told s
-LeavesMap same fs m who last _ told s = Unit {0}
+LeavesMap same fs m who last (target.Collector op) told s = LeavesAll fs m s
+LeavesMap same fs m who last (target.Survey k) told s = MapTells m k told × LeavesAll fs m s
 
 -- a whole call that answered this, to whose closure no answer came
 abbrev pub CallLeaves : {V : Type 0} → (V → V → Bool) → Flights V → Pairs V → ℕ → Op V → Option (Report V) → Whole V → Type 0
-CallLeaves same fs m who op None s = IsMapOf (nodes s.forest) m × AreInFlight s fs
+CallLeaves same fs m who op None s = LeavesAll fs m s
 CallLeaves same fs m who op (Some r) s = LeavesMap same fs m who None (target op) r.outcome s
