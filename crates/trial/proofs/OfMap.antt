@@ -53,7 +53,7 @@ use Rattle.trial.specs.Places.{places_at, given, left}
 use Rattle.trial.specs.Session.{Session, op_of, closure_of, refusal_of, AfterPin, Round, Rounds, GaveAway, Replies, CallReplies, Asks, limits_of, budget_of, Opens, Opened, OpensWith, Closed, StaysOpen, Answers}
 use Rattle.trial.specs.Texts.{printed}
 use Rattle.trial.proofs.MapSteps.{MapLaws, line_of, on_map, Rests, rests_on}
-use Rattle.trial.proofs.WholeCalls.{ByClosure, Finished, call_finishes}
+use Rattle.trial.proofs.WholeCalls.{ByClosure, Finished, call_finishes, rests_beside}
 use Rattle.trial.proofs.Surveys.{Surveyed, survey_finishes, keys_reply, empty_reply}
 use Rattle.trial.proofs.WholeScans.{filled_length, scan_finishes}
 
@@ -65,32 +65,37 @@ as_long : {A : Type 0} (b : Bool) (xs : List A) (i : ℕ) (x : A) → length xs 
 as_long true xs i x e = length-set xs i x ∙ e
 as_long false xs i x e = e
 
--- steps that are of no call on the tree leave the map
+-- a registration leaves the map
 registers_at : MapLaws → (s s' : Index) (told : Outcome ℕ) (m : Pairs ℕ) → At s m → Registers s told s' → At s' m
 registers_at laws s s' told m b g =
     let o = on_map laws s.world m b.0.flights _ g.0.0 s'.world b.0.holds b.0.stand b.0.in_flight g.0.1 in
     (rests_on b.0.flights m _ g.0.0 s'.world b.0.over g.0.1.holds o o.moves, ap length g.1 ∙ b.1, ap (λ (x : _). length x.items) g.2 ∙ b.2)
 
-begins_at : MapLaws → (w : ℕ) (o : Op ℕ) (t : _) (f : Option Closure) (s s' : Index) (told : Outcome ℕ) (m : Pairs ℕ) → target o ≡ target.Collector t → At s m → Begins s w o f told s' → At s' m
-begins_at laws w op t f s s' told m e b g =
-    let o = on_map laws s.world m b.0.flights _ g.0.0 s'.world b.0.holds b.0.stand b.0.in_flight g.0.1 in
-    let P : Target ℕ → Type 0 = λ x. BeginMap b.0.flights m x (line_of (record { worker = w; event = Begin op }) g.0.0 o.entry o.pairs) o.flights in
-    (rests_on b.0.flights m _ g.0.0 s'.world b.0.over g.0.1.holds o (subst P e o.moves), ap length g.1 ∙ as_long (is_running told) s.callers w (fresh f) b.1, ap length g.2 ∙ as_long (is_running told) s.scans.items w [] b.2)
+-- as many scans as before
+begun_scans : (w : ℕ) (o : Op ℕ) (f : Option Closure) (s s' : Index) (told : Outcome ℕ) → length s.scans.items ≡ 256 → Begins s w o f told s' → length s'.scans.items ≡ 256
+begun_scans w o f s s' told e g = ap length g.2 ∙ as_long (is_running told) s.scans.items w [] e
 
-goes_at : MapLaws → (w : ℕ) (s s' : Index) (told : Outcome ℕ) (m : Pairs ℕ) → At s m → Goes s w false told s' → At s' m
-goes_at laws w s s' told m b g =
-    let c = caller_at s.callers w in
-    let o = on_map laws s.world m b.0.flights _ g.0.0 s'.world b.0.holds b.0.stand b.0.in_flight g.0.1 in
-    let P : Flight ℕ → Type 0 = λ x. GoMap nat_eq b.0.flights x m c.answer (line_of (record { worker = w; event = Go (noise_of c false) }) g.0.0 o.entry o.pairs) o.flights in
-    (rests_on b.0.flights m _ g.0.0 s'.world b.0.over g.0.1.holds o (subst P (b.0.over w) o.moves), ap length g.1 ∙ length-set s.callers w _ ∙ b.1, ap length g.2 ∙ filled_length s.scans.items w told ∙ b.2)
+gone_on_scans : (w left : ℕ) (s : Index) (stands told : Outcome ℕ) (s' : Index) → GoesOn w left s stands told s' → length s.scans.items ≡ 256 → length s'.scans.items ≡ 256
+gone_on_scans w left s stands told s' (stays s1 t1) e = e
+gone_on_scans w left s stands told s' (ends n s1 t1 x) e = e
+gone_on_scans w left s stands told s' (goes n s1 mid s2 st next t1 run step more) e =
+    gone_on_scans w n mid next told s' more (ap length step.2 ∙ filled_length s1.scans.items w next ∙ e)
 
-goes_on_at : MapLaws → (w left : ℕ) (s : Index) (stands told : Outcome ℕ) (s' : Index) (m : Pairs ℕ) → GoesOn w left s stands told s' → At s m → At s' m
-goes_on_at laws w left s stands told s' m (stays s1 t1) b = b
-goes_on_at laws w left s stands told s' m (ends n s1 t1 e) b = b
-goes_on_at laws w left s stands told s' m (goes n s1 mid s2 st next t1 run step more) b = goes_on_at laws w n mid next told s' m more (goes_at laws w s mid next m b step)
+called_scans : (w : ℕ) (o : Op ℕ) (f : Option Closure) (s s' : Index) (told : Outcome ℕ) → length s.scans.items ≡ 256 → Calls s w o f told s' → length s'.scans.items ≡ 256
+called_scans w o f s s' told e g = gone_on_scans w 9999 g.0 g.1 told s' g.3 (begun_scans w o f s g.0 g.1 e g.2)
+
+-- and as many callers
+gone_on_callers : (w left : ℕ) (s : Index) (stands told : Outcome ℕ) (s' : Index) → GoesOn w left s stands told s' → length s.callers ≡ 256 → length s'.callers ≡ 256
+gone_on_callers w left s stands told s' (stays s1 t1) e = e
+gone_on_callers w left s stands told s' (ends n s1 t1 x) e = e
+gone_on_callers w left s stands told s' (goes n s1 mid s2 st next t1 run step more) e =
+    gone_on_callers w n mid next told s' more (ap length step.1 ∙ length-set s1.callers w _ ∙ e)
+
+called_callers : (w : ℕ) (o : Op ℕ) (f : Option Closure) (s s' : Index) (told : Outcome ℕ) → length s.callers ≡ 256 → Calls s w o f told s' → length s'.callers ≡ 256
+called_callers w o f s s' told e g = gone_on_callers w 9999 g.0 g.1 told s' g.3 (ap length g.2.1 ∙ as_long (is_running g.1) s.callers w (fresh f) e)
 
 calls_at : MapLaws → (w : ℕ) (o : Op ℕ) (t : _) (f : Option Closure) (s s' : Index) (told : Outcome ℕ) (m : Pairs ℕ) → target o ≡ target.Collector t → At s m → Calls s w o f told s' → At s' m
-calls_at laws w o t f s s' told m e b g = goes_on_at laws w 9999 g.0 g.1 told s' m g.3 (begins_at laws w o t f s g.0 g.1 m e b g.2)
+calls_at laws w o t f s s' told m e b g = (rests_beside laws w o t f m s s' told e b.0 g, called_callers w o f s s' told b.1 g, called_scans w o f s s' told b.2 g)
 
 after_pin_at : MapLaws → (w : ℕ) (s s' : Index) (pin first : Option Refusal) (m : Pairs ℕ) → At s m → AfterPin pin s w s' first → At s' m
 after_pin_at laws w s s' (Some r) first m b g = let P : Index → Type 0 = λ x. At x m in subst P (sym g.0) b
@@ -133,29 +138,6 @@ puts_at k n found last c b is =
     let P : Last ℕ → Type 0 = λ y. ByClosure (Some (closure.Put n)) y in
     is.2 ∙ ap (point.ComputeInsert k) (put_is n is.0 found (subst P is.1 b))
 
--- as many scans as before
-begun_scans : (w : ℕ) (o : Op ℕ) (f : Option Closure) (s s' : Index) (told : Outcome ℕ) → length s.scans.items ≡ 256 → Begins s w o f told s' → length s'.scans.items ≡ 256
-begun_scans w o f s s' told e g = ap length g.2 ∙ as_long (is_running told) s.scans.items w [] e
-
-gone_on_scans : (w left : ℕ) (s : Index) (stands told : Outcome ℕ) (s' : Index) → GoesOn w left s stands told s' → length s.scans.items ≡ 256 → length s'.scans.items ≡ 256
-gone_on_scans w left s stands told s' (stays s1 t1) e = e
-gone_on_scans w left s stands told s' (ends n s1 t1 x) e = e
-gone_on_scans w left s stands told s' (goes n s1 mid s2 st next t1 run step more) e =
-    gone_on_scans w n mid next told s' more (ap length step.2 ∙ filled_length s1.scans.items w next ∙ e)
-
-called_scans : (w : ℕ) (o : Op ℕ) (f : Option Closure) (s s' : Index) (told : Outcome ℕ) → length s.scans.items ≡ 256 → Calls s w o f told s' → length s'.scans.items ≡ 256
-called_scans w o f s s' told e g = gone_on_scans w 9999 g.0 g.1 told s' g.3 (begun_scans w o f s g.0 g.1 e g.2)
-
--- and as many callers
-gone_on_callers : (w left : ℕ) (s : Index) (stands told : Outcome ℕ) (s' : Index) → GoesOn w left s stands told s' → length s.callers ≡ 256 → length s'.callers ≡ 256
-gone_on_callers w left s stands told s' (stays s1 t1) e = e
-gone_on_callers w left s stands told s' (ends n s1 t1 x) e = e
-gone_on_callers w left s stands told s' (goes n s1 mid s2 st next t1 run step more) e =
-    gone_on_callers w n mid next told s' more (ap length step.1 ∙ length-set s1.callers w _ ∙ e)
-
-called_callers : (w : ℕ) (o : Op ℕ) (f : Option Closure) (s s' : Index) (told : Outcome ℕ) → length s.callers ≡ 256 → Calls s w o f told s' → length s'.callers ≡ 256
-called_callers w o f s s' told e g = gone_on_callers w 9999 g.0 g.1 told s' g.3 (ap length g.2.1 ∙ as_long (is_running g.1) s.callers w (fresh f) e)
-
 -- what a call gives its reply leaves the rest
 left_length : (stands : Outcome ℕ) (w : ℕ) (scans : List (List (ℕ × ℕ))) → length (left stands w scans) ≡ length scans
 left_length outcome.Running w scans = refl
@@ -195,8 +177,8 @@ finished w o f m p s mid s' stands r b g told e =
     (replied_at w mid s' stands (answer nat_eq m p).1 (e.rests, called_callers w o f s mid stands b.1 g, called_scans w o f s mid stands b.2 g) told.0, told.1 ∙ e.reply)
 
 -- the tree after a call of one step
-surveyed_at : (w : ℕ) (k : Survey) (s mid s' : Index) (stands : Outcome ℕ) (m : Pairs ℕ) → At s m → Surveyed m k s mid stands → GaveAway mid w stands s' → At s' m
-surveyed_at w k s mid s' stands m b x g = replied_at w mid s' stands m (x.rests, ap length x.callers ∙ b.1, ap length x.scans ∙ b.2) g
+surveyed_at : (w : ℕ) (k : Survey) (o : Op ℕ) (s mid s' : Index) (stands : Outcome ℕ) (m : Pairs ℕ) → At s m → Calls s w o None stands mid → Surveyed m k mid stands → GaveAway mid w stands s' → At s' m
+surveyed_at w k o s mid s' stands m b c x g = replied_at w mid s' stands m (x.rests, called_callers w o None s mid stands b.1 c, called_scans w o None s mid stands b.2 c) g
 
 told_answer : (r told : Reply) → r ≡ told → IsAnswer r → IsAnswer told
 told_answer r told e a = subst IsAnswer e a
@@ -238,13 +220,13 @@ call_at laws w (call.Range start end size) s s' r m b g a =
     (replied_at w g.1 s' g.0 m (x.rests, callers, called_scans w (op.Range start end size) None s g.1 g.0 b.2 g.2) g.3.0, g.3.1 ∙ x.reply)
 call_at laws w call.Keys s s' r m b g a =
     let x = survey_finishes laws w op.Keys survey.Keys None m s g.1 g.0 refl b.0 g.2 in
-    (surveyed_at w survey.Keys s g.1 s' g.0 m b x g.3.0, g.3.1 ∙ keys_reply m g.0 _ x.tells (told_answer r _ g.3.1 a))
+    (surveyed_at w survey.Keys op.Keys s g.1 s' g.0 m b g.2 x g.3.0, g.3.1 ∙ keys_reply m g.0 _ x.tells (told_answer r _ g.3.1 a))
 call_at laws w call.Empty s s' r m b g a =
     let x = survey_finishes laws w op.IsEmpty survey.IsEmpty None m s g.1 g.0 refl b.0 g.2 in
-    (surveyed_at w survey.IsEmpty s g.1 s' g.0 m b x g.3.0, g.3.1 ∙ empty_reply m g.0 _ x.tells (told_answer r _ g.3.1 a))
+    (surveyed_at w survey.IsEmpty op.IsEmpty s g.1 s' g.0 m b g.2 x g.3.0, g.3.1 ∙ empty_reply m g.0 _ x.tells (told_answer r _ g.3.1 a))
 call_at laws w call.Stats s s' r m b g a =
     let x = survey_finishes laws w op.Stats survey.Stats None m s g.1 g.0 refl b.0 g.2 in
-    (surveyed_at w survey.Stats s g.1 s' g.0 m b x g.3.0, tt)
+    (surveyed_at w survey.Stats op.Stats s g.1 s' g.0 m b g.2 x g.3.0, tt)
 
 -- nothing is open, or a tree with these pairs
 abbrev pub AtMap : Session → Pairs ℕ → Type 0

@@ -1,4 +1,4 @@
--- A call on one key that is taken whole, with no other call in flight: its reply is the map's.
+-- A call that is taken whole, with no other call in flight: what the tree says of it, and the map's reply to one on one key.
 use Rattle.std.proofs.Common.{◌≡◌, ◌⊎◌, ℕ, zero, suc, nat_eq, Bool, true, false, List, [], ◌∷◌, Option, None, Some, refl, sym, ◌∙◌, ap, subst, inl, inr, if◌then◌else◌}
 use Rattle.std.specs.Prelude.{slice_set}
 use Rattle.judge.specs.Answer.{Pairs, answer}
@@ -14,7 +14,7 @@ use Rattle.joint.specs.declared.steps.Outcome.{Outcome}
 use Rattle.joint.specs.declared.steps.Outcome.TheVariants as outcome
 use Rattle.joint.specs.declared.steps.Target.{Target}
 use Rattle.joint.specs.declared.steps.Target.TheVariants as target
-use Rattle.joint.specs.Leaving.{AllGoOn, Answered as Last, answered_by, answered_after, IsOnMap, TookEffect, LeavesKey, LeavesMap, told_after}
+use Rattle.joint.specs.Leaving.{AllGoOn, Answered as Last, answered_by, answered_after, IsOnMap, TookEffect, LeavesAll, LeavesKey, LeavesMap, told_after}
 use Rattle.joint.specs.Reports.{target}
 use Rattle.joint.specs.Runs.{Taken, AreTaken, after_all, Flights, AreInFlight}
 use Rattle.joint.specs.Whole.{Whole, Holds, IsOnKey, is_in_flight}
@@ -125,6 +125,7 @@ pub record Called (w : ℕ) (op : Op ℕ) (closure : Option Closure) (m : Pairs 
   pub last : Last ℕ
   pub by_closure : ByClosure closure last
   pub leaves : LeavesMap nat_eq fs m w last (target op) told s'
+  pub holds : Holds nat_eq true s'
 
 begun_behind : (w : ℕ) (closure : Option Closure) (s : Index) (callers : List Caller) (first : Outcome ℕ) (b : Bool) → is_running first ≡ b → callers ≡ (if b then slice_set s.callers w (fresh closure) else s.callers)
     → (b ≡ true) → Behind closure first (caller_at callers w)
@@ -141,6 +142,12 @@ first_then w left closure op s mid first told s' false run g (stays s1 t1) = wen
 first_then w left closure op s mid first told s' false run g (ends n s1 t1 e) = went_none w closure mid.world first
 first_then w left closure op s mid first told s' false run g (goes n s1 mid2 s2 st next t1 on step more) = absurd (let f : true ≡ false = sym on ∙ run in cc f)
 
+-- what always holds, after it
+holds_after : (w left : ℕ) (s : Index) (stands told : Outcome ℕ) (s' : Index) → Holds nat_eq true s.world → GoesOn w left s stands told s' → Holds nat_eq true s'.world
+holds_after w left s stands told s' h (stays s1 t1) = h
+holds_after w left s stands told s' h (ends n s1 t1 e) = h
+holds_after w left s stands told s' h (goes n s1 mid s2 st next t1 on step more) = holds_after w n mid next told s' step.0.1.holds more
+
 pub called : MapLaws → (w : ℕ) (op : Op ℕ) (closure : Option Closure) (m : Pairs ℕ) (s s' : Index) (told : Outcome ℕ) (r : Rests s.world m) → Calls s w op closure told s' → Called w op closure m r.flights s'.world told
 called laws w op closure m s s' told r g =
     let report = g.2.0.0 in
@@ -150,13 +157,17 @@ called laws w op closure m s s' told r g =
     let x = laws.calls s.world first rest.steps r.flights m w op r.holds (g.2.0.1, rest.each) r.stand r.in_flight (record { begins = refl; goes_on = rest.goes_on }) in
     let Q : Outcome ℕ → Type 0 = λ o. LeavesMap nat_eq r.flights m w (answered_after report.outcome None rest.steps) (target op) o (after_all g.0.world rest.steps) in
     let R : Whole ℕ → Type 0 = λ y. LeavesMap nat_eq r.flights m w (answered_after report.outcome None rest.steps) (target op) told y in
-    record { last = answered_after report.outcome None rest.steps; by_closure = rest.answers None tt; leaves = subst R rest.after (subst Q rest.told_last x) }
+    record { last = answered_after report.outcome None rest.steps; by_closure = rest.answers None tt; leaves = subst R rest.after (subst Q rest.told_last x); holds = holds_after w 9999 g.0 g.1 told s' g.2.0.1.holds g.3 }
 
--- what always holds, after it
-holds_after : (w left : ℕ) (s : Index) (stands told : Outcome ℕ) (s' : Index) → Holds nat_eq true s.world → GoesOn w left s stands told s' → Holds nat_eq true s'.world
-holds_after w left s stands told s' h (stays s1 t1) = h
-holds_after w left s stands told s' h (ends n s1 t1 e) = h
-holds_after w left s stands told s' h (goes n s1 mid s2 st next t1 on step more) = holds_after w n mid next told s' step.0.1.holds more
+-- a call that leaves the pairs
+pub rests_after : (m : Pairs ℕ) (s s' : Whole ℕ) (b : Rests s m) → Holds nat_eq true s' → LeavesAll b.flights m s' → Rests s' m
+rests_after m s s' b h x = record { holds = h; flights = b.flights; stand = x.0; in_flight = x.1; over = b.over }
+
+pub rests_beside : MapLaws → (w : ℕ) (op : Op ℕ) (t : _) (closure : Option Closure) (m : Pairs ℕ) (s s' : Index) (told : Outcome ℕ) → target op ≡ target.Collector t → Rests s.world m → Calls s w op closure told s' → Rests s'.world m
+rests_beside laws w op t closure m s s' told e b g =
+    let x = called laws w op closure m s s' told b g in
+    let P : Target ℕ → Type 0 = λ y. LeavesMap nat_eq b.flights m w x.last y told s'.world in
+    rests_after m s.world s'.world b x.holds (subst P e x.leaves)
 
 -- a call's reply is no answer while the call is in flight
 pub no_answer_yet : (ps : List (ℕ × ℕ)) (o : Outcome ℕ) → is_running o ≡ true → IsAnswer (reply_of ps o) → ⊥
@@ -217,4 +228,4 @@ pub call_finishes : MapLaws → (w : ℕ) (op : Op ℕ) (a : Asked ℕ) (closure
 call_finishes laws w op a closure m p s s' told ps on_tree on_key d b g i =
     let x = called laws w op closure m s s' told b g in
     let P : Target ℕ → Type 0 = λ t. LeavesMap nat_eq b.flights m w x.last t told s'.world in
-    by_told w m a closure p x.last told ps s b s' d x.by_closure (holds_after w 9999 g.0 g.1 told s' g.2.0.1.holds g.3) (leaves_key w m b.flights x.last a told s'.world on_key (subst P on_tree x.leaves)) i
+    by_told w m a closure p x.last told ps s b s' d x.by_closure x.holds (leaves_key w m b.flights x.last a told s'.world on_key (subst P on_tree x.leaves)) i
