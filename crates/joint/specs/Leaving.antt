@@ -1,6 +1,6 @@
 -- A worker's call that no other worker's step comes between: what it answers of the pairs that stood, and which pairs stand
 -- then.
-use Rattle.std.specs.Prelude.{◌≡◌, ℕ, ◌⊎◌, Bool, true, false, List, [], ◌∷◌, Option, None, Some}
+use Rattle.std.specs.Prelude.{◌≡◌, ℕ, ◌≤◌, ◌⊎◌, Bool, true, false, List, [], ◌∷◌, length, take, Option, None, Some}
 use Rattle.std.specs.FinMap.{get}
 use Rattle.judge.specs.declared.journal.Call.{Call as Entered}
 use Rattle.judge.specs.declared.journal.Call.TheVariants as entered
@@ -11,6 +11,7 @@ use Rattle.congee.specs.declared.protocol.op.Op.{Op as Point}
 use Rattle.congee.specs.declared.protocol.op.Op.TheVariants as point
 use Rattle.congee.specs.Keys.{IsMapOf}
 use Rattle.congee.specs.protocol.Play.{Flight, Over, Pending, Decided, Unbegun, Scanning, Question, parts}
+use Rattle.congee.specs.protocol.Sweeps.{IsScan}
 use Rattle.joint.specs.declared.id.Id.{Id}
 use Rattle.joint.specs.declared.steps.Done.{Done as Answer}
 use Rattle.joint.specs.declared.steps.Done.TheVariants as done
@@ -26,6 +27,7 @@ use Rattle.joint.specs.Flying.{Flights, with_flight, AreInFlight}
 use Rattle.joint.specs.Forest.{nodes}
 use Rattle.joint.specs.Reports.{target}
 use Rattle.joint.specs.Runs.{Taken}
+use Rattle.joint.specs.Scans.{placed}
 use Rattle.joint.specs.Surveys.{MapTells}
 use Rattle.joint.specs.Whole.{Whole, is_in_flight}
 
@@ -130,6 +132,16 @@ LeavesKey same fs m who last p (Asks found) s = IsUndecided fs m who p s
 LeavesKey same fs m who last p (Done d) s = IsDoneWith same fs m last p d s
 LeavesKey same fs m who last p (Refused e) s = LeavesAll fs m s
 LeavesKey same fs m who last p _ s = ⊥
+
+-- the pairs last told for each place of a scan, from those that are told before the steps on
+abbrev pub told_places : {V : Type 0} → List (ℕ × V) → List (Taken V) → List (ℕ × V)
+told_places places [] = places
+told_places places (t ∷ ts) = told_places (placed true t.report.outcome places) ts
+
+-- a scan that is done has told for the first of its places what a scan promises, by the pairs that stood
+pub record HasScanned {V : Type 0} (start end size count : ℕ) (m : Pairs V) (places : List (ℕ × V)) : Type 0 where
+  pub filled : count ≤ length places
+  pub scan : IsScan {V = V} start end size (m ∷ []) (take count places)
 
 -- a scan in flight, which leaves the pairs
 pub record IsScanning {V : Type 0} (fs : Flights V) (m : Pairs V) (who : ℕ) (s : Whole V) : Type 0 where
