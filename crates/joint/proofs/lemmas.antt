@@ -41,6 +41,7 @@ pub mod Handed
 pub mod Hanging
 pub mod Kept
 pub mod Holding
+pub mod KeyCalls
 pub mod Keyed
 pub mod Leaving
 pub mod Listing
@@ -81,6 +82,7 @@ pub mod Standing
 pub mod Starting
 pub mod Surveying
 pub mod Stepped
+pub mod Sweeping
 pub mod Telling
 pub mod Tickets
 pub mod TreeStep
