@@ -1,6 +1,6 @@
 -- A worker's call that no other worker's step comes between: what it answers of the pairs that stood, and which pairs stand
 -- then.
-use Rattle.std.specs.Prelude.{◌≡◌, ℕ, ◌≤◌, ◌⊎◌, Bool, true, false, List, [], ◌∷◌, length, take, Option, None, Some}
+use Rattle.std.specs.Prelude.{◌≡◌, ℕ, ◌≤◌, ◌⊎◌, Bool, true, List, [], ◌∷◌, length, take, Option, None, Some}
 use Rattle.std.specs.FinMap.{get}
 use Rattle.judge.specs.declared.journal.Call.{Call as Entered}
 use Rattle.judge.specs.declared.journal.Call.TheVariants as entered
@@ -19,7 +19,7 @@ use Rattle.joint.specs.declared.steps.Event.{Event}
 use Rattle.joint.specs.declared.steps.Event.TheVariants.{Begin, Go}
 use Rattle.joint.specs.declared.steps.Op.{Op}
 use Rattle.joint.specs.declared.steps.Outcome.{Outcome}
-use Rattle.joint.specs.declared.steps.Outcome.TheVariants.{Running, Asks, Done, Refused}
+use Rattle.joint.specs.declared.steps.Outcome.TheVariants.{Running, Asks, Found, Done, Refused}
 use Rattle.joint.specs.declared.steps.Report.{Report}
 use Rattle.joint.specs.declared.steps.Target.{Target}
 use Rattle.joint.specs.declared.steps.Target.TheVariants as target
@@ -151,14 +151,21 @@ pub record IsScanning {V : Type 0} (fs : Flights V) (m : Pairs V) (who : ℕ) (s
   pub in_flight : AreInFlight s (with_flight fs who flight)
   pub stand : IsMapOf (nodes s.forest) m
 
-abbrev pub LeavesScan : {V : Type 0} → Flights V → Pairs V → ℕ → Bool → Whole V → Type 0
-LeavesScan fs m who true s = IsScanning fs m who s
-LeavesScan fs m who false s = LeavesAll fs m s
+abbrev pub IsScanDone : {V : Type 0} → Flights V → Pairs V → Answer V → Whole V → Type 0
+IsScanDone fs m (done.Scanned count) s = LeavesAll fs m s
+IsScanDone fs m _ s = ⊥
+
+abbrev pub LeavesScan : {V : Type 0} → Flights V → Pairs V → ℕ → Outcome V → Whole V → Type 0
+LeavesScan fs m who Running s = IsScanning fs m who s
+LeavesScan fs m who (Found place key value) s = IsScanning fs m who s
+LeavesScan fs m who (Done d) s = IsScanDone fs m d s
+LeavesScan fs m who (Refused e) s = LeavesAll fs m s
+LeavesScan fs m who _ s = ⊥
 
 -- what a worker's call that stands so makes of the map: one on one key what the map makes of it; every other one leaves the
 -- pairs, and one of one step tells of them
 abbrev pub LeavesMap : {V : Type 0} → (V → V → Bool) → Flights V → Pairs V → ℕ → Answered V → Target V → Outcome V → Whole V → Type 0
-LeavesMap same fs m who last (target.Tree (point.Range start end size)) told s = LeavesScan fs m who (is_in_flight told) s
+LeavesMap same fs m who last (target.Tree (point.Range start end size)) told s = LeavesScan fs m who told s
 LeavesMap same fs m who last (target.Tree p) told s = LeavesKey same fs m who last p told s
 LeavesMap same fs m who last (target.Collector op) told s = LeavesAll fs m s
 LeavesMap same fs m who last (target.Survey k) told s = MapTells m k told × LeavesAll fs m s

@@ -9,10 +9,8 @@ use Rattle.judge.specs.Answer.{Pairs, answer}
 use Rattle.judge.specs.declared.journal.Call.{Call as Point}
 use Rattle.judge.specs.declared.journal.Call.TheVariants as point
 use Rattle.congee.specs.declared.protocol.op.Op.TheVariants as asked
-use Rattle.congee.specs.protocol.Play.{Flight}
 use Rattle.joint.specs.declared.limits.Limits.{Limits}
 use Rattle.joint.specs.declared.refusal.Refusal.{Refusal}
-use Rattle.joint.specs.declared.steps.Event.TheVariants.{Begin, Go}
 use Rattle.joint.specs.declared.steps.Op.{Op}
 use Rattle.joint.specs.declared.steps.Op.TheVariants as op
 use Rattle.joint.specs.declared.steps.Done.TheVariants as done
@@ -24,7 +22,7 @@ use Rattle.joint.specs.declared.steps.Target.{Target}
 use Rattle.joint.specs.declared.steps.Target.TheVariants as target
 use Rattle.joint.specs.Leaving.{Answered as Last, IsPresent, IsComputed}
 use Rattle.joint.specs.Reports.{target}
-use Rattle.joint.specs.Runs.{no_flights, BeginMap, GoMap}
+use Rattle.joint.specs.Runs.{no_flights}
 use Rattle.joint.specs.Whole.{Whole}
 use Rattle.trial.specs.declared.caller.Caller.{Caller}
 use Rattle.trial.specs.declared.caller.Closure.{Closure}
@@ -52,10 +50,10 @@ use Rattle.trial.specs.Script.{LineDoes, LinesAnswer, AreAnswered, Prints}
 use Rattle.trial.specs.Places.{places_at, given, left}
 use Rattle.trial.specs.Session.{Session, op_of, closure_of, refusal_of, AfterPin, Round, Rounds, GaveAway, Replies, CallReplies, Asks, limits_of, budget_of, Opens, Opened, OpensWith, Closed, StaysOpen, Answers}
 use Rattle.trial.specs.Texts.{printed}
-use Rattle.trial.proofs.MapSteps.{MapLaws, line_of, on_map, Rests, rests_on}
-use Rattle.trial.proofs.WholeCalls.{ByClosure, Finished, call_finishes, rests_beside}
+use Rattle.trial.proofs.MapSteps.{MapLaws, Rests, rests_after}
+use Rattle.trial.proofs.WholeCalls.{ByClosure, Finished, call_finishes, filled_length, rests_beside}
 use Rattle.trial.proofs.Surveys.{Surveyed, survey_finishes, keys_reply, empty_reply}
-use Rattle.trial.proofs.WholeScans.{filled_length, scan_finishes}
+use Rattle.trial.proofs.WholeScans.{scan_finishes}
 
 -- a tree with these pairs, no call of which is in flight
 abbrev pub At : Index → Pairs ℕ → Type 0
@@ -68,8 +66,7 @@ as_long false xs i x e = e
 -- a registration leaves the map
 registers_at : MapLaws → (s s' : Index) (told : Outcome ℕ) (m : Pairs ℕ) → At s m → Registers s told s' → At s' m
 registers_at laws s s' told m b g =
-    let o = on_map laws s.world m b.0.flights _ g.0.0 s'.world b.0.holds b.0.stand b.0.in_flight g.0.1 in
-    (rests_on b.0.flights m _ g.0.0 s'.world b.0.over g.0.1.holds o o.moves, ap length g.1 ∙ b.1, ap (λ (x : _). length x.items) g.2 ∙ b.2)
+    (rests_after m s.world s'.world b.0 g.0.1.holds (laws.registers s.world 0 g.0.0 s'.world b.0.flights m b.0.holds g.0.1 b.0.stand b.0.in_flight), ap length g.1 ∙ b.1, ap (λ (x : _). length x.items) g.2 ∙ b.2)
 
 -- as many scans as before
 begun_scans : (w : ℕ) (o : Op ℕ) (f : Option Closure) (s s' : Index) (told : Outcome ℕ) → length s.scans.items ≡ 256 → Begins s w o f told s' → length s'.scans.items ≡ 256

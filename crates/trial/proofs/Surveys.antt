@@ -23,8 +23,8 @@ use Rattle.trial.specs.declared.reply.Reply.TheVariants as reply
 use Rattle.trial.specs.Calling.{Calls}
 use Rattle.trial.specs.MapReplies.{IsAnswer, is_nil}
 use Rattle.trial.specs.Replies.{reply_of}
-use Rattle.trial.proofs.MapSteps.{MapLaws, Rests}
-use Rattle.trial.proofs.WholeCalls.{called, rests_after}
+use Rattle.trial.proofs.MapSteps.{MapLaws, Rests, rests_after}
+use Rattle.trial.proofs.WholeCalls.{called, last_of, leaves_map}
 
 -- what it tells, and the tree as it was
 pub record Surveyed (m : Pairs ℕ) (k : Survey) (s' : Index) (told : Outcome ℕ) : Type 0 where
@@ -34,10 +34,10 @@ pub record Surveyed (m : Pairs ℕ) (k : Survey) (s' : Index) (told : Outcome �
 pub survey_finishes : MapLaws → (w : ℕ) (o : Op ℕ) (k : Survey) (f : Option Closure) (m : Pairs ℕ) (s s' : Index) (told : Outcome ℕ) → target o ≡ target.Survey k → Rests s.world m → Calls s w o f told s'
     → Surveyed m k s' told
 survey_finishes laws w o k f m s s' told is b g =
-    let x = called laws w o f m s s' told b g in
-    let P : Target ℕ → Type 0 = λ t. LeavesMap nat_eq b.flights m w x.last t told s'.world in
-    let y : MapTells m k told × LeavesAll b.flights m s'.world = subst P is x.leaves in
-    record { rests = rests_after m s.world s'.world b x.holds y.1; tells = y.0 }
+    let c = called w o f s s' told g in
+    let P : Target ℕ → Type 0 = λ t. LeavesMap nat_eq b.flights m w (last_of w o f s s' told c) t told s'.world in
+    let y : MapTells m k told × LeavesAll b.flights m s'.world = subst P is (leaves_map w o f s s' told c laws m b) in
+    record { rests = rests_after m s.world s'.world b c.holds y.1; tells = y.0 }
 
 -- the replies
 pub keys_reply : (m : Pairs ℕ) (told : Outcome ℕ) (ps : List (ℕ × ℕ)) → MapTells m survey.Keys told → IsAnswer (reply_of ps told) → reply_of ps told ≡ reply.Keys (keys_of m)

@@ -1,6 +1,7 @@
 -- A call that is taken whole, with no other call in flight: what the tree says of it, and the map's reply to one on one key.
-use Rattle.std.proofs.Common.{◌≡◌, ◌⊎◌, ℕ, zero, suc, nat_eq, Bool, true, false, List, [], ◌∷◌, Option, None, Some, refl, sym, ◌∙◌, ap, subst, inl, inr, if◌then◌else◌}
+use Rattle.std.proofs.Common.{◌≡◌, ◌⊎◌, ℕ, ◌<◌, zero, suc, nat_eq, arith, Bool, true, false, List, [], ◌∷◌, length, Option, None, Some, refl, sym, ◌∙◌, ap, subst, inl, inr, if◌then◌else◌}
 use Rattle.std.specs.Prelude.{slice_set}
+use Rattle.std.proofs.lemmas.List.{length-set}
 use Rattle.judge.specs.Answer.{Pairs, answer}
 use Rattle.judge.specs.declared.journal.Call.{Call as Point}
 use Rattle.judge.specs.declared.journal.Reply.{Reply as Told}
@@ -12,12 +13,14 @@ use Rattle.joint.specs.declared.steps.Event.TheVariants.{Begin, Go}
 use Rattle.joint.specs.declared.steps.Op.{Op}
 use Rattle.joint.specs.declared.steps.Outcome.{Outcome}
 use Rattle.joint.specs.declared.steps.Outcome.TheVariants as outcome
+use Rattle.joint.specs.declared.steps.Report.{Report}
 use Rattle.joint.specs.declared.steps.Target.{Target}
 use Rattle.joint.specs.declared.steps.Target.TheVariants as target
-use Rattle.joint.specs.Leaving.{AllGoOn, Answered as Last, answered_by, answered_after, IsOnMap, TookEffect, LeavesAll, LeavesKey, LeavesMap, told_after}
+use Rattle.joint.specs.Leaving.{AllGoOn, Answered as Last, answered_by, answered_after, IsOnMap, TookEffect, LeavesKey, LeavesMap, told_after, told_places}
 use Rattle.joint.specs.Reports.{target}
 use Rattle.joint.specs.Runs.{Taken, AreTaken, after_all, Flights, AreInFlight}
-use Rattle.joint.specs.Whole.{Whole, Holds, IsOnKey, is_in_flight}
+use Rattle.joint.specs.Scans.{placed}
+use Rattle.joint.specs.Whole.{Whole, Holds, IsOnKey, IsStep, is_in_flight}
 use Rattle.trial.specs.declared.caller.Caller.{Caller}
 use Rattle.trial.specs.declared.caller.Closure.{Closure}
 use Rattle.trial.specs.declared.index.Index.{Index}
@@ -25,8 +28,9 @@ use Rattle.trial.specs.declared.reply.Reply.{Reply}
 use Rattle.trial.specs.Callers.{answer_of, fresh, noise_of, heard, caller_at}
 use Rattle.trial.specs.Calling.{is_running, Begins, Goes, GoesOn, stays, ends, goes, Calls}
 use Rattle.trial.specs.MapReplies.{IsAnswer}
+use Rattle.trial.specs.Places.{places_at, filled}
 use Rattle.trial.specs.Replies.{reply_to, reply_of}
-use Rattle.trial.proofs.MapSteps.{MapLaws, Rests}
+use Rattle.trial.proofs.MapSteps.{MapLaws, Rests, rests_after}
 
 -- the answer to the closure's last question, where one was answered, is what the closure gives for it
 abbrev pub ByClosure : Option Closure → Last ℕ → Type 0
@@ -84,23 +88,46 @@ running (outcome.Registered who) e = absurd (cc e)
 running (outcome.Done d) e = absurd (cc e)
 running (outcome.Refused r) e = absurd (cc e)
 
--- further steps of a call as the tree took them
-pub record Went (w : ℕ) (closure : Option Closure) (s : Whole ℕ) (stands : Outcome ℕ) (s' : Whole ℕ) (told : Outcome ℕ) : Type 0 where
+pub filled_length : (scans : List (List (ℕ × ℕ))) (w : ℕ) (o : Outcome ℕ) → length (filled scans w o) ≡ length scans
+filled_length scans w outcome.Running = refl
+filled_length scans w (outcome.Asks found) = refl
+filled_length scans w (outcome.Found place key value) = length-set scans w _
+filled_length scans w (outcome.Registered who) = refl
+filled_length scans w (outcome.Done d) = refl
+filled_length scans w (outcome.Refused r) = refl
+
+pub set_places : (scans : List (List (ℕ × ℕ))) (w : ℕ) (places : List (ℕ × ℕ)) → w < length scans → places_at (slice_set scans w places) w ≡ places
+set_places [] w places l = absurd (omega (arith, l))
+set_places (x ∷ scans) zero places l = refl
+set_places (x ∷ scans) (suc w) places l = set_places scans w places (omega (arith, l))
+
+filled_places : (scans : List (List (ℕ × ℕ))) (w : ℕ) (o : Outcome ℕ) → w < length scans → places_at (filled scans w o) w ≡ placed true o (places_at scans w)
+filled_places scans w outcome.Running l = refl
+filled_places scans w (outcome.Asks found) l = refl
+filled_places scans w (outcome.Found place key value) l = set_places scans w _ l
+filled_places scans w (outcome.Registered who) l = refl
+filled_places scans w (outcome.Done d) l = refl
+filled_places scans w (outcome.Refused r) l = refl
+
+-- further steps of a call as the tree took them, and the places that they filled
+pub record Went (w : ℕ) (closure : Option Closure) (s : Index) (stands : Outcome ℕ) (s' : Index) (told : Outcome ℕ) : Type 0 where
   pub steps : List (Taken ℕ)
-  pub each : AreTaken nat_eq true s steps
+  pub each : AreTaken nat_eq true s.world steps
   pub goes_on : AllGoOn w stands steps
   pub told_last : told_after stands steps ≡ told
-  pub after : after_all s steps ≡ s'
+  pub after : after_all s.world steps ≡ s'.world
   pub answers : (last : Last ℕ) → ByClosure closure last → ByClosure closure (answered_after stands last steps)
+  pub places : w < length s.scans.items → places_at s'.scans.items w ≡ told_places (places_at s.scans.items w) steps
 
-went_none : (w : ℕ) (closure : Option Closure) (s : Whole ℕ) (stands : Outcome ℕ) → Went w closure s stands s stands
-went_none w closure s stands = record { steps = []; each = tt; goes_on = tt; told_last = refl; after = refl; answers = λ last b. b }
+went_none : (w : ℕ) (closure : Option Closure) (s : Index) (stands : Outcome ℕ) → Went w closure s stands s stands
+went_none w closure s stands = record { steps = []; each = tt; goes_on = tt; told_last = refl; after = refl; answers = λ last b. b; places = λ l. refl }
 
-went_more : (w : ℕ) (closure : Option Closure) (s mid : Index) (s' : Whole ℕ) (stands next told : Outcome ℕ) → is_running stands ≡ true → Behind closure stands (caller_at s.callers w) → Goes s w false next mid
-    → Went w closure mid.world next s' told → Went w closure s.world stands s' told
+went_more : (w : ℕ) (closure : Option Closure) (s mid s' : Index) (stands next told : Outcome ℕ) → is_running stands ≡ true → Behind closure stands (caller_at s.callers w) → Goes s w false next mid
+    → Went w closure mid next s' told → Went w closure s stands s' told
 went_more w closure s mid s' stands next told on b g more =
-    let P : Outcome ℕ → Type 0 = λ o. Went w closure mid.world o s' told in
-    let rest : Went w closure mid.world g.0.0.outcome s' told = subst P g.0.2 more in
+    let P : Outcome ℕ → Type 0 = λ o. Went w closure mid o s' told in
+    let rest : Went w closure mid g.0.0.outcome s' told = subst P g.0.2 more in
+    let few : length mid.scans.items ≡ length s.scans.items = ap length g.2 ∙ filled_length s.scans.items w next in
     record {
       steps = record { step = record { worker = w; event = Go (noise_of (caller_at s.callers w) false) }; report = g.0.0; after = mid.world } ∷ rest.steps;
       each = (g.0.1, rest.each);
@@ -108,38 +135,33 @@ went_more w closure s mid s' stands next told on b g more =
       told_last = rest.told_last;
       after = rest.after;
       answers = λ last c. rest.answers _ (by_answer closure stands (caller_at s.callers w).answer last b.0 c);
+      places = λ l. rest.places (omega (arith, few, l))
+          ∙ ap (λ p. told_places p rest.steps) (ap (λ x. places_at x w) g.2 ∙ filled_places s.scans.items w next l ∙ ap (λ o. placed true o (places_at s.scans.items w)) g.0.2);
     }
 
 went : (w : ℕ) (closure : Option Closure) (left : ℕ) (s : Index) (stands told : Outcome ℕ) (s' : Index) → Behind closure stands (caller_at s.callers w) → GoesOn w left s stands told s'
-    → Went w closure s.world stands s'.world told
-went w closure left s stands told s' b (stays s1 t1) = went_none w closure s.world stands
-went w closure left s stands told s' b (ends n s1 t1 e) = went_none w closure s.world stands
+    → Went w closure s stands s' told
+went w closure left s stands told s' b (stays s1 t1) = went_none w closure s stands
+went w closure left s stands told s' b (ends n s1 t1 e) = went_none w closure s stands
 went w closure left s stands told s' b (goes n s1 mid s2 st next t1 on step more) =
     let P : List Caller → Type 0 = λ callers. Behind closure next (caller_at callers w) in
     let c : Behind closure next (caller_at mid.callers w) =
     subst P (sym step.1) (behind_set closure next s.callers w _ (behind_heard closure stands next (caller_at s.callers w) b)) in
-    went_more w closure s mid s'.world stands next told on b step (went w closure n mid next told s' c more)
+    went_more w closure s mid s' stands next told on b step (went w closure n mid next told s' c more)
 
--- a whole call, and how the tree says that it stands
-pub record Called (w : ℕ) (op : Op ℕ) (closure : Option Closure) (m : Pairs ℕ) (fs : Flights ℕ) (s' : Whole ℕ) (told : Outcome ℕ) : Type 0 where
-  pub last : Last ℕ
-  pub by_closure : ByClosure closure last
-  pub leaves : LeavesMap nat_eq fs m w last (target op) told s'
-  pub holds : Holds nat_eq true s'
-
-begun_behind : (w : ℕ) (closure : Option Closure) (s : Index) (callers : List Caller) (first : Outcome ℕ) (b : Bool) → is_running first ≡ b → callers ≡ (if b then slice_set s.callers w (fresh closure) else s.callers)
-    → (b ≡ true) → Behind closure first (caller_at callers w)
-begun_behind w closure s callers first b run e on =
-    let P : Bool → Type 0 = λ x. callers ≡ (if x then slice_set s.callers w (fresh closure) else s.callers) in
+begun_behind : (w : ℕ) (closure : Option Closure) (callers callers' : List Caller) (first : Outcome ℕ) (b : Bool) → b ≡ true → callers' ≡ (if b then slice_set callers w (fresh closure) else callers)
+    → Behind closure first (caller_at callers' w)
+begun_behind w closure callers callers' first b on e =
+    let P : Bool → Type 0 = λ x. callers' ≡ (if x then slice_set callers w (fresh closure) else callers) in
     let Q : List Caller → Type 0 = λ x. Behind closure first (caller_at x w) in
-    subst Q (sym (subst P on e)) (behind_set closure first s.callers w (fresh closure) (tt, inl refl))
+    subst Q (sym (subst P on e)) (behind_set closure first callers w (fresh closure) (tt, inl refl))
 
 -- the steps after the first one; a call that ended as it began has none
 first_then : (w left : ℕ) (closure : Option Closure) (op : Op ℕ) (s mid : Index) (first told : Outcome ℕ) (s' : Index) (b : Bool) → is_running first ≡ b → Begins s w op closure first mid → GoesOn w left mid first told s'
-    → Went w closure mid.world first s'.world told
-first_then w left closure op s mid first told s' true run g more = went w closure left mid first told s' (begun_behind w closure s mid.callers first (is_running first) refl g.1 run) more
-first_then w left closure op s mid first told s' false run g (stays s1 t1) = went_none w closure mid.world first
-first_then w left closure op s mid first told s' false run g (ends n s1 t1 e) = went_none w closure mid.world first
+    → (x : Went w closure mid first s' told) × ((x.steps ≡ []) ⊎ (b ≡ true))
+first_then w left closure op s mid first told s' true run g more = (went w closure left mid first told s' (begun_behind w closure s.callers mid.callers first (is_running first) run g.1) more, inr refl)
+first_then w left closure op s mid first told s' false run g (stays s1 t1) = (went_none w closure mid first, inl refl)
+first_then w left closure op s mid first told s' false run g (ends n s1 t1 e) = (went_none w closure mid first, inl refl)
 first_then w left closure op s mid first told s' false run g (goes n s1 mid2 s2 st next t1 on step more) = absurd (let f : true ≡ false = sym on ∙ run in cc f)
 
 -- what always holds, after it
@@ -148,26 +170,51 @@ holds_after w left s stands told s' h (stays s1 t1) = h
 holds_after w left s stands told s' h (ends n s1 t1 e) = h
 holds_after w left s stands told s' h (goes n s1 mid s2 st next t1 on step more) = holds_after w n mid next told s' step.0.1.holds more
 
-pub called : MapLaws → (w : ℕ) (op : Op ℕ) (closure : Option Closure) (m : Pairs ℕ) (s s' : Index) (told : Outcome ℕ) (r : Rests s.world m) → Calls s w op closure told s' → Called w op closure m r.flights s'.world told
-called laws w op closure m s s' told r g =
-    let report = g.2.0.0 in
-    let P : Outcome ℕ → Type 0 = λ o. Went w closure g.0.world o s'.world told in
-    let rest : Went w closure g.0.world report.outcome s'.world told = subst P g.2.0.2 (first_then w 9999 closure op s g.0 g.1 told s' (is_running g.1) refl g.2 g.3) in
-    let first : Taken ℕ = record { step = record { worker = w; event = Begin op }; report = report; after = g.0.world } in
-    let x = laws.calls s.world first rest.steps r.flights m w op r.holds (g.2.0.1, rest.each) r.stand r.in_flight (record { begins = refl; goes_on = rest.goes_on }) in
-    let Q : Outcome ℕ → Type 0 = λ o. LeavesMap nat_eq r.flights m w (answered_after report.outcome None rest.steps) (target op) o (after_all g.0.world rest.steps) in
-    let R : Whole ℕ → Type 0 = λ y. LeavesMap nat_eq r.flights m w (answered_after report.outcome None rest.steps) (target op) told y in
-    record { last = answered_after report.outcome None rest.steps; by_closure = rest.answers None tt; leaves = subst R rest.after (subst Q rest.told_last x); holds = holds_after w 9999 g.0 g.1 told s' g.2.0.1.holds g.3 }
+-- a whole call: its first step, and the others
+pub record Called (w : ℕ) (op : Op ℕ) (closure : Option Closure) (s s' : Index) (told : Outcome ℕ) : Type 0 where
+  pub mid : Index
+  pub report : Report ℕ
+  pub step : IsStep nat_eq true s.world (record { worker = w; event = Begin op }) report mid.world
+  pub scans : mid.scans.items ≡ (if is_running report.outcome then slice_set s.scans.items w [] else s.scans.items)
+  pub rest : Went w closure mid report.outcome s' told
+  pub ran : (rest.steps ≡ []) ⊎ (is_running report.outcome ≡ true)
+  pub holds : Holds nat_eq true s'.world
 
--- a call that leaves the pairs
-pub rests_after : (m : Pairs ℕ) (s s' : Whole ℕ) (b : Rests s m) → Holds nat_eq true s' → LeavesAll b.flights m s' → Rests s' m
-rests_after m s s' b h x = record { holds = h; flights = b.flights; stand = x.0; in_flight = x.1; over = b.over }
+pub called : (w : ℕ) (op : Op ℕ) (closure : Option Closure) (s s' : Index) (told : Outcome ℕ) → Calls s w op closure told s' → Called w op closure s s' told
+called w op closure s s' told g =
+    let P : Outcome ℕ → Type 0 = λ o. (x : Went w closure g.0 o s' told) × ((x.steps ≡ []) ⊎ (is_running o ≡ true)) in
+    let more = subst P g.2.0.2 (first_then w 9999 closure op s g.0 g.1 told s' (is_running g.1) refl g.2 g.3) in
+    record {
+      mid = g.0;
+      report = g.2.0.0;
+      step = g.2.0.1;
+      scans = g.2.2 ∙ ap (λ (o : Outcome ℕ). if is_running o then slice_set s.scans.items w [] else s.scans.items) g.2.0.2;
+      rest = more.0;
+      ran = more.1;
+      holds = holds_after w 9999 g.0 g.1 told s' g.2.0.1.holds g.3;
+    }
 
+module _ (w : ℕ) (op : Op ℕ) (closure : Option Closure) (s s' : Index) (told : Outcome ℕ) (c : Called w op closure s s' told) where
+  abbrev pub first_of : Taken ℕ
+  first_of = record { step = record { worker = w; event = Begin op }; report = c.report; after = c.mid.world }
+
+  abbrev pub last_of : Last ℕ
+  last_of = answered_after c.report.outcome None c.rest.steps
+
+  -- what the machine says of it
+  pub leaves_map : MapLaws → (m : Pairs ℕ) (b : Rests s.world m) → LeavesMap nat_eq b.flights m w last_of (target op) told s'.world
+  leaves_map laws m b =
+      let x = laws.leaves s.world first_of c.rest.steps b.flights m w op b.holds (c.step, c.rest.each) b.stand b.in_flight (record { begins = refl; goes_on = c.rest.goes_on }) in
+      let P : Outcome ℕ → Type 0 = λ o. LeavesMap nat_eq b.flights m w last_of (target op) o (after_all c.mid.world c.rest.steps) in
+      let Q : Whole ℕ → Type 0 = λ y. LeavesMap nat_eq b.flights m w last_of (target op) told y in
+      subst Q c.rest.after (subst P c.rest.told_last x)
+
+-- a call on the collector leaves the pairs
 pub rests_beside : MapLaws → (w : ℕ) (op : Op ℕ) (t : _) (closure : Option Closure) (m : Pairs ℕ) (s s' : Index) (told : Outcome ℕ) → target op ≡ target.Collector t → Rests s.world m → Calls s w op closure told s' → Rests s'.world m
 rests_beside laws w op t closure m s s' told e b g =
-    let x = called laws w op closure m s s' told b g in
-    let P : Target ℕ → Type 0 = λ y. LeavesMap nat_eq b.flights m w x.last y told s'.world in
-    rests_after m s.world s'.world b x.holds (subst P e x.leaves)
+    let c = called w op closure s s' told g in
+    let P : Target ℕ → Type 0 = λ y. LeavesMap nat_eq b.flights m w (last_of w op closure s s' told c) y told s'.world in
+    rests_after m s.world s'.world b c.holds (subst P e (leaves_map w op closure s s' told c laws m b))
 
 -- a call's reply is no answer while the call is in flight
 pub no_answer_yet : (ps : List (ℕ × ℕ)) (o : Outcome ℕ) → is_running o ≡ true → IsAnswer (reply_of ps o) → ⊥
@@ -226,6 +273,7 @@ module _ (w : ℕ) (m : Pairs ℕ) where
 pub call_finishes : MapLaws → (w : ℕ) (op : Op ℕ) (a : Asked ℕ) (closure : Option Closure) (m : Pairs ℕ) (p : Point ℕ) (s s' : Index) (told : Outcome ℕ) (ps : List (ℕ × ℕ)) → target op ≡ target.Tree a → IsOnKey a
     → Decides m a closure p → Rests s.world m → Calls s w op closure told s' → IsAnswer (reply_of ps told) → Finished m p s' (reply_of ps told)
 call_finishes laws w op a closure m p s s' told ps on_tree on_key d b g i =
-    let x = called laws w op closure m s s' told b g in
-    let P : Target ℕ → Type 0 = λ t. LeavesMap nat_eq b.flights m w x.last t told s'.world in
-    by_told w m a closure p x.last told ps s b s' d x.by_closure x.holds (leaves_key w m b.flights x.last a told s'.world on_key (subst P on_tree x.leaves)) i
+    let c = called w op closure s s' told g in
+    let last = last_of w op closure s s' told c in
+    let P : Target ℕ → Type 0 = λ t. LeavesMap nat_eq b.flights m w last t told s'.world in
+    by_told w m a closure p last told ps s b s' d (c.rest.answers None tt) c.holds (leaves_key w m b.flights last a told s'.world on_key (subst P on_tree (leaves_map w op closure s s' told c laws m b))) i

@@ -37,7 +37,7 @@ use Rattle.joint.specs.declared.steps.Target.TheVariants as target
 use Rattle.joint.specs.Calling.{IsCalled, goes_on, next_step, steps_of, GoOn, last_of, last_or, put_away, kept_report}
 use Rattle.joint.specs.Forest.{nodes}
 use Rattle.joint.specs.Intact.{root}
-use Rattle.joint.specs.Leaving.{GoesOn, AllGoOn, AreOfCall, told_after, Answered, answered_by, answer_in, answered_after, IsPresent, IsComputed, IsOnMap, TookEffect, IsUndecided, IsDecided, IsOfScan, LeavesAll, told_places, HasScanned, IsDoneWith, LeavesKey, IsScanning, LeavesScan, LeavesMap, CallLeaves}
+use Rattle.joint.specs.Leaving.{GoesOn, AllGoOn, AreOfCall, told_after, Answered, answered_by, answer_in, answered_after, IsPresent, IsComputed, IsOnMap, TookEffect, IsUndecided, IsDecided, IsOfScan, LeavesAll, told_places, HasScanned, IsDoneWith, LeavesKey, IsScanning, IsScanDone, LeavesScan, LeavesMap, CallLeaves}
 use Rattle.joint.specs.Reports.{target, told}
 use Rattle.joint.specs.Runs.{Taken, AreTaken, after_all, IsRun, Line, Flights, with_flight, Stays, BeginsFlight, EndsAtOnce, BeginsOr, BeginMap, MapStep, PendingStep, Advances, GoMap, InFlight, AreInFlight}
 use Rattle.joint.specs.Scans.{placed}

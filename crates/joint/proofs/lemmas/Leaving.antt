@@ -37,7 +37,7 @@ use Rattle.joint.specs.declared.steps.Target.TheVariants as target
 use Rattle.joint.specs.Calling.{IsCalled, goes_on, next_step, steps_of, GoOn, last_of, last_or, put_away, kept_report}
 use Rattle.joint.specs.Forest.{nodes}
 use Rattle.joint.specs.Intact.{root}
-use Rattle.joint.specs.Leaving.{GoesOn, AllGoOn, AreOfCall, told_after, Answered, answered_by, answer_in, answered_after, IsPresent, IsComputed, IsOnMap, TookEffect, IsUndecided, IsDecided, IsOfScan, LeavesAll, told_places, HasScanned, IsDoneWith, LeavesKey, IsScanning, LeavesScan, LeavesMap, CallLeaves}
+use Rattle.joint.specs.Leaving.{GoesOn, AllGoOn, AreOfCall, told_after, Answered, answered_by, answer_in, answered_after, IsPresent, IsComputed, IsOnMap, TookEffect, IsUndecided, IsDecided, IsOfScan, LeavesAll, told_places, HasScanned, IsDoneWith, LeavesKey, IsScanning, IsScanDone, LeavesScan, LeavesMap, CallLeaves}
 use Rattle.joint.specs.Reports.{target, told}
 use Rattle.joint.specs.Runs.{Taken, AreTaken, after_all, IsRun, Line, Flights, with_flight, Stays, BeginsFlight, EndsAtOnce, BeginsOr, BeginMap, MapStep, PendingStep, Advances, GoMap, InFlight, AreInFlight}
 use Rattle.joint.specs.Scans.{placed}
@@ -137,13 +137,13 @@ module _ {V : Type 0} (same : V → V → Bool) (always : Bool) (fs : Flights V)
   away_key p last (Done d) s x = x
   away_key p last (Refused e) s x = x
 
-  away_scan : (said : Outcome V) → is_in_flight said ≡ is_in_flight (put_away said)
-  away_scan Running = refl
-  away_scan (Asks o) = refl
-  away_scan (Found place key value) = refl
-  away_scan (Registered n) = refl
-  away_scan (Done d) = refl
-  away_scan (Refused e) = refl
+  away_scan : (said : Outcome V) (s : Whole V) → LeavesScan fs m w said s → LeavesScan fs m w (put_away said) s
+  away_scan Running s x = x
+  away_scan (Found place key value) s x = x
+  away_scan (Asks o) s x = absurd x
+  away_scan (Registered n) s x = absurd x
+  away_scan (Done d) s x = x
+  away_scan (Refused e) s x = x
 
   away_told : (said : Outcome V) → is_in_flight said ≡ false → said ≡ put_away said
   away_told (Found place key value) e = absurd (cc e)
@@ -160,7 +160,7 @@ module _ {V : Type 0} (same : V → V → Bool) (always : Bool) (fs : Flights V)
   away (target.Tree (point.ComputePresent k)) last said s x = away_key (point.ComputePresent k) last said s x
   away (target.Tree (point.ComputeInsert k)) last said s x = away_key (point.ComputeInsert k) last said s x
   away (target.Tree (point.Exchange k old new)) last said s x = away_key (point.Exchange k old new) last said s x
-  away (target.Tree (point.Range start end size)) last said s x = subst (λ b. LeavesScan fs m w b s) (away_scan said) x
+  away (target.Tree (point.Range start end size)) last said s x = away_scan said s x
   away (target.Collector op) last said s x = x
   away (target.Survey k) last said s x = (subst (λ o. MapTells m k o) (away_told said (told_ended m k said x.0)) x.0, x.1)
 

@@ -37,7 +37,7 @@ use Rattle.joint.specs.declared.steps.Target.TheVariants as target
 use Rattle.joint.specs.Calling.{IsCalled, goes_on, next_step, steps_of, GoOn, last_of, last_or, put_away, kept_report}
 use Rattle.joint.specs.Forest.{nodes}
 use Rattle.joint.specs.Intact.{root}
-use Rattle.joint.specs.Leaving.{GoesOn, AllGoOn, AreOfCall, told_after, Answered, answered_by, answer_in, answered_after, IsPresent, IsComputed, IsOnMap, TookEffect, IsUndecided, IsDecided, IsOfScan, LeavesAll, told_places, HasScanned, IsDoneWith, LeavesKey, IsScanning, LeavesScan, LeavesMap, CallLeaves}
+use Rattle.joint.specs.Leaving.{GoesOn, AllGoOn, AreOfCall, told_after, Answered, answered_by, answer_in, answered_after, IsPresent, IsComputed, IsOnMap, TookEffect, IsUndecided, IsDecided, IsOfScan, LeavesAll, told_places, HasScanned, IsDoneWith, LeavesKey, IsScanning, IsScanDone, LeavesScan, LeavesMap, CallLeaves}
 use Rattle.joint.specs.Reports.{target, told}
 use Rattle.joint.specs.Runs.{Taken, AreTaken, after_all, IsRun, Line, Flights, with_flight, Stays, BeginsFlight, EndsAtOnce, BeginsOr, BeginMap, MapStep, PendingStep, Advances, GoMap, InFlight, AreInFlight}
 use Rattle.joint.specs.Scans.{placed}
@@ -107,7 +107,7 @@ module _ {V : Type 0} (same : V → V → Bool) (always : Bool) (fs : Flights V)
   scanning_of : (places : List (ℕ × V)) (s : Whole V) → InScan places s → IsScanning fs m w s
   scanning_of places s b = record { free = b.free; flight = b.flight; of_scan = of_scan places b.flight b.watched; in_flight = b.in_flight; stand = b.stand }
 
-  done_leaves : (places : List (ℕ × V)) (d : Answer V) (s : Whole V) → EndsWith places d s → LeavesAll fs m s
+  done_leaves : (places : List (ℕ × V)) (d : Answer V) (s : Whole V) → EndsWith places d s → IsScanDone fs m d s
   done_leaves places (done.Scanned count) s x = x.1
   done_leaves places done.Unit s x = absurd x
   done_leaves places (done.Reply r) s x = absurd x
@@ -115,7 +115,7 @@ module _ {V : Type 0} (same : V → V → Bool) (always : Bool) (fs : Flights V)
   done_leaves places (done.Empty b) s x = absurd x
   done_leaves places (done.Stats stats) s x = absurd x
 
-  pub scan_leaves : (places : List (ℕ × V)) (said : Outcome V) (s : Whole V) → Sweeps places said s → LeavesScan fs m w (is_in_flight said) s
+  pub scan_leaves : (places : List (ℕ × V)) (said : Outcome V) (s : Whole V) → Sweeps places said s → LeavesScan fs m w said s
   scan_leaves places Running s x = scanning_of places s x
   scan_leaves places (Found place key value) s x = scanning_of places s x
   scan_leaves places (Done d) s x = done_leaves places d s x
