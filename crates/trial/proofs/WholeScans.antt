@@ -73,7 +73,7 @@ module _ (laws : MapLaws) (w start end size : ℕ) (m : Pairs ℕ) (closure : Op
   found : (count : ℕ) → told ≡ outcome.Done (done.Scanned count) → take count (places_at s'.scans.items w) ≡ finds m start end size
   found count e =
       let x = laws.scan s.world (first_of w (Range start end size) closure s s' told c) c.rest.steps b.flights m w start end size count b.holds (c.step, c.rest.each) b.stand b.in_flight (record { begins = refl; goes_on = c.rest.goes_on }) (c.rest.told_last ∙ e) in
-      let is : take count (told_places [] c.rest.steps) ≡ finds m start end size = scan_of_one m start end size (m ∷ []) (take count (told_places [] c.rest.steps)) (refl, tt) x.scan in
+      let is : take count (told_places [] c.rest.steps) ≡ finds m start end size = scan_of_one m start end size (take count (told_places [] c.rest.steps)) x.scan in
       elim c.ran [
         | inl none ↦ (
             let few : count ≤ 0 = (let P : List (_) → Type 0 = λ ts. count ≤ length (told_places [] ts) in subst P none x.filled) in
