@@ -43,10 +43,10 @@ pub mod Kept
 pub mod Holding
 pub mod KeyCalls
 pub mod Keyed
-pub mod Leaving
 pub mod Listing
 pub mod Logged
 pub mod Made
+pub mod MapCalls
 pub mod MapSteps
 pub mod Mapped
 pub mod NameLists

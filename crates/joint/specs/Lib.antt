@@ -15,12 +15,12 @@ pub mod Intact
 pub mod Journaling
 pub mod Journals
 pub mod Laws
-pub mod Leaving
 pub mod Levels
 pub mod Limits
 pub mod Listing
 pub mod Log
 pub mod Machines
+pub mod MapCalls
 pub mod MapCode
 pub mod NameLemmas
 pub mod Names

@@ -11,21 +11,21 @@ use Rattle.joint.specs.declared.steps.Op.TheVariants.{Range}
 use Rattle.joint.specs.declared.steps.Outcome.TheVariants.{Done}
 use Rattle.joint.specs.declared.steps.Report.{Report}
 use Rattle.joint.specs.Forest.{nodes}
-use Rattle.joint.specs.Leaving.{AreOfCall, HasScanned, LeavesAll, LeavesMap, answered_after, told_after, told_places}
+use Rattle.joint.specs.MapCalls.{AreOfCall, HasScanned, KeepsAll, PlaysCall, answered_after, told_after, told_places}
 use Rattle.joint.specs.Reports.{target}
 use Rattle.joint.specs.Runs.{Taken, AreTaken, after_all, Flights, no_flights, AreInFlight, IsFresh}
 use Rattle.joint.specs.Whole.{Whole, Holds, IsStep}
 
 -- what the machine promises of whole calls, of registrations, and of a tree as it is opened
 pub record MapLaws : Type 0 where
-  pub leaves : (s : Whole ℕ) (first : Taken ℕ) (more : List (Taken ℕ)) (fs : Flights ℕ) (m : Pairs ℕ) (who : ℕ) (op : Op ℕ) → Holds nat_eq true s → AreTaken nat_eq true s (first ∷ more)
+  pub plays : (s : Whole ℕ) (first : Taken ℕ) (more : List (Taken ℕ)) (fs : Flights ℕ) (m : Pairs ℕ) (who : ℕ) (op : Op ℕ) → Holds nat_eq true s → AreTaken nat_eq true s (first ∷ more)
       → IsMapOf (nodes s.forest) m → AreInFlight s fs → AreOfCall who op first more
-      → LeavesMap nat_eq fs m who (answered_after first.report.outcome None more) (target op) (told_after first.report.outcome more) (after_all s (first ∷ more))
+      → PlaysCall nat_eq fs m who (answered_after first.report.outcome None more) (target op) (told_after first.report.outcome more) (after_all s (first ∷ more))
   pub scan : (s : Whole ℕ) (first : Taken ℕ) (more : List (Taken ℕ)) (fs : Flights ℕ) (m : Pairs ℕ) (who start end size count : ℕ) → Holds nat_eq true s → AreTaken nat_eq true s (first ∷ more)
       → IsMapOf (nodes s.forest) m → AreInFlight s fs → AreOfCall who (Range start end size) first more → told_after first.report.outcome more ≡ Done (Scanned count)
       → HasScanned start end size count m (told_places [] more)
   pub registers : (s : Whole ℕ) (who : ℕ) (r : Report ℕ) (s' : Whole ℕ) (fs : Flights ℕ) (m : Pairs ℕ) → Holds nat_eq true s → IsStep nat_eq true s (record { worker = who; event = Register }) r s'
-      → IsMapOf (nodes s.forest) m → AreInFlight s fs → LeavesAll fs m s'
+      → IsMapOf (nodes s.forest) m → AreInFlight s fs → KeepsAll fs m s'
   pub fresh : (s : Whole ℕ) → IsFresh s → IsMapOf (nodes s.forest) empty × AreInFlight s no_flights
 
 -- these pairs stand, and nothing of the tree is in flight
@@ -37,5 +37,5 @@ pub record Rests (s : Whole ℕ) (m : Pairs ℕ) : Type 0 where
   pub over : (i : ℕ) → flights i ≡ Over
 
 -- so too after what leaves them
-pub rests_after : (m : Pairs ℕ) (s s' : Whole ℕ) (b : Rests s m) → Holds nat_eq true s' → LeavesAll b.flights m s' → Rests s' m
+pub rests_after : (m : Pairs ℕ) (s s' : Whole ℕ) (b : Rests s m) → Holds nat_eq true s' → KeepsAll b.flights m s' → Rests s' m
 rests_after m s s' b h x = record { holds = h; flights = b.flights; stand = x.0; in_flight = x.1; over = b.over }

@@ -20,7 +20,7 @@ use Rattle.joint.specs.declared.steps.Survey.{Survey}
 use Rattle.joint.specs.declared.steps.Survey.TheVariants as survey
 use Rattle.joint.specs.declared.steps.Target.{Target}
 use Rattle.joint.specs.declared.steps.Target.TheVariants as target
-use Rattle.joint.specs.Leaving.{Answered as Last, IsPresent, IsComputed}
+use Rattle.joint.specs.MapCalls.{Answered as Last, IsPresent, IsComputed}
 use Rattle.joint.specs.Reports.{target}
 use Rattle.joint.specs.Runs.{no_flights}
 use Rattle.joint.specs.Whole.{Whole}

@@ -13,7 +13,7 @@ use Rattle.joint.specs.declared.steps.Survey.{Survey}
 use Rattle.joint.specs.declared.steps.Survey.TheVariants as survey
 use Rattle.joint.specs.declared.steps.Target.{Target}
 use Rattle.joint.specs.declared.steps.Target.TheVariants as target
-use Rattle.joint.specs.Leaving.{LeavesAll, LeavesMap}
+use Rattle.joint.specs.MapCalls.{KeepsAll, PlaysCall}
 use Rattle.joint.specs.Reports.{target}
 use Rattle.joint.specs.Survey.{IsEmptiness, keys_of}
 use Rattle.joint.specs.Surveys.{MapTells}
@@ -24,7 +24,7 @@ use Rattle.trial.specs.Calling.{Calls}
 use Rattle.trial.specs.MapReplies.{IsAnswer, is_nil}
 use Rattle.trial.specs.Replies.{reply_of}
 use Rattle.trial.proofs.MapSteps.{MapLaws, Rests, rests_after}
-use Rattle.trial.proofs.WholeCalls.{called, last_of, leaves_map}
+use Rattle.trial.proofs.WholeCalls.{called, last_of, plays_call}
 
 -- what it tells, and the tree as it was
 pub record Surveyed (m : Pairs ℕ) (k : Survey) (s' : Index) (told : Outcome ℕ) : Type 0 where
@@ -35,8 +35,8 @@ pub survey_finishes : MapLaws → (w : ℕ) (o : Op ℕ) (k : Survey) (f : Optio
     → Surveyed m k s' told
 survey_finishes laws w o k f m s s' told is b g =
     let c = called w o f s s' told g in
-    let P : Target ℕ → Type 0 = λ t. LeavesMap nat_eq b.flights m w (last_of w o f s s' told c) t told s'.world in
-    let y : MapTells m k told × LeavesAll b.flights m s'.world = subst P is (leaves_map w o f s s' told c laws m b) in
+    let P : Target ℕ → Type 0 = λ t. PlaysCall nat_eq b.flights m w (last_of w o f s s' told c) t told s'.world in
+    let y : MapTells m k told × KeepsAll b.flights m s'.world = subst P is (plays_call w o f s s' told c laws m b) in
     record { rests = rests_after m s.world s'.world b c.holds y.1; tells = y.0 }
 
 -- the replies

@@ -16,7 +16,7 @@ use Rattle.joint.specs.declared.steps.Outcome.TheVariants as outcome
 use Rattle.joint.specs.declared.steps.Report.{Report}
 use Rattle.joint.specs.declared.steps.Target.{Target}
 use Rattle.joint.specs.declared.steps.Target.TheVariants as target
-use Rattle.joint.specs.Leaving.{AllGoOn, Answered as Last, answered_by, answered_after, IsOnMap, TookEffect, LeavesKey, LeavesMap, told_after, told_places}
+use Rattle.joint.specs.MapCalls.{AllGoOn, Answered as Last, answered_by, answered_after, IsOnMap, TookEffect, PlaysKey, PlaysCall, told_after, told_places}
 use Rattle.joint.specs.Reports.{target}
 use Rattle.joint.specs.Runs.{Taken, AreTaken, after_all, Flights, AreInFlight}
 use Rattle.joint.specs.Scans.{placed}
@@ -119,7 +119,7 @@ pub record Went (w : ℕ) (closure : Option Closure) (s : Index) (stands : Outco
   pub answers : (last : Last ℕ) → ByClosure closure last → ByClosure closure (answered_after stands last steps)
   pub places : w < length s.scans.items → places_at s'.scans.items w ≡ told_places (places_at s.scans.items w) steps
 
-went_none : (w : ℕ) (closure : Option Closure) (s : Index) (stands : Outcome ℕ) → Went w closure s stands s stands
+abbrev went_none : (w : ℕ) (closure : Option Closure) (s : Index) (stands : Outcome ℕ) → Went w closure s stands s stands
 went_none w closure s stands = record { steps = []; each = tt; goes_on = tt; told_last = refl; after = refl; answers = λ last b. b; places = λ l. refl }
 
 went_more : (w : ℕ) (closure : Option Closure) (s mid s' : Index) (stands next told : Outcome ℕ) → is_running stands ≡ true → Behind closure stands (caller_at s.callers w) → Goes s w false next mid
@@ -202,19 +202,19 @@ module _ (w : ℕ) (op : Op ℕ) (closure : Option Closure) (s s' : Index) (told
   last_of = answered_after c.report.outcome None c.rest.steps
 
   -- what the machine says of it
-  pub leaves_map : MapLaws → (m : Pairs ℕ) (b : Rests s.world m) → LeavesMap nat_eq b.flights m w last_of (target op) told s'.world
-  leaves_map laws m b =
-      let x = laws.leaves s.world first_of c.rest.steps b.flights m w op b.holds (c.step, c.rest.each) b.stand b.in_flight (record { begins = refl; goes_on = c.rest.goes_on }) in
-      let P : Outcome ℕ → Type 0 = λ o. LeavesMap nat_eq b.flights m w last_of (target op) o (after_all c.mid.world c.rest.steps) in
-      let Q : Whole ℕ → Type 0 = λ y. LeavesMap nat_eq b.flights m w last_of (target op) told y in
+  pub plays_call : MapLaws → (m : Pairs ℕ) (b : Rests s.world m) → PlaysCall nat_eq b.flights m w last_of (target op) told s'.world
+  plays_call laws m b =
+      let x = laws.plays s.world first_of c.rest.steps b.flights m w op b.holds (c.step, c.rest.each) b.stand b.in_flight (record { begins = refl; goes_on = c.rest.goes_on }) in
+      let P : Outcome ℕ → Type 0 = λ o. PlaysCall nat_eq b.flights m w last_of (target op) o (after_all c.mid.world c.rest.steps) in
+      let Q : Whole ℕ → Type 0 = λ y. PlaysCall nat_eq b.flights m w last_of (target op) told y in
       subst Q c.rest.after (subst P c.rest.told_last x)
 
 -- a call on the collector leaves the pairs
 pub rests_beside : MapLaws → (w : ℕ) (op : Op ℕ) (t : _) (closure : Option Closure) (m : Pairs ℕ) (s s' : Index) (told : Outcome ℕ) → target op ≡ target.Collector t → Rests s.world m → Calls s w op closure told s' → Rests s'.world m
 rests_beside laws w op t closure m s s' told e b g =
     let c = called w op closure s s' told g in
-    let P : Target ℕ → Type 0 = λ y. LeavesMap nat_eq b.flights m w (last_of w op closure s s' told c) y told s'.world in
-    rests_after m s.world s'.world b c.holds (subst P e (leaves_map w op closure s s' told c laws m b))
+    let P : Target ℕ → Type 0 = λ y. PlaysCall nat_eq b.flights m w (last_of w op closure s s' told c) y told s'.world in
+    rests_after m s.world s'.world b c.holds (subst P e (plays_call w op closure s s' told c laws m b))
 
 -- a call's reply is no answer while the call is in flight
 pub no_answer_yet : (ps : List (ℕ × ℕ)) (o : Outcome ℕ) → is_running o ≡ true → IsAnswer (reply_of ps o) → ⊥
@@ -247,7 +247,7 @@ module _ (w : ℕ) (m : Pairs ℕ) where
       }
 
   by_told : (a : Asked ℕ) (closure : Option Closure) (p : Point ℕ) (last : Last ℕ) (told : Outcome ℕ) (ps : List (ℕ × ℕ)) (s : Index) (b : Rests s.world m) (s' : Index) → Decides m a closure p → ByClosure closure last
-      → Holds nat_eq true s'.world → LeavesKey nat_eq b.flights m w last a told s'.world → IsAnswer (reply_of ps told) → Finished m p s' (reply_of ps told)
+      → Holds nat_eq true s'.world → PlaysKey nat_eq b.flights m w last a told s'.world → IsAnswer (reply_of ps told) → Finished m p s' (reply_of ps told)
   by_told a closure p last (outcome.Done (done.Reply r)) ps s b s' d c h x i = took_effect a closure p last r s b s' d c h x
   by_told a closure p last (outcome.Done done.Unit) ps s b s' d c h x i = absurd x
   by_told a closure p last (outcome.Done (done.Scanned n)) ps s b s' d c h x i = absurd x
@@ -260,14 +260,14 @@ module _ (w : ℕ) (m : Pairs ℕ) where
   by_told a closure p last (outcome.Registered who) ps s b s' d c h x i = absurd x
   by_told a closure p last (outcome.Refused e) ps s b s' d c h x i = absurd i
 
-  leaves_key : (fs : Flights ℕ) (last : Last ℕ) (a : Asked ℕ) (told : Outcome ℕ) (s : Whole ℕ) → IsOnKey a → LeavesMap nat_eq fs m w last (target.Tree a) told s → LeavesKey nat_eq fs m w last a told s
-  leaves_key fs last (asks.Get k) told s u x = x
-  leaves_key fs last (asks.Insert k v) told s u x = x
-  leaves_key fs last (asks.Remove k) told s u x = x
-  leaves_key fs last (asks.ComputePresent k) told s u x = x
-  leaves_key fs last (asks.ComputeInsert k) told s u x = x
-  leaves_key fs last (asks.Exchange k old new) told s u x = x
-  leaves_key fs last (asks.Range start end size) told s u x = absurd u
+  plays_key : (fs : Flights ℕ) (last : Last ℕ) (a : Asked ℕ) (told : Outcome ℕ) (s : Whole ℕ) → IsOnKey a → PlaysCall nat_eq fs m w last (target.Tree a) told s → PlaysKey nat_eq fs m w last a told s
+  plays_key fs last (asks.Get k) told s u x = x
+  plays_key fs last (asks.Insert k v) told s u x = x
+  plays_key fs last (asks.Remove k) told s u x = x
+  plays_key fs last (asks.ComputePresent k) told s u x = x
+  plays_key fs last (asks.ComputeInsert k) told s u x = x
+  plays_key fs last (asks.Exchange k old new) told s u x = x
+  plays_key fs last (asks.Range start end size) told s u x = absurd u
 
 -- a whole call
 pub call_finishes : MapLaws → (w : ℕ) (op : Op ℕ) (a : Asked ℕ) (closure : Option Closure) (m : Pairs ℕ) (p : Point ℕ) (s s' : Index) (told : Outcome ℕ) (ps : List (ℕ × ℕ)) → target op ≡ target.Tree a → IsOnKey a
@@ -275,5 +275,5 @@ pub call_finishes : MapLaws → (w : ℕ) (op : Op ℕ) (a : Asked ℕ) (closure
 call_finishes laws w op a closure m p s s' told ps on_tree on_key d b g i =
     let c = called w op closure s s' told g in
     let last = last_of w op closure s s' told c in
-    let P : Target ℕ → Type 0 = λ t. LeavesMap nat_eq b.flights m w last t told s'.world in
-    by_told w m a closure p last told ps s b s' d (c.rest.answers None tt) c.holds (leaves_key w m b.flights last a told s'.world on_key (subst P on_tree (leaves_map w op closure s s' told c laws m b))) i
+    let P : Target ℕ → Type 0 = λ t. PlaysCall nat_eq b.flights m w last t told s'.world in
+    by_told w m a closure p last told ps s b s' d (c.rest.answers None tt) c.holds (plays_key w m b.flights last a told s'.world on_key (subst P on_tree (plays_call w op closure s s' told c laws m b))) i

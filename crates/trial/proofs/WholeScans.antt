@@ -11,7 +11,7 @@ use Rattle.joint.specs.declared.steps.Done.TheVariants as done
 use Rattle.joint.specs.declared.steps.Op.TheVariants.{Range}
 use Rattle.joint.specs.declared.steps.Outcome.{Outcome}
 use Rattle.joint.specs.declared.steps.Outcome.TheVariants as outcome
-use Rattle.joint.specs.Leaving.{HasScanned, IsOfScan, IsScanning, LeavesAll, LeavesScan, told_after, told_places}
+use Rattle.joint.specs.MapCalls.{HasScanned, IsOfScan, IsScanning, KeepsAll, PlaysScan, told_after, told_places}
 use Rattle.joint.specs.Runs.{Flights}
 use Rattle.joint.specs.Whole.{Whole, Holds}
 use Rattle.trial.specs.declared.caller.Closure.{Closure}
@@ -23,7 +23,7 @@ use Rattle.trial.specs.Places.{places_at, given}
 use Rattle.trial.specs.Replies.{reply_of}
 use Rattle.trial.proofs.MapSteps.{MapLaws, Rests, rests_after}
 use Rattle.trial.proofs.OneMap.{scan_of_one}
-use Rattle.trial.proofs.WholeCalls.{Called, called, first_of, last_of, leaves_map, set_places}
+use Rattle.trial.proofs.WholeCalls.{Called, called, first_of, last_of, plays_call, set_places}
 
 -- the first pairs of the map's range
 abbrev pub finds : Pairs ℕ → (start end size : ℕ) → List (ℕ × ℕ)
@@ -44,7 +44,7 @@ within s m fs w h x = elim (past_or_within (length s.calls) w) [
   | inr p ↦ omega (arith, p, h.0.few)
 ]
 
-scanning : (m : Pairs ℕ) (fs : Flights ℕ) (w : ℕ) (o : Outcome ℕ) (s : Whole ℕ) → is_running o ≡ true → LeavesScan fs m w o s → IsScanning fs m w s
+scanning : (m : Pairs ℕ) (fs : Flights ℕ) (w : ℕ) (o : Outcome ℕ) (s : Whole ℕ) → is_running o ≡ true → PlaysScan fs m w o s → IsScanning fs m w s
 scanning m fs w outcome.Running s e x = x
 scanning m fs w (outcome.Asks found) s e x = absurd x
 scanning m fs w (outcome.Found place key value) s e x = x
@@ -54,8 +54,8 @@ scanning m fs w (outcome.Refused r) s e x = absurd (cc e)
 
 module _ (laws : MapLaws) (w start end size : ℕ) (m : Pairs ℕ) (closure : Option Closure) (s s' : Index) (told : Outcome ℕ) (b : Rests s.world m) (all : length s.scans.items ≡ 256) (c : Called w (Range start end size) closure s s' told) where
   -- its first step
-  began : LeavesScan b.flights m w c.report.outcome c.mid.world
-  began = laws.leaves s.world (first_of w (Range start end size) closure s s' told c) [] b.flights m w (Range start end size) b.holds (c.step, tt) b.stand b.in_flight (record { begins = refl; goes_on = tt })
+  began : PlaysScan b.flights m w c.report.outcome c.mid.world
+  began = laws.plays s.world (first_of w (Range start end size) closure s s' told c) [] b.flights m w (Range start end size) b.holds (c.step, tt) b.stand b.in_flight (record { begins = refl; goes_on = tt })
 
   cleared : is_running c.report.outcome ≡ true → (w < length c.mid.scans.items) × (places_at c.mid.scans.items w ≡ [])
   cleared on =
@@ -91,14 +91,14 @@ pub record FoundAll (m : Pairs ℕ) (start end size w : ℕ) (s : Index) (stands
 -- a whole scan
 pub scan_finishes : MapLaws → (w start end size : ℕ) (m : Pairs ℕ) (closure : Option Closure) (s s' : Index) (last : Outcome ℕ) (ps : List (ℕ × ℕ)) → Rests s.world m
     → length s.scans.items ≡ 256 → Calls s w (Range start end size) closure last s' → IsAnswer (reply_of ps last) → FoundAll m start end size w s' last
-scan_finishes laws w start end size m closure s s' last ps b len g a = by_told last refl (leaves_map w (Range start end size) closure s s' last c laws m b) where
+scan_finishes laws w start end size m closure s s' last ps b len g a = by_told last refl (plays_call w (Range start end size) closure s s' last c laws m b) where
   c : Called w (Range start end size) closure s s' last
   c = called w (Range start end size) closure s s' last g
 
   no_answer : (o : Outcome ℕ) → last ≡ o → (IsAnswer (reply_of ps o) → ⊥) → FoundAll m start end size w s' last
   no_answer o e n = absurd (n (let P : Outcome ℕ → Type 0 = λ x. IsAnswer (reply_of ps x) in subst P e a))
 
-  by_told : (o : Outcome ℕ) → last ≡ o → LeavesScan b.flights m w o s'.world → FoundAll m start end size w s' last
+  by_told : (o : Outcome ℕ) → last ≡ o → PlaysScan b.flights m w o s'.world → FoundAll m start end size w s' last
   by_told (outcome.Done (done.Scanned count)) e x = record {
     rests = rests_after m s.world s'.world b c.holds x;
     reply = ap (λ (o : Outcome ℕ). reply_of (given o (places_at s'.scans.items w)) o) e ∙ ap reply.Range (found laws w start end size m closure s s' last b len c count e);

@@ -37,7 +37,7 @@ use Rattle.joint.specs.declared.steps.Target.TheVariants as target
 use Rattle.joint.specs.Calling.{IsCalled, goes_on, next_step, steps_of, GoOn, last_of, last_or, put_away, kept_report}
 use Rattle.joint.specs.Forest.{nodes}
 use Rattle.joint.specs.Intact.{root}
-use Rattle.joint.specs.Leaving.{GoesOn, AllGoOn, AreOfCall, told_after, Answered, answered_by, answer_in, answered_after, IsPresent, IsComputed, IsOnMap, TookEffect, IsUndecided, IsDecided, IsOfScan, LeavesAll, told_places, HasScanned, IsDoneWith, LeavesKey, IsScanning, IsScanDone, LeavesScan, LeavesMap, CallLeaves}
+use Rattle.joint.specs.MapCalls.{GoesOn, AllGoOn, AreOfCall, told_after, Answered, answered_by, answer_in, answered_after, IsPresent, IsComputed, IsOnMap, TookEffect, IsUndecided, IsDecided, IsOfScan, KeepsAll, told_places, HasScanned, IsDoneWith, PlaysKey, IsScanning, IsScanDone, PlaysScan, PlaysCall, CallPlays}
 use Rattle.joint.specs.Reports.{target, told}
 use Rattle.joint.specs.Runs.{Taken, AreTaken, after_all, IsRun, Line, Flights, with_flight, Stays, BeginsFlight, EndsAtOnce, BeginsOr, BeginMap, MapStep, PendingStep, Advances, GoMap, InFlight, AreInFlight}
 use Rattle.joint.specs.Scans.{placed}
@@ -203,7 +203,7 @@ abbrev pub gone : {V : Type 0} → ℕ → Noise Id V → Step V
 gone w noise = record { worker = w; event = Go noise }
 
 -- a step in which no call on the tree goes on
-pub stays : {V : Type 0} (fs : Flights V) (m : Pairs V) (l : Line V) (fs' : Flights V) (s : Whole V) → Stays fs m l fs' → IsMapOf (nodes s.forest) l.pairs → AreInFlight s fs' → LeavesAll fs m s
+pub stays : {V : Type 0} (fs : Flights V) (m : Pairs V) (l : Line V) (fs' : Flights V) (s : Whole V) → Stays fs m l fs' → IsMapOf (nodes s.forest) l.pairs → AreInFlight s fs' → KeepsAll fs m s
 stays {V} fs m l fs' s x st fl =
     let P : Pairs V → Type 0 = λ n. IsMapOf (nodes s.forest) n in
     let Q : Flights V → Type 0 = λ n. AreInFlight s n in
@@ -230,14 +230,14 @@ module _ {V : Type 0} (same : V → V → Bool) (always : Bool) (fs : Flights V)
   before_key : (last : Answered V) (said : Outcome V) (s : Whole V) → Before last said s → IsUndecided fs m w p s
   before_key last said s b = record { free = b.free; value = b.value; question = b.question; in_flight = b.in_flight; stand = b.stand }
 
-  leaves : (last : Answered V) (said : Outcome V) (s : Whole V) → Course last said s → LeavesKey same fs m w last p said s
-  leaves last Running s (inl b) = inl (before_key last Running s b)
-  leaves last Running s (inr b) = inr b
-  leaves last (Asks o) s b = before_key last (Asks o) s b
-  leaves last (Found place key value) s b = absurd b
-  leaves last (Registered n) s b = absurd b
-  leaves last (Done d) s b = b
-  leaves last (Refused e) s b = b
+  plays : (last : Answered V) (said : Outcome V) (s : Whole V) → Course last said s → PlaysKey same fs m w last p said s
+  plays last Running s (inl b) = inl (before_key last Running s b)
+  plays last Running s (inr b) = inr b
+  plays last (Asks o) s b = before_key last (Asks o) s b
+  plays last (Found place key value) s b = absurd b
+  plays last (Registered n) s b = absurd b
+  plays last (Done d) s b = b
+  plays last (Refused e) s b = b
 
   -- a step that took effect, or a later one
   concluded : (r : Reply V) (o : Moved V) (f : Flight V) (last : Answered V) (said : Outcome V) (s : Whole V) → fs w ≡ Over → said ≡ told o → Concludes r o f → AreInFlight s (with_flight fs w f)
@@ -396,8 +396,8 @@ module _ {V : Type 0} (same : V → V → Bool) (always : Bool) (fs : Flights V)
     begun_so (Done d) is z = absurd (never_at_once fs m p d l y.flights on_key z)
 
   -- the whole call
-  pub key_leaves : (op : Op V) (s : Whole V) (first : Taken V) (more : List (Taken V)) → target op ≡ target.Tree p → Holds same always s → IsMapOf (nodes s.forest) m → AreInFlight s fs
+  pub key_plays : (op : Op V) (s : Whole V) (first : Taken V) (more : List (Taken V)) → target op ≡ target.Tree p → Holds same always s → IsMapOf (nodes s.forest) m → AreInFlight s fs
       → IsStep same always s (begin_of w op) first.report first.after → AreTaken same always first.after more → AllGoOn w first.report.outcome more
-      → LeavesKey same fs m w (answered_after first.report.outcome None more) p (told_after first.report.outcome more) (after_all first.after more)
-  key_leaves op s first more on_tree h st fl x y g =
-      leaves _ _ _ (ends more None first.report.outcome first.after x.holds (begins op s first.report first.after on_tree h st fl x) y g)
+      → PlaysKey same fs m w (answered_after first.report.outcome None more) p (told_after first.report.outcome more) (after_all first.after more)
+  key_plays op s first more on_tree h st fl x y g =
+      plays _ _ _ (ends more None first.report.outcome first.after x.holds (begins op s first.report first.after on_tree h st fl x) y g)

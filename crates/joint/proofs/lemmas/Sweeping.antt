@@ -37,7 +37,7 @@ use Rattle.joint.specs.declared.steps.Target.TheVariants as target
 use Rattle.joint.specs.Calling.{IsCalled, goes_on, next_step, steps_of, GoOn, last_of, last_or, put_away, kept_report}
 use Rattle.joint.specs.Forest.{nodes}
 use Rattle.joint.specs.Intact.{root}
-use Rattle.joint.specs.Leaving.{GoesOn, AllGoOn, AreOfCall, told_after, Answered, answered_by, answer_in, answered_after, IsPresent, IsComputed, IsOnMap, TookEffect, IsUndecided, IsDecided, IsOfScan, LeavesAll, told_places, HasScanned, IsDoneWith, LeavesKey, IsScanning, IsScanDone, LeavesScan, LeavesMap, CallLeaves}
+use Rattle.joint.specs.MapCalls.{GoesOn, AllGoOn, AreOfCall, told_after, Answered, answered_by, answer_in, answered_after, IsPresent, IsComputed, IsOnMap, TookEffect, IsUndecided, IsDecided, IsOfScan, KeepsAll, told_places, HasScanned, IsDoneWith, PlaysKey, IsScanning, IsScanDone, PlaysScan, PlaysCall, CallPlays}
 use Rattle.joint.specs.Reports.{target, told}
 use Rattle.joint.specs.Runs.{Taken, AreTaken, after_all, IsRun, Line, Flights, with_flight, Stays, BeginsFlight, EndsAtOnce, BeginsOr, BeginMap, MapStep, PendingStep, Advances, GoMap, InFlight, AreInFlight}
 use Rattle.joint.specs.Scans.{placed}
@@ -89,14 +89,14 @@ module _ {V : Type 0} (same : V → V → Bool) (always : Bool) (fs : Flights V)
     pub stand : IsMapOf (nodes s.forest) m
 
   abbrev pub EndsWith : List (ℕ × V) → Answer V → Whole V → Type 0
-  EndsWith places (done.Scanned count) s = HasScanned start end size count m places × LeavesAll fs m s
+  EndsWith places (done.Scanned count) s = HasScanned start end size count m places × KeepsAll fs m s
   EndsWith places _ s = ⊥
 
   abbrev pub Sweeps : List (ℕ × V) → Outcome V → Whole V → Type 0
   Sweeps places Running s = InScan places s
   Sweeps places (Found place key value) s = InScan places s
   Sweeps places (Done d) s = EndsWith places d s
-  Sweeps places (Refused e) s = LeavesAll fs m s
+  Sweeps places (Refused e) s = KeepsAll fs m s
   Sweeps places (Asks found) s = ⊥
   Sweeps places (Registered n) s = ⊥
 
@@ -107,21 +107,21 @@ module _ {V : Type 0} (same : V → V → Bool) (always : Bool) (fs : Flights V)
   scanning_of : (places : List (ℕ × V)) (s : Whole V) → InScan places s → IsScanning fs m w s
   scanning_of places s b = record { free = b.free; flight = b.flight; of_scan = of_scan places b.flight b.watched; in_flight = b.in_flight; stand = b.stand }
 
-  done_leaves : (places : List (ℕ × V)) (d : Answer V) (s : Whole V) → EndsWith places d s → IsScanDone fs m d s
-  done_leaves places (done.Scanned count) s x = x.1
-  done_leaves places done.Unit s x = absurd x
-  done_leaves places (done.Reply r) s x = absurd x
-  done_leaves places (done.Keys keys) s x = absurd x
-  done_leaves places (done.Empty b) s x = absurd x
-  done_leaves places (done.Stats stats) s x = absurd x
+  done_keeps : (places : List (ℕ × V)) (d : Answer V) (s : Whole V) → EndsWith places d s → IsScanDone fs m d s
+  done_keeps places (done.Scanned count) s x = x.1
+  done_keeps places done.Unit s x = absurd x
+  done_keeps places (done.Reply r) s x = absurd x
+  done_keeps places (done.Keys keys) s x = absurd x
+  done_keeps places (done.Empty b) s x = absurd x
+  done_keeps places (done.Stats stats) s x = absurd x
 
-  pub scan_leaves : (places : List (ℕ × V)) (said : Outcome V) (s : Whole V) → Sweeps places said s → LeavesScan fs m w said s
-  scan_leaves places Running s x = scanning_of places s x
-  scan_leaves places (Found place key value) s x = scanning_of places s x
-  scan_leaves places (Done d) s x = done_leaves places d s x
-  scan_leaves places (Refused e) s x = x
-  scan_leaves places (Asks found) s x = absurd x
-  scan_leaves places (Registered n) s x = absurd x
+  pub scan_plays : (places : List (ℕ × V)) (said : Outcome V) (s : Whole V) → Sweeps places said s → PlaysScan fs m w said s
+  scan_plays places Running s x = scanning_of places s x
+  scan_plays places (Found place key value) s x = scanning_of places s x
+  scan_plays places (Done d) s x = done_keeps places d s x
+  scan_plays places (Refused e) s x = x
+  scan_plays places (Asks found) s x = absurd x
+  scan_plays places (Registered n) s x = absurd x
 
   scan_told : (states : List (Pairs V)) (places : List (ℕ × V)) (o : Moved V) (f : Flight V) (said : Outcome V) (s : Whole V) → fs w ≡ Over → AllOne m states → said ≡ told o
       → ScanTells start end size states places o f → AreInFlight s (with_flight fs w f) → IsMapOf (nodes s.forest) m → Sweeps (placed true said places) said s
@@ -189,7 +189,7 @@ module _ {V : Type 0} (same : V → V → Bool) (always : Bool) (fs : Flights V)
       let P : Step V → Type 0 = λ y. IsStep same always s y t.report t.after in
       scan_steps ts (placed true t.report.outcome places) t.report.outcome t.after x.0.holds (scan_step g.0.noise places s t.report t.after h (scanning places said s g.0.in_flight b) (subst P g.0.step x.0)) x.1 g.1
 
-  scan_begins : (op : Op V) (s : Whole V) (r : Report V) (s' : Whole V) → target op ≡ target.Tree (point.Range start end size) → Holds same always s → LeavesAll fs m s → IsStep same always s (begin_of w op) r s'
+  scan_begins : (op : Op V) (s : Whole V) (r : Report V) (s' : Whole V) → target op ≡ target.Tree (point.Range start end size) → Holds same always s → KeepsAll fs m s → IsStep same always s (begin_of w op) r s'
       → Sweeps [] r.outcome s'
   scan_begins op s r s' e h b x = begun_so r.outcome refl begin where
     y : Mapped same always s (begin_of w op) r s' fs m
@@ -228,7 +228,7 @@ module _ {V : Type 0} (same : V → V → Bool) (always : Bool) (fs : Flights V)
     begun_so (Registered n) is z = in_flight z
 
   -- a whole scan
-  pub sweeps : (op : Op V) (s : Whole V) (first : Taken V) (more : List (Taken V)) → target op ≡ target.Tree (point.Range start end size) → Holds same always s → LeavesAll fs m s
+  pub sweeps : (op : Op V) (s : Whole V) (first : Taken V) (more : List (Taken V)) → target op ≡ target.Tree (point.Range start end size) → Holds same always s → KeepsAll fs m s
       → IsStep same always s (begin_of w op) first.report first.after → AreTaken same always first.after more → AllGoOn w first.report.outcome more
       → Sweeps (told_places [] more) (told_after first.report.outcome more) (after_all first.after more)
   sweeps op s first more e h b x y g = scan_steps more [] first.report.outcome first.after x.holds (scan_begins op s first.report first.after e h b x) y g

@@ -1,16 +1,16 @@
 use Rattle.joint.specs.Forest.{nodes}
-use Rattle.joint.proofs.lemmas.Leaving.{leaves_map, register_leaves, scanned}
+use Rattle.joint.proofs.lemmas.MapCalls.{plays_call, register_keeps, scanned}
 use Rattle.joint.proofs.lemmas.Runs.{standing_empty, fresh_flights}
 use Rattle.joint.proofs.map_laws.calls_map.Goals as goal
 
-pub returns-clause-leaves : goal.returns-clause-leaves
-returns-clause-leaves g c = leaves_map g.P.Payload.same_as g.P.Payload.always_copies
+pub returns-clause-plays : goal.returns-clause-plays
+returns-clause-plays g c = plays_call g.P.Payload.same_as g.P.Payload.always_copies
 
 pub returns-clause-scan : goal.returns-clause-scan
 returns-clause-scan g c = scanned g.P.Payload.same_as g.P.Payload.always_copies
 
 pub returns-clause-registers : goal.returns-clause-registers
-returns-clause-registers g c = register_leaves g.P.Payload.same_as g.P.Payload.always_copies
+returns-clause-registers g c = register_keeps g.P.Payload.same_as g.P.Payload.always_copies
 
 pub returns-clause-fresh : goal.returns-clause-fresh
 returns-clause-fresh g c s fresh =

@@ -6,7 +6,7 @@ use Rattle.trial.proofs.run.run.Goals as goal
 pub returns-in-Ok-clause-map : goal.returns-in-Ok-clause-map
 returns-in-Ok-clause-map g c =
     (c.run.result, c.status.ensures, ran_of_map (record {
-      leaves = c.calls_map.ensures.leaves;
+      plays = c.calls_map.ensures.plays;
       scan = c.calls_map.ensures.scan;
       registers = c.calls_map.ensures.registers;
       fresh = c.calls_map.ensures.fresh;
@@ -20,7 +20,7 @@ returns-in-Err-clause-map g c =
     let had = g.R.Read.remaining c.args.reader.now in
     let held = g.W.Write.contents c.args.writer.now in
     (Memory, c.status-in-Err.ensures, ran_of_map (record {
-      leaves = c.calls_map.ensures.leaves;
+      plays = c.calls_map.ensures.plays;
       scan = c.calls_map.ensures.scan;
       registers = c.calls_map.ensures.registers;
       fresh = c.calls_map.ensures.fresh;

@@ -117,8 +117,8 @@ IsOfScan (Scanning start end size states places) = Unit {0}
 IsOfScan _ = ⊥
 
 -- it leaves the pairs, and the calls in flight are those that were
-abbrev pub LeavesAll : {V : Type 0} → Flights V → Pairs V → Whole V → Type 0
-LeavesAll fs m s = IsMapOf (nodes s.forest) m × AreInFlight s fs
+abbrev pub KeepsAll : {V : Type 0} → Flights V → Pairs V → Whole V → Type 0
+KeepsAll fs m s = IsMapOf (nodes s.forest) m × AreInFlight s fs
 
 abbrev pub IsDoneWith : {V : Type 0} → (V → V → Bool) → Flights V → Pairs V → Answered V → Point V → Answer V → Whole V → Type 0
 IsDoneWith same fs m last p (done.Reply r) s = TookEffect same m last p r s × AreInFlight s fs
@@ -126,12 +126,12 @@ IsDoneWith same fs m last p _ s = ⊥
 
 -- A call on one key that stands so, begun where the pairs m stood and these calls were in flight: done, it is the map's
 -- call, and answers as that does; refused, it leaves the pairs. Either way the calls in flight are those that were.
-abbrev pub LeavesKey : {V : Type 0} → (V → V → Bool) → Flights V → Pairs V → ℕ → Answered V → Point V → Outcome V → Whole V → Type 0
-LeavesKey same fs m who last p Running s = IsUndecided fs m who p s ⊎ IsDecided same fs m who last p s
-LeavesKey same fs m who last p (Asks found) s = IsUndecided fs m who p s
-LeavesKey same fs m who last p (Done d) s = IsDoneWith same fs m last p d s
-LeavesKey same fs m who last p (Refused e) s = LeavesAll fs m s
-LeavesKey same fs m who last p _ s = ⊥
+abbrev pub PlaysKey : {V : Type 0} → (V → V → Bool) → Flights V → Pairs V → ℕ → Answered V → Point V → Outcome V → Whole V → Type 0
+PlaysKey same fs m who last p Running s = IsUndecided fs m who p s ⊎ IsDecided same fs m who last p s
+PlaysKey same fs m who last p (Asks found) s = IsUndecided fs m who p s
+PlaysKey same fs m who last p (Done d) s = IsDoneWith same fs m last p d s
+PlaysKey same fs m who last p (Refused e) s = KeepsAll fs m s
+PlaysKey same fs m who last p _ s = ⊥
 
 -- the pairs last told for each place of a scan, from those that are told before the steps on
 abbrev pub told_places : {V : Type 0} → List (ℕ × V) → List (Taken V) → List (ℕ × V)
@@ -152,25 +152,25 @@ pub record IsScanning {V : Type 0} (fs : Flights V) (m : Pairs V) (who : ℕ) (s
   pub stand : IsMapOf (nodes s.forest) m
 
 abbrev pub IsScanDone : {V : Type 0} → Flights V → Pairs V → Answer V → Whole V → Type 0
-IsScanDone fs m (done.Scanned count) s = LeavesAll fs m s
+IsScanDone fs m (done.Scanned count) s = KeepsAll fs m s
 IsScanDone fs m _ s = ⊥
 
-abbrev pub LeavesScan : {V : Type 0} → Flights V → Pairs V → ℕ → Outcome V → Whole V → Type 0
-LeavesScan fs m who Running s = IsScanning fs m who s
-LeavesScan fs m who (Found place key value) s = IsScanning fs m who s
-LeavesScan fs m who (Done d) s = IsScanDone fs m d s
-LeavesScan fs m who (Refused e) s = LeavesAll fs m s
-LeavesScan fs m who _ s = ⊥
+abbrev pub PlaysScan : {V : Type 0} → Flights V → Pairs V → ℕ → Outcome V → Whole V → Type 0
+PlaysScan fs m who Running s = IsScanning fs m who s
+PlaysScan fs m who (Found place key value) s = IsScanning fs m who s
+PlaysScan fs m who (Done d) s = IsScanDone fs m d s
+PlaysScan fs m who (Refused e) s = KeepsAll fs m s
+PlaysScan fs m who _ s = ⊥
 
 -- what a worker's call that stands so makes of the map: one on one key what the map makes of it; every other one leaves the
 -- pairs, and one of one step tells of them
-abbrev pub LeavesMap : {V : Type 0} → (V → V → Bool) → Flights V → Pairs V → ℕ → Answered V → Target V → Outcome V → Whole V → Type 0
-LeavesMap same fs m who last (target.Tree (point.Range start end size)) told s = LeavesScan fs m who told s
-LeavesMap same fs m who last (target.Tree p) told s = LeavesKey same fs m who last p told s
-LeavesMap same fs m who last (target.Collector op) told s = LeavesAll fs m s
-LeavesMap same fs m who last (target.Survey k) told s = MapTells m k told × LeavesAll fs m s
+abbrev pub PlaysCall : {V : Type 0} → (V → V → Bool) → Flights V → Pairs V → ℕ → Answered V → Target V → Outcome V → Whole V → Type 0
+PlaysCall same fs m who last (target.Tree (point.Range start end size)) told s = PlaysScan fs m who told s
+PlaysCall same fs m who last (target.Tree p) told s = PlaysKey same fs m who last p told s
+PlaysCall same fs m who last (target.Collector op) told s = KeepsAll fs m s
+PlaysCall same fs m who last (target.Survey k) told s = MapTells m k told × KeepsAll fs m s
 
 -- a whole call that answered this, to whose closure no answer came
-abbrev pub CallLeaves : {V : Type 0} → (V → V → Bool) → Flights V → Pairs V → ℕ → Op V → Option (Report V) → Whole V → Type 0
-CallLeaves same fs m who op None s = LeavesAll fs m s
-CallLeaves same fs m who op (Some r) s = LeavesMap same fs m who None (target op) r.outcome s
+abbrev pub CallPlays : {V : Type 0} → (V → V → Bool) → Flights V → Pairs V → ℕ → Op V → Option (Report V) → Whole V → Type 0
+CallPlays same fs m who op None s = KeepsAll fs m s
+CallPlays same fs m who op (Some r) s = PlaysCall same fs m who None (target op) r.outcome s

@@ -37,7 +37,7 @@ use Rattle.joint.specs.declared.steps.Target.TheVariants as target
 use Rattle.joint.specs.Calling.{IsCalled, goes_on, next_step, steps_of, GoOn, last_of, last_or, put_away, kept_report}
 use Rattle.joint.specs.Forest.{nodes}
 use Rattle.joint.specs.Intact.{root}
-use Rattle.joint.specs.Leaving.{GoesOn, AllGoOn, AreOfCall, told_after, Answered, answered_by, answer_in, answered_after, IsPresent, IsComputed, IsOnMap, TookEffect, IsUndecided, IsDecided, IsOfScan, LeavesAll, told_places, HasScanned, IsDoneWith, LeavesKey, IsScanning, IsScanDone, LeavesScan, LeavesMap, CallLeaves}
+use Rattle.joint.specs.MapCalls.{GoesOn, AllGoOn, AreOfCall, told_after, Answered, answered_by, answer_in, answered_after, IsPresent, IsComputed, IsOnMap, TookEffect, IsUndecided, IsDecided, IsOfScan, KeepsAll, told_places, HasScanned, IsDoneWith, PlaysKey, IsScanning, IsScanDone, PlaysScan, PlaysCall, CallPlays}
 use Rattle.joint.specs.Reports.{target, told}
 use Rattle.joint.specs.Runs.{Taken, AreTaken, after_all, IsRun, Line, Flights, with_flight, Stays, BeginsFlight, EndsAtOnce, BeginsOr, BeginMap, MapStep, PendingStep, Advances, GoMap, InFlight, AreInFlight}
 use Rattle.joint.specs.Scans.{placed}
@@ -46,8 +46,8 @@ use Rattle.joint.specs.Whole.{Whole, Holds, IsOnKey, IsStep, engine_of, is_in_fl
 use Rattle.joint.proofs.lemmas.Entering.{begin_free}
 use Rattle.joint.proofs.lemmas.Flights.{flight_here}
 use Rattle.joint.proofs.lemmas.Mapped.{Mapped, mapped}
-use Rattle.joint.proofs.lemmas.KeyCalls.{begin_of, gone, key_leaves, stays}
-use Rattle.joint.proofs.lemmas.Sweeping.{Sweeps, scan_leaves, sweeps}
+use Rattle.joint.proofs.lemmas.KeyCalls.{begin_of, gone, key_plays, stays}
+use Rattle.joint.proofs.lemmas.Sweeping.{Sweeps, scan_plays, sweeps}
 
 module _ {V : Type 0} (m : Pairs V) where
   -- a call of one step has ended
@@ -72,34 +72,34 @@ module _ {V : Type 0} (same : V → V → Bool) (always : Bool) (fs : Flights V)
       (begin_free same always (engine_of s) (engine_of s') w (h.0, h.1) fs (record { each = fl.each; beyond = fl.beyond }) op x.does.told x.does.engine.does (sym (ap (λ z. is_in_flight z.outcome) x.does.report) ∙ on)).0
 
   -- a call that isn't on the tree
-  quiet_step : (noise : Noise Id V) (s : Whole V) (r : Report V) (s' : Whole V) → fs w ≡ Over → Holds same always s → LeavesAll fs m s → IsStep same always s (gone w noise) r s' → LeavesAll fs m s'
+  quiet_step : (noise : Noise Id V) (s : Whole V) (r : Report V) (s' : Whole V) → fs w ≡ Over → Holds same always s → KeepsAll fs m s → IsStep same always s (gone w noise) r s' → KeepsAll fs m s'
   quiet_step noise s r s' free h b x =
       let y : Mapped same always s (gone w noise) r s' fs m = mapped same always s (gone w noise) s' fs m h x.holds b.0 b.1 r x in
       let l : Line V = record { step = gone w noise; report = r; entry = y.entry; pairs = y.pairs } in
       let P : Flight V → Type 0 = λ z. GoMap same fs z m noise.answer l y.flights in
       stays fs m l y.flights s' (subst P free y.map) y.stand y.in_flight
 
-  quiet_steps : (more : List (Taken V)) (said : Outcome V) (s : Whole V) → fs w ≡ Over → Holds same always s → LeavesAll fs m s → AreTaken same always s more → AllGoOn w said more → LeavesAll fs m (after_all s more)
+  quiet_steps : (more : List (Taken V)) (said : Outcome V) (s : Whole V) → fs w ≡ Over → Holds same always s → KeepsAll fs m s → AreTaken same always s more → AllGoOn w said more → KeepsAll fs m (after_all s more)
   quiet_steps [] said s free h b x g = b
   quiet_steps (t ∷ ts) said s free h b x g =
       let P : Step V → Type 0 = λ y. IsStep same always s y t.report t.after in
       quiet_steps ts t.report.outcome t.after free x.0.holds (quiet_step g.0.noise s t.report t.after free h b (subst P g.0.step x.0)) x.1 g.1
 
-  quiet_begin : (op : Op V) (t : _) (s : Whole V) (r : Report V) (s' : Whole V) → target op ≡ target.Collector t → Holds same always s → LeavesAll fs m s → IsStep same always s (begin_of w op) r s' → LeavesAll fs m s'
+  quiet_begin : (op : Op V) (t : _) (s : Whole V) (r : Report V) (s' : Whole V) → target op ≡ target.Collector t → Holds same always s → KeepsAll fs m s → IsStep same always s (begin_of w op) r s' → KeepsAll fs m s'
   quiet_begin op t s r s' e h b x =
       let y : Mapped same always s (begin_of w op) r s' fs m = mapped same always s (begin_of w op) s' fs m h x.holds b.0 b.1 r x in
       let l : Line V = record { step = begin_of w op; report = r; entry = y.entry; pairs = y.pairs } in
       let P : Target V → Type 0 = λ z. BeginMap fs m z l y.flights in
       stays fs m l y.flights s' (subst P e y.map) y.stand y.in_flight
 
-  quiet_call : (op : Op V) (t : _) (s : Whole V) (first : Taken V) (more : List (Taken V)) → target op ≡ target.Collector t → Holds same always s → LeavesAll fs m s → IsStep same always s (begin_of w op) first.report first.after
-      → AreTaken same always first.after more → AllGoOn w first.report.outcome more → LeavesAll fs m (after_all first.after more)
+  quiet_call : (op : Op V) (t : _) (s : Whole V) (first : Taken V) (more : List (Taken V)) → target op ≡ target.Collector t → Holds same always s → KeepsAll fs m s → IsStep same always s (begin_of w op) first.report first.after
+      → AreTaken same always first.after more → AllGoOn w first.report.outcome more → KeepsAll fs m (after_all first.after more)
   quiet_call op t s first [] e h b x y g = quiet_begin op t s first.report first.after e h b x
   quiet_call op t s first (u ∷ us) e h b x y g =
       quiet_steps (u ∷ us) first.report.outcome first.after (free_of op s first.report first.after h b.1 x g.0.in_flight) x.holds (quiet_begin op t s first.report first.after e h b x) y g
 
   -- one of one step
-  survey_step : (op : Op V) (k : Survey) (s : Whole V) (r : Report V) (s' : Whole V) → target op ≡ target.Survey k → Holds same always s → LeavesAll fs m s → IsStep same always s (begin_of w op) r s' → MapTells m k r.outcome × LeavesAll fs m s'
+  survey_step : (op : Op V) (k : Survey) (s : Whole V) (r : Report V) (s' : Whole V) → target op ≡ target.Survey k → Holds same always s → KeepsAll fs m s → IsStep same always s (begin_of w op) r s' → MapTells m k r.outcome × KeepsAll fs m s'
   survey_step op k s r s' e h b x =
       let y : Mapped same always s (begin_of w op) r s' fs m = mapped same always s (begin_of w op) s' fs m h x.holds b.0 b.1 r x in
       let l : Line V = record { step = begin_of w op; report = r; entry = y.entry; pairs = y.pairs } in
@@ -107,8 +107,8 @@ module _ {V : Type 0} (same : V → V → Bool) (always : Bool) (fs : Flights V)
       let z : BeginMap fs m (target.Survey k) l y.flights = subst P e y.map in
       (z.tells, stays fs m l y.flights s' z.stays y.stand y.in_flight)
 
-  survey_call : (op : Op V) (k : Survey) (s : Whole V) (first : Taken V) (more : List (Taken V)) → target op ≡ target.Survey k → Holds same always s → LeavesAll fs m s → IsStep same always s (begin_of w op) first.report first.after
-      → AllGoOn w first.report.outcome more → MapTells m k (told_after first.report.outcome more) × LeavesAll fs m (after_all first.after more)
+  survey_call : (op : Op V) (k : Survey) (s : Whole V) (first : Taken V) (more : List (Taken V)) → target op ≡ target.Survey k → Holds same always s → KeepsAll fs m s → IsStep same always s (begin_of w op) first.report first.after
+      → AllGoOn w first.report.outcome more → MapTells m k (told_after first.report.outcome more) × KeepsAll fs m (after_all first.after more)
   survey_call op k s first [] e h b x g = survey_step op k s first.report first.after e h b x
   survey_call op k s first (u ∷ us) e h b x g =
       let z = survey_step op k s first.report first.after e h b x in
@@ -116,20 +116,20 @@ module _ {V : Type 0} (same : V → V → Bool) (always : Bool) (fs : Flights V)
 
 module _ {V : Type 0} (same : V → V → Bool) (always : Bool) (fs : Flights V) (m : Pairs V) (w : ℕ) where
   -- any call
-  by_target : (op : Op V) (t : Target V) (s : Whole V) (first : Taken V) (more : List (Taken V)) → target op ≡ t → Holds same always s → LeavesAll fs m s → IsStep same always s (begin_of w op) first.report first.after
-      → AreTaken same always first.after more → AllGoOn w first.report.outcome more → LeavesMap same fs m w (answered_after first.report.outcome None more) t (told_after first.report.outcome more) (after_all first.after more)
+  by_target : (op : Op V) (t : Target V) (s : Whole V) (first : Taken V) (more : List (Taken V)) → target op ≡ t → Holds same always s → KeepsAll fs m s → IsStep same always s (begin_of w op) first.report first.after
+      → AreTaken same always first.after more → AllGoOn w first.report.outcome more → PlaysCall same fs m w (answered_after first.report.outcome None more) t (told_after first.report.outcome more) (after_all first.after more)
   by_target op (target.Collector t) s first more e h b x y g = quiet_call same always fs m w op t s first more e h b x y g
   by_target op (target.Survey k) s first more e h b x y g = survey_call same always fs m w op k s first more e h b x g
-  by_target op (target.Tree (point.Range start end size)) s first more e h b x y g = scan_leaves same always fs m w start end size _ _ _ (sweeps same always fs m w start end size op s first more e h b x y g)
-  by_target op (target.Tree (point.Get k)) s first more e h b x y g = key_leaves same always fs m w (point.Get k) tt op s first more e h b.0 b.1 x y g
-  by_target op (target.Tree (point.Insert k v)) s first more e h b x y g = key_leaves same always fs m w (point.Insert k v) tt op s first more e h b.0 b.1 x y g
-  by_target op (target.Tree (point.Remove k)) s first more e h b x y g = key_leaves same always fs m w (point.Remove k) tt op s first more e h b.0 b.1 x y g
-  by_target op (target.Tree (point.ComputePresent k)) s first more e h b x y g = key_leaves same always fs m w (point.ComputePresent k) tt op s first more e h b.0 b.1 x y g
-  by_target op (target.Tree (point.ComputeInsert k)) s first more e h b x y g = key_leaves same always fs m w (point.ComputeInsert k) tt op s first more e h b.0 b.1 x y g
-  by_target op (target.Tree (point.Exchange k old new)) s first more e h b x y g = key_leaves same always fs m w (point.Exchange k old new) tt op s first more e h b.0 b.1 x y g
+  by_target op (target.Tree (point.Range start end size)) s first more e h b x y g = scan_plays same always fs m w start end size _ _ _ (sweeps same always fs m w start end size op s first more e h b x y g)
+  by_target op (target.Tree (point.Get k)) s first more e h b x y g = key_plays same always fs m w (point.Get k) tt op s first more e h b.0 b.1 x y g
+  by_target op (target.Tree (point.Insert k v)) s first more e h b x y g = key_plays same always fs m w (point.Insert k v) tt op s first more e h b.0 b.1 x y g
+  by_target op (target.Tree (point.Remove k)) s first more e h b x y g = key_plays same always fs m w (point.Remove k) tt op s first more e h b.0 b.1 x y g
+  by_target op (target.Tree (point.ComputePresent k)) s first more e h b x y g = key_plays same always fs m w (point.ComputePresent k) tt op s first more e h b.0 b.1 x y g
+  by_target op (target.Tree (point.ComputeInsert k)) s first more e h b x y g = key_plays same always fs m w (point.ComputeInsert k) tt op s first more e h b.0 b.1 x y g
+  by_target op (target.Tree (point.Exchange k old new)) s first more e h b x y g = key_plays same always fs m w (point.Exchange k old new) tt op s first more e h b.0 b.1 x y g
 
   -- a report of it has no pair to put away
-  away_key : (p : Point V) (last : Answered V) (said : Outcome V) (s : Whole V) → LeavesKey same fs m w last p said s → LeavesKey same fs m w last p (put_away said) s
+  away_key : (p : Point V) (last : Answered V) (said : Outcome V) (s : Whole V) → PlaysKey same fs m w last p said s → PlaysKey same fs m w last p (put_away said) s
   away_key p last Running s x = x
   away_key p last (Asks o) s x = x
   away_key p last (Found place key value) s x = absurd x
@@ -137,7 +137,7 @@ module _ {V : Type 0} (same : V → V → Bool) (always : Bool) (fs : Flights V)
   away_key p last (Done d) s x = x
   away_key p last (Refused e) s x = x
 
-  away_scan : (said : Outcome V) (s : Whole V) → LeavesScan fs m w said s → LeavesScan fs m w (put_away said) s
+  away_scan : (said : Outcome V) (s : Whole V) → PlaysScan fs m w said s → PlaysScan fs m w (put_away said) s
   away_scan Running s x = x
   away_scan (Found place key value) s x = x
   away_scan (Asks o) s x = absurd x
@@ -153,7 +153,7 @@ module _ {V : Type 0} (same : V → V → Bool) (always : Bool) (fs : Flights V)
   away_told (Done d) e = refl
   away_told (Refused r) e = refl
 
-  away : (t : Target V) (last : Answered V) (said : Outcome V) (s : Whole V) → LeavesMap same fs m w last t said s → LeavesMap same fs m w last t (put_away said) s
+  away : (t : Target V) (last : Answered V) (said : Outcome V) (s : Whole V) → PlaysCall same fs m w last t said s → PlaysCall same fs m w last t (put_away said) s
   away (target.Tree (point.Get k)) last said s x = away_key (point.Get k) last said s x
   away (target.Tree (point.Insert k v)) last said s x = away_key (point.Insert k v) last said s x
   away (target.Tree (point.Remove k)) last said s x = away_key (point.Remove k) last said s x
@@ -165,16 +165,16 @@ module _ {V : Type 0} (same : V → V → Bool) (always : Bool) (fs : Flights V)
   away (target.Survey k) last said s x = (subst (λ o. MapTells m k o) (away_told said (told_ended m k said x.0)) x.0, x.1)
 
 module _ {V : Type 0} (same : V → V → Bool) (always : Bool) where
-  pub leaves_map : (s : Whole V) (first : Taken V) (more : List (Taken V)) (fs : Flights V) (m : Pairs V) (who : ℕ) (op : Op V) → Holds same always s → AreTaken same always s (first ∷ more) → IsMapOf (nodes s.forest) m → AreInFlight s fs
-      → AreOfCall who op first more → LeavesMap same fs m who (answered_after first.report.outcome None more) (target op) (told_after first.report.outcome more) (after_all s (first ∷ more))
-  leaves_map s first more fs m who op h x st fl c =
+  pub plays_call : (s : Whole V) (first : Taken V) (more : List (Taken V)) (fs : Flights V) (m : Pairs V) (who : ℕ) (op : Op V) → Holds same always s → AreTaken same always s (first ∷ more) → IsMapOf (nodes s.forest) m → AreInFlight s fs
+      → AreOfCall who op first more → PlaysCall same fs m who (answered_after first.report.outcome None more) (target op) (told_after first.report.outcome more) (after_all s (first ∷ more))
+  plays_call s first more fs m who op h x st fl c =
       let P : Step V → Type 0 = λ y. IsStep same always s y first.report first.after in
       by_target same always fs m who op (target op) s first more refl h (st, fl) (subst P c.begins x.0) x.1 c.goes_on
 
   -- a registration leaves the pairs
-  pub register_leaves : (s : Whole V) (who : ℕ) (r : Report V) (s' : Whole V) (fs : Flights V) (m : Pairs V) → Holds same always s → IsStep same always s (record { worker = who; event = Register }) r s' → IsMapOf (nodes s.forest) m → AreInFlight s fs
-      → LeavesAll fs m s'
-  register_leaves s who r s' fs m h x st fl =
+  pub register_keeps : (s : Whole V) (who : ℕ) (r : Report V) (s' : Whole V) (fs : Flights V) (m : Pairs V) → Holds same always s → IsStep same always s (record { worker = who; event = Register }) r s' → IsMapOf (nodes s.forest) m → AreInFlight s fs
+      → KeepsAll fs m s'
+  register_keeps s who r s' fs m h x st fl =
       let step : Step V = record { worker = who; event = Register } in
       let y : Mapped same always s step r s' fs m = mapped same always s step s' fs m h x.holds st fl r x in
       stays fs m (record { step = step; report = r; entry = y.entry; pairs = y.pairs }) y.flights s' y.map y.stand y.in_flight
@@ -226,23 +226,23 @@ module _ {V : Type 0} (who : ℕ) where
 
 module _ {V : Type 0} (same : V → V → Bool) (always : Bool) (s : Whole V) (fs : Flights V) (m : Pairs V) (who : ℕ) (op : Op V) (h : Holds same always s) (st : IsMapOf (nodes s.forest) m) (fl : AreInFlight s fs) where
   by_taken : (ts : List (Taken V)) (result : Option (Report V)) → AreTaken same always s ts → steps_in who ts ≡ steps_of who op (length (reports_of who ts)) → GoOn (reports_of who ts)
-      → option_map kept_report (last_of (reports_of who ts)) ≡ result → CallLeaves same fs m who op result (after_all s ts)
-  by_taken [] result x steps on last = subst (λ r. CallLeaves same fs m who op r s) last (st, fl)
+      → option_map kept_report (last_of (reports_of who ts)) ≡ result → CallPlays same fs m who op result (after_all s ts)
+  by_taken [] result x steps on last = subst (λ r. CallPlays same fs m who op r s) last (st, fl)
   by_taken (t ∷ ts) result x steps on last =
       let here : t.step ≡ record { worker = who; event = Begin op } = cc in
       let more : steps_in who ts ≡ replicate (length (reports_of who ts)) (next_step who) = cc in
       let s' : Whole V = after_all t.after ts in
-      let z = leaves_map same always s t ts fs m who op h x st fl (record { begins = here; goes_on = all_go_on who ts t.report _ more on }) in
-      let P : Answered V → Type 0 = λ a. LeavesMap same fs m who a (target op) (told_after t.report.outcome ts) s' in
-      let Q : Outcome V → Type 0 = λ o. LeavesMap same fs m who None (target op) o s' in
+      let z = plays_call same always s t ts fs m who op h x st fl (record { begins = here; goes_on = all_go_on who ts t.report _ more on }) in
+      let P : Answered V → Type 0 = λ a. PlaysCall same fs m who a (target op) (told_after t.report.outcome ts) s' in
+      let Q : Outcome V → Type 0 = λ o. PlaysCall same fs m who None (target op) o s' in
       let y : Q (last_or t.report (reports_of who ts)).outcome = subst Q (told_last who ts t.report) (subst P (unanswered who ts t.report.outcome _ more) z) in
-      subst (λ r. CallLeaves same fs m who op r s') last (away same always fs m who (target op) None _ s' y)
+      subst (λ r. CallPlays same fs m who op r s') last (away same always fs m who (target op) None _ s' y)
 
-  pub called_leaves : (most : ℕ) (places : List (ℕ × V)) (result : Option (Report V)) (places' : List (ℕ × V)) (s' : Whole V) → IsCalled same always s who op most places result places' s' → CallLeaves same fs m who op result s'
-  called_leaves most places result places' s' c =
+  pub called_plays : (most : ℕ) (places : List (ℕ × V)) (result : Option (Report V)) (places' : List (ℕ × V)) (s' : Whole V) → IsCalled same always s who op most places result places' s' → CallPlays same fs m who op result s'
+  called_plays most places result places' s' c =
       let ts : List (Taken V) = c.run.taken in
       let e : reports_of who ts ≡ c.reports = c.run.reports_are in
       let P : List (Report V) → Type 0 = λ rs. steps_in who ts ≡ steps_of who op (length rs) in
       let Q : List (Report V) → Type 0 = λ rs. option_map kept_report (last_of rs) ≡ result in
-      subst (λ y. CallLeaves same fs m who op result y) c.run.last
+      subst (λ y. CallPlays same fs m who op result y) c.run.last
       (by_taken ts result c.run.each (subst P (sym e) c.run.steps_are) (subst GoOn (sym e) c.goes) (subst Q (sym e) c.last))
