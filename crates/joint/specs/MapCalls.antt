@@ -92,9 +92,8 @@ IsOnMap m last (point.Range start end size) c = ⊥
 pub record TookEffect {V : Type 0} (same : V → V → Bool) (m : Pairs V) (last : Answered V) (p : Point V) (reply : Reply V) (s : Whole V) : Type 0 where
   pub call : Entered V
   pub on_map : IsOnMap m last p call
-  pub pairs : Pairs V
-  pub answers : ◌≡◌ {A = Reply V × Pairs V} (answer same m call) (reply, pairs)
-  pub stand : IsMapOf (nodes s.forest) pairs
+  pub answers : (answer same m call).0 ≡ reply
+  pub stand : IsMapOf (nodes s.forest) (answer same m call).1
 
 -- it is in flight, and has not yet taken effect: the pairs stand as they did
 pub record IsUndecided {V : Type 0} (fs : Flights V) (m : Pairs V) (who : ℕ) (p : Point V) (s : Whole V) : Type 0 where

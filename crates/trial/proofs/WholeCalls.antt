@@ -7,7 +7,7 @@ use Rattle.judge.specs.declared.journal.Call.{Call as Point}
 use Rattle.judge.specs.declared.journal.Reply.{Reply as Told}
 use Rattle.congee.specs.declared.protocol.op.Op.{Op as Asked}
 use Rattle.congee.specs.declared.protocol.op.Op.TheVariants as asks
-use Rattle.joint.specs.declared.steps.Done.{Done as Ending}
+use Rattle.congee.specs.Keys.{IsMapOf}
 use Rattle.joint.specs.declared.steps.Done.TheVariants as done
 use Rattle.joint.specs.declared.steps.Event.TheVariants.{Begin, Go}
 use Rattle.joint.specs.declared.steps.Op.{Op}
@@ -16,6 +16,7 @@ use Rattle.joint.specs.declared.steps.Outcome.TheVariants as outcome
 use Rattle.joint.specs.declared.steps.Report.{Report}
 use Rattle.joint.specs.declared.steps.Target.{Target}
 use Rattle.joint.specs.declared.steps.Target.TheVariants as target
+use Rattle.joint.specs.Forest.{nodes}
 use Rattle.joint.specs.MapCalls.{AllGoOn, Answered as Last, answered_by, answered_after, IsOnMap, TookEffect, PlaysKey, PlaysCall, told_after, told_places}
 use Rattle.joint.specs.Reports.{target}
 use Rattle.joint.specs.Runs.{Taken, AreTaken, after_all, Flights, AreInFlight}
@@ -238,12 +239,11 @@ module _ (w : ℕ) (m : Pairs ℕ) where
   took_effect : (a : Asked ℕ) (closure : Option Closure) (p : Point ℕ) (last : Last ℕ) (r : Told ℕ) (s : Index) (b : Rests s.world m) (s' : Index) → Decides m a closure p → ByClosure closure last
       → Holds nat_eq true s'.world → TookEffect nat_eq m last a r s'.world × AreInFlight s'.world b.flights → Finished m p s' (reply_to r)
   took_effect a closure p last r s b s' d c h x =
-      let P : Point ℕ → Type 0 = λ q. ◌≡◌ {A = Told ℕ × Pairs ℕ} (answer nat_eq m q) (r, x.0.pairs) in
-      let gives : P p = subst P (d last x.0.call c x.0.on_map) x.0.answers in
-      let Q : Pairs ℕ → Type 0 = λ n. Rests s'.world n in
+      let e : x.0.call ≡ p = d last x.0.call c x.0.on_map in
+      let P : Point ℕ → Type 0 = λ q. IsMapOf (nodes s'.world.forest) (answer nat_eq m q).1 in
       record {
-        rests = subst Q (ap (λ (y : Told ℕ × Pairs ℕ). y.1) (sym gives)) (record { holds = h; flights = b.flights; stand = x.0.stand; in_flight = x.1; over = b.over });
-        reply = ap (λ (y : Told ℕ × Pairs ℕ). reply_to y.0) (sym gives);
+        rests = record { holds = h; flights = b.flights; stand = subst P e x.0.stand; in_flight = x.1; over = b.over };
+        reply = ap reply_to (sym x.0.answers) ∙ ap (λ q. reply_to (answer nat_eq m q).0) e;
       }
 
   by_told : (a : Asked ℕ) (closure : Option Closure) (p : Point ℕ) (last : Last ℕ) (told : Outcome ℕ) (ps : List (ℕ × ℕ)) (s : Index) (b : Rests s.world m) (s' : Index) → Decides m a closure p → ByClosure closure last

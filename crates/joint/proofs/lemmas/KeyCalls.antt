@@ -7,7 +7,7 @@ use Rattle.judge.specs.declared.journal.Call.{Call as Entered}
 use Rattle.judge.specs.declared.journal.Call.TheVariants as entered
 use Rattle.judge.specs.declared.journal.Entry.{Entry}
 use Rattle.judge.specs.declared.journal.Reply.{Reply}
-use Rattle.judge.specs.Answer.{Pairs}
+use Rattle.judge.specs.Answer.{Pairs, answer}
 use Rattle.congee.specs.declared.protocol.machine.Noise.{Noise}
 use Rattle.congee.specs.declared.protocol.machine.Outcome.{Outcome as Moved}
 use Rattle.congee.specs.declared.protocol.machine.Outcome.TheVariants as moved
@@ -293,12 +293,12 @@ module _ {V : Type 0} (same : V → V → Bool) (always : Bool) (fs : Flights V)
       let R : Pairs V → Type 0 = λ x. IsMapOf (nodes s.forest) x in
       subst P (sym t.full) (subst R t.same_pairs st, as_before s fs w free (subst Q t.over fl))
   pending v q true l f last s free r t fl st =
+      let P : Pairs V → Type 0 = λ x. IsMapOf (nodes s.forest) x in
       concluded t.entry.reply t.outcome f last l.report.outcome s free t.told_so t.concludes fl (record {
         call = t.entry.call;
         on_map = on_map m p v q last t.entry.call on_key r t.call t.heeds;
-        pairs = l.pairs;
-        answers = t.answers;
-        stand = st;
+        answers = ap (λ (x : Reply V × Pairs V). x.0) t.answers;
+        stand = subst P (sym (ap (λ (x : Reply V × Pairs V). x.1) t.answers)) st;
       })
 
   -- a further step
@@ -318,16 +318,16 @@ module _ {V : Type 0} (same : V → V → Bool) (always : Bool) (fs : Flights V)
       → Course last r.outcome s'
   from_decided noise last s r s' h b x =
       let f : Flight V = Decided b.reply in
-      let y : Mapped same always s (gone w noise) r s' (with_flight fs w f) b.effect.pairs = mapped same always s (gone w noise) s' (with_flight fs w f) b.effect.pairs h x.holds b.effect.stand b.in_flight r x in
+      let n : Pairs V = (answer same m b.effect.call).1 in
+      let y : Mapped same always s (gone w noise) r s' (with_flight fs w f) n = mapped same always s (gone w noise) s' (with_flight fs w f) n h x.holds b.effect.stand b.in_flight r x in
       let l : Line V = record { step = gone w noise; report = r; entry = y.entry; pairs = y.pairs } in
-      let P : Flight V → Type 0 = λ z. GoMap same (with_flight fs w f) z b.effect.pairs noise.answer l y.flights in
-      let a : Advances same (with_flight fs w f) f b.effect.pairs noise.answer l y.flights = subst P (flight_here fs w f) y.map in
+      let P : Flight V → Type 0 = λ z. GoMap same (with_flight fs w f) z n noise.answer l y.flights in
+      let a : Advances same (with_flight fs w f) f n noise.answer l y.flights = subst P (flight_here fs w f) y.map in
       let fl : AreInFlight s' (with_flight fs w a.next) = once_more s' fs w f a.next (subst (λ (z : Flights V). AreInFlight s' z) a.advances y.in_flight) in
       let Q : Pairs V → Type 0 = λ z. IsMapOf (nodes s'.forest) z in
       concluded b.reply a.step.outcome a.next last r.outcome s' b.free a.step.told_so a.step.concludes fl (record {
         call = b.effect.call;
         on_map = b.effect.on_map;
-        pairs = b.effect.pairs;
         answers = b.effect.answers;
         stand = subst Q a.step.same_pairs y.stand;
       })
