@@ -43,6 +43,7 @@ pub mod Handed
 pub mod Hanging
 pub mod Kept
 pub mod Holding
+pub mod KeyCalls
 pub mod Keyed
 pub mod Leaves
 pub mod LeavesSteps
@@ -51,6 +52,7 @@ pub mod Left
 pub mod Listing
 pub mod Logged
 pub mod Made
+pub mod MapCalls
 pub mod MapSteps
 pub mod Mapped
 pub mod NameLists
@@ -90,6 +92,7 @@ pub mod Surveying
 pub mod Stepped
 pub mod Stretches
 pub mod StretchRuns
+pub mod Sweeping
 pub mod Telling
 pub mod Tickets
 pub mod TreeStep

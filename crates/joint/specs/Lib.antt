@@ -23,6 +23,7 @@ pub mod Limits
 pub mod Listing
 pub mod Log
 pub mod Machines
+pub mod MapCalls
 pub mod MapCode
 pub mod NameLemmas
 pub mod Names

@@ -39,6 +39,7 @@ mod journaling;
 mod laws;
 mod limits;
 mod log;
+mod map_laws;
 mod nodes;
 mod opening;
 mod promises;
@@ -62,6 +63,7 @@ pub use laws::{
     waits, whereabouts,
 };
 pub use limits::Limits;
+pub use map_laws::calls_map;
 pub use promises::keeps_promises;
 pub use refusal::Refusal;
 pub use run_laws::{answers_wanted, calls_answer, calls_end, guards_keep, locks_apart, nodes_leave, readers_refused, runs_journal};

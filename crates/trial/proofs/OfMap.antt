@@ -9,12 +9,8 @@ use Rattle.judge.specs.Answer.{Pairs, answer}
 use Rattle.judge.specs.declared.journal.Call.{Call as Point}
 use Rattle.judge.specs.declared.journal.Call.TheVariants as point
 use Rattle.congee.specs.declared.protocol.op.Op.TheVariants as asked
-use Rattle.congee.specs.declared.protocol.phase.Kind.TheVariants as kind
-use Rattle.congee.specs.protocol.Play.{Flight, Question, Unasked, Asked as Wants, Replied, Heeds}
-use Rattle.congee.specs.protocol.Protocol.{IsCall}
 use Rattle.joint.specs.declared.limits.Limits.{Limits}
 use Rattle.joint.specs.declared.refusal.Refusal.{Refusal}
-use Rattle.joint.specs.declared.steps.Event.TheVariants.{Begin, Go}
 use Rattle.joint.specs.declared.steps.Op.{Op}
 use Rattle.joint.specs.declared.steps.Op.TheVariants as op
 use Rattle.joint.specs.declared.steps.Done.TheVariants as done
@@ -24,8 +20,9 @@ use Rattle.joint.specs.declared.steps.Survey.{Survey}
 use Rattle.joint.specs.declared.steps.Survey.TheVariants as survey
 use Rattle.joint.specs.declared.steps.Target.{Target}
 use Rattle.joint.specs.declared.steps.Target.TheVariants as target
+use Rattle.joint.specs.MapCalls.{Answered as Last, IsPresent, IsComputed}
 use Rattle.joint.specs.Reports.{target}
-use Rattle.joint.specs.Runs.{no_flights, BeginMap, GoMap}
+use Rattle.joint.specs.Runs.{no_flights}
 use Rattle.joint.specs.Whole.{Whole}
 use Rattle.trial.specs.declared.caller.Caller.{Caller}
 use Rattle.trial.specs.declared.caller.Closure.{Closure}
@@ -53,10 +50,10 @@ use Rattle.trial.specs.Script.{LineDoes, LinesAnswer, AreAnswered, Prints}
 use Rattle.trial.specs.Places.{places_at, given, left}
 use Rattle.trial.specs.Session.{Session, op_of, closure_of, refusal_of, AfterPin, Round, Rounds, GaveAway, Replies, CallReplies, Asks, limits_of, budget_of, Opens, Opened, OpensWith, Closed, StaysOpen, Answers}
 use Rattle.trial.specs.Texts.{printed}
-use Rattle.trial.proofs.MapSteps.{MapLaws, line_of, on_map, Rests, rests_on}
-use Rattle.trial.proofs.WholeCalls.{Ready, Decides, Finished, call_finishes}
+use Rattle.trial.proofs.MapSteps.{MapLaws, Rests, rests_after}
+use Rattle.trial.proofs.WholeCalls.{ByClosure, Finished, call_finishes, filled_length, rests_beside}
 use Rattle.trial.proofs.Surveys.{Surveyed, survey_finishes, keys_reply, empty_reply}
-use Rattle.trial.proofs.WholeScans.{filled_length, scan_finishes}
+use Rattle.trial.proofs.WholeScans.{scan_finishes}
 
 -- a tree with these pairs, no call of which is in flight
 abbrev pub At : Index → Pairs ℕ → Type 0
@@ -66,91 +63,10 @@ as_long : {A : Type 0} (b : Bool) (xs : List A) (i : ℕ) (x : A) → length xs 
 as_long true xs i x e = length-set xs i x ∙ e
 as_long false xs i x e = e
 
--- steps that are of no call on the tree leave the map
+-- a registration leaves the map
 registers_at : MapLaws → (s s' : Index) (told : Outcome ℕ) (m : Pairs ℕ) → At s m → Registers s told s' → At s' m
 registers_at laws s s' told m b g =
-    let o = on_map laws s.world m b.0.flights _ g.0.0 s'.world b.0.holds b.0.stands g.0.1 in
-    (rests_on b.0.flights m _ g.0.0 s'.world b.0.over g.0.1.holds o o.moves, ap length g.1 ∙ b.1, ap (λ (x : _). length x.items) g.2 ∙ b.2)
-
-begins_at : MapLaws → (w : ℕ) (o : Op ℕ) (t : _) (f : Option Closure) (s s' : Index) (told : Outcome ℕ) (m : Pairs ℕ) → target o ≡ target.Collector t → At s m → Begins s w o f told s' → At s' m
-begins_at laws w op t f s s' told m e b g =
-    let o = on_map laws s.world m b.0.flights _ g.0.0 s'.world b.0.holds b.0.stands g.0.1 in
-    let P : Target ℕ → Type 0 = λ x. BeginMap b.0.flights m x (line_of (record { worker = w; event = Begin op }) g.0.0 o.entry o.pairs) o.flights in
-    (rests_on b.0.flights m _ g.0.0 s'.world b.0.over g.0.1.holds o (subst P e o.moves), ap length g.1 ∙ as_long (is_running told) s.callers w (fresh f) b.1, ap length g.2 ∙ as_long (is_running told) s.scans.items w [] b.2)
-
-goes_at : MapLaws → (w : ℕ) (s s' : Index) (told : Outcome ℕ) (m : Pairs ℕ) → At s m → Goes s w false told s' → At s' m
-goes_at laws w s s' told m b g =
-    let c = caller_at s.callers w in
-    let o = on_map laws s.world m b.0.flights _ g.0.0 s'.world b.0.holds b.0.stands g.0.1 in
-    let P : Flight ℕ → Type 0 = λ x. GoMap nat_eq b.0.flights x m c.answer (line_of (record { worker = w; event = Go (noise_of c false) }) g.0.0 o.entry o.pairs) o.flights in
-    (rests_on b.0.flights m _ g.0.0 s'.world b.0.over g.0.1.holds o (subst P (b.0.over w) o.moves), ap length g.1 ∙ length-set s.callers w _ ∙ b.1, ap length g.2 ∙ filled_length s.scans.items w told ∙ b.2)
-
-goes_on_at : MapLaws → (w left : ℕ) (s : Index) (stands told : Outcome ℕ) (s' : Index) (m : Pairs ℕ) → GoesOn w left s stands told s' → At s m → At s' m
-goes_on_at laws w left s stands told s' m (stays s1 t1) b = b
-goes_on_at laws w left s stands told s' m (ends n s1 t1 e) b = b
-goes_on_at laws w left s stands told s' m (goes n s1 mid s2 st next t1 run step more) b = goes_on_at laws w n mid next told s' m more (goes_at laws w s mid next m b step)
-
-calls_at : MapLaws → (w : ℕ) (o : Op ℕ) (t : _) (f : Option Closure) (s s' : Index) (told : Outcome ℕ) (m : Pairs ℕ) → target o ≡ target.Collector t → At s m → Calls s w o f told s' → At s' m
-calls_at laws w o t f s s' told m e b g = goes_on_at laws w 9999 g.0 g.1 told s' m g.3 (begins_at laws w o t f s g.0 g.1 m e b g.2)
-
-after_pin_at : MapLaws → (w : ℕ) (s s' : Index) (pin first : Option Refusal) (m : Pairs ℕ) → At s m → AfterPin pin s w s' first → At s' m
-after_pin_at laws w s s' (Some r) first m b g = let P : Index → Type 0 = λ x. At x m in subst P (sym g.0) b
-after_pin_at laws w s s' None first m b g =
-    calls_at laws w op.Unpin _ None g.0 s' g.2 m refl (calls_at laws w op.Flush _ None s g.0 g.1 m refl b g.3) g.4
-
-round_at : MapLaws → (w : ℕ) (s s' : Index) (first : Option Refusal) (m : Pairs ℕ) → At s m → Round s w s' first → At s' m
-round_at laws w s s' first m b g = after_pin_at laws w g.0 s' (refusal_of g.1) first m (calls_at laws w op.Pin _ None s g.0 g.1 m refl b g.2) g.3
-
-after_round_at : (s s' : Index) (first : Option Refusal) (r : Reply) (m : Pairs ℕ) (More : Type 0) → At s m → (More → At s' m)
-    → MatchOption first More (λ e. (s' ≡ s) × (r ≡ reply.Refused (refused.Tree e))) → At s' m
-after_round_at s s' None r m More b more g = more g
-after_round_at s s' (Some e) r m More b more g = let P : Index → Type 0 = λ x. At x m in subst P (sym g.0) b
-
-rounds_at : MapLaws → (w k : ℕ) (s s' : Index) (r : Reply) (m : Pairs ℕ) → At s m → Rounds k s w s' r → At s' m
-rounds_at laws w zero s s' r m b g = let P : Index → Type 0 = λ x. At x m in subst P (sym g.0) b
-rounds_at laws w (suc k) s s' r m b g =
-    let mid = round_at laws w s g.0 g.1 m b g.2 in
-    after_round_at g.0 s' g.1 r m (Rounds k g.0 w s' r) mid (λ x. rounds_at laws w k g.0 s' r m mid x) g.3
-
--- what a call on one key is once it took effect
-as_given : (given v : Option ℕ) (q : Question ℕ) → Ready None given v q → v ≡ given
-as_given given v Unasked r = r
-as_given given v (Wants o) r = absurd r
-as_given given v (Replied o) r = absurd r
-
-inserts : (m : Pairs ℕ) (k x : ℕ) → Decides k kind.Insert (Some x) None m (point.Insert k x)
-inserts m k x v q c r is h = let P : Option ℕ → Type 0 = λ y. IsCall k kind.Insert y (get m k) c in subst P (as_given (Some x) v q r) is
-
-exchanges : (m : Pairs ℕ) (k old : ℕ) (given : Option ℕ) → Decides k (kind.Exchange old) given None m (point.Exchange k old given)
-exchanges m k old given v q c r is h = is ∙ ap (point.Exchange k old) (as_given given v q r)
-
-heeded : (f : Closure) (given v found : Option ℕ) (q : Question ℕ) → Ready (Some f) given v q → q ≡ Replied found → v ≡ answer_of f found
-heeded f given v found q r h = let P : Question ℕ → Type 0 = λ x. Ready (Some f) given v x in subst P h r
-
-adds_at : (m : Pairs ℕ) (k n : ℕ) (found : Option ℕ) → get m k ≡ found → (v : Option ℕ) (q : Question ℕ) (c : Point ℕ) → Ready (Some (closure.Add n)) None v q
-    → IsCall k kind.ComputePresent v found c → Heeds kind.ComputePresent found q → c ≡ point.ComputePresent k (option_map (wrapped n) (get m k))
-adds_at m k n None e v q c r is h = is ∙ ap (λ o. point.ComputePresent k (option_map (wrapped n) o)) (sym e)
-adds_at m k n (Some x) e v q c r is h =
-    is ∙ ap (point.ComputePresent k) (heeded (closure.Add n) None v (Some x) q r h) ∙ ap (λ o. point.ComputePresent k (option_map (wrapped n) o)) (sym e)
-
-adds : (m : Pairs ℕ) (k n : ℕ) → Decides k kind.ComputePresent None (Some (closure.Add n)) m (point.ComputePresent k (option_map (wrapped n) (get m k)))
-adds m k n v q c r is h = adds_at m k n (get m k) refl v q c r is h
-
-drops_at : (k : ℕ) (found v : Option ℕ) (q : Question ℕ) (c : Point ℕ) → Ready (Some closure.Drop) None v q → IsCall k kind.ComputePresent v found c → Heeds kind.ComputePresent found q
-    → c ≡ point.ComputePresent k None
-drops_at k None v q c r is h = is
-drops_at k (Some x) v q c r is h = is ∙ ap (point.ComputePresent k) (heeded closure.Drop None v (Some x) q r h)
-
-drops : (m : Pairs ℕ) (k : ℕ) → Decides k kind.ComputePresent None (Some closure.Drop) m (point.ComputePresent k None)
-drops m k v q c r is h = drops_at k (get m k) v q c r is h
-
-puts_at : (k n : ℕ) (found v : Option ℕ) (q : Question ℕ) (c : Point ℕ) → Ready (Some (closure.Put n)) None v q → IsCall k kind.ComputeInsert v found c → Heeds kind.ComputeInsert found q
-    → c ≡ point.ComputeInsert k (or_wrapped n found)
-puts_at k n None v q c r is h = let P : Option ℕ → Type 0 = λ y. IsCall k kind.ComputeInsert y None c in subst P (heeded (closure.Put n) None v None q r h) is
-puts_at k n (Some x) v q c r is h = let P : Option ℕ → Type 0 = λ y. IsCall k kind.ComputeInsert y (Some x) c in subst P (heeded (closure.Put n) None v (Some x) q r h) is
-
-puts : (m : Pairs ℕ) (k n : ℕ) → Decides k kind.ComputeInsert None (Some (closure.Put n)) m (point.ComputeInsert k (or_wrapped n (get m k)))
-puts m k n v q c r is h = puts_at k n (get m k) v q c r is h
+    (rests_after m s.world s'.world b.0 g.0.1.holds (laws.registers s.world 0 g.0.0 s'.world b.0.flights m b.0.holds g.0.1 b.0.stand b.0.in_flight), ap length g.1 ∙ b.1, ap (λ (x : _). length x.items) g.2 ∙ b.2)
 
 -- as many scans as before
 begun_scans : (w : ℕ) (o : Op ℕ) (f : Option Closure) (s s' : Index) (told : Outcome ℕ) → length s.scans.items ≡ 256 → Begins s w o f told s' → length s'.scans.items ≡ 256
@@ -174,6 +90,50 @@ gone_on_callers w left s stands told s' (goes n s1 mid s2 st next t1 run step mo
 
 called_callers : (w : ℕ) (o : Op ℕ) (f : Option Closure) (s s' : Index) (told : Outcome ℕ) → length s.callers ≡ 256 → Calls s w o f told s' → length s'.callers ≡ 256
 called_callers w o f s s' told e g = gone_on_callers w 9999 g.0 g.1 told s' g.3 (ap length g.2.1 ∙ as_long (is_running g.1) s.callers w (fresh f) e)
+
+calls_at : MapLaws → (w : ℕ) (o : Op ℕ) (t : _) (f : Option Closure) (s s' : Index) (told : Outcome ℕ) (m : Pairs ℕ) → target o ≡ target.Collector t → At s m → Calls s w o f told s' → At s' m
+calls_at laws w o t f s s' told m e b g = (rests_beside laws w o t f m s s' told e b.0 g, called_callers w o f s s' told b.1 g, called_scans w o f s s' told b.2 g)
+
+after_pin_at : MapLaws → (w : ℕ) (s s' : Index) (pin first : Option Refusal) (m : Pairs ℕ) → At s m → AfterPin pin s w s' first → At s' m
+after_pin_at laws w s s' (Some r) first m b g = let P : Index → Type 0 = λ x. At x m in subst P (sym g.0) b
+after_pin_at laws w s s' None first m b g =
+    calls_at laws w op.Unpin _ None g.0 s' g.2 m refl (calls_at laws w op.Flush _ None s g.0 g.1 m refl b g.3) g.4
+
+round_at : MapLaws → (w : ℕ) (s s' : Index) (first : Option Refusal) (m : Pairs ℕ) → At s m → Round s w s' first → At s' m
+round_at laws w s s' first m b g = after_pin_at laws w g.0 s' (refusal_of g.1) first m (calls_at laws w op.Pin _ None s g.0 g.1 m refl b g.2) g.3
+
+after_round_at : (s s' : Index) (first : Option Refusal) (r : Reply) (m : Pairs ℕ) (More : Type 0) → At s m → (More → At s' m)
+    → MatchOption first More (λ e. (s' ≡ s) × (r ≡ reply.Refused (refused.Tree e))) → At s' m
+after_round_at s s' None r m More b more g = more g
+after_round_at s s' (Some e) r m More b more g = let P : Index → Type 0 = λ x. At x m in subst P (sym g.0) b
+
+rounds_at : MapLaws → (w k : ℕ) (s s' : Index) (r : Reply) (m : Pairs ℕ) → At s m → Rounds k s w s' r → At s' m
+rounds_at laws w zero s s' r m b g = let P : Index → Type 0 = λ x. At x m in subst P (sym g.0) b
+rounds_at laws w (suc k) s s' r m b g =
+    let mid = round_at laws w s g.0 g.1 m b g.2 in
+    after_round_at g.0 s' g.1 r m (Rounds k g.0 w s' r) mid (λ x. rounds_at laws w k g.0 s' r m mid x) g.3
+
+-- the call that a line's is, with its closure's answer
+adds_at : (k n : ℕ) (found : Option ℕ) (last : Last ℕ) (c : Point ℕ) → ByClosure (Some (closure.Add n)) last → IsPresent k found last c → c ≡ point.ComputePresent k (option_map (wrapped n) found)
+adds_at k n None last c b is = is
+adds_at k n (Some x) last c b is =
+    let P : Last ℕ → Type 0 = λ y. ByClosure (Some (closure.Add n)) y in
+    is.2 ∙ ap (point.ComputePresent k) (subst P is.1 b)
+
+drops_at : (k : ℕ) (found : Option ℕ) (last : Last ℕ) (c : Point ℕ) → ByClosure (Some closure.Drop) last → IsPresent k found last c → c ≡ point.ComputePresent k None
+drops_at k None last c b is = is
+drops_at k (Some x) last c b is =
+    let P : Last ℕ → Type 0 = λ y. ByClosure (Some closure.Drop) y in
+    is.2 ∙ ap (point.ComputePresent k) (subst P is.1 b)
+
+put_is : (n v : ℕ) (found : Option ℕ) → Some v ≡ answer_of (closure.Put n) found → v ≡ or_wrapped n found
+put_is n v None e = cc e
+put_is n v (Some x) e = cc e
+
+puts_at : (k n : ℕ) (found : Option ℕ) (last : Last ℕ) (c : Point ℕ) → ByClosure (Some (closure.Put n)) last → IsComputed k found last c → c ≡ point.ComputeInsert k (or_wrapped n found)
+puts_at k n found last c b is =
+    let P : Last ℕ → Type 0 = λ y. ByClosure (Some (closure.Put n)) y in
+    is.2 ∙ ap (point.ComputeInsert k) (put_is n is.0 found (subst P is.1 b))
 
 -- what a call gives its reply leaves the rest
 left_length : (stands : Outcome ℕ) (w : ℕ) (scans : List (List (ℕ × ℕ))) → length (left stands w scans) ≡ length scans
@@ -211,11 +171,11 @@ agreed false (Some told) r rs a = absurd a
 finished : (w : ℕ) (o : Op ℕ) (f : Option Closure) (m : Pairs ℕ) (p : Point ℕ) (s mid s' : Index) (stands : Outcome ℕ) (r : Reply) → At s m → Calls s w o f stands mid → Replies mid w stands s' r
     → Finished m p mid (reply_of (given stands (places_at mid.scans.items w)) stands) → At s' (answer nat_eq m p).1 × (r ≡ reply_to (answer nat_eq m p).0)
 finished w o f m p s mid s' stands r b g told e =
-    (replied_at w mid s' stands (answer nat_eq m p).1 (e.rests, e.callers, called_scans w o f s mid stands b.2 g) told.0, told.1 ∙ e.reply)
+    (replied_at w mid s' stands (answer nat_eq m p).1 (e.rests, called_callers w o f s mid stands b.1 g, called_scans w o f s mid stands b.2 g) told.0, told.1 ∙ e.reply)
 
 -- the tree after a call of one step
-surveyed_at : (w : ℕ) (k : Survey) (s mid s' : Index) (stands : Outcome ℕ) (m : Pairs ℕ) → At s m → Surveyed m k s mid stands → GaveAway mid w stands s' → At s' m
-surveyed_at w k s mid s' stands m b x g = replied_at w mid s' stands m (x.rests, ap length x.callers ∙ b.1, ap length x.scans ∙ b.2) g
+surveyed_at : (w : ℕ) (k : Survey) (o : Op ℕ) (s mid s' : Index) (stands : Outcome ℕ) (m : Pairs ℕ) → At s m → Calls s w o None stands mid → Surveyed m k mid stands → GaveAway mid w stands s' → At s' m
+surveyed_at w k o s mid s' stands m b c x g = replied_at w mid s' stands m (x.rests, called_callers w o None s mid stands b.1 c, called_scans w o None s mid stands b.2 c) g
 
 told_answer : (r told : Reply) → r ≡ told → IsAnswer r → IsAnswer told
 told_answer r told e a = subst IsAnswer e a
@@ -224,28 +184,28 @@ call_at : MapLaws → (w : ℕ) (c : Call) (s s' : Index) (r : Reply) (m : Pairs
     → At s' (map_after m (command.Call w c)) × Agrees (is_on_keys (command.Call w c)) (answer_to m (command.Call w c)) r
 call_at laws w (call.Get k) s s' r m b g a =
     finished w (op.Get k) None m (point.Get k) s g.1 s' g.0 r b g.2 g.3
-    (call_finishes laws w k kind.Get None None m (point.Get k) (op.Get k) (asked.Get k) s g.1 g.0 _ refl refl tt (λ v q c x is h. is) b.0 b.1 g.2 (told_answer r _ g.3.1 a))
+    (call_finishes laws w (op.Get k) (asked.Get k) None m (point.Get k) s g.1 g.0 _ refl tt (λ last c x is. is) b.0 g.2 (told_answer r _ g.3.1 a))
 call_at laws w (call.Remove k) s s' r m b g a =
     finished w (op.Remove k) None m (point.Remove k) s g.1 s' g.0 r b g.2 g.3
-    (call_finishes laws w k kind.Remove None None m (point.Remove k) (op.Remove k) (asked.Remove k) s g.1 g.0 _ refl refl tt (λ v q c x is h. is) b.0 b.1 g.2 (told_answer r _ g.3.1 a))
+    (call_finishes laws w (op.Remove k) (asked.Remove k) None m (point.Remove k) s g.1 g.0 _ refl tt (λ last c x is. is) b.0 g.2 (told_answer r _ g.3.1 a))
 call_at laws w (call.Insert k v) s s' r m b g a =
     finished w (op.Insert k v) None m (point.Insert k v) s g.1 s' g.0 r b g.2 g.3
-    (call_finishes laws w k kind.Insert (Some v) None m (point.Insert k v) (op.Insert k v) (asked.Insert k v) s g.1 g.0 _ refl refl tt (inserts m k v) b.0 b.1 g.2 (told_answer r _ g.3.1 a))
+    (call_finishes laws w (op.Insert k v) (asked.Insert k v) None m (point.Insert k v) s g.1 g.0 _ refl tt (λ last c x is. is) b.0 g.2 (told_answer r _ g.3.1 a))
 call_at laws w (call.PresentAdd k n) s s' r m b g a =
     finished w (op.ComputePresent k) (Some (closure.Add n)) m (point.ComputePresent k (option_map (wrapped n) (get m k))) s g.1 s' g.0 r b g.2 g.3
-    (call_finishes laws w k kind.ComputePresent None (Some (closure.Add n)) m (point.ComputePresent k (option_map (wrapped n) (get m k))) (op.ComputePresent k) (asked.ComputePresent k) s g.1 g.0 _ refl refl tt (adds m k n) b.0 b.1 g.2 (told_answer r _ g.3.1 a))
+    (call_finishes laws w (op.ComputePresent k) (asked.ComputePresent k) (Some (closure.Add n)) m (point.ComputePresent k (option_map (wrapped n) (get m k))) s g.1 g.0 _ refl tt (λ last c x is. adds_at k n (get m k) last c x is) b.0 g.2 (told_answer r _ g.3.1 a))
 call_at laws w (call.PresentDrop k) s s' r m b g a =
     finished w (op.ComputePresent k) (Some closure.Drop) m (point.ComputePresent k None) s g.1 s' g.0 r b g.2 g.3
-    (call_finishes laws w k kind.ComputePresent None (Some closure.Drop) m (point.ComputePresent k None) (op.ComputePresent k) (asked.ComputePresent k) s g.1 g.0 _ refl refl tt (drops m k) b.0 b.1 g.2 (told_answer r _ g.3.1 a))
+    (call_finishes laws w (op.ComputePresent k) (asked.ComputePresent k) (Some closure.Drop) m (point.ComputePresent k None) s g.1 g.0 _ refl tt (λ last c x is. drops_at k (get m k) last c x is) b.0 g.2 (told_answer r _ g.3.1 a))
 call_at laws w (call.OrInsert k n) s s' r m b g a =
     finished w (op.ComputeInsert k) (Some (closure.Put n)) m (point.ComputeInsert k (or_wrapped n (get m k))) s g.1 s' g.0 r b g.2 g.3
-    (call_finishes laws w k kind.ComputeInsert None (Some (closure.Put n)) m (point.ComputeInsert k (or_wrapped n (get m k))) (op.ComputeInsert k) (asked.ComputeInsert k) s g.1 g.0 _ refl refl tt (puts m k n) b.0 b.1 g.2 (told_answer r _ g.3.1 a))
+    (call_finishes laws w (op.ComputeInsert k) (asked.ComputeInsert k) (Some (closure.Put n)) m (point.ComputeInsert k (or_wrapped n (get m k))) s g.1 g.0 _ refl tt (λ last c x is. puts_at k n (get m k) last c x is) b.0 g.2 (told_answer r _ g.3.1 a))
 call_at laws w (call.Exchange k old new) s s' r m b g a =
     finished w (op.Exchange k old (Some new)) None m (point.Exchange k old (Some new)) s g.1 s' g.0 r b g.2 g.3
-    (call_finishes laws w k (kind.Exchange old) (Some new) None m (point.Exchange k old (Some new)) (op.Exchange k old (Some new)) (asked.Exchange k old (Some new)) s g.1 g.0 _ refl refl tt (exchanges m k old (Some new)) b.0 b.1 g.2 (told_answer r _ g.3.1 a))
+    (call_finishes laws w (op.Exchange k old (Some new)) (asked.Exchange k old (Some new)) None m (point.Exchange k old (Some new)) s g.1 g.0 _ refl tt (λ last c x is. is) b.0 g.2 (told_answer r _ g.3.1 a))
 call_at laws w (call.ExchangeDrop k old) s s' r m b g a =
     finished w (op.Exchange k old None) None m (point.Exchange k old None) s g.1 s' g.0 r b g.2 g.3
-    (call_finishes laws w k (kind.Exchange old) None None m (point.Exchange k old None) (op.Exchange k old None) (asked.Exchange k old None) s g.1 g.0 _ refl refl tt (exchanges m k old None) b.0 b.1 g.2 (told_answer r _ g.3.1 a))
+    (call_finishes laws w (op.Exchange k old None) (asked.Exchange k old None) None m (point.Exchange k old None) s g.1 g.0 _ refl tt (λ last c x is. is) b.0 g.2 (told_answer r _ g.3.1 a))
 call_at laws w call.Pin s s' r m b g a = (replied_at w g.1 s' g.0 m (calls_at laws w op.Pin _ None s g.1 g.0 m refl b g.2) g.3.0, tt)
 call_at laws w call.Unpin s s' r m b g a = (replied_at w g.1 s' g.0 m (calls_at laws w op.Unpin _ None s g.1 g.0 m refl b g.2) g.3.0, tt)
 call_at laws w call.Repin s s' r m b g a = (replied_at w g.1 s' g.0 m (calls_at laws w op.Repin _ None s g.1 g.0 m refl b g.2) g.3.0, tt)
@@ -261,13 +221,13 @@ call_at laws w (call.Through start last size) s s' r m b g a =
     (replied_at w g.1 s' g.0 m (x.rests, callers, called_scans w (op.RangeInclusive start last size) None s g.1 g.0 b.2 g.2) g.3.0, g.3.1 ∙ x.reply)
 call_at laws w call.Keys s s' r m b g a =
     let x = survey_finishes laws w op.Keys survey.Keys None m s g.1 g.0 refl b.0 g.2 in
-    (surveyed_at w survey.Keys s g.1 s' g.0 m b x g.3.0, g.3.1 ∙ keys_reply m g.0 _ x.tells (told_answer r _ g.3.1 a))
+    (surveyed_at w survey.Keys op.Keys s g.1 s' g.0 m b g.2 x g.3.0, g.3.1 ∙ keys_reply m g.0 _ x.tells (told_answer r _ g.3.1 a))
 call_at laws w call.Empty s s' r m b g a =
     let x = survey_finishes laws w op.IsEmpty survey.IsEmpty None m s g.1 g.0 refl b.0 g.2 in
-    (surveyed_at w survey.IsEmpty s g.1 s' g.0 m b x g.3.0, g.3.1 ∙ empty_reply m g.0 _ x.tells (told_answer r _ g.3.1 a))
+    (surveyed_at w survey.IsEmpty op.IsEmpty s g.1 s' g.0 m b g.2 x g.3.0, g.3.1 ∙ empty_reply m g.0 _ x.tells (told_answer r _ g.3.1 a))
 call_at laws w call.Stats s s' r m b g a =
     let x = survey_finishes laws w op.Stats survey.Stats None m s g.1 g.0 refl b.0 g.2 in
-    (surveyed_at w survey.Stats s g.1 s' g.0 m b x g.3.0, tt)
+    (surveyed_at w survey.Stats op.Stats s g.1 s' g.0 m b g.2 x g.3.0, tt)
 
 -- nothing is open, or a tree with these pairs
 abbrev pub AtMap : Session → Pairs ℕ → Type 0
@@ -294,20 +254,21 @@ asks_at laws (command.New o) s s' r m b g w a = absurd g
 asks_at laws command.Journal s s' r m b g w a = ((let P : Index → Type 0 = λ x. At x m in subst P (sym g.0) b), tt)
 asks_at laws command.Close s s' r m b g w a = absurd g
 
-opened_at : (limits : Limits) (journal : Option ℕ) (budget : ℕ) (result : Result (Whole ℕ) Refusal) (new : Session) (r : Reply) → Opens limits journal 0 budget result → Opened result new r → IsAnswer r
+opened_at : MapLaws → (limits : Limits) (journal : Option ℕ) (budget : ℕ) (result : Result (Whole ℕ) Refusal) (new : Session) (r : Reply) → Opens limits journal 0 budget result → Opened result new r → IsAnswer r
     → AtMap new empty
-opened_at limits journal budget (Ok world) new r o g a =
+opened_at laws limits journal budget (Ok world) new r o g a =
     let P : Session → Type 0 = λ x. AtMap x empty in
     let Q : Whole ℕ → Type 0 = λ x. Rests x empty in
-    let rests : Rests world empty = record { holds = o.4; flights = no_flights; stands = inl (o.1, refl, refl); over = λ i. refl } in
+    let new_tree = laws.fresh world o.1 in
+    let rests : Rests world empty = record { holds = o.4; flights = no_flights; stand = new_tree.0; in_flight = new_tree.1; over = λ i. refl } in
     let callers : length g.0.callers ≡ 256 = ap length g.1.callers ∙ length-replicate {A = Caller} 256 (fresh None) in
     let scans : length g.0.scans.items ≡ 256 = ap length g.1.scans ∙ length-replicate {A = List (ℕ × ℕ)} 256 [] in
     subst P (sym g.2) (subst Q (sym g.1.world) rests, callers, scans)
-opened_at limits journal budget (Err e) new r o g a = absurd (no_refusal _ r g.1 a)
+opened_at laws limits journal budget (Err e) new r o g a = absurd (no_refusal _ r g.1 a)
 
-opens_at : (limits : Option Limits) (journal : Option ℕ) (budget : ℕ) (new : Session) (r : Reply) → OpensWith limits journal budget new r → IsAnswer r → AtMap new empty
-opens_at None journal budget new r g a = absurd (no_refusal _ r g.1 a)
-opens_at (Some limits) journal budget new r g a = opened_at limits journal budget g.0 new r g.1 g.2 a
+opens_at : MapLaws → (limits : Option Limits) (journal : Option ℕ) (budget : ℕ) (new : Session) (r : Reply) → OpensWith limits journal budget new r → IsAnswer r → AtMap new empty
+opens_at laws None journal budget new r g a = absurd (no_refusal _ r g.1 a)
+opens_at laws (Some limits) journal budget new r g a = opened_at laws limits journal budget g.0 new r g.1 g.2 a
 
 -- where the tree was closed, nothing is open
 closed_at : (s : Index) (new : Session) (r : Reply) (m : Pairs ℕ) → Closed s new r ⊎ StaysOpen s new r → IsAnswer r → Keeps m command.Close new r
@@ -318,7 +279,7 @@ asked_at : MapLaws → (c : Command) (s : Index) (new : Session) (r : Reply) (m 
 asked_at laws c s new r m b g w a = let P : Session → Type 0 = λ x. Keeps m c x r in subst P (sym g.1) (asks_at laws c s g.0 r m b g.2 w a)
 
 answers_at : MapLaws → (old : Session) (c : Command) (new : Session) (r : Reply) (m : Pairs ℕ) → AtMap old m → Answers old c new r → IsWhole c → IsAnswer r → Keeps m c new r
-answers_at laws None (command.New o) new r m b g w a = (opens_at (limits_of o) o.journal (budget_of o) new r g a, tt)
+answers_at laws None (command.New o) new r m b g w a = (opens_at laws (limits_of o) o.journal (budget_of o) new r g a, tt)
 answers_at laws None command.Register new r m b g w a = absurd (no_refusal _ r g.1 a)
 answers_at laws None command.Charged new r m b g w a = absurd (no_refusal _ r g.1 a)
 answers_at laws None command.Waiting new r m b g w a = absurd (no_refusal _ r g.1 a)

@@ -2,10 +2,9 @@
 use Rattle.std.proofs.Common.{◌≡◌, ◌⊎◌, ℕ, ◌+◌, ◌<◌, ◌≤◌, zero, suc, arith, List, [], ◌∷◌, length, take, Option, None, Some, IsSome, refl, sym, ◌∙◌, ap, subst, inl, inr}
 use Rattle.std.specs.Ordering.{nat_cmp}
 use Rattle.std.specs.FinMap.{FinMap, get, entries}
-use Rattle.std.specs.List.{AllByRecursion}
 use Rattle.congee.specs.forms.Places.{AllKeys, Rises}
 use Rattle.congee.specs.owned.Ranges.{in_range}
-use Rattle.congee.specs.protocol.Sweeps.{HasKey, Stood, AllStood, Throughout, IsScan}
+use Rattle.congee.specs.protocol.Sweeps.{HasKey, Stood, AllStood, IsScan}
 use Rattle.congee.proofs.lemmas.owned.RangeLemmas.{range_none, range_first}
 
 some_or_none : {A : Type 0} (o : Option A) → IsSome o ⊎ (o ≡ None)
@@ -21,21 +20,13 @@ module _ {V : Type 0} (m : FinMap nat_cmp V) where
   AllOf [] = Unit {0}
   AllOf ((k, v) ∷ found) = (get m k ≡ Some v) × AllOf found
 
-  abbrev pub AllSame : List (FinMap nat_cmp V) → Type 0
-  AllSame states = AllByRecursion (λ x. x ≡ m) states
+  stood_is : (k : ℕ) (v : V) → Stood (m ∷ []) k v → get m k ≡ Some v
+  stood_is k v (inl e) = e
+  stood_is k v (inr s) = absurd s
 
-  stood_is : (states : List (FinMap nat_cmp V)) (k : ℕ) (v : V) → AllSame states → Stood states k v → get m k ≡ Some v
-  stood_is [] k v a s = absurd s
-  stood_is (x ∷ states) k v a (inl s) = let P : FinMap nat_cmp V → Type 0 = λ y. get y k ≡ Some v in subst P a.0 s
-  stood_is (x ∷ states) k v a (inr s) = stood_is states k v a.1 s
-
-  all_of : (states : List (FinMap nat_cmp V)) (found : List (ℕ × V)) → AllSame states → AllStood states found → AllOf found
-  all_of states [] a s = tt
-  all_of states ((k, v) ∷ found) a s = (stood_is states k v a s.0, all_of states found a s.1)
-
-  stands_throughout : (states : List (FinMap nat_cmp V)) (k : ℕ) → AllSame states → IsSome (get m k) → Throughout states k
-  stands_throughout [] k a s = tt
-  stands_throughout (x ∷ states) k a s = (let P : FinMap nat_cmp V → Type 0 = λ y. IsSome (get y k) in subst P (sym a.0) s, stands_throughout states k a.1 s)
+  all_of : (found : List (ℕ × V)) → AllStood (m ∷ []) found → AllOf found
+  all_of [] s = tt
+  all_of ((k, v) ∷ found) s = (stood_is k v s.0, all_of found s.1)
 
   -- each key of the range that the map has is found, or no place is left for it
   abbrev Complete : ℕ → ℕ → ℕ → List (ℕ × V) → Type 0
@@ -89,7 +80,5 @@ module _ {V : Type 0} (m : FinMap nat_cmp V) where
       more q l n s = rest_has q l (complete q (omega (arith, l, within.0.0)) n s)
 
   -- a scan during which this map stood
-  pub scan_of_one : (start end size : ℕ) (states : List (FinMap nat_cmp V)) (found : List (ℕ × V)) → AllSame states → IsScan start end size states found
-      → found ≡ take size (in_range start end (entries m))
-  scan_of_one start end size states found a s =
-      first_pairs start end size found s.rises s.few s.within (all_of states found a s.stood) (λ k l n h. s.complete k l n (stands_throughout states k a h))
+  pub scan_of_one : (start end size : ℕ) (found : List (ℕ × V)) → IsScan start end size (m ∷ []) found → found ≡ take size (in_range start end (entries m))
+  scan_of_one start end size found s = first_pairs start end size found s.rises s.few s.within (all_of found s.stood) (λ k l n h. s.complete k l n (h, tt))

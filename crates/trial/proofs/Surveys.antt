@@ -1,13 +1,11 @@
 -- A call of one step on the tree, beside the map.
-use Rattle.std.proofs.Common.{◌≡◌, ℕ, Bool, true, false, List, [], ◌∷◌, Option, None, Some, IsSome, cond, refl, sym, ◌∙◌, ap, subst, if◌then◌else◌}
-use Rattle.std.specs.Prelude.{slice_set}
+use Rattle.std.proofs.Common.{◌≡◌, ℕ, nat_eq, Bool, true, false, List, [], ◌∷◌, Option, None, Some, IsSome, cond, refl, sym, ◌∙◌, ap, subst}
 use Rattle.std.specs.Ordering.{nat_cmp, is_eq}
 use Rattle.std.specs.Cmp.{tied_itself}
 use Rattle.std.specs.FinMap.{entries, find, get-entries}
 use Rattle.std.proofs.lemmas.Cmp.{nat_cmp_total}
 use Rattle.judge.specs.Answer.{Pairs}
 use Rattle.joint.specs.declared.steps.Done.TheVariants as done
-use Rattle.joint.specs.declared.steps.Event.TheVariants.{Begin}
 use Rattle.joint.specs.declared.steps.Op.{Op}
 use Rattle.joint.specs.declared.steps.Outcome.{Outcome}
 use Rattle.joint.specs.declared.steps.Outcome.TheVariants as outcome
@@ -15,69 +13,31 @@ use Rattle.joint.specs.declared.steps.Survey.{Survey}
 use Rattle.joint.specs.declared.steps.Survey.TheVariants as survey
 use Rattle.joint.specs.declared.steps.Target.{Target}
 use Rattle.joint.specs.declared.steps.Target.TheVariants as target
+use Rattle.joint.specs.MapCalls.{KeepsAll, PlaysCall}
 use Rattle.joint.specs.Reports.{target}
-use Rattle.joint.specs.Runs.{BeginMap}
 use Rattle.joint.specs.Survey.{IsEmptiness, keys_of}
 use Rattle.joint.specs.Surveys.{MapTells}
 use Rattle.trial.specs.declared.caller.Closure.{Closure}
 use Rattle.trial.specs.declared.index.Index.{Index}
 use Rattle.trial.specs.declared.reply.Reply.TheVariants as reply
-use Rattle.trial.specs.Callers.{fresh}
-use Rattle.trial.specs.Calling.{is_running, Begins, GoesOn, stays, ends, goes, Calls}
+use Rattle.trial.specs.Calling.{Calls}
 use Rattle.trial.specs.MapReplies.{IsAnswer, is_nil}
 use Rattle.trial.specs.Replies.{reply_of}
-use Rattle.trial.proofs.MapSteps.{MapLaws, line_of, on_map, Rests, rests_on}
-
--- it has ended
-not_running : (m : Pairs ℕ) (k : Survey) (told : Outcome ℕ) → MapTells m k told → is_running told ≡ false
-not_running m k (outcome.Refused e) t = refl
-not_running m k (outcome.Done d) t = refl
-not_running m k (outcome.Registered who) t = refl
-not_running m survey.Keys outcome.Running t = absurd t
-not_running m survey.IsEmpty outcome.Running t = absurd t
-not_running m survey.Stats outcome.Running t = absurd t
-not_running m survey.Keys (outcome.Asks found) t = absurd t
-not_running m survey.IsEmpty (outcome.Asks found) t = absurd t
-not_running m survey.Stats (outcome.Asks found) t = absurd t
-not_running m survey.Keys (outcome.Found place key value) t = absurd t
-not_running m survey.IsEmpty (outcome.Found place key value) t = absurd t
-not_running m survey.Stats (outcome.Found place key value) t = absurd t
+use Rattle.trial.proofs.MapSteps.{MapLaws, Rests, rests_after}
+use Rattle.trial.proofs.WholeCalls.{called, last_of, plays_call}
 
 -- what it tells, and the tree as it was
-pub record Surveyed (m : Pairs ℕ) (k : Survey) (s s' : Index) (told : Outcome ℕ) : Type 0 where
+pub record Surveyed (m : Pairs ℕ) (k : Survey) (s' : Index) (told : Outcome ℕ) : Type 0 where
   pub rests : Rests s'.world m
   pub tells : MapTells m k told
-  pub callers : s'.callers ≡ s.callers
-  pub scans : s'.scans.items ≡ s.scans.items
-
-gone_on : (w left : ℕ) (s : Index) (stands told : Outcome ℕ) (s' : Index) → GoesOn w left s stands told s' → is_running stands ≡ false → (told ≡ stands) × (s' ≡ s)
-gone_on w left s stands told s' (stays s1 t1) e = (refl, refl)
-gone_on w left s stands told s' (ends n s1 t1 x) e = (refl, refl)
-gone_on w left s stands told s' (goes n s1 mid s2 st next t1 run step more) e = absurd (let f : true ≡ false = sym run ∙ e in cc f)
-
-begins : MapLaws → (w : ℕ) (o : Op ℕ) (k : Survey) (f : Option Closure) (m : Pairs ℕ) (s s' : Index) (told : Outcome ℕ) → target o ≡ target.Survey k → Rests s.world m → Begins s w o f told s'
-    → Surveyed m k s s' told
-begins laws w o k f m s s' told is b g =
-    let x = on_map laws s.world m b.flights _ g.0.0 s'.world b.holds b.stands g.0.1 in
-    let P : Target ℕ → Type 0 = λ t. BeginMap b.flights m t (line_of (record { worker = w; event = Begin o }) g.0.0 x.entry x.pairs) x.flights in
-    let moves : BeginMap b.flights m (target.Survey k) (line_of (record { worker = w; event = Begin o }) g.0.0 x.entry x.pairs) x.flights = subst P is x.moves in
-    let tells : MapTells m k told = subst (MapTells m k) (sym g.0.2) moves.tells in
-    let over : is_running told ≡ false = not_running m k told tells in
-    record {
-      rests = rests_on b.flights m _ g.0.0 s'.world b.over g.0.1.holds x moves.stays;
-      tells = tells;
-      callers = g.1 ∙ ap (λ b. if b then slice_set s.callers w (fresh f) else s.callers) over;
-      scans = g.2 ∙ ap (λ b. if b then slice_set s.scans.items w [] else s.scans.items) over;
-    }
 
 pub survey_finishes : MapLaws → (w : ℕ) (o : Op ℕ) (k : Survey) (f : Option Closure) (m : Pairs ℕ) (s s' : Index) (told : Outcome ℕ) → target o ≡ target.Survey k → Rests s.world m → Calls s w o f told s'
-    → Surveyed m k s s' told
+    → Surveyed m k s' told
 survey_finishes laws w o k f m s s' told is b g =
-    let x = begins laws w o k f m s g.0 g.1 is b g.2 in
-    let y = gone_on w 9999 g.0 g.1 told s' g.3 (not_running m k g.1 x.tells) in
-    let P : Outcome ℕ → Type 0 = λ t. Surveyed m k s s' t in
-    let Q : Index → Type 0 = λ i. Surveyed m k s i g.1 in
-    subst P (sym y.0) (subst Q (sym y.1) x)
+    let c = called w o f s s' told g in
+    let P : Target ℕ → Type 0 = λ t. PlaysCall nat_eq b.flights m w (last_of w o f s s' told c) t told s'.world in
+    let y : MapTells m k told × KeepsAll b.flights m s'.world = subst P is (plays_call w o f s s' told c laws m b) in
+    record { rests = rests_after m s.world s'.world b c.holds y.1; tells = y.0 }
 
 -- the replies
 pub keys_reply : (m : Pairs ℕ) (told : Outcome ℕ) (ps : List (ℕ × ℕ)) → MapTells m survey.Keys told → IsAnswer (reply_of ps told) → reply_of ps told ≡ reply.Keys (keys_of m)

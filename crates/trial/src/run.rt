@@ -12,7 +12,7 @@ ghost use Rattle.trial.specs.MapReplies.{MapAnswers};
 use crate::end::End;
 use crate::output::Output;
 use crate::script::Script;
-use joint::runs_map;
+use joint::calls_map;
 use std::alloc::{AllocError, Global};
 use std::io::{Read, Write};
 use std::process::ExitCode;
@@ -197,7 +197,7 @@ pub fn run<R: Read, W: Write>(alloc: Global, reader: &mut R, writer: &mut W) -> 
     ensures map { (end : End) × (result ≡ status_of end)
         × Ran MapAnswers (R.remaining reader.old) (R.remaining reader.new) (W.contents writer.old) (W.contents writer.new) end }
 {
-    runs_map::<u64>();
+    calls_map::<u64>();
     match chunk(alloc) {
         Ok(mut chunk) => Program::new(alloc).run(reader, writer, &mut chunk).status(),
         Err(_) => End::Memory.status(),

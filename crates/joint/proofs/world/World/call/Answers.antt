@@ -2,6 +2,7 @@ use Rattle.std.proofs.Common.{refl}
 use Rattle.joint.proofs.lemmas.Beside.{run_beside}
 use Rattle.joint.proofs.lemmas.CallScans.{fills}
 use Rattle.joint.proofs.lemmas.CallSurveys.{tells}
+use Rattle.joint.proofs.lemmas.MapCalls.{called_plays}
 use Rattle.joint.proofs.lemmas.Running.{run_map}
 use Rattle.joint.proofs.world.World.call.Goals as goal
 
@@ -9,6 +10,9 @@ pub returns-clause-scan : goal.returns-clause-scan
 returns-clause-scan g c fs m st fl =
     let x = run_map g.P.Payload.same_as g.P.Payload.always_copies _ _ _ _ fs m c.sound.ensures.holds c.take_steps.ensures.run st fl in
     fills g.P.Payload.same_as _ fs m _ c.take_steps.ensures.reports _ _ _ _ refl (x.lines, x.flights, x.steps_are, x.reports_are, x.run) c.take_steps.ensures.goes c.take_steps.ensures.last c.take_steps.ensures.found
+
+pub returns-clause-map : goal.returns-clause-map
+returns-clause-map g c fs m st fl = called_plays g.P.Payload.same_as g.P.Payload.always_copies _ fs m _ _ c.sound.ensures.holds st fl _ _ _ _ _ c.take_steps.ensures
 
 pub returns-clause-survey : goal.returns-clause-survey
 returns-clause-survey g c fs m st fl =
