@@ -8,7 +8,7 @@ use Rattle.joint.specs.declared.refusal.Refusal.{Refusal}
 use Rattle.joint.specs.declared.refusal.Refusal.TheVariants.{Count}
 use Rattle.joint.specs.declared.steps.Event.TheVariants.{Begin}
 use Rattle.joint.specs.declared.steps.Op.{Op}
-use Rattle.joint.specs.declared.steps.Op.TheVariants.{Pin, Get, Range, IsEmpty}
+use Rattle.joint.specs.declared.steps.Op.TheVariants.{Pin, Get, Range, RangeInclusive, IsEmpty}
 use Rattle.joint.specs.declared.steps.Outcome.TheVariants.{Refused}
 use Rattle.joint.specs.declared.steps.Step.{Step}
 use Rattle.joint.specs.Log.{request_at}
@@ -59,6 +59,7 @@ abbrev pub is_reading : {V : Type 0} → Op V → Bool
 is_reading Pin = true
 is_reading (Get k) = true
 is_reading (Range start end size) = true
+is_reading (RangeInclusive start last size) = true
 is_reading IsEmpty = true
 is_reading _ = false
 

@@ -87,6 +87,7 @@ IsOnMap m last (point.ComputePresent k) c = IsPresent k (get m k) last c
 IsOnMap m last (point.ComputeInsert k) c = IsComputed k (get m k) last c
 IsOnMap m last (point.Exchange k old new) c = c ≡ entered.Exchange k old new
 IsOnMap m last (point.Range start end size) c = ⊥
+IsOnMap m last (point.RangeInclusive start last_key size) c = ⊥
 
 -- it took effect: the map m answers it so, and the next map's pairs stand
 pub record TookEffect {V : Type 0} (same : V → V → Bool) (m : Pairs V) (last : Answered V) (p : Point V) (reply : Reply V) (s : Whole V) : Type 0 where
@@ -165,6 +166,7 @@ PlaysScan fs m who _ s = ⊥
 -- pairs, and one of one step tells of them
 abbrev pub PlaysCall : {V : Type 0} → (V → V → Bool) → Flights V → Pairs V → ℕ → Answered V → Target V → Outcome V → Whole V → Type 0
 PlaysCall same fs m who last (target.Tree (point.Range start end size)) told s = PlaysScan fs m who told s
+PlaysCall same fs m who last (target.Tree (point.RangeInclusive start last_key size)) told s = PlaysScan fs m who told s
 PlaysCall same fs m who last (target.Tree p) told s = PlaysKey same fs m who last p told s
 PlaysCall same fs m who last (target.Collector op) told s = KeepsAll fs m s
 PlaysCall same fs m who last (target.Survey k) told s = MapTells m k told × KeepsAll fs m s

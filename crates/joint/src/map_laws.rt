@@ -1,18 +1,17 @@
 //! What whole calls mean.
 
-ghost use Rattle.std.specs.Prelude.{◌≡◌, ℕ, List, None, [], ◌∷◌};
+ghost use Rattle.std.specs.Prelude.{◌≡◌, ℕ, List, None, Some, [], ◌∷◌};
 ghost use Rattle.std.specs.FinMap.{empty};
 ghost use Rattle.judge.specs.Answer.{Pairs};
 ghost use Rattle.congee.specs.Keys.{IsMapOf};
 ghost use Rattle.joint.specs.declared.steps.Done.TheVariants.{Scanned};
 ghost use Rattle.joint.specs.declared.steps.Event.TheVariants.{Register};
 ghost use Rattle.joint.specs.declared.steps.Op.{Op as Asks};
-ghost use Rattle.joint.specs.declared.steps.Op.TheVariants.{Range};
 ghost use Rattle.joint.specs.declared.steps.Outcome.TheVariants.{Done};
 ghost use Rattle.joint.specs.declared.steps.Report.{Report as Told};
 ghost use Rattle.joint.specs.Forest.{nodes};
 ghost use Rattle.joint.specs.MapCalls.{AreOfCall, HasScanned, KeepsAll, PlaysCall, answered_after, told_after, told_places};
-ghost use Rattle.joint.specs.Reports.{target};
+ghost use Rattle.joint.specs.Reports.{range_of, target};
 ghost use Rattle.joint.specs.Runs.{Taken, AreTaken, after_all, Flights, AreInFlight, IsFresh, no_flights};
 ghost use Rattle.joint.specs.Whole.{Whole, Holds, IsStep};
 
@@ -24,7 +23,7 @@ use congee::{Payload, Small};
 /// that were. A registration leaves both. In a fresh index no pair stands, and no call is in flight.
 pub fn calls_map<P: Payload + Small>()
     ensures plays { (s : Whole P) (first : Taken P) (more : List (Taken P)) (fs : Flights P) (m : Pairs P) (who : ℕ) (op : Asks P) → Holds P.same_as P.always_copies s → AreTaken P.same_as P.always_copies s (first ∷ more) → IsMapOf (nodes s.forest) m → AreInFlight s fs → AreOfCall who op first more → PlaysCall P.same_as fs m who (answered_after first.report.outcome None more) (target op) (told_after first.report.outcome more) (after_all s (first ∷ more)) }
-    ensures scan { (s : Whole P) (first : Taken P) (more : List (Taken P)) (fs : Flights P) (m : Pairs P) (who start end size count : ℕ) → Holds P.same_as P.always_copies s → AreTaken P.same_as P.always_copies s (first ∷ more) → IsMapOf (nodes s.forest) m → AreInFlight s fs → AreOfCall who (Range start end size) first more → told_after first.report.outcome more ≡ Done (Scanned count) → HasScanned start end size count m (told_places [] more) }
+    ensures scan { (s : Whole P) (first : Taken P) (more : List (Taken P)) (fs : Flights P) (m : Pairs P) (who : ℕ) (op : Asks P) (start end size count : ℕ) → Holds P.same_as P.always_copies s → AreTaken P.same_as P.always_copies s (first ∷ more) → IsMapOf (nodes s.forest) m → AreInFlight s fs → range_of op ≡ Some (start, end, size) → AreOfCall who op first more → told_after first.report.outcome more ≡ Done (Scanned count) → HasScanned start end size count m (told_places [] more) }
     ensures registers { (s : Whole P) (who : ℕ) (r : Told P) (s' : Whole P) (fs : Flights P) (m : Pairs P) → Holds P.same_as P.always_copies s → IsStep P.same_as P.always_copies s (record { worker = who; event = Register }) r s' → IsMapOf (nodes s.forest) m → AreInFlight s fs → KeepsAll fs m s' }
     ensures fresh { (s : Whole P) → IsFresh s → IsMapOf (nodes s.forest) empty × AreInFlight s no_flights }
 {}

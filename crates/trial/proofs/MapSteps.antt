@@ -1,5 +1,5 @@
 -- A tree between whole calls, beside the map of its pairs.
-use Rattle.std.proofs.Common.{◌≡◌, ℕ, nat_eq, List, [], ◌∷◌, None}
+use Rattle.std.proofs.Common.{◌≡◌, ℕ, nat_eq, List, [], ◌∷◌, None, Some}
 use Rattle.std.specs.FinMap.{empty}
 use Rattle.judge.specs.Answer.{Pairs}
 use Rattle.congee.specs.Keys.{IsMapOf}
@@ -7,12 +7,11 @@ use Rattle.congee.specs.protocol.Play.{Over}
 use Rattle.joint.specs.declared.steps.Done.TheVariants.{Scanned}
 use Rattle.joint.specs.declared.steps.Event.TheVariants.{Register}
 use Rattle.joint.specs.declared.steps.Op.{Op}
-use Rattle.joint.specs.declared.steps.Op.TheVariants.{Range}
 use Rattle.joint.specs.declared.steps.Outcome.TheVariants.{Done}
 use Rattle.joint.specs.declared.steps.Report.{Report}
 use Rattle.joint.specs.Forest.{nodes}
 use Rattle.joint.specs.MapCalls.{AreOfCall, HasScanned, KeepsAll, PlaysCall, answered_after, told_after, told_places}
-use Rattle.joint.specs.Reports.{target}
+use Rattle.joint.specs.Reports.{range_of, target}
 use Rattle.joint.specs.Runs.{Taken, AreTaken, after_all, Flights, no_flights, AreInFlight, IsFresh}
 use Rattle.joint.specs.Whole.{Whole, Holds, IsStep}
 
@@ -21,8 +20,8 @@ pub record MapLaws : Type 0 where
   pub plays : (s : Whole ℕ) (first : Taken ℕ) (more : List (Taken ℕ)) (fs : Flights ℕ) (m : Pairs ℕ) (who : ℕ) (op : Op ℕ) → Holds nat_eq true s → AreTaken nat_eq true s (first ∷ more)
       → IsMapOf (nodes s.forest) m → AreInFlight s fs → AreOfCall who op first more
       → PlaysCall nat_eq fs m who (answered_after first.report.outcome None more) (target op) (told_after first.report.outcome more) (after_all s (first ∷ more))
-  pub scan : (s : Whole ℕ) (first : Taken ℕ) (more : List (Taken ℕ)) (fs : Flights ℕ) (m : Pairs ℕ) (who start end size count : ℕ) → Holds nat_eq true s → AreTaken nat_eq true s (first ∷ more)
-      → IsMapOf (nodes s.forest) m → AreInFlight s fs → AreOfCall who (Range start end size) first more → told_after first.report.outcome more ≡ Done (Scanned count)
+  pub scan : (s : Whole ℕ) (first : Taken ℕ) (more : List (Taken ℕ)) (fs : Flights ℕ) (m : Pairs ℕ) (who : ℕ) (op : Op ℕ) (start end size count : ℕ) → Holds nat_eq true s → AreTaken nat_eq true s (first ∷ more)
+      → IsMapOf (nodes s.forest) m → AreInFlight s fs → range_of op ≡ Some (start, end, size) → AreOfCall who op first more → told_after first.report.outcome more ≡ Done (Scanned count)
       → HasScanned start end size count m (told_places [] more)
   pub registers : (s : Whole ℕ) (who : ℕ) (r : Report ℕ) (s' : Whole ℕ) (fs : Flights ℕ) (m : Pairs ℕ) → Holds nat_eq true s → IsStep nat_eq true s (record { worker = who; event = Register }) r s'
       → IsMapOf (nodes s.forest) m → AreInFlight s fs → KeepsAll fs m s'

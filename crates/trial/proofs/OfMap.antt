@@ -212,11 +212,11 @@ call_at laws w call.Repin s s' r m b g a = (replied_at w g.1 s' g.0 m (calls_at 
 call_at laws w call.Flush s s' r m b g a = (replied_at w g.1 s' g.0 m (calls_at laws w op.Flush _ None s g.1 g.0 m refl b g.2) g.3.0, tt)
 call_at laws w call.Release s s' r m b g a = (replied_at w g.1 s' g.0 m (calls_at laws w op.Release _ None s g.1 g.0 m refl b g.2) g.3.0, tt)
 call_at laws w (call.Range start end size) s s' r m b g a =
-    let x = scan_finishes laws w start end size (op.Range start end size) (asked.Range start end size) refl refl m None s g.1 g.0 _ b.0 b.2 g.2 (told_answer r _ g.3.1 a) in
+    let x = scan_finishes laws w start end size (op.Range start end size) refl m None s g.1 g.0 _ b.0 b.2 g.2 (told_answer r _ g.3.1 a) in
     let callers = called_callers w (op.Range start end size) None s g.1 g.0 b.1 g.2 in
     (replied_at w g.1 s' g.0 m (x.rests, callers, called_scans w (op.Range start end size) None s g.1 g.0 b.2 g.2) g.3.0, g.3.1 ∙ x.reply)
 call_at laws w (call.Through start last size) s s' r m b g a =
-    let x = scan_finishes laws w start (suc last) size (op.RangeInclusive start last size) (asked.RangeInclusive start last size) refl refl m None s g.1 g.0 _ b.0 b.2 g.2 (told_answer r _ g.3.1 a) in
+    let x = scan_finishes laws w start (suc last) size (op.RangeInclusive start last size) refl m None s g.1 g.0 _ b.0 b.2 g.2 (told_answer r _ g.3.1 a) in
     let callers = called_callers w (op.RangeInclusive start last size) None s g.1 g.0 b.1 g.2 in
     (replied_at w g.1 s' g.0 m (x.rests, callers, called_scans w (op.RangeInclusive start last size) None s g.1 g.0 b.2 g.2) g.3.0, g.3.1 ∙ x.reply)
 call_at laws w call.Keys s s' r m b g a =

@@ -268,6 +268,7 @@ module _ (w : ℕ) (m : Pairs ℕ) where
   plays_key fs last (asks.ComputeInsert k) told s u x = x
   plays_key fs last (asks.Exchange k old new) told s u x = x
   plays_key fs last (asks.Range start end size) told s u x = absurd u
+  plays_key fs last (asks.RangeInclusive start greatest size) told s u x = absurd u
 
 -- a whole call
 pub call_finishes : MapLaws → (w : ℕ) (op : Op ℕ) (a : Asked ℕ) (closure : Option Closure) (m : Pairs ℕ) (p : Point ℕ) (s s' : Index) (told : Outcome ℕ) (ps : List (ℕ × ℕ)) → target op ≡ target.Tree a → IsOnKey a

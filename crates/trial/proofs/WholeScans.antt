@@ -1,5 +1,5 @@
 -- A scan that is taken whole, with no other call in flight: its reply is the map's.
-use Rattle.std.proofs.Common.{◌≡◌, ◌⊎◌, ℕ, ◌<◌, ◌≤◌, ◌==◌, nat_eq, arith, Bool, true, false, List, [], ◌∷◌, length, take, Option, None, refl, sym, ◌∙◌, ap, subst, inl, inr, if◌then◌else◌}
+use Rattle.std.proofs.Common.{◌≡◌, ◌⊎◌, ℕ, ◌<◌, ◌≤◌, ◌==◌, nat_eq, arith, Bool, true, false, List, [], ◌∷◌, length, take, Option, None, Some, refl, sym, ◌∙◌, ap, subst, inl, inr, if◌then◌else◌}
 use Rattle.std.specs.Prelude.{slice_set}
 use Rattle.std.specs.FinMap.{entries}
 use Rattle.std.proofs.lemmas.Bool.{eqb-false, true_from_ne_false}
@@ -8,10 +8,12 @@ use Rattle.judge.specs.Answer.{Pairs}
 use Rattle.congee.specs.owned.Ranges.{in_range}
 use Rattle.congee.specs.protocol.Play.{Flight, Over}
 use Rattle.joint.specs.declared.steps.Done.TheVariants as done
-use Rattle.joint.specs.declared.steps.Op.TheVariants.{Range}
+use Rattle.joint.specs.declared.steps.Op.{Op}
+use Rattle.joint.specs.declared.steps.Op.TheVariants as ops
 use Rattle.joint.specs.declared.steps.Outcome.{Outcome}
 use Rattle.joint.specs.declared.steps.Outcome.TheVariants as outcome
-use Rattle.joint.specs.MapCalls.{HasScanned, IsOfScan, IsScanning, KeepsAll, PlaysScan, told_after, told_places}
+use Rattle.joint.specs.MapCalls.{Answered as Last, HasScanned, IsOfScan, IsScanning, KeepsAll, PlaysCall, PlaysScan, told_after, told_places}
+use Rattle.joint.specs.Reports.{range_of, target}
 use Rattle.joint.specs.Runs.{Flights}
 use Rattle.joint.specs.Whole.{Whole, Holds}
 use Rattle.trial.specs.declared.caller.Closure.{Closure}
@@ -52,10 +54,30 @@ scanning m fs w (outcome.Registered who) s e x = absurd x
 scanning m fs w (outcome.Done d) s e x = absurd (cc e)
 scanning m fs w (outcome.Refused r) s e x = absurd (cc e)
 
-module _ (laws : MapLaws) (w start end size : ℕ) (m : Pairs ℕ) (closure : Option Closure) (s s' : Index) (told : Outcome ℕ) (b : Rests s.world m) (all : length s.scans.items ≡ 256) (c : Called w (Range start end size) closure s s' told) where
+-- what a scan makes of the map
+plays_scan : (fs : Flights ℕ) (m : Pairs ℕ) (w : ℕ) (last : Last ℕ) (op : Op ℕ) (start end size : ℕ) (told : Outcome ℕ) (s : Whole ℕ) → range_of op ≡ Some (start, end, size) → PlaysCall nat_eq fs m w last (target op) told s → PlaysScan fs m w told s
+plays_scan fs m w last (ops.Range a b n) start end size told s e x = x
+plays_scan fs m w last (ops.RangeInclusive a b n) start end size told s e x = x
+plays_scan fs m w last ops.Pin start end size told s e x = absurd (cc e)
+plays_scan fs m w last ops.Unpin start end size told s e x = absurd (cc e)
+plays_scan fs m w last ops.Repin start end size told s e x = absurd (cc e)
+plays_scan fs m w last ops.Flush start end size told s e x = absurd (cc e)
+plays_scan fs m w last ops.Release start end size told s e x = absurd (cc e)
+plays_scan fs m w last (ops.Get k) start end size told s e x = absurd (cc e)
+plays_scan fs m w last (ops.Insert k v) start end size told s e x = absurd (cc e)
+plays_scan fs m w last (ops.Remove k) start end size told s e x = absurd (cc e)
+plays_scan fs m w last (ops.ComputePresent k) start end size told s e x = absurd (cc e)
+plays_scan fs m w last (ops.ComputeInsert k) start end size told s e x = absurd (cc e)
+plays_scan fs m w last (ops.Exchange k old new) start end size told s e x = absurd (cc e)
+plays_scan fs m w last ops.Keys start end size told s e x = absurd (cc e)
+plays_scan fs m w last ops.IsEmpty start end size told s e x = absurd (cc e)
+plays_scan fs m w last ops.Stats start end size told s e x = absurd (cc e)
+
+module _ (laws : MapLaws) (w start end size : ℕ) (op : Op ℕ) (ranged : range_of op ≡ Some (start, end, size)) (m : Pairs ℕ) (closure : Option Closure) (s s' : Index) (told : Outcome ℕ) (b : Rests s.world m) (all : length s.scans.items ≡ 256) (c : Called w op closure s s' told) where
   -- its first step
   began : PlaysScan b.flights m w c.report.outcome c.mid.world
-  began = laws.plays s.world (first_of w (Range start end size) closure s s' told c) [] b.flights m w (Range start end size) b.holds (c.step, tt) b.stand b.in_flight (record { begins = refl; goes_on = tt })
+  began = plays_scan b.flights m w _ op start end size c.report.outcome c.mid.world ranged
+      (laws.plays s.world (first_of w op closure s s' told c) [] b.flights m w op b.holds (c.step, tt) b.stand b.in_flight (record { begins = refl; goes_on = tt }))
 
   cleared : is_running c.report.outcome ≡ true → (w < length c.mid.scans.items) × (places_at c.mid.scans.items w ≡ [])
   cleared on =
@@ -72,7 +94,7 @@ module _ (laws : MapLaws) (w start end size : ℕ) (m : Pairs ℕ) (closure : Op
   -- where it is done, its places hold what it told for them
   found : (count : ℕ) → told ≡ outcome.Done (done.Scanned count) → take count (places_at s'.scans.items w) ≡ finds m start end size
   found count e =
-      let x = laws.scan s.world (first_of w (Range start end size) closure s s' told c) c.rest.steps b.flights m w start end size count b.holds (c.step, c.rest.each) b.stand b.in_flight (record { begins = refl; goes_on = c.rest.goes_on }) (c.rest.told_last ∙ e) in
+      let x = laws.scan s.world (first_of w op closure s s' told c) c.rest.steps b.flights m w op start end size count b.holds (c.step, c.rest.each) b.stand b.in_flight ranged (record { begins = refl; goes_on = c.rest.goes_on }) (c.rest.told_last ∙ e) in
       let is : take count (told_places [] c.rest.steps) ≡ finds m start end size = scan_of_one m start end size (take count (told_places [] c.rest.steps)) x.scan in
       elim c.ran [
         | inl none ↦ (
@@ -89,11 +111,11 @@ pub record FoundAll (m : Pairs ℕ) (start end size w : ℕ) (s : Index) (stands
   pub reply : reply_of (given stands (places_at s.scans.items w)) stands ≡ reply.Range (finds m start end size)
 
 -- a whole scan
-pub scan_finishes : MapLaws → (w start end size : ℕ) (m : Pairs ℕ) (closure : Option Closure) (s s' : Index) (last : Outcome ℕ) (ps : List (ℕ × ℕ)) → Rests s.world m
-    → length s.scans.items ≡ 256 → Calls s w (Range start end size) closure last s' → IsAnswer (reply_of ps last) → FoundAll m start end size w s' last
-scan_finishes laws w start end size m closure s s' last ps b len g a = by_told last refl (plays_call w (Range start end size) closure s s' last c laws m b) where
-  c : Called w (Range start end size) closure s s' last
-  c = called w (Range start end size) closure s s' last g
+pub scan_finishes : MapLaws → (w start end size : ℕ) (op : Op ℕ) → range_of op ≡ Some (start, end, size) → (m : Pairs ℕ) (closure : Option Closure) (s s' : Index) (last : Outcome ℕ) (ps : List (ℕ × ℕ)) → Rests s.world m
+    → length s.scans.items ≡ 256 → Calls s w op closure last s' → IsAnswer (reply_of ps last) → FoundAll m start end size w s' last
+scan_finishes laws w start end size op ranged m closure s s' last ps b len g a = by_told last refl (plays_scan b.flights m w _ op start end size last s'.world ranged (plays_call w op closure s s' last c laws m b)) where
+  c : Called w op closure s s' last
+  c = called w op closure s s' last g
 
   no_answer : (o : Outcome ℕ) → last ≡ o → (IsAnswer (reply_of ps o) → ⊥) → FoundAll m start end size w s' last
   no_answer o e n = absurd (n (let P : Outcome ℕ → Type 0 = λ x. IsAnswer (reply_of ps x) in subst P e a))
@@ -101,7 +123,7 @@ scan_finishes laws w start end size m closure s s' last ps b len g a = by_told l
   by_told : (o : Outcome ℕ) → last ≡ o → PlaysScan b.flights m w o s'.world → FoundAll m start end size w s' last
   by_told (outcome.Done (done.Scanned count)) e x = record {
     rests = rests_after m s.world s'.world b c.holds x;
-    reply = ap (λ (o : Outcome ℕ). reply_of (given o (places_at s'.scans.items w)) o) e ∙ ap reply.Range (found laws w start end size m closure s s' last b len c count e);
+    reply = ap (λ (o : Outcome ℕ). reply_of (given o (places_at s'.scans.items w)) o) e ∙ ap reply.Range (found laws w start end size op ranged m closure s s' last b len c count e);
   }
   by_told (outcome.Done done.Unit) e x = absurd x
   by_told (outcome.Done (done.Reply r)) e x = absurd x

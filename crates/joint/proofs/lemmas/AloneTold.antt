@@ -104,6 +104,7 @@ module _ {V : Type 0} where
 
   begun_kind : (o : Op V) (p : Point V) → target o ≡ target.Tree p → Kinded o (flight (begun root p))
   begun_kind o (point.Range start end size) t = tt
+  begun_kind o (point.RangeInclusive start last size) t = tt
   begun_kind o (point.Get k) t = (point.Get k, t, refl)
   begun_kind o (point.Insert k v) t = (point.Insert k v, t, refl)
   begun_kind o (point.Remove k) t = (point.Remove k, t, refl)
@@ -135,6 +136,7 @@ module _ {V : Type 0} where
   is_answer (op.ComputeInsert k) kd answer p t e r = let i : point.ComputeInsert k ≡ p = cc in by_kind kind.ComputeInsert kd answer (ap (λ (y : Point V). (parts y).1) i ∙ e) (inserted k answer r)
   is_answer (op.Exchange k a b) kd answer p t e r = let i : point.Exchange k a b ≡ p = cc in by_kind (kind.Exchange a) kd answer (ap (λ (y : Point V). (parts y).1) i ∙ e) (plain (op.Exchange k a b) (kind.Exchange a) answer (λ a. tt) r)
   is_answer (op.Range start end size) kd answer p t e r = let i : point.Range start end size ≡ p = cc in by_kind kind.Get kd answer (ap (λ (y : Point V). (parts y).1) i ∙ e) (plain (op.Range start end size) kind.Get answer (λ a. tt) r)
+  is_answer (op.RangeInclusive start last size) kd answer p t e r = let i : point.RangeInclusive start last size ≡ p = cc in by_kind kind.Get kd answer (ap (λ (y : Point V). (parts y).1) i ∙ e) (plain (op.RangeInclusive start last size) kind.Get answer (λ a. tt) r)
   is_answer _ kd answer p t e r = absurd (cc t)
 
   replies : (o : Op V) (t : Outcome V) (answer : Option (Option V)) → is_question t ≡ true → RepliesTo o t answer → IsReply o answer
@@ -179,12 +181,14 @@ module _ {V : Type 0} where
 
 module _ {V : Type 0} (same : V → V → Bool) (always : Bool) where
   -- a begin asks nothing
+  scan_quiet : (s s' : Whole V) (w : ℕ) (p : Point V) (r : Report V) (none : Bool) → EntersUnless none s w p r s' → is_question r.outcome ≡ false
+  scan_quiet s s' w p r true y = ap (λ z. is_question z.outcome) y.report
+  scan_quiet s s' w p r false y = ap (λ z. is_question z.outcome) y.report
+
   tree_quiet : (s s' : Whole V) (w : ℕ) (p : Point V) (r : Report V) → BeginsOnTree same always s w p r s' → is_question r.outcome ≡ false
   tree_quiet s s' w (point.Get k) r x = ap (λ y. is_question y.outcome) x.report
-  tree_quiet s s' w (point.Range start end size) r x = by (finds_none {V = V} (point.Range start end size)) x where
-    by : (b : Bool) → EntersUnless b s w (point.Range start end size) r s' → is_question r.outcome ≡ false
-    by true y = ap (λ z. is_question z.outcome) y.report
-    by false y = ap (λ z. is_question z.outcome) y.report
+  tree_quiet s s' w (point.Range start end size) r x = scan_quiet s s' w (point.Range start end size) r (finds_none {V = V} (point.Range start end size)) x
+  tree_quiet s s' w (point.RangeInclusive start last size) r x = scan_quiet s s' w (point.RangeInclusive start last size) r (finds_none {V = V} (point.RangeInclusive start last size)) x
   tree_quiet s s' w (point.Insert k v) r x = ap (λ y. is_question y.outcome) x.report
   tree_quiet s s' w (point.Remove k) r x = ap (λ y. is_question y.outcome) x.report
   tree_quiet s s' w (point.ComputePresent k) r x = ap (λ y. is_question y.outcome) x.report

@@ -135,6 +135,7 @@ module _ {V : Type 0} (same : V → V → Bool) where
   -- a call on one key waits to take effect from its begin on
   begins_pending : (p : Point V) → IsOnKey p → flight (begun root p) ≡ Pending (parts p).0 (parts p).1 (parts p).2 Unasked
   begins_pending (point.Range start end size) n = absurd n
+  begins_pending (point.RangeInclusive start last size) n = absurd n
   begins_pending (point.Get k) n = refl
   begins_pending (point.Insert k v) n = refl
   begins_pending (point.Remove k) n = refl

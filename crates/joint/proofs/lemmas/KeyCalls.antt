@@ -16,7 +16,7 @@ use Rattle.congee.specs.declared.protocol.op.Op.TheVariants as point
 use Rattle.congee.specs.declared.protocol.phase.Kind.{Kind as Does}
 use Rattle.congee.specs.declared.protocol.phase.Kind.TheVariants as does
 use Rattle.congee.specs.Keys.{IsMapOf}
-use Rattle.congee.specs.protocol.Play.{Flight, Pending, Decided, Over, Question, Unasked, Asked, Replied, begun, parts, flight, Unbegun, Scanning, heard, resolved, Carries, Undecided, Heeds, Concludes, ScanTells}
+use Rattle.congee.specs.protocol.Play.{Flight, Pending, Decided, Over, Question, Unasked, Asked, Replied, begun, parts, range_of, flight, Unbegun, Scanning, heard, resolved, Carries, Undecided, Heeds, Concludes, ScanTells}
 use Rattle.congee.specs.protocol.Protocol.{IsCall, Asking}
 use Rattle.congee.specs.protocol.Sweeps.{Stood, AllStood, Throughout, IsScan}
 use Rattle.joint.specs.declared.id.Id.{Id}
@@ -39,7 +39,7 @@ use Rattle.joint.specs.Forest.{nodes}
 use Rattle.joint.specs.Intact.{root}
 use Rattle.joint.specs.MapCalls.{GoesOn, AllGoOn, AreOfCall, told_after, Answered, answered_by, answer_in, answered_after, IsPresent, IsComputed, IsOnMap, TookEffect, IsUndecided, IsDecided, IsOfScan, KeepsAll, told_places, HasScanned, IsDoneWith, PlaysKey, IsScanning, IsScanDone, PlaysScan, PlaysCall, CallPlays}
 use Rattle.joint.specs.Reports.{target, told}
-use Rattle.joint.specs.Runs.{Taken, AreTaken, after_all, IsRun, Line, Flights, with_flight, Stays, BeginsFlight, EndsAtOnce, BeginsOr, BeginMap, MapStep, PendingStep, Advances, GoMap, InFlight, AreInFlight}
+use Rattle.joint.specs.Runs.{Taken, AreTaken, after_all, IsRun, Line, Flights, with_flight, Stays, BeginsFlight, EndsEmpty, EndsAtOnce, BeginsOr, BeginMap, MapStep, PendingStep, Advances, GoMap, InFlight, AreInFlight}
 use Rattle.joint.specs.Scans.{placed}
 use Rattle.joint.specs.Surveys.{MapTells}
 use Rattle.joint.specs.Whole.{Whole, Holds, IsOnKey, IsStep, engine_of, is_in_flight}
@@ -166,6 +166,7 @@ module _ {V : Type 0} where
   on_map m (point.ComputeInsert k) v q last c u r is h = computed k (get m k) v q last c r is h
   on_map m (point.Exchange k old new) v q last c u r is h = is ∙ ap (entered.Exchange k old) (given_ready (does.Exchange old) new v q last r)
   on_map m (point.Range start end size) v q last c u r is h = absurd u
+  on_map m (point.RangeInclusive start greatest size) v q last c u r is h = absurd u
 
   -- it begins unasked, and doesn't end as it begins
   unbegun : (p : Point V) → IsOnKey p → flight (begun root p) ≡ Pending (parts p).0 (parts p).1 (parts p).2 Unasked
@@ -176,6 +177,7 @@ module _ {V : Type 0} where
   unbegun (point.ComputeInsert k) u = refl
   unbegun (point.Exchange k old new) u = refl
   unbegun (point.Range start end size) u = absurd u
+  unbegun (point.RangeInclusive start last size) u = absurd u
 
   given_first : (p : Point V) → IsOnKey p → Given (parts p).1 (parts p).2 (parts p).2
   given_first (point.Get k) u = refl
@@ -185,15 +187,25 @@ module _ {V : Type 0} where
   given_first (point.ComputeInsert k) u = tt
   given_first (point.Exchange k old new) u = refl
   given_first (point.Range start end size) u = absurd u
+  given_first (point.RangeInclusive start last size) u = absurd u
+
+  no_range : (p : Point V) → IsOnKey p → range_of p ≡ None
+  no_range (point.Get k) u = refl
+  no_range (point.Insert k v) u = refl
+  no_range (point.Remove k) u = refl
+  no_range (point.ComputePresent k) u = refl
+  no_range (point.ComputeInsert k) u = refl
+  no_range (point.Exchange k old new) u = refl
+  no_range (point.Range start end size) u = absurd u
+  no_range (point.RangeInclusive start last size) u = absurd u
 
   never_at_once : (fs : Flights V) (m : Pairs V) (p : Point V) (d : Answer V) (l : Line V) (fs' : Flights V) → IsOnKey p → EndsAtOnce fs m p d l fs' → ⊥
-  never_at_once fs m (point.Get k) d l fs' u x = x
-  never_at_once fs m (point.Insert k v) d l fs' u x = x
-  never_at_once fs m (point.Remove k) d l fs' u x = x
-  never_at_once fs m (point.ComputePresent k) d l fs' u x = x
-  never_at_once fs m (point.ComputeInsert k) d l fs' u x = x
-  never_at_once fs m (point.Exchange k old new) d l fs' u x = x
-  never_at_once fs m (point.Range start end size) d l fs' u x = u
+  never_at_once fs m p (done.Scanned count) l fs' u x = let P : Option (ℕ × ℕ × ℕ) → Type 0 = λ o. EndsEmpty o count fs m l fs' in subst P (no_range p u) x
+  never_at_once fs m p done.Unit l fs' u x = x
+  never_at_once fs m p (done.Reply r) l fs' u x = x
+  never_at_once fs m p (done.Keys keys) l fs' u x = x
+  never_at_once fs m p (done.Empty e) l fs' u x = x
+  never_at_once fs m p (done.Stats stats) l fs' u x = x
 
 -- a call's first step, and a further one
 abbrev pub begin_of : {V : Type 0} → ℕ → Op V → Step V

@@ -184,13 +184,14 @@ module _ {V : Type 0} (same : V → V → Bool) (always : Bool) (s s' : Whole V)
     enters_on : (r : Report V) → r ≡ quiet TreeKind Running → is_in_flight r.outcome ≡ false → ⊥
     enters_on r e off = false≢true (sym off ∙ ap (λ y. is_in_flight y.outcome) e)
 
+    scan_past : (p : Point V) (r : Report V) (none : Bool) → is_in_flight r.outcome ≡ false → EntersUnless none s w p r s' → After
+    scan_past p r true off y = past_same (ap (λ z. z.calls) y.state) (ap (λ z. z.machines) y.state) u
+    scan_past p r false off y = absurd (enters_on r y.report off)
+
     tree_past : (p : Point V) (r : Report V) → BeginsOnTree same always s w p r s' → is_in_flight r.outcome ≡ false → After
     tree_past (point.Get k) r x off = absurd (enters_on r x.report off)
-    tree_past (point.Range start end size) r x off = by (finds_none {V = V} (point.Range start end size)) x
-      where
-        by : (b : Bool) → EntersUnless b s w (point.Range start end size) r s' → After
-        by true y = past_same (ap (λ z. z.calls) y.state) (ap (λ z. z.machines) y.state) u
-        by false y = absurd (enters_on r y.report off)
+    tree_past (point.Range start end size) r x off = scan_past (point.Range start end size) r (finds_none {V = V} (point.Range start end size)) off x
+    tree_past (point.RangeInclusive start last size) r x off = scan_past (point.RangeInclusive start last size) r (finds_none {V = V} (point.RangeInclusive start last size)) off x
     tree_past (point.Insert k v) r x off = absurd (enters_on r x.report off)
     tree_past (point.Remove k) r x off = absurd (enters_on r x.report off)
     tree_past (point.ComputePresent k) r x off = absurd (enters_on r x.report off)

@@ -270,13 +270,14 @@ module _ {V : Type 0} (same : V → V → Bool) (always : Bool) (laws : CallLaws
         taken = λ i n x. inl (walks_left i n x);
       }
 
+    scan_begins : (op : Point V) (none : Bool) → KeepsTaken → EntersUnless none s w op r s' → Parts s s' w event
+    scan_begins op true t x = calm (ap (λ y. nodes y.forest) x.state) t
+    scan_begins op false t x = calm (ap (λ y. nodes y.forest) x.state) t
+
     begins_tree : (op : Point V) → KeepsTaken → BeginsOnTree same always s w op r s' → Parts s s' w event
     begins_tree (point.Get k) t x = calm (ap (λ y. nodes y.forest) x.state) t
-    begins_tree (point.Range start end size) t x = scan_begins (finds_none {V = V} (point.Range start end size)) x
-      where
-        scan_begins : (none : Bool) → EntersUnless none s w (point.Range start end size) r s' → Parts s s' w event
-        scan_begins true x = calm (ap (λ y. nodes y.forest) x.state) t
-        scan_begins false x = calm (ap (λ y. nodes y.forest) x.state) t
+    begins_tree (point.Range start end size) t x = scan_begins (point.Range start end size) (finds_none {V = V} (point.Range start end size)) t x
+    begins_tree (point.RangeInclusive start last size) t x = scan_begins (point.RangeInclusive start last size) (finds_none {V = V} (point.RangeInclusive start last size)) t x
     begins_tree (point.Insert k v) t x = calm (ap (λ y. nodes y.forest) x.state) t
     begins_tree (point.Remove k) t x = calm (ap (λ y. nodes y.forest) x.state) t
     begins_tree (point.ComputePresent k) t x = calm (ap (λ y. nodes y.forest) x.state) t

@@ -16,16 +16,17 @@ use Rattle.congee.specs.declared.protocol.op.Op.TheVariants as point
 use Rattle.congee.specs.declared.protocol.phase.Kind.{Kind as Does}
 use Rattle.congee.specs.declared.protocol.phase.Kind.TheVariants as does
 use Rattle.congee.specs.Keys.{IsMapOf}
-use Rattle.congee.specs.protocol.Play.{Flight, Pending, Decided, Over, Question, Unasked, Asked, Replied, begun, parts, flight, Unbegun, Scanning, heard, resolved, Carries, Undecided, Heeds, Concludes, ScanTells}
+use Rattle.congee.specs.protocol.Play.{Flight, Pending, Decided, Over, Question, Unasked, Asked, Replied, begun, parts, range_of as point_range, IsScanOf, IsOfRange, flight, Unbegun, Scanning, heard, resolved, Carries, Undecided, Heeds, Concludes, ScanTells}
 use Rattle.congee.specs.protocol.Protocol.{IsCall, Asking}
 use Rattle.congee.specs.protocol.Sweeps.{Stood, AllStood, Throughout, IsScan}
+use Rattle.congee.proofs.lemmas.protocol.SweepRanges.{of_range}
 use Rattle.joint.specs.declared.id.Id.{Id}
 use Rattle.joint.specs.declared.steps.Done.{Done as Answer}
 use Rattle.joint.specs.declared.steps.Done.TheVariants as done
 use Rattle.joint.specs.declared.steps.Event.TheVariants.{Register, Begin, Go}
 use Rattle.joint.specs.declared.steps.Done.TheVariants.{Scanned}
 use Rattle.joint.specs.declared.steps.Op.{Op}
-use Rattle.joint.specs.declared.steps.Op.TheVariants.{Range}
+use Rattle.joint.specs.declared.steps.Op.TheVariants as ops
 use Rattle.joint.specs.declared.steps.Outcome.{Outcome}
 use Rattle.joint.specs.declared.steps.Outcome.TheVariants.{Running, Asks, Found, Registered, Done, Refused}
 use Rattle.joint.specs.declared.steps.Report.{Report}
@@ -38,7 +39,7 @@ use Rattle.joint.specs.Calling.{IsCalled, goes_on, next_step, steps_of, GoOn, la
 use Rattle.joint.specs.Forest.{nodes}
 use Rattle.joint.specs.Intact.{root}
 use Rattle.joint.specs.MapCalls.{GoesOn, AllGoOn, AreOfCall, told_after, Answered, answered_by, answer_in, answered_after, IsPresent, IsComputed, IsOnMap, TookEffect, IsUndecided, IsDecided, IsOfScan, KeepsAll, told_places, HasScanned, IsDoneWith, PlaysKey, IsScanning, IsScanDone, PlaysScan, PlaysCall, CallPlays}
-use Rattle.joint.specs.Reports.{target, told}
+use Rattle.joint.specs.Reports.{range_of, target, told}
 use Rattle.joint.specs.Runs.{Taken, AreTaken, after_all, IsRun, Line, Flights, with_flight, Stays, BeginsFlight, EndsAtOnce, BeginsOr, BeginMap, MapStep, PendingStep, Advances, GoMap, InFlight, AreInFlight}
 use Rattle.joint.specs.Scans.{placed}
 use Rattle.joint.specs.Surveys.{MapTells}
@@ -114,13 +115,27 @@ module _ {V : Type 0} (same : V → V → Bool) (always : Bool) (fs : Flights V)
       let z = survey_step op k s first.report first.after e h b x in
       absurd (let f : true ≡ false = sym g.0.in_flight ∙ told_ended m k first.report.outcome z.0 in cc f)
 
+-- the flight of a scan's begin keeps the promise of its own range
+scan_of : {V : Type 0} (asked : Point V) (start end size : ℕ) → point_range asked ≡ Some (start, end, size) → IsScanOf start end size (flight (begun root asked))
+scan_of asked start end size ranged =
+    let P : Option (ℕ × ℕ × ℕ) → Type 0 = λ a. IsOfRange a (flight (begun root asked)) in
+    subst P ranged (of_range root asked)
+
 module _ {V : Type 0} (same : V → V → Bool) (always : Bool) (fs : Flights V) (m : Pairs V) (w : ℕ) where
+  -- a scan
+  scan_call : (op : Op V) (asked : Point V) (start end size : ℕ) → point_range asked ≡ Some (start, end, size) → (s : Whole V) (first : Taken V) (more : List (Taken V)) → target op ≡ target.Tree asked → Holds same always s → KeepsAll fs m s
+      → IsStep same always s (begin_of w op) first.report first.after → AreTaken same always first.after more → AllGoOn w first.report.outcome more → PlaysScan fs m w (told_after first.report.outcome more) (after_all first.after more)
+  scan_call op asked start end size ranged s first more e h b x y g =
+      let k = scan_of asked start end size ranged in
+      scan_plays same always fs m w start end size k.from k.to k.places k.promises _ _ _ (sweeps same always fs m w start end size k.from k.to k.places k.promises op asked s first more e ranged k.unbegun h b x y g)
+
   -- any call
   by_target : (op : Op V) (t : Target V) (s : Whole V) (first : Taken V) (more : List (Taken V)) → target op ≡ t → Holds same always s → KeepsAll fs m s → IsStep same always s (begin_of w op) first.report first.after
       → AreTaken same always first.after more → AllGoOn w first.report.outcome more → PlaysCall same fs m w (answered_after first.report.outcome None more) t (told_after first.report.outcome more) (after_all first.after more)
   by_target op (target.Collector t) s first more e h b x y g = quiet_call same always fs m w op t s first more e h b x y g
   by_target op (target.Survey k) s first more e h b x y g = survey_call same always fs m w op k s first more e h b x g
-  by_target op (target.Tree (point.Range start end size)) s first more e h b x y g = scan_plays same always fs m w start end size _ _ _ (sweeps same always fs m w start end size op s first more e h b x y g)
+  by_target op (target.Tree (point.Range start end size)) s first more e h b x y g = scan_call op (point.Range start end size) start end size refl s first more e h b x y g
+  by_target op (target.Tree (point.RangeInclusive start last size)) s first more e h b x y g = scan_call op (point.RangeInclusive start last size) start (suc last) size refl s first more e h b x y g
   by_target op (target.Tree (point.Get k)) s first more e h b x y g = key_plays same always fs m w (point.Get k) tt op s first more e h b.0 b.1 x y g
   by_target op (target.Tree (point.Insert k v)) s first more e h b x y g = key_plays same always fs m w (point.Insert k v) tt op s first more e h b.0 b.1 x y g
   by_target op (target.Tree (point.Remove k)) s first more e h b x y g = key_plays same always fs m w (point.Remove k) tt op s first more e h b.0 b.1 x y g
@@ -161,6 +176,7 @@ module _ {V : Type 0} (same : V → V → Bool) (always : Bool) (fs : Flights V)
   away (target.Tree (point.ComputeInsert k)) last said s x = away_key (point.ComputeInsert k) last said s x
   away (target.Tree (point.Exchange k old new)) last said s x = away_key (point.Exchange k old new) last said s x
   away (target.Tree (point.Range start end size)) last said s x = away_scan said s x
+  away (target.Tree (point.RangeInclusive start end size)) last said s x = away_scan said s x
   away (target.Collector op) last said s x = x
   away (target.Survey k) last said s x = (subst (λ o. MapTells m k o) (away_told said (told_ended m k said x.0)) x.0, x.1)
 
@@ -180,13 +196,34 @@ module _ {V : Type 0} (same : V → V → Bool) (always : Bool) where
       stays fs m (record { step = step; report = r; entry = y.entry; pairs = y.pairs }) y.flights s' y.map y.stand y.in_flight
 
   -- what a scan that is done has told
-  pub scanned : (s : Whole V) (first : Taken V) (more : List (Taken V)) (fs : Flights V) (m : Pairs V) (who start end size count : ℕ) → Holds same always s → AreTaken same always s (first ∷ more) → IsMapOf (nodes s.forest) m → AreInFlight s fs
-      → AreOfCall who (Range start end size) first more → told_after first.report.outcome more ≡ Done (Scanned count) → HasScanned start end size count m (told_places [] more)
-  scanned s first more fs m who start end size count h x st fl c e =
+  scanned_so : (s : Whole V) (first : Taken V) (more : List (Taken V)) (fs : Flights V) (m : Pairs V) (who : ℕ) (op : Op V) (asked : Point V) (start end size count : ℕ) → target op ≡ target.Tree asked → point_range asked ≡ Some (start, end, size)
+      → Holds same always s → AreTaken same always s (first ∷ more) → IsMapOf (nodes s.forest) m → AreInFlight s fs → AreOfCall who op first more → told_after first.report.outcome more ≡ Done (Scanned count)
+      → HasScanned start end size count m (told_places [] more)
+  scanned_so s first more fs m who op asked start end size count on ranged h x st fl c e =
+      let k = scan_of asked start end size ranged in
       let P : Step V → Type 0 = λ y. IsStep same always s y first.report first.after in
-      let Q : Outcome V → Type 0 = λ o. Sweeps same always fs m who start end size (told_places [] more) o (after_all first.after more) in
-      let y : Q (Done (Scanned count)) = subst Q e (sweeps same always fs m who start end size (Range start end size) s first more refl h (st, fl) (subst P c.begins x.0) x.1 c.goes_on) in
+      let Q : Outcome V → Type 0 = λ o. Sweeps same always fs m who start end size k.from k.to k.places k.promises (told_places [] more) o (after_all first.after more) in
+      let y : Q (Done (Scanned count)) = subst Q e (sweeps same always fs m who start end size k.from k.to k.places k.promises op asked s first more on ranged k.unbegun h (st, fl) (subst P c.begins x.0) x.1 c.goes_on) in
       y.0
+
+  pub scanned : (s : Whole V) (first : Taken V) (more : List (Taken V)) (fs : Flights V) (m : Pairs V) (who : ℕ) (op : Op V) (start end size count : ℕ) → Holds same always s → AreTaken same always s (first ∷ more) → IsMapOf (nodes s.forest) m → AreInFlight s fs
+      → range_of op ≡ Some (start, end, size) → AreOfCall who op first more → told_after first.report.outcome more ≡ Done (Scanned count) → HasScanned start end size count m (told_places [] more)
+  scanned s first more fs m who (ops.Range a b n) start end size count h x st fl ranged c e = scanned_so s first more fs m who (ops.Range a b n) (point.Range a b n) start end size count refl ranged h x st fl c e
+  scanned s first more fs m who (ops.RangeInclusive a b n) start end size count h x st fl ranged c e = scanned_so s first more fs m who (ops.RangeInclusive a b n) (point.RangeInclusive a b n) start end size count refl ranged h x st fl c e
+  scanned s first more fs m who (ops.Pin) start end size count h x st fl ranged c e = absurd (cc ranged)
+  scanned s first more fs m who (ops.Unpin) start end size count h x st fl ranged c e = absurd (cc ranged)
+  scanned s first more fs m who (ops.Repin) start end size count h x st fl ranged c e = absurd (cc ranged)
+  scanned s first more fs m who (ops.Flush) start end size count h x st fl ranged c e = absurd (cc ranged)
+  scanned s first more fs m who (ops.Release) start end size count h x st fl ranged c e = absurd (cc ranged)
+  scanned s first more fs m who (ops.Get k) start end size count h x st fl ranged c e = absurd (cc ranged)
+  scanned s first more fs m who (ops.Insert k v) start end size count h x st fl ranged c e = absurd (cc ranged)
+  scanned s first more fs m who (ops.Remove k) start end size count h x st fl ranged c e = absurd (cc ranged)
+  scanned s first more fs m who (ops.ComputePresent k) start end size count h x st fl ranged c e = absurd (cc ranged)
+  scanned s first more fs m who (ops.ComputeInsert k) start end size count h x st fl ranged c e = absurd (cc ranged)
+  scanned s first more fs m who (ops.Exchange k old new) start end size count h x st fl ranged c e = absurd (cc ranged)
+  scanned s first more fs m who (ops.Keys) start end size count h x st fl ranged c e = absurd (cc ranged)
+  scanned s first more fs m who (ops.IsEmpty) start end size count h x st fl ranged c e = absurd (cc ranged)
+  scanned s first more fs m who (ops.Stats) start end size count h x st fl ranged c e = absurd (cc ranged)
 
 module _ {V : Type 0} (who : ℕ) where
   abbrev reports_of : List (Taken V) → List (Report V)

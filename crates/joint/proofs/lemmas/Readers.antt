@@ -289,12 +289,12 @@ module _ {V : Type 0} (same : V → V → Bool) (always : Bool) (turns : Progres
             subst P (sym c) (subst Q (sym m) (k, u))),
       )
 
-      scan_begins : (start end size : ℕ) (r : Report V) (b : Bool) → EntersUnless b s w (point.Range start end size) r s' → Begun r
-      scan_begins start end size r true x = (
+      scan_begins : (p : Point V) (r : Report V) (b : Bool) → (begun root p).kind ≡ kind.Get → Reads (begun root p).phase → EntersUnless b s w p r s' → Begun r
+      scan_begins p r true k u x = (
         (λ e q. let z : Done _ ≡ Refused e = sym (ap (λ y. y.outcome) x.report) ∙ q in cc),
         (λ b. absurd (false≢true (sym (ap (λ y. is_in_flight y.outcome) x.report) ∙ b))),
       )
-      scan_begins start end size r false x = enters (point.Range start end size) r refl tt x
+      scan_begins p r false k u x = enters p r k u x
 
     empties : (h : ℕ → Node V) (o : Outcome V) → TellsEmpty h o → ((e : Refusal) → o ≡ Refused e → ⊥) × (is_in_flight o ≡ false)
     empties h (Done d) x = ((λ e q. cc q), refl)
@@ -320,7 +320,8 @@ module _ {V : Type 0} (same : V → V → Bool) (always : Bool) (turns : Progres
         busy_after turned.Done e b = absurd (false≢true b)
         busy_after (turned.Refused f) e b = absurd (false≢true b)
     reader_begins (op.Get k) r n q x = enters (op.Get k) n (point.Get k) r refl tt x
-    reader_begins (op.Range start end size) r n q x = scan_begins (op.Range start end size) n start end size r (finds_none {V = V} (point.Range start end size)) x
+    reader_begins (op.Range start end size) r n q x = scan_begins (op.Range start end size) n (point.Range start end size) r (finds_none {V = V} (point.Range start end size)) refl tt x
+    reader_begins (op.RangeInclusive start last size) r n q x = scan_begins (op.RangeInclusive start last size) n (point.RangeInclusive start last size) r (finds_none {V = V} (point.RangeInclusive start last size)) refl tt x
     reader_begins op.IsEmpty r n q x =
         let z = empties (nodes s.forest) x.outcome x.tells in
         ((λ e y. z.0 e (sym (ap (λ y. y.outcome) x.report) ∙ y)), (λ b. absurd (false≢true (sym (ap (λ y. is_in_flight y.outcome) x.report ∙ z.1) ∙ b))))

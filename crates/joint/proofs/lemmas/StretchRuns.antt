@@ -89,6 +89,7 @@ module _ {V : Type 0} where
   begun_unmade (point.ComputeInsert k) n x = x
   begun_unmade (point.Exchange k a b) n x = x
   begun_unmade (point.Range start end size) n x = x
+  begun_unmade (point.RangeInclusive start last size) n x = x
 
   rested_made : (m : Machine Id V) (n : ℕ) → MadeBy id_number (rested m).phase n → MadeBy id_number m.phase n
   rested_made m n x = by (is_done m.phase) x where
@@ -156,9 +157,9 @@ module _ {V : Type 0} (same : V → V → Bool) (always : Bool) (laws : CallLaws
     enters : (o : Point V) (r : Report V) → Enters s w o r s' → Lasts s → Lasts s'
     enters o r x l = same_forest (ap (λ y. y.forest) x.state) (instead s.machines (begun root o) (begun_unmade o n) refl (ap (λ y. y.machines) x.state)) l
 
-    scan_begins : (start end size : ℕ) (r : Report V) (none : Bool) → EntersUnless none s w (point.Range start end size) r s' → Lasts s → Lasts s'
-    scan_begins start end size r true x l = same_forest (ap (λ y. y.forest) x.state) (still (ap (λ y. y.machines) x.state)) l
-    scan_begins start end size r false x l = enters (point.Range start end size) r x l
+    scan_begins : (o : Point V) (r : Report V) (none : Bool) → EntersUnless none s w o r s' → Lasts s → Lasts s'
+    scan_begins o r true x l = same_forest (ap (λ y. y.forest) x.state) (still (ap (λ y. y.machines) x.state)) l
+    scan_begins o r false x l = enters o r x l
 
     reserves : (o : Point V) (r : Report V) → Reserves s w o r s' → Lasts s → Lasts s'
     reserves o r x l = same_forest (ap (λ y. y.forest) x.state) (still (ap (λ y. y.machines) x.state)) l
@@ -256,7 +257,8 @@ module _ {V : Type 0} (same : V → V → Bool) (always : Bool) (laws : CallLaws
 
     begins_tree : (o : Point V) (r : Report V) → BeginsOnTree same always s w o r s' → Lasts s → Lasts s'
     begins_tree (point.Get k) r x l = enters (point.Get k) r x l
-    begins_tree (point.Range start end size) r x l = scan_begins start end size r (finds_none {V = V} (point.Range start end size)) x l
+    begins_tree (point.Range start end size) r x l = scan_begins (point.Range start end size) r (finds_none {V = V} (point.Range start end size)) x l
+    begins_tree (point.RangeInclusive start last size) r x l = scan_begins (point.RangeInclusive start last size) r (finds_none {V = V} (point.RangeInclusive start last size)) x l
     begins_tree (point.Insert k v) r x l = reserves (point.Insert k v) r x l
     begins_tree (point.Remove k) r x l = reserves (point.Remove k) r x l
     begins_tree (point.ComputePresent k) r x l = reserves (point.ComputePresent k) r x l
@@ -276,6 +278,7 @@ module _ {V : Type 0} (same : V → V → Bool) (always : Bool) (laws : CallLaws
     begins (op.ComputeInsert k) r calm x l = begins_tree (point.ComputeInsert k) r x l
     begins (op.Exchange k a b) r calm x l = begins_tree (point.Exchange k a b) r x l
     begins (op.Range start end size) r calm x l = begins_tree (point.Range start end size) r x l
+    begins (op.RangeInclusive start last size) r calm x l = begins_tree (point.RangeInclusive start last size) r x l
     begins op.Keys r calm x l = same_forest (ap (λ y. y.forest) x.state) (still (ap (λ y. y.machines) x.state)) l
     begins op.IsEmpty r calm x l = same_forest (ap (λ y. y.forest) x.state) (still (ap (λ y. y.machines) x.state)) l
     begins op.Stats r calm x l = same_forest (ap (λ y. y.forest) x.state) (still (ap (λ y. y.machines) x.state)) l

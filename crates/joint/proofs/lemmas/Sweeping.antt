@@ -16,7 +16,7 @@ use Rattle.congee.specs.declared.protocol.op.Op.TheVariants as point
 use Rattle.congee.specs.declared.protocol.phase.Kind.{Kind as Does}
 use Rattle.congee.specs.declared.protocol.phase.Kind.TheVariants as does
 use Rattle.congee.specs.Keys.{IsMapOf}
-use Rattle.congee.specs.protocol.Play.{Flight, Pending, Decided, Over, Question, Unasked, Asked, Replied, begun, parts, flight, Unbegun, Scanning, heard, resolved, Carries, Undecided, Heeds, Concludes, ScanTells}
+use Rattle.congee.specs.protocol.Play.{Flight, Pending, Decided, Over, Question, Unasked, Asked, Replied, begun, parts, range_of, flight, Unbegun, Scanning, heard, resolved, Carries, Undecided, Heeds, Concludes, ScanTells}
 use Rattle.congee.specs.protocol.Protocol.{IsCall, Asking}
 use Rattle.congee.specs.protocol.Sweeps.{Stood, AllStood, Throughout, IsScan}
 use Rattle.joint.specs.declared.id.Id.{Id}
@@ -39,7 +39,7 @@ use Rattle.joint.specs.Forest.{nodes}
 use Rattle.joint.specs.Intact.{root}
 use Rattle.joint.specs.MapCalls.{GoesOn, AllGoOn, AreOfCall, told_after, Answered, answered_by, answer_in, answered_after, IsPresent, IsComputed, IsOnMap, TookEffect, IsUndecided, IsDecided, IsOfScan, KeepsAll, told_places, HasScanned, IsDoneWith, PlaysKey, IsScanning, IsScanDone, PlaysScan, PlaysCall, CallPlays}
 use Rattle.joint.specs.Reports.{target, told}
-use Rattle.joint.specs.Runs.{Taken, AreTaken, after_all, IsRun, Line, Flights, with_flight, Stays, BeginsFlight, EndsAtOnce, BeginsOr, BeginMap, MapStep, PendingStep, Advances, GoMap, InFlight, AreInFlight}
+use Rattle.joint.specs.Runs.{Taken, AreTaken, after_all, IsRun, Line, Flights, with_flight, Stays, BeginsFlight, FindsNone, EndsEmpty, EndsAtOnce, BeginsOr, BeginMap, MapStep, PendingStep, Advances, GoMap, InFlight, AreInFlight}
 use Rattle.joint.specs.Scans.{placed}
 use Rattle.joint.specs.Surveys.{MapTells}
 use Rattle.joint.specs.Whole.{Whole, Holds, IsOnKey, IsStep, engine_of, is_in_flight}
@@ -76,10 +76,10 @@ module _ {V : Type 0} (m : Pairs V) where
     complete = λ k l n h. s.complete k l n (throughout_one states k a h);
   }
 
-module _ {V : Type 0} (same : V → V → Bool) (always : Bool) (fs : Flights V) (m : Pairs V) (w start end size : ℕ) where
+module _ {V : Type 0} (same : V → V → Bool) (always : Bool) (fs : Flights V) (m : Pairs V) (w start end size from to many : ℕ) (promises : (states : List (Pairs V)) (found : List (ℕ × V)) → IsScan from to many states found → IsScan start end size states found) where
   -- how it is watched, with the pairs that were told for its places
   abbrev pub Watches : List (ℕ × V) → Flight V → Type 0
-  Watches places f = ((f ≡ Unbegun start end size) × (places ≡ [])) ⊎ ((states : List (Pairs V)) × (f ≡ Scanning start end size states places) × AllOne m states)
+  Watches places f = ((f ≡ Unbegun from to many) × (places ≡ [])) ⊎ ((states : List (Pairs V)) × (f ≡ Scanning from to many states places) × AllOne m states)
 
   pub record InScan (places : List (ℕ × V)) (s : Whole V) : Type 0 where
     pub free : fs w ≡ Over
@@ -124,7 +124,7 @@ module _ {V : Type 0} (same : V → V → Bool) (always : Bool) (fs : Flights V)
   scan_plays places (Registered n) s x = absurd x
 
   scan_told : (states : List (Pairs V)) (places : List (ℕ × V)) (o : Moved V) (f : Flight V) (said : Outcome V) (s : Whole V) → fs w ≡ Over → AllOne m states → said ≡ told o
-      → ScanTells start end size states places o f → AreInFlight s (with_flight fs w f) → IsMapOf (nodes s.forest) m → Sweeps (placed true said places) said s
+      → ScanTells from to many states places o f → AreInFlight s (with_flight fs w f) → IsMapOf (nodes s.forest) m → Sweeps (placed true said places) said s
   scan_told states places moved.Running f said s free a e u fl st =
       let P : Outcome V → Type 0 = λ y. Sweeps (placed true y places) y s in
       subst P (sym e) (record { free = free; flight = f; watched = inr (states, u, a); in_flight = fl; stand = st })
@@ -134,7 +134,7 @@ module _ {V : Type 0} (same : V → V → Bool) (always : Bool) (fs : Flights V)
   scan_told states places (moved.Scanned count) f said s free a e u fl st =
       let P : Outcome V → Type 0 = λ y. Sweeps (placed true y places) y s in
       let Q : Flight V → Type 0 = λ y. AreInFlight s (with_flight fs w y) in
-      subst P (sym e) (record { filled = u.0; scan = scan_of_one m start end size states (take count places) a u.1 }, (st, as_before s fs w free (subst Q u.2 fl)))
+      subst P (sym e) (record { filled = u.0; scan = scan_of_one m start end size states (take count places) a (promises states (take count places) u.1) }, (st, as_before s fs w free (subst Q u.2 fl)))
   scan_told states places (moved.Refused cause) f said s free a e u fl st =
       let P : Outcome V → Type 0 = λ y. Sweeps (placed true y places) y s in
       let Q : Flight V → Type 0 = λ y. AreInFlight s (with_flight fs w y) in
@@ -166,12 +166,12 @@ module _ {V : Type 0} (same : V → V → Bool) (always : Bool) (fs : Flights V)
     by_watched : Watches places b.flight → Sweeps (placed true r.outcome places) r.outcome s'
     by_watched (inl e) =
         let P : Flight V → Type 0 = λ z. GoMap same (with_flight fs w b.flight) z m noise.answer l y.flights in
-        let a : Advances same (with_flight fs w b.flight) (Unbegun start end size) m noise.answer l y.flights = subst P e.0 moves in
+        let a : Advances same (with_flight fs w b.flight) (Unbegun from to many) m noise.answer l y.flights = subst P e.0 moves in
         let Q : List (ℕ × V) → Type 0 = λ z. Sweeps (placed true r.outcome z) r.outcome s' in
         subst Q (sym e.1) (scan_told (m ∷ []) [] a.step.outcome a.next r.outcome s' b.free (refl, tt) a.step.told_so a.step.tells (flying a.next a.advances) (stand a.step.same_pairs))
     by_watched (inr e) =
         let P : Flight V → Type 0 = λ z. GoMap same (with_flight fs w b.flight) z m noise.answer l y.flights in
-        let a : Advances same (with_flight fs w b.flight) (Scanning start end size e.0 places) m noise.answer l y.flights = subst P e.1 moves in
+        let a : Advances same (with_flight fs w b.flight) (Scanning from to many e.0 places) m noise.answer l y.flights = subst P e.1 moves in
         scan_told (m ∷ e.0) places a.step.outcome a.next r.outcome s' b.free (refl, e.2) a.step.told_so a.step.tells (flying a.next a.advances) (stand a.step.same_pairs)
 
   scanning : (places : List (ℕ × V)) (said : Outcome V) (s : Whole V) → is_in_flight said ≡ true → Sweeps places said s → InScan places s
@@ -189,37 +189,39 @@ module _ {V : Type 0} (same : V → V → Bool) (always : Bool) (fs : Flights V)
       let P : Step V → Type 0 = λ y. IsStep same always s y t.report t.after in
       scan_steps ts (placed true t.report.outcome places) t.report.outcome t.after x.0.holds (scan_step g.0.noise places s t.report t.after h (scanning places said s g.0.in_flight b) (subst P g.0.step x.0)) x.1 g.1
 
-  scan_begins : (op : Op V) (s : Whole V) (r : Report V) (s' : Whole V) → target op ≡ target.Tree (point.Range start end size) → Holds same always s → KeepsAll fs m s → IsStep same always s (begin_of w op) r s'
+  scan_begins : (op : Op V) (asked : Point V) (s : Whole V) (r : Report V) (s' : Whole V) → target op ≡ target.Tree asked → range_of asked ≡ Some (start, end, size) → flight (begun root asked) ≡ Unbegun from to many → Holds same always s → KeepsAll fs m s → IsStep same always s (begin_of w op) r s'
       → Sweeps [] r.outcome s'
-  scan_begins op s r s' e h b x = begun_so r.outcome refl begin where
+  scan_begins op asked s r s' e ranged starts h b x = begun_so r.outcome refl begin where
     y : Mapped same always s (begin_of w op) r s' fs m
     y = mapped same always s (begin_of w op) s' fs m h x.holds b.0 b.1 r x
 
     l : Line V
     l = record { step = begin_of w op; report = r; entry = y.entry; pairs = y.pairs }
 
-    begin : BeginsOr fs m (point.Range start end size) r.outcome l y.flights
+    begin : BeginsOr fs m asked r.outcome l y.flights
     begin = let P : Target V → Type 0 = λ t. BeginMap fs m t l y.flights in subst P e y.map
 
-    in_flight : BeginsFlight fs m (point.Range start end size) l y.flights → Sweeps [] r.outcome s'
+    in_flight : BeginsFlight fs m asked l y.flights → Sweeps [] r.outcome s'
     in_flight z =
         let P : Outcome V → Type 0 = λ o. Sweeps [] o s' in
         let Q : Pairs V → Type 0 = λ n. IsMapOf (nodes s'.forest) n in
         let R : Flights V → Type 0 = λ n. AreInFlight s' n in
-        subst P (sym z.accepted) (record { free = z.free; flight = Unbegun start end size; watched = inl (refl, refl); in_flight = subst R z.begins y.in_flight; stand = subst Q z.same_pairs y.stand })
+        subst P (sym z.accepted) (record { free = z.free; flight = Unbegun from to many; watched = inl (refl, refl); in_flight = subst R (z.begins ∙ ap (with_flight fs w) starts) y.in_flight; stand = subst Q z.same_pairs y.stand })
 
-    at_once : (d : Answer V) → r.outcome ≡ Done d → EndsAtOnce fs m (point.Range start end size) d l y.flights → Sweeps [] r.outcome s'
+    at_once : (d : Answer V) → r.outcome ≡ Done d → EndsAtOnce fs m asked d l y.flights → Sweeps [] r.outcome s'
     at_once (done.Scanned count) is z =
         let P : Outcome V → Type 0 = λ o. Sweeps [] o s' in
         let Q : ℕ → Type 0 = λ n. HasScanned {V = V} start end size n m [] in
-        subst P (sym is) (subst Q (sym z.none) (record { filled = omega arith; scan = z.scan }), stays fs m l y.flights s' z.stays y.stand y.in_flight)
+        let R : Option (ℕ × ℕ × ℕ) → Type 0 = λ a. EndsEmpty a count fs m l y.flights in
+        let none : FindsNone start end size count fs m l y.flights = subst R ranged z in
+        subst P (sym is) (subst Q (sym none.none) (record { filled = omega arith; scan = none.scan }), stays fs m l y.flights s' none.stays y.stand y.in_flight)
     at_once done.Unit is z = absurd z
     at_once (done.Reply a) is z = absurd z
     at_once (done.Keys keys) is z = absurd z
     at_once (done.Empty a) is z = absurd z
     at_once (done.Stats stats) is z = absurd z
 
-    begun_so : (o : Outcome V) → r.outcome ≡ o → BeginsOr fs m (point.Range start end size) o l y.flights → Sweeps [] r.outcome s'
+    begun_so : (o : Outcome V) → r.outcome ≡ o → BeginsOr fs m asked o l y.flights → Sweeps [] r.outcome s'
     begun_so (Refused a) is z = let P : Outcome V → Type 0 = λ o. Sweeps [] o s' in subst P (sym is) (stays fs m l y.flights s' z y.stand y.in_flight)
     begun_so (Done d) is z = at_once d is z
     begun_so Running is z = in_flight z
@@ -228,7 +230,7 @@ module _ {V : Type 0} (same : V → V → Bool) (always : Bool) (fs : Flights V)
     begun_so (Registered n) is z = in_flight z
 
   -- a whole scan
-  pub sweeps : (op : Op V) (s : Whole V) (first : Taken V) (more : List (Taken V)) → target op ≡ target.Tree (point.Range start end size) → Holds same always s → KeepsAll fs m s
+  pub sweeps : (op : Op V) (asked : Point V) (s : Whole V) (first : Taken V) (more : List (Taken V)) → target op ≡ target.Tree asked → range_of asked ≡ Some (start, end, size) → flight (begun root asked) ≡ Unbegun from to many → Holds same always s → KeepsAll fs m s
       → IsStep same always s (begin_of w op) first.report first.after → AreTaken same always first.after more → AllGoOn w first.report.outcome more
       → Sweeps (told_places [] more) (told_after first.report.outcome more) (after_all first.after more)
-  sweeps op s first more e h b x y g = scan_steps more [] first.report.outcome first.after x.holds (scan_begins op s first.report first.after e h b x) y g
+  sweeps op asked s first more e ranged starts h b x y g = scan_steps more [] first.report.outcome first.after x.holds (scan_begins op asked s first.report first.after e ranged starts h b x) y g
