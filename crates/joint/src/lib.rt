@@ -64,7 +64,7 @@ pub use laws::{
 pub use limits::Limits;
 pub use promises::keeps_promises;
 pub use refusal::Refusal;
-pub use run_laws::{answers_wanted, calls_answer, calls_end, guards_keep, locks_apart, nodes_leave, readers_refused, runs_journal};
+pub use run_laws::{alone_by_reports, answers_wanted, calls_answer, calls_end, guards_keep, locks_apart, nodes_leave, readers_refused, runs_journal};
 pub use steps::{Done, Event, Kind, Op, Outcome, Ran, Report, Step, Survey};
 pub use threads::auditing::audit;
 pub use threads::driver::{Turns, drive};

@@ -235,3 +235,11 @@ module _ {V : Type 0} (same : V → V → Bool) (always : Bool) (laws : CallLaws
         room = subst Q e g.secured;
         deferral = walked.clock ∙ ap (λ y. after_walk y (with_store f.collector f'.collector.store) who) (ap retiring_at at ∙ ap retiring e);
       }
+
+  -- the step of a call that has marked its node hands it over
+  pub retires : (c q : Id) (r : Reply V) → m.phase ≡ Retire c q r → HandsOver f f' who (id_number c)
+  retires c q r e =
+      let P : Phase Id V → Type 0 = λ p. PhaseStepped id_number same always f.version_max (Refuses f) m.root (key_bytes m.key) m.kind step.noise.fail step.noise.answer m.given p (nodes f) moved.now.given (record { phase = moved.now.phase; report = d }) (nodes f') in
+      let Q : Phase Id V → Type 0 = λ p. TakenBy id_number p (id_number c) in
+      let x = subst P e moved.step.step in
+      hands_over (id_number c) c q r (subst Q (sym e) refl) e refl x.1

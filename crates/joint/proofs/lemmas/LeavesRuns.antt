@@ -275,6 +275,7 @@ module _ {V : Type 0} (same : V → V → Bool) (always : Bool) (laws : CallLaws
       waits = λ n b. inl (ap (λ z. z n) nodes_same);
       lost = λ n l. subst (λ (z : Node V). IsLost z) (sym (ap (λ z. z n) nodes_same)) l;
       taken = λ i n z. inl (same_left (nodes s.forest n) (nodes t.after.forest n) (ap (λ v. v n) nodes_same));
+      defers = inl (ap (λ z. z.forest.collector.next) y.state);
     }
       where
         nodes_same : nodes t.after.forest ≡ nodes s.forest
@@ -320,6 +321,7 @@ module _ {V : Type 0} (same : V → V → Bool) (always : Bool) (laws : CallLaws
       owed = parts.owed;
       handed = parts.handed;
       left = left;
+      defers = parts.defers;
     }
 
     -- a node that was handed over isn't handed over again

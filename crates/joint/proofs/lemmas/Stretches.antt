@@ -82,6 +82,18 @@ pub record IsBlocked {T J : Type 0} (p : ℕ) (n : Name) (h : List Mark) (s : St
   pub on : is_some (began h p) ≡ true
   pub all : (t : ℕ) → WasDeferred h t n → blocks h p t ≡ true
 
+-- whether a step of a participant ends its stretch
+abbrev pub turns : {J : Type 0} → Event → Participant J → Bool
+turns (Begin Unpin) q = nat_le q.guards 1
+turns (Begin _) q = false
+turns Go q = publishes q.phase
+
+other : (p who : ℕ) → (who ≡ p → ⊥) → (who == p) ≡ false
+other p who n = elim (cases_Bool (who == p)) [
+  | inl e ↦ absurd (n (eqb-true who p e))
+  | inr e ↦ e
+]
+
 module _ {T J : Type 0} (p : ℕ) (n : Name) where
   marked : (k : Mark) (h : List Mark) (s : State T J) (s' : State T J) → mark_changes_pin k p ≡ false → IsBlocked p n h s → Fits (k ∷ h) s' → IsBlocked p n (k ∷ h) s'
   marked k h s s' e b f = record {
@@ -103,30 +115,18 @@ module _ {T J : Type 0} (p : ℕ) (n : Name) where
       by false e f = f
       by true e f = absurd (let q : length (place s who).bag ≡ bag_places = eqb-true (length (place s who).bag) bag_places e in omega (arith, q, room))
 
-  -- whether a step of a participant ends its stretch
-  abbrev pub turns : Event → Participant J → Bool
-  turns (Begin Unpin) q = nat_le q.guards 1
-  turns (Begin _) q = false
-  turns Go q = publishes q.phase
-
-  other : (who : ℕ) → (who ≡ p → ⊥) → (who == p) ≡ false
-  other who n = elim (cases_Bool (who == p)) [
-    | inl e ↦ absurd (n (eqb-true who p e))
-    | inr e ↦ e
-  ]
-
   marks_begun : (h : List Mark) (s s' : State T J) (who : ℕ) (op : Op) (q : Participant J) → (who ≡ p → turns (Begin op) q ≡ false) → IsBlocked p n h s → Fits (begin_marks who q op h) s' → IsBlocked p n (begin_marks who q op h) s'
   marks_begun h s s' who Unpin q calm b f = by (nat_le q.guards 1) refl f
     where
       by : (x : Bool) → nat_le q.guards 1 ≡ x → Fits (if x then Unpinned who ∷ h else h) s' → IsBlocked p n (if x then Unpinned who ∷ h else h) s'
       by false e f = record { fits = f; on = b.on; all = b.all }
-      by true e f = marked (Unpinned who) h s s' (other who (λ z. false≢true (sym (calm z) ∙ e))) b f
+      by true e f = marked (Unpinned who) h s s' (other p who (λ z. false≢true (sym (calm z) ∙ e))) b f
   marks_begun h s s' who _ q calm b f = record { fits = f; on = b.on; all = b.all }
 
   marks_gone : (h : List Mark) (s s' : State T J) (who epoch : ℕ) (x : Phase) (c : Option (ℕ × Option Name)) → (who ≡ p → publishes x ≡ false) → IsBlocked p n h s → Fits (phase_marks epoch who x c h) s' → IsBlocked p n (phase_marks epoch who x c h) s'
   marks_gone h s s' who epoch x (Some c) calm b f = marked (Called c.0 c.1) h s s' refl b f
-  marks_gone h s s' who epoch (stage.Publish seen) None calm b f = marked (Pinned who epoch) h s s' (other who (λ z. false≢true (sym (calm z)))) b f
-  marks_gone h s s' who epoch (stage.RepinPublish seen) None calm b f = marked (Repinned who epoch) h s s' (other who (λ z. false≢true (sym (calm z)))) b f
+  marks_gone h s s' who epoch (stage.Publish seen) None calm b f = marked (Pinned who epoch) h s s' (other p who (λ z. false≢true (sym (calm z)))) b f
+  marks_gone h s s' who epoch (stage.RepinPublish seen) None calm b f = marked (Repinned who epoch) h s s' (other p who (λ z. false≢true (sym (calm z)))) b f
   marks_gone h s s' who epoch _ None calm b f = record { fits = f; on = b.on; all = b.all }
 
   marks_moved : (h : List Mark) (s s' : State T J) (who : ℕ) (event : Event) (c : Option (ℕ × Option Name)) → (who ≡ p → turns event (place s who) ≡ false) → IsBlocked p n h s → Fits (moved_marks s who event c h) s' → IsBlocked p n (moved_marks s who event c h) s'
@@ -160,7 +160,7 @@ module _ {T J : Type 0} (p : ℕ) (n : Name) where
         emptied_at : (y : Name) → is_some (value_at s.store y) ≡ true → s'.store ≡ emptied s.store y.cell → (n ≡ y → ⊥) → is_some (value_at s'.store n) ≡ true
         emptied_at y l e ne =
             let z : Sets s.store y None (emptied s.store y.cell) = cells.emptied_sets s.store y l in
-            ap (λ st. is_some (value_at st n)) e ∙ ap is_some (z.others n (λ q. ne (same_name n y q))) ∙ live
+            ap (λ st. is_some (value_at st n)) e ∙ ap is_some (z.others n ne) ∙ live
 
         of_call : (k : ℕ) (o : Option Name) → r.called ≡ Some (k, o) → EmptiesAt s.store o s'.store → is_some (value_at s'.store n) ≡ true
         of_call k None q e = ap (λ st. is_some (value_at st n)) e ∙ live
