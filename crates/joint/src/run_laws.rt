@@ -1,23 +1,23 @@
-//! What a reader may conclude of runs by what they told.
+//! What a reader may conclude of any run: of its calls by what they told, and of nodes, locks and guards in its states.
 
 ghost use Rattle.std.specs.Prelude.{◌≡◌, ◌==◌, ◌<◌, ℕ, List, [], true, false, slice_get};
 ghost use Rattle.std.specs.FinMap.{empty};
 ghost use Rattle.judge.specs.Answer.{Pairs};
 ghost use Rattle.judge.specs.Journal.{Legal};
 ghost use Rattle.congee.specs.Keys.{IsMapOf};
+ghost use Rattle.joint.specs.declared.limits.Limits.{Limits};
+ghost use Rattle.joint.specs.declared.steps.Report.{Report as Told};
+ghost use Rattle.joint.specs.declared.steps.Step.{Step as Asked};
+ghost use Rattle.joint.specs.Alone.{OthersUnlocked};
 ghost use Rattle.joint.specs.Answering.{AllDecide};
 ghost use Rattle.joint.specs.Ends.{AllEndWell, IdleUnasked, IsBetween, ReadersRefused};
 ghost use Rattle.joint.specs.Forest.{nodes};
-ghost use Rattle.joint.specs.declared.steps.Report.{Report as Told};
-ghost use Rattle.joint.specs.declared.steps.Step.{Step as Asked};
 ghost use Rattle.joint.specs.Journaling.{asks_at};
 ghost use Rattle.joint.specs.Leaving.{AllLeaveOnce, LeftLocked, LocksApart, LocksHeld, MarkedLeft};
 ghost use Rattle.joint.specs.Log.{opened_log};
-ghost use Rattle.joint.specs.declared.limits.Limits.{Limits};
 ghost use Rattle.joint.specs.Promises.{IsNew};
 ghost use Rattle.joint.specs.Runs.{Taken, AreTaken, after_all, IsRun, Line, Flights, IsMapRun, AreInFlight, RunsJournal, IsFresh, no_flights};
 ghost use Rattle.joint.specs.Stretches.{SeesNode, StandsOn};
-ghost use Rattle.joint.specs.Alone.{OthersUnlocked};
 ghost use Rattle.joint.specs.Wanted.{AllEndAloneTold, OthersIdle, wants_after, wants_if};
 ghost use Rattle.joint.specs.Whole.{Whole, Holds, IsStep, is_busy};
 

@@ -1,7 +1,7 @@
 -- A call on one key that is done was answered by its deciding step.
 use Rattle.std.proofs.Common.{◌≡◌, ◌≢◌, ◌==◌, ℕ, Bool, true, false, List, [], ◌∷◌, refl, sym, ◌∙◌, ap, subst, inl, inr}
-use Rattle.std.specs.Prelude.{Option, None, Some, ◌&&◌}
-use Rattle.std.proofs.lemmas.Bool.{cases_Bool, eqb-true, eqb-false, false≢true}
+use Rattle.std.specs.Prelude.{Option, None, ◌&&◌}
+use Rattle.std.proofs.lemmas.Bool.{eqb-true, eqb-false, false≢true}
 use Rattle.judge.specs.declared.journal.Reply.{Reply}
 use Rattle.judge.specs.Answer.{Pairs}
 use Rattle.congee.specs.declared.protocol.machine.Noise.{Noise}
@@ -12,18 +12,16 @@ use Rattle.congee.specs.declared.protocol.op.Op.TheVariants as point
 use Rattle.congee.specs.declared.protocol.phase.Kind.{Kind}
 use Rattle.congee.specs.protocol.Play.{Flight, Pending, Decided, Over, Unbegun, Scanning, Question, Unasked, Undecided, Concludes, heard, resolved, begun, flight, parts}
 use Rattle.joint.specs.declared.id.Id.{Id}
-use Rattle.joint.specs.declared.steps.Done.{Done as Answer}
 use Rattle.joint.specs.declared.steps.Event.{Event}
 use Rattle.joint.specs.declared.steps.Event.TheVariants.{Register, Begin, Go}
-use Rattle.joint.specs.declared.steps.Op.{Op}
 use Rattle.joint.specs.declared.steps.Outcome.{Outcome}
-use Rattle.joint.specs.declared.steps.Outcome.TheVariants.{Running, Asks, Found, Registered, Done, Refused}
+use Rattle.joint.specs.declared.steps.Outcome.TheVariants.{Running, Asks, Found, Done, Refused}
 use Rattle.joint.specs.declared.steps.Target.{Target}
 use Rattle.joint.specs.declared.steps.Target.TheVariants as target
-use Rattle.joint.specs.Answering.{is_go, Either, GoesOrAnswers, GoesOrRefused, IsQuiet, Answers, TakesEffectAt, Decides, AllDecide}
+use Rattle.joint.specs.Answering.{is_go, Either, GoesOrAnswers, GoesOrRefused, Answers, TakesEffectAt, Decides, AllDecide}
 use Rattle.joint.specs.Intact.{root}
 use Rattle.joint.specs.Reports.{target, told}
-use Rattle.joint.specs.Runs.{Line, Flights, Stays, BeginsOr, BeginMap, PendingStep, GoMap, EventMap, IsMapRun, with_flight}
+use Rattle.joint.specs.Runs.{Line, Flights, BeginsOr, BeginMap, PendingStep, GoMap, EventMap, IsMapRun, with_flight}
 use Rattle.joint.specs.Whole.{IsOnKey, is_in_flight}
 use Rattle.joint.proofs.lemmas.Flights.{ends_stays, flight_here, flight_apart}
 

@@ -1,13 +1,12 @@
 -- A look-up, a scan, the question whether the index is empty and a pin are refused for misuse or as Count alone.
 use Rattle.std.proofs.Common.{◌≡◌, ◌≢◌, ◌==◌, ◌<◌, ℕ, Bool, true, false, List, [], ◌∷◌, length, refl, sym, ◌∙◌, ap, subst, inl, inr, ◌⊎◌}
 use Rattle.std.proofs.Math.ListN.{set}
-use Rattle.std.specs.Prelude.{Option, None, Some, slice_get, cond, if◌then◌else◌}
+use Rattle.std.specs.Prelude.{Option, None, Some, slice_get, if◌then◌else◌}
 use Rattle.std.proofs.lemmas.Bool.{cases_Bool, eqb-true, eqb-false, false≢true}
 use Rattle.std.proofs.lemmas.Option.{slice_get_within}
 use Rattle.crossbeam_epoch.specs.declared.fault.Fault.{Fault}
 use Rattle.crossbeam_epoch.specs.declared.fault.Fault.TheVariants as fault
 use Rattle.crossbeam_epoch.specs.declared.world.report.Event.TheVariants as turning
-use Rattle.crossbeam_epoch.specs.declared.world.report.Op.{Op as Work}
 use Rattle.crossbeam_epoch.specs.declared.world.report.Op.TheVariants as work
 use Rattle.crossbeam_epoch.specs.declared.world.report.Outcome.{Outcome as Turned}
 use Rattle.crossbeam_epoch.specs.declared.world.report.Outcome.TheVariants as turned
@@ -15,12 +14,10 @@ use Rattle.crossbeam_epoch.specs.World.Machine.{State, place}
 use Rattle.crossbeam_epoch.specs.World.Progress.{Begins, GoesOn, refusal}
 use Rattle.crossbeam_epoch.specs.World.Steps.{begin_fault}
 use Rattle.judge.specs.declared.journal.Reply.{Reply}
-use Rattle.judge.specs.declared.journal.Reply.TheVariants as reply
 use Rattle.congee.specs.declared.forms.child.Child.{Child}
 use Rattle.congee.specs.declared.forms.child.Child.TheVariants as child
 use Rattle.congee.specs.declared.forms.base_node.NodeType.{NodeType}
 use Rattle.congee.specs.declared.protocol.machine.Machine.{Machine}
-use Rattle.congee.specs.declared.protocol.machine.Move.{Move}
 use Rattle.congee.specs.declared.protocol.machine.Noise.{Noise}
 use Rattle.congee.specs.declared.protocol.machine.Outcome.{Outcome as Moved}
 use Rattle.congee.specs.declared.protocol.machine.Outcome.TheVariants as moved
@@ -38,7 +35,7 @@ use Rattle.congee.specs.declared.protocol.store.Refusal.{Refusal as Cause}
 use Rattle.congee.specs.declared.protocol.store.Refusal.TheVariants as cause
 use Rattle.congee.specs.declared.protocol.store.Seat.{Seat}
 use Rattle.congee.specs.declared.protocol.turn.Turn.{Turn}
-use Rattle.congee.specs.Heap.{Node, is_taken}
+use Rattle.congee.specs.Heap.{Node}
 use Rattle.congee.specs.Keys.{key_bytes}
 use Rattle.congee.specs.protocol.Causes.{Causes, IsCause}
 use Rattle.congee.specs.protocol.Play.{IsMoved, begun}
@@ -56,12 +53,8 @@ use Rattle.joint.specs.declared.steps.Op.TheVariants as op
 use Rattle.joint.specs.declared.steps.Outcome.{Outcome}
 use Rattle.joint.specs.declared.steps.Outcome.TheVariants.{Running, Asks, Found, Registered, Done, Refused}
 use Rattle.joint.specs.declared.steps.Report.{Report}
-use Rattle.joint.specs.declared.steps.Step.{Step}
-use Rattle.joint.specs.declared.steps.Done.{Done as Answer}
-use Rattle.joint.specs.declared.steps.Survey.TheVariants as survey
-use Rattle.joint.specs.declared.steps.Target.TheVariants as target
-use Rattle.joint.specs.Ends.{IsMisused, RefusesReader, AllRefuseReader, ReadersRefused, is_reading}
-use Rattle.joint.specs.Forest.{Forest, nodes, Refuses}
+use Rattle.joint.specs.Ends.{RefusesReader, AllRefuseReader, ReadersRefused, is_reading}
+use Rattle.joint.specs.Forest.{nodes, Refuses}
 use Rattle.joint.specs.Intact.{IsAt, is_reserving, call_after, over_at, rested, resting, is_done, root}
 use Rattle.joint.specs.Laws.{ProgressLaws}
 use Rattle.joint.specs.Refusals.{of_fault, of_tree}
@@ -69,14 +62,12 @@ use Rattle.joint.specs.Reports.{collected, told}
 use Rattle.joint.specs.Runs.{Taken, AreTaken}
 use Rattle.joint.specs.Surveys.{TellsEmpty}
 use Rattle.joint.specs.View.{id_number}
-use Rattle.joint.specs.Whole.{Whole, EngineHolds, Holds, IsStep, IsOfCall, StepsUnless, Collects, Does, EntersUnless, Enters, GoesAt, Surveys, Walks, engine_of, finds_none, gives_up, is_busy, is_in_flight, misuse, place_of}
+use Rattle.joint.specs.Whole.{Whole, EngineHolds, Holds, IsStep, IsOfCall, StepsUnless, Collects, Does, EntersUnless, Enters, GoesAt, Walks, engine_of, finds_none, gives_up, is_busy, is_in_flight, misuse, place_of}
 use Rattle.joint.proofs.lemmas.Apart.{Apart, one_set, step_apart}
 use Rattle.joint.proofs.lemmas.Collecting.{there}
 use Rattle.joint.proofs.lemmas.Ends.{and_left}
 use Rattle.joint.proofs.lemmas.Entering.{begin_idle, begin_within}
 use Rattle.joint.proofs.lemmas.Flights.{set_at}
-use Rattle.joint.proofs.lemmas.Reported.{may_go}
-use Rattle.joint.proofs.lemmas.Reserving.{reserving_call}
 use Rattle.joint.proofs.lemmas.Resting.{cleared_is}
 
 -- the phases of a call that only reads

@@ -4,16 +4,12 @@ use Rattle.std.proofs.Math.ListN.{set}
 use Rattle.std.specs.Prelude.{Option, None, Some, is_some, slice_get, if◌then◌else◌}
 use Rattle.std.proofs.lemmas.Bool.{cases_Bool, eqb-true, eqb-false, false≢true}
 use Rattle.std.proofs.lemmas.Option.{slice_get_within}
-use Rattle.judge.specs.declared.journal.Reply.{Reply}
-use Rattle.crossbeam_epoch.specs.Limits.{bag_places}
 use Rattle.crossbeam_epoch.specs.declared.fault.Fault.{Fault}
 use Rattle.crossbeam_epoch.specs.declared.names.Name.{Name}
-use Rattle.crossbeam_epoch.specs.declared.world.participant.Participant.{Participant}
 use Rattle.crossbeam_epoch.specs.declared.world.participant.Phase.{Phase as Stand}
 use Rattle.crossbeam_epoch.specs.declared.world.participant.Phase.TheVariants as stage
 use Rattle.crossbeam_epoch.specs.declared.world.report.Event.{Event as Turning}
 use Rattle.crossbeam_epoch.specs.declared.world.report.Event.TheVariants as turning
-use Rattle.crossbeam_epoch.specs.declared.world.report.Op.{Op as Work}
 use Rattle.crossbeam_epoch.specs.declared.world.report.Op.TheVariants as work
 use Rattle.crossbeam_epoch.specs.declared.world.report.Outcome.{Outcome as Turned}
 use Rattle.crossbeam_epoch.specs.declared.world.report.Outcome.TheVariants as turned
@@ -21,7 +17,7 @@ use Rattle.crossbeam_epoch.specs.declared.world.report.Report.{Report as Collect
 use Rattle.crossbeam_epoch.specs.World.Fits.{Bounds}
 use Rattle.crossbeam_epoch.specs.World.History.{Mark, Deferred, began}
 use Rattle.crossbeam_epoch.specs.World.Machine.{State, place, with_store}
-use Rattle.crossbeam_epoch.specs.World.Progress.{IsOn, comes_by, stage as stage_of}
+use Rattle.crossbeam_epoch.specs.World.Progress.{comes_by, stage as stage_of}
 use Rattle.crossbeam_epoch.specs.World.Reach.{marks_of, Visible}
 use Rattle.crossbeam_epoch.specs.World.Steps.{marks, after}
 use Rattle.crossbeam_epoch.specs.World.Store.{value_at}
@@ -32,8 +28,7 @@ use Rattle.congee.specs.declared.protocol.op.Op.TheVariants as point
 use Rattle.congee.specs.declared.protocol.phase.Phase.{Phase}
 use Rattle.congee.specs.declared.protocol.phase.Phase.TheVariants.{Retire}
 use Rattle.congee.specs.declared.protocol.run.Step.{Step as Turn}
-use Rattle.congee.specs.Heap.{Node, Stands}
-use Rattle.congee.specs.Keys.{key_bytes}
+use Rattle.congee.specs.Heap.{Stands}
 use Rattle.congee.specs.Ledger.{Held, Linked, is_published}
 use Rattle.congee.specs.protocol.Answers.{Keeps}
 use Rattle.congee.specs.protocol.Names.{names}
@@ -56,15 +51,13 @@ use Rattle.joint.specs.Intact.{BeginsSecuring, IsAt, is_done, rested, resting, r
 use Rattle.joint.specs.Laws.{CallLaws, CellLaws, LeavesLaw}
 use Rattle.joint.specs.Machines.{Collected, retiring, retiring_at, after_walk, slot_names}
 use Rattle.joint.specs.NameLemmas.{number_named}
-use Rattle.joint.specs.Names.{number, named}
+use Rattle.joint.specs.Names.{named}
 use Rattle.joint.specs.Runs.{Taken, AreTaken}
 use Rattle.joint.specs.Sound.{Guards, IsSecured, IsUnderWay, Sound}
 use Rattle.joint.specs.Stretches.{EndsStretch, HasChecked, SeesNode, StandsOn, publishes, turns_stretch}
 use Rattle.joint.specs.View.{view, id_number}
-use Rattle.joint.specs.Whole.{Whole, EngineHolds, Holds, IsStep, IsHeldBy, StepsUnless, BeginsOnTree, Collects, Does, EntersUnless, Enters, GoesAt, GoesOnReserving, Reserves, Walks, engine_of, finds_none, gives_up, misuse, place_of}
-use Rattle.joint.proofs.lemmas.Apart.{one_set}
+use Rattle.joint.specs.Whole.{Whole, EngineHolds, Holds, IsHeldBy, StepsUnless, BeginsOnTree, Collects, Does, EntersUnless, Enters, GoesAt, GoesOnReserving, Reserves, Walks, engine_of, finds_none, gives_up, misuse, place_of}
 use Rattle.joint.proofs.lemmas.Collecting.{either, there}
-use Rattle.joint.proofs.lemmas.Flights.{set_at}
 use Rattle.joint.proofs.lemmas.HandOver.{held_place}
 use Rattle.joint.proofs.lemmas.Leaves as leaves
 use Rattle.joint.proofs.lemmas.Paths.{in_reach}

@@ -1,6 +1,6 @@
 -- While a stretch lasts, the nodes that it saw stand: it blocks the removal of each.
-use Rattle.std.proofs.Common.{◌≡◌, ◌≢◌, ◌==◌, ◌<◌, ◌≤◌, ◌+◌, ℕ, arith, Bool, true, false, List, [], ◌∷◌, length, refl, sym, ◌∙◌, ap, subst, inl, inr, ◌⊎◌}
-use Rattle.std.specs.Prelude.{Option, None, Some, is_some, nat_le, nat_lt, if◌then◌else◌}
+use Rattle.std.proofs.Common.{◌≡◌, ◌≢◌, ◌==◌, ◌<◌, ◌≤◌, ℕ, arith, Bool, true, false, List, [], ◌∷◌, length, refl, sym, ◌∙◌, ap, subst, inl, inr, ◌⊎◌}
+use Rattle.std.specs.Prelude.{Option, None, Some, is_some, nat_le, if◌then◌else◌}
 use Rattle.std.proofs.lemmas.Bool.{cases_Bool, cases_eq, eqb-true, eqb-false, false≢true}
 use Rattle.crossbeam_epoch.specs.Limits.{bag_places}
 use Rattle.crossbeam_epoch.specs.declared.bag.Work.TheVariants.{Remove}
@@ -11,7 +11,7 @@ use Rattle.crossbeam_epoch.specs.declared.world.participant.Phase.TheVariants as
 use Rattle.crossbeam_epoch.specs.declared.world.report.Event.{Event}
 use Rattle.crossbeam_epoch.specs.declared.world.report.Event.TheVariants.{Begin, Go}
 use Rattle.crossbeam_epoch.specs.declared.world.report.Op.{Op}
-use Rattle.crossbeam_epoch.specs.declared.world.report.Op.TheVariants.{Pin, Unpin, Repin, Flush, Release, Secure}
+use Rattle.crossbeam_epoch.specs.declared.world.report.Op.TheVariants.{Unpin}
 use Rattle.crossbeam_epoch.specs.declared.world.report.Outcome.{Outcome}
 use Rattle.crossbeam_epoch.specs.declared.world.report.Outcome.TheVariants.{Running, Done, Refused}
 use Rattle.crossbeam_epoch.specs.declared.world.report.Report.{Report}
@@ -21,7 +21,7 @@ use Rattle.crossbeam_epoch.specs.World.Machine.{State, place, deferred, deferred
 use Rattle.crossbeam_epoch.specs.World.Progress.{Moves, Empties, EmptiesAt}
 use Rattle.crossbeam_epoch.specs.World.Reach.{Act, Quiet, Marked, GivenBack, Moment, with_act, marks_of, changes_pin, mark_changes_pin, LeavesFirst, Visible}
 use Rattle.crossbeam_epoch.specs.World.Steps.{IsReport, after, begin_marks, phase_marks, moved_marks, unless_refused, marks, called_in}
-use Rattle.crossbeam_epoch.specs.World.Store.{Store, Sets, value_at, emptied}
+use Rattle.crossbeam_epoch.specs.World.Store.{Sets, value_at, emptied}
 use Rattle.crossbeam_epoch.proofs.lemmas.world.Jobs.{fits_after_deferral}
 use Rattle.crossbeam_epoch.proofs.lemmas.world.Reaches.{act_steady}
 use Rattle.crossbeam_epoch.proofs.lemmas.world.Runs.{fits_after, fits_registered, fits_store}
