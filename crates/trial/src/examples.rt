@@ -2,6 +2,7 @@
 
 pub mod collector;
 pub mod counter;
+pub mod driven;
 pub mod history;
 pub mod journal;
 pub mod machine;

@@ -216,8 +216,7 @@ module _ {V : Type 0} (same : V → V → Bool) (always : Bool) where
       let go : GoMap same fs (fs t.step.worker) h.2.pairs y.noise.answer l a.flights = subst P (ap (λ z. z.event) y.step) a.map in
       let kind' : Kinded o (a.flights w) = subst R worker (go_kind o same fs (fs t.step.worker) h.2.pairs y.noise.answer l a.flights refl (subst Q (sym worker) k) go) in
       let asks' : asks_at (slice_get t.after.machines w) ≡ is_question t.report.outcome =
-      subst S y.step (step_wants same always s t.step t.report t.after w h x.0) ∙ ap (λ b. wants_if (asks_at (slice_get s.machines w)) b (Go y.noise) t.report.outcome) (eqb_same w) in
-      (
+      subst S y.step (step_wants same always s t.step t.report t.after w h x.0) ∙ ap (λ b. wants_if (asks_at (slice_get s.machines w)) b (Go y.noise) t.report.outcome) (eqb_same w) in (
         record {
           noise = y.noise;
           step = y.step;

@@ -61,7 +61,7 @@ module _ {V : Type 0} (same : V → V → Bool) (always : Bool) where
           one_map = plays;
           scans = scans_hold same _ _ plays.lines plays.flights plays.run;
           empty_scans = empty_scans_hold same _ _ plays.lines plays.flights plays.run;
-          unseen = λ u. subst P opening.opened.1.1.versions (told u);
+          unseen = λ u. subst P opening.opened.2.versions (told u);
           run = run;
           spares = spares;
           comes_back = λ before after who rounds. within (λ x r. length (waiting_nodes x)) nodes s run.taken before after who rounds h run.each;

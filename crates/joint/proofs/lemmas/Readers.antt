@@ -223,8 +223,7 @@ module _ {V : Type 0} (same : V → V → Bool) (always : Bool) (turns : Progres
         let now : slice_get s'.machines w ≡ Some (rested mv.now) =
         ap (λ xs. slice_get xs w) (x.step.machines ∙ cleared_is s.machines x.step.between w m mv.now at mv.calls) ∙ set_at s.machines w (rested mv.now) (within_machines (slice_get_within s.calls w Walking e)) in
         let P : Kind V → Type 0 = λ k. PhaseStepped id_number same always s.forest.version_max (Refuses s.forest) m.root (key_bytes m.key) k noise.fail noise.answer m.given m.phase (nodes s.forest) mv.now.given (record { phase = mv.now.phase; report = x.move }) (nodes s'.forest) in
-        let reads : Reads mv.now.phase = phase_reads same always s.forest.version_max (Refuses s.forest) m.root (key_bytes m.key) noise.fail noise.answer m.given m.phase (nodes s.forest) mv.now.given (record { phase = mv.now.phase; report = x.move }) (nodes s'.forest) u.1 (subst P u.0 mv.step.step) in
-        (
+        let reads : Reads mv.now.phase = phase_reads same always s.forest.version_max (Refuses s.forest) m.root (key_bytes m.key) noise.fail noise.answer m.given m.phase (nodes s.forest) mv.now.given (record { phase = mv.now.phase; report = x.move }) (nodes s'.forest) u.1 (subst P u.0 mv.step.step) in (
           (λ f q. told_count always s.forest.version_max (Refuses s.forest) m.phase x.move.outcome f u.1 mv.cause (sym (ap (λ y. y.outcome) x.report) ∙ q)),
           (λ b. by (over_at (slice_get s'.machines w)) (rested mv.now) now (rested_reads mv.now (mv.step.kind ∙ u.0, reads)) b (placed _ (slice_get_within s.calls w Walking e) x.calls)),
         )
@@ -300,8 +299,7 @@ module _ {V : Type 0} (same : V → V → Bool) (always : Bool) (turns : Progres
         let m : (m : Machine Id V) × (slice_get s.machines w ≡ Some m) = machine_at Idle (idle op.Pin n) in
         let at : IsAt Idle (place s.forest.collector w) m.0 = holds.0.each w Idle m.0 (idle op.Pin n) m.1 in
         let f : refusal s.forest.collector w work.Pin ≡ None = unready_is (place_of s w).registered (is_busy (slice_get s.calls w)) _ (begin_fault work.Pin (place_of s w)) n in
-        let g = pins (turning.Begin work.Pin) r (within op.Pin n) (λ e y z. begins_refused s.forest.collector _ w y.turn.outcome e f (turns.begins s.forest.collector w work.Pin y.turn at.0 y.step.report) z) x in
-        (
+        let g = pins (turning.Begin work.Pin) r (within op.Pin n) (λ e y z. begins_refused s.forest.collector _ w y.turn.outcome e f (turns.begins s.forest.collector w work.Pin y.turn at.0 y.step.report) z) x in (
           (λ e z. not_refused {V = V} x.turn.outcome e (λ b y. begins_refused s.forest.collector _ w x.turn.outcome b f (turns.begins s.forest.collector w work.Pin x.turn at.0 x.step.report) y) (sym (ap (λ y. y.outcome) x.report) ∙ z)),
           (λ b. g.1 (busy_after x.turn.outcome (placed _ (within op.Pin n) x.calls) (sym (ap (λ y. is_in_flight y.outcome) x.report) ∙ b))),
         )
@@ -381,8 +379,7 @@ module _ {V : Type 0} (same : V → V → Bool) (always : Bool) (turns : Progres
       by (Begin op) e = false≢true e
       by (Go noise) e = unreserving (slice_get s.calls w) (slice_get s.machines w) u (and_left _ _ e)
     own false g u x =
-        let y = own_by t.step.event (misuse s w t.step.event) x.told refl u x.engine.does in
-        (
+        let y = own_by t.step.event (misuse s w t.step.event) x.told refl u x.engine.does in (
           (λ e c f q. elim (y.0 c f (sym (ap (λ z. z.outcome) x.report) ∙ q)) [
             | inl z ↦ inl (record { fault = z.0; misuse = z.1; cause = z.2 })
             | inr z ↦ inr z
@@ -431,8 +428,7 @@ module _ {V : Type 0} (same : V → V → Bool) (always : Bool) (turns : Progres
     reads_begun o e q is =
         let P : Event V → Type 0 = λ y. IsStep same always s (record { worker = w; event = y }) t.report t.after in
         let x = subst P e is in
-        let y = begun_by o (misuse s w (Begin o)) x.does.told refl q x.does.engine.does in
-        (
+        let y = begun_by o (misuse s w (Begin o)) x.does.told refl q x.does.engine.does in (
           (λ f z. (let u = y.0 f (sym (ap (λ z. z.outcome) x.does.report) ∙ z) in inl (record { fault = u.0; misuse = ap (misuse s w) e ∙ u.1; cause = u.2 }))),
           (λ b. y.1 (sym (ap (λ z. is_in_flight z.outcome) x.does.report) ∙ b)),
         )

@@ -109,8 +109,7 @@ module _ {V : Type 0} (same : V → V → Bool) (always : Bool) (laws : CallLaws
   -- a step of the collector
   collected : (f f' : Forest V) (ms : List (Machine Id V)) (who : ℕ) (event : Turning) (r : Collection) → (who ≡ p → turns event (place f.collector who) ≡ false) → Collected same always f ms who event r f' → On f → On f'
   collected f f' ms who event r calm c o =
-      let P : State (Slot V) (Unit {0}) → Type 0 = λ y. IsBlocked p it (marks f.collector who event r o.0.0) y in
-      (
+      let P : State (Slot V) (Unit {0}) → Type 0 = λ y. IsBlocked p it (marks f.collector who event r o.0.0) y in (
         (marks f.collector who event r o.0.0, subst P (sym c.state) (turned p it o.0.0 f.collector who event r c.report calm o.0.1)),
         stands f' (live_on p it cells o.0.0 f.collector f'.collector who event r c.report c.moves o.0.1 (live f o.1)),
       )
@@ -233,8 +232,7 @@ module _ {V : Type 0} (same : V → V → Bool) (always : Bool) (laws : CallLaws
             let Q : Phase Id V → Type 0 = λ z. IsSecured old.0.kind z (length (place s.forest.collector w).bag) in
             let R : State (Slot V) (Unit {0}) → Type 0 = λ d. IsBlocked p it (Deferred s.forest.collector.next (Some c.name) ∷ h) d in
             let under : IsUnderWay old.0.phase = subst P (sym e) tt in
-            let is : retiring_at (slice_get s.machines w) ≡ Some c = ap retiring_at old.1 ∙ ap retiring e in
-            (
+            let is : retiring_at (slice_get s.machines w) ≡ Some c = ap retiring_at old.1 ∙ ap retiring e in (
               Deferred s.forest.collector.next (Some c.name) ∷ h,
               subst R (sym (k.step.walked.clock ∙ ap (λ o. after_walk o mid w) is))
                   (deferring p it h mid w c.name (held_place s.forest.collector.table w (g.registered under)) (g.idle under) (subst Q e g.secured) (stored p it h s.forest.collector mid refl b)),

@@ -8,11 +8,12 @@ ghost use Rattle.joint.specs.declared.steps.Report.{Report};
 ghost use Rattle.joint.specs.declared.steps.Step.{Step};
 ghost use Rattle.congee.specs.Keys.{key_bytes};
 ghost use Rattle.joint.specs.Driving.{IsDriven, IsToldInCall, IsTurn, begin_step, ended, go_step};
+ghost use Rattle.joint.specs.Whole.{IsStep, Whole};
 
 use crate::refusal::Refusal;
 use crate::steps::{Done, Event, Op, Outcome, Report, Step};
 use crate::threads::answers::{Answer, Closure};
-use congee::{KEY_BYTES, Noise};
+use congee::{KEY_BYTES, Noise, Payload, Small};
 use std::sync::Wait;
 
 /// Gives the turns of one whole call of a worker's: each is one step of the machine.
@@ -65,6 +66,12 @@ impl<P: Drop> Pair<P> for ([u8; KEY_BYTES], P) {
         (key.to_be_bytes(), value)
     }
 }
+
+/// A step by which a call begins or goes on registers nobody and knows no tokens: where the turns that somebody gives are
+/// steps of an index, they tell what may be told in a call.
+pub fn turns_tell<P: Payload + Small>()
+    ensures { (who : ℕ) (op : Op P) (last : Option (Report P)) (s s' : Whole P) (step : Step P) (r : Report P) → IsTurn who op last step → IsStep P.same_as P.always_copies s step r s' → IsToldInCall r.outcome }
+{}
 
 /// A whole call of a worker's, by turns that somebody gives; answers what the last of them told. The closure gives its
 /// answer between two turns, and is asked again where the call begins anew. Each pair that a scan finds is written to

@@ -5,6 +5,7 @@ use super::machine::{
     END, Index, begin, beginning, go as step_on, going, is_in_flight, noise, open,
 };
 use crate::examples::collector::put_off;
+use crate::examples::driven::{Driven, answered};
 use crate::examples::journal::{Store, is_honest};
 use crate::examples::machine::{runs_and_closes, runs_as_one_map};
 use crate::examples::owned::{
@@ -187,6 +188,28 @@ fn rounds_give_memory_back_unseen(rt: HostRuntime) -> Result<(), Fail> {
 #[test]
 fn the_first_calls_find_what_was_put(rt: HostRuntime) -> Result<(), Fail> {
     assert_eq!(rt; first_calls(&rt, rt.alloc())?, (Some(42), 1));
+    Ok(())
+}
+
+#[test]
+fn calls_are_driven_on_an_index_of_ones_own(rt: HostRuntime) -> Result<(), Fail> {
+    let mut index = open(rt.alloc(), 1, 100)?;
+    let mut found = [(0, 0); 2];
+    for (op, done) in [
+        (Op::Pin, Done::Unit),
+        (Op::Insert(7, 1), Done::Reply(Reply::Insert(None))),
+        (
+            Op::ComputeInsert(7),
+            Done::Reply(Reply::ComputeInsert(Some(1))),
+        ),
+        (Op::Range(0, 9, 2), Done::Scanned(1)),
+    ] {
+        let mut driven = Driven::new(index, 0, op);
+        let told = answered(&rt, &mut driven, |value| Some(value?.wrapping_add(4)), &mut found);
+        assert_eq!(rt; told, Ok(done), "{op:?}");
+        index = driven.into_index();
+    }
+    assert_eq!(rt; found, [(7, 5), (0, 0)]);
     Ok(())
 }
 

@@ -136,7 +136,7 @@ fn flush(index: &mut Index, flight: &Flight) {
 }
 
 /// Whoever isn't in a call collects.
-fn collect(index: &mut Index, first: &Flight, second: &Flight) {
+pub fn collect(index: &mut Index, first: &Flight, second: &Flight) {
     flush(index, first);
     flush(index, second);
     are_rounds_done(index, COLLECTOR, 1);
