@@ -4,6 +4,7 @@ pub mod Advanced
 pub mod Alone
 pub mod AloneCalls
 pub mod AloneCounts
+pub mod AloneTold
 pub mod Altering
 pub mod Answering
 pub mod Apart

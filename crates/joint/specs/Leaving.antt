@@ -1,5 +1,5 @@
 -- How nodes leave the tree in a run: each by the call that took it out, which hands it over once; and whose the locks are.
-use Rattle.std.specs.Prelude.{◌≡◌, ◌≢◌, ◌<◌, ◌⊎◌, ℕ, Bool, true, false, List, [], ◌∷◌, Some, is_some, length}
+use Rattle.std.specs.Prelude.{◌≡◌, ◌≢◌, ◌<◌, ◌⊎◌, ℕ, true, false, List, [], ◌∷◌, is_some, length}
 use Rattle.crossbeam_epoch.specs.Limits.{bag_places}
 use Rattle.crossbeam_epoch.specs.declared.bag.Work.TheVariants.{Remove}
 use Rattle.crossbeam_epoch.specs.declared.names.Name.{Name}
@@ -56,6 +56,8 @@ pub record LeavesRightly {V : Type 0} (s : Whole V) (t : Taken V) : Type 0 where
   pub owed : (i n : ℕ) → IsTakenBy s i n → IsTakenBy t.after i n ⊎ ((t.step.worker ≡ i) × HandsOver s.forest t.after.forest i n)
   -- no other is handed over
   pub handed : (n : ℕ) → is_waiting (nodes s.forest n) ≡ false → is_waiting (nodes t.after.forest n) ≡ true → IsTakenBy s t.step.worker n × HandsOver s.forest t.after.forest t.step.worker n
+  -- and nothing else is deferred
+  pub defers : (t.after.forest.collector.next ≡ s.forest.collector.next) ⊎ ((n : ℕ) × IsTakenBy s t.step.worker n × HandsOver s.forest t.after.forest t.step.worker n)
   -- a node that left stays so until it is destroyed
   pub left : (n : ℕ) → IsWaiting s n → StaysLeft s t.after n ⊎ IsDestroyed t.after n
 

@@ -11,7 +11,7 @@ use Rattle.congee.specs.protocol.Holdings.{MadeBy}
 use Rattle.congee.specs.protocol.Names.{names}
 use Rattle.joint.specs.declared.id.Id.{Id}
 use Rattle.joint.specs.declared.steps.Event.{Event}
-use Rattle.joint.specs.declared.steps.Event.TheVariants.{Register, Begin, Go}
+use Rattle.joint.specs.declared.steps.Event.TheVariants.{Begin, Go}
 use Rattle.joint.specs.declared.steps.Op.TheVariants.{Unpin}
 use Rattle.joint.specs.Forest.{nodes}
 use Rattle.joint.specs.Runs.{Taken}

@@ -59,14 +59,17 @@ mod world;
 
 pub use id::Id;
 pub use laws::{
-    comes_back, counts_nodes, counts_pairs, runs_alone, runs_join, runs_map, runs_plain, runs_spare,
-    waits, whereabouts,
+    comes_back, counts_nodes, counts_pairs, runs_alone, runs_join, runs_map, runs_plain,
+    runs_spare, waits, whereabouts,
 };
 pub use limits::Limits;
 pub use map_laws::calls_map;
 pub use promises::keeps_promises;
 pub use refusal::Refusal;
-pub use run_laws::{answers_wanted, calls_answer, calls_end, guards_keep, locks_apart, nodes_leave, readers_refused, runs_journal};
+pub use run_laws::{
+    alone_by_reports, answers_wanted, calls_answer, calls_end, guards_keep, locks_apart,
+    nodes_leave, readers_refused, runs_journal,
+};
 pub use steps::{Done, Event, Kind, Op, Outcome, Ran, Report, Step, Survey};
 pub use threads::auditing::audit;
 pub use threads::driver::{Turns, drive, turns_tell};

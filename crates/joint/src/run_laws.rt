@@ -1,27 +1,29 @@
-//! What a reader may conclude of runs by what they told.
+//! What a reader may conclude of any run: of its calls by what they told, and of nodes, locks and guards in its states.
 
 ghost use Rattle.std.specs.Prelude.{◌≡◌, ◌==◌, ◌<◌, ℕ, List, [], true, false, slice_get};
 ghost use Rattle.std.specs.FinMap.{empty};
 ghost use Rattle.judge.specs.Answer.{Pairs};
 ghost use Rattle.judge.specs.Journal.{Legal};
 ghost use Rattle.congee.specs.Keys.{IsMapOf};
+ghost use Rattle.joint.specs.declared.limits.Limits.{Limits};
+ghost use Rattle.joint.specs.declared.steps.Report.{Report as Told};
+ghost use Rattle.joint.specs.declared.steps.Step.{Step as Asked};
+ghost use Rattle.joint.specs.Alone.{OthersUnlocked};
 ghost use Rattle.joint.specs.Answering.{AllDecide};
 ghost use Rattle.joint.specs.Ends.{AllEndWell, IdleUnasked, IsBetween, ReadersRefused};
 ghost use Rattle.joint.specs.Forest.{nodes};
-ghost use Rattle.joint.specs.declared.steps.Report.{Report as Told};
-ghost use Rattle.joint.specs.declared.steps.Step.{Step as Asked};
 ghost use Rattle.joint.specs.Journaling.{asks_at};
 ghost use Rattle.joint.specs.Leaving.{AllLeaveOnce, LeftLocked, LocksApart, LocksHeld, MarkedLeft};
 ghost use Rattle.joint.specs.Log.{opened_log};
-ghost use Rattle.joint.specs.declared.limits.Limits.{Limits};
 ghost use Rattle.joint.specs.Promises.{IsNew};
 ghost use Rattle.joint.specs.Runs.{Taken, AreTaken, after_all, IsRun, Line, Flights, IsMapRun, AreInFlight, RunsJournal, IsFresh, no_flights};
 ghost use Rattle.joint.specs.Stretches.{SeesNode, StandsOn};
-ghost use Rattle.joint.specs.Wanted.{wants_after, wants_if};
+ghost use Rattle.joint.specs.Wanted.{AllEndAloneTold, OthersIdle, wants_after, wants_if};
 ghost use Rattle.joint.specs.Whole.{Whole, Holds, IsStep, is_busy};
 
 use crate::engine::{call_laws, cell_laws, progress};
 use crate::id::Id;
+use crate::laws::runs_alone;
 use crate::nodes::Nodes;
 use congee::{Allocator, Machine, Payload, Small};
 
@@ -95,4 +97,13 @@ pub fn guards_keep<P: Payload + Small, A: Allocator>()
     call_laws::<P>();
     cell_laws::<P>();
     Machine::<Id, P>::leaves::<Nodes<P, A>>();
+}
+
+/// A call whose steps nobody else's come between, while no other call holds a lock, ends within its number of steps, where its
+/// worker answers exactly what the newest report asked. No other call holds one where no other worker has a call in flight.
+pub fn alone_by_reports<P: Payload + Small, A: Allocator>()
+    ensures runs { (s : Whole P) (taken : List (Taken P)) → Holds P.same_as P.always_copies s → AreTaken P.same_as P.always_copies s taken → AllEndAloneTold s taken }
+    ensures idle { (s : Whole P) (who : ℕ) → Holds P.same_as P.always_copies s → OthersIdle s who → OthersUnlocked s who }
+{
+    runs_alone::<P, A>();
 }

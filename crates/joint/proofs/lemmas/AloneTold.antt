@@ -1,5 +1,5 @@
 -- A call that is taken alone ends within its number of steps, by what its worker was told.
-use Rattle.std.proofs.Common.{◌≡◌, ◌≢◌, ◌==◌, ◌<◌, ℕ, zero, suc, Bool, true, false, List, [], ◌∷◌, length, take, refl, sym, ◌∙◌, ap, subst, inl, inr}
+use Rattle.std.proofs.Common.{◌≡◌, ◌≢◌, ◌==◌, ◌<◌, ℕ, zero, suc, Bool, true, false, List, [], ◌∷◌, take, refl, sym, ◌∙◌, ap, subst, inl, inr}
 use Rattle.std.specs.Prelude.{Option, None, Some, slice_get}
 use Rattle.std.proofs.lemmas.Bool.{false≢true}
 use Rattle.judge.specs.declared.journal.Reply.{Reply}
@@ -38,10 +38,10 @@ use Rattle.joint.specs.Forest.{nodes}
 use Rattle.joint.specs.Intact.{IsAt, root}
 use Rattle.joint.specs.Journaling.{asks_at, is_asking}
 use Rattle.joint.specs.Reports.{collected, target, told}
-use Rattle.joint.specs.Runs.{Taken, AreTaken, Line, Flights, BeginsOr, BeginMap, PendingStep, GoMap, EventMap, InFlight, AreInFlight, with_flight}
+use Rattle.joint.specs.Runs.{Taken, AreTaken, Line, Flights, BeginsOr, BeginMap, PendingStep, GoMap, EventMap, InFlight, AreInFlight}
 use Rattle.joint.specs.View.{id_number}
 use Rattle.joint.specs.Wanted.{is_question, wants_if, IsReply, RepliesTo, AreNextTold, AllEndAloneTold, OthersIdle}
-use Rattle.joint.specs.Whole.{Whole, EngineHolds, Holds, IsStep, BeginsAt, BeginsOnTree, Does, EntersUnless, engine_of, finds_none, is_in_flight, misuse, place_of}
+use Rattle.joint.specs.Whole.{Whole, Holds, IsStep, BeginsAt, BeginsOnTree, Does, EntersUnless, engine_of, finds_none, is_in_flight, misuse, place_of}
 use Rattle.joint.proofs.lemmas.Collecting.{there}
 use Rattle.joint.proofs.lemmas.Ends.{rests}
 use Rattle.joint.proofs.lemmas.Entering.{begin_free}
@@ -52,6 +52,12 @@ use Rattle.joint.proofs.lemmas.Requested.{asks}
 use Rattle.joint.proofs.lemmas.Telling.{survey_ends}
 use Rattle.joint.proofs.lemmas.Wanted.{step_wants}
 use Rattle.std.proofs.lemmas.Option.{slice_get_within}
+
+-- nothing that is told of the collector is a question
+of_collector : (V : Type 0) (o : Turned) → is_question {V = V} (collected o) ≡ false
+of_collector V turned.Running = refl
+of_collector V turned.Done = refl
+of_collector V (turned.Refused f) = refl
 
 module _ {V : Type 0} where
   -- a call on one key is of what was begun
@@ -166,11 +172,6 @@ module _ {V : Type 0} where
     by (AskNew plan) e = old (AskNew plan) _ e refl refl
     by _ e = tt
 
-  of_collector : (o : Turned) → is_question {V = V} (collected o) ≡ false
-  of_collector turned.Running = refl
-  of_collector turned.Done = refl
-  of_collector (turned.Refused f) = refl
-
   unasked : (o : Outcome V) → is_in_flight o ≡ false → is_question o ≡ false
   unasked (Asks found) e = absurd (false≢true (sym e))
   unasked Running e = refl
@@ -196,7 +197,7 @@ module _ {V : Type 0} (same : V → V → Bool) (always : Bool) where
   tree_quiet s s' w (point.Exchange k a b) r x = ap (λ y. is_question y.outcome) x.report
 
   begin_quiet : (s s' : Whole V) (w : ℕ) (t : Target V) (r : Report V) → BeginsAt same always s w t r s' → is_question r.outcome ≡ false
-  begin_quiet s s' w (target.Collector c) r x = ap (λ y. is_question y.outcome) x.report ∙ of_collector {V = V} x.turn.outcome
+  begin_quiet s s' w (target.Collector c) r x = ap (λ y. is_question y.outcome) x.report ∙ of_collector V x.turn.outcome
   begin_quiet s s' w (target.Tree p) r x = tree_quiet s s' w p r x
   begin_quiet s s' w (target.Survey k) r x = ap (λ y. is_question y.outcome) x.report ∙ unasked x.outcome (survey_ends (nodes s.forest) k x.outcome x.tells)
 
@@ -219,8 +220,7 @@ module _ {V : Type 0} (same : V → V → Bool) (always : Bool) where
       let go : GoMap same fs (fs t.step.worker) h.2.pairs y.noise.answer l a.flights = subst P (ap (λ z. z.event) y.step) a.map in
       let kind' : Kinded o (a.flights w) = subst R worker (go_kind o same fs (fs t.step.worker) h.2.pairs y.noise.answer l a.flights refl (subst Q (sym worker) k) go) in
       let asks' : asks_at (slice_get t.after.machines w) ≡ is_question t.report.outcome =
-      subst S y.step (step_wants same always s t.step t.report t.after w h x.0) ∙ ap (λ b. wants_if (asks_at (slice_get s.machines w)) b (Go y.noise) t.report.outcome) (eqb_same w) in
-      (
+      subst S y.step (step_wants same always s t.step t.report t.after w h x.0) ∙ ap (λ b. wants_if (asks_at (slice_get s.machines w)) b (Go y.noise) t.report.outcome) (eqb_same w) in (
         record {
           noise = y.noise;
           step = y.step;

@@ -1,7 +1,7 @@
 -- A call on one key that is done was answered by its deciding step.
 use Rattle.std.proofs.Common.{◌≡◌, ◌≢◌, ◌==◌, ℕ, Bool, true, false, List, [], ◌∷◌, refl, sym, ◌∙◌, ap, subst, inl, inr}
-use Rattle.std.specs.Prelude.{Option, None, Some, ◌&&◌}
-use Rattle.std.proofs.lemmas.Bool.{cases_Bool, eqb-true, eqb-false, false≢true}
+use Rattle.std.specs.Prelude.{Option, None, ◌&&◌}
+use Rattle.std.proofs.lemmas.Bool.{eqb-true, eqb-false, false≢true}
 use Rattle.judge.specs.declared.journal.Reply.{Reply}
 use Rattle.judge.specs.Answer.{Pairs}
 use Rattle.congee.specs.declared.protocol.machine.Noise.{Noise}
@@ -12,18 +12,16 @@ use Rattle.congee.specs.declared.protocol.op.Op.TheVariants as point
 use Rattle.congee.specs.declared.protocol.phase.Kind.{Kind}
 use Rattle.congee.specs.protocol.Play.{Flight, Pending, Decided, Over, Unbegun, Scanning, Question, Unasked, Undecided, Concludes, heard, resolved, begun, flight, parts}
 use Rattle.joint.specs.declared.id.Id.{Id}
-use Rattle.joint.specs.declared.steps.Done.{Done as Answer}
 use Rattle.joint.specs.declared.steps.Event.{Event}
 use Rattle.joint.specs.declared.steps.Event.TheVariants.{Register, Begin, Go}
-use Rattle.joint.specs.declared.steps.Op.{Op}
 use Rattle.joint.specs.declared.steps.Outcome.{Outcome}
-use Rattle.joint.specs.declared.steps.Outcome.TheVariants.{Running, Asks, Found, Registered, Done, Refused}
+use Rattle.joint.specs.declared.steps.Outcome.TheVariants.{Running, Asks, Found, Done, Refused}
 use Rattle.joint.specs.declared.steps.Target.{Target}
 use Rattle.joint.specs.declared.steps.Target.TheVariants as target
-use Rattle.joint.specs.Answering.{is_go, Either, GoesOrAnswers, GoesOrRefused, IsQuiet, Answers, TakesEffectAt, Decides, AllDecide}
+use Rattle.joint.specs.Answering.{is_go, Either, GoesOrAnswers, GoesOrRefused, Answers, TakesEffectAt, Decides, AllDecide}
 use Rattle.joint.specs.Intact.{root}
 use Rattle.joint.specs.Reports.{target, told}
-use Rattle.joint.specs.Runs.{Line, Flights, Stays, BeginsOr, BeginMap, PendingStep, GoMap, EventMap, IsMapRun, with_flight}
+use Rattle.joint.specs.Runs.{Line, Flights, BeginsOr, BeginMap, PendingStep, GoMap, EventMap, IsMapRun, with_flight}
 use Rattle.joint.specs.Whole.{IsOnKey, is_in_flight}
 use Rattle.joint.proofs.lemmas.Flights.{ends_stays, flight_here, flight_apart}
 
@@ -93,11 +91,12 @@ module _ {V : Type 0} (same : V → V → Bool) where
   answers w r fs m [] fs' e x = tt
   answers w r fs m (l ∷ ls) fs' e x = either_by ((l.step.worker == w) && is_go l.step.event) _ _
       (λ b.
-          let g = goes_at fs m l.step.event l x.0 w (Decided r) e b x.1 in
-          let y = g.1.1 in
-          let P : Outcome V → Type 0 = λ o. GoesOrAnswers r o (Answers w r ls) in
-          (record { undecided = y.step.undecided; no_entry = y.step.no_entry },
-          subst P (sym y.step.told_so) (concludes_on r y.step.outcome y.next (Answers w r ls) (λ q. answers w r x.0 l.pairs ls fs' (next_here fs x.0 w l.step.worker y.next g.0 y.advances ∙ q) x.2) y.step.concludes)))
+      let g = goes_at fs m l.step.event l x.0 w (Decided r) e b x.1 in
+      let y = g.1.1 in
+      let P : Outcome V → Type 0 = λ o. GoesOrAnswers r o (Answers w r ls) in (
+        record { undecided = y.step.undecided; no_entry = y.step.no_entry },
+        subst P (sym y.step.told_so) (concludes_on r y.step.outcome y.next (Answers w r ls) (λ q. answers w r x.0 l.pairs ls fs' (next_here fs x.0 w l.step.worker y.next g.0 y.advances ∙ q) x.2) y.step.concludes),
+      ))
       (λ b. answers w r x.0 l.pairs ls fs' (keeps fs m l.step.event l x.0 w (decided_not (fs w) r e) b x.1 ∙ e) x.2)
 
   undecided_on : (k : ℕ) (kd : Kind V) (v : Option V) (q : Question V) (o : Moved V) (f : Flight V) (Rest : Type 0) → ((u : Question V) → f ≡ Pending k kd v u → Rest) → Undecided k kd v q o f → GoesOrRefused (told o) Rest
@@ -112,12 +111,12 @@ module _ {V : Type 0} (same : V → V → Bool) where
   decides w k kd v u fs m [] fs' e x = tt
   decides w k kd v u fs m (l ∷ ls) fs' e x = either_by ((l.step.worker == w) && is_go l.step.event) _ _
       (λ b.
-          let g = goes_at fs m l.step.event l x.0 w (Pending k kd v u) e b x.1 in
-          let y = g.1.1 in
-          pending_on k kd (heard kd u g.1.0.answer v) (resolved kd u g.1.0.answer) w m l ls y.next l.report.decided g.0
-          (λ a z q. decides w k kd a z x.0 l.pairs ls fs' (next_here fs x.0 w l.step.worker y.next g.0 y.advances ∙ q) x.2)
-          (λ r q. answers w r x.0 l.pairs ls fs' (next_here fs x.0 w l.step.worker y.next g.0 y.advances ∙ q) x.2)
-          y.step)
+      let g = goes_at fs m l.step.event l x.0 w (Pending k kd v u) e b x.1 in
+      let y = g.1.1 in
+      pending_on k kd (heard kd u g.1.0.answer v) (resolved kd u g.1.0.answer) w m l ls y.next l.report.decided g.0
+      (λ a z q. decides w k kd a z x.0 l.pairs ls fs' (next_here fs x.0 w l.step.worker y.next g.0 y.advances ∙ q) x.2)
+      (λ r q. answers w r x.0 l.pairs ls fs' (next_here fs x.0 w l.step.worker y.next g.0 y.advances ∙ q) x.2)
+      y.step)
       (λ b. decides w k kd v u x.0 l.pairs ls fs' (keeps fs m l.step.event l x.0 w (pending_not (fs w) k kd v u e) b x.1 ∙ e) x.2)
     where
       pending_on : (k : ℕ) (kd : Kind V) (v : Option V) (q : Question V) (w : ℕ) (m : Pairs V) (l : Line V) (ls : List (Line V)) (f : Flight V) (d : Bool) → l.step.worker ≡ w → ((a : Option V) (z : Question V) → f ≡ Pending k kd a z → Decides w ls) → ((r : Reply V) → f ≡ Decided r → Answers w r ls)

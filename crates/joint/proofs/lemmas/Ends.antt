@@ -1,14 +1,13 @@
 -- What a call leaves at its end: nothing that it held, and nothing written down.
-use Rattle.std.proofs.Common.{◌≡◌, ◌≢◌, ◌==◌, ◌<◌, ◌≤◌, ℕ, zero, suc, arith, Bool, true, false, List, [], ◌∷◌, length, refl, sym, ◌∙◌, ap, subst, inl, inr, ◌⊎◌}
+use Rattle.std.proofs.Common.{◌≡◌, ◌≢◌, ◌==◌, ◌<◌, ℕ, zero, suc, Bool, true, false, List, [], ◌∷◌, length, refl, sym, ◌∙◌, ap, subst, inl, inr}
 use Rattle.std.specs.Prelude.{Option, None, Some, ◌&&◌, replicate, slice_get, if◌then◌else◌}
 use Rattle.std.proofs.Math.ListN.{set}
 use Rattle.std.proofs.lemmas.List.{get_or-set_other}
 use Rattle.std.proofs.lemmas.Bool.{cases_Bool, eqb-true, eqb-false, false≢true}
-use Rattle.std.proofs.lemmas.Option.{slice_get_within, slice_get_cases}
+use Rattle.std.proofs.lemmas.Option.{slice_get_within}
 use Rattle.crossbeam_epoch.specs.declared.fault.Fault.{Fault}
 use Rattle.crossbeam_epoch.specs.declared.world.participant.Participant.{Participant}
 use Rattle.congee.specs.declared.protocol.machine.Machine.{Machine}
-use Rattle.congee.specs.declared.protocol.machine.Noise.{Noise}
 use Rattle.congee.specs.declared.protocol.op.Op.{Op as Point}
 use Rattle.congee.specs.declared.protocol.phase.Phase.{Phase}
 use Rattle.congee.specs.declared.protocol.phase.Phase.TheVariants.{Ended}
@@ -24,12 +23,12 @@ use Rattle.joint.specs.declared.steps.Outcome.TheVariants.{Refused}
 use Rattle.joint.specs.declared.steps.Report.{Report}
 use Rattle.joint.specs.declared.steps.Step.{Step}
 use Rattle.joint.specs.Ends.{IsBetween, LeavesBetween, LeavesAll, AllEndWell, IdleUnasked}
-use Rattle.joint.specs.Intact.{IsAt, is_reserving}
+use Rattle.joint.specs.Intact.{IsAt}
 use Rattle.joint.specs.Log.{asked, opened_log, request_at}
 use Rattle.joint.specs.Refusals.{of_fault}
 use Rattle.joint.specs.Runs.{Taken, AreTaken, after_all}
 use Rattle.joint.specs.View.{id_number}
-use Rattle.joint.specs.Whole.{Whole, Holds, IsStep, IsOfCall, StepsUnless, Does, Proceeds, engine_of, gives_up, heard_at, is_busy, is_in_flight, misuse, place_of, requests_after}
+use Rattle.joint.specs.Whole.{Whole, Holds, IsStep, IsOfCall, StepsUnless, Does, engine_of, gives_up, heard_at, is_busy, is_in_flight, misuse, place_of, requests_after}
 use Rattle.joint.proofs.lemmas.Apart.{Apart, one_set, step_apart}
 use Rattle.joint.proofs.lemmas.Collecting.{there}
 use Rattle.joint.proofs.lemmas.Entering.{begin_idle}

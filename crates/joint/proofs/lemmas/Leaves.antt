@@ -1,47 +1,36 @@
 -- How a step of a call takes a node out of the tree, and hands it over.
-use Rattle.std.proofs.Common.{◌≡◌, ◌≢◌, ◌==◌, ◌<◌, ℕ, Bool, true, false, List, [], ◌∷◌, length, refl, sym, ◌∙◌, ap, subst, inl, inr, ◌⊎◌}
-use Rattle.std.proofs.Math.ListN.{set}
-use Rattle.std.specs.Prelude.{Option, None, Some, is_some, slice_get, ◌&&◌, not, if◌then◌else◌}
+use Rattle.std.proofs.Common.{◌≡◌, ◌≢◌, ◌==◌, ℕ, Bool, true, false, List, [], ◌∷◌, length, refl, sym, ◌∙◌, ap, subst, inl, inr, ◌⊎◌}
+use Rattle.std.specs.Prelude.{Option, None, Some, slice_get, if◌then◌else◌}
 use Rattle.std.proofs.lemmas.Bool.{cases_Bool, eqb-true, eqb-false, false≢true}
 use Rattle.std.proofs.lemmas.Option.{slice_get_within}
-use Rattle.crossbeam_epoch.specs.Limits.{bag_places}
-use Rattle.crossbeam_epoch.specs.declared.bag.Work.TheVariants.{Remove}
-use Rattle.crossbeam_epoch.specs.World.Machine.{place, deferred, with_store}
+use Rattle.crossbeam_epoch.specs.World.Machine.{place, with_store}
 use Rattle.congee.specs.declared.protocol.machine.Machine.{Machine}
 use Rattle.congee.specs.declared.protocol.machine.Move.{Move}
-use Rattle.congee.specs.declared.protocol.machine.Noise.{Noise}
 use Rattle.congee.specs.declared.protocol.phase.Phase.{Phase}
-use Rattle.congee.specs.declared.protocol.phase.Phase.TheVariants.{Obsolete, Retire, Unlock, Ended, Sweep}
+use Rattle.congee.specs.declared.protocol.phase.Phase.TheVariants.{Obsolete, Retire}
 use Rattle.congee.specs.declared.protocol.run.Step.{Step as Turn}
 use Rattle.congee.specs.declared.protocol.turn.Turn.{Turn as Said}
 use Rattle.judge.specs.declared.journal.Reply.{Reply}
-use Rattle.congee.specs.Heap.{Node, Below, Stands}
+use Rattle.congee.specs.Heap.{Node, Below}
 use Rattle.congee.specs.Keys.{key_bytes}
 use Rattle.congee.specs.Ledger.{Note, Linked, Gone, is_published}
 use Rattle.congee.specs.protocol.Answers.{Keeps}
-use Rattle.congee.specs.protocol.Destroys.{Destroys, Lost}
 use Rattle.congee.specs.protocol.Events.{SameBut}
-use Rattle.congee.specs.protocol.Handing.{Leads, InTree, IsOut, is_waiting, Due, Leaving, HandsAt, HandsNothing, HandsNode, TakesAt, TakesNothing, TakesNode, StepHands, StepTakes}
-use Rattle.congee.specs.protocol.Holdings.{Holdings, TakenBy}
-use Rattle.congee.specs.protocol.Play.{EachKnown, IsMoved, ProtocolAt, Settled}
-use Rattle.congee.specs.protocol.Protocol.{Known, Rely}
+use Rattle.congee.specs.protocol.Handing.{Leads, InTree, IsOut, is_waiting, Due, Leaving, HandsAt, TakesAt, TakesNode}
+use Rattle.congee.specs.protocol.Holdings.{TakenBy}
+use Rattle.congee.specs.protocol.Play.{EachKnown, IsMoved, Settled}
+use Rattle.congee.specs.protocol.Protocol.{Known}
 use Rattle.congee.specs.protocol.Steps.{PhaseStepped}
-use Rattle.joint.specs.declared.call.Call.{Call}
-use Rattle.joint.specs.declared.call.Call.TheVariants.{Idle, Collecting, Reserving, Securing, Walking}
 use Rattle.joint.specs.declared.id.Id.{Id}
 use Rattle.joint.specs.Forest.{Forest, nodes, Refuses}
-use Rattle.joint.specs.Intact.{IsAt, WalkedOn, is_done, rested, resting}
+use Rattle.joint.specs.Intact.{is_done, rested, resting}
 use Rattle.joint.specs.Laws.{CallLaws}
-use Rattle.joint.specs.Leaving.{TakesOut, HandsOver}
+use Rattle.joint.specs.Leaving.{HandsOver}
 use Rattle.joint.specs.Machines.{IsSafe, Walked, after_walk, retiring, retiring_at}
-use Rattle.joint.specs.Names.{number}
 use Rattle.joint.specs.Sound.{Guards, IsSecured, IsUnderWay}
 use Rattle.joint.specs.View.{id_number}
-use Rattle.joint.specs.Whereabouts.{IsTakenBy}
-use Rattle.joint.specs.Whole.{Whole}
 use Rattle.joint.proofs.lemmas.Flights.{set_at}
-use Rattle.joint.proofs.lemmas.Left.{IsOwed, taken_owed, taken_locked}
-use Rattle.joint.proofs.lemmas.Resting.{cleared_is}
+use Rattle.joint.proofs.lemmas.Left.{IsOwed, taken_owed}
 
 abbrev nobody : ℕ → Option ℕ
 nobody i = None
@@ -235,3 +224,11 @@ module _ {V : Type 0} (same : V → V → Bool) (always : Bool) (laws : CallLaws
         room = subst Q e g.secured;
         deferral = walked.clock ∙ ap (λ y. after_walk y (with_store f.collector f'.collector.store) who) (ap retiring_at at ∙ ap retiring e);
       }
+
+  -- the step of a call that has marked its node hands it over
+  pub retires : (c q : Id) (r : Reply V) → m.phase ≡ Retire c q r → HandsOver f f' who (id_number c)
+  retires c q r e =
+      let P : Phase Id V → Type 0 = λ p. PhaseStepped id_number same always f.version_max (Refuses f) m.root (key_bytes m.key) m.kind step.noise.fail step.noise.answer m.given p (nodes f) moved.now.given (record { phase = moved.now.phase; report = d }) (nodes f') in
+      let Q : Phase Id V → Type 0 = λ p. TakenBy id_number p (id_number c) in
+      let x = subst P e moved.step.step in
+      hands_over (id_number c) c q r (subst Q (sym e) refl) e refl x.1

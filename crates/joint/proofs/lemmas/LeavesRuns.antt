@@ -25,11 +25,11 @@ use Rattle.congee.specs.protocol.Steps.{PhaseStepped}
 use Rattle.congee.specs.Keys.{key_bytes}
 use Rattle.congee.specs.declared.protocol.phase.Kind.{Kind}
 use Rattle.congee.specs.declared.protocol.phase.Phase.{Phase}
-use Rattle.congee.specs.declared.protocol.phase.Phase.TheVariants.{Obsolete, Retire, UnlockBelow, Unlock, Sweep, Ended}
+use Rattle.congee.specs.declared.protocol.phase.Phase.TheVariants.{Obsolete, Retire, Unlock, Ended}
 use Rattle.congee.specs.Heap.{Node, Stands}
 use Rattle.congee.specs.protocol.Handing.{InTree, is_waiting}
 use Rattle.congee.specs.protocol.Holdings.{TakenBy}
-use Rattle.congee.specs.protocol.Play.{Flight, Pending, Decided, Over, Unbegun, Scanning, Question, Undecided, Concludes, ScanTells, Follows, heard, resolved, flight_in, flight}
+use Rattle.congee.specs.protocol.Play.{Flight, Pending, Decided, Over, Unbegun, Scanning, Question, Undecided, ScanTells, Follows, flight_in}
 use Rattle.joint.specs.declared.call.Call.{Call}
 use Rattle.joint.specs.declared.call.Call.TheVariants.{Idle, Collecting, Reserving, Securing, Walking}
 use Rattle.joint.specs.declared.id.Id.{Id}
@@ -42,15 +42,14 @@ use Rattle.joint.specs.declared.steps.Outcome.TheVariants.{Running}
 use Rattle.joint.specs.declared.steps.Target.{Target}
 use Rattle.joint.specs.declared.steps.Target.TheVariants as target
 use Rattle.joint.specs.declared.steps.Report.{Report}
-use Rattle.joint.specs.declared.steps.Step.{Step}
 use Rattle.joint.specs.Forest.{Forest, nodes, Refuses}
 use Rattle.joint.specs.Intact.{call_after, is_done, is_reserving, over_at, rested, resting}
 use Rattle.joint.specs.Laws.{CallLaws, LeavesLaw}
-use Rattle.joint.specs.Leaving.{TakesOut, HandsOver, StaysLeft, LeavesRightly, LeftLocked, BeginsAnew, TakesNone, HandsNone, LeavesOnce, AllLeaveOnce}
+use Rattle.joint.specs.Leaving.{TakesOut, HandsOver, StaysLeft, LeavesRightly, LeftLocked, BeginsAnew, TakesNone, HandsNone, AllLeaveOnce}
 use Rattle.joint.specs.Promises.{IsNew}
 use Rattle.joint.specs.Reports.{target}
 use Rattle.joint.specs.Sound.{IsUnderWay}
-use Rattle.joint.specs.Runs.{Taken, AreTaken, after_all, Line, Flights, InFlight, PendingStep, GoMap, EventMap, with_flight}
+use Rattle.joint.specs.Runs.{Taken, AreTaken, after_all, Line, Flights, PendingStep, GoMap, EventMap}
 use Rattle.joint.specs.View.{id_number}
 use Rattle.joint.specs.Whereabouts.{IsWaiting, IsDestroyed, IsTakenBy}
 use Rattle.joint.specs.Whole.{Whole, EngineHolds, Holds, IsStep, StepsUnless, GivesUp, BeginsAt, BeginsOnTree, Collects, Does, EntersUnless, GoesAt, Walks, engine_of, finds_none, gives_up, is_in_flight, misuse, quiet}
@@ -276,6 +275,7 @@ module _ {V : Type 0} (same : V → V → Bool) (always : Bool) (laws : CallLaws
       waits = λ n b. inl (ap (λ z. z n) nodes_same);
       lost = λ n l. subst (λ (z : Node V). IsLost z) (sym (ap (λ z. z n) nodes_same)) l;
       taken = λ i n z. inl (same_left (nodes s.forest n) (nodes t.after.forest n) (ap (λ v. v n) nodes_same));
+      defers = inl (ap (λ z. z.forest.collector.next) y.state);
     }
       where
         nodes_same : nodes t.after.forest ≡ nodes s.forest
@@ -321,6 +321,7 @@ module _ {V : Type 0} (same : V → V → Bool) (always : Bool) (laws : CallLaws
       owed = parts.owed;
       handed = parts.handed;
       left = left;
+      defers = parts.defers;
     }
 
     -- a node that was handed over isn't handed over again

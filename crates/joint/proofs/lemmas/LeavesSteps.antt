@@ -1,10 +1,11 @@
 -- How each step of the machine leaves the nodes of the tree, those that calls have taken out, and those that were handed over.
-use Rattle.std.proofs.Common.{◌≡◌, ◌≢◌, ◌==◌, ◌<◌, ℕ, Bool, true, false, List, [], ◌∷◌, length, refl, sym, ◌∙◌, ap, subst, inl, inr, ◌⊎◌}
+use Rattle.std.proofs.Common.{◌≡◌, ◌≢◌, ◌==◌, ◌<◌, ℕ, Bool, true, false, List, length, refl, sym, ◌∙◌, ap, subst, inl, inr, ◌⊎◌}
 use Rattle.std.proofs.Math.ListN.{set}
-use Rattle.std.specs.Prelude.{Option, None, Some, slice_get, if◌then◌else◌}
+use Rattle.std.specs.Prelude.{Option, None, Some, slice_get}
 use Rattle.std.proofs.lemmas.Bool.{cases_Bool, eqb-true, eqb-false, false≢true}
 use Rattle.std.proofs.lemmas.Option.{slice_get_within}
 use Rattle.judge.specs.declared.journal.Reply.{Reply}
+use Rattle.crossbeam_epoch.specs.World.Machine.{with_store}
 use Rattle.crossbeam_epoch.specs.declared.fault.Fault.{Fault}
 use Rattle.crossbeam_epoch.specs.declared.world.participant.Participant.{Participant}
 use Rattle.congee.specs.declared.forms.base_node.NodeType.{NodeType}
@@ -14,25 +15,24 @@ use Rattle.congee.specs.declared.protocol.op.Op.{Op as Point}
 use Rattle.congee.specs.declared.protocol.op.Op.TheVariants as point
 use Rattle.congee.specs.declared.protocol.phase.Kind.{Kind}
 use Rattle.congee.specs.declared.protocol.phase.Phase.{Phase}
-use Rattle.congee.specs.declared.protocol.phase.Phase.TheVariants.{Obsolete, Retire, UnlockBelow, Unlock, Ended}
+use Rattle.congee.specs.declared.protocol.phase.Phase.TheVariants.{Obsolete, Retire, UnlockBelow, Unlock}
 use Rattle.congee.specs.declared.protocol.run.Step.{Step as Turn}
 use Rattle.congee.specs.declared.protocol.store.Refusal.{Refusal as Cause}
 use Rattle.congee.specs.declared.protocol.turn.Turn.{Turn as Said}
 use Rattle.congee.specs.Heap.{Node}
 use Rattle.congee.specs.Keys.{key_bytes}
-use Rattle.congee.specs.Ledger.{Note, Linked}
-use Rattle.congee.specs.protocol.Destroys.{Destroys, Lost}
+use Rattle.congee.specs.Ledger.{Linked}
+use Rattle.congee.specs.protocol.Destroys.{Destroys}
 use Rattle.congee.specs.protocol.Handing.{InTree, is_waiting}
 use Rattle.congee.specs.protocol.Holdings.{TakenBy}
 use Rattle.congee.specs.protocol.Leaving.{StepLeaves}
-use Rattle.congee.specs.protocol.Play.{Flight, Decided, IsMoved, Settled, flight_in}
+use Rattle.congee.specs.protocol.Play.{Decided, IsMoved, Settled, flight_in}
 use Rattle.congee.specs.protocol.Steps.{PhaseStepped}
 use Rattle.joint.specs.declared.call.Call.{Call}
 use Rattle.joint.specs.declared.call.Call.TheVariants.{Idle, Collecting, Reserving, Securing, Walking}
 use Rattle.joint.specs.declared.id.Id.{Id}
 use Rattle.joint.specs.declared.steps.Event.{Event}
 use Rattle.joint.specs.declared.steps.Event.TheVariants.{Register, Begin, Go}
-use Rattle.joint.specs.declared.steps.Op.{Op}
 use Rattle.joint.specs.declared.steps.Report.{Report}
 use Rattle.joint.specs.declared.steps.Target.{Target}
 use Rattle.joint.specs.declared.steps.Target.TheVariants as target
@@ -40,6 +40,7 @@ use Rattle.joint.specs.Forest.{Forest, nodes, Refuses}
 use Rattle.joint.specs.Intact.{IsAt, rested}
 use Rattle.joint.specs.Laws.{CallLaws, LeavesLaw}
 use Rattle.joint.specs.Leaving.{TakesOut, HandsOver}
+use Rattle.joint.specs.Machines.{after_walk, retiring, retiring_at}
 use Rattle.joint.specs.Reports.{target}
 use Rattle.joint.specs.View.{id_number}
 use Rattle.joint.specs.Whereabouts.{IsTakenBy}
@@ -87,6 +88,7 @@ pub record Parts {V : Type 0} (s s' : Whole V) (w : ℕ) (event : Event V) : Typ
   pub waits : (n : ℕ) → is_waiting (nodes s.forest n) ≡ true → (nodes s'.forest n ≡ nodes s.forest n) ⊎ IsLost (nodes s'.forest n)
   pub lost : (n : ℕ) → IsLost (nodes s.forest n) → IsLost (nodes s'.forest n)
   pub taken : (i n : ℕ) → IsTakenBy s i n → SameLeft (nodes s.forest n) (nodes s'.forest n) ⊎ IsLost (nodes s'.forest n)
+  pub defers : (s'.forest.collector.next ≡ s.forest.collector.next) ⊎ ((n : ℕ) × IsTakenBy s w n × HandsOver s.forest s'.forest w n)
 
 module _ {V : Type 0} (same : V → V → Bool) (always : Bool) where
   taken_walks : (k : Call V) (p : Participant (Unit {0})) (m : Machine Id V) (n : ℕ) → IsAt k p m → TakenBy id_number m.phase n → k ≡ Walking
@@ -121,19 +123,20 @@ module _ {V : Type 0} (same : V → V → Bool) (always : Bool) (laws : CallLaws
     KeepsTaken = (i n : ℕ) → IsTakenBy s i n → IsTakenBy s' i n
 
     -- no node changes
-    calm : nodes s'.forest ≡ nodes s.forest → KeepsTaken → Parts s s' w event
-    calm e k = record {
+    calm : nodes s'.forest ≡ nodes s.forest → s'.forest.collector.next ≡ s.forest.collector.next → KeepsTaken → Parts s s' w event
+    calm e d k = record {
       leaves = λ n x. inl (let P : (ℕ → Node V) → Type 0 = λ h. InTree h n in subst P (sym e) x);
       owed = λ i n x. inl (k i n x);
       handed = λ n b a. absurd (false≢true (sym b ∙ sym (ap (λ h. is_waiting (h n)) e) ∙ a));
       waits = λ n b. inl (ap (λ h. h n) e);
       lost = λ n l. subst (λ (y : Node V). IsLost y) (sym (ap (λ h. h n) e)) l;
       taken = λ i n x. inl (same_left (nodes s.forest n) (nodes s'.forest n) (ap (λ h. h n) e));
+      defers = inl d;
     }
 
     -- nodes that were handed over are destroyed
-    destroyed : Destroys id_number (nodes s.forest) s.machines (nodes s'.forest) → KeepsTaken → Parts s s' w event
-    destroyed d k = record {
+    destroyed : Destroys id_number (nodes s.forest) s.machines (nodes s'.forest) → s'.forest.collector.next ≡ s.forest.collector.next → KeepsTaken → Parts s s' w event
+    destroyed d e k = record {
       leaves = λ n x. inl (x.0, leads_same (nodes s.forest) (nodes s'.forest) settled.0 (λ a b c l e. (settled.1.tree.down a b c l e).linked) linked_stays x.0 0 n settled.1.tree.root x.1);
       owed = λ i n x. inl (k i n x);
       handed = λ n b a. elim (d.each n) [
@@ -143,6 +146,7 @@ module _ {V : Type 0} (same : V → V → Bool) (always : Bool) (laws : CallLaws
       waits = λ n b. elim (d.each n) [ inl e ↦ inl e | inr l ↦ inr (record { made = l.made; destroyed = l.destroyed }) ];
       lost = λ n b. elim (d.each n) [ inl e ↦ subst (λ (y : Node V). IsLost y) (sym e) b | inr l ↦ record { made = l.made; destroyed = l.destroyed } ];
       taken = λ i n x. elim (d.each n) [ inl e ↦ inl (same_left (nodes s.forest n) (nodes s'.forest n) e) | inr l ↦ inr (record { made = l.made; destroyed = l.destroyed }) ];
+      defers = inl e;
     }
       where
         linked_stays : (n : ℕ) → (settled.0 n).status ≡ Linked → nodes s'.forest n ≡ nodes s.forest n
@@ -159,7 +163,7 @@ module _ {V : Type 0} (same : V → V → Bool) (always : Bool) (laws : CallLaws
     ]
 
     unchanged : s' ≡ s → Parts s s' w event
-    unchanged e = calm (ap (λ y. nodes y.forest) e) (λ i n x. (x.0, ap (λ y. slice_get y.machines i) e ∙ x.1, x.2))
+    unchanged e = calm (ap (λ y. nodes y.forest) e) (ap (λ y. y.forest.collector.next) e) (λ i n x. (x.0, ap (λ y. slice_get y.machines i) e ∙ x.1, x.2))
 
     -- a call on the tree takes a step
     module _ (noise : Noise Id V) (is : event ≡ Go noise) (on : slice_get s.calls w ≡ Some Walking) (k : Walks same always s w noise r s') where
@@ -256,6 +260,13 @@ module _ {V : Type 0} (same : V → V → Bool) (always : Bool) (laws : CallLaws
         )
       ]
 
+      -- it defers a destruction where it hands a node over alone
+      walks_defers : (q : Phase Id V) → old.0.phase ≡ q → (s'.forest.collector.next ≡ s.forest.collector.next) ⊎ ((n : ℕ) × IsTakenBy s w n × HandsOver s.forest s'.forest w n)
+      walks_defers (Retire c q u) e =
+          let P : Phase Id V → Type 0 = λ y. TakenBy id_number y (id_number c) in
+          inr (id_number c, (old.0, old.1, subst P (sym e) refl), leaves.retires same always laws s.forest s'.forest s.machines k.step.between turn k.move holds.0.safe k.step.walked old.0 old.1 c q u e)
+      walks_defers _ e = inl (ap (λ c. c.next) (k.step.walked.clock ∙ ap (λ o. after_walk o (with_store s.forest.collector s'.forest.collector.store) w) (ap retiring_at old.1 ∙ ap retiring e)))
+
       left : StepLeaves id_number w settled.0 (leaves.keeps same always laws s.forest s'.forest s.machines k.step.between turn k.move holds.0.safe k.step.walked old.0 old.1).notes (nodes s.forest) (nodes s'.forest) old.0 moved.now
       left = leaves_law s.forest w settled.0 (nodes s.forest) (nodes s'.forest) s.machines old.0 moved.now k.move noise.fail noise.answer settled.1 settled.2 old.1
           (leaves.keeps same always laws s.forest s'.forest s.machines k.step.between turn k.move holds.0.safe k.step.walked old.0 old.1) moved.step
@@ -268,6 +279,7 @@ module _ {V : Type 0} (same : V → V → Bool) (always : Bool) (laws : CallLaws
         waits = λ n b. inl (k.step.walked.plays.untouched n b);
         lost = λ n b. subst (λ (y : Node V). IsLost y) (sym (left.dead n b.made b.destroyed)) b;
         taken = λ i n x. inl (walks_left i n x);
+        defers = walks_defers old.0.phase refl;
       }
 
     scan_begins : (op : Point V) (none : Bool) → KeepsTaken → EntersUnless none s w op r s' → Parts s s' w event
@@ -275,6 +287,7 @@ module _ {V : Type 0} (same : V → V → Bool) (always : Bool) (laws : CallLaws
     scan_begins op false t x = calm (ap (λ y. nodes y.forest) x.state) t
 
     begins_tree : (op : Point V) → KeepsTaken → BeginsOnTree same always s w op r s' → Parts s s' w event
+<<<<<<< HEAD
     begins_tree (point.Get k) t x = calm (ap (λ y. nodes y.forest) x.state) t
     begins_tree (point.Range start end size) t x = scan_begins (point.Range start end size) (finds_none {V = V} (point.Range start end size)) t x
     begins_tree (point.RangeInclusive start last size) t x = scan_begins (point.RangeInclusive start last size) (finds_none {V = V} (point.RangeInclusive start last size)) t x
@@ -283,27 +296,41 @@ module _ {V : Type 0} (same : V → V → Bool) (always : Bool) (laws : CallLaws
     begins_tree (point.ComputePresent k) t x = calm (ap (λ y. nodes y.forest) x.state) t
     begins_tree (point.ComputeInsert k) t x = calm (ap (λ y. nodes y.forest) x.state) t
     begins_tree (point.Exchange k a b) t x = calm (ap (λ y. nodes y.forest) x.state) t
+=======
+    begins_tree (point.Get k) t x = calm (ap (λ y. nodes y.forest) x.state) (ap (λ y. y.forest.collector.next) x.state) t
+    begins_tree (point.Range start end size) t x = scan_begins (finds_none {V = V} (point.Range start end size)) x
+      where
+        scan_begins : (none : Bool) → EntersUnless none s w (point.Range start end size) r s' → Parts s s' w event
+        scan_begins true x = calm (ap (λ y. nodes y.forest) x.state) (ap (λ y. y.forest.collector.next) x.state) t
+        scan_begins false x = calm (ap (λ y. nodes y.forest) x.state) (ap (λ y. y.forest.collector.next) x.state) t
+    begins_tree (point.Insert k v) t x = calm (ap (λ y. nodes y.forest) x.state) (ap (λ y. y.forest.collector.next) x.state) t
+    begins_tree (point.Remove k) t x = calm (ap (λ y. nodes y.forest) x.state) (ap (λ y. y.forest.collector.next) x.state) t
+    begins_tree (point.ComputePresent k) t x = calm (ap (λ y. nodes y.forest) x.state) (ap (λ y. y.forest.collector.next) x.state) t
+    begins_tree (point.ComputeInsert k) t x = calm (ap (λ y. nodes y.forest) x.state) (ap (λ y. y.forest.collector.next) x.state) t
+    begins_tree (point.Exchange k a b) t x = calm (ap (λ y. nodes y.forest) x.state) (ap (λ y. y.forest.collector.next) x.state) t
+>>>>>>> 59dec46972233f49953eacd3e90721631f942ba3
 
     begins : (t : Target V) → KeepsTaken → BeginsAt same always s w t r s' → Parts s s' w event
-    begins (target.Collector op) t x = destroyed x.step.destroys t
+    begins (target.Collector op) t x = destroyed x.step.destroys x.step.moves.next t
     begins (target.Tree op) t x = begins_tree op t x
     begins (target.Survey k) t x = unchanged x.state
 
     goes : (k : Option (Call V)) (noise : Noise Id V) → event ≡ Go noise → slice_get s.calls w ≡ k → Apart s s' w → GoesAt same always s w k noise r s' → Parts s s' w event
     goes None noise is e a x = absurd x
     goes (Some Idle) noise is e a x = absurd x
-    goes (Some (Collecting op)) noise is e a x = destroyed x.step.destroys (apart_keeps a (λ q. let z : Some (Collecting op) ≡ Some Walking = sym e ∙ q in cc))
+    goes (Some (Collecting op)) noise is e a x = destroyed x.step.destroys x.step.moves.next (apart_keeps a (λ q. let z : Some (Collecting op) ≡ Some Walking = sym e ∙ q in cc))
     goes (Some (Reserving op)) noise is e a x =
         let P : (ℕ → Node V) → Type 0 = λ h. Destroys id_number h x.between.machines (nodes s'.forest) in
         let Q : List (Machine Id V) → Type 0 = λ ms. Destroys id_number (nodes s.forest) ms (nodes s'.forest) in
         destroyed (subst Q x.begins.machine (subst P (same_nodes same always s.forest s.machines s.calls w x.between.forest x.between.machines x.between.calls x.begins) x.goes.step.collected.destroys))
+        (x.goes.step.collected.moves.next ∙ x.begins.collected.moves.next)
         (apart_keeps a (λ q. let z : Some (Reserving op) ≡ Some Walking = sym e ∙ q in cc))
-    goes (Some (Securing op)) noise is e a x = destroyed x.step.collected.destroys (apart_keeps a (λ q. let z : Some (Securing op) ≡ Some Walking = sym e ∙ q in cc))
+    goes (Some (Securing op)) noise is e a x = destroyed x.step.collected.destroys x.step.collected.moves.next (apart_keeps a (λ q. let z : Some (Securing op) ≡ Some Walking = sym e ∙ q in cc))
     goes (Some Walking) noise is e a x = walks noise is e x
 
   pub step_parts : (s s' : Whole V) (w : ℕ) (holds : EngineHolds same always s) (event : Event V) (o : Option Fault) (r : Report V) → misuse s w event ≡ o → Does same always s w event o r s' → Parts s s' w event
   step_parts s s' w holds event (Some f) r e x = unchanged s s' w holds event r x.1
-  step_parts s s' w holds Register None r e (inl x) = calm s s' w holds Register r (ap (λ y. nodes y.forest) x.1.state) (λ i n y. (y.0, ap (λ z. slice_get z.machines i) x.1.state ∙ y.1, y.2))
+  step_parts s s' w holds Register None r e (inl x) = calm s s' w holds Register r (ap (λ y. nodes y.forest) x.1.state) (ap (λ y. y.forest.collector.next) x.1.state) (λ i n y. (y.0, ap (λ z. slice_get z.machines i) x.1.state ∙ y.1, y.2))
   step_parts s s' w holds Register None r e (inr x) = unchanged s s' w holds Register r x.state
   step_parts s s' w holds (Begin op) None r e x =
       let idle : is_busy (slice_get s.calls w) ≡ false = begin_idle same always s s' w holds op e in

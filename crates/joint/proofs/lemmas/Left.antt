@@ -1,5 +1,5 @@
 -- What holds in each state of nodes that calls have locked, made or taken out.
-use Rattle.std.proofs.Common.{◌≡◌, ◌≢◌, ℕ, Bool, true, false, List, refl, sym, ◌∙◌, ap, subst, inl, inr, ◌⊎◌}
+use Rattle.std.proofs.Common.{◌≡◌, ◌≢◌, ℕ, Bool, true, false, refl, sym, ◌∙◌, ap, subst, inl, inr}
 use Rattle.std.specs.Prelude.{Option, None, Some, slice_get, ◌&&◌, not}
 use Rattle.std.proofs.lemmas.Bool.{cases_Bool, false≢true}
 use Rattle.congee.specs.declared.protocol.machine.Machine.{Machine}
@@ -16,9 +16,9 @@ use Rattle.congee.specs.declared.protocol.phase.Site.{Site}
 use Rattle.congee.specs.Heap.{Node, Stands}
 use Rattle.congee.specs.Keys.{key_bytes}
 use Rattle.congee.specs.Ledger.{Note, Gone, Linked, is_published}
-use Rattle.congee.specs.protocol.Handing.{InTree, IsOut, is_waiting}
-use Rattle.congee.specs.protocol.Holdings.{Holdings, LockedBy, MadeBy, MadeForOne, MadeForTwo, MadeForPlan, IsMade, TakenBy}
-use Rattle.congee.specs.protocol.Play.{EachKnown, ProtocolAt, Settled}
+use Rattle.congee.specs.protocol.Handing.{InTree, is_waiting}
+use Rattle.congee.specs.protocol.Holdings.{LockedBy, MadeBy, MadeForOne, MadeForTwo, MadeForPlan, IsMade, TakenBy}
+use Rattle.congee.specs.protocol.Play.{EachKnown, Settled}
 use Rattle.congee.specs.protocol.Protocol.{Known, Made, MadeOne, MadeTwo, MadeLeafFor, PlanKnown, TakenOut}
 use Rattle.congee.proofs.lemmas.protocol.Owners.{locks_owned}
 use Rattle.joint.specs.declared.id.Id.{Id}

@@ -1,13 +1,12 @@
 -- A look-up, a scan, the question whether the index is empty and a pin are refused for misuse or as Count alone.
 use Rattle.std.proofs.Common.{◌≡◌, ◌≢◌, ◌==◌, ◌<◌, ℕ, Bool, true, false, List, [], ◌∷◌, length, refl, sym, ◌∙◌, ap, subst, inl, inr, ◌⊎◌}
 use Rattle.std.proofs.Math.ListN.{set}
-use Rattle.std.specs.Prelude.{Option, None, Some, slice_get, cond, if◌then◌else◌}
+use Rattle.std.specs.Prelude.{Option, None, Some, slice_get, if◌then◌else◌}
 use Rattle.std.proofs.lemmas.Bool.{cases_Bool, eqb-true, eqb-false, false≢true}
 use Rattle.std.proofs.lemmas.Option.{slice_get_within}
 use Rattle.crossbeam_epoch.specs.declared.fault.Fault.{Fault}
 use Rattle.crossbeam_epoch.specs.declared.fault.Fault.TheVariants as fault
 use Rattle.crossbeam_epoch.specs.declared.world.report.Event.TheVariants as turning
-use Rattle.crossbeam_epoch.specs.declared.world.report.Op.{Op as Work}
 use Rattle.crossbeam_epoch.specs.declared.world.report.Op.TheVariants as work
 use Rattle.crossbeam_epoch.specs.declared.world.report.Outcome.{Outcome as Turned}
 use Rattle.crossbeam_epoch.specs.declared.world.report.Outcome.TheVariants as turned
@@ -15,12 +14,10 @@ use Rattle.crossbeam_epoch.specs.World.Machine.{State, place}
 use Rattle.crossbeam_epoch.specs.World.Progress.{Begins, GoesOn, refusal}
 use Rattle.crossbeam_epoch.specs.World.Steps.{begin_fault}
 use Rattle.judge.specs.declared.journal.Reply.{Reply}
-use Rattle.judge.specs.declared.journal.Reply.TheVariants as reply
 use Rattle.congee.specs.declared.forms.child.Child.{Child}
 use Rattle.congee.specs.declared.forms.child.Child.TheVariants as child
 use Rattle.congee.specs.declared.forms.base_node.NodeType.{NodeType}
 use Rattle.congee.specs.declared.protocol.machine.Machine.{Machine}
-use Rattle.congee.specs.declared.protocol.machine.Move.{Move}
 use Rattle.congee.specs.declared.protocol.machine.Noise.{Noise}
 use Rattle.congee.specs.declared.protocol.machine.Outcome.{Outcome as Moved}
 use Rattle.congee.specs.declared.protocol.machine.Outcome.TheVariants as moved
@@ -38,7 +35,7 @@ use Rattle.congee.specs.declared.protocol.store.Refusal.{Refusal as Cause}
 use Rattle.congee.specs.declared.protocol.store.Refusal.TheVariants as cause
 use Rattle.congee.specs.declared.protocol.store.Seat.{Seat}
 use Rattle.congee.specs.declared.protocol.turn.Turn.{Turn}
-use Rattle.congee.specs.Heap.{Node, is_taken}
+use Rattle.congee.specs.Heap.{Node}
 use Rattle.congee.specs.Keys.{key_bytes}
 use Rattle.congee.specs.protocol.Causes.{Causes, IsCause}
 use Rattle.congee.specs.protocol.Play.{IsMoved, begun}
@@ -56,12 +53,8 @@ use Rattle.joint.specs.declared.steps.Op.TheVariants as op
 use Rattle.joint.specs.declared.steps.Outcome.{Outcome}
 use Rattle.joint.specs.declared.steps.Outcome.TheVariants.{Running, Asks, Found, Registered, Done, Refused}
 use Rattle.joint.specs.declared.steps.Report.{Report}
-use Rattle.joint.specs.declared.steps.Step.{Step}
-use Rattle.joint.specs.declared.steps.Done.{Done as Answer}
-use Rattle.joint.specs.declared.steps.Survey.TheVariants as survey
-use Rattle.joint.specs.declared.steps.Target.TheVariants as target
-use Rattle.joint.specs.Ends.{IsMisused, RefusesReader, AllRefuseReader, ReadersRefused, is_reading}
-use Rattle.joint.specs.Forest.{Forest, nodes, Refuses}
+use Rattle.joint.specs.Ends.{RefusesReader, AllRefuseReader, ReadersRefused, is_reading}
+use Rattle.joint.specs.Forest.{nodes, Refuses}
 use Rattle.joint.specs.Intact.{IsAt, is_reserving, call_after, over_at, rested, resting, is_done, root}
 use Rattle.joint.specs.Laws.{ProgressLaws}
 use Rattle.joint.specs.Refusals.{of_fault, of_tree}
@@ -69,14 +62,12 @@ use Rattle.joint.specs.Reports.{collected, told}
 use Rattle.joint.specs.Runs.{Taken, AreTaken}
 use Rattle.joint.specs.Surveys.{TellsEmpty}
 use Rattle.joint.specs.View.{id_number}
-use Rattle.joint.specs.Whole.{Whole, EngineHolds, Holds, IsStep, IsOfCall, StepsUnless, Collects, Does, EntersUnless, Enters, GoesAt, Surveys, Walks, engine_of, finds_none, gives_up, is_busy, is_in_flight, misuse, place_of}
+use Rattle.joint.specs.Whole.{Whole, EngineHolds, Holds, IsStep, IsOfCall, StepsUnless, Collects, Does, EntersUnless, Enters, GoesAt, Walks, engine_of, finds_none, gives_up, is_busy, is_in_flight, misuse, place_of}
 use Rattle.joint.proofs.lemmas.Apart.{Apart, one_set, step_apart}
 use Rattle.joint.proofs.lemmas.Collecting.{there}
 use Rattle.joint.proofs.lemmas.Ends.{and_left}
 use Rattle.joint.proofs.lemmas.Entering.{begin_idle, begin_within}
 use Rattle.joint.proofs.lemmas.Flights.{set_at}
-use Rattle.joint.proofs.lemmas.Reported.{may_go}
-use Rattle.joint.proofs.lemmas.Reserving.{reserving_call}
 use Rattle.joint.proofs.lemmas.Resting.{cleared_is}
 
 -- the phases of a call that only reads
@@ -232,8 +223,7 @@ module _ {V : Type 0} (same : V → V → Bool) (always : Bool) (turns : Progres
         let now : slice_get s'.machines w ≡ Some (rested mv.now) =
         ap (λ xs. slice_get xs w) (x.step.machines ∙ cleared_is s.machines x.step.between w m mv.now at mv.calls) ∙ set_at s.machines w (rested mv.now) (within_machines (slice_get_within s.calls w Walking e)) in
         let P : Kind V → Type 0 = λ k. PhaseStepped id_number same always s.forest.version_max (Refuses s.forest) m.root (key_bytes m.key) k noise.fail noise.answer m.given m.phase (nodes s.forest) mv.now.given (record { phase = mv.now.phase; report = x.move }) (nodes s'.forest) in
-        let reads : Reads mv.now.phase = phase_reads same always s.forest.version_max (Refuses s.forest) m.root (key_bytes m.key) noise.fail noise.answer m.given m.phase (nodes s.forest) mv.now.given (record { phase = mv.now.phase; report = x.move }) (nodes s'.forest) u.1 (subst P u.0 mv.step.step) in
-        (
+        let reads : Reads mv.now.phase = phase_reads same always s.forest.version_max (Refuses s.forest) m.root (key_bytes m.key) noise.fail noise.answer m.given m.phase (nodes s.forest) mv.now.given (record { phase = mv.now.phase; report = x.move }) (nodes s'.forest) u.1 (subst P u.0 mv.step.step) in (
           (λ f q. told_count always s.forest.version_max (Refuses s.forest) m.phase x.move.outcome f u.1 mv.cause (sym (ap (λ y. y.outcome) x.report) ∙ q)),
           (λ b. by (over_at (slice_get s'.machines w)) (rested mv.now) now (rested_reads mv.now (mv.step.kind ∙ u.0, reads)) b (placed _ (slice_get_within s.calls w Walking e) x.calls)),
         )
@@ -309,8 +299,7 @@ module _ {V : Type 0} (same : V → V → Bool) (always : Bool) (turns : Progres
         let m : (m : Machine Id V) × (slice_get s.machines w ≡ Some m) = machine_at Idle (idle op.Pin n) in
         let at : IsAt Idle (place s.forest.collector w) m.0 = holds.0.each w Idle m.0 (idle op.Pin n) m.1 in
         let f : refusal s.forest.collector w work.Pin ≡ None = unready_is (place_of s w).registered (is_busy (slice_get s.calls w)) _ (begin_fault work.Pin (place_of s w)) n in
-        let g = pins (turning.Begin work.Pin) r (within op.Pin n) (λ e y z. begins_refused s.forest.collector _ w y.turn.outcome e f (turns.begins s.forest.collector w work.Pin y.turn at.0 y.step.report) z) x in
-        (
+        let g = pins (turning.Begin work.Pin) r (within op.Pin n) (λ e y z. begins_refused s.forest.collector _ w y.turn.outcome e f (turns.begins s.forest.collector w work.Pin y.turn at.0 y.step.report) z) x in (
           (λ e z. not_refused {V = V} x.turn.outcome e (λ b y. begins_refused s.forest.collector _ w x.turn.outcome b f (turns.begins s.forest.collector w work.Pin x.turn at.0 x.step.report) y) (sym (ap (λ y. y.outcome) x.report) ∙ z)),
           (λ b. g.1 (busy_after x.turn.outcome (placed _ (within op.Pin n) x.calls) (sym (ap (λ y. is_in_flight y.outcome) x.report) ∙ b))),
         )
@@ -391,8 +380,7 @@ module _ {V : Type 0} (same : V → V → Bool) (always : Bool) (turns : Progres
       by (Begin op) e = false≢true e
       by (Go noise) e = unreserving (slice_get s.calls w) (slice_get s.machines w) u (and_left _ _ e)
     own false g u x =
-        let y = own_by t.step.event (misuse s w t.step.event) x.told refl u x.engine.does in
-        (
+        let y = own_by t.step.event (misuse s w t.step.event) x.told refl u x.engine.does in (
           (λ e c f q. elim (y.0 c f (sym (ap (λ z. z.outcome) x.report) ∙ q)) [
             | inl z ↦ inl (record { fault = z.0; misuse = z.1; cause = z.2 })
             | inr z ↦ inr z
@@ -441,8 +429,7 @@ module _ {V : Type 0} (same : V → V → Bool) (always : Bool) (turns : Progres
     reads_begun o e q is =
         let P : Event V → Type 0 = λ y. IsStep same always s (record { worker = w; event = y }) t.report t.after in
         let x = subst P e is in
-        let y = begun_by o (misuse s w (Begin o)) x.does.told refl q x.does.engine.does in
-        (
+        let y = begun_by o (misuse s w (Begin o)) x.does.told refl q x.does.engine.does in (
           (λ f z. (let u = y.0 f (sym (ap (λ z. z.outcome) x.does.report) ∙ z) in inl (record { fault = u.0; misuse = ap (misuse s w) e ∙ u.1; cause = u.2 }))),
           (λ b. y.1 (sym (ap (λ z. is_in_flight z.outcome) x.does.report) ∙ b)),
         )

@@ -1,6 +1,5 @@
 -- What a journal is in each state.
-use Rattle.std.proofs.Common.{◌≡◌, ℕ, ◌+◌, ◌≤◌, arith, Bool, List, [], ◌∷◌, length, refl, ap, subst}
-use Rattle.judge.specs.declared.journal.Entry.{Entry}
+use Rattle.std.proofs.Common.{◌≡◌, ℕ, ◌+◌, ◌≤◌, arith, Bool, List, [], ◌∷◌, length, refl, subst}
 use Rattle.joint.specs.Whole.{Whole, Holds}
 
 none_in : {A : Type 0} (xs : List A) (n : ℕ) → length xs + n ≤ 0 → xs ≡ []

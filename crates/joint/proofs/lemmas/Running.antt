@@ -9,7 +9,7 @@ use Rattle.congee.specs.Keys.{IsMapOf}
 use Rattle.joint.specs.declared.steps.Report.{Report}
 use Rattle.joint.specs.declared.steps.Step.{Step}
 use Rattle.joint.specs.Forest.{nodes}
-use Rattle.joint.specs.Runs.{Taken, after_all, IsRun, Line, Flights, AreLines, AreInFlight, PlaysMap, RunsJournal, RunsMap, pairs_after, no_flights, IsFresh}
+use Rattle.joint.specs.Runs.{Taken, IsRun, Line, Flights, AreLines, AreInFlight, PlaysMap, RunsJournal, RunsMap, pairs_after, no_flights, IsFresh}
 use Rattle.joint.specs.Whole.{Whole, Holds, IsStep}
 use Rattle.joint.proofs.lemmas.Runs.{runs_join, runs_map, runs_journal, entries_legal, standing_empty, fresh_flights}
 

@@ -4,16 +4,12 @@ use Rattle.std.proofs.Math.ListN.{set}
 use Rattle.std.specs.Prelude.{Option, None, Some, is_some, slice_get, if◌then◌else◌}
 use Rattle.std.proofs.lemmas.Bool.{cases_Bool, eqb-true, eqb-false, false≢true}
 use Rattle.std.proofs.lemmas.Option.{slice_get_within}
-use Rattle.judge.specs.declared.journal.Reply.{Reply}
-use Rattle.crossbeam_epoch.specs.Limits.{bag_places}
 use Rattle.crossbeam_epoch.specs.declared.fault.Fault.{Fault}
 use Rattle.crossbeam_epoch.specs.declared.names.Name.{Name}
-use Rattle.crossbeam_epoch.specs.declared.world.participant.Participant.{Participant}
 use Rattle.crossbeam_epoch.specs.declared.world.participant.Phase.{Phase as Stand}
 use Rattle.crossbeam_epoch.specs.declared.world.participant.Phase.TheVariants as stage
 use Rattle.crossbeam_epoch.specs.declared.world.report.Event.{Event as Turning}
 use Rattle.crossbeam_epoch.specs.declared.world.report.Event.TheVariants as turning
-use Rattle.crossbeam_epoch.specs.declared.world.report.Op.{Op as Work}
 use Rattle.crossbeam_epoch.specs.declared.world.report.Op.TheVariants as work
 use Rattle.crossbeam_epoch.specs.declared.world.report.Outcome.{Outcome as Turned}
 use Rattle.crossbeam_epoch.specs.declared.world.report.Outcome.TheVariants as turned
@@ -21,7 +17,7 @@ use Rattle.crossbeam_epoch.specs.declared.world.report.Report.{Report as Collect
 use Rattle.crossbeam_epoch.specs.World.Fits.{Bounds}
 use Rattle.crossbeam_epoch.specs.World.History.{Mark, Deferred, began}
 use Rattle.crossbeam_epoch.specs.World.Machine.{State, place, with_store}
-use Rattle.crossbeam_epoch.specs.World.Progress.{IsOn, comes_by, stage as stage_of}
+use Rattle.crossbeam_epoch.specs.World.Progress.{comes_by, stage as stage_of}
 use Rattle.crossbeam_epoch.specs.World.Reach.{marks_of, Visible}
 use Rattle.crossbeam_epoch.specs.World.Steps.{marks, after}
 use Rattle.crossbeam_epoch.specs.World.Store.{value_at}
@@ -32,8 +28,7 @@ use Rattle.congee.specs.declared.protocol.op.Op.TheVariants as point
 use Rattle.congee.specs.declared.protocol.phase.Phase.{Phase}
 use Rattle.congee.specs.declared.protocol.phase.Phase.TheVariants.{Retire}
 use Rattle.congee.specs.declared.protocol.run.Step.{Step as Turn}
-use Rattle.congee.specs.Heap.{Node, Stands}
-use Rattle.congee.specs.Keys.{key_bytes}
+use Rattle.congee.specs.Heap.{Stands}
 use Rattle.congee.specs.Ledger.{Held, Linked, is_published}
 use Rattle.congee.specs.protocol.Answers.{Keeps}
 use Rattle.congee.specs.protocol.Names.{names}
@@ -56,22 +51,20 @@ use Rattle.joint.specs.Intact.{BeginsSecuring, IsAt, is_done, rested, resting, r
 use Rattle.joint.specs.Laws.{CallLaws, CellLaws, LeavesLaw}
 use Rattle.joint.specs.Machines.{Collected, retiring, retiring_at, after_walk, slot_names}
 use Rattle.joint.specs.NameLemmas.{number_named}
-use Rattle.joint.specs.Names.{number, named}
+use Rattle.joint.specs.Names.{named}
 use Rattle.joint.specs.Runs.{Taken, AreTaken}
-use Rattle.joint.specs.Sound.{Guards, IsSecured, IsUnderWay}
+use Rattle.joint.specs.Sound.{Guards, IsSecured, IsUnderWay, Sound}
 use Rattle.joint.specs.Stretches.{EndsStretch, HasChecked, SeesNode, StandsOn, publishes, turns_stretch}
 use Rattle.joint.specs.View.{view, id_number}
-use Rattle.joint.specs.Whole.{Whole, EngineHolds, Holds, IsStep, IsHeldBy, StepsUnless, BeginsOnTree, Collects, Does, EntersUnless, Enters, GoesAt, GoesOnReserving, Reserves, Walks, engine_of, finds_none, gives_up, misuse, place_of}
-use Rattle.joint.proofs.lemmas.Apart.{one_set}
+use Rattle.joint.specs.Whole.{Whole, EngineHolds, Holds, IsHeldBy, StepsUnless, BeginsOnTree, Collects, Does, EntersUnless, Enters, GoesAt, GoesOnReserving, Reserves, Walks, engine_of, finds_none, gives_up, misuse, place_of}
 use Rattle.joint.proofs.lemmas.Collecting.{either, there}
-use Rattle.joint.proofs.lemmas.Flights.{set_at}
 use Rattle.joint.proofs.lemmas.HandOver.{held_place}
 use Rattle.joint.proofs.lemmas.Leaves as leaves
 use Rattle.joint.proofs.lemmas.Paths.{in_reach}
 use Rattle.joint.proofs.lemmas.Reserving.{next_here}
 use Rattle.joint.proofs.lemmas.Resting.{cleared_is}
 use Rattle.joint.proofs.lemmas.SlotViews.{slot_view}
-use Rattle.joint.proofs.lemmas.Stretches.{IsBlocked, sees_blocks, stored, joined, deferring, turned, live_on, turns as stretch_turns}
+use Rattle.joint.proofs.lemmas.Stretches.{IsBlocked, sees_blocks, stored, joined, deferring, turned, live_on, turns}
 use Rattle.joint.proofs.lemmas.Views.{ties}
 
 -- a securing doesn't publish
@@ -99,31 +92,27 @@ module _ {V : Type 0} where
 
 module _ {V : Type 0} (same : V → V → Bool) (always : Bool) (laws : CallLaws {C = Id} {V = V} id_number same always) (cells : CellLaws {T = Slot V} (Unit {0}) slot_names) (leaves_law : (f : Forest V) → LeavesLaw {C = Id} {V = V} id_number same always f.version_max (Refuses f))
     (p n : ℕ) where
-  abbrev x : Name
-  x = named n
+  abbrev it : Name
+  it = named n
 
   abbrev At : State (Slot V) (Unit {0}) → Type 0
-  At c = (h : List Mark) × IsBlocked p x h c
+  At c = (h : List Mark) × IsBlocked p it h c
 
-  live : (f : Forest V) → Stands (nodes f n) → is_some (value_at f.collector.store x) ≡ true
-  live f st = let P : ℕ → Type 0 = λ k. Stands (nodes f k) in (ties slot_names view slot_view f.collector.store).live x (subst P (sym (number_named n)) st)
+  live : (f : Forest V) → Stands (nodes f n) → is_some (value_at f.collector.store it) ≡ true
+  live f st = let P : ℕ → Type 0 = λ k. Stands (nodes f k) in (ties slot_names view slot_view f.collector.store).live it (subst P (sym (number_named n)) st)
 
-  stands : (f : Forest V) → is_some (value_at f.collector.store x) ≡ true → Stands (nodes f n)
-  stands f e = let P : ℕ → Type 0 = λ k. Stands (nodes f k) in subst P (number_named n) ((ties slot_names view slot_view f.collector.store).stands x e)
+  stands : (f : Forest V) → is_some (value_at f.collector.store it) ≡ true → Stands (nodes f n)
+  stands f e = let P : ℕ → Type 0 = λ k. Stands (nodes f k) in subst P (number_named n) ((ties slot_names view slot_view f.collector.store).stands it e)
 
   abbrev On : Forest V → Type 0
   On f = At f.collector × Stands (nodes f n)
 
   -- a step of the collector
-  abbrev turns : Turning → Participant (Unit {0}) → Bool
-  turns e q = stretch_turns {T = Slot V} {J = Unit {0}} p x e q
-
   collected : (f f' : Forest V) (ms : List (Machine Id V)) (who : ℕ) (event : Turning) (r : Collection) → (who ≡ p → turns event (place f.collector who) ≡ false) → Collected same always f ms who event r f' → On f → On f'
   collected f f' ms who event r calm c o =
-      let P : State (Slot V) (Unit {0}) → Type 0 = λ y. IsBlocked p x (marks f.collector who event r o.0.0) y in
-      (
-        (marks f.collector who event r o.0.0, subst P (sym c.state) (turned p x o.0.0 f.collector who event r c.report calm o.0.1)),
-        stands f' (live_on p x cells o.0.0 f.collector f'.collector who event r c.report c.moves o.0.1 (live f o.1)),
+      let P : State (Slot V) (Unit {0}) → Type 0 = λ y. IsBlocked p it (marks f.collector who event r o.0.0) y in (
+        (marks f.collector who event r o.0.0, subst P (sym c.state) (turned p it o.0.0 f.collector who event r c.report calm o.0.1)),
+        stands f' (live_on p it cells o.0.0 f.collector f'.collector who event r c.report c.moves o.0.1 (live f o.1)),
       )
 
   -- what holds while the stretch lasts
@@ -227,28 +216,27 @@ module _ {V : Type 0} (same : V → V → Bool) (always : Bool) (laws : CallLaws
       ]
 
       -- a removal that is deferred now is blocked
-      walks_at : (h : List Mark) → IsBlocked p x h s.forest.collector → At s'.forest.collector
+      walks_at : (h : List Mark) → IsBlocked p it h s.forest.collector → At s'.forest.collector
       walks_at h b = by old.0.phase refl where
         mid : State (Slot V) (Unit {0})
         mid = with_store s.forest.collector s'.forest.collector.store
 
         quiet : retiring_at (slice_get s.machines w) ≡ None → At s'.forest.collector
         quiet e =
-            let P : State (Slot V) (Unit {0}) → Type 0 = λ c. IsBlocked p x h c in
-            (h, subst P (sym (k.step.walked.clock ∙ ap (λ o. after_walk o mid w) e)) (stored p x h s.forest.collector mid refl b))
+            let P : State (Slot V) (Unit {0}) → Type 0 = λ c. IsBlocked p it h c in
+            (h, subst P (sym (k.step.walked.clock ∙ ap (λ o. after_walk o mid w) e)) (stored p it h s.forest.collector mid refl b))
 
         by : (q : Phase Id V) → old.0.phase ≡ q → At s'.forest.collector
         by (Retire c q u) e =
             let g : Guards (place s.forest.collector w) old.0 = holds.0.safe.sound.sound.guarded w old.0 old.1 in
             let P : Phase Id V → Type 0 = λ z. IsUnderWay z in
             let Q : Phase Id V → Type 0 = λ z. IsSecured old.0.kind z (length (place s.forest.collector w).bag) in
-            let R : State (Slot V) (Unit {0}) → Type 0 = λ d. IsBlocked p x (Deferred s.forest.collector.next (Some c.name) ∷ h) d in
+            let R : State (Slot V) (Unit {0}) → Type 0 = λ d. IsBlocked p it (Deferred s.forest.collector.next (Some c.name) ∷ h) d in
             let under : IsUnderWay old.0.phase = subst P (sym e) tt in
-            let is : retiring_at (slice_get s.machines w) ≡ Some c = ap retiring_at old.1 ∙ ap retiring e in
-            (
+            let is : retiring_at (slice_get s.machines w) ≡ Some c = ap retiring_at old.1 ∙ ap retiring e in (
               Deferred s.forest.collector.next (Some c.name) ∷ h,
               subst R (sym (k.step.walked.clock ∙ ap (λ o. after_walk o mid w) is))
-                  (deferring p x h mid w c.name (held_place s.forest.collector.table w (g.registered under)) (g.idle under) (subst Q e g.secured) (stored p x h s.forest.collector mid refl b)),
+                  (deferring p it h mid w c.name (held_place s.forest.collector.table w (g.registered under)) (g.idle under) (subst Q e g.secured) (stored p it h s.forest.collector mid refl b)),
             )
         by _ e = quiet (ap retiring_at old.1 ∙ ap retiring e)
 
@@ -302,7 +290,7 @@ module _ {V : Type 0} (same : V → V → Bool) (always : Bool) (laws : CallLaws
 
     pub does : (event : Event V) (o : Option Fault) (r : Report V) → misuse s w event ≡ o → (w ≡ p → misuse s w event ≡ None → turns_stretch event (place_of s w) ≡ false) → Does same always s w event o r s' → Lasts s → Lasts s'
     does event (Some f) r e calm x l = same_forest s s' w holds (ap (λ y. y.forest) x.1) (still s s' w holds (ap (λ y. y.machines) x.1)) l
-    does Register None r e calm (inl x) l = lasts s s' w holds (subst (λ (f : Forest V). On f) (sym (ap (λ y. y.forest) x.1.state)) ((l.on.0.0, joined p x l.on.0.0 s.forest.collector x.0 x.1.inside l.on.0.1), l.on.1)) (still s s' w holds (ap (λ y. y.machines) x.1.state)) l
+    does Register None r e calm (inl x) l = lasts s s' w holds (subst (λ (f : Forest V). On f) (sym (ap (λ y. y.forest) x.1.state)) ((l.on.0.0, joined p it l.on.0.0 s.forest.collector x.0 x.1.inside l.on.0.1), l.on.1)) (still s s' w holds (ap (λ y. y.machines) x.1.state)) l
     does Register None r e calm (inr x) l = same_forest s s' w holds (ap (λ y. y.forest) x.state) (still s s' w holds (ap (λ y. y.machines) x.state)) l
     does (Begin o) None r e calm x l = begins s s' w holds o r (λ z. calm z e) x l
     does (Go noise) None r e calm x l = goes (slice_get s.calls w) noise r refl (λ z. calm z e) x l
@@ -342,6 +330,7 @@ module _ {V : Type 0} (same : V → V → Bool) (always : Bool) (laws : CallLaws
   -- a worker that is pinned begins so with what it sees
   sees : (s : Whole V) → Holds same always s → SeesNode s p n → Lasts s
   sees s h v = by v.sees where
+    sound : Sound slot_names view id_number same always h.0.safe.sound.top h.0.safe.sound.past s.forest.collector s.machines
     sound = h.0.safe.sound.sound
 
     pinned : is_some (began (marks_of h.0.safe.sound.past) p) ≡ true
@@ -352,9 +341,9 @@ module _ {V : Type 0} (same : V → V → Bool) (always : Bool) (laws : CallLaws
         bounded None (Some w) e y = absurd y
         bounded None None e y = e
 
-    from : Visible h.0.safe.sound.past p x → Stands (nodes s.forest n) → ((j : ℕ) → IsHeldBy s j n → ⊥) → Lasts s
+    from : Visible h.0.safe.sound.past p it → Stands (nodes s.forest n) → ((j : ℕ) → IsHeldBy s j n → ⊥) → Lasts s
     from seen st un = record {
-      on = ((marks_of h.0.safe.sound.past, record { fits = sound.tells.fits; on = pinned; all = λ t d. sees_blocks h.0.safe.sound.past p t x sound.careful.leaves pinned seen d }), st);
+      on = ((marks_of h.0.safe.sound.past, record { fits = sound.tells.fits; on = pinned; all = λ t d. sees_blocks h.0.safe.sound.past p t it sound.careful.leaves pinned seen d }), st);
       unheld = un;
     }
 
@@ -365,17 +354,17 @@ module _ {V : Type 0} (same : V → V → Bool) (always : Bool) (laws : CallLaws
     by (inl i) =
         let l : (sound.settled.0 n).status ≡ Linked = laws.leads sound.settled.0 (nodes s.forest) sound.settled.1.tree i.0 0 n sound.settled.1.tree.root i.1 in
         let P : ℕ → Type 0 = λ k. InTree (nodes s.forest) k in
-        from (cells.seen_now h.0.safe.sound.past s.forest.collector p x sound.tells.now (in_reach slot_names s.forest.collector.store (nodes s.forest) s.forest.collector.roots h.0.safe.sound.top (ties slot_names view slot_view s.forest.collector.store) sound.rooted x (subst P (sym (number_named n)) i)))
+        from (cells.seen_now h.0.safe.sound.past s.forest.collector p it sound.tells.now (in_reach slot_names s.forest.collector.store (nodes s.forest) s.forest.collector.roots h.0.safe.sound.top (ties slot_names view slot_view s.forest.collector.store) sound.rooted it (subst P (sym (number_named n)) i)))
         ((sound.settled.1.words.each n).stands (ap is_published l))
         (λ j y. let q : Held j ≡ Linked = sym (held_status j y) ∙ l in cc)
     by (inr c) =
         let P : ℕ → Type 0 = λ k. Contains (names id_number c.call.phase) k in
         let Q : ℕ → Type 0 = λ k. MadeBy id_number c.call.phase k in
-        elim (sound.seen p c.call x c.here (subst P (sym (number_named n)) c.named)) [
+        elim (sound.seen p c.call it c.here (subst P (sym (number_named n)) c.named)) [
           | inl made ↦ absurd (c.unmade (subst Q (number_named n) made))
           | inr seen ↦ (
-              let st : Stands (nodes s.forest n) = stands s.forest (cells.stands h.0.safe.sound.past s.forest.collector p x sound.tells sound.careful pinned seen) in
-              from seen st (λ j y. let R : ℕ → Type 0 = λ k. MadeBy id_number y.0.phase k in sound.unseen j y.0 x y.1 (subst R (sym (number_named n)) y.2) (cells.visible_was h.0.safe.sound.past p x seen)))
+              let st : Stands (nodes s.forest n) = stands s.forest (cells.stands h.0.safe.sound.past s.forest.collector p it sound.tells sound.careful pinned seen) in
+              from seen st (λ j y. let R : ℕ → Type 0 = λ k. MadeBy id_number y.0.phase k in sound.unseen j y.0 it y.1 (subst R (sym (number_named n)) y.2) (cells.visible_was h.0.safe.sound.past p it seen)))
         ]
 
   pub stands_on : (s : Whole V) (ts : List (Taken V)) → Holds same always s → AreTaken same always s ts → SeesNode s p n → StandsOn p n s ts

@@ -1,6 +1,6 @@
 -- While a stretch lasts, the nodes that it saw stand: it blocks the removal of each.
-use Rattle.std.proofs.Common.{◌≡◌, ◌≢◌, ◌==◌, ◌<◌, ◌≤◌, ◌+◌, ℕ, arith, Bool, true, false, List, [], ◌∷◌, length, refl, sym, ◌∙◌, ap, subst, inl, inr, ◌⊎◌}
-use Rattle.std.specs.Prelude.{Option, None, Some, is_some, nat_le, nat_lt, if◌then◌else◌}
+use Rattle.std.proofs.Common.{◌≡◌, ◌≢◌, ◌==◌, ◌<◌, ◌≤◌, ℕ, arith, Bool, true, false, List, [], ◌∷◌, length, refl, sym, ◌∙◌, ap, subst, inl, inr, ◌⊎◌}
+use Rattle.std.specs.Prelude.{Option, None, Some, is_some, nat_le, if◌then◌else◌}
 use Rattle.std.proofs.lemmas.Bool.{cases_Bool, cases_eq, eqb-true, eqb-false, false≢true}
 use Rattle.crossbeam_epoch.specs.Limits.{bag_places}
 use Rattle.crossbeam_epoch.specs.declared.bag.Work.TheVariants.{Remove}
@@ -11,7 +11,7 @@ use Rattle.crossbeam_epoch.specs.declared.world.participant.Phase.TheVariants as
 use Rattle.crossbeam_epoch.specs.declared.world.report.Event.{Event}
 use Rattle.crossbeam_epoch.specs.declared.world.report.Event.TheVariants.{Begin, Go}
 use Rattle.crossbeam_epoch.specs.declared.world.report.Op.{Op}
-use Rattle.crossbeam_epoch.specs.declared.world.report.Op.TheVariants.{Pin, Unpin, Repin, Flush, Release, Secure}
+use Rattle.crossbeam_epoch.specs.declared.world.report.Op.TheVariants.{Unpin}
 use Rattle.crossbeam_epoch.specs.declared.world.report.Outcome.{Outcome}
 use Rattle.crossbeam_epoch.specs.declared.world.report.Outcome.TheVariants.{Running, Done, Refused}
 use Rattle.crossbeam_epoch.specs.declared.world.report.Report.{Report}
@@ -21,7 +21,7 @@ use Rattle.crossbeam_epoch.specs.World.Machine.{State, place, deferred, deferred
 use Rattle.crossbeam_epoch.specs.World.Progress.{Moves, Empties, EmptiesAt}
 use Rattle.crossbeam_epoch.specs.World.Reach.{Act, Quiet, Marked, GivenBack, Moment, with_act, marks_of, changes_pin, mark_changes_pin, LeavesFirst, Visible}
 use Rattle.crossbeam_epoch.specs.World.Steps.{IsReport, after, begin_marks, phase_marks, moved_marks, unless_refused, marks, called_in}
-use Rattle.crossbeam_epoch.specs.World.Store.{Store, Sets, value_at, emptied}
+use Rattle.crossbeam_epoch.specs.World.Store.{Sets, value_at, emptied}
 use Rattle.crossbeam_epoch.proofs.lemmas.world.Jobs.{fits_after_deferral}
 use Rattle.crossbeam_epoch.proofs.lemmas.world.Reaches.{act_steady}
 use Rattle.crossbeam_epoch.proofs.lemmas.world.Runs.{fits_after, fits_registered, fits_store}
@@ -82,6 +82,18 @@ pub record IsBlocked {T J : Type 0} (p : ℕ) (n : Name) (h : List Mark) (s : St
   pub on : is_some (began h p) ≡ true
   pub all : (t : ℕ) → WasDeferred h t n → blocks h p t ≡ true
 
+-- whether a step of a participant ends its stretch
+abbrev pub turns : {J : Type 0} → Event → Participant J → Bool
+turns (Begin Unpin) q = nat_le q.guards 1
+turns (Begin _) q = false
+turns Go q = publishes q.phase
+
+other : (p who : ℕ) → (who ≡ p → ⊥) → (who == p) ≡ false
+other p who n = elim (cases_Bool (who == p)) [
+  | inl e ↦ absurd (n (eqb-true who p e))
+  | inr e ↦ e
+]
+
 module _ {T J : Type 0} (p : ℕ) (n : Name) where
   marked : (k : Mark) (h : List Mark) (s : State T J) (s' : State T J) → mark_changes_pin k p ≡ false → IsBlocked p n h s → Fits (k ∷ h) s' → IsBlocked p n (k ∷ h) s'
   marked k h s s' e b f = record {
@@ -103,30 +115,18 @@ module _ {T J : Type 0} (p : ℕ) (n : Name) where
       by false e f = f
       by true e f = absurd (let q : length (place s who).bag ≡ bag_places = eqb-true (length (place s who).bag) bag_places e in omega (arith, q, room))
 
-  -- whether a step of a participant ends its stretch
-  abbrev pub turns : Event → Participant J → Bool
-  turns (Begin Unpin) q = nat_le q.guards 1
-  turns (Begin _) q = false
-  turns Go q = publishes q.phase
-
-  other : (who : ℕ) → (who ≡ p → ⊥) → (who == p) ≡ false
-  other who n = elim (cases_Bool (who == p)) [
-    | inl e ↦ absurd (n (eqb-true who p e))
-    | inr e ↦ e
-  ]
-
   marks_begun : (h : List Mark) (s s' : State T J) (who : ℕ) (op : Op) (q : Participant J) → (who ≡ p → turns (Begin op) q ≡ false) → IsBlocked p n h s → Fits (begin_marks who q op h) s' → IsBlocked p n (begin_marks who q op h) s'
   marks_begun h s s' who Unpin q calm b f = by (nat_le q.guards 1) refl f
     where
       by : (x : Bool) → nat_le q.guards 1 ≡ x → Fits (if x then Unpinned who ∷ h else h) s' → IsBlocked p n (if x then Unpinned who ∷ h else h) s'
       by false e f = record { fits = f; on = b.on; all = b.all }
-      by true e f = marked (Unpinned who) h s s' (other who (λ z. false≢true (sym (calm z) ∙ e))) b f
+      by true e f = marked (Unpinned who) h s s' (other p who (λ z. false≢true (sym (calm z) ∙ e))) b f
   marks_begun h s s' who _ q calm b f = record { fits = f; on = b.on; all = b.all }
 
   marks_gone : (h : List Mark) (s s' : State T J) (who epoch : ℕ) (x : Phase) (c : Option (ℕ × Option Name)) → (who ≡ p → publishes x ≡ false) → IsBlocked p n h s → Fits (phase_marks epoch who x c h) s' → IsBlocked p n (phase_marks epoch who x c h) s'
   marks_gone h s s' who epoch x (Some c) calm b f = marked (Called c.0 c.1) h s s' refl b f
-  marks_gone h s s' who epoch (stage.Publish seen) None calm b f = marked (Pinned who epoch) h s s' (other who (λ z. false≢true (sym (calm z)))) b f
-  marks_gone h s s' who epoch (stage.RepinPublish seen) None calm b f = marked (Repinned who epoch) h s s' (other who (λ z. false≢true (sym (calm z)))) b f
+  marks_gone h s s' who epoch (stage.Publish seen) None calm b f = marked (Pinned who epoch) h s s' (other p who (λ z. false≢true (sym (calm z)))) b f
+  marks_gone h s s' who epoch (stage.RepinPublish seen) None calm b f = marked (Repinned who epoch) h s s' (other p who (λ z. false≢true (sym (calm z)))) b f
   marks_gone h s s' who epoch _ None calm b f = record { fits = f; on = b.on; all = b.all }
 
   marks_moved : (h : List Mark) (s s' : State T J) (who : ℕ) (event : Event) (c : Option (ℕ × Option Name)) → (who ≡ p → turns event (place s who) ≡ false) → IsBlocked p n h s → Fits (moved_marks s who event c h) s' → IsBlocked p n (moved_marks s who event c h) s'
@@ -160,7 +160,7 @@ module _ {T J : Type 0} (p : ℕ) (n : Name) where
         emptied_at : (y : Name) → is_some (value_at s.store y) ≡ true → s'.store ≡ emptied s.store y.cell → (n ≡ y → ⊥) → is_some (value_at s'.store n) ≡ true
         emptied_at y l e ne =
             let z : Sets s.store y None (emptied s.store y.cell) = cells.emptied_sets s.store y l in
-            ap (λ st. is_some (value_at st n)) e ∙ ap is_some (z.others n (λ q. ne (same_name n y q))) ∙ live
+            ap (λ st. is_some (value_at st n)) e ∙ ap is_some (z.others n ne) ∙ live
 
         of_call : (k : ℕ) (o : Option Name) → r.called ≡ Some (k, o) → EmptiesAt s.store o s'.store → is_some (value_at s'.store n) ≡ true
         of_call k None q e = ap (λ st. is_some (value_at st n)) e ∙ live
