@@ -283,32 +283,18 @@ module _ {V : Type 0} (same : V → V → Bool) (always : Bool) (laws : CallLaws
       }
 
     scan_begins : (op : Point V) (none : Bool) → KeepsTaken → EntersUnless none s w op r s' → Parts s s' w event
-    scan_begins op true t x = calm (ap (λ y. nodes y.forest) x.state) t
-    scan_begins op false t x = calm (ap (λ y. nodes y.forest) x.state) t
+    scan_begins op true t x = calm (ap (λ y. nodes y.forest) x.state) (ap (λ y. y.forest.collector.next) x.state) t
+    scan_begins op false t x = calm (ap (λ y. nodes y.forest) x.state) (ap (λ y. y.forest.collector.next) x.state) t
 
     begins_tree : (op : Point V) → KeepsTaken → BeginsOnTree same always s w op r s' → Parts s s' w event
-<<<<<<< HEAD
-    begins_tree (point.Get k) t x = calm (ap (λ y. nodes y.forest) x.state) t
+    begins_tree (point.Get k) t x = calm (ap (λ y. nodes y.forest) x.state) (ap (λ y. y.forest.collector.next) x.state) t
     begins_tree (point.Range start end size) t x = scan_begins (point.Range start end size) (finds_none {V = V} (point.Range start end size)) t x
     begins_tree (point.RangeInclusive start last size) t x = scan_begins (point.RangeInclusive start last size) (finds_none {V = V} (point.RangeInclusive start last size)) t x
-    begins_tree (point.Insert k v) t x = calm (ap (λ y. nodes y.forest) x.state) t
-    begins_tree (point.Remove k) t x = calm (ap (λ y. nodes y.forest) x.state) t
-    begins_tree (point.ComputePresent k) t x = calm (ap (λ y. nodes y.forest) x.state) t
-    begins_tree (point.ComputeInsert k) t x = calm (ap (λ y. nodes y.forest) x.state) t
-    begins_tree (point.Exchange k a b) t x = calm (ap (λ y. nodes y.forest) x.state) t
-=======
-    begins_tree (point.Get k) t x = calm (ap (λ y. nodes y.forest) x.state) (ap (λ y. y.forest.collector.next) x.state) t
-    begins_tree (point.Range start end size) t x = scan_begins (finds_none {V = V} (point.Range start end size)) x
-      where
-        scan_begins : (none : Bool) → EntersUnless none s w (point.Range start end size) r s' → Parts s s' w event
-        scan_begins true x = calm (ap (λ y. nodes y.forest) x.state) (ap (λ y. y.forest.collector.next) x.state) t
-        scan_begins false x = calm (ap (λ y. nodes y.forest) x.state) (ap (λ y. y.forest.collector.next) x.state) t
     begins_tree (point.Insert k v) t x = calm (ap (λ y. nodes y.forest) x.state) (ap (λ y. y.forest.collector.next) x.state) t
     begins_tree (point.Remove k) t x = calm (ap (λ y. nodes y.forest) x.state) (ap (λ y. y.forest.collector.next) x.state) t
     begins_tree (point.ComputePresent k) t x = calm (ap (λ y. nodes y.forest) x.state) (ap (λ y. y.forest.collector.next) x.state) t
     begins_tree (point.ComputeInsert k) t x = calm (ap (λ y. nodes y.forest) x.state) (ap (λ y. y.forest.collector.next) x.state) t
     begins_tree (point.Exchange k a b) t x = calm (ap (λ y. nodes y.forest) x.state) (ap (λ y. y.forest.collector.next) x.state) t
->>>>>>> 59dec46972233f49953eacd3e90721631f942ba3
 
     begins : (t : Target V) → KeepsTaken → BeginsAt same always s w t r s' → Parts s s' w event
     begins (target.Collector op) t x = destroyed x.step.destroys x.step.moves.next t
