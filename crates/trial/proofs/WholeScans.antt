@@ -138,12 +138,12 @@ sweeps laws w r m s s' stands next run (Ended count b e fs) g = absurd (let f = 
 sweeps laws w r m s s' stands next run (Failed e is) g = absurd (let f = sym run ∙ ap is_running is in cc)
 
 -- the ranges of a call's scan
-ranges_of : (asked : Asked ℕ) (start end size : ℕ) → range_of asked ≡ Some (start, end, size) → IsScanOf start end size (flight (begun root asked))
+abbrev ranges_of : (asked : Asked ℕ) (start end size : ℕ) → range_of asked ≡ Some (start, end, size) → IsScanOf start end size (flight (begun root asked))
 ranges_of asked start end size is =
     let P : Option (ℕ × ℕ × ℕ) → Type 0 = λ o. IsOfRange o (flight (begun root asked)) in
     subst P is (of_range root asked)
 
-ranges : (start end size : ℕ) (f : Flight ℕ) → IsScanOf start end size f → Ranges
+abbrev ranges : (start end size : ℕ) (f : Flight ℕ) → IsScanOf start end size f → Ranges
 ranges start end size f k = record { start = start; end = end; size = size; from = k.from; to = k.to; places = k.places; promises = k.promises }
 
 -- the first step
