@@ -1,5 +1,5 @@
 -- A scan that is taken whole, with no other call in flight: its reply is the map's.
-use Rattle.std.proofs.Common.{◌≡◌, ◌⊎◌, ℕ, ◌<◌, ◌≤◌, ◌==◌, nat_eq, arith, Bool, true, false, List, [], ◌∷◌, length, take, Option, None, refl, sym, ◌∙◌, ap, subst, inl, inr, if◌then◌else◌}
+use Rattle.std.proofs.Common.{◌≡◌, ◌⊎◌, ℕ, ◌<◌, ◌≤◌, ◌==◌, nat_eq, arith, Bool, true, List, [], length, take, Option, refl, sym, ◌∙◌, ap, subst, inl, inr, if◌then◌else◌}
 use Rattle.std.specs.Prelude.{slice_set}
 use Rattle.std.specs.FinMap.{entries}
 use Rattle.std.proofs.lemmas.Bool.{eqb-false, true_from_ne_false}
@@ -11,7 +11,7 @@ use Rattle.joint.specs.declared.steps.Done.TheVariants as done
 use Rattle.joint.specs.declared.steps.Op.TheVariants.{Range}
 use Rattle.joint.specs.declared.steps.Outcome.{Outcome}
 use Rattle.joint.specs.declared.steps.Outcome.TheVariants as outcome
-use Rattle.joint.specs.MapCalls.{HasScanned, IsOfScan, IsScanning, KeepsAll, PlaysScan, told_after, told_places}
+use Rattle.joint.specs.MapCalls.{IsOfScan, IsScanning, PlaysScan, told_places}
 use Rattle.joint.specs.Runs.{Flights}
 use Rattle.joint.specs.Whole.{Whole, Holds}
 use Rattle.trial.specs.declared.caller.Closure.{Closure}
@@ -23,7 +23,7 @@ use Rattle.trial.specs.Places.{places_at, given}
 use Rattle.trial.specs.Replies.{reply_of}
 use Rattle.trial.proofs.MapSteps.{MapLaws, Rests, rests_after}
 use Rattle.trial.proofs.OneMap.{scan_of_one}
-use Rattle.trial.proofs.WholeCalls.{Called, called, first_of, last_of, plays_call, set_places}
+use Rattle.trial.proofs.WholeCalls.{Called, called, first_of, plays_call, set_places}
 
 -- the first pairs of the map's range
 abbrev pub finds : Pairs ℕ → (start end size : ℕ) → List (ℕ × ℕ)
