@@ -18,7 +18,6 @@ use Rattle.joint.specs.declared.steps.Outcome.{Outcome}
 use Rattle.joint.specs.declared.steps.Outcome.TheVariants as outcome
 use Rattle.joint.specs.declared.steps.Survey.{Survey}
 use Rattle.joint.specs.declared.steps.Survey.TheVariants as survey
-use Rattle.joint.specs.declared.steps.Target.{Target}
 use Rattle.joint.specs.declared.steps.Target.TheVariants as target
 use Rattle.joint.specs.MapCalls.{Answered as Last, IsPresent, IsComputed}
 use Rattle.joint.specs.Reports.{target}
@@ -40,8 +39,8 @@ use Rattle.trial.specs.declared.reply.Refused.{Refused}
 use Rattle.trial.specs.declared.reply.Refused.TheVariants as refused
 use Rattle.trial.specs.declared.reply.Reply.{Reply}
 use Rattle.trial.specs.declared.reply.Reply.TheVariants as reply
-use Rattle.trial.specs.Callers.{answer_of, fresh, noise_of, caller_at}
-use Rattle.trial.specs.Calling.{is_running, Registers, Begins, Goes, GoesOn, stays, ends, goes, Calls}
+use Rattle.trial.specs.Callers.{answer_of, fresh}
+use Rattle.trial.specs.Calling.{is_running, Registers, Begins, GoesOn, stays, ends, goes, Calls}
 use Rattle.trial.specs.Line.{IsLine}
 use Rattle.trial.specs.MapReplies.{wrapped, or_wrapped, answer_to, map_after, with_reply, map_replies, is_on_keys, key_replies, IsWhole, IsAnswer, AreCommands, MapAnswers}
 use Rattle.trial.specs.Replies.{reply_to, reply_of}

@@ -25,7 +25,7 @@ use Rattle.trial.specs.Places.{places_at, given}
 use Rattle.trial.specs.Replies.{reply_of}
 use Rattle.trial.proofs.MapSteps.{MapLaws, Rests, rests_after}
 use Rattle.trial.proofs.OneMap.{scan_of_one}
-use Rattle.trial.proofs.WholeCalls.{Called, called, first_of, last_of, plays_call, set_places}
+use Rattle.trial.proofs.WholeCalls.{Called, called, first_of, plays_call, set_places}
 
 -- the first pairs of the map's range
 abbrev pub finds : Pairs ℕ → (start end size : ℕ) → List (ℕ × ℕ)
