@@ -1,7 +1,7 @@
 -- A scan that is done leaves its worker's place: it holds nothing, and it is watched no longer.
 use Rattle.std.proofs.Common.{◌≡◌, ◌≢◌, ◌⊎◌, ℕ, zero, suc, arith, Bool, true, false, cond, List, [], ◌∷◌, refl, sym, ◌∙◌, ap, subst, inl, inr, length}
 use Rattle.std.proofs.Math.ListN.{set}
-use Rattle.std.specs.Prelude.{◌==◌, ltb, not, Option, None, Some, slice_get, slice_set, if◌then◌else◌}
+use Rattle.std.specs.Prelude.{◌==◌, not, Option, None, Some, slice_get, slice_set, if◌then◌else◌}
 use Rattle.std.proofs.lemmas.Bool.{cases_Bool, cases_eq}
 use Rattle.std.proofs.lemmas.List.{length-set, set-set}
 use Rattle.judge.specs.declared.journal.Reply.{Reply}
@@ -171,7 +171,7 @@ module _ {V : Type 0} where
 
   entering : (root : Id) (s : Scan Id V) (n : Id) (x : Region) (v : Option ℕ) → Tells (entered root s n x v)
   entering root s n x None = refl
-  entering root s n x (Some v) = by_cond (is_outside s.start s.end x) (left s) _ (leaving s (last_of s.above)) refl
+  entering root s n x (Some v) = by_cond (is_outside s.start s.last x) (left s) _ (leaving s (last_of s.above)) refl
 
   following : (number : Id → ℕ) (h : ℕ → Node V) (s : Scan Id V) (r : Rung Id) (x : Least Id V) (u : Swung Id V) → IsFollowed number h s r x u → Tells u
   following number h s r least.Nothing u f = by u (left s) f (leaving s (last_of s.above))
@@ -180,7 +180,7 @@ module _ {V : Type 0} where
   following number h s r least.Uncopied u f = by u _ f refl
 
   pub swept_tells : (number : Id → ℕ) (always : Bool) (root : Id) (s : Scan Id V) (x : Stage Id V) (h : ℕ → Node V) (u : Swung Id V) → is_past x ≡ false → SweptAt number always root s x h u → Tells u
-  swept_tells number always root s stage.New h u n f = by u (begins root s (version_of (h (number root)))) f (by_cond (ltb s.start s.end) _ _ (by_cond (s.size == 0) _ _ refl (entering root (anew root s).0 root whole (version_of (h (number root))))) refl)
+  swept_tells number always root s stage.New h u n f = by u (begins root s (version_of (h (number root)))) f (by_cond (s.size == 0) _ _ refl (entering root (anew root s).0 root whole (version_of (h (number root)))))
   swept_tells number always root s (stage.Enter c x) h u n f = by u _ f (entering root s c x (version_of (h (number c))))
   swept_tells number always root s (stage.Look r) h u n f = by u _ f.2 refl
   swept_tells number always root s (stage.Check r x) h u n f = elim (cases_Bool (is_taken (h (number r.at.node)) r.at.version)) [
@@ -215,7 +215,7 @@ module _ {V : Type 0} where
   point_over : (now : Machine Id V) (s : Scan Id V) (f : Flight V) → now.phase ≡ Sweep s → IsOfPoint f → Follows now f → f ≡ Over
   point_over now s f p o (inl x) = absurd (
       let P : Phase Id V → Type 0 = λ y. f ≡ flight (record now { phase = y }) in
-      let e : f ≡ Unbegun s.start s.end s.size = subst P p x.1 in
+      let e : f ≡ Unbegun s.start (suc s.last) s.size = subst P p x.1 in
       let Q : Flight V → Type 0 = λ y. IsOfPoint y in subst Q e o)
   point_over now s f p o (inr (t, q, inl x)) = absurd (let Q : Flight V → Type 0 = λ y. IsOfPoint y in subst Q x.0 o)
   point_over now s f p o (inr (t, q, inr (inl x))) = x.0
