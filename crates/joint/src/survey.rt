@@ -69,16 +69,14 @@ fn width(depth: usize) -> u64
 /// Whether none of the keys from one to another has the node's prefix.
 fn is_outside(region: Region, from: u64, last: u64) -> bool
     requires { region.depth ≤ MAX_PREFIX_LEN }
-    ensures { result ≡ is_outside from (last + 1) region }
+    ensures { result ≡ is_outside from last region }
 {
-    if region.base <= last {
-        if region.base < from {
-            (from - region.base) / width(region.depth) > 255
-        } else {
-            false
-        }
-    } else {
+    if last < region.base {
         true
+    } else if region.base < from {
+        (from - region.base) / width(region.depth) > 255
+    } else {
+        false
     }
 }
 

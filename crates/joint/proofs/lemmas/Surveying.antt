@@ -50,17 +50,17 @@ module _ {P : Type 0} (n : Form Id P) (w : Word) (x : Region) (r : IsRegion (pre
   on : (k : ℕ) (b : ℕ) → fits (prefix_of n) (key_bytes k) ≡ true → byte_of k ≡ b → hung_for N (key_bytes k) ≡ child_at n b
   on k b e q = ap (λ y. cond y (child_for N (key_bytes k)) Nothing) e ∙ ap (child_at n) q
 
-  pub outside_nothing : is_outside from (last + 1) x ≡ true → AllHang N from (last + 1) Nothing
+  pub outside_nothing : is_outside from last x ≡ true → AllHang N from (last + 1) Nothing
   outside_nothing e k lo hi = off k (λ f.
       let z = keys_within (prefix_of n) x.base x.depth r k (omega (arith, hi, small)) f in
-      absurd (outside x from (last + 1) k r.short e lo hi z.0 z.1))
+      absurd (outside x from last k r.short e lo (omega (arith, hi)) z.0 z.1))
 
-  module _ (inside : is_outside from (last + 1) x ≡ false) (first : ℕ) (is : first ≡ first_byte from x) where
+  module _ (inside : is_outside from last x ≡ false) (first : ℕ) (is : first ≡ first_byte from x) where
     first_low : (k : ℕ) → k < 2 ^ 64 → fits (prefix_of n) (key_bytes k) ≡ true → from ≤ k → first ≤ byte_of k
     first_low k s f lo =
         let z = keys_within (prefix_of n) x.base x.depth r k s f in
         let p : start_at x.base x.depth (first_byte from x) ≤ k = elim (cases_lt k (start_at x.base x.depth (first_byte from x))) [
-          | inl l ↦ absurd (first_before x from (last + 1) k inside lo z.0 l)
+          | inl l ↦ absurd (first_before x from last k inside lo z.0 l)
           | inr l ↦ l
         ] in
         let P : ℕ → Type 0 = λ b. start_at x.base x.depth b ≤ k in
@@ -91,7 +91,7 @@ module _ {P : Type 0} (n : Form Id P) (w : Word) (x : Region) (r : IsRegion (pre
 
         from_short : from < start_at x.base x.depth (byte + 1)
         from_short =
-            let a : from < start_at x.base x.depth (first_byte from x) + span (x.depth + 1) = first_aims x from (last + 1) inside in
+            let a : from < start_at x.base x.depth (first_byte from x) + span (x.depth + 1) = first_aims x from last inside in
             let q : start_at x.base x.depth first ≡ start_at x.base x.depth (first_byte from x) = ap (start_at x.base x.depth) is in
             let up = start_mono (prefix_of n) x.base x.depth r first byte found.past in
             omega (arith, a, q, up, next_start)
