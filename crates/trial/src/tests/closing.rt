@@ -300,15 +300,7 @@ fn ranges_of_many_keys(rt: HostRuntime) -> Result<(), Fail> {
 }
 
 /// Numbers from which scans to the greatest key start.
-const STARTS: [u64; 7] = [
-    0,
-    1,
-    300,
-    99_999,
-    1 << 40,
-    u64::MAX - 1,
-    u64::MAX,
-];
+const STARTS: [u64; 7] = [0, 1, 300, 99_999, 1 << 40, u64::MAX - 1, u64::MAX];
 
 // Whether a scan to the greatest key finds the map's pairs, and leaves the place past them as it was.
 fn ends_agree(tree: &Words, map: &Map, start: u64) -> bool {

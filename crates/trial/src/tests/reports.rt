@@ -116,7 +116,10 @@ fn a_scan_finds_the_first_pairs_of_its_range(rt: HostRuntime) -> Result<(), Fail
     }
     assert_eq!(rt; scan(&mut index, Op::Range(1, 4, 2), &mut found), Some(2));
     assert_eq!(rt; found, [(1, 10), (2, 20), (0, 0)]);
-    assert_eq!(rt; scan(&mut index, Op::RangeInclusive(2, 3, 2), &mut found), Some(2));
+    assert_eq!(rt;
+        scan(&mut index, Op::RangeInclusive(2, 3, 2), &mut found),
+        Some(2)
+    );
     assert_eq!(rt; found, [(2, 20), (3, 30), (0, 0)]);
     Ok(())
 }
