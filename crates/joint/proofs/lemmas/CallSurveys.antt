@@ -79,4 +79,4 @@ module _ {V : Type 0} (same : V → V → Bool) (w : ℕ) (fs : Flights V) (m : 
   tells (ComputeInsert k) reports result steps is x on last = tt
   tells (Exchange k old new) reports result steps is x on last = tt
   tells (Range start end size) reports result steps is x on last = tt
-  tells (RangeInclusive start last size) reports result steps is x on last = tt
+  tells (RangeInclusive start greatest size) reports result steps is x on last = tt
