@@ -1,5 +1,5 @@
 -- A tree between whole calls, beside the map of its pairs.
-use Rattle.std.proofs.Common.{◌≡◌, ℕ, nat_eq, List, [], ◌∷◌, None, Some}
+use Rattle.std.proofs.Common.{◌≡◌, ℕ, nat_eq, true, List, [], ◌∷◌, None, Some}
 use Rattle.std.specs.FinMap.{empty}
 use Rattle.judge.specs.Answer.{Pairs}
 use Rattle.congee.specs.Keys.{IsMapOf}
