@@ -205,7 +205,12 @@ fn calls_are_driven_on_an_index_of_ones_own(rt: HostRuntime) -> Result<(), Fail>
         (Op::Range(0, 9, 2), Done::Scanned(1)),
     ] {
         let mut driven = Driven::new(index, 0, op);
-        let told = answered(&rt, &mut driven, |value| Some(value?.wrapping_add(4)), &mut found);
+        let told = answered(
+            &rt,
+            &mut driven,
+            |value| Some(value?.wrapping_add(4)),
+            &mut found,
+        );
         assert_eq!(rt; told, Ok(done), "{op:?}");
         index = driven.into_index();
     }
