@@ -4,6 +4,7 @@ mod alone;
 mod arcs;
 mod closing;
 mod collector;
+mod crowds;
 mod dialogue;
 mod driven;
 mod examples;
