@@ -30,17 +30,25 @@ NUMBERS = itertools.count()
 
 # The tests that are to pass whichever request for memory is refused.
 TESTS = """
+arcs::a_refused_text_comes_back
+collector::jobs_that_find_no_memory_are_put_off_then
+collector::the_first_bag_of_a_block_alone_asks_for_memory
 failures::a_call_that_finds_no_memory_changes_nothing
 failures::a_script_goes_on_or_ends_where_memory_is_refused
 histories::a_history_wants_memory
+wants::a_run_goes_on_where_it_stopped
+wants::an_owned_leaf_grows
+wants::shared_texts_come_back
 """.split()
 
 # How reads and writes fail, one after the other; 0 moves nothing.
 READ_ERRORS = [errno.EIO, errno.EINTR, errno.EAGAIN]
 WRITE_ERRORS = [*READ_ERRORS, errno.ENOSPC, errno.EPIPE, 0]
 
-# The threads of the program, and the calls of each.
+# The threads of the program, and the calls of each; and as many as it takes, which end within so many seconds.
 THREADS = [(1, 1), (2, 8), (4, 20)]
+MOST = (16, 10_000)
+MOST_SECONDS = 20
 
 # Lines that ask for no memory but that of their reply's text; and those that may ask for a bag of 64 removals.
 NEED_NONE = {"pin", "unpin", "repin", "get", "empty", "charged", "waiting"}
@@ -83,7 +91,7 @@ class Ran:
         return [end - start for start, end in zip(cuts, cuts[1:])]
 
 
-def run(words, given=b"", **refused):
+def run(words, given=b"", seconds=SECONDS, **refused):
     """Runs a program on these bytes. What is refused is named as faults.c has it, in small letters."""
     log = f"{ROOM}/{next(NUMBERS)}"
     env = {"PATH": os.environ.get("PATH", ""), "LD_PRELOAD": LIBRARY, "SWEEP_LOG": log}
@@ -92,7 +100,7 @@ def run(words, given=b"", **refused):
         script.write(given)
         script.seek(0)
         how = {"stdin": script, "stdout": subprocess.PIPE, "stderr": subprocess.DEVNULL}
-        ended = subprocess.run(words, env=env, timeout=SECONDS, check=False, **how)
+        ended = subprocess.run(words, env=env, timeout=seconds, check=False, **how)
     hold(os.path.isfile(log), f"it ended by signal {-ended.returncode}")
     with open(log, encoding="ascii") as file:
         counts, *before = [tuple(map(int, line.split())) for line in file]
@@ -247,6 +255,13 @@ def test_passes(tests, name, number):
     return "passed"
 
 
+def most_threads(program):
+    """As many threads and calls as the program takes, of which nothing is refused."""
+    ran = run([program, "threads", *map(str, MOST)], seconds=MOST_SECONDS)
+    hold((ran.status, ran.printed) == (0, told(*MOST)), f"the status is {ran.status}: {ran.printed[:99]}")
+    return f"told as ever within {MOST_SECONDS} seconds"
+
+
 def feeds_end(program):
     """A reader that gives line feeds for ever."""
     ran = run([program], feeds=1)
@@ -287,7 +302,8 @@ def cases(program, tests, files):
         yield from ((f"{script.name}: {name}", tries) for name, tries in cases_of_script(script))
     for workers, calls in THREADS:
         yield from ((f"threads {workers} {calls}: {name}", tries) for name, tries in cases_of_threads(program, workers, calls))
-    yield "no script: line feeds for ever", [("", lambda: feeds_end(program))]
+    yield "threads {} {}".format(*MOST), [("", lambda: most_threads(program))]
+    yield "line feeds for ever", [("", lambda: feeds_end(program))]
     for name in TESTS:
         plain = run([tests, f"tests::{name}"])
         yield f"test {name}: one request for memory refused", each(plain.memory, lambda number, name=name: test_passes(tests, name, number))
@@ -299,8 +315,8 @@ def attempt(one):
         return one()
     except Wrong as why:
         return why
-    except subprocess.TimeoutExpired:
-        return Wrong(f"it hadn't ended after {SECONDS} seconds")
+    except subprocess.TimeoutExpired as late:
+        return Wrong(f"it hadn't ended after {late.timeout} seconds")
 
 
 def is_right(name, tries):

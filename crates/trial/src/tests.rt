@@ -33,4 +33,5 @@ mod surveys;
 mod texts;
 mod threaded;
 mod threads;
+mod wants;
 mod worked;

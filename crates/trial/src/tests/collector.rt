@@ -260,13 +260,73 @@ fn refuses_later_bags(world: &mut Jobs) -> bool {
     false
 }
 
-/// A block of 32 bags is made with the first of them, so the others need no memory.
+/// A collector of one participant, which is made again where memory is refused.
+fn jobs(alloc: Global) -> Result<Jobs, Fault> {
+    match World::new(alloc, ample(1), 0) {
+        Err(Fault::Memory) => World::new(alloc, ample(1), 0),
+        made => made,
+    }
+}
+
+/// A block of 32 bags is made with the first of them, so the others need no memory. The gate runs it with each request for
+/// memory refused in turn as well.
 #[test]
 fn the_first_bag_of_a_block_alone_asks_for_memory(rt: HostRuntime) -> Result<(), Fail> {
-    let mut world: Jobs = World::new(rt.alloc(), ample(1), 0)?;
+    let mut world = jobs(rt.alloc())?;
     assert_eq!(rt; world.register(), Ok(0));
     assert_eq!(rt; call(&mut world, 0, Op::Pin), Outcome::Done);
     assert!(rt; !refuses_later_bags(&mut world));
+    Ok(())
+}
+
+/// Whether so many jobs are put off. A refused one comes back, and is put off then.
+fn are_deferred(world: &mut Jobs, count: u64) -> bool {
+    for _ in 0..count {
+        if let Err((fault, ())) = world.defer(0, ()) {
+            if fault != Fault::Memory || world.defer(0, ()).is_err() {
+                return false;
+            }
+        }
+    }
+    true
+}
+
+/// A flush, which is called again where memory is refused.
+fn flushed(world: &mut Jobs) -> Outcome {
+    match call(world, 0, Op::Flush) {
+        Outcome::Refused(Fault::Memory) => call(world, 0, Op::Flush),
+        outcome => outcome,
+    }
+}
+
+/// Whether so many jobs wait now, and after each of some rounds.
+fn are_left(world: &mut Jobs, left: &[u64]) -> bool {
+    for waiting in left {
+        if world.waiting() != *waiting
+            || call(world, 0, Op::Pin) != Outcome::Done
+            || flushed(world) != Outcome::Done
+            || call(world, 0, Op::Unpin) != Outcome::Done
+        {
+            return false;
+        }
+    }
+    true
+}
+
+/// 65 jobs are two bags, and 2,177 are 35 in two blocks. The gate runs it with each request for memory refused in turn as well.
+#[test]
+fn jobs_that_find_no_memory_are_put_off_then(rt: HostRuntime) -> Result<(), Fail> {
+    for left in [
+        [65, 65, 0].as_slice(),
+        [2177, 2177, 1665, 1153, 641, 129, 0].as_slice(),
+    ] {
+        let mut world = jobs(rt.alloc())?;
+        assert_eq!(rt; world.register(), Ok(0));
+        assert_eq!(rt; call(&mut world, 0, Op::Pin), Outcome::Done);
+        assert!(rt; are_deferred(&mut world, left[0]));
+        assert_eq!(rt; call(&mut world, 0, Op::Unpin), Outcome::Done);
+        assert!(rt; are_left(&mut world, left));
+    }
     Ok(())
 }
 

@@ -154,7 +154,7 @@ fn drawn_schedules_tell_the_same_with_rounds_between(rt: HostRuntime) -> Result<
 }
 
 /// A pin, and then one insertion after another, each of 36 steps of which some come after its end.
-fn step_at(number: u64) -> Step<u64> {
+pub fn step_at(number: u64) -> Step<u64> {
     if number == 0 {
         beginning(0, Op::Pin)
     } else if number % 37 == 10 {
