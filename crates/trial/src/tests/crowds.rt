@@ -174,7 +174,9 @@ fn answered(call: Call<u64>, answer: Option<Option<u64>>) -> Call<u64> {
 /// The call as its entry has it: nothing was answered of a key that was absent.
 fn replied_to(call: Call<u64>, reply: Reply<u64>) -> Call<u64> {
     match (call, reply) {
-        (Call::ComputePresent(key, _), Reply::ComputePresent(None)) => Call::ComputePresent(key, None),
+        (Call::ComputePresent(key, _), Reply::ComputePresent(None)) => {
+            Call::ComputePresent(key, None)
+        }
         (call, _) => call,
     }
 }
@@ -224,7 +226,12 @@ fn steps(crowd: &mut Crowd, worker: u32, seat: Seat, step: Step<u64>) -> Result<
 }
 
 /// A step of a worker's call in flight, to which this comes from outside.
-fn goes(crowd: &mut Crowd, worker: u32, seat: Seat, noise: Noise<Id, u64>) -> Result<(), AllocError> {
+fn goes(
+    crowd: &mut Crowd,
+    worker: u32,
+    seat: Seat,
+    noise: Noise<Id, u64>,
+) -> Result<(), AllocError> {
     let mut seat = seat;
     if seat.has_asked {
         seat.call = seat.call.map(|call| answered(call, noise.answer));
@@ -310,7 +317,12 @@ fn rests(crowd: &mut Crowd) -> Result<(), AllocError> {
 fn bytes_of(stats: &NodeStats) -> u64 {
     let mut bytes = 0u64;
     for level in &stats.levels {
-        for (info, size) in [(level.n4, 64), (level.n16, 168), (level.n48, 672), (level.n256, 2104)] {
+        for (info, size) in [
+            (level.n4, 64),
+            (level.n16, 168),
+            (level.n48, 672),
+            (level.n256, 2104),
+        ] {
             bytes = bytes.saturating_add(info.node_count.saturating_mul(size));
         }
     }
