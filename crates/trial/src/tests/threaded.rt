@@ -323,9 +323,10 @@ fn reads_along<R: Wait>(
     Ok(same)
 }
 
-/// Whether the flag is set within 10,000 turns, each of which yields to other threads.
+/// Whether the flag is set within ten million turns, each of which yields to other threads: on a loaded machine a thread was
+/// seen to come later than ten thousand.
 pub fn comes(flag: &AtomicBool) -> bool {
-    for _ in 0..10_000 {
+    for _ in 0..10_000_000u32 {
         if flag.load(SeqCst) {
             return true;
         }
