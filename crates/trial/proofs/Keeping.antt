@@ -1,5 +1,5 @@
 -- What workers keep, one entry and one worker more.
-use Rattle.std.proofs.Common.{◌≡◌, ℕ, ◌+◌, List, [], ◌∷◌, ◌++◌, length, drop, refl, sym, ap, ◌∙◌, arith, suc, zero, Some, None, inl, inr, ◌⊎◌, Vec, Global, subst, Option, MatchOption}
+use Rattle.std.proofs.Common.{◌≡◌, ℕ, ◌+◌, List, [], ◌∷◌, ◌++◌, length, drop, refl, sym, ap, ◌∙◌, arith, suc, zero, Some, inl, inr, ◌⊎◌, Vec, Global, subst, Option, MatchOption}
 use Rattle.std.specs.Prelude.{slice_get}
 use Rattle.judge.specs.declared.journal.Entry.{Entry}
 use Rattle.trial.specs.Histories.{AreCalls, AreKept, call_at}

@@ -1,5 +1,5 @@
 -- A scan that is taken whole, with no other call in flight: its reply is the map's.
-use Rattle.std.proofs.Common.{◌≡◌, ◌⊎◌, ℕ, ◌<◌, ◌≤◌, ◌==◌, nat_eq, arith, Bool, true, false, List, [], ◌∷◌, length, take, Option, None, Some, refl, sym, ◌∙◌, ap, subst, inl, inr, if◌then◌else◌}
+use Rattle.std.proofs.Common.{◌≡◌, ◌⊎◌, ℕ, ◌<◌, ◌≤◌, ◌==◌, nat_eq, arith, Bool, true, List, [], length, take, Option, Some, refl, sym, ◌∙◌, ap, subst, inl, inr, if◌then◌else◌}
 use Rattle.std.specs.Prelude.{slice_set}
 use Rattle.std.specs.FinMap.{entries}
 use Rattle.std.proofs.lemmas.Bool.{eqb-false, true_from_ne_false}
@@ -12,7 +12,7 @@ use Rattle.joint.specs.declared.steps.Op.{Op}
 use Rattle.joint.specs.declared.steps.Op.TheVariants as ops
 use Rattle.joint.specs.declared.steps.Outcome.{Outcome}
 use Rattle.joint.specs.declared.steps.Outcome.TheVariants as outcome
-use Rattle.joint.specs.MapCalls.{Answered as Last, HasScanned, IsOfScan, IsScanning, KeepsAll, PlaysCall, PlaysScan, told_after, told_places}
+use Rattle.joint.specs.MapCalls.{Answered as Last, IsOfScan, IsScanning, PlaysCall, PlaysScan, told_places}
 use Rattle.joint.specs.Reports.{range_of, target}
 use Rattle.joint.specs.Runs.{Flights}
 use Rattle.joint.specs.Whole.{Whole, Holds}

@@ -1,5 +1,5 @@
 -- What the program prints of workers that called at once.
-use Rattle.std.specs.Prelude.{◌≡◌, ◌==◌, ◌⊎◌, ◌↔◌, ℕ, ◌+◌, ◌*◌, ◌%◌, Bool, true, IfOk, IsOk, IsTrue, if◌then◌else◌, List, ◌++◌, Option, Some, Result, Ok, Err, Vec, codes, decimal, length, slice_get, take}
+use Rattle.std.specs.Prelude.{◌≡◌, ◌==◌, ◌⊎◌, ◌↔◌, ℕ, ◌+◌, ◌*◌, ◌%◌, true, IfOk, IsOk, IsTrue, if◌then◌else◌, List, ◌++◌, Option, Some, Result, Ok, Err, Vec, codes, decimal, length, slice_get, take}
 use Rattle.std.specs.declared.alloc.Global.{Global}
 use Rattle.std.specs.Io.KnownBytes.{Appends}
 use Rattle.judge.specs.declared.checker.Verdict.TheVariants.{Legal}

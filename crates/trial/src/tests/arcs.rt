@@ -1,18 +1,26 @@
 //! Worked sequences on a tree of shared values.
 use congee::{CongeeArc, OOMError};
-use std::alloc::Global;
+use std::alloc::{AllocError, Global};
 use std::sync::Arc;
 use std::test::Fail;
 
-type Text = Arc<String<Global>, Global>;
+pub type Text = Arc<String<Global>, Global>;
 
 type Texts = CongeeArc<u64, String<Global>>;
 
-fn text(alloc: Global, text: &str) -> Result<Text, Fail> {
+fn made(alloc: Global, text: &str) -> Result<Text, AllocError> {
     Ok(Arc::new(alloc, String::from_str(alloc, text)?)?)
 }
 
-fn is(found: Option<Text>, text: Option<&str>) -> bool {
+// A text, which is made again where memory is refused.
+pub fn text(alloc: Global, text: &str) -> Result<Text, AllocError> {
+    match made(alloc, text) {
+        Err(AllocError) => made(alloc, text),
+        made => made,
+    }
+}
+
+pub fn is(found: Option<Text>, text: Option<&str>) -> bool {
     match (found, text) {
         (Some(found), Some(text)) => found.as_str() == text,
         (None, None) => true,
@@ -71,20 +79,38 @@ fn comes_back(tree: &mut Texts, key: u64, hello: Text) -> Result<bool, Fail> {
     }
 }
 
-// The fifth value of a leaf makes it grow, which takes memory.
+// The fifth value of a leaf makes it grow, which takes memory; then another takes its place, and goes.
 fn fifth_comes_back(alloc: Global, tree: &mut Texts) -> Result<bool, Fail> {
     let hello = text(alloc, "hello")?;
     for key in 1..5u64 {
-        if !is(tree.insert(key, Arc::try_clone(&hello)?)?, None) {
+        if !comes_back(tree, key, Arc::try_clone(&hello)?)? {
             return Ok(false);
         }
     }
-    Ok(comes_back(tree, 5, hello)? && is(tree.get(5)?, Some("hello")))
+    let other = text(alloc, "hello world")?;
+    let replace = |_: Text| Arc::try_clone(&other).ok();
+    Ok(
+        comes_back(tree, 5, hello)?
+            && is(tree.get(5)?, Some("hello"))
+            && is(tree.compute_if_present(5, replace)?, Some("hello"))
+            && is(tree.get(5)?, Some("hello world"))
+            && is(tree.remove(5), Some("hello world"))
+            && is(tree.get(5)?, None),
+    )
 }
 
+// An empty tree, which is made again where memory is refused.
+fn opened(alloc: Global) -> Result<Texts, OOMError> {
+    match CongeeArc::new(alloc) {
+        Err(OOMError::Memory) => CongeeArc::new(alloc),
+        made => made,
+    }
+}
+
+// The gate runs it with each request for memory refused in turn as well.
 #[test]
 fn a_refused_text_comes_back(rt: HostRuntime) -> Result<(), Fail> {
-    let mut tree = CongeeArc::new(rt.alloc())?;
+    let mut tree = opened(rt.alloc())?;
     let back = fifth_comes_back(rt.alloc(), &mut tree);
     tree.close();
     assert!(rt; back?);

@@ -78,44 +78,47 @@ impl Pointable for Plain {
 
 type Jobs = World<Plain, ()>;
 
-/// Participants, cells, the greatest turn and the expiry; then what is asked of a new collector with one root. A participant is
+/// Participants, cells, the greatest turn, the greatest epoch and the expiry; then what is asked of a new collector with one root. A participant is
 /// told by its number, a placed value by its cell and turn, and a pointer to it by its tag behind these; `null` has a tag alone.
-const WORKED: [&str; 9] = [
+const WORKED: [&str; 10] = [
     // Participant 1 pins at an older epoch than the seal of a job of participant 0.
-    "a blocked job waits: 2 1000 9 2; register = Ok(0); register = Ok(1); pin 0 = Done; unpin 0 = Done; pin 1 = Done; unpin 1 = Done; \
+    "a blocked job waits: 2 1000 9 99 2; register = Ok(0); register = Ok(1); pin 0 = Done; unpin 0 = Done; pin 1 = Done; unpin 1 = Done; \
      pin 1 = Done; pin 0 = Done; defer 0 1 = Ok(()); flush 0 = Done; epoch = 3; waiting = 1",
-    "an expiry of one is too little: 2 1000 9 1; register = Ok(0); register = Ok(1); pin 0 = Done; unpin 0 = Done; pin 1 = Done; \
+    "an expiry of one is too little: 2 1000 9 99 1; register = Ok(0); register = Ok(1); pin 0 = Done; unpin 0 = Done; pin 1 = Done; \
      unpin 1 = Done; pin 1 = Done; pin 0 = Done; defer 0 1 = Ok(()); flush 0 = Done; epoch = 3; waiting = 0",
     // It has 64 jobs; the 65th queues it.
-    "a full bag is queued: 1 1000 9 2; register = Ok(0); pin 0 = Done; defer 0 65 = Ok(()); unpin 0 = Done; waiting = 65; \
+    "a full bag is queued: 1 1000 9 99 2; register = Ok(0); pin 0 = Done; defer 0 65 = Ok(()); unpin 0 = Done; waiting = 65; \
      rounds 0 1 = Done; waiting = 65; rounds 0 1 = Done; waiting = 0",
     // 2,177 jobs are 35 bags.
-    "a collection takes eight bags: 1 1000 9 2; register = Ok(0); pin 0 = Done; defer 0 2177 = Ok(()); unpin 0 = Done; waiting = 2177; \
+    "a collection takes eight bags: 1 1000 9 99 2; register = Ok(0); pin 0 = Done; defer 0 2177 = Ok(()); unpin 0 = Done; waiting = 2177; \
      rounds 0 1 = Done; waiting = 2177; rounds 0 1 = Done; waiting = 1665; rounds 0 1 = Done; waiting = 1153; rounds 0 1 = Done; \
      waiting = 641; rounds 0 1 = Done; waiting = 129; rounds 0 1 = Done; waiting = 0",
     // A flush by its name seals the bag and collects; a repin by its name follows the epoch.
-    "whole calls by their names: 1 1000 9 2; register = Ok(0); World::flush 0 = Refused(Unpinned); World::repin 0 = Refused(Unpinned); \
+    "whole calls by their names: 1 1000 9 99 2; register = Ok(0); World::flush 0 = Refused(Unpinned); World::repin 0 = Refused(Unpinned); \
      defer_unchecked 0 = Err((Unpinned, ())); has_place 0 = true; has_place 1 = false; pin 0 = Done; epoch = 1; World::repin 0 = Done; \
      defer_unchecked 0 = Ok(0); defer 0 63 = Ok(()); has_place 0 = false; World::flush 0 = Done; has_place 0 = true; epoch = 2; \
      waiting = 64; World::repin 0 = Done; World::flush 0 = Done; epoch = 3; waiting = 0",
     // The cell has two turns.
-    "cells are used again under the next turn: 1 1 1 2; register = Ok(0); place 1 = Ok(Name { cell: 0, turn: 0 }); \
+    "cells are used again under the next turn: 1 1 1 99 2; register = Ok(0); place 1 = Ok(Name { cell: 0, turn: 0 }); \
      place 2 = Err((CellsFull, Plain(2))); replace 0 0 3 = Ok(Plain(1)); read 0 0 = Some(Plain(3)); store 0 0 1 = Ok(()); \
      load 0 = Ok(Ptr { name: Some(Name { cell: 0, turn: 0 }), tag: 1 }); load 1 = Err(Unknown); store_null 0 = Ok(()); pin 0 = Done; \
      destroy 0 0 0 = Ok(0); unpin 0 = Done; rounds 0 3 = Done; waiting = 0; read 0 0 = None; place 4 = Ok(Name { cell: 0, turn: 1 }); \
      give_back 0 1 = Ok(Plain(4)); place 5 = Err((CellsFull, Plain(5)))",
-    "a participant that leaves queues its bag: 2 1000 9 2; register = Ok(0); register = Ok(1); register = Err(TableFull); pin 0 = Done; \
+    "a participant that leaves queues its bag: 2 1000 9 99 2; register = Ok(0); register = Ok(1); register = Err(TableFull); pin 0 = Done; \
      defer 0 1 = Ok(()); release 0 = Refused(GuardOut); unpin 0 = Done; release 0 = Done; waiting = 1; rounds 1 3 = Done; waiting = 0; \
      register = Ok(0)",
     // The tag is 5 modulo 4.
-    "an exchange of a root looks at the tag: 1 1000 9 2; place 7 = Ok(Name { cell: 0, turn: 0 }); \
+    "an exchange of a root looks at the tag: 1 1000 9 99 2; place 7 = Ok(Name { cell: 0, turn: 0 }); \
      swap 0 0 5 = Ok(Ptr { name: None, tag: 0 }); \
      empty 0 0 0 = Ok(Err(OtherPointer { current: Ptr { name: Some(Name { cell: 0, turn: 0 }), tag: 1 }, new: Ptr { name: None, tag: 0 } })); \
      empty 0 0 1 = Ok(Ok(Ptr { name: None, tag: 0 })); load 0 = Ok(Ptr { name: None, tag: 0 })",
-    "bits of a tag are changed: 1 1000 9 2; store_null 3 = Ok(()); fetch_and 1 = Ok(Ptr { name: None, tag: 3 }); \
+    "bits of a tag are changed: 1 1000 9 99 2; store_null 3 = Ok(()); fetch_and 1 = Ok(Ptr { name: None, tag: 3 }); \
      fetch_xor 3 = Ok(Ptr { name: None, tag: 1 }); load 0 = Ok(Ptr { name: None, tag: 2 }); store_null 1 = Ok(()); \
      fetch_or 2 = Ok(Ptr { name: None, tag: 1 }); load 0 = Ok(Ptr { name: None, tag: 3 }); store_null 5 = Ok(()); \
      load 0 = Ok(Ptr { name: None, tag: 1 })",
+    // The second round's flush gives 2, and the third one's 3.
+    "the epoch stops at its greatest: 1 1000 9 3 2; register = Ok(0); rounds 0 1 = Done; epoch = 1; rounds 0 1 = Done; epoch = 2; \
+     rounds 0 1 = Done; epoch = 3; pin 0 = Done; defer 0 1 = Ok(()); unpin 0 = Done; rounds 0 10 = Done; epoch = 3; waiting = 1",
 ];
 
 #[test]
@@ -123,10 +126,11 @@ fn the_collector_answers_as_worked_out(rt: HostRuntime) -> Result<(), Fail> {
     for worked in WORKED {
         let (name, text) = named(worked)?;
         let (limits, dialogue) = text.split_once(';').ok_or("no limits")?;
-        let [participants, cells, turn_max, expiry] = array::<4>(limits)?;
+        let [participants, cells, turn_max, epoch_max, expiry] = array::<5>(limits)?;
         let limits = Limits {
             cells: u32::try_from(cells)?,
             turn_max: u32::try_from(turn_max)?,
+            epoch_max,
             expiry,
             ..ample(u32::try_from(participants)?)
         };
@@ -260,13 +264,73 @@ fn refuses_later_bags(world: &mut Jobs) -> bool {
     false
 }
 
-/// A block of 32 bags is made with the first of them, so the others need no memory.
+/// A collector of one participant, which is made again where memory is refused.
+fn jobs(alloc: Global) -> Result<Jobs, Fault> {
+    match World::new(alloc, ample(1), 0) {
+        Err(Fault::Memory) => World::new(alloc, ample(1), 0),
+        made => made,
+    }
+}
+
+/// A block of 32 bags is made with the first of them, so the others need no memory. The gate runs it with each request for
+/// memory refused in turn as well.
 #[test]
 fn the_first_bag_of_a_block_alone_asks_for_memory(rt: HostRuntime) -> Result<(), Fail> {
-    let mut world: Jobs = World::new(rt.alloc(), ample(1), 0)?;
+    let mut world = jobs(rt.alloc())?;
     assert_eq!(rt; world.register(), Ok(0));
     assert_eq!(rt; call(&mut world, 0, Op::Pin), Outcome::Done);
     assert!(rt; !refuses_later_bags(&mut world));
+    Ok(())
+}
+
+/// Whether so many jobs are put off. A refused one comes back, and is put off then.
+fn are_deferred(world: &mut Jobs, count: u64) -> bool {
+    for _ in 0..count {
+        if let Err((fault, ())) = world.defer(0, ()) {
+            if fault != Fault::Memory || world.defer(0, ()).is_err() {
+                return false;
+            }
+        }
+    }
+    true
+}
+
+/// A flush, which is called again where memory is refused.
+fn flushed(world: &mut Jobs) -> Outcome {
+    match call(world, 0, Op::Flush) {
+        Outcome::Refused(Fault::Memory) => call(world, 0, Op::Flush),
+        outcome => outcome,
+    }
+}
+
+/// Whether so many jobs wait now, and after each of some rounds.
+fn are_left(world: &mut Jobs, left: &[u64]) -> bool {
+    for waiting in left {
+        if world.waiting() != *waiting
+            || call(world, 0, Op::Pin) != Outcome::Done
+            || flushed(world) != Outcome::Done
+            || call(world, 0, Op::Unpin) != Outcome::Done
+        {
+            return false;
+        }
+    }
+    true
+}
+
+/// 65 jobs are two bags, and 2,177 are 35 in two blocks. The gate runs it with each request for memory refused in turn as well.
+#[test]
+fn jobs_that_find_no_memory_are_put_off_then(rt: HostRuntime) -> Result<(), Fail> {
+    for left in [
+        [65, 65, 0].as_slice(),
+        [2177, 2177, 1665, 1153, 641, 129, 0].as_slice(),
+    ] {
+        let mut world = jobs(rt.alloc())?;
+        assert_eq!(rt; world.register(), Ok(0));
+        assert_eq!(rt; call(&mut world, 0, Op::Pin), Outcome::Done);
+        assert!(rt; are_deferred(&mut world, left[0]));
+        assert_eq!(rt; call(&mut world, 0, Op::Unpin), Outcome::Done);
+        assert!(rt; are_left(&mut world, left));
+    }
     Ok(())
 }
 

@@ -186,8 +186,8 @@ const LOOKED: &[u8] = b"ok\nworker 0\nworker 1\nok\nok\nnone\nnone\nnone\nbegun\
     Overall node count: 5, entry count: 7\nLoad factor: 0.25 (too low)\nActive memory usage: 0 Mb\nKV count: 3\n\
     ok\nok\ndrain 1 1\ndrain 256 2\ndrain 72057594037927936 3\nclosed 0\n";
 
-/// To be run with each allocation refused in turn as well: a line that is refused is as if it were not there, and where the
-/// program itself finds no memory it ends, after the replies to whole lines.
+/// The gate runs it with each request for memory refused in turn as well: a line that is refused is as if it were not there,
+/// and where the program itself finds no memory it ends, after the replies to whole lines.
 #[test]
 fn a_script_goes_on_or_ends_where_memory_is_refused(rt: HostRuntime) -> Result<(), Fail> {
     for (script, replies) in [(SCRIPT, REPLIES), (LOOKS, LOOKED), (FILLS, FILLED)] {
@@ -232,7 +232,7 @@ fn state(index: &Index) -> (u64, u64, u64) {
 }
 
 /// Whether a call ends with the reply. Where memory is refused nothing has changed, and it is called again.
-fn ends_with(index: &mut Index, made: Call<u64>, reply: Reply<u64>) -> bool {
+pub fn ends_with(index: &mut Index, made: Call<u64>, reply: Reply<u64>) -> bool {
     let before = state(index);
     let outcome = call(index, 0, made);
     if outcome != Outcome::Refused(Refusal::Memory) {
@@ -242,7 +242,7 @@ fn ends_with(index: &mut Index, made: Call<u64>, reply: Reply<u64>) -> bool {
 }
 
 /// An index with its workers; where memory is refused it is opened again.
-fn opened(alloc: Global) -> Result<Index, Refusal> {
+pub fn opened(alloc: Global) -> Result<Index, Refusal> {
     match open(alloc, 2, 1_000) {
         Err(Refusal::Memory) => open(alloc, 2, 1_000),
         opened => opened,
@@ -250,12 +250,12 @@ fn opened(alloc: Global) -> Result<Index, Refusal> {
 }
 
 /// A flush; where memory is refused it is called again.
-fn is_flushed(index: &mut Index) -> bool {
+pub fn is_flushed(index: &mut Index) -> bool {
     let before = state(index);
     is_done(index, 0, Op::Flush) || (before == state(index) && is_done(index, 0, Op::Flush))
 }
 
-/// To be run with each allocation refused in turn as well: what is refused changes nothing, and then is answered.
+/// The gate runs it with each request for memory refused in turn as well: what is refused changes nothing, and then is answered.
 #[test]
 fn a_call_that_finds_no_memory_changes_nothing(rt: HostRuntime) -> Result<(), Fail> {
     let mut index = opened(rt.alloc())?;

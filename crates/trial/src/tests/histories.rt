@@ -303,7 +303,7 @@ fn each_write_of_a_history_may_fail(rt: HostRuntime) -> Result<(), Fail> {
     Ok(())
 }
 
-/// To be run with each allocation refused in turn as well: then the status is 1, and no history is told.
+/// The gate runs it with each request for memory refused in turn as well: then the status is 1, and no history is told.
 #[test]
 fn a_history_wants_memory(rt: HostRuntime) -> Result<(), Fail> {
     let mut printed = Vec::new(rt.alloc());

@@ -109,6 +109,38 @@ fn a_reserved_place_is_kept_from_look_ups_and_comes_free(rt: HostRuntime) -> Res
 }
 
 #[test]
+fn a_closure_that_is_asked_again_is_written_down_with_its_last_answer(
+    rt: HostRuntime,
+) -> Result<(), Fail> {
+    let mut index = open(rt.alloc(), 9)?;
+    end(&mut index, 0, Op::Insert(1, 42));
+    let event = Event::Begin(Op::ComputePresent(1));
+    index.step(Step { worker: 0, event });
+    assert_eq!(rt; go_on(&mut index, 0), Outcome::Asks(Some(42)));
+    go(&mut index, 0, Some(Some(5)));
+    // The leaf isn't locked.
+    let event = Event::Go(Noise {
+        fail: true,
+        seen: None,
+        answer: None,
+    });
+    index.step(Step { worker: 0, event });
+    assert_eq!(rt; go_on(&mut index, 0), Outcome::Asks(Some(42)));
+    go(&mut index, 0, Some(Some(6)));
+    let reply = Reply::ComputePresent(Some((42, Some(6))));
+    assert_eq!(rt; go_on(&mut index, 0), Outcome::Done(Done::Reply(reply)));
+    let found = Outcome::Done(Done::Reply(Reply::Get(Some(6))));
+    assert_eq!(rt; end(&mut index, 0, Op::Get(1)), Some((found, true)));
+    let entry = Entry {
+        worker: 0,
+        call: Call::ComputePresent(1, Some(6)),
+        reply,
+    };
+    assert_eq!(rt; index.journal().get(1), Some(&entry));
+    Ok(())
+}
+
+#[test]
 fn a_journal_has_its_places(rt: HostRuntime) -> Result<(), Fail> {
     for places in [0, 4_294_967_296] {
         assert_eq!(rt; refusal_of(rt.alloc(), places), Some(Refusal::Limits));

@@ -5,7 +5,9 @@ use super::interleavings::{
     Case, Flight, INSERTIONS, LOOKS, REMOVALS, advance, advance_with, begun, case_of, end_right,
     prepared,
 };
-use super::machine::{END, Index, answer_of, begin, call, go, go_on, is_done, open, replied};
+use super::machine::{
+    END, Index, answer_of, begin, call, go, go_on, go_with, is_done, open, replied,
+};
 use super::texts::named;
 use congee::{Child, Noise, Seen};
 use crossbeam_epoch::Name;
@@ -140,5 +142,26 @@ fn a_value_is_asked_for_until_there_is_one(rt: HostRuntime) -> Result<(), Fail> 
     assert_eq!(rt; end, replied(Reply::ComputeInsert(None)));
     let found = call(&mut index, 0, Call::Get(5));
     assert_eq!(rt; found, replied(Reply::Get(Some(6))));
+    Ok(())
+}
+
+/// Another value, and a node that there never was.
+#[test]
+fn what_a_read_of_a_changed_leaf_sees_is_not_told(rt: HostRuntime) -> Result<(), Fail> {
+    for sight in [Sight::Value(77), Sight::Node(900, 7)] {
+        let mut index = open(rt.alloc(), 2, 1_000)?;
+        assert!(rt; is_done(&mut index, 0, Op::Pin) && is_done(&mut index, 1, Op::Pin));
+        let first = call(&mut index, 1, Call::Insert(1, 42));
+        assert_eq!(rt; first, replied(Reply::Insert(None)));
+        let begun = begin(&mut index, 1, Op::Get(1)).outcome;
+        // The next step reads the leaf.
+        assert_eq!(rt; go_on(&mut index, 1, None, 4, begun), Outcome::Running);
+        let second = call(&mut index, 0, Call::Insert(1, 9));
+        assert_eq!(rt; second, replied(Reply::Insert(Some(42))));
+        let lie = noise_of((sight, false, 1), Call::Get(1), false);
+        let lied = go_with(&mut index, 1, lie).outcome;
+        let end = go_on(&mut index, 1, None, END, lied);
+        assert_eq!(rt; end, replied(Reply::Get(Some(9))));
+    }
     Ok(())
 }

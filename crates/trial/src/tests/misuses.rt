@@ -16,11 +16,17 @@ const PREPARED: &str =
 const MISUSES: &str =
     "; reg = refused TableFull; 0 pin = refused Busy; 0 get 1 = refused Busy; 0 insert 1 2 = refused Busy; \
     0 remove 1 = refused Busy; 0 present 1 drop = refused Busy; 0 orinsert 1 2 = refused Busy; 0 cas 1 1 2 = refused Busy; \
+    0 range 0 9 4 = refused Busy; 0 through 0 9 4 = refused Busy; 0 keys = refused Busy; 0 empty = refused Busy; 0 stats = refused Busy; \
     0 round 2 = refused Busy; 0 begin get 1 = refused Busy; 0 begin unpin = refused InCall; 0 unpin = refused InCall; \
     0 repin = refused InCall; 0 flush = refused InCall; 0 release = refused InCall; 1 go 1 = refused Idle; 1 fail = refused Idle; \
-    1 get 1 = refused Unpinned; 1 insert 1 2 = refused Unpinned; 1 remove 1 = refused Unpinned; 1 unpin = refused Unpinned; \
+    1 get 1 = refused Unpinned; 1 insert 1 2 = refused Unpinned; 1 remove 1 = refused Unpinned; 1 present 1 drop = refused Unpinned; \
+    1 orinsert 1 2 = refused Unpinned; 1 cas 1 1 2 = refused Unpinned; 1 range 0 9 4 = refused Unpinned; \
+    1 through 0 9 4 = refused Unpinned; 1 empty = refused Unpinned; 1 unpin = refused Unpinned; \
     1 repin = refused Unpinned; 1 flush = refused Unpinned; 1 begin get 1 = refused Unpinned; 2 go 1 = refused Unknown; \
-    2 fail = refused Unknown; 2 pin = refused Unknown; 2 get 1 = refused Unknown; 2 release = refused Unknown; \
+    2 fail = refused Unknown; 2 pin = refused Unknown; 2 unpin = refused Unknown; 2 repin = refused Unknown; 2 flush = refused Unknown; \
+    2 round 1 = refused Unknown; 2 release = refused Unknown; 2 get 1 = refused Unknown; 2 remove 1 = refused Unknown; \
+    2 present 1 drop = refused Unknown; 2 orinsert 1 2 = refused Unknown; 2 cas 1 1 2 = refused Unknown; 2 range 0 9 4 = refused Unknown; \
+    2 through 0 9 4 = refused Unknown; 2 keys = refused Unknown; 2 empty = refused Unknown; 2 stats = refused Unknown; \
     4294967295 insert 1 2 = refused Unknown; new 1 9 = refused Open";
 
 /// A call of worker 0, how many steps it takes after its begin, and how it ends.

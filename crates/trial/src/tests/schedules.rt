@@ -44,7 +44,7 @@ fn replies_are_the_same_with_rounds_between(rt: HostRuntime) -> Result<(), Fail>
 }
 
 /// The next of a row of numbers that look like drawn ones: the greatest bits do.
-fn next(number: u64) -> u64 {
+pub fn next(number: u64) -> u64 {
     number
         .wrapping_mul(6_364_136_223_846_793_005)
         .wrapping_add(1_442_695_040_888_963_407)
@@ -154,7 +154,7 @@ fn drawn_schedules_tell_the_same_with_rounds_between(rt: HostRuntime) -> Result<
 }
 
 /// A pin, and then one insertion after another, each of 36 steps of which some come after its end.
-fn step_at(number: u64) -> Step<u64> {
+pub fn step_at(number: u64) -> Step<u64> {
     if number == 0 {
         beginning(0, Op::Pin)
     } else if number % 37 == 10 {

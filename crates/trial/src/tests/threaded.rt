@@ -39,7 +39,7 @@ pub fn spent(unpinned: Result<(), (Refusal, Guard)>) -> Result<(), Refusal> {
 }
 
 /// Whether a worker has left.
-fn left(released: Result<(), (Refusal, Worker)>) -> Result<(), Refusal> {
+pub fn left(released: Result<(), (Refusal, Worker)>) -> Result<(), Refusal> {
     match released {
         Ok(()) => Ok(()),
         Err((refusal, _)) => Err(refusal),

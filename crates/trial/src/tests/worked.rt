@@ -119,7 +119,8 @@ const REFUSED: [&str; 6] = [
      0 orinsert 5 5 = refused Budget 2168 168 2335; charged = charged 2168; 1 go 200 = some 4; 1 remove 4 = some 4; 0 orinsert 5 5 = none; \
      charged = charged 2168",
     "no cell is free for the second node of a split: new 2 3 = ok; reg = worker 0; 0 pin = ok; reg = worker 1; 1 pin = ok; \
-     0 insert 1 1 = none; 1 begin get 1 = begun; 1 go 5 = running; 0 insert 256 2 = refused Cells; charged = charged 2168; \
+     0 insert 1 1 = none; 1 begin get 1 = begun; 1 go 5 = running; 0 insert 256 2 = refused Cells; 0 orinsert 256 2 = refused Cells; \
+     charged = charged 2168; \
      1 go 200 = some 1; 1 insert 72057594037927936 3 = none; 0 insert 144115188075855872 4 = refused Cells; 0 insert 2 2 = none; \
      charged = charged 2232",
     "a cell is free when what waits is destroyed: new 2 2 = ok; reg = worker 0; 0 pin = ok; reg = worker 1; 1 pin = ok; \
@@ -130,7 +131,8 @@ const REFUSED: [&str; 6] = [
      reg = worker 1; 1 pin = ok; 0 insert 1 1 = none; 0 insert 2 2 = none; 0 insert 3 3 = none; 0 insert 4 4 = none; \
      1 begin get 1 = begun; 1 go 5 = running; 0 insert 5 5 = refused Exhausted; charged = charged 2168; 1 go 200 = some 1; \
      1 insert 72057594037927936 7 = none; 0 insert 144115188075855872 7 = refused Exhausted; 0 remove 1 = refused Exhausted; \
-     0 insert 1 9 = refused Exhausted; 0 present 1 add 8 = refused Exhausted; 0 insert 1 1 = some 1; waiting = waiting 0 0; \
+     0 insert 1 9 = refused Exhausted; 0 present 1 add 8 = refused Exhausted; 0 orinsert 1 8 = refused Exhausted; \
+     0 cas 1 1 9 = refused Exhausted; 0 insert 1 1 = some 1; waiting = waiting 0 0; \
      charged = charged 2232",
     "the upper node has no version left for a leaf to go: new 2 1000 version 1 = ok; reg = worker 0; 0 pin = ok; reg = worker 1; \
      1 pin = ok; 0 insert 1 1 = none; 1 begin get 1 = begun; 1 go 5 = running; 0 remove 1 = refused Exhausted; \

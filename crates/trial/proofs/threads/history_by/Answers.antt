@@ -1,4 +1,4 @@
-use Rattle.std.proofs.Common.{◌≡◌, ◌<◌, ℕ, Ok, Some, IfOk, arith, ap, length, nat_eq, rules, refl, sym, ◌∙◌, subst, slice_index_or}
+use Rattle.std.proofs.Common.{◌≡◌, ◌<◌, Ok, Some, IfOk, ap, length, nat_eq, rules, sym, ◌∙◌, subst, slice_index_or}
 use Rattle.std.proofs.lemmas.Option.{get_or_from_slice_get, slice_get_within, slice_get-get_or}
 use Rattle.judge.specs.Journal.{IsLegal}
 use Rattle.trial.specs.Histories.{AreCalls}

@@ -1,7 +1,7 @@
-use Rattle.std.proofs.Common.{◌≡◌, length, ◌+◌, ◌++◌, ◌∷◌, [], Some, ap, sym, ◌∙◌, subst, drop}
+use Rattle.std.proofs.Common.{length, ◌+◌, Some, ap, sym, ◌∙◌, subst, drop}
 use Rattle.std.specs.Prelude.{slice_get}
 use Rattle.std.proofs.lemmas.List.{length_push}
-use Rattle.trial.specs.Histories.{AreCalls, AreKept}
+use Rattle.trial.specs.Histories.{AreKept}
 use Rattle.trial.proofs.Keeping.{at_some, kept_pushed, first_left, rest_left}
 use Rattle.trial.proofs.threads.own.Goals as goal
 

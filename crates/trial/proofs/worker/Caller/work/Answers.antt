@@ -1,4 +1,4 @@
-use Rattle.std.proofs.Common.{◌≡◌, length, ◌+◌, ap, sym, ◌∙◌, subst}
+use Rattle.std.proofs.Common.{length, ◌+◌, ap, sym, ◌∙◌, subst}
 use Rattle.std.proofs.lemmas.List.{length_push}
 use Rattle.trial.specs.Histories.{AreCalls, call_at}
 use Rattle.trial.proofs.Keeping.{calls_pushed}

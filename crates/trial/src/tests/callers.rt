@@ -1,0 +1,295 @@
+//! Sixteen threads that call on one index with a journal: calls of each kind on a key, and scans between.
+ghost use Rattle.std.specs.Prelude.{◌≡◌, ◌+◌, ◌<◌, Some};
+
+use crate::worker::{Caller, Cut, Index};
+use congee::DefaultAllocator;
+use joint::{Guard, Journaled, Limits, Refusal, Share, Worker, audit};
+use judge::{Call, Entry, Reply, Verdict, check};
+use std::alloc::Global;
+use std::marker::Brand;
+use std::sync::Wait;
+use std::sync::ledger::{Blank, Ledger};
+use std::test::Fail;
+use std::thread::Threads;
+use std::{env, thread};
+
+const WORKERS: u32 = 16;
+
+/// Of each worker; and as many as the index has room for, for a longer run.
+const CALLS: u32 = 1_000;
+
+const CALLS_MAX: u32 = 10_000;
+
+/// How many calls each worker makes: so many as the environment's TRIAL_CALLS has.
+fn number_of_calls(rt: &HostRuntime) -> u32 {
+    match env::var(rt, "TRIAL_CALLS") {
+        Ok(number) => number.parse::<u32>().unwrap_or(CALLS).min(CALLS_MAX),
+        Err(_) => CALLS,
+    }
+}
+
+/// What a worker brings back.
+#[derive(Drop)]
+struct Worked<L: Ledger> {
+    share: Share<L>,
+    /// The entries of its calls, in its order.
+    own: Vec<Entry<u64>>,
+    /// Whether each scan found pairs that somebody put there.
+    is_scanned: bool,
+}
+
+/// The value that a closure puts there: another one at the key, which each value of it tells.
+fn raised(found: Option<u64>, value: u64) -> u64 {
+    found.map_or(value, |found| found.wrapping_add(64))
+}
+
+/// What a closure answers for a present value: each second one goes.
+fn raised_or_gone(found: u64) -> Option<u64> {
+    if found % 128 < 64 {
+        Some(found.wrapping_add(64))
+    } else {
+        None
+    }
+}
+
+/// A call by a closure, or an exchange, of a value that tells its key.
+fn computes<L: Ledger, R: Wait>(
+    rt: &R,
+    index: &Index<L>,
+    caller: &mut Caller<L>,
+    guard: &Guard,
+    number: u64,
+    (key, value): (u64, u64),
+) -> Result<(Call<u64>, Reply<u64>), Refusal> {
+    let (share, worker) = (&mut caller.share, &mut caller.worker);
+    if number % 8 == 3 {
+        let told = index.compute_if_present(rt, &key, raised_or_gone, share, worker, guard)?;
+        let answer = told.and_then(|pair| pair.1);
+        return Ok((
+            Call::ComputePresent(key, answer),
+            Reply::ComputePresent(told),
+        ));
+    }
+    if number % 8 == 5 {
+        let answers = |found| raised(found, value);
+        let before = index.compute_or_insert(rt, key, answers, share, worker, guard)?;
+        let answer = raised(before, value);
+        return Ok((
+            Call::ComputeInsert(key, answer),
+            Reply::ComputeInsert(before),
+        ));
+    }
+    let old = (number / 8 % 8).wrapping_mul(64).wrapping_add(key);
+    let told = index.compare_exchange(rt, &key, &old, Some(value), share, worker, guard)?;
+    Ok((Call::Exchange(key, old, Some(value)), Reply::Exchange(told)))
+}
+
+/// A worker's call of this number: its key, and what the call answered.
+fn calls<L: Ledger, R: Wait>(
+    rt: &R,
+    index: &Index<L>,
+    caller: &mut Caller<L>,
+    guard: &Guard,
+    number: u64,
+) -> Result<(Call<u64>, Reply<u64>), Refusal> {
+    let key = u64::from(caller.place).wrapping_mul(7).wrapping_add(number) % 64;
+    let value = (number % 8).wrapping_mul(64).wrapping_add(key);
+    let (share, worker) = (&mut caller.share, &mut caller.worker);
+    match number % 8 {
+        1 => Ok((
+            Call::Get(key),
+            Reply::Get(index.get(rt, &key, worker, guard)?),
+        )),
+        2 => Ok((
+            Call::Remove(key),
+            Reply::Remove(index.remove(rt, &key, share, worker, guard)?),
+        )),
+        3 | 5 | 6 => computes(rt, index, caller, guard, number, (key, value)),
+        _ => Ok((
+            Call::Insert(key, value),
+            Reply::Insert(index.insert(rt, key, value, share, worker, guard)?),
+        )),
+    }
+}
+
+/// Whether a scan from a key on finds pairs that somebody put there.
+fn scans<L: Ledger, R: Wait>(
+    rt: &R,
+    index: &Index<L>,
+    worker: &mut Worker,
+    guard: &Guard,
+    from: u64,
+) -> Result<bool, Refusal> {
+    let mut out = [(0, 0); 20];
+    let count = index.range(rt, &from, &64, &mut out, worker, guard)?;
+    Ok(
+        out.iter()
+            .take(count)
+            .all(|pair| pair.0 >= from && pair.1 % 64 == pair.0),
+    )
+}
+
+/// A worker's call of this number under a pin of its own; a scan before each eighth.
+fn calls_pinned<L: Ledger, R: Wait>(
+    rt: &R,
+    index: &Index<L>,
+    caller: &mut Caller<L>,
+    number: u32,
+) -> Result<(Entry<u64>, bool), Refusal> {
+    let guard = index.pin(rt, &mut caller.worker)?;
+    let scanned = if number % 8 == 0 {
+        scans(
+            rt,
+            index,
+            &mut caller.worker,
+            &guard,
+            u64::from(number) % 64,
+        )
+    } else {
+        Ok(true)
+    };
+    let called = calls(rt, index, caller, &guard, u64::from(number));
+    match index.unpin(rt, &mut caller.worker, guard) {
+        Ok(()) => {
+            let (call, reply) = called?;
+            let worker = caller.worker.number();
+            Ok((
+                Entry {
+                    worker,
+                    call,
+                    reply,
+                },
+                scanned?,
+            ))
+        }
+        Err((refusal, guard)) => {
+            guard.forget();
+            Err(refusal)
+        }
+    }
+}
+
+/// All calls of a worker, one after the other.
+fn works<L: Ledger, R: Wait>(
+    rt: &R,
+    alloc: Global,
+    index: &Index<L>,
+    caller: Caller<L>,
+    count: u32,
+) -> Result<Worked<L>, Cut> {
+    let mut caller = caller;
+    let mut own = Vec::new(alloc);
+    let mut is_scanned = true;
+    for number in 0..count {
+        let (entry, scanned) = calls_pinned(rt, index, &mut caller, number)?;
+        is_scanned &= scanned;
+        own.push(entry)?;
+    }
+    Ok(Worked {
+        share: caller.share,
+        own,
+        is_scanned,
+    })
+}
+
+/// The workers, each with a share of one part.
+fn callers<L: Ledger, R: Wait>(
+    rt: &R,
+    alloc: Global,
+    index: &Index<L>,
+    all: &mut Share<L>,
+) -> Result<Vec<Caller<L>>, Cut>
+    requires parts { 16 < all.old.parts }
+{
+    let mut callers = Vec::new(alloc);
+    for place in 0..WORKERS {
+        let worker = index.register(rt)?;
+        let share = all.split(1);
+        callers.push(Caller {
+            place,
+            worker,
+            share,
+        })?;
+    }
+    Ok(callers)
+}
+
+/// Whether a journal is legal, and has each worker's own entries in its order.
+fn is_right(alloc: Global, journal: &[Entry<u64>], own: &[Vec<Entry<u64>>]) -> Result<bool, Cut> {
+    Ok(check(alloc, journal)? == Verdict::Legal && audit(journal, own))
+}
+
+/// What is known of the calls when all have ended.
+#[derive(Clone, Copy, Debug, PartialEq, Eq)]
+struct Known {
+    entries: usize,
+    /// The writing calls that the ledger counts.
+    written: u64,
+    is_scanned: bool,
+    is_right: bool,
+}
+
+/// The history of so many calls of each worker, with this ledger.
+fn history<L: Ledger + Send + Sync, R: Threads + Wait + Sync>(
+    rt: &R,
+    alloc: Global,
+    blank: Blank,
+    count: u32,
+) -> Result<Known, Cut>
+    requires name { blank.name ≡ L.name }
+    requires ledger { blank.parts ≡ L.parts }
+    requires parts { blank.parts ≡ 17 }
+{
+    let limits = Limits::usual(WORKERS, 2 * WORKERS * CALLS_MAX);
+    let (allocator, places) = (DefaultAllocator::new(), u64::from(WORKERS * CALLS_MAX));
+    let (index, mut all): (Index<L>, Share<L>) = Journaled::new(
+        alloc, limits, allocator, places, 17, blank,
+    )?;
+    let callers = callers(rt, alloc, &index, &mut all)?;
+    let shared = &index;
+    let work = move |caller: Caller<L>| works(rt, alloc, shared, caller, count);
+    let mut own = Vec::new(alloc);
+    let mut all_scanned = true;
+    for worked in thread::map_vec(rt, callers, &work)? {
+        let Worked {
+            share,
+            own: kept,
+            is_scanned,
+        } = worked?;
+        all.merge(share);
+        own.push(kept)?;
+        all_scanned &= is_scanned;
+    }
+    let written = index.gather(rt, &mut all)?;
+    let journal = index.entries(rt)?;
+    Ok(Known {
+        entries: journal.len(),
+        written,
+        is_scanned: all_scanned,
+        is_right: is_right(alloc, &journal, &own)?,
+    })
+}
+
+fn history_by_brand<R: Threads + Wait + Sync>(
+    rt: &R,
+    alloc: Global,
+    count: u32,
+) -> Result<Known, Cut> {
+    history::<Brand, R>(rt, alloc, Blank::new(17), count)
+}
+
+/// The second of eight calls only looks.
+#[test]
+fn sixteen_threads_call_and_scan(rt: HostRuntime) -> Result<(), Fail> {
+    let count = number_of_calls(&rt);
+    let looks = count.saturating_add(6) / 8;
+    let known = history_by_brand(&rt, rt.alloc(), count);
+    let right = Known {
+        entries: (count as usize).saturating_mul(WORKERS as usize),
+        written: u64::from(count.saturating_sub(looks)).saturating_mul(u64::from(WORKERS)),
+        is_scanned: true,
+        is_right: true,
+    };
+    assert_eq!(rt; known, Ok(right));
+    Ok(())
+}
