@@ -16,11 +16,13 @@ import shutil
 import subprocess
 import sys
 import tempfile
+import time
 
 HERE = os.path.dirname(os.path.realpath(__file__))
 
 # As many runs side by side as there are processors; each takes milliseconds, and is stopped after so many seconds.
-POOL = concurrent.futures.ThreadPoolExecutor(len(os.sched_getaffinity(0)))
+PROCESSORS = len(os.sched_getaffinity(0))
+POOL = concurrent.futures.ThreadPoolExecutor(PROCESSORS)
 SECONDS = 60
 
 # What is built and written, which goes at the end.
@@ -47,8 +49,8 @@ wants::shared_texts_come_back
 READ_ERRORS = [errno.EIO, errno.EINTR, errno.EAGAIN]
 WRITE_ERRORS = [*READ_ERRORS, errno.ENOSPC, errno.EPIPE, 0]
 
-# The threads of the program, and the calls of each; and as many as it takes, which end within so many seconds of a processor. With
-# other work beside them they may take longer by the clock.
+# The threads of the program, and the calls of each; and as many as it takes, which end within so many seconds where nothing else
+# goes on. Other work makes that more by the clock, but not on the processors, of which all are allowed as many.
 THREADS = [(1, 1), (2, 8), (4, 20)]
 MOST = (16, 10_000)
 MOST_SECONDS = 20
@@ -261,23 +263,24 @@ def test_passes(tests, name, number):
 
 def most(*words, known=()):
     """Runs so much that it may take its time, of which nothing is refused."""
-    limited = ["sh", "-c", 'ulimit -t "$0"; exec "$@"', str(MOST_SECONDS), *words]
+    limited = ["sh", "-c", 'ulimit -t "$0"; exec "$@"', str(MOST_SECONDS * PROCESSORS), *words]
+    begun = time.monotonic()
     ran = run(limited, seconds=10 * SECONDS, known=known)
     hold(ran.status == 0, f"the status is {ran.status}: {ran.printed[:99]}")
-    return ran
+    return ran, f"after {time.monotonic() - begun:.0f} seconds, within {MOST_SECONDS} of each processor"
 
 
 def most_threads(program):
     """As many threads and calls as the program takes."""
-    ran = most(program, "threads", *map(str, MOST))
+    ran, time_taken = most(program, "threads", *map(str, MOST))
     hold(ran.printed == told(*MOST), f"it tells something else: {ran.printed[:99]}")
-    return f"told as ever within {MOST_SECONDS} seconds of a processor"
+    return f"told as ever {time_taken}"
 
 
 def most_calls(tests):
     """The test of threads that call and scan, with as many calls of each."""
-    most(tests, f"tests::{MOST_CALLS}", known={"TRIAL_CALLS": str(MOST[1])})
-    return f"passed within {MOST_SECONDS} seconds of a processor"
+    _, time_taken = most(tests, f"tests::{MOST_CALLS}", known={"TRIAL_CALLS": str(MOST[1])})
+    return f"passed {time_taken}"
 
 
 def feeds_end(program):
