@@ -219,6 +219,13 @@ def moves_less(script, number, what):
     return "answered as ever"
 
 
+def goes_out(script, at):
+    """The whole reply to a line goes out before the next line is read."""
+    asks, reply = not script.lines[at].startswith((b"#", b"\n")), script.replies[at]
+    hold(reply.endswith(b"\n") if asks else not reply, f"the reply to line {at + 1} doesn't go out before the next read")
+    return "went out whole" if asks else "asked nothing"
+
+
 def text_requests(reply):
     """The requests for memory of a reply's text, whose room is eight bytes at first and then doubles."""
     return 1 + max(0, math.ceil(math.log2(max(len(reply), 1) / 8)))
@@ -300,6 +307,7 @@ def cases_of_script(script):
     yield "one request for memory refused", each(plain.memory, lambda number: one_request(script, number))
     yield "all requests for memory from one on refused", each(plain.memory, lambda number: every_request(script, number))
     yield "what its lines ask for", each(min(len(script.lines), plain.reads), lambda number: line_asks(script, number - 1))
+    yield "its replies go out before the next read", each(min(len(script.lines), plain.reads), lambda number: goes_out(script, number - 1))
     yield "a read fails", each(plain.reads, lambda number: read_fails(script, number))
     yield "a write fails", each(plain.writes, lambda number: write_fails(script, number))
     yield "a read gives less", each(plain.reads, lambda number: moves_less(script, number, "read"))

@@ -1,6 +1,7 @@
 //! Workers of an index that call at once, each in a thread of its own, and what is told of it.
-ghost use Rattle.std.specs.Prelude.{◌≡◌, ◌+◌, ◌<◌, ℕ, IfOk, OnErr, OnOk, Ok, Some, length, slice_get, take, vec_len};
+ghost use Rattle.std.specs.Prelude.{◌≡◌, ◌+◌, ◌*◌, ◌<◌, ℕ, IfOk, OnErr, OnOk, Ok, Some, length, slice_get, take, vec_len};
 ghost use Rattle.std.specs.Io.KnownBytes.{Appends};
+ghost use Rattle.joint.specs.Limits.{usual};
 ghost use Rattle.trial.specs.Arguments.{AreAllowed};
 ghost use Rattle.trial.specs.Histories.{AreCalls, AreKept, IsHistory, Takes, Tells, told_text};
 
@@ -22,6 +23,22 @@ use std::thread::Threads;
 /// The cells beside two for each call.
 const CELLS: u32 = 1_000;
 
+/// What bounds the index of so many workers: two cells for each of their calls, and some beside.
+fn limits(workers: u32, calls: u32) -> Limits
+    requires allowed { AreAllowed workers calls }
+    ensures { result ≡ usual workers (2 * workers * calls + 1000) }
+{
+    Limits::usual(workers, 2 * workers * calls + CELLS)
+}
+
+/// The places of its journal, one for each call.
+fn places(workers: u32, calls: u32) -> u64
+    requires allowed { AreAllowed workers calls }
+    ensures { result ≡ workers * calls }
+{
+    u64::from(workers) * u64::from(calls)
+}
+
 /// The index, with a place of its journal for each call, and the share of all parts: one for each worker, and one more.
 fn open<L: Ledger>(
     alloc: Global,
@@ -35,10 +52,9 @@ fn open<L: Ledger>(
     requires parts { blank.parts ≡ workers + 1 }
     ensures { IfOk result (λ opened. opened.1.parts ≡ workers + 1) }
 {
-    let limits = Limits::usual(workers, 2 * workers * calls + CELLS);
-    let places = u64::from(workers) * u64::from(calls);
-    let parts = workers + 1;
-    Journaled::new(alloc, limits, DefaultAllocator::new(), places, parts, blank)
+    let (limits, places) = (limits(workers, calls), places(workers, calls));
+    let allocator = DefaultAllocator::new();
+    Journaled::new(alloc, limits, allocator, places, workers + 1, blank)
 }
 
 /// A worker at its place, with a share of one part.

@@ -129,7 +129,7 @@ impl<L: Ledger> Caller<L> {
         }
     }
 
-    /// Makes all its calls, one after the other.
+    /// Makes all its calls, one after the other, and leaves the index, which it can't while a guard of its own is out.
     pub fn work<R: Wait>(
         self,
         rt: &R,
@@ -145,9 +145,10 @@ impl<L: Ledger> Caller<L> {
         for number in 0..calls {
             own.push(caller.call_pinned(rt, index, number, calls)?)?;
         }
-        Ok(Worked {
-            share: caller.share,
-            own,
-        })
+        let Caller { worker, share, .. } = caller;
+        match index.release(rt, worker) {
+            Ok(()) => Ok(Worked { share, own }),
+            Err((refusal, _worker)) => Err(Cut::Refused(refusal)),
+        }
     }
 }

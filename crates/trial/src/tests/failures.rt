@@ -44,10 +44,10 @@ impl Read for Hiccup<'_> {
 
 /// Takes what it is given. One of its flushes fails, and it goes on after it.
 #[derive(Drop)]
-struct Unflushed {
-    taken: Vec<u8>,
+pub struct Unflushed {
+    pub taken: Vec<u8>,
     /// The flushes before the one that fails, if one does.
-    before: Option<u64>,
+    pub before: Option<u64>,
 }
 
 impl Write for Unflushed {

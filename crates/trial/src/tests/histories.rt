@@ -2,6 +2,7 @@
 //! workers that call at once.
 ghost use Rattle.std.specs.Prelude.{◌≡◌, IfOk};
 
+use super::failures::Unflushed;
 use super::replies::Narrow;
 use super::threaded::{next, spent};
 use crate::drained::Drained;
@@ -12,6 +13,7 @@ use congee::{Allocator, DefaultAllocator};
 use joint::{Congee, Every, Guard, Journaled, Limits, Refusal, Share, Worker, audit};
 use judge::{Call, Entry, Reply, Verdict, check};
 use std::alloc::{AllocError, Global};
+use std::io::Write;
 use std::marker::Brand;
 use std::process::{Abort, ExitCode};
 use std::sync::Wait;
@@ -243,20 +245,19 @@ fn strangers_write_nothing(rt: HostRuntime) -> Result<(), Fail> {
     tries(&rt, rt.alloc(), Task::RefusesStrangers)
 }
 
-/// What the program prints by these arguments, with its status.
-fn started<R: Threads + Wait + Sync>(
+/// The program's status by these arguments. The writer takes what it prints.
+fn started<R: Threads + Wait + Sync, W: Write>(
     rt: &R,
     alloc: Global,
     arguments: &[&str],
-) -> Result<(ExitCode, Vec<u8>), AllocError> {
+    writer: &mut W,
+) -> Result<ExitCode, AllocError> {
     let mut words = Vec::new(alloc);
     for argument in arguments {
         words.push(String::from_str(alloc, argument)?)?;
     }
     let mut script = b"new 1 9\n".as_slice();
-    let mut printed = Vec::new(alloc);
-    let status = start(rt, alloc, &words, &mut script, &mut printed);
-    Ok((status, printed))
+    Ok(start(rt, alloc, &words, &mut script, writer))
 }
 
 /// What is printed of two workers of eight calls.
@@ -285,7 +286,8 @@ fn the_arguments_are_read(rt: HostRuntime) -> Result<(), Fail> {
         (&["thread", "2", "8"], USAGE, 2),
     ];
     for (arguments, text, status) in table {
-        let (ended, printed) = started(&rt, rt.alloc(), arguments)?;
+        let mut printed = Vec::new(rt.alloc());
+        let ended = started(&rt, rt.alloc(), arguments, &mut printed)?;
         assert_eq!(rt; ended, ExitCode::from(status), "{text:?}");
         assert_eq!(rt; printed.as_slice(), text);
     }
@@ -299,6 +301,21 @@ fn each_write_of_a_history_may_fail(rt: HostRuntime) -> Result<(), Fail> {
         let status = threads(&rt, rt.alloc(), 2, 8, &mut writer);
         assert_eq!(rt; status, if room == TOLD.len() { 0 } else { 1 }, "at {room}");
         assert_eq!(rt; writer.taken.as_slice(), &TOLD[..room]);
+    }
+    Ok(())
+}
+
+#[test]
+fn a_flush_that_fails_ends_a_history_and_the_usage(rt: HostRuntime) -> Result<(), Fail> {
+    let table: [(&[&str], &[u8]); 2] = [(&["threads", "2", "8"], TOLD), (&["threads"], USAGE)];
+    for (arguments, text) in table {
+        let mut writer = Unflushed {
+            taken: Vec::new(rt.alloc()),
+            before: Some(0),
+        };
+        let ended = started(&rt, rt.alloc(), arguments, &mut writer)?;
+        assert_eq!(rt; ended, ExitCode::from(1), "{text:?}");
+        assert_eq!(rt; writer.taken.as_slice(), text);
     }
     Ok(())
 }
