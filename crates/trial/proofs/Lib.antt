@@ -18,3 +18,4 @@ pub mod Surveys
 pub mod Closings
 pub mod OfMap
 pub mod Keeping
+pub mod Counting

@@ -34,7 +34,8 @@ abbrev pub AreKept : ℕ → List (Vec (Entry ℕ) Global) → Type 0
 AreKept calls own = (worker : ℕ) (list : Vec (Entry ℕ) Global) → slice_get own worker ≡ Some list → AreCalls calls worker list.items × (length list.items ≡ calls)
 
 -- So many workers made so many calls each: the index tells a journal, which is legal; the audit is of the entries that the
--- workers kept; and the ledger counts the writing calls of a journal that the index kept.
+-- workers kept, and where it finds just these, they are all calls of all workers; and the ledger counts the writing calls of a
+-- journal that the index kept.
 pub record IsHistory (workers calls : ℕ) (h : History) : Type 0 where
   pub journal : List (Entry ℕ)
   pub own : List (Vec (Entry ℕ) Global)
@@ -44,6 +45,7 @@ pub record IsHistory (workers calls : ℕ) (h : History) : Type 0 where
   pub all : length own ≡ workers
   pub kept : AreKept calls own
   pub audited : IsTrue h.audited ↔ IsAudited journal own
+  pub whole : IsTrue h.audited → h.entries ≡ workers * calls
   pub ledger : IsCounted (λ _. true) h.ledger
 
 -- its text, on three lines

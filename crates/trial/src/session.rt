@@ -146,7 +146,9 @@ fn world(alloc: Global, limits: Limits, opening: Opening) -> Result<World<u64, L
     Ok(world)
 }
 
-/// Opens a tree, or tells why there is none.
+/// Opens a tree, or tells why there is none. Kept out of line, as the close is: a whole tree by value takes room that every
+/// line would clear.
+#[inline(never)]
 fn open(alloc: Global, opening: Opening) -> Result<(Option<Index>, Reply), End>
     ensures ok { IfOk result (λ opened. OpensWith (limits_of opening) opening.journal (budget_of opening) opened.0 opened.1) }
     ensures err { IfErr result (λ e. e ≡ End.Memory) }
@@ -264,6 +266,7 @@ fn answer_open(alloc: Global, index: &mut Index, command: Command) -> Result<Rep
 }
 
 /// Closes the tree that is open, if one is, and tells its pairs, in ascending order, and the charge that is left.
+#[inline(never)]
 fn close(alloc: Global, session: &mut Option<Index>) -> Result<Reply, End>
     ensures ok { IfOk result (λ reply. Answers session.old Command.Close session.new reply) }
     ensures err { IfErr result (λ e. e ≡ End.Memory) }

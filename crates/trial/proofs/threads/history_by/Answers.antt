@@ -31,5 +31,6 @@ returns g c =
       all = search rules;
       kept = c.in_ok-own.ensures.kept;
       audited = search rules;
+      whole = λ found. let is : IsAudited c.in_ok-journal.journal.items c.in_ok-own.own.items = (search rules) in (let e : c.in_ok-journal.journal.items ≡ c.deref.result.now = search rules in search rules) ;
       ledger = c.in_ok-ledger.ensures.gathers.2;
     }
