@@ -1,7 +1,9 @@
 use Rattle.std.proofs.Common.{◌≡◌, ◌<◌, Ok, Some, IfOk, ap, length, nat_eq, rules, sym, ◌∙◌, subst, slice_index_or}
 use Rattle.std.proofs.lemmas.Option.{get_or_from_slice_get, slice_get_within, slice_get-get_or}
 use Rattle.judge.specs.Journal.{IsLegal}
+use Rattle.joint.specs.Auditing.{IsAudited}
 use Rattle.trial.specs.Histories.{AreCalls}
+use Rattle.trial.proofs.Counting.{all_calls}
 use Rattle.trial.proofs.threads.history_by.Goals as goal
 
 pub own-requires : goal.own-requires
@@ -31,6 +33,9 @@ returns g c =
       all = search rules;
       kept = c.in_ok-own.ensures.kept;
       audited = search rules;
-      whole = λ found. let is : IsAudited c.in_ok-journal.journal.items c.in_ok-own.own.items = (search rules) in (let e : c.in_ok-journal.journal.items ≡ c.deref.result.now = search rules in search rules) ;
+      whole = λ found.
+          let is : IsAudited c.in_ok-journal.journal.items c.in_ok-own.own.items = search (rules, found) in
+          let count = all_calls is c.in_ok-own.ensures.kept in
+          search (rules, count);
       ledger = c.in_ok-ledger.ensures.gathers.2;
     }
