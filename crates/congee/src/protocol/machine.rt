@@ -91,6 +91,7 @@ impl<C: NodeName, P: Payload> Machine<C, P> {
     }
 
     /// The next step of the call.
+    #[inline(always)]
     pub fn next<S: Store<C, P>>(&mut self, store: &mut S, mut noise: Noise<C, P>) -> Move<P>
         requires may { MayStep C.number self.old.root (key_bytes self.old.key) self.old.given self.old.phase (S.heap store.old) }
         requires within { Within (S.version_max store.old) (S.heap store.old) }
