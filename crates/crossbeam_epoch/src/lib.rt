@@ -18,6 +18,7 @@
 #![tactic(auto)]
 
 mod bag;
+mod chain;
 mod face;
 mod fault;
 mod limits;

@@ -21,7 +21,6 @@
 
 mod calls;
 mod cells;
-mod chain;
 mod collect;
 mod defer;
 mod ending;
@@ -41,12 +40,12 @@ ghost use Rattle.crossbeam_epoch.specs.Limits.{within};
 ghost use Rattle.crossbeam_epoch.specs.World.Reach.{Quiet, moment, Tells, NextMoment};
 
 use crate::bag::Bag;
+use crate::chain::Chain;
 use crate::fault::Fault;
 use crate::limits::Limits;
 use crate::names::{Links, Pointable, Ptr};
 use crate::task::Task;
 use crate::world::cells::Cells;
-use crate::world::chain::Chain;
 use crate::world::tickets::Tickets;
 pub use cells::Cell;
 pub use exchanges::OtherPointer;
@@ -77,6 +76,7 @@ impl<T, J> Model for World<T, J> {
       epoch = w.epoch;
       table = w.participants.items;
       queue = w.queue.items;
+      room = w.queue.room;
       next = w.tickets.next;
       waiting = w.tickets.waiting;
       store = w.cells;
