@@ -17,7 +17,7 @@ const BLOCK: usize = 32;
 /// Sealed bags, the oldest in front, in blocks of 32. They are taken from the first block and queued in the last one. A
 /// block is made when a bag is queued and the last one is full or there is none, and given up when its bags are taken.
 #[derive(Drop)]
-pub struct Chain<J> {
+pub struct Chain<J: Task> {
     /// The first block, where it isn't the last one.
     first: VecDeque<Sealed<J>>,
     /// The blocks between the first and the last.
@@ -26,7 +26,7 @@ pub struct Chain<J> {
     alloc: Global,
 }
 
-impl<J> Model for Chain<J> {
+impl<J: Task> Model for Chain<J> {
     ghost use Rattle.std.specs.Prelude.{◌≡◌, ◌-◌, ◌++◌, []};
     ghost use Rattle.std.specs.VecDeque.{deque_len, deque_capacity};
     ghost use Rattle.crossbeam_epoch.specs.Chain.{Chain as Bags, joined, AreBlocks};

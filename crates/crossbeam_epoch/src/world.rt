@@ -20,7 +20,7 @@
 //! | what follows over any steps | `laws` |
 
 mod calls;
-mod cells;
+pub(crate) mod cells;
 mod collect;
 mod defer;
 mod ending;
@@ -56,7 +56,7 @@ use std::marker::Model;
 
 /// Epoch-based reclamation as a machine of atomic steps.
 #[derive(Drop)]
-pub struct World<T, J> {
+pub struct World<T, J: Task> {
     pub(crate) limits: Limits,
     pub(crate) epoch: u64,
     pub(crate) participants: Vec<Participant<J>>,
@@ -66,7 +66,7 @@ pub struct World<T, J> {
     pub(crate) roots: Vec<Ptr>,
 }
 
-impl<T, J> Model for World<T, J> {
+impl<T, J: Task> Model for World<T, J> {
     ghost use Rattle.crossbeam_epoch.specs.World.Machine.{State};
 
     ghost Value = { State T J };
