@@ -6,6 +6,7 @@ use super::machine::{
 };
 use crate::examples::collector::put_off;
 use crate::examples::driven::{Driven, answered};
+use crate::examples::grace::two_handles;
 use crate::examples::journal::{Store, is_honest};
 use crate::examples::machine::{runs_and_closes, runs_as_one_map};
 use crate::examples::owned::{
@@ -296,5 +297,13 @@ fn what_was_put_off_is_called(rt: HostRuntime) -> Result<(), Fail> {
     assert!(rt; handle.release(&rt).is_ok());
     assert!(rt; collector.end().is_ok());
     assert_eq!(rt; called.load(Ordering::SeqCst), 5);
+    Ok(())
+}
+
+#[test]
+fn what_is_called_is_older_than_a_guard(rt: HostRuntime) -> Result<(), Fail> {
+    let collector: Collector<u64, ()> = Collector::new(&rt, rt.alloc(), limits(1), 1)?;
+    // Nothing was put off, and nobody advanced the epoch before the guard.
+    assert_eq!(rt; two_handles(&rt, &collector)?, (None, 0));
     Ok(())
 }

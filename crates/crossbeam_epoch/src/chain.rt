@@ -1,10 +1,11 @@
 //! The queue of sealed bags, as a chain of blocks.
 
-ghost use Rattle.std.specs.Prelude.{◌≡◌, ◌<◌, ◌++◌, ◌∷◌, [], ◌-◌, MatchOption, OnOk, IsOk, length, slice_index_or};
-ghost use Rattle.std.specs.VecDeque.{deque_len};
-ghost use Rattle.crossbeam_epoch.specs.World.Chain.{joined, AreFilled, refilled};
+ghost use Rattle.std.specs.Prelude.{◌≡◌, ◌<◌, ◌++◌, ◌∷◌, [], ◌-◌, ◌==◌, MatchOption, OnOk, OnErr, IfSome, length, slice_index_or};
+ghost use Rattle.std.specs.VecDeque.{deque_len, deque_capacity};
+ghost use Rattle.crossbeam_epoch.specs.Chain.{joined, AreFilled, refilled, room_freed, room_left};
 
 use crate::bag::Sealed;
+use crate::task::Task;
 use std::alloc::{AllocError, Global};
 use std::collections::VecDeque;
 use std::marker::Model;
@@ -16,7 +17,7 @@ const BLOCK: usize = 32;
 /// Sealed bags, the oldest in front, in blocks of 32. They are taken from the first block and queued in the last one. A
 /// block is made when a bag is queued and the last one is full or there is none, and given up when its bags are taken.
 #[derive(Drop)]
-pub struct Chain<J> {
+pub struct Chain<J: Task> {
     /// The first block, where it isn't the last one.
     first: VecDeque<Sealed<J>>,
     /// The blocks between the first and the last.
@@ -25,10 +26,10 @@ pub struct Chain<J> {
     alloc: Global,
 }
 
-impl<J> Model for Chain<J> {
+impl<J: Task> Model for Chain<J> {
     ghost use Rattle.std.specs.Prelude.{◌≡◌, ◌-◌, ◌++◌, []};
     ghost use Rattle.std.specs.VecDeque.{deque_len, deque_capacity};
-    ghost use Rattle.crossbeam_epoch.specs.World.Chain.{Chain as Bags, joined, AreFilled};
+    ghost use Rattle.crossbeam_epoch.specs.Chain.{Chain as Bags, joined, AreBlocks};
     ghost use Rattle.crossbeam_epoch.specs.declared.bag.Sealed.{Sealed};
 
     ghost Value = { Bags (Sealed J) };
@@ -38,18 +39,18 @@ impl<J> Model for Chain<J> {
       room = deque_capacity c.last - deque_len c.last;
     } };
 
-    ghost invariant = { λ c. AreFilled (λ q. deque_len q) c.between.items × (c.first.items ≡ [] → c.between.items ≡ []) };
+    ghost invariant = { λ c. AreBlocks (λ q. q.items) (λ q. deque_len q) (λ q. deque_capacity q) c.first c.between.items c.last };
 }
 
-impl<J: Drop> Chain<J> {
+impl<J: Task> Chain<J> {
     /// No bag, and no block.
     pub fn new(alloc: Global) -> Chain<J>
-        ensures { result.items ≡ [] }
+        ensures { (result.items ≡ []) × (result.room ≡ 0) }
     {
         Chain {
-            first: VecDeque::new(alloc),
+            first: no_block(alloc),
             between: VecDeque::new(alloc),
-            last: VecDeque::new(alloc),
+            last: no_block(alloc),
             alloc,
         }
     }
@@ -58,7 +59,7 @@ impl<J: Drop> Chain<J> {
     pub fn reserve(&mut self) -> Result<(), AllocError>
         ensures items { self.new.items ≡ self.old.items }
         ensures ok { OnOk result (self.new.room ≡ refilled self.old.room) }
-        ensures spared { 0 < self.old.room → IsOk result }
+        ensures err { OnErr result ((self.old.room ≡ 0) × (self.new.room ≡ 0)) }
     {
         if self.last.len() < self.last.capacity() {
             return Ok(());
@@ -98,29 +99,60 @@ impl<J: Drop> Chain<J> {
     /// Takes the oldest bag off, and gives its block up where it was the last one there.
     pub fn pop_front(&mut self) -> Option<Sealed<J>>
         ensures items { MatchOption result ((self.old.items ≡ []) × (self.new.items ≡ [])) (λ b. self.old.items ≡ b ∷ self.new.items) }
+        ensures room { IfSome result (λ _. self.new.room ≡ room_left (length self.new.items) self.old.room) }
+    {
+        let bag = self.take_front()?;
+        if self.is_empty() {
+            self.give_up();
+        }
+        Some(bag)
+    }
+
+    /// Takes the oldest bag off, and gives its block up where it was the last one there, but for the last block.
+    fn take_front(&mut self) -> Option<Sealed<J>>
+        ensures items { MatchOption result ((self.old.items ≡ []) × (self.new.items ≡ [])) (λ b. self.old.items ≡ b ∷ self.new.items) }
+        ensures room { IfSome result (λ _. self.new.room ≡ room_freed (length self.new.items) self.old.room) }
     {
         let Some(bag) = self.first.pop_front() else {
-            return take_bag(&mut self.last, self.alloc);
+            return self.last.pop_front();
         };
         if self.first.is_empty() {
             self.first = take_block(&mut self.between, self.alloc);
         }
         Some(bag)
     }
-}
 
-/// Takes the first bag of a block off, and gives the block up where no bag is left in it.
-fn take_bag<J: Drop>(block: &mut VecDeque<Sealed<J>>, alloc: Global) -> Option<Sealed<J>>
-    ensures items { MatchOption result ((block.old.items ≡ []) × (block.new.items ≡ [])) (λ b. block.old.items ≡ b ∷ block.new.items) }
-{
-    let taken = block.pop_front();
-    if block.is_empty() {
-        *block = VecDeque::new(alloc);
+    /// Gives the last block up, in which no bag is left.
+    fn give_up(&mut self)
+        requires { self.old.items ≡ [] }
+        ensures items { self.new.items ≡ [] }
+        ensures room { self.new.room ≡ 0 }
+    {
+        self.last = no_block(self.alloc);
     }
-    taken
+
+    /// Whether there is no bag.
+    fn is_empty(&self) -> bool
+        ensures { result ≡ (length self.now.items == 0) }
+    {
+        match self.front() {
+            Some(_) => false,
+            None => true,
+        }
+    }
 }
 
-/// Takes the first block off; an empty one where there is none.
+/// No block: no bag, and no place for one.
+fn no_block<J: Drop>(alloc: Global) -> VecDeque<Sealed<J>>
+    ensures { (result.items ≡ []) × (deque_len result ≡ 0) × (deque_capacity result ≡ 0) }
+{
+    match VecDeque::with_capacity(alloc, 0) {
+        Ok(block) => block,
+        Err(_) => unreachable!(),
+    }
+}
+
+/// Takes the first block off; none where there is none.
 fn take_block<J: Drop>(
     blocks: &mut VecDeque<VecDeque<Sealed<J>>>,
     alloc: Global,
@@ -128,10 +160,10 @@ fn take_block<J: Drop>(
     requires filled { AreFilled (λ q. deque_len q) blocks.old.items }
     ensures items { joined (λ q. q.items) blocks.old.items ≡ result.items ++ joined (λ q. q.items) blocks.new.items }
     ensures filled { AreFilled (λ q. deque_len q) blocks.new.items }
-    ensures none { result.items ≡ [] → blocks.new.items ≡ [] }
+    ensures none { result.items ≡ [] → (blocks.new.items ≡ []) × (deque_capacity result ≡ 0) }
 {
     match blocks.pop_front() {
         Some(block) => block,
-        None => VecDeque::new(alloc),
+        None => no_block(alloc),
     }
 }
