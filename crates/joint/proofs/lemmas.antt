@@ -43,6 +43,7 @@ pub mod HandOver
 pub mod Handed
 pub mod Hanging
 pub mod Kept
+pub mod Hidden
 pub mod Holding
 pub mod KeyCalls
 pub mod Keyed

@@ -23,9 +23,10 @@
 //! | nodes in cells: read, made, changed, handed over, counted, destroyed | `nodes`, `store`, `slot`, `cells`, `counts`, `clock` |
 //! | one-step calls and the end | `survey`, `stats`, `close` |
 //! | what follows over any steps | `laws` |
-//! | indexes that threads share, with guards and workers | `threads` |
+//! | indexes that threads share, with guards and workers | `threads`, with `account` |
 #![tactic(auto)]
 
+mod account;
 mod advance;
 mod call;
 mod calls;
