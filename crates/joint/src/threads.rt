@@ -12,6 +12,7 @@ pub(crate) mod ends;
 pub(crate) mod holds;
 pub(crate) mod journaled;
 pub(crate) mod kept;
+pub(crate) mod ledgers;
 pub(crate) mod locked;
 pub(crate) mod numbers;
 pub(crate) mod owners;
