@@ -46,6 +46,7 @@ pub mod Kept
 pub mod Hidden
 pub mod Holding
 pub mod KeyCalls
+pub mod KeyReplies
 pub mod Keyed
 pub mod Leaves
 pub mod LeavesSteps
