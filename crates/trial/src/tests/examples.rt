@@ -8,7 +8,7 @@ use crate::examples::collector::put_off;
 use crate::examples::driven::{Driven, answered};
 use crate::examples::journal::{Store, is_honest};
 use crate::examples::machine::{
-    drains_what_stands, reads_what_it_put, runs_and_closes, runs_as_one_map,
+    Drained, drains_what_stands, reads_what_it_put, runs_and_closes, runs_as_one_map,
 };
 use crate::examples::owned::{
     finds_what_it_puts, finds_what_it_puts_in_numbers, opens_and_closes, opens_and_closes_numbers,
@@ -135,10 +135,10 @@ fn a_close_drains_what_stands(rt: HostRuntime) -> Result<(), Fail> {
         of_values: 0,
         last_key: None,
     };
-    let drained = drains_what_stands(rt.alloc(), filled(rt.alloc())?, sum)?;
-    let sum = drained.drainer;
-    assert_eq!(rt; (sum.of_values, sum.last_key), (100, Some(7)));
-    assert_eq!(rt; count_of(&drained.ran.reports, Reply::Insert(None)), 2);
+    let steps = filled(rt.alloc())?;
+    let Drained { ran, drainer } = drains_what_stands(rt.alloc(), steps, sum)?;
+    assert_eq!(rt; (drainer.of_values, drainer.last_key), (100, Some(7)));
+    assert_eq!(rt; count_of(&ran.reports, Reply::Insert(None)), 2);
     Ok(())
 }
 
