@@ -10,7 +10,7 @@ ghost use Rattle.congee.specs.Heap.{Stands};
 ghost use Rattle.congee.specs.Keys.{IsMapOf};
 ghost use Rattle.congee.specs.protocol.PlainSteps.{Plain};
 ghost use Rattle.joint.specs.Alone.{AllEndAlone};
-ghost use Rattle.joint.specs.Closing.{IsClosed, IsNotClosed};
+ghost use Rattle.joint.specs.Closing.{IsClosed, IsNotClosed, account_of};
 ghost use Rattle.joint.specs.Forest.{IsBeside, nodes};
 ghost use Rattle.joint.specs.Journaling.{asks_at, has_place};
 ghost use Rattle.joint.specs.Listing.{IsListOf, bytes_of, standing_nodes, waiting_nodes};
@@ -25,6 +25,7 @@ ghost use Rattle.joint.specs.Scans.{ScansHold, EmptyScansHold};
 ghost use Rattle.joint.specs.Whereabouts.{AllSomewhere, IsWaiting};
 ghost use Rattle.joint.specs.Whole.{Holds};
 
+use crate::account::Account;
 use crate::engine::Engine;
 use crate::laws::{comes_back, runs_alone, runs_plain, runs_spare, waits, whereabouts};
 use crate::limits::Limits;
@@ -187,6 +188,13 @@ impl<P: Payload + Small, A: Allocator> World<P, A> {
         ensures none { self.now.log.places ≡ 0 → result.now ≡ [] }
     {
         self.log.entries()
+    }
+
+    /// What came in with the allocator.
+    pub(crate) fn account(&self) -> Account
+        ensures { result ≡ account_of self.now }
+    {
+        self.engine.nodes.account()
     }
 
     /// Whether the next step of a worker's call takes its closure's answer.

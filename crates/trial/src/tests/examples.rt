@@ -8,7 +8,9 @@ use crate::examples::collector::put_off;
 use crate::examples::driven::{Driven, answered};
 use crate::examples::grace::two_handles;
 use crate::examples::journal::{Store, is_honest};
-use crate::examples::machine::{runs_and_closes, runs_as_one_map};
+use crate::examples::machine::{
+    Drained, drains_what_stands, reads_what_it_put, runs_and_closes, runs_as_one_map,
+};
 use crate::examples::owned::{
     fills_and_closes, finds_what_it_puts, finds_what_it_puts_in_numbers, opens_and_closes,
     opens_and_closes_numbers,
@@ -16,7 +18,7 @@ use crate::examples::owned::{
 use crate::examples::pages::{Numbers, Sum, drained, page_from, sum_by_pages};
 use crate::examples::promises::{answer_alike, gives_memory_back};
 use crate::examples::stack::{Node, Stack, pops, sum_of_two};
-use crate::examples::threaded::{first_calls, shared_values};
+use crate::examples::threaded::{fills_and_closes, first_calls, shared_values};
 use congee::{Allocator, Congee, DefaultAllocator, Limited};
 use crossbeam_epoch::{Collector, Job};
 use joint::{Done, Event, Kind, Limits, Op, Outcome, Refusal, Report, Step};
@@ -108,6 +110,56 @@ fn an_index_that_is_closed_leaves_the_charge(rt: HostRuntime) -> Result<(), Fail
     assert_eq!(rt; (allocator.charged(), allocator.limit()), (500, 10_000));
     let refused = runs_and_closes(rt.alloc(), allocator, schedule(rt.alloc())?);
     assert_eq!(rt; refused.err(), Some(Refusal::WorkersLeft(2)));
+    Ok(())
+}
+
+/// A worker comes, puts two pairs in and goes.
+fn filled(alloc: Global) -> Result<Vec<Step<u64>>, Fail> {
+    let mut index = open(alloc, 1, 1000)?;
+    let mut steps = Vec::new(alloc);
+    let event = Event::Register;
+    steps.push(Step { worker: 0, event })?;
+    for op in [
+        Op::Pin,
+        Op::Insert(7, 70),
+        Op::Insert(3, 30),
+        Op::Unpin,
+        Op::Release,
+    ] {
+        record(&mut index, &mut steps, op)?;
+    }
+    Ok(steps)
+}
+
+#[test]
+fn a_close_drains_what_stands(rt: HostRuntime) -> Result<(), Fail> {
+    let sum = Sum {
+        of_values: 0,
+        last_key: None,
+    };
+    let steps = filled(rt.alloc())?;
+    let Drained { ran, drainer } = drains_what_stands(rt.alloc(), steps, sum)?;
+    assert_eq!(rt; (drainer.of_values, drainer.last_key), (100, Some(7)));
+    assert_eq!(rt; count_of(&ran.reports, Reply::Insert(None)), 2);
+    Ok(())
+}
+
+#[test]
+fn a_worker_reads_what_it_put(rt: HostRuntime) -> Result<(), Fail> {
+    let mut index = open(rt.alloc(), 1, 100)?;
+    assert_eq!(rt; reads_what_it_put(&mut index, 0, 7, 70), None);
+    index.call(0, Op::Pin, 100, &mut []);
+    assert_eq!(rt; reads_what_it_put(&mut index, 0, 7, 70), Some(Some(70)));
+    assert_eq!(rt; reads_what_it_put(&mut index, 0, 7, 71), Some(Some(71)));
+    Ok(())
+}
+
+#[test]
+fn an_index_for_threads_that_is_closed_leaves_the_charge(rt: HostRuntime) -> Result<(), Fail> {
+    let mut allocator = Limited::new(10_000);
+    allocator.allocate(500)?;
+    let allocator = fills_and_closes(&rt, rt.alloc(), allocator)?;
+    assert_eq!(rt; (allocator.charged(), allocator.limit()), (500, 10_000));
     Ok(())
 }
 

@@ -117,7 +117,12 @@ fn each_call_comes_through(rt: HostRuntime) -> Result<(), Fail> {
         (points, wholes, removed),
         (Ok(true), Ok(true), Ok(Some(5)))
     );
-    assert_eq!(rt; (tree.waiting(&rt), tree.waiting_bytes(&rt)), (1, 64));
+    let state = (
+        tree.charged(&rt),
+        tree.waiting(&rt),
+        tree.waiting_bytes(&rt),
+    );
+    assert_eq!(rt; state, (2168, 1, 64));
     for _ in 0..3 {
         tree.round(&rt, &mut worker)?;
     }
