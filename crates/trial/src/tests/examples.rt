@@ -21,7 +21,7 @@ use crate::examples::stack::{Node, Stack, pops, sum_of_two};
 use crate::examples::threaded::{fills_and_closes, first_calls, shared_values};
 use congee::{Allocator, Congee, DefaultAllocator, Limited};
 use crossbeam_epoch::{Collector, Job};
-use joint::{Done, Event, Kind, Limits, Op, Outcome, Refusal, Report, Step};
+use joint::{Done, Event, Kind, Limits, Op, Outcome, Ran, Refusal, Report, Step};
 use judge::{Call, Entry, Reply};
 use std::alloc::{AllocError, Global};
 use std::sync::Arc;
@@ -216,19 +216,23 @@ fn grown(alloc: Global, between: u32, behind: u32) -> Result<Vec<Step<u64>>, Fai
 }
 
 #[test]
-fn rounds_give_memory_back_unseen(rt: HostRuntime) -> Result<(), Fail> {
-    let limits = Limits::usual(2, 1000);
-    let (index, _) = gives_memory_back(rt.alloc(), limits, grown(rt.alloc(), 0, 0)?)?;
+fn a_removed_node_waits_without_rounds(rt: HostRuntime) -> Result<(), Fail> {
+    let steps = grown(rt.alloc(), 0, 0)?;
+    let (index, _) = gives_memory_back(rt.alloc(), Limits::usual(2, 1000), steps)?;
     assert_eq!(rt; (index.waiting(), index.charged()), (1, 2104 + 64 + 168));
-    let (index, _) = gives_memory_back(rt.alloc(), limits, grown(rt.alloc(), 0, 3)?)?;
+    Ok(())
+}
+
+#[test]
+fn rounds_give_memory_back(rt: HostRuntime) -> Result<(), Fail> {
+    let steps = grown(rt.alloc(), 0, 3)?;
+    let (index, _) = gives_memory_back(rt.alloc(), Limits::usual(2, 1000), steps)?;
     assert_eq!(rt; (index.waiting(), index.charged()), (0, 2104 + 168));
-    let (plain, swept) = answer_alike(
-        rt.alloc(),
-        limits,
-        grown(rt.alloc(), 0, 0)?,
-        grown(rt.alloc(), 2, 3)?,
-    )?;
-    assert!(rt; plain.done < swept.done);
+    Ok(())
+}
+
+/// Whether two runs tell the same of the tree.
+fn tell_alike(plain: &Ran<u64>, swept: &Ran<u64>) -> bool {
     let told = plain
         .reports
         .iter()
@@ -237,7 +241,14 @@ fn rounds_give_memory_back_unseen(rt: HostRuntime) -> Result<(), Fail> {
         .reports
         .iter()
         .filter(|report| report.kind == Kind::Tree);
-    assert!(rt; told.eq(again));
+    told.eq(again)
+}
+
+#[test]
+fn rounds_between_steps_are_unseen(rt: HostRuntime) -> Result<(), Fail> {
+    let (steps, more) = (grown(rt.alloc(), 0, 0)?, grown(rt.alloc(), 2, 3)?);
+    let (plain, swept) = answer_alike(rt.alloc(), Limits::usual(2, 1000), steps, more)?;
+    assert!(rt; plain.done < swept.done && tell_alike(&plain, &swept));
     Ok(())
 }
 

@@ -1,6 +1,6 @@
 -- A queue in blocks: what its parts hold as one list.
 use Rattle.std.proofs.Common.{◌≡◌, ◌⊎◌, inl, inr, ℕ, zero, suc, ◌+◌, ◌-◌, ◌<◌, ◌≤◌, Bool, true, false, List, [], ◌∷◌, ◌++◌, ◌==◌, Option, None, Some, refl, sym, ap, subst, ◌∙◌, arith, length}
-use Rattle.std.specs.Prelude.{MatchOption, IfSome, drop, nat_lt}
+use Rattle.std.specs.Prelude.{◌↔◌, MatchOption, IfSome, IsSome, drop, nat_lt, slice_index_or}
 use Rattle.std.specs.Option.{option_to_list}
 use Rattle.std.proofs.lemmas.Bool.Decides.{nat_tests}
 use Rattle.std.proofs.lemmas.List.{append_assoc, append-nil, nil_from_length, length-append}
@@ -10,6 +10,12 @@ use Rattle.crossbeam_epoch.specs.Chain.{joined, AreFilled, AreBlocks, refilled, 
 pub has_room : (len capacity n m room : ℕ) → len ≡ n → capacity ≡ m → len < capacity → m - n ≡ room → room ≡ refilled room
 has_room len capacity n m zero is same lt free = absurd (omega (arith, is, same, lt, free))
 has_room len capacity n m (suc room) is same lt free = refl
+
+-- what is read at the front of a list, if it has one
+pub seen_first : {B R : Type 0} (now : R → B) (r : Option R) (xs : List B) (n : ℕ) → n ≡ length xs → IsSome r ↔ (0 < n) → IfSome r (λ b. now b ≡ slice_index_or xs 0 (now b))
+    → MatchOption r (xs ≡ []) (λ b. (0 < length xs) × (now b ≡ slice_index_or xs 0 (now b)))
+seen_first now None xs n long some is = nil_from_length xs (let bare : (0 < n) → ⊥ = λ lt. absurd (cc (some.1 lt)) in omega (arith, long, bare))
+seen_first now (Some b) xs n long some is = (let lt : 0 < n = some.0 refl in omega (arith, long, lt), is)
 
 -- what was seen to be empty is
 pub nothing_in : {B : Type 0} (xs : List B) (empty : Bool) (n : ℕ) → n ≡ length xs → empty ≡ (n == 0) → empty ≡ true → xs ≡ []
