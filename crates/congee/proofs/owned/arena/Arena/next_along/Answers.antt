@@ -25,8 +25,8 @@ returns-in_default-pop-clause-first g c =
     let empty : w.above.items ≡ [] = none_left w.above.items c.pop.new.self.items c.pop.result c.in_default-pop.is c.pop.ensures.variant in
     λ from at. ended s c.requires.tree (steps_of c.args.walk.now) from (subst (SameAhead s (steps_of c.args.walk.now)) empty on.same) at
 
-pub sight-requires : goal.sight-requires
-sight-requires g c =
+pub sight-walk-requires : goal.sight-walk-requires
+sight-walk-requires g c =
     let s = c.args.self.now.nodes in
     let w = c.steps.walk in
     let i = c.steps.invariant in
@@ -34,22 +34,22 @@ sight-requires g c =
     let way : IsCursor s (c.pop.new.self.items ++ step c.in-Some-pop.branch.node c.in-Some-pop.branch.from ∷ []) = subst (IsCursor s) c.in-Some-pop.ensures.items on.way in
     (last_of s c.requires.tree c.pop.new.self.items (step c.in-Some-pop.branch.node c.in-Some-pop.branch.from) way).stands
 
-pub steps-smaller-in-Some-pop : goal.steps-smaller-in-Some-pop
-steps-smaller-in-Some-pop g c =
+pub steps-smaller-in_default : goal.steps-smaller-in_default
+steps-smaller-in_default g c =
     let s = c.args.self.now.nodes in
     let w = c.steps.walk in
     let i = c.steps.invariant in
     let on = goes_up s c.requires.tree w.above.items w.at w.from i.walk.way (steps_of c.args.walk.now) i.same (λ x e. c.in_default.ensures.first s w.at x i.walk.sees e) in
     omega (arith, on.fewer, ap (steps_left 8) c.in-Some-pop.ensures.items)
 
-pub steps-preserved-in-Some-pop : goal.steps-preserved-in-Some-pop
-steps-preserved-in-Some-pop g c =
+pub steps-preserved-in_default : goal.steps-preserved-in_default
+steps-preserved-in_default g c =
     let s = c.args.self.now.nodes in
     let w = c.steps.walk in
     let i = c.steps.invariant in
     let on = goes_up s c.requires.tree w.above.items w.at w.from i.walk.way (steps_of c.args.walk.now) i.same (λ x e. c.in_default.ensures.first s w.at x i.walk.sees e) in
     record {
-      walk = record { way = subst (IsCursor s) c.in-Some-pop.ensures.items on.way; sees = c.sight.ensures };
+      walk = record { way = subst (IsCursor s) c.in-Some-pop.ensures.items on.way; sees = c.sight-walk.ensures };
       same = subst (SameAhead s (steps_of c.args.walk.now)) c.in-Some-pop.ensures.items on.same;
       left = omega (arith, on.fewer, ap (steps_left 8) c.in-Some-pop.ensures.items, i.left);
     }
@@ -130,8 +130,8 @@ down g c =
 pub push-requires : goal.push-requires
 push-requires g c = (omega arith, room_there c.args.self.now.nodes c.requires.tree c.steps.walk.above.items c.steps.walk.at c.steps.walk.from c.steps.invariant.walk.way)
 
-pub sight-requires-in-Node : goal.sight-requires-in-Node
-sight-requires-in-Node g c = (down g (goal.at.sight-requires-in-Node g c).In-Node).stands
+pub sight-walk-requires-in-Node : goal.sight-walk-requires-in-Node
+sight-walk-requires-in-Node g c = (down g (goal.at.sight-walk-requires-in-Node g c).In-Node).stands
 
 pub steps-smaller : goal.steps-smaller
 steps-smaller g c =
@@ -143,7 +143,7 @@ steps-preserved g c =
     let s = c.args.self.now.nodes in
     let on = (down g (goal.at.steps-preserved g c).In-Node).on in
     record {
-      walk = record { way = subst (λ ys. IsCursor s (ys ++ step c.in-Node.below 0 ∷ [])) (sym c.push.ensures.items) on.way; sees = c.sight-in-Node.ensures };
+      walk = record { way = subst (λ ys. IsCursor s (ys ++ step c.in-Node.below 0 ∷ [])) (sym c.push.ensures.items) on.way; sees = c.sight-walk-in-Node.ensures };
       same = subst (λ ys. SameAhead s (steps_of c.args.walk.now) (ys ++ step c.in-Node.below 0 ∷ [])) (sym c.push.ensures.items) on.same;
       left = omega (arith, on.fewer, ap (λ ys. steps_left 8 (ys ++ step c.in-Node.below 0 ∷ [])) c.push.ensures.items, c.steps.invariant.left);
     }
