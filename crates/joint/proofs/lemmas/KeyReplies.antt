@@ -31,8 +31,7 @@ module _ {V : Type 0} (same : V → V → Bool) (fs : Flights V) (m : Pairs V) (
       let is = only x.0.call x.0.on_map in
       let told : q ≡ r = same_some q r e in (
         sym told ∙ sym x.0.answers ∙ ap (λ y. (answer same m y).0) is,
-        subst (λ y. IsMapOf (nodes s.forest) (answer same m y).1) is x.0.stand,
-        x.1,
+        (subst (λ y. IsMapOf (nodes s.forest) (answer same m y).1) is x.0.stand, x.1),
       )
   done_plays p c done.Unit only e x = absurd x
   done_plays p c (done.Scanned n) only e x = absurd x

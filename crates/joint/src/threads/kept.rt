@@ -50,6 +50,7 @@ impl<L: Ledger, W: Watch, A: Allocator> Kept<L, W, A> {
     pub(crate) fn with(world: World<u64, A>, book: Book<L>) -> Self
         requires places { HasPlaces world.log.places }
         requires counted { book.total ≡ count_watched W.watched world.log.entries }
+        ensures { result.world ≡ world }
     {
         Kept {
             world,
