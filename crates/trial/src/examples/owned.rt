@@ -60,7 +60,11 @@ impl Filled {
 }
 
 /// Whatever pairs a tree was filled with, once it is closed nothing is charged. It tells what is.
-pub fn fills_and_closes(alloc: Global, limit: u64, pairs: &[(u64, u64)]) -> Result<u64, OOMError>
+pub fn charge_after_insertions(
+    alloc: Global,
+    limit: u64,
+    pairs: &[(u64, u64)],
+) -> Result<u64, OOMError>
     ensures { IfOk result (λ charged. charged ≡ 0) }
 {
     let mut filled = Filled {

@@ -12,7 +12,7 @@ use crate::examples::machine::{
     Drained, drains_what_stands, reads_what_it_put, runs_and_closes, runs_as_one_map,
 };
 use crate::examples::owned::{
-    fills_and_closes, finds_what_it_puts, finds_what_it_puts_in_numbers, opens_and_closes,
+    charge_after_insertions, finds_what_it_puts, finds_what_it_puts_in_numbers, opens_and_closes,
     opens_and_closes_numbers,
 };
 use crate::examples::pages::{Numbers, Sum, drained, page_from, sum_by_pages};
@@ -170,8 +170,8 @@ fn owned_trees_keep_their_contracts(rt: HostRuntime) -> Result<(), Fail> {
     let budget = opens_and_closes_numbers(rt.alloc(), 6000)?;
     assert!(rt; budget.charged == 0 && budget.limit == 6000);
     assert!(rt; opens_and_closes(rt.alloc(), 2103).is_err());
-    assert!(rt; fills_and_closes(rt.alloc(), 5000, &[(1, 10), (256, 20), (1, 30)])? == 0);
-    assert!(rt; fills_and_closes(rt.alloc(), 2104, &[(1, 10)]).is_err());
+    assert!(rt; charge_after_insertions(rt.alloc(), 5000, &[(1, 10), (256, 20), (1, 30)])? == 0);
+    assert!(rt; charge_after_insertions(rt.alloc(), 2104, &[(1, 10)]).is_err());
     assert!(rt; finds_what_it_puts(rt.alloc(), 256, 7)? == Some(7));
     assert!(rt; finds_what_it_puts_in_numbers(rt.alloc(), 0, 9)? == Some(9));
     Ok(())

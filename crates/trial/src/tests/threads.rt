@@ -197,6 +197,7 @@ fn two_pinned_at_once(rt: HostRuntime) -> Result<(), Fail> {
 }
 
 /// What a thread tells another: that it is there, and that it has pinned.
+#[derive(Drop)]
 struct Flags {
     here: AtomicBool,
     pinned: AtomicBool,
