@@ -49,8 +49,8 @@ wants::shared_texts_come_back
 READ_ERRORS = [errno.EIO, errno.EINTR, errno.EAGAIN]
 WRITE_ERRORS = [*READ_ERRORS, errno.ENOSPC, errno.EPIPE, 0]
 
-# The threads of the program, and the calls of each; and as many as it takes, which end within so many seconds where nothing else
-# goes on. Other work makes that more by the clock, but not on the processors, of which all are allowed as many.
+# The threads of the program, and the calls of each; and as many as it takes, which end within so many seconds. Other work makes them
+# longer by the clock, so what is limited is the time of processors: as many seconds of each, since threads that wait spin.
 THREADS = [(1, 1), (2, 8), (4, 20)]
 MOST = (16, 10_000)
 MOST_SECONDS = 20
@@ -269,7 +269,7 @@ def test_passes(tests, name, number):
 
 
 def most(*words, known=()):
-    """Runs so much that it may take its time, of which nothing is refused."""
+    """Runs so much that it may take its time, of which nothing is refused; tells how long it took."""
     limited = ["sh", "-c", 'ulimit -t "$0"; exec "$@"', str(MOST_SECONDS * PROCESSORS), *words]
     begun = time.monotonic()
     ran = run(limited, seconds=10 * SECONDS, known=known)
@@ -304,10 +304,11 @@ def each(count, one, first=1):
 
 def cases_of_script(script):
     plain = script.plain
+    lines = min(len(script.lines), plain.reads)
     yield "one request for memory refused", each(plain.memory, lambda number: one_request(script, number))
     yield "all requests for memory from one on refused", each(plain.memory, lambda number: every_request(script, number))
-    yield "what its lines ask for", each(min(len(script.lines), plain.reads), lambda number: line_asks(script, number - 1))
-    yield "its replies go out before the next read", each(min(len(script.lines), plain.reads), lambda number: goes_out(script, number - 1))
+    yield "what its lines ask for", each(lines, lambda number: line_asks(script, number - 1))
+    yield "its replies go out before the next read", each(lines, lambda number: goes_out(script, number - 1))
     yield "a read fails", each(plain.reads, lambda number: read_fails(script, number))
     yield "a write fails", each(plain.writes, lambda number: write_fails(script, number))
     yield "a read gives less", each(plain.reads, lambda number: moves_less(script, number, "read"))
