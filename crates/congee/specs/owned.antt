@@ -12,6 +12,7 @@ pub mod Owned
 pub mod Place
 pub mod Ranges
 pub mod Renames
+pub mod Sights
 pub mod Sizes
 pub mod Slots
 pub mod Storage
@@ -25,4 +26,5 @@ pub mod Table
 pub mod Weights
 pub mod Stats
 pub mod StatsText
+pub mod Walks
 pub mod Ways

@@ -10,6 +10,7 @@ mod pairs;
 mod place;
 mod placed;
 mod scan;
+mod sight;
 mod stats;
 mod survey;
 mod u64_congee;

@@ -6,7 +6,8 @@
 //! raises the version. Where a check or an exchange fails, what was made goes back, a lock that is held is let go in
 //! the next step, and the call begins anew at the root. Two locks are taken from the upper node down.
 //!
-//! A `machine` is one call. Its `phase` is the next step; `turn` says where the store's answer leads. The ways on:
+//! A `machine` is one call. Its `phase` is the next step, which each step changes where it lies; `acts` has the steps that
+//! make, lock or change nodes, and `turn` says where the store's answer leads. The ways on:
 //!
 //! | The call finds | Its phases |
 //! |---|---|
@@ -20,6 +21,7 @@
 //! | the lower lock not free | `Unwind`, then anew, or refused |
 //!
 //! Only a call with a closure asks. A scan is one phase, `Sweep`, with stages of its own in `sweep`.
+mod acts;
 mod laws;
 mod machine;
 mod op;

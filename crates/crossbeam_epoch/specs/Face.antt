@@ -7,5 +7,4 @@ pub mod Pinned
 pub mod Pins
 pub mod Pointer
 pub mod Queue
-pub mod Slots
 pub mod Tokens

@@ -1,3 +1,4 @@
+pub mod Chain
 pub mod Limits
 pub mod World
 pub mod Face

@@ -1,6 +1,5 @@
 -- The machine of atomic steps.
 pub mod Calls
-pub mod Chain
 pub mod Ending
 pub mod Fits
 pub mod Free

@@ -1,14 +1,15 @@
 //! Epoch-based reclamation for real threads, under the names of `crossbeam-epoch`.
 
 mod atomic;
+mod collected;
 mod collector;
-mod free;
 mod guard;
 mod handle;
 mod internal;
 mod laws;
 mod lent;
 mod link;
+mod note;
 mod ordering;
 mod owned;
 mod pins;
@@ -25,6 +26,7 @@ pub use guard::{Guard, unprotected};
 pub use handle::LocalHandle;
 pub use lent::{Lent, LentMut};
 pub use link::{Link, Site, Tagged};
+pub use note::Note;
 pub use ordering::CompareAndSetOrdering;
 pub use owned::Owned;
 pub use pointer::Pointer;

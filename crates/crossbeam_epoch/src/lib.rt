@@ -14,10 +14,11 @@
 //!
 //! In `world` each of these is a step of one machine over cells with names, so that laws can say what holds over any
 //! steps of any participants. `face` has the same for threads: pinning and reading take no lock, free cells and the
-//! queue of bags stand under one. The two share bags, jobs, limits and names.
+//! queue of bags stand under one. The two share bags and their queue, the numbers of cells, jobs, limits and names.
 #![tactic(auto)]
 
 mod bag;
+mod chain;
 mod face;
 mod fault;
 mod limits;
@@ -29,8 +30,8 @@ mod world;
 pub use bag::{BAG, Bag, Entry, Sealed, Work};
 pub use face::{
     Atomic, Collector, CompareAndSetError, CompareAndSetOrdering, CompareExchangeError, Exchanged,
-    Guard, Lent, LentMut, Link, LocalHandle, Owned, Pointer, Shared, Site, Tagged, Unprotected,
-    unprotected,
+    Guard, Lent, LentMut, Link, LocalHandle, Note, Owned, Pointer, Shared, Site, Tagged,
+    Unprotected, unprotected,
 };
 pub use fault::Fault;
 pub use limits::Limits;

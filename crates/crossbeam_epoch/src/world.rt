@@ -20,8 +20,7 @@
 //! | what follows over any steps | `laws` |
 
 mod calls;
-mod cells;
-mod chain;
+pub(crate) mod cells;
 mod collect;
 mod defer;
 mod ending;
@@ -41,12 +40,12 @@ ghost use Rattle.crossbeam_epoch.specs.Limits.{within};
 ghost use Rattle.crossbeam_epoch.specs.World.Reach.{Quiet, moment, Tells, NextMoment};
 
 use crate::bag::Bag;
+use crate::chain::Chain;
 use crate::fault::Fault;
 use crate::limits::Limits;
 use crate::names::{Links, Pointable, Ptr};
 use crate::task::Task;
 use crate::world::cells::Cells;
-use crate::world::chain::Chain;
 use crate::world::tickets::Tickets;
 pub use cells::Cell;
 pub use exchanges::OtherPointer;
@@ -57,7 +56,7 @@ use std::marker::Model;
 
 /// Epoch-based reclamation as a machine of atomic steps.
 #[derive(Drop)]
-pub struct World<T, J> {
+pub struct World<T, J: Task> {
     pub(crate) limits: Limits,
     pub(crate) epoch: u64,
     pub(crate) participants: Vec<Participant<J>>,
@@ -67,7 +66,7 @@ pub struct World<T, J> {
     pub(crate) roots: Vec<Ptr>,
 }
 
-impl<T, J> Model for World<T, J> {
+impl<T, J: Task> Model for World<T, J> {
     ghost use Rattle.crossbeam_epoch.specs.World.Machine.{State};
 
     ghost Value = { State T J };
@@ -77,6 +76,7 @@ impl<T, J> Model for World<T, J> {
       epoch = w.epoch;
       table = w.participants.items;
       queue = w.queue.items;
+      room = w.queue.room;
       next = w.tickets.next;
       waiting = w.tickets.waiting;
       store = w.cells;

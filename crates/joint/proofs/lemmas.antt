@@ -43,8 +43,10 @@ pub mod HandOver
 pub mod Handed
 pub mod Hanging
 pub mod Kept
+pub mod Hidden
 pub mod Holding
 pub mod KeyCalls
+pub mod KeyReplies
 pub mod Keyed
 pub mod Leaves
 pub mod LeavesSteps

@@ -7,6 +7,7 @@ use Rattle.crossbeam_epoch.specs.World.Ending.{registered_in}
 use Rattle.congee.specs.Heap.{Node, value_at}
 use Rattle.congee.specs.Keys.{IsMapOf, key_bytes}
 use Rattle.congee.specs.owned.Ranges.{in_range}
+use Rattle.joint.specs.declared.account.Account.{Account}
 use Rattle.joint.specs.declared.refusal.Refusal.{Refusal}
 use Rattle.joint.specs.declared.refusal.Refusal.TheVariants.{WorkersLeft}
 use Rattle.joint.specs.Forest.{nodes}
@@ -15,6 +16,10 @@ use Rattle.joint.specs.Whole.{Whole}
 -- the drainer took each of these pairs, one after the other
 abbrev pub Drained : {K V D : Type 0} → (D → K → V → D → Type 0) → D → List (K × V) → D → Type 0
 Drained drains before pairs after = FoldsTo (λ d pair e. drains d pair.0 pair.1 e) before pairs after
+
+-- what came in with the allocator: what it had charged before the first node, and its limit
+abbrev pub account_of : {V : Type 0} → Whole V → Account
+account_of s = record { charged = s.forest.base; limit = s.forest.limit }
 
 -- no worker was registered; the drainer took each pair, in ascending order of the keys, and the allocator has the charge
 -- with which it came, and its limit

@@ -18,6 +18,7 @@ use Rattle.joint.specs.declared.steps.Done.TheVariants as done
 use Rattle.joint.specs.declared.steps.Event.{Event}
 use Rattle.joint.specs.declared.steps.Event.TheVariants.{Begin, Go}
 use Rattle.joint.specs.declared.steps.Op.{Op}
+use Rattle.joint.specs.declared.steps.Op.TheVariants as ops
 use Rattle.joint.specs.declared.steps.Outcome.{Outcome}
 use Rattle.joint.specs.declared.steps.Outcome.TheVariants.{Running, Asks, Found, Done, Refused}
 use Rattle.joint.specs.declared.steps.Report.{Report}
@@ -175,3 +176,25 @@ PlaysCall same fs m who last (target.Survey k) told s = MapTells m k told × Kee
 abbrev pub CallPlays : {V : Type 0} → (V → V → Bool) → Flights V → Pairs V → ℕ → Op V → Option (Report V) → Whole V → Type 0
 CallPlays same fs m who op None s = KeepsAll fs m s
 CallPlays same fs m who op (Some r) s = PlaysCall same fs m who None (target op) r.outcome s
+
+-- the map's call that a call on one key is which asks no closure
+abbrev pub asked_of : {V : Type 0} → Op V → Option (Entered V)
+asked_of (ops.Get k) = Some (entered.Get k)
+asked_of (ops.Insert k v) = Some (entered.Insert k v)
+asked_of (ops.Remove k) = Some (entered.Remove k)
+asked_of (ops.Exchange k old new) = Some (entered.Exchange k old new)
+asked_of _ = None
+
+-- the reply with which a call on one key has ended, if it has
+abbrev pub reply_in : {V : Type 0} → Outcome V → Option (Reply V)
+reply_in (Done (done.Reply r)) = Some r
+reply_in _ = None
+
+abbrev pub reply_of : {V : Type 0} → Option (Report V) → Option (Reply V)
+reply_of None = None
+reply_of (Some r) = reply_in r.outcome
+
+-- the map m answers this call so, where it is one on one key that asks no closure; its pairs stand then, and the calls in
+-- flight are those that were
+abbrev pub AnswersKey : {V : Type 0} → (V → V → Bool) → Flights V → Pairs V → Op V → Option (Report V) → Whole V → Type 0
+AnswersKey {V} same fs m o told s = (c : Entered V) (r : Reply V) → asked_of o ≡ Some c → reply_of told ≡ Some r → (r ≡ (answer same m c).0) × KeepsAll fs (answer same m c).1 s

@@ -1,11 +1,14 @@
 -- Calls on an index that threads share: whom they serve, what a hold of its lock is, and what they answer.
-use Rattle.std.specs.Prelude.{◌≡◌, ◌==◌, ◌&&◌, ◌<◌, ◌⊎◌, ℕ, Bool, true, false, List, [], Option, None, Some, Result, Ok, Err, Vec, map}
+use Rattle.std.specs.Prelude.{◌≡◌, ◌≢◌, ◌==◌, ◌&&◌, ◌<◌, ◌⊎◌, ℕ, Bool, true, false, List, [], length, Option, None, Some, Result, Ok, Err, Vec, map}
 use Rattle.std.specs.Arc.{arc_value}
+use Rattle.std.specs.List.{sum_by}
 use Rattle.std.specs.Option.{option_map}
 use Rattle.std.specs.declared.alloc.Global.{Global}
 use Rattle.std.specs.declared.sync.Arc.{Arc}
 use Rattle.judge.specs.declared.journal.Reply.TheVariants.{Get, Insert, Remove, ComputePresent, ComputeInsert, Exchange}
+use Rattle.crossbeam_epoch.specs.World.Ending.{registered_in}
 use Rattle.congee.specs.declared.owned.stats.NodeStats.{NodeStats}
+use Rattle.joint.specs.declared.account.Account.{Account}
 use Rattle.joint.specs.declared.refusal.Refusal.{Refusal}
 use Rattle.joint.specs.declared.refusal.Refusal.TheVariants.{Count, Foreign, Idle, Memory, WorkersLeft}
 use Rattle.joint.specs.declared.steps.Done.{Done as Answer}
@@ -19,9 +22,10 @@ use Rattle.joint.specs.declared.steps.Report.{Report}
 use Rattle.joint.specs.declared.steps.Step.{Step}
 use Rattle.joint.specs.declared.threads.tokens.Guard.{Guard}
 use Rattle.joint.specs.declared.threads.tokens.Worker.{Worker}
-use Rattle.joint.specs.Closing.{IsClosed}
+use Rattle.joint.specs.Closing.{IsClosed, account_of}
 use Rattle.joint.specs.Driving.{IsDriven, ended}
-use Rattle.joint.specs.Whole.{Whole, IsStep}
+use Rattle.joint.specs.Listing.{bytes_of, waiting_nodes}
+use Rattle.joint.specs.Whole.{Whole, Holds, IsStep}
 
 -- the worker is of the index of this number
 abbrev pub is_of : ℕ → Worker → Bool
@@ -49,7 +53,11 @@ End V = Result (Answer V) Refusal
 abbrev pub IsHold : {V : Type 0} → (V → V → Bool) → Bool → Step V → Report V → Type 0
 IsHold {V} same always step r = (s : Whole V) × (s' : Whole V) × IsStep same always s step r s'
 
--- whatever call of whatever worker it is of
+-- a turn of a call, on the machine that stands, whatever call of whatever worker it is of
+abbrev pub ByStep : {V : Type 0} → (V → V → Bool) → Bool → Whole V → ℕ → Op V → Step V → Report V → Whole V → Type 0
+ByStep same always s who o step r s' = IsStep same always s step r s'
+
+-- and in whatever state others have left it
 abbrev pub ByHold : {V : Type 0} → (V → V → Bool) → Bool → ℕ → Op V → Step V → Report V → Type 0
 ByHold same always who o step r = IsHold same always step r
 
@@ -159,6 +167,17 @@ abbrev pub first_of : Result (Unit {0}) Refusal → Result (Unit {0}) Refusal �
 first_of (Ok t) r = r
 first_of (Err e) r = Err e
 
+-- the same from what stands to what it leaves, where of each call it is known from what to what it led: each begins where
+-- the one before it left off
+abbrev pub RoundsFrom : {V S : Type 0} → (S → Op V → Result (Unit {0}) Refusal → S → Type 0) → Result (Unit {0}) Refusal → S → Result (Unit {0}) Refusal → S → Type 0
+RoundsFrom ends (Err e) s result s' = (result ≡ Err e) × (s' ≡ s)
+RoundsFrom {V} {S} ends (Ok t) s result s' = (flushed : Result (Unit {0}) Refusal) × (between : S) × (left : Result (Unit {0}) Refusal)
+    × ends s op.Flush flushed between × ends between op.Unpin left s' × (result ≡ first_of flushed left)
+
+abbrev pub Rounds : {V S : Type 0} → (S → Op V → Result (Unit {0}) Refusal → S → Type 0) → S → Result (Unit {0}) Refusal → S → Type 0
+Rounds {V} {S} ends s result s' = (begun : Result (Unit {0}) Refusal) × (pinned : S) × ends s op.Pin begun pinned × RoundsFrom {V = V} ends begun pinned result s'
+
+-- a lock hides what stands between the calls
 abbrev pub IsRoundFrom : {V : Type 0} → (ℕ → Op V → Step V → Report V → Type 0) → ℕ → Result (Unit {0}) Refusal → Result (Unit {0}) Refusal → Type 0
 IsRoundFrom hold who (Err e) result = result ≡ Err e
 IsRoundFrom {V} hold who (Ok t) result = (flushed : Result (Unit {0}) Refusal) × (left : Result (Unit {0}) Refusal)
@@ -190,13 +209,37 @@ AreKeys of (Ok words) (Err e) = e ≡ Memory
 abbrev pub As : {A B : Type 0} → (A → Type 0) → (A → B) → B → Type 0
 As {A} does of result = (read : A) × does read × (result ≡ of read)
 
--- a closed index: whatever the lock kept, it was closed with this drainer
-abbrev pub Closes : {V D : Type 0} → (D → ℕ → V → D → Type 0) → D → ℕ → ℕ → D → Type 0
-Closes {V} drains before charge limit after = (s : Whole V) × IsClosed drains s before charge limit after
+-- what is told of the machine, in whatever state others have left it
+abbrev pub IsTold : {V B : Type 0} → (V → V → Bool) → Bool → (Whole V → B) → B → Type 0
+IsTold {V} same always of result = (s : Whole V) × Holds same always s × (result ≡ of s)
 
--- it wasn't closed, since workers were registered
-abbrev pub HasWorkers : Refusal → Type 0
-HasWorkers e = (n : ℕ) × (0 < n) × (e ≡ WorkersLeft n)
+-- the bytes charged, the nodes that wait, and the bytes of those
+abbrev pub charge_of : {V : Type 0} → Whole V → ℕ
+charge_of s = s.forest.charge
+
+abbrev pub waiting_of : {V : Type 0} → Whole V → ℕ
+waiting_of s = length (waiting_nodes s)
+
+abbrev pub waiting_bytes_of : {V : Type 0} → Whole V → ℕ
+waiting_bytes_of s = sum_by (bytes_of s.forest) (waiting_nodes s)
+
+-- a closed index: the machine that the lock kept was closed with this drainer
+abbrev pub Closes : {V D : Type 0} → (V → V → Bool) → Bool → (D → ℕ → V → D → Type 0) → D → ℕ → ℕ → D → Type 0
+Closes {V} same always drains before charge limit after = (s : Whole V) × Holds same always s × IsClosed drains s before charge limit after
+
+-- the same of one whose pairs are dropped
+abbrev pub Drops : {V : Type 0} → (V → V → Bool) → Bool → ℕ → ℕ → Type 0
+Drops {V} same always charge limit = (s : Whole V) × Holds same always s × (registered_in s.forest.collector ≡ 0) × (charge ≡ s.forest.base) × (limit ≡ s.forest.limit)
+
+-- an account has this charge and this limit
+abbrev pub IsAccount : Account → ℕ → ℕ → Type 0
+IsAccount account charge limit = (charge ≡ account.charged) × (limit ≡ account.limit)
+
+-- it wasn't closed, since workers were registered; or since the lock kept a machine with which another account came in
+abbrev pub IsUnclosed : {V : Type 0} → (V → V → Bool) → Bool → Account → Refusal → Type 0
+IsUnclosed {V} same always account (WorkersLeft n) = (s : Whole V) × Holds same always s × (0 < n) × (n ≡ registered_in s.forest.collector)
+IsUnclosed {V} same always account Foreign = (s : Whole V) × Holds same always s × (account_of s ≢ account)
+IsUnclosed same always account _ = ⊥
 
 -- a closure over owners that is asked for a present value alone
 abbrev pub if_owned : {V F : Type 0} → (F → Arc V Global → Option (Arc V Global) → F → Type 0) → F → Option V → Option V → F → Type 0

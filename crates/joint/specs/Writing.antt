@@ -14,12 +14,12 @@ use Rattle.joint.specs.declared.steps.Report.{Report}
 use Rattle.joint.specs.declared.steps.Step.{Step}
 use Rattle.joint.specs.Asked.{changes}
 use Rattle.joint.specs.Driving.{AreTurns, Turn, ended}
-use Rattle.joint.specs.Journals.{IsCounted}
+use Rattle.joint.specs.Journals.{IsCounted, count_watched}
 use Rattle.joint.specs.Journaling.{HasAnswer, asks_at, call_of, has_place, in_list, one_where}
 use Rattle.joint.specs.Log.{hears, request_at}
 use Rattle.joint.specs.Runs.{looks_up}
 use Rattle.joint.specs.Shares.{Tally, counts_more}
-use Rattle.joint.specs.Threads.{End, IsHold}
+use Rattle.joint.specs.Threads.{End}
 use Rattle.joint.specs.Whole.{Whole, IsStep}
 
 -- the worker has this call in flight, which took this answer of its closure last
@@ -75,13 +75,12 @@ abbrev pub Appends : (Entry ℕ → Bool) → ℕ → Op ℕ → Option (Option 
 Appends watched who op given p None p' = p' ≡ noted watched (record p { given = given }) None
 Appends watched who op given p (Some e) p' = (p.entry ≡ None) × IsEntryOf who op given e × (p' ≡ noted watched (record p { given = given }) (Some e))
 
-pub record HoldsWriting (watched : Entry ℕ → Bool) (who : ℕ) (op : Op ℕ) (p : Progress) (step : Step ℕ) (r : Report ℕ) (p' : Progress) : Type 0 where
-  pub before : Whole ℕ
-  pub after : Whole ℕ
+-- a hold of a writing call takes its step of the machine that stands
+pub record HoldsWriting (watched : Entry ℕ → Bool) (who : ℕ) (op : Op ℕ) (p : Progress) (s : Whole ℕ) (step : Step ℕ) (r : Report ℕ) (p' : Progress) (s' : Whole ℕ) : Type 0 where
   pub told : Report ℕ
-  pub takes : IsStep nat_eq true before step told after
+  pub takes : IsStep nat_eq true s step told s'
   pub appended : Option (Entry ℕ)
-  pub entries : after.log.entries ≡ before.log.entries ++ in_list appended
+  pub entries : s'.log.entries ≡ s.log.entries ++ in_list appended
   pub appends : Appends watched who op (given_after op p.given step.event) p appended p'
   pub tells : r ≡ record told { outcome = told_with p'.entry told.outcome }
 
@@ -99,29 +98,38 @@ MayStep s who op given Register = ⊥
 MayStep s who op given (Begin o) = Unit {0}
 MayStep s who op given (Go noise) = IsInFlight s who op given × ((a : Option ℕ) → noise.answer ≡ Some a → asks_at (slice_get s.machines who) ≡ true)
 
--- a turn of a call that doesn't write: a hold; or, where its step may not be taken, none
-pub record StopsReading (who : ℕ) (op : Op ℕ) (step : Step ℕ) (r : Report ℕ) : Type 0 where
-  pub state : Whole ℕ
-  pub why : changes op ≡ false → MayStep state who op None step.event → ⊥
+-- where its step may not be taken a call that doesn't write is idle, and leaves the machine as it is
+pub record StopsReading (who : ℕ) (op : Op ℕ) (s : Whole ℕ) (step : Step ℕ) (r : Report ℕ) (s' : Whole ℕ) : Type 0 where
+  pub why : changes op ≡ false → MayStep s who op None step.event → ⊥
   pub idle : r.outcome ≡ Refused Idle
+  pub stays : s' ≡ s
 
+-- a turn of it, on the machine that stands: its step, or none
+abbrev pub ReadingTurn : Whole ℕ → ℕ → Op ℕ → Step ℕ → Report ℕ → Whole ℕ → Type 0
+ReadingTurn s who op step r s' = IsStep nat_eq true s step r s' ⊎ StopsReading who op s step r s'
+
+-- the same, in whatever state others have left it
 abbrev pub Reads : ℕ → Op ℕ → Step ℕ → Report ℕ → Type 0
-Reads who op step r = IsHold nat_eq true step r ⊎ StopsReading who op step r
+Reads who op step r = (s : Whole ℕ) × (s' : Whole ℕ) × ReadingTurn s who op step r s'
 
 -- a call that has its entry won't have another
 abbrev pub WontRepeat : Whole ℕ → ℕ → Option (Entry ℕ) → Type 0
 WontRepeat s who entry = (e : Entry ℕ) → entry ≡ Some e → has_place (slice_get s.calls who) (slice_get s.machines who) ≡ false
 
--- the same of a writing call
-pub record StopsWriting (who : ℕ) (op : Op ℕ) (p : Progress) (step : Step ℕ) (r : Report ℕ) (p' : Progress) : Type 0 where
-  pub state : Whole ℕ
-  pub why : MayStep state who op p.given step.event → WontRepeat state who p.entry → ⊥
+-- where its step may not be taken a writing call ends with what it has, and leaves the machine as it is
+pub record StopsWriting (who : ℕ) (op : Op ℕ) (p : Progress) (s : Whole ℕ) (step : Step ℕ) (r : Report ℕ) (p' : Progress) (s' : Whole ℕ) : Type 0 where
+  pub why : MayStep s who op p.given step.event → WontRepeat s who p.entry → ⊥
   pub same : p' ≡ p
   pub ends : r.outcome ≡ settled p.entry
+  pub stays : s' ≡ s
 
--- a turn of a writing call
+-- a turn of it, on the machine that stands: a hold, or none
+abbrev pub WritingTurn : (Entry ℕ → Bool) → ℕ → Op ℕ → Progress → Whole ℕ → Step ℕ → Report ℕ → Progress → Whole ℕ → Type 0
+WritingTurn watched who op p s step r p' s' = HoldsWriting watched who op p s step r p' s' ⊎ StopsWriting who op p s step r p' s'
+
+-- the same, in whatever state others have left it
 abbrev pub IsWritingTurn : (Entry ℕ → Bool) → ℕ → Op ℕ → Progress → Step ℕ → Report ℕ → Progress → Type 0
-IsWritingTurn watched who op p step r p' = HoldsWriting watched who op p step r p' ⊎ StopsWriting who op p step r p'
+IsWritingTurn watched who op p step r p' = (s : Whole ℕ) × (s' : Whole ℕ) × WritingTurn watched who op p s step r p' s'
 
 -- the reply of a call's entry is what a map answers
 abbrev pub IsAnswered : Entry ℕ → Type 0
@@ -149,7 +157,13 @@ Writes watched calls who op f reads share share' result = (end : End ℕ) × (ts
 abbrev pub WritesMute : {B : Type 0} → (Entry ℕ → Bool) → ℕ → Op ℕ → (End ℕ → B) → Tally → Tally → B → Type 0
 WritesMute watched who op reads share share' result = Writes {F = Unit {0}} watched (λ _ _ _ _. Unit {0}) who op (tt {0}) reads share share' result
 
--- a share of all parts tells its count, which is the number of watched writing calls; one that lacks parts is refused
+-- a share of all parts tells its count, which is the number of watched writing calls among these entries; one that lacks
+-- parts is refused
+abbrev pub GathersOf : (Entry ℕ → Bool) → ℕ → List (Entry ℕ) → Tally → Result ℕ Refusal → Type 0
+GathersOf watched parts entries share (Ok n) = (share.parts ≡ parts) × (n ≡ share.count) × (n ≡ count_watched watched entries)
+GathersOf watched parts entries share (Err e) = (share.parts < parts) × (e ≡ SharesLeft (parts - share.parts))
+
+-- the same, among those of a journal such as the lock keeps
 abbrev pub Gathers : (Entry ℕ → Bool) → ℕ → Tally → Result ℕ Refusal → Type 0
 Gathers watched parts share (Ok n) = (share.parts ≡ parts) × (n ≡ share.count) × IsCounted watched n
 Gathers watched parts share (Err e) = (share.parts < parts) × (e ≡ SharesLeft (parts - share.parts))

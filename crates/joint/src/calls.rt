@@ -6,7 +6,7 @@ ghost use Rattle.congee.specs.Keys.{IsMapOf};
 ghost use Rattle.joint.specs.Alone.{CallEndsAlone};
 ghost use Rattle.joint.specs.Calling.{FillsPlaces, IsCalled, TellsMap, goes_on, kept_report, next_step, put, put_away};
 ghost use Rattle.joint.specs.Forest.{IsBeside, nodes};
-ghost use Rattle.joint.specs.MapCalls.{CallPlays};
+ghost use Rattle.joint.specs.MapCalls.{AnswersKey, CallPlays};
 ghost use Rattle.joint.specs.Runs.{AreInFlight, Flights};
 
 use crate::laws::runs_alone;
@@ -30,6 +30,7 @@ impl<P: Payload + Small, A: Allocator> World<P, A> {
         ensures scan { (fs : Flights P) (m : Pairs P) → IsMapOf (nodes self.old.forest) m → AreInFlight self.old fs → FillsPlaces m op result found.new }
         ensures beside { IsBeside self.old.forest self.new.forest }
         ensures map { (fs : Flights P) (m : Pairs P) → IsMapOf (nodes self.old.forest) m → AreInFlight self.old fs → CallPlays P.same_as fs m who op result self.new }
+        ensures answers { (fs : Flights P) (m : Pairs P) → IsMapOf (nodes self.old.forest) m → AreInFlight self.old fs → AnswersKey P.same_as fs m op result self.new }
         ensures survey { (fs : Flights P) (m : Pairs P) → IsMapOf (nodes self.old.forest) m → AreInFlight self.old fs → TellsMap m op result }
         ensures alone { CallEndsAlone self.old who op most result }
     {

@@ -79,7 +79,7 @@ impl<P: Payload + Small, A: Allocator> Nodes<P, A> {
         ensures ticket { IfOk result (λ t. t ≡ self.old.collector.next) }
         ensures state { OnOk result (self.new ≡ with_collector self.old (after_deferral self.old.collector who (Work.Remove node.name))) }
         ensures back { OnErr result (self.new ≡ self.old) }
-        ensures fault { MatchResult result (λ t. destroy_fault self.old.collector who node.name ≡ None) (λ e. MatchOption (destroy_fault self.old.collector who node.name) ((e ≡ Fault.Memory) × (length (place self.old.collector who).bag ≡ bag_places)) (λ f. e ≡ f)) }
+        ensures fault { MatchResult result (λ t. destroy_fault self.old.collector who node.name ≡ None) (λ e. MatchOption (destroy_fault self.old.collector who node.name) ((e ≡ Fault.Memory) × (length (place self.old.collector who).bag ≡ bag_places) × (self.old.collector.room ≡ 0)) (λ f. e ≡ f)) }
         ensures told { (h : List Moment) → Tells slot_names h self.old.collector → MatchResult result (λ t. Tells slot_names (moment slot_names (Marked (Deferred t (Some node.name))) self.new.collector ∷ h) self.new.collector) (λ e. Tells slot_names (moment slot_names Quiet self.new.collector ∷ h) self.new.collector) }
     {
         self.collector.defer_destroy(who, node.name)

@@ -23,9 +23,10 @@
 //! | nodes in cells: read, made, changed, handed over, counted, destroyed | `nodes`, `store`, `slot`, `cells`, `counts`, `clock` |
 //! | one-step calls and the end | `survey`, `stats`, `close` |
 //! | what follows over any steps | `laws` |
-//! | indexes that threads share, with guards and workers | `threads` |
+//! | indexes that threads share, with guards and workers | `threads`, with `account` |
 #![tactic(auto)]
 
+mod account;
 mod advance;
 mod call;
 mod calls;
@@ -74,6 +75,7 @@ pub use steps::{Done, Event, Kind, Op, Outcome, Ran, Report, Step, Survey};
 pub use threads::auditing::audit;
 pub use threads::driver::{Turns, drive, turns_tell};
 pub use threads::journaled::Journaled;
+pub use threads::ledgers::{OnLedger, on_ledger};
 pub use threads::numbers::U64Congee;
 pub use threads::owners::CongeeArc;
 pub use threads::share::Share;

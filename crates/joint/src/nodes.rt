@@ -10,6 +10,7 @@ ghost use Rattle.joint.specs.Listing.{bytes_of, handed_nodes, standing_nodes};
 ghost use Rattle.joint.specs.Solid.{IsWhole};
 ghost use Rattle.joint.specs.View.{id_number, node_of, worded};
 
+use crate::account::Account;
 use crate::cells;
 use crate::counts::Counts;
 use crate::id::Id;
@@ -88,6 +89,16 @@ impl<P: Payload + Small, A: Allocator> Nodes<P, A> {
         ensures few { result ≤ 2104 * CELLS_MAX }
     {
         self.counts.waiting_bytes
+    }
+
+    /// What came in with the allocator.
+    pub(crate) fn account(&self) -> Account
+        ensures { result ≡ record { charged = self.now.base; limit = self.now.limit } }
+    {
+        Account {
+            charged: self.base,
+            limit: self.allocator.limit(),
+        }
     }
 
     /// What is charged for a node that stands, in bytes.

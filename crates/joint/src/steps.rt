@@ -2,6 +2,7 @@
 
 ghost use Rattle.std.specs.Prelude.{◌≡◌};
 ghost use Rattle.joint.specs.Asked.{changes};
+ghost use Rattle.joint.specs.MapCalls.{reply_in};
 ghost use Rattle.joint.specs.Reports.{target, told, collected};
 
 use crate::id::Id;
@@ -185,6 +186,22 @@ impl<P> Op<P> {
             Op::Keys => Target::Survey(Survey::Keys),
             Op::IsEmpty => Target::Survey(Survey::IsEmpty),
             Op::Stats => Target::Survey(Survey::Stats),
+        }
+    }
+}
+
+impl<P: Drop> Report<P> {
+    /// The reply with which a call on one key has ended, if that is how it stands.
+    pub fn reply(self) -> Option<Reply<P>>
+        ensures { result ≡ reply_in self.outcome }
+    {
+        let Report { outcome, .. } = self;
+        match outcome {
+            Outcome::Done(Done::Reply(reply)) => Some(reply),
+            other => {
+                drop(other);
+                None
+            }
         }
     }
 }

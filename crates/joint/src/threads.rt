@@ -2,7 +2,7 @@
 //!
 //! `tree` has an index under its lock (`locked`, or with a journal `kept`). A call is driven (`driver`): its turns are
 //! begun and gone on with one hold each (`holds`, `writes`), its closure answers between two of them (`answers`), and
-//! how it reads its end stands in `ends`. `words`, `numbers`, `owners` and `journaled` are the types that threads
+//! how it reads its end stands in `ends`; a round is three calls (`rounds`). `words`, `numbers`, `owners` and `journaled` are the types that threads
 //! share, called with a worker and a guard (`tokens`).
 
 pub(crate) mod answers;
@@ -12,10 +12,12 @@ pub(crate) mod ends;
 pub(crate) mod holds;
 pub(crate) mod journaled;
 pub(crate) mod kept;
+pub(crate) mod ledgers;
 pub(crate) mod locked;
 pub(crate) mod numbers;
 pub(crate) mod owners;
 pub(crate) mod progress;
+pub(crate) mod rounds;
 pub(crate) mod share;
 pub(crate) mod tokens;
 pub(crate) mod tree;

@@ -1,6 +1,6 @@
 //! The index and its collector, one step at a time.
 
-ghost use Rattle.std.specs.Prelude.{◌≡◌, ◌+◌, ◌<◌, ◌≤◌, ℕ, List, [], true, length, option_map, slice_get, take, IfOk, IfErr, MatchResult};
+ghost use Rattle.std.specs.Prelude.{◌≡◌, ◌+◌, ◌<◌, ◌≤◌, ℕ, List, [], true, length, option_map, slice_get, take, vec_capacity, IfOk, IfErr, MatchResult};
 ghost use Rattle.std.specs.FinMap.{empty};
 ghost use Rattle.std.specs.List.{sum_by};
 ghost use Rattle.std.specs.Vec.{vec_len};
@@ -10,7 +10,7 @@ ghost use Rattle.congee.specs.Heap.{Stands};
 ghost use Rattle.congee.specs.Keys.{IsMapOf};
 ghost use Rattle.congee.specs.protocol.PlainSteps.{Plain};
 ghost use Rattle.joint.specs.Alone.{AllEndAlone};
-ghost use Rattle.joint.specs.Closing.{IsClosed, IsNotClosed};
+ghost use Rattle.joint.specs.Closing.{IsClosed, IsNotClosed, account_of};
 ghost use Rattle.joint.specs.Forest.{IsBeside, nodes};
 ghost use Rattle.joint.specs.Journaling.{asks_at, has_place};
 ghost use Rattle.joint.specs.Listing.{IsListOf, bytes_of, standing_nodes, waiting_nodes};
@@ -25,6 +25,7 @@ ghost use Rattle.joint.specs.Scans.{ScansHold, EmptyScansHold};
 ghost use Rattle.joint.specs.Whereabouts.{AllSomewhere, IsWaiting};
 ghost use Rattle.joint.specs.Whole.{Holds};
 
+use crate::account::Account;
 use crate::engine::Engine;
 use crate::laws::{comes_back, runs_alone, runs_plain, runs_spare, waits, whereabouts};
 use crate::limits::Limits;
@@ -103,10 +104,11 @@ impl<P: Payload + Small, A: Allocator> World<P, A> {
         let _ = &self.engine;
     }
 
-    /// These steps, one after another, until there is no memory for a report. From the opening on, `promises` says in one
-    /// place all that is promised of a run.
+    /// These steps, one after another, until there is no memory for a report: it stops early only where the list of reports
+    /// is full. From the opening on, `promises` says in one place all that is promised of a run.
     pub fn run(&mut self, alloc: Global, steps: Vec<Step<P>>) -> Ran<P>
         ensures done { result.done ≡ vec_len result.reports }
+        ensures full { result.done < length steps.items → vec_capacity result.reports ≤ vec_len result.reports }
         ensures run { IsRun P.same_as P.always_copies self.old (take result.done steps.items) result.reports.items self.new }
         ensures map { (fs : Flights P) (m : Pairs P) → IsMapOf (nodes self.old.forest) m → AreInFlight self.old fs → RunsMap P.same_as fs m (take result.done steps.items) result.reports.items self.new }
         ensures fresh { IsFresh self.old → RunsMap P.same_as no_flights empty (take result.done steps.items) result.reports.items self.new }
@@ -133,6 +135,7 @@ impl<P: Payload + Small, A: Allocator> World<P, A> {
     /// Takes the steps one after another, until there is no memory for a report.
     fn take_all(&mut self, alloc: Global, steps: Vec<Step<P>>) -> Ran<P>
         ensures done { result.done ≡ vec_len result.reports }
+        ensures full { result.done < length steps.items → vec_capacity result.reports ≤ vec_len result.reports }
         ensures run { IsRun P.same_as P.always_copies self.old (take result.done steps.items) result.reports.items self.new }
     {
         let mut reports = Vec::new(alloc);
@@ -187,6 +190,13 @@ impl<P: Payload + Small, A: Allocator> World<P, A> {
         ensures none { self.now.log.places ≡ 0 → result.now ≡ [] }
     {
         self.log.entries()
+    }
+
+    /// What came in with the allocator.
+    pub(crate) fn account(&self) -> Account
+        ensures { result ≡ account_of self.now }
+    {
+        self.engine.nodes.account()
     }
 
     /// Whether the next step of a worker's call takes its closure's answer.

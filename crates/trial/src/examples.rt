@@ -3,6 +3,7 @@
 pub mod collector;
 pub mod counter;
 pub mod driven;
+pub mod grace;
 pub mod history;
 pub mod journal;
 pub mod machine;

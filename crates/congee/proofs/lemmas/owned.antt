@@ -11,7 +11,7 @@ pub mod Freeing
 pub mod Joins
 pub mod Moves
 pub mod OwnerLemmas
-pub mod Popped
+pub mod Walks
 pub mod Puts
 pub mod RangeLemmas
 pub mod Renaming
@@ -33,6 +33,7 @@ pub mod Ways
 pub mod Tallies
 pub mod Stored
 pub mod Surveys
+pub mod Sights
 pub mod Standing
 pub mod StatsTexts
 pub mod Hangings

@@ -1,7 +1,7 @@
 -- An arena's nodes and what its allocator has charged.
 use Rattle.std.specs.Prelude.{◌≡◌, ℕ, ◌+◌, ◌≤◌, List}
 use Rattle.congee.specs.owned.Sizes.{bytes_of}
-use Rattle.congee.specs.owned.Wanted.{IsRefusedOf, gain}
+use Rattle.congee.specs.owned.Wanted.{AllFit, IsRefusedOf, gain}
 use Rattle.congee.specs.declared.allocator.OOMError.{OOMError}
 use Rattle.congee.specs.declared.owned.arena.Arena.{Arena}
 
@@ -21,6 +21,10 @@ module _ {P A : Type 0} where
   -- nodes of these sizes were made
   abbrev pub Grows : Arena P A → Arena P A → List ℕ → Type 0
   Grows old new sizes = bytes_of new.nodes ≡ bytes_of old.nodes + gain sizes
+
+  -- the budget has room for nodes of these sizes
+  abbrev pub Affords : (A → ℕ) → (A → ℕ) → Arena P A → List ℕ → Type 0
+  Affords charged limit t sizes = AllFit sizes (charged t.allocator) (limit t.allocator)
 
   -- why one of these nodes wasn't made
   abbrev pub IsRefusedBy : (A → ℕ) → (A → ℕ) → Arena P A → List ℕ → OOMError → Type 0

@@ -6,7 +6,7 @@ use Rattle.congee.specs.owned.Changes.{MapChange}
 use Rattle.congee.specs.owned.Charge.{Balances, KeepsLimit}
 use Rattle.congee.specs.owned.OwnedSteps.{SameNodes}
 use Rattle.congee.specs.owned.Sizes.{bytes_of}
-use Rattle.congee.specs.owned.Wanted.{IsRefused, gain_of, size_by}
+use Rattle.congee.specs.owned.Wanted.{InsertionFits, IsRefused, gain_of, size_by}
 use Rattle.congee.specs.declared.allocator.OOMError.{OOMError}
 use Rattle.congee.specs.declared.owned.arena.Arena.{Arena}
 
@@ -25,9 +25,10 @@ module _ {P A : Type 0} where
     pub bytes : bytes_of new.nodes ≡ bytes_of old.nodes
     pub allocator : new.allocator ≡ old.allocator
 
-  -- an insertion: the key has the value, and nodes of these sizes are made; no node is where the key was present
+  -- an insertion: the key has the value, and nodes of these sizes are made, which fitted; no node is where the key was present
   pub record Adds (charged limit : A → ℕ) (old new : Arena P A) (key : List ℕ) (before : Option P) (value : P) (wants : Option (List ℕ)) : Type 0 where
     pub edits : Edits charged limit old new key before (Some value)
+    pub fits : InsertionFits wants (charged old.allocator) (limit old.allocator)
     pub bytes : bytes_of new.nodes ≡ bytes_of old.nodes + gain_of wants
 
   -- a refused insertion: the key is absent, one of these nodes wasn't made, the value comes back, and all is as before

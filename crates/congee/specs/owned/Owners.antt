@@ -3,7 +3,7 @@ use Rattle.std.specs.Prelude.{◌≡◌, ℕ, ◌+◌, ◌-◌, ◌^◌, Bool, f
 use Rattle.std.specs.Ordering.{nat_cmp}
 use Rattle.std.specs.FinMap as map
 use Rattle.std.specs.Coded.{Coded, code_by, coded×, coded_ℕ, coded_list}
-use Rattle.congee.specs.owned.Wanted.{IsRefused, gain_of}
+use Rattle.congee.specs.owned.Wanted.{InsertionFits, IsRefused, gain_of}
 use Rattle.congee.specs.declared.allocator.OOMError.{OOMError}
 use Rattle.judge.specs.Answer.{answer}
 use Rattle.judge.specs.declared.journal.Call.{Call}
@@ -36,9 +36,11 @@ abbrev pub OwnerAnswers : {V : Type 0} → Owners V → Owners V → Call V → 
 OwnerAnswers old new call reply = answer never_same old.pairs call ≡ (reply, new.pairs)
 
 module _ {V : Type 0} (old new : Owners V) where
-  -- an insertion: the call is the one on the map, and the sum of the nodes' sizes grows by those that it makes
+  -- an insertion: the call is the one on the map, the nodes that it makes fitted, and the sum of the nodes' sizes grows by
+  -- theirs
   pub record OwnerInserts (key : ℕ) (call : Call V) (reply : Reply V) : Type 0 where
     pub answers : OwnerAnswers old new call reply
+    pub fits : InsertionFits (map.get old.wants key) old.bytes (2 ^ 64 - 1)
     pub bytes : new.bytes ≡ old.bytes + gain_of (map.get old.wants key)
 
   -- a refused insertion: the key is absent, one of the nodes that it makes wasn't made, and it leaves all as it was

@@ -57,6 +57,17 @@ abbrev pub freed_by : {Y : Type 0} → Option Y → Option ℕ → ℕ
 freed_by None size = freed_of size
 freed_by (Some y) size = 0
 
+-- each of these nodes fits the limit where it is charged after those before it: one that takes the place of another is
+-- charged while that one still is
+abbrev pub AllFit : List ℕ → ℕ → ℕ → Type 0
+AllFit [] charged limit = Unit {0}
+AllFit (size ∷ sizes) charged limit = (charged + size ≤ limit) × AllFit sizes (charged + size) limit
+
+-- so do the nodes that an insertion makes
+abbrev pub InsertionFits : Option (List ℕ) → ℕ → ℕ → Type 0
+InsertionFits None charged limit = Unit {0}
+InsertionFits (Some sizes) charged limit = AllFit sizes charged limit
+
 -- why the first of these nodes wasn't made, or a later one, which is charged after those before it
 abbrev pub IsRefusedOf : List ℕ → ℕ → ℕ → OOMError → Type 0
 IsRefusedOf [] charged limit e = ⊥

@@ -41,6 +41,10 @@ use Rattle.congee.specs.protocol.Events.{ReadGives, SameBut, upgrade_gives, Make
 use Rattle.congee.specs.Keys.{key_bytes}
 use Rattle.congee.specs.declared.forms.prefix.TheConstants.{MAX_PREFIX_LEN}
 
+-- the next step and the report, as one
+abbrev pub turn_of : {C V : Type 0} → Phase C V → Move V → Turn C V
+turn_of s d = record { phase = s; report = d }
+
 -- what a step leaves: it goes on, begins anew, answers in this step, ends with an answer given before, is refused,
 -- takes effect and goes on, or asks
 abbrev pub quiet : {C V : Type 0} → Phase C V → Turn C V
@@ -408,19 +412,39 @@ IsReleasing (Unwind n e) = Unit {0}
 IsReleasing Ended = Unit {0}
 IsReleasing _ = ⊥
 
--- one in which it may make, lock or change nodes, or one of these
+-- one that has the value that stands
+abbrev pub HasValue : {C V : Type 0} → Phase C V → Type 0
+HasValue (CheckOld p s v) = Unit {0}
+HasValue (AskOld s v) = Unit {0}
+HasValue _ = ⊥
+
+-- one in which it may lock or change nodes, or one of these
+abbrev pub MayLock : {C V : Type 0} → Phase C V → Type 0
+MayLock (CheckAbove p one r) = Unit {0}
+MayLock (UpgradeOne one r) = Unit {0}
+MayLock (ChangeOne one r) = Unit {0}
+MayLock (UpgradeAbove two r) = Unit {0}
+MayLock (UpgradeBelow two r) = Unit {0}
+MayLock (ChangeTwo two r) = Unit {0}
+MayLock s = IsReleasing s
+
+-- one in which it may make nodes, or one of these
 abbrev pub Acts : {C V : Type 0} → Phase C V → Type 0
 Acts (MakeLeaf s) = Unit {0}
 Acts (MakeGreater s p leaf) = Unit {0}
 Acts (MakeTop p at common byte) = Unit {0}
 Acts (MakeBeside p at common byte top) = Unit {0}
-Acts (CheckAbove p one r) = Unit {0}
-Acts (UpgradeOne one r) = Unit {0}
-Acts (ChangeOne one r) = Unit {0}
-Acts (UpgradeAbove two r) = Unit {0}
-Acts (UpgradeBelow two r) = Unit {0}
-Acts (ChangeTwo two r) = Unit {0}
-Acts s = IsReleasing s
+Acts s = MayLock s
+
+-- one in which it checks once more or takes an answer, or one of these
+abbrev pub Settles : {C V : Type 0} → Phase C V → Type 0
+Settles (CheckUncopied at) = Unit {0}
+Settles (CheckMiss p at common byte) = Unit {0}
+Settles (CheckOld p s v) = Unit {0}
+Settles (AskOld s v) = Unit {0}
+Settles (AskNew plan) = Unit {0}
+Settles (Confirm at r) = Unit {0}
+Settles s = Acts s
 
 -- what the store wants of the made nodes that may go back
 abbrev pub MayBackOne : {C V : Type 0} → (C → ℕ) → (ℕ → Node V) → Single C → Type 0

@@ -77,7 +77,7 @@ impl<P: Stored, A: Allocator> Arena<P, A> {
     ghost use Rattle.congee.specs.forms.Forms.{size_of};
     ghost use Rattle.congee.specs.owned.Arena.{heap_of};
     ghost use Rattle.congee.specs.owned.OwnedSteps.{MakesRoom, SameNodes, IsRefusal};
-    ghost use Rattle.congee.specs.owned.Charge.{Balances, Covers, Grows, IsRefusedBy, KeepsLimit};
+    ghost use Rattle.congee.specs.owned.Charge.{Affords, Balances, Covers, Grows, IsRefusedBy, KeepsLimit};
     ghost use Rattle.congee.specs.owned.Wanted.{room_for};
     ghost use Rattle.congee.specs.declared.forms.base_node.Node.{Node as Form};
     ghost use Rattle.congee.specs.declared.forms.base_node.NodeType.TheVariants.{N4};
@@ -111,6 +111,7 @@ impl<P: Stored, A: Allocator> Arena<P, A> {
         ensures balance { Balances A.charged_of self.old self.new }
         ensures limit { KeepsLimit A.limit_of self.old self.new }
         ensures refused { IfErr result (λ e. IsRefusedBy A.charged_of A.limit_of self.old (room_for (heap_of self.old.nodes at)) e) }
+        ensures fits { OnOk result (Affords A.charged_of A.limit_of self.old (room_for (heap_of self.old.nodes at))) }
         ensures grown { OnOk result (Grows self.old self.new (room_for (heap_of self.old.nodes at))) }
         ensures keeps { (n : ℕ) → HasRoomFor self.old.nodes n → HasRoomFor self.new.nodes n }
     {

@@ -18,7 +18,6 @@ use crate::forms::base_node::NodeType;
 use crate::owned::arena::{Arena, Stored};
 use crate::owned::drainer::Drainer;
 use crate::owned::nodes::Nodes;
-use crate::owned::scan::beginning;
 use judge::Word64;
 
 /// The sum of the nodes' sizes, in bytes.
@@ -73,8 +72,8 @@ impl<A: Allocator> Arena<u64, A> {
         ensures { Drained D.drains K.of_word V.of_word drainer (map.entries (pairs_of self.now.nodes)) result }
     {
         let mut drainer = drainer;
-        let mut cursor = beginning();
-        while let Some((key, value)) = self.next_along(&mut cursor) {
+        let mut walk = self.beginning();
+        while let Some((key, value)) = self.next_along(&mut walk) {
             drainer.drain(K::from_word(key), V::from_word(*value));
         }
         drainer

@@ -38,7 +38,7 @@ pub struct Congee<K, V, A: Allocator = DefaultAllocator, D = NoDrain> {
 }
 
 impl<K, V, A: Allocator, D> Model for Congee<K, V, A, D> {
-    ghost use Rattle.std.specs.Prelude.{ℕ, ◌≤◌};
+    ghost use Rattle.std.specs.Prelude.{ℕ, ◌≤◌, ◌-◌};
     ghost use Rattle.std.specs.Coded.{coded_ℕ};
     ghost use Rattle.congee.specs.owned.Content.{Content, content_code};
 
@@ -52,7 +52,7 @@ impl<K, V, A: Allocator, D> Model for Congee<K, V, A, D> {
     ghost use Rattle.congee.specs.owned.Table.{pairs_of};
     ghost use Rattle.congee.specs.owned.Wanted.{wants_of, lone_of};
 
-    ghost view = { λ t. record { pairs = pairs_of t.arena.nodes; nodes = nodes_of t.arena.nodes; bytes = bytes_of t.arena.nodes; wants = wants_of t.arena.nodes; lone = lone_of t.arena.nodes; allocator = t.arena.allocator; drainer = t.drainer } };
+    ghost view = { λ t. record { pairs = pairs_of t.arena.nodes; nodes = nodes_of t.arena.nodes; bytes = bytes_of t.arena.nodes; base = A.charged_of t.arena.allocator - bytes_of t.arena.nodes; wants = wants_of t.arena.nodes; lone = lone_of t.arena.nodes; allocator = t.arena.allocator; drainer = t.drainer } };
 
     ghost invariant = { λ t. IsTree t.arena.nodes × (bytes_of t.arena.nodes ≤ A.charged_of t.arena.allocator) };
 }
@@ -102,6 +102,7 @@ impl<K: Word64, V: Word64, A: Allocator, D: Drop> Congee<K, V, A, D> {
     pub fn new_with_drainer(alloc: Global, allocator: A, drainer: D) -> Result<Self, OOMError>
         ensures bare { IfOk result (λ t. IsBare t) }
         ensures charged { IfOk result (λ t. A.charged_of t.allocator ≡ A.charged_of allocator + size_of N256) }
+        ensures base { IfOk result (λ t. t.base ≡ A.charged_of allocator) }
         ensures limit { IfOk result (λ t. A.limit_of t.allocator ≡ A.limit_of allocator) }
         ensures drainer { IfOk result (λ t. t.drainer ≡ drainer) }
         ensures refused { IfErr result (λ e. IsRefusal (A.charged_of allocator) (size_of N256) (A.limit_of allocator) e) }
@@ -129,6 +130,7 @@ impl<K: Word64, V: Word64, A: Allocator, D: Drop> Congee<K, V, A, D> {
             (call.ComputePresent (K.word key.now) r.1) (reply.ComputePresent (Some (r.0, r.1)))) }
         ensures absent { IfNone result (ChangesNothing nat_eq A.charged_of A.limit_of self.old self.new
             (call.ComputePresent (K.word key.now) None) (reply.ComputePresent None)) }
+        ensures base { self.new.base ≡ self.old.base }
     {
         let bytes = bytes_of_key(key);
         let Some(old) = self.arena.get(&bytes).copied() else {
@@ -151,6 +153,7 @@ impl<K: Word64, V: Word64, A: Allocator, D: Drop> Congee<K, V, A, D> {
             × Inserts nat_eq A.charged_of A.limit_of self.old self.new (K.word key)
             (call.ComputeInsert (K.word key) value) (reply.ComputeInsert before)) }
         ensures refused { IfErr result (Refuses A.charged_of A.limit_of self.old self.new (K.word key)) }
+        ensures base { self.new.base ≡ self.old.base }
     {
         let bytes = bytes_of_key(&key);
         let old = self.arena.get(&bytes).copied();
@@ -175,6 +178,7 @@ impl<K: Word64, V: Word64, A: Allocator, D: Drop> Congee<K, V, A, D> {
         ensures other { IfErr result (λ r. (found : Option ℕ) × (r ≡ option_map V.of_word found)
             × ChangesNothing nat_eq A.charged_of A.limit_of self.old self.new
             (call.Exchange (K.word key.now) (V.word old.now) (option_map V.word new)) (reply.Exchange (Err found))) }
+        ensures base { self.new.base ≡ self.old.base }
     {
         let bytes = bytes_of_key(key);
         let old = old.to_word();
@@ -202,6 +206,7 @@ impl<K: Word64, V: Word64, A: Allocator, D: Drop> Congee<K, V, A, D> {
             (call.Insert (K.word key) (V.word value)) (reply.Insert before)) }
         ensures put { OnOk result (map.get self.new.pairs (K.word key) ≡ Some (V.word value)) }
         ensures refused { IfErr result (Refuses A.charged_of A.limit_of self.old self.new (K.word key)) }
+        ensures base { self.new.base ≡ self.old.base }
     {
         let bytes = bytes_of_key(&key);
         match self.arena.insert(self.alloc, &bytes, value.to_word()) {
@@ -212,9 +217,10 @@ impl<K: Word64, V: Word64, A: Allocator, D: Drop> Congee<K, V, A, D> {
 
     /// Takes a key's value out.
     pub fn remove(&mut self, key: &K) -> Option<V>
-        ensures { (before : Option ℕ) × (result ≡ option_map V.of_word before)
+        ensures removes { (before : Option ℕ) × (result ≡ option_map V.of_word before)
             × Modifies nat_eq A.charged_of A.limit_of self.old self.new (freed_of (map.get self.old.lone (K.word key.now)))
             (call.Remove (K.word key.now)) (reply.Remove before) }
+        ensures base { self.new.base ≡ self.old.base }
     {
         let bytes = bytes_of_key(key);
         word_of(self.arena.remove(&bytes))
@@ -225,6 +231,7 @@ impl<K: Word64, V: Word64, A: Allocator, D: Drop> Congee<K, V, A, D> {
     pub fn clear(&mut self)
         ensures bare { IsBare self.new }
         ensures keeps { KeepsCharge A.charged_of A.limit_of self.old self.new }
+        ensures base { self.new.base ≡ self.old.base }
     {
         self.arena.clear();
     }
@@ -363,9 +370,10 @@ impl<K: Word64, V: Word64, A: Allocator, D: Drop> Congee<K, V, A, D> {
         self.arena.leaves_hold();
     }
 
-    /// The bytes that the allocator has charged.
+    /// The bytes that the allocator has charged: those that it had charged before the tree was opened, and the nodes' sizes.
     pub fn charged(&self) -> u64
-        ensures { result ≡ A.charged_of self.now.allocator }
+        ensures charged { result ≡ A.charged_of self.now.allocator }
+        ensures parts { result ≡ self.now.base + self.now.bytes }
     {
         self.arena.allocator.charged()
     }
@@ -376,6 +384,7 @@ impl<K: Word64, V: Word64, A: Allocator> Congee<K, V, A, NoDrain> {
     pub fn new(alloc: Global, allocator: A) -> Result<Self, OOMError>
         ensures bare { IfOk result (λ t. IsBare t) }
         ensures charged { IfOk result (λ t. A.charged_of t.allocator ≡ A.charged_of allocator + size_of N256) }
+        ensures base { IfOk result (λ t. t.base ≡ A.charged_of allocator) }
         ensures limit { IfOk result (λ t. A.limit_of t.allocator ≡ A.limit_of allocator) }
         ensures refused { IfErr result (λ e. IsRefusal (A.charged_of allocator) (size_of N256) (A.limit_of allocator) e) }
     {
@@ -389,7 +398,8 @@ impl<K: Word64, V: Word64, A: Allocator, D: Drainer<K, V>> Congee<K, V, A, D> {
     pub fn close(self) -> (A, D)
         requires { D.can_drain self.drainer }
         ensures drained { Drained D.drains K.of_word V.of_word self.drainer (map.entries self.pairs) result.1 }
-        ensures charged { A.charged_of result.0 + self.bytes ≡ A.charged_of self.allocator }
+        ensures charged { A.charged_of result.0 ≡ self.base }
+        ensures taken_off { A.charged_of result.0 + self.bytes ≡ A.charged_of self.allocator }
         ensures limit { A.limit_of result.0 ≡ A.limit_of self.allocator }
     {
         let Congee { arena, drainer, .. } = self;

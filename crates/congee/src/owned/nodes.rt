@@ -2,6 +2,8 @@
 ghost use Rattle.std.specs.Prelude.{◌≡◌, ◌+◌, ◌*◌, ◌/◌, ◌%◌, ◌<◌, ◌≤◌, ◌^◌, ℕ, length, [], Some, None, false, true, IsSome, IfOk, OnOk, OnErr, IfSome, MatchOption, IsTrue, ◌↔◌, take, slice_index};
 ghost use Rattle.std.specs.FinMap as map;
 ghost use Rattle.slab.specs.Slab.{Slab as SlabOf, get, ContainsKey, HasRoomFor, SameValues, Updates};
+ghost use Rattle.congee.specs.Heap.{fits};
+ghost use Rattle.congee.specs.Keys.{key_bytes};
 ghost use Rattle.congee.specs.forms.Forms.{Becomes, children_of, form_of, is_full_of, prefix_of};
 ghost use Rattle.congee.specs.declared.keys.TheConstants.{KEY_BYTES};
 ghost use Rattle.congee.specs.declared.forms.prefix.TheConstants.{MAX_PREFIX_LEN};
@@ -13,6 +15,7 @@ use crate::keys::{KEY_BYTES, key_of_bytes};
 use crate::owned::arena::Stored;
 use crate::owned::place::{Found, Way};
 use crate::owned::placed::Placed;
+use crate::owned::sight::Sight;
 use slab::Slab;
 use std::alloc::{AllocError, Global};
 use std::marker::Model;
@@ -20,8 +23,8 @@ use std::marker::Model;
 /// A leaf with one value, in the place of its parent that it hangs in.
 #[derive(Drop)]
 pub(crate) struct Lone<P> {
-    key: [u8; KEY_BYTES],
-    value: P,
+    pub(crate) key: [u8; KEY_BYTES],
+    pub(crate) value: P,
     ghost whole: { length key ≡ KEY_BYTES },
     ghost last: { slice_index key MAX_PREFIX_LEN < 256 },
 }
@@ -60,7 +63,7 @@ impl Model for Name {
 impl Name {
     /// The name of the node in a slot.
     #[inline(always)]
-    fn of(slot: usize) -> Self
+    pub(crate) fn of(slot: usize) -> Self
         ensures { result ≡ 257 * slot }
     {
         Name { slot, byte: None }
@@ -68,7 +71,7 @@ impl Name {
 
     /// The name of a leaf in the place of its parent.
     #[inline(always)]
-    fn inline(slot: usize, byte: u8) -> Self
+    pub(crate) fn inline(slot: usize, byte: u8) -> Self
         ensures { result ≡ 257 * slot + (byte + 1) }
     {
         Name {
@@ -132,6 +135,16 @@ pub(crate) fn key_from(prefix: &[u8], last: u8) -> [u8; KEY_BYTES]
         key[i] = prefix[i];
     }
     key
+}
+
+/// The key of a leaf's pair as a number.
+#[inline(always)]
+fn key_of(prefix: &[u8], last: u8) -> u64
+    requires { length prefix.now ≡ MAX_PREFIX_LEN }
+    ensures begins { fits prefix.now (key_bytes result) ≡ true }
+    ensures ends { slice_index (key_bytes result) MAX_PREFIX_LEN ≡ last }
+{
+    key_of_bytes(&key_from(prefix, last))
 }
 
 impl<P> Lone<P> {
@@ -331,6 +344,7 @@ impl<P: Stored> Nodes<P> {
     ghost use Rattle.congee.specs.owned.Naming.{HasOwnSlot};
     ghost use Rattle.congee.specs.owned.OwnedSteps.{Makes, Sets};
     ghost use Rattle.congee.specs.owned.Renames.{Renames};
+    ghost use Rattle.congee.specs.owned.Sights.{Sees};
     ghost use Rattle.congee.specs.owned.Sizes.{bytes_of};
     ghost use Rattle.congee.specs.owned.Slots.{inner_child, lone_node, with_children};
     ghost use Rattle.congee.specs.owned.Stores.{Folds, GrowsTo, HasOne, HangsLeaf, HasInline, HasNode, IsAlone, IsLone, LeafStands, LeavesRoot, LosesLeaf, MakesLeaf, child_now};
@@ -564,6 +578,21 @@ impl<P: Stored> Nodes<P> {
                 Some((byte, Child::Blank)) => Some((byte, Found::Blank)),
                 Some((byte, Child::Node(below))) => Some((byte, Found::Node(Name::of(*below)))),
                 Some((byte, Child::Value(value))) => Some((byte, Found::Value(value))),
+            },
+        }
+    }
+
+    /// A node, read once.
+    #[inline(always)]
+    pub(crate) fn sight(&self, at: Name) -> Sight<'_, P>
+        requires { ContainsKey self.now at }
+        ensures { Sees self.now at result }
+    {
+        match at.byte {
+            Some(byte) => Sight::Inline(self.lone(at.slot, byte)),
+            None => match &self.slab[at.slot] {
+                Slot::Inner(n) => Sight::Inner(at.slot, n),
+                Slot::Leaf(n) => Sight::Leaf(key_of(n.prefix(), 0), n),
             },
         }
     }

@@ -1,90 +1,96 @@
 //! The pairs of an arena by ascending keys.
-ghost use Rattle.std.specs.Prelude.{◌≡◌, ◌+◌, ℕ, ◌<◌, ◌≤◌, [], ◌∷◌, length, take, drop, slice_index, None, OnSome, IfOk, true, MatchOption};
+ghost use Rattle.std.specs.Prelude.{◌≡◌, ◌+◌, ℕ, ◌<◌, ◌≤◌, [], ◌∷◌, ◌++◌, length, take, drop, None, OnSome, IfOk, MatchOption};
 ghost use Rattle.std.specs.FinMap as map;
-ghost use Rattle.congee.specs.Heap.{fits};
 ghost use Rattle.congee.specs.Keys.{key_bytes};
 ghost use Rattle.congee.specs.owned.Arena.{IsTree};
 ghost use Rattle.congee.specs.forms.Bytes.{IsFirst};
 ghost use Rattle.congee.specs.owned.Nearest.{IsLeast, IsGreatest};
-ghost use Rattle.congee.specs.owned.Cursor.{IsCursor, IsAt, steps_left};
+ghost use Rattle.congee.specs.owned.Cursor.{IsAt, steps_left};
 ghost use Rattle.congee.specs.owned.Table.{pairs_of};
 ghost use Rattle.congee.specs.owned.Ranges.{entries_by, in_range, keys_by};
+ghost use Rattle.congee.specs.owned.Sights.{Sees};
+ghost use Rattle.congee.specs.owned.Walks.{IsWalk, steps_of};
+ghost use Rattle.slab.specs.Slab.{ContainsKey};
 
 use crate::allocator::Allocator;
-use crate::forms::prefix::MAX_PREFIX_LEN;
-use crate::keys::{KEY_BYTES, bytes_of_key, key_of_bytes};
+use crate::keys::{KEY_BYTES, bytes_of_key};
 use crate::owned::arena::{Arena, Stored};
 use crate::owned::edit::first_apart;
-use crate::owned::nodes::{Name, key_from};
-use crate::owned::place::{Found, Way};
+use crate::owned::nodes::Name;
+use crate::owned::place::Way;
+use crate::owned::sight::{Next, Sight};
 use arrayvec::ArrayVec;
 use judge::Word64;
 use std::alloc::{AllocError, Global};
 
-/// A node on a scan's way, and the least of its bytes that the scan has yet to look at: 256 where none is left.
+/// A node on a walk's way, and the least of its bytes that the walk has yet to look at: 256 where none is left.
 #[derive(Clone, Copy, Default)]
 pub(crate) struct Branch {
     node: Name,
     from: usize,
 }
 
-/// The nodes of a scan's way from the root down, each below the one before.
-pub(crate) type Cursor = ArrayVec<Branch, KEY_BYTES>;
+/// The nodes of a walk's way from the root down, each below the one before.
+type Cursor = ArrayVec<Branch, KEY_BYTES>;
 
-/// The cursor before every pair.
-pub(crate) fn beginning() -> Cursor
-    ensures { result.items ≡ record { node = 0; from = 0 } ∷ [] }
-{
-    let mut cursor = Cursor::new();
-    cursor.push(Branch {
-        node: Name::root(),
-        from: 0,
-    });
-    cursor
-}
-
-/// The key of a leaf's pair: the leaf's prefix, and the byte.
-#[inline(always)]
-fn key_of(prefix: &[u8], byte: u8) -> u64
-    requires { length prefix.now ≡ MAX_PREFIX_LEN }
-    ensures begins { fits prefix.now (key_bytes result) ≡ true }
-    ensures ends { slice_index (key_bytes result) MAX_PREFIX_LEN ≡ byte }
-{
-    key_of_bytes(&key_from(prefix, byte))
+/// A walk over the pairs, ascending. The node that it is in was read once, and is left only for the next one below or above.
+#[derive(Drop)]
+pub(crate) struct Walk<'a, P: Stored> {
+    above: Cursor,
+    at: Name,
+    from: usize,
+    sight: Sight<'a, P>,
 }
 
 impl<P: Stored, A: Allocator> Arena<P, A> {
-    /// The cursor before the pair of the least key from a number on.
-    pub(crate) fn seek(&self, key: u64) -> Cursor
+    /// A walk that is at a node, below these steps.
+    #[inline(always)]
+    fn enter(&self, above: Cursor, at: Name, from: usize) -> Walk<'_, P>
+        requires { ContainsKey self.now.nodes at }
+        ensures steps { steps_of result ≡ above.items ++ record { node = at; from = from } ∷ [] }
+        ensures sees { Sees self.now.nodes result.at result.sight }
+    {
+        Walk {
+            above,
+            at,
+            from,
+            sight: self.nodes.sight(at),
+        }
+    }
+
+    /// The walk before every pair.
+    pub(crate) fn beginning(&self) -> Walk<'_, P>
         requires { IsTree self.now.nodes }
-        ensures cursor { IsCursor self.now.nodes result.items }
-        ensures at { IsAt self.now.nodes result.items key }
+        ensures walk { IsWalk self.now.nodes result }
+        ensures at { IsAt self.now.nodes (steps_of result) 0 }
+    {
+        self.enter(Cursor::new(), Name::root(), 0)
+    }
+
+    /// The walk before the pair of the least key from a number on.
+    pub(crate) fn seek(&self, key: u64) -> Walk<'_, P>
+        requires { IsTree self.now.nodes }
+        ensures walk { IsWalk self.now.nodes result }
+        ensures at { IsAt self.now.nodes (steps_of result) key }
     {
         let bytes = bytes_of_key(&key);
-        let mut cursor = Cursor::new();
+        let mut above = Cursor::new();
         let mut at = Name::root();
         loop {
             let mut from = bytes[self.nodes.prefix(at).len()] as usize;
             match self.nodes.look(at, &bytes) {
-                Way::Free => {
-                    cursor.push(Branch { node: at, from });
-                    return cursor;
-                }
-                Way::Held(_) => {
-                    cursor.push(Branch { node: at, from });
-                    return cursor;
-                }
+                Way::Free => return self.enter(above, at, from),
+                Way::Held(_) => return self.enter(above, at, from),
                 Way::Apart(below) => {
                     let prefix = self.nodes.prefix(below);
                     let apart = first_apart(&bytes, prefix);
                     if prefix[apart] < bytes[apart] {
                         from += 1;
                     }
-                    cursor.push(Branch { node: at, from });
-                    return cursor;
+                    return self.enter(above, at, from);
                 }
                 Way::Below(below) => {
-                    cursor.push(Branch {
+                    above.push(Branch {
                         node: at,
                         from: from + 1,
                     });
@@ -94,36 +100,43 @@ impl<P: Stored, A: Allocator> Arena<P, A> {
         }
     }
 
-    /// The next pair. The cursor is past it then.
+    /// The next pair. The walk is past it then.
     #[inline(always)]
-    pub(crate) fn next_along(&self, cursor: &mut Cursor) -> Option<(u64, &P)>
+    pub(crate) fn next_along<'a>(&'a self, walk: &mut Walk<'a, P>) -> Option<(u64, &'a P)>
         requires tree { IsTree self.now.nodes }
-        requires cursor { IsCursor self.now.nodes cursor.old.items }
-        ensures cursor { IsCursor self.now.nodes cursor.new.items }
-        ensures less { OnSome result (steps_left KEY_BYTES cursor.new.items < steps_left KEY_BYTES cursor.old.items) }
-        ensures first { (from : ℕ) → IsAt self.now.nodes cursor.old.items from
+        requires walk { IsWalk self.now.nodes walk.old }
+        ensures walk { IsWalk self.now.nodes walk.new }
+        ensures less { OnSome result (steps_left KEY_BYTES (steps_of walk.new) < steps_left KEY_BYTES (steps_of walk.old)) }
+        ensures first { (from : ℕ) → IsAt self.now.nodes (steps_of walk.old) from
             → MatchOption result ((q : ℕ) → from ≤ q → map.get (pairs_of self.now.nodes) q ≡ None)
-            (λ r. IsFirst (pairs_of self.now.nodes) from r.0 r.1.now × IsAt self.now.nodes cursor.new.items (r.0 + 1)) }
+            (λ r. IsFirst (pairs_of self.now.nodes) from r.0 r.1.now × IsAt self.now.nodes (steps_of walk.new) (r.0 + 1)) }
     {
-        while let Some(Branch { node: at, from }) = cursor.pop() {
-            let Some((byte, child)) = self.nodes.first_from(at, from) else {
-                continue;
+        'steps: loop {
+            let Some((byte, child)) = walk.sight.first_from(walk.from) else {
+                let Some(branch) = walk.above.pop() else {
+                    return None;
+                };
+                walk.at = branch.node;
+                walk.from = branch.from;
+                walk.sight = self.nodes.sight(walk.at);
+                continue 'steps;
             };
-            cursor.push(Branch {
-                node: at,
-                from: byte as usize + 1,
-            });
+            walk.from = byte as usize + 1;
             match child {
-                Found::Blank => unreachable!(),
-                Found::Value(value) => return Some((key_of(self.nodes.prefix(at), byte), value)),
-                Found::Leaf(_, key, value) => return Some((key, value)),
-                Found::Node(below) => cursor.push(Branch {
-                    node: below,
-                    from: 0,
-                }),
+                Next::Blank => unreachable!(),
+                Next::Value(key, value) => return Some((key, value)),
+                Next::Leaf(_, key, value) => return Some((key, value)),
+                Next::Node(below) => {
+                    walk.above.push(Branch {
+                        node: walk.at,
+                        from: walk.from,
+                    });
+                    walk.at = below;
+                    walk.from = 0;
+                    walk.sight = self.nodes.sight(walk.at);
+                }
             }
         }
-        None
     }
 
     /// The pair of the least key.
@@ -132,7 +145,7 @@ impl<P: Stored, A: Allocator> Arena<P, A> {
         ensures { MatchOption result ((q : ℕ) → 0 ≤ q → map.get (pairs_of self.now.nodes) q ≡ None)
             (λ r. IsFirst (pairs_of self.now.nodes) 0 r.0 r.1.now) }
     {
-        self.next_along(&mut beginning())
+        self.next_along(&mut self.beginning())
     }
 
     /// All keys, ascending.
@@ -141,8 +154,8 @@ impl<P: Stored, A: Allocator> Arena<P, A> {
         ensures { IfOk result (λ keys. keys.items ≡ keys_by K.of_word (map.entries (pairs_of self.now.nodes))) }
     {
         let mut keys = Vec::new(alloc);
-        let mut cursor = beginning();
-        while let Some((key, _)) = self.next_along(&mut cursor) {
+        let mut walk = self.beginning();
+        while let Some((key, _)) = self.next_along(&mut walk) {
             if keys.push(K::from_word(key)).is_err() {
                 return Err(AllocError);
             }
@@ -157,8 +170,8 @@ impl<A: Allocator> Arena<u64, A> {
         requires { IsTree self.now.nodes }
         ensures { IsLeast (pairs_of self.now.nodes) from result }
     {
-        let mut cursor = self.seek(from);
-        match self.next_along(&mut cursor) {
+        let mut walk = self.seek(from);
+        match self.next_along(&mut walk) {
             Some((key, value)) => Some((key, *value)),
             None => None,
         }
@@ -206,10 +219,10 @@ impl<A: Allocator> Arena<u64, A> {
         ensures count { result ≡ length (take (length out.old) (in_range start (last + 1) (map.entries (pairs_of self.now.nodes)))) }
         ensures past { drop result out.new ≡ drop result out.old }
     {
-        let mut cursor = self.seek(start);
+        let mut walk = self.seek(start);
         let mut count = 0;
         while count < out.len() {
-            match self.next_along(&mut cursor) {
+            match self.next_along(&mut walk) {
                 Some((key, value)) if key <= last => {
                     out[count] = E::of(key, *value);
                     count += 1;

@@ -14,7 +14,6 @@ use crate::allocator::Allocator;
 use crate::keys::KEY_BYTES;
 use crate::owned::arena::{Arena, Stored};
 use crate::owned::nodes::Name;
-use crate::owned::scan::beginning;
 use crate::owned::stats::NodeStats;
 use std::alloc::{AllocError, Global};
 
@@ -54,8 +53,8 @@ impl<P: Stored, A: Allocator> Arena<P, A> {
         ensures { result ≡ capped (map.len (pairs_of self.now.nodes)) }
     {
         let mut count = 0u64;
-        let mut cursor = beginning();
-        while self.next_along(&mut cursor).is_some() {
+        let mut walk = self.beginning();
+        while self.next_along(&mut walk).is_some() {
             count = count.saturating_add(1);
         }
         count

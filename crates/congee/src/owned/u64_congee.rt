@@ -34,6 +34,7 @@ impl<V: Word64, A: Allocator> U64Congee<V, A> {
     pub fn new(alloc: Global, allocator: A) -> Result<Self, OOMError>
         ensures bare { IfOk result (λ t. IsBare t.tree) }
         ensures charged { IfOk result (λ t. A.charged_of t.tree.allocator ≡ A.charged_of allocator + size_of N256) }
+        ensures base { IfOk result (λ t. t.tree.base ≡ A.charged_of allocator) }
         ensures limit { IfOk result (λ t. A.limit_of t.tree.allocator ≡ A.limit_of allocator) }
         ensures refused { IfErr result (λ e. IsRefusal (A.charged_of allocator) (size_of N256) (A.limit_of allocator) e) }
     {
@@ -56,15 +57,17 @@ impl<V: Word64, A: Allocator> U64Congee<V, A> {
             (call.Insert key (V.word value)) (reply.Insert before)) }
         ensures put { OnOk result (map.get self.new.tree.pairs key ≡ Some (V.word value)) }
         ensures refused { IfErr result (Refuses A.charged_of A.limit_of self.old.tree self.new.tree key) }
+        ensures base { self.new.tree.base ≡ self.old.tree.base }
     {
         self.tree.insert(key, value)
     }
 
     /// Takes a key's value out.
     pub fn remove(&mut self, key: u64) -> Option<V>
-        ensures { (before : Option ℕ) × (result ≡ option_map V.of_word before)
+        ensures removes { (before : Option ℕ) × (result ≡ option_map V.of_word before)
             × Modifies nat_eq A.charged_of A.limit_of self.old.tree self.new.tree (freed_of (map.get self.old.tree.lone key))
             (call.Remove key) (reply.Remove before) }
+        ensures base { self.new.tree.base ≡ self.old.tree.base }
     {
         self.tree.remove(&key)
     }
@@ -83,6 +86,7 @@ impl<V: Word64, A: Allocator> U64Congee<V, A> {
             (call.ComputePresent key r.1) (reply.ComputePresent (Some (r.0, r.1)))) }
         ensures absent { IfNone result (ChangesNothing nat_eq A.charged_of A.limit_of self.old.tree self.new.tree
             (call.ComputePresent key None) (reply.ComputePresent None)) }
+        ensures base { self.new.tree.base ≡ self.old.tree.base }
     {
         self.tree.compute_if_present(&key, f)
     }
@@ -99,6 +103,7 @@ impl<V: Word64, A: Allocator> U64Congee<V, A> {
             × Inserts nat_eq A.charged_of A.limit_of self.old.tree self.new.tree key
             (call.ComputeInsert key value) (reply.ComputeInsert before)) }
         ensures refused { IfErr result (Refuses A.charged_of A.limit_of self.old.tree self.new.tree key) }
+        ensures base { self.new.tree.base ≡ self.old.tree.base }
     {
         self.tree.compute_or_insert(key, f)
     }
@@ -108,6 +113,7 @@ impl<V: Word64, A: Allocator> U64Congee<V, A> {
     pub fn clear(&mut self)
         ensures bare { IsBare self.new.tree }
         ensures keeps { KeepsCharge A.charged_of A.limit_of self.old.tree self.new.tree }
+        ensures base { self.new.tree.base ≡ self.old.tree.base }
     {
         self.tree.clear();
     }
@@ -188,9 +194,10 @@ impl<V: Word64, A: Allocator> U64Congee<V, A> {
         self.tree.leaves_hold();
     }
 
-    /// The bytes that the allocator has charged.
+    /// The bytes that the allocator has charged: those that it had charged before the tree was opened, and the nodes' sizes.
     pub fn charged(&self) -> u64
-        ensures { result ≡ A.charged_of self.now.tree.allocator }
+        ensures charged { result ≡ A.charged_of self.now.tree.allocator }
+        ensures parts { result ≡ self.now.tree.base + self.now.tree.bytes }
     {
         self.tree.charged()
     }
@@ -222,7 +229,8 @@ impl<V: Word64, A: Allocator> U64Congee<V, A> {
 
     /// Drops the pairs and the nodes. Gives the allocator back with the charge with which it came in.
     pub fn close(self) -> A
-        ensures charged { A.charged_of result + self.tree.bytes ≡ A.charged_of self.tree.allocator }
+        ensures charged { A.charged_of result ≡ self.tree.base }
+        ensures taken_off { A.charged_of result + self.tree.bytes ≡ A.charged_of self.tree.allocator }
         ensures limit { A.limit_of result ≡ A.limit_of self.tree.allocator }
     {
         let (allocator, _) = self.tree.close();

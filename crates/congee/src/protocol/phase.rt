@@ -7,6 +7,7 @@ use crate::forms::child::Child;
 use crate::protocol::store::{NodeName, Refusal, Seat};
 use crate::protocol::sweep::Sweep;
 use judge::Reply;
+use std::mem;
 
 /// What a call does with its key.
 #[derive(Drop)]
@@ -321,4 +322,11 @@ impl<C: NodeName> Two<C> {
     {
         self.above.seat
     }
+}
+
+/// Takes the reply out of a phase that a step leaves.
+pub(crate) fn taken<P>(reply: &mut Reply<P>) -> Reply<P>
+    ensures { result ≡ reply.old }
+{
+    mem::replace(reply, Reply::Get(None))
 }

@@ -68,6 +68,7 @@ pub fn play<C: NodeName + Drop, P: Payload, S: Store<C, P>>(
 }
 
 /// The step of the call at its place.
+#[inline(always)]
 pub fn step_of<C: NodeName + Drop, P: Payload, S: Store<C, P>>(
     store: &mut S,
     machines: &mut [Machine<C, P>],

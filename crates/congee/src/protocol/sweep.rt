@@ -247,7 +247,7 @@ impl<C: NodeName, P> Sweep<C, P> {
 }
 
 impl<C: NodeName, P: Payload> Sweep<C, P> {
-    /// The next step.
+    /// The next step, which changes the scan where it lies.
     pub(crate) fn step<S: Store<C, P>>(
         &mut self,
         store: &S,
@@ -257,16 +257,27 @@ impl<C: NodeName, P: Payload> Sweep<C, P> {
         requires { MaySweep C.number root self.old (S.heap store.now) }
         ensures { SweepStepped C.number P.always_copies root self.old (S.heap store.now) self.new result }
     {
-        match mem::replace(&mut self.stage, Stage::Over) {
+        match &mut self.stage {
             Stage::New => self.begin(store, root),
-            Stage::Enter { node, region } => self.enter(root, node, region, store.version(node)),
+            Stage::Enter { node, region } => {
+                let (node, region) = (*node, *region);
+                self.enter(root, node, region, store.version(node))
+            }
             Stage::Look { rung } => {
+                let rung = *rung;
                 let last = rung.region.last_byte(self.last);
                 let found = store.least(rung.at, rung.from, last, seen.take());
                 self.go(Stage::Check { rung, found })
             }
-            Stage::Check { rung, found } => self.check(store, root, rung, found),
-            Stage::Full => Told::Done { count: self.count },
+            Stage::Check { rung, found } => {
+                let rung = *rung;
+                let found = mem::replace(found, Least::Nothing);
+                self.check(store, root, rung, found)
+            }
+            Stage::Full => {
+                let count = self.count;
+                self.stop(Told::Done { count })
+            }
             Stage::Over => Told::Running,
         }
     }

@@ -1,6 +1,6 @@
 //! What a step leaves, and where the answers of the store lead.
 ghost use Rattle.std.specs.Prelude.{◌≡◌, ℕ, ◌<◌, ◌⊎◌, Bool, true, false, Option, None, Some};
-ghost use Rattle.congee.specs.protocol.Steps.{quiet, again, answered, finished, refused, decided, asking, adds, asks_new, absent_reply, form_above, after_version, after_read, down, started, ready, plan_here, unless_full, missing, absent, IsAsked, replaced, emptied, is_same, IsAtOld, IsAdded, IsExchanged, IsPresent, IsChecked, after_miss, after_change, greater, unwound, swept, outcome_of, value_hung};
+ghost use Rattle.congee.specs.protocol.Steps.{turn_of, quiet, again, answered, finished, refused, decided, asking, adds, asks_new, absent_reply, form_above, after_version, after_read, down, started, ready, plan_here, unless_full, missing, absent, IsAsked, replaced, emptied, is_same, IsAtOld, IsAdded, IsExchanged, IsPresent, IsChecked, after_miss, after_change, greater, unwound, outcome_of, value_hung};
 ghost use Rattle.congee.specs.protocol.Events.{hung};
 
 use crate::forms::base_node::NodeType;
@@ -9,10 +9,12 @@ use crate::forms::prefix::MAX_PREFIX_LEN;
 use crate::protocol::machine::{Move, Outcome};
 use crate::protocol::phase::{Double, Kind, Parent, Phase, Plan, Single, Site, Two};
 use crate::protocol::store::{NodeName, Reading, Refusal, Seat};
-use crate::protocol::sweep::{Sweep, Told};
+use crate::protocol::sweep::Told;
 use judge::{Payload, Reply};
+use std::mem;
 
-/// What a step leaves: the call's next step, and what is reported.
+/// What a step leaves: the call's next step, and what is reported. Contracts speak of both as one; a step changes the
+/// phase where it lies, and gives its report.
 #[derive(Drop)]
 pub struct Turn<C: NodeName, P> {
     /// The next step.
@@ -21,121 +23,84 @@ pub struct Turn<C: NodeName, P> {
     pub report: Move<P>,
 }
 
-impl<C: NodeName, P> Turn<C, P> {
-    /// The call goes on.
-    pub(crate) fn quiet(phase: Phase<C, P>) -> Self
-        ensures { result ≡ quiet phase }
+impl<C: NodeName, P: Payload> Phase<C, P> {
+    /// The step leaves this one as the next, and its report.
+    fn leave(&mut self, next: Self, decided: bool, outcome: Outcome<P>) -> Move<P>
+        ensures { turn_of self.new result ≡ record { phase = next; report = record { decided = decided; outcome = outcome } } }
     {
-        Turn {
-            phase,
-            report: Move {
-                decided: false,
-                outcome: Outcome::Running,
-            },
-        }
+        // What isn't wanted any more is handed to `drop`: in place it would be a step for each variant, which the
+        // checker goes through at each branch.
+        drop(mem::replace(self, next));
+        Move { decided, outcome }
+    }
+
+    /// The call goes on.
+    pub(crate) fn quiet(&mut self, next: Self) -> Move<P>
+        ensures { turn_of self.new result ≡ quiet next }
+    {
+        self.leave(next, false, Outcome::Running)
     }
 
     /// The call begins anew at the root.
-    pub(crate) fn again(root: C) -> Self
-        ensures { result ≡ again root }
+    pub(crate) fn again(&mut self, root: C) -> Move<P>
+        ensures { turn_of self.new result ≡ again root }
     {
-        Turn::quiet(Phase::Version {
+        self.quiet(Phase::Version {
             above: None,
             node: root,
         })
     }
 
     /// The call takes effect in this step, and ends with its reply.
-    pub(crate) fn answered(reply: Reply<P>) -> Self
-        ensures { result ≡ answered reply }
+    pub(crate) fn answered(&mut self, reply: Reply<P>) -> Move<P>
+        ensures { turn_of self.new result ≡ answered reply }
     {
-        Turn {
-            phase: Phase::Ended,
-            report: Move {
-                decided: true,
-                outcome: Outcome::Done(reply),
-            },
-        }
+        self.leave(Phase::Ended, true, Outcome::Done(reply))
     }
 
     /// The call ends with the reply of a step before.
-    pub(crate) fn finished(reply: Reply<P>) -> Self
-        ensures { result ≡ finished reply }
+    pub(crate) fn finished(&mut self, reply: Reply<P>) -> Move<P>
+        ensures { turn_of self.new result ≡ finished reply }
     {
-        Turn {
-            phase: Phase::Ended,
-            report: Move {
-                decided: false,
-                outcome: Outcome::Done(reply),
-            },
-        }
+        self.leave(Phase::Ended, false, Outcome::Done(reply))
     }
 
     /// The call ends without a reply.
-    pub(crate) fn refused(refusal: Refusal) -> Self
-        ensures { result ≡ refused refusal }
+    pub(crate) fn refused(&mut self, refusal: Refusal) -> Move<P>
+        ensures { turn_of self.new result ≡ refused refusal }
     {
-        Turn {
-            phase: Phase::Ended,
-            report: Move {
-                decided: false,
-                outcome: Outcome::Refused(refusal),
-            },
-        }
+        self.leave(Phase::Ended, false, Outcome::Refused(refusal))
     }
 
     /// The call takes effect in this step, and goes on.
-    pub(crate) fn decided(phase: Phase<C, P>) -> Self
-        ensures { result ≡ decided phase }
+    pub(crate) fn decided(&mut self, next: Self) -> Move<P>
+        ensures { turn_of self.new result ≡ decided next }
     {
-        Turn {
-            phase,
-            report: Move {
-                decided: true,
-                outcome: Outcome::Running,
-            },
-        }
+        self.leave(next, true, Outcome::Running)
     }
 
     /// The closure is asked, for this value or for an absent key.
-    pub(crate) fn asking(phase: Phase<C, P>, value: Option<P>) -> Self
-        ensures { result ≡ asking phase value }
+    pub(crate) fn asking(&mut self, next: Self, value: Option<P>) -> Move<P>
+        ensures { turn_of self.new result ≡ asking next value }
     {
-        Turn {
-            phase,
-            report: Move {
-                decided: false,
-                outcome: Outcome::Asks(value),
-            },
-        }
-    }
-}
-
-impl<C: NodeName, P> Turn<C, P> {
-    /// After a scan's step.
-    pub(crate) fn swept(sweep: Sweep<C, P>, told: Told<P>) -> Self
-        ensures { result ≡ swept sweep told }
-    {
-        Turn {
-            phase: Phase::Sweep { sweep },
-            report: Move {
-                decided: false,
-                outcome: told.outcome(),
-            },
-        }
+        self.leave(next, false, Outcome::Asks(value))
     }
 }
 
 impl<P> Told<P> {
-    /// The report of it.
-    fn outcome(self) -> Outcome<P>
-        ensures { result ≡ outcome_of self }
+    /// The report of a scan's step.
+    pub(crate) fn report(self) -> Move<P>
+        ensures { result ≡ record { decided = false; outcome = outcome_of self } }
     {
-        match self {
+        let outcome = match self {
             Told::Running => Outcome::Running,
             Told::Found { place, key, value } => Outcome::Found { place, key, value },
             Told::Done { count } => Outcome::Scanned { count },
             Told::Refused(refusal) => Outcome::Refused(refusal),
+        };
+        Move {
+            decided: false,
+            outcome,
         }
     }
 }
@@ -187,19 +152,20 @@ impl NodeType {
     }
 }
 
-impl<C: NodeName, P: Payload> Turn<C, P> {
+impl<C: NodeName, P: Payload> Phase<C, P> {
     /// After the version of a node was asked for.
     pub(crate) fn after_version(
+        &mut self,
         root: C,
         above: Option<Parent<C>>,
         node: C,
         version: Option<u64>,
-    ) -> Self
-        ensures { result ≡ after_version root above node version }
+    ) -> Move<P>
+        ensures { turn_of self.new result ≡ after_version root above node version }
     {
         match version {
-            None => Turn::again(root),
-            Some(version) => Turn::quiet(Phase::Read {
+            None => self.again(root),
+            Some(version) => self.quiet(Phase::Read {
                 above,
                 at: Seat { node, version },
             }),
@@ -208,24 +174,25 @@ impl<C: NodeName, P: Payload> Turn<C, P> {
 
     /// After a read.
     pub(crate) fn after_read(
+        &mut self,
         root: C,
         above: Option<Parent<C>>,
         at: Seat<C>,
         reading: Reading<C, P>,
-    ) -> Self
-        ensures { result ≡ after_read root above at reading }
+    ) -> Move<P>
+        ensures { turn_of self.new result ≡ after_read root above at reading }
     {
         match reading {
             Reading::Differs { common, byte } => match above {
-                None => Turn::again(root),
-                Some(above) => Turn::quiet(Phase::CheckMiss {
+                None => self.again(root),
+                Some(above) => self.quiet(Phase::CheckMiss {
                     above,
                     at,
                     common,
                     byte,
                 }),
             },
-            Reading::Fits { depth, seen } => Turn::quiet(Phase::Check {
+            Reading::Fits { depth, seen } => self.quiet(Phase::Check {
                 site: Site {
                     above,
                     at,
@@ -236,25 +203,25 @@ impl<C: NodeName, P: Payload> Turn<C, P> {
                 },
                 child: seen.child,
             }),
-            Reading::Uncopied => Turn::quiet(Phase::CheckUncopied { at }),
+            Reading::Uncopied => self.quiet(Phase::CheckUncopied { at }),
         }
     }
 
     /// The check after a read succeeded, and a node hangs at the key's byte.
-    fn down(adds: bool, site: Site<C>, node: C) -> Self
-        ensures { result ≡ down adds site site.above node }
+    fn down(&mut self, adds: bool, site: Site<C>, node: C) -> Move<P>
+        ensures { turn_of self.new result ≡ down adds site site.above node }
     {
         let here = Parent {
             seat: site.at,
             byte: site.byte,
         };
         match (adds, site.above) {
-            (true, Some(above)) => Turn::quiet(Phase::CheckDown {
+            (true, Some(above)) => self.quiet(Phase::CheckDown {
                 above: above.seat,
                 at: here,
                 node,
             }),
-            (true, None) | (false, _) => Turn::quiet(Phase::Version {
+            (true, None) | (false, _) => self.quiet(Phase::Version {
                 above: Some(here),
                 node,
             }),
@@ -262,76 +229,77 @@ impl<C: NodeName, P: Payload> Turn<C, P> {
     }
 
     /// What was planned begins.
-    pub(crate) fn started(plan: Plan<C>, reply: Reply<P>) -> Self
-        ensures { result ≡ started plan reply }
+    pub(crate) fn started(&mut self, plan: Plan<C>, reply: Reply<P>) -> Move<P>
+        ensures { turn_of self.new result ≡ started plan reply }
     {
         match plan {
-            Plan::Here { check: None, one } => Turn::quiet(Phase::UpgradeOne { one, reply }),
+            Plan::Here { check: None, one } => self.quiet(Phase::UpgradeOne { one, reply }),
             Plan::Here {
                 check: Some(above),
                 one,
-            } => Turn::quiet(Phase::CheckAbove { above, one, reply }),
-            Plan::Above { two } => Turn::quiet(Phase::UpgradeAbove { two, reply }),
+            } => self.quiet(Phase::CheckAbove { above, one, reply }),
+            Plan::Above { two } => self.quiet(Phase::UpgradeAbove { two, reply }),
         }
     }
 
     /// The nodes that an insertion needs are made.
-    pub(crate) fn ready(kind: &Kind<P>, plan: Plan<C>) -> Self
-        ensures { result ≡ ready kind.now plan }
+    pub(crate) fn ready(&mut self, kind: &Kind<P>, plan: Plan<C>) -> Move<P>
+        ensures { turn_of self.new result ≡ ready kind.now plan }
     {
         if kind.asks_new() {
-            Turn::asking(Phase::AskNew { plan }, None)
+            self.asking(Phase::AskNew { plan }, None)
         } else {
-            Turn::started(plan, kind.absent_reply())
+            self.started(plan, kind.absent_reply())
         }
     }
 
     /// A node with no place gives way to a greater one; the root is never full.
     pub(crate) fn unless_full(
+        &mut self,
         kind: &Kind<P>,
         site: Site<C>,
         leaf: Option<C>,
         change: Single<C>,
-    ) -> Self
-        ensures { result ≡ unless_full kind.now site site.full site.above leaf change }
+    ) -> Move<P>
+        ensures { turn_of self.new result ≡ unless_full kind.now site site.full site.above leaf change }
     {
         match (site.full, site.above) {
-            (true, Some(above)) => Turn::quiet(Phase::MakeGreater { site, above, leaf }),
-            (true, None) | (false, _) => Turn::ready(kind, site.plan(change)),
+            (true, Some(above)) => self.quiet(Phase::MakeGreater { site, above, leaf }),
+            (true, None) | (false, _) => self.ready(kind, site.plan(change)),
         }
     }
 
     /// The key is absent at the node.
-    fn absent(kind: &Kind<P>, site: Site<C>) -> Self
-        ensures { result ≡ absent kind.now site }
+    fn absent(&mut self, kind: &Kind<P>, site: Site<C>) -> Move<P>
+        ensures { turn_of self.new result ≡ absent kind.now site }
     {
         if !kind.adds() {
-            Turn::answered(kind.absent_reply())
+            self.answered(kind.absent_reply())
         } else if site.depth == MAX_PREFIX_LEN {
-            Turn::unless_full(kind, site, None, Single::Set)
+            self.unless_full(kind, site, None, Single::Set)
         } else {
-            Turn::quiet(Phase::MakeLeaf { site })
+            self.quiet(Phase::MakeLeaf { site })
         }
     }
 
     /// The closure is asked for the value that stands.
-    pub(crate) fn asked(site: Site<C>, old: P) -> Self
-        ensures { IsAsked P.always_copies site old result }
+    pub(crate) fn asked(&mut self, site: Site<C>, old: P) -> Move<P>
+        ensures { IsAsked P.always_copies site old (turn_of self.new result) }
     {
         match old.copy() {
-            None => Turn::refused(Refusal::Count),
-            Some(shown) => Turn::asking(Phase::AskOld { site, old }, Some(shown)),
+            None => self.refused(Refusal::Count),
+            Some(shown) => self.asking(Phase::AskOld { site, old }, Some(shown)),
         }
     }
 
     /// The same value again is confirmed, and another one takes its place.
-    pub(crate) fn replaced(site: Site<C>, same: bool, reply: Reply<P>) -> Self
-        ensures { result ≡ replaced site same reply }
+    pub(crate) fn replaced(&mut self, site: Site<C>, same: bool, reply: Reply<P>) -> Move<P>
+        ensures { turn_of self.new result ≡ replaced site same reply }
     {
         if same {
-            Turn::quiet(Phase::Confirm { at: site.at, reply })
+            self.quiet(Phase::Confirm { at: site.at, reply })
         } else {
-            Turn::quiet(Phase::UpgradeOne {
+            self.quiet(Phase::UpgradeOne {
                 one: site.one(Single::Set),
                 reply,
             })
@@ -339,11 +307,11 @@ impl<C: NodeName, P: Payload> Turn<C, P> {
     }
 
     /// The value goes, and with its last value the leaf.
-    pub(crate) fn emptied(site: Site<C>, reply: Reply<P>) -> Self
-        ensures { result ≡ emptied site reply }
+    pub(crate) fn emptied(&mut self, site: Site<C>, reply: Reply<P>) -> Move<P>
+        ensures { turn_of self.new result ≡ emptied site reply }
     {
         match (site.count == 1, site.above) {
-            (true, Some(above)) => Turn::quiet(Phase::UpgradeAbove {
+            (true, Some(above)) => self.quiet(Phase::UpgradeAbove {
                 two: Two {
                     above,
                     at: site.at,
@@ -351,7 +319,7 @@ impl<C: NodeName, P: Payload> Turn<C, P> {
                 },
                 reply,
             }),
-            (true, None) | (false, _) => Turn::quiet(Phase::UpgradeOne {
+            (true, None) | (false, _) => self.quiet(Phase::UpgradeOne {
                 one: site.one(Single::Set),
                 reply,
             }),
@@ -359,8 +327,14 @@ impl<C: NodeName, P: Payload> Turn<C, P> {
     }
 
     /// An insertion stands at a value, and the node above is checked.
-    pub(crate) fn at_old(kind: &Kind<P>, new: &Option<P>, site: Site<C>, old: P) -> Self
-        ensures { IsAtOld P.always_copies P.same_as kind.now new.now site old result }
+    pub(crate) fn at_old(
+        &mut self,
+        kind: &Kind<P>,
+        new: &Option<P>,
+        site: Site<C>,
+        old: P,
+    ) -> Move<P>
+        ensures { IsAtOld P.always_copies P.same_as kind.now new.now site old (turn_of self.new result) }
     {
         match kind {
             Kind::Insert => {
@@ -368,24 +342,24 @@ impl<C: NodeName, P: Payload> Turn<C, P> {
                     None => false,
                     Some(value) => old.same(value),
                 };
-                Turn::replaced(site, same, Reply::Insert(Some(old)))
+                self.replaced(site, same, Reply::Insert(Some(old)))
             }
             Kind::ComputeInsert
             | Kind::Get
             | Kind::Remove
             | Kind::ComputePresent
-            | Kind::Exchange { .. } => Turn::asked(site, old),
+            | Kind::Exchange { .. } => self.asked(site, old),
         }
     }
 
     /// An insertion stands at a value.
-    fn added(kind: &Kind<P>, new: &Option<P>, site: Site<C>, old: P) -> Self
-        ensures { IsAdded P.always_copies P.same_as kind.now new.now site site.above old result }
+    fn added(&mut self, kind: &Kind<P>, new: &Option<P>, site: Site<C>, old: P) -> Move<P>
+        ensures { IsAdded P.always_copies P.same_as kind.now new.now site site.above old (turn_of self.new result) }
     {
         let above = site.above;
         match above {
-            None => Turn::at_old(kind, new, site, old),
-            Some(above) => Turn::quiet(Phase::CheckOld {
+            None => self.at_old(kind, new, site, old),
+            Some(above) => self.quiet(Phase::CheckOld {
                 above: above.seat,
                 site,
                 old,
@@ -394,36 +368,36 @@ impl<C: NodeName, P: Payload> Turn<C, P> {
     }
 
     /// An exchange found the old value.
-    fn exchanged(new: &Option<P>, site: Site<C>, old: P) -> Self
-        ensures { IsExchanged P.always_copies P.same_as new.now site old result }
+    fn exchanged(&mut self, new: &Option<P>, site: Site<C>, old: P) -> Move<P>
+        ensures { IsExchanged P.always_copies P.same_as new.now site old (turn_of self.new result) }
     {
         match new {
-            None => Turn::emptied(site, Reply::Exchange(Ok(None))),
+            None => self.emptied(site, Reply::Exchange(Ok(None))),
             Some(value) => match value.copy() {
-                None => Turn::refused(Refusal::Count),
+                None => self.refused(Refusal::Count),
                 Some(copied) => {
                     let same = old.same(value);
-                    Turn::replaced(site, same, Reply::Exchange(Ok(Some(copied))))
+                    self.replaced(site, same, Reply::Exchange(Ok(Some(copied))))
                 }
             },
         }
     }
 
     /// A call stands at a value.
-    fn present(kind: &Kind<P>, new: &Option<P>, site: Site<C>, value: P) -> Self
-        ensures { IsPresent P.always_copies P.same_as kind.now new.now site value result }
+    fn present(&mut self, kind: &Kind<P>, new: &Option<P>, site: Site<C>, value: P) -> Move<P>
+        ensures { IsPresent P.always_copies P.same_as kind.now new.now site value (turn_of self.new result) }
     {
         match kind {
-            Kind::Get => Turn::answered(Reply::Get(Some(value))),
-            Kind::Insert => Turn::added(kind, new, site, value),
-            Kind::Remove => Turn::emptied(site, Reply::Remove(Some(value))),
-            Kind::ComputePresent => Turn::asked(site, value),
-            Kind::ComputeInsert => Turn::added(kind, new, site, value),
+            Kind::Get => self.answered(Reply::Get(Some(value))),
+            Kind::Insert => self.added(kind, new, site, value),
+            Kind::Remove => self.emptied(site, Reply::Remove(Some(value))),
+            Kind::ComputePresent => self.asked(site, value),
+            Kind::ComputeInsert => self.added(kind, new, site, value),
             Kind::Exchange { old } => {
                 if value.same(old) {
-                    Turn::exchanged(new, site, value)
+                    self.exchanged(new, site, value)
                 } else {
-                    Turn::quiet(Phase::Confirm {
+                    self.quiet(Phase::Confirm {
                         at: site.at,
                         reply: Reply::Exchange(Err(Some(value))),
                     })
@@ -434,64 +408,66 @@ impl<C: NodeName, P: Payload> Turn<C, P> {
 
     /// The check after a read succeeded.
     pub(crate) fn checked(
+        &mut self,
         kind: &Kind<P>,
         new: &Option<P>,
         site: Site<C>,
         child: Child<C, P>,
-    ) -> Self
-        ensures { IsChecked P.always_copies P.same_as kind.now new.now site child result }
+    ) -> Move<P>
+        ensures { IsChecked P.always_copies P.same_as kind.now new.now site child (turn_of self.new result) }
     {
         match child {
-            Child::Blank => Turn::absent(kind, site),
-            Child::Node(node) => Turn::down(kind.adds(), site, node),
-            Child::Value(value) => Turn::present(kind, new, site, value),
+            Child::Blank => self.absent(kind, site),
+            Child::Node(node) => self.down(kind.adds(), site, node),
+            Child::Value(value) => self.present(kind, new, site, value),
         }
     }
 
     /// The check of the node above one whose prefix differs succeeded.
     pub(crate) fn after_miss(
+        &mut self,
         kind: &Kind<P>,
         above: Parent<C>,
         at: Seat<C>,
         common: usize,
         byte: u8,
-    ) -> Self
-        ensures { result ≡ after_miss kind.now above at common byte }
+    ) -> Move<P>
+        ensures { turn_of self.new result ≡ after_miss kind.now above at common byte }
     {
         if kind.adds() {
-            Turn::quiet(Phase::MakeTop {
+            self.quiet(Phase::MakeTop {
                 above,
                 at,
                 common,
                 byte,
             })
         } else {
-            Turn::answered(kind.absent_reply())
+            self.answered(kind.absent_reply())
         }
     }
 
     /// The node above was changed.
-    pub(crate) fn after_change(two: Two<C>, reply: Reply<P>) -> Self
-        ensures { result ≡ after_change two reply two.change }
+    pub(crate) fn after_change(&mut self, two: Two<C>, reply: Reply<P>) -> Move<P>
+        ensures { turn_of self.new result ≡ after_change two reply two.change }
     {
         let above = two.parent();
         let Two { at, change, .. } = two;
         let node = at.node;
         match change {
-            Double::Split { .. } => Turn::decided(Phase::UnlockBelow { node, above, reply }),
+            Double::Split { .. } => self.decided(Phase::UnlockBelow { node, above, reply }),
             Double::Unlink | Double::Grow { .. } | Double::GrowLink { .. } => {
-                Turn::decided(Phase::Obsolete { node, above, reply })
+                self.decided(Phase::Obsolete { node, above, reply })
             }
         }
     }
 
     /// After an attempt was given up: the call begins anew, or is refused.
-    pub(crate) fn unwound(root: C, refusal: Option<Refusal>) -> Self
-        ensures { result ≡ unwound root refusal }
+    pub(crate) fn unwound(&mut self, root: C, refusal: Option<Refusal>) -> Move<P>
+        ensures { turn_of self.new result ≡ unwound root refusal }
     {
         match refusal {
-            None => Turn::again(root),
-            Some(refusal) => Turn::refused(refusal),
+            None => self.again(root),
+            Some(refusal) => self.refused(refusal),
         }
     }
 }

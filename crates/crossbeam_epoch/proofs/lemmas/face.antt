@@ -1,3 +1,4 @@
 pub mod Guards
+pub mod Notes
 pub mod Pins
 pub mod Updates

@@ -3,6 +3,7 @@ use Rattle.std.specs.Prelude.{ℕ, ◌≡◌, ◌+◌, ◌≤◌, Bool, ◌&&◌
 use Rattle.std.specs.Bool.{MatchBool}
 use Rattle.crossbeam_epoch.specs.declared.bag.Entry.{Entry}
 use Rattle.crossbeam_epoch.specs.declared.face.guard.Seat.{Seat}
+use Rattle.crossbeam_epoch.specs.declared.face.queue.Queued.{Queued}
 use Rattle.crossbeam_epoch.specs.Limits.{bag_places}
 
 -- so many guards of a handle's seat are out, and a guard of this seat is one of them
@@ -15,5 +16,5 @@ with_room bag = if nat_lt (length bag) bag_places then bag else []
 
 -- what a handle tells of its last seal after a call: where the call sealed a bag under a guard of this epoch, that epoch or one
 -- more; else what it told before
-abbrev pub SealsUnder : Bool → ℕ → Option ℕ → Option ℕ → Type 0
-SealsUnder seals q before after = MatchBool seals (IsSomeAnd after (λ s. (q ≤ s) × (s ≤ q + 1))) (after ≡ before)
+abbrev pub SealsUnder : Bool → ℕ → Option Queued → Option Queued → Type 0
+SealsUnder seals q before after = MatchBool seals (IsSomeAnd after (λ b. (q ≤ b.seal) × (b.seal ≤ q + 1))) (after ≡ before)

@@ -1,5 +1,5 @@
 -- The epoch and the participants' words, on which every thread steps, and what a seat knows of them.
-use Rattle.std.specs.Prelude.{ℕ, ◌≡◌, ◌≢◌, ◌+◌, ◌*◌, ◌^◌, ◌<◌, ◌≤◌, ◌⊎◌, List, [], length, slice_index, Option, None, Some, IfSome}
+use Rattle.std.specs.Prelude.{ℕ, ◌≡◌, ◌≢◌, ◌+◌, ◌*◌, ◌^◌, ◌<◌, ◌≤◌, ◌⊎◌, List, [], length, slice_index, nat_le, if◌then◌else◌, Option, None, Some, IfSome}
 use mathlib.Core.Option.{some}
 use lib.ListN.{get_elem?}
 use Rattle.atomic_table.specs.Table.{State, Me, Step}
@@ -19,7 +19,7 @@ number_of (Some e) = e + 2
 
 -- what a seat with no word of its own knows, which has seen nothing
 abbrev pub newcomer : View
-newcomer = record { place = None; at = None; pin = None; seen = 0; passed = 0 }
+newcomer = record { place = None; at = None; pin = None; seen = 0; passed = 0; asked = 0; taken = 0 }
 
 -- What holds of a seat: the epoch that it saw last is at most the epoch, and so is the one that it published. The word of its
 -- place has the number that it wrote there. Where its pin is confirmed by q, it published q or an earlier epoch, and the epoch is q or q + 1
@@ -52,6 +52,14 @@ Sitter S = Me S View
 abbrev pub with_seen : View → ℕ → View
 with_seen v e = record v { seen = e; passed = 0 }
 
+-- a note of a seat: it saw the same epoch
+abbrev pub noted : View → View
+noted v = with_seen newcomer v.seen
+
+-- a seat that took a note in saw the later epoch of the two
+abbrev pub with_note : View → View → View
+with_note v note = if nat_le note.seen v.seen then v else with_seen v note.seen
+
 -- An epoch that a seat reads isn't before one that it saw. Under a pin that is confirmed by q it is q or q + 1
 abbrev pub IsRead : View → ℕ → Type 0
 IsRead v e = (v.seen ≤ e) × (e ≤ 2 ^ 62) × ((q : ℕ) → v.pin ≡ Some q → (q ≤ e) × (e ≤ q + 1))
@@ -70,9 +78,16 @@ module _ {S : Type 0} where
   abbrev pub seat_arrived : Step S → Sitter S → ℕ → Sitter S → Type 0
   seat_arrived st m found m' = (m' ≡ (with_seen newcomer found, [])) × IsRead newcomer found
 
-  -- the place's word is the seat's own where it was found free
+  -- the place's word is the seat's own where it was found free, and else one more is taken
   abbrev pub seat_claimed : Step S → Sitter S → ℕ → Sitter S → Type 0
-  seat_claimed st m found m' = (found ≡ 0 → (p : ℕ) → st.word ≡ word_of p → m' ≡ (record m.0 { place = Some p }, m.1)) × (found ≢ 0 → m' ≡ m)
+  seat_claimed st m found m' =
+      (found ≡ 0 → (p : ℕ) → st.word ≡ word_of p → m' ≡ (record m.0 { place = Some p; asked = 0; taken = 0 }, m.1))
+      × (found ≢ 0 → m' ≡ (record m.0 { asked = m.0.asked + 1; taken = m.0.taken + 1 }, m.1))
+
+  -- one place more was looked at, which is free, or taken
+  abbrev pub seat_counted : Step S → Sitter S → ℕ → Sitter S → Type 0
+  seat_counted st m found m' =
+      (found ≡ 0 → m' ≡ (record m.0 { asked = m.0.asked + 1 }, m.1)) × (found ≢ 0 → m' ≡ (record m.0 { asked = m.0.asked + 1; taken = m.0.taken + 1 }, m.1))
 
   -- the epoch was looked at
   abbrev pub seat_looked : Step S → Sitter S → ℕ → Sitter S → Type 0
@@ -80,7 +95,7 @@ module _ {S : Type 0} where
 
   -- the word publishes that its participant is pinned at this epoch, which isn't confirmed yet
   abbrev pub seat_published : Step S → Sitter S → ℕ → Sitter S → Type 0
-  seat_published st m stored m' = (e : ℕ) → stored ≡ e + 2 → m' ≡ (record m.0 { at = Some e; pin = None }, m.1)
+  seat_published st m stored m' = (e : ℕ) → stored ≡ e + 2 → m' ≡ (record m.0 { at = Some e; pin = None; asked = 0; taken = 0 }, m.1)
 
   -- the epoch that was read confirms the pin
   abbrev pub seat_confirmed : Step S → Sitter S → ℕ → Sitter S → Type 0
@@ -88,7 +103,7 @@ module _ {S : Type 0} where
 
   -- the participant is unpinned
   abbrev pub seat_left : Step S → Sitter S → ℕ → Sitter S → Type 0
-  seat_left st m stored m' = m' ≡ (record m.0 { at = None; pin = None }, m.1)
+  seat_left st m stored m' = m' ≡ (record m.0 { at = None; pin = None; asked = 0; taken = 0 }, m.1)
 
   -- the place is nobody's
   abbrev pub seat_released : Step S → Sitter S → ℕ → Sitter S → Type 0

@@ -14,11 +14,11 @@ IsOf id t = (t.table_id ≡ id) × (t.me.1 ≡ [])
 
 -- what a participant knows that is unpinned and saw this epoch, having passed so many places since then
 abbrev pub unpinned_view : ℕ → ℕ → ℕ → View
-unpinned_view place seen passed = record { place = Some place; at = None; pin = None; seen = seen; passed = passed }
+unpinned_view place seen passed = record { place = Some place; at = None; pin = None; seen = seen; passed = passed; asked = 0; taken = 0 }
 
 -- the same for one that is pinned at an epoch, confirmed by another
 abbrev pub pinned_view : ℕ → ℕ → ℕ → ℕ → ℕ → View
-pinned_view place at epoch seen passed = record { place = Some place; at = Some at; pin = Some epoch; seen = seen; passed = passed }
+pinned_view place at epoch seen passed = record { place = Some place; at = Some at; pin = Some epoch; seen = seen; passed = passed; asked = 0; taken = 0 }
 
 -- what a handle knows that has so many guards out
 abbrev pub with_guards : ℕ → ℕ → ℕ → ℕ → ℕ → ℕ → View

@@ -11,6 +11,7 @@ use Rattle.crossbeam_epoch.specs.declared.bag.Sealed.{Sealed}
 use Rattle.crossbeam_epoch.specs.declared.world.participant.Phase.{Phase}
 use Rattle.crossbeam_epoch.specs.declared.world.participant.Phase.TheVariants.{Idle, RepinPublish, Load, Inspect, Advance, Take, Call, SecureSeal}
 use Rattle.crossbeam_epoch.specs.World.Store.{Store, value_at, emptied, opened_store}
+use Rattle.crossbeam_epoch.specs.Chain.{room_behind, room_left}
 use Rattle.crossbeam_epoch.specs.Limits.{bag_places, most_bags}
 
 pub record State (T J : Type 0) : Type 0 where
@@ -19,6 +20,8 @@ pub record State (T J : Type 0) : Type 0 where
   pub table : List (Participant J)
   -- sealed bags, the oldest first
   pub queue : List (Sealed J)
+  -- how many more bags can be queued before memory is asked for
+  pub room : ℕ
   -- the next job's ticket
   pub next : ℕ
   -- how many jobs are deferred and not yet called
@@ -92,11 +95,12 @@ queued s who seal phase =
     record s {
       table = slice_set s.table who (record p { bag = []; phase = phase });
       queue = s.queue ++ record { seal = seal; jobs = p.bag } ∷ [];
+      room = room_behind s.room;
     }
 
 -- a participant's bag joins the queue, and it leaves the table
 abbrev pub released : {T J : Type 0} → State T J → ℕ → ℕ → State T J
-released s who seal = record s { table = slice_set s.table who blank; queue = s.queue ++ record { seal = seal; jobs = (place s who).bag } ∷ [] }
+released s who seal = record s { table = slice_set s.table who blank; queue = s.queue ++ record { seal = seal; jobs = (place s who).bag } ∷ []; room = room_behind s.room }
 
 -- a collection looks at the place `at`
 abbrev pub ends_advance : Option ℕ → ℕ → Bool
@@ -127,13 +131,14 @@ no_bag = record { seal = 0; jobs = [] }
 abbrev pub is_due : {T J : Type 0} → State T J → ℕ → Bool
 is_due s answered = nat_lt 0 (length s.queue) && nat_le ((slice_index_or s.queue 0 no_bag).seal + s.limits.expiry) answered
 
--- the front bag is taken
+-- the front bag is taken, and with the last bag of a block the block is given up
 abbrev pub taken : {T J : Type 0} → State T J → ℕ → ℕ → ℕ → State T J
 taken s who answered bags =
     let b = slice_index_or s.queue 0 no_bag in
     record s {
       table = slice_set s.table who (record (place s who) { hand = b.jobs; phase = Call answered (bags + 1) b.seal });
       queue = drop 1 s.queue;
+      room = room_left (length (drop 1 s.queue)) s.room;
     }
 
 abbrev pub took : {T J : Type 0} → State T J → ℕ → ℕ → ℕ → State T J
@@ -196,6 +201,7 @@ deferred_anew s who work =
     record s {
       table = slice_set s.table who (record p { bag = record { ticket = s.next; work = work } ∷ [] });
       queue = s.queue ++ record { seal = s.epoch; jobs = p.bag } ∷ [];
+      room = room_behind s.room;
       next = s.next + 1;
       waiting = s.waiting + 1;
     }
@@ -214,6 +220,7 @@ opened limits roots = record {
   epoch = 0;
   table = replicate limits.participants blank;
   queue = [];
+  room = 0;
   next = 0;
   waiting = 0;
   store = opened_store limits.cells limits.turn_max;

@@ -177,8 +177,11 @@ pub record IsResting {T J : Type 0} (s : State T J) : Type 0 where
   pub orderly : Orderly s
   pub idle : (q : ℕ) → (place s q).phase ≡ P.Idle
 
--- a collector whose calls stand as in another, and whose jobs stand as there but for these
+-- a collector whose calls and cells stand as in another, and whose jobs stand as there but for these
 pub record KeepsCalls {T J : Type 0} (s s' : State T J) (more : (Entry J → ℕ) → ℕ) : Type 0 where
   pub orderly : Orderly s'
   pub phases : (q : ℕ) → (place s' q).phase ≡ (place s q).phase
+  -- a call in flight stays so
+  pub on : (q : ℕ) (op : Op) → IsOn op (place s q) → IsOn op (place s' q)
   pub jobs : (f : Entry J → ℕ) → weight f s' ≡ weight f s + more f
+  pub store : s'.store ≡ s.store

@@ -137,10 +137,10 @@ called_in s who event (Refused f) = None
 called_in s who (Begin op) _ = None
 called_in s who Go _ = called_by s.store (place s who).phase (place s who).hand
 
--- the step may be reported so
+-- the step may be reported so: a bag finds no memory only where a block is to be made for it
 abbrev pub IsOutcome : {T J : Type 0} → State T J → ℕ → Event → Option Fault → Outcome → Type 0
 IsOutcome s who event (Some f) outcome = outcome ≡ Refused f
-IsOutcome s who event None (Refused Memory) = needs_memory event (place s who).phase ≡ true
+IsOutcome s who event None (Refused Memory) = (needs_memory event (place s who).phase ≡ true) × (s.room ≡ 0)
 IsOutcome s who event None (Refused _) = ⊥
 IsOutcome s who event None Running = outcome_at (place (moved s who event) who).phase ≡ Running
 IsOutcome s who event None Done = outcome_at (place (moved s who event) who).phase ≡ Done
@@ -178,9 +178,9 @@ defer_fault s who = if (place s who).registered then or_count s.next (quiet_faul
 abbrev pub destroy_fault : {T J : Type 0} → State T J → ℕ → Name → Option Fault
 destroy_fault s who name = if is_some (value_at s.store name) then defer_fault s who else Some Unknown
 
--- why a deferral is refused: its first fault, or the want of memory for a full bag
+-- why a deferral is refused: its first fault, or the want of memory for a full bag, where a block is to be made for it
 abbrev pub IsDeferralFault : {T J : Type 0} → State T J → ℕ → Option Fault → Fault → Type 0
-IsDeferralFault s who first e = MatchOption first ((e ≡ Memory) × (length (place s who).bag ≡ bag_places)) (λ f. e ≡ f)
+IsDeferralFault s who first e = MatchOption first ((e ≡ Memory) × (length (place s who).bag ≡ bag_places) × (s.room ≡ 0)) (λ f. e ≡ f)
 
 -- what a begin marks: the last guard goes
 abbrev pub begin_marks : {J : Type 0} → ℕ → Participant J → Op → List Mark → List Mark

@@ -1,18 +1,19 @@
 //! The collector.
 
-ghost use Rattle.std.specs.Prelude.{◌≡◌, ◌<◌, ◌≤◌, ◌+◌, ◌^◌, ◌&&◌, ◌⊎◌, ℕ, [], nat_eq, IfOk, IfErr, IfSome, MatchResult};
+ghost use Rattle.std.specs.Prelude.{◌≡◌, ◌<◌, ◌≤◌, ◌+◌, ◌^◌, ◌&&◌, ℕ, [], nat_eq, IfOk, IfErr, IfSome, MatchResult};
 ghost use Rattle.std.specs.Bool.{MatchBool};
 ghost use Rattle.crossbeam_epoch.specs.Limits.{within};
 ghost use Rattle.crossbeam_epoch.specs.Face.Pins.{IsRead, IsDue};
+ghost use Rattle.crossbeam_epoch.specs.Face.Queue.{TakesAll};
 ghost use Rattle.crossbeam_epoch.specs.Face.Tokens.{known, IsOf};
 
-use crate::bag::{BAG, BAGS, Bag, Sealed, Work};
-use crate::face::free::Free;
+use crate::bag::{BAG, BAGS, Bag, Work};
+use crate::face::collected::Collected;
 use crate::face::handle::LocalHandle;
 use crate::face::internal::Internal;
 use crate::face::lent::{Lent, LentMut};
-use crate::face::pins::Pins;
-use crate::face::queue::{EXPIRY, Queue};
+use crate::face::pins::{Ended, Pins};
+use crate::face::queue::{EXPIRY, NoneExpired, Queue, Queued, SealedBag};
 use crate::face::seats::Token;
 use crate::face::slots::{Kept, Slots};
 use crate::fault::Fault;
@@ -59,10 +60,7 @@ impl<T: Drop, J: Task> Collector<T, J> {
     {
         let pins = Pins::new(alloc, limits.participants, limits.epoch_max)?;
         let slots = Slots::new(alloc, limits.cells)?;
-        let internal = Internal {
-            free: Free::new(alloc, limits.cells, limits.turn_max)?,
-            queue: Queue::new(alloc),
-        };
+        let internal = Internal::new(alloc, &limits)?;
         Ok(Collector {
             id,
             pins,
@@ -91,8 +89,8 @@ impl<T: Drop, J: Task> Collector<T, J> {
     {
         let _others_wait = self.lock().lock(rt);
         match self.pins.register() {
-            Some((token, place)) => Ok(LocalHandle::new(self, token, place)),
-            None => Err(Fault::TableFull),
+            Ok((token, place)) => Ok(LocalHandle::new(self, token, place)),
+            Err(_) => Err(Fault::TableFull),
         }
     }
 
@@ -100,20 +98,18 @@ impl<T: Drop, J: Task> Collector<T, J> {
     pub fn end(self) -> Result<(), (Fault, Self)>
         ensures { IfErr result (λ e. (e.1 ≡ self) × ((n : ℕ) × (0 < n) × (e.0 ≡ Fault.Registered n))) }
     {
-        let registered = self.pins.registered();
-        if registered > 0 {
-            return Err((Fault::Registered(registered), self));
+        let (registered, seat) = self.pins.registered();
+        if let Some(fault) = registered {
+            return Err((fault, self));
         }
         let Collector {
             id: _,
-            pins: _,
+            pins,
             internal,
             slots,
         } = self;
-        let Internal { free: _, queue } = internal.into_inner().into_inner();
-        for bag in queue.into_bags() {
-            call_left(&slots, bag.jobs);
-        }
+        let Internal { free: _, mut queue } = internal.into_inner().into_inner();
+        call_bags(&slots, &mut queue, &pins.close(&seat));
         Ok(())
     }
 
@@ -125,10 +121,11 @@ impl<T: Drop, J: Task> Collector<T, J> {
 
 /// What handles, guards and pointers do, with one hold of the lock at most at a time.
 impl<T: Drop, J: Task> Collector<T, J> {
-    /// Gives a place up, whose seat this is.
-    pub(crate) fn release<R: Wait>(&self, rt: &R, token: Token, place: u32)
+    /// Gives a place up, whose seat this is, and in whose bag nothing is left.
+    pub(crate) fn release<R: Wait>(&self, rt: &R, token: Token, place: u32, _bag: Bag<J>)
         requires of { IsOf self.now.pins.words.shared.table_id token }
         requires own { (place < self.now.pins.places) × ((known token).place ≡ Some place) }
+        requires empty { _bag ≡ [] }
     {
         let _others_wait = self.lock().lock(rt);
         self.pins.release(token, place);
@@ -138,21 +135,22 @@ impl<T: Drop, J: Task> Collector<T, J> {
     pub(crate) fn seal<R: Wait>(
         &self,
         rt: &R,
-        _token: &Token,
+        token: &Token,
         seal: u64,
         jobs: Bag<J>,
-    ) -> Result<(), Bag<J>>
-        requires { (known _token.now).seen ≡ seal }
-        ensures { IfErr result (λ j. j ≡ jobs) }
+    ) -> Result<Queued, Bag<J>>
+        requires { (known token.now).seen ≡ seal }
+        ensures { MatchResult result (λ q. q.seal ≡ seal) (λ j. j ≡ jobs) }
     {
-        self.lock().lock(rt).queue.push(seal, jobs)
+        let bag = SealedBag::new(token, seal, jobs);
+        self.lock().lock(rt).queue.push(bag)
     }
 
     /// Places a value in a free cell, whose name is taken under the lock; hands it back where none is usable.
     pub(crate) fn place<R: Wait>(&self, rt: &R, value: Box<T>) -> Result<Name, Box<T>>
         ensures { IfErr result (λ v. v ≡ value) }
     {
-        let Some(name) = self.lock().lock(rt).free.give() else {
+        let Ok(name) = self.lock().lock(rt).free.place(()) else {
             return Err(value);
         };
         self.slots.place(name, value)?;
@@ -176,53 +174,51 @@ impl<T: Drop, J: Task> Collector<T, J> {
     /// Takes a value out of its cell for good, and offers the cell under the lock.
     pub(crate) fn remove<R: Wait>(&self, rt: &R, name: Name) -> Option<Box<T>> {
         let Kept { name, value } = self.slots.remove(name)?;
-        self.lock().lock(rt).free.offer(name);
+        self.lock().lock(rt).free.take(name);
         Some(value)
     }
 
     /// Takes the front bag off, where it is expired at the epoch that was seen.
-    fn take_expired<R: Wait>(&self, rt: &R, seen: u64) -> Option<Sealed<J>>
-        ensures { IfSome result (λ b. b.seal + 2 ≤ seen) }
+    fn take_expired<R: Wait>(&self, rt: &R, seen: u64) -> Result<SealedBag<J>, NoneExpired>
+        ensures { MatchResult result (λ b. b.bag.seal + 2 ≤ seen) (λ n. n.seen ≡ seen) }
     {
         self.lock().lock(rt).queue.pop_expired(seen)
     }
 
-    /// Tries to advance the epoch once, then calls the jobs of at most `BAGS` expired bags from the queue's front, and
-    /// answers the greatest of their seals. No lock is held while a job runs.
-    pub(crate) fn collect<R: Wait>(&self, rt: &R, token: &mut Token) -> Option<u64>
+    /// Tries to advance the epoch once, then calls the jobs of expired bags from the queue's front: of at most `BAGS`, and
+    /// of fewer only where none is left. No lock is held while a job runs.
+    pub(crate) fn collect<R: Wait>(&self, rt: &R, token: &mut Token) -> Collected
         requires of { IsOf self.now.pins.words.shared.table_id token.old }
         ensures of { IsOf self.now.pins.words.shared.table_id token.new }
         ensures view { known token.new ≡ record (known token.old) { seen = (known token.new).seen; passed = (known token.new).passed } }
         ensures read { IsRead (known token.old) (known token.new).seen }
-        ensures due { IsDue (known token.new).seen result }
+        ensures due { IsDue (known token.new).seen result.newest }
+        ensures bags { TakesAll (known token.new).seen result }
     {
         let seen = self.pins.advance(token);
-        let mut newest = None;
+        let mut called = Collected::new();
         for _ in 0..BAGS {
             match self.call_expired(rt, token, seen) {
-                Some(seal) => newest = Some(later(newest, seal)),
-                None => return newest,
+                Ok(seal) => called = called.one_more(seal),
+                Err(none) => return called.at_rest(none),
             }
         }
-        newest
+        called
     }
 
     /// Calls the jobs of the front bag, where it is expired at the epoch that this seat saw last, and answers its seal.
-    fn call_expired<R: Wait>(&self, rt: &R, token: &Token, seen: u64) -> Option<u64>
+    fn call_expired<R: Wait>(&self, rt: &R, token: &Token, seen: u64) -> Result<u64, NoneExpired>
         requires { (known token.now).seen ≡ seen }
-        ensures { IsDue seen result }
+        ensures { MatchResult result (λ s. s + 2 ≤ seen) (λ n. n.seen ≡ seen) }
     {
         let bag = self.take_expired(rt, seen)?;
-        let seal = bag.seal;
-        self.call_bag(rt, token, bag);
-        Some(seal)
+        let seal = bag.seal();
+        self.call(rt, bag.open(token));
+        Ok(seal)
     }
 
-    /// Calls the jobs of a bag whose seal is at least two behind the epoch that this seat saw last.
-    fn call_bag<R: Wait>(&self, rt: &R, _token: &Token, bag: Sealed<J>)
-        requires { bag.seal + 2 ≤ (known _token.now).seen }
-    {
-        let mut jobs = bag.jobs;
+    /// Calls these jobs, the first one first.
+    fn call<R: Wait>(&self, rt: &R, mut jobs: Bag<J>) {
         for _ in 0..BAG {
             if jobs.is_empty() {
                 return;
@@ -236,14 +232,12 @@ impl<T: Drop, J: Task> Collector<T, J> {
     }
 }
 
-/// The greater seal.
-fn later(newest: Option<u64>, seal: u64) -> u64
-    ensures { (result ≡ seal) ⊎ (newest ≡ Some result) }
+/// Calls the jobs of the bags that are left at the end, the oldest bag's first.
+fn call_bags<T: Drop, J: Task>(slots: &Slots<T>, queue: &mut Queue<J>, ended: &Ended)
+    ensures { queue.new.bags.items ≡ [] }
 {
-    match newest {
-        Some(greatest) if greatest > seal => greatest,
-        Some(_) => seal,
-        None => seal,
+    while let Some(bag) = queue.pop() {
+        call_left(slots, bag.open_at_end(ended));
     }
 }
 

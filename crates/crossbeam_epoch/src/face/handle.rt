@@ -1,7 +1,7 @@
 //! Handles of participants.
 
-ghost use Rattle.std.specs.Prelude.{◌≡◌, ◌<◌, ◌≤◌, ◌+◌, ◌-◌, ◌++◌, ◌∷◌, [], true, false, nat_lt, nat_le, nat_eq};
-ghost use Rattle.std.specs.Prelude.{length, Err, MatchResult, IfOk, IfErr, OnOk};
+ghost use Rattle.std.specs.Prelude.{ℕ, ◌≡◌, ◌<◌, ◌≤◌, ◌+◌, ◌-◌, ◌++◌, ◌∷◌, [], true, false, nat_lt, nat_le, nat_eq};
+ghost use Rattle.std.specs.Prelude.{length, Err, None, MatchResult, MatchOption, IfOk, IfErr, OnOk, IsSomeAnd};
 ghost use Rattle.std.specs.Bool.{MatchBool};
 ghost use Rattle.crossbeam_epoch.specs.Face.Handle.{owns, with_room, SealsUnder};
 ghost use Rattle.crossbeam_epoch.specs.Face.Pinned.{IsPinnedFor, IsUnpinnedAfter};
@@ -9,12 +9,16 @@ ghost use Rattle.crossbeam_epoch.specs.Face.Participant.{IsPinned};
 ghost use Rattle.crossbeam_epoch.specs.Face.Pins.{IsDue};
 ghost use Rattle.crossbeam_epoch.specs.Face.Tokens.{known, IsOf, unpinned_view};
 ghost use Rattle.crossbeam_epoch.specs.Face.Pointer.{name_in};
+ghost use Rattle.crossbeam_epoch.specs.Face.Queue.{TakesAll};
 ghost use Rattle.crossbeam_epoch.specs.Limits.{bag_places};
 
 use crate::bag::{Bag, Entry, Work};
+use crate::face::collected::Collected;
 use crate::face::collector::Collector;
 use crate::face::guard::{Guard, Seat};
+use crate::face::note::Note;
 use crate::face::pins::Pin;
+use crate::face::queue::Queued;
 use crate::face::seats::Token;
 use crate::face::shared::Shared;
 use crate::fault::Fault;
@@ -45,9 +49,9 @@ pub struct LocalHandle<'c, T, J: Task = Job> {
 #[derive(Clone, Copy, Drop)]
 pub struct Seals {
     /// That of the last bag that it queued.
-    pub queued: Option<u64>,
-    /// The greatest one of a bag whose jobs its last collection called.
-    pub called: Option<u64>,
+    pub queued: Option<Queued>,
+    /// Those of the bags whose jobs its last collection called.
+    pub called: Collected,
 }
 
 impl<'c, T, J: Task> Model for LocalHandle<'c, T, J> {
@@ -84,7 +88,7 @@ impl<'c, T: Drop, J: Task> LocalHandle<'c, T, J> {
             bag: Bag::new(),
             seals: Seals {
                 queued: None,
-                called: None,
+                called: Collected::new(),
             },
         }
     }
@@ -209,10 +213,10 @@ impl<'c, T: Drop, J: Task> LocalHandle<'c, T, J> {
             token,
             guards: _,
             pin: _,
-            bag: _,
+            bag,
             seals: _,
         } = self;
-        collector.release(rt, token, seat.place);
+        collector.release(rt, token, seat.place, bag);
         Ok(())
     }
 
@@ -222,30 +226,69 @@ impl<'c, T: Drop, J: Task> LocalHandle<'c, T, J> {
         ensures same { self.new ≡ record self.old { seals = record self.old.seals { called = self.new.seals.called }; knows = self.new.knows } }
         ensures word { IsPinned self.new.guards self.new.epoch self.new.knows }
         ensures saw { 0 < self.old.guards → (self.old.epoch ≤ self.new.knows.seen) × (self.new.knows.seen ≤ self.old.epoch + 1) }
-        ensures due { IsDue self.new.knows.seen self.new.seals.called }
+        ensures due { IsDue self.new.knows.seen self.new.seals.called.newest }
+        ensures bags { TakesAll self.new.knows.seen self.new.seals.called }
     {
         self.seals.called = self.collector.collect(rt, &mut self.token);
+    }
+
+    /// A note of the epoch that it saw last, for another handle of its collector. It takes no lock.
+    pub fn note(&mut self) -> Note<'c, T, J>
+        ensures same { self.new ≡ self.old }
+        ensures collector { result.collector.now ≡ self.old.collector.now }
+        ensures seen { (known result.token).seen ≡ self.old.knows.seen }
+    {
+        let note = self.collector.pins.note(&mut self.token);
+        Note::new(self.collector, note)
+    }
+
+    /// Takes another handle's note in, and reads the epoch. With a guard out the epoch that the other one had seen is so at
+    /// most one past the guard's, and what it had called by then was sealed before the guard's epoch. It takes no lock.
+    pub fn heed(&mut self, note: Note<'c, T, J>)
+        requires { note.collector.now ≡ self.old.collector.now }
+        ensures same { self.new ≡ record self.old { knows = self.new.knows } }
+        ensures word { IsPinned self.new.guards self.new.epoch self.new.knows }
+        ensures heard { (known note.entry.token).seen ≤ self.new.knows.seen }
+        ensures saw { 0 < self.old.guards → (self.old.epoch ≤ self.new.knows.seen) × (self.new.knows.seen ≤ self.old.epoch + 1) }
+        ensures before { 0 < self.old.guards → (seal : ℕ) → seal + 2 ≤ (known note.entry.token).seen → seal < self.old.epoch }
+    {
+        let Note {
+            collector: _,
+            token,
+        } = note;
+        self.collector.pins.heed(&mut self.token, token);
     }
 
     /// The seal of the last bag that it queued: an epoch that it read when the bag was filled. The jobs of a bag are called,
     /// before the end, by those alone who saw an epoch two past its seal.
     pub fn sealed_at(&self) -> Option<u64>
-        ensures { result ≡ self.now.seals.queued }
+        ensures { MatchOption result (self.now.seals.queued ≡ None) (λ s. IsSomeAnd self.now.seals.queued (λ q. q.seal ≡ s)) }
     {
-        self.seals.queued
+        match self.seals.queued {
+            Some(bag) => Some(bag.seal()),
+            None => None,
+        }
     }
 
     /// The greatest seal of a bag whose jobs its last collection called; `None` where it called none.
     pub fn called_up_to(&self) -> Option<u64>
-        ensures { result ≡ self.now.seals.called }
+        ensures { result ≡ self.now.seals.called.newest }
     {
-        self.seals.called
+        self.seals.called.newest
+    }
+
+    /// How many bags its last collection called: eight at most, and fewer only where it found no expired one in front.
+    pub fn called_bags(&self) -> u8
+        ensures { result ≡ self.now.seals.called.bags }
+    {
+        self.seals.called.bags
     }
 
     /// Seals the bag, unless it is empty, with an epoch that it reads first.
     fn seal<R: Wait>(&mut self, rt: &R) -> Result<(), Fault>
         ensures ok { OnOk result ((self.new.bag ≡ []) × (self.new ≡ record self.old { bag = self.new.bag; seals = record self.old.seals { queued = self.new.seals.queued }; knows = self.new.knows })) }
         ensures sealed { OnOk result (0 < self.old.guards → SealsUnder (nat_lt 0 (length self.old.bag)) self.old.epoch self.old.seals.queued self.new.seals.queued) }
+        ensures told { OnOk result (0 < length self.old.bag → IsSomeAnd self.new.seals.queued (λ q. q.seal ≡ self.new.knows.seen)) }
         ensures err { IfErr result (λ e. (e ≡ Fault.Memory) × (self.new ≡ record self.old { knows = self.new.knows }) × (0 < length self.old.bag)) }
     {
         if self.bag.is_empty() {
@@ -254,8 +297,8 @@ impl<'c, T: Drop, J: Task> LocalHandle<'c, T, J> {
         let jobs = mem::replace(&mut self.bag, Bag::new());
         let seal = self.collector.pins.look(&mut self.token);
         match self.collector.seal(rt, &self.token, seal, jobs) {
-            Ok(()) => {
-                self.seals.queued = Some(seal);
+            Ok(queued) => {
+                self.seals.queued = Some(queued);
                 Ok(())
             }
             Err(jobs) => {
@@ -323,7 +366,8 @@ impl<'c, T: Drop, J: Task> LocalHandle<'c, T, J> {
         ensures ok { OnOk result ((owns self.old.guards self.old.seat guard.now.seat ≡ true)
             × (self.new.bag ≡ []) × (self.new ≡ record self.old { bag = self.new.bag; seals = self.new.seals; knows = self.new.knows })) }
         ensures sealed { OnOk result (SealsUnder (nat_lt 0 (length self.old.bag)) self.old.epoch self.old.seals.queued self.new.seals.queued) }
-        ensures due { OnOk result (IsDue self.new.knows.seen self.new.seals.called) }
+        ensures due { OnOk result (IsDue self.new.knows.seen self.new.seals.called.newest) }
+        ensures bags { OnOk result (TakesAll self.new.knows.seen self.new.seals.called) }
         ensures saw { OnOk result ((self.old.epoch ≤ self.new.knows.seen) × (self.new.knows.seen ≤ self.old.epoch + 1)) }
         ensures word { OnOk result (IsPinned self.new.guards self.new.epoch self.new.knows) }
         ensures err { IfErr result (λ e. (self.new ≡ record self.old { knows = self.new.knows })

@@ -1,12 +1,14 @@
 //! The epoch and the participants' words. Threads step on them without a lock.
 
-ghost use Rattle.std.specs.Prelude.{◌≡◌, true, false, ◌<◌, ◌≤◌, ◌+◌, ◌^◌, None, Some, IfSome, IfOk};
-ghost use Rattle.crossbeam_epoch.specs.Face.Pins.{word_of, with_seen, IsRead, Passes};
+ghost use Rattle.std.specs.Prelude.{◌≡◌, true, false, ◌<◌, ◌≤◌, ◌+◌, ◌^◌, None, Some, IfOk, IfErr, MatchOption};
+ghost use Rattle.crossbeam_epoch.specs.Face.Pins.{word_of, newcomer, noted, with_seen, IsRead, Passes};
 ghost use Rattle.crossbeam_epoch.specs.Face.Tokens.{known, IsOf, unpinned_view, pinned_view};
 
 use crate::face::seats::{
-    Advance, Arrive, Claim, Confirm, Extent, Inspect, Leave, Look, Publish, Release, Token, Words,
+    Advance, Arrive, Claim, Confirm, Count, Extent, Heeding, Inspect, Leave, Look, Noting, Publish,
+    Release, Token, Words,
 };
+use crate::fault::Fault;
 use atomic_table::Table;
 use std::alloc::{AllocError, Global};
 
@@ -40,6 +42,16 @@ fn passes(number: u64, seen: u64) -> bool
     number == FREE || number == UNPINNED || number == pinned(seen)
 }
 
+/// The refusal while so many places are taken.
+fn refusal(taken: u32) -> Option<Fault>
+    ensures { MatchOption result (taken ≡ 0) (λ f. (0 < taken) × (f ≡ Fault.Registered taken)) }
+{
+    if taken > 0 {
+        return Some(Fault::Registered(taken));
+    }
+    None
+}
+
 /// What a participant's word publishes, and an epoch that was read after it.
 #[derive(Clone, Copy, Drop)]
 pub struct Pin {
@@ -59,6 +71,12 @@ pub struct Pins {
     ghost last_is: { words.shared.key.epoch_max ≡ epoch_max },
 }
 
+/// That a collector's words are closed, so that nobody steps on them any more.
+#[derive(Drop)]
+pub struct Ended {
+    places: u32,
+}
+
 impl Pins {
     /// Epoch 0, and so many places, which are free.
     pub fn new(alloc: Global, places: u32, epoch_max: u64) -> Result<Pins, AllocError>
@@ -75,9 +93,11 @@ impl Pins {
         })
     }
 
-    /// A seat of its own for the caller, and the place that it takes: each is tried once, the lowest one first.
-    pub fn register(&self) -> Option<(Token, u32)>
-        ensures { IfSome result (λ r. (r.1 < self.now.places) × IsOf self.now.words.shared.table_id r.0 × (known r.0 ≡ unpinned_view r.1 (known r.0).seen 0)) }
+    /// A seat of its own for the caller, and the place that it takes: each is tried once, the lowest one first. Where each
+    /// was taken, the seat that found so.
+    pub fn register(&self) -> Result<(Token, u32), Token>
+        ensures ok { IfOk result (λ r. (r.1 < self.now.places) × IsOf self.now.words.shared.table_id r.0 × (known r.0 ≡ unpinned_view r.1 (known r.0).seen 0)) }
+        ensures full { IfErr result (λ t. (known t).taken ≡ self.now.places) }
     {
         let mut token = self.words.shared.load_new_seat::<Arrive>(0).1;
         for place in 0..self.places {
@@ -89,10 +109,10 @@ impl Pins {
                 UNPINNED,
             );
             if found == FREE {
-                return Some((token, place));
+                return Ok((token, place));
             }
         }
-        None
+        Err(token)
     }
 
     /// Gives the place up, and the seat.
@@ -113,6 +133,29 @@ impl Pins {
         ensures read { IsRead (known token.old) result }
     {
         self.words.shared.load::<Look>(token, 0)
+    }
+
+    /// A note of the epoch that this seat saw last.
+    pub fn note(&self, token: &mut Token) -> Token
+        requires of { IsOf self.now.words.shared.table_id token.old }
+        ensures of { IsOf self.now.words.shared.table_id token.new × IsOf self.now.words.shared.table_id result }
+        ensures view { known token.new ≡ known token.old }
+        ensures note { known result ≡ noted (known token.old) }
+    {
+        self.words.shared.split_seat::<Noting>(token)
+    }
+
+    /// Takes a note of another seat in, and reads the epoch.
+    pub fn heed(&self, token: &mut Token, note: Token) -> u64
+        requires of { IsOf self.now.words.shared.table_id token.old × IsOf self.now.words.shared.table_id note }
+        requires note { known note ≡ with_seen newcomer (known note).seen }
+        ensures of { IsOf self.now.words.shared.table_id token.new }
+        ensures view { known token.new ≡ with_seen (known token.old) result }
+        ensures read { IsRead (known token.old) result }
+        ensures later { (known note).seen ≤ result }
+    {
+        self.words.shared.join_seat::<Heeding>(token, note);
+        self.look(token)
     }
 
     /// Publishes that the place's participant is pinned at this epoch, which it saw last, and confirms it.
@@ -203,14 +246,33 @@ impl Pins {
         if found == seen { seen + 1 } else { seen }
     }
 
-    /// How many places aren't free.
-    pub fn registered(&self) -> u32 {
+    /// `Registered(n)` where n places aren't free, with the seat that found so: it looked at each.
+    pub fn registered(&self) -> (Option<Fault>, Token)
+        ensures seat { IsOf self.now.words.shared.table_id result.1 × ((known result.1).asked ≡ self.now.places) }
+        ensures fault { MatchOption result.0 ((known result.1).taken ≡ 0) (λ f. (0 < (known result.1).taken) × (f ≡ Fault.Registered (known result.1).taken)) }
+    {
+        let mut token = self.words.shared.load_new_seat::<Arrive>(0).1;
         let mut taken = 0;
         for place in 0..self.places {
-            if self.words.shared.peek(word_of(place)) != FREE {
+            if self.words.shared.load::<Count>(&mut token, word_of(place)) != FREE {
                 taken += 1;
             }
         }
-        taken
+        (refusal(taken), token)
+    }
+
+    /// Closes the words, once a seat found each place to be free.
+    pub fn close(self, _seat: &Token) -> Ended
+        requires of { IsOf self.words.shared.table_id _seat.now }
+        requires free { ((known _seat.now).asked ≡ self.places) × ((known _seat.now).taken ≡ 0) }
+        ensures { result.places ≡ self.places }
+    {
+        let Pins {
+            words,
+            places,
+            epoch_max: _,
+        } = self;
+        drop(words);
+        Ended { places }
     }
 }

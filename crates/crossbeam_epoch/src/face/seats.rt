@@ -3,9 +3,9 @@
 //! Word 0 is the epoch. Word 16 p + 16 is place p's: 0 where it is nobody's, 1 where its participant is unpinned, and
 //! e + 2 where it is pinned at e. The factor keeps the words of two places 128 bytes apart.
 
-ghost use Rattle.crossbeam_epoch.specs.Face.Pins.{seat_arrived, seat_claimed, seat_looked, seat_published, seat_confirmed, seat_left, seat_released, seat_inspected, seat_advanced};
+ghost use Rattle.crossbeam_epoch.specs.Face.Pins.{seat_arrived, seat_claimed, seat_counted, seat_looked, seat_published, seat_confirmed, seat_left, seat_released, seat_inspected, seat_advanced, newcomer, noted, with_note};
 
-use atomic_table::{Play, Seat, Table, TableRule};
+use atomic_table::{Join, Play, Seat, Split, Table, TableRule};
 use std::alloc::Global;
 
 /// How many places there are, and the last epoch.
@@ -27,6 +27,10 @@ pub struct View {
     pub seen: u64,
     /// It has passed the places below this one since it saw that epoch.
     pub passed: u64,
+    /// So many places, from the lowest on, it has looked at for whether they are free,
+    pub asked: u64,
+    /// and so many of them were taken.
+    pub taken: u64,
 }
 
 /// Whoever steps on the table keeps this.
@@ -58,6 +62,13 @@ pub struct Claim;
 
 impl Play<(), View> for Claim {
     ghost then = { seat_claimed };
+}
+
+/// A place is looked at for whether it is free.
+pub struct Count;
+
+impl Play<(), View> for Count {
+    ghost then = { seat_counted };
 }
 
 /// The epoch is looked at; a scan of the places starts so too.
@@ -107,4 +118,22 @@ pub struct Advance;
 
 impl Play<(), View> for Advance {
     ghost then = { seat_advanced };
+}
+
+/// A seat gives a note of the epoch that it saw last.
+pub struct Noting;
+
+impl Split<View> for Noting {
+    ghost left = { λ v. v };
+
+    ghost right = { noted };
+}
+
+/// A seat takes another one's note in.
+pub struct Heeding;
+
+impl Join<View> for Heeding {
+    ghost both = { with_note };
+
+    ghost spent = { newcomer };
 }

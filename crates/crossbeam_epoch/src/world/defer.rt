@@ -91,7 +91,7 @@ impl<T: Links + Pointable + Drop, J: Task> World<T, J> {
         requires in_table { who < length self.old.table }
         requires few { self.old.next < 2 ^ 64 - 1 }
         ensures ok { IfOk result (λ t. (t ≡ self.old.next) × (self.new ≡ deferred_anew self.old who work)) }
-        ensures err { IfErr result (λ w. (w ≡ work) × (self.new ≡ self.old)) }
+        ensures err { IfErr result (λ w. (w ≡ work) × (self.new ≡ self.old) × (self.old.room ≡ 0)) }
     {
         if self.queue.reserve().is_err() {
             return Err(work);

@@ -5,12 +5,12 @@ ghost use Rattle.crossbeam_epoch.specs.World.Ending.{registered_in, jobs_of, aft
 ghost use Rattle.crossbeam_epoch.specs.World.Reach.{Moment, marks_of, Tells};
 
 use crate::bag::{Bag, Entry, Sealed};
+use crate::chain::Chain;
 use crate::fault::Fault;
 use crate::names::{Links, Pointable};
 use crate::task::Task;
 use crate::world::World;
 use crate::world::cells::Cells;
-use crate::world::chain::Chain;
 use crate::world::collect::perform;
 use crate::world::tickets::Tickets;
 

@@ -75,7 +75,7 @@ impl<T: Links + Pointable + Drop, J: Task> World<T, J> {
         requires in_table { who < length self.old.table }
         ensures outcome { result ≡ outcome_at next ⊎ (result ≡ Outcome.Refused Fault.Memory) }
         ensures done { result ≡ outcome_at next → self.new ≡ queued self.old who seal next }
-        ensures refused { result ≡ Outcome.Refused Fault.Memory → self.new ≡ in_phase self.old who Phase.Idle }
+        ensures refused { result ≡ Outcome.Refused Fault.Memory → (self.old.room ≡ 0) × (self.new ≡ in_phase self.old who Phase.Idle) }
     {
         if self.queue.reserve().is_err() {
             self.participants[who].phase = Phase::Idle;
@@ -91,7 +91,7 @@ impl<T: Links + Pointable + Drop, J: Task> World<T, J> {
         requires in_table { who < length self.old.table }
         ensures outcome { result ≡ Outcome.Done ⊎ (result ≡ Outcome.Refused Fault.Memory) }
         ensures done { result ≡ Outcome.Done → self.new ≡ released self.old who seal }
-        ensures refused { result ≡ Outcome.Refused Fault.Memory → self.new ≡ in_phase self.old who Phase.Idle }
+        ensures refused { result ≡ Outcome.Refused Fault.Memory → (self.old.room ≡ 0) × (self.new ≡ in_phase self.old who Phase.Idle) }
     {
         if self.queue.reserve().is_err() {
             self.participants[who].phase = Phase::Idle;

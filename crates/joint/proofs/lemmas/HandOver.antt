@@ -157,9 +157,9 @@ module _ {V : Type 0} (same : V → V → Bool) (always : Bool) (cells : CellLaw
       })
 
   -- so no fault stands
-  pub never_refused : (f : Fault) → MatchOption (destroy_fault c who node.name) ((f ≡ Memory) × (length (place c who).bag ≡ 64)) (λ x. f ≡ x) → ⊥
+  pub never_refused : (f : Fault) → MatchOption (destroy_fault c who node.name) ((f ≡ Memory) × (length (place c who).bag ≡ 64) × (c.room ≡ 0)) (λ x. f ≡ x) → ⊥
   never_refused f m =
-      let P : Option Fault → Type 0 = λ o. MatchOption o ((f ≡ Memory) × (length (place c who).bag ≡ 64)) (λ x. f ≡ x) in
+      let P : Option Fault → Type 0 = λ o. MatchOption o ((f ≡ Memory) × (length (place c who).bag ≡ 64) × (c.room ≡ 0)) (λ x. f ≡ x) in
       let full : length (place c who).bag ≡ 64 = (subst P no_fault m).1 in
       let r : length (place c who).bag < 64 = owes.room in
       omega (arith, full, r)

@@ -47,6 +47,14 @@ module _ {V : Type 0} (same : V → V → Bool) (always : Bool) where
         run = subst P (sym (q ∙ ap (λ y. y ++ report ∷ []) q1)) (runs_join same always s s1 s2 p.taken (step ∷ []) reports (report ∷ []) p.run one);
       }
 
+  -- once none is left, all were taken
+  pub progress_all : (s : Whole V) (all rest : List (Step V)) (done : ℕ) (reports : List (Report V)) (s' : Whole V) → Progress s all rest done reports s' → rest ≡ [] → done ≡ length all
+  progress_all s all rest done reports s' p e =
+      let none : length rest ≡ 0 = ap length e in
+      let split : length all ≡ length p.taken + length rest = ap length p.split ∙ length-append p.taken rest in
+      let count : length p.taken ≡ done = p.count in
+      omega (arith, none, split, count)
+
   pub progress_end : (s : Whole V) (all rest : List (Step V)) (done done' : ℕ) (reports reports' : List (Report V)) (s' : Whole V) → Progress s all rest done reports s' → done' ≡ done → reports' ≡ reports → IsRun same always s (take done' all) reports' s'
   progress_end s all rest done done' reports reports' s' p n q =
       let e : take done' all ≡ p.taken = ap (λ x. take x all) (n ∙ sym p.count) ∙ (ap (take (length p.taken)) p.split ∙ take-append_seam p.taken rest) in

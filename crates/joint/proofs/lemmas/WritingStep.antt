@@ -15,7 +15,7 @@ use Rattle.joint.specs.Journaling.{has_place}
 use Rattle.joint.specs.Journals.{count_watched}
 use Rattle.joint.specs.Runs.{looks_up}
 use Rattle.joint.specs.Whole.{IsStep, Whole}
-use Rattle.joint.specs.Writing.{Appended, Appends, IsWritingTurn, Progress, WontRepeat, given_after, noted, settled, told_with, weight}
+use Rattle.joint.specs.Writing.{Appended, Appends, Progress, WontRepeat, WritingTurn, given_after, noted, settled, told_with, weight}
 use Rattle.joint.proofs.lemmas.Appending.{entry_changes}
 use Rattle.joint.proofs.lemmas.Watching.{look_up_watched, none_watched, write_watched}
 
@@ -63,10 +63,8 @@ module _ (s s' : Whole ℕ) (who : ℕ) (op : Op ℕ) (given : Option (Option �
 
 -- a hold is a turn of the writing call
 pub hold_turn : (s s' : Whole ℕ) (op : Op ℕ) (watched : Entry ℕ → Bool) (p p' : Progress) (step : Step ℕ) (told r : Report ℕ) (entry : Option (Entry ℕ)) → changes op ≡ true → IsStep nat_eq true s step told s' → Appended s s' step.worker op p.given step.event entry → WontRepeat s step.worker p.entry
-    → p' ≡ noted watched (record p { given = given_after op p.given step.event }) entry → r ≡ record told { outcome = told_with p'.entry told.outcome } → IsWritingTurn watched step.worker op p step r p'
+    → p' ≡ noted watched (record p { given = given_after op p.given step.event }) entry → r ≡ record told { outcome = told_with p'.entry told.outcome } → WritingTurn watched step.worker op p s step r p' s'
 hold_turn s s' op watched p p' step told r entry c takes x once q tells = inl (record {
-  before = s;
-  after = s';
   told = told;
   takes = takes;
   appended = entry;

@@ -16,7 +16,8 @@ use Rattle.joint.specs.Driving.{AreTurns, Turn, Turns, ended}
 use Rattle.joint.specs.Journaling.{in_list, one_where}
 use Rattle.joint.specs.Shares.{Tally, counts_more}
 use Rattle.joint.specs.Threads.{End}
-use Rattle.joint.specs.Writing.{Appends, Counts, HoldsWriting, IsAnswered, IsEntryOf, IsWritingTurn, Progress, given_after, given_by_turns, settled, told_with, unwritten}
+use Rattle.joint.specs.Whole.{Whole}
+use Rattle.joint.specs.Writing.{Appends, Counts, HoldsWriting, IsAnswered, IsEntryOf, IsWritingTurn, Progress, WritingTurn, given_after, given_by_turns, settled, told_with, unwritten}
 use Rattle.joint.proofs.lemmas.Advanced.{journal_legal}
 
 -- no items
@@ -56,9 +57,9 @@ told_fits (Some e) (Registered n) = refl
 told_fits (Some e) (Done d) = refl
 
 module _ (watched : Entry ℕ → Bool) (who : ℕ) (o : Op ℕ) where
-  turn_fits : (p : Progress) (step : Step ℕ) (r : Report ℕ) (p' : Progress) → IsWritingTurn watched who o p step r p' → Fits p'.entry r.outcome
-  turn_fits p step r p' (inl x) = subst (λ y. Fits p'.entry y) (sym (ap (λ y. y.outcome) x.tells)) (told_fits p'.entry x.told.outcome)
-  turn_fits p step r p' (inr x) = subst (λ y. Fits p'.entry y) (sym x.ends) (subst (λ y. Fits y (settled p.entry)) (sym (ap (λ y. y.entry) x.same)) (settled_fits p.entry))
+  turn_fits : (p : Progress) (s : Whole ℕ) (step : Step ℕ) (r : Report ℕ) (p' : Progress) (s' : Whole ℕ) → WritingTurn watched who o p s step r p' s' → Fits p'.entry r.outcome
+  turn_fits p s step r p' s' (inl x) = subst (λ y. Fits p'.entry y) (sym (ap (λ y. y.outcome) x.tells)) (told_fits p'.entry x.told.outcome)
+  turn_fits p s step r p' s' (inr x) = subst (λ y. Fits p'.entry y) (sym x.ends) (subst (λ y. Fits y (settled p.entry)) (sym (ap (λ y. y.entry) x.same)) (settled_fits p.entry))
 
   -- what the call comes to in some turns: once it has an entry, nothing is counted any more
   record Counted (p : Progress) (ts : List (Turn ℕ)) (p' : Progress) : Type 0 where
@@ -99,7 +100,7 @@ module _ (watched : Entry ℕ → Bool) (who : ℕ) (o : Op ℕ) where
     ends_fit : (ts : List (Turn ℕ)) (p : Progress) (f : F) (last : Option (Report ℕ)) (places : List Q) (p' : Progress) (places' : List Q) (out : Outcome ℕ) → ((r : Report ℕ) → last ≡ Some r → Fits p.entry r.outcome) → Are p f last places ts p' places' out → Fits p'.entry out
     ends_fit [] p f last places p' places' out l x = subst (λ (y : Progress). Fits y.entry out) (sym x.0) (fits_last p last out l x.2)
     ends_fit (t ∷ ts) p f last places p' places' out l x =
-        ends_fit ts x.1 x.0 (Some t.report) _ p' places' out (λ r q. let same : t.report ≡ r = cc in subst (λ (y : Report ℕ). Fits x.1.entry y.outcome) same (turn_fits p t.step t.report x.1 x.3)) x.4
+        ends_fit ts x.1 x.0 (Some t.report) _ p' places' out (λ r q. let same : t.report ≡ r = cc in subst (λ (y : Report ℕ). Fits x.1.entry y.outcome) same (turn_fits p x.3.0 t.step t.report x.1 x.3.1 x.3.2)) x.4
 
     -- the turns after one that ended the call
     none_follow : (e : Option (Entry ℕ)) (r : Report ℕ) (ts : List (Turn ℕ)) (p : Progress) (f : F) (places : List Q) (p' : Progress) (places' : List Q) (out : Outcome ℕ) → r.outcome ≡ settled e → Are p f (Some r) places ts p' places' out → p' ≡ p
@@ -107,12 +108,12 @@ module _ (watched : Entry ℕ → Bool) (who : ℕ) (o : Op ℕ) where
     none_follow e r (t ∷ ts) p f places p' places' out q x = absurd (over calls e r f t.step x.0 q x.2)
 
     module _ (t : Turn ℕ) (ts : List (Turn ℕ)) (p p1 p' : Progress) (rest : (e : Option (Entry ℕ)) → p1.entry ≡ e → Comes e p1 ts p') where
-      after_entry : (e : Option (Entry ℕ)) (n : Entry ℕ) → p.entry ≡ e → (h : HoldsWriting watched who o p t.step t.report p1) → h.appended ≡ Some n → Comes e p (t ∷ ts) p'
-      after_entry e n q h w =
+      after_entry : (e : Option (Entry ℕ)) (n : Entry ℕ) (b c : Whole ℕ) → p.entry ≡ e → (h : HoldsWriting watched who o p b t.step t.report p1 c) → h.appended ≡ Some n → Comes e p (t ∷ ts) p'
+      after_entry e n b c q h w =
           let a : Appends watched who o (given_after o p.given t.step.event) p (Some n) p1 = subst (λ y. Appends watched who o (given_after o p.given t.step.event) p y p1) w h.appends in
           let none : e ≡ None = sym q ∙ a.0 in
           let s : Stays p1 p' = rest (Some n) (ap (λ y. y.entry) a.2) in
-          let legal : IsLegal nat_eq (h.before.log.entries ++ n ∷ []) = subst (λ es. IsLegal nat_eq es) (h.entries ∙ ap (λ y. h.before.log.entries ++ in_list y) w) (journal_legal nat_eq true h.after h.takes.holds) in
+          let legal : IsLegal nat_eq (b.log.entries ++ n ∷ []) = subst (λ es. IsLegal nat_eq es) (h.entries ∙ ap (λ y. b.log.entries ++ in_list y) w) (journal_legal nat_eq true c h.takes.holds) in
           subst (λ y. Comes y p (t ∷ ts) p') (sym none) (inr (record {
             entry = n;
             has = s.entry ∙ ap (λ y. y.entry) a.2;
@@ -120,7 +121,7 @@ module _ (watched : Entry ℕ → Bool) (who : ℕ) (o : Op ℕ) where
             after = ts;
             turns = refl;
             of = a.1;
-            answered = last_answered empty legal.0 h.before.log.entries n legal.1;
+            answered = last_answered empty legal.0 b.log.entries n legal.1;
             share = s.share ∙ ap (λ y. y.share) a.2;
           }))
 
@@ -143,20 +144,20 @@ module _ (watched : Entry ℕ → Bool) (who : ℕ) (o : Op ℕ) where
           share = c.share ∙ ap (λ y. counts_more y.share (one_where (watched c.entry))) a;
         })
 
-      after_hold : (e a : Option (Entry ℕ)) → p.entry ≡ e → (h : HoldsWriting watched who o p t.step t.report p1) → h.appended ≡ a → Comes e p (t ∷ ts) p'
-      after_hold e (Some n) q h w = after_entry e n q h w
-      after_hold e None q h w = after_none e q (subst (λ y. Appends watched who o (given_after o p.given t.step.event) p y p1) w h.appends)
+      after_hold : (e a : Option (Entry ℕ)) (b c : Whole ℕ) → p.entry ≡ e → (h : HoldsWriting watched who o p b t.step t.report p1 c) → h.appended ≡ a → Comes e p (t ∷ ts) p'
+      after_hold e (Some n) b c q h w = after_entry e n b c q h w
+      after_hold e None b c q h w = after_none e q (subst (λ y. Appends watched who o (given_after o p.given t.step.event) p y p1) w h.appends)
 
-    after_turn : (t : Turn ℕ) (ts : List (Turn ℕ)) (p p1 p' : Progress) (f : F) (places places' : List Q) (out : Outcome ℕ) (e : Option (Entry ℕ)) → ((e : Option (Entry ℕ)) → p1.entry ≡ e → Comes e p1 ts p') → p.entry ≡ e → IsWritingTurn watched who o p t.step t.report p1
+    after_turn : (t : Turn ℕ) (ts : List (Turn ℕ)) (p p1 p' : Progress) (f : F) (places places' : List Q) (out : Outcome ℕ) (e : Option (Entry ℕ)) → ((e : Option (Entry ℕ)) → p1.entry ≡ e → Comes e p1 ts p') → (b c : Whole ℕ) → p.entry ≡ e → WritingTurn watched who o p b t.step t.report p1 c
         → Are p1 f (Some t.report) places ts p' places' out → Comes e p (t ∷ ts) p'
-    after_turn t ts p p1 p' f places places' out e rest q (inl h) x = after_hold t ts p p1 p' rest e h.appended q h refl
-    after_turn t ts p p1 p' f places places' out e rest q (inr s) x =
+    after_turn t ts p p1 p' f places places' out e rest b c q (inl h) x = after_hold t ts p p1 p' rest e h.appended b c q h refl
+    after_turn t ts p p1 p' f places places' out e rest b c q (inr s) x =
         let same : p' ≡ p = none_follow p.entry t.report ts p1 f places p' places' out s.ends x ∙ s.same in
         stays e p (t ∷ ts) p' (record { entry = ap (λ y. y.entry) same; share = ap (λ y. y.share) same })
 
     comes : (ts : List (Turn ℕ)) (p : Progress) (f : F) (last : Option (Report ℕ)) (places : List Q) (p' : Progress) (places' : List Q) (out : Outcome ℕ) (e : Option (Entry ℕ)) → p.entry ≡ e → Are p f last places ts p' places' out → Comes e p ts p'
     comes [] p f last places p' places' out e q x = stays e p [] p' (record { entry = ap (λ y. y.entry) x.0; share = ap (λ y. y.share) x.0 })
-    comes (t ∷ ts) p f last places p' places' out e q x = after_turn t ts p x.1 p' x.0 _ places' out e (λ e1 q1. comes ts x.1 x.0 (Some t.report) _ p' places' out e1 q1 x.4) q x.3 x.4
+    comes (t ∷ ts) p f last places p' places' out e q x = after_turn t ts p x.1 p' x.0 _ places' out e (λ e1 q1. comes ts x.1 x.0 (Some t.report) _ p' places' out e1 q1 x.4) x.3.0 x.3.1 q x.3.2 x.4
 
     -- what a whole call counts on its share
     counts_by : (ts : List (Turn ℕ)) (share : Tally) (p' : Progress) (end : End ℕ) → Fits p'.entry (ended end) → Stays (unwritten share) p' ⊎ Counted (unwritten share) ts p' → Counts watched who o ts share p'.share end

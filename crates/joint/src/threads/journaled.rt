@@ -5,12 +5,14 @@ ghost use Rattle.std.specs.Option.{option_map};
 ghost use Rattle.joint.specs.Journals.{IsJournal};
 ghost use Rattle.joint.specs.Opening.{IsUnshared};
 ghost use Rattle.joint.specs.Pinned.{CallsPinned, KeepsWorker};
-ghost use Rattle.joint.specs.Threads.{Answers, AreKeys, As, Closes, Hands, HasWorkers, IsHold, IsRound, Pins, Scans, Serves, is_held_by, is_of, register_step, registered};
+ghost use Rattle.joint.specs.Threads.{Answers, AreKeys, As, Closes, Hands, IsAccount, IsHold, IsRound, IsTold, IsUnclosed, Pins, Scans, Serves, is_held_by, is_of, register_step, registered};
+ghost use Rattle.joint.specs.Threads.{charge_of, waiting_bytes_of, waiting_of};
 ghost use Rattle.joint.specs.Threads.{computed, counted, either_words, emptied, exchanged, got, if_present, inserted, listed, or_insert, removed, replaced, scanned, told, words};
 ghost use Rattle.joint.specs.Writing.{Gathers, Reads, Writes, WritesMute};
 ghost use Rattle.joint.specs.declared.refusal.Refusal.TheVariants as cause;
 ghost use Rattle.joint.specs.declared.steps.Op.TheVariants as op;
 
+use crate::account::Account;
 use crate::limits::Limits;
 use crate::refusal::Refusal;
 use crate::steps::Op;
@@ -62,6 +64,7 @@ impl<L: Ledger, W: Watch, K: Word64, V: Word64, A: Allocator, D: Drop> Journaled
         requires ledger { blank.parts ≡ L.parts }
         requires parts { blank.parts ≡ parts }
         ensures id { IfOk result (λ r. r.0.tree.id ≡ limits.id) }
+        ensures account { IfOk result (λ r. IsAccount r.0.tree.account (A.charged_of allocator) (A.limit_of allocator)) }
         ensures drainer { IfOk result (λ r. r.0.drainer ≡ drainer) }
         ensures share { IfOk result (λ r. r.1 ≡ record { parts = parts; count = 0 }) }
         ensures cause { IfErr result (λ e. IsUnshared limits places parts (A.charged_of allocator) (A.limit_of allocator) e) }
@@ -69,10 +72,11 @@ impl<L: Ledger, W: Watch, K: Word64, V: Word64, A: Allocator, D: Drop> Journaled
         if parts == 0 {
             return Err(Refusal::Limits);
         }
+        let account = Account::of(&allocator);
         let world = World::new_journaled(alloc, limits, allocator, places)?;
         let (book, tokens) = blank.open::<L>();
         let journaled = Journaled {
-            tree: Tree::of(limits.id, Kept::with(world, book)),
+            tree: Tree::of(limits.id, account, Kept::with(world, book)),
             drainer,
             alloc,
             words: PhantomData,
@@ -366,19 +370,26 @@ impl<L: Ledger, W: Watch, K: Word64, V: Word64, A: Allocator, D: Drop> Journaled
     }
 
     /// The bytes charged to the allocator.
-    pub fn charged<R: Wait>(&self, rt: &R) -> u64 {
+    pub fn charged<R: Wait>(&self, rt: &R) -> u64
+        ensures { IsTold nat_eq true charge_of result }
+    {
         self.tree.charged(rt)
     }
 
     /// The nodes that wait for their destruction.
-    pub fn waiting<R: Wait>(&self, rt: &R) -> u64 {
+    pub fn waiting<R: Wait>(&self, rt: &R) -> u64
+        ensures { IsTold nat_eq true waiting_of result }
+    {
         self.tree.waiting(rt)
     }
 
     /// Their sizes, in bytes.
-    pub fn waiting_bytes<R: Wait>(&self, rt: &R) -> u64 {
+    pub fn waiting_bytes<R: Wait>(&self, rt: &R) -> u64
+        ensures { IsTold nat_eq true waiting_bytes_of result }
+    {
         self.tree.waiting_bytes(rt)
     }
+
     /// The number of watched writing calls in the journal, by a share of all parts: its count. One that lacks parts is
     /// refused as SharesLeft, with their number.
     pub fn gather<R: Wait>(&self, rt: &R, share: &mut Share<L>) -> Result<u64, Refusal>
@@ -415,6 +426,7 @@ impl<L: Ledger, W: Watch, K: Word64, V: Word64, A: Allocator> Journaled<L, W, K,
         requires ledger { blank.parts ≡ L.parts }
         requires parts { blank.parts ≡ parts }
         ensures id { IfOk result (λ r. r.0.tree.id ≡ limits.id) }
+        ensures account { IfOk result (λ r. IsAccount r.0.tree.account (A.charged_of allocator) (A.limit_of allocator)) }
         ensures share { IfOk result (λ r. r.1 ≡ record { parts = parts; count = 0 }) }
         ensures cause { IfErr result (λ e. IsUnshared limits places parts (A.charged_of allocator) (A.limit_of allocator) e) }
     {
@@ -431,12 +443,14 @@ impl<L: Ledger, W: Watch, K: Word64, V: Word64, A: Allocator, D: Drainer<K, V>> 
     D,
 > {
     /// Hands each pair to the drainer, ascending by key, and gives allocator and drainer back; the allocator has the
-    /// charge with which it came. Refused as WorkersLeft while workers are registered, and the index comes back.
+    /// charge with which it came, and its limit. Refused as WorkersLeft while workers are registered, and the index comes
+    /// back; as Foreign too where another charge or limit came in with what its lock keeps, which no run brings about.
     pub fn close<R: Wait>(self, _rt: &R) -> Result<(A, D), (Refusal, Self)>
         requires { D.can_drain self.drainer }
-        ensures closed { IfOk result (λ r. Closes (λ before key value after. D.drains before (K.of_word key) (V.of_word value) after) self.drainer (A.charged_of r.0) (A.limit_of r.0) r.1) }
-        ensures workers { IfErr result (λ e. HasWorkers e.0) }
-        ensures back { IfErr result (λ e. (e.1.tree.id ≡ self.tree.id) × (e.1.drainer ≡ self.drainer)) }
+        ensures closed { IfOk result (λ r. Closes nat_eq true (λ before key value after. D.drains before (K.of_word key) (V.of_word value) after) self.drainer (A.charged_of r.0) (A.limit_of r.0) r.1) }
+        ensures given_back { IfOk result (λ r. IsAccount self.tree.account (A.charged_of r.0) (A.limit_of r.0)) }
+        ensures cause { IfErr result (λ e. IsUnclosed nat_eq true self.tree.account e.0) }
+        ensures back { IfErr result (λ e. (e.1.tree.id ≡ self.tree.id) × (e.1.tree.account ≡ self.tree.account) × (e.1.drainer ≡ self.drainer)) }
     {
         let Journaled {
             tree,

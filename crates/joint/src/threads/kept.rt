@@ -1,14 +1,15 @@
 //! What an index with a journal keeps under its lock: the machine, and the book of the ledger that counts its watched
 //! writing calls.
 
-ghost use Rattle.std.specs.Prelude.{◌≡◌, ◌≤◌, ◌↔◌, ℕ, None, false, true, nat_eq, slice_get, IsTrue, IfOk, IfErr, MatchResult};
+ghost use Rattle.std.specs.Prelude.{◌≡◌, ◌≤◌, ◌↔◌, ℕ, None, false, true, nat_eq, slice_get, IsTrue, IfOk, MatchResult};
+ghost use Rattle.joint.specs.Closing.{IsClosed, IsNotClosed};
 ghost use Rattle.joint.specs.Driving.{IsToldInCall};
 ghost use Rattle.joint.specs.Journals.{IsCounted, IsJournal, count_watched};
 ghost use Rattle.joint.specs.Opening.{HasPlaces};
-ghost use Rattle.joint.specs.Threads.{Closes, HasWorkers, IsHold, register_step};
+ghost use Rattle.joint.specs.Threads.{register_step};
 ghost use Rattle.joint.specs.Whole.{IsOfCall, IsStep};
 ghost use Rattle.joint.specs.Asked.{changes};
-ghost use Rattle.joint.specs.Writing.{Appended, Gathers, IsInFlight, IsWritingTurn, MayStep, Reads, WontRepeat};
+ghost use Rattle.joint.specs.Writing.{Appended, Gathers, GathersOf, IsInFlight, MayStep, ReadingTurn, Reads, WontRepeat, WritingTurn};
 ghost use Rattle.joint.specs.declared.refusal.Refusal.TheVariants as cause;
 
 use crate::refusal::Refusal;
@@ -49,6 +50,7 @@ impl<L: Ledger, W: Watch, A: Allocator> Kept<L, W, A> {
     pub(crate) fn with(world: World<u64, A>, book: Book<L>) -> Self
         requires places { HasPlaces world.log.places }
         requires counted { book.total ≡ count_watched W.watched world.log.entries }
+        ensures { result.world ≡ world }
     {
         Kept {
             world,
@@ -94,6 +96,18 @@ impl<L: Ledger, W: Watch, A: Allocator> Kept<L, W, A> {
         entry.is_none() || !self.world.has_place(who)
     }
 
+    /// One turn of a call that doesn't write: its begin; then, while it may be taken, its next step.
+    fn read(&mut self, op: &Op<u64>, step: Step<u64>) -> Report<u64>
+        requires { IsOfCall step.event }
+        ensures turn { ReadingTurn self.old.world step.worker op.now step result self.new.world }
+        ensures told { IsToldInCall result.outcome }
+    {
+        if op.changes() || !self.may_step(step.worker, *op, None, &step.event) {
+            return stopped(Outcome::Refused(Refusal::Idle));
+        }
+        step_on(&mut self.world, op, None, step).0
+    }
+
     /// One turn of a writing call: its begin; then, while it may be taken, its next step.
     pub(crate) fn write(
         &mut self,
@@ -103,7 +117,7 @@ impl<L: Ledger, W: Watch, A: Allocator> Kept<L, W, A> {
     ) -> Report<u64>
         requires writing { changes op.now ≡ true }
         requires call { IsOfCall step.event }
-        ensures turn { IsWritingTurn W.watched step.worker op.now call.old step result call.new }
+        ensures turn { WritingTurn W.watched step.worker op.now call.old self.old.world step result call.new self.new.world }
         ensures told { IsToldInCall result.outcome }
     {
         let who = step.worker;
@@ -121,8 +135,10 @@ impl<L: Ledger, W: Watch, A: Allocator> Kept<L, W, A> {
 
     /// The number of watched writing calls, by a share of all parts. One that lacks parts is refused as SharesLeft.
     pub(crate) fn gather(&mut self, share: &mut Share<L>) -> Result<u64, Refusal>
+        ensures exact { GathersOf W.watched L.parts self.old.world.log.entries share.old result }
         ensures gathers { Gathers W.watched L.parts share.old result }
         ensures share { share.new ≡ share.old }
+        ensures world { self.new.world ≡ self.old.world }
     {
         self.world.sound();
         match share.lacks() {
@@ -136,7 +152,8 @@ impl<L: Ledger, W: Watch, A: Allocator> Kept<L, W, A> {
 
     /// A copy of the journal. Refused as Memory.
     pub(crate) fn entries(&self, alloc: Global) -> Result<Vec<Entry<u64>>, Refusal>
-        ensures { MatchResult result (λ entries. IsJournal entries.items) (λ e. e ≡ cause.Memory) }
+        ensures exact { IfOk result (λ entries. entries.items ≡ self.now.world.log.entries) }
+        ensures journal { MatchResult result (λ entries. IsJournal entries.items) (λ e. e ≡ cause.Memory) }
     {
         self.world.sound();
         match copy_of(alloc, self.world.journal()) {
@@ -153,6 +170,10 @@ impl<L: Ledger, W: Watch, A: Allocator> Locked<u64> for Kept<L, W, A> {
 
     ghost asked = { λ op. op };
 
+    ghost machine = { λ k. k.world };
+
+    ghost turns = { ReadingTurn };
+
     ghost holds = { Reads };
 
     fn memo(op: &Op<u64>) -> Op<u64>
@@ -163,31 +184,29 @@ impl<L: Ledger, W: Watch, A: Allocator> Locked<u64> for Kept<L, W, A> {
 
     fn turn(&mut self, call: &Op<u64>, step: Step<u64>) -> Report<u64>
         requires { IsOfCall step.event }
+        ensures turns { ReadingTurn self.old.world step.worker call.now step result self.new.world }
         ensures holds { Reads step.worker call.now step result }
         ensures told { IsToldInCall result.outcome }
     {
-        if call.changes() || !self.may_step(step.worker, *call, None, &step.event) {
-            return stopped(Outcome::Refused(Refusal::Idle));
-        }
-        step_on(&mut self.world, call, None, step).0
+        self.read(call, step)
     }
 
     fn register(&mut self) -> Report<u64>
-        ensures { IsHold nat_eq true register_step result }
+        ensures { IsStep nat_eq true self.old.world register_step result self.new.world }
     {
         self.world.sound();
         self.world.step(registration())
     }
 
-    fn world(&self) -> &World<u64, A> {
+    fn world(&self) -> &World<u64, A>
+        ensures { result.now ≡ self.now.world }
+    {
         &self.world
     }
 
     fn close<D: Drainer<u64, u64>>(self, drainer: D) -> Result<(A, D), (Refusal, Self, D)>
         requires { D.can_drain drainer }
-        ensures closed { IfOk result (λ r. Closes D.drains drainer (A.charged_of r.0) (A.limit_of r.0) r.1) }
-        ensures workers { IfErr result (λ e. HasWorkers e.0) }
-        ensures drainer { IfErr result (λ e. e.2 ≡ drainer) }
+        ensures { MatchResult result (λ r. IsClosed D.drains self.world drainer (A.charged_of r.0) (A.limit_of r.0) r.1) (λ e. IsNotClosed self.world drainer e.0 e.1.world e.2) }
     {
         let Kept {
             world,

@@ -1,12 +1,13 @@
 //! What an index keeps under its lock, and the holds of that lock.
 
-ghost use Rattle.std.specs.Prelude.{◌≡◌, ℕ, IfOk, IfErr};
+ghost use Rattle.std.specs.Prelude.{◌≡◌, ℕ, MatchResult};
 ghost use Rattle.joint.specs.declared.steps.Op.{Op};
 ghost use Rattle.joint.specs.declared.steps.Report.{Report};
 ghost use Rattle.joint.specs.declared.steps.Step.{Step};
+ghost use Rattle.joint.specs.Closing.{IsClosed, IsNotClosed};
 ghost use Rattle.joint.specs.Driving.{IsToldInCall};
-ghost use Rattle.joint.specs.Threads.{ByHold, Closes, HasWorkers, IsHold, register_step};
-ghost use Rattle.joint.specs.Whole.{IsOfCall};
+ghost use Rattle.joint.specs.Threads.{ByHold, ByStep, IsHold, register_step};
+ghost use Rattle.joint.specs.Whole.{IsOfCall, IsStep, Whole};
 
 use crate::refusal::Refusal;
 use crate::steps::{Event, Op, Report, Step};
@@ -24,7 +25,13 @@ pub(crate) trait Locked<P: Payload + Small>: Drop {
     /// The call that it is of.
     ghost asked: { Self.Memo → Op P };
 
-    /// What is known of a turn of this worker's call.
+    /// The machine that it has.
+    ghost machine: { Self → Whole P };
+
+    /// What a turn of this worker's call does, from the machine before it to the one after it.
+    ghost turns: { Whole P → ℕ → Op P → Step P → Report P → Whole P → Type 0 };
+
+    /// What is known of it where a lock hides both.
     ghost holds: { ℕ → Op P → Step P → Report P → Type 0 };
 
     /// What to know of a call.
@@ -34,22 +41,22 @@ pub(crate) trait Locked<P: Payload + Small>: Drop {
     /// One turn of a worker's call.
     fn turn(&mut self, call: &Self::Memo, step: Step<P>) -> Report<P>
         requires { IsOfCall step.event }
+        ensures turns { turns (machine self.old) step.worker (asked call.now) step result (machine self.new) }
         ensures holds { holds step.worker (asked call.now) step result }
         ensures told { IsToldInCall result.outcome };
 
-    /// A worker registers.
+    /// A worker registers: one step.
     fn register(&mut self) -> Report<P>
-        ensures { IsHold P.same_as P.always_copies register_step result };
+        ensures { IsStep P.same_as P.always_copies (machine self.old) register_step result (machine self.new) };
 
     /// The machine.
-    fn world(&self) -> &World<P, Self::Nodes>;
+    fn world(&self) -> &World<P, Self::Nodes>
+        ensures { result.now ≡ machine self.now };
 
     /// Ends it, where no worker is registered.
     fn close<D: Drainer<u64, P>>(self, drainer: D) -> Result<(Self::Nodes, D), (Refusal, Self, D)>
         requires { D.can_drain drainer }
-        ensures closed { IfOk result (λ r. Closes D.drains drainer (Self.Nodes.charged_of r.0) (Self.Nodes.limit_of r.0) r.1) }
-        ensures workers { IfErr result (λ e. HasWorkers e.0) }
-        ensures drainer { IfErr result (λ e. e.2 ≡ drainer) };
+        ensures { MatchResult result (λ r. IsClosed D.drains (machine self) drainer (Self.Nodes.charged_of r.0) (Self.Nodes.limit_of r.0) r.1) (λ e. IsNotClosed (machine self) drainer e.0 (machine e.1) e.2) };
 }
 
 /// The machine alone.
@@ -76,6 +83,10 @@ impl<P: Payload + Small, A: Allocator> Locked<P> for Plain<P, A> {
 
     ghost asked = { λ m. m.value };
 
+    ghost machine = { λ p. p.world };
+
+    ghost turns = { ByStep P.same_as P.always_copies };
+
     ghost holds = { ByHold P.same_as P.always_copies };
 
     fn memo(op: &Op<P>) -> Snapshot<Op<P>>
@@ -86,6 +97,7 @@ impl<P: Payload + Small, A: Allocator> Locked<P> for Plain<P, A> {
 
     fn turn(&mut self, _call: &Snapshot<Op<P>>, step: Step<P>) -> Report<P>
         requires { IsOfCall step.event }
+        ensures turns { IsStep P.same_as P.always_copies self.old.world step result self.new.world }
         ensures holds { IsHold P.same_as P.always_copies step result }
         ensures told { IsToldInCall result.outcome }
     {
@@ -93,20 +105,20 @@ impl<P: Payload + Small, A: Allocator> Locked<P> for Plain<P, A> {
     }
 
     fn register(&mut self) -> Report<P>
-        ensures { IsHold P.same_as P.always_copies register_step result }
+        ensures { IsStep P.same_as P.always_copies self.old.world register_step result self.new.world }
     {
         self.world.step(registration())
     }
 
-    fn world(&self) -> &World<P, A> {
+    fn world(&self) -> &World<P, A>
+        ensures { result.now ≡ self.now.world }
+    {
         &self.world
     }
 
     fn close<D: Drainer<u64, P>>(self, drainer: D) -> Result<(A, D), (Refusal, Self, D)>
         requires { D.can_drain drainer }
-        ensures closed { IfOk result (λ r. Closes D.drains drainer (A.charged_of r.0) (A.limit_of r.0) r.1) }
-        ensures workers { IfErr result (λ e. HasWorkers e.0) }
-        ensures drainer { IfErr result (λ e. e.2 ≡ drainer) }
+        ensures { MatchResult result (λ r. IsClosed D.drains self.world drainer (A.charged_of r.0) (A.limit_of r.0) r.1) (λ e. IsNotClosed self.world drainer e.0 e.1.world e.2) }
     {
         let Plain { world } = self;
         match world.close(drainer) {

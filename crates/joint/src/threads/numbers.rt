@@ -5,7 +5,8 @@ ghost use Rattle.std.specs.Option.{option_map};
 ghost use Rattle.congee.specs.Keys.{key_bytes};
 ghost use Rattle.joint.specs.Opening.{IsUnopened};
 ghost use Rattle.joint.specs.Pinned.{CallsPinned, KeepsWorker};
-ghost use Rattle.joint.specs.Threads.{Answers, AreKeys, As, ByHold, Computes, Hands, HasWorkers, IsHold, IsRound, Pins, Scans, Serves, is_held_by, is_of, register_step, registered};
+ghost use Rattle.joint.specs.Threads.{Answers, AreKeys, As, ByHold, Computes, Drops, Hands, IsAccount, IsHold, IsRound, IsTold, IsUnclosed, Pins, Scans, Serves, is_held_by, is_of, register_step, registered};
+ghost use Rattle.joint.specs.Threads.{charge_of, waiting_bytes_of, waiting_of};
 ghost use Rattle.joint.specs.Threads.{computed, counted, either_words, emptied, exchanged, got, if_present, inserted, listed, or_insert, removed, replaced, scanned, told, words};
 ghost use Rattle.joint.specs.declared.steps.Op.TheVariants as op;
 
@@ -31,6 +32,7 @@ impl<V: Word64, A: Allocator> U64Congee<V, A> {
     /// Its number is `limits.id`; each index wants one of its own (`Limits::with_id`).
     pub fn new(alloc: Global, limits: Limits, allocator: A) -> Result<Self, Refusal>
         ensures id { IfOk result (λ t. t.words.tree.id ≡ limits.id) }
+        ensures account { IfOk result (λ t. IsAccount t.words.tree.account (A.charged_of allocator) (A.limit_of allocator)) }
         ensures cause { IfErr result (λ e. IsUnopened limits (A.charged_of allocator) (A.limit_of allocator) e) }
     {
         Ok(U64Congee {
@@ -289,25 +291,34 @@ impl<V: Word64, A: Allocator> U64Congee<V, A> {
     }
 
     /// The bytes charged to the allocator.
-    pub fn charged<R: Wait>(&self, rt: &R) -> u64 {
+    pub fn charged<R: Wait>(&self, rt: &R) -> u64
+        ensures { IsTold nat_eq true charge_of result }
+    {
         self.words.charged(rt)
     }
 
     /// The nodes that wait for their destruction.
-    pub fn waiting<R: Wait>(&self, rt: &R) -> u64 {
+    pub fn waiting<R: Wait>(&self, rt: &R) -> u64
+        ensures { IsTold nat_eq true waiting_of result }
+    {
         self.words.waiting(rt)
     }
 
     /// Their sizes, in bytes.
-    pub fn waiting_bytes<R: Wait>(&self, rt: &R) -> u64 {
+    pub fn waiting_bytes<R: Wait>(&self, rt: &R) -> u64
+        ensures { IsTold nat_eq true waiting_bytes_of result }
+    {
         self.words.waiting_bytes(rt)
     }
 
-    /// Drops the pairs and the nodes, and gives the allocator back with the charge with which it came. Refused as
-    /// WorkersLeft while workers are registered, and the index comes back.
+    /// Drops the pairs and the nodes, and gives the allocator back with the charge with which it came, and its limit.
+    /// Refused as WorkersLeft while workers are registered, and the index comes back; as Foreign too where another charge
+    /// or limit came in with what its lock keeps, which no run brings about.
     pub fn close<R: Wait>(self, rt: &R) -> Result<A, (Refusal, Self)>
-        ensures workers { IfErr result (λ e. HasWorkers e.0) }
-        ensures back { IfErr result (λ e. e.1.words.tree.id ≡ self.words.tree.id) }
+        ensures closed { IfOk result (λ a. Drops nat_eq true (A.charged_of a) (A.limit_of a)) }
+        ensures given_back { IfOk result (λ a. IsAccount self.words.tree.account (A.charged_of a) (A.limit_of a)) }
+        ensures cause { IfErr result (λ e. IsUnclosed nat_eq true self.words.tree.account e.0) }
+        ensures back { IfErr result (λ e. (e.1.words.tree.id ≡ self.words.tree.id) × (e.1.words.tree.account ≡ self.words.tree.account)) }
     {
         let U64Congee { words } = self;
         match words.close(rt) {

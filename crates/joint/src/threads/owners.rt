@@ -5,7 +5,8 @@ ghost use Rattle.std.specs.Arc.{arc_value};
 ghost use Rattle.std.specs.Option.{option_map};
 ghost use Rattle.joint.specs.Opening.{IsUnopened};
 ghost use Rattle.joint.specs.Pinned.{CallsPinned, KeepsWorker};
-ghost use Rattle.joint.specs.Threads.{Answers, AreKeys, ByHold, Computes, Hands, HasWorkers, IsHold, IsRound, Owns, Pins, RefusesOwner, Serves, is_held_by, is_of, register_step, registered};
+ghost use Rattle.joint.specs.Threads.{Answers, AreKeys, ByHold, Computes, Drops, Hands, IsAccount, IsHold, IsRound, IsTold, IsUnclosed, Owns, Pins, RefusesOwner, Serves, is_held_by, is_of, register_step, registered};
+ghost use Rattle.joint.specs.Threads.{charge_of, waiting_bytes_of, waiting_of};
 ghost use Rattle.joint.specs.Threads.{befores, computed, counted, emptied, got, if_owned, inserted, listed, owned, removed, told};
 ghost use Rattle.joint.specs.declared.steps.Op.TheVariants as op;
 
@@ -116,6 +117,8 @@ impl<K: Word64, V: Drop> CongeeArc<K, V> {
     /// Its number is `limits.id`; each index wants one of its own (`Limits::with_id`).
     pub fn new(alloc: Global, limits: Limits) -> Result<Self, Refusal>
         ensures id { IfOk result (λ t. t.tree.id ≡ limits.id) }
+        ensures account { IfOk result (λ t. IsAccount t.tree.account 0 u64.MAX) }
+        ensures cause { IfErr result (λ e. IsUnopened limits 0 u64.MAX e) }
     {
         let tree = Tree::new(alloc, limits, DefaultAllocator::new())?;
         Ok(CongeeArc {
@@ -317,24 +320,32 @@ impl<K: Word64, V: Drop> CongeeArc<K, V> {
     }
 
     /// The bytes charged to the allocator.
-    pub fn charged<R: Wait>(&self, rt: &R) -> u64 {
+    pub fn charged<R: Wait>(&self, rt: &R) -> u64
+        ensures { IsTold {V = V} (λ _ _. false) false charge_of result }
+    {
         self.tree.charged(rt)
     }
 
     /// The nodes that wait for their destruction.
-    pub fn waiting<R: Wait>(&self, rt: &R) -> u64 {
+    pub fn waiting<R: Wait>(&self, rt: &R) -> u64
+        ensures { IsTold {V = V} (λ _ _. false) false waiting_of result }
+    {
         self.tree.waiting(rt)
     }
 
     /// Their sizes, in bytes.
-    pub fn waiting_bytes<R: Wait>(&self, rt: &R) -> u64 {
+    pub fn waiting_bytes<R: Wait>(&self, rt: &R) -> u64
+        ensures { IsTold {V = V} (λ _ _. false) false waiting_bytes_of result }
+    {
         self.tree.waiting_bytes(rt)
     }
 
-    /// Drops each value that stands. Refused as WorkersLeft while workers are registered, and the index comes back.
+    /// Drops each value that stands. Refused as WorkersLeft while workers are registered, and the index comes back; as
+    /// Foreign too where another account came in with what its lock keeps, which no run brings about.
     pub fn close<R: Wait>(self, _rt: &R) -> Result<(), (Refusal, Self)>
-        ensures workers { IfErr result (λ e. HasWorkers e.0) }
-        ensures back { IfErr result (λ e. e.1.tree.id ≡ self.tree.id) }
+        ensures closed { IfOk result (λ _. Drops {V = V} (λ _ _. false) false self.tree.account.charged self.tree.account.limit) }
+        ensures cause { IfErr result (λ e. IsUnclosed {V = V} (λ _ _. false) false self.tree.account e.0) }
+        ensures back { IfErr result (λ e. (e.1.tree.id ≡ self.tree.id) × (e.1.tree.account ≡ self.tree.account)) }
     {
         let CongeeArc { tree, alloc, keys } = self;
         match tree.close(NoDrain) {

@@ -1,14 +1,16 @@
 //! One index under one lock, which each step of a call takes anew.
 
-ghost use Rattle.std.specs.Prelude.{◌≡◌, ℕ, [], false, length, IfOk, IfErr, Ok};
+ghost use Rattle.std.specs.Prelude.{◌≡◌, ℕ, [], false, length, IfOk, IfErr};
 ghost use Rattle.joint.specs.Driving.{IsToldInCall, ended};
 ghost use Rattle.joint.specs.Opening.{IsUnopened};
 ghost use Rattle.joint.specs.Pinned.{CallsPinned, KeepsWorker};
-ghost use Rattle.joint.specs.Threads.{Answers, ByHold, Closes, Computes, Hands, HasWorkers, IsHeld, IsHold, IsRound, IsRoundFrom, Pins, Scans, Serves, is_held_by, is_of, register_step, registered};
+ghost use Rattle.joint.specs.Threads.{Answers, ByHold, Closes, Computes, Hands, IsAccount, IsHeld, IsHold, IsRound, IsTold, IsUnclosed, Pins, Scans, Serves, is_held_by, is_of, register_step, registered};
+ghost use Rattle.joint.specs.Threads.{charge_of, waiting_bytes_of, waiting_of};
 ghost use Rattle.joint.specs.Threads.{computed, counted, emptied, exchanged, got, inserted, listed, removed, replaced, scanned, told};
 ghost use Rattle.joint.specs.Whole.{IsOfCall};
 ghost use Rattle.joint.specs.declared.steps.Op.TheVariants as op;
 
+use crate::account::Account;
 use crate::limits::Limits;
 use crate::refusal::Refusal;
 use crate::steps::{Op, Outcome, Report, Step};
@@ -20,6 +22,7 @@ use crate::threads::ends::{
 };
 use crate::threads::holds::Holds;
 use crate::threads::locked::{Locked, Plain};
+use crate::threads::rounds::{Ends, round};
 use crate::threads::tokens::{Guard, Worker};
 use crate::world::World;
 use congee::{Allocator, Drainer, NodeStats, Payload, Small};
@@ -33,26 +36,42 @@ use std::sync::{Mutex, Wait};
 pub(crate) struct Tree<P: Payload + Small, T: Locked<P>> {
     /// Tells it from others.
     pub(crate) id: u64,
+    /// What came in with the allocator, which `close` gives back so.
+    pub(crate) account: Account,
     locked: CachePadded<Mutex<T>>,
     values: PhantomData<P>,
 }
 
+/// The whole calls of one worker's, one after another.
+#[derive(Drop)]
+struct WorkerCalls<'t, P: Payload + Small, T: Locked<P>, R: Wait> {
+    rt: &'t R,
+    tree: &'t Tree<P, T>,
+    worker: &'t Worker,
+}
+
+impl<P: Payload + Small, T: Locked<P>, R: Wait> Ends<P> for WorkerCalls<'_, P, T, R> {
+    ghost ends = { λ k op result k'. Answers T.holds k.worker.now.number op told result × (k'.worker.now.number ≡ k.worker.now.number) };
+
+    fn end(&mut self, op: Op<P>) -> Result<(), Refusal>
+        ensures { Answers T.holds self.old.worker.now.number op told result × (self.new.worker.now.number ≡ self.old.worker.now.number) }
+    {
+        self.tree.end(self.rt, self.worker, op)
+    }
+}
+
 impl<P: Payload + Small, T: Locked<P>> Tree<P, T> {
     /// What is to be locked, under this name.
-    pub(crate) fn of(id: u64, kept: T) -> Self
-        ensures { result.id ≡ id }
+    pub(crate) fn of(id: u64, account: Account, kept: T) -> Self
+        ensures id { result.id ≡ id }
+        ensures account { result.account ≡ account }
     {
         Tree {
             id,
+            account,
             locked: CachePadded::new(Mutex::new(kept)),
             values: PhantomData,
         }
-    }
-
-    /// What was locked.
-    fn into_inner(self) -> T {
-        let Tree { locked, .. } = self;
-        locked.into_inner().into_inner()
     }
 
     /// Its lock.
@@ -127,11 +146,18 @@ impl<P: Payload + Small, T: Locked<P>> Tree<P, T> {
         told(self.call(rt, worker, op))
     }
 
+    /// A registration: one hold of the lock.
+    fn enter<R: Wait>(&self, rt: &R) -> Report<P>
+        ensures { IsHold P.same_as P.always_copies register_step result }
+    {
+        self.lock().lock(rt).register()
+    }
+
     /// A worker at the lowest free place of the table. Refused as TableFull.
     pub(crate) fn register<R: Wait>(&self, rt: &R) -> Result<Worker, Refusal>
         ensures { (r : _) × IsHold P.same_as P.always_copies register_step r × (result ≡ registered self.now.id r.outcome) }
     {
-        match self.lock().lock(rt).register().outcome {
+        match self.enter(rt).outcome {
             Outcome::Registered(number) => Ok(Worker {
                 tree: self.id,
                 number,
@@ -255,22 +281,19 @@ impl<P: Payload + Small, T: Locked<P>> Tree<P, T> {
         if !self.owns(worker) {
             return Err(Refusal::Foreign);
         }
-        match self.end(rt, worker, Op::Pin) {
-            Ok(()) => self.flush_and_unpin(rt, worker),
-            Err(refusal) => Err(refusal),
-        }
+        self.go_round(rt, worker)
     }
 
-    /// Flush, unpin, each a whole call. Answers the first refusal.
-    fn flush_and_unpin<R: Wait>(&self, rt: &R, worker: &Worker) -> Result<(), Refusal>
-        ensures { IsRoundFrom T.holds worker.now.number (Ok tt) result }
+    /// The same of its own worker.
+    fn go_round<R: Wait>(&self, rt: &R, worker: &Worker) -> Result<(), Refusal>
+        ensures { IsRound T.holds worker.now.number result }
     {
-        let flushed = self.end(rt, worker, Op::Flush);
-        let left = self.end(rt, worker, Op::Unpin);
-        match flushed {
-            Ok(()) => left,
-            Err(refusal) => Err(refusal),
-        }
+        let mut calls = WorkerCalls {
+            rt,
+            tree: self,
+            worker,
+        };
+        round(&mut calls)
     }
 
     /// The value at a key.
@@ -344,35 +367,63 @@ impl<P: Payload + Small, T: Locked<P>> Tree<P, T> {
     }
 
     /// The bytes charged to the allocator.
-    pub(crate) fn charged<R: Wait>(&self, rt: &R) -> u64 {
-        self.lock().lock(rt).world().charged()
+    pub(crate) fn charged<R: Wait>(&self, rt: &R) -> u64
+        ensures { IsTold P.same_as P.always_copies charge_of result }
+    {
+        let kept = self.lock().lock(rt);
+        let machine = kept.world();
+        machine.sound();
+        machine.charged()
     }
 
     /// The nodes that wait for their destruction.
-    pub(crate) fn waiting<R: Wait>(&self, rt: &R) -> u64 {
-        self.lock().lock(rt).world().waiting()
+    pub(crate) fn waiting<R: Wait>(&self, rt: &R) -> u64
+        ensures { IsTold P.same_as P.always_copies waiting_of result }
+    {
+        let kept = self.lock().lock(rt);
+        let machine = kept.world();
+        machine.sound();
+        machine.waiting()
     }
 
     /// Their sizes, in bytes.
-    pub(crate) fn waiting_bytes<R: Wait>(&self, rt: &R) -> u64 {
-        self.lock().lock(rt).world().waiting_bytes()
+    pub(crate) fn waiting_bytes<R: Wait>(&self, rt: &R) -> u64
+        ensures { IsTold P.same_as P.always_copies waiting_bytes_of result }
+    {
+        let kept = self.lock().lock(rt);
+        let machine = kept.world();
+        machine.sound();
+        machine.waiting_bytes()
     }
 
-    /// Hands each pair to the drainer, ascending by key, and gives both back. Refused as WorkersLeft while workers are
-    /// registered, and the index and the drainer come back.
+    /// Hands each pair to the drainer, ascending by key, and gives both back; the allocator has the charge with which it
+    /// came. Refused as WorkersLeft while workers are registered, or as Foreign where another account than this one's came
+    /// in with what was locked, which no run brings about; the index and the drainer come back.
     pub(crate) fn close<D: Drainer<u64, P>>(
         self,
         drainer: D,
     ) -> Result<(T::Nodes, D), (Refusal, Self, D)>
         requires { D.can_drain drainer }
-        ensures closed { IfOk result (λ r. Closes D.drains drainer (T.Nodes.charged_of r.0) (T.Nodes.limit_of r.0) r.1) }
-        ensures workers { IfErr result (λ e. HasWorkers e.0) }
-        ensures back { IfErr result (λ e. (e.1.id ≡ self.id) × (e.2 ≡ drainer)) }
+        ensures closed { IfOk result (λ r. Closes P.same_as P.always_copies D.drains drainer (T.Nodes.charged_of r.0) (T.Nodes.limit_of r.0) r.1) }
+        ensures given_back { IfOk result (λ r. IsAccount self.account (T.Nodes.charged_of r.0) (T.Nodes.limit_of r.0)) }
+        ensures cause { IfErr result (λ e. IsUnclosed P.same_as P.always_copies self.account e.0) }
+        ensures back { IfErr result (λ e. (e.1.id ≡ self.id) × (e.1.account ≡ self.account) × (e.2 ≡ drainer)) }
     {
-        let id = self.id;
-        match self.into_inner().close(drainer) {
+        let Tree {
+            id,
+            account,
+            locked,
+            values: _,
+        } = self;
+        let kept = locked.into_inner().into_inner();
+        let machine = kept.world();
+        machine.sound();
+        if !machine.account().is_same(account) {
+            return Err((Refusal::Foreign, Tree::of(id, account, kept), drainer));
+        }
+        match kept.close(drainer) {
             Ok(closed) => Ok(closed),
-            Err((refusal, kept, drainer)) => Err((refusal, Tree::of(id, kept), drainer)),
+            Err((refusal, kept, drainer)) => Err((refusal, Tree::of(id, account, kept), drainer)),
         }
     }
 }
@@ -381,10 +432,12 @@ impl<P: Payload + Small, A: Allocator> Tree<P, Plain<P, A>> {
     /// An index with a root alone, named by its limits. Refused as Limits, Budget or Memory.
     pub(crate) fn new(alloc: Global, limits: Limits, allocator: A) -> Result<Self, Refusal>
         ensures id { IfOk result (λ t. t.id ≡ limits.id) }
+        ensures account { IfOk result (λ t. IsAccount t.account (A.charged_of allocator) (A.limit_of allocator)) }
         ensures cause { IfErr result (λ e. IsUnopened limits (A.charged_of allocator) (A.limit_of allocator) e) }
     {
+        let account = Account::of(&allocator);
         let world = World::new(alloc, limits, allocator)?;
-        Ok(Tree::of(limits.id, Plain::new(world)))
+        Ok(Tree::of(limits.id, account, Plain::new(world)))
     }
 
     /// One that finds no pairs.

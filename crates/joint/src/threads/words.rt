@@ -4,7 +4,8 @@ ghost use Rattle.std.specs.Prelude.{◌≡◌, ℕ, false, length, map, nat_eq, 
 ghost use Rattle.std.specs.Option.{option_map};
 ghost use Rattle.joint.specs.Opening.{IsUnopened};
 ghost use Rattle.joint.specs.Pinned.{CallsPinned, KeepsWorker};
-ghost use Rattle.joint.specs.Threads.{Answers, AreKeys, As, ByHold, Closes, Computes, Hands, HasWorkers, IsHold, IsRound, Pins, Scans, Serves, is_held_by, is_of, register_step, registered};
+ghost use Rattle.joint.specs.Threads.{Answers, AreKeys, As, ByHold, Closes, Computes, Hands, IsAccount, IsHold, IsRound, IsTold, IsUnclosed, Pins, Scans, Serves, is_held_by, is_of, register_step, registered};
+ghost use Rattle.joint.specs.Threads.{charge_of, waiting_bytes_of, waiting_of};
 ghost use Rattle.joint.specs.Threads.{computed, counted, either_of, either_words, emptied, exchanged, got, if_present, inserted, listed, or_insert, removed, replaced, scanned, told, words};
 ghost use Rattle.joint.specs.declared.steps.Op.TheVariants as op;
 
@@ -110,6 +111,7 @@ impl<K: Word64, V: Word64, A: Allocator, D: Drop> Congee<K, V, A, D> {
         drainer: D,
     ) -> Result<Self, Refusal>
         ensures id { IfOk result (λ t. t.tree.id ≡ limits.id) }
+        ensures account { IfOk result (λ t. IsAccount t.tree.account (A.charged_of allocator) (A.limit_of allocator)) }
         ensures drainer { IfOk result (λ t. t.drainer ≡ drainer) }
         ensures cause { IfErr result (λ e. IsUnopened limits (A.charged_of allocator) (A.limit_of allocator) e) }
     {
@@ -403,17 +405,23 @@ impl<K: Word64, V: Word64, A: Allocator, D: Drop> Congee<K, V, A, D> {
     }
 
     /// The bytes charged to the allocator.
-    pub fn charged<R: Wait>(&self, rt: &R) -> u64 {
+    pub fn charged<R: Wait>(&self, rt: &R) -> u64
+        ensures { IsTold nat_eq true charge_of result }
+    {
         self.tree.charged(rt)
     }
 
     /// The nodes that wait for their destruction.
-    pub fn waiting<R: Wait>(&self, rt: &R) -> u64 {
+    pub fn waiting<R: Wait>(&self, rt: &R) -> u64
+        ensures { IsTold nat_eq true waiting_of result }
+    {
         self.tree.waiting(rt)
     }
 
     /// Their sizes, in bytes.
-    pub fn waiting_bytes<R: Wait>(&self, rt: &R) -> u64 {
+    pub fn waiting_bytes<R: Wait>(&self, rt: &R) -> u64
+        ensures { IsTold nat_eq true waiting_bytes_of result }
+    {
         self.tree.waiting_bytes(rt)
     }
 }
@@ -425,6 +433,7 @@ impl<K: Word64, V: Word64, A: Allocator> Congee<K, V, A, NoDrain> {
     /// Its number is `limits.id`; each index wants one of its own (`Limits::with_id`).
     pub fn new(alloc: Global, limits: Limits, allocator: A) -> Result<Self, Refusal>
         ensures id { IfOk result (λ t. t.tree.id ≡ limits.id) }
+        ensures account { IfOk result (λ t. IsAccount t.tree.account (A.charged_of allocator) (A.limit_of allocator)) }
         ensures cause { IfErr result (λ e. IsUnopened limits (A.charged_of allocator) (A.limit_of allocator) e) }
     {
         Congee::new_with_drainer(alloc, limits, allocator, NoDrain)
@@ -487,12 +496,14 @@ impl<K, V, D> OfWords<K, V, D> {
 
 impl<K: Word64, V: Word64, A: Allocator, D: Drainer<K, V>> Congee<K, V, A, D> {
     /// Hands each pair to the drainer, ascending by key, and gives allocator and drainer back; the allocator has the
-    /// charge with which it came. Refused as WorkersLeft while workers are registered, and the index comes back.
+    /// charge with which it came, and its limit. Refused as WorkersLeft while workers are registered, and the index comes
+    /// back; as Foreign too where another charge or limit came in with what its lock keeps, which no run brings about.
     pub fn close<R: Wait>(self, _rt: &R) -> Result<(A, D), (Refusal, Self)>
         requires { D.can_drain self.drainer }
-        ensures closed { IfOk result (λ r. Closes (λ before key value after. D.drains before (K.of_word key) (V.of_word value) after) self.drainer (A.charged_of r.0) (A.limit_of r.0) r.1) }
-        ensures workers { IfErr result (λ e. HasWorkers e.0) }
-        ensures back { IfErr result (λ e. (e.1.tree.id ≡ self.tree.id) × (e.1.drainer ≡ self.drainer)) }
+        ensures closed { IfOk result (λ r. Closes nat_eq true (λ before key value after. D.drains before (K.of_word key) (V.of_word value) after) self.drainer (A.charged_of r.0) (A.limit_of r.0) r.1) }
+        ensures given_back { IfOk result (λ r. IsAccount self.tree.account (A.charged_of r.0) (A.limit_of r.0)) }
+        ensures cause { IfErr result (λ e. IsUnclosed nat_eq true self.tree.account e.0) }
+        ensures back { IfErr result (λ e. (e.1.tree.id ≡ self.tree.id) × (e.1.tree.account ≡ self.tree.account) × (e.1.drainer ≡ self.drainer)) }
     {
         let Congee {
             tree,

@@ -1,12 +1,11 @@
 //! An index with a journal that threads share: they write and scan it, and its history is checked.
-ghost use Rattle.std.specs.Prelude.{◌≡◌, IfOk, true};
+ghost use Rattle.std.specs.Prelude.{◌≡◌, ◌+◌, IfOk, OnOk, true};
 ghost use Rattle.joint.specs.Journals.{IsCounted, IsJournal};
 
 use congee::DefaultAllocator;
-use joint::{Every, Guard, Journaled, Limits, Refusal, Share, Worker};
+use joint::{Every, Guard, Journaled, Limits, OnLedger, Refusal, Share, Worker, on_ledger};
 use judge::Entry;
 use std::alloc::Global;
-use std::marker::Brand;
 use std::sync::Wait;
 use std::sync::ledger::{Blank, Ledger};
 use std::thread;
@@ -21,6 +20,22 @@ pub struct Known {
     pub journal: Vec<Entry<u64>>,
     /// The writing calls.
     pub written: u64,
+}
+
+/// Puts a number at each of three keys. Its share counts three writing calls more.
+pub fn counts_three<L: Ledger, R: Wait>(
+    rt: &R,
+    index: &Recorded<L>,
+    share: &mut Share<L>,
+    worker: &mut Worker,
+    guard: &Guard,
+) -> Result<(), Refusal>
+    ensures { OnOk result (share.new.count ≡ share.old.count + 3) }
+{
+    index.insert(rt, 1, 10, share, worker, guard)?;
+    index.insert(rt, 2, 20, share, worker, guard)?;
+    index.insert(rt, 3, 30, share, worker, guard)?;
+    Ok(())
 }
 
 /// Puts a key in, and looks at the keys from it on; gives how many of them it found.
@@ -67,8 +82,7 @@ fn known_of_two<L: Ledger + Send + Sync, R: Threads + Wait + Sync>(
     requires name { blank.name ≡ L.name }
     requires ledger { blank.parts ≡ L.parts }
     requires parts { blank.parts ≡ 2 }
-    ensures journal { IfOk result (λ known. IsJournal known.journal.items) }
-    ensures written { IfOk result (λ known. IsCounted (λ _. true) known.written) }
+    ensures { IfOk result (λ known. IsJournal known.journal.items × IsCounted (λ _. true) known.written) }
 {
     let limits = Limits::usual(2, 1_000).with_id(1);
     let (index, mut one): (Recorded<L>, Share<L>) = Journaled::new(
@@ -94,6 +108,33 @@ fn known_of_two<L: Ledger + Send + Sync, R: Threads + Wait + Sync>(
     })
 }
 
+/// Two threads write so much.
+struct OfTwo<'r, R> {
+    rt: &'r R,
+    alloc: Global,
+    count: u64,
+}
+
+impl<R: Threads + Wait + Sync> OnLedger for OfTwo<'_, R> {
+    type Answer = Result<Known, Refusal>;
+
+    ghost use Rattle.std.specs.Prelude.{IfOk, true};
+    ghost use Rattle.joint.specs.Journals.{IsCounted, IsJournal};
+
+    ghost parts = { λ _. 2 };
+
+    ghost answers = { λ _ result. IfOk result (λ known. IsJournal known.journal.items × IsCounted (λ _. true) known.written) };
+
+    fn parts(&self) -> u32 {
+        2
+    }
+
+    fn on_ledger<L: Ledger + Send + Sync>(self, blank: Blank) -> Result<Known, Refusal> {
+        let OfTwo { rt, alloc, count } = self;
+        known_of_two::<L, R>(rt, alloc, blank, count)
+    }
+}
+
 /// Whatever two threads do at once, the journal that comes back is one that the index kept, so it is legal and replays to
 /// the pairs that stood then; and the count of the shares that were merged is the number of the writing calls in such a
 /// journal.
@@ -102,8 +143,7 @@ pub fn writes_of_two<R: Threads + Wait + Sync>(
     alloc: Global,
     count: u64,
 ) -> Result<Known, Refusal>
-    ensures journal { IfOk result (λ known. IsJournal known.journal.items) }
-    ensures written { IfOk result (λ known. IsCounted (λ _. true) known.written) }
+    ensures { IfOk result (λ known. IsJournal known.journal.items × IsCounted (λ _. true) known.written) }
 {
-    known_of_two::<Brand, R>(rt, alloc, Blank::new(2), count)
+    on_ledger(OfTwo { rt, alloc, count })
 }

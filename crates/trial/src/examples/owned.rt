@@ -37,6 +37,45 @@ pub fn opens_and_closes_numbers(alloc: Global, limit: u64) -> Result<Budget, OOM
     })
 }
 
+/// A tree over a budget that had nothing charged when the tree was opened.
+#[derive(Drop)]
+struct Filled {
+    tree: Congee<u64, u64, Limited>,
+    ghost first: { tree.base ≡ 0 },
+}
+
+impl Filled {
+    /// Puts a value at a key.
+    fn put(&mut self, key: u64, value: u64) -> Result<Option<u64>, OOMError> {
+        self.tree.insert(key, value)
+    }
+
+    /// What is charged once the tree is closed.
+    fn close(self) -> u64
+        ensures { result ≡ 0 }
+    {
+        let (allocator, _) = self.tree.close();
+        allocator.charged()
+    }
+}
+
+/// Whatever pairs a tree was filled with, once it is closed nothing is charged. It tells what is.
+pub fn charge_after_insertions(
+    alloc: Global,
+    limit: u64,
+    pairs: &[(u64, u64)],
+) -> Result<u64, OOMError>
+    ensures { IfOk result (λ charged. charged ≡ 0) }
+{
+    let mut filled = Filled {
+        tree: Congee::new(alloc, Limited::new(limit))?,
+    };
+    for (key, value) in pairs {
+        filled.put(*key, *value)?;
+    }
+    Ok(filled.close())
+}
+
 /// A value that was put at a key is found there. The tree is let go.
 pub fn finds_what_it_puts(alloc: Global, key: u64, value: u64) -> Result<Option<u64>, OOMError>
     ensures { IfOk result (λ found. found ≡ Some value) }

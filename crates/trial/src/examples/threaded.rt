@@ -1,6 +1,7 @@
 //! The first calls on an index that threads share.
+ghost use Rattle.std.specs.Prelude.{◌≡◌, IfOk};
 
-use congee::DefaultAllocator;
+use congee::{Allocator, DefaultAllocator};
 use joint::{Congee, CongeeArc, Limits, Refusal};
 use std::alloc::Global;
 use std::sync::{Arc, Wait};
@@ -49,4 +50,31 @@ pub fn shared_values<R: Wait>(
         let removed = art.remove(rt, 1, worker, guard)?;
         Ok((retrieved, removed))
     })
+}
+
+/// An index that is opened, filled and closed leaves the allocator with the charge and the limit with which it came.
+pub fn fills_and_closes<A: Allocator, R: Wait>(
+    rt: &R,
+    alloc: Global,
+    allocator: A,
+) -> Result<A, Refusal>
+    ensures charge { IfOk result (λ a. A.charged_of a ≡ A.charged_of allocator) }
+    ensures limit { IfOk result (λ a. A.limit_of a ≡ A.limit_of allocator) }
+{
+    let art: Congee<u64, u64, A> = Congee::new(
+        alloc,
+        Limits::usual(2, 1000).with_id(3),
+        allocator,
+    )?;
+    let mut worker = art.register(rt)?;
+    art.pinned(rt, &mut worker, |worker, guard| {
+        art.insert(rt, 0, 42, worker, guard)
+    })?;
+    if let Err((refusal, _)) = art.release(rt, worker) {
+        return Err(refusal);
+    }
+    match art.close(rt) {
+        Ok((allocator, _)) => Ok(allocator),
+        Err((refusal, _)) => Err(refusal),
+    }
 }

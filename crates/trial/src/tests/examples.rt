@@ -6,18 +6,22 @@ use super::machine::{
 };
 use crate::examples::collector::put_off;
 use crate::examples::driven::{Driven, answered};
+use crate::examples::grace::two_handles;
 use crate::examples::journal::{Store, is_honest};
-use crate::examples::machine::{runs_and_closes, runs_as_one_map};
+use crate::examples::machine::{
+    Drained, drains_what_stands, reads_what_it_put, runs_and_closes, runs_as_one_map,
+};
 use crate::examples::owned::{
-    finds_what_it_puts, finds_what_it_puts_in_numbers, opens_and_closes, opens_and_closes_numbers,
+    charge_after_insertions, finds_what_it_puts, finds_what_it_puts_in_numbers, opens_and_closes,
+    opens_and_closes_numbers,
 };
 use crate::examples::pages::{Numbers, Sum, drained, page_from, sum_by_pages};
 use crate::examples::promises::{answer_alike, gives_memory_back};
 use crate::examples::stack::{Node, Stack, pops, sum_of_two};
-use crate::examples::threaded::{first_calls, shared_values};
+use crate::examples::threaded::{fills_and_closes, first_calls, shared_values};
 use congee::{Allocator, Congee, DefaultAllocator, Limited};
 use crossbeam_epoch::{Collector, Job};
-use joint::{Done, Event, Kind, Limits, Op, Outcome, Refusal, Report, Step};
+use joint::{Done, Event, Kind, Limits, Op, Outcome, Ran, Refusal, Report, Step};
 use judge::{Call, Entry, Reply};
 use std::alloc::{AllocError, Global};
 use std::sync::Arc;
@@ -109,6 +113,56 @@ fn an_index_that_is_closed_leaves_the_charge(rt: HostRuntime) -> Result<(), Fail
     Ok(())
 }
 
+/// A worker comes, puts two pairs in and goes.
+fn filled(alloc: Global) -> Result<Vec<Step<u64>>, Fail> {
+    let mut index = open(alloc, 1, 1000)?;
+    let mut steps = Vec::new(alloc);
+    let event = Event::Register;
+    steps.push(Step { worker: 0, event })?;
+    for op in [
+        Op::Pin,
+        Op::Insert(7, 70),
+        Op::Insert(3, 30),
+        Op::Unpin,
+        Op::Release,
+    ] {
+        record(&mut index, &mut steps, op)?;
+    }
+    Ok(steps)
+}
+
+#[test]
+fn a_close_drains_what_stands(rt: HostRuntime) -> Result<(), Fail> {
+    let sum = Sum {
+        of_values: 0,
+        last_key: None,
+    };
+    let steps = filled(rt.alloc())?;
+    let Drained { ran, drainer } = drains_what_stands(rt.alloc(), steps, sum)?;
+    assert_eq!(rt; (drainer.of_values, drainer.last_key), (100, Some(7)));
+    assert_eq!(rt; count_of(&ran.reports, Reply::Insert(None)), 2);
+    Ok(())
+}
+
+#[test]
+fn a_worker_reads_what_it_put(rt: HostRuntime) -> Result<(), Fail> {
+    let mut index = open(rt.alloc(), 1, 100)?;
+    assert_eq!(rt; reads_what_it_put(&mut index, 0, 7, 70), None);
+    index.call(0, Op::Pin, 100, &mut []);
+    assert_eq!(rt; reads_what_it_put(&mut index, 0, 7, 70), Some(Some(70)));
+    assert_eq!(rt; reads_what_it_put(&mut index, 0, 7, 71), Some(Some(71)));
+    Ok(())
+}
+
+#[test]
+fn an_index_for_threads_that_is_closed_leaves_the_charge(rt: HostRuntime) -> Result<(), Fail> {
+    let mut allocator = Limited::new(10_000);
+    allocator.allocate(500)?;
+    let allocator = fills_and_closes(&rt, rt.alloc(), allocator)?;
+    assert_eq!(rt; (allocator.charged(), allocator.limit()), (500, 10_000));
+    Ok(())
+}
+
 #[test]
 fn owned_trees_keep_their_contracts(rt: HostRuntime) -> Result<(), Fail> {
     let budget = opens_and_closes(rt.alloc(), 5000)?;
@@ -116,6 +170,8 @@ fn owned_trees_keep_their_contracts(rt: HostRuntime) -> Result<(), Fail> {
     let budget = opens_and_closes_numbers(rt.alloc(), 6000)?;
     assert!(rt; budget.charged == 0 && budget.limit == 6000);
     assert!(rt; opens_and_closes(rt.alloc(), 2103).is_err());
+    assert!(rt; charge_after_insertions(rt.alloc(), 5000, &[(1, 10), (256, 20), (1, 30)])? == 0);
+    assert!(rt; charge_after_insertions(rt.alloc(), 2104, &[(1, 10)]).is_err());
     assert!(rt; finds_what_it_puts(rt.alloc(), 256, 7)? == Some(7));
     assert!(rt; finds_what_it_puts_in_numbers(rt.alloc(), 0, 9)? == Some(9));
     Ok(())
@@ -160,19 +216,23 @@ fn grown(alloc: Global, between: u32, behind: u32) -> Result<Vec<Step<u64>>, Fai
 }
 
 #[test]
-fn rounds_give_memory_back_unseen(rt: HostRuntime) -> Result<(), Fail> {
-    let limits = Limits::usual(2, 1000);
-    let (index, _) = gives_memory_back(rt.alloc(), limits, grown(rt.alloc(), 0, 0)?)?;
+fn a_removed_node_waits_without_rounds(rt: HostRuntime) -> Result<(), Fail> {
+    let steps = grown(rt.alloc(), 0, 0)?;
+    let (index, _) = gives_memory_back(rt.alloc(), Limits::usual(2, 1000), steps)?;
     assert_eq!(rt; (index.waiting(), index.charged()), (1, 2104 + 64 + 168));
-    let (index, _) = gives_memory_back(rt.alloc(), limits, grown(rt.alloc(), 0, 3)?)?;
+    Ok(())
+}
+
+#[test]
+fn rounds_give_memory_back(rt: HostRuntime) -> Result<(), Fail> {
+    let steps = grown(rt.alloc(), 0, 3)?;
+    let (index, _) = gives_memory_back(rt.alloc(), Limits::usual(2, 1000), steps)?;
     assert_eq!(rt; (index.waiting(), index.charged()), (0, 2104 + 168));
-    let (plain, swept) = answer_alike(
-        rt.alloc(),
-        limits,
-        grown(rt.alloc(), 0, 0)?,
-        grown(rt.alloc(), 2, 3)?,
-    )?;
-    assert!(rt; plain.done < swept.done);
+    Ok(())
+}
+
+/// Whether two runs tell the same of the tree.
+fn tell_alike(plain: &Ran<u64>, swept: &Ran<u64>) -> bool {
     let told = plain
         .reports
         .iter()
@@ -181,7 +241,14 @@ fn rounds_give_memory_back_unseen(rt: HostRuntime) -> Result<(), Fail> {
         .reports
         .iter()
         .filter(|report| report.kind == Kind::Tree);
-    assert!(rt; told.eq(again));
+    told.eq(again)
+}
+
+#[test]
+fn rounds_between_steps_are_unseen(rt: HostRuntime) -> Result<(), Fail> {
+    let (steps, more) = (grown(rt.alloc(), 0, 0)?, grown(rt.alloc(), 2, 3)?);
+    let (plain, swept) = answer_alike(rt.alloc(), Limits::usual(2, 1000), steps, more)?;
+    assert!(rt; plain.done < swept.done && tell_alike(&plain, &swept));
     Ok(())
 }
 
@@ -293,5 +360,13 @@ fn what_was_put_off_is_called(rt: HostRuntime) -> Result<(), Fail> {
     assert!(rt; handle.release(&rt).is_ok());
     assert!(rt; collector.end().is_ok());
     assert_eq!(rt; called.load(Ordering::SeqCst), 5);
+    Ok(())
+}
+
+#[test]
+fn what_is_called_is_older_than_a_guard(rt: HostRuntime) -> Result<(), Fail> {
+    let collector: Collector<u64, ()> = Collector::new(&rt, rt.alloc(), limits(1), 1)?;
+    // Nothing was put off, and nobody advanced the epoch before the guard.
+    assert_eq!(rt; two_handles(&rt, &collector)?, (None, 0));
     Ok(())
 }

@@ -117,7 +117,12 @@ fn each_call_comes_through(rt: HostRuntime) -> Result<(), Fail> {
         (points, wholes, removed),
         (Ok(true), Ok(true), Ok(Some(5)))
     );
-    assert_eq!(rt; (tree.waiting(&rt), tree.waiting_bytes(&rt)), (1, 64));
+    let state = (
+        tree.charged(&rt),
+        tree.waiting(&rt),
+        tree.waiting_bytes(&rt),
+    );
+    assert_eq!(rt; state, (2168, 1, 64));
     for _ in 0..3 {
         tree.round(&rt, &mut worker)?;
     }
@@ -323,10 +328,9 @@ fn reads_along<R: Wait>(
     Ok(same)
 }
 
-/// Whether the flag is set within ten million turns, each of which yields to other threads: on a loaded machine a thread was
-/// seen to come later than ten thousand.
-pub fn comes(flag: &AtomicBool) -> bool {
-    for _ in 0..10_000_000u32 {
+/// Whether the flag is set within so many turns, each of which yields to other threads.
+pub fn comes(flag: &AtomicBool, turns: u32) -> bool {
+    for _ in 0..turns {
         if flag.load(SeqCst) {
             return true;
         }
@@ -347,7 +351,8 @@ fn does<R: Wait>(
         Task::Read => reads_along(rt, tree, worker, guard),
         Task::Find => finds(rt, tree, worker, guard),
         Task::Await(flag) => {
-            let answer = |_| if comes(flag) { 1 } else { 0 };
+            // On a loaded machine a thread was seen to come later than ten thousand turns.
+            let answer = |_| if comes(flag, 10_000_000) { 1 } else { 0 };
             tree.compute_or_insert(rt, 1, answer, worker, guard)?;
             Ok(tree.get(rt, &1, worker, guard)? == Some(1))
         }

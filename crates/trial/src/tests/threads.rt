@@ -196,13 +196,30 @@ fn two_pinned_at_once(rt: HostRuntime) -> Result<(), Fail> {
     Ok(())
 }
 
+/// What a thread tells another: that it is there, and that it has pinned.
+#[derive(Drop)]
+struct Flags {
+    here: AtomicBool,
+    pinned: AtomicBool,
+}
+
+impl Flags {
+    /// Nothing.
+    fn new() -> Flags {
+        Flags {
+            here: AtomicBool::new(false),
+            pinned: AtomicBool::new(false),
+        }
+    }
+}
+
 /// Two threads pin, each with a handle of its own. Whether each one, pinned, saw that the other was pinned too.
 fn pins_in_two_threads<R: Threads + Wait + Sync>(
     rt: &R,
     items: &Collector<Item>,
 ) -> Result<(bool, bool), Fault> {
-    let first = AtomicBool::new(false);
-    let second = AtomicBool::new(false);
+    let first = Flags::new();
+    let second = Flags::new();
     let (one, two) = (&first, &second);
     let (sees, is_seen) = thread::join(
         rt,
@@ -212,20 +229,33 @@ fn pins_in_two_threads<R: Threads + Wait + Sync>(
     Ok((sees?, is_seen?))
 }
 
-/// Pins, tells so by its own flag, and waits for the other's. Whether it came in time.
+/// Pins as soon as the other thread is there, tells so, and waits until the other has pinned: at most ten thousand turns that
+/// yield. Whether it did in time.
 fn meets(
     rt: &impl Wait,
     items: &Collector<Item>,
-    mine: &AtomicBool,
-    other: &AtomicBool,
+    mine: &Flags,
+    other: &Flags,
 ) -> Result<bool, Fault> {
+    mine.here.store(true, SeqCst);
+    waits(rt, &other.here);
     let mut handle = items.register(rt)?;
     let guard = handle.pin()?;
-    mine.store(true, SeqCst);
-    let met = comes(other);
+    mine.pinned.store(true, SeqCst);
+    let met = comes(&other.pinned, 10_000);
     spend(&mut handle, guard);
     leaves(rt, handle)?;
     Ok(met)
+}
+
+/// Waits until the flag is set.
+fn waits(rt: &impl Wait, flag: &AtomicBool) {
+    for _ in rt.forever() {
+        if flag.load(SeqCst) {
+            return;
+        }
+        thread::yield_now();
+    }
 }
 
 #[test]

@@ -1,5 +1,5 @@
 -- What contracts see of a writing call on an arena.
-use Rattle.std.proofs.Common.{◌≡◌, ◌≢◌, ℕ, ◌<◌, ◌^◌, ◌+◌, List, refl, sym, ap, subst, ◌∙◌}
+use Rattle.std.proofs.Common.{◌≡◌, ◌≢◌, ℕ, ◌<◌, ◌^◌, ◌+◌, ◌-◌, List, refl, sym, ap, subst, ◌∙◌, arith}
 use Rattle.std.specs.Prelude.{Option, None, Some, Ok, Err, Bool, nat_eq}
 use Rattle.std.specs.FinMap as map
 use Rattle.judge.specs.Answer.{answer}
@@ -11,7 +11,7 @@ use Rattle.congee.specs.Heap.{value_at}
 use Rattle.congee.specs.Keys.{key_bytes}
 use Rattle.congee.specs.owned.Arena.{IsTree, heap_of}
 use Rattle.congee.specs.owned.Changes.{MapChange}
-use Rattle.congee.specs.owned.Charge.{Balances, KeepsLimit}
+use Rattle.congee.specs.owned.Charge.{Balances, Covers, KeepsLimit}
 use Rattle.congee.specs.owned.Content.{Content, KeepsCharge, Unchanged, Inserts, Modifies, ChangesNothing, Refuses}
 use Rattle.congee.specs.owned.Edits.{Adds, Denies, Frees}
 use Rattle.congee.specs.owned.Levels.{nodes_of}
@@ -19,7 +19,7 @@ use Rattle.congee.specs.owned.Owned.{Answered}
 use Rattle.congee.specs.owned.OwnedSteps.{SameNodes, settled}
 use Rattle.congee.specs.owned.Sizes.{bytes_of}
 use Rattle.congee.specs.owned.Table.{pairs_of}
-use Rattle.congee.specs.owned.Wanted.{IsRefused, gain_of, freed_of, freed_by, wants_at, wants_of, lone_at, lone_of}
+use Rattle.congee.specs.owned.Wanted.{InsertionFits, IsRefused, gain_of, freed_of, freed_by, wants_at, wants_of, lone_at, lone_of}
 use Rattle.congee.specs.declared.allocator.OOMError.{OOMError}
 use Rattle.congee.specs.declared.owned.arena.Arena.{Arena}
 use Rattle.congee.proofs.lemmas.owned.Answered.{answered_insert, answered_compute, answered_remove, answered_present, answered_absent, present_change, exchange_done, exchange_refused}
@@ -28,6 +28,11 @@ use Rattle.congee.proofs.lemmas.owned.Surveys.{same_nodes}
 use Rattle.congee.proofs.lemmas.owned.Tables.{answer_pairs, get_pairs, same_pairs}
 use Rattle.congee.proofs.lemmas.owned.Wanting.{get_wants, get_lone, same_wants, same_lone}
 use Rattle.congee.proofs.lemmas.owned.Ways.{same_tree}
+
+-- where the charge moves as the nodes' sizes do, what was charged before them stays
+pub base_kept : {P A : Type 0} (charged : A → ℕ) (old new : Arena P A) → Covers charged old → Balances charged old new
+    → charged new.allocator - bytes_of new.nodes ≡ charged old.allocator - bytes_of old.nodes
+base_kept charged old new c b = omega (arith, c, b)
 
 module _ {P A : Type 0} (charged limit : A → ℕ) (old new : Arena P A) where
   -- a refused insertion leaves a tree, and what its charge covers
@@ -80,6 +85,12 @@ module _ {P A : Type 0} (same : P → P → Bool) (charged limit : A → ℕ) (o
 pub found_at : {P A : Type 0} (t : Arena P A) (k : ℕ) → k < 2 ^ 64 → (key : List ℕ) → key ≡ key_bytes k → (o : Option P) → o ≡ value_at (heap_of t.nodes) key → o ≡ map.get (pairs_of t.nodes) k
 found_at t k small key is o e = get_pairs t.nodes k small o (e ∙ ap (value_at (heap_of t.nodes)) is)
 
+-- that an insertion fitted
+pub fitted_at : {P A : Type 0} (t : Arena P A) (k : ℕ) → k < 2 ^ 64 → (key : List ℕ) → key ≡ key_bytes k → (charged limit : ℕ) → InsertionFits (wants_at (heap_of t.nodes) key) charged limit
+    → InsertionFits (map.get (wants_of t.nodes) k) charged limit
+fitted_at t k small key is charged limit f =
+    subst (λ z. InsertionFits z charged limit) (ap (wants_at (heap_of t.nodes)) is ∙ sym (get_wants t.nodes k small)) f
+
 -- why an insertion was refused
 pub refused_at : {P A : Type 0} (t : Arena P A) (k : ℕ) → k < 2 ^ 64 → (key : List ℕ) → key ≡ key_bytes k → (charged limit : ℕ) (e : OOMError) → IsRefused (wants_at (heap_of t.nodes) key) charged limit e
     → IsRefused (map.get (wants_of t.nodes) k) charged limit e
@@ -87,14 +98,14 @@ refused_at t k small key is charged limit e r =
     subst (λ z. IsRefused z charged limit e) (ap (wants_at (heap_of t.nodes)) is ∙ sym (get_wants t.nodes k small)) r
 
 -- an arena with its drainer, as contracts see it
-abbrev pub content : {A D : Type 0} → D → Arena ℕ A → Content ℕ A D
-content d t = record { pairs = pairs_of t.nodes; nodes = nodes_of t.nodes; bytes = bytes_of t.nodes; wants = wants_of t.nodes; lone = lone_of t.nodes; allocator = t.allocator; drainer = d }
+abbrev pub content : {A D : Type 0} → (A → ℕ) → D → Arena ℕ A → Content ℕ A D
+content charged d t = record { pairs = pairs_of t.nodes; nodes = nodes_of t.nodes; bytes = bytes_of t.nodes; base = charged t.allocator - bytes_of t.nodes; wants = wants_of t.nodes; lone = lone_of t.nodes; allocator = t.allocator; drainer = d }
 
 module _ {A D : Type 0} (charged limit : A → ℕ) (d : D) (old new : Arena ℕ A) where
-  keeps : Balances charged old new → KeepsLimit limit old new → KeepsCharge charged limit (content d old) (content d new)
+  keeps : Balances charged old new → KeepsLimit limit old new → KeepsCharge charged limit (content charged d old) (content charged d new)
   keeps b l = record { balance = b; same_limit = l; drainer = refl }
 
-  same_content : SameNodes old.nodes new.nodes → Unchanged (content d old) (content d new)
+  same_content : SameNodes old.nodes new.nodes → Unchanged (content charged d old) (content charged d new)
   same_content same = record {
     pairs = same_pairs old.nodes new.nodes same;
     nodes = same_nodes old.nodes new.nodes same;
@@ -105,29 +116,31 @@ module _ {A D : Type 0} (charged limit : A → ℕ) (d : D) (old new : Arena ℕ
 
   module _ (k : ℕ) (small : k < 2 ^ 64) (key : List ℕ) (is : key ≡ key_bytes k) where
     pub inserts : (before : Option ℕ) (v : ℕ) → Adds charged limit old new key before v (wants_at (heap_of old.nodes) key)
-        → Inserts nat_eq charged limit (content d old) (content d new) k (call.Insert k v) (reply.Insert before)
+        → Inserts nat_eq charged limit (content charged d old) (content charged d new) k (call.Insert k v) (reply.Insert before)
     inserts before v a = record {
       answers = insert_told nat_eq charged limit old new k small key is before v _ a;
+      fits = fitted_at old k small key is (charged old.allocator) (limit old.allocator) a.fits;
       bytes = grown nat_eq charged limit old new k small key is before v a;
       keeps = keeps a.edits.balance a.edits.same_limit;
     }
 
     -- an insertion of what a closure gave for the value that was found
     pub computes : (before found : Option ℕ) (v : ℕ) → found ≡ value_at (heap_of old.nodes) key → Adds charged limit old new key before v (wants_at (heap_of old.nodes) key)
-        → (before ≡ found) × Inserts nat_eq charged limit (content d old) (content d new) k (call.ComputeInsert k v) (reply.ComputeInsert found)
+        → (before ≡ found) × Inserts nat_eq charged limit (content charged d old) (content charged d new) k (call.ComputeInsert k v) (reply.ComputeInsert found)
     computes before found v at a =
         let e : before ≡ found = sym a.edits.change.was ∙ sym at in
         let b : Adds charged limit old new key found v (wants_at (heap_of old.nodes) key) = subst (λ o. Adds charged limit old new key o v (wants_at (heap_of old.nodes) key)) e a in (
           e,
           record {
             answers = compute_told nat_eq charged limit old new k small key is found v _ b;
+            fits = fitted_at old k small key is (charged old.allocator) (limit old.allocator) a.fits;
             bytes = grown nat_eq charged limit old new k small key is found v b;
             keeps = keeps a.edits.balance a.edits.same_limit;
           },
         )
 
     pub refuses : (v : ℕ) (refusal : OOMError × ℕ) → Denies charged limit old new key v (wants_at (heap_of old.nodes) key) refusal
-        → Refuses charged limit (content d old) (content d new) k refusal.0
+        → Refuses charged limit (content charged d old) (content charged d new) k refusal.0
     refuses v refusal r = record {
       absent = sym (found_at old k small key is None (sym r.absent));
       cause = refused_at old k small key is (charged old.allocator) (limit old.allocator) refusal.0 r.cause;
@@ -136,7 +149,7 @@ module _ {A D : Type 0} (charged limit : A → ℕ) (d : D) (old new : Arena ℕ
     }
 
     pub removes : (before : Option ℕ) → Frees charged limit old new key before None (freed_of (lone_at (heap_of old.nodes) key))
-        → Modifies nat_eq charged limit (content d old) (content d new) (freed_of (map.get (lone_of old.nodes) k)) (call.Remove k) (reply.Remove before)
+        → Modifies nat_eq charged limit (content charged d old) (content charged d new) (freed_of (map.get (lone_of old.nodes) k)) (call.Remove k) (reply.Remove before)
     removes before f = record {
       answers = remove_told nat_eq charged limit old new k small key is before _ f;
       bytes = freed nat_eq charged limit old new k small key is {Y = ℕ} None before None f;
@@ -145,7 +158,7 @@ module _ {A D : Type 0} (charged limit : A → ℕ) (d : D) (old new : Arena ℕ
 
     pub settles : (r : Option ℕ) (v : ℕ) (after : Option ℕ) → Some v ≡ value_at (heap_of old.nodes) key
         → Frees charged limit old new key r (settled r after) (freed_by after (lone_at (heap_of old.nodes) key))
-        → Modifies nat_eq charged limit (content d old) (content d new) (freed_by after (map.get (lone_of old.nodes) k)) (call.ComputePresent k after) (reply.ComputePresent (Some (v, after)))
+        → Modifies nat_eq charged limit (content charged d old) (content charged d new) (freed_by after (map.get (lone_of old.nodes) k)) (call.ComputePresent k after) (reply.ComputePresent (Some (v, after)))
     settles r v after found f = record {
       answers = present_told nat_eq charged limit old new k small key is r v after _ found f;
       bytes = freed nat_eq charged limit old new k small key is after r (settled r after) f;
@@ -154,7 +167,7 @@ module _ {A D : Type 0} (charged limit : A → ℕ) (d : D) (old new : Arena ℕ
 
     pub exchanges : (r : Option ℕ) (v : ℕ) (after : Option ℕ) → Some v ≡ value_at (heap_of old.nodes) key
         → Frees charged limit old new key r (settled r after) (freed_by after (lone_at (heap_of old.nodes) key))
-        → Modifies nat_eq charged limit (content d old) (content d new) (freed_by after (map.get (lone_of old.nodes) k)) (call.Exchange k v after) (reply.Exchange (Ok after))
+        → Modifies nat_eq charged limit (content charged d old) (content charged d new) (freed_by after (map.get (lone_of old.nodes) k)) (call.Exchange k v after) (reply.Exchange (Ok after))
     exchanges r v after found f = record {
       answers = answer_pairs nat_eq old.nodes new.nodes (call.Exchange k v after) (reply.Exchange (Ok after))
           (exchange_done old.nodes new.nodes k small v after (present_at nat_eq charged limit old new k small key is r v after _ found f));
@@ -163,18 +176,18 @@ module _ {A D : Type 0} (charged limit : A → ℕ) (d : D) (old new : Arena ℕ
     }
 
 module _ {A D : Type 0} (charged limit : A → ℕ) (d : D) (t : Arena ℕ A) (k : ℕ) (small : k < 2 ^ 64) (key : List ℕ) (is : key ≡ key_bytes k) where
-  leaves : (call : Call ℕ) (reply : Reply ℕ) → Answered nat_eq t.nodes t.nodes call reply → ChangesNothing nat_eq charged limit (content d t) (content d t) call reply
+  leaves : (call : Call ℕ) (reply : Reply ℕ) → Answered nat_eq t.nodes t.nodes call reply → ChangesNothing nat_eq charged limit (content charged d t) (content charged d t) call reply
   leaves call reply a = record {
     answers = answer_pairs nat_eq t.nodes t.nodes call reply a;
     unchanged = same_content charged limit d t t (λ n. refl);
     keeps = keeps charged limit d t t refl refl;
   }
 
-  pub leaves_absent : None ≡ value_at (heap_of t.nodes) key → ChangesNothing nat_eq charged limit (content d t) (content d t) (call.ComputePresent k None) (reply.ComputePresent None)
+  pub leaves_absent : None ≡ value_at (heap_of t.nodes) key → ChangesNothing nat_eq charged limit (content charged d t) (content charged d t) (call.ComputePresent k None) (reply.ComputePresent None)
   leaves_absent e = leaves (call.ComputePresent k None) (reply.ComputePresent None)
       (answered_absent nat_eq t.nodes t.nodes k small None (sym (e ∙ ap (value_at (heap_of t.nodes)) is)))
 
   pub leaves_other : (v : ℕ) (after found : Option ℕ) → found ≢ Some v → found ≡ value_at (heap_of t.nodes) key
-      → ChangesNothing nat_eq charged limit (content d t) (content d t) (call.Exchange k v after) (reply.Exchange (Err found))
+      → ChangesNothing nat_eq charged limit (content charged d t) (content charged d t) (call.Exchange k v after) (reply.Exchange (Err found))
   leaves_other v after found ne e = leaves (call.Exchange k v after) (reply.Exchange (Err found))
       (exchange_refused t.nodes k small v after found ne (e ∙ ap (value_at (heap_of t.nodes)) is))

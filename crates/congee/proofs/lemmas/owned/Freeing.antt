@@ -15,7 +15,7 @@ module _ {P A : Type 0} (charged limit : A → ℕ) where
 
   -- a present key makes no node
   pub swap_adds : (old new : Arena P A) (key : List ℕ) (before : Option P) (value : P) → Swaps old new key before (Some value) → Adds charged limit old new key before value None
-  swap_adds old new key before value s = record { edits = swap_edits old new key before (Some value) s; bytes = omega (arith, s.bytes) }
+  swap_adds old new key before value s = record { edits = swap_edits old new key before (Some value) s; fits = tt; bytes = omega (arith, s.bytes) }
 
   -- a leaf with other values stays
   pub swap_frees : (old new : Arena P A) (key : List ℕ) (before after : Option P) → Swaps old new key before after → Frees charged limit old new key before after 0

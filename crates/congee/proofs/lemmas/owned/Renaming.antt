@@ -11,7 +11,7 @@ use Rattle.congee.specs.owned.Changes.{Differs, MapChange}
 use Rattle.congee.specs.owned.Edits.{Edits, Swaps, Adds, Frees}
 use Rattle.congee.specs.owned.Renames.{Renames, Renamed}
 use Rattle.congee.specs.owned.Sizes.{bytes_at, bytes_of}
-use Rattle.congee.specs.owned.Wanted.{gain_of}
+use Rattle.congee.specs.owned.Wanted.{InsertionFits, gain_of}
 use Rattle.congee.specs.declared.forms.base_node.Node.{Node as Form}
 use Rattle.congee.specs.declared.owned.arena.Arena.{Arena}
 use Rattle.congee.specs.declared.forms.child.Child.TheVariants.{Node as Sub}
@@ -180,7 +180,11 @@ module _ {P A : Type 0} (charged limit : A → ℕ) (old mid new : Arena P A) (k
     }
 
     pub adds_renamed : (before : Option P) (value : P) (wants : Option (List ℕ)) → Adds charged limit mid new key before value wants → Adds charged limit old new key before value wants
-    adds_renamed before value wants a = record { edits = edits_renamed before (Some value) a.edits; bytes = a.bytes ∙ ap (λ n. n + gain_of wants) r.bytes }
+    adds_renamed before value wants a = record {
+      edits = edits_renamed before (Some value) a.edits;
+      fits = subst (λ t. InsertionFits wants (charged t) (limit t)) same a.fits;
+      bytes = a.bytes ∙ ap (λ n. n + gain_of wants) r.bytes;
+    }
 
     pub frees_renamed : (before after : Option P) (freed : ℕ) → Frees charged limit mid new key before after freed → Frees charged limit old new key before after freed
     frees_renamed before after freed f = record { edits = edits_renamed before after f.edits; bytes = f.bytes ∙ r.bytes }
@@ -204,7 +208,7 @@ module _ {P A : Type 0} (charged limit : A → ℕ) (old mid new : Arena P A) (k
     }
 
     pub renamed_adds : (before : Option P) (value : P) (wants : Option (List ℕ)) → Adds charged limit old mid key before value wants → Adds charged limit old new key before value wants
-    renamed_adds before value wants a = record { edits = renamed_edits before (Some value) a.edits; bytes = r.bytes ∙ a.bytes }
+    renamed_adds before value wants a = record { edits = renamed_edits before (Some value) a.edits; fits = a.fits; bytes = r.bytes ∙ a.bytes }
 
     pub renamed_frees : (before after : Option P) (freed : ℕ) → Frees charged limit old mid key before after freed → Frees charged limit old new key before after freed
     renamed_frees before after freed f = record { edits = renamed_edits before after f.edits; bytes = ap (λ n. n + freed) r.bytes ∙ f.bytes }

@@ -1,5 +1,5 @@
 -- A node that gets room for one more child.
-use Rattle.std.proofs.Common.{◌≡◌, ℕ, ◌+◌, true, false, List, [], ◌∷◌, refl, sym, ap, subst, ◌∙◌, arith, inl}
+use Rattle.std.proofs.Common.{◌≡◌, ℕ, ◌+◌, ◌≤◌, true, false, List, [], ◌∷◌, refl, sym, ap, subst, ◌∙◌, arith, inl}
 use Rattle.std.specs.Prelude.{Bool, Some, Result, Ok, Err, OnOk, IfErr}
 use Rattle.std.specs.Result.{is_ok}
 use Rattle.slab.specs.Slab.{get, ContainsKey, HasRoomFor, SameValues}
@@ -8,7 +8,7 @@ use Rattle.congee.specs.owned.Arena.{Nodes, heap_of, node_of}
 use Rattle.congee.specs.owned.OwnedSteps.{MakesRoom, IsRefusal}
 use Rattle.congee.specs.owned.Sizes.{bytes_at, bytes_of}
 use Rattle.congee.specs.owned.Stores.{GrowsTo}
-use Rattle.congee.specs.owned.Wanted.{IsRefusedOf, gain, net, room_for}
+use Rattle.congee.specs.owned.Wanted.{AllFit, IsRefusedOf, gain, net, room_for}
 use Rattle.congee.specs.declared.allocator.OOMError.{OOMError}
 use Rattle.congee.specs.declared.forms.base_node.Node.{Node as Form}
 use Rattle.congee.specs.declared.forms.base_node.NodeType.{NodeType}
@@ -33,6 +33,9 @@ module _ {P : Type 0} (s : Nodes P) (at : ℕ) (full : Bool) (stands : ContainsK
       let n = node_at s at stands in
       ap (λ o. room_for (node_of o)) n.1 ∙ roomy_none n.0 (sym (is n.0 n.1) ∙ f)
 
+  pub roomy_fits : (charged limit : ℕ) → full ≡ false → AllFit (room_for (heap_of s at)) charged limit
+  roomy_fits charged limit f = let Q : List ℕ → Type 0 = λ w. AllFit w charged limit in subst Q (sym (roomy_wants f)) tt
+
   pub roomy_gain : full ≡ false → bytes_of s ≡ bytes_of s + gain (room_for (heap_of s at))
   roomy_gain f = let g : gain (room_for (heap_of s at)) ≡ 0 = ap gain (roomy_wants f) in omega (arith, g)
 
@@ -43,6 +46,11 @@ module _ {P : Type 0} (s : Nodes P) (at : ℕ) (full : Bool) (stands : ContainsK
         let n = node_at s at stands in
         let z : form_of n.0 ≡ form = sym (form_is n.0 n.1) in
         ap (λ o. room_for (node_of o)) n.1 ∙ (full_room n.0 (sym (is n.0 n.1) ∙ f) ∙ ap (λ t. size_of (next_form t) ∷ []) z)
+
+    pub full_fits : (charged size limit : ℕ) → size ≡ size_of (next_form form) → charged + size ≤ limit → AllFit (room_for (heap_of s at)) charged limit
+    full_fits charged size limit z l =
+        let Q : List ℕ → Type 0 = λ w. AllFit w charged limit in
+        subst Q (sym full_wants) (omega (arith, l, z), tt)
 
     pub full_refused : (charged size limit : ℕ) (e : OOMError) → size ≡ size_of (next_form form) → IsRefusal charged size limit e → IsRefusedOf (room_for (heap_of s at)) charged limit e
     full_refused charged size limit e z r =

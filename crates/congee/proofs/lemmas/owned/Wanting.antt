@@ -18,7 +18,7 @@ use Rattle.congee.specs.declared.owned.place.Spot.TheVariants.{Held, Free, Apart
 use Rattle.congee.specs.declared.allocator.OOMError.{OOMError}
 use Rattle.congee.specs.owned.Sizes.{bytes_at}
 use Rattle.congee.specs.owned.Table.{table}
-use Rattle.congee.specs.owned.Wanted.{size_by, net, at_end, descend, room_for, free_wants, last_wants, wants_at, last_lone, lone_at, wants_of, lone_of, freed_of, freed_by, IsRefusedOf, WantsLeaf}
+use Rattle.congee.specs.owned.Wanted.{size_by, net, at_end, descend, room_for, free_wants, last_wants, wants_at, last_lone, lone_at, wants_of, lone_of, freed_of, freed_by, AllFit, IsRefusedOf, WantsLeaf}
 use Rattle.congee.specs.declared.forms.base_node.Node.{Node as Form}
 use Rattle.congee.specs.declared.forms.base_node.Node.TheVariants.{N4, N16, N48, N256}
 use Rattle.congee.specs.declared.forms.base_node.NodeType.TheVariants.{N256 as T256}
@@ -97,6 +97,10 @@ freed_absent (Some y) size e = refl
 pub freed_map : {Y Z : Type 0} (f : Y → Z) (o : Option Y) (size : Option ℕ) → freed_by (option_map f o) size ≡ freed_by o size
 freed_map f None size = refl
 freed_map f (Some y) size = refl
+
+-- two least nodes that fitted one after the other
+pub both_fit : (c c' l l' : ℕ) → c' ≡ c + 64 → l' ≡ l → c + 64 ≤ l → c' + 64 ≤ l' → AllFit (64 ∷ 64 ∷ []) c l
+both_fit c c' l l' ec el f g = (f, (omega (arith, g, ec, el), tt))
 
 -- a refusal of the second of two least nodes
 pub refused_second : (c c' l l' : ℕ) (e : OOMError) → c' ≡ c + 64 → l' ≡ l → c + 64 ≤ l → IsRefusal c' 64 l' e → IsRefusedOf (64 ∷ 64 ∷ []) c l e
@@ -196,6 +200,14 @@ module _ {P : Type 0} where
   made_same s s1 at leaf p st m =
       let n = node_at s at st in
       ap node_of (m.updates.others at (apart_of s at leaf n.0 n.1 m.vacant))
+
+  -- room that was found after a leaf was made
+  pub fit_after : (n n' : Node P) (c c' l l' : ℕ) → n' ≡ n → c' ≡ c + 64 → l' ≡ l → c + 64 ≤ l → AllFit (room_for n') c' l' → AllFit (64 ∷ room_for n) c l
+  fit_after n n' c c' l l' en ec el f r =
+      let Q1 : Node P → Type 0 = λ z. AllFit (room_for z) c' l' in
+      let Q2 : ℕ → Type 0 = λ z. AllFit (room_for n) z l' in
+      let Q3 : ℕ → Type 0 = λ z. AllFit (room_for n) (c + 64) z in
+      (f, subst Q3 el (subst Q2 ec (subst Q1 en r)))
 
   -- a refusal after a leaf was made
   pub refused_after : (n n' : Node P) (c c' l l' : ℕ) (e : OOMError) → n' ≡ n → c' ≡ c + 64 → l' ≡ l → c + 64 ≤ l → IsRefusedOf (room_for n') c' l' e → IsRefusedOf (64 ∷ room_for n) c l e

@@ -1,10 +1,11 @@
 -- What a handle knows while guards of it are out.
-use Rattle.std.proofs.Common.{◌≡◌, ◌≢◌, ℕ, ◌+◌, ◌<◌, ◌≤◌, Bool, true, false, refl, sym, ap, ◌∙◌, subst, arith, Option, Some, None, List, [], length, Result, Ok, Err}
+use Rattle.std.proofs.Common.{◌≡◌, ◌≢◌, ℕ, ◌+◌, ◌<◌, ◌≤◌, Bool, true, false, refl, sym, ap, ◌∙◌, subst, inl, inr, arith, Option, Some, None, List, [], length, Result, Ok, Err}
 use Rattle.std.specs.Prelude.{nat_lt, nat_le, nat_eq, OnOk, IfErr, IfSome, IsSomeAnd, ◌⊎◌, if◌then◌else◌}
 use Rattle.std.specs.Bool.{MatchBool}
 use Rattle.std.proofs.lemmas.Bool.{true≢false, eq-eqb, lt-ltb, ltb-true}
 use Rattle.std.proofs.lemmas.Bool.Decides.{nat_tests}
 use Rattle.crossbeam_epoch.specs.declared.face.guard.Seat.{Seat}
+use Rattle.crossbeam_epoch.specs.declared.face.queue.Queued.{Queued}
 use Rattle.crossbeam_epoch.specs.declared.face.seats.View.{View}
 use Rattle.crossbeam_epoch.specs.declared.bag.Entry.{Entry}
 use Rattle.crossbeam_epoch.specs.Face.Handle.{owns, with_room, SealsUnder}
@@ -36,8 +37,8 @@ pub looked_with : (n p a e s d x : ℕ) (v w : View) → v ≡ with_guards n p a
 looked_with n p a e s d x v w is now = go (nat_lt 0 n) refl
   where
     go : (b : Bool) → nat_lt 0 n ≡ b → w ≡ with_guards n p a e w.seen w.passed
-    go true h = let i = rw h at is in rw h (subst (λ (u : View). u ≡ record { place = Some p; at = Some a; pin = Some e; seen = u.seen; passed = u.passed }) (sym (now ∙ ap (λ (u : View). with_seen u x) i)) refl)
-    go false h = let i = rw h at is in rw h (subst (λ (u : View). u ≡ record { place = Some p; at = None; pin = None; seen = u.seen; passed = u.passed }) (sym (now ∙ ap (λ (u : View). with_seen u x) i)) refl)
+    go true h = let i = rw h at is in rw h (subst (λ (u : View). u ≡ record { place = Some p; at = Some a; pin = Some e; seen = u.seen; passed = u.passed; asked = 0; taken = 0 }) (sym (now ∙ ap (λ (u : View). with_seen u x) i)) refl)
+    go false h = let i = rw h at is in rw h (subst (λ (u : View). u ≡ record { place = Some p; at = None; pin = None; seen = u.seen; passed = u.passed; asked = 0; taken = 0 }) (sym (now ∙ ap (λ (u : View). with_seen u x) i)) refl)
 
 -- with a guard out the epoch that is read is the one that confirmed its pin, or one more
 pub read_under : (n p a e s d x m f : ℕ) (v : View) → v ≡ with_guards n p a e s d → IsRead v x → n ≡ m → e ≡ f → 0 < m → (f ≤ x) × (x ≤ f + 1)
@@ -64,20 +65,26 @@ if_err (Ok a) f p = tt
 if_err (Err e) f p = f e p
 
 -- a bag was sealed, with an epoch that was read under the guards that are out
-pub sealed_now : (b : Bool) (q r : ℕ) (before : Option ℕ) → b ≡ true → (q ≤ r) × (r ≤ q + 1) → SealsUnder b q before (Some r)
-sealed_now b q r before sealed within = rw sealed within
+pub sealed_now : (b : Bool) (q r : ℕ) (before : Option Queued) (bag : Queued) → b ≡ true → bag.seal ≡ r → (q ≤ r) × (r ≤ q + 1) → SealsUnder b q before (Some bag)
+sealed_now b q r before bag sealed same within = rw sealed (subst (λ (s : ℕ). (q ≤ s) × (s ≤ q + 1)) (sym same) within)
 
-pub not_sealed : (b : Bool) (q : ℕ) (before : Option ℕ) → b ≡ false → SealsUnder b q before before
+pub not_sealed : (b : Bool) (q : ℕ) (before : Option Queued) → b ≡ false → SealsUnder b q before before
 not_sealed b q before none = rw none refl
 
 -- a full bag is sealed as one that holds a job
-pub full_seals : (n m q : ℕ) (before after : Option ℕ) → 0 < m → m ≤ n → SealsUnder (nat_lt 0 n) q before after → SealsUnder (nat_le m n) q before after
+pub full_seals : (n m q : ℕ) (before after : Option Queued) → 0 < m → m ≤ n → SealsUnder (nat_lt 0 n) q before after → SealsUnder (nat_le m n) q before after
 full_seals n m q before after some full s = let x : nat_lt 0 n ≡ true = grind (arith, nat_tests, some, full) in let y : nat_le m n ≡ true = grind (arith, nat_tests, full) in rw y (rw x at s)
 
--- the greater of two seals is due where both are
-pub later_due : (seen seal r : ℕ) (newest : Option ℕ) → IsDue seen newest → seal + 2 ≤ seen → (r ≡ seal) ⊎ (newest ≡ Some r) → r + 2 ≤ seen
-later_due seen seal r newest due now (Rattle.std.proofs.Common.inl same) = omega (arith, same, now)
-later_due seen seal r newest due now (Rattle.std.proofs.Common.inr same) = rw same at due
+two_behind : (s seal seen : ℕ) → s ≡ seal → seal + 2 ≤ seen → s + 2 ≤ seen
+two_behind s seal seen same now = omega (arith, same, now)
+
+-- the greatest seal of some bags and of one more is due where all are
+pub later_due : (seen seal : ℕ) (newest newest' : Option ℕ) → IsDue seen newest → seal + 2 ≤ seen
+    → (s : ℕ) × (newest' ≡ Some s) × (seal ≤ s) × IfSome newest (λ n. n ≤ s) × ((s ≡ seal) ⊎ (newest ≡ Some s)) → IsDue seen newest'
+later_due seen seal newest newest' due now told = subst (λ (n : Option ℕ). IsDue seen n) (sym told.1) (elim told.4 [
+  | inl same ↦ two_behind told.0 seal seen same now
+  | inr same ↦ subst (λ (n : Option ℕ). IsDue seen n) same due
+])
 
 -- a bag that isn't empty holds a job
 pub some_job : (n : ℕ) (b : Bool) → b ≡ nat_eq n 0 → b ≡ false → 0 < n

@@ -7,10 +7,10 @@ use native.Mathlib.Decide.{ℕ_discrete, dec_le}
 use lib.ListN.{get_elem?}
 use lib.Seq.{set-get_or}
 use prog.Atomic.{either}
-use Rattle.atomic_table.specs.Table.{State, Me, step, keeps, stepped, Allows, Enters, opening}
-use Rattle.atomic_table.proofs.Lists.{at_set, at_snoc, set_here, set_else, at_longer}
+use Rattle.atomic_table.specs.Table.{State, Me, step, keeps, stepped, Allows, Enters, Splits, opening}
+use Rattle.atomic_table.proofs.Lists.{at_set, at_snoc, set_here, set_else, set_again, at_longer}
 use Rattle.crossbeam_epoch.specs.declared.face.seats.View.{View}
-use Rattle.crossbeam_epoch.specs.Face.Pins.{word_of, epoch_of, number_of, newcomer, ViewHolds, At, IsKept, with_seen, seat_arrived, seat_claimed, seat_looked, seat_published, seat_confirmed, seat_left, seat_released, Passes, seat_inspected, seat_advanced, PinsHoldEpoch}
+use Rattle.crossbeam_epoch.specs.Face.Pins.{word_of, epoch_of, number_of, newcomer, ViewHolds, At, IsKept, with_seen, noted, seat_arrived, seat_claimed, seat_counted, seat_looked, seat_published, seat_confirmed, seat_left, seat_released, Passes, seat_inspected, seat_advanced, PinsHoldEpoch}
 
 below : {A : Type 0} (l : List A) (i : ℕ) (a : A) → get_elem? l i ≡ some a → i < length l
 below [] i a e = absurd (some-ne-none a (sym e))
@@ -152,28 +152,59 @@ module _ {S : Type 0} (places last : ℕ) where
         placed = λ q e. absurd (none_some q e);
       }
 
+  -- a seat comes that has no place, and saw an epoch that isn't past the present one
+  comes : (s : State S View) (r : Rule s) (e : ℕ) → e ≤ epoch_of s.words → Rule record { words = s.words; homes = s.homes; views = s.views ++ with_seen newcomer e ∷ [] }
+  comes s r e low = let w = with_seen newcomer e in record {
+    wide = r.wide;
+    bounded = r.bounded;
+    seats = λ j u a. ⊎_elim (r.seats j u) (λ (t : w ≡ u). subst (ViewHolds places s.words) t record {
+      seen = low;
+      own = λ p f. absurd (none_some p f);
+      published = λ d f. absurd (none_some d f);
+      confirmed = λ q f. absurd (none_some q f);
+      placed = λ q f. absurd (none_some q f);
+    }) (at_snoc s.views w u j a);
+    owned = λ p l h. let t = r.owned p l h in (t.0, t.1, at_longer s.views (w ∷ []) t.0 t.1 t.2, t.3);
+    alone = λ j k x u p a b f g. old j x p a f (λ a'. old k u p b g (λ b'. r.alone j k x u p a' b' f g));
+    passed = λ j k x u p q a b f g l. old k u p b f (λ b'. ⊎_elim (λ a'. r.passed j k x u p q a' b' f g l) (λ (t : w ≡ x). absurd (let z : x.passed ≡ 0 = ap (λ (y : View). y.passed) (sym t) in omega (arith, z))) (at_snoc s.views w x j a));
+  }
+    where
+      old : {G : Type 0} (j : ℕ) (x : View) (p : ℕ) → At (s.views ++ with_seen newcomer e ∷ []) j x → x.place ≡ Some p → (At s.views j x → G) → G
+      old j x p a f go = ⊎_elim go (λ (t : with_seen newcomer e ≡ x). absurd (none_some p (ap (λ (y : View). y.place) t ∙ f))) (at_snoc s.views (with_seen newcomer e) x j a)
+
   pub arrives : (slots : ℕ) → Enters Rule slots 0 (λ n w. seat_arrived {S = S} (step slots 0 0 0 maybe.none) (newcomer, []) n (w, []))
-  arrives slots s r _ _ = let e = epoch_of s.words in let w = with_seen newcomer e in let low = r.bounded.0 in let high = r.bounded.1 in (
-    w,
-    record {
-      wide = r.wide;
-      bounded = r.bounded;
-      seats = λ j u a. ⊎_elim (r.seats j u) (λ (t : w ≡ u). subst (ViewHolds places s.words) t record {
+  arrives slots s r _ _ = let e = epoch_of s.words in let low = r.bounded.0 in let high = r.bounded.1 in (
+    with_seen newcomer e,
+    comes s r e (omega arith),
+    (refl, (omega arith, omega arith, λ q f. absurd (none_some q f))),
+  )
+
+  -- a seat's note is a seat that has no place, and saw the same epoch
+  pub notes : (id : ℕ) (v : View) → Splits Rule id v v (noted v)
+  notes id v s r at = subst (λ (vs : List View). Rule record { words = s.words; homes = s.homes; views = vs ++ noted v ∷ [] }) (sym (set_again s.views id v at)) (comes s r v.seen (r.seats id v at).seen)
+
+  -- a seat learns of an epoch that isn't past the present one
+  pub sees : (s : State S View) (r : Rule s) (id : ℕ) (v : View) (e : ℕ) → At s.views id v → e ≤ epoch_of s.words → Rule record { words = s.words; homes = s.homes; views = set s.views id (with_seen v e) }
+  sees s r id v e at low = let t = r.seats id v at in
+      stepping s r id v (with_seen v e) s.words at refl r.bounded.0
+      record { seen = low; own = t.own; published = t.published; confirmed = t.confirmed; placed = t.placed }
+      (λ j u _ a. r.seats j u a) (λ p l h. owners s r id v at p l h) (λ j u p n a f g. n (r.alone j id u v p a at g f))
+      (λ p q _ _ l. absurd (omega arith)) (λ k u p q _ _ _ _ l. absurd (omega arith)) (λ j u p q _ a f g l. r.passed j id u v p q a at f g l)
+
+  -- a seat that has no place is spent
+  pub spends : (s : State S View) (r : Rule s) (id : ℕ) (w : View) → At s.views id w → w.place ≡ None → Rule record { words = s.words; homes = s.homes; views = set s.views id newcomer }
+  spends s r id w at none =
+      stepping s r id w newcomer s.words at refl r.bounded.0
+      record {
         seen = omega arith;
         own = λ p f. absurd (none_some p f);
         published = λ d f. absurd (none_some d f);
         confirmed = λ q f. absurd (none_some q f);
         placed = λ q f. absurd (none_some q f);
-      }) (at_snoc s.views w u j a);
-      owned = λ p l h. let t = r.owned p l h in (t.0, t.1, at_longer s.views (w ∷ []) t.0 t.1 t.2, t.3);
-      alone = λ j k x u p a b f g. old j x p a f (λ a'. old k u p b g (λ b'. r.alone j k x u p a' b' f g));
-      passed = λ j k x u p q a b f g l. old k u p b f (λ b'. ⊎_elim (λ a'. r.passed j k x u p q a' b' f g l) (λ (t : w ≡ x). absurd (let z : x.passed ≡ 0 = ap (λ (y : View). y.passed) (sym t) in omega (arith, z))) (at_snoc s.views w x j a));
-    },
-    (refl, (omega arith, omega arith, λ q f. absurd (none_some q f))),
-  )
-    where
-      old : {G : Type 0} (j : ℕ) (x : View) (p : ℕ) → At (s.views ++ with_seen newcomer (epoch_of s.words) ∷ []) j x → x.place ≡ Some p → (At s.views j x → G) → G
-      old j x p a f go = ⊎_elim go (λ (t : with_seen newcomer (epoch_of s.words) ≡ x). absurd (none_some p (ap (λ (y : View). y.place) t ∙ f))) (at_snoc s.views (with_seen newcomer (epoch_of s.words)) x j a)
+      }
+      (λ j u _ a. r.seats j u a)
+      (λ p l h. ⊎_elim (λ (e : w.place ≡ Some p). absurd (none_some p (sym none ∙ e))) (λ (t : (j : ℕ) × (u : View) × (j ≢ id) × At s.views j u × (u.place ≡ Some p)). inr t) (owners s r id w at p l h))
+      (λ j u p _ _ e _. absurd (none_some p e)) (λ p q e _ _. absurd (none_some p e)) (λ k u p q _ _ _ _ l. absurd (omega arith)) (λ j u p q _ _ e _ _. absurd (none_some p e))
 
   pub looks : (slots id : ℕ) (me : Me S View) → Allows Rule slots id me 0 (λ n. n) (seat_looked (step slots 0 0 0 maybe.none) me)
   looks slots id me s r _ at _ = let e = epoch_of s.words in let w = with_seen me.0 e in let t = r.seats id me.0 at in let old = t.seen in let low = r.bounded.0 in let high = r.bounded.1 in (
@@ -214,20 +245,20 @@ module _ {S : Type 0} (places last : ℕ) where
 
   pub publishes : (slots id : ℕ) (me : Me S View) (p e : ℕ) → me.0.place ≡ Some p → e ≤ me.0.seen
       → Allows Rule slots id me (word_of p) (λ _. e + 2) (λ _. seat_published (step slots (word_of p) (e + 2) 0 maybe.none) me (e + 2))
-  publishes slots id me p e is low s r _ at _ = let w : View = record me.0 { at = Some e; pin = None } in let seen = (r.seats id me.0 at).seen in (
+  publishes slots id me p e is low s r _ at _ = let w : View = record me.0 { at = Some e; pin = None; asked = 0; taken = 0 } in let seen = (r.seats id me.0 at).seen in (
     w,
     keeps,
     tt,
     writes s r id me.0 w p (e + 2) at is refl refl refl (inl is) (λ d f. let same = one_number e d f in omega (arith, same)) (λ _. refl),
-    λ d f. let same : e ≡ d = omega arith in ap (λ (z : ℕ). let v : View = record me.0 { at = Some z; pin = None } in (v, me.1)) same,
+    λ d f. let same : e ≡ d = omega arith in ap (λ (z : ℕ). let v : View = record me.0 { at = Some z; pin = None; asked = 0; taken = 0 } in (v, me.1)) same,
   )
 
   pub leaves : (slots id : ℕ) (me : Me S View) (p : ℕ) → me.0.place ≡ Some p → Allows Rule slots id me (word_of p) (λ _. 1) (λ _. seat_left (step slots (word_of p) 1 0 maybe.none) me 1)
   leaves slots id me p is s r _ at _ = (
-    record me.0 { at = None; pin = None },
+    record me.0 { at = None; pin = None; asked = 0; taken = 0 },
     keeps,
     tt,
-    writes s r id me.0 (record me.0 { at = None; pin = None }) p 1 at is refl refl refl (inl is) (λ d f. absurd (none_some d f)) (λ _. refl),
+    writes s r id me.0 (record me.0 { at = None; pin = None; asked = 0; taken = 0 }) p 1 at is refl refl refl (inl is) (λ d f. absurd (none_some d f)) (λ _. refl),
     refl,
   )
 
@@ -243,7 +274,7 @@ module _ {S : Type 0} (places last : ℕ) where
   -- a place that was found free is taken
   pub claims : (slots id : ℕ) (me : Me S View) (p : ℕ) → p < places → me.0.place ≡ None → me.0.at ≡ None
       → Allows Rule slots id me (word_of p) (λ n. either (eqb n 0) 1 n) (seat_claimed (step slots (word_of p) 0 1 maybe.none) me)
-  claims slots id me p inside none unpinned s r _ at _ = let v = me.0 in let t = r.seats id v at in let n : ℕ = get_or s.words (word_of p) 0 in let w : View = record v { place = Some p } in
+  claims slots id me p inside none unpinned s r _ at _ = let v = me.0 in let t = r.seats id v at in let n : ℕ = get_or s.words (word_of p) 0 in let w : View = record v { place = Some p; asked = 0; taken = 0 } in
       let ws : List ℕ = set s.words (word_of p) 1 in let wide = r.wide in
       let bare : (q : ℕ) → v.pin ≡ Some q → ⊥ = λ q e. let c = t.placed q e in none_some c.0 (sym none ∙ c.1) in
       let epoch : epoch_of ws ≡ epoch_of s.words = get_or-set_other s.words (word_of p) 0 1 0 (λ e. omega arith) in
@@ -269,20 +300,30 @@ module _ {S : Type 0} (places last : ℕ) where
             (λ d. ⊎_elim (λ (e : v.place ≡ Some p'). absurd (none_some p' (sym none ∙ e))) (λ (x : (j : ℕ) × (u : View) × (j ≢ id) × At s.views j u × (u.place ≡ Some p')). inr x)
             (owners s r id v at p' l (let z = else p' d in omega (arith, z)))))
             (λ j u p' d a e f. free j u a (f ∙ sym e)) (λ p' q _ e. absurd (bare q e)) (λ k u p' q d a e f l. r.passed id k v u p' q at a e f l) (λ j u p' q d a _ e. absurd (bare q e))),
-        ((λ _ p' e. let same : p ≡ p' = omega arith in ap (λ (z : ℕ). let x : View = record v { place = Some z } in (x, me.1)) same), λ miss. absurd (miss hit)),
+        ((λ _ p' e. let same : p ≡ p' = omega arith in ap (λ (z : ℕ). let x : View = record v { place = Some z; asked = 0; taken = 0 } in (x, me.1)) same), λ miss. absurd (miss hit)),
       ))
-      (λ miss. (
-        v,
+      (λ miss. let found : View = record v { asked = v.asked + 1; taken = v.taken + 1 } in (
+        found,
         keeps,
         tt,
-        subst (λ b. Rule (stepped s (word_of p) (either b 1 n) id me.1 v keeps)) (sym (ne_eqb n 0 miss))
-            (reads s r id v v (word_of p) at refl t (λ p' q e f l. r.passed id id v v p' q at at e f l) (λ k u p' q d a e f l. r.passed id k v u p' q at a e f l) (λ j u p' q d a e f l. r.passed j id u v p' q a at e f l)),
+        subst (λ b. Rule (stepped s (word_of p) (either b 1 n) id me.1 found keeps)) (sym (ne_eqb n 0 miss))
+            (reads s r id v found (word_of p) at refl (record { seen = t.seen; own = t.own; published = t.published; confirmed = t.confirmed; placed = t.placed }) (λ p' q e f l. r.passed id id v v p' q at at e f l) (λ k u p' q d a e f l. r.passed id k v u p' q at a e f l) (λ j u p' q d a e f l. r.passed j id u v p' q a at e f l)),
         ((λ hit. absurd (miss hit)), λ _. refl),
       ))
     where
       not_free : (x : Option ℕ) → number_of x ≡ 0 → ⊥
       not_free None e = omega arith
       not_free (Some e') e = omega arith
+
+  -- a place is looked at for whether it is free
+  pub counts : (slots id : ℕ) (me : Me S View) (p : ℕ) → Allows Rule slots id me (word_of p) (λ n. n) (seat_counted (step slots (word_of p) 0 0 maybe.none) me)
+  counts slots id me p s r _ at _ = let v = me.0 in let t = r.seats id v at in let n : ℕ = get_or s.words (word_of p) 0 in
+      let stays : (asked taken : ℕ) → Rule record { words = set s.words (word_of p) (get_or s.words (word_of p) 0); homes = s.homes; views = set s.views id (record v { asked = asked; taken = taken }) } = λ asked taken.
+      reads s r id v (record v { asked = asked; taken = taken }) (word_of p) at refl (record { seen = t.seen; own = t.own; published = t.published; confirmed = t.confirmed; placed = t.placed })
+      (λ p' q e f l. r.passed id id v v p' q at at e f l) (λ k u p' q d a e f l. r.passed id k v u p' q at a e f l) (λ j u p' q d a e f l. r.passed j id u v p' q a at e f l) in
+      dite (ℕ_discrete n 0)
+      (λ free. let w : View = record v { asked = v.asked + 1 } in (w, keeps, tt, stays (v.asked + 1) v.taken, ((λ _. refl), λ found. absurd (found free))))
+      (λ found. let w : View = record v { asked = v.asked + 1; taken = v.taken + 1 } in (w, keeps, tt, stays (v.asked + 1) (v.taken + 1), ((λ free. absurd (found free)), λ _. refl)))
 
   pub inspects : (slots id : ℕ) (me : Me S View) (p : ℕ) → me.0.passed ≡ p → Allows Rule slots id me (word_of p) (λ n. n) (seat_inspected (step slots (word_of p) 0 0 maybe.none) me)
   inspects slots id me p is s r _ at _ = let v = me.0 in let t = r.seats id v at in let n : ℕ = get_or s.words (word_of p) 0 in ⊎_elim
@@ -351,15 +392,23 @@ module _ {S : Type 0} (places last : ℕ) where
       ))
 
 -- what is known after a publication and its confirmation
-pub pinned_after : (v v' : View) (p at q : ℕ) → v.place ≡ Some p → v' ≡ record v { at = Some at; pin = None }
-    → ◌≡◌ {A = View} (record v' { pin = Some q; seen = q; passed = 0 }) record { place = Some p; at = Some at; pin = Some q; seen = q; passed = 0 }
-pinned_after v v' p at q is e = subst (λ (x : View). ◌≡◌ {A = View} (record x { pin = Some q; seen = q; passed = 0 }) record { place = Some p; at = Some at; pin = Some q; seen = q; passed = 0 }) (sym e)
-    (ap (λ (z : Option ℕ). let x : View = record { place = z; at = Some at; pin = Some q; seen = q; passed = 0 } in x) is)
+pub pinned_after : (v v' : View) (p at q : ℕ) → v.place ≡ Some p → v' ≡ record v { at = Some at; pin = None; asked = 0; taken = 0 }
+    → ◌≡◌ {A = View} (record v' { pin = Some q; seen = q; passed = 0 }) record { place = Some p; at = Some at; pin = Some q; seen = q; passed = 0; asked = 0; taken = 0 }
+pinned_after v v' p at q is e = subst (λ (x : View). ◌≡◌ {A = View} (record x { pin = Some q; seen = q; passed = 0 }) record { place = Some p; at = Some at; pin = Some q; seen = q; passed = 0; asked = 0; taken = 0 }) (sym e)
+    (ap (λ (z : Option ℕ). let x : View = record { place = z; at = Some at; pin = Some q; seen = q; passed = 0; asked = 0; taken = 0 } in x) is)
+
+-- what a newcomer knows that asked for so many places in vain
+abbrev pub refused_view : ℕ → ℕ → View
+refused_view seen n = record (with_seen newcomer seen) { asked = n; taken = n }
 
 -- what is known after a claim
-pub placed_after : (v v' : View) (p : ℕ) → v ≡ with_seen newcomer v.seen → v' ≡ record v { place = Some p } → v' ≡ record { place = Some p; at = None; pin = None; seen = v'.seen; passed = 0 }
-placed_after v v' p e f = subst (λ (x : View). x ≡ record { place = Some p; at = None; pin = None; seen = x.seen; passed = 0 }) (sym f)
-    (subst (λ (x : View). ◌≡◌ {A = View} (record x { place = Some p }) record { place = Some p; at = None; pin = None; seen = x.seen; passed = 0 }) (sym e) refl)
+pub placed_after : (v v' : View) (p n : ℕ) → v ≡ refused_view v.seen n → v' ≡ record v { place = Some p; asked = 0; taken = 0 } → v' ≡ record { place = Some p; at = None; pin = None; seen = v'.seen; passed = 0; asked = 0; taken = 0 }
+placed_after v v' p n e f = subst (λ (x : View). x ≡ record { place = Some p; at = None; pin = None; seen = x.seen; passed = 0; asked = 0; taken = 0 }) (sym f)
+    (subst (λ (x : View). ◌≡◌ {A = View} (record x { place = Some p; asked = 0; taken = 0 }) record { place = Some p; at = None; pin = None; seen = x.seen; passed = 0; asked = 0; taken = 0 }) (sym e) refl)
+
+-- and after one that was in vain
+pub refused_after : (v v' : View) (n : ℕ) → v ≡ refused_view v.seen n → v' ≡ record v { asked = v.asked + 1; taken = v.taken + 1 } → v' ≡ refused_view v'.seen (n + 1)
+refused_after v v' n e f = subst (λ (x : View). x ≡ refused_view x.seen (n + 1)) (sym f) (subst (λ (x : View). ◌≡◌ {A = View} (record x { asked = x.asked + 1; taken = x.taken + 1 }) (refused_view x.seen (n + 1))) (sym e) refl)
 
 pub graceful : PinsHoldEpoch
 graceful places last s j k q seal v u r a b pin = let c = (r.seats j v a).confirmed q pin in let high = c.4 in let seen = (r.seats k u b).seen in (c.3, c.4, omega arith, λ late due. omega arith)

@@ -155,12 +155,12 @@ module _ {T J : Type 0} where
 
   -- a step that finds no memory
   pub goes_without : (s s' : State T J) (who : ℕ) (phase : Phase) (r : Report) → (place s who).registered ≡ true → (place s who).phase ≡ phase → event_fault Go phase (place s who) ≡ None
-      → needs_memory Go phase ≡ true → r ≡ record { called = None; outcome = Refused F.Memory } → s' ≡ in_phase s who Idle → Goes s s' who r
-  goes_without s s' who phase r reg is none needs at st =
+      → needs_memory Go phase ≡ true → s.room ≡ 0 → r ≡ record { called = None; outcome = Refused F.Memory } → s' ≡ in_phase s who Idle → Goes s s' who r
+  goes_without s s' who phase r reg is none needs full at st =
       let free = no_fault s who phase reg is none in
       let needed : needs_memory Go (place s who).phase ≡ true = subst (λ ph. needs_memory Go ph ≡ true) (sym is) needs in
       subst (λ x. Goes s s' who x) (sym at) (
-        record { outcome = subst (λ f. IsOutcome s who Go f (Refused F.Memory)) (sym free) needed; job = refl },
+        record { outcome = subst (λ f. IsOutcome s who Go f (Refused F.Memory)) (sym free) (needed, full); job = refl },
         subst (λ b. s' ≡ (if b then in_phase s who Idle else s)) (sym needed) st,
       )
 
@@ -175,8 +175,8 @@ module _ {T J : Type 0} where
   -- a step that queues a bag
   pub goes_queueing : (s s' t : State T J) (who : ℕ) (phase : Phase) (p : Participant J) (o : Outcome) (r : Report) → (place s who).registered ≡ true → (place s who).phase ≡ phase
       → event_fault Go phase (place s who) ≡ None → None ≡ called_by s.store phase (place s who).hand → needs_memory Go phase ≡ true → gone s who phase ≡ t → place t who ≡ p
-      → (o ≡ outcome_at p.phase) ⊎ (o ≡ Refused F.Memory) → (o ≡ outcome_at p.phase → s' ≡ t) → (o ≡ Refused F.Memory → s' ≡ in_phase s who Idle) → r ≡ record { called = None; outcome = o } → Goes s s' who r
+      → (o ≡ outcome_at p.phase) ⊎ (o ≡ Refused F.Memory) → (o ≡ outcome_at p.phase → s' ≡ t) → (o ≡ Refused F.Memory → (s.room ≡ 0) × (s' ≡ in_phase s who Idle)) → r ≡ record { called = None; outcome = o } → Goes s s' who r
   goes_queueing s s' t who phase p o r reg is none quiet needs to there either st full at = elim either [
     | inl on ↦ goes s s' who phase r reg is none (ap (λ (x : Report). x.outcome) at ∙ on ∙ ap (λ (x : Participant J). outcome_at x.phase) (sym (ap (λ (x : State T J). place x who) to ∙ there))) (ap (λ (x : Report). x.called) at ∙ quiet) (st on ∙ sym to)
-    | inr lack ↦ goes_without s s' who phase r reg is none needs (at ∙ ap (λ (x : Outcome). record { called = None; outcome = x }) lack) (full lack)
+    | inr lack ↦ goes_without s s' who phase r reg is none needs (full lack).0 (at ∙ ap (λ (x : Outcome). record { called = None; outcome = x }) lack) (full lack).1
   ]

@@ -121,3 +121,7 @@ module _ {T J : Type 0} where
     queued = bags;
     once = once_put h h' s who p epoch' next' waiting' queue' store' in_table f.once carries;
   }
+
+  -- how much room the queue has is nothing to the history
+  pub fits_room : (h : List Mark) (s : State T J) (room : ℕ) → Fits h s → Fits h (record s { room = room })
+  fits_room h s room f = record { graceful = f.graceful; later = f.later; wait = f.wait; places = f.places; queued = f.queued; once = record { each = f.once.each; tickets = f.once.tickets; count = f.once.count } }

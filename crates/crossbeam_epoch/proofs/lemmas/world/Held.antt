@@ -16,6 +16,7 @@ use Rattle.crossbeam_epoch.specs.declared.bag.Sealed.{Sealed}
 use Rattle.crossbeam_epoch.specs.World.Machine.{State, is_due, took, taken, no_bag, no_entry, called, called_one, after_call, after_work, destroys, place, blank, with_place, in_phase, advanced, deferred, deferred_anew, after_deferral}
 use Rattle.crossbeam_epoch.specs.World.Steps.{called_by, called_entry, quiet_fault, or_count, defer_fault}
 use Rattle.crossbeam_epoch.specs.World.Tickets.{TicketCount}
+use Rattle.crossbeam_epoch.specs.Chain.{room_behind, room_left}
 
 is_below : (a b : ℕ) → a < b → nat_lt a b ≡ true
 is_below a b lt = grind (arith, nat_tests)
@@ -70,18 +71,23 @@ module _ {T J : Type 0} where
   placed_at s v who x old f is lt read made = ap (λ (y : State T J). with_place y who x) is ∙ ap (λ (p : Participant J). with_place s who p) (made ∙ ap f (held s v who old is lt read))
 
   -- the same, where the queue has new room
-  pub placed_beside : (s v : State T J) (who : ℕ) (x old : Participant J) (f : Participant J → Participant J) (queue : List (Sealed J)) → v ≡ s → who < length s.table → old ≡ get_or v.table who old → x ≡ f old → queue ≡ v.queue → record v { table = slice_set v.table who x; queue = queue } ≡ with_place s who (f (place s who))
-  placed_beside s v who x old f queue is lt read made same = ap (λ q. record v { table = slice_set v.table who x; queue = q }) same ∙ placed_at s v who x old f is lt read made
+  pub placed_beside : (s v : State T J) (who : ℕ) (x old : Participant J) (f : Participant J → Participant J) (queue : List (Sealed J)) (room : ℕ) → v ≡ s → who < length s.table → old ≡ get_or v.table who old → x ≡ f old → queue ≡ v.queue → room ≡ v.room
+      → record v { table = slice_set v.table who x; queue = queue; room = room } ≡ with_place s who (f (place s who))
+  placed_beside s v who x old f queue room is lt read made same free =
+      ap (λ q. record v { table = slice_set v.table who x; queue = q; room = room }) same
+      ∙ ap (λ r. record v { table = slice_set v.table who x; room = r }) free
+      ∙ placed_at s v who x old f is lt read made
 
   -- a bag is queued under a seal, and its place made another
-  pub queued_at : (s v : State T J) (who seal : ℕ) (x old : Participant J) (f : Participant J → Participant J) (queue : List (Sealed J)) → v ≡ s → who < length s.table → old ≡ get_or v.table who old → x ≡ f old → queue ≡ v.queue ++ record { seal = seal; jobs = old.bag } ∷ []
-      → record v { table = slice_set v.table who x; queue = queue } ≡ record s { table = slice_set s.table who (f (place s who)); queue = s.queue ++ record { seal = seal; jobs = (place s who).bag } ∷ [] }
-  queued_at s v who seal x old f queue is lt read made queued =
+  pub queued_at : (s v : State T J) (who seal : ℕ) (x old : Participant J) (f : Participant J → Participant J) (queue : List (Sealed J)) (room : ℕ) → v ≡ s → who < length s.table → old ≡ get_or v.table who old → x ≡ f old → queue ≡ v.queue ++ record { seal = seal; jobs = old.bag } ∷ [] → room ≡ room_behind v.room
+      → record v { table = slice_set v.table who x; queue = queue; room = room } ≡ record s { table = slice_set s.table who (f (place s who)); queue = s.queue ++ record { seal = seal; jobs = (place s who).bag } ∷ []; room = room_behind s.room }
+  queued_at s v who seal x old f queue room is lt read made queued behind =
       let at : old ≡ place s who = held s v who old is lt read in
-      ap (λ q. record v { table = slice_set v.table who x; queue = q }) queued
-      ∙ ap (λ (y : State T J). record y { table = slice_set y.table who x; queue = y.queue ++ record { seal = seal; jobs = old.bag } ∷ [] }) is
-      ∙ ap (λ (p : Participant J). record s { table = slice_set s.table who x; queue = s.queue ++ record { seal = seal; jobs = p.bag } ∷ [] }) at
-      ∙ ap (λ (p : Participant J). record s { table = slice_set s.table who p; queue = s.queue ++ record { seal = seal; jobs = (place s who).bag } ∷ [] }) (made ∙ ap f at)
+      ap (λ r. record v { table = slice_set v.table who x; queue = queue; room = r }) behind
+      ∙ ap (λ q. record v { table = slice_set v.table who x; queue = q; room = room_behind v.room }) queued
+      ∙ ap (λ (y : State T J). record y { table = slice_set y.table who x; queue = y.queue ++ record { seal = seal; jobs = old.bag } ∷ []; room = room_behind y.room }) is
+      ∙ ap (λ (p : Participant J). record s { table = slice_set s.table who x; queue = s.queue ++ record { seal = seal; jobs = p.bag } ∷ []; room = room_behind s.room }) at
+      ∙ ap (λ (p : Participant J). record s { table = slice_set s.table who p; queue = s.queue ++ record { seal = seal; jobs = (place s who).bag } ∷ []; room = room_behind s.room }) (made ∙ ap f at)
 
   -- what stands at a place that was written
   pub written_at : (s v : State T J) (who : ℕ) (x : Participant J) → v ≡ s → who < length s.table → get_or (slice_set v.table who x) who blank ≡ x
@@ -123,18 +129,19 @@ module _ {T J : Type 0} where
       )
 
   -- the front bag is taken
-  pub took_first : (s v : State T J) (who answered bags : ℕ) (x old : Participant J) (b : Sealed J) (queue : List (Sealed J)) → v ≡ s → who < length s.table → old ≡ get_or v.table who old → v.queue ≡ b ∷ queue
-      → x ≡ record old { hand = b.jobs; phase = Call answered (bags + 1) b.seal } → is_due s answered ≡ true → bags < 8 → record v { table = slice_set v.table who x; queue = queue } ≡ took s who answered bags
-  took_first s v who answered bags x old b queue is lt read popped made due few =
+  pub took_first : (s v : State T J) (who answered bags : ℕ) (x old : Participant J) (b : Sealed J) (queue : List (Sealed J)) (room : ℕ) → v ≡ s → who < length s.table → old ≡ get_or v.table who old → v.queue ≡ b ∷ queue → room ≡ room_left (length queue) v.room
+      → x ≡ record old { hand = b.jobs; phase = Call answered (bags + 1) b.seal } → is_due s answered ≡ true → bags < 8 → record v { table = slice_set v.table who x; queue = queue; room = room } ≡ took s who answered bags
+  took_first s v who answered bags x old b queue room is lt read popped freed made due few =
       let front : b ≡ get_or v.queue 0 no_bag = sym (ap (λ (q : List (Sealed J)). get_or q 0 no_bag) popped) in
       let rest : queue ≡ drop 1 v.queue = sym (ap (λ (q : List (Sealed J)). drop 1 q) popped) in
-      let room : nat_lt bags 8 ≡ true = is_below bags 8 few in
-      ap (λ q. record v { table = slice_set v.table who x; queue = q }) rest
-      ∙ ap (λ (p : Participant J). record v { table = slice_set v.table who p; queue = drop 1 v.queue }) made
-      ∙ ap (λ (y : Sealed J). record v { table = slice_set v.table who (record old { hand = y.jobs; phase = Call answered (bags + 1) y.seal }); queue = drop 1 v.queue }) front
-      ∙ ap (λ (y : State T J). record y { table = slice_set y.table who (record old { hand = (get_or y.queue 0 no_bag).jobs; phase = Call answered (bags + 1) (get_or y.queue 0 no_bag).seal }); queue = drop 1 y.queue }) is
-      ∙ ap (λ (p : Participant J). record s { table = slice_set s.table who (record p { hand = (get_or s.queue 0 no_bag).jobs; phase = Call answered (bags + 1) (get_or s.queue 0 no_bag).seal }); queue = drop 1 s.queue }) (held s v who old is lt read)
-      ∙ sym (ap (λ d. if d && nat_lt bags 8 then taken s who answered bags else in_phase s who Idle) due ∙ ap (λ d. if d then taken s who answered bags else in_phase s who Idle) room)
+      let below : nat_lt bags 8 ≡ true = is_below bags 8 few in
+      ap (λ r. record v { table = slice_set v.table who x; queue = queue; room = r }) freed
+      ∙ ap (λ q. record v { table = slice_set v.table who x; queue = q; room = room_left (length q) v.room }) rest
+      ∙ ap (λ (p : Participant J). record v { table = slice_set v.table who p; queue = drop 1 v.queue; room = room_left (length (drop 1 v.queue)) v.room }) made
+      ∙ ap (λ (y : Sealed J). record v { table = slice_set v.table who (record old { hand = y.jobs; phase = Call answered (bags + 1) y.seal }); queue = drop 1 v.queue; room = room_left (length (drop 1 v.queue)) v.room }) front
+      ∙ ap (λ (y : State T J). record y { table = slice_set y.table who (record old { hand = (get_or y.queue 0 no_bag).jobs; phase = Call answered (bags + 1) (get_or y.queue 0 no_bag).seal }); queue = drop 1 y.queue; room = room_left (length (drop 1 y.queue)) y.room }) is
+      ∙ ap (λ (p : Participant J). record s { table = slice_set s.table who (record p { hand = (get_or s.queue 0 no_bag).jobs; phase = Call answered (bags + 1) (get_or s.queue 0 no_bag).seal }); queue = drop 1 s.queue; room = room_left (length (drop 1 s.queue)) s.room }) (held s v who old is lt read)
+      ∙ sym (ap (λ d. if d && nat_lt bags 8 then taken s who answered bags else in_phase s who Idle) due ∙ ap (λ d. if d then taken s who answered bags else in_phase s who Idle) below)
 
   -- the epoch is set, or is the last one
   pub advanced_at : (s v : State T J) (who seen : ℕ) (x old : Participant J) → v ≡ s → who < length s.table → old ≡ get_or v.table who old → x ≡ record old { phase = Take (seen + 1) 0 } → seen < v.limits.epoch_max → record v { epoch = seen + 1; table = slice_set v.table who x } ≡ advanced s who seen
@@ -158,16 +165,17 @@ module _ {T J : Type 0} where
       ∙ ap (λ t. record (place s who) { bag = (place s who).bag ++ record { ticket = t; work = work } ∷ [] }) (number ∙ ap (λ (y : State T J). y.next) is))
 
   -- a job in a new bag; the old one is queued
-  pub anew_at : (s v : State T J) (who : ℕ) (x old : Participant J) (work : Work J) (ticket : ℕ) (given : TicketCount) (queue : List (Sealed J)) → v ≡ s → who < length s.table → old ≡ get_or v.table who old → ticket ≡ v.next → given ≡ record { next = v.next + 1; waiting = v.waiting + 1 }
-      → x ≡ record old { bag = record { ticket = ticket; work = work } ∷ [] } → queue ≡ v.queue ++ record { seal = v.epoch; jobs = old.bag } ∷ []
-      → record v { table = slice_set v.table who x; queue = queue; next = given.next; waiting = given.waiting } ≡ deferred_anew s who work
-  anew_at s v who x old work ticket given queue is lt read number counts made queued =
+  pub anew_at : (s v : State T J) (who : ℕ) (x old : Participant J) (work : Work J) (ticket : ℕ) (given : TicketCount) (queue : List (Sealed J)) (room : ℕ) → v ≡ s → who < length s.table → old ≡ get_or v.table who old → ticket ≡ v.next → given ≡ record { next = v.next + 1; waiting = v.waiting + 1 }
+      → x ≡ record old { bag = record { ticket = ticket; work = work } ∷ [] } → queue ≡ v.queue ++ record { seal = v.epoch; jobs = old.bag } ∷ [] → room ≡ room_behind v.room
+      → record v { table = slice_set v.table who x; queue = queue; room = room; next = given.next; waiting = given.waiting } ≡ deferred_anew s who work
+  anew_at s v who x old work ticket given queue room is lt read number counts made queued behind =
       let at : old ≡ place s who = held s v who old is lt read in
-      ap (λ (y : TicketCount). record v { table = slice_set v.table who x; queue = queue; next = y.next; waiting = y.waiting }) counts
-      ∙ ap (λ q. record v { table = slice_set v.table who x; queue = q; next = v.next + 1; waiting = v.waiting + 1 }) queued
-      ∙ ap (λ (y : State T J). record y { table = slice_set y.table who x; queue = y.queue ++ record { seal = y.epoch; jobs = old.bag } ∷ []; next = y.next + 1; waiting = y.waiting + 1 }) is
-      ∙ ap (λ (p : Participant J). record s { table = slice_set s.table who x; queue = s.queue ++ record { seal = s.epoch; jobs = p.bag } ∷ []; next = s.next + 1; waiting = s.waiting + 1 }) at
-      ∙ ap (λ (p : Participant J). record s { table = slice_set s.table who p; queue = s.queue ++ record { seal = s.epoch; jobs = (place s who).bag } ∷ []; next = s.next + 1; waiting = s.waiting + 1 })
+      ap (λ (y : TicketCount). record v { table = slice_set v.table who x; queue = queue; room = room; next = y.next; waiting = y.waiting }) counts
+      ∙ ap (λ r. record v { table = slice_set v.table who x; queue = queue; room = r; next = v.next + 1; waiting = v.waiting + 1 }) behind
+      ∙ ap (λ q. record v { table = slice_set v.table who x; queue = q; room = room_behind v.room; next = v.next + 1; waiting = v.waiting + 1 }) queued
+      ∙ ap (λ (y : State T J). record y { table = slice_set y.table who x; queue = y.queue ++ record { seal = y.epoch; jobs = old.bag } ∷ []; room = room_behind y.room; next = y.next + 1; waiting = y.waiting + 1 }) is
+      ∙ ap (λ (p : Participant J). record s { table = slice_set s.table who x; queue = s.queue ++ record { seal = s.epoch; jobs = p.bag } ∷ []; room = room_behind s.room; next = s.next + 1; waiting = s.waiting + 1 }) at
+      ∙ ap (λ (p : Participant J). record s { table = slice_set s.table who p; queue = s.queue ++ record { seal = s.epoch; jobs = (place s who).bag } ∷ []; room = room_behind s.room; next = s.next + 1; waiting = s.waiting + 1 })
       (made ∙ ap (λ (p : Participant J). record p { bag = record { ticket = ticket; work = work } ∷ [] }) at
       ∙ ap (λ t. record (place s who) { bag = record { ticket = t; work = work } ∷ [] }) (number ∙ ap (λ (y : State T J). y.next) is))
 

@@ -12,12 +12,13 @@ use Rattle.crossbeam_epoch.specs.declared.names.Name.{Name}
 use Rattle.crossbeam_epoch.specs.declared.bag.Sealed.{Sealed}
 use Rattle.crossbeam_epoch.specs.declared.world.participant.Phase.TheVariants.{Idle, Take, Call}
 use Rattle.crossbeam_epoch.specs.World.History.{Mark, Pinned, Repinned, Unpinned, Deferred, Called, began, blocks, deferrals}
+use Rattle.crossbeam_epoch.specs.Chain.{room_behind}
 use Rattle.crossbeam_epoch.specs.World.Machine.{State, place, blank, in_phase, after_call, called, called_one, no_entry, destroys, after_work, name_of, deferred, deferred_anew, after_deferral}
 use Rattle.crossbeam_epoch.specs.World.Store.{Store, value_at}
 use Rattle.crossbeam_epoch.specs.World.Steps.{called_by}
 use Rattle.crossbeam_epoch.specs.World.Fits.{Fits, InPhase, IsSealed, AreAccepted, Began, HandFits, at_place, in_bag, has_ticket, one}
 use Rattle.crossbeam_epoch.proofs.lemmas.world.Marks.{goes_deferred, goes_called}
-use Rattle.crossbeam_epoch.proofs.lemmas.world.Grace.{accepted_goes, sealed_goes, fits_put}
+use Rattle.crossbeam_epoch.proofs.lemmas.world.Grace.{accepted_goes, sealed_goes, fits_put, fits_room}
 use Rattle.crossbeam_epoch.proofs.lemmas.world.Moves.{top_now, top_goes, queue_goes, queue_push, sealed_now, fits_idle, contains_tail, none_in_hand, none_accepted}
 
 began_over : (c x : Bool) (a y : Option ℕ) → (if c then false else x) ≡ true → (x ≡ true → Began y) → Began (if c then a else y)
@@ -182,6 +183,7 @@ module _ {T J : Type 0} where
       let h' = Deferred s.next (name_of work) ∷ h in
       let g = goes_deferred h s.epoch s.next who (name_of work) in
       let phase : InPhase h' s.epoch (s.next + 1) (length s.table) who (entry ∷ []) old.hand old.phase = rw is tt in
+      fits_room h' _ (room_behind s.room) (
       fits_put h h' s who p s.epoch (s.next + 1) (s.waiting + 1) (s.queue ++ b ∷ []) s.store in_table f g f.graceful f.later (omega arith) (omega arith) (top_goes h h' s who f g)
       (record { bounds = (f.places who).bounds; phase = phase; accepted = accepted_push h s.next [] work (none_accepted h s.next); spare = (f.places who).spare })
       (queue_push h' (s.next + 1) s.queue b (queue_goes h h' s who (s.next + 1) f g (omega arith))
@@ -190,7 +192,7 @@ module _ {T J : Type 0} where
         each = λ t. omega (arith, sum_by-append (in_bag (has_ticket t)) s.queue (b ∷ []));
         tickets = λ t. next_ticket s.next t (deferrals h t) (f.once.tickets t);
         count = omega (arith, sum_by-append (in_bag one) s.queue (b ∷ []));
-      })
+      }))
 
   by_full : (h : List Mark) (s : State T J) (who : ℕ) (work : Work J) (b : Bool) → who < length s.table → (place s who).phase ≡ Idle → Fits h s
       → Fits (Deferred s.next (name_of work) ∷ h) (if b then deferred_anew s who work else deferred s who work)

@@ -352,7 +352,7 @@ module _ {T J : Type 0} where
       absurd (no_such_fault (place s who).registered (place s who).phase (place s who) (is ∙ sym same))
   no_memory f n s who None is o a =
       let k = known (place s who).registered (event_fault Go (place s who).phase (place s who)) is in
-      gives_up f n s who (needs_memory Go (place s who).phase) (in_table s who k.0) o a
+      gives_up f n s who (needs_memory Go (place s who).phase) (in_table s who k.0) o.0 a
 
   refused_go : (f : Option Flight) (n : ℕ) (s : State T J) (who : ℕ) (e : Option Fault) (x : Fault) → fault s who Go ≡ e → IsOutcome s who Go e (Refused x) → AgreesAt f n (place s who)
       → Turns (flight_after Go (Refused x) f) n s who (after s who Go (Refused x))

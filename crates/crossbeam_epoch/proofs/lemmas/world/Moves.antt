@@ -13,10 +13,11 @@ use Rattle.crossbeam_epoch.specs.declared.bag.Sealed.{Sealed}
 use Rattle.crossbeam_epoch.specs.declared.world.participant.Phase.{Phase}
 use Rattle.crossbeam_epoch.specs.declared.world.participant.Phase.TheVariants.{Idle, Look, Publish, RepinLook, RepinPublish, Seal, Queue, ReleaseSeal, ReleaseQueue, Secure, SecureSeal, SecureQueue, Load, Inspect, Advance, Take, Call}
 use Rattle.crossbeam_epoch.specs.World.History.{Mark, Pinned, Repinned, Unpinned, began, times_called, deferrals}
+use Rattle.crossbeam_epoch.specs.Chain.{room_behind, room_left}
 use Rattle.crossbeam_epoch.specs.World.Machine.{State, place, blank, with_place, in_phase, published, is_at, relooked, repinned, secured, has_free, advanced, queued, released, ends_advance, inspected, is_due, no_bag, taken, took}
 use Rattle.crossbeam_epoch.specs.World.Fits.{Fits, FitsAt, InPhase, IsSealed, IsCollecting, AreAccepted, Bounds, Began, Once, HandFits, at_place, in_bag, has_ticket, one}
 use Rattle.crossbeam_epoch.proofs.lemmas.world.Marks.{Goes, goes_none, goes_pinned, goes_repinned, goes_unpinned}
-use Rattle.crossbeam_epoch.proofs.lemmas.world.Grace.{bounds_later, bounds_top, accepted_goes, sealed_goes, Carries, fits_put}
+use Rattle.crossbeam_epoch.proofs.lemmas.world.Grace.{bounds_later, bounds_top, accepted_goes, sealed_goes, Carries, fits_put, fits_room}
 
 bounds_none : (b : Option ℕ) (n : ℕ) → Bounds b None n → b ≡ None
 bounds_none None n o = refl
@@ -322,20 +323,22 @@ module _ {T J : Type 0} where
       let p = record old { bag = []; phase = phase } in
       let b : Sealed J = record { seal = seal; jobs = old.bag } in
       let g = goes_none h s.epoch s.next who in
+      fits_room h _ (room_behind s.room) (
       fits_put h h s who p s.epoch s.next s.waiting (s.queue ++ b ∷ []) s.store in_table f g f.graceful f.later (omega arith) (omega arith) (top_goes h h s who f g)
       (record { bounds = (f.places who).bounds; phase = i; accepted = none_accepted h s.next; spare = none_in_hand phase old.hand none })
       (queue_push h s.next s.queue b f.queued sealed)
-      (carries_move h s who p (s.queue ++ b ∷ []) f.once (λ w. omega (arith, sum_by-append (in_bag w) s.queue (b ∷ []))))
+      (carries_move h s who p (s.queue ++ b ∷ []) f.once (λ w. omega (arith, sum_by-append (in_bag w) s.queue (b ∷ [])))))
 
   pub fits_left : (h : List Mark) (s : State T J) (who seal : ℕ) → who < length s.table → (place s who).hand ≡ [] → began h who ≡ None → IsSealed h s.next (place s who).bag seal → Fits h s → Fits h (released s who seal)
   fits_left h s who seal in_table none ended sealed f =
       let old = place s who in
       let b : Sealed J = record { seal = seal; jobs = old.bag } in
       let g = goes_none h s.epoch s.next who in
+      fits_room h _ (room_behind s.room) (
       fits_put h h s who blank s.epoch s.next s.waiting (s.queue ++ b ∷ []) s.store in_table f g f.graceful f.later (omega arith) (omega arith) (top_goes h h s who f g)
       (record { bounds = rw ended tt; phase = tt; accepted = none_accepted h s.next; spare = refl })
       (queue_push h s.next s.queue b f.queued sealed)
-      (carries_move h s who blank (s.queue ++ b ∷ []) f.once (λ w. let e : sum_by w old.hand ≡ 0 = ap (sum_by w) none in omega (arith, e, sum_by-append (in_bag w) s.queue (b ∷ []))))
+      (carries_move h s who blank (s.queue ++ b ∷ []) f.once (λ w. let e : sum_by w old.hand ≡ 0 = ap (sum_by w) none in omega (arith, e, sum_by-append (in_bag w) s.queue (b ∷ [])))))
 
   -- a participant without jobs leaves
   pub fits_gone : (h : List Mark) (s : State T J) (who : ℕ) → who < length s.table → (place s who).hand ≡ [] → (place s who).bag ≡ [] → began h who ≡ None → Fits h s → Fits h (with_place s who blank)
@@ -357,13 +360,14 @@ module _ {T J : Type 0} where
       let old = front.1 in
       let wait = f.wait in
       let g = goes_none h s.epoch s.next who in
+      fits_room h _ (room_left (length (drop 1 s.queue)) s.room) (
       fits_put h h s who p s.epoch s.next s.waiting (drop 1 s.queue) s.store in_table f g f.graceful f.later (omega arith) (omega arith) (top_goes h h s who f g)
       (record { bounds = (f.places who).bounds; phase = (past, omega arith, f.queued b (Contains-get_or s.queue 0 no_bag some)); accepted = (f.places who).accepted; spare = tt })
       (λ c m. f.queued c (contains_drop s.queue c m))
       (carries_move h s who p (drop 1 s.queue) f.once (λ w.
       let rest = first_and_rest (in_bag w) s.queue some in
       let e : sum_by w (place s who).hand ≡ 0 = ap (sum_by w) none in
-      omega arith))
+      omega arith)))
 
   by_due : (h : List Mark) (s : State T J) (who answered bags : ℕ) (due : Bool) → who < length s.table → (place s who).phase ≡ Take answered bags → (is_due s answered && nat_lt bags 8) ≡ due → Fits h s
       → Fits h (if due then taken s who answered bags else in_phase s who Idle)

@@ -26,10 +26,11 @@ use Rattle.crossbeam_epoch.specs.declared.world.report.Outcome.{Outcome}
 use Rattle.crossbeam_epoch.specs.declared.world.report.Outcome.TheVariants.{Running, Done, Refused}
 use Rattle.crossbeam_epoch.specs.declared.world.report.Report.{Report}
 use Rattle.crossbeam_epoch.specs.World.Fits.{HandFits, at_place, in_bag, weight}
+use Rattle.crossbeam_epoch.specs.Chain.{room_behind, room_left}
 use Rattle.crossbeam_epoch.specs.World.Machine.{State, place, blank, with_place, in_phase, published, relooked, repinned, secured, queued, released, inspection, is_due, no_bag, taken, after_call, called_one, no_entry, destroys, after_work, opened, registered, deferred, deferred_anew, after_deferral}
 use Rattle.crossbeam_epoch.specs.World.Steps.{fault, event_fault, begun, gone, moved, needs_memory, after, quiet_fault, or_count, defer_fault, called_entry, called_by, called_in, IsOutcome, IsReport}
 use Rattle.crossbeam_epoch.specs.World.Store.{Store, value_at, emptied}
-use Rattle.crossbeam_epoch.specs.World.Progress.{Orderly, JobsAfter, EmptiesAt, Empties, Moves, KeepsCalls, IsResting, collects}
+use Rattle.crossbeam_epoch.specs.World.Progress.{Orderly, JobsAfter, EmptiesAt, Empties, Moves, KeepsCalls, IsOn, IsResting, collects}
 use Rattle.crossbeam_epoch.proofs.lemmas.world.Moves.{none_in, contains_tail, none_in_hand}
 use Rattle.crossbeam_epoch.proofs.lemmas.world.Runs.{in_table, known, begin_idle, blank_at, blanks_weigh_none}
 
@@ -156,20 +157,35 @@ module _ {T J : Type 0} where
   nothing : (s : State T J) (who : ℕ) → Orderly s → Moves s who None s
   nothing s who o = record { orderly = o; jobs = (refl, refl, λ f. refl); cells = refl; roots = refl; limits = refl; table = refl; others = λ q ne. refl; next = refl }
 
+  -- how much room the queue has is nothing to the jobs
+  moves_room : (s s' : State T J) (who room : ℕ) → Moves s who None s' → Moves s who None (record s' { room = room })
+  moves_room s s' who room m = record {
+    orderly = record { hands = m.orderly.hands; bags = m.orderly.bags; held = m.orderly.held; sealed = m.orderly.sealed };
+    jobs = m.jobs;
+    cells = m.cells;
+    roots = m.roots;
+    limits = m.limits;
+    table = m.table;
+    others = m.others;
+    next = m.next;
+  }
+
   moves_queued : (s : State T J) (who seal : ℕ) (phase : Phase) → who < length s.table → Orderly s → (place s who).hand ≡ [] → Moves s who None (queued s who seal phase)
   moves_queued s who seal phase lt o none =
       let old = place s who in
       let b : Sealed J = record { seal = seal; jobs = old.bag } in
       let p = record old { bag = []; phase = phase } in
+      moves_room s _ who (room_behind s.room) (
       moves_put s who p s.epoch s.waiting (s.queue ++ b ∷ []) s.store None lt o (none_in_hand phase old.hand none) (omega arith) (o.held who) (small_push s.queue b o.sealed (o.bags who))
-      (stands s who p s.epoch (s.queue ++ b ∷ []) lt (λ w. omega (arith, sum_by-append (in_bag w) s.queue (b ∷ []))))
+      (stands s who p s.epoch (s.queue ++ b ∷ []) lt (λ w. omega (arith, sum_by-append (in_bag w) s.queue (b ∷ [])))))
 
   moves_left : (s : State T J) (who seal : ℕ) → who < length s.table → Orderly s → (place s who).hand ≡ [] → Moves s who None (released s who seal)
   moves_left s who seal lt o none =
       let old = place s who in
       let b : Sealed J = record { seal = seal; jobs = old.bag } in
+      moves_room s _ who (room_behind s.room) (
       moves_put s who blank s.epoch s.waiting (s.queue ++ b ∷ []) s.store None lt o refl (omega arith) (omega arith) (small_push s.queue b o.sealed (o.bags who))
-      (stands s who blank s.epoch (s.queue ++ b ∷ []) lt (λ w. let e : sum_by w old.hand ≡ 0 = ap (sum_by w) none in omega (arith, e, sum_by-append (in_bag w) s.queue (b ∷ []))))
+      (stands s who blank s.epoch (s.queue ++ b ∷ []) lt (λ w. let e : sum_by w old.hand ≡ 0 = ap (sum_by w) none in omega (arith, e, sum_by-append (in_bag w) s.queue (b ∷ [])))))
 
   moves_gone : (s : State T J) (who : ℕ) → who < length s.table → Orderly s → (place s who).hand ≡ [] → (place s who).bag ≡ [] → Moves s who None (with_place s who blank)
   moves_gone s who lt o none empty = stays s who blank s.epoch lt o refl (sym empty) (sym none)
@@ -188,11 +204,12 @@ module _ {T J : Type 0} where
       let b = slice_index_or s.queue 0 no_bag in
       let p = record (place s who) { hand = b.jobs; phase = Call answered (bags + 1) b.seal } in
       let some = due_front s answered bags due in
+      moves_room s _ who (room_left (length (drop 1 s.queue)) s.room) (
       moves_put s who p s.epoch s.waiting (drop 1 s.queue) s.store None lt o tt (o.bags who) (o.sealed b (Contains-get_or s.queue 0 no_bag some)) (λ c m. o.sealed c (contains_drop s.queue c m))
       (stands s who p s.epoch (drop 1 s.queue) lt (λ w.
       let rest = front_bag (in_bag w) s.queue some in
       let e : sum_by w (place s who).hand ≡ 0 = ap (sum_by w) none in
-      omega arith))
+      omega arith)))
   moves_took s who answered bags false lt o none due = phase_only s who Idle lt o none
 
   moves_called : (s : State T J) (who answered bags seal : ℕ) (b : Bool) → who < length s.table → Orderly s → (length (place s who).hand == 0) ≡ b
@@ -352,15 +369,27 @@ module _ {T J : Type 0} where
     idle = λ q. rw (blank_at limits.participants q) refl;
   }
 
-  kept : (s s' : State T J) (who : ℕ) → Moves s who None s' → (place s' who).phase ≡ (place s who).phase → KeepsCalls s s' (λ f. 0)
-  kept s s' who m same = record {
+  kept : (s s' : State T J) (who : ℕ) → Moves s who None s' → (place s' who).phase ≡ (place s who).phase → ((op : Op) → IsOn op (place s who) → IsOn op (place s' who)) → KeepsCalls s s' (λ f. 0)
+  kept s s' who m same on = record {
     orderly = m.orderly;
     phases = λ q. elim (cases_eq q who) [
       | inl is ↦ rw is same
       | inr ne ↦ ap (λ (p : Participant J). p.phase) (m.others q ne)
     ];
+    on = λ q op i. elim (cases_eq q who) [
+      | inl is ↦ subst (λ (x : ℕ). IsOn op (place s' x)) (sym is) (on op (subst (λ (x : ℕ). IsOn op (place s x)) is i))
+      | inr ne ↦ subst (λ (p : Participant J). IsOn op p) (sym (m.others q ne)) i
+    ];
     jobs = λ f. let e = m.jobs.2 f in omega (arith, e);
+    store = m.cells;
   }
+
+  -- where a place changes and neither its call nor whether it is held, calls in flight stay so
+  stays_on : (s s' : State T J) (who : ℕ) (p : Participant J) → s'.table ≡ slice_set s.table who p → who < length s.table → ((op : Op) → IsOn op (place s who) → IsOn op p) → (q : ℕ) (op : Op) → IsOn op (place s q) → IsOn op (place s' q)
+  stays_on s s' who p table lt on q op i = elim (cases_eq q who) [
+    | inl is ↦ rw (table, is, get_or-set_same s.table who p blank lt) (on op (subst (λ (x : ℕ). IsOn op (place s x)) is i))
+    | inr ne ↦ rw (table, get_or-set_other s.table who q p blank ne) i
+  ]
 
   -- cells and roots may change
   pub orderly_beside : (s s' : State T J) → s'.table ≡ s.table → s'.queue ≡ s.queue → Orderly s → Orderly s'
@@ -375,6 +404,7 @@ module _ {T J : Type 0} where
   registered_keeps s n lt o =
       let p = record (place s n) { registered = true; pins = 0 } in
       kept s (registered s n) n (stays s n p s.epoch lt o (o.hands n) refl refl) (ap (λ (x : Participant J). x.phase) (get_or-set_same s.table n p blank lt))
+      (λ op i. subst (λ (x : Participant J). IsOn op x) (sym (get_or-set_same s.table n p blank lt)) (refl, i.1))
 
   pub deferred_keeps : (s : State T J) (who : ℕ) (work : Work J) → who < length s.table → length (place s who).bag < 64 → Orderly s → KeepsCalls s (deferred s who work) (λ f. f (record { ticket = s.next; work = work }))
   deferred_keeps s who work lt room o =
@@ -401,9 +431,11 @@ module _ {T J : Type 0} where
           | inl is ↦ rw is (ap (λ (x : Participant J). x.phase) (get_or-set_same s.table who p blank lt))
           | inr ne ↦ ap (λ (x : Participant J). x.phase) (get_or-set_other s.table who q p blank ne)
         ];
+        on = stays_on s (deferred s who work) who p refl lt (λ op i. i);
         jobs = λ f.
             let set = sum_by-set (at_place f) s.table who p blank lt in
             omega (arith, set, sum_by-append f old.bag (entry ∷ []));
+        store = refl;
       }
 
   -- a full bag is queued, and the job goes into an empty one
@@ -433,9 +465,11 @@ module _ {T J : Type 0} where
           | inl is ↦ rw is (ap (λ (x : Participant J). x.phase) (get_or-set_same s.table who p blank lt))
           | inr ne ↦ ap (λ (x : Participant J). x.phase) (get_or-set_other s.table who q p blank ne)
         ];
+        on = stays_on s (deferred_anew s who work) who p refl lt (λ op i. i);
         jobs = λ f.
             let set = sum_by-set (at_place f) s.table who p blank lt in
             omega (arith, set, sum_by-append (in_bag f) s.queue (bag ∷ []));
+        store = refl;
       }
 
   by_full : (s : State T J) (who : ℕ) (work : Work J) (b : Bool) → (length (place s who).bag == 64) ≡ b → who < length s.table → Orderly s

@@ -26,6 +26,7 @@ use Rattle.crossbeam_epoch.specs.declared.world.report.Report.{Report}
 use Rattle.crossbeam_epoch.specs.declared.world.report.Step.{Step}
 use Rattle.crossbeam_epoch.specs.World.Fits.{Fits}
 use Rattle.crossbeam_epoch.specs.World.History.{Mark}
+use Rattle.crossbeam_epoch.specs.Chain.{room_behind}
 use Rattle.crossbeam_epoch.specs.World.Machine.{State, place, blank, with_place, in_phase, published, is_at, relooked, repinned, has_free, secured, inspection, ends_advance, is_due, taken, after_call, called_one, opened, registered, deferred, deferred_anew, after_deferral}
 use Rattle.crossbeam_epoch.specs.World.Steps.{fault, event_fault, begin_fault, when, begun, gone, moved, needs_memory, after, marks, state_after, AreReports, defer_fault, or_count, quiet_fault, IsOutcome, IsReport}
 use Rattle.crossbeam_epoch.specs.World.Store.{Store}
@@ -151,9 +152,9 @@ module _ {T J : Type 0} where
   stay s who p lt i here = put s (with_place s who p) who p refl (omega arith) lt i here i.filled i.past
 
   queues_bag : (s : State T J) (who seal : ℕ) (p : Participant J) (bag : List (Entry J)) → who < length s.table → IsSealing s → SealsAt s.epoch (length p.bag) p.phase → 0 < length bag → seal ≤ s.epoch
-      → IsSealing (record s { table = slice_set s.table who p; queue = s.queue ++ record { seal = seal; jobs = bag } ∷ [] })
+      → IsSealing (record s { table = slice_set s.table who p; queue = s.queue ++ record { seal = seal; jobs = bag } ∷ []; room = room_behind s.room })
   queues_bag s who seal p bag lt i here some le =
-      put s (record s { table = slice_set s.table who p; queue = s.queue ++ record { seal = seal; jobs = bag } ∷ [] }) who p refl (omega arith) lt i here
+      put s (record s { table = slice_set s.table who p; queue = s.queue ++ record { seal = seal; jobs = bag } ∷ []; room = room_behind s.room }) who p refl (omega arith) lt i here
       (push_filled s.queue (record { seal = seal; jobs = bag }) i.filled some) (push_past s.queue (record { seal = seal; jobs = bag }) s.epoch i.past le)
 
   advances : (s : State T J) (who seen : ℕ) (b : Bool) → who < length s.table → s.epoch ≤ seen + 1 → IsSealing s → IsSealing (if b then record (in_phase s who (Take (seen + 1) 0)) { epoch = seen + 1 } else in_phase s who (Take seen 0))

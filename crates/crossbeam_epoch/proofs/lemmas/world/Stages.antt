@@ -441,7 +441,7 @@ module _ {T J : Type 0} where
   by_outcome : (s : State T J) (who : ℕ) (op : Op) (outcome : Outcome) → Orderly s → IsOn op (place s who) → IsOutcome s who Go None outcome → GoesOn s who op outcome (after s who Go outcome)
   by_outcome s who op Running o on is = landed_on s who op (place s who).phase (gone s who (place s who).phase) refl (going_lands s who op (place s who).phase (in_table s who on.0) o on.0 on.1) is (still s who (place s who).phase (in_table s who on.0) is)
   by_outcome s who op Done o on is = landed_done s who op (place s who).phase (gone s who (place s who).phase) (going_lands s who op (place s who).phase (in_table s who on.0) o on.0 on.1) is
-  by_outcome s who op (Refused F.Memory) o on is = (refl, memory_queues op (place s who).phase is on.1, given s who (needs_memory Go (place s who).phase) (in_table s who on.0) is, memory_first (place s who).phase is)
+  by_outcome s who op (Refused F.Memory) o on is = (refl, memory_queues op (place s who).phase is.0 on.1, given s who (needs_memory Go (place s who).phase) (in_table s who on.0) is.0, memory_first (place s who).phase is.0)
   by_outcome s who op (Refused F.TableFull) o on is = absurd is
   by_outcome s who op (Refused F.CellsFull) o on is = absurd is
   by_outcome s who op (Refused F.Unpinned) o on is = absurd is
@@ -485,7 +485,7 @@ module _ {T J : Type 0} where
       fault_of d (Refused x) = Some x
       fault_of d Running = None
       fault_of d Done = None
-  refused_why s who op None F.Memory is = absurd (cc is)
+  refused_why s who op None F.Memory is = absurd (cc is.0)
   refused_why s who op None F.TableFull is = absurd is
   refused_why s who op None F.CellsFull is = absurd is
   refused_why s who op None F.Unpinned is = absurd is

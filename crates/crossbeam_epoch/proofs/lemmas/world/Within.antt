@@ -1,11 +1,11 @@
 -- What a collector's state gives the calls of a step: an index within the table, room for a bag, a ticket that is left.
-use Rattle.std.proofs.Common.{◌≡◌, ℕ, zero, suc, ◌+◌, ◌-◌, ◌^◌, ◌<◌, arith, Bool, true, false, List, Result, Ok, Err, OnOk, sym, ◌∙◌, ap, subst, length, get_or}
+use Rattle.std.proofs.Common.{◌≡◌, ℕ, zero, suc, ◌+◌, ◌-◌, ◌^◌, ◌<◌, arith, Bool, true, false, List, Result, Ok, Err, OnOk, OnErr, sym, ◌∙◌, ap, subst, length, get_or}
 use Rattle.std.specs.Result.{is_err}
 use Rattle.std.proofs.lemmas.List.{get_or_read}
 use borrow.Author.Count.{below_more}
 use Rattle.crossbeam_epoch.specs.declared.world.participant.Participant.{Participant}
 use Rattle.crossbeam_epoch.specs.declared.bag.Sealed.{Sealed}
-use Rattle.crossbeam_epoch.specs.World.Chain.{refilled}
+use Rattle.crossbeam_epoch.specs.Chain.{refilled}
 use Rattle.crossbeam_epoch.specs.World.Machine.{State, place, blank}
 
 -- a reservation that didn't fail made room for one more
@@ -13,6 +13,15 @@ pub room_made : {A E : Type 0} (r : Result A E) (failed : Bool) (before room : �
 room_made (Ok x) failed zero room is succeeded made = omega (arith, made)
 room_made (Ok x) failed (suc n) room is succeeded made = omega (arith, made)
 room_made (Err e) failed before room is succeeded made = absurd (cc (is, succeeded))
+
+-- what a call that didn't fail gave, and what one that failed did
+pub when_ok : {A E : Type 0} {X : Type 0} (r : Result A E) (failed : Bool) → failed ≡ is_err r → failed ≡ false → OnOk r X → X
+when_ok (Ok x) failed is succeeded given = given
+when_ok (Err e) failed is succeeded given = absurd (cc (is, succeeded))
+
+pub when_err : {A E : Type 0} {X : Type 0} (r : Result A E) (failed : Bool) → failed ≡ is_err r → failed ≡ true → OnErr r X → X
+when_err (Ok x) failed is so given = absurd (cc (is, so))
+when_err (Err e) failed is so given = given
 
 -- one more place that was looked at is taken
 pub taken_next : {A : Type 0} (xs : List (Participant A)) (n : ℕ) (p : Participant A) → n < length xs → p ≡ get_or xs n p → p.registered ≡ true → ((q : ℕ) → q < n → (get_or xs q blank).registered ≡ true) → (q : ℕ) → q < n + 1 → (get_or xs q blank).registered ≡ true
@@ -25,9 +34,9 @@ module _ {T J : Type 0} where
   pub ticket_left : (s v : State T J) → v ≡ s → s.next < 2 ^ 64 - 1 → v.next < 2 ^ 64 - 1
   ticket_left s v is lt = subst (λ (x : State T J). x.next < 2 ^ 64 - 1) (sym is) lt
 
-  -- a queue with new room is the same queue
-  pub same_queue : (s v : State T J) (queue : List (Sealed J)) → v ≡ s → queue ≡ v.queue → record v { queue = queue } ≡ s
-  same_queue s v queue is same = ap (λ q. record v { queue = q }) same ∙ is
+  -- a queue that is as it was
+  pub same_queue : (s v : State T J) (queue : List (Sealed J)) (room : ℕ) → v ≡ s → queue ≡ v.queue → room ≡ v.room → record v { queue = queue; room = room } ≡ s
+  same_queue s v queue room is same free = ap (λ q. record v { queue = q; room = room }) same ∙ ap (λ r. record v { room = r }) free ∙ is
 
   -- a place of the table that was looked at is free
   pub free_at : (s v : State T J) (xs : List (Participant J)) (n : ℕ) (p : Participant J) → v ≡ s → xs ≡ v.table → n < length xs → p ≡ get_or xs n p → p.registered ≡ false → (n < length s.table) × ((place s n).registered ≡ false)

@@ -10,7 +10,7 @@ returns-in-Some g c = record {
   ticket = tt;
   state = tt;
   back = (refl, refl);
-  fault = fault_given ((c.in-Some.fault ≡ Memory) × (length (place c.args.self.now c.args.who).bag ≡ 64)) (defer_fault c.args.self.now c.args.who) c.in-Some.fault (sym c.defer_fault.ensures.value ∙ c.in-Some.is);
+  fault = fault_given ((c.in-Some.fault ≡ Memory) × (length (place c.args.self.now c.args.who).bag ≡ 64) × (c.args.self.now.room ≡ 0)) (defer_fault c.args.self.now c.args.who) c.in-Some.fault (sym c.defer_fault.ensures.value ∙ c.in-Some.is);
 }
 
 pub returns-then-not-is_bag_full : goal.returns-then-not-is_bag_full
@@ -34,7 +34,7 @@ returns-in-Err g c = record {
   ticket = tt;
   state = tt;
   back = (c.in-Err.ensures.err.1, c.in-Err.ensures.err.0);
-  fault = none_given ((Memory ≡ Memory) × (length (place c.args.self.now c.args.who).bag ≡ 64)) (defer_fault c.args.self.now c.args.who) Memory (sym c.defer_fault.ensures.value ∙ c.in_default.is) (refl, c.is_bag_full.ensures.full c.if-not-is_bag_full.false);
+  fault = none_given ((Memory ≡ Memory) × (length (place c.args.self.now c.args.who).bag ≡ 64) × (c.args.self.now.room ≡ 0)) (defer_fault c.args.self.now c.args.who) Memory (sym c.defer_fault.ensures.value ∙ c.in_default.is) (refl, c.is_bag_full.ensures.full c.if-not-is_bag_full.false, c.in-Err.ensures.err.2);
 }
 
 pub is_bag_full-requires : goal.is_bag_full-requires

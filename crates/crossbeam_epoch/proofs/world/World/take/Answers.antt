@@ -26,7 +26,7 @@ took_none s v who answered bags old is lt read none =
 
 pub returns : goal.returns
 returns g c = record {
-  state = took_first c.args.self.now _ c.args.who c.args.answered c.args.bags c.call_from.new.self c.index_mut-2.result.now c.in-Some.field-0 c.pop_front.new.self.items c.self.view_is c.requires.in_table c.index_mut-2.ensures.value c.in-Some.ensures.items c.call_from.ensures (sym c.is_due.ensures ∙ c.if-not-is_due.false) c.if-bags-ge-BAGS.false;
+  state = took_first c.args.self.now _ c.args.who c.args.answered c.args.bags c.call_from.new.self c.index_mut-2.result.now c.in-Some.field-0 c.pop_front.new.self.items c.pop_front.new.self.room c.self.view_is c.requires.in_table c.index_mut-2.ensures.value c.in-Some.ensures.items c.in-Some.ensures.room c.call_from.ensures (sym c.is_due.ensures ∙ c.if-not-is_due.false) c.if-bags-ge-BAGS.false;
   outcome = sym (ap (λ p. outcome_at p.phase) (written_at c.args.self.now _ c.args.who c.call_from.new.self c.self.view_is c.requires.in_table) ∙ ap (λ p. outcome_at p.phase) c.call_from.ensures);
 }
 

@@ -18,7 +18,7 @@ invariant_of-self g c =
 
 pub returns-clause-fault : goal.returns-clause-fault
 returns-clause-fault g c =
-    subst (λ s. MatchResult c.defer_destroy.result (λ t. destroy_fault s c.args.who c.args.node.name ≡ None) (λ e. MatchOption (destroy_fault s c.args.who c.args.node.name) ((e ≡ Fault.Memory) × (length (place s c.args.who).bag ≡ 64)) (λ f. e ≡ f)))
+    subst (λ s. MatchResult c.defer_destroy.result (λ t. destroy_fault s c.args.who c.args.node.name ≡ None) (λ e. MatchOption (destroy_fault s c.args.who c.args.node.name) ((e ≡ Fault.Memory) × (length (place s c.args.who).bag ≡ 64) × (s.room ≡ 0)) (λ f. e ≡ f)))
     (ap (λ x. x.collector) c.self.view_is) c.defer_destroy.ensures.fault
 
 pub returns-clause-told : goal.returns-clause-told

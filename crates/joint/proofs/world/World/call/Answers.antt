@@ -2,6 +2,7 @@ use Rattle.std.proofs.Common.{refl}
 use Rattle.joint.proofs.lemmas.Beside.{run_beside}
 use Rattle.joint.proofs.lemmas.CallScans.{fills}
 use Rattle.joint.proofs.lemmas.CallSurveys.{tells}
+use Rattle.joint.proofs.lemmas.KeyReplies.{answers}
 use Rattle.joint.proofs.lemmas.MapCalls.{called_plays}
 use Rattle.joint.proofs.lemmas.Running.{run_map}
 use Rattle.joint.proofs.world.World.call.Goals as goal
@@ -13,6 +14,9 @@ returns-clause-scan g c fs m st fl =
 
 pub returns-clause-map : goal.returns-clause-map
 returns-clause-map g c fs m st fl = called_plays g.P.Payload.same_as g.P.Payload.always_copies _ fs m _ _ c.sound.ensures.holds st fl _ _ _ _ _ c.take_steps.ensures
+
+pub returns-clause-answers : goal.returns-clause-answers
+returns-clause-answers g c fs m st fl e r asked told = answers g.P.Payload.same_as fs m _ r _ _ e _ asked told (returns-clause-map g c fs m st fl)
 
 pub returns-clause-survey : goal.returns-clause-survey
 returns-clause-survey g c fs m st fl =

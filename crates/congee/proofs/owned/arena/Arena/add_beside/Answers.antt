@@ -40,5 +40,6 @@ returns-clause-adds g c =
         balance = omega (arith, added.1, c.make_room.ensures.balance);
         same_limit = c.make_room.ensures.limit;
       };
+      fits = c.in_default.ensures.fits;
       bytes = added.1 ∙ c.in_default.ensures.grown;
     }

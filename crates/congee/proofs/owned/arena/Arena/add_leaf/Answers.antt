@@ -5,7 +5,7 @@ use Rattle.congee.proofs.lemmas.owned.Moves.{roomy_stands, roomy_absent, roomy_r
 use Rattle.congee.proofs.lemmas.owned.Hangings.{hung_roomy, roomy_inner, leaf_hung, same_stands, same_heap}
 use Rattle.congee.specs.owned.Arena.{heap_of}
 use Rattle.congee.specs.owned.Wanted.{gain, room_for}
-use Rattle.congee.proofs.lemmas.owned.Wanting.{refused_after}
+use Rattle.congee.proofs.lemmas.owned.Wanting.{fit_after, refused_after}
 use Rattle.congee.proofs.owned.arena.Arena.add_leaf.Goals as goal
 
 pub make_room-requires-clause-stands : goal.make_room-requires-clause-stands
@@ -84,5 +84,8 @@ returns-clause-adds g c =
         balance = omega (arith, added.1, same, c.in_default.ensures.charge, c.make_room.ensures.balance);
         same_limit = c.make_room.ensures.limit ∙ c.ready.ensures.limit;
       };
+      fits = fit_after (heap_of c.args.self.now.nodes c.args.at) (heap_of c.ready.new.self.nodes c.args.at) _ _ _ _
+          (same_heap c.args.self.now.nodes c.ready.new.self.nodes c.args.at c.ready.ensures.same)
+          c.in_default.ensures.charge c.ready.ensures.limit c.in_default.ensures.fits c.in_default-make_room.ensures.fits;
       bytes = omega (arith, added.1, same, room, c.in_default-make_room.ensures.grown);
     }

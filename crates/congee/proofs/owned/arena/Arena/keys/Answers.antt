@@ -2,7 +2,6 @@ use Rattle.std.proofs.Common.{rules, ◌≡◌, ◌^◌, ◌<◌, ◌+◌, [], �
 use Rattle.std.specs.FinMap as map
 use Rattle.congee.specs.owned.Table.{pairs_of}
 use Rattle.congee.specs.owned.Ranges.{in_range, keys_by}
-use Rattle.congee.proofs.lemmas.owned.Cursors.{begins}
 use Rattle.congee.proofs.lemmas.owned.Tables.{pairs_stand}
 use Rattle.congee.proofs.lemmas.owned.RangeLemmas.{range_none, range_first, range_all, key_written, keys_ended, none_told}
 use Rattle.congee.proofs.owned.arena.Arena.keys.Goals as goal
@@ -10,10 +9,10 @@ use Rattle.congee.proofs.owned.arena.Arena.keys.Goals as goal
 pub loop-key-init : goal.loop-key-init
 loop-key-init g c =
     let m = pairs_of c.args.self.now.nodes in
-    let start = begins c.args.self.now.nodes c.requires c.beginning-cursor.result.items c.beginning-cursor.ensures in record {
-      way = start.0;
+    record {
+      walk = c.beginning-walk.ensures.walk;
       from = 0;
-      at = start.1;
+      at = c.beginning-walk.ensures.at;
       keys = ap (λ t. t ++ keys_by g.K.Word64.of_word (in_range 0 (2 ^ 64) (map.entries m))) c.new-keys.ensures.items
           ∙ ap (keys_by g.K.Word64.of_word) (range_all m (2 ^ 64) (pairs_stand c.args.self.now.nodes).none_beyond);
     }
@@ -28,7 +27,7 @@ loop-key-preserved g c =
     let pushed : c.push.new.self.items ≡ c.loop-key.keys.items ++ g.K.Word64.of_word c.in-Some.key ∷ [] = grind (arith, c.push.ensures.items, c.is_err.ensures.value, c.if-is_err.false, c.from_word.ensures) in
     let written = key_written g.K.Word64.of_word c.loop-key.keys.items (keys_by g.K.Word64.of_word (map.entries m)) (in_range from (2 ^ 64) (map.entries m)) c.in-Some.key c.in-Some.field-0-1.now
     (in_range (c.in-Some.key + 1) (2 ^ 64) (map.entries m)) first c.loop-key.invariant.keys in record {
-      way = c.next_along.ensures.cursor;
+      walk = c.next_along.ensures.walk;
       from = c.in-Some.key + 1;
       at = found.1;
       keys = ap (λ t. t ++ keys_by g.K.Word64.of_word (in_range (c.in-Some.key + 1) (2 ^ 64) (map.entries m))) pushed ∙ written;

@@ -1,11 +1,15 @@
 use Rattle.std.proofs.Common.{◌≤◌}
-use Rattle.congee.specs.owned.Cursor.{IsCursor, steps_left}
+use Rattle.congee.specs.owned.Cursor.{steps_left}
+use Rattle.congee.specs.owned.Walks.{IsWalk, steps_of}
 use Rattle.congee.proofs.lemmas.owned.Cursors.{SameAhead}
 use Rattle.congee.proofs.owned.arena.Arena.next_along.Given as goal
 
-abbrev pub invariant-loop-at : goal.invariant-loop-at
-invariant-loop-at g l =
-    IsCursor l.self.nodes l.cursor.items × (SameAhead l.self.nodes l.fn.cursor.items l.cursor.items × (steps_left 8 l.cursor.items ≤ steps_left 8 l.fn.cursor.items))
+abbrev pub invariant-steps : goal.invariant-steps
+invariant-steps g l = record {
+  walk : IsWalk l.self.nodes l.walk;
+  same : SameAhead l.self.nodes (steps_of l.fn.walk) (steps_of l.walk);
+  left : steps_left 8 (steps_of l.walk) ≤ steps_left 8 (steps_of l.fn.walk);
+}
 
-abbrev pub decreases-loop-at : goal.decreases-loop-at
-decreases-loop-at g l = steps_left 8 l.cursor.items
+abbrev pub decreases-steps : goal.decreases-steps
+decreases-steps g l = steps_left 8 (steps_of l.walk)

@@ -4,7 +4,7 @@ use Rattle.congee.proofs.lemmas.owned.Answered.{at_apart}
 use Rattle.congee.proofs.lemmas.owned.Renaming.{change_renamed}
 use Rattle.congee.proofs.lemmas.owned.Sizes.{bytes_same}
 use Rattle.congee.proofs.lemmas.owned.Hangings.{same_heap, same_way, same_renamed}
-use Rattle.congee.proofs.lemmas.owned.Wanting.{refused_second}
+use Rattle.congee.proofs.lemmas.owned.Wanting.{both_fit, refused_second}
 use Rattle.congee.proofs.owned.arena.Arena.split.Goals as goal
 
 pub returns-in-Err-clause-refused : goal.returns-in-Err-clause-refused
@@ -53,5 +53,6 @@ returns-clause-adds g c =
         balance = omega (arith, charge, r.bytes, c.host.ensures.bytes, c.in_default.ensures.charge, c.in_default-ready.ensures.charge);
         same_limit = ap g.A.Allocator.limit_of c.host.ensures.allocator ∙ (c.ready-2.ensures.limit ∙ c.ready.ensures.limit);
       };
+      fits = both_fit _ _ _ _ c.in_default.ensures.charge c.ready.ensures.limit c.in_default.ensures.fits c.in_default-ready.ensures.fits;
       bytes = omega (arith, r.bytes, c.host.ensures.bytes);
     }

@@ -5,7 +5,6 @@ use Rattle.congee.specs.owned.Ranges.{in_range}
 use Rattle.congee.specs.owned.Table.{pairs_of}
 use Rattle.congee.proofs.lemmas.owned.Tables.{pairs_stand}
 use Rattle.congee.proofs.lemmas.owned.RangeLemmas.{range_none, range_first, range_all, none_told}
-use Rattle.congee.proofs.lemmas.owned.Cursors.{begins}
 use Rattle.congee.proofs.lemmas.owned.Drains.{first_drained, none_drained}
 use Rattle.congee.proofs.owned.close.Arena+u64+A.drain.Goals as goal
 
@@ -13,12 +12,11 @@ pub loop-key-init : goal.loop-key-init
 loop-key-init g c =
     let m = pairs_of c.args.self.now.nodes in
     let all = range_all m (2 ^ 64) (pairs_stand c.args.self.now.nodes).none_beyond in
-    let start = begins c.args.self.now.nodes c.requires.tree c.beginning-cursor.result.items c.beginning-cursor.ensures in
     record {
-      way = start.0;
+      walk = c.beginning-walk.ensures.walk;
       ready = c.requires.ready;
       from = 0;
-      at = start.1;
+      at = c.beginning-walk.ensures.at;
       drained = λ last d. subst (λ es. Drained g.D.Drainer.drains g.K.Word64.of_word g.V.Word64.of_word c.args.drainer es last) all d;
     }
 
@@ -29,7 +27,7 @@ loop-key-preserved g c =
     let small : c.in-Some.key < 2 ^ 64 = search rules in
     let found = c.in-Some.ensures.first from c.loop-key.invariant.at in
     let first = range_first m from (2 ^ 64) c.in-Some.key c.in-Some.value.now found.0 small in record {
-      way = c.next_along.ensures.cursor;
+      walk = c.next_along.ensures.walk;
       ready = c.drain.ensures.again;
       from = c.in-Some.key + 1;
       at = found.1;

@@ -1,7 +1,7 @@
 use Rattle.congee.proofs.lemmas.owned.Contents.{removes}
 use Rattle.congee.proofs.owned.congee.Congee.remove.Goals as goal
 
-pub returns : goal.returns
-returns g c =
+pub returns-clause-removes : goal.returns-clause-removes
+returns-clause-removes g c =
     let told = removes g.A.Allocator.charged_of g.A.Allocator.limit_of c.self.inside.drainer c.self.inside.arena c.remove.new.self (g.K.Word64.word c.args.key.now) c.bytes_of_key-bytes.ensures.small c.bytes_of_key-bytes.result c.bytes_of_key-bytes.ensures.bytes c.remove.result c.remove.ensures in
     (c.remove.result, c.word_of.ensures, rw (← c.self.view_is) told)

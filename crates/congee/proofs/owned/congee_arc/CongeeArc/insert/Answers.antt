@@ -1,8 +1,8 @@
 use Rattle.std.proofs.Common.{◌^◌, ◌-◌, sym, subst, ℕ, None, arith}
 use Rattle.std.specs.FinMap as map
 use Rattle.congee.specs.owned.Owners.{never_same}
-use Rattle.congee.specs.owned.Wanted.{wants_of, IsRefused}
-use Rattle.congee.proofs.lemmas.owned.Contents.{insert_told, grown, found_at, refused_at, denied_tree, denied_bytes}
+use Rattle.congee.specs.owned.Wanted.{wants_of, InsertionFits, IsRefused}
+use Rattle.congee.proofs.lemmas.owned.Contents.{insert_told, grown, found_at, fitted_at, refused_at, denied_tree, denied_bytes}
 use Rattle.congee.proofs.lemmas.owned.Tables.{same_pairs}
 use Rattle.congee.proofs.lemmas.owned.Wanting.{same_wants, same_lone}
 use Rattle.congee.proofs.owned.congee_arc.CongeeArc.insert.Goals as goal
@@ -12,7 +12,9 @@ returns-in-Ok-clause-inserts g c =
     let adds = c.in-Ok.ensures.adds in
     let answers = insert_told never_same _ _ c.self.inside.arena c.insert.new.self (g.K.Word64.word c.args.key) c.bytes_of_key-bytes.ensures.small c.bytes_of_key-bytes.result c.bytes_of_key-bytes.ensures.bytes c.in-Ok.before c.new.result _ adds in
     let bytes = grown never_same _ _ c.self.inside.arena c.insert.new.self (g.K.Word64.word c.args.key) c.bytes_of_key-bytes.ensures.small c.bytes_of_key-bytes.result c.bytes_of_key-bytes.ensures.bytes c.in-Ok.before c.new.result adds in
-    rw (← c.self.view_is, c.owner_of.ensures, ← c.new.ensures) (record { answers = answers; bytes = bytes })
+    let Q : ℕ → Type 0 = λ n. InsertionFits (map.get (wants_of c.self.inside.arena.nodes) (g.K.Word64.word c.args.key)) n (2 ^ 64 - 1) in
+    let fits = subst Q (sym c.self.invariant.1) (fitted_at c.self.inside.arena (g.K.Word64.word c.args.key) c.bytes_of_key-bytes.ensures.small c.bytes_of_key-bytes.result c.bytes_of_key-bytes.ensures.bytes _ _ adds.fits) in
+    rw (← c.self.view_is, c.owner_of.ensures, ← c.new.ensures) (record { answers = answers; fits = fits; bytes = bytes })
 
 pub invariant_of-self-2 : goal.invariant_of-self-2
 invariant_of-self-2 g c = (

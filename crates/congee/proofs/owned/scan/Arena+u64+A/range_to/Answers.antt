@@ -19,7 +19,7 @@ loop-count-preserved g c =
     let pairs : take c.loop-count.count c.loop-count.out ++ take (length c.args.out.now - c.loop-count.count) (c.of.result ∷ entries_by g.E.Listed.entry (in_range (c.in-Some.key + 1) (c.args.last + 1) (map.entries m))) ≡ take (length c.args.out.now) (entries_by g.E.Listed.entry (in_range c.args.start (c.args.last + 1) (map.entries m))) =
     ap (λ b. take c.loop-count.count c.loop-count.out ++ take (length c.args.out.now - c.loop-count.count) (b ∷ entries_by g.E.Listed.entry (in_range (c.in-Some.key + 1) (c.args.last + 1) (map.entries m)))) entry
     ∙ ap (λ r. take c.loop-count.count c.loop-count.out ++ take (length c.args.out.now - c.loop-count.count) (entries_by g.E.Listed.entry r)) (sym first) ∙ i.pairs in record {
-      way = c.next_along.ensures.cursor;
+      walk = c.next_along.ensures.walk;
       within = omega (arith, same, c.loop-count-test.true);
       long = same ∙ i.long;
       rest = rest_kept c.loop-count.out c.args.out.now c.loop-count.count c.of.result c.loop-count-test.true i.rest;

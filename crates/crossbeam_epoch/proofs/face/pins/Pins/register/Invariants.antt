@@ -1,7 +1,11 @@
 use Rattle.std.proofs.Common.{◌≡◌}
-use Rattle.crossbeam_epoch.specs.Face.Pins.{newcomer, with_seen}
 use Rattle.crossbeam_epoch.specs.Face.Tokens.{known, IsOf}
+use Rattle.crossbeam_epoch.proofs.lemmas.face.Pins.{refused_view}
 use Rattle.crossbeam_epoch.proofs.face.pins.Pins.register.Given as goal
 
 abbrev pub invariant-loop-place : goal.invariant-loop-place
-invariant-loop-place l = IsOf l.fn.self.words.shared.table_id l.token × (known l.token ≡ with_seen newcomer (known l.token).seen)
+invariant-loop-place l = record {
+  of : IsOf l.fn.self.words.shared.table_id l.token;
+  view : known l.token ≡ refused_view (known l.token).seen l.place;
+  taken : (known l.token).taken ≡ l.place;
+}

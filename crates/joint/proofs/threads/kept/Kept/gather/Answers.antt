@@ -3,8 +3,8 @@ use Rattle.joint.specs.Shares.{Tally}
 use Rattle.joint.proofs.lemmas.Watching.{count_bounded, journaled}
 use Rattle.joint.proofs.threads.kept.Kept.gather.Goals as goal
 
-pub returns-in-0-clause-gathers : goal.returns-in-0-clause-gathers
-returns-in-0-clause-gathers g c =
+pub returns-in-0-clause-exact : goal.returns-in-0-clause-exact
+returns-in-0-clause-exact g c =
     let kept = c.args.self.now in
     let parts : c.args.share.now.parts ≡ g.L.Ledger.parts = omega (arith, c.lacks.ensures, c.in-0.is) in
     let whole : c.args.share.now.count ≡ kept.book.total = c.audit.ensures.whole parts in
@@ -12,4 +12,11 @@ returns-in-0-clause-gathers g c =
     let bound = count_bounded g.W.Watch.watched kept.world.log.entries in
     let small : c.args.share.now.count < 2 ^ 64 = omega (arith, whole, kept.counted, bound, state.long, kept.few) in
     let told : c.count.result ≡ c.args.share.now.count = subst (λ (t : Tally). t.count < 2 ^ 64 → c.count.result ≡ t.count) c.audit.ensures.share c.count.ensures small in
-    (parts, told, (kept.world.log.entries, (kept.world, state, refl), told ∙ whole ∙ kept.counted))
+    (parts, told, told ∙ whole ∙ kept.counted)
+
+pub returns-in-0-clause-gathers : goal.returns-in-0-clause-gathers
+returns-in-0-clause-gathers g c =
+    let kept = c.args.self.now in
+    let exact = returns-in-0-clause-exact g c in
+    let state = journaled kept.world c.sound.ensures.holds (kept.some, kept.few) in
+    (exact.0, exact.1, (kept.world.log.entries, (kept.world, state, refl), exact.2))

@@ -2,7 +2,7 @@ use Rattle.std.proofs.Common.{rules, arith, sym, ap, subst, ◌∙◌}
 use Rattle.std.specs.Prelude.{IsTrue, nat_eq, true}
 use Rattle.joint.specs.declared.steps.Report.{Report}
 use Rattle.joint.specs.Driving.{IsToldInCall}
-use Rattle.joint.specs.Writing.{IsWritingTurn, Progress, given_after, noted}
+use Rattle.joint.specs.Writing.{Progress, WritingTurn, given_after, noted}
 use Rattle.joint.proofs.lemmas.Holding.{step_tells}
 use Rattle.joint.proofs.lemmas.WritingStep.{hold_turn, told_tells, write_count}
 use Rattle.joint.proofs.threads.kept.Kept.write.Goals as goal
@@ -28,7 +28,7 @@ returns-clause-turn g c =
     let once : IsTrue c.wont_repeat.result = search rules in
     let heard = c.hear.ensures ∙ sym (ap (λ (y : Progress). record y { given = given_after op y.given event }) c.call.view_is) in
     let has = c.note.ensures.call ∙ ap (λ (y : Progress). noted watched y entry) heard in
-    subst (λ (p : Progress). IsWritingTurn watched c.args.step.worker op p c.args.step c.tell.result c.note.new.self) c.call.view_is
+    subst (λ (p : Progress). WritingTurn watched c.args.step.worker op p c.args.self.now.world c.args.step c.tell.result c.note.new.self c.step_on-report.new.world) c.call.view_is
     (hold_turn c.args.self.now.world c.step_on-report.new.world op watched call c.note.new.self c.args.step c.step_on-report.result.0 c.tell.result entry c.requires.writing c.step_on-report.ensures.step c.step_on-report.ensures.appended (c.wont_repeat.ensures.0 once) has c.tell.ensures)
 
 pub returns-clause-told : goal.returns-clause-told

@@ -2,4 +2,4 @@ use Rattle.joint.proofs.lemmas.Holding.{step_tells}
 use Rattle.joint.proofs.threads.locked.PlainLocked.turn.Goals as goal
 
 pub returns-clause-told : goal.returns-clause-told
-returns-clause-told g c = step_tells g.P.Payload.same_as g.P.Payload.always_copies c.args.step c.step.result c.requires (c.args.self.now.world, c.step.new.self, c.step.ensures)
+returns-clause-told g c = step_tells g.P.Payload.same_as g.P.Payload.always_copies c.args.step c.step.result c.requires (_, _, c.step.ensures)

@@ -10,4 +10,4 @@ write-report-requires-clause-call g c = turn_of_call c.args.self.now.worker c.ar
 pub returns-clause-gives : goal.returns-clause-gives
 returns-clause-gives g c =
     let worker = turn_worker c.args.self.now.worker c.args.self.now.op (option_map (λ r. r.value) c.args.self.now.last) c.args.step c.requires in
-    (subst (λ y. IsWritingTurn g.W.Watch.watched y c.args.self.now.op c.args.self.now.call c.args.step c.write-report.result c.write-report.new.call) worker c.write-report.ensures.turn, refl, refl)
+    (subst (λ y. IsWritingTurn g.W.Watch.watched y c.args.self.now.op c.args.self.now.call c.args.step c.write-report.result c.write-report.new.call) worker (_, _, c.write-report.ensures.turn), refl, refl)

@@ -1,0 +1,545 @@
+//! The steps of a call that make, lock or change nodes, and those after its change.
+ghost use Rattle.std.specs.Prelude.{◌≡◌, ◌≢◌, ◌<◌, ◌≤◌, Bool, Option, None, Result, IfErr};
+ghost use Rattle.congee.specs.Heap.{Nothing, Below, Stands};
+ghost use Rattle.congee.specs.Keys.{key_bytes};
+ghost use Rattle.congee.specs.protocol.Steps.{turn_of, form_above, decided, after_change, Acts, MayLock, IsReleasing, BackOne, BackTwo, MadeLeaf, MadeGreater, MadeTop, MadeBeside, UpgradedOne, UpgradedAbove, UpgradedBelow, ChangedOne, ChangedTwo, IsCheckedAbove, MayStep, MayBackOne, MayBackTwo, MayBackLeaf, MayChangeOne, MayChangeTwo, Changeable, Blank, PutsGreater, PutsFork, PhaseStepped};
+ghost use Rattle.congee.specs.protocol.Events.{hung, upgrade_gives, HoldsAlike};
+ghost use Rattle.congee.specs.declared.protocol.store.Upgrade.{Upgrade};
+ghost use Rattle.congee.specs.declared.protocol.store.Refusal.{Refusal};
+ghost use Rattle.congee.specs.declared.protocol.phase.Phase.TheVariants as phase;
+ghost use Rattle.congee.specs.declared.forms.base_node.NodeType.TheVariants as base;
+ghost use Rattle.congee.specs.protocol.Bounds.{Within};
+
+use crate::forms::base_node::NodeType;
+use crate::forms::child::Child;
+use crate::forms::prefix::MAX_PREFIX_LEN;
+use crate::keys::KEY_BYTES;
+use crate::protocol::machine::{Machine, Move, Outcome};
+use crate::protocol::phase::{Double, One, Parent, Phase, Plan, Single, Site, Two, taken};
+use crate::protocol::store::{NodeName, Refusal, Seat, Store, Upgrade};
+use crate::protocol::turn::value_child;
+use judge::{Payload, Reply};
+
+impl<C: NodeName, P: Payload> Machine<C, P> {
+    /// The step of a phase that makes, locks or changes nodes, or of a later one.
+    pub(crate) fn act<S: Store<C, P>>(&mut self, store: &mut S, fail: bool) -> Move<P>
+        requires may { MayStep C.number self.old.root (key_bytes self.old.key) self.old.given self.old.phase (S.heap store.old) }
+        requires acts { Acts self.old.phase }
+        requires within { Within (S.version_max store.old) (S.heap store.old) }
+        ensures root { self.new.root ≡ self.old.root }
+        ensures key { self.new.key ≡ self.old.key }
+        ensures kind { self.new.kind ≡ self.old.kind }
+        ensures limit { S.version_max store.new ≡ S.version_max store.old }
+        ensures rest { S.rest store.new ≡ S.rest store.old }
+        ensures step { (answer : Option (Option P)) → PhaseStepped C.number P.same_as P.always_copies (S.version_max store.old) (S.refuses store.old) self.old.root (key_bytes self.old.key) self.old.kind fail answer self.old.given self.old.phase (S.heap store.old) self.new.given (turn_of self.new.phase result) (S.heap store.new) }
+    {
+        match &mut self.phase {
+            Phase::MakeLeaf { site } => {
+                let site = *site;
+                self.make_leaf(store, site)
+            }
+            Phase::MakeGreater { site, above, leaf } => {
+                let (site, above, leaf) = (*site, *above, *leaf);
+                self.make_greater(store, site, above, leaf)
+            }
+            Phase::MakeTop {
+                above,
+                at,
+                common,
+                byte,
+            } => {
+                let (above, at, common, byte) = (*above, *at, *common, *byte);
+                self.make_top(store, above, at, common, byte)
+            }
+            Phase::MakeBeside {
+                above,
+                at,
+                common,
+                byte,
+                top,
+            } => {
+                let (above, at, common, byte, top) = (*above, *at, *common, *byte, *top);
+                self.make_beside(store, above, at, common, byte, top)
+            }
+            // The phases that lock or change nodes, and the later ones: each has its arm there.
+            _ => self.lock(store, fail),
+        }
+    }
+
+    /// The step of a phase that locks or changes nodes, or of a later one.
+    fn lock<S: Store<C, P>>(&mut self, store: &mut S, fail: bool) -> Move<P>
+        requires may { MayStep C.number self.old.root (key_bytes self.old.key) self.old.given self.old.phase (S.heap store.old) }
+        requires may_lock { MayLock self.old.phase }
+        requires within { Within (S.version_max store.old) (S.heap store.old) }
+        ensures root { self.new.root ≡ self.old.root }
+        ensures key { self.new.key ≡ self.old.key }
+        ensures kind { self.new.kind ≡ self.old.kind }
+        ensures limit { S.version_max store.new ≡ S.version_max store.old }
+        ensures rest { S.rest store.new ≡ S.rest store.old }
+        ensures step { (answer : Option (Option P)) → PhaseStepped C.number P.same_as P.always_copies (S.version_max store.old) (S.refuses store.old) self.old.root (key_bytes self.old.key) self.old.kind fail answer self.old.given self.old.phase (S.heap store.old) self.new.given (turn_of self.new.phase result) (S.heap store.new) }
+    {
+        match &mut self.phase {
+            Phase::CheckAbove { above, one, reply } => {
+                let (above, one, reply) = (*above, *one, taken(reply));
+                self.check_above(store, above, one, reply)
+            }
+            Phase::UpgradeOne { one, reply } => {
+                let (one, reply) = (*one, taken(reply));
+                self.upgrade_one(store, one, reply, fail)
+            }
+            Phase::ChangeOne { one, reply } => {
+                let (one, reply) = (*one, taken(reply));
+                self.change_one(store, one, reply)
+            }
+            Phase::UpgradeAbove { two, reply } => {
+                let (two, reply) = (*two, taken(reply));
+                self.upgrade_above(store, two, reply, fail)
+            }
+            Phase::UpgradeBelow { two, reply } => {
+                let (two, reply) = (*two, taken(reply));
+                self.upgrade_below(store, two, reply, fail)
+            }
+            Phase::ChangeTwo { two, reply } => {
+                let (two, reply) = (*two, taken(reply));
+                self.change_two(store, two, reply)
+            }
+            // The phases after the change: each has its arm there.
+            _ => self.leave(store),
+        }
+    }
+
+    /// The step of a phase that marks, hands over or unlocks a node, or of a call that has ended.
+    fn leave<S: Store<C, P>>(&mut self, store: &mut S) -> Move<P>
+        requires may { MayStep C.number self.old.root (key_bytes self.old.key) self.old.given self.old.phase (S.heap store.old) }
+        requires leaves { IsReleasing self.old.phase }
+        requires within { Within (S.version_max store.old) (S.heap store.old) }
+        ensures phase_alone { self.new ≡ record self.old { phase = self.new.phase } }
+        ensures limit { S.version_max store.new ≡ S.version_max store.old }
+        ensures rest { S.rest store.new ≡ S.rest store.old }
+        ensures step { (fail : Bool) (answer : Option (Option P)) → PhaseStepped C.number P.same_as P.always_copies (S.version_max store.old) (S.refuses store.old) self.old.root (key_bytes self.old.key) self.old.kind fail answer self.old.given self.old.phase (S.heap store.old) self.new.given (turn_of self.new.phase result) (S.heap store.new) }
+    {
+        match &mut self.phase {
+            Phase::Obsolete { node, above, reply } => {
+                let (node, above, reply) = (*node, *above, taken(reply));
+                store.obsolete(node);
+                self.phase.quiet(Phase::Retire { node, above, reply })
+            }
+            Phase::Retire { node, above, reply } => {
+                let (node, above, reply) = (*node, *above, taken(reply));
+                store.retire(node);
+                self.phase.quiet(Phase::Unlock { node: above, reply })
+            }
+            Phase::UnlockBelow { node, above, reply } => {
+                let (node, above, reply) = (*node, *above, taken(reply));
+                store.unlock(node);
+                self.phase.quiet(Phase::Unlock { node: above, reply })
+            }
+            Phase::Unlock { node, reply } => {
+                let (node, reply) = (*node, taken(reply));
+                store.unlock(node);
+                self.phase.finished(reply)
+            }
+            Phase::Unwind { node, refusal } => {
+                let (node, refusal) = (*node, *refusal);
+                store.unlock(node);
+                self.phase.unwound(self.root, refusal)
+            }
+            // A call that has ended stays so; what is no phase after a change doesn't come here.
+            _ => Move {
+                decided: false,
+                outcome: Outcome::Running,
+            },
+        }
+    }
+
+    /// Makes the leaf for the key, and plans to hang it; a full node gives way to a greater one first.
+    fn make_leaf<S: Store<C, P>>(&mut self, store: &mut S, site: Site<C>) -> Move<P>
+        ensures phase_alone { self.new ≡ record self.old { phase = self.new.phase } }
+        ensures limit { S.version_max store.new ≡ S.version_max store.old }
+        ensures rest { S.rest store.new ≡ S.rest store.old }
+        ensures made { ((r : Result C Refusal) × MadeLeaf C.number self.old.kind site (S.heap store.old) (key_bytes self.old.key) r (S.heap store.new) (turn_of self.new.phase result) × IfErr r (S.refuses store.old base.N4)) }
+    {
+        match store.make(NodeType::N4, &self.key.to_be_bytes(), MAX_PREFIX_LEN) {
+            Err(refusal) => self.phase.refused(refusal),
+            Ok(leaf) => self
+                .phase
+                .unless_full(&self.kind, site, Some(leaf), Single::Link { leaf }),
+        }
+    }
+
+    /// Makes the greater node that takes a full one's place; where it can't be made, the leaf goes back.
+    fn make_greater<S: Store<C, P>>(
+        &mut self,
+        store: &mut S,
+        site: Site<C>,
+        above: Parent<C>,
+        leaf: Option<C>,
+    ) -> Move<P>
+        requires depth { site.depth ≤ MAX_PREFIX_LEN }
+        requires stands { MayBackLeaf C.number (S.heap store.old) leaf }
+        ensures phase_alone { self.new ≡ record self.old { phase = self.new.phase } }
+        ensures limit { S.version_max store.new ≡ S.version_max store.old }
+        ensures rest { S.rest store.new ≡ S.rest store.old }
+        ensures made { ((r : Result C Refusal) × MadeGreater C.number self.old.kind site above leaf (S.heap store.old) (key_bytes self.old.key) r (S.heap store.new) (turn_of self.new.phase result) × IfErr r (S.refuses store.old (form_above site.count))) }
+    {
+        let form = NodeType::above(site.count);
+        match store.make(form, &self.key.to_be_bytes(), site.depth) {
+            Err(refusal) => {
+                if let Some(leaf) = leaf {
+                    store.give_back(leaf);
+                }
+                self.phase.refused(refusal)
+            }
+            Ok(node) => {
+                let change = site.greater(leaf, node);
+                let at = site.at;
+                self.phase.ready(
+                    &self.kind,
+                    Plan::Above {
+                        two: Two { above, at, change },
+                    },
+                )
+            }
+        }
+    }
+
+    /// Makes the node with the common prefix that comes above the one at hand.
+    fn make_top<S: Store<C, P>>(
+        &mut self,
+        store: &mut S,
+        above: Parent<C>,
+        at: Seat<C>,
+        common: usize,
+        byte: u8,
+    ) -> Move<P>
+        requires { common < MAX_PREFIX_LEN }
+        ensures phase_alone { self.new ≡ record self.old { phase = self.new.phase } }
+        ensures limit { S.version_max store.new ≡ S.version_max store.old }
+        ensures rest { S.rest store.new ≡ S.rest store.old }
+        ensures made { ((r : Result C Refusal) × MadeTop C.number above at common byte (S.heap store.old) (key_bytes self.old.key) r (S.heap store.new) (turn_of self.new.phase result) × IfErr r (S.refuses store.old base.N4)) }
+    {
+        match store.make(NodeType::N4, &self.key.to_be_bytes(), common) {
+            Err(refusal) => self.phase.refused(refusal),
+            Ok(top) => self.phase.quiet(Phase::MakeBeside {
+                above,
+                at,
+                common,
+                byte,
+                top,
+            }),
+        }
+    }
+
+    /// Makes the key's leaf beside the node at hand; where it can't be made, the node above goes back.
+    fn make_beside<S: Store<C, P>>(
+        &mut self,
+        store: &mut S,
+        above: Parent<C>,
+        at: Seat<C>,
+        common: usize,
+        byte: u8,
+        top: C,
+    ) -> Move<P>
+        requires { Stands (S.heap store.old (C.number top)) }
+        ensures phase_alone { self.new ≡ record self.old { phase = self.new.phase } }
+        ensures limit { S.version_max store.new ≡ S.version_max store.old }
+        ensures rest { S.rest store.new ≡ S.rest store.old }
+        ensures made { ((r : Result C Refusal) × MadeBeside C.number self.old.kind above at common byte top (S.heap store.old) (key_bytes self.old.key) r (S.heap store.new) (turn_of self.new.phase result) × IfErr r (S.refuses store.old base.N4)) }
+    {
+        match store.make(NodeType::N4, &self.key.to_be_bytes(), MAX_PREFIX_LEN) {
+            Err(refusal) => {
+                store.give_back(top);
+                self.phase.refused(refusal)
+            }
+            Ok(leaf) => {
+                let change = Double::Split {
+                    top,
+                    leaf,
+                    common,
+                    byte,
+                };
+                self.phase.ready(
+                    &self.kind,
+                    Plan::Above {
+                        two: Two { above, at, change },
+                    },
+                )
+            }
+        }
+    }
+
+    /// Checks the node above before one node is changed.
+    fn check_above<S: Store<C, P>>(
+        &mut self,
+        store: &mut S,
+        above: Seat<C>,
+        one: One<C>,
+        reply: Reply<P>,
+    ) -> Move<P>
+        requires stands { Stands (S.heap store.old (C.number above.node)) }
+        requires made { MayBackOne C.number (S.heap store.old) one.change }
+        ensures phase_alone { self.new ≡ record self.old { phase = self.new.phase } }
+        ensures limit { S.version_max store.new ≡ S.version_max store.old }
+        ensures rest { S.rest store.new ≡ S.rest store.old }
+        ensures checked { IsCheckedAbove C.number self.old.root above one reply (S.heap store.old) (S.heap store.new) (turn_of self.new.phase result) }
+    {
+        if store.check(above) {
+            self.phase.quiet(Phase::UpgradeOne { one, reply })
+        } else {
+            give_up_one(store, one.change, reply);
+            self.phase.again(self.root)
+        }
+    }
+
+    /// Locks the one node that the call changes.
+    fn upgrade_one<S: Store<C, P>>(
+        &mut self,
+        store: &mut S,
+        one: One<C>,
+        reply: Reply<P>,
+        fail: bool,
+    ) -> Move<P>
+        requires stands { Stands (S.heap store.old (C.number one.at.node)) }
+        requires made { MayBackOne C.number (S.heap store.old) one.change }
+        ensures phase_alone { self.new ≡ record self.old { phase = self.new.phase } }
+        ensures limit { S.version_max store.new ≡ S.version_max store.old }
+        ensures rest { S.rest store.new ≡ S.rest store.old }
+        ensures upgraded { ((u : Upgrade) × (u ≡ upgrade_gives (S.version_max store.old) (S.heap store.old (C.number one.at.node)) one.at.version fail) × UpgradedOne C.number self.old.root one reply (S.heap store.old) u (S.heap store.new) (turn_of self.new.phase result)) }
+    {
+        let refusal = match store.upgrade(one.at, fail) {
+            Upgrade::Locked => return self.phase.quiet(Phase::ChangeOne { one, reply }),
+            Upgrade::Failed => None,
+            Upgrade::Exhausted => Some(Refusal::Exhausted),
+        };
+        give_up_one(store, one.change, reply);
+        self.phase.unwound(self.root, refusal)
+    }
+
+    /// Locks the node above, the first of two.
+    fn upgrade_above<S: Store<C, P>>(
+        &mut self,
+        store: &mut S,
+        two: Two<C>,
+        reply: Reply<P>,
+        fail: bool,
+    ) -> Move<P>
+        requires stands { Stands (S.heap store.old (C.number two.above.seat.node)) }
+        requires made { MayBackTwo C.number (S.heap store.old) two.change }
+        ensures phase_alone { self.new ≡ record self.old { phase = self.new.phase } }
+        ensures limit { S.version_max store.new ≡ S.version_max store.old }
+        ensures rest { S.rest store.new ≡ S.rest store.old }
+        ensures upgraded { ((u : Upgrade) × (u ≡ upgrade_gives (S.version_max store.old) (S.heap store.old (C.number two.above.seat.node)) two.above.seat.version fail) × UpgradedAbove C.number self.old.root two reply (S.heap store.old) u (S.heap store.new) (turn_of self.new.phase result)) }
+    {
+        let refusal = match store.upgrade(two.seat_above(), fail) {
+            Upgrade::Locked => return self.phase.quiet(Phase::UpgradeBelow { two, reply }),
+            Upgrade::Failed => None,
+            Upgrade::Exhausted => Some(Refusal::Exhausted),
+        };
+        give_up_two(store, two.change, reply);
+        self.phase.unwound(self.root, refusal)
+    }
+
+    /// Locks the node at hand, where the node above is locked.
+    fn upgrade_below<S: Store<C, P>>(
+        &mut self,
+        store: &mut S,
+        two: Two<C>,
+        reply: Reply<P>,
+        fail: bool,
+    ) -> Move<P>
+        requires stands { Stands (S.heap store.old (C.number two.at.node)) }
+        requires made { MayBackTwo C.number (S.heap store.old) two.change }
+        ensures phase_alone { self.new ≡ record self.old { phase = self.new.phase } }
+        ensures limit { S.version_max store.new ≡ S.version_max store.old }
+        ensures rest { S.rest store.new ≡ S.rest store.old }
+        ensures upgraded { ((u : Upgrade) × (u ≡ upgrade_gives (S.version_max store.old) (S.heap store.old (C.number two.at.node)) two.at.version fail) × UpgradedBelow C.number two reply (S.heap store.old) u (S.heap store.new) (turn_of self.new.phase result)) }
+    {
+        let node = two.parent();
+        let refusal = match store.upgrade(two.at, fail) {
+            Upgrade::Locked => return self.phase.quiet(Phase::ChangeTwo { two, reply }),
+            Upgrade::Failed => None,
+            Upgrade::Exhausted => Some(Refusal::Exhausted),
+        };
+        give_up_two(store, two.change, reply);
+        self.phase.quiet(Phase::Unwind { node, refusal })
+    }
+
+    /// Changes the one locked node, a new leaf being filled before: the call takes effect.
+    fn change_one<S: Store<C, P>>(&mut self, store: &mut S, one: One<C>, reply: Reply<P>) -> Move<P>
+        requires { MayChangeOne C.number self.old.given one one.change (S.heap store.old) }
+        ensures root { self.new.root ≡ self.old.root }
+        ensures key { self.new.key ≡ self.old.key }
+        ensures kind { self.new.kind ≡ self.old.kind }
+        ensures spent { self.new.given ≡ None }
+        ensures limit { S.version_max store.new ≡ S.version_max store.old }
+        ensures rest { S.rest store.new ≡ S.rest store.old }
+        ensures changed { ChangedOne C.number (key_bytes self.old.key) self.old.given one one.change (S.heap store.old) (S.heap store.new) }
+        ensures turn { turn_of self.new.phase result ≡ decided (phase.Unlock one.at.node reply) }
+    {
+        let value = value_child(self.given.take());
+        let One { at, byte, change } = one;
+        let node = at.node;
+        match change {
+            Single::Set => store.change(node, byte, value),
+            Single::Link { leaf } => {
+                store.fill(leaf, self.key.to_be_bytes()[MAX_PREFIX_LEN], value);
+                store.change(node, byte, Child::Node(leaf));
+            }
+        }
+        self.phase.decided(Phase::Unlock { node, reply })
+    }
+
+    /// Changes the node above, with both locked: the call takes effect.
+    fn change_two<S: Store<C, P>>(&mut self, store: &mut S, two: Two<C>, reply: Reply<P>) -> Move<P>
+        requires { MayChangeTwo C.number (key_bytes self.old.key) self.old.given two two.change (S.heap store.old) }
+        ensures root { self.new.root ≡ self.old.root }
+        ensures key { self.new.key ≡ self.old.key }
+        ensures kind { self.new.kind ≡ self.old.kind }
+        ensures spent { self.new.given ≡ None }
+        ensures limit { S.version_max store.new ≡ S.version_max store.old }
+        ensures rest { S.rest store.new ≡ S.rest store.old }
+        ensures changed { ChangedTwo C.number (key_bytes self.old.key) self.old.given two two.change (S.heap store.old) (S.heap store.new) }
+        ensures turn { turn_of self.new.phase result ≡ after_change two reply two.change }
+    {
+        put_two(store, two, &self.key.to_be_bytes(), self.given.take());
+        self.phase.after_change(two, reply)
+    }
+}
+
+/// Changes the node above, and before it the new nodes.
+fn put_two<C: NodeName, P: Payload, S: Store<C, P>>(
+    store: &mut S,
+    two: Two<C>,
+    key: &[u8; KEY_BYTES],
+    new: Option<P>,
+)
+    requires { MayChangeTwo C.number key.now new two two.change (S.heap store.old) }
+    ensures limit { S.version_max store.new ≡ S.version_max store.old }
+    ensures rest { S.rest store.new ≡ S.rest store.old }
+    ensures changed { ChangedTwo C.number key.now new two two.change (S.heap store.old) (S.heap store.new) }
+{
+    let value = value_child(new);
+    let change = two.change;
+    match change {
+        Double::Unlink => store.change(two.parent(), two.above.byte, Child::Blank),
+        Double::Grow { node: greater } => put_greater(
+            store,
+            two,
+            greater,
+            key[MAX_PREFIX_LEN],
+            value,
+        ),
+        Double::GrowLink {
+            node: greater,
+            leaf,
+            byte,
+        } => {
+            store.fill(leaf, key[MAX_PREFIX_LEN], value);
+            put_greater(store, two, greater, byte, Child::Node(leaf));
+        }
+        Double::Split {
+            top,
+            leaf,
+            common,
+            byte,
+        } => {
+            store.fill(leaf, key[MAX_PREFIX_LEN], value);
+            put_fork(store, two, top, byte, key[common], leaf);
+        }
+    }
+}
+
+/// Puts a greater node, with one more child, in the place of the node at hand.
+fn put_greater<C: NodeName, P: Payload, S: Store<C, P>>(
+    store: &mut S,
+    two: Two<C>,
+    greater: C,
+    byte: u8,
+    child: Child<C, P>,
+)
+    requires above { Changeable (S.heap store.old (C.number two.above.seat.node)) two.above.byte (Below (C.number greater)) }
+    requires stands { Stands (S.heap store.old (C.number two.at.node)) }
+    requires blank { Blank (S.heap store.old (C.number greater)) (S.heap store.old (C.number two.at.node)).count }
+    requires beside_above { C.number two.above.seat.node ≢ C.number greater }
+    requires beside { C.number two.at.node ≢ C.number greater }
+    requires apart { C.number two.above.seat.node ≢ C.number two.at.node }
+    requires hangs { hung C.number child ≢ Nothing }
+    requires alike { HoldsAlike (S.heap store.old (C.number two.at.node)) }
+    ensures limit { S.version_max store.new ≡ S.version_max store.old }
+    ensures rest { S.rest store.new ≡ S.rest store.old }
+    ensures put { PutsGreater C.number two greater byte (hung C.number child) (S.heap store.old) (S.heap store.new) }
+{
+    let parent = two.parent();
+    let Two { above, at, .. } = two;
+    store.take_over(at.node, greater);
+    store.fill(greater, byte, child);
+    store.change(parent, above.byte, Child::Node(greater));
+}
+
+/// Puts a node above the one at hand and a new leaf in its place.
+fn put_fork<C: NodeName, P: Payload, S: Store<C, P>>(
+    store: &mut S,
+    two: Two<C>,
+    top: C,
+    byte: u8,
+    new_byte: u8,
+    leaf: C,
+)
+    requires above { Changeable (S.heap store.old (C.number two.above.seat.node)) two.above.byte (Below (C.number top)) }
+    requires blank { Blank (S.heap store.old (C.number top)) 1 }
+    requires bytes { byte ≢ new_byte }
+    requires apart { C.number two.above.seat.node ≢ C.number top }
+    ensures limit { S.version_max store.new ≡ S.version_max store.old }
+    ensures rest { S.rest store.new ≡ S.rest store.old }
+    ensures put { PutsFork C.number two top byte new_byte leaf (S.heap store.old) (S.heap store.new) }
+{
+    let parent = two.parent();
+    let Two { above, at, .. } = two;
+    store.fill(top, byte, Child::Node(at.node));
+    store.fill(top, new_byte, Child::Node(leaf));
+    store.change(parent, above.byte, Child::Node(top));
+}
+
+/// Gives up the change of one node: the node that was made for it goes back, and the reply is dropped.
+fn give_up_one<C: NodeName, P: Payload, S: Store<C, P>>(
+    store: &mut S,
+    change: Single<C>,
+    reply: Reply<P>,
+)
+    requires { MayBackOne C.number (S.heap store.old) change }
+    ensures limit { S.version_max store.new ≡ S.version_max store.old }
+    ensures rest { S.rest store.new ≡ S.rest store.old }
+    ensures back { BackOne C.number (S.heap store.old) change (S.heap store.new) }
+{
+    drop(reply);
+    match change {
+        Single::Set => {}
+        Single::Link { leaf } => store.give_back(leaf),
+    }
+}
+
+/// Gives up the change of the node above: the nodes that were made for it go back, and the reply is dropped.
+fn give_up_two<C: NodeName, P: Payload, S: Store<C, P>>(
+    store: &mut S,
+    change: Double<C>,
+    reply: Reply<P>,
+)
+    requires { MayBackTwo C.number (S.heap store.old) change }
+    ensures limit { S.version_max store.new ≡ S.version_max store.old }
+    ensures rest { S.rest store.new ≡ S.rest store.old }
+    ensures back { BackTwo C.number (S.heap store.old) change (S.heap store.new) }
+{
+    drop(reply);
+    match change {
+        Double::Unlink => {}
+        Double::Grow { node } => store.give_back(node),
+        Double::GrowLink { node, leaf, .. } => {
+            store.give_back(leaf);
+            store.give_back(node);
+        }
+        Double::Split { top, leaf, .. } => {
+            store.give_back(leaf);
+            store.give_back(top);
+        }
+    }
+}
