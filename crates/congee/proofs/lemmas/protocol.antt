@@ -31,7 +31,6 @@ pub mod Origins
 pub mod Destroys
 pub mod Regions
 pub mod Sweeps
-pub mod SweepRuns
 pub mod SweepBytes
 pub mod SweepWays
 pub mod SweepKept
