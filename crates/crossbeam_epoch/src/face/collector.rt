@@ -7,13 +7,13 @@ ghost use Rattle.crossbeam_epoch.specs.Face.Pins.{IsRead, IsDue};
 ghost use Rattle.crossbeam_epoch.specs.Face.Queue.{TakesAll};
 ghost use Rattle.crossbeam_epoch.specs.Face.Tokens.{known, IsOf};
 
-use crate::bag::{BAG, BAGS, Bag, Work};
+use crate::bag::{BAG, BAGS, Bag, Sealed, Work};
 use crate::face::collected::Collected;
 use crate::face::handle::LocalHandle;
 use crate::face::internal::Internal;
 use crate::face::lent::{Lent, LentMut};
 use crate::face::pins::{Ended, Pins};
-use crate::face::queue::{EXPIRY, NoneExpired, Queue, Queued, SealedBag};
+use crate::face::queue::{EXPIRY, NoneExpired, Queue, Queued};
 use crate::face::seats::Token;
 use crate::face::slots::{Kept, Slots};
 use crate::fault::Fault;
@@ -142,8 +142,7 @@ impl<T: Drop, J: Task> Collector<T, J> {
         requires { (known token.now).seen ≡ seal }
         ensures { MatchResult result (λ q. q.seal ≡ seal) (λ j. j ≡ jobs) }
     {
-        let bag = SealedBag::new(token, seal, jobs);
-        self.lock().lock(rt).queue.push(bag)
+        self.lock().lock(rt).queue.push(token, seal, jobs)
     }
 
     /// Places a value in a free cell, whose name is taken under the lock; hands it back where none is usable.
@@ -178,11 +177,17 @@ impl<T: Drop, J: Task> Collector<T, J> {
         Some(value)
     }
 
-    /// Takes the front bag off, where it is expired at the epoch that was seen.
-    fn take_expired<R: Wait>(&self, rt: &R, seen: u64) -> Result<SealedBag<J>, NoneExpired>
-        ensures { MatchResult result (λ b. b.bag.seal + 2 ≤ seen) (λ n. n.seen ≡ seen) }
+    /// Takes the front bag off, where it is expired at the epoch that this seat saw last.
+    fn take_expired<R: Wait>(
+        &self,
+        rt: &R,
+        token: &Token,
+        seen: u64,
+    ) -> Result<Sealed<J>, NoneExpired>
+        requires { (known token.now).seen ≡ seen }
+        ensures { MatchResult result (λ b. b.seal + 2 ≤ seen) (λ n. n.seen ≡ seen) }
     {
-        self.lock().lock(rt).queue.pop_expired(seen)
+        self.lock().lock(rt).queue.pop_expired(token, seen)
     }
 
     /// Tries to advance the epoch once, then calls the jobs of expired bags from the queue's front: of at most `BAGS`, and
@@ -211,9 +216,8 @@ impl<T: Drop, J: Task> Collector<T, J> {
         requires { (known token.now).seen ≡ seen }
         ensures { MatchResult result (λ s. s + 2 ≤ seen) (λ n. n.seen ≡ seen) }
     {
-        let bag = self.take_expired(rt, seen)?;
-        let seal = bag.seal();
-        self.call(rt, bag.open(token));
+        let Sealed { seal, jobs } = self.take_expired(rt, token, seen)?;
+        self.call(rt, jobs);
         Ok(seal)
     }
 
@@ -236,8 +240,8 @@ impl<T: Drop, J: Task> Collector<T, J> {
 fn call_bags<T: Drop, J: Task>(slots: &Slots<T>, queue: &mut Queue<J>, ended: &Ended)
     ensures { queue.new.bags.items ≡ [] }
 {
-    while let Some(bag) = queue.pop() {
-        call_left(slots, bag.open_at_end(ended));
+    while let Some(bag) = queue.pop(ended) {
+        call_left(slots, bag.jobs);
     }
 }
 

@@ -14,49 +14,6 @@ use std::alloc::Global;
 /// How far the epoch has to be past a bag's seal.
 pub const EXPIRY: u64 = 2;
 
-/// A bag that its participant sealed, with the epoch that its seat saw last. Its jobs are to be had by whoever saw an epoch
-/// that is two past the seal, and at the end.
-#[derive(Drop)]
-pub struct SealedBag<J: Task> {
-    bag: Sealed<J>,
-}
-
-impl<J: Task> SealedBag<J> {
-    /// Seals these jobs with the epoch that this seat saw last.
-    pub fn new(_token: &Token, seal: u64, jobs: Bag<J>) -> SealedBag<J>
-        requires { (known _token.now).seen ≡ seal }
-        ensures { result.bag ≡ record { seal = seal; jobs = jobs } }
-    {
-        SealedBag {
-            bag: Sealed { seal, jobs },
-        }
-    }
-
-    /// Its seal.
-    pub fn seal(&self) -> u64
-        ensures { result ≡ self.now.bag.seal }
-    {
-        self.bag.seal
-    }
-
-    /// Its jobs, for a seat that saw an epoch which is two past the seal.
-    pub fn open(self, _token: &Token) -> Bag<J>
-        requires { self.bag.seal + 2 ≤ (known _token.now).seen }
-        ensures { result ≡ self.bag.jobs }
-    {
-        let SealedBag { bag } = self;
-        bag.jobs
-    }
-
-    /// Its jobs, at the end.
-    pub fn open_at_end(self, _ended: &Ended) -> Bag<J>
-        ensures { result ≡ self.bag.jobs }
-    {
-        let SealedBag { bag } = self;
-        bag.jobs
-    }
-}
-
 /// That a bag with this seal was queued.
 #[derive(Clone, Copy, Drop)]
 pub struct Queued {
@@ -78,7 +35,8 @@ pub struct NoneExpired {
     seen: u64,
 }
 
-/// Sealed bags, the oldest in front.
+/// Sealed bags, the oldest in front. The one way in is by a seat, which seals a bag with the epoch that it saw last; the ways
+/// out are by a seat that saw an epoch two past the seal, and by the end.
 #[derive(Drop)]
 pub struct Queue<J: Task> {
     bags: Chain<J>,
@@ -94,18 +52,18 @@ impl<J: Task> Queue<J> {
         }
     }
 
-    /// Puts a bag behind the others. Hands its jobs back where a block is to be made for it and there is no memory.
-    pub fn push(&mut self, bag: SealedBag<J>) -> Result<Queued, Bag<J>>
+    /// Seals these jobs with the epoch that this seat saw last, and puts them behind the others. Hands them back where a
+    /// block is to be made for them and there is no memory.
+    pub fn push(&mut self, _token: &Token, seal: u64, jobs: Bag<J>) -> Result<Queued, Bag<J>>
+        requires { (known _token.now).seen ≡ seal }
         ensures bags { MatchResult result
-            (λ q. (q.seal ≡ bag.bag.seal) × (self.new.bags.items ≡ self.old.bags.items ++ bag.bag ∷ []))
-            (λ j. (j ≡ bag.bag.jobs) × (self.new.bags.items ≡ self.old.bags.items) × (self.old.bags.room ≡ 0)) }
+            (λ q. (q.seal ≡ seal) × (self.new.bags.items ≡ self.old.bags.items ++ record { seal = seal; jobs = jobs } ∷ []))
+            (λ j. (j ≡ jobs) × (self.new.bags.items ≡ self.old.bags.items) × (self.old.bags.room ≡ 0)) }
     {
-        let SealedBag { bag } = bag;
         if self.bags.reserve().is_err() {
-            return Err(bag.jobs);
+            return Err(jobs);
         }
-        let seal = bag.seal;
-        self.bags.push_back_reserved(bag);
+        self.bags.push_back_reserved(Sealed { seal, jobs });
         Ok(Queued { seal })
     }
 
@@ -119,28 +77,26 @@ impl<J: Task> Queue<J> {
         }
     }
 
-    /// Takes the front bag off, where the epoch that was seen is at least two past its seal.
-    pub fn pop_expired(&mut self, seen: u64) -> Result<SealedBag<J>, NoneExpired>
+    /// Takes the front bag off, for a seat that saw an epoch which is two past the bag's seal.
+    pub fn pop_expired(&mut self, _token: &Token, seen: u64) -> Result<Sealed<J>, NoneExpired>
+        requires { (known _token.now).seen ≡ seen }
         ensures bags { MatchResult result
-            (λ b. (b.bag.seal + 2 ≤ seen) × (self.old.bags.items ≡ b.bag ∷ self.new.bags.items))
+            (λ b. (b.seal + 2 ≤ seen) × (self.old.bags.items ≡ b ∷ self.new.bags.items))
             (λ n. (n.seen ≡ seen) × (is_front_expired (λ b. b.seal) self.old.bags.items seen ≡ false) × (self.new.bags.items ≡ self.old.bags.items)) }
     {
         if !self.is_front_expired(seen) {
             return Err(NoneExpired { seen });
         }
         match self.bags.pop_front() {
-            Some(bag) => Ok(SealedBag { bag }),
+            Some(bag) => Ok(bag),
             None => Err(NoneExpired { seen }),
         }
     }
 
-    /// Takes the front bag off.
-    pub fn pop(&mut self) -> Option<SealedBag<J>>
-        ensures { MatchOption result ((self.old.bags.items ≡ []) × (self.new.bags.items ≡ [])) (λ b. self.old.bags.items ≡ b.bag ∷ self.new.bags.items) }
+    /// Takes the front bag off, at the end.
+    pub fn pop(&mut self, _ended: &Ended) -> Option<Sealed<J>>
+        ensures { MatchOption result ((self.old.bags.items ≡ []) × (self.new.bags.items ≡ [])) (λ b. self.old.bags.items ≡ b ∷ self.new.bags.items) }
     {
-        match self.bags.pop_front() {
-            Some(bag) => Some(SealedBag { bag }),
-            None => None,
-        }
+        self.bags.pop_front()
     }
 }
