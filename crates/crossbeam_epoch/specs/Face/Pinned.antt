@@ -1,5 +1,5 @@
 -- A call under a guard of its own.
-use Rattle.std.specs.Prelude.{◌≡◌, ℕ, ◌+◌, ◌-◌, ◌<◌, true, Result, Ok, Err}
+use Rattle.std.specs.Prelude.{◌≡◌, ◌+◌, ◌-◌, ◌<◌, true, Result, Err}
 use Rattle.std.specs.Bool.{MatchBool}
 use Rattle.crossbeam_epoch.specs.declared.face.guard.Guard.{Guard}
 use Rattle.crossbeam_epoch.specs.declared.fault.Fault.{Fault}

@@ -1,6 +1,6 @@
 -- What a handle knows while guards of it are out.
 use Rattle.std.proofs.Common.{◌≡◌, ◌≢◌, ℕ, ◌+◌, ◌<◌, ◌≤◌, Bool, true, false, refl, sym, ap, ◌∙◌, subst, inl, inr, arith, Option, Some, None, List, [], length, Result, Ok, Err}
-use Rattle.std.specs.Prelude.{nat_lt, nat_le, nat_eq, OnOk, IfErr, IfSome, IsSomeAnd, ◌⊎◌, if◌then◌else◌}
+use Rattle.std.specs.Prelude.{nat_lt, nat_le, nat_eq, OnOk, IfErr, IfSome, ◌⊎◌}
 use Rattle.std.specs.Bool.{MatchBool}
 use Rattle.std.proofs.lemmas.Bool.{true≢false, eq-eqb, lt-ltb, ltb-true}
 use Rattle.std.proofs.lemmas.Bool.Decides.{nat_tests}
@@ -32,13 +32,17 @@ pub owns_own : (n : ℕ) (mine guard : Seat) → guard ≡ mine → owns (n + 1)
 owns_own n mine guard is = let out = out_is (n + 1) (omega arith) in
     rw (out, ap (λ (x : Seat). x.collector) is, ap (λ (x : Seat). x.place) is, eq-eqb mine.collector mine.collector refl, eq-eqb mine.place mine.place refl) refl
 
--- a look changes nothing but what was seen and passed
-pub looked_with : (n p a e s d x : ℕ) (v w : View) → v ≡ with_guards n p a e s d → w ≡ with_seen v x → w ≡ with_guards n p a e w.seen w.passed
-looked_with n p a e s d x v w is now = go (nat_lt 0 n) refl
+-- a scan changes nothing but what was seen and passed
+pub scanned_with : (n p a e s d x q : ℕ) (v w : View) → v ≡ with_guards n p a e s d → w ≡ record v { seen = x; passed = q } → w ≡ with_guards n p a e w.seen w.passed
+scanned_with n p a e s d x q v w is now = go (nat_lt 0 n) refl
   where
     go : (b : Bool) → nat_lt 0 n ≡ b → w ≡ with_guards n p a e w.seen w.passed
-    go true h = let i = rw h at is in rw h (subst (λ (u : View). u ≡ record { place = Some p; at = Some a; pin = Some e; seen = u.seen; passed = u.passed; asked = 0; taken = 0 }) (sym (now ∙ ap (λ (u : View). with_seen u x) i)) refl)
-    go false h = let i = rw h at is in rw h (subst (λ (u : View). u ≡ record { place = Some p; at = None; pin = None; seen = u.seen; passed = u.passed; asked = 0; taken = 0 }) (sym (now ∙ ap (λ (u : View). with_seen u x) i)) refl)
+    go true h = let i = rw h at is in rw h (subst (λ (u : View). u ≡ record { place = Some p; at = Some a; pin = Some e; seen = u.seen; passed = u.passed; asked = 0; taken = 0 }) (sym (now ∙ ap (λ (u : View). record u { seen = x; passed = q }) i)) refl)
+    go false h = let i = rw h at is in rw h (subst (λ (u : View). u ≡ record { place = Some p; at = None; pin = None; seen = u.seen; passed = u.passed; asked = 0; taken = 0 }) (sym (now ∙ ap (λ (u : View). record u { seen = x; passed = q }) i)) refl)
+
+-- and so does a look
+pub looked_with : (n p a e s d x : ℕ) (v w : View) → v ≡ with_guards n p a e s d → w ≡ with_seen v x → w ≡ with_guards n p a e w.seen w.passed
+looked_with n p a e s d x v w is now = scanned_with n p a e s d x 0 v w is now
 
 -- with a guard out the epoch that is read is the one that confirmed its pin, or one more
 pub read_under : (n p a e s d x m f : ℕ) (v : View) → v ≡ with_guards n p a e s d → IsRead v x → n ≡ m → e ≡ f → 0 < m → (f ≤ x) × (x ≤ f + 1)
@@ -122,3 +126,11 @@ other_guard b A B other x = rw other x
 -- a guard of a handle is still its own where the handle has the seat and the number of guards that it had
 pub still_own : (n m : ℕ) (mine was guard : Seat) → n ≡ m → mine ≡ was → owns m was guard ≡ true → owns n mine guard ≡ false → ⊥
 still_own n m mine was guard same place own other = true≢false (sym own ∙ sym (ap (λ (k : ℕ). owns k was guard) same) ∙ sym (ap (λ (x : Seat). owns n x guard) place) ∙ other)
+
+-- the bag that has a free place has one
+pub with_place : {J : Type 0} (b w : List (Entry J)) → w ≡ with_room b → length w < bag_places
+with_place {J} b w is = subst (λ (x : List (Entry J)). length x < bag_places) (sym is) (go (nat_lt (length b) bag_places) refl)
+  where
+    go : (c : Bool) → nat_lt (length b) bag_places ≡ c → length (with_room b) < bag_places
+    go true h = rw h (ltb-true (length b) bag_places h)
+    go false h = rw h (omega arith)

@@ -1,6 +1,5 @@
-use Rattle.std.proofs.Common.{◌≡◌, [], ◌∙◌, ◌++◌, ap}
+use Rattle.std.proofs.Common.{◌≡◌, [], ◌∙◌, ap}
 use Rattle.std.specs.VecDeque.{deque_len, deque_capacity}
-use Rattle.crossbeam_epoch.specs.Chain.{joined}
 use Rattle.crossbeam_epoch.proofs.lemmas.world.Chains.{nothing_first, alone, blocks_none}
 use Rattle.crossbeam_epoch.proofs.chain.Chain.give_up.Goals as goal
 

@@ -1,4 +1,4 @@
-use Rattle.std.proofs.Common.{◌≡◌, ◌∷◌, [], sym, ap, ◌∙◌, length}
+use Rattle.std.proofs.Common.{◌∷◌, sym, ap, ◌∙◌, length}
 use Rattle.crossbeam_epoch.specs.Chain.{room_left}
 use Rattle.crossbeam_epoch.proofs.lemmas.world.Chains.{nothing_left, left_none, left_some}
 use Rattle.crossbeam_epoch.proofs.chain.Chain.pop_front.Goals as goal

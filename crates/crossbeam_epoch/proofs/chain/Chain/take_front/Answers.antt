@@ -1,6 +1,5 @@
-use Rattle.std.proofs.Common.{◌≡◌, ◌++◌, ◌∷◌, [], ◌≤◌, ◌-◌, sym, ap, subst, ◌∙◌, length}
+use Rattle.std.proofs.Common.{◌≡◌, ◌∷◌, [], sym, ap, ◌∙◌, length}
 use Rattle.std.specs.VecDeque.{deque_len, deque_capacity}
-use Rattle.crossbeam_epoch.specs.Chain.{joined, room_freed}
 use Rattle.crossbeam_epoch.proofs.lemmas.world.Chains.{nothing_in, something_in, not_nothing, alone, taken_off, taken_last, taken_first, taken_over, freed_last, freed_first, within, last_within, blocks_last, blocks_first, blocks_next}
 use Rattle.crossbeam_epoch.proofs.lemmas.world.Endings.{none_left}
 use Rattle.crossbeam_epoch.proofs.chain.Chain.take_front.Goals as goal

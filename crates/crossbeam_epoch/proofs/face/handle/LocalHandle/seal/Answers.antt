@@ -1,4 +1,4 @@
-use Rattle.std.proofs.Common.{ap, sym, subst, refl, length, ◌<◌, ◌∙◌}
+use Rattle.std.proofs.Common.{ap, sym, subst, length, ◌<◌, ◌∙◌}
 use Rattle.std.proofs.lemmas.Bool.{lt-ltb}
 use Rattle.crossbeam_epoch.proofs.lemmas.face.Guards.{looked_with, read_under, sealed_now, some_job}
 use Rattle.crossbeam_epoch.proofs.face.handle.LocalHandle.seal.Goals as goal

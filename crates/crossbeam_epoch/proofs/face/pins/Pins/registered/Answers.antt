@@ -1,4 +1,4 @@
-use Rattle.std.proofs.Common.{rules, arith, ap, ◌∙◌, ◌<◌}
+use Rattle.std.proofs.Common.{rules, arith, ◌<◌}
 use Rattle.crossbeam_epoch.proofs.lemmas.face.Pins.{arrives, counts}
 use Rattle.crossbeam_epoch.proofs.face.pins.Pins.registered.Goals as goal
 
