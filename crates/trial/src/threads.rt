@@ -78,7 +78,7 @@ fn caller<L: Ledger, R: Wait>(
 }
 
 /// So many workers, each with a share of one part.
-fn callers<L: Ledger, R: Wait>(
+pub(crate) fn callers<L: Ledger, R: Wait>(
     rt: &R,
     alloc: Global,
     index: &Index<L>,

@@ -5,7 +5,7 @@ ghost use Rattle.std.specs.Prelude.{◌≡◌, ◌<◌, IfSome, IfOk};
 use crossbeam_epoch::{Collector, Fault, Guard, LocalHandle, Task};
 use std::sync::Wait;
 
-/// Collects with one handle, and tells another of it, of which this guard is out. The greatest seal of what was called, if
+/// One handle collects, and the other one, whose guard this is, is told of it. The greatest seal of what was called, if
 /// anything was.
 pub fn calls_what_is_older<'c, R: Wait, T: Drop, J: Task>(
     rt: &R,
@@ -25,7 +25,7 @@ pub fn calls_what_is_older<'c, R: Wait, T: Drop, J: Task>(
 
 /// The one handle is pinned, and the other one collects meanwhile. The greatest seal of what it called, if it called anything,
 /// and the epoch of the guard.
-pub fn two_handles<R: Wait>(
+pub fn collects_beside_a_guard<R: Wait>(
     rt: &R,
     collector: &Collector<u64, ()>,
 ) -> Result<(Option<u64>, u64), Fault>

@@ -70,7 +70,7 @@ pub fn drains_what_stands<D: Drainer<u64, u64>>(
     }
 }
 
-/// Puts a value at a key, as one whole call of a worker's; whether it came to its end.
+/// Puts a value at a key, as one whole call of a worker's, of 60 steps at most; whether it came to its end.
 fn puts<A: Allocator>(index: &mut World<u64, A>, who: u32, key: u64, value: u64) -> bool
     ensures { (fs : Flights ℕ) (m : Pairs ℕ) → IsMapOf (nodes index.old.forest) m → AreInFlight index.old fs → IsTrue result → KeepsAll fs (insert m key value) index.new }
 {
@@ -80,7 +80,7 @@ fn puts<A: Allocator>(index: &mut World<u64, A>, who: u32, key: u64, value: u64)
     }
 }
 
-/// What stands at a key, by one whole call of a worker's, if that came to its end.
+/// What stands at a key, by one whole call of a worker's, of 60 steps at most, if that came to its end.
 fn looks<A: Allocator>(index: &mut World<u64, A>, who: u32, key: u64) -> Option<Option<u64>>
     ensures { (fs : Flights ℕ) (m : Pairs ℕ) → IsMapOf (nodes index.old.forest) m → AreInFlight index.old fs → IfSome result (λ found. found ≡ get m key) }
 {

@@ -1,6 +1,7 @@
 //! Sixteen threads that call on one index with a journal: calls of each kind on a key, and scans between.
-ghost use Rattle.std.specs.Prelude.{◌≡◌, ◌+◌, ◌<◌, Some};
+ghost use Rattle.std.specs.Prelude.{◌≡◌};
 
+use crate::threads::callers;
 use crate::worker::{Caller, Cut, Index};
 use congee::DefaultAllocator;
 use joint::{Guard, Journaled, Limits, Refusal, Share, Worker, audit};
@@ -192,28 +193,6 @@ fn works<L: Ledger, R: Wait>(
     })
 }
 
-/// The workers, each with a share of one part.
-fn callers<L: Ledger, R: Wait>(
-    rt: &R,
-    alloc: Global,
-    index: &Index<L>,
-    all: &mut Share<L>,
-) -> Result<Vec<Caller<L>>, Cut>
-    requires parts { 16 < all.old.parts }
-{
-    let mut callers = Vec::new(alloc);
-    for place in 0..WORKERS {
-        let worker = index.register(rt)?;
-        let share = all.split(1);
-        callers.push(Caller {
-            place,
-            worker,
-            share,
-        })?;
-    }
-    Ok(callers)
-}
-
 /// Whether a journal is legal, and has each worker's own entries in its order.
 fn is_right(alloc: Global, journal: &[Entry<u64>], own: &[Vec<Entry<u64>>]) -> Result<bool, Cut> {
     Ok(check(alloc, journal)? == Verdict::Legal && audit(journal, own))
@@ -245,7 +224,7 @@ fn history<L: Ledger + Send + Sync, R: Threads + Wait + Sync>(
     let (index, mut all): (Index<L>, Share<L>) = Journaled::new(
         alloc, limits, allocator, places, 17, blank,
     )?;
-    let callers = callers(rt, alloc, &index, &mut all)?;
+    let callers = callers(rt, alloc, &index, &mut all, WORKERS)?;
     let shared = &index;
     let work = move |caller: Caller<L>| works(rt, alloc, shared, caller, count);
     let mut own = Vec::new(alloc);

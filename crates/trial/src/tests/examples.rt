@@ -2,11 +2,11 @@
 
 use super::face::limits;
 use super::machine::{
-    END, Index, begin, beginning, go as step_on, going, is_in_flight, noise, open,
+    END, Index, begin, beginning, go as step_on, going, is_in_flight, noise, open, registering,
 };
 use crate::examples::collector::put_off;
 use crate::examples::driven::{Driven, answered};
-use crate::examples::grace::two_handles;
+use crate::examples::grace::collects_beside_a_guard;
 use crate::examples::journal::{Store, is_honest};
 use crate::examples::machine::{
     Drained, drains_what_stands, reads_what_it_put, runs_and_closes, runs_as_one_map,
@@ -21,7 +21,7 @@ use crate::examples::stack::{Node, Stack, pops, sum_of_two};
 use crate::examples::threaded::{fills_and_closes, first_calls, shared_values};
 use congee::{Allocator, Congee, DefaultAllocator, Limited};
 use crossbeam_epoch::{Collector, Job};
-use joint::{Done, Event, Kind, Limits, Op, Outcome, Ran, Refusal, Report, Step};
+use joint::{Done, Event, Kind, Limits, Op, Outcome, Ran, Refusal, Report, Step, World};
 use judge::{Call, Entry, Reply};
 use std::alloc::{AllocError, Global};
 use std::sync::Arc;
@@ -113,12 +113,13 @@ fn an_index_that_is_closed_leaves_the_charge(rt: HostRuntime) -> Result<(), Fail
     Ok(())
 }
 
-/// A worker comes, puts two pairs in and goes.
+/// A worker comes, puts two pairs in and goes. The first pin inspects each place, so the steps are those of an index with two,
+/// as the example's.
 fn filled(alloc: Global) -> Result<Vec<Step<u64>>, Fail> {
-    let mut index = open(alloc, 1, 1000)?;
+    let mut index: Index = World::new(alloc, Limits::usual(2, 1000), Limited::new(u64::MAX))?;
     let mut steps = Vec::new(alloc);
-    let event = Event::Register;
-    steps.push(Step { worker: 0, event })?;
+    index.step(registering());
+    steps.push(registering())?;
     for op in [
         Op::Pin,
         Op::Insert(7, 70),
@@ -197,10 +198,7 @@ fn grown(alloc: Global, between: u32, behind: u32) -> Result<Vec<Step<u64>>, Fai
     let mut index = open(alloc, 2, 1000)?;
     let mut steps = Vec::new(alloc);
     for _ in 0..2 {
-        steps.push(Step {
-            worker: 0,
-            event: Event::Register,
-        })?;
+        steps.push(registering())?;
     }
     for key in 1..6 {
         for op in [Op::Pin, Op::Insert(key, key), Op::Get(key), Op::Unpin] {
@@ -366,7 +364,9 @@ fn what_was_put_off_is_called(rt: HostRuntime) -> Result<(), Fail> {
 #[test]
 fn what_is_called_is_older_than_a_guard(rt: HostRuntime) -> Result<(), Fail> {
     let collector: Collector<u64, ()> = Collector::new(&rt, rt.alloc(), limits(1), 1)?;
-    // Nothing was put off, and nobody advanced the epoch before the guard.
-    assert_eq!(rt; two_handles(&rt, &collector)?, (None, 0));
+    let mut handle = collector.register(&rt)?;
+    // It is sealed with 0, and the epoch goes on to 1. The guard takes that, and the collection beside it goes on to 2.
+    put_off(&rt, &mut handle, ())?;
+    assert_eq!(rt; collects_beside_a_guard(&rt, &collector)?, (Some(0), 1));
     Ok(())
 }

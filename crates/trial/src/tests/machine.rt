@@ -16,10 +16,15 @@ pub fn open(alloc: Global, workers: u32, cells: u32) -> Result<Index, Refusal> {
     let limits = Limits::usual(workers, cells);
     let mut index: Index = World::new(alloc, limits, Limited::new(u64::MAX))?;
     for _ in 0..workers {
-        let event = Event::Register;
-        index.step(Step { worker: 0, event });
+        index.step(registering());
     }
     Ok(index)
+}
+
+/// A step by which a worker comes.
+pub fn registering() -> Step<u64> {
+    let event = Event::Register;
+    Step { worker: 0, event }
 }
 
 /// A step that begins a call.

@@ -69,7 +69,47 @@ fn owner_refused(put: Result<Option<Owner>, (Refusal, Owner)>) -> Option<Refusal
     }
 }
 
-/// Whether each call of a tree with 1 alone is refused so.
+/// Whether each of the calls that all four trees have alike is refused so.
+macro_rules! others_refused {
+    ($rt:ident, $tree:ident, $so:ident, $worker:ident, $guard:ident) => {
+        $tree.is_empty($rt, $worker, $guard).err() == $so.other
+            && $tree.keys($rt, $worker).err() == $so.other
+            && $tree.stats($rt, $worker).err() == $so.other
+            && $tree.repin($rt, $worker, $guard).err() == $so.other
+            && $tree.flush($rt, $worker, $guard).err() == $so.other
+            && $tree.round($rt, $worker).err() == $so.other
+            && $tree.pinned($rt, $worker, |_, _| Ok(())).err() == $so.other
+            && refusal_of($tree.pin($rt, $worker)) == $so.other
+    };
+}
+
+/// Whether each call of a tree with 1 alone is refused so. `by` stands before a key that is looked for; a writing call also
+/// takes the share.
+macro_rules! all_refused {
+    (
+        $rt:ident, $tree:ident, $so:ident, $out:ident, ($($by:tt)?), ($($share:ident)?), $worker:ident,
+        $guard:ident
+    ) => {
+        $tree.insert($rt, 1, 3, $($share,)? $worker, $guard) == Err($so.present)
+            && $tree.compute_or_insert($rt, 1, next, $($share,)? $worker, $guard) == Err($so.present)
+            && $tree.compute_if_present($rt, $($by)? 1, |_| None, $($share,)? $worker, $guard)
+                == Err($so.present)
+            && $tree.compare_exchange($rt, $($by)? 1, &2, None, $($share,)? $worker, $guard)
+                == Err($so.present)
+            && $tree.remove($rt, $($by)? 1, $($share,)? $worker, $guard) == Err($so.present)
+            && $tree.insert($rt, ABSENT, 3, $($share,)? $worker, $guard) == Err($so.absent)
+            && $tree.compute_or_insert($rt, ABSENT, next, $($share,)? $worker, $guard)
+                == Err($so.absent)
+            && $tree.get($rt, $($by)? 1, $worker, $guard).err() == $so.other
+            && $tree.range($rt, $($by)? 0, $($by)? 9, &mut $out, $worker, $guard).err() == $so.other
+            && $tree
+                .range_inclusive($rt, $($by)? 0, $($by)? 9, &mut $out, $worker, $guard)
+                .err()
+                == $so.other
+            && others_refused!($rt, $tree, $so, $worker, $guard)
+    };
+}
+
 fn words_refuse<R: Wait>(
     rt: &R,
     tree: &Words,
@@ -78,27 +118,7 @@ fn words_refuse<R: Wait>(
     guard: &Guard,
 ) -> bool {
     let mut out = [(0, 0); 2];
-    tree.insert(rt, 1, 3, worker, guard) == Err(so.present)
-        && tree.compute_or_insert(rt, 1, next, worker, guard) == Err(so.present)
-        && tree.compute_if_present(rt, &1, |_| None, worker, guard) == Err(so.present)
-        && tree.compare_exchange(rt, &1, &2, None, worker, guard) == Err(so.present)
-        && tree.remove(rt, &1, worker, guard) == Err(so.present)
-        && tree.insert(rt, ABSENT, 3, worker, guard) == Err(so.absent)
-        && tree.compute_or_insert(rt, ABSENT, next, worker, guard) == Err(so.absent)
-        && tree.get(rt, &1, worker, guard).err() == so.other
-        && tree.range(rt, &0, &9, &mut out, worker, guard).err() == so.other
-        && tree
-            .range_inclusive(rt, &0, &9, &mut out, worker, guard)
-            .err()
-            == so.other
-        && tree.is_empty(rt, worker, guard).err() == so.other
-        && tree.keys(rt, worker).err() == so.other
-        && tree.stats(rt, worker).err() == so.other
-        && tree.repin(rt, worker, guard).err() == so.other
-        && tree.flush(rt, worker, guard).err() == so.other
-        && tree.round(rt, worker).err() == so.other
-        && tree.pinned(rt, worker, |_, _| Ok(())).err() == so.other
-        && refusal_of(tree.pin(rt, worker)) == so.other
+    all_refused!(rt, tree, so, out, (&), (), worker, guard)
 }
 
 fn numbers_refuse<R: Wait>(
@@ -109,27 +129,19 @@ fn numbers_refuse<R: Wait>(
     guard: &Guard,
 ) -> bool {
     let mut out = [([0; 8], 0); 2];
-    tree.insert(rt, 1, 3, worker, guard) == Err(so.present)
-        && tree.compute_or_insert(rt, 1, next, worker, guard) == Err(so.present)
-        && tree.compute_if_present(rt, 1, |_| None, worker, guard) == Err(so.present)
-        && tree.compare_exchange(rt, 1, &2, None, worker, guard) == Err(so.present)
-        && tree.remove(rt, 1, worker, guard) == Err(so.present)
-        && tree.insert(rt, ABSENT, 3, worker, guard) == Err(so.absent)
-        && tree.compute_or_insert(rt, ABSENT, next, worker, guard) == Err(so.absent)
-        && tree.get(rt, 1, worker, guard).err() == so.other
-        && tree.range(rt, 0, 9, &mut out, worker, guard).err() == so.other
-        && tree
-            .range_inclusive(rt, 0, 9, &mut out, worker, guard)
-            .err()
-            == so.other
-        && tree.is_empty(rt, worker, guard).err() == so.other
-        && tree.keys(rt, worker).err() == so.other
-        && tree.stats(rt, worker).err() == so.other
-        && tree.repin(rt, worker, guard).err() == so.other
-        && tree.flush(rt, worker, guard).err() == so.other
-        && tree.round(rt, worker).err() == so.other
-        && tree.pinned(rt, worker, |_, _| Ok(())).err() == so.other
-        && refusal_of(tree.pin(rt, worker)) == so.other
+    all_refused!(rt, tree, so, out, (), (), worker, guard)
+}
+
+fn recorded_refuse<L: Ledger, R: Wait>(
+    rt: &R,
+    tree: &Recorded<L>,
+    so: Refused,
+    share: &mut Share<L>,
+    worker: &mut Worker,
+    guard: &Guard,
+) -> bool {
+    let mut out = [(0, 0); 2];
+    all_refused!(rt, tree, so, out, (&), (share), worker, guard)
 }
 
 fn owners_refuse<R: Wait>(
@@ -148,46 +160,7 @@ fn owners_refuse<R: Wait>(
             == Some(so.present)
         && tree.remove(rt, 1, worker, guard).err() == Some(so.present)
         && tree.get(rt, 1, worker, guard).err() == so.other
-        && tree.is_empty(rt, worker, guard).err() == so.other
-        && tree.keys(rt, worker).err() == so.other
-        && tree.stats(rt, worker).err() == so.other
-        && tree.repin(rt, worker, guard).err() == so.other
-        && tree.flush(rt, worker, guard).err() == so.other
-        && tree.round(rt, worker).err() == so.other
-        && tree.pinned(rt, worker, |_, _| Ok(())).err() == so.other
-        && refusal_of(tree.pin(rt, worker)) == so.other
-}
-
-fn recorded_refuse<L: Ledger, R: Wait>(
-    rt: &R,
-    tree: &Recorded<L>,
-    so: Refused,
-    share: &mut Share<L>,
-    worker: &mut Worker,
-    guard: &Guard,
-) -> bool {
-    let mut out = [(0, 0); 2];
-    tree.insert(rt, 1, 3, share, worker, guard) == Err(so.present)
-        && tree.compute_or_insert(rt, 1, next, share, worker, guard) == Err(so.present)
-        && tree.compute_if_present(rt, &1, |_| None, share, worker, guard) == Err(so.present)
-        && tree.compare_exchange(rt, &1, &2, None, share, worker, guard) == Err(so.present)
-        && tree.remove(rt, &1, share, worker, guard) == Err(so.present)
-        && tree.insert(rt, ABSENT, 3, share, worker, guard) == Err(so.absent)
-        && tree.compute_or_insert(rt, ABSENT, next, share, worker, guard) == Err(so.absent)
-        && tree.get(rt, &1, worker, guard).err() == so.other
-        && tree.range(rt, &0, &9, &mut out, worker, guard).err() == so.other
-        && tree
-            .range_inclusive(rt, &0, &9, &mut out, worker, guard)
-            .err()
-            == so.other
-        && tree.is_empty(rt, worker, guard).err() == so.other
-        && tree.keys(rt, worker).err() == so.other
-        && tree.stats(rt, worker).err() == so.other
-        && tree.repin(rt, worker, guard).err() == so.other
-        && tree.flush(rt, worker, guard).err() == so.other
-        && tree.round(rt, worker).err() == so.other
-        && tree.pinned(rt, worker, |_, _| Ok(())).err() == so.other
-        && refusal_of(tree.pin(rt, worker)) == so.other
+        && others_refused!(rt, tree, so, worker, guard)
 }
 
 /// What bounds a tree for one worker, whose nodes are locked once at most; and how it then refuses, once 1 has its second value.
@@ -223,7 +196,30 @@ fn full(cells: u32, bytes: u64, absent: Refusal) -> Bounds {
     }
 }
 
-/// Whether a tree refuses a stranger, who is of another one, and its own worker at its bounds.
+/// Whether a tree refuses a stranger, who is of another one, and its own worker at its bounds: both by what is asked of them
+/// and their guards, and as they come and leave.
+macro_rules! holds {
+    (
+        $rt:ident, $tree:ident, $home:ident,
+        ($stranger:ident, $theirs:ident) => $is_strange:expr,
+        ($worker:ident, $guard:ident) => $is_bound:expr $(,)?
+    ) => {{
+        let mut $stranger = $home.register($rt)?;
+        let $theirs = $home.pin($rt, &mut $stranger)?;
+        let is_strange = $is_strange && $home.get($rt, &1, &mut $stranger, &$theirs) == Ok(None);
+        let back = spent($tree.unpin($rt, &mut $stranger, $theirs));
+        let stays = left($tree.release($rt, $stranger));
+        let mut $worker = $tree.register($rt)?;
+        let $guard = $tree.pin($rt, &mut $worker)?;
+        let is_bound = $is_bound;
+        spent($tree.unpin($rt, &mut $worker, $guard))?;
+        let is_alone = $tree.register($rt) == Err(Refusal::TableFull);
+        // The guard of the last refusal is out.
+        let is_held = left($tree.release($rt, $worker)) == Err(Refusal::GuardOut);
+        Ok(is_strange && (back, stays) == STRANGERS && is_bound && is_alone && is_held)
+    }};
+}
+
 fn words_hold<R: Wait>(
     rt: &R,
     alloc: Global,
@@ -231,23 +227,14 @@ fn words_hold<R: Wait>(
     bounds: Bounds,
 ) -> Result<bool, Refusal> {
     let tree: Words = Congee::new(alloc, bounds.limits(), Limited::new(bounds.bytes))?;
-    let mut stranger = home.register(rt)?;
-    let theirs = home.pin(rt, &mut stranger)?;
-    let is_strange = words_refuse(rt, &tree, FOREIGN, &mut stranger, &theirs)
-        && home.get(rt, &1, &mut stranger, &theirs) == Ok(None);
-    let back = spent(tree.unpin(rt, &mut stranger, theirs));
-    let stays = left(tree.release(rt, stranger));
-    let mut worker = tree.register(rt)?;
-    let guard = tree.pin(rt, &mut worker)?;
-    let is_bound = tree.insert(rt, 1, 1, &mut worker, &guard) == Ok(None)
-        && tree.insert(rt, 1, 2, &mut worker, &guard) == Ok(Some(1))
-        && words_refuse(rt, &tree, bounds.so, &mut worker, &guard)
-        && tree.get(rt, &1, &mut worker, &guard) == Ok(Some(2));
-    spent(tree.unpin(rt, &mut worker, guard))?;
-    let is_alone = tree.register(rt) == Err(Refusal::TableFull);
-    // The guard of the last refusal is out.
-    let is_held = left(tree.release(rt, worker)) == Err(Refusal::GuardOut);
-    Ok(is_strange && (back, stays) == STRANGERS && is_bound && is_alone && is_held)
+    holds!(
+        rt, tree, home,
+        (stranger, theirs) => words_refuse(rt, &tree, FOREIGN, &mut stranger, &theirs),
+        (worker, guard) => tree.insert(rt, 1, 1, &mut worker, &guard) == Ok(None)
+            && tree.insert(rt, 1, 2, &mut worker, &guard) == Ok(Some(1))
+            && words_refuse(rt, &tree, bounds.so, &mut worker, &guard)
+            && tree.get(rt, &1, &mut worker, &guard) == Ok(Some(2)),
+    )
 }
 
 fn numbers_hold<R: Wait>(
@@ -257,22 +244,14 @@ fn numbers_hold<R: Wait>(
     bounds: Bounds,
 ) -> Result<bool, Refusal> {
     let tree: Numbers = U64Congee::new(alloc, bounds.limits(), Limited::new(bounds.bytes))?;
-    let mut stranger = home.register(rt)?;
-    let theirs = home.pin(rt, &mut stranger)?;
-    let is_strange = numbers_refuse(rt, &tree, FOREIGN, &mut stranger, &theirs)
-        && home.get(rt, &1, &mut stranger, &theirs) == Ok(None);
-    let back = spent(tree.unpin(rt, &mut stranger, theirs));
-    let stays = left(tree.release(rt, stranger));
-    let mut worker = tree.register(rt)?;
-    let guard = tree.pin(rt, &mut worker)?;
-    let is_bound = tree.insert(rt, 1, 1, &mut worker, &guard) == Ok(None)
-        && tree.insert(rt, 1, 2, &mut worker, &guard) == Ok(Some(1))
-        && numbers_refuse(rt, &tree, bounds.so, &mut worker, &guard)
-        && tree.get(rt, 1, &mut worker, &guard) == Ok(Some(2));
-    spent(tree.unpin(rt, &mut worker, guard))?;
-    let is_alone = tree.register(rt) == Err(Refusal::TableFull);
-    let is_held = left(tree.release(rt, worker)) == Err(Refusal::GuardOut);
-    Ok(is_strange && (back, stays) == STRANGERS && is_bound && is_alone && is_held)
+    holds!(
+        rt, tree, home,
+        (stranger, theirs) => numbers_refuse(rt, &tree, FOREIGN, &mut stranger, &theirs),
+        (worker, guard) => tree.insert(rt, 1, 1, &mut worker, &guard) == Ok(None)
+            && tree.insert(rt, 1, 2, &mut worker, &guard) == Ok(Some(1))
+            && numbers_refuse(rt, &tree, bounds.so, &mut worker, &guard)
+            && tree.get(rt, 1, &mut worker, &guard) == Ok(Some(2)),
+    )
 }
 
 /// So that there is one more of each value.
@@ -284,25 +263,14 @@ fn owners_hold<R: Wait>(rt: &R, alloc: Global, home: &Words, bounds: Bounds) -> 
     let three: Owner = Arc::new(alloc, 3)?;
     let (first, second, third) = (pair(&three)?, pair(&three)?, pair(&three)?);
     let tree: Owners = CongeeArc::new(alloc, bounds.limits())?;
-    let mut stranger = home.register(rt)?;
-    let theirs = home.pin(rt, &mut stranger)?;
-    let is_strange = owners_refuse(rt, &tree, FOREIGN, first, &mut stranger, &theirs)
-        && home.get(rt, &1, &mut stranger, &theirs) == Ok(None);
-    let back = spent(tree.unpin(rt, &mut stranger, theirs));
-    let stays = left(tree.release(rt, stranger));
-    let mut worker = tree.register(rt)?;
-    let guard = tree.pin(rt, &mut worker)?;
-    let is_bound = matches!(tree.insert(rt, 1, third.0, &mut worker, &guard), Ok(None))
-        && matches!(
-            tree.insert(rt, 1, third.1, &mut worker, &guard),
-            Ok(Some(_))
-        )
-        && owners_refuse(rt, &tree, bounds.so, second, &mut worker, &guard)
-        && matches!(tree.get(rt, 1, &mut worker, &guard), Ok(Some(_)));
-    spent(tree.unpin(rt, &mut worker, guard))?;
-    let is_alone = tree.register(rt) == Err(Refusal::TableFull);
-    let is_held = left(tree.release(rt, worker)) == Err(Refusal::GuardOut);
-    Ok(is_strange && (back, stays) == STRANGERS && is_bound && is_alone && is_held)
+    holds!(
+        rt, tree, home,
+        (stranger, theirs) => owners_refuse(rt, &tree, FOREIGN, first, &mut stranger, &theirs),
+        (worker, guard) => matches!(tree.insert(rt, 1, third.0, &mut worker, &guard), Ok(None))
+            && matches!(tree.insert(rt, 1, third.1, &mut worker, &guard), Ok(Some(_)))
+            && owners_refuse(rt, &tree, bounds.so, second, &mut worker, &guard)
+            && matches!(tree.get(rt, 1, &mut worker, &guard), Ok(Some(_))),
+    )
 }
 
 fn recorded_hold<L: Ledger, R: Wait>(
@@ -325,22 +293,14 @@ fn recorded_hold<L: Ledger, R: Wait>(
         1,
         blank,
     )?;
-    let mut stranger = home.register(rt)?;
-    let theirs = home.pin(rt, &mut stranger)?;
-    let is_strange = recorded_refuse(rt, &tree, FOREIGN, &mut share, &mut stranger, &theirs)
-        && home.get(rt, &1, &mut stranger, &theirs) == Ok(None);
-    let back = spent(tree.unpin(rt, &mut stranger, theirs));
-    let stays = left(tree.release(rt, stranger));
-    let mut worker = tree.register(rt)?;
-    let guard = tree.pin(rt, &mut worker)?;
-    let is_bound = tree.insert(rt, 1, 1, &mut share, &mut worker, &guard) == Ok(None)
-        && tree.insert(rt, 1, 2, &mut share, &mut worker, &guard) == Ok(Some(1))
-        && recorded_refuse(rt, &tree, bounds.so, &mut share, &mut worker, &guard)
-        && tree.get(rt, &1, &mut worker, &guard) == Ok(Some(2));
-    spent(tree.unpin(rt, &mut worker, guard))?;
-    let is_alone = tree.register(rt) == Err(Refusal::TableFull);
-    let is_held = left(tree.release(rt, worker)) == Err(Refusal::GuardOut);
-    Ok(is_strange && (back, stays) == STRANGERS && is_bound && is_alone && is_held)
+    holds!(
+        rt, tree, home,
+        (stranger, theirs) => recorded_refuse(rt, &tree, FOREIGN, &mut share, &mut stranger, &theirs),
+        (worker, guard) => tree.insert(rt, 1, 1, &mut share, &mut worker, &guard) == Ok(None)
+            && tree.insert(rt, 1, 2, &mut share, &mut worker, &guard) == Ok(Some(1))
+            && recorded_refuse(rt, &tree, bounds.so, &mut share, &mut worker, &guard)
+            && tree.get(rt, &1, &mut worker, &guard) == Ok(Some(2)),
+    )
 }
 
 fn recorded_hold_by_brand<R: Wait>(

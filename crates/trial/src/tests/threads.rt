@@ -204,7 +204,7 @@ struct Flags {
 }
 
 impl Flags {
-    /// Nothing.
+    /// Neither is told yet.
     fn new() -> Flags {
         Flags {
             here: AtomicBool::new(false),
