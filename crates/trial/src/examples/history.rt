@@ -3,9 +3,10 @@ ghost use Rattle.std.specs.Prelude.{◌≡◌, ◌+◌, IfOk, OnOk, true};
 ghost use Rattle.joint.specs.Journals.{IsCounted, IsJournal};
 
 use congee::DefaultAllocator;
-use joint::{Every, Guard, Journaled, Limits, OnLedger, Refusal, Share, Worker, on_ledger};
+use joint::{Every, Guard, Journaled, Limits, Refusal, Share, Worker};
 use judge::Entry;
 use std::alloc::Global;
+use std::marker::Brand;
 use std::sync::Wait;
 use std::sync::ledger::{Blank, Ledger};
 use std::thread;
@@ -82,7 +83,8 @@ fn known_of_two<L: Ledger + Send + Sync, R: Threads + Wait + Sync>(
     requires name { blank.name ≡ L.name }
     requires ledger { blank.parts ≡ L.parts }
     requires parts { blank.parts ≡ 2 }
-    ensures { IfOk result (λ known. IsJournal known.journal.items × IsCounted (λ _. true) known.written) }
+    ensures journal { IfOk result (λ known. IsJournal known.journal.items) }
+    ensures written { IfOk result (λ known. IsCounted (λ _. true) known.written) }
 {
     let limits = Limits::usual(2, 1_000).with_id(1);
     let (index, mut one): (Recorded<L>, Share<L>) = Journaled::new(
@@ -108,33 +110,6 @@ fn known_of_two<L: Ledger + Send + Sync, R: Threads + Wait + Sync>(
     })
 }
 
-/// Two threads write so much.
-struct OfTwo<'r, R> {
-    rt: &'r R,
-    alloc: Global,
-    count: u64,
-}
-
-impl<R: Threads + Wait + Sync> OnLedger for OfTwo<'_, R> {
-    type Answer = Result<Known, Refusal>;
-
-    ghost use Rattle.std.specs.Prelude.{IfOk, true};
-    ghost use Rattle.joint.specs.Journals.{IsCounted, IsJournal};
-
-    ghost parts = { λ _. 2 };
-
-    ghost answers = { λ _ result. IfOk result (λ known. IsJournal known.journal.items × IsCounted (λ _. true) known.written) };
-
-    fn parts(&self) -> u32 {
-        2
-    }
-
-    fn on_ledger<L: Ledger + Send + Sync>(self, blank: Blank) -> Result<Known, Refusal> {
-        let OfTwo { rt, alloc, count } = self;
-        known_of_two::<L, R>(rt, alloc, blank, count)
-    }
-}
-
 /// Whatever two threads do at once, the journal that comes back is one that the index kept, so it is legal and replays to
 /// the pairs that stood then; and the count of the shares that were merged is the number of the writing calls in such a
 /// journal.
@@ -143,7 +118,8 @@ pub fn writes_of_two<R: Threads + Wait + Sync>(
     alloc: Global,
     count: u64,
 ) -> Result<Known, Refusal>
-    ensures { IfOk result (λ known. IsJournal known.journal.items × IsCounted (λ _. true) known.written) }
+    ensures journal { IfOk result (λ known. IsJournal known.journal.items) }
+    ensures written { IfOk result (λ known. IsCounted (λ _. true) known.written) }
 {
-    on_ledger(OfTwo { rt, alloc, count })
+    known_of_two::<Brand, R>(rt, alloc, Blank::new(2), count)
 }
