@@ -58,10 +58,10 @@ module _ {V : Type 0} (same : V → V → Bool) (always : Bool) where
 
   -- once none is left, all were taken
   pub progress_all : (s : Whole V) (all rest : List (Step V)) (done done' : ℕ) (reports : List (Report V)) (s' : Whole V) → Progress s all rest done reports s' → length rest ≡ 0 → done' ≡ done → done' < length all → ⊥
-  progress_all s all rest done done' reports s' p none same fewer =
+  progress_all s all rest done done' reports s' p none is fewer =
       let split : length all ≡ length p.taken + length rest = ap length p.split ∙ length-append p.taken rest in
       let count : length p.taken ≡ done = p.count in
-      omega (arith, none, split, count, same, fewer)
+      omega (arith, none, split, count, is, fewer)
 
   pub progress_end : (s : Whole V) (all rest : List (Step V)) (done done' : ℕ) (reports reports' : List (Report V)) (s' : Whole V) → Progress s all rest done reports s' → done' ≡ done → reports' ≡ reports → IsRun same always s (take done' all) reports' s'
   progress_end s all rest done done' reports reports' s' p n q =
