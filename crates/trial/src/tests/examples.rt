@@ -113,9 +113,9 @@ fn an_index_that_is_closed_leaves_the_charge(rt: HostRuntime) -> Result<(), Fail
     Ok(())
 }
 
-/// A worker comes, puts two pairs in and goes.
+/// A worker comes, puts two pairs in and goes, in a table of two places.
 fn filled(alloc: Global) -> Result<Vec<Step<u64>>, Fail> {
-    let mut index = open(alloc, 1, 1000)?;
+    let mut index = open(alloc, 2, 1000)?;
     let mut steps = Vec::new(alloc);
     let event = Event::Register;
     steps.push(Step { worker: 0, event })?;
