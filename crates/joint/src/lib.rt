@@ -75,7 +75,6 @@ pub use steps::{Done, Event, Kind, Op, Outcome, Ran, Report, Step, Survey};
 pub use threads::auditing::audit;
 pub use threads::driver::{Turns, drive, turns_tell};
 pub use threads::journaled::Journaled;
-pub use threads::ledgers::{OnLedger, on_ledger};
 pub use threads::numbers::U64Congee;
 pub use threads::owners::CongeeArc;
 pub use threads::share::Share;

@@ -2,8 +2,8 @@
 //!
 //! `tree` has an index under its lock (`locked`, or with a journal `kept`). A call is driven (`driver`): its turns are
 //! begun and gone on with one hold each (`holds`, `writes`), its closure answers between two of them (`answers`), and
-//! how it reads its end stands in `ends`; a round is three calls (`rounds`). `words`, `numbers`, `owners` and `journaled` are the types that threads
-//! share, called with a worker and a guard (`tokens`).
+//! how it reads its end stands in `ends`; a round is three calls (`rounds`). `words`, `numbers`, `owners` and
+//! `journaled` are the types that threads share, called with a worker and a guard (`tokens`).
 
 pub(crate) mod answers;
 pub(crate) mod auditing;
@@ -12,7 +12,6 @@ pub(crate) mod ends;
 pub(crate) mod holds;
 pub(crate) mod journaled;
 pub(crate) mod kept;
-pub(crate) mod ledgers;
 pub(crate) mod locked;
 pub(crate) mod numbers;
 pub(crate) mod owners;

@@ -1,5 +1,5 @@
 -- Steps taken one by one are a run, and a run is one of a map.
-use Rattle.std.proofs.Common.{◌≡◌, ℕ, ◌+◌, arith, Bool, List, [], ◌∷◌, ◌++◌, length, take, refl, sym, ◌∙◌, ap, subst}
+use Rattle.std.proofs.Common.{◌≡◌, ℕ, ◌+◌, ◌<◌, ◌≤◌, arith, Bool, true, List, [], ◌∷◌, ◌++◌, length, take, Result, Ok, Err, OnErr, is_err, refl, sym, ◌∙◌, ap, subst}
 use Rattle.std.specs.Prelude.{map}
 use Rattle.std.specs.FinMap.{empty}
 use Rattle.std.proofs.lemmas.List.{append_assoc, length-append}
@@ -12,6 +12,15 @@ use Rattle.joint.specs.Forest.{nodes}
 use Rattle.joint.specs.Runs.{Taken, IsRun, Line, Flights, AreLines, AreInFlight, PlaysMap, RunsJournal, RunsMap, pairs_after, no_flights, IsFresh}
 use Rattle.joint.specs.Whole.{Whole, Holds, IsStep}
 use Rattle.joint.proofs.lemmas.Runs.{runs_join, runs_map, runs_journal, entries_legal, standing_empty, fresh_flights}
+
+-- a list that got no memory for one more is full
+pub none_more : {A E : Type 0} (r : Result A E) (failed : Bool) (len len1 len2 places places1 places2 : ℕ) → failed ≡ is_err r → failed ≡ true → OnErr r (places < len + 1) → OnErr r (places1 ≡ places) → len1 ≡ len → len2 ≡ len1 → places2 ≡ places1
+    → places2 ≤ len2
+none_more (Ok x) failed len len1 len2 places places1 places2 is so full kept l l' p = absurd (cc (is, so))
+none_more (Err e) failed len len1 len2 places places1 places2 is so full kept l l' p =
+    let f : places < len + 1 = full in
+    let k : places1 ≡ places = kept in
+    omega (arith, f, k, l, l', p)
 
 module _ {V : Type 0} (same : V → V → Bool) (always : Bool) where
   -- how far the steps have come: those taken and those left
@@ -48,12 +57,11 @@ module _ {V : Type 0} (same : V → V → Bool) (always : Bool) where
       }
 
   -- once none is left, all were taken
-  pub progress_all : (s : Whole V) (all rest : List (Step V)) (done : ℕ) (reports : List (Report V)) (s' : Whole V) → Progress s all rest done reports s' → rest ≡ [] → done ≡ length all
-  progress_all s all rest done reports s' p e =
-      let none : length rest ≡ 0 = ap length e in
+  pub progress_all : (s : Whole V) (all rest : List (Step V)) (done done' : ℕ) (reports : List (Report V)) (s' : Whole V) → Progress s all rest done reports s' → length rest ≡ 0 → done' ≡ done → done' < length all → ⊥
+  progress_all s all rest done done' reports s' p none is fewer =
       let split : length all ≡ length p.taken + length rest = ap length p.split ∙ length-append p.taken rest in
       let count : length p.taken ≡ done = p.count in
-      omega (arith, none, split, count)
+      omega (arith, none, split, count, is, fewer)
 
   pub progress_end : (s : Whole V) (all rest : List (Step V)) (done done' : ℕ) (reports reports' : List (Report V)) (s' : Whole V) → Progress s all rest done reports s' → done' ≡ done → reports' ≡ reports → IsRun same always s (take done' all) reports' s'
   progress_end s all rest done done' reports reports' s' p n q =

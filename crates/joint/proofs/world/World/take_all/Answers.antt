@@ -1,6 +1,6 @@
-use Rattle.std.proofs.Common.{◌∙◌, ap}
-use Rattle.std.specs.Vec.{vec_len}
-use Rattle.joint.proofs.lemmas.Running.{progress_none, progress_more, progress_end}
+use Rattle.std.proofs.Common.{sym, ◌∙◌, ap}
+use Rattle.std.specs.Vec.{vec_capacity, vec_len}
+use Rattle.joint.proofs.lemmas.Running.{none_more, progress_all, progress_none, progress_more, progress_end}
 use Rattle.joint.proofs.world.World.take_all.Goals as goal
 use Rattle.joint.proofs.world.World.take_all.Goals.{in-Some+then-is_err, in_default}
 
@@ -15,4 +15,10 @@ pub returns-clause-run : goal.returns-clause-run
 returns-clause-run g c = elim c.match-next.branch [
   | in-Some+then-is_err w ↦ progress_end g.P.Payload.same_as g.P.Payload.always_copies _ _ _ _ _ _ _ _ c.loop-step.invariant (c.len-done.ensures ∙ (ap (λ v. vec_len v) w.reports-is ∙ w.reserve.ensures.len)) (ap (λ v. v.items) w.reports-is ∙ w.reserve.ensures.items)
   | in_default w ↦ progress_end g.P.Payload.same_as g.P.Payload.always_copies _ _ _ _ _ _ _ _ c.loop-step.invariant (c.len-done.ensures ∙ ap (λ v. vec_len v) w.reports-is) (ap (λ v. v.items) w.reports-is)
+]
+
+pub returns-clause-full : goal.returns-clause-full
+returns-clause-full g c fewer = elim c.match-next.branch [
+  | in-Some+then-is_err w ↦ none_more w.reserve.result w.is_err.result _ _ _ _ _ _ w.is_err.ensures.value w.if-is_err.true w.reserve.ensures.full w.reserve.ensures.err w.reserve.ensures.len (ap (λ v. vec_len v) w.reports-is) (ap (λ v. vec_capacity v) w.reports-is)
+  | in_default w ↦ absurd (progress_all g.P.Payload.same_as g.P.Payload.always_copies _ _ _ _ _ _ _ c.loop-step.invariant (sym c.loop-step.rest.rest.ok.0 ∙ w.in_default.ensures.cases.0) (c.len-done.ensures ∙ ap (λ v. vec_len v) w.reports-is) fewer)
 ]
