@@ -2,7 +2,6 @@
 use Rattle.std.proofs.Common.{◌≡◌, ℕ, Bool, refl, sym, ◌∙◌, ap, subst}
 use Rattle.std.specs.Prelude.{Option, None, Some}
 use Rattle.judge.specs.declared.journal.Call.{Call as Entered}
-use Rattle.judge.specs.declared.journal.Call.TheVariants as entered
 use Rattle.judge.specs.declared.journal.Reply.{Reply}
 use Rattle.judge.specs.Answer.{Pairs, answer}
 use Rattle.congee.specs.declared.protocol.op.Op.{Op as Point}

@@ -1,29 +1,15 @@
 -- What a call that no other worker's step comes between leaves of the map.
-use Rattle.std.proofs.Common.{◌≡◌, ℕ, ◌==◌, zero, suc, arith, Bool, true, false, List, [], ◌∷◌, refl, sym, ◌∙◌, ap, subst, inl, inr, ◌⊎◌, if◌then◌else◌}
-use Rattle.std.specs.Prelude.{Option, None, Some, IsSome, length, take, map, option_map, replicate}
-use Rattle.std.specs.FinMap.{get}
-use Rattle.std.proofs.lemmas.Bool.{cases_Bool, eqb-true}
-use Rattle.judge.specs.declared.journal.Call.{Call as Entered}
-use Rattle.judge.specs.declared.journal.Call.TheVariants as entered
-use Rattle.judge.specs.declared.journal.Entry.{Entry}
-use Rattle.judge.specs.declared.journal.Reply.{Reply}
+use Rattle.std.proofs.Common.{◌≡◌, ℕ, zero, suc, Bool, true, false, List, [], ◌∷◌, refl, sym, ◌∙◌, ap, subst}
+use Rattle.std.specs.Prelude.{Option, None, Some, length, map, option_map, replicate}
 use Rattle.judge.specs.Answer.{Pairs}
 use Rattle.congee.specs.declared.protocol.machine.Noise.{Noise}
-use Rattle.congee.specs.declared.protocol.machine.Outcome.{Outcome as Moved}
-use Rattle.congee.specs.declared.protocol.machine.Outcome.TheVariants as moved
 use Rattle.congee.specs.declared.protocol.op.Op.{Op as Point}
 use Rattle.congee.specs.declared.protocol.op.Op.TheVariants as point
-use Rattle.congee.specs.declared.protocol.phase.Kind.{Kind as Does}
-use Rattle.congee.specs.declared.protocol.phase.Kind.TheVariants as does
 use Rattle.congee.specs.Keys.{IsMapOf}
-use Rattle.congee.specs.protocol.Play.{Flight, Pending, Decided, Over, Question, Unasked, Asked, Replied, begun, parts, range_of as point_range, IsScanOf, IsOfRange, flight, Unbegun, Scanning, heard, resolved, Carries, Undecided, Heeds, Concludes, ScanTells}
-use Rattle.congee.specs.protocol.Protocol.{IsCall, Asking}
-use Rattle.congee.specs.protocol.Sweeps.{Stood, AllStood, Throughout, IsScan}
+use Rattle.congee.specs.protocol.Play.{Flight, Over, begun, range_of as point_range, IsScanOf, IsOfRange, flight}
 use Rattle.congee.proofs.lemmas.protocol.SweepRanges.{of_range}
 use Rattle.joint.specs.declared.id.Id.{Id}
-use Rattle.joint.specs.declared.steps.Done.{Done as Answer}
-use Rattle.joint.specs.declared.steps.Done.TheVariants as done
-use Rattle.joint.specs.declared.steps.Event.TheVariants.{Register, Begin, Go}
+use Rattle.joint.specs.declared.steps.Event.TheVariants.{Register, Begin}
 use Rattle.joint.specs.declared.steps.Done.TheVariants.{Scanned}
 use Rattle.joint.specs.declared.steps.Op.{Op}
 use Rattle.joint.specs.declared.steps.Op.TheVariants as ops
@@ -38,14 +24,12 @@ use Rattle.joint.specs.declared.steps.Target.TheVariants as target
 use Rattle.joint.specs.Calling.{IsCalled, goes_on, next_step, steps_of, GoOn, last_of, last_or, put_away, kept_report}
 use Rattle.joint.specs.Forest.{nodes}
 use Rattle.joint.specs.Intact.{root}
-use Rattle.joint.specs.MapCalls.{GoesOn, AllGoOn, AreOfCall, told_after, Answered, answered_by, answer_in, answered_after, IsPresent, IsComputed, IsOnMap, TookEffect, IsUndecided, IsDecided, IsOfScan, KeepsAll, told_places, HasScanned, IsDoneWith, PlaysKey, IsScanning, IsScanDone, PlaysScan, PlaysCall, CallPlays}
-use Rattle.joint.specs.Reports.{range_of, target, told}
-use Rattle.joint.specs.Runs.{Taken, AreTaken, after_all, IsRun, Line, Flights, with_flight, Stays, BeginsFlight, EndsAtOnce, BeginsOr, BeginMap, MapStep, PendingStep, Advances, GoMap, InFlight, AreInFlight}
-use Rattle.joint.specs.Scans.{placed}
+use Rattle.joint.specs.MapCalls.{AllGoOn, AreOfCall, told_after, Answered, answered_by, answer_in, answered_after, KeepsAll, told_places, HasScanned, PlaysKey, PlaysScan, PlaysCall, CallPlays}
+use Rattle.joint.specs.Reports.{range_of, target}
+use Rattle.joint.specs.Runs.{Taken, AreTaken, after_all, Line, Flights, BeginMap, GoMap, AreInFlight}
 use Rattle.joint.specs.Surveys.{MapTells}
-use Rattle.joint.specs.Whole.{Whole, Holds, IsOnKey, IsStep, engine_of, is_in_flight}
+use Rattle.joint.specs.Whole.{Whole, Holds, IsStep, engine_of, is_in_flight}
 use Rattle.joint.proofs.lemmas.Entering.{begin_free}
-use Rattle.joint.proofs.lemmas.Flights.{flight_here}
 use Rattle.joint.proofs.lemmas.Mapped.{Mapped, mapped}
 use Rattle.joint.proofs.lemmas.KeyCalls.{begin_of, gone, key_plays, stays}
 use Rattle.joint.proofs.lemmas.Sweeping.{Sweeps, scan_plays, sweeps}

@@ -1,5 +1,5 @@
 -- A node that a worker has seen under its guard stands until the guard's stretch ends.
-use Rattle.std.proofs.Common.{◌≡◌, ◌≢◌, ◌==◌, ◌<◌, ℕ, Bool, true, false, List, [], ◌∷◌, length, refl, sym, ◌∙◌, ap, subst, inl, inr, ◌⊎◌}
+use Rattle.std.proofs.Common.{◌≡◌, ◌==◌, ◌<◌, ℕ, Bool, true, false, List, [], ◌∷◌, length, refl, sym, ◌∙◌, ap, subst, inl, inr, ◌⊎◌}
 use Rattle.std.proofs.Math.ListN.{set}
 use Rattle.std.specs.Prelude.{Option, None, Some, is_some, slice_get, if◌then◌else◌}
 use Rattle.std.proofs.lemmas.Bool.{cases_Bool, eqb-true, eqb-false, false≢true}
@@ -19,7 +19,7 @@ use Rattle.crossbeam_epoch.specs.World.History.{Mark, Deferred, began}
 use Rattle.crossbeam_epoch.specs.World.Machine.{State, place, with_store}
 use Rattle.crossbeam_epoch.specs.World.Progress.{comes_by, stage as stage_of}
 use Rattle.crossbeam_epoch.specs.World.Reach.{marks_of, Visible}
-use Rattle.crossbeam_epoch.specs.World.Steps.{marks, after}
+use Rattle.crossbeam_epoch.specs.World.Steps.{marks}
 use Rattle.crossbeam_epoch.specs.World.Store.{value_at}
 use Rattle.congee.specs.declared.protocol.machine.Machine.{Machine}
 use Rattle.congee.specs.declared.protocol.machine.Noise.{Noise}

@@ -1,49 +1,33 @@
 -- A scan that no other worker's step comes between leaves the map, and tells the pairs of its range.
-use Rattle.std.proofs.Common.{◌≡◌, ℕ, ◌==◌, zero, suc, arith, Bool, true, false, List, [], ◌∷◌, refl, sym, ◌∙◌, ap, subst, inl, inr, ◌⊎◌, if◌then◌else◌}
-use Rattle.std.specs.Prelude.{Option, None, Some, IsSome, length, take, map, option_map, replicate}
+use Rattle.std.proofs.Common.{◌≡◌, ℕ, arith, Bool, true, List, [], ◌∷◌, refl, sym, ◌∙◌, ap, subst, inl, inr, ◌⊎◌}
+use Rattle.std.specs.Prelude.{Option, Some, IsSome, take}
 use Rattle.std.specs.FinMap.{get}
-use Rattle.std.proofs.lemmas.Bool.{cases_Bool, eqb-true}
-use Rattle.judge.specs.declared.journal.Call.{Call as Entered}
-use Rattle.judge.specs.declared.journal.Call.TheVariants as entered
-use Rattle.judge.specs.declared.journal.Entry.{Entry}
-use Rattle.judge.specs.declared.journal.Reply.{Reply}
 use Rattle.judge.specs.Answer.{Pairs}
 use Rattle.congee.specs.declared.protocol.machine.Noise.{Noise}
 use Rattle.congee.specs.declared.protocol.machine.Outcome.{Outcome as Moved}
 use Rattle.congee.specs.declared.protocol.machine.Outcome.TheVariants as moved
 use Rattle.congee.specs.declared.protocol.op.Op.{Op as Point}
-use Rattle.congee.specs.declared.protocol.op.Op.TheVariants as point
-use Rattle.congee.specs.declared.protocol.phase.Kind.{Kind as Does}
-use Rattle.congee.specs.declared.protocol.phase.Kind.TheVariants as does
 use Rattle.congee.specs.Keys.{IsMapOf}
-use Rattle.congee.specs.protocol.Play.{Flight, Pending, Decided, Over, Question, Unasked, Asked, Replied, begun, parts, range_of, flight, Unbegun, Scanning, heard, resolved, Carries, Undecided, Heeds, Concludes, ScanTells}
-use Rattle.congee.specs.protocol.Protocol.{IsCall, Asking}
+use Rattle.congee.specs.protocol.Play.{Flight, Over, begun, range_of, flight, Unbegun, Scanning, ScanTells}
 use Rattle.congee.specs.protocol.Sweeps.{Stood, AllStood, Throughout, IsScan}
 use Rattle.joint.specs.declared.id.Id.{Id}
 use Rattle.joint.specs.declared.steps.Done.{Done as Answer}
 use Rattle.joint.specs.declared.steps.Done.TheVariants as done
-use Rattle.joint.specs.declared.steps.Event.TheVariants.{Register, Begin, Go}
 use Rattle.joint.specs.declared.steps.Done.TheVariants.{Scanned}
 use Rattle.joint.specs.declared.steps.Op.{Op}
-use Rattle.joint.specs.declared.steps.Op.TheVariants.{Range}
 use Rattle.joint.specs.declared.steps.Outcome.{Outcome}
 use Rattle.joint.specs.declared.steps.Outcome.TheVariants.{Running, Asks, Found, Registered, Done, Refused}
 use Rattle.joint.specs.declared.steps.Report.{Report}
 use Rattle.joint.specs.declared.steps.Step.{Step}
-use Rattle.joint.specs.declared.steps.Survey.{Survey}
-use Rattle.joint.specs.declared.steps.Survey.TheVariants as survey
 use Rattle.joint.specs.declared.steps.Target.{Target}
 use Rattle.joint.specs.declared.steps.Target.TheVariants as target
-use Rattle.joint.specs.Calling.{IsCalled, goes_on, next_step, steps_of, GoOn, last_of, last_or, put_away, kept_report}
 use Rattle.joint.specs.Forest.{nodes}
 use Rattle.joint.specs.Intact.{root}
-use Rattle.joint.specs.MapCalls.{GoesOn, AllGoOn, AreOfCall, told_after, Answered, answered_by, answer_in, answered_after, IsPresent, IsComputed, IsOnMap, TookEffect, IsUndecided, IsDecided, IsOfScan, KeepsAll, told_places, HasScanned, IsDoneWith, PlaysKey, IsScanning, IsScanDone, PlaysScan, PlaysCall, CallPlays}
+use Rattle.joint.specs.MapCalls.{AllGoOn, told_after, IsOfScan, KeepsAll, told_places, HasScanned, IsScanning, IsScanDone, PlaysScan}
 use Rattle.joint.specs.Reports.{target, told}
-use Rattle.joint.specs.Runs.{Taken, AreTaken, after_all, IsRun, Line, Flights, with_flight, Stays, BeginsFlight, FindsNone, EndsEmpty, EndsAtOnce, BeginsOr, BeginMap, MapStep, PendingStep, Advances, GoMap, InFlight, AreInFlight}
+use Rattle.joint.specs.Runs.{Taken, AreTaken, after_all, Line, Flights, with_flight, BeginsFlight, FindsNone, EndsEmpty, EndsAtOnce, BeginsOr, BeginMap, Advances, GoMap, AreInFlight}
 use Rattle.joint.specs.Scans.{placed}
-use Rattle.joint.specs.Surveys.{MapTells}
-use Rattle.joint.specs.Whole.{Whole, Holds, IsOnKey, IsStep, engine_of, is_in_flight}
-use Rattle.joint.proofs.lemmas.Entering.{begin_free}
+use Rattle.joint.specs.Whole.{Whole, Holds, IsStep, is_in_flight}
 use Rattle.joint.proofs.lemmas.Flights.{flight_here}
 use Rattle.joint.proofs.lemmas.Mapped.{Mapped, mapped}
 use Rattle.joint.proofs.lemmas.KeyCalls.{as_before, begin_of, gone, once_more, stays}

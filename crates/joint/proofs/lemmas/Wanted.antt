@@ -1,11 +1,10 @@
 -- A call's next step takes its closure's answer exactly after a step of it that asks.
-use Rattle.std.proofs.Common.{◌≡◌, ◌≢◌, ◌==◌, ◌<◌, ℕ, zero, suc, Bool, true, false, List, [], ◌∷◌, length, take, refl, sym, ◌∙◌, ap, subst, inl, inr}
+use Rattle.std.proofs.Common.{◌≡◌, ◌≢◌, ◌==◌, ◌<◌, ℕ, Bool, true, false, List, [], ◌∷◌, refl, sym, ◌∙◌, ap, subst, inl, inr}
 use Rattle.std.specs.Prelude.{Option, None, Some, slice_get}
 use Rattle.std.proofs.lemmas.Bool.{cases_Bool, eqb-true, eqb-false, false≢true}
 use Rattle.judge.specs.declared.journal.Reply.{Reply}
 use Rattle.judge.specs.Answer.{Pairs}
 use Rattle.crossbeam_epoch.specs.declared.fault.Fault.{Fault}
-use Rattle.crossbeam_epoch.specs.declared.world.participant.Participant.{Participant}
 use Rattle.crossbeam_epoch.specs.declared.world.report.Outcome.{Outcome as Turned}
 use Rattle.crossbeam_epoch.specs.declared.world.report.Outcome.TheVariants as turned
 use Rattle.congee.specs.declared.protocol.machine.Machine.{Machine}
@@ -13,48 +12,36 @@ use Rattle.congee.specs.declared.protocol.machine.Noise.{Noise}
 use Rattle.congee.specs.declared.protocol.machine.Outcome.{Outcome as Moved}
 use Rattle.congee.specs.declared.protocol.machine.Outcome.TheVariants as moved
 use Rattle.congee.specs.declared.protocol.op.Op.{Op as Point}
-use Rattle.congee.specs.declared.protocol.op.Op.TheVariants as point
 use Rattle.congee.specs.declared.protocol.phase.Kind.{Kind}
-use Rattle.congee.specs.declared.protocol.phase.Kind.TheVariants as kind
 use Rattle.congee.specs.declared.protocol.phase.Phase.{Phase}
-use Rattle.congee.specs.declared.protocol.phase.Phase.TheVariants.{AskOld, AskNew, Sweep, Ended}
+use Rattle.congee.specs.declared.protocol.phase.Phase.TheVariants.{Sweep, Ended}
 use Rattle.congee.specs.declared.protocol.sweep.Sweep.{Sweep as Scan}
-use Rattle.congee.specs.Keys.{IsMapOf}
-use Rattle.congee.specs.protocol.Alone.{HasAnswer, IsAnswer}
-use Rattle.congee.specs.protocol.Holdings.{LockedBy}
-use Rattle.congee.specs.protocol.Play.{Flight, Pending, Decided, Over, Unbegun, Scanning, Question, Unasked, Asked, Replied, Carries, Undecided, Concludes, ScanTells, Follows, ScanFollows, begun, parts, flight, flight_in}
+use Rattle.congee.specs.protocol.Play.{Flight, Pending, Decided, Over, Unbegun, Scanning, Question, Unasked, Asked, Replied, Carries, Undecided, Concludes, ScanTells, Follows, ScanFollows, begun, flight, flight_in}
 use Rattle.joint.specs.declared.call.Call.{Call}
 use Rattle.joint.specs.declared.call.Call.TheVariants.{Idle, Collecting, Reserving, Securing, Walking}
 use Rattle.joint.specs.declared.id.Id.{Id}
 use Rattle.joint.specs.declared.steps.Event.{Event}
 use Rattle.joint.specs.declared.steps.Event.TheVariants.{Register, Begin, Go}
-use Rattle.joint.specs.declared.steps.Op.{Op}
-use Rattle.joint.specs.declared.steps.Op.TheVariants as op
 use Rattle.joint.specs.declared.steps.Outcome.{Outcome}
-use Rattle.joint.specs.declared.steps.Outcome.TheVariants.{Running, Asks, Found, Registered, Done, Refused}
+use Rattle.joint.specs.declared.steps.Outcome.TheVariants.{Done, Refused}
 use Rattle.joint.specs.declared.steps.Report.{Report}
 use Rattle.joint.specs.declared.steps.Step.{Step}
 use Rattle.joint.specs.declared.steps.Target.{Target}
 use Rattle.joint.specs.declared.steps.Target.TheVariants as target
-use Rattle.joint.specs.Alone.{OthersUnlocked, IsNext, AreNext, AllInFlight, AllEndAlone}
-use Rattle.joint.specs.Forest.{nodes}
 use Rattle.joint.specs.Intact.{IsAt, is_done, is_past, root}
-use Rattle.joint.specs.Journaling.{asks_at, is_asking}
+use Rattle.joint.specs.Journaling.{asks_at}
 use Rattle.joint.specs.Reports.{collected, target, told}
-use Rattle.joint.specs.Runs.{Taken, AreTaken, after_all, Line, Flights, Stays, BeginsOr, BeginMap, PendingStep, GoMap, EventMap, InFlight, AreInFlight, IsFresh, no_flights, with_flight}
+use Rattle.joint.specs.Runs.{Taken, AreTaken, after_all, Line, Flights, BeginsOr, BeginMap, PendingStep, GoMap, EventMap, AreInFlight, IsFresh, no_flights, with_flight}
 use Rattle.joint.specs.Sound.{IsUnderWay}
-use Rattle.joint.specs.View.{id_number}
-use Rattle.joint.specs.Wanted.{is_question, wants_if, wants_after, IsReply, RepliesTo, AreNextTold, AllEndAloneTold, OthersIdle}
-use Rattle.joint.specs.Whole.{Whole, EngineHolds, Holds, IsStep, StepsUnless, Collects, BeginsAt, BeginsOnTree, Does, EntersUnless, GoesAt, engine_of, finds_none, gives_up, is_busy, is_in_flight, misuse, place_of, reserving}
+use Rattle.joint.specs.Wanted.{is_question, wants_if, wants_after}
+use Rattle.joint.specs.Whole.{Whole, EngineHolds, Holds, IsStep, StepsUnless, Does, GoesAt, engine_of, gives_up, misuse, place_of, reserving}
 use Rattle.joint.proofs.lemmas.Collecting.{there}
-use Rattle.joint.proofs.lemmas.Entering.{begin_free}
-use Rattle.joint.proofs.lemmas.Flights.{ends_stays, flight_here, flight_apart, eqb_same}
+use Rattle.joint.proofs.lemmas.Flights.{ends_stays, flight_here, flight_apart}
 use Rattle.joint.proofs.lemmas.Mapped.{mapped}
 use Rattle.joint.proofs.lemmas.Placed.{asks_here, begun_asks}
 use Rattle.joint.proofs.lemmas.Requested.{asks, is_asked}
 use Rattle.joint.proofs.lemmas.Runs.{fresh_flights}
-use Rattle.joint.proofs.lemmas.Telling.{survey_ends}
-use Rattle.std.proofs.lemmas.Option.{slice_get_within, slice_get_cases}
+use Rattle.std.proofs.lemmas.Option.{slice_get_within}
 
 -- nothing that is told of the collector is a question
 of_collector : (V : Type 0) (o : Turned) → is_question {V = V} (collected o) ≡ false
