@@ -1,17 +1,15 @@
 //! What a user of the shared map's machine concludes from its contracts, with no proof of its own.
-ghost use Rattle.std.specs.Prelude.{◌≡◌, ℕ, IfOk, IfSome, IsTrue, Some, nat_eq, take};
-ghost use Rattle.std.specs.FinMap.{empty, entries, get, insert};
+ghost use Rattle.std.specs.Prelude.{◌≡◌, ℕ, IfOk, nat_eq, take};
+ghost use Rattle.std.specs.FinMap.{empty, entries};
 ghost use Rattle.judge.specs.Answer.{Pairs};
 ghost use Rattle.congee.specs.Keys.{IsMapOf};
 ghost use Rattle.joint.specs.Closing.{Drained as AllDrained};
 ghost use Rattle.joint.specs.Forest.{nodes};
-ghost use Rattle.joint.specs.MapCalls.{KeepsAll};
-ghost use Rattle.joint.specs.Runs.{AreInFlight, Flights, RunsMap, no_flights};
+ghost use Rattle.joint.specs.Runs.{RunsMap, no_flights};
 ghost use Rattle.joint.specs.Whole.{Whole};
 
 use congee::{Allocator, DefaultAllocator, Drainer, NoDrain};
-use joint::{Limits, Op, Ran, Refusal, Step, World};
-use judge::Reply;
+use joint::{Limits, Ran, Refusal, Step, World};
 use std::alloc::Global;
 use std::vec::Vec;
 
@@ -68,41 +66,4 @@ pub fn drains_what_stands<D: Drainer<u64, u64>>(
         Ok((_, drainer)) => Ok(Drained { ran, drainer }),
         Err((refusal, _, _)) => Err(refusal),
     }
-}
-
-/// Puts a value at a key, as one whole call of a worker's, of 60 steps at most; whether it came to its end.
-fn puts<A: Allocator>(index: &mut World<u64, A>, who: u32, key: u64, value: u64) -> bool
-    ensures { (fs : Flights ℕ) (m : Pairs ℕ) → IsMapOf (nodes index.old.forest) m → AreInFlight index.old fs → IsTrue result → KeepsAll fs (insert m key value) index.new }
-{
-    match index.call(who, Op::Insert(key, value), 60, &mut []) {
-        Some(report) => report.reply().is_some(),
-        None => false,
-    }
-}
-
-/// What stands at a key, by one whole call of a worker's, of 60 steps at most, if that came to its end.
-fn looks<A: Allocator>(index: &mut World<u64, A>, who: u32, key: u64) -> Option<Option<u64>>
-    ensures { (fs : Flights ℕ) (m : Pairs ℕ) → IsMapOf (nodes index.old.forest) m → AreInFlight index.old fs → IfSome result (λ found. found ≡ get m key) }
-{
-    match index.call(who, Op::Get(key), 60, &mut [])?.reply()? {
-        Reply::Get(found) => Some(found),
-        _ => None,
-    }
-}
-
-/// A value that a worker put at a key is found there, whatever stood there before, and whatever others have in flight. `None`
-/// where one of the two calls didn't come to its end.
-pub fn reads_what_it_put<A: Allocator>(
-    index: &mut World<u64, A>,
-    who: u32,
-    key: u64,
-    value: u64,
-) -> Option<Option<u64>>
-    ensures { IfSome result (λ found. found ≡ Some value) }
-{
-    index.sound();
-    if !puts(index, who, key, value) {
-        return None;
-    }
-    looks(index, who, key)
 }
