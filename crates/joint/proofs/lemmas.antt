@@ -17,12 +17,14 @@ pub mod Begun
 pub mod Beside
 pub mod CollectStep
 pub mod Calling
+pub mod Changing
 pub mod CallScans
 pub mod CallSurveys
 pub mod Closing
 pub mod Collected
 pub mod Collecting
 pub mod Copying
+pub mod Counted
 pub mod Counting
 pub mod Draining
 pub mod Driving

@@ -10,7 +10,7 @@ ghost use Rattle.judge.specs.Answer.{Pairs};
 ghost use Rattle.joint.specs.declared.slot.Word.{Word};
 ghost use Rattle.joint.specs.Forest.{nodes};
 ghost use Rattle.joint.specs.Solid.{IsSolid};
-ghost use Rattle.joint.specs.Survey.{AreKeysBelow, IsEmptiness, IsPart, IsRegionOf, IsTree, Narrows, NearestGives, bound_of, keys_of};
+ghost use Rattle.joint.specs.Survey.{AreKeysBelow, IsPart, IsRegionOf, IsTree, Narrows, NearestGives, bound_of, keys_of};
 ghost use Rattle.joint.specs.View.{child_at, shape};
 
 use crate::id::Id;
@@ -220,20 +220,5 @@ impl<P: Payload + Small, A: Allocator> Nodes<P, A> {
             from = self.keys_from(&mut keys, start)?;
         }
         Ok(keys)
-    }
-
-    /// Whether no key stands.
-    pub(crate) fn is_empty(&self) -> bool
-        requires { IsTree (nodes self.now) }
-        ensures { (m : Pairs P) → IsMapOf (nodes self.now) m → IsEmptiness m result }
-    {
-        let mut from = Some(0);
-        while let Some(start) = from {
-            match self.next_key(start) {
-                Nearest::Key { .. } => return false,
-                Nearest::Past(last) => from = after(last),
-            }
-        }
-        true
     }
 }

@@ -20,7 +20,7 @@ use Rattle.congee.proofs.lemmas.protocol.SweepBytes.{region_top, outside, first_
 use Rattle.joint.specs.declared.id.Id.{Id}
 use Rattle.joint.specs.declared.slot.Word.{Word}
 use Rattle.joint.specs.declared.survey.Part.{Part}
-use Rattle.joint.specs.Survey.{IsTree, IsInTree, IsRegionOf, IsPart, hung_for, AllHang, FindsKey, FindsNode, NoneStand, IsNearest, NonePast, AllAbove, Ascend, Has, AreKeys, AreKeysBelow, IsEmptiness}
+use Rattle.joint.specs.Survey.{IsTree, IsInTree, IsRegionOf, IsPart, hung_for, AllHang, FindsKey, FindsNode, NoneStand, IsNearest, NonePast, AllAbove, Ascend, Has, AreKeys, AreKeysBelow}
 use Rattle.joint.specs.View.{id_number, hung_at, child_at, shape}
 
 -- the keys under a byte fit 64 bits
@@ -285,19 +285,3 @@ module _ {V : Type 0} (h : ℕ → Node V) where
       ],
     );
   }
-
-  -- whether there is one
-  pub none_past : (b last : ℕ) → NoneStand h 0 b → NonePast h b last → NoneStand h 0 (last + 1)
-  none_past b last a p k l u = elim (cases_lt k b) [
-    | inl q ↦ a k l q
-    | inr q ↦ p.none k q u
-  ]
-
-  pub empty_all : NoneStand h 0 (2 ^ 64) → (m : Pairs V) → IsMapOf h m → IsEmptiness m true
-  empty_all a m st k = elim (cases_lt k (2 ^ 64)) [
-    | inl l ↦ st.at k l ∙ a k (omega arith) l
-    | inr l ↦ st.none_beyond k l
-  ]
-
-  pub not_empty : (b : ℕ) (leaf : Id) (key : ℕ) → IsNearest h b leaf key → (m : Pairs V) → IsMapOf h m → IsEmptiness m false
-  not_empty b leaf key n m st = (key, subst IsSome (sym (st.at key n.small)) n.stands)

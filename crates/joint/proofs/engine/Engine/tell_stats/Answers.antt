@@ -1,0 +1,5 @@
+use Rattle.joint.proofs.lemmas.Counted.{count_of}
+use Rattle.joint.proofs.engine.Engine.tell_stats.Goals as goal
+
+pub stats-requires-clause-counted : goal.stats-requires-clause-counted
+stats-requires-clause-counted g c m st = count_of c.args.self.now.census c.args.self.now.nodes c.args.self.now.machines.items c.requires.counted m st
