@@ -49,6 +49,7 @@ pub mod Hidden
 pub mod Holding
 pub mod KeyCalls
 pub mod KeyReplies
+pub mod KeyWalks
 pub mod Keyed
 pub mod Leaves
 pub mod LeavesSteps

@@ -1,6 +1,7 @@
 //! What is counted of a tree beside its nodes: the pairs that stand in it, and the nodes that calls have taken out of it.
 
 ghost use Rattle.std.specs.Prelude.{◌≡◌, ◌+◌, ◌*◌, ◌^◌, ◌≤◌, unwrap_or, IfSome};
+ghost use Rattle.congee.specs.owned.Stats.{capped};
 ghost use Rattle.congee.specs.protocol.Answers.{reply_in, told_or};
 ghost use Rattle.joint.specs.Census.{effect, effect_by, fewer, more};
 ghost use Rattle.joint.specs.Whole.{one_if};
@@ -41,6 +42,17 @@ impl Census {
             pairs: 0,
             taken: 0,
             taken_bytes: 0,
+        }
+    }
+
+    /// The pairs as a number of 64 bits; one past `u64::MAX` stays there.
+    pub(crate) fn capped(&self) -> u64
+        ensures { result ≡ capped self.now.pairs }
+    {
+        if self.pairs > u64::MAX as u128 {
+            u64::MAX
+        } else {
+            self.pairs as u64
         }
     }
 

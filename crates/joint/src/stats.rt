@@ -40,9 +40,9 @@ impl<P: Payload + Small, A: Allocator> Nodes<P, A> {
 
     /// How many nodes of each form stand on each level of the tree and how many children they have, with the number of
     /// pairs. The root is level 0. Refused for want of memory alone.
-    pub(crate) fn stats(&self, pairs: u128) -> Result<NodeStats, AllocError>
+    pub(crate) fn stats(&self, pairs: u64) -> Result<NodeStats, AllocError>
         requires tree { IsTree (nodes self.now) }
-        requires counted { (m : Pairs P) → IsMapOf (nodes self.now) m → pairs ≡ map.len m }
+        requires counted { (m : Pairs P) → IsMapOf (nodes self.now) m → pairs ≡ capped (map.len m) }
         ensures { IfOk result (λ s. (m : Pairs P) → IsMapOf (nodes self.now) m → IsTally s (nodes_of (nodes self.now)) (map.len m)) }
     {
         let root = Id {
@@ -50,18 +50,7 @@ impl<P: Payload + Small, A: Allocator> Nodes<P, A> {
         };
         let mut stats = NodeStats::new(self.alloc);
         self.count_from(root, 0, &mut stats)?;
-        stats.kv_pairs = capped(pairs);
+        stats.kv_pairs = pairs;
         Ok(stats)
-    }
-}
-
-/// The number of pairs as statistics have it; one past `u64::MAX` stays there.
-fn capped(pairs: u128) -> u64
-    ensures { result ≡ capped pairs }
-{
-    if pairs > u64::MAX as u128 {
-        u64::MAX
-    } else {
-        pairs as u64
     }
 }

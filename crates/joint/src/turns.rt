@@ -156,7 +156,7 @@ impl<P: Payload + Small, A: Allocator> Engine<P, A> {
         requires { IsIntact P.same_as P.always_copies self.now.nodes self.now.machines.items self.now.calls.items }
         ensures { Surveys (whole self.now.nodes self.now.machines.items self.now.calls.items) Survey.Keys result (whole self.now.nodes self.now.machines.items self.now.calls.items) }
     {
-        match self.nodes.keys() {
+        match self.nodes.keys(self.census.capped() as usize) {
             Ok(keys) => report(Kind::Tree, Outcome::Done(Done::Keys(keys))),
             Err(_) => refused(Kind::Tree, Refusal::Memory),
         }
@@ -185,7 +185,7 @@ impl<P: Payload + Small, A: Allocator> Engine<P, A> {
         requires counted { AreCounted self.now.census self.now.nodes self.now.machines.items }
         ensures { Surveys (whole self.now.nodes self.now.machines.items self.now.calls.items) Survey.Stats result (whole self.now.nodes self.now.machines.items self.now.calls.items) }
     {
-        match self.nodes.stats(self.census.pairs) {
+        match self.nodes.stats(self.census.capped()) {
             Ok(stats) => report(Kind::Tree, Outcome::Done(Done::Stats(stats))),
             Err(_) => refused(Kind::Tree, Refusal::Memory),
         }
