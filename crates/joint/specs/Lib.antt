@@ -5,6 +5,7 @@ pub mod Asked
 pub mod Auditing
 pub mod Beginning
 pub mod Calling
+pub mod Census
 pub mod Closing
 pub mod Driving
 pub mod Ends

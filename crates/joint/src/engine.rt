@@ -4,6 +4,7 @@ ghost use Rattle.std.specs.Prelude.{◌≡◌, ◌<◌, ℕ, List, Option, Some,
 ghost use Rattle.crossbeam_epoch.specs.declared.bag.Work.{Work};
 ghost use Rattle.crossbeam_epoch.specs.World.Machine.{deferred, place};
 ghost use Rattle.congee.specs.protocol.Play.{StepPlays, begun};
+ghost use Rattle.joint.specs.Census.{AreCounted};
 ghost use Rattle.joint.specs.Forest.{nodes, frame, Refuses, with_collector};
 ghost use Rattle.joint.specs.Intact.{IsIntact, IsSecuring, MayStart, BeginsSecuring, Secured, WalkedOn, call_after, cleared, is_done, is_past, is_reserving, resting, over_at, root, writes};
 ghost use Rattle.joint.specs.Laws.{CellLaws, CallLaws, ProgressLaws};
@@ -16,6 +17,7 @@ ghost use Rattle.joint.specs.View.{id_number};
 ghost use Rattle.joint.specs.Machines.{IsSafe, Rests, Runs, Owes, IsSafeOrOwes, Walked, Collected, retiring_at, slot_names};
 
 use crate::call::Call;
+use crate::census::Census;
 use crate::id::Id;
 use crate::limits::Limits;
 use crate::nodes::Nodes;
@@ -172,12 +174,14 @@ pub struct Engine<P: Payload + Small, A: Allocator> {
     pub(crate) nodes: Nodes<P, A>,
     pub(crate) machines: Vec<Machine<Id, P>>,
     pub(crate) calls: Vec<Call<P>>,
+    /// What is counted of the pairs that stand and of the nodes that calls have taken out.
+    pub(crate) census: Census,
 }
 
 impl<P: Payload + Small, A: Allocator> Engine<P, A> {
     /// An index with a root alone, and a place for each worker there may be. Refused as `Nodes::new` refuses, and as Memory.
     pub(crate) fn new(alloc: Global, limits: Limits, allocator: A) -> Result<Self, Refusal>
-        ensures { MatchResult result (λ e. IsOpened limits (A.charged_of allocator) (A.limit_of allocator) e.nodes × EngineHolds P.same_as P.always_copies (whole e.nodes e.machines.items e.calls.items) × IsFresh (whole e.nodes e.machines.items e.calls.items)) (λ e. IsUnopened limits (A.charged_of allocator) (A.limit_of allocator) e) }
+        ensures { MatchResult result (λ e. IsOpened limits (A.charged_of allocator) (A.limit_of allocator) e.nodes × EngineHolds P.same_as P.always_copies (whole e.nodes e.machines.items e.calls.items) × IsFresh (whole e.nodes e.machines.items e.calls.items) × AreCounted e.census e.nodes e.machines.items) (λ e. IsUnopened limits (A.charged_of allocator) (A.limit_of allocator) e) }
     {
         cell_laws::<P>();
         call_laws::<P>();
@@ -190,10 +194,12 @@ impl<P: Payload + Small, A: Allocator> Engine<P, A> {
         let Ok(calls) = idle_calls(alloc, places) else {
             return Err(Refusal::Memory);
         };
+        let census = Census::new();
         Ok(Engine {
             nodes,
             machines,
             calls,
+            census,
         })
     }
 
@@ -204,6 +210,7 @@ impl<P: Payload + Small, A: Allocator> Engine<P, A> {
         ensures collected { Collected P.same_as P.always_copies self.old.nodes self.old.machines.items who event result self.new.nodes }
         ensures machines { self.new.machines ≡ self.old.machines }
         ensures calls { self.new.calls ≡ self.old.calls }
+        ensures census { self.new.census ≡ self.old.census }
     {
         cell_laws::<P>();
         call_laws::<P>();
@@ -217,6 +224,7 @@ impl<P: Payload + Small, A: Allocator> Engine<P, A> {
         ensures state { self.new.nodes ≡ with_collector self.old.nodes (deferred self.old.nodes.collector who (Work.Remove node.name)) }
         ensures machines { self.new.machines ≡ self.old.machines }
         ensures calls { self.new.calls ≡ self.old.calls }
+        ensures census { self.new.census ≡ self.old.census }
     {
         cell_laws::<P>();
         call_laws::<P>();
@@ -233,6 +241,7 @@ impl<P: Payload + Small, A: Allocator> Engine<P, A> {
         requires runs { Runs self.old.machines.items who }
         ensures walked { Walked P.same_as P.always_copies self.old.nodes self.old.machines.items (record { who = who; noise = noise }) result self.new.nodes self.new.machines.items }
         ensures calls { self.new.calls ≡ self.old.calls }
+        ensures census { self.new.census ≡ self.old.census }
     {
         cell_laws::<P>();
         let owed = retiring(&self.machines, who);
@@ -249,6 +258,7 @@ impl<P: Payload + Small, A: Allocator> Engine<P, A> {
         ensures calls { self.new.calls.items ≡ slice_set self.old.calls.items who call }
         ensures nodes { self.new.nodes ≡ self.old.nodes }
         ensures machines { self.new.machines ≡ self.old.machines }
+        ensures census { self.new.census ≡ self.old.census }
     {
         self.calls[who] = call;
     }
@@ -261,6 +271,7 @@ impl<P: Payload + Small, A: Allocator> Engine<P, A> {
         ensures collected { Collected P.same_as P.always_copies self.old.nodes self.old.machines.items who (Event.Begin op) result self.new.nodes }
         ensures calls { self.new.calls.items ≡ slice_set self.old.calls.items who (call_after result.outcome (Call.Collecting op)) }
         ensures machines { self.new.machines ≡ self.old.machines }
+        ensures census { self.new.census ≡ self.old.census }
     {
         progress::<P>();
         let report = self.collect(who, Event::Begin(op));
@@ -276,6 +287,7 @@ impl<P: Payload + Small, A: Allocator> Engine<P, A> {
         ensures collected { Collected P.same_as P.always_copies self.old.nodes self.old.machines.items who Event.Go result self.new.nodes }
         ensures calls { self.new.calls.items ≡ slice_set self.old.calls.items who (call_after result.outcome (Call.Collecting op)) }
         ensures machines { self.new.machines ≡ self.old.machines }
+        ensures census { self.new.census ≡ self.old.census }
     {
         progress::<P>();
         let report = self.collect(who, Event::Go);
@@ -292,6 +304,7 @@ impl<P: Payload + Small, A: Allocator> Engine<P, A> {
         ensures nodes { self.new.nodes ≡ self.old.nodes }
         ensures machines { self.new.machines.items ≡ slice_set self.old.machines.items who (begun root op) }
         ensures calls { self.new.calls.items ≡ slice_set self.old.calls.items who Call.Walking }
+        ensures census { self.new.census ≡ self.old.census }
     {
         call_laws::<P>();
         let root = Id {
@@ -307,6 +320,7 @@ impl<P: Payload + Small, A: Allocator> Engine<P, A> {
         ensures machines { self.new.machines.items ≡ slice_set self.old.machines.items who machine }
         ensures nodes { self.new.nodes ≡ self.old.nodes }
         ensures calls { self.new.calls ≡ self.old.calls }
+        ensures census { self.new.census ≡ self.old.census }
     {
         drop(mem::replace(&mut self.machines[who], machine));
     }
@@ -322,6 +336,7 @@ impl<P: Payload + Small, A: Allocator> Engine<P, A> {
         ensures nodes { self.new.nodes ≡ self.old.nodes }
         ensures machines { self.new.machines ≡ self.old.machines }
         ensures calls { self.new.calls.items ≡ slice_set self.old.calls.items who (Call.Reserving op) }
+        ensures census { self.new.census ≡ self.old.census }
     {
         self.set_call(who, Call::Reserving(op));
     }
@@ -345,6 +360,7 @@ impl<P: Payload + Small, A: Allocator> Engine<P, A> {
         ensures nodes { self.new.nodes ≡ self.old.nodes }
         ensures machines { self.new.machines ≡ self.old.machines }
         ensures calls { self.new.calls.items ≡ slice_set self.old.calls.items who Call.Idle }
+        ensures census { self.new.census ≡ self.old.census }
     {
         self.set_call(who, Call::Idle);
     }
@@ -353,7 +369,8 @@ impl<P: Payload + Small, A: Allocator> Engine<P, A> {
     pub(crate) fn begin_securing(&mut self, who: usize)
         requires intact { IsIntact P.same_as P.always_copies self.old.nodes self.old.machines.items self.old.calls.items }
         requires on { is_reserving (slice_get self.old.calls.items who) ≡ true }
-        ensures { BeginsSecuring P.same_as P.always_copies self.old.nodes self.old.machines.items self.old.calls.items who self.new.nodes self.new.machines.items self.new.calls.items }
+        ensures begins { BeginsSecuring P.same_as P.always_copies self.old.nodes self.old.machines.items self.old.calls.items who self.new.nodes self.new.machines.items self.new.calls.items }
+        ensures census { self.new.census ≡ self.old.census }
     {
         progress::<P>();
         let Call::Reserving(op) = self.take_call(who) else {
@@ -367,7 +384,8 @@ impl<P: Payload + Small, A: Allocator> Engine<P, A> {
     pub(crate) fn go_securing(&mut self, who: usize) -> Report
         requires intact { IsIntact P.same_as P.always_copies self.old.nodes self.old.machines.items self.old.calls.items }
         requires on { IsSecuring (slice_get self.old.calls.items who) }
-        ensures { Secured P.same_as P.always_copies self.old.nodes self.old.machines.items self.old.calls.items who result self.new.nodes self.new.machines.items self.new.calls.items }
+        ensures secured { Secured P.same_as P.always_copies self.old.nodes self.old.machines.items self.old.calls.items who result self.new.nodes self.new.machines.items self.new.calls.items }
+        ensures census { self.new.census ≡ self.old.census }
     {
         progress::<P>();
         let Call::Securing(op) = self.take_call(who) else {
@@ -389,6 +407,7 @@ impl<P: Payload + Small, A: Allocator> Engine<P, A> {
         ensures calls { self.new.calls.items ≡ slice_set self.old.calls.items who Call.Idle }
         ensures nodes { self.new.nodes ≡ self.old.nodes }
         ensures machines { self.new.machines ≡ self.old.machines }
+        ensures census { self.new.census ≡ self.old.census }
     {
         std::mem::replace(&mut self.calls[who], Call::Idle)
     }
@@ -411,6 +430,7 @@ impl<P: Payload + Small, A: Allocator> Engine<P, A> {
         ensures machines { self.new.machines.items ≡ cleared self.old.machines.items who }
         ensures nodes { self.new.nodes ≡ self.old.nodes }
         ensures calls { self.new.calls ≡ self.old.calls }
+        ensures census { self.new.census ≡ self.old.census }
     {
         if is_done(&self.machines[who].phase) {
             self.set_machine(who, resting());
@@ -424,6 +444,7 @@ impl<P: Payload + Small, A: Allocator> Engine<P, A> {
         ensures intact { IsIntact P.same_as P.always_copies self.new.nodes self.new.machines.items self.new.calls.items }
         ensures walked { WalkedOn P.same_as P.always_copies self.old.nodes self.old.machines.items (record { who = who; noise = noise }) result self.new.nodes self.new.machines.items }
         ensures calls { self.new.calls.items ≡ slice_set self.old.calls.items who (if over_at (slice_get self.new.machines.items who) then Call.Idle else Call.Walking) }
+        ensures census { self.new.census ≡ self.old.census }
     {
         call_laws::<P>();
         let moved = self.walk(who, noise);

@@ -19,7 +19,7 @@
 //! | What | Its file |
 //! |---|---|
 //! | the machine, its steps and whole calls, with a log of what was asked and the journal | `world`, over `advance`, `calls` and `log` |
-//! | the calls in flight, a step by its event | `engine`, `turns`, `steps` |
+//! | the calls in flight, a step by its event, and what is counted of pairs | `engine`, `turns`, `steps`, `census` |
 //! | nodes in cells: read, made, changed, handed over, counted, destroyed | `nodes`, `store`, `slot`, `cells`, `counts`, `clock` |
 //! | one-step calls and the end | `survey`, `stats`, `close` |
 //! | what follows over any steps | `laws` |
@@ -31,6 +31,7 @@ mod advance;
 mod call;
 mod calls;
 mod cells;
+mod census;
 mod clock;
 mod close;
 mod counts;

@@ -277,7 +277,7 @@ module _ {V : Type 0} (same : V → V → Bool) (always : Bool) where
   }
 
   -- its journal
-  one_map : (hp : ℕ → Node V) (m n : Pairs V) → IsMapOf hp m → IsMapOf hp n → m ≡ n
+  pub one_map : (hp : ℕ → Node V) (m n : Pairs V) → IsMapOf hp m → IsMapOf hp n → m ≡ n
   one_map hp m n a b = same_pairs m n by where
     by : (q : ℕ) → get m q ≡ get n q
     by q = elim (cases_Bool (ltb q (2 ^ 64))) [
