@@ -186,6 +186,33 @@ impl<P: Payload + Small, A: Allocator> Engine<P, A> {
         ensures intact { IsIntact P.same_as P.always_copies self.new.nodes self.new.machines.items self.new.calls.items }
         ensures does { Does P.same_as P.always_copies (whole self.old.nodes self.old.machines.items self.old.calls.items) who (Event.Go noise) (misuse (whole self.old.nodes self.old.machines.items self.old.calls.items) who (Event.Go noise)) result (whole self.new.nodes self.new.machines.items self.new.calls.items) }
     {
+        if self.is_walking(who) {
+            self.go_point(who, noise)
+        } else {
+            self.go_other(who)
+        }
+    }
+
+    /// Whether a worker's call takes its steps on the tree.
+    fn is_walking(&self, who: usize) -> bool
+        ensures walking { result ≡ true → slice_get self.now.calls.items who ≡ Some Call.Walking }
+        ensures other { result ≡ false → slice_get self.now.calls.items who ≡ Some Call.Walking → ⊥ }
+    {
+        match self.calls.get(who) {
+            Some(Call::Walking) => true,
+            // There is none, or it is on the collector, or before its first step on the tree.
+            _ => false,
+        }
+    }
+
+    /// The next step of a worker's call that isn't on the tree yet, or there is none.
+    #[inline(never)]
+    fn go_other(&mut self, who: usize) -> Report<P>
+        requires other { slice_get self.old.calls.items who ≡ Some Call.Walking → ⊥ }
+        requires intact { IsIntact P.same_as P.always_copies self.old.nodes self.old.machines.items self.old.calls.items }
+        ensures intact { IsIntact P.same_as P.always_copies self.new.nodes self.new.machines.items self.new.calls.items }
+        ensures does { (noise : Noise Id P) → Does P.same_as P.always_copies (whole self.old.nodes self.old.machines.items self.old.calls.items) who (Event.Go noise) (misuse (whole self.old.nodes self.old.machines.items self.old.calls.items) who (Event.Go noise)) result (whole self.new.nodes self.new.machines.items self.new.calls.items) }
+    {
         if !self.nodes.is_registered(who) {
             return refused(Kind::Collection, Refusal::Unknown);
         }
@@ -204,7 +231,7 @@ impl<P: Payload + Small, A: Allocator> Engine<P, A> {
                 let turn = self.go_securing(who);
                 collection(turn, reserving(turn.outcome))
             }
-            Stage::Walking => self.go_point(who, noise),
+            Stage::Walking => unreachable!(),
         }
     }
 

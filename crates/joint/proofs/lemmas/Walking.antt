@@ -36,6 +36,12 @@ not_over : {V : Type 0} (x : Phase Id V) → is_over x ≡ false → IsUnderWay 
 not_over Ended e = absurd (cc e)
 not_over _ e = tt
 
+-- a worker whose call is on the tree is registered
+pub registered : {V : Type 0} (same : V → V → Bool) (always : Bool) (s : Forest V) (ms : List (Machine Id V)) (calls : List (Call V)) → IsIntact same always s ms calls → (who : ℕ) → slice_get calls who ≡ Some Walking → (place s.collector who).registered ≡ true
+registered same always s ms calls intact who on =
+    let x = there ms who (inside_machines same always s ms calls intact who Walking on) in
+    (intact.safe.sound.sound.guarded who x.0 x.1).registered (intact.each who Walking x.0 on x.1).0
+
 -- a deferral leaves other places, and the phase of its own
 module _ {T : Type 0} (c : State T (Unit {0})) (who : ℕ) where
   abbrev put : Id → Participant (Unit {0})
