@@ -12,7 +12,8 @@ ghost use Rattle.joint.specs.declared.call.Call.TheVariants as Call;
 ghost use Rattle.crossbeam_epoch.specs.declared.world.report.Event.TheVariants as Event;
 ghost use Rattle.joint.specs.Opening.{IsOpened, IsUnopened};
 ghost use Rattle.joint.specs.Runs.{IsFresh};
-ghost use Rattle.joint.specs.Whole.{whole, EngineHolds};
+ghost use Rattle.joint.specs.Reports.{told};
+ghost use Rattle.joint.specs.Whole.{whole, EngineHolds, is_in_flight};
 ghost use Rattle.joint.specs.View.{id_number};
 ghost use Rattle.joint.specs.Machines.{IsSafe, Rests, Runs, Owes, IsSafeOrOwes, Walked, Collected, retiring_at, slot_names};
 
@@ -70,6 +71,7 @@ fn retiring<P: Payload + Small>(machines: &[Machine<Id, P>], who: usize) -> Opti
 }
 
 /// One step of a worker's call on the tree, but for the deferral of the node that it marks.
+#[inline(always)]
 fn step_tree<P: Payload + Small, A: Allocator>(
     store: &mut Nodes<P, A>,
     machines: &mut [Machine<Id, P>],
@@ -118,6 +120,7 @@ fn is_past<P: Payload + Small>(stage: &Stage<Id, P>) -> bool
 }
 
 /// Whether a call is a scan that has told its end.
+#[inline(always)]
 fn is_done<P: Payload + Small>(phase: &Phase<Id, P>) -> bool
     ensures { result ≡ is_done phase.now }
 {
@@ -125,6 +128,20 @@ fn is_done<P: Payload + Small>(phase: &Phase<Id, P>) -> bool
         Phase::Sweep { sweep } => is_past(&sweep.stage),
         // No other phase is a scan's.
         _ => false,
+    }
+}
+
+/// Whether a call on the tree is in flight after a step with this outcome.
+fn goes_on<P>(outcome: &congee::Outcome<P>) -> bool
+    ensures { result ≡ is_in_flight (told outcome.now) }
+{
+    match outcome {
+        congee::Outcome::Running => true,
+        congee::Outcome::Asks(_) => true,
+        congee::Outcome::Found { .. } => true,
+        congee::Outcome::Done(_) => false,
+        congee::Outcome::Scanned { .. } => false,
+        congee::Outcome::Refused(_) => false,
     }
 }
 
@@ -140,6 +157,27 @@ fn resting<P: Payload + Small>() -> Machine<Id, P>
         kind: Kind::Get,
         given: None,
         phase: Phase::Ended,
+    }
+}
+
+/// Puts a call in another's place, part by part: the phase of one on a key is small, and nothing of a scan's is moved.
+fn put_machine<P: Payload + Small>(place: &mut Machine<Id, P>, machine: Machine<Id, P>)
+    ensures { place.new ≡ machine }
+{
+    let Machine {
+        root,
+        key,
+        kind,
+        given,
+        phase,
+    } = machine;
+    place.root = root;
+    place.key = key;
+    drop(mem::replace(&mut place.kind, kind));
+    drop(mem::replace(&mut place.given, given));
+    match phase {
+        Phase::New => drop(mem::replace(&mut place.phase, Phase::New)),
+        phase => drop(mem::replace(&mut place.phase, phase)),
     }
 }
 
@@ -236,6 +274,7 @@ impl<P: Payload + Small, A: Allocator> Engine<P, A> {
     }
 
     /// One step of a worker's call on the tree.
+    #[inline(always)]
     fn walk(&mut self, who: usize, noise: Noise<Id, P>) -> Move<P>
         requires safe { IsSafe P.same_as P.always_copies self.old.nodes self.old.machines.items }
         requires runs { Runs self.old.machines.items who }
@@ -322,7 +361,7 @@ impl<P: Payload + Small, A: Allocator> Engine<P, A> {
         ensures calls { self.new.calls ≡ self.old.calls }
         ensures census { self.new.census ≡ self.old.census }
     {
-        drop(mem::replace(&mut self.machines[who], machine));
+        put_machine(&mut self.machines[who], machine);
     }
 
     /// Begins a writing call in the place of a pinned worker: it takes no step yet.
@@ -412,19 +451,8 @@ impl<P: Payload + Small, A: Allocator> Engine<P, A> {
         std::mem::replace(&mut self.calls[who], Call::Idle)
     }
 
-    /// Whether a worker's call on the tree has ended.
-    fn is_over(&self, who: usize) -> bool
-        requires { who < length self.now.machines.items }
-        ensures { result ≡ over_at (slice_get self.now.machines.items who) }
-    {
-        match &self.machines[who].phase {
-            Phase::Ended => true,
-            // Every other phase has its step to take.
-            _ => false,
-        }
-    }
-
     /// Puts a scan that is done out of its worker's place.
+    #[inline(always)]
     fn clear(&mut self, who: usize)
         requires { who < length self.old.machines.items }
         ensures machines { self.new.machines.items ≡ cleared self.old.machines.items who }
@@ -438,6 +466,7 @@ impl<P: Payload + Small, A: Allocator> Engine<P, A> {
     }
 
     /// The next step of a call on the tree.
+    #[inline(always)]
     pub(crate) fn go_walking(&mut self, who: usize, noise: Noise<Id, P>) -> Move<P>
         requires intact { IsIntact P.same_as P.always_copies self.old.nodes self.old.machines.items self.old.calls.items }
         requires on { slice_get self.old.calls.items who ≡ Some Call.Walking }
@@ -448,8 +477,8 @@ impl<P: Payload + Small, A: Allocator> Engine<P, A> {
     {
         call_laws::<P>();
         let moved = self.walk(who, noise);
-        self.clear(who);
-        if self.is_over(who) {
+        if !goes_on(&moved.outcome) {
+            self.clear(who);
             self.set_call(who, Call::Idle);
         }
         moved

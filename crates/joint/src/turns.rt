@@ -23,37 +23,49 @@ use crate::census::{Change, effect_after};
 use crate::engine::{Engine, call_laws, cell_laws, progress};
 use crate::id::Id;
 use crate::refusal::Refusal;
-use crate::steps::{Done, Event, Kind, Outcome, Report, Step, Survey, Target};
+use crate::steps::{Done, Kind, Op, Outcome, Report, Survey, Target};
 use congee::{Allocator, Move, Noise, Payload, Small};
 use crossbeam_epoch::Fault;
 
 impl<P: Payload + Small, A: Allocator> Engine<P, A> {
-    /// One step of the machine.
-    pub(crate) fn step(&mut self, step: Step<P>) -> Report<P>
+    /// The step in which a worker registers.
+    pub(crate) fn step_in(&mut self, worker: u32) -> Report<P>
         requires holds { EngineHolds P.same_as P.always_copies (whole self.old.nodes self.old.machines.items self.old.calls.items) }
         requires counted { AreCounted self.old.census self.old.nodes self.old.machines.items }
-        ensures step { IsEngineStep P.same_as P.always_copies (whole self.old.nodes self.old.machines.items self.old.calls.items) step result (whole self.new.nodes self.new.machines.items self.new.calls.items) }
+        ensures step { IsEngineStep P.same_as P.always_copies (whole self.old.nodes self.old.machines.items self.old.calls.items) (record { worker = worker; event = Event.Register }) result (whole self.new.nodes self.new.machines.items self.new.calls.items) }
         ensures counted { AreCounted self.new.census self.new.nodes self.new.machines.items }
     {
         call_laws::<P>();
-        let who = step.worker as usize;
-        match step.event {
-            Event::Register => {
-                let report = self.register();
-                self.nodes.charged();
-                report
-            }
-            Event::Begin(op) => {
-                let report = self.begin(who, op.target());
-                self.nodes.charged();
-                report
-            }
-            Event::Go(noise) => {
-                let report = self.go(who, noise);
-                self.nodes.charged();
-                report
-            }
-        }
+        let report = self.register();
+        self.nodes.charged();
+        report
+    }
+
+    /// The step in which a worker begins a call.
+    pub(crate) fn step_begin(&mut self, worker: u32, op: Op<P>) -> Report<P>
+        requires holds { EngineHolds P.same_as P.always_copies (whole self.old.nodes self.old.machines.items self.old.calls.items) }
+        requires counted { AreCounted self.old.census self.old.nodes self.old.machines.items }
+        ensures step { IsEngineStep P.same_as P.always_copies (whole self.old.nodes self.old.machines.items self.old.calls.items) (record { worker = worker; event = Event.Begin op }) result (whole self.new.nodes self.new.machines.items self.new.calls.items) }
+        ensures counted { AreCounted self.new.census self.new.nodes self.new.machines.items }
+    {
+        call_laws::<P>();
+        let report = self.begin(worker as usize, op.target());
+        self.nodes.charged();
+        report
+    }
+
+    /// The next step of a worker's call.
+    #[inline(always)]
+    pub(crate) fn step_on(&mut self, worker: u32, noise: Noise<Id, P>) -> Report<P>
+        requires holds { EngineHolds P.same_as P.always_copies (whole self.old.nodes self.old.machines.items self.old.calls.items) }
+        requires counted { AreCounted self.old.census self.old.nodes self.old.machines.items }
+        ensures step { IsEngineStep P.same_as P.always_copies (whole self.old.nodes self.old.machines.items self.old.calls.items) (record { worker = worker; event = Event.Go noise }) result (whole self.new.nodes self.new.machines.items self.new.calls.items) }
+        ensures counted { AreCounted self.new.census self.new.nodes self.new.machines.items }
+    {
+        call_laws::<P>();
+        let report = self.go(worker as usize, noise);
+        self.nodes.charged();
+        report
     }
 
     /// A worker takes the lowest free place.
@@ -131,6 +143,7 @@ impl<P: Payload + Small, A: Allocator> Engine<P, A> {
     }
 
     /// Tells of the tree as it stands, to a worker without a call in flight.
+    #[inline(never)]
     fn answer_survey(&self, who: usize, survey: Survey) -> Report<P>
         requires intact { IsIntact P.same_as P.always_copies self.now.nodes self.now.machines.items self.now.calls.items }
         requires registered { (place self.now.nodes.collector who).registered ≡ true }
@@ -192,11 +205,41 @@ impl<P: Payload + Small, A: Allocator> Engine<P, A> {
     }
 
     /// The next step of a worker's call in flight.
+    #[inline(always)]
     fn go(&mut self, who: usize, noise: Noise<Id, P>) -> Report<P>
         requires intact { IsIntact P.same_as P.always_copies self.old.nodes self.old.machines.items self.old.calls.items }
         requires counted { AreCounted self.old.census self.old.nodes self.old.machines.items }
         ensures intact { IsIntact P.same_as P.always_copies self.new.nodes self.new.machines.items self.new.calls.items }
         ensures does { Does P.same_as P.always_copies (whole self.old.nodes self.old.machines.items self.old.calls.items) who (Event.Go noise) (misuse (whole self.old.nodes self.old.machines.items self.old.calls.items) who (Event.Go noise)) result (whole self.new.nodes self.new.machines.items self.new.calls.items) }
+        ensures counted { AreCounted self.new.census self.new.nodes self.new.machines.items }
+    {
+        if self.is_walking(who) {
+            self.go_point(who, noise)
+        } else {
+            self.go_other(who)
+        }
+    }
+
+    /// Whether a worker's call takes its steps on the tree.
+    fn is_walking(&self, who: usize) -> bool
+        ensures walking { result ≡ true → slice_get self.now.calls.items who ≡ Some Call.Walking }
+        ensures other { result ≡ false → slice_get self.now.calls.items who ≡ Some Call.Walking → ⊥ }
+    {
+        match self.calls.get(who) {
+            Some(Call::Walking) => true,
+            // There is none, or it is on the collector, or before its first step on the tree.
+            _ => false,
+        }
+    }
+
+    /// The next step of a worker's call that isn't on the tree yet, or there is none.
+    #[inline(never)]
+    fn go_other(&mut self, who: usize) -> Report<P>
+        requires other { slice_get self.old.calls.items who ≡ Some Call.Walking → ⊥ }
+        requires intact { IsIntact P.same_as P.always_copies self.old.nodes self.old.machines.items self.old.calls.items }
+        requires counted { AreCounted self.old.census self.old.nodes self.old.machines.items }
+        ensures intact { IsIntact P.same_as P.always_copies self.new.nodes self.new.machines.items self.new.calls.items }
+        ensures does { (noise : Noise Id P) → Does P.same_as P.always_copies (whole self.old.nodes self.old.machines.items self.old.calls.items) who (Event.Go noise) (misuse (whole self.old.nodes self.old.machines.items self.old.calls.items) who (Event.Go noise)) result (whole self.new.nodes self.new.machines.items self.new.calls.items) }
         ensures counted { AreCounted self.new.census self.new.nodes self.new.machines.items }
     {
         if !self.nodes.is_registered(who) {
@@ -217,11 +260,12 @@ impl<P: Payload + Small, A: Allocator> Engine<P, A> {
                 let turn = self.go_securing(who);
                 collection(turn, reserving(turn.outcome))
             }
-            Stage::Walking => self.go_point(who, noise),
+            Stage::Walking => unreachable!(),
         }
     }
 
     /// The next step of a worker's call on the tree.
+    #[inline(always)]
     fn go_point(&mut self, who: usize, noise: Noise<Id, P>) -> Report<P>
         requires intact { IsIntact P.same_as P.always_copies self.old.nodes self.old.machines.items self.old.calls.items }
         requires on { slice_get self.old.calls.items who ≡ Some Call.Walking }
@@ -236,6 +280,7 @@ impl<P: Payload + Small, A: Allocator> Engine<P, A> {
     }
 
     /// The same, and what it makes of the pairs and of the nodes that are taken out is counted.
+    #[inline(always)]
     fn go_counted(&mut self, who: usize, noise: Noise<Id, P>) -> Move<P>
         requires intact { IsIntact P.same_as P.always_copies self.old.nodes self.old.machines.items self.old.calls.items }
         requires on { slice_get self.old.calls.items who ≡ Some Call.Walking }
@@ -349,6 +394,7 @@ fn reserving<P>(outcome: crossbeam_epoch::Outcome) -> Outcome<P>
 }
 
 /// The report of a step on the tree that gave so many nodes back.
+#[inline(always)]
 fn of_move<P>(moved: Move<P>, back: u64) -> Report<P>
     ensures { result ≡ record { kind = Kind.Tree; decided = moved.decided; kept = false; destroyed = back; outcome = told moved.outcome } }
 {
