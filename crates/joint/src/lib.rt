@@ -18,7 +18,7 @@
 //!
 //! | What | Its file |
 //! |---|---|
-//! | the machine, its steps and whole calls, with a log of what was asked and the journal | `world`, over `advance`, `calls` and `log` |
+//! | the machine, its steps and whole calls, with a log of what was asked and the journal | `world`, over `advance`, `calls`, `replies` and `log` |
 //! | the calls in flight, a step by its event | `engine`, `turns`, `steps` |
 //! | nodes in cells: read, made, changed, handed over, counted, destroyed | `nodes`, `store`, `slot`, `cells`, `counts`, `clock` |
 //! | one-step calls and the end | `survey`, `stats`, `close` |
@@ -46,6 +46,7 @@ mod opening;
 mod promises;
 mod reading;
 mod refusal;
+mod replies;
 mod request;
 mod run_laws;
 mod slot;
@@ -67,6 +68,7 @@ pub use limits::Limits;
 pub use map_laws::calls_map;
 pub use promises::keeps_promises;
 pub use refusal::Refusal;
+pub use replies::pairs_stand;
 pub use run_laws::{
     alone_by_reports, answers_wanted, calls_answer, calls_end, guards_keep, locks_apart,
     nodes_leave, readers_refused, runs_journal,
