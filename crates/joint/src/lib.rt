@@ -18,10 +18,11 @@
 //!
 //! | What | Its file |
 //! |---|---|
-//! | the machine, its steps and whole calls, with a log of what was asked and the journal | `world`, over `advance`, `calls`, `replies` and `log` |
+//! | the machine, its steps and whole calls, with a log of what was asked and the journal | `world`, over `advance`, `calls` and `log` |
 //! | the calls in flight, a step by its event | `engine`, `turns`, `steps` |
 //! | nodes in cells: read, made, changed, handed over, counted, destroyed | `nodes`, `store`, `slot`, `cells`, `counts`, `clock` |
 //! | one-step calls and the end | `survey`, `stats`, `close` |
+//! | whole calls on one key, as what they reply | `replies` |
 //! | what follows over any steps | `laws` |
 //! | indexes that threads share, with guards and workers | `threads`, with `account` |
 #![tactic(auto)]
