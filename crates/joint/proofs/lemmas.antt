@@ -78,6 +78,7 @@ pub mod Recounting
 pub mod Registered
 pub mod Registering
 pub mod Rekept
+pub mod Replied
 pub mod Reported
 pub mod Reserving
 pub mod Requested

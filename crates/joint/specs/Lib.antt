@@ -40,6 +40,7 @@ pub mod Scans
 pub mod Shares
 pub mod Slots
 pub mod Solid
+pub mod Standing
 pub mod Stretches
 pub mod Survey
 pub mod Surveys
