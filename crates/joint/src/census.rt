@@ -57,6 +57,7 @@ impl Census {
     }
 
     /// A call had a node of the first size taken out before its step, and has one of the second after it, where it has one.
+    #[inline(always)]
     pub(crate) fn recount(&mut self, before: Option<u64>, after: Option<u64>)
         requires had { one_if before ≤ self.old.taken }
         requires had_bytes { unwrap_or before 0 ≤ self.old.taken_bytes }
@@ -78,6 +79,7 @@ impl Census {
     }
 
     /// A step made this of the number of pairs.
+    #[inline(always)]
     pub(crate) fn count(&mut self, change: Change)
         requires few { self.old.pairs ≤ 2 ^ 64 }
         requires there { fewer change ≤ self.old.pairs }

@@ -301,6 +301,7 @@ impl<P: Payload + Small, A: Allocator> Engine<P, A> {
     }
 
     /// What a step of a worker's call made of the number of pairs.
+    #[inline(always)]
     fn change_by(&self, who: usize, moved: &Move<P>) -> Change
         requires { who < length self.now.machines.items }
         ensures { result ≡ effect_of moved.now.decided moved.now.outcome (slice_get self.now.machines.items who) }

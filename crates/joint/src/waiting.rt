@@ -32,6 +32,7 @@ impl<P: Payload + Small, A: Allocator> Engine<P, A> {
     }
 
     /// What is charged for the node that a worker's call has taken out of the tree and not yet handed over, in bytes.
+    #[inline(always)]
     pub(crate) fn size_taken(&self, who: usize) -> Option<u64>
         requires intact { IsIntact P.same_as P.always_copies self.now.nodes self.now.machines.items self.now.calls.items }
         requires inside { who < length self.now.machines.items }
@@ -45,6 +46,7 @@ impl<P: Payload + Small, A: Allocator> Engine<P, A> {
 }
 
 /// The node that a call has taken out of the tree and not yet handed over.
+#[inline(always)]
 fn taken<P: Payload + Small>(phase: &Phase<Id, P>) -> Option<Id>
     ensures { result ≡ taken phase.now }
 {
