@@ -17,12 +17,14 @@ pub mod Begun
 pub mod Beside
 pub mod CollectStep
 pub mod Calling
+pub mod Changing
 pub mod CallScans
 pub mod CallSurveys
 pub mod Closing
 pub mod Collected
 pub mod Collecting
 pub mod Copying
+pub mod Counted
 pub mod Counting
 pub mod Draining
 pub mod Driving
@@ -47,6 +49,7 @@ pub mod Hidden
 pub mod Holding
 pub mod KeyCalls
 pub mod KeyReplies
+pub mod KeyWalks
 pub mod Keyed
 pub mod Leaves
 pub mod LeavesSteps
@@ -75,6 +78,7 @@ pub mod Recounting
 pub mod Registered
 pub mod Registering
 pub mod Rekept
+pub mod Replied
 pub mod Reported
 pub mod Reserving
 pub mod Requested

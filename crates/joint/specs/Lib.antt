@@ -5,6 +5,7 @@ pub mod Asked
 pub mod Auditing
 pub mod Beginning
 pub mod Calling
+pub mod Census
 pub mod Closing
 pub mod Driving
 pub mod Ends
@@ -39,6 +40,7 @@ pub mod Scans
 pub mod Shares
 pub mod Slots
 pub mod Solid
+pub mod Standing
 pub mod Stretches
 pub mod Survey
 pub mod Surveys

@@ -3,9 +3,9 @@ use Rattle.std.specs.Prelude.{◌≡◌, ℕ, ◌+◌, ◌<◌, ◌≤◌, ◌^�
 use Rattle.std.specs.FinMap.{entries, get}
 use Rattle.judge.specs.Answer.{Pairs}
 use Rattle.congee.specs.Heap.{Node, Hung, Nothing, Below, Holds, Stands, fits, child_for, value_at}
-use Rattle.congee.specs.Keys.{key_bytes}
+use Rattle.congee.specs.Keys.{IsMapOf, key_bytes}
 use Rattle.congee.specs.Ledger.{Note, Tree, Linked}
-use Rattle.congee.specs.protocol.Regions.{IsRegion, start_at}
+use Rattle.congee.specs.protocol.Regions.{IsRegion, span, start_at}
 use Rattle.congee.specs.declared.protocol.store.Region.{Region}
 use Rattle.joint.specs.declared.id.Id.{Id}
 use Rattle.joint.specs.declared.survey.Narrowed.{Narrowed}
@@ -114,12 +114,19 @@ abbrev pub IsEmptiness : {V : Type 0} → Pairs V → Bool → Type 0
 IsEmptiness m true = (k : ℕ) → get m k ≡ None
 IsEmptiness m false = (k : ℕ) × IsSome (get m k)
 
--- the keys below a bound that stand, in ascending order
-pub record AreKeysBelow {V : Type 0} (h : ℕ → Node V) (bound : ℕ) (keys : List ℕ) : Type 0 where
+-- the keys of a map below a bound, in ascending order
+pub record AreKeysBelow {V : Type 0} (m : Pairs V) (bound : ℕ) (keys : List ℕ) : Type 0 where
   pub ascend : Ascend keys
   pub below : (k : ℕ) → Has keys k → k < bound
-  pub stand : (k : ℕ) → Has keys k → IsSome (value_at h (key_bytes k))
-  pub all : (k : ℕ) → k < bound → IsSome (value_at h (key_bytes k)) → Has keys k
+  pub stand : (k : ℕ) → Has keys k → IsSome (get m k)
+  pub all : (k : ℕ) → k < bound → IsSome (get m k) → Has keys k
+
+-- behind the keys before those that a node's prefix begins stand these too
+pub record PutsKeys {V : Type 0} (h : ℕ → Node V) (n : ℕ) (old new : List ℕ) : Type 0 where
+  pub base : ℕ
+  pub depth : ℕ
+  pub region : IsRegion (h n).prefix base depth
+  pub keys : (m : Pairs V) → IsMapOf h m → AreKeysBelow m base old → AreKeysBelow m (base + span depth) new
 
 -- the first number not looked at
 abbrev pub bound_of : Option ℕ → ℕ

@@ -1,8 +1,10 @@
 //! One step of the index, with what is written down of it.
 
-ghost use Rattle.std.specs.Prelude.{◌≡◌, ◌<◌, ◌++◌, ◌&&◌, true, false, None, is_some, slice_get, slice_set};
+ghost use Rattle.std.specs.Prelude.{◌≡◌, ◌++◌, ◌&&◌, true, false, ltb, Option, None, is_some, slice_get, slice_set};
 ghost use Rattle.joint.specs.Intact.{is_reserving};
-ghost use Rattle.joint.specs.Journaling.{entry_of, has_place, in_list, kept_if, reply_by};
+ghost use Rattle.judge.specs.declared.journal.Entry.{Entry};
+ghost use Rattle.joint.specs.declared.request.Request.{Request};
+ghost use Rattle.joint.specs.Journaling.{asks_at, entry_of, in_list, kept_if, reply_by};
 ghost use Rattle.joint.specs.Log.{has_room, heard_by, is_full, noted, request_at};
 ghost use Rattle.joint.specs.Whole.{is_in_flight, IsStep};
 
@@ -34,28 +36,56 @@ impl<P: Payload + Small, A: Allocator> World<P, A> {
     fn register(&mut self, worker: u32) -> Report<P>
         ensures { IsStep P.same_as P.always_copies self.old (record { worker = worker; event = Event.Register }) result self.new }
     {
-        self.engine.step(Step {
-            worker,
-            event: Event::Register,
-        })
+        self.engine.step_in(worker)
     }
 
     /// A worker begins a call, and what it asks for is written down.
-    fn begin(&mut self, worker: u32, op: Op<P>) -> Report<P>
+    pub(crate) fn begin(&mut self, worker: u32, op: Op<P>) -> Report<P>
         ensures { IsStep P.same_as P.always_copies self.old (record { worker = worker; event = Event.Begin op }) result self.new }
     {
         let request = Request::of(&op);
-        let report = self.engine.step(Step {
-            worker,
-            event: Event::Begin(op),
-        });
+        let report = self.engine.step_begin(worker, op);
         let on = is_in_flight(&report.outcome);
         note(&mut self.log, worker as usize, on, request);
         report
     }
 
+    /// The next step of a worker's call.
+    #[inline(always)]
+    pub(crate) fn go(&mut self, worker: u32, noise: Noise<Id, P>) -> Report<P>
+        ensures { IsStep P.same_as P.always_copies self.old (record { worker = worker; event = Event.Go noise }) result self.new }
+    {
+        if self.is_kept() {
+            self.go_kept(worker, noise)
+        } else {
+            self.go_unkept(worker, noise)
+        }
+    }
+
+    /// Whether a journal is kept.
+    fn is_kept(&self) -> bool
+        ensures { result ≡ ltb 0 self.now.log.places }
+    {
+        self.log.is_kept()
+    }
+
+    /// The next step of a worker's call where no journal is kept: nothing is counted for one, and nothing written down.
+    #[inline(always)]
+    fn go_unkept(&mut self, worker: u32, noise: Noise<Id, P>) -> Report<P>
+        requires { ltb 0 self.old.log.places ≡ false }
+        ensures { IsStep P.same_as P.always_copies self.old (record { worker = worker; event = Event.Go noise }) result self.new }
+    {
+        let who = worker as usize;
+        let asks = takes_answer(&self.engine, who, &noise.answer);
+        hear(&mut self.log, who, asks, &noise.answer);
+        let told = self.engine.step_on(worker, noise);
+        note(&mut self.log, who, !is_in_flight(&told.outcome), None);
+        told
+    }
+
     /// The next step of a worker's call; its first is refused to a writing one for which the journal has no place.
-    fn go(&mut self, worker: u32, noise: Noise<Id, P>) -> Report<P>
+    #[inline(never)]
+    fn go_kept(&mut self, worker: u32, noise: Noise<Id, P>) -> Report<P>
         ensures { IsStep P.same_as P.always_copies self.old (record { worker = worker; event = Event.Go noise }) result self.new }
     {
         if self.gives_up(worker as usize) {
@@ -88,16 +118,13 @@ impl<P: Payload + Small, A: Allocator> World<P, A> {
         ensures { IsStep P.same_as P.always_copies self.old (record { worker = worker; event = Event.Go noise }) result self.new }
     {
         let who = worker as usize;
-        hear(&mut self.log, who, self.engine.asks(who), &noise.answer);
-        let before = has_place(&self.engine, &self.log, who);
-        let mut told = self.engine.step(Step {
-            worker,
-            event: Event::Go(noise),
-        });
-        let after = has_place(&self.engine, &self.log, who);
+        let asks = takes_answer(&self.engine, who, &noise.answer);
+        hear(&mut self.log, who, asks, &noise.answer);
+        let before = self.engine.has_place(who);
+        let mut told = self.engine.step_on(worker, noise);
+        let after = self.engine.has_place(who);
         self.log.recount(before, after);
-        let entry = entry(&self.engine, &self.log, worker, &told);
-        told.kept = keep(&mut self.log, told.decided, entry);
+        told.kept = keep(&self.engine, &mut self.log, worker, &told);
         note(&mut self.log, who, !is_in_flight(&told.outcome), None);
         told
     }
@@ -109,6 +136,20 @@ fn note<P: Drop>(log: &mut Log<P>, who: usize, on: bool, request: Option<Request
 {
     if on {
         log.put_request(who, request);
+    }
+}
+
+/// Whether a worker's call takes this answer in its next step, if there is one.
+fn takes_answer<P: Payload + Small, A: Allocator>(
+    engine: &Engine<P, A>,
+    who: usize,
+    answer: &Option<Option<P>>,
+) -> bool
+    ensures { (q : Option (Request P)) → heard_by result answer.now q ≡ heard_by (asks_at (slice_get engine.now.machines.items who)) answer.now q }
+{
+    match answer {
+        Some(_) => engine.asks(who),
+        None => false,
     }
 }
 
@@ -130,26 +171,36 @@ fn heard<P: Payload>(request: Option<Request<P>>, answer: &Option<Option<P>>) ->
     request?.hear(answer)
 }
 
-/// Whether a place of the journal is reserved for a worker's call, where one is kept.
-fn has_place<P: Payload + Small, A: Allocator>(
+/// Writes the entry of a worker's call down that took effect in a step with this report, where a place is free that nobody
+/// has reserved; tells whether it did.
+fn keep<P: Payload + Small, A: Allocator>(
     engine: &Engine<P, A>,
-    log: &Log<P>,
-    who: usize,
+    log: &mut Log<P>,
+    worker: u32,
+    told: &Report<P>,
 ) -> bool
-    ensures { 0 < log.now.places → result ≡ has_place (slice_get engine.now.calls.items who) (slice_get engine.now.machines.items who) }
+    ensures { (x : Option (Entry P)) × ((P.always_copies ≡ true → told.now.decided ≡ true → has_room log.old ≡ true → x ≡ entry_of worker (request_at log.old.requests worker) (reply_by told.now.outcome (slice_get engine.now.machines.items worker))) × ((result ≡ is_some (kept_if told.now.decided (has_room log.old) x)) × (log.new ≡ record log.old { entries = log.old.entries ++ in_list (kept_if told.now.decided (has_room log.old) x) }))) }
 {
-    log.is_kept() && engine.has_place(who)
-}
-
-/// Writes the entry of a call down that took effect, where a place is free that nobody has reserved; tells whether it did.
-fn keep<P: Payload>(log: &mut Log<P>, decided: bool, entry: Option<Entry<P>>) -> bool
-    ensures kept { result ≡ is_some (kept_if decided (has_room log.old) entry) }
-    ensures log { log.new ≡ record log.old { entries = log.old.entries ++ in_list (kept_if decided (has_room log.old) entry) } }
-{
-    if !decided || !log.has_room() {
+    if !told.decided {
         return false;
     }
-    match entry {
+    if !log.has_room() {
+        return false;
+    }
+    write_down(engine, log, worker, &told.outcome)
+}
+
+/// Writes the entry of a worker's call down that took effect in a step with this outcome; tells whether it did.
+fn write_down<P: Payload + Small, A: Allocator>(
+    engine: &Engine<P, A>,
+    log: &mut Log<P>,
+    worker: u32,
+    outcome: &Outcome<P>,
+) -> bool
+    requires { has_room log.old ≡ true }
+    ensures { (x : Option (Entry P)) × ((P.always_copies ≡ true → x ≡ entry_of worker (request_at log.old.requests worker) (reply_by outcome.now (slice_get engine.now.machines.items worker))) × ((result ≡ is_some x) × (log.new ≡ record log.old { entries = log.old.entries ++ in_list x }))) }
+{
+    match entry(engine, log, worker, outcome) {
         Some(entry) => {
             log.append(entry);
             true
@@ -158,20 +209,17 @@ fn keep<P: Payload>(log: &mut Log<P>, decided: bool, entry: Option<Entry<P>>) ->
     }
 }
 
-/// The entry of a worker's call that took effect in a step with this report, where the journal has room for it.
+/// The entry of a worker's call that took effect in a step with this outcome.
 fn entry<P: Payload + Small, A: Allocator>(
     engine: &Engine<P, A>,
     log: &Log<P>,
     worker: u32,
-    told: &Report<P>,
+    outcome: &Outcome<P>,
 ) -> Option<Entry<P>>
-    ensures { P.always_copies ≡ true → told.now.decided ≡ true → has_room log.now ≡ true → result ≡ entry_of worker (request_at log.now.requests worker) (reply_by told.now.outcome (slice_get engine.now.machines.items worker)) }
+    ensures { P.always_copies ≡ true → result ≡ entry_of worker (request_at log.now.requests worker) (reply_by outcome.now (slice_get engine.now.machines.items worker)) }
 {
-    if !told.decided || !log.has_room() {
-        return None;
-    }
     let who = worker as usize;
-    let reply = engine.reply(who, &told.outcome)?;
+    let reply = engine.reply(who, outcome)?;
     let call = log.request(who)?.call(&reply)?;
     Some(Entry {
         worker,

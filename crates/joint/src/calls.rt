@@ -1,18 +1,22 @@
 //! Whole calls.
 
-ghost use Rattle.std.specs.Prelude.{◌≡◌, ℕ, List, false, slice_set};
+ghost use Rattle.std.specs.Prelude.{◌≡◌, ◌<◌, ℕ, List, true, false, slice_set};
 ghost use Rattle.judge.specs.Answer.{Pairs};
 ghost use Rattle.congee.specs.Keys.{IsMapOf};
 ghost use Rattle.joint.specs.Alone.{CallEndsAlone};
 ghost use Rattle.joint.specs.Calling.{FillsPlaces, IsCalled, TellsMap, goes_on, kept_report, next_step, put, put_away};
+ghost use Rattle.joint.specs.declared.steps.Event.TheVariants.{Go};
+ghost use Rattle.joint.specs.declared.steps.Outcome.TheVariants.{Running};
 ghost use Rattle.joint.specs.Forest.{IsBeside, nodes};
 ghost use Rattle.joint.specs.MapCalls.{AnswersKey, CallPlays};
 ghost use Rattle.joint.specs.Runs.{AreInFlight, Flights};
 
+use crate::id::Id;
 use crate::laws::runs_alone;
-use crate::steps::{Event, Op, Outcome, Report, Step};
+use crate::steps::{Op, Outcome, Report};
 use crate::world::World;
 use congee::{Allocator, Noise, Payload, Small};
+use std::mem;
 
 impl<P: Payload + Small, A: Allocator> World<P, A> {
     /// A whole call of a worker's, at most so many steps of it; answers its last report, none where `most` is 0. It stops
@@ -53,17 +57,21 @@ impl<P: Payload + Small, A: Allocator> World<P, A> {
             return None;
         }
         let mut left = most - 1;
-        let mut report = self.step(Step {
-            worker: who,
-            event: Event::Begin(op),
-        });
-        report = keep(report, found);
-        while left > 0 && goes_on(&report.outcome) {
-            report = self.step(next_step(who));
-            report = keep(report, found);
-            left -= 1;
+        let mut report = self.begin(who, op);
+        keep(&mut report, found);
+        if is_last(left, &report.outcome) {
+            return Some(report);
         }
-        Some(report)
+        while left > 0 {
+            let mut report = self.go(who, quiet_noise());
+            keep(&mut report, found);
+            left -= 1;
+            if is_last(left, &report.outcome) {
+                return Some(report);
+            }
+            drop(report);
+        }
+        unreachable!()
     }
 }
 
@@ -77,37 +85,31 @@ fn put_at<P: Drop>(found: &mut [(u64, P)], place: usize, pair: (u64, P))
 }
 
 /// Writes a pair that was found to its place.
-fn put<P: Drop>(outcome: Outcome<P>, found: &mut [(u64, P)]) -> Outcome<P>
-    ensures found { found.new ≡ put outcome found.old }
-    ensures outcome { result ≡ put_away outcome }
+fn put<P: Drop>(outcome: Outcome<P>, found: &mut [(u64, P)])
+    ensures { found.new ≡ put outcome found.old }
 {
     match outcome {
-        Outcome::Found { place, key, value } => {
-            put_at(found, place, (key, value));
-            Outcome::Running
-        }
-        outcome => outcome,
+        Outcome::Found { place, key, value } => put_at(found, place, (key, value)),
+        other => drop(other),
     }
 }
 
 /// Writes the pair of a report to its place.
-fn keep<P: Drop>(report: Report<P>, found: &mut [(u64, P)]) -> Report<P>
-    ensures found { found.new ≡ put report.outcome found.old }
-    ensures report { result ≡ kept_report report }
+#[inline(always)]
+fn keep<P: Drop>(report: &mut Report<P>, found: &mut [(u64, P)])
+    ensures found { found.new ≡ put report.old.outcome found.old }
+    ensures report { report.new ≡ kept_report report.old }
 {
-    if !is_found(&report.outcome) {
-        return report;
-    }
-    Report {
-        outcome: put(report.outcome, found),
-        ..report
+    if is_found(&report.outcome) {
+        put(mem::replace(&mut report.outcome, Outcome::Running), found);
     }
 }
 
 /// Whether a pair was found.
 fn is_found<P>(outcome: &Outcome<P>) -> bool
     ensures found { result ≡ false → (places : List (ℕ × P)) → put outcome.now places ≡ places }
-    ensures outcome { result ≡ false → put_away outcome.now ≡ outcome.now }
+    ensures other { result ≡ false → put_away outcome.now ≡ outcome.now }
+    ensures running { result ≡ true → put_away outcome.now ≡ Running }
 {
     match outcome {
         Outcome::Running => false,
@@ -117,6 +119,16 @@ fn is_found<P>(outcome: &Outcome<P>) -> bool
         Outcome::Done(_) => false,
         Outcome::Refused(_) => false,
     }
+}
+
+/// Whether a report is the last one of a call with so many steps left.
+#[inline(always)]
+fn is_last<P>(left: usize, outcome: &Outcome<P>) -> bool
+    ensures stops { result ≡ true → 0 < left → goes_on outcome.now ≡ false }
+    ensures goes { result ≡ false → goes_on outcome.now ≡ true }
+    ensures more { result ≡ false → 0 < left }
+{
+    left == 0 || !goes_on(outcome)
 }
 
 /// Whether a call takes its next step with nothing from outside.
@@ -133,16 +145,13 @@ fn goes_on<P>(outcome: &Outcome<P>) -> bool
     }
 }
 
-/// The next step of a worker's call, to which nothing comes from outside.
-fn next_step<P>(who: u32) -> Step<P>
-    ensures { result ≡ next_step who }
+/// Nothing from outside.
+fn quiet_noise<P>() -> Noise<Id, P>
+    ensures { (who : ℕ) → record { worker = who; event = Go result } ≡ next_step who }
 {
-    Step {
-        worker: who,
-        event: Event::Go(Noise {
-            fail: false,
-            seen: None,
-            answer: None,
-        }),
+    Noise {
+        fail: false,
+        seen: None,
+        answer: None,
     }
 }

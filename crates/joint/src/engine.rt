@@ -4,6 +4,7 @@ ghost use Rattle.std.specs.Prelude.{◌≡◌, ◌<◌, ℕ, List, Option, Some,
 ghost use Rattle.crossbeam_epoch.specs.declared.bag.Work.{Work};
 ghost use Rattle.crossbeam_epoch.specs.World.Machine.{deferred, place};
 ghost use Rattle.congee.specs.protocol.Play.{StepPlays, begun};
+ghost use Rattle.joint.specs.Census.{AreCounted};
 ghost use Rattle.joint.specs.Forest.{nodes, frame, Refuses, with_collector};
 ghost use Rattle.joint.specs.Intact.{IsIntact, IsSecuring, MayStart, BeginsSecuring, Secured, WalkedOn, call_after, cleared, is_done, is_past, is_reserving, resting, over_at, root, writes};
 ghost use Rattle.joint.specs.Laws.{CellLaws, CallLaws, ProgressLaws};
@@ -11,11 +12,13 @@ ghost use Rattle.joint.specs.declared.call.Call.TheVariants as Call;
 ghost use Rattle.crossbeam_epoch.specs.declared.world.report.Event.TheVariants as Event;
 ghost use Rattle.joint.specs.Opening.{IsOpened, IsUnopened};
 ghost use Rattle.joint.specs.Runs.{IsFresh};
-ghost use Rattle.joint.specs.Whole.{whole, EngineHolds};
+ghost use Rattle.joint.specs.Reports.{told};
+ghost use Rattle.joint.specs.Whole.{whole, EngineHolds, is_in_flight};
 ghost use Rattle.joint.specs.View.{id_number};
 ghost use Rattle.joint.specs.Machines.{IsSafe, Rests, Runs, Owes, IsSafeOrOwes, Walked, Collected, retiring_at, slot_names};
 
 use crate::call::Call;
+use crate::census::Census;
 use crate::id::Id;
 use crate::limits::Limits;
 use crate::nodes::Nodes;
@@ -68,6 +71,7 @@ fn retiring<P: Payload + Small>(machines: &[Machine<Id, P>], who: usize) -> Opti
 }
 
 /// One step of a worker's call on the tree, but for the deferral of the node that it marks.
+#[inline(always)]
 fn step_tree<P: Payload + Small, A: Allocator>(
     store: &mut Nodes<P, A>,
     machines: &mut [Machine<Id, P>],
@@ -116,6 +120,7 @@ fn is_past<P: Payload + Small>(stage: &Stage<Id, P>) -> bool
 }
 
 /// Whether a call is a scan that has told its end.
+#[inline(always)]
 fn is_done<P: Payload + Small>(phase: &Phase<Id, P>) -> bool
     ensures { result ≡ is_done phase.now }
 {
@@ -123,6 +128,20 @@ fn is_done<P: Payload + Small>(phase: &Phase<Id, P>) -> bool
         Phase::Sweep { sweep } => is_past(&sweep.stage),
         // No other phase is a scan's.
         _ => false,
+    }
+}
+
+/// Whether a call on the tree is in flight after a step with this outcome.
+fn goes_on<P>(outcome: &congee::Outcome<P>) -> bool
+    ensures { result ≡ is_in_flight (told outcome.now) }
+{
+    match outcome {
+        congee::Outcome::Running => true,
+        congee::Outcome::Asks(_) => true,
+        congee::Outcome::Found { .. } => true,
+        congee::Outcome::Done(_) => false,
+        congee::Outcome::Scanned { .. } => false,
+        congee::Outcome::Refused(_) => false,
     }
 }
 
@@ -138,6 +157,27 @@ fn resting<P: Payload + Small>() -> Machine<Id, P>
         kind: Kind::Get,
         given: None,
         phase: Phase::Ended,
+    }
+}
+
+/// Puts a call in another's place, part by part: the phase of one on a key is small, and nothing of a scan's is moved.
+fn put_machine<P: Payload + Small>(place: &mut Machine<Id, P>, machine: Machine<Id, P>)
+    ensures { place.new ≡ machine }
+{
+    let Machine {
+        root,
+        key,
+        kind,
+        given,
+        phase,
+    } = machine;
+    place.root = root;
+    place.key = key;
+    drop(mem::replace(&mut place.kind, kind));
+    drop(mem::replace(&mut place.given, given));
+    match phase {
+        Phase::New => drop(mem::replace(&mut place.phase, Phase::New)),
+        phase => drop(mem::replace(&mut place.phase, phase)),
     }
 }
 
@@ -172,12 +212,14 @@ pub struct Engine<P: Payload + Small, A: Allocator> {
     pub(crate) nodes: Nodes<P, A>,
     pub(crate) machines: Vec<Machine<Id, P>>,
     pub(crate) calls: Vec<Call<P>>,
+    /// What is counted of the pairs that stand and of the nodes that calls have taken out.
+    pub(crate) census: Census,
 }
 
 impl<P: Payload + Small, A: Allocator> Engine<P, A> {
     /// An index with a root alone, and a place for each worker there may be. Refused as `Nodes::new` refuses, and as Memory.
     pub(crate) fn new(alloc: Global, limits: Limits, allocator: A) -> Result<Self, Refusal>
-        ensures { MatchResult result (λ e. IsOpened limits (A.charged_of allocator) (A.limit_of allocator) e.nodes × EngineHolds P.same_as P.always_copies (whole e.nodes e.machines.items e.calls.items) × IsFresh (whole e.nodes e.machines.items e.calls.items)) (λ e. IsUnopened limits (A.charged_of allocator) (A.limit_of allocator) e) }
+        ensures { MatchResult result (λ e. IsOpened limits (A.charged_of allocator) (A.limit_of allocator) e.nodes × EngineHolds P.same_as P.always_copies (whole e.nodes e.machines.items e.calls.items) × IsFresh (whole e.nodes e.machines.items e.calls.items) × AreCounted e.census e.nodes e.machines.items) (λ e. IsUnopened limits (A.charged_of allocator) (A.limit_of allocator) e) }
     {
         cell_laws::<P>();
         call_laws::<P>();
@@ -190,10 +232,12 @@ impl<P: Payload + Small, A: Allocator> Engine<P, A> {
         let Ok(calls) = idle_calls(alloc, places) else {
             return Err(Refusal::Memory);
         };
+        let census = Census::new();
         Ok(Engine {
             nodes,
             machines,
             calls,
+            census,
         })
     }
 
@@ -204,6 +248,7 @@ impl<P: Payload + Small, A: Allocator> Engine<P, A> {
         ensures collected { Collected P.same_as P.always_copies self.old.nodes self.old.machines.items who event result self.new.nodes }
         ensures machines { self.new.machines ≡ self.old.machines }
         ensures calls { self.new.calls ≡ self.old.calls }
+        ensures census { self.new.census ≡ self.old.census }
     {
         cell_laws::<P>();
         call_laws::<P>();
@@ -217,6 +262,7 @@ impl<P: Payload + Small, A: Allocator> Engine<P, A> {
         ensures state { self.new.nodes ≡ with_collector self.old.nodes (deferred self.old.nodes.collector who (Work.Remove node.name)) }
         ensures machines { self.new.machines ≡ self.old.machines }
         ensures calls { self.new.calls ≡ self.old.calls }
+        ensures census { self.new.census ≡ self.old.census }
     {
         cell_laws::<P>();
         call_laws::<P>();
@@ -228,11 +274,13 @@ impl<P: Payload + Small, A: Allocator> Engine<P, A> {
     }
 
     /// One step of a worker's call on the tree.
+    #[inline(always)]
     fn walk(&mut self, who: usize, noise: Noise<Id, P>) -> Move<P>
         requires safe { IsSafe P.same_as P.always_copies self.old.nodes self.old.machines.items }
         requires runs { Runs self.old.machines.items who }
         ensures walked { Walked P.same_as P.always_copies self.old.nodes self.old.machines.items (record { who = who; noise = noise }) result self.new.nodes self.new.machines.items }
         ensures calls { self.new.calls ≡ self.old.calls }
+        ensures census { self.new.census ≡ self.old.census }
     {
         cell_laws::<P>();
         let owed = retiring(&self.machines, who);
@@ -249,6 +297,7 @@ impl<P: Payload + Small, A: Allocator> Engine<P, A> {
         ensures calls { self.new.calls.items ≡ slice_set self.old.calls.items who call }
         ensures nodes { self.new.nodes ≡ self.old.nodes }
         ensures machines { self.new.machines ≡ self.old.machines }
+        ensures census { self.new.census ≡ self.old.census }
     {
         self.calls[who] = call;
     }
@@ -261,6 +310,7 @@ impl<P: Payload + Small, A: Allocator> Engine<P, A> {
         ensures collected { Collected P.same_as P.always_copies self.old.nodes self.old.machines.items who (Event.Begin op) result self.new.nodes }
         ensures calls { self.new.calls.items ≡ slice_set self.old.calls.items who (call_after result.outcome (Call.Collecting op)) }
         ensures machines { self.new.machines ≡ self.old.machines }
+        ensures census { self.new.census ≡ self.old.census }
     {
         progress::<P>();
         let report = self.collect(who, Event::Begin(op));
@@ -276,6 +326,7 @@ impl<P: Payload + Small, A: Allocator> Engine<P, A> {
         ensures collected { Collected P.same_as P.always_copies self.old.nodes self.old.machines.items who Event.Go result self.new.nodes }
         ensures calls { self.new.calls.items ≡ slice_set self.old.calls.items who (call_after result.outcome (Call.Collecting op)) }
         ensures machines { self.new.machines ≡ self.old.machines }
+        ensures census { self.new.census ≡ self.old.census }
     {
         progress::<P>();
         let report = self.collect(who, Event::Go);
@@ -292,6 +343,7 @@ impl<P: Payload + Small, A: Allocator> Engine<P, A> {
         ensures nodes { self.new.nodes ≡ self.old.nodes }
         ensures machines { self.new.machines.items ≡ slice_set self.old.machines.items who (begun root op) }
         ensures calls { self.new.calls.items ≡ slice_set self.old.calls.items who Call.Walking }
+        ensures census { self.new.census ≡ self.old.census }
     {
         call_laws::<P>();
         let root = Id {
@@ -307,8 +359,9 @@ impl<P: Payload + Small, A: Allocator> Engine<P, A> {
         ensures machines { self.new.machines.items ≡ slice_set self.old.machines.items who machine }
         ensures nodes { self.new.nodes ≡ self.old.nodes }
         ensures calls { self.new.calls ≡ self.old.calls }
+        ensures census { self.new.census ≡ self.old.census }
     {
-        drop(mem::replace(&mut self.machines[who], machine));
+        put_machine(&mut self.machines[who], machine);
     }
 
     /// Begins a writing call in the place of a pinned worker: it takes no step yet.
@@ -322,6 +375,7 @@ impl<P: Payload + Small, A: Allocator> Engine<P, A> {
         ensures nodes { self.new.nodes ≡ self.old.nodes }
         ensures machines { self.new.machines ≡ self.old.machines }
         ensures calls { self.new.calls.items ≡ slice_set self.old.calls.items who (Call.Reserving op) }
+        ensures census { self.new.census ≡ self.old.census }
     {
         self.set_call(who, Call::Reserving(op));
     }
@@ -345,6 +399,7 @@ impl<P: Payload + Small, A: Allocator> Engine<P, A> {
         ensures nodes { self.new.nodes ≡ self.old.nodes }
         ensures machines { self.new.machines ≡ self.old.machines }
         ensures calls { self.new.calls.items ≡ slice_set self.old.calls.items who Call.Idle }
+        ensures census { self.new.census ≡ self.old.census }
     {
         self.set_call(who, Call::Idle);
     }
@@ -353,7 +408,8 @@ impl<P: Payload + Small, A: Allocator> Engine<P, A> {
     pub(crate) fn begin_securing(&mut self, who: usize)
         requires intact { IsIntact P.same_as P.always_copies self.old.nodes self.old.machines.items self.old.calls.items }
         requires on { is_reserving (slice_get self.old.calls.items who) ≡ true }
-        ensures { BeginsSecuring P.same_as P.always_copies self.old.nodes self.old.machines.items self.old.calls.items who self.new.nodes self.new.machines.items self.new.calls.items }
+        ensures begins { BeginsSecuring P.same_as P.always_copies self.old.nodes self.old.machines.items self.old.calls.items who self.new.nodes self.new.machines.items self.new.calls.items }
+        ensures census { self.new.census ≡ self.old.census }
     {
         progress::<P>();
         let Call::Reserving(op) = self.take_call(who) else {
@@ -367,7 +423,8 @@ impl<P: Payload + Small, A: Allocator> Engine<P, A> {
     pub(crate) fn go_securing(&mut self, who: usize) -> Report
         requires intact { IsIntact P.same_as P.always_copies self.old.nodes self.old.machines.items self.old.calls.items }
         requires on { IsSecuring (slice_get self.old.calls.items who) }
-        ensures { Secured P.same_as P.always_copies self.old.nodes self.old.machines.items self.old.calls.items who result self.new.nodes self.new.machines.items self.new.calls.items }
+        ensures secured { Secured P.same_as P.always_copies self.old.nodes self.old.machines.items self.old.calls.items who result self.new.nodes self.new.machines.items self.new.calls.items }
+        ensures census { self.new.census ≡ self.old.census }
     {
         progress::<P>();
         let Call::Securing(op) = self.take_call(who) else {
@@ -389,28 +446,19 @@ impl<P: Payload + Small, A: Allocator> Engine<P, A> {
         ensures calls { self.new.calls.items ≡ slice_set self.old.calls.items who Call.Idle }
         ensures nodes { self.new.nodes ≡ self.old.nodes }
         ensures machines { self.new.machines ≡ self.old.machines }
+        ensures census { self.new.census ≡ self.old.census }
     {
         std::mem::replace(&mut self.calls[who], Call::Idle)
     }
 
-    /// Whether a worker's call on the tree has ended.
-    fn is_over(&self, who: usize) -> bool
-        requires { who < length self.now.machines.items }
-        ensures { result ≡ over_at (slice_get self.now.machines.items who) }
-    {
-        match &self.machines[who].phase {
-            Phase::Ended => true,
-            // Every other phase has its step to take.
-            _ => false,
-        }
-    }
-
     /// Puts a scan that is done out of its worker's place.
+    #[inline(always)]
     fn clear(&mut self, who: usize)
         requires { who < length self.old.machines.items }
         ensures machines { self.new.machines.items ≡ cleared self.old.machines.items who }
         ensures nodes { self.new.nodes ≡ self.old.nodes }
         ensures calls { self.new.calls ≡ self.old.calls }
+        ensures census { self.new.census ≡ self.old.census }
     {
         if is_done(&self.machines[who].phase) {
             self.set_machine(who, resting());
@@ -418,17 +466,19 @@ impl<P: Payload + Small, A: Allocator> Engine<P, A> {
     }
 
     /// The next step of a call on the tree.
+    #[inline(always)]
     pub(crate) fn go_walking(&mut self, who: usize, noise: Noise<Id, P>) -> Move<P>
         requires intact { IsIntact P.same_as P.always_copies self.old.nodes self.old.machines.items self.old.calls.items }
         requires on { slice_get self.old.calls.items who ≡ Some Call.Walking }
         ensures intact { IsIntact P.same_as P.always_copies self.new.nodes self.new.machines.items self.new.calls.items }
         ensures walked { WalkedOn P.same_as P.always_copies self.old.nodes self.old.machines.items (record { who = who; noise = noise }) result self.new.nodes self.new.machines.items }
         ensures calls { self.new.calls.items ≡ slice_set self.old.calls.items who (if over_at (slice_get self.new.machines.items who) then Call.Idle else Call.Walking) }
+        ensures census { self.new.census ≡ self.old.census }
     {
         call_laws::<P>();
         let moved = self.walk(who, noise);
-        self.clear(who);
-        if self.is_over(who) {
+        if !goes_on(&moved.outcome) {
+            self.clear(who);
             self.set_call(who, Call::Idle);
         }
         moved

@@ -40,7 +40,7 @@ impl<P: Payload + Small, A: Allocator> Engine<P, A> {
         ensures { result ≡ is_writing (slice_get self.now.machines.items who) }
     {
         match self.machines.get(who) {
-            Some(machine) => is_pending(&machine.phase) && may_write(&machine.kind),
+            Some(machine) => may_write(&machine.kind) && is_pending(&machine.phase),
             None => false,
         }
     }

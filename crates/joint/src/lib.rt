@@ -19,9 +19,10 @@
 //! | What | Its file |
 //! |---|---|
 //! | the machine, its steps and whole calls, with a log of what was asked and the journal | `world`, over `advance`, `calls` and `log` |
-//! | the calls in flight, a step by its event | `engine`, `turns`, `steps` |
+//! | the calls in flight, a step by its event, and what is counted of pairs | `engine`, `turns`, `steps`, `census` |
 //! | nodes in cells: read, made, changed, handed over, counted, destroyed | `nodes`, `store`, `slot`, `cells`, `counts`, `clock` |
 //! | one-step calls and the end | `survey`, `stats`, `close` |
+//! | whole calls on one key, as what they reply | `replies` |
 //! | what follows over any steps | `laws` |
 //! | indexes that threads share, with guards and workers | `threads`, with `account` |
 #![tactic(auto)]
@@ -31,6 +32,7 @@ mod advance;
 mod call;
 mod calls;
 mod cells;
+mod census;
 mod clock;
 mod close;
 mod counts;
@@ -46,6 +48,7 @@ mod opening;
 mod promises;
 mod reading;
 mod refusal;
+mod replies;
 mod request;
 mod run_laws;
 mod slot;
@@ -67,6 +70,7 @@ pub use limits::Limits;
 pub use map_laws::calls_map;
 pub use promises::keeps_promises;
 pub use refusal::Refusal;
+pub use replies::pairs_stand;
 pub use run_laws::{
     alone_by_reports, answers_wanted, calls_answer, calls_end, guards_keep, locks_apart,
     nodes_leave, readers_refused, runs_journal,

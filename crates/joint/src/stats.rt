@@ -12,7 +12,6 @@ ghost use Rattle.joint.specs.View.{id_number};
 
 use crate::id::Id;
 use crate::nodes::Nodes;
-use crate::survey::{Nearest, after};
 use congee::{Allocator, Child, KEY_BYTES, NodeStats, Payload, Small};
 use crossbeam_epoch::Name;
 use std::alloc::AllocError;
@@ -39,29 +38,11 @@ impl<P: Payload + Small, A: Allocator> Nodes<P, A> {
         Ok(())
     }
 
-    /// The number of pairs; one past `u64::MAX` stays there.
-    fn count_pairs(&self) -> u64
-        requires { IsTree (nodes self.now) }
-        ensures { (m : Pairs P) → IsMapOf (nodes self.now) m → result ≡ capped (map.len m) }
-    {
-        let mut count = 0u64;
-        let mut from = Some(0);
-        while let Some(start) = from {
-            match self.next_key(start) {
-                Nearest::Key { key, .. } => {
-                    count = count.saturating_add(1);
-                    from = after(key);
-                }
-                Nearest::Past(last) => from = after(last),
-            }
-        }
-        count
-    }
-
-    /// How many nodes of each form stand on each level of the tree and how many children they have, and how many
-    /// pairs there are. The root is level 0. Refused for want of memory alone.
-    pub(crate) fn stats(&self) -> Result<NodeStats, AllocError>
-        requires { IsTree (nodes self.now) }
+    /// How many nodes of each form stand on each level of the tree and how many children they have, with the number of
+    /// pairs. The root is level 0. Refused for want of memory alone.
+    pub(crate) fn stats(&self, pairs: u64) -> Result<NodeStats, AllocError>
+        requires tree { IsTree (nodes self.now) }
+        requires counted { (m : Pairs P) → IsMapOf (nodes self.now) m → pairs ≡ capped (map.len m) }
         ensures { IfOk result (λ s. (m : Pairs P) → IsMapOf (nodes self.now) m → IsTally s (nodes_of (nodes self.now)) (map.len m)) }
     {
         let root = Id {
@@ -69,7 +50,7 @@ impl<P: Payload + Small, A: Allocator> Nodes<P, A> {
         };
         let mut stats = NodeStats::new(self.alloc);
         self.count_from(root, 0, &mut stats)?;
-        stats.kv_pairs = self.count_pairs();
+        stats.kv_pairs = pairs;
         Ok(stats)
     }
 }

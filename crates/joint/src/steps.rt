@@ -208,6 +208,7 @@ impl<P: Drop> Report<P> {
 
 impl<P> Outcome<P> {
     /// How a call on the tree stands.
+    #[inline(always)]
     pub(crate) fn of_tree(outcome: congee::Outcome<P>) -> Self
         ensures { result ≡ told outcome }
     {

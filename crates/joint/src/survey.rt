@@ -1,6 +1,6 @@
 //! The tree as it stands at one moment: a descent looks at the nodes whatever their locks.
 
-ghost use Rattle.std.specs.Prelude.{◌≡◌, ◌⊎◌, ◌+◌, ◌<◌, ◌≤◌, ℕ, length, IfOk};
+ghost use Rattle.std.specs.Prelude.{◌≡◌, ◌⊎◌, ◌+◌, ◌<◌, ◌≤◌, ℕ, length, IfOk, OnOk};
 ghost use Rattle.congee.specs.declared.forms.prefix.TheConstants.{MAX_PREFIX_LEN};
 ghost use Rattle.congee.specs.forms.Forms.{children_of, prefix_of};
 ghost use Rattle.congee.specs.Heap.{Holds};
@@ -9,9 +9,10 @@ ghost use Rattle.congee.specs.protocol.SweepSteps.{first_byte, is_outside, width
 ghost use Rattle.judge.specs.Answer.{Pairs};
 ghost use Rattle.joint.specs.declared.slot.Word.{Word};
 ghost use Rattle.joint.specs.Forest.{nodes};
+ghost use Rattle.joint.specs.Levels.{IsNodeIn};
 ghost use Rattle.joint.specs.Solid.{IsSolid};
-ghost use Rattle.joint.specs.Survey.{AreKeysBelow, IsEmptiness, IsPart, IsRegionOf, IsTree, Narrows, NearestGives, bound_of, keys_of};
-ghost use Rattle.joint.specs.View.{child_at, shape};
+ghost use Rattle.joint.specs.Survey.{IsPart, IsRegionOf, IsTree, Narrows, NearestGives, PutsKeys, bound_of, keys_of};
+ghost use Rattle.joint.specs.View.{child_at, id_number, shape};
 
 use crate::id::Id;
 use crate::nodes::Nodes;
@@ -194,46 +195,35 @@ impl<P: Payload + Small, A: Allocator> Nodes<P, A> {
         Nearest::Past(last)
     }
 
-    /// Puts the least key from one on behind those before it, if one stands; answers where to go on, if there is more.
-    fn keys_from(&self, keys: &mut Vec<u64>, start: u64) -> Result<Option<u64>, AllocError>
-        requires { IsTree (nodes self.now) }
-        ensures grows { IfOk result (λ from. start < bound_of from) }
-        ensures keys { IfOk result (λ from. AreKeysBelow (nodes self.now) start keys.old.items → AreKeysBelow (nodes self.now) (bound_of from) keys.new.items) }
+    /// Puts the keys at and below a node behind those before them, in ascending order.
+    fn keys_below(&self, at: Id, keys: &mut Vec<u64>) -> Result<(), AllocError>
+        requires { IsNodeIn (nodes self.now) (id_number at) }
+        ensures { OnOk result (PutsKeys (nodes self.now) (id_number at) keys.old.items keys.new.items) }
     {
-        match self.next_key(start) {
-            Nearest::Key { key, .. } => {
-                keys.push(key)?;
-                Ok(after(key))
+        let node = self.slot(at).node();
+        let region = Region::of(node.prefix());
+        let mut from = 0;
+        while let Some((byte, child)) = node.first_from(from) {
+            match child {
+                Child::Blank => {}
+                Child::Node(below) => self.keys_below(*below, keys)?,
+                Child::Value(_) => keys.push(part_of(region, byte).first)?,
             }
-            Nearest::Past(last) => Ok(after(last)),
+            from = byte as usize + 1;
         }
+        Ok(())
     }
 
-    /// All keys, ascending.
-    pub(crate) fn keys(&self) -> Result<Vec<u64>, AllocError>
+    /// All keys, ascending, in a list with room for so many.
+    pub(crate) fn keys(&self, room: usize) -> Result<Vec<u64>, AllocError>
         requires { IsTree (nodes self.now) }
         ensures { IfOk result (λ v. (m : Pairs P) → IsMapOf (nodes self.now) m → v.items ≡ keys_of m) }
     {
-        let mut keys = Vec::new(self.alloc);
-        let mut from = Some(0);
-        while let Some(start) = from {
-            from = self.keys_from(&mut keys, start)?;
-        }
+        let root = Id {
+            name: Name { cell: 0, turn: 0 },
+        };
+        let mut keys = Vec::with_capacity(self.alloc, room)?;
+        self.keys_below(root, &mut keys)?;
         Ok(keys)
-    }
-
-    /// Whether no key stands.
-    pub(crate) fn is_empty(&self) -> bool
-        requires { IsTree (nodes self.now) }
-        ensures { (m : Pairs P) → IsMapOf (nodes self.now) m → IsEmptiness m result }
-    {
-        let mut from = Some(0);
-        while let Some(start) = from {
-            match self.next_key(start) {
-                Nearest::Key { .. } => return false,
-                Nearest::Past(last) => from = after(last),
-            }
-        }
-        true
     }
 }

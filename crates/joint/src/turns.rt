@@ -1,11 +1,16 @@
 //! One step of the machine, by its event.
 
-ghost use Rattle.std.specs.Prelude.{◌≡◌, ◌<◌, Some, length, slice_get, option_map, true, false};
+ghost use Rattle.std.specs.Prelude.{◌≡◌, ◌<◌, Some, length, slice_get, slice_set, option_map, true, false, if◌then◌else◌};
+ghost use Rattle.judge.specs.Answer.{Pairs};
+ghost use Rattle.congee.specs.Keys.{IsMapOf};
 ghost use Rattle.joint.specs.Beginning.{Begun, stage_of};
+ghost use Rattle.joint.specs.Census.{AreCounted, effect_of};
+ghost use Rattle.joint.specs.Forest.{nodes};
+ghost use Rattle.joint.specs.Survey.{IsEmptiness};
 ghost use Rattle.joint.specs.Whole.{whole, Does, EngineHolds, IsEngineStep, Proceeds, misuse, quiet, collection, destroyed_by, finds_none, interruption, is_busy, kind_of, reserving, Surveys, Walks};
 ghost use Rattle.joint.specs.Reports.{told};
 ghost use Rattle.joint.specs.declared.steps.Event.TheVariants as Event;
-ghost use Rattle.joint.specs.Intact.{IsIntact, writes};
+ghost use Rattle.joint.specs.Intact.{IsIntact, WalkedOn, over_at, writes};
 ghost use Rattle.joint.specs.declared.call.Call.TheVariants as Call;
 ghost use Rattle.joint.specs.declared.steps.Survey.TheVariants as Survey;
 ghost use Rattle.joint.specs.declared.steps.Target.TheVariants as Target;
@@ -14,38 +19,53 @@ ghost use Rattle.joint.specs.declared.steps.Kind.TheVariants as Kind;
 ghost use Rattle.crossbeam_epoch.specs.World.Machine.{place};
 
 use crate::call::{Call, Stage};
+use crate::census::{Change, effect_after};
 use crate::engine::{Engine, call_laws, cell_laws, progress};
 use crate::id::Id;
 use crate::refusal::Refusal;
-use crate::steps::{Done, Event, Kind, Outcome, Report, Step, Survey, Target};
+use crate::steps::{Done, Kind, Op, Outcome, Report, Survey, Target};
 use congee::{Allocator, Move, Noise, Payload, Small};
 use crossbeam_epoch::Fault;
 
 impl<P: Payload + Small, A: Allocator> Engine<P, A> {
-    /// One step of the machine.
-    pub(crate) fn step(&mut self, step: Step<P>) -> Report<P>
-        requires { EngineHolds P.same_as P.always_copies (whole self.old.nodes self.old.machines.items self.old.calls.items) }
-        ensures { IsEngineStep P.same_as P.always_copies (whole self.old.nodes self.old.machines.items self.old.calls.items) step result (whole self.new.nodes self.new.machines.items self.new.calls.items) }
+    /// The step in which a worker registers.
+    pub(crate) fn step_in(&mut self, worker: u32) -> Report<P>
+        requires holds { EngineHolds P.same_as P.always_copies (whole self.old.nodes self.old.machines.items self.old.calls.items) }
+        requires counted { AreCounted self.old.census self.old.nodes self.old.machines.items }
+        ensures step { IsEngineStep P.same_as P.always_copies (whole self.old.nodes self.old.machines.items self.old.calls.items) (record { worker = worker; event = Event.Register }) result (whole self.new.nodes self.new.machines.items self.new.calls.items) }
+        ensures counted { AreCounted self.new.census self.new.nodes self.new.machines.items }
     {
         call_laws::<P>();
-        let who = step.worker as usize;
-        match step.event {
-            Event::Register => {
-                let report = self.register();
-                self.nodes.charged();
-                report
-            }
-            Event::Begin(op) => {
-                let report = self.begin(who, op.target());
-                self.nodes.charged();
-                report
-            }
-            Event::Go(noise) => {
-                let report = self.go(who, noise);
-                self.nodes.charged();
-                report
-            }
-        }
+        let report = self.register();
+        self.nodes.charged();
+        report
+    }
+
+    /// The step in which a worker begins a call.
+    pub(crate) fn step_begin(&mut self, worker: u32, op: Op<P>) -> Report<P>
+        requires holds { EngineHolds P.same_as P.always_copies (whole self.old.nodes self.old.machines.items self.old.calls.items) }
+        requires counted { AreCounted self.old.census self.old.nodes self.old.machines.items }
+        ensures step { IsEngineStep P.same_as P.always_copies (whole self.old.nodes self.old.machines.items self.old.calls.items) (record { worker = worker; event = Event.Begin op }) result (whole self.new.nodes self.new.machines.items self.new.calls.items) }
+        ensures counted { AreCounted self.new.census self.new.nodes self.new.machines.items }
+    {
+        call_laws::<P>();
+        let report = self.begin(worker as usize, op.target());
+        self.nodes.charged();
+        report
+    }
+
+    /// The next step of a worker's call.
+    #[inline(always)]
+    pub(crate) fn step_on(&mut self, worker: u32, noise: Noise<Id, P>) -> Report<P>
+        requires holds { EngineHolds P.same_as P.always_copies (whole self.old.nodes self.old.machines.items self.old.calls.items) }
+        requires counted { AreCounted self.old.census self.old.nodes self.old.machines.items }
+        ensures step { IsEngineStep P.same_as P.always_copies (whole self.old.nodes self.old.machines.items self.old.calls.items) (record { worker = worker; event = Event.Go noise }) result (whole self.new.nodes self.new.machines.items self.new.calls.items) }
+        ensures counted { AreCounted self.new.census self.new.nodes self.new.machines.items }
+    {
+        call_laws::<P>();
+        let report = self.go(worker as usize, noise);
+        self.nodes.charged();
+        report
     }
 
     /// A worker takes the lowest free place.
@@ -53,6 +73,7 @@ impl<P: Payload + Small, A: Allocator> Engine<P, A> {
         requires intact { IsIntact P.same_as P.always_copies self.old.nodes self.old.machines.items self.old.calls.items }
         ensures intact { IsIntact P.same_as P.always_copies self.new.nodes self.new.machines.items self.new.calls.items }
         ensures registers { Proceeds P.same_as P.always_copies (whole self.old.nodes self.old.machines.items self.old.calls.items) 0 Event.Register result (whole self.new.nodes self.new.machines.items self.new.calls.items) }
+        ensures census { self.new.census ≡ self.old.census }
     {
         cell_laws::<P>();
         call_laws::<P>();
@@ -65,8 +86,10 @@ impl<P: Payload + Small, A: Allocator> Engine<P, A> {
     /// Begins a call of a worker's, or refuses it for its first cause.
     fn begin(&mut self, who: usize, target: Target<P>) -> Report<P>
         requires intact { IsIntact P.same_as P.always_copies self.old.nodes self.old.machines.items self.old.calls.items }
+        requires counted { AreCounted self.old.census self.old.nodes self.old.machines.items }
         ensures intact { IsIntact P.same_as P.always_copies self.new.nodes self.new.machines.items self.new.calls.items }
         ensures begun { Begun P.same_as P.always_copies (whole self.old.nodes self.old.machines.items self.old.calls.items) who target result (whole self.new.nodes self.new.machines.items self.new.calls.items) }
+        ensures census { self.new.census ≡ self.old.census }
     {
         if !self.nodes.is_registered(who) {
             return refused(kind_of(&target), Refusal::Unknown);
@@ -88,6 +111,7 @@ impl<P: Payload + Small, A: Allocator> Engine<P, A> {
         requires idle { slice_get self.old.calls.items who ≡ Some Call.Idle }
         ensures intact { IsIntact P.same_as P.always_copies self.new.nodes self.new.machines.items self.new.calls.items }
         ensures begun { Begun P.same_as P.always_copies (whole self.old.nodes self.old.machines.items self.old.calls.items) who (Target.Collector op) result (whole self.new.nodes self.new.machines.items self.new.calls.items) }
+        ensures census { self.new.census ≡ self.old.census }
     {
         progress::<P>();
         self.nodes.charged();
@@ -102,6 +126,7 @@ impl<P: Payload + Small, A: Allocator> Engine<P, A> {
         requires idle { slice_get self.old.calls.items who ≡ Some Call.Idle }
         ensures intact { IsIntact P.same_as P.always_copies self.new.nodes self.new.machines.items self.new.calls.items }
         ensures begun { Begun P.same_as P.always_copies (whole self.old.nodes self.old.machines.items self.old.calls.items) who (Target.Tree op) result (whole self.new.nodes self.new.machines.items self.new.calls.items) }
+        ensures census { self.new.census ≡ self.old.census }
     {
         if !self.nodes.is_pinned(who) {
             return refused(Kind::Tree, Refusal::Unpinned);
@@ -118,10 +143,12 @@ impl<P: Payload + Small, A: Allocator> Engine<P, A> {
     }
 
     /// Tells of the tree as it stands, to a worker without a call in flight.
+    #[inline(never)]
     fn answer_survey(&self, who: usize, survey: Survey) -> Report<P>
         requires intact { IsIntact P.same_as P.always_copies self.now.nodes self.now.machines.items self.now.calls.items }
         requires registered { (place self.now.nodes.collector who).registered ≡ true }
         requires idle { slice_get self.now.calls.items who ≡ Some Call.Idle }
+        requires counted { AreCounted self.now.census self.now.nodes self.now.machines.items }
         ensures { Begun P.same_as P.always_copies (whole self.now.nodes self.now.machines.items self.now.calls.items) who (Target.Survey survey) result (whole self.now.nodes self.now.machines.items self.now.calls.items) }
     {
         match survey {
@@ -142,7 +169,7 @@ impl<P: Payload + Small, A: Allocator> Engine<P, A> {
         requires { IsIntact P.same_as P.always_copies self.now.nodes self.now.machines.items self.now.calls.items }
         ensures { Surveys (whole self.now.nodes self.now.machines.items self.now.calls.items) Survey.Keys result (whole self.now.nodes self.now.machines.items self.now.calls.items) }
     {
-        match self.nodes.keys() {
+        match self.nodes.keys(self.census.capped() as usize) {
             Ok(keys) => report(Kind::Tree, Outcome::Done(Done::Keys(keys))),
             Err(_) => refused(Kind::Tree, Refusal::Memory),
         }
@@ -150,31 +177,70 @@ impl<P: Payload + Small, A: Allocator> Engine<P, A> {
 
     /// Whether there is no key.
     fn tell_empty(&self) -> Report<P>
-        requires { IsIntact P.same_as P.always_copies self.now.nodes self.now.machines.items self.now.calls.items }
+        requires intact { IsIntact P.same_as P.always_copies self.now.nodes self.now.machines.items self.now.calls.items }
+        requires counted { AreCounted self.now.census self.now.nodes self.now.machines.items }
         ensures { Surveys (whole self.now.nodes self.now.machines.items self.now.calls.items) Survey.IsEmpty result (whole self.now.nodes self.now.machines.items self.now.calls.items) }
     {
-        report(
-            Kind::Tree,
-            Outcome::Done(Done::Empty(self.nodes.is_empty())),
-        )
+        report(Kind::Tree, Outcome::Done(Done::Empty(self.is_empty())))
+    }
+
+    /// Whether no pair stands.
+    fn is_empty(&self) -> bool
+        requires { AreCounted self.now.census self.now.nodes self.now.machines.items }
+        ensures { (m : Pairs P) → IsMapOf (nodes self.now.nodes) m → IsEmptiness m result }
+    {
+        self.census.pairs == 0
     }
 
     /// How the nodes are spread, and how many pairs there are.
     fn tell_stats(&self) -> Report<P>
-        requires { IsIntact P.same_as P.always_copies self.now.nodes self.now.machines.items self.now.calls.items }
+        requires intact { IsIntact P.same_as P.always_copies self.now.nodes self.now.machines.items self.now.calls.items }
+        requires counted { AreCounted self.now.census self.now.nodes self.now.machines.items }
         ensures { Surveys (whole self.now.nodes self.now.machines.items self.now.calls.items) Survey.Stats result (whole self.now.nodes self.now.machines.items self.now.calls.items) }
     {
-        match self.nodes.stats() {
+        match self.nodes.stats(self.census.capped()) {
             Ok(stats) => report(Kind::Tree, Outcome::Done(Done::Stats(stats))),
             Err(_) => refused(Kind::Tree, Refusal::Memory),
         }
     }
 
     /// The next step of a worker's call in flight.
+    #[inline(always)]
     fn go(&mut self, who: usize, noise: Noise<Id, P>) -> Report<P>
         requires intact { IsIntact P.same_as P.always_copies self.old.nodes self.old.machines.items self.old.calls.items }
+        requires counted { AreCounted self.old.census self.old.nodes self.old.machines.items }
         ensures intact { IsIntact P.same_as P.always_copies self.new.nodes self.new.machines.items self.new.calls.items }
         ensures does { Does P.same_as P.always_copies (whole self.old.nodes self.old.machines.items self.old.calls.items) who (Event.Go noise) (misuse (whole self.old.nodes self.old.machines.items self.old.calls.items) who (Event.Go noise)) result (whole self.new.nodes self.new.machines.items self.new.calls.items) }
+        ensures counted { AreCounted self.new.census self.new.nodes self.new.machines.items }
+    {
+        if self.is_walking(who) {
+            self.go_point(who, noise)
+        } else {
+            self.go_other(who)
+        }
+    }
+
+    /// Whether a worker's call takes its steps on the tree.
+    fn is_walking(&self, who: usize) -> bool
+        ensures walking { result ≡ true → slice_get self.now.calls.items who ≡ Some Call.Walking }
+        ensures other { result ≡ false → slice_get self.now.calls.items who ≡ Some Call.Walking → ⊥ }
+    {
+        match self.calls.get(who) {
+            Some(Call::Walking) => true,
+            // There is none, or it is on the collector, or before its first step on the tree.
+            _ => false,
+        }
+    }
+
+    /// The next step of a worker's call that isn't on the tree yet, or there is none.
+    #[inline(never)]
+    fn go_other(&mut self, who: usize) -> Report<P>
+        requires other { slice_get self.old.calls.items who ≡ Some Call.Walking → ⊥ }
+        requires intact { IsIntact P.same_as P.always_copies self.old.nodes self.old.machines.items self.old.calls.items }
+        requires counted { AreCounted self.old.census self.old.nodes self.old.machines.items }
+        ensures intact { IsIntact P.same_as P.always_copies self.new.nodes self.new.machines.items self.new.calls.items }
+        ensures does { (noise : Noise Id P) → Does P.same_as P.always_copies (whole self.old.nodes self.old.machines.items self.old.calls.items) who (Event.Go noise) (misuse (whole self.old.nodes self.old.machines.items self.old.calls.items) who (Event.Go noise)) result (whole self.new.nodes self.new.machines.items self.new.calls.items) }
+        ensures counted { AreCounted self.new.census self.new.nodes self.new.machines.items }
     {
         if !self.nodes.is_registered(who) {
             return refused(Kind::Collection, Refusal::Unknown);
@@ -194,20 +260,57 @@ impl<P: Payload + Small, A: Allocator> Engine<P, A> {
                 let turn = self.go_securing(who);
                 collection(turn, reserving(turn.outcome))
             }
-            Stage::Walking => self.go_point(who, noise),
+            Stage::Walking => unreachable!(),
         }
     }
 
     /// The next step of a worker's call on the tree.
+    #[inline(always)]
     fn go_point(&mut self, who: usize, noise: Noise<Id, P>) -> Report<P>
         requires intact { IsIntact P.same_as P.always_copies self.old.nodes self.old.machines.items self.old.calls.items }
         requires on { slice_get self.old.calls.items who ≡ Some Call.Walking }
+        requires counted { AreCounted self.old.census self.old.nodes self.old.machines.items }
         ensures intact { IsIntact P.same_as P.always_copies self.new.nodes self.new.machines.items self.new.calls.items }
         ensures walks { Walks P.same_as P.always_copies (whole self.old.nodes self.old.machines.items self.old.calls.items) who noise result (whole self.new.nodes self.new.machines.items self.new.calls.items) }
+        ensures counted { AreCounted self.new.census self.new.nodes self.new.machines.items }
     {
         let before = self.nodes.standing();
-        let moved = self.go_walking(who, noise);
+        let moved = self.go_counted(who, noise);
         of_move(moved, before.saturating_sub(self.nodes.standing()))
+    }
+
+    /// The same, and what it makes of the pairs and of the nodes that are taken out is counted.
+    #[inline(always)]
+    fn go_counted(&mut self, who: usize, noise: Noise<Id, P>) -> Move<P>
+        requires intact { IsIntact P.same_as P.always_copies self.old.nodes self.old.machines.items self.old.calls.items }
+        requires on { slice_get self.old.calls.items who ≡ Some Call.Walking }
+        requires counted { AreCounted self.old.census self.old.nodes self.old.machines.items }
+        ensures intact { IsIntact P.same_as P.always_copies self.new.nodes self.new.machines.items self.new.calls.items }
+        ensures walked { WalkedOn P.same_as P.always_copies self.old.nodes self.old.machines.items (record { who = who; noise = noise }) result self.new.nodes self.new.machines.items }
+        ensures calls { self.new.calls.items ≡ slice_set self.old.calls.items who (if over_at (slice_get self.new.machines.items who) then Call.Idle else Call.Walking) }
+        ensures counted { AreCounted self.new.census self.new.nodes self.new.machines.items }
+    {
+        call_laws::<P>();
+        let before = self.size_taken(who);
+        let moved = self.go_walking(who, noise);
+        let after = self.size_taken(who);
+        let change = self.change_by(who, &moved);
+        self.census.recount(before, after);
+        self.census.count(change);
+        moved
+    }
+
+    /// What a step of a worker's call made of the number of pairs.
+    #[inline(always)]
+    fn change_by(&self, who: usize, moved: &Move<P>) -> Change
+        requires { who < length self.now.machines.items }
+        ensures { result ≡ effect_of moved.now.decided moved.now.outcome (slice_get self.now.machines.items who) }
+    {
+        if moved.decided {
+            effect_after(&moved.outcome, &self.machines[who].phase)
+        } else {
+            Change::Same
+        }
     }
 
     /// Whether a worker has a call in flight.
@@ -292,6 +395,7 @@ fn reserving<P>(outcome: crossbeam_epoch::Outcome) -> Outcome<P>
 }
 
 /// The report of a step on the tree that gave so many nodes back.
+#[inline(always)]
 fn of_move<P>(moved: Move<P>, back: u64) -> Report<P>
     ensures { result ≡ record { kind = Kind.Tree; decided = moved.decided; kept = false; destroyed = back; outcome = told moved.outcome } }
 {

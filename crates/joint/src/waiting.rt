@@ -1,57 +1,52 @@
 //! How many nodes wait for their destruction.
 
-ghost use Rattle.std.specs.Prelude.{◌≡◌, ◌≤◌, length};
-ghost use Rattle.std.specs.List.{filter_map, sum_by};
+ghost use Rattle.std.specs.Prelude.{◌≡◌, ◌<◌, length, slice_get};
+ghost use Rattle.std.specs.List.{sum_by};
+ghost use Rattle.joint.specs.Census.{AreCounted, size_taken};
 ghost use Rattle.joint.specs.Intact.{IsIntact};
-ghost use Rattle.joint.specs.Listing.{bytes_of, taken, taken_by, waiting_nodes};
+ghost use Rattle.joint.specs.Listing.{bytes_of, taken, waiting_nodes};
 ghost use Rattle.joint.specs.Whole.{whole};
 
 use crate::engine::Engine;
 use crate::id::Id;
 use congee::protocol::Phase;
-use congee::{Allocator, Machine, Payload, Small};
+use congee::{Allocator, Payload, Small};
 
 impl<P: Payload + Small, A: Allocator> Engine<P, A> {
-    /// The nodes that were handed over, and those that calls have taken out of the tree and not yet handed over. It looks at
-    /// each worker's call.
+    /// The nodes that were handed over, and those that calls have taken out of the tree and not yet handed over.
     pub(crate) fn waiting(&self) -> u64
-        requires { IsIntact P.same_as P.always_copies self.now.nodes self.now.machines.items self.now.calls.items }
+        requires intact { IsIntact P.same_as P.always_copies self.now.nodes self.now.machines.items self.now.calls.items }
+        requires counted { AreCounted self.now.census self.now.nodes self.now.machines.items }
         ensures { result ≡ length (waiting_nodes (whole self.now.nodes self.now.machines.items self.now.calls.items)) }
     {
-        self.nodes.handed() + taken_out(&self.machines)
+        self.nodes.handed() + self.census.taken
     }
 
     /// Their sizes, in bytes.
     pub(crate) fn waiting_bytes(&self) -> u64
-        requires { IsIntact P.same_as P.always_copies self.now.nodes self.now.machines.items self.now.calls.items }
+        requires intact { IsIntact P.same_as P.always_copies self.now.nodes self.now.machines.items self.now.calls.items }
+        requires counted { AreCounted self.now.census self.now.nodes self.now.machines.items }
         ensures { result ≡ sum_by (bytes_of self.now.nodes) (waiting_nodes (whole self.now.nodes self.now.machines.items self.now.calls.items)) }
     {
-        let mut bytes = self.nodes.handed_bytes();
-        for machine in &self.machines {
-            if let Some(node) = taken(&machine.phase) {
-                bytes += self.nodes.size_of(node);
-            }
-        }
-        bytes
+        self.nodes.handed_bytes() + self.census.taken_bytes
     }
-}
 
-/// The nodes that these calls have taken out of the tree and not yet handed over.
-fn taken_out<P: Payload + Small>(machines: &[Machine<Id, P>]) -> u64
-    requires { length machines.now ≤ 256 }
-    ensures value { result ≡ length (filter_map taken_by machines.now) }
-    ensures few { result ≤ 256 }
-{
-    let mut count = 0;
-    for machine in machines {
-        if taken(&machine.phase).is_some() {
-            count += 1;
+    /// What is charged for the node that a worker's call has taken out of the tree and not yet handed over, in bytes.
+    #[inline(always)]
+    pub(crate) fn size_taken(&self, who: usize) -> Option<u64>
+        requires intact { IsIntact P.same_as P.always_copies self.now.nodes self.now.machines.items self.now.calls.items }
+        requires inside { who < length self.now.machines.items }
+        ensures { result ≡ size_taken self.now.nodes (slice_get self.now.machines.items who) }
+    {
+        match taken(&self.machines[who].phase) {
+            Some(node) => Some(self.nodes.size_of(node)),
+            None => None,
         }
     }
-    count
 }
 
 /// The node that a call has taken out of the tree and not yet handed over.
+#[inline(always)]
 fn taken<P: Payload + Small>(phase: &Phase<Id, P>) -> Option<Id>
     ensures { result ≡ taken phase.now }
 {

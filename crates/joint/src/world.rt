@@ -49,6 +49,8 @@ pub struct World<P: Payload + Small, A: Allocator> {
 impl<P: Payload + Small, A: Allocator> Model for World<P, A> {
     ghost use Rattle.std.specs.Coded.{codes};
     ghost use Rattle.joint.specs.MapCode.{map_code};
+    ghost use Rattle.std.specs.Prelude.{◌≡◌};
+    ghost use Rattle.joint.specs.Census.{AreCounted};
     ghost use Rattle.joint.specs.Whole.{Whole, Holds};
 
     ghost Value = { Whole P };
@@ -57,7 +59,7 @@ impl<P: Payload + Small, A: Allocator> Model for World<P, A> {
 
     ghost view = { λ w. record { forest = w.engine.nodes; machines = w.engine.machines.items; calls = w.engine.calls.items; log = w.log } };
 
-    ghost invariant = { λ w. Holds P.same_as P.always_copies (record { forest = w.engine.nodes; machines = w.engine.machines.items; calls = w.engine.calls.items; log = w.log }) };
+    ghost invariant = { λ w. Holds P.same_as P.always_copies (record { forest = w.engine.nodes; machines = w.engine.machines.items; calls = w.engine.calls.items; log = w.log }) × AreCounted w.engine.census w.engine.nodes w.engine.machines.items };
 }
 
 impl<P: Payload + Small, A: Allocator> World<P, A> {
@@ -161,8 +163,7 @@ impl<P: Payload + Small, A: Allocator> World<P, A> {
         self.engine.nodes.charged()
     }
 
-    /// The nodes that wait for their destruction: they stand, out of the tree, and no call holds them as made by it. It
-    /// looks at each worker's call.
+    /// The nodes that wait for their destruction: they stand, out of the tree, and no call holds them as made by it.
     pub fn waiting(&self) -> u64
         ensures listed { IsListOf (IsWaiting self.now) (waiting_nodes self.now) }
         ensures count { result ≡ length (waiting_nodes self.now) }
@@ -171,7 +172,7 @@ impl<P: Payload + Small, A: Allocator> World<P, A> {
         self.engine.waiting()
     }
 
-    /// Their sizes, in bytes. It looks at each worker's call.
+    /// Their sizes, in bytes.
     pub fn waiting_bytes(&self) -> u64
         ensures listed { IsListOf (IsWaiting self.now) (waiting_nodes self.now) }
         ensures sum { result ≡ sum_by (bytes_of self.now.forest) (waiting_nodes self.now) }

@@ -178,16 +178,8 @@ module _ {V : Type 0} (same : V → V → Bool) (always : Bool) where
   kept_by l l1 l2 worker q b a b' a' d k x told r e1 e2 ec ek er =
       er ∙ ap (λ y. record told { kept = y }) (ek ∙ ap (λ y. is_some (kept_if d y x)) (room_by l l1 l2 worker q b a b' a' e1 e2 ec))
 
-  -- where no journal is kept nothing is counted
-  pub recounted_same : (places : ℕ) (b a b' a' : Bool) (n : ℕ) → (0 < places → b ≡ b') → (0 < places → a ≡ a') → recounted places b a n ≡ recounted places b' a' n
-  recounted_same zero b a b' a' n eb ea = refl
-  recounted_same (suc p) b a b' a' n eb ea = ap (λ y. recounted (suc p) y a n) (eb (omega arith)) ∙ ap (λ y. recounted (suc p) b' y n) (ea (omega arith))
-
-  pub none_full : (l : Log V) → (0 < l.places → is_full l ≡ false) → is_full l ≡ false
-  none_full l f = elim (cases_Bool (ltb 0 l.places)) [
-    | inl x ↦ f (ltb-true 0 l.places x)
-    | inr x ↦ ap (λ b. b && not (has_room l)) x
-  ]
+  pub recounted_same : (places : ℕ) (b a b' a' : Bool) (n : ℕ) → b ≡ b' → a ≡ a' → recounted places b a n ≡ recounted places b' a' n
+  recounted_same places b a b' a' n eb ea = ap (λ y. recounted places y a n) eb ∙ ap (λ y. recounted places b' y n) ea
 
   -- an entry is none to the journal where the call hasn't taken effect or there is no room
   same_kept : (l : Log V) (d : Bool) (x y : Option (Entry V)) → (d ≡ true → has_room l ≡ true → x ≡ y) → kept_if d (has_room l) x ≡ kept_if d (has_room l) y
@@ -234,6 +226,50 @@ module _ {V : Type 0} (same : V → V → Bool) (always : Bool) where
           long = ap (λ (z : Log V). length z.requests) l ∙ ap length (went_requests s.log worker before after told.decided x on q) ∙ length-set s.log.requests worker (if on then q else None);
         }) g r (is ∙ ap (λ o. record told { kept = is_some o }) (kept_same l y))
 
+  -- and where no journal is kept: nothing is counted for one, and nothing written down
+  unkept_count : (places : ℕ) (b a : Bool) (n : ℕ) → ltb 0 places ≡ false → recounted places b a n ≡ n
+  unkept_count zero b a n e = refl
+  unkept_count (suc p) b a n e = absurd (let q : suc p ≤ 0 = ltb-false 0 (suc p) e in omega (arith, q))
+
+  unkept_room : (l : Log V) → ltb 0 l.places ≡ false → has_room l ≡ true → ⊥
+  unkept_room l e z = let p : l.places ≤ 0 = ltb-false 0 l.places e in let n : length l.entries + l.reserved < l.places = has_room_is l z in omega (arith, p, n)
+
+  kept_nothing : (d b : Bool) → kept_if {V = V} d b None ≡ None
+  kept_nothing true true = refl
+  kept_nothing true false = refl
+  kept_nothing false b = refl
+
+  none_kept : (s : Whole V) (w : ℕ) → ltb 0 s.log.places ≡ false → (is_reserving (slice_get s.calls w) && is_full s.log) ≡ false
+  none_kept s w e = by (is_reserving (slice_get s.calls w)) (ap (λ b. b && not (has_room s.log)) e) where
+    by : (b : Bool) → is_full s.log ≡ false → (b && is_full s.log) ≡ false
+    by true f = f
+    by false f = refl
+
+  unkept_log : (l l1 l' : Log V) (w : ℕ) (b a d on on' : Bool) (q : Option (Request V)) → ltb 0 l.places ≡ false → l1 ≡ heard_of l w q → l' ≡ noted l1 w (not on) None → on ≡ on' → l' ≡ went_log l w b a d None on' q
+  unkept_log l l1 l' w b a d on on' q e e1 e2 eo =
+      e2 ∙ ap (λ (y : Log V). noted y w (not on) None) e1
+      ∙ ap (λ es. noted (record (heard_of l w q) { entries = es }) w (not on) None) (sym (append-nil l.entries))
+      ∙ ap (λ o. noted (record (heard_of l w q) { entries = l.entries ++ in_list o }) w (not on) None) (sym (kept_nothing d (has_room (record (heard_of l w q) { reserved = recounted l.places b a l.reserved }))))
+      ∙ ap (λ n. noted (record (heard_of l w q) { entries = l.entries ++ in_list (kept_if d (has_room (record (heard_of l w q) { reserved = recounted l.places b a l.reserved })) None); reserved = n }) w (not on) None) (sym (unkept_count l.places b a l.reserved e))
+      ∙ ap (λ y. noted (kept_of (count_of (heard_of l w q) b a) d None) w (not y) None) eo
+
+  pub unkept_step : (s s' : Whole V) (worker : ℕ) (noise : Noise Id V) (q : Option (Request V)) (l1 : Log V) (on : Bool) (told : Report V) → Holds same always s → IsEngineStep same always (engine_of s) (record { worker = worker; event = Go noise }) told (engine_of s') → ltb 0 s.log.places ≡ false
+      → (always ≡ true → q ≡ heard_at s worker (Go noise)) → l1 ≡ heard_of s.log worker q → s'.log ≡ noted l1 worker (not on) None → on ≡ is_in_flight told.outcome → IsStep same always s (record { worker = worker; event = Go noise }) told s'
+  unkept_step s s' worker noise q l1 on told h e z i e1 e2 eo =
+      let b = has_place (slice_get s.calls worker) (slice_get s.machines worker) in
+      let a = has_place (slice_get s'.calls worker) (slice_get s'.machines worker) in
+      let counted : Log V = record s.log { reserved = recounted s.log.places b a s.log.reserved } in
+      go_step s s' worker noise q None told told h e (none_kept s worker z) i
+      (unkept_log s.log l1 s'.log worker b a told.decided on (is_in_flight told.outcome) q z e1 e2 eo)
+      (λ y d r. absurd (unkept_room counted z r))
+      (ap (λ k. record told { kept = k }) (unkept same always (engine_of s) (engine_of s') worker (Go noise) _ told e.does) ∙ ap (λ o. record told { kept = is_some o }) (sym (kept_nothing told.decided (has_room counted))))
+
+  -- without an answer there is nothing to hear
+  none_heard : (b : Bool) (q : Option (Request V)) → heard_by b None q ≡ q
+  none_heard true (Some q) = refl
+  none_heard true None = refl
+  none_heard false q = refl
+
   pub and_left : (a b : Bool) → (a && b) ≡ true → a ≡ true
   and_left true b e = refl
   and_left false b e = e
@@ -277,7 +313,7 @@ module _ {V : Type 0} (same : V → V → Bool) (always : Bool) where
   }
 
   -- its journal
-  one_map : (hp : ℕ → Node V) (m n : Pairs V) → IsMapOf hp m → IsMapOf hp n → m ≡ n
+  pub one_map : (hp : ℕ → Node V) (m n : Pairs V) → IsMapOf hp m → IsMapOf hp n → m ≡ n
   one_map hp m n a b = same_pairs m n by where
     by : (q : ℕ) → get m q ≡ get n q
     by q = elim (cases_Bool (ltb q (2 ^ 64))) [

@@ -116,6 +116,13 @@ module _ {V : Type 0} (same : V → V → Bool) (always : Bool) where
         last_snoc [] last x e = refl
         last_snoc (p ∷ qs) last x e = last_more p qs x
 
+  -- and that there is a next one
+  pub record Going (s : Whole V) (who : ℕ) (op : Op V) (most left : ℕ) (places : List (ℕ × V)) (places' : List (ℕ × V)) (s' : Whole V) : Type 0 where
+    pub report : Report V
+    pub calling : Calling s who op most left places report places' s'
+    pub goes : goes_on report.outcome ≡ true
+    pub more : 0 < left
+
   -- a call of no steps
   pub calling_none : (s : Whole V) (who : ℕ) (op : Op V) (most : ℕ) (places : List (ℕ × V)) → most ≡ 0 → IsCalled same always s who op most places None places s
   calling_none s who op most places e = record {

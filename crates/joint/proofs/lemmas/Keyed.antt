@@ -1,9 +1,10 @@
--- A list that has all keys of a map and ascends is that of its keys.
-use Rattle.std.proofs.Common.{◌≡◌, ℕ, ◌<◌, Bool, true, false, ◌&&◌, cond, T, List, [], ◌∷◌, length, map, refl, sym, ◌∙◌, ap, subst, inl, inr, arith}
-use Rattle.std.specs.Prelude.{Some, IsSome, ◌↔◌}
-use Rattle.std.specs.FinMap.{entries, entries_sorted, get-entries, len, len-entries}
+-- A list that has all keys of a map and ascends is that of its keys; how many there can be.
+use Rattle.std.proofs.Common.{◌≡◌, ℕ, suc, ◌+◌, ◌^◌, ◌<◌, ◌≤◌, Bool, true, false, ◌&&◌, cond, T, List, [], ◌∷◌, length, map, refl, sym, ◌∙◌, ap, subst, inl, inr, arith}
+use Rattle.std.specs.Prelude.{None, Some, IsSome, ◌↔◌}
+use Rattle.std.specs.FinMap.{entries, entries_sorted, get, get-entries, len, len-entries}
 use Rattle.std.specs.FinMap.Entries.{below_all, is_sorted, find}
 use Rattle.std.specs.Ordering.{nat_cmp, eq_by_cmp, is_lt}
+use Rattle.std.proofs.lemmas.Bool.{cases_lt}
 use Rattle.std.proofs.lemmas.Bool.Decides.{nat_tests}
 use Rattle.std.proofs.lemmas.List.{length-map}
 use Rattle.judge.specs.Answer.{Pairs}
@@ -79,5 +80,32 @@ module _ {V : Type 0} (m : Pairs V) (ks : List ℕ) (a : AreKeys m ks) where
       (λ k x. (has_found k (entries m)).1 (subst IsSome (get-entries m k) ((a.each k).0 x)))
       (λ k x. (a.each k).1 (subst IsSome (sym (get-entries m k)) ((has_found k (entries m)).0 x)))
 
-  pub keys_count : length ks ≡ len m
-  keys_count = ap length keys_are ∙ length-map (entries m) (λ p. p.0) ∙ sym (len-entries m)
+-- numbers that ascend from one on are no more than there are below another
+room : (a n : ℕ) (ks : List ℕ) → Ascend ks → ((k : ℕ) → Has ks k → (a ≤ k) × (k < n)) → a ≤ n → a + length ks ≤ n
+room a n [] asc f l = omega (arith, l)
+room a n (k ∷ ks) asc f l =
+    let x = f k (inl refl) in
+    let r = room (k + 1) n ks asc.1 (λ j h. (let b = above k j ks asc.0 h in omega (arith, b), (f j (inr h)).1)) (omega (arith, x.1)) in
+    omega (arith, r, x.0)
+
+module _ {V : Type 0} (m : Pairs V) where
+  -- there is no more than a pair for each key of 64 bits
+  pub len_few : ((k : ℕ) → 2 ^ 64 ≤ k → get m k ≡ None) → len m ≤ 2 ^ 64
+  len_few none =
+      let small : (k : ℕ) → Has (keys_of m) k → k < 2 ^ 64 = λ k h. elim (cases_lt k (2 ^ 64)) [
+        | inl l ↦ l
+        | inr l ↦ absurd (
+            let f : IsSome (find nat_cmp k (entries m)) = (has_found k (entries m)).0 h in
+            let z : IsSome {T = V} None = subst IsSome (sym (get-entries m k) ∙ none k l) f in
+            cc z)
+      ] in
+      let r = room 0 (2 ^ 64) (keys_of m) (ascends (entries m) (entries_sorted m)) (λ k h. (omega arith, small k h)) (omega arith) in
+      let n : length (keys_of m) ≡ len m = length-map (entries m) (λ p. p.0) ∙ sym (len-entries m) in
+      omega (arith, r, n)
+
+  -- where there is one it has a key
+  pub some_key : (n : ℕ) → len m ≡ suc n → (k : ℕ) × IsSome (get m k)
+  some_key n e = by (entries m) refl where
+    by : (es : List (ℕ × V)) → entries m ≡ es → (k : ℕ) × IsSome (get m k)
+    by [] q = absurd (let z : suc n ≡ 0 = sym e ∙ len-entries m ∙ ap length q in omega (arith, z))
+    by (x ∷ es) q = (x.0, subst IsSome (sym (get-entries m x.0 ∙ ap (find nat_cmp x.0) q)) ((has_found x.0 (x ∷ es)).0 (inl refl)))

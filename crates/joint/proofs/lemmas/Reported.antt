@@ -43,7 +43,7 @@ after_walk V true = refl
 after_walk V false = refl
 
 module _ {V : Type 0} where
-  told_goes : (o : Moved V) → is_in_flight (told o) ≡ goes o
+  pub told_goes : (o : Moved V) → is_in_flight (told o) ≡ goes o
   told_goes moved.Running = refl
   told_goes (moved.Asks found) = refl
   told_goes (moved.Found place key value) = refl

@@ -1,10 +1,9 @@
 -- What a descent through the nodes finds of the keys from one on.
-use Rattle.std.proofs.Common.{◌≡◌, ℕ, suc, ◌<◌, ◌≤◌, ◌+◌, ◌*◌, ◌-◌, ◌^◌, ◌⊎◌, arith, Bool, true, false, cond, List, [], ◌∷◌, ◌++◌, length, get_or, refl, sym, ◌∙◌, ap, subst, inl, inr}
+use Rattle.std.proofs.Common.{◌≡◌, ℕ, suc, ◌<◌, ◌≤◌, ◌+◌, ◌*◌, ◌-◌, ◌^◌, ◌⊎◌, arith, Bool, true, false, cond, List, length, get_or, refl, sym, ◌∙◌, ap, subst, inl, inr}
 use Rattle.std.specs.Prelude.{Option, None, Some, IsSome}
 use Rattle.std.specs.FinMap as map
 use Rattle.std.proofs.lemmas.Bool.{cases_Bool, cases_lt}
 use Rattle.std.proofs.Math.Nat.{mul-le-mul_right}
-use Rattle.judge.specs.Answer.{Pairs}
 use Rattle.congee.specs.declared.forms.base_node.Node.{Node as Form}
 use Rattle.congee.specs.declared.forms.child.Child.{Child}
 use Rattle.congee.specs.declared.forms.child.Child.TheVariants.{Node as Sub, Value}
@@ -12,7 +11,7 @@ use Rattle.congee.specs.declared.protocol.store.Region.{Region}
 use Rattle.congee.specs.forms.Bytes.{IsFirst}
 use Rattle.congee.specs.forms.Forms.{children_of, prefix_of}
 use Rattle.congee.specs.Heap.{Node, Hung, Nothing, Below, Holds, fits, child_for, of_child, walk, value_at}
-use Rattle.congee.specs.Keys.{key_bytes, IsMapOf}
+use Rattle.congee.specs.Keys.{key_bytes}
 use Rattle.congee.specs.protocol.Regions.{span, IsRegion, start_at}
 use Rattle.congee.specs.protocol.SweepSteps.{width, is_outside, first_byte}
 use Rattle.congee.proofs.lemmas.protocol.Regions.{span_pos, span_step, keys_within, within_keys, byte_low, byte_high, whole, start_mono}
@@ -20,7 +19,7 @@ use Rattle.congee.proofs.lemmas.protocol.SweepBytes.{region_top, outside, first_
 use Rattle.joint.specs.declared.id.Id.{Id}
 use Rattle.joint.specs.declared.slot.Word.{Word}
 use Rattle.joint.specs.declared.survey.Part.{Part}
-use Rattle.joint.specs.Survey.{IsTree, IsInTree, IsRegionOf, IsPart, hung_for, AllHang, FindsKey, FindsNode, NoneStand, IsNearest, NonePast, AllAbove, Ascend, Has, AreKeys, AreKeysBelow, IsEmptiness}
+use Rattle.joint.specs.Survey.{IsTree, IsInTree, IsRegionOf, IsPart, hung_for, AllHang, FindsKey, FindsNode, NoneStand, IsNearest, NonePast}
 use Rattle.joint.specs.View.{id_number, hung_at, child_at, shape}
 
 -- the keys under a byte fit 64 bits
@@ -212,92 +211,3 @@ module _ {V : Type 0} (h : ℕ → Node V) where
       | inr q ↦ d.same k q b ∙ ap (λ y. walk h y (id_number at) (key_bytes k)) none
     ];
   }
-
-  -- the keys so far
-  pub keys_none : AreKeysBelow h 0 []
-  keys_none = record { ascend = tt; below = λ k x. absurd x; stand = λ k x. absurd x; all = λ k l s. absurd (omega (arith, l)) }
-
-  is_none : (o : Option V) → o ≡ None → IsSome o → ⊥
-  is_none o e s = absurd (let z : IsSome {T = V} None = subst IsSome e s in cc z)
-
-  pub keys_past : (b last : ℕ) (ks : List ℕ) → AreKeysBelow h b ks → NonePast h b last → AreKeysBelow h (last + 1) ks
-  keys_past b last ks a p = record {
-    ascend = a.ascend;
-    below = λ k x. let l = a.below k x in omega (arith, l, p.from_on);
-    stand = a.stand;
-    all = λ k l s. elim (cases_lt k b) [
-      | inl q ↦ a.all k q s
-      | inr q ↦ absurd (is_none (value_at h (key_bytes k)) (p.none k q l) s)
-    ];
-  }
-
-  above_more : (j k : ℕ) (ks : List ℕ) → j < k → AllAbove j ks → AllAbove j (ks ++ k ∷ [])
-  above_more j k [] l a = (l, tt)
-  above_more j k (i ∷ ks) l a = (a.0, above_more j k ks l a.1)
-
-  ascend_more : (k : ℕ) (ks : List ℕ) → ((j : ℕ) → Has ks j → j < k) → Ascend ks → Ascend (ks ++ k ∷ [])
-  ascend_more k [] l a = (tt, tt)
-  ascend_more k (j ∷ ks) l a = (above_more j k ks (l j (inl refl)) a.0, ascend_more k ks (λ i x. l i (inr x)) a.1)
-
-  has_old : (k j : ℕ) (ks : List ℕ) → Has ks j → Has (ks ++ k ∷ []) j
-  has_old k j [] x = absurd x
-  has_old k j (i ∷ ks) (inl e) = inl e
-  has_old k j (i ∷ ks) (inr x) = inr (has_old k j ks x)
-
-  has_new : (k : ℕ) (ks : List ℕ) → Has (ks ++ k ∷ []) k
-  has_new k [] = inl refl
-  has_new k (i ∷ ks) = inr (has_new k ks)
-
-  has_cases : (k j : ℕ) (ks : List ℕ) → Has (ks ++ k ∷ []) j → Has ks j ⊎ (k ≡ j)
-  has_cases k j [] (inl e) = inr e
-  has_cases k j [] (inr x) = absurd x
-  has_cases k j (i ∷ ks) (inl e) = inl (inl e)
-  has_cases k j (i ∷ ks) (inr x) = elim (has_cases k j ks x) [ inl y ↦ inl (inr y) | inr e ↦ inr e ]
-
-  pub keys_more : (b : ℕ) (leaf : Id) (key : ℕ) (ks : List ℕ) → AreKeysBelow h b ks → IsNearest h b leaf key → AreKeysBelow h (key + 1) (ks ++ key ∷ [])
-  keys_more b leaf key ks a n = record {
-    ascend = ascend_more key ks (λ j x. let l = a.below j x in omega (arith, l, n.from_on)) a.ascend;
-    below = λ k x. elim (has_cases key k ks x) [
-      | inl y ↦ (let l = a.below k y in omega (arith, l, n.from_on))
-      | inr e ↦ omega (arith, e)
-    ];
-    stand = λ k x. elim (has_cases key k ks x) [
-      | inl y ↦ a.stand k y
-      | inr e ↦ (let P : ℕ → Type 0 = λ y. IsSome (value_at h (key_bytes y)) in subst P e n.stands)
-    ];
-    all = λ k l s. elim (cases_lt k b) [
-      | inl q ↦ has_old key k ks (a.all k q s)
-      | inr q ↦ elim (cases_lt k key) [
-        | inl z ↦ absurd (is_none (value_at h (key_bytes k)) (n.before k q z) s)
-        | inr z ↦ (let e : key ≡ k = omega (arith, l, z) in let P : ℕ → Type 0 = λ y. Has (ks ++ key ∷ []) y in subst P e (has_new key ks))
-      ]
-    ];
-  }
-
-  pub keys_all : (ks : List ℕ) → AreKeysBelow h (2 ^ 64) ks → (m : Pairs V) → IsMapOf h m → AreKeys m ks
-  keys_all ks a m st = record {
-    ascend = a.ascend;
-    each = λ k. (
-      λ x. subst IsSome (sym (st.at k (a.below k x))) (a.stand k x),
-      λ s. elim (cases_lt k (2 ^ 64)) [
-        | inl l ↦ a.all k l (subst IsSome (st.at k l) s)
-        | inr l ↦ absurd (is_none (map.get m k) (st.none_beyond k l) s)
-      ],
-    );
-  }
-
-  -- whether there is one
-  pub none_past : (b last : ℕ) → NoneStand h 0 b → NonePast h b last → NoneStand h 0 (last + 1)
-  none_past b last a p k l u = elim (cases_lt k b) [
-    | inl q ↦ a k l q
-    | inr q ↦ p.none k q u
-  ]
-
-  pub empty_all : NoneStand h 0 (2 ^ 64) → (m : Pairs V) → IsMapOf h m → IsEmptiness m true
-  empty_all a m st k = elim (cases_lt k (2 ^ 64)) [
-    | inl l ↦ st.at k l ∙ a k (omega arith) l
-    | inr l ↦ st.none_beyond k l
-  ]
-
-  pub not_empty : (b : ℕ) (leaf : Id) (key : ℕ) → IsNearest h b leaf key → (m : Pairs V) → IsMapOf h m → IsEmptiness m false
-  not_empty b leaf key n m st = (key, subst IsSome (sym (st.at key n.small)) n.stands)

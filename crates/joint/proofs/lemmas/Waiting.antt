@@ -1,11 +1,9 @@
 -- The nodes that wait are those that were handed over and those that a call has taken out, each listed once.
-use Rattle.std.proofs.Common.{◌≡◌, ◌≢◌, ℕ, ◌+◌, ◌<◌, ◌&&◌, not, Bool, true, false, List, [], ◌∷◌, ◌++◌, length, get_or, take, arith, refl, sym, ◌∙◌, ap, inl, inr}
-use Rattle.std.specs.Prelude.{Option, None, Some, is_some, option_map, unwrap_or, slice_get, if◌then◌else◌}
-use Rattle.std.specs.List.{Contains, filter_map, cons_option, sum_by}
+use Rattle.std.proofs.Common.{◌≡◌, ◌≢◌, ℕ, ◌+◌, ◌&&◌, not, Bool, true, false, List, length, arith, refl, sym, ◌∙◌, ap, inl, inr}
+use Rattle.std.specs.Prelude.{Option, None, Some, is_some, option_map, slice_get}
+use Rattle.std.specs.List.{Contains, filter_map, sum_by}
 use Rattle.std.proofs.lemmas.Bool.{false≢true}
-use Rattle.std.proofs.lemmas.List.{length-append, take_more}
-use Rattle.std.proofs.lemmas.List.Sums.{sum_by-append, sum_by-cons}
-use Rattle.std.proofs.lemmas.List.Elements.{filter_map-append, Contains-append_cases, Contains-append_left, Contains-append_right}
+use Rattle.std.proofs.lemmas.List.Elements.{Contains-append_cases, Contains-append_left, Contains-append_right}
 use Rattle.congee.specs.declared.protocol.machine.Machine.{Machine}
 use Rattle.congee.specs.declared.protocol.phase.Phase.{Phase}
 use Rattle.congee.specs.declared.protocol.phase.Phase.TheVariants.{Obsolete, Retire}
@@ -113,7 +111,7 @@ same_number : (x y : ℕ) → Some x ≡ Some y → y ≡ x
 same_number x y e = cc
 
 -- what a call has taken out is what its phase tells
-taken_is : {V : Type 0} (x : Phase Id V) (n : ℕ) → option_map id_number (taken x) ≡ Some n → TakenBy id_number x n
+pub taken_is : {V : Type 0} (x : Phase Id V) (n : ℕ) → option_map id_number (taken x) ≡ Some n → TakenBy id_number x n
 taken_is (Obsolete m p r) n e = same_number (id_number m) n e
 taken_is (Retire m p r) n e = same_number (id_number m) n e
 taken_is _ n e = absurd (cc e)
@@ -122,40 +120,6 @@ is_taken : {V : Type 0} (x : Phase Id V) (n : ℕ) → TakenBy id_number x n →
 is_taken (Obsolete m p r) n e = ap Some (sym e)
 is_taken (Retire m p r) n e = ap Some (sym e)
 is_taken _ n e = absurd e
-
--- one call more among those that were looked at
-more_in : (o : Option Id) → length (cons_option (option_map id_number o) []) ≡ (if is_some o then 1 else 0)
-more_in None = refl
-more_in (Some n) = refl
-
-weight : (f : ℕ → ℕ) (o : Option Id) → sum_by f (cons_option (option_map id_number o) []) ≡ unwrap_or (option_map (λ (n : Id). f (id_number n)) o) 0
-weight f None = refl
-weight f (Some n) = (let a = sum_by-cons f (id_number n) [] in omega (arith, a))
-
-pub taken_more : {V : Type 0} (ms : List (Machine Id V)) (i : ℕ) (m : Machine Id V) → i < length ms → m ≡ get_or ms i m → filter_map taken_by (take (i + 1) ms) ≡ filter_map taken_by (take i ms) ++ cons_option (taken_by m) []
-taken_more ms i m l e =
-    ap (filter_map taken_by) (take_more ms i m l) ∙ filter_map-append taken_by (take i ms) (get_or ms i m ∷ [])
-    ∙ ap (λ x. filter_map taken_by (take i ms) ++ cons_option (taken_by x) []) (sym e)
-
-pub count_more : {V : Type 0} (ms : List (Machine Id V)) (i : ℕ) (m : Machine Id V) → i < length ms → m ≡ get_or ms i m → (b : Bool) → is_some (taken m.phase) ≡ b
-    → length (filter_map taken_by (take (i + 1) ms)) ≡ length (filter_map taken_by (take i ms)) + (if b then 1 else 0)
-count_more ms i m l e b q =
-    let a = ap length (taken_more ms i m l e) in
-    let n = length-append (filter_map taken_by (take i ms)) (cons_option (taken_by m) []) in
-    let c : length (cons_option (taken_by m) []) ≡ (if b then 1 else 0) = more_in (taken m.phase) ∙ ap (λ t. if t then 1 else 0) q in
-    omega (arith, a, n, c)
-
--- and what is charged for its node
-pub bytes_more : {V : Type 0} (f : ℕ → ℕ) (xs : List ℕ) (ms : List (Machine Id V)) (i : ℕ) (m : Machine Id V) → i < length ms → m ≡ get_or ms i m → (o : Option Id) → taken m.phase ≡ o
-    → sum_by f (xs ++ filter_map taken_by (take (i + 1) ms)) ≡ sum_by f (xs ++ filter_map taken_by (take i ms)) + unwrap_or (option_map (λ (n : Id). f (id_number n)) o) 0
-bytes_more f xs ms i m l e o q =
-    let ys : List ℕ = filter_map taken_by (take i ms) in
-    let a = ap (λ zs. sum_by f (xs ++ zs)) (taken_more ms i m l e) in
-    let b = sum_by-append f xs ys in
-    let c = sum_by-append f xs (ys ++ cons_option (taken_by m) []) in
-    let d = sum_by-append f ys (cons_option (taken_by m) []) in
-    let w : sum_by f (cons_option (taken_by m) []) ≡ unwrap_or (option_map (λ (n : Id). f (id_number n)) o) 0 = ap (λ (t : Option Id). sum_by f (cons_option (option_map id_number t) [])) q ∙ weight f o in
-    omega (arith, a, b, c, d, w)
 
 module _ {V : Type 0} (same : V → V → Bool) (always : Bool) (s : Forest V) (ms : List (Machine Id V)) (calls : List (Call V)) (intact : IsIntact same always s ms calls) where
   -- what a call has taken out stands

@@ -1,7 +1,7 @@
 -- A step of a call on the tree leaves the machine intact; its worker stands between calls after the last one.
 use Rattle.std.proofs.Common.{◌≡◌, ◌≢◌, ◌<◌, ◌++◌, [], ◌∷◌, ℕ, Bool, true, false, List, refl, sym, ◌∙◌, ap, subst, inl, inr}
 use Rattle.std.proofs.Math.ListN.{set}
-use Rattle.std.specs.Prelude.{Option, None, Some, length, not, slice_get, if◌then◌else◌}
+use Rattle.std.specs.Prelude.{Option, None, Some, length, not, slice_get, slice_set, if◌then◌else◌}
 use Rattle.std.proofs.lemmas.List.{length-set, get_or-set_other, get_or-set_same}
 use Rattle.crossbeam_epoch.specs.declared.bag.Work.TheVariants.{Remove}
 use Rattle.crossbeam_epoch.specs.declared.world.participant.Participant.{Participant}
@@ -18,7 +18,7 @@ use Rattle.joint.specs.declared.call.Call.TheVariants.{Idle, Walking}
 use Rattle.joint.specs.declared.id.Id.{Id}
 use Rattle.joint.specs.declared.slot.Slot.{Slot}
 use Rattle.joint.specs.Forest.{Forest, nodes, Refuses}
-use Rattle.joint.specs.Intact.{IsAt, IsIntact, WalkedOn, is_over, over_at, rested}
+use Rattle.joint.specs.Intact.{IsAt, IsIntact, WalkedOn, cleared, cleared_at, is_done, is_over, over_at, rested, resting}
 use Rattle.joint.specs.Laws.{CallLaws}
 use Rattle.joint.specs.Machines.{IsSafe, Runs, retiring_at, after_walk, Walked}
 use Rattle.joint.specs.Sound.{IsUnderWay}
@@ -36,6 +36,12 @@ not_over : {V : Type 0} (x : Phase Id V) → is_over x ≡ false → IsUnderWay 
 not_over Ended e = absurd (cc e)
 not_over _ e = tt
 
+-- a worker whose call is on the tree is registered
+pub registered : {V : Type 0} (same : V → V → Bool) (always : Bool) (s : Forest V) (ms : List (Machine Id V)) (calls : List (Call V)) → IsIntact same always s ms calls → (who : ℕ) → slice_get calls who ≡ Some Walking → (place s.collector who).registered ≡ true
+registered same always s ms calls intact who on =
+    let x = there ms who (inside_machines same always s ms calls intact who Walking on) in
+    (intact.safe.sound.sound.guarded who x.0 x.1).registered (intact.each who Walking x.0 on x.1).0
+
 -- a deferral leaves other places, and the phase of its own
 module _ {T : Type 0} (c : State T (Unit {0})) (who : ℕ) where
   abbrev put : Id → Participant (Unit {0})
@@ -52,6 +58,13 @@ module _ {T : Type 0} (c : State T (Unit {0})) (who : ℕ) where
   walk_phase : (o : Option Id) → who < length c.table → (place (after_walk o c who) who).phase ≡ (place c who).phase
   walk_phase None l = refl
   walk_phase (Some n) l = ap (λ x. x.phase) (get_or-set_same c.table who (put n) blank l)
+
+-- a call that has not ended is no scan that has told its end
+rests : {V : Type 0} (m : Machine Id V) → is_over (rested m).phase ≡ false → is_done m.phase ≡ false
+rests m = by (is_done m.phase) refl where
+  by : (b : Bool) → is_done m.phase ≡ b → is_over (if b then resting else m).phase ≡ false → is_done m.phase ≡ false
+  by true e o = absurd (cc o)
+  by false e o = e
 
 module _ {V : Type 0} (same : V → V → Bool) (always : Bool) (laws : CallLaws {C = Id} {V = V} id_number same always) (s : Forest V) (ms : List (Machine Id V)) (calls : List (Call V)) (intact : IsIntact same always s ms calls) (step : Step Id V)
     (on : slice_get calls step.who ≡ Some Walking) where
@@ -111,6 +124,9 @@ module _ {V : Type 0} (same : V → V → Bool) (always : Bool) (laws : CallLaws
         let k : IsAt Walking (place s.collector step.who) old.0 = intact.each step.who Walking old.0 on old.1 in
         told_final same always s.version_max (Refuses s) old.0 moved.now (nodes s) (nodes s') step.noise.fail step.noise.answer d moved.step k.0 k.1
 
+    pub over_now : over_at (slice_get ms' step.who) ≡ not (goes d.outcome)
+    over_now = ap over_at now_here ∙ told
+
     abbrev next : Call V
     next = if over_at (slice_get ms' step.who) then Idle else Walking
 
@@ -146,3 +162,12 @@ module _ {V : Type 0} (same : V → V → Bool) (always : Bool) (laws : CallLaws
             ])
       ];
     }
+
+  -- a call that goes on has nothing to clear
+  pub uncleared : (d : Move V) (s' : Forest V) (between : List (Machine Id V)) → Walked same always s ms step d s' between → goes d.outcome ≡ true → between ≡ cleared between step.who
+  uncleared d s' between w g =
+      let on_walked : WalkedOn same always s ms step d s' (cleared between step.who) = record { between = between; walked = w; machines = refl } in
+      let now : Machine Id V = (moved d s' (cleared between step.who) on_walked).now in
+      let quiet : is_done now.phase ≡ false = rests now (told d s' (cleared between step.who) on_walked ∙ ap not g) in
+      let here : slice_get between step.who ≡ Some now = now_between ms between step.who old.0 now old.1 (moved d s' (cleared between step.who) on_walked).calls in
+      sym (ap (λ o. cleared_at o between step.who) here ∙ ap (λ b. if b then slice_set between step.who resting else between) quiet)

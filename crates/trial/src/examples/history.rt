@@ -1,5 +1,5 @@
 //! An index with a journal that threads share: they write and scan it, and its history is checked.
-ghost use Rattle.std.specs.Prelude.{◌≡◌, ◌+◌, IfOk, OnOk, true};
+ghost use Rattle.std.specs.Prelude.{◌≡◌, IfOk, true};
 ghost use Rattle.joint.specs.Journals.{IsCounted, IsJournal};
 
 use congee::DefaultAllocator;
@@ -23,20 +23,65 @@ pub struct Known {
     pub written: u64,
 }
 
-/// Puts a number at each of three keys. Its share counts three writing calls more.
-pub fn counts_three<L: Ledger, R: Wait>(
+/// A share, and the number of writing calls that it has counted.
+#[derive(Drop)]
+pub struct Writer<L: Ledger> {
+    share: Share<L>,
+    made: u64,
+    ghost counted: { share.count ≡ made },
+}
+
+impl<L: Ledger> Writer<L> {
+    /// With a share that has counted none.
+    fn new(share: Share<L>) -> Writer<L>
+        requires { share.count ≡ 0 }
+    {
+        Writer { share, made: 0 }
+    }
+
+    /// Puts a key in.
+    fn put<R: Wait>(
+        &mut self,
+        rt: &R,
+        index: &Recorded<L>,
+        key: u64,
+        worker: &mut Worker,
+        guard: &Guard,
+    ) -> Result<(), Refusal> {
+        let Some(made) = self.made.checked_add(1) else {
+            return Err(Refusal::JournalFull);
+        };
+        index.insert(rt, key, key, &mut self.share, worker, guard)?;
+        self.made = made;
+        Ok(())
+    }
+
+    /// The share, and the number of calls that it has counted.
+    fn into_share(self) -> (Share<L>, u64)
+        ensures { result.0.count ≡ result.1 }
+    {
+        let Writer { share, made } = self;
+        (share, made)
+    }
+}
+
+/// Puts these keys in, with a share that has counted no call. However many were put in, it has counted as many then.
+pub fn counts_calls<L: Ledger, R: Wait>(
     rt: &R,
     index: &Recorded<L>,
-    share: &mut Share<L>,
+    share: Share<L>,
+    keys: &[u64],
     worker: &mut Worker,
     guard: &Guard,
-) -> Result<(), Refusal>
-    ensures { OnOk result (share.new.count ≡ share.old.count + 3) }
+) -> Result<(Share<L>, u64), Refusal>
+    requires { share.count ≡ 0 }
+    ensures { IfOk result (λ r. r.0.count ≡ r.1) }
 {
-    index.insert(rt, 1, 10, share, worker, guard)?;
-    index.insert(rt, 2, 20, share, worker, guard)?;
-    index.insert(rt, 3, 30, share, worker, guard)?;
-    Ok(())
+    let mut writer = Writer::new(share);
+    for key in keys {
+        writer.put(rt, index, *key, worker, guard)?;
+    }
+    Ok(writer.into_share())
 }
 
 /// Puts a key in, and looks at the keys from it on; gives how many of them it found.

@@ -1,5 +1,5 @@
 //! What a user of the shared map's machine concludes from its contracts, with no proof of its own.
-ghost use Rattle.std.specs.Prelude.{◌≡◌, ℕ, IfOk, nat_eq, take};
+ghost use Rattle.std.specs.Prelude.{◌≡◌, ℕ, IfOk, IfSome, Some, nat_eq, take};
 ghost use Rattle.std.specs.FinMap.{empty, entries};
 ghost use Rattle.judge.specs.Answer.{Pairs};
 ghost use Rattle.congee.specs.Keys.{IsMapOf};
@@ -9,7 +9,8 @@ ghost use Rattle.joint.specs.Runs.{RunsMap, no_flights};
 ghost use Rattle.joint.specs.Whole.{Whole};
 
 use congee::{Allocator, DefaultAllocator, Drainer, NoDrain};
-use joint::{Limits, Ran, Refusal, Step, World};
+use joint::{Limits, Op, Ran, Refusal, Step, World};
+use judge::Reply;
 use std::alloc::Global;
 use std::vec::Vec;
 
@@ -65,5 +66,22 @@ pub fn drains_what_stands<D: Drainer<u64, u64>>(
     match index.close(drainer) {
         Ok((_, drainer)) => Ok(Drained { ran, drainer }),
         Err((refusal, _, _)) => Err(refusal),
+    }
+}
+
+/// A value that a worker put at a key is found there, whatever stood there before, and whatever others have in flight. `None`
+/// where one of the two calls, of 60 steps at most, didn't come to its end.
+pub fn reads_what_it_put<A: Allocator>(
+    index: &mut World<u64, A>,
+    who: u32,
+    key: u64,
+    value: u64,
+) -> Option<Option<u64>>
+    ensures { IfSome result (λ found. found ≡ Some value) }
+{
+    index.reply(who, Op::Insert(key, value), 60)?;
+    match index.reply(who, Op::Get(key), 60)? {
+        Reply::Get(found) => Some(found),
+        _ => None,
     }
 }

@@ -8,7 +8,9 @@ use crate::examples::collector::put_off;
 use crate::examples::driven::{Driven, answered};
 use crate::examples::grace::collects_beside_a_guard;
 use crate::examples::journal::{Store, is_honest};
-use crate::examples::machine::{Drained, drains_what_stands, runs_and_closes, runs_as_one_map};
+use crate::examples::machine::{
+    Drained, drains_what_stands, reads_what_it_put, runs_and_closes, runs_as_one_map,
+};
 use crate::examples::owned::{
     charge_after_insertions, finds_what_it_puts, finds_what_it_puts_in_numbers, opens_and_closes,
     opens_and_closes_numbers,
@@ -140,6 +142,16 @@ fn a_close_drains_what_stands(rt: HostRuntime) -> Result<(), Fail> {
     let Drained { ran, drainer } = drains_what_stands(rt.alloc(), steps, sum)?;
     assert_eq!(rt; (drainer.of_values, drainer.last_key), (100, Some(7)));
     assert_eq!(rt; count_of(&ran.reports, Reply::Insert(None)), 2);
+    Ok(())
+}
+
+#[test]
+fn a_worker_reads_what_it_put(rt: HostRuntime) -> Result<(), Fail> {
+    let mut index = open(rt.alloc(), 1, 100)?;
+    assert_eq!(rt; reads_what_it_put(&mut index, 0, 7, 70), None);
+    index.call(0, Op::Pin, 100, &mut []);
+    assert_eq!(rt; reads_what_it_put(&mut index, 0, 7, 70), Some(Some(70)));
+    assert_eq!(rt; reads_what_it_put(&mut index, 0, 7, 71), Some(Some(71)));
     Ok(())
 }
 

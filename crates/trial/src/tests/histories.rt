@@ -6,7 +6,7 @@ use super::failures::Unflushed;
 use super::replies::Narrow;
 use super::threaded::{next, spent};
 use crate::drained::Drained;
-use crate::examples::history::writes_of_two;
+use crate::examples::history::{Recorded, counts_calls, writes_of_two};
 use crate::start::start;
 use crate::threads::threads;
 use congee::{Allocator, DefaultAllocator};
@@ -201,12 +201,36 @@ fn refuses_strangers<L: Ledger, R: Wait + Abort>(
     Ok(())
 }
 
+/// A share counts the calls that were made with it, and the ledger has no other.
+fn counts<L: Ledger, R: Wait + Abort>(rt: &R, alloc: Global, blank: Blank) -> Result<(), Fail>
+    requires name { blank.name ≡ L.name }
+    requires ledger { blank.parts ≡ L.parts }
+    requires parts { blank.parts ≡ 2 }
+{
+    let limits = Limits::usual(2, 1_000);
+    let allocator = DefaultAllocator::new();
+    let (tree, mut all): (Recorded<L>, Share<L>) = Journaled::new(
+        alloc, limits, allocator, 9, 2, blank,
+    )?;
+    let share = all.split(1);
+    let mut worker = tree.register(rt)?;
+    let guard = tree.pin(rt, &mut worker)?;
+    let put = counts_calls(rt, &tree, share, &[1, 2, 256, 1], &mut worker, &guard);
+    spent(tree.unpin(rt, &mut worker, guard))?;
+    let (share, made) = put?;
+    assert_eq!(rt; (share.count(), made), (4, 4));
+    all.merge(share);
+    assert_eq!(rt; tree.gather(rt, &mut all), Ok(4));
+    Ok(())
+}
+
 /// What is tried on an index whose ledger has two parts.
 #[derive(Clone, Copy)]
 enum Task {
     WritesDown,
     Fills,
     RefusesStrangers,
+    Counts,
 }
 
 fn runs<L: Ledger, R: Wait + Abort>(
@@ -223,6 +247,7 @@ fn runs<L: Ledger, R: Wait + Abort>(
         Task::WritesDown => writes_down::<L, R>(rt, alloc, blank),
         Task::Fills => fills::<L, R>(rt, alloc, blank),
         Task::RefusesStrangers => refuses_strangers::<L, R>(rt, alloc, blank),
+        Task::Counts => counts::<L, R>(rt, alloc, blank),
     }
 }
 
@@ -238,6 +263,11 @@ fn each_call_is_written_down(rt: HostRuntime) -> Result<(), Fail> {
 #[test]
 fn a_full_journal_refuses_writing_calls_alone(rt: HostRuntime) -> Result<(), Fail> {
     tries(&rt, rt.alloc(), Task::Fills)
+}
+
+#[test]
+fn a_share_counts_the_calls_that_were_made(rt: HostRuntime) -> Result<(), Fail> {
+    tries(&rt, rt.alloc(), Task::Counts)
 }
 
 #[test]

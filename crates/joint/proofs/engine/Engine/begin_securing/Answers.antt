@@ -18,8 +18,8 @@ pub set_call-requires : goal.set_call-requires
 set_call-requires g c =
     rw c.collect.ensures.calls (rw c.take_call.ensures.calls (rw (length-set c.args.self.now.calls.items c.args.who Idle) (reserving_inside g.P.Payload.same_as g.P.Payload.always_copies c.args.self.now.nodes c.args.self.now.machines.items c.args.self.now.calls.items c.requires.intact c.args.who c.requires.on)))
 
-pub returns : goal.returns
-returns g c =
+pub returns-clause-begins : goal.returns-clause-begins
+returns-clause-begins g c =
     begins_securing g.P.Payload.same_as g.P.Payload.always_copies c.args.self.now.nodes c.args.self.now.machines.items c.args.self.now.calls.items c.requires.intact c.args.who c.progress.ensures c.in-Reserving.op c.in-Reserving.ensures.taken c.collect.result c.collect.new.self.nodes
     (collected_at g.P.Payload.same_as g.P.Payload.always_copies c.take_call.new.self.nodes c.args.self.now.nodes c.collect.new.self.nodes c.take_call.new.self.machines.items c.args.self.now.machines.items c.args.who (Begin (Secure 1)) c.collect.result c.take_call.ensures.nodes (ap (λ v. v.items) c.take_call.ensures.machines) c.collect.ensures.collected)
     c.set_call.new.self.nodes c.set_call.new.self.machines.items c.set_call.new.self.calls.items c.set_call.ensures.nodes (ap (λ v. v.items) (c.set_call.ensures.machines ∙ (c.collect.ensures.machines ∙ c.take_call.ensures.machines)))

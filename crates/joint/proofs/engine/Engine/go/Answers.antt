@@ -1,62 +1,13 @@
-use Rattle.std.proofs.Common.{◌<◌, ℕ, refl, sym, ◌∙◌, ap, subst}
-use Rattle.std.specs.Prelude.{Some, slice_get}
+use Rattle.std.proofs.Common.{refl}
 use Rattle.joint.specs.Log.{no_log}
-use Rattle.joint.specs.declared.call.Call.TheVariants.{Collecting, Reserving, Securing, Walking}
-use Rattle.joint.specs.Intact.{IsSecuring}
-use Rattle.joint.specs.Whole.{collection}
-use Rattle.joint.proofs.lemmas.Collecting.{securing_call}
-use Rattle.joint.proofs.lemmas.Reserving.{next_here, reserving_call, reserving_stage}
-use Rattle.joint.proofs.lemmas.Turning.{go_unknown, go_idle, goes_on, is_idle, is_collecting, is_securing, is_walking}
+use Rattle.joint.specs.declared.call.Call.TheVariants.{Walking}
+use Rattle.joint.proofs.lemmas.Turning.{goes_on}
+use Rattle.joint.proofs.lemmas.Walking.{registered}
 use Rattle.joint.proofs.engine.Engine.go.Goals as goal
 
-pub stage-requires : goal.stage-requires
-stage-requires g c = (subst (λ (n : ℕ). c.args.who < n) c.requires.intact.table (c.is_registered.ensures.inside c.if-not-is_registered.false))
+pub returns-then-is_walking-clause-does : goal.returns-then-is_walking-clause-does
+returns-then-is_walking-clause-does g c =
+    goes_on g.P.Payload.same_as g.P.Payload.always_copies (record { forest = c.args.self.now.nodes; machines = c.args.self.now.machines.items; calls = c.args.self.now.calls.items; log = no_log }) c.args.who (registered g.P.Payload.same_as g.P.Payload.always_copies c.args.self.now.nodes c.args.self.now.machines.items c.args.self.now.calls.items c.requires.intact c.args.who (c.is_walking.ensures.walking c.if-is_walking.true)) c.args.noise c.go_point.result (record { forest = c.go_point.new.self.nodes; machines = c.go_point.new.self.machines.items; calls = c.go_point.new.self.calls.items; log = no_log }) Walking (c.is_walking.ensures.walking c.if-is_walking.true) refl c.go_point.ensures.walks
 
-pub go_collecting-turn-requires-clause-on : goal.go_collecting-turn-requires-clause-on
-go_collecting-turn-requires-clause-on g c = is_collecting (slice_get c.args.self.now.calls.items c.args.who) c.in-Collecting.op (ap Some (sym c.in-Collecting.is) ∙ c.stage.ensures)
-
-pub go_securing-turn-requires-clause-on : goal.go_securing-turn-requires-clause-on
-go_securing-turn-requires-clause-on g c =
-    let k = reserving_call (slice_get c.args.self.now.calls.items c.args.who) (reserving_stage (slice_get c.args.self.now.calls.items c.args.who) (ap Some (sym c.in-Reserving.is) ∙ c.stage.ensures)) in
-    let P : _ → Type 0 = λ o. IsSecuring o in
-    subst P (sym (next_here g.P.Payload.same_as g.P.Payload.always_copies c.args.self.now.nodes c.args.self.now.machines.items c.args.self.now.calls.items c.args.who c.begin_securing.new.self.nodes c.begin_securing.new.self.machines.items c.begin_securing.new.self.calls.items c.begin_securing.ensures k.0 k.1)) tt
-
-pub go_securing-turn-requires-in-Securing-clause-on : goal.go_securing-turn-requires-in-Securing-clause-on
-go_securing-turn-requires-in-Securing-clause-on g c = is_securing (slice_get c.args.self.now.calls.items c.args.who) (ap Some (sym c.in-Securing.is) ∙ c.stage.ensures)
-
-pub begin_securing-requires-clause-on : goal.begin_securing-requires-clause-on
-begin_securing-requires-clause-on g c = reserving_stage (slice_get c.args.self.now.calls.items c.args.who) (ap Some (sym c.in-Reserving.is) ∙ c.stage.ensures)
-
-pub go_point-requires-clause-on : goal.go_point-requires-clause-on
-go_point-requires-clause-on g c = is_walking (slice_get c.args.self.now.calls.items c.args.who) (ap Some (sym c.in-Walking.is) ∙ c.stage.ensures)
-
-pub returns-then-not-is_registered-clause-does : goal.returns-then-not-is_registered-clause-does
-returns-then-not-is_registered-clause-does g c = go_unknown g.P.Payload.same_as g.P.Payload.always_copies (record { forest = c.args.self.now.nodes; machines = c.args.self.now.machines.items; calls = c.args.self.now.calls.items; log = no_log }) c.args.who c.args.noise c.refused.result (sym c.is_registered.ensures.value ∙ c.if-not-is_registered.true) c.refused.ensures
-
-pub returns-in-Idle-clause-does : goal.returns-in-Idle-clause-does
-returns-in-Idle-clause-does g c = go_idle g.P.Payload.same_as g.P.Payload.always_copies (record { forest = c.args.self.now.nodes; machines = c.args.self.now.machines.items; calls = c.args.self.now.calls.items; log = no_log }) c.args.who (sym c.is_registered.ensures.value ∙ c.if-not-is_registered.false) c.args.noise c.refused-in-Idle.result (is_idle (slice_get c.args.self.now.calls.items c.args.who) (ap Some (sym c.in-Idle.is) ∙ c.stage.ensures)) c.refused-in-Idle.ensures
-
-pub returns-in-Collecting-clause-does : goal.returns-in-Collecting-clause-does
-returns-in-Collecting-clause-does g c =
-    goes_on g.P.Payload.same_as g.P.Payload.always_copies (record { forest = c.args.self.now.nodes; machines = c.args.self.now.machines.items; calls = c.args.self.now.calls.items; log = no_log }) c.args.who (sym c.is_registered.ensures.value ∙ c.if-not-is_registered.false) c.args.noise c.collection.result (record { forest = c.go_collecting-turn.new.self.nodes; machines = c.go_collecting-turn.new.self.machines.items; calls = c.go_collecting-turn.new.self.calls.items; log = no_log }) (Collecting c.in-Collecting.op) (is_collecting (slice_get c.args.self.now.calls.items c.args.who) c.in-Collecting.op (ap Some (sym c.in-Collecting.is) ∙ c.stage.ensures)) refl
-    (record { turn = c.go_collecting-turn.result; step = c.go_collecting-turn.ensures.collected; machines = ap (λ v. v.items) c.go_collecting-turn.ensures.machines; calls = c.go_collecting-turn.ensures.calls; report = c.collection.ensures ∙ ap (collection c.go_collecting-turn.result) c.of_collector.ensures })
-
-pub returns-in-Reserving-clause-does : goal.returns-in-Reserving-clause-does
-returns-in-Reserving-clause-does g c =
-    let k = reserving_call (slice_get c.args.self.now.calls.items c.args.who) (reserving_stage (slice_get c.args.self.now.calls.items c.args.who) (ap Some (sym c.in-Reserving.is) ∙ c.stage.ensures)) in
-    goes_on g.P.Payload.same_as g.P.Payload.always_copies (record { forest = c.args.self.now.nodes; machines = c.args.self.now.machines.items; calls = c.args.self.now.calls.items; log = no_log }) c.args.who (sym c.is_registered.ensures.value ∙ c.if-not-is_registered.false) c.args.noise c.collection-in-Reserving.result (record { forest = c.go_securing-turn.new.self.nodes; machines = c.go_securing-turn.new.self.machines.items; calls = c.go_securing-turn.new.self.calls.items; log = no_log }) (Reserving k.0) k.1 refl
-    (record {
-      between = record { forest = c.begin_securing.new.self.nodes; machines = c.begin_securing.new.self.machines.items; calls = c.begin_securing.new.self.calls.items; log = no_log };
-      begins = c.begin_securing.ensures;
-      goes = record { turn = c.go_securing-turn.result; step = c.go_securing-turn.ensures; report = c.collection-in-Reserving.ensures ∙ ap (collection c.go_securing-turn.result) c.reserving.ensures };
-    })
-
-pub returns-in-Securing-clause-does : goal.returns-in-Securing-clause-does
-returns-in-Securing-clause-does g c =
-    let k = securing_call (slice_get c.args.self.now.calls.items c.args.who) (is_securing (slice_get c.args.self.now.calls.items c.args.who) (ap Some (sym c.in-Securing.is) ∙ c.stage.ensures)) in
-    goes_on g.P.Payload.same_as g.P.Payload.always_copies (record { forest = c.args.self.now.nodes; machines = c.args.self.now.machines.items; calls = c.args.self.now.calls.items; log = no_log }) c.args.who (sym c.is_registered.ensures.value ∙ c.if-not-is_registered.false) c.args.noise c.collection-in-Securing.result (record { forest = c.go_securing-turn-in-Securing.new.self.nodes; machines = c.go_securing-turn-in-Securing.new.self.machines.items; calls = c.go_securing-turn-in-Securing.new.self.calls.items; log = no_log }) (Securing k.0) k.1 refl
-    (record { turn = c.go_securing-turn-in-Securing.result; step = c.go_securing-turn-in-Securing.ensures; report = c.collection-in-Securing.ensures ∙ ap (collection c.go_securing-turn-in-Securing.result) c.reserving-in-Securing.ensures })
-
-pub returns-in-Walking-clause-does : goal.returns-in-Walking-clause-does
-returns-in-Walking-clause-does g c =
-    goes_on g.P.Payload.same_as g.P.Payload.always_copies (record { forest = c.args.self.now.nodes; machines = c.args.self.now.machines.items; calls = c.args.self.now.calls.items; log = no_log }) c.args.who (sym c.is_registered.ensures.value ∙ c.if-not-is_registered.false) c.args.noise c.go_point.result (record { forest = c.go_point.new.self.nodes; machines = c.go_point.new.self.machines.items; calls = c.go_point.new.self.calls.items; log = no_log }) Walking (is_walking (slice_get c.args.self.now.calls.items c.args.who) (ap Some (sym c.in-Walking.is) ∙ c.stage.ensures)) refl c.go_point.ensures.walks
+pub returns-else-is_walking-clause-does : goal.returns-else-is_walking-clause-does
+returns-else-is_walking-clause-does g c = c.go_other.ensures.does c.args.noise

@@ -24,16 +24,16 @@ start-requires-clause-idle g c = ap (λ xs. slice_get xs c.args.who) (ap (λ v. 
 pub start-requires-clause-may : goal.start-requires-clause-may
 start-requires-clause-may g c = free_may g.P.Payload.same_as g.P.Payload.always_copies c.args.self.now.nodes c.args.self.now.machines.items c.args.self.now.calls.items c.requires.intact c.args.who c.progress.ensures c.in-Securing.op c.in-Securing.ensures.taken c.collect-report.result c.collect-report.new.self.nodes (collected_at g.P.Payload.same_as g.P.Payload.always_copies c.take_call.new.self.nodes c.args.self.now.nodes c.collect-report.new.self.nodes c.take_call.new.self.machines.items c.args.self.now.machines.items c.args.who Go c.collect-report.result c.take_call.ensures.nodes (ap (λ v. v.items) c.take_call.ensures.machines) c.collect-report.ensures.collected) c.in-Done.is
 
-pub returns-in-Running : goal.returns-in-Running
-returns-in-Running g c =
+pub returns-in-Running-clause-secured : goal.returns-in-Running-clause-secured
+returns-in-Running-clause-secured g c =
     let x = secures_on g.P.Payload.same_as g.P.Payload.always_copies c.args.self.now.nodes c.args.self.now.machines.items c.args.self.now.calls.items c.requires.intact c.args.who c.progress.ensures c.in-Securing.op c.in-Securing.ensures.taken c.collect-report.result c.collect-report.new.self.nodes (collected_at g.P.Payload.same_as g.P.Payload.always_copies c.take_call.new.self.nodes c.args.self.now.nodes c.collect-report.new.self.nodes c.take_call.new.self.machines.items c.args.self.now.machines.items c.args.who Go c.collect-report.result c.take_call.ensures.nodes (ap (λ v. v.items) c.take_call.ensures.machines) c.collect-report.ensures.collected) c.in-Running.is c.set_call.new.self.machines.items c.set_call.new.self.calls.items (ap (λ v. v.items) c.set_call.ensures.machines ∙ (ap (λ v. v.items) (c.collect-report.ensures.machines ∙ c.take_call.ensures.machines))) (c.set_call.ensures.calls ∙ ap (λ xs. slice_set xs c.args.who (Securing c.in-Securing.op)) (ap (λ v. v.items) c.collect-report.ensures.calls ∙ c.take_call.ensures.calls)) in
     rw c.set_call.ensures.nodes x
 
-pub returns-in-Done : goal.returns-in-Done
-returns-in-Done g c =
+pub returns-in-Done-clause-secured : goal.returns-in-Done-clause-secured
+returns-in-Done-clause-secured g c =
     started_then g.P.Payload.same_as g.P.Payload.always_copies c.args.self.now.nodes c.args.self.now.machines.items c.args.self.now.calls.items c.requires.intact c.args.who c.progress.ensures c.in-Securing.op c.in-Securing.ensures.taken c.collect-report.result c.collect-report.new.self.nodes (collected_at g.P.Payload.same_as g.P.Payload.always_copies c.take_call.new.self.nodes c.args.self.now.nodes c.collect-report.new.self.nodes c.take_call.new.self.machines.items c.args.self.now.machines.items c.args.who Go c.collect-report.result c.take_call.ensures.nodes (ap (λ v. v.items) c.take_call.ensures.machines) c.collect-report.ensures.collected) c.in-Done.is c.start.new.self.nodes c.start.new.self.machines.items c.start.new.self.calls.items c.start.ensures.nodes
     (c.start.ensures.machines ∙ ap (λ xs. slice_set xs c.args.who (begun root c.in-Securing.op)) (ap (λ v. v.items) (c.collect-report.ensures.machines ∙ c.take_call.ensures.machines))) (c.start.ensures.calls ∙ ap (λ xs. slice_set xs c.args.who Walking) (ap (λ v. v.items) c.collect-report.ensures.calls ∙ c.take_call.ensures.calls)) c.start.ensures.intact
 
-pub returns-in-Refused : goal.returns-in-Refused
-returns-in-Refused g c =
+pub returns-in-Refused-clause-secured : goal.returns-in-Refused-clause-secured
+returns-in-Refused-clause-secured g c =
     refused_then g.P.Payload.same_as g.P.Payload.always_copies c.args.self.now.nodes c.args.self.now.machines.items c.args.self.now.calls.items c.requires.intact c.args.who c.progress.ensures c.in-Securing.op c.in-Securing.ensures.taken c.collect-report.result c.collect-report.new.self.nodes (collected_at g.P.Payload.same_as g.P.Payload.always_copies c.take_call.new.self.nodes c.args.self.now.nodes c.collect-report.new.self.nodes c.take_call.new.self.machines.items c.args.self.now.machines.items c.args.who Go c.collect-report.result c.take_call.ensures.nodes (ap (λ v. v.items) c.take_call.ensures.machines) c.collect-report.ensures.collected) c.in-Refused.field-0 c.in-Refused.is c.collect-report.new.self.machines.items c.collect-report.new.self.calls.items (ap (λ v. v.items) (c.collect-report.ensures.machines ∙ c.take_call.ensures.machines)) (ap (λ v. v.items) c.collect-report.ensures.calls ∙ c.take_call.ensures.calls)

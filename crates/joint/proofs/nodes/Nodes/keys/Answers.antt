@@ -1,16 +1,11 @@
-use Rattle.std.proofs.Common.{ℕ, ap, subst}
+use Rattle.std.proofs.Common.{List, subst}
 use Rattle.joint.specs.Forest.{nodes}
-use Rattle.joint.specs.Survey.{AreKeysBelow, bound_of}
+use Rattle.joint.specs.Survey.{PutsKeys}
 use Rattle.joint.proofs.lemmas.Keyed.{keys_are}
-use Rattle.joint.proofs.lemmas.Surveying.{keys_all}
+use Rattle.joint.proofs.lemmas.KeyWalks.{all_put, keys_all}
 use Rattle.joint.proofs.nodes.Nodes.keys.Goals as goal
 
 pub returns : goal.returns
 returns g c m st =
-    let P : ℕ → Type 0 = λ b. AreKeysBelow (nodes c.args.self.now) b c.loop-from.keys.items in
-    keys_are m c.loop-from.keys.items (keys_all (nodes c.args.self.now) c.loop-from.keys.items (subst P (ap bound_of c.in_default.is) c.loop-from.invariant) m st)
-
-pub loop-from-preserved : goal.loop-from-preserved
-loop-from-preserved g c =
-    let P : ℕ → Type 0 = λ b. AreKeysBelow (nodes c.args.self.now) b c.loop-from.keys.items in
-    c.in_ok-from.ensures.keys (subst P (ap bound_of c.in-Some.is) c.loop-from.invariant)
+    let P : List _ → Type 0 = λ ks. PutsKeys (nodes c.args.self.now) 0 ks c.keys_below.new.keys.items in
+    keys_are m c.keys_below.new.keys.items (keys_all m (nodes c.args.self.now) st c.keys_below.new.keys.items (all_put (nodes c.args.self.now) c.requires c.keys_below.new.keys.items (subst P c.in_ok-keys.ensures.items c.in_ok-keys_below.ensures) m st))

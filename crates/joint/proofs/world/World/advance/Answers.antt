@@ -1,11 +1,11 @@
-use Rattle.std.proofs.Common.{◌≡◌, ◌<◌, ℕ, false, refl, sym, ◌∙◌, ap, subst}
+use Rattle.std.proofs.Common.{◌≡◌, false, refl, sym, ◌∙◌, ap, subst}
 use Rattle.std.specs.Prelude.{◌&&◌, slice_get}
 use Rattle.joint.specs.declared.steps.Event.TheVariants.{Go}
 use Rattle.joint.specs.Intact.{is_reserving}
 use Rattle.joint.specs.Journaling.{entry_of, reply_by}
-use Rattle.joint.specs.Log.{is_full, heard_by, no_log, request_at}
+use Rattle.joint.specs.Log.{is_full, no_log, request_at}
 use Rattle.joint.specs.Whole.{Whole, IsStep}
-use Rattle.joint.proofs.lemmas.Advanced.{go_step, kept_by, none_full, recounted_same, room_by, went_by}
+use Rattle.joint.proofs.lemmas.Advanced.{go_step, kept_by, recounted_same, room_by, went_by}
 use Rattle.joint.proofs.lemmas.Logged.{raises}
 use Rattle.joint.proofs.world.World.advance.Goals as goal
 
@@ -13,40 +13,36 @@ pub recount-requires : goal.recount-requires
 recount-requires g c b a =
     let G : Whole g.row.P.Denot → Type 0 = λ s. (is_reserving (slice_get s.calls c.args.worker) && is_full s.log) ≡ false in
     let given = subst G (sym c.self.view_is) c.requires in
-    let P0 : ℕ → Type 0 = λ n. 0 < n in
-    let kept : 0 < c.self.inside.log.places → 0 < c.hear.new.log.places = λ p. subst P0 (sym (ap (λ l. l.places) c.hear.ensures.left)) p in
     ap is_full c.hear.ensures.left
-    ∙ none_full g.P.Payload.same_as g.P.Payload.always_copies c.self.inside.log (λ p. raises g.P.Payload.same_as g.P.Payload.always_copies (record { forest = c.self.inside.engine.nodes; machines = c.self.inside.engine.machines.items; calls = c.self.inside.engine.calls.items; log = c.self.inside.log }) (record { forest = c.step-told.new.self.nodes; machines = c.step-told.new.self.machines.items; calls = c.step-told.new.self.calls.items; log = no_log }) (record { worker = c.args.worker; event = Go c.args.noise }) c.step-told.result c.self.invariant c.step-told.ensures given (sym (c.has_place-before.ensures (kept p)) ∙ b) (sym (c.has_place-after.ensures (kept p)) ∙ a))
+    ∙ raises g.P.Payload.same_as g.P.Payload.always_copies (record { forest = c.self.inside.engine.nodes; machines = c.self.inside.engine.machines.items; calls = c.self.inside.engine.calls.items; log = c.self.inside.log }) (record { forest = c.step_on-told.new.self.nodes; machines = c.step_on-told.new.self.machines.items; calls = c.step_on-told.new.self.calls.items; log = no_log }) (record { worker = c.args.worker; event = Go c.args.noise }) c.step_on-told.result c.self.invariant.0 c.step_on-told.ensures.step given (sym c.has_place-before.ensures ∙ b) (sym c.has_place-after.ensures ∙ a)
 
 pub invariant_of-self : goal.invariant_of-self
 invariant_of-self g c =
     let G : Whole g.row.P.Denot → Type 0 = λ s. (is_reserving (slice_get s.calls c.args.worker) && is_full s.log) ≡ false in
     let given = subst G (sym c.self.view_is) c.requires in
-    let P0 : ℕ → Type 0 = λ n. 0 < n in
-    let kept : 0 < c.self.inside.log.places → 0 < c.hear.new.log.places = λ p. subst P0 (sym (ap (λ l. l.places) c.hear.ensures.left)) p in
-    let counts = recounted_same g.P.Payload.same_as g.P.Payload.always_copies c.self.inside.log.places c.has_place-before.result c.has_place-after.result _ _ c.self.inside.log.reserved (λ p. c.has_place-before.ensures (kept p)) (λ p. c.has_place-after.ensures (kept p)) in
-    let room = room_by g.P.Payload.same_as g.P.Payload.always_copies c.self.inside.log c.hear.new.log c.recount.new.self c.args.worker (request_at c.hear.new.log.requests c.args.worker) c.has_place-before.result c.has_place-after.result _ _ c.hear.ensures.left c.recount.ensures counts in
-    (go_step g.P.Payload.same_as g.P.Payload.always_copies (record { forest = c.self.inside.engine.nodes; machines = c.self.inside.engine.machines.items; calls = c.self.inside.engine.calls.items; log = c.self.inside.log }) (record { forest = c.step-told.new.self.nodes; machines = c.step-told.new.self.machines.items; calls = c.step-told.new.self.calls.items; log = c.note.new.log }) c.args.worker c.args.noise (request_at c.hear.new.log.requests c.args.worker) c.entry-entry.result c.step-told.result (record c.step-told.result { kept = c.keep.result }) c.self.invariant c.step-told.ensures given
-    (λ a. c.hear.ensures.heard a ∙ ap (λ b. heard_by b c.args.noise.answer (request_at c.self.inside.log.requests c.args.worker)) c.asks.ensures)
-    (went_by g.P.Payload.same_as g.P.Payload.always_copies c.self.inside.log c.hear.new.log c.recount.new.self c.keep.new.log c.note.new.log c.args.worker c.has_place-before.result c.has_place-after.result _ _ c.step-told.result.decided c.entry-entry.result c.is_in_flight.result _ (request_at c.hear.new.log.requests c.args.worker)
-    c.hear.ensures.left c.recount.ensures counts c.keep.ensures.log c.note.ensures c.is_in_flight.ensures)
-    (λ a d r. c.entry-entry.ensures a d (room ∙ r) ∙ ap (λ l. entry_of c.args.worker (request_at l.requests c.args.worker) (reply_by c.step-told.result.outcome (slice_get c.step-told.new.self.machines.items c.args.worker))) c.recount.ensures)
-    (kept_by g.P.Payload.same_as g.P.Payload.always_copies c.self.inside.log c.hear.new.log c.recount.new.self c.args.worker (request_at c.hear.new.log.requests c.args.worker) c.has_place-before.result c.has_place-after.result _ _ c.step-told.result.decided c.keep.result c.entry-entry.result c.step-told.result (record c.step-told.result { kept = c.keep.result })
-    c.hear.ensures.left c.recount.ensures counts c.keep.ensures.kept refl)).holds
+    let counts = recounted_same g.P.Payload.same_as g.P.Payload.always_copies c.self.inside.log.places c.has_place-before.result c.has_place-after.result _ _ c.self.inside.log.reserved c.has_place-before.ensures c.has_place-after.ensures in
+    let room = room_by g.P.Payload.same_as g.P.Payload.always_copies c.self.inside.log c.hear.new.log c.recount.new.self c.args.worker (request_at c.hear.new.log.requests c.args.worker) c.has_place-before.result c.has_place-after.result _ _ c.hear.ensures.left c.recount.ensures counts in (
+      (go_step g.P.Payload.same_as g.P.Payload.always_copies (record { forest = c.self.inside.engine.nodes; machines = c.self.inside.engine.machines.items; calls = c.self.inside.engine.calls.items; log = c.self.inside.log }) (record { forest = c.step_on-told.new.self.nodes; machines = c.step_on-told.new.self.machines.items; calls = c.step_on-told.new.self.calls.items; log = c.note.new.log }) c.args.worker c.args.noise (request_at c.hear.new.log.requests c.args.worker) c.keep.ensures.0 c.step_on-told.result (record c.step_on-told.result { kept = c.keep.result }) c.self.invariant.0 c.step_on-told.ensures.step given
+          (λ a. c.hear.ensures.heard a ∙ c.takes_answer-asks.ensures (request_at c.self.inside.log.requests c.args.worker))
+          (went_by g.P.Payload.same_as g.P.Payload.always_copies c.self.inside.log c.hear.new.log c.recount.new.self c.keep.new.log c.note.new.log c.args.worker c.has_place-before.result c.has_place-after.result _ _ c.step_on-told.result.decided c.keep.ensures.0 c.is_in_flight.result _ (request_at c.hear.new.log.requests c.args.worker)
+          c.hear.ensures.left c.recount.ensures counts c.keep.ensures.1.1.1 c.note.ensures c.is_in_flight.ensures)
+          (λ a d r. c.keep.ensures.1.0 a d (room ∙ r) ∙ ap (λ l. entry_of c.args.worker (request_at l.requests c.args.worker) (reply_by c.step_on-told.result.outcome (slice_get c.step_on-told.new.self.machines.items c.args.worker))) c.recount.ensures)
+          (kept_by g.P.Payload.same_as g.P.Payload.always_copies c.self.inside.log c.hear.new.log c.recount.new.self c.args.worker (request_at c.hear.new.log.requests c.args.worker) c.has_place-before.result c.has_place-after.result _ _ c.step_on-told.result.decided c.keep.result c.keep.ensures.0 c.step_on-told.result (record c.step_on-told.result { kept = c.keep.result })
+          c.hear.ensures.left c.recount.ensures counts c.keep.ensures.1.1.0 refl)).holds,
+      c.step_on-told.ensures.counted,
+    )
 
 pub returns : goal.returns
 returns g c =
     let G : Whole g.row.P.Denot → Type 0 = λ s. (is_reserving (slice_get s.calls c.args.worker) && is_full s.log) ≡ false in
     let given = subst G (sym c.self.view_is) c.requires in
-    let P0 : ℕ → Type 0 = λ n. 0 < n in
-    let kept : 0 < c.self.inside.log.places → 0 < c.hear.new.log.places = λ p. subst P0 (sym (ap (λ l. l.places) c.hear.ensures.left)) p in
-    let counts = recounted_same g.P.Payload.same_as g.P.Payload.always_copies c.self.inside.log.places c.has_place-before.result c.has_place-after.result _ _ c.self.inside.log.reserved (λ p. c.has_place-before.ensures (kept p)) (λ p. c.has_place-after.ensures (kept p)) in
+    let counts = recounted_same g.P.Payload.same_as g.P.Payload.always_copies c.self.inside.log.places c.has_place-before.result c.has_place-after.result _ _ c.self.inside.log.reserved c.has_place-before.ensures c.has_place-after.ensures in
     let room = room_by g.P.Payload.same_as g.P.Payload.always_copies c.self.inside.log c.hear.new.log c.recount.new.self c.args.worker (request_at c.hear.new.log.requests c.args.worker) c.has_place-before.result c.has_place-after.result _ _ c.hear.ensures.left c.recount.ensures counts in
-    let P : Whole g.row.P.Denot → Type 0 = λ s. IsStep g.P.Payload.same_as g.P.Payload.always_copies s (record { worker = c.args.worker; event = Go c.args.noise }) (record c.step-told.result { kept = c.keep.result }) (record { forest = c.step-told.new.self.nodes; machines = c.step-told.new.self.machines.items; calls = c.step-told.new.self.calls.items; log = c.note.new.log }) in
-    subst P c.self.view_is (go_step g.P.Payload.same_as g.P.Payload.always_copies (record { forest = c.self.inside.engine.nodes; machines = c.self.inside.engine.machines.items; calls = c.self.inside.engine.calls.items; log = c.self.inside.log }) (record { forest = c.step-told.new.self.nodes; machines = c.step-told.new.self.machines.items; calls = c.step-told.new.self.calls.items; log = c.note.new.log }) c.args.worker c.args.noise (request_at c.hear.new.log.requests c.args.worker) c.entry-entry.result c.step-told.result (record c.step-told.result { kept = c.keep.result }) c.self.invariant c.step-told.ensures given
-    (λ a. c.hear.ensures.heard a ∙ ap (λ b. heard_by b c.args.noise.answer (request_at c.self.inside.log.requests c.args.worker)) c.asks.ensures)
-    (went_by g.P.Payload.same_as g.P.Payload.always_copies c.self.inside.log c.hear.new.log c.recount.new.self c.keep.new.log c.note.new.log c.args.worker c.has_place-before.result c.has_place-after.result _ _ c.step-told.result.decided c.entry-entry.result c.is_in_flight.result _ (request_at c.hear.new.log.requests c.args.worker)
-    c.hear.ensures.left c.recount.ensures counts c.keep.ensures.log c.note.ensures c.is_in_flight.ensures)
-    (λ a d r. c.entry-entry.ensures a d (room ∙ r) ∙ ap (λ l. entry_of c.args.worker (request_at l.requests c.args.worker) (reply_by c.step-told.result.outcome (slice_get c.step-told.new.self.machines.items c.args.worker))) c.recount.ensures)
-    (kept_by g.P.Payload.same_as g.P.Payload.always_copies c.self.inside.log c.hear.new.log c.recount.new.self c.args.worker (request_at c.hear.new.log.requests c.args.worker) c.has_place-before.result c.has_place-after.result _ _ c.step-told.result.decided c.keep.result c.entry-entry.result c.step-told.result (record c.step-told.result { kept = c.keep.result })
-    c.hear.ensures.left c.recount.ensures counts c.keep.ensures.kept refl))
+    let P : Whole g.row.P.Denot → Type 0 = λ s. IsStep g.P.Payload.same_as g.P.Payload.always_copies s (record { worker = c.args.worker; event = Go c.args.noise }) (record c.step_on-told.result { kept = c.keep.result }) (record { forest = c.step_on-told.new.self.nodes; machines = c.step_on-told.new.self.machines.items; calls = c.step_on-told.new.self.calls.items; log = c.note.new.log }) in
+    subst P c.self.view_is (go_step g.P.Payload.same_as g.P.Payload.always_copies (record { forest = c.self.inside.engine.nodes; machines = c.self.inside.engine.machines.items; calls = c.self.inside.engine.calls.items; log = c.self.inside.log }) (record { forest = c.step_on-told.new.self.nodes; machines = c.step_on-told.new.self.machines.items; calls = c.step_on-told.new.self.calls.items; log = c.note.new.log }) c.args.worker c.args.noise (request_at c.hear.new.log.requests c.args.worker) c.keep.ensures.0 c.step_on-told.result (record c.step_on-told.result { kept = c.keep.result }) c.self.invariant.0 c.step_on-told.ensures.step given
+    (λ a. c.hear.ensures.heard a ∙ c.takes_answer-asks.ensures (request_at c.self.inside.log.requests c.args.worker))
+    (went_by g.P.Payload.same_as g.P.Payload.always_copies c.self.inside.log c.hear.new.log c.recount.new.self c.keep.new.log c.note.new.log c.args.worker c.has_place-before.result c.has_place-after.result _ _ c.step_on-told.result.decided c.keep.ensures.0 c.is_in_flight.result _ (request_at c.hear.new.log.requests c.args.worker)
+    c.hear.ensures.left c.recount.ensures counts c.keep.ensures.1.1.1 c.note.ensures c.is_in_flight.ensures)
+    (λ a d r. c.keep.ensures.1.0 a d (room ∙ r) ∙ ap (λ l. entry_of c.args.worker (request_at l.requests c.args.worker) (reply_by c.step_on-told.result.outcome (slice_get c.step_on-told.new.self.machines.items c.args.worker))) c.recount.ensures)
+    (kept_by g.P.Payload.same_as g.P.Payload.always_copies c.self.inside.log c.hear.new.log c.recount.new.self c.args.worker (request_at c.hear.new.log.requests c.args.worker) c.has_place-before.result c.has_place-after.result _ _ c.step_on-told.result.decided c.keep.result c.keep.ensures.0 c.step_on-told.result (record c.step_on-told.result { kept = c.keep.result })
+    c.hear.ensures.left c.recount.ensures counts c.keep.ensures.1.1.0 refl))

@@ -7,6 +7,7 @@ use Rattle.joint.specs.Intact.{is_reserving}
 use Rattle.joint.specs.Log.{is_full}
 use Rattle.joint.specs.Whole.{Whole, IsStep}
 use Rattle.joint.proofs.lemmas.Advanced.{and_left, and_right, give_up_step}
+use Rattle.joint.proofs.lemmas.Counted.{counted_at}
 use Rattle.joint.proofs.world.World.give_up.Goals as goal
 
 pub invariant_of-self : goal.invariant_of-self
@@ -15,14 +16,16 @@ invariant_of-self g c =
     let given = subst G (sym c.self.view_is) c.requires in
     let left = and_left g.P.Payload.same_as g.P.Payload.always_copies _ _ given in
     let right = and_right g.P.Payload.same_as g.P.Payload.always_copies _ _ given in
-    let C : Forest g.row.P.Denot → Type 0 = λ y. IsCharged y in
-    (give_up_step g.P.Payload.same_as g.P.Payload.always_copies (record { forest = c.self.inside.engine.nodes; machines = c.self.inside.engine.machines.items; calls = c.self.inside.engine.calls.items; log = c.self.inside.log }) (record { forest = c.abandon.new.self.nodes; machines = c.abandon.new.self.machines.items; calls = c.abandon.new.self.calls.items; log = c.note.new.log }) c.args.who (record { fail = false; seen = None; answer = None }) c.refused.result c.self.invariant left right
-    (c.abandon.ensures.intact, subst C (sym c.abandon.ensures.nodes) c.self.invariant.1)
-    (ap (λ y. record { forest = y; machines = c.abandon.new.self.machines.items; calls = c.abandon.new.self.calls.items; log = c.note.new.log }) c.abandon.ensures.nodes
-    ∙ ap (λ v. record { forest = c.self.inside.engine.nodes; machines = v.items; calls = c.abandon.new.self.calls.items; log = c.note.new.log }) c.abandon.ensures.machines
-    ∙ ap (λ y. record { forest = c.self.inside.engine.nodes; machines = c.self.inside.engine.machines.items; calls = y; log = c.note.new.log }) c.abandon.ensures.calls
-    ∙ ap (λ y. record { forest = c.self.inside.engine.nodes; machines = c.self.inside.engine.machines.items; calls = slice_set c.self.inside.engine.calls.items c.args.who Idle; log = y }) c.note.ensures)
-    c.refused.ensures).holds
+    let C : Forest g.row.P.Denot → Type 0 = λ y. IsCharged y in (
+      (give_up_step g.P.Payload.same_as g.P.Payload.always_copies (record { forest = c.self.inside.engine.nodes; machines = c.self.inside.engine.machines.items; calls = c.self.inside.engine.calls.items; log = c.self.inside.log }) (record { forest = c.abandon.new.self.nodes; machines = c.abandon.new.self.machines.items; calls = c.abandon.new.self.calls.items; log = c.note.new.log }) c.args.who (record { fail = false; seen = None; answer = None }) c.refused.result c.self.invariant.0 left right
+          (c.abandon.ensures.intact, subst C (sym c.abandon.ensures.nodes) c.self.invariant.0.1)
+          (ap (λ y. record { forest = y; machines = c.abandon.new.self.machines.items; calls = c.abandon.new.self.calls.items; log = c.note.new.log }) c.abandon.ensures.nodes
+          ∙ ap (λ v. record { forest = c.self.inside.engine.nodes; machines = v.items; calls = c.abandon.new.self.calls.items; log = c.note.new.log }) c.abandon.ensures.machines
+          ∙ ap (λ y. record { forest = c.self.inside.engine.nodes; machines = c.self.inside.engine.machines.items; calls = y; log = c.note.new.log }) c.abandon.ensures.calls
+          ∙ ap (λ y. record { forest = c.self.inside.engine.nodes; machines = c.self.inside.engine.machines.items; calls = slice_set c.self.inside.engine.calls.items c.args.who Idle; log = y }) c.note.ensures)
+          c.refused.ensures).holds,
+      counted_at _ _ _ _ _ _ c.abandon.ensures.census c.abandon.ensures.nodes (ap (λ v. v.items) c.abandon.ensures.machines) c.self.invariant.1,
+    )
 
 pub returns : goal.returns
 returns g c noise =
@@ -32,8 +35,8 @@ returns g c noise =
     let right = and_right g.P.Payload.same_as g.P.Payload.always_copies _ _ given in
     let C : Forest g.row.P.Denot → Type 0 = λ y. IsCharged y in
     let P : Whole g.row.P.Denot → Type 0 = λ s. IsStep g.P.Payload.same_as g.P.Payload.always_copies s (record { worker = c.args.who; event = Go noise }) c.refused.result (record { forest = c.abandon.new.self.nodes; machines = c.abandon.new.self.machines.items; calls = c.abandon.new.self.calls.items; log = c.note.new.log }) in
-    subst P c.self.view_is (give_up_step g.P.Payload.same_as g.P.Payload.always_copies (record { forest = c.self.inside.engine.nodes; machines = c.self.inside.engine.machines.items; calls = c.self.inside.engine.calls.items; log = c.self.inside.log }) (record { forest = c.abandon.new.self.nodes; machines = c.abandon.new.self.machines.items; calls = c.abandon.new.self.calls.items; log = c.note.new.log }) c.args.who noise c.refused.result c.self.invariant left right
-    (c.abandon.ensures.intact, subst C (sym c.abandon.ensures.nodes) c.self.invariant.1)
+    subst P c.self.view_is (give_up_step g.P.Payload.same_as g.P.Payload.always_copies (record { forest = c.self.inside.engine.nodes; machines = c.self.inside.engine.machines.items; calls = c.self.inside.engine.calls.items; log = c.self.inside.log }) (record { forest = c.abandon.new.self.nodes; machines = c.abandon.new.self.machines.items; calls = c.abandon.new.self.calls.items; log = c.note.new.log }) c.args.who noise c.refused.result c.self.invariant.0 left right
+    (c.abandon.ensures.intact, subst C (sym c.abandon.ensures.nodes) c.self.invariant.0.1)
     (ap (λ y. record { forest = y; machines = c.abandon.new.self.machines.items; calls = c.abandon.new.self.calls.items; log = c.note.new.log }) c.abandon.ensures.nodes
     ∙ ap (λ v. record { forest = c.self.inside.engine.nodes; machines = v.items; calls = c.abandon.new.self.calls.items; log = c.note.new.log }) c.abandon.ensures.machines
     ∙ ap (λ y. record { forest = c.self.inside.engine.nodes; machines = c.self.inside.engine.machines.items; calls = y; log = c.note.new.log }) c.abandon.ensures.calls

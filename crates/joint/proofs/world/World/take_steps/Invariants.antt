@@ -1,8 +1,8 @@
-use Rattle.joint.proofs.lemmas.Calling.{Calling}
+use Rattle.joint.proofs.lemmas.Calling.{Going}
 use Rattle.joint.proofs.world.World.take_steps.Given as goal
 
 abbrev pub invariant-loop-left : goal.invariant-loop-left
-invariant-loop-left g l = Calling g.P.Payload.same_as g.P.Payload.always_copies l.fn.self l.fn.who l.fn.op l.fn.most l.left l.fn.found l.report l.found l.self
+invariant-loop-left g l = Going g.P.Payload.same_as g.P.Payload.always_copies l.fn.self l.fn.who l.fn.op l.fn.most l.left l.fn.found l.found l.self
 
 abbrev pub decreases-loop-left : goal.decreases-loop-left
 decreases-loop-left g l = l.left

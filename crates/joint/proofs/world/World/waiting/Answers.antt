@@ -5,4 +5,4 @@ use Rattle.joint.proofs.world.World.waiting.Goals as goal
 pub returns-clause-listed : goal.returns-clause-listed
 returns-clause-listed g c =
     let P : Whole g.row.P.Denot → Type 0 = λ s. Holds g.P.Payload.same_as g.P.Payload.always_copies s in
-    c.waits.ensures c.args.self.now (subst P c.self.view_is c.self.invariant)
+    c.waits.ensures c.args.self.now (subst P c.self.view_is c.self.invariant.0)
