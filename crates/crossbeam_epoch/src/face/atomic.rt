@@ -17,8 +17,8 @@ use crate::task::Task;
 use std::alloc::Global;
 use std::fmt;
 use std::fmt::{Debug, Formatter};
-use std::sync::atomic::Ordering;
 use std::sync::Wait;
+use std::sync::atomic::Ordering;
 
 /// A pointer that threads share, to a value in a cell of a collector (the source's `Atomic`).
 /// Each call is one step on it, whatever the ordering, and takes no lock while the pointer leads to one collector; an

@@ -190,7 +190,11 @@ impl<T: Pointable> AtomicLink<T> {
                 continue;
             };
             *held = Tagged::new(link);
-            if self.word.compare_exchange(word, AWAY, SeqCst, SeqCst).is_ok() {
+            if self
+                .word
+                .compare_exchange(word, AWAY, SeqCst, SeqCst)
+                .is_ok()
+            {
                 return;
             }
         }
@@ -220,7 +224,9 @@ fn pack_at(home: &OnceLock<u64>, link: Link) -> Option<u64>
     ensures word { IfSome result (λ w. (h : _) × Says h w link) }
     ensures tag { IfSome result (λ w. w % 256 ≡ link.tag) }
 {
-    if let Some(site) = link.site && home.get().is_none() {
+    if let Some(site) = link.site
+        && home.get().is_none()
+    {
         let _ = home.try_set(site.collector);
     }
     pack(link, home.get().copied())

@@ -211,13 +211,7 @@ impl<T: Drop, J: Task> Collector<T, J> {
     }
 
     /// Goes on with a collection that called the first bag, if there was one: with one hold of the lock for each other bag.
-    fn call_others<R: Wait>(
-        &self,
-        rt: &R,
-        token: &Token,
-        seen: u64,
-        first: Collected,
-    ) -> Collected
+    fn call_others<R: Wait>(&self, rt: &R, token: &Token, seen: u64, first: Collected) -> Collected
         requires seen { (known token.now).seen ≡ seen }
         requires first { IsDue seen first.newest × IsTaken seen 1 first }
         ensures { IsDue seen result.newest × TakesAll seen result }

@@ -24,10 +24,10 @@ use crate::face::shared::Shared;
 use crate::fault::Fault;
 use crate::names::{Name, Pointable};
 use crate::task::{Job, Task};
+use std::fmt;
 use std::fmt::{Debug, Formatter};
 use std::marker::Model;
 use std::sync::Wait;
-use std::fmt;
 
 /// A participant of a collector (the source's `LocalHandle`). It keeps the jobs that it defers until its bag is full.
 /// A handle that is dropped stays registered, and its unsealed jobs are never called: `release` it.
@@ -389,7 +389,10 @@ impl<'c, T: Drop, J: Task> LocalHandle<'c, T, J> {
             return Ok(());
         }
         let seal = self.look();
-        match self.collector.flush(rt, &mut self.token, seal, &mut self.bag) {
+        match self
+            .collector
+            .flush(rt, &mut self.token, seal, &mut self.bag)
+        {
             Some((queued, called)) => {
                 let queued = Some(queued);
                 self.seals = Seals { queued, called };

@@ -6,8 +6,7 @@ use Rattle.crossbeam_epoch.proofs.face.handle.LocalHandle.flush.Goals as goal
 pub returns-then-is_empty-clause-ok : goal.returns-then-is_empty-clause-ok
 returns-then-is_empty-clause-ok g c =
     let same = c.collect.ensures.same in
-    let empty = no_job _ _ c.is_empty.ensures c.if-is_empty.true in
-    (
+    let empty = no_job _ _ c.is_empty.ensures c.if-is_empty.true in (
       sym c.owns.ensures.value ∙ c.if-not-owns.false,
       ap (λ h. h.bag) same ∙ (sym (ap (λ h. h.bag) c.self.view_is) ∙ empty),
       same,
