@@ -21,7 +21,7 @@ use crate::forms::base_node::NodeType;
 use crate::forms::prefix::MAX_PREFIX_LEN;
 use crate::keys::KEY_BYTES;
 use crate::owned::arena::{Arena, Stored};
-use crate::owned::nodes::Name;
+use crate::owned::names::Name;
 use std::alloc::Global;
 
 /// A node that was hung over another, and the byte under which that one hangs in it.

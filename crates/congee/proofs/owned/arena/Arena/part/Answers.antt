@@ -1,5 +1,4 @@
-use Rattle.std.proofs.Common.{◌≡◌, refl, sym, ap, subst, ◌∙◌, arith}
-use Rattle.slab.specs.Slab.{get}
+use Rattle.std.proofs.Common.{sym, ap, ◌∙◌, arith}
 use Rattle.congee.specs.Heap.{fits}
 use Rattle.congee.proofs.lemmas.owned.Hangings.{unfolded, above_inner, child_inline, hosts_inner, hosts_child}
 use Rattle.congee.proofs.lemmas.owned.Renaming.{renamed, renamed_change, change_renamed}
