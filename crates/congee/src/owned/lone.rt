@@ -1,5 +1,5 @@
 //! A leaf with one value, and its key.
-ghost use Rattle.std.specs.Prelude.{◌≡◌, ◌/◌, ◌<◌, ℕ, length, true, take, slice_index};
+ghost use Rattle.std.specs.Prelude.{◌≡◌, ◌<◌, ℕ, length, true, take, slice_index};
 ghost use Rattle.congee.specs.Heap.{fits};
 ghost use Rattle.congee.specs.Keys.{key_bytes};
 ghost use Rattle.congee.specs.declared.keys.TheConstants.{KEY_BYTES};

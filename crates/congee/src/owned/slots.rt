@@ -1,5 +1,5 @@
 //! The nodes with slots of their own, inner ones and leaves.
-ghost use Rattle.std.specs.Prelude.{◌≡◌, ◌/◌, ◌<◌, ◌≤◌, length, Some, None, false, IsSome, OnOk, OnErr};
+ghost use Rattle.std.specs.Prelude.{◌≡◌, ◌≤◌, length, Some, None, false, IsSome, OnOk, OnErr};
 ghost use Rattle.std.specs.FinMap as map;
 ghost use Rattle.congee.specs.Heap.{fits};
 ghost use Rattle.congee.specs.declared.keys.TheConstants.{KEY_BYTES};
