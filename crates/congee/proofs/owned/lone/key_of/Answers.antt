@@ -1,7 +1,7 @@
 use Rattle.std.proofs.Common.{get_or, ap, ◌∙◌, arith}
 use Rattle.congee.specs.Keys.{key_bytes}
 use Rattle.congee.proofs.lemmas.forms.Prefixes.{fits_every}
-use Rattle.congee.proofs.owned.nodes.key_of.Goals as goal
+use Rattle.congee.proofs.owned.lone.key_of.Goals as goal
 
 pub returns-clause-begins : goal.returns-clause-begins
 returns-clause-begins c =
