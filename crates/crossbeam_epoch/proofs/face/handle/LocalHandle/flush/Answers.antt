@@ -9,7 +9,7 @@ returns-then-is_empty-clause-ok g c =
     let empty = no_job _ _ c.is_empty.ensures c.if-is_empty.true in (
       sym c.owns.ensures.value ∙ c.if-not-owns.false,
       ap (λ h. h.bag) same ∙ (sym (ap (λ h. h.bag) c.self.view_is) ∙ empty),
-      same,
+      same ∙ ap (λ h. record c.args.self.now { bag = h.bag; seals = h.seals; knows = c.collect.new.self.knows }) (sym same),
     )
 
 pub returns-then-is_empty-clause-saw : goal.returns-then-is_empty-clause-saw
