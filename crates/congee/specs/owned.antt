@@ -6,6 +6,8 @@ pub mod Content
 pub mod Cursor
 pub mod Drained
 pub mod Edits
+pub mod Entries
+pub mod EntryRoom
 pub mod Kinds
 pub mod Levels
 pub mod Owned

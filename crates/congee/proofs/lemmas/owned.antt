@@ -5,6 +5,7 @@ pub mod Contents
 pub mod Cursors
 pub mod Drains
 pub mod Edits
+pub mod Entering
 pub mod Filled
 pub mod Folding
 pub mod Freeing
@@ -14,6 +15,7 @@ pub mod OwnerLemmas
 pub mod Walks
 pub mod Puts
 pub mod RangeLemmas
+pub mod Refilling
 pub mod Renaming
 pub mod Rooms
 pub mod Root

@@ -51,7 +51,7 @@ impl<P: Stored, A: Allocator> Arena<P, A> {
         requires { ContainsKey self.now.nodes at }
         ensures { result ≡ slice_index key.now (length (heap_of self.now.nodes at).prefix) }
     {
-        key[self.nodes.prefix(at).len()]
+        key[self.nodes.prefix_len(at)]
     }
 
     /// Puts another value in the place of the key's.
@@ -227,9 +227,7 @@ impl<P: Stored, A: Allocator> Arena<P, A> {
         ensures same { get self.new.nodes below ≡ get self.old.nodes below }
         ensures allocator { self.new.allocator ≡ self.old.allocator }
     {
-        let prefix = self.nodes.prefix(below);
-        let common = first_apart(key, prefix);
-        let other = prefix[common];
+        let (common, other) = self.nodes.parting(below, key);
         let over = self.nodes.make(&key[..common]);
         self.nodes.hang_leaf(over, key[common], key, value);
         self.nodes.hang_node(over, other, below);

@@ -148,7 +148,7 @@ impl<P: Stored> Nodes<P> {
         match at.byte {
             None => self.slab[at.slot].change_value(byte, value),
             Some(place) => {
-                let key = self.lone(at.slot, place).key;
+                let (key, _) = self.lone(at.slot, place);
                 match self.slab[at.slot].change_child(place, Child::Value(Lone { key, value })) {
                     Child::Value(lone) => {
                         let Lone { key: _, value } = lone;
@@ -187,7 +187,7 @@ impl<P: Stored> Nodes<P> {
     {
         let parent = &self.slab[at.slot];
         prove!(parent.len() <= parent.node_type().capacity());
-        let key = parent.lone(byte).key;
+        let (key, _) = parent.lone(byte);
         let value = self.unhang_leaf(at, byte);
         let leaf = self.make_leaf(&key, value);
         self.hang_node(at, byte, leaf);

@@ -10,7 +10,8 @@ use crate::forms::child::Child;
 use crate::forms::prefix::MAX_PREFIX_LEN;
 use crate::keys::{KEY_BYTES, key_of_bytes};
 use crate::owned::arena::Stored;
-use crate::owned::lone::{Lone, key_of};
+use crate::owned::entries::Hung;
+use crate::owned::lone::{key_of, leads};
 use crate::owned::names::Name;
 use crate::owned::nodes::Nodes;
 use crate::owned::place::{Found, Way};
@@ -27,9 +28,9 @@ impl<P: Stored> Nodes<P> {
     ghost use Rattle.congee.specs.declared.forms.base_node.Node.{Node as Form};
     ghost use Rattle.congee.specs.declared.forms.child.Child.TheVariants.{Value};
 
-    /// The leaf with one value under a byte of an inner node.
+    // The leaf with one value under a byte of an inner node.
     #[inline(always)]
-    pub(crate) fn lone(&self, slot: usize, byte: u8) -> &Lone<P>
+    pub(crate) fn lone(&self, slot: usize, byte: u8) -> ([u8; KEY_BYTES], &P)
         requires { ContainsKey self.now (257 * slot + (byte + 1)) }
         ensures { get self.now (257 * slot + (byte + 1)) ≡ Some (lone_node result.now) }
     {
@@ -55,9 +56,9 @@ impl<P: Stored> Nodes<P> {
         requires { ContainsKey self.now (257 * slot + (byte + 1)) }
         ensures { Leads self.now key.now (257 * slot + (byte + 1)) result }
     {
-        let lone = self.lone(slot, byte);
-        if lone.key[MAX_PREFIX_LEN] == key[MAX_PREFIX_LEN] {
-            Way::Held(&lone.value)
+        let (other, value) = self.lone(slot, byte);
+        if other[MAX_PREFIX_LEN] == key[MAX_PREFIX_LEN] {
+            Way::Held(value)
         } else {
             Way::Free
         }
@@ -75,11 +76,11 @@ impl<P: Stored> Nodes<P> {
                 let byte = key[n.prefix().len()];
                 match n.get_child(byte) {
                     None => Way::Free,
-                    Some(Child::Blank) => unreachable!(),
-                    Some(Child::Node(below)) => self.turn(*below, key),
-                    Some(Child::Value(lone)) => {
+                    Some(Hung::Blank) => unreachable!(),
+                    Some(Hung::Node(below)) => self.turn(below, key),
+                    Some(Hung::Leaf(leaf)) => {
                         let name = Name::inline(slot, byte);
-                        if lone.leads(key) {
+                        if leads(&leaf.key, key) {
                             Way::Below(name)
                         } else {
                             Way::Apart(name)
@@ -132,10 +133,10 @@ impl<P: Stored> Nodes<P> {
             (λ r. IsFirst (children_of x) from r.0 (child_now r.1)) }
         ensures leaf { IfSome result (λ r. LeafStands self.now r.1) }
     {
-        let lone = self.lone(slot, byte);
-        let last = lone.key[MAX_PREFIX_LEN];
+        let (key, value) = self.lone(slot, byte);
+        let last = key[MAX_PREFIX_LEN];
         if from <= last as usize {
-            Some((last, Found::Value(&lone.value)))
+            Some((last, Found::Value(value)))
         } else {
             None
         }
@@ -153,14 +154,11 @@ impl<P: Stored> Nodes<P> {
         match &self.slab[slot] {
             Slot::Inner(n) => match n.first_from(from) {
                 None => None,
-                Some((byte, Child::Blank)) => Some((byte, Found::Blank)),
-                Some((byte, Child::Node(below))) => Some((byte, Found::Node(Name::of(*below)))),
-                Some((byte, Child::Value(lone))) => {
+                Some((byte, Hung::Blank)) => Some((byte, Found::Blank)),
+                Some((byte, Hung::Node(below))) => Some((byte, Found::Node(Name::of(below)))),
+                Some((byte, Hung::Leaf(leaf))) => {
                     let name = Name::inline(slot, byte);
-                    Some((
-                        byte,
-                        Found::Leaf(name, key_of_bytes(&lone.key), &lone.value),
-                    ))
+                    Some((byte, Found::Leaf(name, key_of_bytes(&leaf.key), leaf.value)))
                 }
             },
             Slot::Leaf(n) => match n.first_from(from) {
@@ -179,7 +177,10 @@ impl<P: Stored> Nodes<P> {
         ensures { Sees self.now at result }
     {
         match at.byte {
-            Some(byte) => Sight::Inline(self.lone(at.slot, byte)),
+            Some(byte) => {
+                let (key, value) = self.lone(at.slot, byte);
+                Sight::Inline(key, value)
+            }
             None => match &self.slab[at.slot] {
                 Slot::Inner(n) => Sight::Inner(at.slot, n),
                 Slot::Leaf(n) => Sight::Leaf(key_of(n.prefix(), 0), n),

@@ -6,12 +6,13 @@ ghost use Rattle.congee.specs.Heap.{fits};
 ghost use Rattle.congee.specs.forms.Forms.{children_of, form_of, is_full_of, prefix_of};
 ghost use Rattle.congee.specs.declared.forms.prefix.TheConstants.{MAX_PREFIX_LEN};
 
-use crate::forms::base_node::{Node, NodeType};
+use crate::forms::base_node::NodeType;
 use crate::forms::prefix::MAX_PREFIX_LEN;
 use crate::owned::arena::Stored;
-use crate::owned::lone::Lone;
 use crate::owned::names::Name;
-use crate::owned::placed::Placed;
+use crate::owned::inner::Inner;
+use crate::owned::edit::first_apart;
+use crate::keys::KEY_BYTES;
 use crate::owned::slots::Slot;
 use slab::Slab;
 use std::alloc::{AllocError, Global};
@@ -20,7 +21,7 @@ use std::marker::Model;
 /// The nodes of a tree by their names. The first node is the root, whose name is the default one.
 #[derive(Drop)]
 pub struct Nodes<P: Stored> {
-    pub(crate) slab: Slab<Slot<Lone<P>, P>>,
+    pub(crate) slab: Slab<Slot<P>>,
     // How many leaves lie in the places of their parents. The slab has room for each of them.
     pub(crate) inline: usize,
 }
@@ -52,13 +53,11 @@ impl<P: Stored> Nodes<P> {
     ghost use Rattle.congee.specs.declared.forms.base_node.Node.{Node as Form};
 
     /// The root alone.
-    pub(crate) fn new(alloc: Global, root: Node<usize, Lone<P>>) -> Result<Self, AllocError>
-        requires inner { length (prefix_of root) < MAX_PREFIX_LEN }
-        requires empty { children_of root ≡ map.empty }
-        ensures root { IfOk result (λ t. IsAlone t (with_children (inner_child 0) root)) }
+    pub(crate) fn new(alloc: Global) -> Result<Self, AllocError>
     {
+        let root = Inner::new(alloc, NodeType::N256, &[])?;
         let mut slab = Slab::new(alloc);
-        match slab.insert(Slot::Inner(Placed::new(root))) {
+        match slab.insert(Slot::Inner(root)) {
             Ok(_) => Ok(Nodes { slab, inline: 0 }),
             Err(_) => Err(AllocError),
         }
@@ -78,14 +77,39 @@ impl<P: Stored> Nodes<P> {
 
     /// The first bytes of every key below a node.
     #[inline(always)]
-    pub(crate) fn prefix(&self, at: Name) -> &[u8]
+    pub(crate) fn prefix_len(&self, at: Name) -> usize
         requires { ContainsKey self.now at }
         ensures bytes { (x : Form ℕ P) → get self.now at ≡ Some x → result.now ≡ prefix_of x }
         ensures fits { length result.now ≤ MAX_PREFIX_LEN }
     {
         match at.byte {
-            None => self.slab[at.slot].prefix(),
-            Some(byte) => &self.lone(at.slot, byte).key[..MAX_PREFIX_LEN],
+            None => self.slab[at.slot].prefix().len(),
+            Some(_) => MAX_PREFIX_LEN,
+        }
+    }
+
+    /// The first bytes of every key below a node in a slot of its own.
+    #[inline(always)]
+    pub(crate) fn prefix(&self, at: Name) -> &[u8]
+    {
+        self.slab[at.slot].prefix()
+    }
+
+    /// The first place where a key and the prefix of a node differ, and the prefix's byte there.
+    #[inline(always)]
+    pub(crate) fn parting(&self, at: Name, key: &[u8; KEY_BYTES]) -> (usize, u8)
+    {
+        match at.byte {
+            None => {
+                let prefix = self.slab[at.slot].prefix();
+                let common = first_apart(key, prefix);
+                (common, prefix[common])
+            }
+            Some(byte) => {
+                let (other, _) = self.slab[at.slot].lone(byte);
+                let common = first_apart(key, &other[..MAX_PREFIX_LEN]);
+                (common, other[common])
+            }
         }
     }
 
@@ -95,7 +119,7 @@ impl<P: Stored> Nodes<P> {
         requires { ContainsKey self.now at }
         ensures { (x : Form ℕ P) → get self.now at ≡ Some x → IsTrue result ↔ (length (prefix_of x) ≡ MAX_PREFIX_LEN) }
     {
-        self.prefix(at).len() == MAX_PREFIX_LEN
+        self.prefix_len(at) == MAX_PREFIX_LEN
     }
 
     /// The form of a node.
@@ -146,7 +170,7 @@ impl<P: Stored> Nodes<P> {
     {
         let slot = self
             .slab
-            .insert_reserved(Slot::Inner(Placed::least(prefix)));
+            .insert_reserved(Slot::Inner(Inner::least(prefix)));
         Name::of(slot)
     }
 

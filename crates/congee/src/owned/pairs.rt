@@ -14,7 +14,7 @@ ghost use Rattle.congee.specs.owned.OwnedSteps.{IsRefusal, settled};
 ghost use Rattle.congee.specs.owned.Wanted.{WantsLeaf, freed_of, freed_by, wants_at, wants_of, lone_at};
 
 use crate::allocator::{Allocator, OOMError};
-use crate::forms::base_node::{Node, NodeType};
+use crate::forms::base_node::NodeType;
 use crate::keys::KEY_BYTES;
 use crate::owned::arena::{Arena, Stored};
 use crate::owned::names::Name;
@@ -36,10 +36,7 @@ impl<P: Stored, A: Allocator> Arena<P, A> {
     {
         let mut allocator = allocator;
         allocator.allocate(NodeType::N256.size())?;
-        let Ok(root) = Node::new(alloc, NodeType::N256, &[]) else {
-            return Err(OOMError::Memory);
-        };
-        match Nodes::new(alloc, root) {
+        match Nodes::new(alloc) {
             Ok(nodes) => Ok(Arena { nodes, allocator }),
             Err(_) => Err(OOMError::Memory),
         }

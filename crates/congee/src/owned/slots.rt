@@ -8,17 +8,20 @@ ghost use Rattle.congee.specs.declared.forms.prefix.TheConstants.{MAX_PREFIX_LEN
 use crate::forms::base_node::NodeType;
 use crate::forms::child::{Child, Small};
 use crate::keys::KEY_BYTES;
+use crate::owned::entries::Hung;
+use crate::owned::inner::Inner;
+use crate::owned::lone::Lone;
 use crate::owned::placed::Placed;
 use std::alloc::{AllocError, Global};
 
 /// A node with a slot of its own. A child of an inner node is a node by its slot, or a leaf with one value.
 #[derive(Drop)]
-pub(crate) enum Slot<L: Small, P: Small> {
-    Inner(Placed<L>),
+pub(crate) enum Slot<P: Small> {
+    Inner(Inner<P>),
     Leaf(Placed<P>),
 }
 
-impl<L: Small, P: Small> Slot<L, P> {
+impl<P: Small> Slot<P> {
     ghost use Rattle.congee.specs.Heap.{fits};
     ghost use Rattle.congee.specs.forms.Forms.{capacity_of};
     ghost use Rattle.congee.specs.declared.forms.child.Child.TheVariants.{Value};
@@ -87,17 +90,14 @@ impl<L: Small, P: Small> Slot<L, P> {
         }
     }
 
-    /// A value of an inner node.
+    /// The leaf with one value under a byte of an inner node: its key and the value.
     #[inline(always)]
-    pub(crate) fn lone(&self, byte: u8) -> &L
-        requires present { IsValue (inner_get self.now byte) }
-        ensures { inner_get self.now byte ≡ Some (Value result.now) }
-    {
+    pub(crate) fn lone(&self, byte: u8) -> ([u8; KEY_BYTES], &P) {
         match self {
             Slot::Inner(n) => match n.get_child(byte) {
-                Some(Child::Value(lone)) => lone,
-                Some(Child::Node(_)) => unreachable!(),
-                Some(Child::Blank) => unreachable!(),
+                Some(Hung::Leaf(leaf)) => (leaf.key, leaf.value),
+                Some(Hung::Node(_)) => unreachable!(),
+                Some(Hung::Blank) => unreachable!(),
                 None => unreachable!(),
             },
             Slot::Leaf(_) => unreachable!(),
@@ -150,7 +150,7 @@ impl<L: Small, P: Small> Slot<L, P> {
     }
 
     #[inline(always)]
-    pub(crate) fn put_child(&mut self, byte: u8, child: Child<usize, L>)
+    pub(crate) fn put_child(&mut self, byte: u8, child: Child<usize, Lone<P>>)
         requires inner { IsInner self.old }
         requires absent { inner_get self.old byte ≡ None }
         requires room { full_in self.old ≡ false }
@@ -163,7 +163,7 @@ impl<L: Small, P: Small> Slot<L, P> {
     }
 
     #[inline(always)]
-    pub(crate) fn change_child(&mut self, byte: u8, child: Child<usize, L>) -> Child<usize, L>
+    pub(crate) fn change_child(&mut self, byte: u8, child: Child<usize, Lone<P>>) -> Child<usize, Lone<P>>
         requires present { IsSome (inner_get self.old byte) }
         ensures was { inner_get self.old byte ≡ Some result }
         ensures now { InnerBecomes self.old self.new (λ m. map.insert m byte child) }
@@ -175,7 +175,7 @@ impl<L: Small, P: Small> Slot<L, P> {
     }
 
     #[inline(always)]
-    pub(crate) fn take_child(&mut self, byte: u8) -> Child<usize, L>
+    pub(crate) fn take_child(&mut self, byte: u8) -> Child<usize, Lone<P>>
         requires present { IsSome (inner_get self.old byte) }
         ensures was { inner_get self.old byte ≡ Some result }
         ensures now { InnerBecomes self.old self.new (λ m. map.remove m byte) }
