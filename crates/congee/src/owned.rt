@@ -13,6 +13,7 @@ mod looks;
 mod names;
 mod nodes;
 mod pairs;
+mod parting;
 mod place;
 mod placed;
 mod places;

@@ -16,6 +16,7 @@ use Rattle.congee.specs.declared.forms.base_node.Node.{Node as Form}
 use Rattle.congee.specs.declared.forms.base_node.Node.TheVariants as form
 use Rattle.congee.specs.declared.owned.entries.Hung.{Hung}
 use Rattle.congee.specs.declared.owned.entries.Hung.TheVariants.{Blank as HungBlank, Node as HungNode, Leaf as HungLeaf}
+use Rattle.congee.specs.declared.owned.entries.Seen.{Seen}
 use Rattle.congee.specs.declared.owned.lone.Lone.{Lone}
 use Rattle.congee.specs.declared.owned.places.Places.{Places}
 use Rattle.congee.specs.declared.owned.places.Places.TheVariants.{N4, N16, N48, N256}
@@ -67,11 +68,15 @@ module _ {P : Type 0} where
   node_by prefix (N48 n) = form.N48 (record { ptr = null_ptr; alloc = record { memory = record { seal = tt } }; value = record { prefix = prefix; children = mapped (child_by prefix) n.value.children } })
   node_by prefix (N256 n) = form.N256 (record { ptr = null_ptr; alloc = record { memory = record { seal = tt } }; value = record { prefix = prefix; children = mapped (child_by prefix) n.value.children } })
 
+  -- a leaf where it lies, as one
+  abbrev pub lone_seen : Seen P → Lone P
+  lone_seen leaf = record { key = leaf.key; value = leaf.value.now; whole = leaf.whole; last = leaf.last }
+
   -- what hangs under a byte, where it lies, as a child
   abbrev pub child_there : Hung P → Child ℕ (Lone P)
   child_there HungBlank = NoChild
   child_there (HungNode slot) = Sub slot
-  child_there (HungLeaf leaf) = Value (record { key = leaf.key; value = leaf.value.now; whole = leaf.whole; last = leaf.last })
+  child_there (HungLeaf leaf) = Value (lone_seen leaf)
 
   -- a leaf's key begins with this byte
   abbrev pub Begins : ℕ → Child ℕ (Lone P) → Type 0

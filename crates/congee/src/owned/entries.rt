@@ -25,7 +25,7 @@ pub(crate) enum Entry<P> {
     Leaf(Tail, P),
 }
 
-/// A leaf with one value where it lies: its key, and the value.
+/// A leaf with one value where it lies: its key, and its value.
 #[derive(Drop)]
 pub(crate) struct Seen<'a, P> {
     pub(crate) key: [u8; KEY_BYTES],

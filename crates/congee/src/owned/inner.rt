@@ -1,5 +1,5 @@
 //! An inner node: its prefix, and the places of what hangs in it.
-ghost use Rattle.std.specs.Prelude.{◌≡◌, ◌≤◌, ◌<◌, ◌∷◌, ℕ, length, false, MatchOption, None, Some, IsSome, IfOk, OnOk, OnErr};
+ghost use Rattle.std.specs.Prelude.{◌≡◌, ◌≤◌, ◌<◌, ◌∷◌, ℕ, length, false, MatchOption, None, Some, IsSome, IfOk, IfSome, OnOk, OnErr};
 ghost use Rattle.std.specs.Option.{option_map};
 ghost use Rattle.std.specs.FinMap as map;
 ghost use Rattle.congee.specs.Heap.{fits};
@@ -152,6 +152,15 @@ impl<P: Small> Inner<P> {
         self.prefix.as_slice()
     }
 
+    /// How many bytes they are.
+    #[inline(always)]
+    pub(crate) fn prefix_len(&self) -> usize
+        ensures count { result ≡ length (prefix_of self.now) }
+        ensures fits { result ≤ MAX_PREFIX_LEN }
+    {
+        self.prefix.len()
+    }
+
     /// Whether its prefix is the beginning of the key.
     #[inline(always)]
     pub(crate) fn is_prefix_of(&self, key: &[u8; KEY_BYTES]) -> bool
@@ -190,7 +199,8 @@ impl<P: Small> Inner<P> {
     /// What hangs under a byte.
     #[inline(always)]
     pub(crate) fn get_child(&self, byte: u8) -> Option<Hung<'_, P>>
-        ensures { option_map child_there result ≡ map.get (children_of self.now) byte }
+        ensures child { option_map child_there result ≡ map.get (children_of self.now) byte }
+        ensures begins { IfSome result (λ h. Begins (first_byte (prefix_of self.now) byte) (child_there h)) }
     {
         match self.places.get_child(byte) {
             None => None,

@@ -43,6 +43,8 @@ pub(crate) fn key_of(prefix: &[u8], last: u8) -> u64
 
 /// Whether two keys have the same leaf's prefix.
 #[inline(always)]
-pub(crate) fn leads(one: &[u8; KEY_BYTES], other: &[u8; KEY_BYTES]) -> bool {
+pub(crate) fn leads(one: &[u8; KEY_BYTES], other: &[u8; KEY_BYTES]) -> bool
+    ensures { result ≡ fits (take MAX_PREFIX_LEN one.now) other.now }
+{
     one[..MAX_PREFIX_LEN] == other[..MAX_PREFIX_LEN]
 }

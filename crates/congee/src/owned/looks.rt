@@ -10,7 +10,7 @@ use crate::forms::child::Child;
 use crate::forms::prefix::MAX_PREFIX_LEN;
 use crate::keys::{KEY_BYTES, key_of_bytes};
 use crate::owned::arena::Stored;
-use crate::owned::entries::Hung;
+use crate::owned::entries::{Hung, Seen};
 use crate::owned::lone::{key_of, leads};
 use crate::owned::names::Name;
 use crate::owned::nodes::Nodes;
@@ -21,6 +21,7 @@ use crate::owned::slots::Slot;
 impl<P: Stored> Nodes<P> {
     ghost use Rattle.congee.specs.forms.Bytes.{IsFirst};
     ghost use Rattle.congee.specs.owned.Arena.{IsTree};
+    ghost use Rattle.congee.specs.owned.Entries.{lone_seen};
     ghost use Rattle.congee.specs.owned.Sights.{Sees};
     ghost use Rattle.congee.specs.owned.Slots.{lone_node};
     ghost use Rattle.congee.specs.owned.Stores.{LeafStands, child_now};
@@ -28,11 +29,11 @@ impl<P: Stored> Nodes<P> {
     ghost use Rattle.congee.specs.declared.forms.base_node.Node.{Node as Form};
     ghost use Rattle.congee.specs.declared.forms.child.Child.TheVariants.{Value};
 
-    // The leaf with one value under a byte of an inner node.
+    /// The leaf with one value under a byte of an inner node.
     #[inline(always)]
-    pub(crate) fn lone(&self, slot: usize, byte: u8) -> ([u8; KEY_BYTES], &P)
+    pub(crate) fn lone(&self, slot: usize, byte: u8) -> Seen<'_, P>
         requires { ContainsKey self.now (257 * slot + (byte + 1)) }
-        ensures { get self.now (257 * slot + (byte + 1)) ≡ Some (lone_node result.now) }
+        ensures { get self.now (257 * slot + (byte + 1)) ≡ Some (lone_node (lone_seen result)) }
     {
         self.slab[slot].lone(byte)
     }
@@ -56,9 +57,9 @@ impl<P: Stored> Nodes<P> {
         requires { ContainsKey self.now (257 * slot + (byte + 1)) }
         ensures { Leads self.now key.now (257 * slot + (byte + 1)) result }
     {
-        let (other, value) = self.lone(slot, byte);
-        if other[MAX_PREFIX_LEN] == key[MAX_PREFIX_LEN] {
-            Way::Held(value)
+        let lone = self.lone(slot, byte);
+        if lone.key[MAX_PREFIX_LEN] == key[MAX_PREFIX_LEN] {
+            Way::Held(lone.value)
         } else {
             Way::Free
         }
@@ -73,14 +74,14 @@ impl<P: Stored> Nodes<P> {
     {
         match &self.slab[slot] {
             Slot::Inner(n) => {
-                let byte = key[n.prefix().len()];
+                let byte = key[n.prefix_len()];
                 match n.get_child(byte) {
                     None => Way::Free,
                     Some(Hung::Blank) => unreachable!(),
                     Some(Hung::Node(below)) => self.turn(below, key),
-                    Some(Hung::Leaf(leaf)) => {
+                    Some(Hung::Leaf(lone)) => {
                         let name = Name::inline(slot, byte);
-                        if leads(&leaf.key, key) {
+                        if leads(&lone.key, key) {
                             Way::Below(name)
                         } else {
                             Way::Apart(name)
@@ -88,7 +89,7 @@ impl<P: Stored> Nodes<P> {
                     }
                 }
             }
-            Slot::Leaf(n) => match n.get_child(key[n.prefix().len()]) {
+            Slot::Leaf(n) => match n.get_child(key[n.prefix_len()]) {
                 None => Way::Free,
                 Some(Child::Blank) => unreachable!(),
                 Some(Child::Node(below)) => self.turn(*below, key),
@@ -133,10 +134,10 @@ impl<P: Stored> Nodes<P> {
             (λ r. IsFirst (children_of x) from r.0 (child_now r.1)) }
         ensures leaf { IfSome result (λ r. LeafStands self.now r.1) }
     {
-        let (key, value) = self.lone(slot, byte);
-        let last = key[MAX_PREFIX_LEN];
+        let lone = self.lone(slot, byte);
+        let last = lone.key[MAX_PREFIX_LEN];
         if from <= last as usize {
-            Some((last, Found::Value(value)))
+            Some((last, Found::Value(lone.value)))
         } else {
             None
         }
@@ -156,9 +157,9 @@ impl<P: Stored> Nodes<P> {
                 None => None,
                 Some((byte, Hung::Blank)) => Some((byte, Found::Blank)),
                 Some((byte, Hung::Node(below))) => Some((byte, Found::Node(Name::of(below)))),
-                Some((byte, Hung::Leaf(leaf))) => {
+                Some((byte, Hung::Leaf(lone))) => {
                     let name = Name::inline(slot, byte);
-                    Some((byte, Found::Leaf(name, key_of_bytes(&leaf.key), leaf.value)))
+                    Some((byte, Found::Leaf(name, key_of_bytes(&lone.key), lone.value)))
                 }
             },
             Slot::Leaf(n) => match n.first_from(from) {
@@ -177,10 +178,7 @@ impl<P: Stored> Nodes<P> {
         ensures { Sees self.now at result }
     {
         match at.byte {
-            Some(byte) => {
-                let (key, value) = self.lone(at.slot, byte);
-                Sight::Inline(key, value)
-            }
+            Some(byte) => Sight::Inline(self.lone(at.slot, byte)),
             None => match &self.slab[at.slot] {
                 Slot::Inner(n) => Sight::Inner(at.slot, n),
                 Slot::Leaf(n) => Sight::Leaf(key_of(n.prefix(), 0), n),

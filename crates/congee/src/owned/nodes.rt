@@ -1,5 +1,5 @@
 //! The storage of an owned tree: a slot for each node, but a leaf with one value lies in the place of its parent that it hangs in.
-ghost use Rattle.std.specs.Prelude.{◌≡◌, ◌*◌, ◌<◌, ◌≤◌, ◌^◌, ℕ, length, Some, None, false, true, IsSome, IfOk, OnOk, OnErr, IsTrue, ◌↔◌};
+ghost use Rattle.std.specs.Prelude.{◌≡◌, ◌*◌, ◌<◌, ◌≤◌, ◌^◌, ℕ, length, slice_index, Some, None, false, true, IsSome, IfOk, OnOk, OnErr, IsTrue, ◌↔◌};
 ghost use Rattle.std.specs.FinMap as map;
 ghost use Rattle.slab.specs.Slab.{get, ContainsKey, HasRoomFor, SameValues, Updates};
 ghost use Rattle.congee.specs.Heap.{fits};
@@ -8,11 +8,11 @@ ghost use Rattle.congee.specs.declared.forms.prefix.TheConstants.{MAX_PREFIX_LEN
 
 use crate::forms::base_node::NodeType;
 use crate::forms::prefix::MAX_PREFIX_LEN;
-use crate::owned::arena::Stored;
-use crate::owned::names::Name;
-use crate::owned::inner::Inner;
-use crate::owned::edit::first_apart;
 use crate::keys::KEY_BYTES;
+use crate::owned::arena::Stored;
+use crate::owned::inner::Inner;
+use crate::owned::names::Name;
+use crate::owned::parting::Parting;
 use crate::owned::slots::Slot;
 use slab::Slab;
 use std::alloc::{AllocError, Global};
@@ -45,6 +45,7 @@ impl<P: Stored> Model for Nodes<P> {
 }
 
 impl<P: Stored> Nodes<P> {
+    ghost use Rattle.congee.specs.owned.Changes.{DiffersAt};
     ghost use Rattle.congee.specs.owned.Naming.{HasOwnSlot};
     ghost use Rattle.congee.specs.owned.OwnedSteps.{Makes};
     ghost use Rattle.congee.specs.owned.Sizes.{bytes_of};
@@ -53,9 +54,11 @@ impl<P: Stored> Nodes<P> {
     ghost use Rattle.congee.specs.declared.forms.base_node.Node.{Node as Form};
 
     /// The root alone.
-    pub(crate) fn new(alloc: Global) -> Result<Self, AllocError>
+    pub(crate) fn new(alloc: Global, root: Inner<P>) -> Result<Self, AllocError>
+        requires inner { length (prefix_of root) < MAX_PREFIX_LEN }
+        requires empty { children_of root ≡ map.empty }
+        ensures root { IfOk result (λ t. IsAlone t (with_children (inner_child 0) root)) }
     {
-        let root = Inner::new(alloc, NodeType::N256, &[])?;
         let mut slab = Slab::new(alloc);
         match slab.insert(Slot::Inner(root)) {
             Ok(_) => Ok(Nodes { slab, inline: 0 }),
@@ -75,41 +78,41 @@ impl<P: Stored> Nodes<P> {
         }
     }
 
-    /// The first bytes of every key below a node.
+    /// How many bytes every key below a node begins with.
     #[inline(always)]
     pub(crate) fn prefix_len(&self, at: Name) -> usize
         requires { ContainsKey self.now at }
-        ensures bytes { (x : Form ℕ P) → get self.now at ≡ Some x → result.now ≡ prefix_of x }
-        ensures fits { length result.now ≤ MAX_PREFIX_LEN }
+        ensures count { (x : Form ℕ P) → get self.now at ≡ Some x → result ≡ length (prefix_of x) }
+        ensures fits { result ≤ MAX_PREFIX_LEN }
     {
         match at.byte {
-            None => self.slab[at.slot].prefix().len(),
+            None => self.slab[at.slot].prefix_len(),
             Some(_) => MAX_PREFIX_LEN,
         }
     }
 
-    /// The first bytes of every key below a node in a slot of its own.
+    /// The first bytes of every key below a node with a slot of its own.
     #[inline(always)]
     pub(crate) fn prefix(&self, at: Name) -> &[u8]
+        requires own { HasOwnSlot at }
+        requires stands { ContainsKey self.now at }
+        ensures bytes { (x : Form ℕ P) → get self.now at ≡ Some x → result.now ≡ prefix_of x }
+        ensures fits { length result.now ≤ MAX_PREFIX_LEN }
     {
         self.slab[at.slot].prefix()
     }
 
     /// The first place where a key and the prefix of a node differ, and the prefix's byte there.
-    #[inline(always)]
-    pub(crate) fn parting(&self, at: Name, key: &[u8; KEY_BYTES]) -> (usize, u8)
+    pub(crate) fn parting(&self, at: Name, key: &[u8; KEY_BYTES]) -> Parting
+        requires stands { ContainsKey self.now at }
+        requires differs { (x : Form ℕ P) → get self.now at ≡ Some x → fits (prefix_of x) key.now ≡ false }
+        ensures place { (x : Form ℕ P) → get self.now at ≡ Some x → DiffersAt key.now (prefix_of x) result.place }
+        ensures other { (x : Form ℕ P) → get self.now at ≡ Some x → result.other ≡ slice_index (prefix_of x) result.place }
+        ensures within { result.place < MAX_PREFIX_LEN }
     {
         match at.byte {
-            None => {
-                let prefix = self.slab[at.slot].prefix();
-                let common = first_apart(key, prefix);
-                (common, prefix[common])
-            }
-            Some(byte) => {
-                let (other, _) = self.slab[at.slot].lone(byte);
-                let common = first_apart(key, &other[..MAX_PREFIX_LEN]);
-                (common, other[common])
-            }
+            None => Parting::of(key, self.slab[at.slot].prefix()),
+            Some(byte) => Parting::of(key, &self.lone(at.slot, byte).key[..MAX_PREFIX_LEN]),
         }
     }
 

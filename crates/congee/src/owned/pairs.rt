@@ -17,6 +17,7 @@ use crate::allocator::{Allocator, OOMError};
 use crate::forms::base_node::NodeType;
 use crate::keys::KEY_BYTES;
 use crate::owned::arena::{Arena, Stored};
+use crate::owned::inner::Inner;
 use crate::owned::names::Name;
 use crate::owned::nodes::Nodes;
 use crate::owned::place::{Place, Spot, Way};
@@ -36,7 +37,10 @@ impl<P: Stored, A: Allocator> Arena<P, A> {
     {
         let mut allocator = allocator;
         allocator.allocate(NodeType::N256.size())?;
-        match Nodes::new(alloc) {
+        let Ok(root) = Inner::new(alloc, NodeType::N256, &[]) else {
+            return Err(OOMError::Memory);
+        };
+        match Nodes::new(alloc, root) {
             Ok(nodes) => Ok(Arena { nodes, allocator }),
             Err(_) => Err(OOMError::Memory),
         }

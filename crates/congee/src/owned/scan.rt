@@ -16,6 +16,7 @@ use crate::allocator::Allocator;
 use crate::keys::{KEY_BYTES, bytes_of_key};
 use crate::owned::arena::{Arena, Stored};
 use crate::owned::names::Name;
+use crate::owned::parting::Parting;
 use crate::owned::place::Way;
 use crate::owned::sight::{Next, Sight};
 use arrayvec::ArrayVec;
@@ -81,8 +82,8 @@ impl<P: Stored, A: Allocator> Arena<P, A> {
                 Way::Free => return self.enter(above, at, from),
                 Way::Held(_) => return self.enter(above, at, from),
                 Way::Apart(below) => {
-                    let (apart, other) = self.nodes.parting(below, &bytes);
-                    if other < bytes[apart] {
+                    let Parting { place, other } = self.nodes.parting(below, &bytes);
+                    if other < bytes[place] {
                         from += 1;
                     }
                     return self.enter(above, at, from);

@@ -10,9 +10,9 @@ ghost use Rattle.congee.specs.declared.forms.base_node.Node.{Node as Form};
 
 use crate::forms::child::Child;
 use crate::forms::prefix::MAX_PREFIX_LEN;
-use crate::keys::{KEY_BYTES, key_of_bytes};
+use crate::keys::key_of_bytes;
 use crate::owned::arena::Stored;
-use crate::owned::entries::Hung;
+use crate::owned::entries::{Hung, Seen};
 use crate::owned::inner::Inner;
 use crate::owned::names::Name;
 use crate::owned::placed::Placed;
@@ -21,7 +21,7 @@ use crate::owned::placed::Placed;
 #[derive(Drop)]
 pub(crate) enum Sight<'a, P: Stored> {
     /// A leaf with one value, in the place of its parent.
-    Inline([u8; KEY_BYTES], &'a P),
+    Inline(Seen<'a, P>),
     /// An inner node, and its slot.
     Inner(usize, &'a Inner<P>),
     /// A leaf with a slot of its own, and the least key that it may have.
@@ -52,10 +52,10 @@ impl<'a, P: Stored> Sight<'a, P> {
         ensures key { (s : Nodes P) (at : ℕ) → Sees s at self.now → IfSome result (λ r. HasKey s at r.0 r.1) }
     {
         match *self {
-            Sight::Inline(key, value) => {
-                let last = key[MAX_PREFIX_LEN];
+            Sight::Inline(ref lone) => {
+                let last = lone.key[MAX_PREFIX_LEN];
                 if from <= last as usize {
-                    Some((last, Next::Value(key_of_bytes(&key), value)))
+                    Some((last, Next::Value(key_of_bytes(&lone.key), lone.value)))
                 } else {
                     None
                 }
@@ -64,9 +64,9 @@ impl<'a, P: Stored> Sight<'a, P> {
                 None => None,
                 Some((byte, Hung::Blank)) => Some((byte, Next::Blank)),
                 Some((byte, Hung::Node(below))) => Some((byte, Next::Node(Name::of(below)))),
-                Some((byte, Hung::Leaf(leaf))) => {
+                Some((byte, Hung::Leaf(lone))) => {
                     let name = Name::inline(slot, byte);
-                    Some((byte, Next::Leaf(name, key_of_bytes(&leaf.key), leaf.value)))
+                    Some((byte, Next::Leaf(name, key_of_bytes(&lone.key), lone.value)))
                 }
             },
             Sight::Leaf(least, n) => match n.first_from(from) {

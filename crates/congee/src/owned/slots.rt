@@ -1,5 +1,5 @@
 //! The nodes with slots of their own, inner ones and leaves.
-ghost use Rattle.std.specs.Prelude.{◌≡◌, ◌≤◌, length, Some, None, false, IsSome, OnOk, OnErr};
+ghost use Rattle.std.specs.Prelude.{◌≡◌, ◌≤◌, length, slice_index, Some, None, false, IsSome, OnOk, OnErr};
 ghost use Rattle.std.specs.FinMap as map;
 ghost use Rattle.congee.specs.Heap.{fits};
 ghost use Rattle.congee.specs.declared.keys.TheConstants.{KEY_BYTES};
@@ -8,7 +8,7 @@ ghost use Rattle.congee.specs.declared.forms.prefix.TheConstants.{MAX_PREFIX_LEN
 use crate::forms::base_node::NodeType;
 use crate::forms::child::{Child, Small};
 use crate::keys::KEY_BYTES;
-use crate::owned::entries::Hung;
+use crate::owned::entries::{Hung, Seen};
 use crate::owned::inner::Inner;
 use crate::owned::lone::Lone;
 use crate::owned::placed::Placed;
@@ -25,6 +25,7 @@ impl<P: Small> Slot<P> {
     ghost use Rattle.congee.specs.Heap.{fits};
     ghost use Rattle.congee.specs.forms.Forms.{capacity_of};
     ghost use Rattle.congee.specs.declared.forms.child.Child.TheVariants.{Value};
+    ghost use Rattle.congee.specs.owned.Entries.{Begins, first_byte, lone_seen};
     ghost use Rattle.congee.specs.owned.Kinds.{prefix_in, form_in, len_in, full_in, HasLowBytes, IsInner, IsLeaf, inner_get, leaf_get, IsValue, Cleared, InnerBecomes, LeafBecomes, Grown};
 
     #[inline(always)]
@@ -35,6 +36,17 @@ impl<P: Small> Slot<P> {
         match self {
             Slot::Inner(n) => n.prefix(),
             Slot::Leaf(n) => n.prefix(),
+        }
+    }
+
+    #[inline(always)]
+    pub(crate) fn prefix_len(&self) -> usize
+        ensures count { result ≡ length (prefix_in self.now) }
+        ensures fits { result ≤ MAX_PREFIX_LEN }
+    {
+        match self {
+            Slot::Inner(n) => n.prefix_len(),
+            Slot::Leaf(n) => n.prefix_len(),
         }
     }
 
@@ -90,12 +102,16 @@ impl<P: Small> Slot<P> {
         }
     }
 
-    /// The leaf with one value under a byte of an inner node: its key and the value.
+    /// The leaf with one value under a byte of an inner node.
     #[inline(always)]
-    pub(crate) fn lone(&self, byte: u8) -> ([u8; KEY_BYTES], &P) {
+    pub(crate) fn lone(&self, byte: u8) -> Seen<'_, P>
+        requires present { IsValue (inner_get self.now byte) }
+        ensures leaf { inner_get self.now byte ≡ Some (Value (lone_seen result)) }
+        ensures begins { slice_index result.key 0 ≡ first_byte (prefix_in self.now) byte }
+    {
         match self {
             Slot::Inner(n) => match n.get_child(byte) {
-                Some(Hung::Leaf(leaf)) => (leaf.key, leaf.value),
+                Some(Hung::Leaf(leaf)) => leaf,
                 Some(Hung::Node(_)) => unreachable!(),
                 Some(Hung::Blank) => unreachable!(),
                 None => unreachable!(),
@@ -154,6 +170,7 @@ impl<P: Small> Slot<P> {
         requires inner { IsInner self.old }
         requires absent { inner_get self.old byte ≡ None }
         requires room { full_in self.old ≡ false }
+        requires begins { Begins (first_byte (prefix_in self.old) byte) child }
         ensures { InnerBecomes self.old self.new (λ m. map.insert m byte child) }
     {
         match self {
@@ -165,6 +182,7 @@ impl<P: Small> Slot<P> {
     #[inline(always)]
     pub(crate) fn change_child(&mut self, byte: u8, child: Child<usize, Lone<P>>) -> Child<usize, Lone<P>>
         requires present { IsSome (inner_get self.old byte) }
+        requires begins { Begins (first_byte (prefix_in self.old) byte) child }
         ensures was { inner_get self.old byte ≡ Some result }
         ensures now { InnerBecomes self.old self.new (λ m. map.insert m byte child) }
     {
