@@ -10,6 +10,7 @@ pub mod Entries
 pub mod EntryRoom
 pub mod Kinds
 pub mod Levels
+pub mod Lones
 pub mod Owned
 pub mod Place
 pub mod Ranges

@@ -7,6 +7,7 @@ pub mod Drains
 pub mod Edits
 pub mod Entering
 pub mod Filled
+pub mod Firsts
 pub mod Folding
 pub mod Freeing
 pub mod Joins

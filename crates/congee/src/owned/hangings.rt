@@ -151,7 +151,7 @@ impl<P: Stored> Nodes<P> {
         match at.byte {
             None => self.slab[at.slot].change_value(byte, value),
             Some(place) => {
-                let key = self.lone(at.slot, place).key;
+                let key = self.slab[at.slot].lone(place).key;
                 match self.slab[at.slot].change_child(place, Child::Value(Lone { key, value })) {
                     Child::Value(lone) => {
                         let Lone { key: _, value } = lone;

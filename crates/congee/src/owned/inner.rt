@@ -1,5 +1,5 @@
 //! An inner node: its prefix, and the places of what hangs in it.
-ghost use Rattle.std.specs.Prelude.{◌≡◌, ◌≤◌, ◌<◌, ◌∷◌, ℕ, length, false, MatchOption, None, Some, IsSome, IfOk, IfSome, OnOk, OnErr};
+ghost use Rattle.std.specs.Prelude.{◌≡◌, ◌≤◌, ◌<◌, ◌∷◌, ℕ, List, length, slice_index, false, MatchOption, None, Some, IsSome, IfOk, IfSome, OnOk, OnErr};
 ghost use Rattle.std.specs.Option.{option_map};
 ghost use Rattle.std.specs.FinMap as map;
 ghost use Rattle.congee.specs.Heap.{fits};
@@ -29,13 +29,13 @@ impl<P: Nested> Model for Inner<P> {
     ghost use Rattle.std.specs.Prelude.{ℕ};
     ghost use Rattle.congee.specs.declared.forms.base_node.Node.{Node};
     ghost use Rattle.congee.specs.declared.owned.lone.Lone.{Lone as LoneOf};
-    ghost use Rattle.congee.specs.contracts.owned.lone.Lone.{the_row as lone_row};
     ghost use Rattle.congee.specs.owned.Codes.{node_code};
     ghost use Rattle.congee.specs.owned.Entries.{node_by};
+    ghost use Rattle.congee.specs.owned.Lones.{lone_code};
 
     ghost Value = { Node ℕ (LoneOf P) };
 
-    ghost coded = { node_code (lone_row P.row).code };
+    ghost coded = { node_code (lone_code P.code) };
 
     ghost view = { λ n. node_by n.prefix n.places };
 }

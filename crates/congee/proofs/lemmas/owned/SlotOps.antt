@@ -11,7 +11,8 @@ use Rattle.congee.specs.forms.Mapped.{mapped}
 use Rattle.congee.specs.Keys.{key_bytes}
 use Rattle.congee.specs.owned.Arena.{Nodes}
 use Rattle.congee.specs.owned.Changes.{IsLeafOf}
-use Rattle.congee.specs.owned.Kinds.{IsInner, InnerBecomes, full_in, inner_get}
+use Rattle.congee.specs.owned.Entries.{first_byte}
+use Rattle.congee.specs.owned.Kinds.{IsInner, InnerBecomes, full_in, inner_get, prefix_in}
 use Rattle.congee.specs.owned.Naming.{HasOwnSlot, IsByte, offset_of}
 use Rattle.congee.specs.owned.OwnedSteps.{Sets}
 use Rattle.congee.specs.owned.Slots.{inner_child, lone_node, with_children, in_slot, lone_in, nodes_in}
@@ -29,7 +30,7 @@ use Rattle.congee.proofs.lemmas.owned.Moves.{node_at, insert_at, insert_beside, 
 use Rattle.congee.proofs.lemmas.owned.SlotChanges.{AtInner, at_inner, inner_after, inner_slot, is_inner, inner_absent, inner_room, seen_after, lone_before, lone_after, others_after, stored_after}
 use Rattle.congee.proofs.lemmas.owned.SlotLens.{counted}
 use Rattle.congee.proofs.lemmas.owned.Stored.{lone_counts}
-use Rattle.congee.proofs.lemmas.owned.Slots.{get_inline, with_mapped, with_becomes}
+use Rattle.congee.proofs.lemmas.owned.Slots.{get_inline, with_mapped, with_becomes, with_prefix}
 
 module _ {P : Type 0} (i : ℕ) (n n' : Node ℕ (Lone P)) (y : Node ℕ P) (seen : with_children (inner_child i) n ≡ y) (b : ℕ) where
   children_seen : mapped (inner_child i) (children_of n) ≡ children_of y
@@ -250,6 +251,13 @@ module _ {P : Type 0} (s : Slab (Slot P)) (v : Nodes P) (is : nodes_in s ≡ v) 
 
   pub slot_room : (x : Slot P) → get s i ≡ Some x → ((y : Node ℕ P) → get v at ≡ Some y → is_full_of y ≡ false) → full_in x ≡ false
   slot_room x e h = inner_room s v at i there.0 (at_node there.0 there.1) x e (h there.0 there.1)
+
+  -- the first byte of the keys under a byte
+  pub slot_first : (x : Slot P) → get s i ≡ Some x → (b first : ℕ) → ((y : Node ℕ P) → get v at ≡ Some y → first ≡ first_byte (prefix_of y) b) → first ≡ first_byte (prefix_in x) b
+  slot_first x e b first h =
+      let k = at_node there.0 there.1 in
+      let p : prefix_of there.0 ≡ prefix_in x = ap prefix_of (sym k.seen) ∙ (with_prefix (inner_child i) k.node ∙ ap prefix_in (sym (inner_slot s v at i there.0 k x e))) in
+      h there.0 there.1 ∙ ap (λ p. first_byte p b) p
 
   pub same_capacity : (x x' : Slot P) → (nodes_in (with_value s i x')).capacity ≡ v.capacity
   unfolding nodes_in

@@ -8,7 +8,8 @@ use Rattle.slab.specs.Slab.{Slab, get, ContainsKey, Updates, with_value}
 use Rattle.congee.specs.forms.Forms.{children_of, form_of, prefix_of}
 use Rattle.congee.specs.forms.Mapped.{mapped}
 use Rattle.congee.specs.owned.Arena.{Nodes}
-use Rattle.congee.specs.owned.Kinds.{InnerBecomes, IsValue, inner_get}
+use Rattle.congee.specs.owned.Entries.{first_byte}
+use Rattle.congee.specs.owned.Kinds.{InnerBecomes, IsValue, inner_get, prefix_in}
 use Rattle.congee.specs.owned.Naming.{HasOwnSlot, IsByte, offset_of}
 use Rattle.congee.specs.owned.OwnedSteps.{Sets}
 use Rattle.congee.specs.owned.Slots.{inner_child, lone_in, lone_node, nodes_in, with_children}
@@ -111,6 +112,15 @@ module _ {P : Type 0} (s : Slab (Slot P)) (v : Nodes P) (is : nodes_in s ≡ v) 
 
     here : inner_get x place ≡ Some (Value it.lone)
     here = ap (λ w. inner_get w place) is_slot ∙ it.child
+
+    pub inline_holds : IsValue (inner_get x place)
+    inline_holds = subst IsValue (sym here) tt
+
+    pub inline_reads : (lone : Lone P) → inner_get x place ≡ Some (Value lone) → get v (257 * i + (place + 1)) ≡ Some (lone_node lone)
+    inline_reads lone read = lone_seen s v is i place it x lone e read
+
+    pub inline_first : (z : Slot P) → get s i ≡ Some z → (first : ℕ) → first ≡ first_byte (prefix_in z) place → first ≡ first_byte (prefix_in x) place
+    inline_first z h first f = let w : Some z ≡ Some x = sym h ∙ e in let q : z ≡ x = cc in f ∙ ap (λ y. first_byte (prefix_in y) place) q
 
     pub inline_present : IsSome (inner_get x place)
     inline_present = rw here refl

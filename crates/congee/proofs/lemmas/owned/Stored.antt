@@ -10,7 +10,7 @@ use Rattle.congee.specs.Heap.{Hung, Nothing, Below as Under, Holds, child_for, f
 use Rattle.std.proofs.lemmas.List.{length-take-le}
 use Rattle.congee.specs.owned.Arena.{Nodes, hung_in, heap_of, node_of}
 use Rattle.congee.specs.owned.Kinds.{IsValue, prefix_in, form_in, len_in, full_in, inner_get}
-use Rattle.congee.specs.owned.Naming.{offset_of, IsByte}
+use Rattle.congee.specs.owned.Naming.{HasOwnSlot, offset_of, IsByte}
 use Rattle.congee.specs.owned.Slots.{inner_child, leaf_child, lone_node, with_children, slot_node, lone_in, in_slot, node_named, nodes_in}
 use Rattle.congee.specs.declared.forms.base_node.Node.{Node}
 use Rattle.congee.specs.declared.forms.child.Child.{Child}
@@ -145,6 +145,14 @@ lone_full lone = ap (λ n. n == 4) (len_one (get_or lone.key 7 0) (Value lone.va
 pub lone_len : {P : Type 0} (lone : Lone P) → map.len (children_of (lone_node lone)) ≡ 1
 lone_len lone = len_one (get_or lone.key 7 0) (Value lone.value)
 
+pub lone_prefix : {P : Type 0} (lone : Lone P) → length (prefix_of (lone_node lone)) ≡ 7
+lone_prefix lone = length-take-le 7 lone.key (let w = lone.whole in omega (arith, w))
+
+-- the name of a node with a slot of its own has no byte
+pub own_byte : (at i : ℕ) (byte : Option ℕ) → 257 * i + offset_of byte ≡ at → IsByte byte → HasOwnSlot at → byte ≡ None
+own_byte at i None e low own = refl
+own_byte at i (Some b) e low own = absurd (omega (arith, e, low, own))
+
 -- a name by its parts
 module _ {P : Type 0} (s : Slab (Slot P)) (v : Nodes P) (is : nodes_in s ≡ v) (at i : ℕ) (byte : Option ℕ) (name : 257 * i + offset_of byte ≡ at) where
   pub named_slot : byte ≡ None → ContainsKey v at → ContainsKey s i
@@ -228,48 +236,47 @@ module _ {P : Type 0} (s : Slab (Slot P)) (v : Nodes P) (is : nodes_in s ≡ v) 
   seen_node : (n : Node ℕ P) → slot_node i x ≡ n → heap_of v (257 * i) ≡ node_of (Some n)
   seen_node n q = ap node_of (ap (λ w. get w (257 * i)) (sym is) ∙ (slot_seen s i x e ∙ ap Some q))
 
-  module _ (n : Node ℕ (Lone P)) (q : x ≡ Inner n) (p : List ℕ) (prefix : p ≡ prefix_of n) (o : Option (Bor (Child ℕ (Lone P)))) (read : option_copied o ≡ map.get (children_of n) (get_or key (length p) 0)) where
-    inner_is : child_for (heap_of v (257 * i)) key ≡ hung_in (option_map (inner_child i (get_or key (length p) 0)) (option_copied o))
+  module _ (n : Node ℕ (Lone P)) (q : x ≡ Inner n) (len : ℕ) (count : len ≡ length (prefix_of n)) (o : Option (Child ℕ (Lone P))) (read : o ≡ map.get (children_of n) (get_or key len 0)) where
+    inner_is : child_for (heap_of v (257 * i)) key ≡ hung_in (option_map (inner_child i (get_or key len 0)) o)
     inner_is =
         let f = inner_child i in
         let h : heap_of v (257 * i) ≡ node_of (Some (with_children f n)) = seen_node (with_children f n) (ap (slot_node i) q) in
-        let l : length (prefix_of (with_children f n)) ≡ length p = ap length (with_prefix f n ∙ sym prefix) in
-        let g : map.get (children_of (with_children f n)) (get_or key (length p) 0) ≡ option_map (f (get_or key (length p) 0)) (option_copied o) =
-        ap (λ m. map.get m (get_or key (length p) 0)) (with_mapped f n) ∙ (get_mapped f (children_of n) (get_or key (length p) 0) ∙ ap (option_map (f (get_or key (length p) 0))) (sym read)) in
+        let l : length (prefix_of (with_children f n)) ≡ len = ap length (with_prefix f n) ∙ sym count in
+        let g : map.get (children_of (with_children f n)) (get_or key len 0) ≡ option_map (f (get_or key len 0)) o =
+        ap (λ m. map.get m (get_or key len 0)) (with_mapped f n) ∙ (get_mapped f (children_of n) (get_or key len 0) ∙ ap (option_map (f (get_or key len 0))) (sym read)) in
         ap (λ w. child_for w key) h ∙ (ap (λ k. hung_in (map.get (children_of (with_children f n)) (get_or key k 0))) l ∙ ap hung_in g)
 
     pub inner_nothing : o ≡ None → child_for (heap_of v (257 * i)) key ≡ Nothing
-    inner_nothing c = inner_is ∙ ap (λ r. hung_in (option_map (inner_child i (get_or key (length p) 0)) (option_copied r))) c
+    inner_nothing c = inner_is ∙ ap (λ r. hung_in (option_map (inner_child i (get_or key len 0)) r)) c
 
-    pub inner_leads : (f : Bor (Child ℕ (Lone P))) (y : Child ℕ (Lone P)) → o ≡ Some f → f.now ≡ y → child_for (heap_of v (257 * i)) key ≡ hung_in (Some (inner_child i (get_or key (length p) 0) y))
-    inner_leads f y c h =
-        inner_is ∙ (ap (λ r. hung_in (option_map (inner_child i (get_or key (length p) 0)) (option_copied r))) c ∙ ap (λ z. hung_in (Some (inner_child i (get_or key (length p) 0) z))) h)
+    pub inner_leads : (y : Child ℕ (Lone P)) → o ≡ Some y → child_for (heap_of v (257 * i)) key ≡ hung_in (Some (inner_child i (get_or key len 0) y))
+    inner_leads y c = inner_is ∙ ap (λ r. hung_in (option_map (inner_child i (get_or key len 0)) r)) c
 
     -- the leaf that lies there
-    pub inline_fits : (f : Bor (Child ℕ (Lone P))) (lone : Lone P) → get_or key (length p) 0 < 256 → o ≡ Some f → f.now ≡ Value lone
-        → fits (heap_of v (257 * i + (get_or key (length p) 0 + 1))).prefix key ≡ fits (take 7 lone.key) key
-    inline_fits f lone l c h =
-        let b = get_or key (length p) 0 in
-        let g : map.get (children_of n) b ≡ Some (Value lone) = sym read ∙ (ap option_copied c ∙ ap Some h) in
+    pub inline_fits : (lone : Lone P) → get_or key len 0 < 256 → o ≡ Some (Value lone)
+        → fits (heap_of v (257 * i + (get_or key len 0 + 1))).prefix key ≡ fits (take 7 lone.key) key
+    inline_fits lone l c =
+        let b = get_or key len 0 in
+        let g : map.get (children_of n) b ≡ Some (Value lone) = sym read ∙ c in
         let seen : get (nodes_in s) (257 * i + (b + 1)) ≡ Some (lone_node lone) = get_inline s i b l ∙ (ap (λ z. in_slot i z (suc b)) (e ∙ ap Some q) ∙ ap lone_in g) in
         let h' : heap_of v (257 * i + (b + 1)) ≡ node_of (Some (lone_node lone)) = ap node_of (ap (λ w. get w (257 * i + (b + 1))) (sym is) ∙ seen) in
         ap (λ w. fits w.prefix key) h'
 
-  module _ (n : Node ℕ P) (q : x ≡ Leaf n) (p : List ℕ) (prefix : p ≡ prefix_of n) (o : Option (Bor (Child ℕ P))) (read : option_copied o ≡ map.get (children_of n) (get_or key (length p) 0)) where
-    leaf_is : child_for (heap_of v (257 * i)) key ≡ hung_in (option_map (leaf_child (get_or key (length p) 0)) (option_copied o))
+  module _ (n : Node ℕ P) (q : x ≡ Leaf n) (len : ℕ) (count : len ≡ length (prefix_of n)) (o : Option (Bor (Child ℕ P))) (read : option_copied o ≡ map.get (children_of n) (get_or key len 0)) where
+    leaf_is : child_for (heap_of v (257 * i)) key ≡ hung_in (option_map (leaf_child (get_or key len 0)) (option_copied o))
     leaf_is =
         let h : heap_of v (257 * i) ≡ node_of (Some (with_children leaf_child n)) = seen_node (with_children leaf_child n) (ap (slot_node i) q) in
-        let l : length (prefix_of (with_children leaf_child n)) ≡ length p = ap length (with_prefix leaf_child n ∙ sym prefix) in
-        let g : map.get (children_of (with_children leaf_child n)) (get_or key (length p) 0) ≡ option_map (leaf_child (get_or key (length p) 0)) (option_copied o) =
-        ap (λ m. map.get m (get_or key (length p) 0)) (with_mapped leaf_child n) ∙ (get_mapped leaf_child (children_of n) (get_or key (length p) 0) ∙ ap (option_map (leaf_child (get_or key (length p) 0))) (sym read)) in
+        let l : length (prefix_of (with_children leaf_child n)) ≡ len = ap length (with_prefix leaf_child n) ∙ sym count in
+        let g : map.get (children_of (with_children leaf_child n)) (get_or key len 0) ≡ option_map (leaf_child (get_or key len 0)) (option_copied o) =
+        ap (λ m. map.get m (get_or key len 0)) (with_mapped leaf_child n) ∙ (get_mapped leaf_child (children_of n) (get_or key len 0) ∙ ap (option_map (leaf_child (get_or key len 0))) (sym read)) in
         ap (λ w. child_for w key) h ∙ (ap (λ k. hung_in (map.get (children_of (with_children leaf_child n)) (get_or key k 0))) l ∙ ap hung_in g)
 
     pub leaf_nothing : o ≡ None → child_for (heap_of v (257 * i)) key ≡ Nothing
-    leaf_nothing c = leaf_is ∙ ap (λ r. hung_in (option_map (leaf_child (get_or key (length p) 0)) (option_copied r))) c
+    leaf_nothing c = leaf_is ∙ ap (λ r. hung_in (option_map (leaf_child (get_or key len 0)) (option_copied r))) c
 
-    pub leaf_leads : (f : Bor (Child ℕ P)) (y : Child ℕ P) → o ≡ Some f → f.now ≡ y → child_for (heap_of v (257 * i)) key ≡ hung_in (Some (leaf_child (get_or key (length p) 0) y))
+    pub leaf_leads : (f : Bor (Child ℕ P)) (y : Child ℕ P) → o ≡ Some f → f.now ≡ y → child_for (heap_of v (257 * i)) key ≡ hung_in (Some (leaf_child (get_or key len 0) y))
     leaf_leads f y c h =
-        leaf_is ∙ (ap (λ r. hung_in (option_map (leaf_child (get_or key (length p) 0)) (option_copied r))) c ∙ ap (λ z. hung_in (Some (leaf_child (get_or key (length p) 0) z))) h)
+        leaf_is ∙ (ap (λ r. hung_in (option_map (leaf_child (get_or key len 0)) (option_copied r))) c ∙ ap (λ z. hung_in (Some (leaf_child (get_or key len 0) z))) h)
 
 -- to a node of which it was told whether the key has its prefix
 pub leads_turn : {P : Type 0} (v : Nodes P) (key : List ℕ) (at name : ℕ) (w : Way P) → child_for (heap_of v at) key ≡ Under name → IsTurn v key name w → Leads v key at w
