@@ -40,6 +40,11 @@ eight (x ∷ t) first e f = ap (λ r. first ∷ r) (seven t (omega (arith, e))) 
 pub leaf_is : {P : Type 0} (first : ℕ) (tail : Tail) (value : P) (lone : Lone P) → first ∷ tail.bytes ≡ lone.key → value ≡ lone.value → leaf_by first tail value ≡ lone
 leaf_is first tail value lone k v = lone_same (leaf_by first tail value) lone k v
 
+-- without a prefix it is the byte at hand
+pub no_first : (p : List ℕ) (b : ℕ) → length p ≡ 0 → b ≡ first_byte p b
+no_first [] b e = refl
+no_first (x ∷ p) b e = absurd (omega (arith, e))
+
 -- its key begins with the byte that leads to it
 pub begins_by : {P : Type 0} (x : List ℕ) (b : ℕ) (e : Entry P) → Begins (first_byte x b) (child_by x b e)
 begins_by x b Blank = tt
@@ -64,6 +69,9 @@ module _ {P : Type 0} (x : List ℕ) where
   children_by (N16 n) = refl
   children_by (N48 n) = refl
   children_by (N256 n) = refl
+
+  pub bare_by : (p : Places P) → entries_in p ≡ map.empty → children_of (node_by x p) ≡ map.empty
+  bare_by p e = children_by p ∙ (ap (mapped (child_by x)) e ∙ mapped_empty (child_by x))
 
   pub full_by : (p : Places P) → is_full_of (node_by x p) ≡ full_in p
   full_by (N4 n) = rw (len_mapped (child_by x) n) refl
