@@ -9,7 +9,7 @@ use Rattle.congee.proofs.lemmas.owned.Standing.{standing, length_read}
 use Rattle.congee.proofs.lemmas.owned.Ways.{below_stands, falls, prefix_is}
 use Rattle.congee.proofs.lemmas.owned.Cursors.{Descends, IsByte, step, few_before, sets_out, goes_down, ends_free, ends_held, ends_before, ends_after, byte_read, child_read, pushed}
 use Rattle.congee.proofs.owned.arena.Arena.seek.Given.{Over}
-use Rattle.congee.proofs.owned.arena.Arena.seek.Goals.{After-prefix_len, then-other, else-other}
+use Rattle.congee.proofs.owned.arena.Arena.seek.Goals.{After-prefix_len, then-other-bytes, else-other-bytes}
 use Rattle.congee.proofs.owned.arena.Arena.seek.Goals as goal
 
 -- the key's byte at the node at hand
@@ -45,11 +45,11 @@ returns-in-Held g c =
     let both = pushed c.args.self.now.nodes c.args.key _ _ c.enter-in-Held.ensures.steps (ends_held c.args.self.now.nodes c.requires c.loop-above.above.items c.loop-above.at c.args.key (get_or c.bytes_of_key-bytes.result c.prefix_len.result 0) c.in-Held.field-0.now c.bytes_of_key-bytes.ensures.small c.loop-above.invariant byte.byte (omega (arith, byte.low)) child) in
     record { walk = record { way = both.0; sees = c.enter-in-Held.ensures.sees }; at = both.1 }
 
-pub parting-requires-clause-stands : goal.parting-requires-clause-stands
-parting-requires-clause-stands g c = below_stands c.args.self.now.nodes c.requires c.loop-above.at c.in-Apart.below c.bytes_of_key-bytes.result c.loop-above.invariant.way.stands c.in-Apart.ensures.0
+pub parting-place-requires-clause-stands : goal.parting-place-requires-clause-stands
+parting-place-requires-clause-stands g c = below_stands c.args.self.now.nodes c.requires c.loop-above.at c.in-Apart.below c.bytes_of_key-bytes.result c.loop-above.invariant.way.stands c.in-Apart.ensures.0
 
-pub parting-requires-clause-differs : goal.parting-requires-clause-differs
-parting-requires-clause-differs g c = λ x e. ap (λ p. fits p c.bytes_of_key-bytes.result) (sym (prefix_is c.args.self.now.nodes c.in-Apart.below x e)) ∙ c.in-Apart.ensures.1
+pub parting-place-requires-clause-differs : goal.parting-place-requires-clause-differs
+parting-place-requires-clause-differs g c = λ x e. ap (λ p. fits p c.bytes_of_key-bytes.result) (sym (prefix_is c.args.self.now.nodes c.in-Apart.below x e)) ∙ c.in-Apart.ensures.1
 
 pub overflow_add-from : goal.overflow_add-from
 overflow_add-from g c = omega (arith, (here g (goal.at.overflow_add-from g c).After-prefix_len).low)
@@ -66,16 +66,16 @@ returns-in-Apart g c =
     let stands = below_stands s c.requires at child c.bytes_of_key-bytes.result c.loop-above.invariant.way.stands c.in-Apart.ensures.0 in
     let lower = standing s child stands in
     let prefix = prefix_is s child lower.node lower.is in
-    let apart = c.parting.result.place in
+    let apart = c.parting-place.result.place in
     let parts : DiffersAt (key_bytes key) (heap_of s child).prefix apart =
-    subst (λ y. DiffersAt (key_bytes key) y apart) (sym prefix) (subst (λ y. DiffersAt y (prefix_of lower.node) apart) c.bytes_of_key-bytes.ensures.bytes (c.parting.ensures.place lower.node lower.is)) in
-    let upper : get_or (heap_of s child).prefix apart 0 ≡ c.parting.result.other = ap (λ y. get_or y apart 0) prefix ∙ sym (c.parting.ensures.other lower.node lower.is) in
+    subst (λ y. DiffersAt (key_bytes key) y apart) (sym prefix) (subst (λ y. DiffersAt y (prefix_of lower.node) apart) c.bytes_of_key-bytes.ensures.bytes (c.parting-place.ensures.place lower.node lower.is)) in
+    let upper : get_or (heap_of s child).prefix apart 0 ≡ c.parting-place.result.other = ap (λ y. get_or y apart 0) prefix ∙ sym (c.parting-place.ensures.other lower.node lower.is) in
     let mine : get_or (key_bytes key) apart 0 ≡ get_or c.bytes_of_key-bytes.result apart 0 = ap (λ y. get_or y apart 0) (sym c.bytes_of_key-bytes.ensures.bytes) in
-    let both : IsCursor s (xs ++ step at c.if-other.from ∷ []) × IsAt s (xs ++ step at c.if-other.from ∷ []) key = elim c.if-other.branch [
-      | then-other w ↦ ends_after s c.requires xs at child key c.if-other.from apart c.bytes_of_key-bytes.ensures.small c.loop-above.invariant (omega (arith, byte.byte, w.from-is)) (omega (arith, byte.low, w.from-is)) below parts
-          (omega (arith, upper, mine, w.if-other.true))
-      | else-other w ↦ ends_before s c.requires xs at child key c.if-other.from apart c.bytes_of_key-bytes.ensures.small c.loop-above.invariant (omega (arith, byte.byte, w.from-is)) (omega (arith, byte.low, w.from-is)) below parts
-          (omega (arith, upper, mine, w.if-other.false))
+    let both : IsCursor s (xs ++ step at c.if-other-bytes.from ∷ []) × IsAt s (xs ++ step at c.if-other-bytes.from ∷ []) key = elim c.if-other-bytes.branch [
+      | then-other-bytes w ↦ ends_after s c.requires xs at child key c.if-other-bytes.from apart c.bytes_of_key-bytes.ensures.small c.loop-above.invariant (omega (arith, byte.byte, w.from-is)) (omega (arith, byte.low, w.from-is)) below parts
+          (omega (arith, upper, mine, w.if-other-bytes.true))
+      | else-other-bytes w ↦ ends_before s c.requires xs at child key c.if-other-bytes.from apart c.bytes_of_key-bytes.ensures.small c.loop-above.invariant (omega (arith, byte.byte, w.from-is)) (omega (arith, byte.low, w.from-is)) below parts
+          (omega (arith, upper, mine, w.if-other-bytes.false))
     ] in
     let end = pushed s key _ _ c.enter-in-Apart.ensures.steps both in
     record { walk = record { way = end.0; sees = c.enter-in-Apart.ensures.sees }; at = end.1 }

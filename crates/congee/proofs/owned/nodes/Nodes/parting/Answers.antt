@@ -1,4 +1,4 @@
-use Rattle.std.proofs.Common.{◌≡◌, ℕ, ◌<◌, ◌≤◌, length, take, get_or, sym, ap, subst, ◌∙◌, arith}
+use Rattle.std.proofs.Common.{◌≡◌, ℕ, false, take, sym, ap, subst, ◌∙◌}
 use Rattle.std.specs.Prelude.{Some}
 use Rattle.slab.specs.Slab.{get}
 use Rattle.congee.specs.Heap.{fits}
@@ -14,7 +14,7 @@ use Rattle.congee.proofs.owned.nodes.Nodes.parting.Goals as goal
 
 -- the bytes that were read are the node's prefix
 abbrev InSlot : (g : Over) → After-prefix g → Type 0
-InSlot g c = (x : Node ℕ _) → get c.args.self.now c.args.at ≡ Some x → c.prefix.result.now ≡ prefix_of x
+InSlot g c = (x : Node ℕ g.row.P.Denot) → get c.args.self.now c.args.at ≡ Some x → c.prefix.result.now ≡ prefix_of x
 
 in_slot : (g : Over) (c : After-prefix g) → InSlot g c
 in_slot g c = λ x e.
@@ -22,7 +22,7 @@ in_slot g c = λ x e.
     ∙ ap prefix_of (named_seen c.self.inside.slab c.args.self.now c.self.view_is c.args.at c.at.inside.slot c.at.inside.byte c.at.view_is c.in-None.is c.index.result.now x c.index.ensures e))
 
 abbrev Inline : (g : Over) → After-lone g → Type 0
-Inline g c = (x : Node ℕ _) → get c.args.self.now c.args.at ≡ Some x → take 7 c.lone.result.key ≡ prefix_of x
+Inline g c = (x : Node ℕ g.row.P.Denot) → get c.args.self.now c.args.at ≡ Some x → take 7 c.lone.result.key ≡ prefix_of x
 
 inline : (g : Over) (c : After-lone g) → Inline g c
 inline g c = λ x e.
@@ -34,7 +34,7 @@ index-requires g c = named_slot c.self.inside.slab c.args.self.now c.self.view_i
 pub of-requires-clause-differs : goal.of-requires-clause-differs
 of-requires-clause-differs g c =
     let n = node_at c.args.self.now c.args.at c.requires.stands in
-    subst (λ p. fits p c.args.key.now ≡ _) (sym (in_slot g (goal.at.of-requires-clause-differs g c).After-prefix n.0 n.1)) (c.requires.differs n.0 n.1)
+    subst (λ p. fits p c.args.key.now ≡ false) (sym (in_slot g (goal.at.of-requires-clause-differs g c).After-prefix n.0 n.1)) (c.requires.differs n.0 n.1)
 
 pub lone-requires : goal.lone-requires
 lone-requires g c = named_lone c.self.inside.slab c.args.self.now c.self.view_is c.args.at c.at.inside.slot c.at.inside.byte c.at.view_is c.in-Some.byte c.in-Some.is c.requires.stands
