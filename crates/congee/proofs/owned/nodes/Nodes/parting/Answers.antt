@@ -1,4 +1,4 @@
-use Rattle.std.proofs.Common.{◌≡◌, ℕ, false, take, sym, ap, subst, ◌∙◌}
+use Rattle.std.proofs.Common.{◌≡◌, ℕ, false, take, get_or, sym, ap, subst, ◌∙◌}
 use Rattle.std.specs.Prelude.{Some}
 use Rattle.slab.specs.Slab.{get}
 use Rattle.congee.specs.Heap.{fits}
@@ -38,3 +38,14 @@ of-requires-clause-differs g c =
 
 pub lone-requires : goal.lone-requires
 lone-requires g c = named_lone c.self.inside.slab c.args.self.now c.self.view_is c.args.at c.at.inside.slot c.at.inside.byte c.at.view_is c.in-Some.byte c.in-Some.is c.requires.stands
+
+pub of-requires-in-Some-clause-differs : goal.of-requires-in-Some-clause-differs
+of-requires-in-Some-clause-differs g c =
+    let n = node_at c.args.self.now c.args.at c.requires.stands in
+    subst (λ p. fits p c.args.key.now ≡ false) (sym (inline g (goal.at.of-requires-in-Some-clause-differs g c).After-lone n.0 n.1)) (c.requires.differs n.0 n.1)
+
+pub returns-in-None-clause-place : goal.returns-in-None-clause-place
+returns-in-None-clause-place g c = λ x e. subst (λ p. DiffersAt c.args.key.now p c.of.result.place) (in_slot g (goal.at.returns-in-None-clause-place g c).After-prefix x e) c.of.ensures.place
+
+pub returns-in-None-clause-other : goal.returns-in-None-clause-other
+returns-in-None-clause-other g c = λ x e. c.of.ensures.other ∙ ap (λ p. get_or p c.of.result.place 0) (in_slot g (goal.at.returns-in-None-clause-other g c).After-prefix x e)
