@@ -50,5 +50,5 @@ returns-in-None-get_child g c = leaf_nothing c.self.inside.slab c.args.self.now 
 pub returns-in-Some-Node-get_child : goal.returns-in-Some-Node-get_child
 returns-in-Some-Node-get_child g c = leads_turn c.args.self.now c.args.key.now (257 * c.args.slot) (257 * c.in-Some-Node-get_child.below) c.turn-in-Some-Node-get_child.result (leaf_leads c.self.inside.slab c.args.self.now c.self.view_is c.args.slot c.index.result.now c.args.key.now c.index.ensures c.in-Leaf.n c.in-Leaf.is c.prefix_len-in-Leaf.result c.prefix_len-in-Leaf.ensures.count c.get_child-in-Leaf.result c.get_child-in-Leaf.ensures c.in-Some-Node-get_child.field-0 (Sub c.in-Some-Node-get_child.below) c.in-Some-Node-get_child.is c.in-Some-Node-get_child.field-0-is) c.turn-in-Some-Node-get_child.ensures
 
-pub returns-in-Some-Value-get_child : goal.returns-in-Some-Value-get_child
-returns-in-Some-Value-get_child g c = leaf_leads c.self.inside.slab c.args.self.now c.self.view_is c.args.slot c.index.result.now c.args.key.now c.index.ensures c.in-Leaf.n c.in-Leaf.is c.prefix_len-in-Leaf.result c.prefix_len-in-Leaf.ensures.count c.get_child-in-Leaf.result c.get_child-in-Leaf.ensures c.in-Some-Value-get_child.field-0 (Value c.in-Some-Value-get_child.value) c.in-Some-Value-get_child.is c.in-Some-Value-get_child.field-0-is
+pub returns-in-Some-Value : goal.returns-in-Some-Value
+returns-in-Some-Value g c = leaf_leads c.self.inside.slab c.args.self.now c.self.view_is c.args.slot c.index.result.now c.args.key.now c.index.ensures c.in-Leaf.n c.in-Leaf.is c.prefix_len-in-Leaf.result c.prefix_len-in-Leaf.ensures.count c.get_child-in-Leaf.result c.get_child-in-Leaf.ensures c.in-Some-Value.field-0 (Value c.in-Some-Value.value) c.in-Some-Value.is c.in-Some-Value.field-0-is

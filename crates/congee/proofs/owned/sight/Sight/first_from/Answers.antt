@@ -55,11 +55,11 @@ returns-in-Some-default-Node-first_from-clause-first g c = λ s at x seen e. sub
     (leaf_first s at c.args.from x e c.in-Leaf.least c.in-Leaf.n.now (subst (Sees s at) c.in-Leaf.is seen) c.in-Some-default-Node-first_from.byte (Sub c.in-Some-default-Node-first_from.below)
     (subst (λ k. IsFirst (children_of c.in-Leaf.n.now) c.args.from c.in-Some-default-Node-first_from.byte k) c.in-Some-default-Node-first_from.field-0-1-is c.in-Some-default-Node-first_from.ensures))
 
-pub returns-in-Some-default-Value-first_from-clause-first : goal.returns-in-Some-default-Value-first_from-clause-first
-returns-in-Some-default-Value-first_from-clause-first g c = λ s at x seen e. leaf_first s at c.args.from x e c.in-Leaf.least c.in-Leaf.n.now (subst (Sees s at) c.in-Leaf.is seen) c.in-Some-default-Value-first_from.byte (Value c.in-Some-default-Value-first_from.value)
-    (subst (λ k. IsFirst (children_of c.in-Leaf.n.now) c.args.from c.in-Some-default-Value-first_from.byte k) c.in-Some-default-Value-first_from.field-0-1-is c.in-Some-default-Value-first_from.ensures)
+pub returns-in-Some-default-Value-clause-first : goal.returns-in-Some-default-Value-clause-first
+returns-in-Some-default-Value-clause-first g c = λ s at x seen e. leaf_first s at c.args.from x e c.in-Leaf.least c.in-Leaf.n.now (subst (Sees s at) c.in-Leaf.is seen) c.in-Some-default-Value.byte (Value c.in-Some-default-Value.value)
+    (subst (λ k. IsFirst (children_of c.in-Leaf.n.now) c.args.from c.in-Some-default-Value.byte k) c.in-Some-default-Value.field-0-1-is c.in-Some-default-Value.ensures)
 
-pub returns-in-Some-default-Value-first_from-clause-key : goal.returns-in-Some-default-Value-first_from-clause-key
-returns-in-Some-default-Value-first_from-clause-key g c = λ s at seen.
-    let low : c.in-Some-default-Value-first_from.byte < 256 = search rules in
-    leaf_key s at c.in-Leaf.least c.in-Some-default-Value-first_from.byte _ c.in-Leaf.n.now (subst (Sees s at) c.in-Leaf.is seen) low refl
+pub returns-in-Some-default-Value-clause-key : goal.returns-in-Some-default-Value-clause-key
+returns-in-Some-default-Value-clause-key g c = λ s at seen.
+    let low : c.in-Some-default-Value.byte < 256 = search rules in
+    leaf_key s at c.in-Leaf.least c.in-Some-default-Value.byte _ c.in-Leaf.n.now (subst (Sees s at) c.in-Leaf.is seen) low refl
