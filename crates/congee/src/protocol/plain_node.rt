@@ -202,7 +202,11 @@ impl PlainNode {
             None => {
                 let depth = self.prefix.len();
                 let seen = self.look(version, key[depth], seen);
-                Reading::Fits { depth, seen }
+                Reading::Fits {
+                    depth,
+                    form: self.form,
+                    seen,
+                }
             }
         }
     }
@@ -251,6 +255,19 @@ impl PlainNode {
             }
         }
         Least::Nothing
+    }
+
+    /// The node that hangs at another byte than this one.
+    pub(crate) fn other(&self, byte: u8) -> usize {
+        let mut found = 0;
+        for place in 0..256u16 {
+            if place != byte as u16 {
+                if let Child::Node(node) = self.child(place as u8) {
+                    found = node;
+                }
+            }
+        }
+        found
     }
 
     /// Gives the children to another node. The names of nodes stay here too.
