@@ -190,6 +190,7 @@ pub record AboveLocked {C V : Type 0} (number : C → ℕ) (i : ℕ) (a : ℕ �
   pub fitted : fits (h (number p.seat.node)).prefix key ≡ true
   pub byte : p.byte ≡ slice_index key (length (h (number p.seat.node)).prefix)
   pub child : child_for (h (number p.seat.node)) key ≡ Below n
+  pub depth : p.depth ≡ length (h (number p.seat.node)).prefix
   pub count : (h (number p.seat.node)).count ≡ p.count
   pub form : (h (number p.seat.node)).capacity ≡ places p.form
 
@@ -294,7 +295,7 @@ SeatedIf number a h (Some p) = Seated a h (number p.node) p.version
 
 abbrev pub PlanKnown : {C V : Type 0} → (C → ℕ) → ℕ → (ℕ → Note) → (ℕ → Node V) → List ℕ → Plan C → Type 0
 PlanKnown number i a h key (Here check one) = SeatedIf number a h check × OneKnown number i a h key one Nothing
-PlanKnown number i a h key (Above two) = ((q : ℕ) × TwoKnown number i a h key two None q) × Adding two.change
+PlanKnown number i a h key (Above two) = ((q : ℕ) × TwoKnown number i a h key two None q) × Adding two.change × (two.top ≡ None)
 
 abbrev pub MadeLeafFor : {C V : Type 0} → (C → ℕ) → ℕ → (ℕ → Note) → (ℕ → Node V) → List ℕ → Site C → Option C → Type 0
 MadeLeafFor number i a h key s None = s.depth ≡ MAX_PREFIX_LEN
