@@ -1,7 +1,7 @@
 -- What a step takes out of the tree: nothing, or the nodes that its call then hands over.
 use Rattle.std.specs.List.{Contains}
 use Rattle.std.proofs.lemmas.List.Elements.{Contains-append_left, Contains-push}
-use Rattle.std.proofs.Common.{◌≡◌, ◌≢◌, ℕ, zero, suc, ◌<◌, ◌⊎◌, inl, inr, Bool, true, false, List, [], ◌∷◌, ◌++◌, length, refl, sym, ◌∙◌, ap, subst, arith}
+use Rattle.std.proofs.Common.{◌≡◌, ◌≢◌, ℕ, zero, suc, ◌<◌, ◌⊎◌, inl, inr, Bool, true, false, List, [], ◌∷◌, ◌++◌, length, get_or, refl, sym, ◌∙◌, ap, subst, arith}
 use Rattle.std.proofs.Math.ListN.{set}
 use Rattle.std.specs.Prelude.{Option, None, Some, slice_get}
 use Rattle.congee.specs.declared.forms.base_node.NodeType.{NodeType}
@@ -64,8 +64,10 @@ has_more : (x : ℕ) (xs : List ℕ) (n : ℕ) → Contains xs n → Contains (x
 has_more x xs n c = (suc c.0, (omega (arith, c.1), c.2))
 
 has_cases : (x : ℕ) (xs : List ℕ) (n : ℕ) → Contains (x ∷ xs) n → (n ≡ x) ⊎ Contains xs n
-has_cases x xs n (zero, c) = inl (sym c.1)
-has_cases x xs n (suc k, c) = inr (k, (omega (arith, c.0), c.1))
+has_cases x xs n c = at c.0 c.1 c.2 where
+  at : (k : ℕ) → k < length (x ∷ xs) → get_or (x ∷ xs) k n ≡ n → (n ≡ x) ⊎ Contains xs n
+  at zero l e = inl (sym e)
+  at (suc k) l e = inr (k, (omega (arith, l), e))
 
 next_has : {C : Type 0} (number : C → ℕ) (next : Option C) (n : ℕ) → IsMade number next n → Contains (next_list number next) n
 next_has number None n l = absurd l
