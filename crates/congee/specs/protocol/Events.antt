@@ -124,6 +124,7 @@ HoldsAlike n = HoldsValues n ⊎ HoldsNodes n
 -- the only child beside the one at a byte
 pub record IsOther {V : Type 0} (n : Node V) (b c : ℕ) : Type 0 where
   pub at : ℕ
+  pub fits : at < 256
   pub apart : at ≢ b
   pub child : n.children at ≡ Below c
   pub alone : (x : ℕ) → x ≢ b → x ≢ at → n.children x ≡ Nothing
