@@ -89,11 +89,10 @@ impl<C: NodeName, P: Payload> Phase<C, P> {
     pub(crate) fn skipping(&mut self, next: Self) -> Move<P>
         ensures { turn_of self.new result ≡ skipping next }
     {
-        drop(mem::replace(self, next));
+        let report = self.leave(next, false, Outcome::Running);
         Move {
-            decided: false,
             skipped: true,
-            outcome: Outcome::Running,
+            ..report
         }
     }
 
