@@ -145,6 +145,11 @@ sum_from g from (suc b) = sum_from g from b + cond (ltb b from) 0 (g b)
 abbrev pub steps_down : ℕ → List ℕ → ℕ
 steps_down more prefix = more + 4 * (MAX_PREFIX_LEN - length prefix)
 
+-- the steps at a second node that was taken out, or is to be unlocked
+abbrev pub steps_next : {C : Type 0} → Option C → ℕ → ℕ
+steps_next None k = 0
+steps_next (Some c) k = k
+
 module _ {V : Type 0} where
   -- the nodes, and the pairs, at and below what hangs at a byte
   abbrev pub nodes_at : (ℕ → ℕ) → Hung V → ℕ
@@ -205,11 +210,6 @@ module _ {V : Type 0} where
   steps_sweep number h s (stage.Check r x) = steps_found number h (KEY_BYTES - s.above.len) r x + steps_way number h KEY_BYTES (rungs_of s.above)
   steps_sweep number h s stage.Full = 1
   steps_sweep number h s stage.Over = 0
-
-  -- the steps at a second node that was taken out, or is to be unlocked
-  abbrev pub steps_next : {C : Type 0} → Option C → ℕ → ℕ
-  steps_next None k = 0
-  steps_next (Some c) k = k
 
   -- the steps that a call takes at most from here on
   abbrev pub steps_left : {C : Type 0} → (C → ℕ) → (ℕ → Node V) → Phase C V → ℕ

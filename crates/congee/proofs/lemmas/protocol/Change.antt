@@ -100,7 +100,7 @@ pub live_changed : {V : Type 0} (h : ℕ → Node V) (c b : ℕ) (x : Hung V) (h
 live_changed h c b x h' k l = record { made = k.made ∙ l.made; kept = k.destroyed ∙ l.kept; unretired = k.retired ∙ l.unretired; unlocked = k.locked ∙ l.unlocked; live = k.obsolete ∙ l.live; keyed = rw k.prefix l.keyed }
 
 -- the node above, locked before and after, with one of its children changed
-under_above : {V : Type 0} (i : ℕ) (a : ℕ → Note) (h : ℕ → Node V) (a' : ℕ → Note) (g h' : ℕ → Node V) (n b : ℕ) (x : Hung V) → Holding i a n → (a' n).status ≡ (a n).status → (a' n).owner ≡ (a n).owner → g n ≡ h n → ChangeGives g n b x h' → StaysLocked i a h a' h' n
+pub under_above : {V : Type 0} (i : ℕ) (a : ℕ → Note) (h : ℕ → Node V) (a' : ℕ → Note) (g h' : ℕ → Node V) (n b : ℕ) (x : Hung V) → Holding i a n → (a' n).status ≡ (a n).status → (a' n).owner ≡ (a n).owner → g n ≡ h n → ChangeGives g n b x h' → StaysLocked i a h a' h' n
 under_above i a h a' g h' n b x o e eo f k = record {
   owner = o.owner;
   owner_after = eo ∙ o.owner;
@@ -117,7 +117,7 @@ under_above i a h a' g h' n b x o e eo f k = record {
 }
 
 -- the old node, whose values may have been moved
-under_taken : {V : Type 0} (i : ℕ) (a : ℕ → Note) (h : ℕ → Node V) (a' : ℕ → Note) (g g1 h' : ℕ → Node V) (m c : ℕ) → (a m).owner ≡ Some i → (a m).status ≡ Linked → is_published (a' m).status ≡ true → (a' m).owner ≡ Some i
+pub under_taken : {V : Type 0} (i : ℕ) (a : ℕ → Note) (h : ℕ → Node V) (a' : ℕ → Note) (g g1 h' : ℕ → Node V) (m c : ℕ) → (a m).owner ≡ Some i → (a m).status ≡ Linked → is_published (a' m).status ≡ true → (a' m).owner ≡ Some i
     → g m ≡ h m → TakeOverGives g m c g1 → h' m ≡ g1 m → StaysLocked i a h a' h' m
 under_taken i a h a' g g1 h' m c o l p po e k f = record {
   owner = o;

@@ -75,7 +75,7 @@ module _ {C V : Type 0} (number : C → ℕ) (same : V → V → Bool) (always :
       → Sound number same always i k kind given h (Some v) (started plan r) a h
   started_sound kind given v (Here None one) r g p s = record { known = (g, (Nothing, p.1, fits_one_new one.change v, s)); answer = λ x _. refl }
   started_sound kind given v (Here (Some q) one) r g p s = record { known = (g, p.0, p.1, fits_one_new one.change v, s); answer = λ x _. refl }
-  started_sound kind given v (Above two) r g p s = record { known = (g, (None, p.0.0, p.0.1, has_no_top two.change two.top p.1.0 p.1.1, fits_two_new two.change v p.1.0, s)); answer = λ x _. refl }
+  started_sound kind given v (Above two) r g p s = record { known = (g, (None, p.0.0, p.0.1, has_no_top two.change two.top p.1 p.2, fits_two_new two.change v p.1, s)); answer = λ x _. refl }
 
   pub ready_sound : (kind : Kind V) (given : Option V) (plan : Plan C) → adds kind ≡ true → HasGift kind given → PlanKnown number i a h (key_bytes k) plan → Sound number same always i k kind given h given (ready kind plan) a h
   ready_sound Get given plan e g p = absurd cc

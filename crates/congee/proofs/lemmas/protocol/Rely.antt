@@ -187,7 +187,7 @@ module _ {C V : Type 0} (number : C → ℕ) (key : List ℕ) (K : ℕ → Type 
 
   pub plan_kept : (plan : Plan C) → Each K (names_plan number plan) → PlanKnown number i a h key plan → PlanKnown number i a' h' key plan
   plan_kept (Here check one) k x = (seated_if_kept check (left K (name_seated number check) (names_one number one) k) x.0, one_kept one _ (right K (name_seated number check) (names_one number one) k).0 x.1)
-  plan_kept (Above two) k x = ((x.0.0, two_kept two None x.0.0 k.0 k.1.0 x.0.1), x.1.0, x.1.1)
+  plan_kept (Above two) k x = ((x.0.0, two_kept two None x.0.0 k.0 k.1.0 x.0.1), x.1, x.2)
 
   pub made_leaf_kept : (s : Site C) (leaf : Option C) → MadeLeafFor number i a h key s leaf → MadeLeafFor number i a' h' key s leaf
   made_leaf_kept s None x = x
