@@ -510,15 +510,19 @@ pub record Stepped {C V : Type 0} (number : C → ℕ) (same : V → V → Bool)
   pub kind : m'.kind ≡ m.kind
   pub step : PhaseStepped number same always most why m.root (key_bytes m.key) m.kind fail answer m.given m.phase h m'.given (record { phase = m'.phase; report = d }) h'
 
--- a phase in which a call marks, hands over or unlocks a node, or has ended
+-- a phase in which a call unlocks a node, or has ended
+abbrev pub IsUnlocking : {C V : Type 0} → Phase C V → Type 0
+IsUnlocking (UnlockBelow n p r) = Unit {0}
+IsUnlocking (Unlock n r) = Unit {0}
+IsUnlocking (Unwind n next e) = Unit {0}
+IsUnlocking Ended = Unit {0}
+IsUnlocking _ = ⊥
+
+-- one in which it marks or hands over a node, or one of these
 abbrev pub IsReleasing : {C V : Type 0} → Phase C V → Type 0
 IsReleasing (Obsolete n next p r) = Unit {0}
 IsReleasing (Retire n next p r) = Unit {0}
-IsReleasing (UnlockBelow n p r) = Unit {0}
-IsReleasing (Unlock n r) = Unit {0}
-IsReleasing (Unwind n next e) = Unit {0}
-IsReleasing Ended = Unit {0}
-IsReleasing _ = ⊥
+IsReleasing s = IsUnlocking s
 
 -- one that has the value that stands
 abbrev pub HasValue : {C V : Type 0} → Phase C V → Type 0

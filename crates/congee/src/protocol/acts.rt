@@ -2,7 +2,7 @@
 ghost use Rattle.std.specs.Prelude.{◌≡◌, ◌≢◌, ◌<◌, ◌≤◌, Bool, Option, None, Result, IfErr};
 ghost use Rattle.congee.specs.Heap.{Nothing, Below, Stands};
 ghost use Rattle.congee.specs.Keys.{key_bytes};
-ghost use Rattle.congee.specs.protocol.Steps.{turn_of, form_above, decided, after_change, Acts, MayLock, IsReleasing, BackOne, BackTwo, MadeLeaf, MadeGreater, MadeTop, MadeBeside, MadeLesser, lesser_form, UpgradedOne, UpgradedTop, UpgradedAbove, UpgradedBelow, Collapses, PutsLesser, Lessens, MayLessen, MayTop, ChangedOne, ChangedTwo, IsCheckedAbove, MayStep, MayBackOne, MayBackTwo, MayBackLeaf, MayChangeOne, MayChangeTwo, Changeable, Blank, PutsGreater, PutsFork, PhaseStepped};
+ghost use Rattle.congee.specs.protocol.Steps.{turn_of, form_above, decided, after_change, Acts, MayLock, IsReleasing, IsUnlocking, BackOne, BackTwo, MadeLeaf, MadeGreater, MadeTop, MadeBeside, MadeLesser, lesser_form, UpgradedOne, UpgradedTop, UpgradedAbove, UpgradedBelow, Collapses, PutsLesser, Lessens, MayLessen, MayTop, ChangedOne, ChangedTwo, IsCheckedAbove, MayStep, MayBackOne, MayBackTwo, MayBackLeaf, MayChangeOne, MayChangeTwo, Changeable, Blank, PutsGreater, PutsFork, PhaseStepped};
 ghost use Rattle.congee.specs.protocol.Events.{hung, upgrade_gives, HoldsAlike};
 ghost use Rattle.congee.specs.declared.protocol.store.Upgrade.{Upgrade};
 ghost use Rattle.congee.specs.declared.protocol.store.Refusal.{Refusal};
@@ -122,7 +122,7 @@ impl<C: NodeName, P: Payload> Machine<C, P> {
         }
     }
 
-    /// The step of a phase that marks, hands over or unlocks a node, or of a call that has ended.
+    /// The step of a phase that marks or hands over a node, or of a later one.
     fn leave<S: Store<C, P>>(&mut self, store: &mut S) -> Move<P>
         requires may { MayStep C.number self.old.root (key_bytes self.old.key) self.old.given self.old.phase (S.heap store.old) }
         requires leaves { IsReleasing self.old.phase }
@@ -158,6 +158,22 @@ impl<C: NodeName, P: Payload> Machine<C, P> {
                 store.retire(node);
                 self.phase.after_retire(next, above, reply)
             }
+            // The phases that unlock a node, and the last one: each has its arm there.
+            _ => self.release(store),
+        }
+    }
+
+    /// The step of a phase that unlocks a node, or of a call that has ended.
+    fn release<S: Store<C, P>>(&mut self, store: &mut S) -> Move<P>
+        requires may { MayStep C.number self.old.root (key_bytes self.old.key) self.old.given self.old.phase (S.heap store.old) }
+        requires unlocks { IsUnlocking self.old.phase }
+        requires within { Within (S.version_max store.old) (S.heap store.old) }
+        ensures phase_alone { self.new ≡ record self.old { phase = self.new.phase } }
+        ensures limit { S.version_max store.new ≡ S.version_max store.old }
+        ensures rest { S.rest store.new ≡ S.rest store.old }
+        ensures step { (fail : Bool) (answer : Option (Option P)) → PhaseStepped C.number P.same_as P.always_copies (S.version_max store.old) (S.refuses store.old) self.old.root (key_bytes self.old.key) self.old.kind fail answer self.old.given self.old.phase (S.heap store.old) self.new.given (turn_of self.new.phase result) (S.heap store.new) }
+    {
+        match &mut self.phase {
             Phase::UnlockBelow { node, above, reply } => {
                 let (node, above, reply) = (*node, *above, taken(reply));
                 store.unlock(node);
@@ -590,12 +606,7 @@ fn put_lesser<C: NodeName, P: Payload, S: Store<C, P>>(
 }
 
 /// Puts a lesser leaf, without the value at the byte, in the place of the one at hand.
-fn shrink<C: NodeName, P: Payload, S: Store<C, P>>(
-    store: &mut S,
-    two: Two<C>,
-    lesser: C,
-    byte: u8,
-)
+fn shrink<C: NodeName, P: Payload, S: Store<C, P>>(store: &mut S, two: Two<C>, lesser: C, byte: u8)
     requires { MayLessen (S.heap store.old) (C.number two.at.node) (C.number lesser) byte (C.number two.above.seat.node) two.above.byte }
     ensures limit { S.version_max store.new ≡ S.version_max store.old }
     ensures rest { S.rest store.new ≡ S.rest store.old }

@@ -20,7 +20,6 @@ ghost use Rattle.congee.specs.protocol.Destroys.{Destroys, Spares};
 ghost use Rattle.congee.specs.protocol.Events.{HoldsAlike};
 ghost use Rattle.congee.specs.protocol.Handing.{Leads, InTree};
 ghost use Rattle.congee.specs.Heap.{Node, value_at};
-
 ghost use Rattle.congee.specs.protocol.Holdings.{MadeBy, Holdings};
 ghost use Rattle.congee.specs.Keys.{key_bytes, IsMapOf};
 ghost use Rattle.congee.specs.protocol.Leaving.{StepLeaves};

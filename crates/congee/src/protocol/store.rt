@@ -48,7 +48,10 @@ pub struct Seen<C, P> {
 #[derive(Drop)]
 pub enum Reading<C, P> {
     /// The node's prefix and the key differ after so many bytes; the byte is the prefix's there.
-    Differs { common: usize, byte: u8 },
+    Differs {
+        common: usize,
+        byte: u8,
+    },
     /// The node's prefix, of so many bytes, is the beginning of the key.
     Fits {
         depth: usize,

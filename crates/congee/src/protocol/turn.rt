@@ -9,7 +9,9 @@ use crate::forms::base_node::NodeType;
 use crate::forms::child::Child;
 use crate::forms::prefix::MAX_PREFIX_LEN;
 use crate::protocol::machine::{Move, Outcome};
-use crate::protocol::phase::{Above, Double, Kind, Parent, Phase, Plan, Single, Site, Two, near_of};
+use crate::protocol::phase::{
+    Above, Double, Kind, Parent, Phase, Plan, Single, Site, Two, near_of,
+};
 use crate::protocol::store::{NodeName, Reading, Refusal, Seat};
 use crate::protocol::sweep::Told;
 use judge::{Payload, Reply};
@@ -561,14 +563,13 @@ impl<C: NodeName, P: Payload> Phase<C, P> {
         match change {
             Double::Split { .. } => self.decided(Phase::UnlockBelow { node, above, reply }),
             Double::Collapse | Double::ShrinkAbove { .. } => self.after_top(two, reply),
-            Double::Unlink | Double::Grow { .. } | Double::GrowLink { .. } | Double::Shrink { .. } => {
-                self.decided(Phase::Obsolete {
-                    node,
-                    next: None,
-                    above,
-                    reply,
-                })
-            }
+            // Otherwise the node at hand went.
+            _ => self.decided(Phase::Obsolete {
+                node,
+                next: None,
+                above,
+                reply,
+            }),
         }
     }
 

@@ -304,8 +304,17 @@ module _ {C V : Type 0} (number : C → ℕ) (same : V → V → Bool) (always :
       near_to number h' 10 _ t g.1 (((made_taken (number c) _ (key_bytes k) s.depth g.0 p.seat pp u.0, (made_taken (number c) _ (key_bytes k) s.depth g.0 s.at ps u.1.0, tt)), tt), omega arith, tt)
   lesser_made s p None r (Err e) t pp ps y u g = stays 10 t g.0 (near_to number h 10 (skipping (UpgradeOne (set_at s) r)) t g.1 (((u.1.0, tt), tt), omega arith, tt))
   lesser_made s p (Some top) r (Ok c) t pp ps y u g =
-      near_to number h' 10 _ t g.1 (((made_taken (number c) _ (key_bytes k) p.depth g.0 top.seat y.0.fresh.seated.published u.1.1.0,
-          (made_taken (number c) _ (key_bytes k) p.depth g.0 p.seat pp u.0, (made_taken (number c) _ (key_bytes k) p.depth g.0 s.at ps u.1.0, tt))), tt), omega arith, tt)
+      near_to number h' 10 _ t g.1 (
+        (
+          (
+            made_taken (number c) _ (key_bytes k) p.depth g.0 top.seat y.0.fresh.seated.published u.1.1.0,
+            (made_taken (number c) _ (key_bytes k) p.depth g.0 p.seat pp u.0, (made_taken (number c) _ (key_bytes k) p.depth g.0 s.at ps u.1.0, tt)),
+          ),
+          tt,
+        ),
+        omega arith,
+        tt,
+      )
   lesser_made s p (Some top) r (Err e) t pp ps y u g = stays 10 t g.0 (near_to number h 10 (skipping (UpgradeAbove (both_of p s Unlink) r)) t g.1 (((u.0, (u.1.0, tt)), tt), omega arith, tt))
 
   one_upgraded : (one : One C) (r : Reply V) (u : Upgrade) (t : Turn C V) → u ≢ Failed → UpgradedOne number root one r h u h' t → Near' 3 t

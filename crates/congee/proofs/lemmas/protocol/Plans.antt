@@ -191,7 +191,7 @@ module _ {C V : Type 0} (number : C → ℕ) (same : V → V → Bool) (always :
       })
       (λ _. by_test (λ (x : Turn C V). Sound number same always i k kind given h None x a h) (ltb 2 p.count && shrinks p.form p.count) _ _
       (λ q. let b : (ltb 2 p.count ≡ true) × (shrinks p.form p.count ≡ true) = both_true (ltb 2 p.count) (shrinks p.form p.count) q in
-          record { known = (g, (v, m, z), d, refl, c, (f, one, more p.count b.0, b.1)); answer = λ y _. refl })
+      record { known = (g, (v, m, z), d, refl, c, (f, one, more p.count b.0, b.1)); answer = λ y _. refl })
       (λ _. leaf_out kind given s v r p c one g m d z))
     where
       more : (n : ℕ) → ltb 2 n ≡ true → 2 < n
