@@ -1,5 +1,5 @@
 -- A call among others, and the same call by numbers.
-use Rattle.std.proofs.Common.{◌≡◌, ℕ, ◌-◌, Bool, cond, List, length, refl, sym, ◌∙◌, ap, subst, arith}
+use Rattle.std.proofs.Common.{◌≡◌, ℕ, ◌-◌, Bool, false, cond, List, length, refl, sym, ◌∙◌, ap, subst, arith}
 use Rattle.std.specs.Prelude.{Option, Some, slice_get, ltb, leb}
 use Rattle.congee.specs.declared.forms.base_node.NodeType.{NodeType}
 use Rattle.congee.specs.declared.protocol.op.Op.{Op}

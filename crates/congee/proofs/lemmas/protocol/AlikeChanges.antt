@@ -112,7 +112,7 @@ module _ {C V : Type 0} (order : List ℕ) (number : C → ℕ) where
   nothing_alike : (x y : Hung V) → HungAlike order x y → x ≡ Nothing → y ≡ Nothing
   nothing_alike x y a e = let P : Hung V → Type 0 = λ z. HungAlike order z y in subst P e a
 
-  other_named : (n m : Node V) (b c : ℕ) → NodeAlike order n m → IsOther n b c → HungAlike order (Below c) (Below (other_of m b))
+  other_named : (n m : Node V) (b c : ℕ) → NodeAlike order n m → IsOther n b c → HungAlike {V = V} order (Below c) (Below (other_of m b))
   other_named n m b c a is =
       let P : Hung V → Type 0 = λ z. HungAlike order z (m.children is.at) in
       let y : (d : ℕ) × (m.children is.at ≡ Below d) × (slice_get order d ≡ Some c) = subst P is.child (a.children is.at) in

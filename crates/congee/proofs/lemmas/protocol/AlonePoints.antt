@@ -347,7 +347,7 @@ module _ {C V : Type 0} (number : C → ℕ) (same : V → V → Bool) (always :
   both_upgraded two r Failed t f g = absurd (f refl)
   both_upgraded two r Exhausted t f g = near_to number h' 7 _ t g.1 ((tt, tt), unwinds (node_of two.top), tt)
     where
-      unwinds : (next : Option C) → 1 + steps_next {V = V} next 1 < 7
+      unwinds : (next : Option C) → 1 + steps_next next 1 < 7
       unwinds None = omega arith
       unwinds (Some c) = omega arith
 

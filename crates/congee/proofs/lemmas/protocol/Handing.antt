@@ -374,7 +374,7 @@ some_of xs n c e = let P : List ℕ → Type 0 = λ y. Contains y n in let z : C
 
 pub none_if : (xs : List ℕ) → ((n : ℕ) → Contains xs n → ⊥) → xs ≡ []
 none_if [] f = refl
-none_if (x ∷ xs) f = absurd (f x (0, (omega arith, refl)))
+none_if (x ∷ xs) f = absurd (f x (0, omega arith, refl))
 
 empty_or : (xs : List ℕ) → (xs ≡ []) ⊎ (xs ≢ [])
 empty_or [] = inl refl

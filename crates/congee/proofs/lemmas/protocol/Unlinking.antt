@@ -48,26 +48,26 @@ in_linked : {V : Type 0} (a : ℕ → Note) (h : ℕ → Node V) (n : ℕ) → T
 in_linked a h n t x = leads_linked a h t x.0 0 n t.root x.1
 
 -- what a call has taken out
-next_list : {C : Type 0} → (C → ℕ) → Option C → List ℕ
+abbrev next_list : {C : Type 0} → (C → ℕ) → Option C → List ℕ
 next_list number None = []
 next_list number (Some c) = number c ∷ []
 
-taken_list : {C V : Type 0} → (C → ℕ) → Phase C V → List ℕ
+abbrev taken_list : {C V : Type 0} → (C → ℕ) → Phase C V → List ℕ
 taken_list number (Obsolete m next p r) = number m ∷ next_list number next
 taken_list number (Retire m next p r) = number m ∷ next_list number next
 taken_list number _ = []
 
 has_first : (x : ℕ) (xs : List ℕ) (n : ℕ) → n ≡ x → Contains (x ∷ xs) n
-has_first x xs n e = let P : ℕ → Type 0 = λ y. Contains (x ∷ xs) y in subst P (sym e) (0, (omega arith, refl))
+has_first x xs n e = let P : ℕ → Type 0 = λ y. Contains (x ∷ xs) y in subst P (sym e) (0, omega arith, refl)
 
 has_more : (x : ℕ) (xs : List ℕ) (n : ℕ) → Contains xs n → Contains (x ∷ xs) n
-has_more x xs n c = (suc c.0, (omega (arith, c.1), c.2))
+has_more x xs n c = (suc c.0, omega (arith, c.1), c.2)
 
 has_cases : (x : ℕ) (xs : List ℕ) (n : ℕ) → Contains (x ∷ xs) n → (n ≡ x) ⊎ Contains xs n
 has_cases x xs n c = at c.0 c.1 c.2 where
   at : (k : ℕ) → k < length (x ∷ xs) → get_or (x ∷ xs) k n ≡ n → (n ≡ x) ⊎ Contains xs n
   at zero l e = inl (sym e)
-  at (suc k) l e = inr (k, (omega (arith, l), e))
+  at (suc k) l e = inr (k, omega (arith, l), e)
 
 next_has : {C : Type 0} (number : C → ℕ) (next : Option C) (n : ℕ) → IsMade number next n → Contains (next_list number next) n
 next_has number None n l = absurd l
