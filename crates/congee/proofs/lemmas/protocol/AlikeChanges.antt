@@ -160,8 +160,8 @@ module _ {C V : Type 0} (order : List ℕ) (number : C → ℕ) where
     collapse_pair (Some top) y a may k =
         let P : Option (Parent ℕ) → Type 0 = λ z. Pair order h h' (change_top u Collapse z g) in
         let Q : ℕ → Type 0 = λ z. Pair order h h' (hang g a.0.seat.node z (Below (other_of (g u.above.seat.node) u.above.byte))) in
-        let S : ℕ → Type 0 = λ z. HungAlike order (Below k.0) (Below (other_of (g u.above.seat.node) z)) in
-        let is : HungAlike order (Below k.0) (Below (other_of (g u.above.seat.node) u.above.byte)) = subst S (sym e.above.byte) (other_named (h p) (g u.above.seat.node) two.above.byte k.0 (x u.above.seat.node p e.above.seat.node may.stands) k.1) in
+        let S : ℕ → Type 0 = λ z. HungAlike {V = V} order (Below k.0) (Below (other_of (g u.above.seat.node) z)) in
+        let is : HungAlike {V = V} order (Below k.0) (Below (other_of (g u.above.seat.node) u.above.byte)) = subst S (sym e.above.byte) (other_named (h p) (g u.above.seat.node) two.above.byte k.0 (x u.above.seat.node p e.above.seat.node may.stands) k.1) in
         subst P (sym a.1) (subst Q (sym a.2.byte) (pair_hung order h g o x (number top.seat.node) a.0.seat.node top.byte (Below k.0) (Below (other_of (g u.above.seat.node) u.above.byte)) h' a.2.seat.node may.stands_top is k.2))
 
     lessen_pair : (c : C) (m : ℕ) → Named order number c m → HoldsNodes (h p) → (top : Option (Parent C)) (y : Option (Parent ℕ)) → TopAlike order number top y → MayTop number two (ShrinkAbove c) top h → Lessens number two c top h h'
