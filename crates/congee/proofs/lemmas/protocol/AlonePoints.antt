@@ -390,7 +390,7 @@ module _ {C V : Type 0} (number : C → ℕ) (same : V → V → Bool) (always :
   points_on new (Obsolete n next q r) answer new' t x u free ask p g = near_to number h' _ _ t g.2 ((tt, tt), omega arith, tt)
   points_on new (Retire n next q r) answer new' t x u free ask p g = near_to number h' _ _ t g.2 (handed next)
     where
-      handed : (next : Option C) → Nearer number h' (2 + steps_next {V = V} next 2) (after_retire next q r)
+      handed : (next : Option C) → Nearer number h' (2 + steps_next next 2) (after_retire next q r)
       handed None = ((tt, tt), omega arith, tt)
       handed (Some c) = ((tt, tt), omega arith, tt)
   points_on new (UnlockBelow n q r) answer new' t x u free ask p g = near_to number h' 2 _ t g.2 ((tt, tt), omega arith, tt)
