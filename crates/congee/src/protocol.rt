@@ -35,7 +35,7 @@ mod turn;
 
 pub use machine::{Machine, Move, Noise, Outcome};
 pub use op::Op;
-pub use phase::{Double, Kind, One, Parent, Phase, Plan, Single, Site, Two};
+pub use phase::{Above, Double, Kind, One, Parent, Phase, Plan, Single, Site, Two};
 pub use plain::PlainStore;
 pub use plain_node::PlainNode;
 pub use run::{Played, Step, play, step_of};

@@ -6,6 +6,7 @@ pub mod Rely
 pub mod Words
 pub mod Change
 pub mod Regrow
+pub mod Lessening
 pub mod Owners
 pub mod Parting
 pub mod Sound

@@ -88,6 +88,7 @@ pub fn step_of<C: NodeName + Drop, P: Payload, S: Store<C, P>>(
     } else {
         Move {
             decided: false,
+            skipped: false,
             outcome: Outcome::Running,
         }
     }
