@@ -70,11 +70,13 @@ const VALUES: [&str; 5] = [
 ];
 
 /// A call that changes the tree's nodes, or takes a value out.
-const FORMS: [&str; 4] = [
+const FORMS: [&str; 6] = [
     "a growth: 0 9 1; insert 0 9; 1:1 2:2 3:3 4:4; 0:9 1:1 2:2 3:3 4:4; 7 13 7",
     "a split: 0 999 1; insert 1 9; 256:256; 1:9 256:256; 7 13 8",
     "a removal of one of several values: 0 9 1; remove 1; 1:1 2:2 3:3; 2:2 3:3; 7 9 4",
     "a removal of a leaf: 0 18446744073709551615 1; remove 1; 1:1 72057594037927936:7; 72057594037927936:7; 7 12 6",
+    "a removal of a leaf and the node above, before the scan's key: 256 999 1; remove 1; 1:1 256:256; 256:256; 10 18 9",
+    "a removal of a leaf and the node above, with the scan's key: 0 999 1; remove 1; 1:1 256:256; 256:256; 10 18 9",
 ];
 
 /// The same beside longer scans, from the step on at which the call may take its first lock.
@@ -85,7 +87,7 @@ const LONGER: [&str; 3] = [
 ];
 
 /// Scans of more than one leaf, which a change of each kind makes begin anew.
-const CHANGES: [&str; 6] = [
+const CHANGES: [&str; 7] = [
     "an insertion: 0 999 4; insert 2 9; 1:1 3:3 300:300; 1:1 2:9 3:3 300:300; 24 14 0",
     "a growth: 2 999 4; insert 5 9; 1:1 2:2 3:3 4:4 300:300; 1:1 2:2 3:3 4:4 5:9 300:300; 21 17 0",
     "a split: 1 18446744073709551615 4; insert 256 9; 1:1 2:2 72057594037927936:7; \
@@ -93,6 +95,7 @@ const CHANGES: [&str; 6] = [
     "a removal: 0 18446744073709551615 4; remove 2; 1:1 2:2 3:3 72057594037927936:7; \
      1:1 3:3 72057594037927936:7; 18 9 0",
     "a removal of a leaf: 0 999 4; remove 256; 1:1 256:256 513:513; 1:1 513:513; 29 15 0",
+    "a removal of a leaf and the node above: 0 999 4; remove 1; 1:1 256:256 257:257; 256:256 257:257; 24 18 0",
     "an exchange: 0 999 4; cas 2 2 9; 1:1 2:2 300:300; 1:1 2:9 300:300; 24 12 0",
 ];
 

@@ -6,8 +6,8 @@ use std::test::Fail;
 
 const LOOKS: [&str; 4] = [
     "keys and emptiness are the map's: new 2 1000 = ok; reg = worker 0; 0 pin = ok; 0 insert 1 1 = none; 0 insert 256 2 = none; \
-     charged = charged 2296; 0 empty = false; 0 keys = keys 1 256; 0 remove 1 = some 1; 0 remove 256 = some 2; 0 empty = true; \
-     0 keys = keys; 0 unpin = ok; 0 round 3 = ok; charged = charged 2168",
+     charged = charged 2296; 0 empty = false; 0 keys = keys 1 256; 0 remove 1 = some 1; 0 remove 256 = some 2; waiting = waiting 3 192; \
+     0 empty = true; 0 keys = keys; 0 unpin = ok; 0 round 3 = ok; charged = charged 2104",
     "keys ascend with a pin and without: new 1 1000 = ok; reg = worker 0; 0 keys = keys; 0 pin = ok; 0 empty = true; \
      0 insert 18446744073709551615 1 = none; 0 insert 0 1 = none; 0 insert 72057594037927936 1 = none; 0 insert 1 1 = none; \
      0 keys = keys 0 1 72057594037927936 18446744073709551615; 0 unpin = ok; 0 keys = keys 0 1 72057594037927936 18446744073709551615",
