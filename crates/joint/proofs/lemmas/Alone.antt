@@ -81,7 +81,7 @@ unpins V s s' w turned.Done g on = cc on
 unpins V s s' w (turned.Refused f) g on = cc on
 
 -- a securing takes three steps at most
-secures_in : (places hand : ℕ) (x : Collecting_phase) → comes_by (stage_of x) (work.Secure 1) ≡ true → (0 < left_in places x hand) × (left_in places x hand ≤ 3)
+secures_in : (places hand : ℕ) (x : Collecting_phase) → comes_by (stage_of x) (work.Secure 2) ≡ true → (0 < left_in places x hand) × (left_in places x hand ≤ 3)
 secures_in places hand (stage.Secure n) e = (omega arith, omega arith)
 secures_in places hand stage.SecureSeal e = (omega arith, omega arith)
 secures_in places hand (stage.SecureQueue seal) e = (omega arith, omega arith)
@@ -166,7 +166,7 @@ module _ {V : Type 0} (same : V → V → Bool) (always : Bool) (laws : CallLaws
       bounds : (0 < turns_left b.forest.collector w) × (turns_left b.forest.collector w ≤ 3)
       bounds = secures_in (length b.forest.collector.table) (length (place b.forest.collector w).hand) (place b.forest.collector w).phase is_at.0.1
 
-      secures_by : (o : Turned) (n : ℕ) → GoesOn b.forest.collector w (work.Secure 1) o s'.forest.collector → s'.calls ≡ set b.calls w (secured_call o (slice_get b.calls w)) → s'.machines ≡ secured_machines o (slice_get b.calls w) b.machines w
+      secures_by : (o : Turned) (n : ℕ) → GoesOn b.forest.collector w (work.Secure 2) o s'.forest.collector → s'.calls ≡ set b.calls w (secured_call o (slice_get b.calls w)) → s'.machines ≡ secured_machines o (slice_get b.calls w) b.machines w
           → is_in_flight {V = V} (reserving o) ≡ true → turns_left b.forest.collector w + 40 ≤ n → After n
       secures_by turned.Running n g ec em on le =
           let calls = at_place b.calls s'.calls w (Securing p) inside (ec ∙ ap (λ k. set b.calls w (secured_call turned.Running k)) e) in
@@ -182,8 +182,8 @@ module _ {V : Type 0} (same : V → V → Bool) (always : Bool) (laws : CallLaws
 
       secures : (r : Report V) (n : ℕ) → GoesOnReserving same always b w r s' → is_in_flight r.outcome ≡ true → turns_left b.forest.collector w + 40 ≤ n → After n
       secures r n x on le =
-          let P : State (Slot V) (Unit {0}) → Type 0 = λ y. GoesOn b.forest.collector w (work.Secure 1) x.turn.outcome y in
-          let g = subst P (sym x.step.collected.state) (turns.goes_on b.forest.collector w (work.Secure 1) x.turn intact.safe.sound.sound.orderly is_at.0 x.step.collected.report) in
+          let P : State (Slot V) (Unit {0}) → Type 0 = λ y. GoesOn b.forest.collector w (work.Secure 2) x.turn.outcome y in
+          let g = subst P (sym x.step.collected.state) (turns.goes_on b.forest.collector w (work.Secure 2) x.turn intact.safe.sound.sound.orderly is_at.0 x.step.collected.report) in
           secures_by x.turn.outcome n g x.step.call x.step.machine (sym (ap (λ y. is_in_flight y.outcome) x.report) ∙ on) le
 
     -- a step on the tree

@@ -339,7 +339,7 @@ module _ {V : Type 0} (same : V → V → Bool) (always : Bool) where
     few_machines = let e = intact.machines in let l = intact.few in omega (arith, e, l)
 
     module _ (k : Census) (c : AreCounted k s ms) where
-      -- the next step of a call that makes its place free
+      -- the next step of a call that makes its places free
       pub counted_secured : (who : ℕ) (op : Point V) → slice_get calls who ≡ Some (Securing op) → (r : Collection) (s' : Forest V) (ms' : List (Machine Id V)) (calls' : List (Call V)) → Secured same always s ms calls who r s' ms' calls' → AreCounted k s' ms'
       counted_secured who op at r s' ms' calls' x =
           let d : AreCounted k s' ms = counted_collected k s ms c s' x.collected.map x.collected.destroys in

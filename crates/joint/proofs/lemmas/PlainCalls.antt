@@ -147,7 +147,7 @@ module _ {V : Type 0} (same : V → V → Bool) (always : Bool) where
     collects s' event op r a k = collected_agrees s' event k.turn k.step a (call_after k.turn.outcome (Collecting op)) k.calls
         (λ i m n b. let P : List (Machine Id V) → Type 0 = λ ms. slice_get ms i ≡ Some m in subst P k.machines b) (λ m b. idle_after k.turn.outcome op (nodes s'.forest) m (p.calls w))
 
-    -- a writing call makes its place free
+    -- a writing call makes its places free
     module _ (op : Point V) (here : slice_get s.calls w ≡ Some (Securing op)) (a : Agree s order p) where
       machine_here : (m : Machine Id V) → slice_get s.machines w ≡ Some m → p.calls w ≡ begun 0 op
       machine_here m b = a.calls w (Securing op) m here b

@@ -161,7 +161,7 @@ module _ {V : Type 0} (same : V → V → Bool) (always : Bool) (laws : (f : For
         let calls : x.between.calls ≡ set s.calls w (Securing op) = x.begins.call ∙ ap (λ (k : Option (Call V)). set s.calls w (securing_of k)) q in
         let here : slice_get x.between.calls w ≡ Some (Securing op) = ap (λ (ks : List (Call V)). slice_get ks w) calls ∙ set_here s.calls w (Securing op) (Reserving op) q in
         let T : List (Machine Id V) → Type 0 = λ ms. (n : Machine Id V) × (slice_get ms w ≡ Some n) in
-        let middle : Agree x.between order p = collected_agrees same always (engine_of s) law order p w x.between (collector.Begin (Secure 1)) x.begins.turn x.begins.collected a (Securing op) calls
+        let middle : Agree x.between order p = collected_agrees same always (engine_of s) law order p w x.between (collector.Begin (Secure 2)) x.begins.turn x.begins.collected a (Securing op) calls
         (λ i m n b. let R : List (Machine Id V) → Type 0 = λ ms. slice_get ms i ≡ Some m in subst R x.begins.machine b)
         (λ m b. let R : List (Machine Id V) → Type 0 = λ ms. slice_get ms w ≡ Some m in whole_agrees.calls w (Reserving op) m q (subst R x.begins.machine b)) in
         subst P (sym x.goes.report) (secures same always x.between (laws x.between.forest) order p w op here middle (engine_of s') r x.goes.turn.outcome un x.goes refl (λ m b. subst T (sym x.begins.machine) (machine_at (Reserving op) q)))

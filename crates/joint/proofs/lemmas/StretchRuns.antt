@@ -68,7 +68,7 @@ use Rattle.joint.proofs.lemmas.Stretches.{IsBlocked, sees_blocks, stored, joined
 use Rattle.joint.proofs.lemmas.Views.{ties}
 
 -- a securing doesn't publish
-secure_calm : (s : Stand) → comes_by (stage_of s) (work.Secure 1) ≡ true → publishes s ≡ false
+secure_calm : (s : Stand) → comes_by (stage_of s) (work.Secure 2) ≡ true → publishes s ≡ false
 secure_calm (stage.Publish seen) e = absurd (false≢true e)
 secure_calm (stage.RepinPublish seen) e = absurd (false≢true e)
 secure_calm _ e = refl
@@ -274,7 +274,7 @@ module _ {V : Type 0} (same : V → V → Bool) (always : Bool) (laws : CallLaws
   -- a writing call begins to make its place free
   begins_securing : (s b : Whole V) (w : ℕ) → BeginsSecuring same always s.forest s.machines s.calls w b.forest b.machines b.calls → Lasts s → Lasts b
   begins_securing s b w x l = record {
-    on = collected s.forest b.forest s.machines w (turning.Begin (work.Secure 1)) x.turn (λ z. refl) x.collected l.on;
+    on = collected s.forest b.forest s.machines w (turning.Begin (work.Secure 2)) x.turn (λ z. refl) x.collected l.on;
     unheld = λ j y. l.unheld j (y.0, sym (ap (λ ms. slice_get ms j) x.machine) ∙ y.1, y.2);
   }
 
