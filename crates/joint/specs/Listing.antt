@@ -1,6 +1,6 @@
 -- The nodes that stand, and those of them that wait for their destruction, each listed once.
-use Rattle.std.specs.Prelude.{◌≢◌, ◌↔◌, ℕ, suc, ◌-◌, ◌&&◌, not, Bool, List, [], ◌∷◌, ◌++◌}
-use Rattle.std.specs.List.{AllPairs, Contains, filter, flat_map, map}
+use Rattle.std.specs.Prelude.{◌≢◌, ◌↔◌, ℕ, suc, ◌-◌, ◌&&◌, not, Bool, List, [], ◌∷◌, ◌++◌, map}
+use Rattle.std.specs.List.{AllPairs, Contains, filter, flat_map}
 use Rattle.crossbeam_epoch.specs.declared.world.cells.Cell.{Cell}
 use Rattle.crossbeam_epoch.specs.World.Store.{value_at}
 use Rattle.congee.specs.declared.protocol.machine.Machine.{Machine}

@@ -1,6 +1,6 @@
 //! How many nodes wait for their destruction.
 
-ghost use Rattle.std.specs.Prelude.{◌≡◌, ◌*◌, ◌<◌, ◌≤◌, ◌∷◌, IfSome, length, slice_get};
+ghost use Rattle.std.specs.Prelude.{◌≡◌, ◌*◌, ◌<◌, ◌≤◌, ◌∷◌, IfSome, length, map, slice_get};
 ghost use Rattle.std.specs.List.{sum_by};
 ghost use Rattle.congee.specs.Heap.{Stands};
 ghost use Rattle.joint.specs.Census.{AreCounted, taken_at};
