@@ -255,7 +255,7 @@ module _ {C V : Type 0} where
     step_light (MakeGreater s p leaf) never g = greater_light number kind s p leaf h key g.1.0 h' t g.1.1
     step_light (MakeTop p s common byte) never g = top_light number p s common byte h key g.1.0 h' t g.1.1
     step_light (MakeBeside p s common byte top) never g = beside_light number kind p s common byte top h key g.1.0 h' t g.1.1
-    step_light (MakeLesser s p top r) never g = lesser_light number s p top r h key g.1.0 h' t g.1.1.0
+    step_light (MakeLesser s p top r) never g = lesser_light number s p top r h key g.1.0 h' t g.1.1
     step_light (AskOld s v) never g = given_light always same kind s v answer new new' t g.1
     step_light (AskNew plan) never g = new_light plan answer new new' t g.1
     step_light (Confirm s r) never g = if_this (is_taken (h (number s.node)) s.version) root (answered r) t tt g.2
@@ -392,9 +392,9 @@ module _ {C V : Type 0} where
     -- a reading call that owes none isn't about to
     reads_on : (s : Phase C V) → OwesNone s → Known number same always i a h k key Get new s → Unlinks s → ⊥
     reads_on (ChangeTwo two r) o known u =
-        let e : known.0 ≡ new = left_found same k new known.0 r known.4 in
+        let e : known.0 ≡ new = left_found same k new known.0 r known.5 in
         let P : Option V → Type 0 = λ x. FitsTwo two.change known.0 x in
-        fits_both two.change known.0 (subst P (sym e) known.3)
+        fits_both two.change known.0 (subst P (sym e) known.4)
     reads_on (Obsolete n next p r) o known u = o
     reads_on (Retire n next p r) o known u = o
     reads_on _ o known u = u

@@ -130,7 +130,7 @@ taken_is (Obsolete m next p r) n c = listed_out m next n c
 taken_is (Retire m next p r) n c = listed_out m next n c
 taken_is _ n c = absurd (let z : c.0 < 0 = c.1 in omega (arith, z))
 
-is_taken : {V : Type 0} (x : Phase Id V) (n : ℕ) → TakenBy id_number x n → Contains (map id_number (taken x)) n
+pub is_taken : {V : Type 0} (x : Phase Id V) (n : ℕ) → TakenBy id_number x n → Contains (map id_number (taken x)) n
 is_taken (Obsolete m next p r) n t = out_listed m next n t
 is_taken (Retire m next p r) n t = out_listed m next n t
 is_taken _ n t = absurd t
