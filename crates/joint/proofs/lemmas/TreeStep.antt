@@ -21,7 +21,7 @@ use Rattle.congee.specs.Heap.{Stands}
 use Rattle.congee.specs.Keys.{key_bytes}
 use Rattle.congee.specs.protocol.Holdings.{MadeBy}
 use Rattle.congee.specs.Ledger.{is_published}
-use Rattle.congee.specs.protocol.Names.{names}
+use Rattle.congee.specs.protocol.Names.{name_made, names}
 use Rattle.congee.specs.protocol.Play.{EachKnown, Protocol, IsMoved, StepPlays, Settled}
 use Rattle.congee.specs.protocol.Protocol.{Known, TakenOut}
 use Rattle.congee.specs.protocol.Steps.{PhaseStepped, after_retire}
@@ -110,7 +110,7 @@ module _ {V : Type 0} (same : V → V → Bool) (always : Bool) (cells : CellLaw
     was =
         let P : Phase Id V → Type 0 = λ x. Contains (names id_number x) (id_number n) in
         let Q : Phase Id V → Type 0 = λ x. MadeBy id_number x (id_number n) → ⊥ in
-        let has : Contains (names id_number m.phase) (id_number n) = subst P (sym at) (0, omega arith, refl) in
+        let has : Contains (names id_number m.phase) (id_number n) = subst P (sym at) (0, (let l : 0 < suc (suc (length (name_made id_number next))) = omega arith in l), refl) in
         elim (safe.sound.sound.seen step.who m n.name run.1 has) [
           | inl made ↦ absurd (subst Q (sym at) (λ z. z) made)
           | inr v ↦ cells.visible_was safe.sound.past step.who n.name v
