@@ -1,7 +1,8 @@
 -- Changes of single nodes of a plain list.
-use Rattle.std.proofs.Common.{◌≡◌, ◌≢◌, ℕ, subst, zero, suc, ◌<◌, ◌≤◌, ◌==◌, Bool, true, false, List, [], ◌∷◌, ◌++◌, length, get_or, set, take, drop, refl, sym, ◌∙◌, ap, arith}
+use Rattle.std.proofs.Common.{◌≡◌, ◌≢◌, ℕ, subst, zero, suc, ◌<◌, ◌≤◌, ◌==◌, Bool, true, false, List, [], ◌∷◌, ◌++◌, length, get_or, set, take, drop, refl, sym, ◌∙◌, ap, arith, inl, inr}
 use Rattle.std.specs.Prelude.{None, Some, slice_index}
 use Rattle.std.proofs.Math.Seq.{take-append_seam}
+use Rattle.std.proofs.lemmas.Bool.{cases_lt}
 use Rattle.std.proofs.lemmas.List.{length-set, length-take-le, get_or-take}
 use Rattle.congee.specs.declared.forms.child.Child.{Child}
 use Rattle.congee.specs.declared.forms.child.Child.TheVariants as hanging
@@ -16,7 +17,7 @@ use Rattle.congee.specs.protocol.Events.{hung, places, ChangeGives, HoldsValues,
 use Rattle.congee.specs.protocol.Bounds.{Within}
 use Rattle.congee.specs.protocol.Plain.{count_of, child_at}
 use Rattle.congee.specs.protocol.PlainHeap.{plain_node_of, plain_heap, IsFresh, IsTruly, SameWord, HandsOver}
-use Rattle.congee.proofs.lemmas.protocol.PlainLemmas.{child_set, child_beside, count_set, alone, pair_alone, lacking, none_left, all_left}
+use Rattle.congee.proofs.lemmas.protocol.PlainLemmas.{child_set, child_beside, count_set, alone, pair_alone, one_left, past, lacking, none_left, all_left}
 use Rattle.congee.proofs.lemmas.protocol.Leftovers.{kept_node, kept_value}
 use Rattle.congee.proofs.lemmas.owned.Joins.{front_fits}
 use Rattle.congee.proofs.lemmas.Graft.{on_test}
@@ -258,3 +259,11 @@ other_of n b at c y two there apart fits e child =
       child = below;
       alone = λ x nb na. pair_alone n.children.items b at two (λ q. apart (sym q)) there (λ q. absurd (let z : Below c ≡ Nothing = sym below ∙ q in cc)) x nb na;
     }
+
+pub none_other : (n : PlainNode) (b place : ℕ) → count_of n.children.items ≡ 2 → 256 ≤ place → ((q : ℕ) → q ≢ b → q < place → child_at n.children.items q ≡ Nothing) → ⊥
+none_other n b place two far before =
+    let all : (q : ℕ) → q ≢ b → child_at n.children.items q ≡ Nothing = (λ q ne. elim (cases_lt q place) [
+      | inl lt ↦ before q ne lt
+      | inr ge ↦ past n.children.items q (omega (arith, n.wide, far, ge))
+    ]) in
+    omega (arith, two, one_left n.children.items b all)
