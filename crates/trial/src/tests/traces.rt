@@ -132,13 +132,14 @@ fn is_quiet(index: &mut Index) -> bool {
 /// What worker 0 does first.
 fn prepare(alloc: Global, index: &mut Index, text: &str) -> Result<(), Fail> {
     for turn in text.split(',') {
-        match question(alloc, turn.trim()) {
-            Ok(("keys", keys)) => {
-                for key in keys.iter() {
+        let (word, numbers) = question(alloc, turn.trim())?;
+        match word {
+            "keys" => {
+                for key in numbers.iter() {
                     call(index, 0, Call::Insert(*key, *key));
                 }
             }
-            Ok(("quiet", _)) => {
+            "quiet" => {
                 if !is_quiet(index) {
                     return Err("what waits stays")?;
                 }
