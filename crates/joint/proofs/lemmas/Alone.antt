@@ -55,7 +55,7 @@ use Rattle.joint.proofs.lemmas.Walking as walking
 abbrev left_of : {V : Type 0} → Forest V → ℕ → Option (Call V) → Option (Machine Id V) → ℕ
 left_of f who (Some (Collecting op)) m = turns_left f.collector who
 left_of f who (Some (Reserving op)) m = 43
-left_of f who (Some (Securing op)) m = turns_left f.collector who + 40
+left_of f who (Some (Securing op)) m = turns_left f.collector who + 43
 left_of f who (Some Walking) (Some m) = steps_left id_number (nodes f) m.phase
 left_of f who _ _ = 0
 
@@ -92,7 +92,7 @@ at_place {A} xs ys w x l e = let y : (y : A) × (slice_get xs w ≡ Some y) = th
 
 module _ {V : Type 0} where
   -- a writing call begins on its key
-  begun_left : (h : ℕ → Node V) (p : Point V) → writes p ≡ true → steps_left id_number h (first_phase root p) ≡ 40
+  begun_left : (h : ℕ → Node V) (p : Point V) → writes p ≡ true → steps_left id_number h (first_phase root p) ≡ 43
   begun_left h (point.Get k) e = absurd (cc e)
   begun_left h (point.Insert k v) e = refl
   begun_left h (point.Remove k) e = refl
@@ -167,7 +167,7 @@ module _ {V : Type 0} (same : V → V → Bool) (always : Bool) (laws : CallLaws
       bounds = secures_in (length b.forest.collector.table) (length (place b.forest.collector w).hand) (place b.forest.collector w).phase is_at.0.1
 
       secures_by : (o : Turned) (n : ℕ) → GoesOn b.forest.collector w (work.Secure 2) o s'.forest.collector → s'.calls ≡ set b.calls w (secured_call o (slice_get b.calls w)) → s'.machines ≡ secured_machines o (slice_get b.calls w) b.machines w
-          → is_in_flight {V = V} (reserving o) ≡ true → turns_left b.forest.collector w + 40 ≤ n → After n
+          → is_in_flight {V = V} (reserving o) ≡ true → turns_left b.forest.collector w + 43 ≤ n → After n
       secures_by turned.Running n g ec em on le =
           let calls = at_place b.calls s'.calls w (Securing p) inside (ec ∙ ap (λ k. set b.calls w (secured_call turned.Running k)) e) in
           let same_ms : s'.machines ≡ b.machines = em ∙ ap (λ k. secured_machines turned.Running k b.machines w) e in
@@ -180,7 +180,7 @@ module _ {V : Type 0} (same : V → V → Bool) (always : Bool) (laws : CallLaws
           after_by Walking (Some (begun root p)) n (unlocked_set w b.machines s'.machines (begun root p) set_ms free) calls at_ms (begins (nodes s'.forest) p) (let x = bounds.0 in omega (arith, forty, x, le))
       secures_by (turned.Refused f) n g ec em on le = absurd (cc on)
 
-      secures : (r : Report V) (n : ℕ) → GoesOnReserving same always b w r s' → is_in_flight r.outcome ≡ true → turns_left b.forest.collector w + 40 ≤ n → After n
+      secures : (r : Report V) (n : ℕ) → GoesOnReserving same always b w r s' → is_in_flight r.outcome ≡ true → turns_left b.forest.collector w + 43 ≤ n → After n
       secures r n x on le =
           let P : State (Slot V) (Unit {0}) → Type 0 = λ y. GoesOn b.forest.collector w (work.Secure 2) x.turn.outcome y in
           let g = subst P (sym x.step.collected.state) (turns.goes_on b.forest.collector w (work.Secure 2) x.turn intact.safe.sound.sound.orderly is_at.0 x.step.collected.report) in
@@ -223,7 +223,7 @@ module _ {V : Type 0} (same : V → V → Bool) (always : Bool) (laws : CallLaws
         let three = (bounds b x.begins.intact p at free).1 in
         secures b x.begins.intact p at free r n x.goes on (let y = al.left in omega (arith, left, y, three))
     goes (Some (Securing p)) noise r n e unfailed answers al x on busy =
-        let left : left_of s.forest w (slice_get s.calls w) (slice_get s.machines w) ≡ turns_left s.forest.collector w + 40 = ap (λ y. left_of s.forest w y (slice_get s.machines w)) e in
+        let left : left_of s.forest w (slice_get s.calls w) (slice_get s.machines w) ≡ turns_left s.forest.collector w + 43 = ap (λ y. left_of s.forest w y (slice_get s.machines w)) e in
         secures s holds.0 p e al.unlocked r n x on (let y = al.left in omega (arith, left, y))
     goes (Some Walking) noise r n e unfailed answers al x on busy =
         walks noise r n e unfailed answers al.unlocked (λ m at.
@@ -318,7 +318,7 @@ module _ {V : Type 0} (same : V → V → Bool) (always : Bool) (laws : CallLaws
           of op.Repin y = turn_begins work.Repin r free y on
           of op.Flush y = turn_begins work.Flush r free y on
           of op.Release y = turn_begins work.Release r free y on
-          of (op.Get k) y = enters (point.Get k) r 40 60 free y (omega arith) (omega arith)
+          of (op.Get k) y = enters (point.Get k) r 43 60 free y (omega arith) (omega arith)
           of (op.Insert k v) y = reserves (point.Insert k v) r free y
           of (op.Remove k) y = reserves (point.Remove k) r free y
           of (op.ComputePresent k) y = reserves (point.ComputePresent k) r free y
