@@ -3,7 +3,7 @@
 
 use super::arcs::{Text, is, text};
 use super::failures::{ends_with, is_flushed, opened};
-use super::machine::{Index, is_done, replied};
+use super::machine::{Index, begin, go, is_done, is_in_flight, op_of, replied};
 use super::schedules::step_at;
 use super::threaded::{next, spent};
 use congee::{Congee, DefaultAllocator, OOMError};
@@ -148,13 +148,13 @@ fn shared_texts_come_back(rt: HostRuntime) -> Result<(), Fail> {
     let guard = tree.pin(&rt, &mut worker)?;
     let put = are_shared(&rt, &tree, texts, &world, &mut worker, &guard);
     spent(tree.unpin(&rt, &mut worker, guard))?;
-    assert_eq!(rt; (put, tree.waiting(&rt)), (Ok(true), 1));
+    assert_eq!(rt; (put, tree.waiting(&rt)), (Ok(true), 2));
     for _ in 0..3 {
         rounds(&rt, &tree, &mut worker)?;
     }
-    assert_eq!(rt; (tree.waiting(&rt), tree.charged(&rt)), (0, 2232));
+    assert_eq!(rt; (tree.waiting(&rt), tree.charged(&rt)), (0, 2168));
     assert_eq!(rt; takes_and_leaves(&rt, &tree, worker), Ok(true));
-    assert_eq!(rt; (tree.waiting(&rt), tree.charged(&rt)), (1, 2232));
+    assert_eq!(rt; (tree.waiting(&rt), tree.charged(&rt)), (1, 2168));
     assert!(rt; tree.close(&rt).is_ok());
     Ok(())
 }
@@ -253,6 +253,28 @@ fn each_writing_call_wants_a_place_in_its_bag(rt: HostRuntime) -> Result<(), Fai
         assert!(rt; ends_with(&mut index, made, reply), "{made:?}");
         assert!(rt; is_emptied(&mut index));
     }
+    Ok(())
+}
+
+/// A leaf with two values gets a lesser form where there is memory for one, and goes on as it is otherwise.
+#[test]
+fn a_removal_goes_on_without_a_lesser_leaf(rt: HostRuntime) -> Result<(), Fail> {
+    let mut index = opened(rt.alloc())?;
+    assert!(rt; is_done(&mut index, 0, Op::Pin));
+    for key in 1..=5 {
+        assert!(rt; ends_with(&mut index, Call::Insert(key, key), Reply::Insert(None)));
+    }
+    assert!(rt; is_emptied(&mut index));
+    assert!(rt; ends_with(&mut index, Call::Remove(1), Reply::Remove(Some(1))));
+    let mut report = begin(&mut index, 0, op_of(Call::Remove(2)));
+    let mut is_skipped = report.skipped;
+    while is_in_flight(&report.outcome) {
+        report = go(&mut index, 0, None);
+        is_skipped = is_skipped || report.skipped;
+    }
+    assert_eq!(rt; report.outcome, replied(Reply::Remove(Some(2))));
+    let state = if is_skipped { (0, 2272) } else { (1, 2336) };
+    assert_eq!(rt; (index.waiting(), index.charged()), state);
     Ok(())
 }
 
