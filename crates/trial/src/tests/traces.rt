@@ -68,10 +68,10 @@ const ALONE: [&str; 23] = [
 
 /// One that finds no version, or no cell.
 const WANTING: [&str; 7] = [
-    "the upper lock of two has no version left, and the lesser leaf goes back: version 2; keys 1 2 3 4 5, remove 1, quiet; begin \
-     0 remove 2, go 0 9; 8 2336 0, 9 back 1 2272 0 Exhausted",
-    "the lower one has none: version 3; keys 1 2 3 4 5, remove 1, quiet, insert 2 7, insert 2 8; begin 0 remove 2, go 0 11; 8 \
-     2336 0, 10 back 1 2272 0, 11 Exhausted",
+    "the upper lock of two has no version left, and the lesser leaf goes back: version 4; keys 1 2 3 4 5, remove 1, quiet, \
+     insert 72057594037927936 1, insert 144115188075855872 1; begin 0 remove 2, go 0 9; 8 2464 0, 9 back 1 2400 0 Exhausted",
+    "the lower one has none: version 4; keys 1 2 3 4 5, remove 1, quiet, insert 2 7, insert 2 8, insert 2 2; begin 0 remove 2, \
+     go 0 11; 8 2336 0, 10 back 1 2272 0, 11 Exhausted",
     "the first of three has none, and the lesser node goes back: version 3; keys 1 257 513 769 1025, remove 1025, quiet; begin 0 \
      remove 769, go 0 12; 11 2592 0, 12 back 1 2528 0 Exhausted",
     "the second of three has none: version 5; keys 1 257 513 769 1025, remove 1025, insert 1025 1, remove 1025, insert 1025 1, \
