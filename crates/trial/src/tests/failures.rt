@@ -205,7 +205,7 @@ fn a_script_goes_on_or_ends_where_memory_is_refused(rt: HostRuntime) -> Result<(
     Ok(())
 }
 
-/// Calls of one worker: a leaf grows twice, its way parts from others', and leaves go.
+/// Calls of one worker: a leaf grows, its way parts from others' twice, and these go with the nodes above.
 const CALLS: [(Call<u64>, Reply<u64>); 14] = [
     (Call::Insert(1, 1), Reply::Insert(None)),
     (Call::Insert(2, 2), Reply::Insert(None)),
@@ -263,13 +263,13 @@ fn a_call_that_finds_no_memory_changes_nothing(rt: HostRuntime) -> Result<(), Fa
     for (made, reply) in CALLS {
         assert!(rt; ends_with(&mut index, made, reply), "{made:?}");
     }
-    // The root, a leaf of 16 and the two nodes over it; a leaf of 4 grew, and two went with their last values.
-    assert_eq!(rt; state(&index), (2104 + 168 + 2 * 64 + 3 * 64, 3, 3 * 64));
+    // The root and a leaf of 16; a leaf of 4 grew, and two went with their last values, each with the node above.
+    assert_eq!(rt; state(&index), (2104 + 168 + 5 * 64, 5, 5 * 64));
     for _ in 0..3 {
         assert!(rt; is_flushed(&mut index));
         assert!(rt; is_done(&mut index, 0, Op::Unpin));
         assert!(rt; is_done(&mut index, 0, Op::Pin));
     }
-    assert_eq!(rt; state(&index), (2104 + 168 + 2 * 64, 0, 0));
+    assert_eq!(rt; state(&index), (2104 + 168, 0, 0));
     Ok(())
 }
