@@ -54,7 +54,7 @@ use Rattle.joint.proofs.lemmas.Walking as walking
 -- the steps that a worker's call takes at most from here on
 abbrev left_of : {V : Type 0} → Forest V → ℕ → Option (Call V) → Option (Machine Id V) → ℕ
 left_of f who (Some (Collecting op)) m = turns_left f.collector who
-left_of f who (Some (Reserving op)) m = 43
+left_of f who (Some (Reserving op)) m = 46
 left_of f who (Some (Securing op)) m = turns_left f.collector who + 43
 left_of f who (Some Walking) (Some m) = steps_left id_number (nodes f) m.phase
 left_of f who _ _ = 0
@@ -218,7 +218,7 @@ module _ {V : Type 0} (same : V → V → Bool) (always : Bool) (laws : CallLaws
     goes (Some (Reserving p)) noise r n e unfailed answers al x on busy =
         let b = x.between in
         let at = next_here same always s.forest s.machines s.calls w b.forest b.machines b.calls x.begins p e in
-        let left : left_of s.forest w (slice_get s.calls w) (slice_get s.machines w) ≡ 43 = ap (λ y. left_of s.forest w y (slice_get s.machines w)) e in
+        let left : left_of s.forest w (slice_get s.calls w) (slice_get s.machines w) ≡ 46 = ap (λ y. left_of s.forest w y (slice_get s.machines w)) e in
         let free = subst (λ ms. NoOtherLocks id_number w ms) (sym x.begins.machine) al.unlocked in
         let three = (bounds b x.begins.intact p at free).1 in
         secures b x.begins.intact p at free r n x.goes on (let y = al.left in omega (arith, left, y, three))
@@ -293,8 +293,8 @@ module _ {V : Type 0} (same : V → V → Bool) (always : Bool) (laws : CallLaws
 
       reserves : (p : Point V) (r : Report V) → OthersUnlocked s w → Reserves s w p r s' → Begun 60
       reserves p r free x = (
-        43,
-        with_one 43 (after_by (Reserving p) (slice_get s'.machines w) 44 (subst (λ ms. NoOtherLocks id_number w ms) (sym (ap (λ y. y.machines) x.state)) free) (at_place s.calls s'.calls w (Reserving p) within (ap (λ y. y.calls) x.state)) refl tt (omega arith)),
+        46,
+        with_one 46 (after_by (Reserving p) (slice_get s'.machines w) 47 (subst (λ ms. NoOtherLocks id_number w ms) (sym (ap (λ y. y.machines) x.state)) free) (at_place s.calls s'.calls w (Reserving p) within (ap (λ y. y.calls) x.state)) refl tt (omega arith)),
         omega arith,
       )
 

@@ -50,7 +50,7 @@ use Rattle.joint.proofs.lemmas.Collecting.{there}
 use Rattle.joint.proofs.lemmas.Entering.{begin_idle}
 use Rattle.joint.proofs.lemmas.Flights.{set_at}
 use Rattle.joint.proofs.lemmas.Leaves as leaves
-use Rattle.joint.proofs.lemmas.Leaves.{Owes, Marks, Hands, leads_same, taken_stays}
+use Rattle.joint.proofs.lemmas.Leaves.{Owes, Marks, Hands, Waits, leads_same, taken_stays}
 use Rattle.joint.proofs.lemmas.Left.{taken_owed, waits_is}
 use Rattle.joint.proofs.lemmas.Reserving.{same_nodes}
 use Rattle.joint.proofs.lemmas.Resting.{cleared_is}
