@@ -164,16 +164,20 @@ const TURNS: [u32; 5] = [1, 1, 1, 1, 5];
 
 /// A removal that takes an inner node out, beside another call, whose steps are parted into turns as well. All of the removal's
 /// steps before its first lock come first: so they do in any order in which the other call hasn't locked a node before.
-const WRITES: [&str; 3] = [
-    "two removals below one node: 1:1 256:2; remove 1; remove 256; 2104; 2104; ; 3 3 3 1 1 1 6",
-    "an insertion into the leaf that stays: 1:1 256:2; remove 1; insert 257 9; 2168; 2168; ; 3 3 3 1 1 1 2",
-    "an insertion into the leaf that goes: 1:1 256:2; remove 1; insert 2 9; 2296; 2296; ; 3 3 3 1 1 1 2",
-];
+const REMOVAL: &str = "two removals below one node: 1:1 256:2; remove 1; remove 256; 2104; 2104; ; 3 3 3 1 1 1 6";
 
-const LOOKS: [&str; 3] = [
+const STAYS: &str =
+    "an insertion into the leaf that stays: 1:1 256:2; remove 1; insert 257 9; 2168; 2168; ; 3 3 3 1 1 1 2";
+
+const GOES: &str =
+    "an insertion into the leaf that goes: 1:1 256:2; remove 1; insert 2 9; 2296; 2296; ; 3 3 3 1 1 1 2";
+
+const ABOVE: &str =
+    "an insertion into the node that goes: 1:1 256:2; remove 1; insert 512 9; 2296; 2296; ; 3 2 1 1 1 1 2";
+
+const LOOKS: [&str; 2] = [
     "a look-up in the leaf that stays: 1:1 256:2; remove 1; get 256; 2168; 2168; ; 2 1 1 1 1 1 2",
     "a look-up in the leaf that goes: 1:1 256:2; remove 1; get 1; 2168; 2168; ; 2 1 1 1 1 1 2",
-    "an insertion into the node that goes: 1:1 256:2; remove 1; insert 512 9; 2296; 2296; ; 3 2 1 1 1 1 2",
 ];
 
 /// The removal's steps before its first lock.
@@ -249,13 +253,31 @@ fn wrong_of(alloc: Global, cases: &[&'static str]) -> Result<Option<&'static str
 }
 
 #[test]
-fn a_removal_that_takes_a_node_out_beside_a_writing_call(rt: HostRuntime) -> Result<(), Fail> {
-    assert_eq!(rt; wrong_of(rt.alloc(), &WRITES)?, None);
+fn a_removal_takes_a_node_out_beside_another_removal(rt: HostRuntime) -> Result<(), Fail> {
+    assert_eq!(rt; wrong_of(rt.alloc(), &[REMOVAL])?, None);
     Ok(())
 }
 
 #[test]
-fn a_removal_that_takes_a_node_out_beside_a_look_up(rt: HostRuntime) -> Result<(), Fail> {
+fn a_removal_takes_a_node_out_beside_an_insertion_into_the_leaf_that_stays(rt: HostRuntime) -> Result<(), Fail> {
+    assert_eq!(rt; wrong_of(rt.alloc(), &[STAYS])?, None);
+    Ok(())
+}
+
+#[test]
+fn a_removal_takes_a_node_out_beside_an_insertion_into_the_leaf_that_goes(rt: HostRuntime) -> Result<(), Fail> {
+    assert_eq!(rt; wrong_of(rt.alloc(), &[GOES])?, None);
+    Ok(())
+}
+
+#[test]
+fn a_removal_takes_a_node_out_beside_an_insertion_into_it(rt: HostRuntime) -> Result<(), Fail> {
+    assert_eq!(rt; wrong_of(rt.alloc(), &[ABOVE])?, None);
+    Ok(())
+}
+
+#[test]
+fn a_removal_takes_a_node_out_beside_a_look_up(rt: HostRuntime) -> Result<(), Fail> {
     assert_eq!(rt; wrong_of(rt.alloc(), &LOOKS)?, None);
     Ok(())
 }

@@ -89,10 +89,10 @@ const WANTING: [&str; 7] = [
 const BESIDE: [&str; 5] = [
     "a look-up goes on at a leaf that came up: usual; keys 1 256, quiet; begin 1 get 256, go 1 6, call 0 remove 1, go 1 3; \
      Remove(Some(1)) 2296 2, 9 decided Get(Some(256))",
-    "both leaves of a node go: usual; keys 1 256, quiet; begin 1 remove 256, go 1 11, call 0 remove 1, go 1 13; Remove(Some(1)) \
-     2296 2, 21 decided 2296 3, 24 Remove(Some(256))",
-    "a third child comes before the second of three locks: usual; keys 1 256, quiet; begin 0 remove 1, go 0 11, call 1 insert \
-     512 512, go 0 18; Insert(None) 2360 0, 26 decided 2360 1, 29 Remove(Some(1))",
+    "both leaves of a node go: usual; keys 1 256, quiet; begin 1 remove 256, go 1 10, call 0 remove 1, go 1 13; Remove(Some(1)) \
+     2296 2, 20 decided 2296 3, 23 Remove(Some(256))",
+    "a third child comes before the second of three locks: usual; keys 1 256, quiet; begin 0 remove 1, go 0 10, call 1 insert \
+     512 512, go 0 18; Insert(None) 2360 0, 25 decided 2360 1, 28 Remove(Some(1))",
     "a leaf that is locked comes up: usual; keys 1 256, quiet; begin 1 insert 256 9, go 1 13, call 0 remove 1, go 1 2; \
      Remove(Some(1)) 2296 2, 14 decided, 15 Insert(Some(256))",
     "a scan stands in the node that goes: usual; keys 1 256 257, quiet; begin 1 range 0 1000 9, go 1 13, call 0 remove 1, go 1 \
