@@ -11,6 +11,7 @@ use Rattle.congee.specs.declared.forms.child.Child.TheVariants as child
 use Rattle.congee.specs.declared.protocol.store.Reading.{Reading}
 use Rattle.congee.specs.declared.protocol.store.Reading.TheVariants.{Differs, Fits, Uncopied}
 use Rattle.congee.specs.declared.protocol.store.Refusal.{Refusal}
+use Rattle.congee.specs.declared.protocol.store.Refusal.TheVariants as refusal
 use Rattle.congee.specs.declared.protocol.store.Seat.{Seat}
 use Rattle.congee.specs.declared.protocol.store.Upgrade.{Upgrade}
 use Rattle.congee.specs.declared.protocol.store.Upgrade.TheVariants.{Locked, Failed, Exhausted}
@@ -33,7 +34,7 @@ use Rattle.congee.specs.declared.protocol.turn.Turn.{Turn}
 use Rattle.congee.specs.Heap.{Node, Hung, Nothing, Below, Holds, child_for, is_taken, is_free, version_of}
 use Rattle.congee.specs.Ledger.{Note, Linked, is_published, IsChild, Tree, LockWords}
 use Rattle.congee.specs.protocol.Events.{places, hung, ReadGives, SameBut, NewNode, MakeGives, BackGives, upgrade_gives}
-use Rattle.congee.specs.protocol.Steps.{quiet, adds, form_above, form_below, shrinks, after_version, after_read, down, started, ready, plan_here, unless_full, missing, absent, CopyFailed, IsAsked, replaced, set_at, both, last_out, taken_out, emptied, is_same, IsAtOld, IsAdded, IsExchanged, IsPresent, IsChecked, IsIf, after_miss, IsGiven, IsGivenNew, greater, MadeLeaf, MadeGreater, MadeTop, MadeBeside, MadeLesser, unwound, given_up, UpgradedOne, UpgradedTop, UpgradedAbove, UpgradedBelow, after_top, after_change, after_retire, after_unwind, PhaseStepped}
+use Rattle.congee.specs.protocol.Steps.{quiet, answered, refused, adds, form_above, form_below, shrinks, after_version, after_read, down, started, ready, plan_here, unless_full, missing, absent, CopyFailed, IsAsked, replaced, set_at, both, last_out, taken_out, emptied, is_same, IsAtOld, IsAdded, IsExchanged, IsPresent, IsChecked, IsIf, after_miss, IsGiven, IsGivenNew, greater, MadeLeaf, MadeGreater, MadeTop, MadeBeside, MadeLesser, unwound, given_up, UpgradedOne, UpgradedTop, UpgradedAbove, UpgradedBelow, after_top, after_change, after_retire, after_unwind, PhaseStepped}
 use Rattle.congee.specs.Keys.{key_bytes}
 use Rattle.congee.specs.protocol.Protocol.{ChildOf, IsFar, IsAbove, Sees, Knows, Made, MadeOne, MadeTwo, HasGift, MadeLeafFor, Rely, Known}
 use Rattle.congee.specs.protocol.Names.{names}
@@ -517,11 +518,11 @@ module _ {C V : Type 0} (number : C → ℕ) (same : V → V → Bool) (always :
   step_next most why root fail answer New given' turn m x z g = equal_next given' turn g.0 g.1 (turn_at number h given _ turn g.2 (version_next number h given root None root (version_of (h (number root)))))
   step_next most why root fail answer (Version p n) given' turn m x z g = equal_next given' turn g.0 g.1 (turn_at number h given _ turn g.2 (version_next number h given root p n (version_of (h (number n)))))
   step_next most why root fail answer (Read p at) given' turn m x z g = equal_next given' turn g.0 g.1 (turn_at number h given _ turn g.2.2 (read_next number h given root p at g.2.0))
-  step_next most why root fail answer (Check s c) given' turn m x z g = equal_next given' turn g.0 g.1 (if_next number h given _ root _ turn g.2 (λ q e. checked_next number same always i a h k t w f kind given s c turn m.0 m.1 q e))
-  step_next most why root fail answer (CheckUncopied at) given' turn m x z g = equal_next given' turn g.0 g.1 (if_next number h given _ root _ turn g.2 (λ q e. turn_at number h given _ turn e tt))
-  step_next most why root fail answer (CheckMiss p at common byte) given' turn m x z g = equal_next given' turn g.0 g.1 (if_next number h given _ root _ turn g.2 (λ q e. turn_at number h given _ turn e (miss_next number h given kind p at common byte)))
-  step_next most why root fail answer (CheckDown p at c) given' turn m x z g = equal_next given' turn g.0 g.1 (if_next number h given _ root _ turn g.2 (λ q e. turn_at number h given _ turn e tt))
-  step_next most why root fail answer (CheckOld p s v) given' turn m x z g = equal_next given' turn g.0 g.1 (if_next number h given _ root _ turn g.2 (λ q e. at_old_next number same always i a h k t w f kind given s v turn m.0 e))
+  step_next most why root fail answer (Check s c) given' turn m x z g = equal_next given' turn g.0 g.1 (if_next number h given _ root (IsChecked always same kind given s c) turn g.2 (λ q e. checked_next number same always i a h k t w f kind given s c turn m.0 m.1 q e))
+  step_next most why root fail answer (CheckUncopied at) given' turn m x z g = equal_next given' turn g.0 g.1 (if_next number h given _ root (λ (u : Turn C V). u ≡ refused refusal.Count) turn g.2 (λ q e. turn_at number h given _ turn e tt))
+  step_next most why root fail answer (CheckMiss p at common byte) given' turn m x z g = equal_next given' turn g.0 g.1 (if_next number h given _ root (λ (u : Turn C V). u ≡ after_miss kind p at common byte) turn g.2 (λ q e. turn_at number h given _ turn e (miss_next number h given kind p at common byte)))
+  step_next most why root fail answer (CheckDown p at c) given' turn m x z g = equal_next given' turn g.0 g.1 (if_next number h given _ root (λ (u : Turn C V). u ≡ quiet (Version (Some at) c)) turn g.2 (λ q e. turn_at number h given _ turn e tt))
+  step_next most why root fail answer (CheckOld p s v) given' turn m x z g = equal_next given' turn g.0 g.1 (if_next number h given _ root (IsAtOld always same kind given s v) turn g.2 (λ q e. at_old_next number same always i a h k t w f kind given s v turn m.0 e))
   step_next most why root fail answer (MakeLeaf s) given' turn m x z g = given_to given' turn g.0 (leaf_made_next s turn g.1.0 m g.1.1)
   step_next most why root fail answer (MakeGreater s p leaf) given' turn m x z g = given_to given' turn g.0 (greater_made_next s p leaf turn g.1.0 m x g.1.1)
   step_next most why root fail answer (MakeTop p at common byte) given' turn m x z g = given_to given' turn g.0 (top_made_next p at common byte turn g.1.0 g.1.1)
@@ -529,7 +530,7 @@ module _ {C V : Type 0} (number : C → ℕ) (same : V → V → Bool) (always :
   step_next most why root fail answer (MakeLesser s p top r) given' turn m x z g = given_to given' turn g.0 (lesser_made_next s p top r turn g.1.0 m z g.1.1)
   step_next most why root fail answer (AskOld s v) given' turn m x z g = let P : (ℕ → Node V) → Type 0 = λ y. Next number y given' turn in subst P (sym g.0) (given_next number same always i a h k t w f kind given given' answer s v turn m.1 m.3 g.1)
   step_next most why root fail answer (AskNew plan) given' turn m x z g = let P : (ℕ → Node V) → Type 0 = λ y. Next number y given' turn in subst P (sym g.0) (given_new_next number same always i a h k t w f given given' answer plan turn x g.1)
-  step_next most why root fail answer (Confirm at r) given' turn m x z g = equal_next given' turn g.0 g.1 (if_next number h given _ root _ turn g.2 (λ q e. turn_at number h given _ turn e tt))
+  step_next most why root fail answer (Confirm at r) given' turn m x z g = equal_next given' turn g.0 g.1 (if_next number h given _ root (λ (u : Turn C V). u ≡ answered r) turn g.2 (λ q e. turn_at number h given _ turn e tt))
   step_next most why root fail answer (CheckAbove p one r) given' turn m x z g = given_to given' turn g.0 (on_test (is_taken (h (number p.node)) p.version)
       (λ q. let P : (ℕ → Node V) → Type 0 = λ y. Next number y given turn in subst P (sym (g.1.goes_on q).0) (turn_at number h given _ turn (g.1.goes_on q).1 x))
       (λ q. turn_at number h' given _ turn (g.1.goes_back q).1 tt))
