@@ -1,13 +1,12 @@
 -- The nodes of a tree stay filled: what changes of single nodes leave.
-use Rattle.std.proofs.Common.{◌≡◌, ◌≢◌, ℕ, suc, ◌<◌, ◌≤◌, ◌+◌, ◌⊎◌, inl, inr, true, false, List, [], ◌∷◌, length, get_or, refl, sym, ◌∙◌, ap, subst, arith}
-use Rattle.std.specs.Prelude.{Option, None, Some}
+use Rattle.std.proofs.Common.{◌≡◌, ◌≢◌, ℕ, suc, ◌<◌, ◌≤◌, ◌+◌, ◌⊎◌, inl, inr, List, [], ◌∷◌, length, get_or, refl, sym, ◌∙◌, ap, subst, arith}
 use Rattle.congee.specs.declared.forms.base_node.NodeType.{NodeType}
 use Rattle.congee.specs.declared.forms.base_node.NodeType.TheVariants.{N4, N16, N48, N256}
 use Rattle.congee.specs.Heap.{Node, Hung, Nothing, Below, Holds}
-use Rattle.congee.specs.Ledger.{Note, Linked, Held, is_published, IsChild, Tree, LockWords}
-use Rattle.congee.specs.protocol.Events.{places, weight, kept, SameBut, NewNode, ChangeGives, TakeOverGives, BackGives}
-use Rattle.congee.specs.protocol.Handing.{Leads, InTree}
-use Rattle.congee.specs.protocol.Filled.{least_in, FilledAs, IsFilled, AllFilled, FilledWithout}
+use Rattle.congee.specs.Ledger.{Note, Linked, IsChild, Tree}
+use Rattle.congee.specs.protocol.Events.{places, weight, kept, ChangeGives, TakeOverGives}
+use Rattle.congee.specs.protocol.Handing.{Leads}
+use Rattle.congee.specs.protocol.Filled.{least_in, FilledAs, IsFilled, AllFilled}
 use Rattle.congee.proofs.lemmas.Tree.{same_or_not}
 use Rattle.congee.proofs.lemmas.protocol.Unlinking.{linked_in}
 

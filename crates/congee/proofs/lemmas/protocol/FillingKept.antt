@@ -1,5 +1,5 @@
 -- The tree stays filled over every step, and what a call is about to do over the steps of others.
-use Rattle.std.proofs.Common.{◌≡◌, ◌≢◌, ℕ, inl, inr, Bool, true, false, List, length, get_or, refl, sym, ◌∙◌, ap, subst}
+use Rattle.std.proofs.Common.{◌≡◌, ◌≢◌, ℕ, Bool, true, List, refl, sym, ◌∙◌, ap, subst}
 use Rattle.std.specs.Prelude.{Option, None, Some, Result, Ok, Err}
 use Rattle.judge.specs.declared.journal.Reply.{Reply}
 use Rattle.congee.specs.declared.forms.base_node.NodeType.{NodeType}
@@ -23,14 +23,14 @@ use Rattle.congee.specs.declared.protocol.phase.Phase.TheVariants.{New, Version,
 use Rattle.congee.specs.declared.protocol.turn.Turn.{Turn}
 use Rattle.congee.specs.Heap.{Node, Hung, is_taken}
 use Rattle.congee.specs.Keys.{key_bytes}
-use Rattle.congee.specs.Ledger.{Note, Linked, Held, is_published, Tree, LockWords}
-use Rattle.congee.specs.protocol.Events.{BackGives, upgrade_gives}
+use Rattle.congee.specs.Ledger.{Note, Linked, is_published, Tree, LockWords}
+use Rattle.congee.specs.protocol.Events.{BackGives}
 use Rattle.congee.specs.protocol.Steps.{BackOne, BackTwo, BackLeaf, MadeLeaf, MadeGreater, MadeTop, MadeBeside, MadeLesser, UpgradedOne, UpgradedTop, UpgradedAbove, UpgradedBelow, PhaseStepped}
-use Rattle.congee.specs.protocol.Protocol.{Made, MadeOne, MadeTwo, MadeLeafFor, OneKnown, TwoKnown, HalfLocked, TwoLocked, OneLocked, PlanKnown, Rely, Known}
+use Rattle.congee.specs.protocol.Protocol.{Made, MadeOne, MadeTwo, MadeLeafFor, OneKnown, TwoKnown, HalfLocked, PlanKnown, Rely, Known}
 use Rattle.congee.specs.protocol.Names.{names, names_plan, name_seated, names_one}
 use Rattle.congee.specs.protocol.Filled.{AllFilled, FillsAt, MayFillOne, MayFillHalf, MayFillTwo, MayFillPlan, IsSmall, Fills}
 use Rattle.congee.proofs.lemmas.Graft.{on_test}
-use Rattle.congee.proofs.lemmas.protocol.Each.{Each, left, right}
+use Rattle.congee.proofs.lemmas.protocol.Each.{Each, right}
 use Rattle.congee.proofs.lemmas.protocol.Change.{made_apart}
 use Rattle.congee.proofs.lemmas.protocol.Filling.{Alike, alike, Still, still_filled}
 use Rattle.congee.proofs.lemmas.protocol.FillingChanges.{one_filled, two_filled}

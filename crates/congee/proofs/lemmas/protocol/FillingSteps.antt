@@ -1,5 +1,5 @@
 -- Every step of a call leaves the tree filled, and what the call and the others are about to do.
-use Rattle.std.proofs.Common.{◌≡◌, ◌≢◌, ℕ, suc, ◌<◌, ◌≤◌, ◌==◌, ◌&&◌, cond, ◌⊎◌, inl, inr, Bool, true, false, List, length, get_or, refl, sym, ◌∙◌, ap, subst, arith}
+use Rattle.std.proofs.Common.{◌≡◌, ◌≢◌, ℕ, suc, ◌<◌, ◌≤◌, ◌==◌, ◌&&◌, ◌⊎◌, inl, inr, Bool, true, false, List, length, refl, sym, ◌∙◌, ap, subst, arith}
 use Rattle.std.proofs.lemmas.Bool.Decides.{nat_tests}
 use Rattle.std.specs.Prelude.{ltb, leb, Option, None, Some, Result, Ok, Err}
 use Rattle.judge.specs.declared.journal.Reply.{Reply}
@@ -31,24 +31,20 @@ use Rattle.congee.specs.declared.protocol.phase.Plan.TheVariants.{Here, Above}
 use Rattle.congee.specs.declared.protocol.phase.Phase.{Phase}
 use Rattle.congee.specs.declared.protocol.phase.Phase.TheVariants.{New, Version, Read, Check, CheckUncopied, CheckMiss, CheckDown, CheckOld, MakeLeaf, MakeGreater, MakeTop, MakeBeside, MakeLesser, AskOld, AskNew, Confirm, CheckAbove, UpgradeOne, ChangeOne, UpgradeTop, UpgradeAbove, UpgradeBelow, ChangeTwo, Obsolete, Retire, UnlockBelow, Unlock, Unwind, Sweep, Ended}
 use Rattle.congee.specs.declared.protocol.turn.Turn.{Turn}
-use Rattle.congee.specs.Heap.{Node, Hung, Nothing, Below, Holds, child_for, is_taken, is_free, version_of}
+use Rattle.congee.specs.Heap.{Node, Nothing, Below, Holds, child_for, is_taken, is_free, version_of}
 use Rattle.congee.specs.Ledger.{Note, Linked, is_published, IsChild, Tree, LockWords}
-use Rattle.congee.specs.protocol.Events.{places, hung, ReadGives, SameBut, NewNode, MakeGives, BackGives, upgrade_gives}
-use Rattle.congee.specs.protocol.Steps.{quiet, answered, refused, adds, form_above, form_below, shrinks, after_version, after_read, down, started, ready, plan_here, unless_full, missing, absent, CopyFailed, IsAsked, replaced, set_at, both, last_out, taken_out, emptied, is_same, IsAtOld, IsAdded, IsExchanged, IsPresent, IsChecked, IsIf, after_miss, IsGiven, IsGivenNew, greater, MadeLeaf, MadeGreater, MadeTop, MadeBeside, MadeLesser, unwound, given_up, UpgradedOne, UpgradedTop, UpgradedAbove, UpgradedBelow, after_top, after_change, after_retire, after_unwind, PhaseStepped}
+use Rattle.congee.specs.protocol.Events.{places, hung, SameBut, NewNode, upgrade_gives}
+use Rattle.congee.specs.protocol.Steps.{quiet, answered, refused, adds, form_above, form_below, shrinks, after_version, after_read, down, started, ready, plan_here, unless_full, missing, absent, CopyFailed, IsAsked, replaced, set_at, both, last_out, taken_out, emptied, is_same, IsAtOld, IsAdded, IsExchanged, IsPresent, IsChecked, IsIf, after_miss, IsGiven, IsGivenNew, MadeLeaf, MadeGreater, MadeTop, MadeBeside, MadeLesser, unwound, given_up, UpgradedOne, UpgradedTop, UpgradedAbove, UpgradedBelow, after_top, after_change, after_retire, after_unwind, PhaseStepped}
 use Rattle.congee.specs.Keys.{key_bytes}
-use Rattle.congee.specs.protocol.Protocol.{ChildOf, IsFar, IsAbove, Sees, Knows, Made, MadeOne, MadeTwo, HasGift, MadeLeafFor, Rely, Known}
-use Rattle.congee.specs.protocol.Names.{names}
+use Rattle.congee.specs.protocol.Protocol.{ChildOf, IsFar, IsAbove, Sees, Knows, HasGift, Known}
 use Rattle.congee.specs.protocol.Filled.{least_in, FilledAs, IsFilled, AllFilled, FilledWithout, FillsOne, FillsTwo, FillsAt, MayFillOne, MayFillHalf, MayFillTwo, MayFillPlan, IsSmall, Fills}
 use Rattle.congee.proofs.lemmas.Fits.{both_true, same_test}
 use Rattle.congee.proofs.lemmas.Graft.{on_test}
 use Rattle.congee.proofs.lemmas.Tree.{same_or_not}
-use Rattle.congee.proofs.lemmas.protocol.Each.{Each, left, right}
 use Rattle.congee.proofs.lemmas.protocol.Touch.{by_test, taken_linked}
-use Rattle.congee.proofs.lemmas.protocol.Change.{made_apart}
 use Rattle.congee.proofs.lemmas.protocol.Locks.{locked_taken}
 use Rattle.congee.proofs.lemmas.protocol.Plans.{at_leaf}
-use Rattle.congee.proofs.lemmas.protocol.Filling.{enough, filled_same, Alike, alike, filled_alike, Still, still_filled, was_filled}
-use Rattle.congee.proofs.lemmas.protocol.FillingChanges.{one_filled, two_filled}
+use Rattle.congee.proofs.lemmas.protocol.Filling.{enough, filled_same, Alike, alike, Still, was_filled}
 
 -- what is left of a node that isn't too small, or gives place to a lesser one, or to a greater one
 less_or : (n m : ℕ) → leb n m ≡ false → m < n

@@ -1,4 +1,4 @@
-use Rattle.std.proofs.Common.{◌≡◌, ◌≢◌, ℕ, subst, sym, ap, ◌∙◌}
+use Rattle.std.proofs.Common.{◌≢◌, ℕ, subst, sym, ap, ◌∙◌}
 use Rattle.congee.specs.Heap.{Node, Nothing}
 use Rattle.congee.specs.protocol.Events.{HoldsNodes, IsOther}
 use Rattle.congee.proofs.lemmas.protocol.PlainHeaps.{heap_at}
