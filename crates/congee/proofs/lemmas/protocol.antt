@@ -65,3 +65,9 @@ pub mod AlikeChanges
 pub mod AlikeSteps
 pub mod AlikeKnown
 pub mod AlikeCalls
+pub mod Filling
+pub mod FillingChanges
+pub mod FillingSteps
+pub mod FillingKept
+pub mod FillingCalls
+pub mod FillingTraces

@@ -18,6 +18,7 @@ ghost use Rattle.congee.specs.protocol.Answers.{Keeps};
 ghost use Rattle.congee.specs.protocol.Bounds.{Within};
 ghost use Rattle.congee.specs.protocol.Destroys.{Destroys, Spares};
 ghost use Rattle.congee.specs.protocol.Events.{HoldsAlike};
+ghost use Rattle.congee.specs.protocol.Filled.{KeepsFilled};
 ghost use Rattle.congee.specs.protocol.Handing.{Leads, InTree};
 ghost use Rattle.congee.specs.Heap.{Node, value_at};
 ghost use Rattle.congee.specs.protocol.Holdings.{MadeBy, Holdings};
@@ -110,6 +111,15 @@ impl<C: NodeName + Drop, P: Payload> Machine<C, P> {
     pub fn shrunk()
         ensures tree { (a : ℕ → Note) (h : ℕ → Node P) (a' : ℕ → Note) (h' : ℕ → Node P) (p c n d : ℕ) (key : List ℕ) (v : P) → Tree a h → Shrinks a h a' h' p c n d key v → Tree a' h' }
         ensures map { (a : ℕ → Note) (h : ℕ → Node P) (a' : ℕ → Note) (h' : ℕ → Node P) (p c n d : ℕ) (key : List ℕ) (v : P) → Tree a h → Shrinks a h a' h' p c n d key v → length key ≡ 8 → (value_at h key ≡ Some v) × (value_at h' key ≡ None) × ((x : List ℕ) → length x ≡ 8 → x ≢ key → value_at h' x ≡ value_at h x) }
+    {}
+
+    /// Each node of the tree but the root has a child, each that holds nodes two of them, and none is too small for its form:
+    /// so it is where a root stands alone, and stays over each step but those that go on without a node that they wanted.
+    pub fn filled<S: Store<C, P>>()
+        ensures opens { (h : ℕ → Node P) (ms : List (Call C P)) → FreshRoot h → ((i : ℕ) (m : Call C P) → slice_get ms i ≡ Some m → IsIdle C.number m) → KeepsFilled C.number h ms }
+        ensures begins { (h : ℕ → Node P) (ms : List (Call C P)) (i : ℕ) (new : Call C P) → KeepsFilled C.number h ms → IsNew new → KeepsFilled C.number h (set ms i new) }
+        ensures steps { (s : S) (i : ℕ) (a : ℕ → Note) (h h' : ℕ → Node P) (ms : List (Call C P)) (m m' : Call C P) (d : Move P) (fail : Bool) (answer : Option (Option P)) → ProtocolAt C.number P.same_as P.always_copies a h ms → slice_get ms i ≡ Some m → Keeps C.number P.same_as P.always_copies i a m h m' h' d → Stepped C.number P.same_as P.always_copies (S.version_max s) (S.refuses s) m h fail answer m' h' d → d.skipped ≡ false → KeepsFilled C.number h ms → KeepsFilled C.number h' (set ms i m') }
+        ensures spared { (a : ℕ → Note) (h h' : ℕ → Node P) (ms : List (Call C P)) → ProtocolAt C.number P.same_as P.always_copies a h ms → Holdings C.number a h ms → Destroys C.number h ms h' → KeepsFilled C.number h ms → KeepsFilled C.number h' ms }
     {}
 
     /// The calls after one of them was exchanged.

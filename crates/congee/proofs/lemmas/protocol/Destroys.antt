@@ -146,7 +146,7 @@ module _ {C : Type 0} (number : C → ℕ) (K : ℕ → Type 0) (n : ℕ) where
 
 -- the note of a destroyed node, and of one that is as it was
 
-note_after : {V : Type 0} (x : Note) (p q : Node V) → (q ≡ p) ⊎ Lost p q → Note
+pub note_after : {V : Type 0} (x : Note) (p q : Node V) → (q ≡ p) ⊎ Lost p q → Note
 note_after x p q (inl e) = x
 note_after x p q (inr l) = record x { status = Destroyed; owner = None }
 
@@ -309,3 +309,18 @@ module _ {C V : Type 0} (number : C → ℕ) (same : V → V → Bool) (always :
 pub spares : {C V : Type 0} (number : C → ℕ) (same : V → V → Bool) (always : Bool) (h : ℕ → Node V) (ms : List (Machine C V)) → Spares number same always h ms
 spares number same always h ms a h' p s d =
     all_stays number same always a h ms (λ n. note_after (a n) (h n) (h' n) (d.each n)) h' p s d (λ n. fate_after (a n) (h n) (h' n) (d.each n))
+
+-- what it leaves, for more that calls are about to do
+abbrev spared_notes : {C V : Type 0} (number : C → ℕ) (a : ℕ → Note) (h : ℕ → Node V) (ms : List (Machine C V)) (h' : ℕ → Node V) → Destroys number h ms h' → ℕ → Note
+spared_notes number a h ms h' d n = note_after (a n) (h n) (h' n) (d.each n)
+
+module _ {C V : Type 0} (number : C → ℕ) (same : V → V → Bool) (always : Bool) (a : ℕ → Note) (h : ℕ → Node V) (ms : List (Machine C V)) (h' : ℕ → Node V)
+    (p : ProtocolAt number same always a h ms) (s : Holdings number a h ms) (d : Destroys number h ms h') where
+  pub spared_rely : (i : ℕ) → Rely (λ n. h' n ≡ h n) i a h (spared_notes number a h ms h' d) h'
+  spared_rely i = rely number same always a h ms (spared_notes number a h ms h' d) h' p s d (λ n. fate_after (a n) (h n) (h' n) (d.each n)) i
+
+  pub spared_named : (i : ℕ) (m : Machine C V) → slice_get ms i ≡ Some m → Each (λ n. h' n ≡ h n) (names number m.phase)
+  spared_named i m e = named number same always a h ms (spared_notes number a h ms h' d) h' p s d (λ n. fate_after (a n) (h n) (h' n) (d.each n)) i m e
+
+  pub spared_linked : (n : ℕ) → (a n).status ≡ Linked → h' n ≡ h n
+  spared_linked n l = (linked_stays number same always a h ms (spared_notes number a h ms h' d) h' p s d (λ n. fate_after (a n) (h n) (h' n) (d.each n)) n l).0

@@ -1,4 +1,3 @@
-use Rattle.std.proofs.Common.{◌≡◌, arith}
 use Rattle.congee.proofs.lemmas.protocol.PlainHeaps.{other_of, none_other}
 use Rattle.congee.proofs.protocol.plain_node.PlainNode.other.Goals as goal
 
