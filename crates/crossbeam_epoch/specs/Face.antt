@@ -2,7 +2,6 @@
 pub mod Exchange
 pub mod Handle
 pub mod Ordering
-pub mod Packed
 pub mod Participant
 pub mod Pinned
 pub mod Pins

@@ -27,7 +27,6 @@ pub mod Copying
 pub mod Counted
 pub mod Counting
 pub mod Draining
-pub mod DrainWalks
 pub mod Driving
 pub mod Effects
 pub mod Ending

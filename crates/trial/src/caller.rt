@@ -63,12 +63,15 @@ impl Caller {
     }
 
     /// After a step of the call that ended so.
-    pub fn hear(&mut self, outcome: &Outcome<u64>)
-        ensures { self.new ≡ heard self.old outcome.now }
+    pub fn heard(self, outcome: &Outcome<u64>) -> Caller
+        ensures { result ≡ heard self outcome.now }
     {
-        self.answer = match (self.closure, outcome) {
-            (Some(closure), Outcome::Asks(found)) => Some(closure.answer(*found)),
-            _ => None,
-        };
+        match (self.closure, outcome) {
+            (Some(closure), Outcome::Asks(found)) => Caller {
+                closure: self.closure,
+                answer: Some(closure.answer(*found)),
+            },
+            _ => Caller::new(self.closure),
+        }
     }
 }
