@@ -4,7 +4,7 @@
 By itself `rt ci` gives a proof one processor where the number of parts side by side is set, and tries a crate's edits once its
 proof has ended: then the longest chain, two libraries and the tests, takes longer than all work shared by four processors.
 Here each part begins once the libraries below it stand and its memory is free, and a proof gets several processors; the edits
-of all crates but the largest go on behind the rest. A kit that has its parts otherwise runs as it is.
+of all crates but the largest go on behind the rest. A kit that has its parts otherwise runs them as it does.
 """
 import contextlib
 import importlib.machinery
@@ -74,6 +74,7 @@ def in_lanes(tasks, rt):
 
 
 def main():
+    os.environ.setdefault("RT_JOBS", str(min(4, len(os.sched_getaffinity(0)))))
     rt = load(os.path.realpath(shutil.which("rt")))
     if all(hasattr(rt, it) for it in ("in_lanes", "free", "processors", "main")):
         rt.in_lanes = lambda tasks: in_lanes(tasks, rt)
