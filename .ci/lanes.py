@@ -17,7 +17,7 @@ from concurrent.futures import FIRST_COMPLETED, ThreadPoolExecutor, wait
 
 # How many processors a part asks for, and the share that it was seen to hold of the memory that the kit reckons for its crate.
 PROCESSORS = {"proof": 3, "tests": 3, "edits": 1}
-SHARES = {"proof": 0.45, "tests": 0.7, "edits": 0.3}
+SHARES = {"proof": 0.45, "tests": 0.65, "edits": 0.22}
 # How many steps of niceness the edits that nothing waits for give way.
 BEHIND = 10
 
