@@ -16,7 +16,7 @@ import threading
 from concurrent.futures import FIRST_COMPLETED, ThreadPoolExecutor, wait
 
 # How many processors a part asks for, and the share that it was seen to hold of the memory that the kit reckons for its crate.
-PROCESSORS = {"proof": 3, "tests": 3, "edits": 1}
+PROCESSORS = {"proof": 3, "tests": 4, "edits": 1}
 SHARES = {"proof": 0.45, "tests": 0.65, "edits": 0.22}
 # How many steps of niceness the edits that nothing waits for give way.
 BEHIND = 10
@@ -52,7 +52,7 @@ def in_lanes(tasks, rt):
     behind = chain_behind(tasks)
     largest = max((it for it in tasks if it[1] == "edits"), key=lambda it: tasks[it][1], default=None)
     memory, left, running, given = 0.85 * rt.free(), sorted(tasks, key=lambda it: -behind[it]), {}, {}
-    jobs = {kind: max(1, min(number, rt.processors() - 1)) for kind, number in PROCESSORS.items()}
+    jobs = {kind: min(number, rt.processors()) for kind, number in PROCESSORS.items()}
     with ThreadPoolExecutor(len(tasks)) as pool:
         while left or running:
             for key in [*left]:
