@@ -26,13 +26,14 @@ use crate::threads::rounds::{Ends, round};
 use crate::threads::tokens::{Guard, Worker};
 use crate::world::World;
 use congee::{Allocator, Drainer, NodeStats, Payload, Small};
-use crossbeam_utils::{Backoff, CachePadded};
+use crossbeam_utils::CachePadded;
 use std::alloc::Global;
 use std::marker::PhantomData;
 use std::sync::{Mutex, MutexGuard, Wait};
+use std::thread;
 
-/// How often a thread looks for the lock before it sleeps: through all pauses of a `Backoff`.
-const TRIES: u32 = 11;
+/// How often a thread looks for the lock before it sleeps.
+const TRIES: u32 = 64;
 
 /// An index under its lock.
 #[derive(Drop)]
@@ -77,14 +78,13 @@ impl<P: Payload + Small, T: Locked<P>> Tree<P, T> {
         }
     }
 
-    /// Takes the lock. A hold is shorter than a thread takes to sleep and wake, so it is waited for awake at first.
+    /// Takes the lock. A hold is shorter than a thread takes to sleep and wake, so others are let run at first.
     pub(crate) fn hold<R: Wait>(&self, rt: &R) -> MutexGuard<'_, T> {
-        let backoff = Backoff::new();
         for _ in 0..TRIES {
             if let Some(kept) = self.locked.try_lock() {
                 return kept;
             }
-            backoff.snooze();
+            thread::yield_now();
         }
         self.locked.lock(rt)
     }
