@@ -19,7 +19,7 @@ from concurrent.futures import FIRST_COMPLETED, ThreadPoolExecutor, wait
 PROCESSORS = {"proof": 3, "tests": 4, "edits": 1}
 SHARES = {"proof": 0.45, "tests": 0.65, "edits": 0.22}
 # How many steps of niceness the edits that nothing waits for give way.
-BEHIND = 10
+BEHIND = 5
 
 
 def load(path):
