@@ -16,7 +16,7 @@ import threading
 from concurrent.futures import FIRST_COMPLETED, ThreadPoolExecutor, wait
 
 # How many processors a part asks for, and the share that it was seen to hold of the memory that the kit reckons for its crate.
-PROCESSORS = {"proof": 3, "tests": 4, "edits": 1}
+PROCESSORS = {"proof": 3, "tests": 4, "edits": 2}
 SHARES = {"proof": 0.45, "tests": 0.65, "edits": 0.22}
 # How many steps of niceness the edits that nothing waits for give way.
 BEHIND = 5
@@ -76,8 +76,11 @@ def in_lanes(tasks, rt):
 def main():
     os.environ.setdefault("RT_JOBS", str(min(4, len(os.sched_getaffinity(0)))))
     rt = load(os.path.realpath(shutil.which("rt")))
-    if all(hasattr(rt, it) for it in ("in_lanes", "free", "processors", "main")):
+    if all(hasattr(rt, it) for it in ("in_lanes", "must_fail_all", "free", "processors", "main")):
         rt.in_lanes = lambda tasks: in_lanes(tasks, rt)
+        # (rt ci tries edits by one job, whatever it was given)
+        tries = rt.must_fail_all
+        rt.must_fail_all = lambda crate, edits, _: tries(crate, edits, ["--jobs", str(PROCESSORS["edits"])])
     return rt.main(["ci"])
 
 
