@@ -2,6 +2,7 @@
 pub mod Exchange
 pub mod Handle
 pub mod Ordering
+pub mod Packed
 pub mod Participant
 pub mod Pinned
 pub mod Pins

@@ -1,11 +1,12 @@
 //! Bags of deferred jobs, and sealed bags.
 
-ghost use Rattle.std.specs.Prelude.{◌≡◌, ◌<◌, ◌≤◌, ◌++◌, ◌∷◌, [], length, remove, slice_index_or, nat_eq};
+ghost use Rattle.std.specs.Prelude.{◌≡◌, ◌<◌, ◌≤◌, ◌++◌, ◌∷◌, [], length, remove, slice_index_or, nat_eq, MatchOption};
 ghost use Rattle.crossbeam_epoch.specs.Limits.{bag_places};
 
 use crate::names::Name;
 use arrayvec::ArrayVec;
 use std::marker::Model;
+use std::mem;
 
 /// The places of a bag.
 pub const BAG: usize = 64;
@@ -106,6 +107,17 @@ impl<J: Drop> Bag<J> {
         ensures { self.new ≡ self.old ++ entry ∷ [] }
     {
         self.entries.push(entry);
+    }
+
+    /// Takes the work out of the job at this place, where there is one, and leaves a blank there.
+    pub(crate) fn take_work(&mut self, at: usize) -> Option<Work<J>>
+        ensures length { length self.new ≡ length self.old }
+        ensures work { MatchOption result (length self.old ≤ at) (λ w. (at < length self.old) × ((e : _) × (e ≡ slice_index_or self.old at e) × (w ≡ e.work))) }
+    {
+        match self.entries.get_mut(at) {
+            Some(entry) => Some(mem::replace(&mut entry.work, Work::Blank)),
+            None => None,
+        }
     }
 
     /// Takes the first job out.

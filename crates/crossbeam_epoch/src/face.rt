@@ -1,6 +1,7 @@
 //! Epoch-based reclamation for real threads, under the names of `crossbeam-epoch`.
 
 mod atomic;
+mod atomic_link;
 mod collected;
 mod collector;
 mod guard;
@@ -12,6 +13,7 @@ mod link;
 mod note;
 mod ordering;
 mod owned;
+mod packed;
 mod pins;
 mod pointer;
 mod queue;

@@ -13,7 +13,7 @@
 //! filled before whoever is pinned now had pinned, so nobody who could have had the value in hand is still there.
 //!
 //! In `world` each of these is a step of one machine over cells with names, so that laws can say what holds over any
-//! steps of any participants. `face` has the same for threads: pinning and reading take no lock, free cells and the
+//! steps of any participants. `face` has the same for threads: pinning, loading and reading take no lock, free cells and the
 //! queue of bags stand under one. The two share bags and their queue, the numbers of cells, jobs, limits and names.
 #![tactic(auto)]
 

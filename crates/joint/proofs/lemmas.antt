@@ -27,6 +27,7 @@ pub mod Copying
 pub mod Counted
 pub mod Counting
 pub mod Draining
+pub mod DrainWalks
 pub mod Driving
 pub mod Effects
 pub mod Ending

@@ -1,12 +1,14 @@
 -- The end of the machine: its pairs are handed on, and the charge is again what it was before the first node.
-use Rattle.std.specs.Prelude.{◌≡◌, ℕ, ◌<◌, ◌≤◌, ◌^◌, List}
+use Rattle.std.specs.Prelude.{◌≡◌, ℕ, ◌+◌, ◌<◌, ◌≤◌, ◌^◌, List}
 use Rattle.std.specs.List.{FoldsTo}
 use Rattle.std.specs.FinMap.{get, entries}
 use Rattle.judge.specs.Answer.{Pairs}
 use Rattle.crossbeam_epoch.specs.World.Ending.{registered_in}
-use Rattle.congee.specs.Heap.{Node, value_at}
+use Rattle.congee.specs.Heap.{Node, Stands, value_at}
 use Rattle.congee.specs.Keys.{IsMapOf, key_bytes}
+use Rattle.congee.specs.Ledger.{Note, Tree, Linked}
 use Rattle.congee.specs.owned.Ranges.{in_range}
+use Rattle.congee.specs.protocol.Regions.{IsRegion, span}
 use Rattle.joint.specs.declared.account.Account.{Account}
 use Rattle.joint.specs.declared.refusal.Refusal.{Refusal}
 use Rattle.joint.specs.declared.refusal.Refusal.TheVariants.{WorkersLeft}
@@ -49,3 +51,14 @@ AgreesFrom h from m = (k : ℕ) → from ≤ k → k < 2 ^ 64 → get m k ≡ va
 pub record Takes {V D : Type 0} (drains : D → ℕ → V → D → Type 0) (h : ℕ → Node V) (from : ℕ) (before : D) (h' : ℕ → Node V) (to : ℕ) (after : D) : Type 0 where
   pub rest : (k : ℕ) → to ≤ k → k < 2 ^ 64 → value_at h' (key_bytes k) ≡ value_at h (key_bytes k)
   pub drained : (m : Pairs V) → AgreesFrom h from m → (last : D) → Drained drains after (pairs_from to m) last → Drained drains before (pairs_from from m) last
+
+-- the drainer took the pairs at and below a node of a tree, whose keys are those that its prefix begins; the nodes stand in
+-- the tree as they did
+pub record TakesBelow {V D : Type 0} (drains : D → ℕ → V → D → Type 0) (h : ℕ → Node V) (n : ℕ) (before : D) (h' : ℕ → Node V) (after : D) : Type 0 where
+  pub base : ℕ
+  pub depth : ℕ
+  pub region : IsRegion (h n).prefix base depth
+  pub takes : Takes drains h base before h' (base + span depth) after
+  pub prefixes : (m : ℕ) → (h' m).prefix ≡ (h m).prefix
+  pub stands : (m : ℕ) → Stands (h m) → Stands (h' m)
+  pub tree : (a : ℕ → Note) → Tree a h → (a n).status ≡ Linked → Tree a h'

@@ -131,6 +131,7 @@ impl<P: Payload + Small, A: Allocator> World<P, A> {
 }
 
 /// Puts a request in its worker's place, where it is to be noted.
+#[inline(always)]
 fn note<P: Drop>(log: &mut Log<P>, who: usize, on: bool, request: Option<Request<P>>)
     ensures { log.new ≡ noted log.old who on request }
 {
@@ -140,6 +141,7 @@ fn note<P: Drop>(log: &mut Log<P>, who: usize, on: bool, request: Option<Request
 }
 
 /// Whether a worker's call takes this answer in its next step, if there is one.
+#[inline(always)]
 fn takes_answer<P: Payload + Small, A: Allocator>(
     engine: &Engine<P, A>,
     who: usize,
@@ -154,6 +156,7 @@ fn takes_answer<P: Payload + Small, A: Allocator>(
 }
 
 /// What a worker asked for takes the answer that its call takes in this step; it goes where a value can't be copied.
+#[inline(always)]
 fn hear<P: Payload>(log: &mut Log<P>, who: usize, asks: bool, answer: &Option<Option<P>>)
     ensures heard { P.always_copies ≡ true → request_at log.new.requests who ≡ heard_by asks answer.now (request_at log.old.requests who) }
     ensures left { log.new ≡ record log.old { requests = slice_set log.old.requests who (request_at log.new.requests who) } }

@@ -1,40 +1,50 @@
 //! The end of the index: its pairs are handed on, and its nodes come off the charge.
 
-ghost use Rattle.std.specs.Prelude.{◌≡◌, ◌<◌};
+ghost use Rattle.std.specs.Prelude.{◌≡◌};
 ghost use Rattle.std.specs.FinMap.{entries};
 ghost use Rattle.judge.specs.Answer.{Pairs};
 ghost use Rattle.crossbeam_epoch.specs.World.Ending.{registered_in};
 ghost use Rattle.congee.specs.Keys.{IsMapOf};
-ghost use Rattle.joint.specs.Closing.{Drained, IsClosed, Takes};
+ghost use Rattle.joint.specs.Closing.{Drained, IsClosed, TakesBelow};
 ghost use Rattle.joint.specs.Forest.{nodes, frame};
 ghost use Rattle.joint.specs.Intact.{IsIntact};
-ghost use Rattle.joint.specs.Survey.{IsTree, bound_of};
+ghost use Rattle.joint.specs.Levels.{IsNodeIn};
+ghost use Rattle.joint.specs.Survey.{IsTree};
+ghost use Rattle.joint.specs.View.{id_number};
 ghost use Rattle.joint.specs.Whole.{whole};
 
 use crate::engine::Engine;
+use crate::id::Id;
 use crate::nodes::Nodes;
-use crate::survey::{Nearest, after};
-use congee::{Allocator, Drainer, MAX_PREFIX_LEN, Payload, Small};
+use crate::survey::first_under;
+use congee::protocol::Region;
+use congee::{Allocator, Child, Drainer, Payload, Small};
+use crossbeam_epoch::Name;
 
 impl<P: Payload + Small, A: Allocator> Nodes<P, A> {
-    /// Takes the pair of the least key from one on out of the tree, if one stands, and hands it to the drainer; answers where
-    /// to go on, if there is more.
-    fn drain_from<D: Drainer<u64, P>>(&mut self, drainer: &mut D, start: u64) -> Option<u64>
-        requires tree { IsTree (nodes self.old) }
+    /// Takes the pairs at and below a node out, in ascending order of the keys, and hands them to the drainer.
+    fn drain_below<D: Drainer<u64, P>>(&mut self, at: Id, drainer: &mut D)
+        requires node { IsNodeIn (nodes self.old) (id_number at) }
         requires ready { D.can_drain drainer.old }
-        ensures tree { IsTree (nodes self.new) }
         ensures frame { frame self.new ≡ frame self.old }
         ensures ready { D.can_drain drainer.new }
-        ensures grows { start < bound_of result }
-        ensures takes { Takes D.drains (nodes self.old) start drainer.old (nodes self.new) (bound_of result) drainer.new }
+        ensures takes { TakesBelow D.drains (nodes self.old) (id_number at) drainer.old (nodes self.new) drainer.new }
     {
-        match self.next_key(start) {
-            Nearest::Key { leaf, key } => {
-                let value = self.pull(leaf, key.to_be_bytes()[MAX_PREFIX_LEN]);
-                drainer.drain(key, value);
-                after(key)
+        let region = Region::of(self.slot(at).node().prefix());
+        let mut from = 0;
+        while let Some((byte, child)) = self.slot(at).node().first_from(from) {
+            match child {
+                Child::Blank => {}
+                Child::Node(below) => {
+                    let below = *below;
+                    self.drain_below(below, drainer);
+                }
+                Child::Value(_) => {
+                    let value = self.pull(at, byte);
+                    drainer.drain(first_under(region, byte), value);
+                }
             }
-            Nearest::Past(last) => after(last),
+            from = byte as usize + 1;
         }
     }
 
@@ -45,11 +55,11 @@ impl<P: Payload + Small, A: Allocator> Nodes<P, A> {
         ensures drained { (m : Pairs P) → IsMapOf (nodes self.old) m → Drained D.drains drainer (entries m) result }
         ensures frame { frame self.new ≡ frame self.old }
     {
+        let root = Id {
+            name: Name { cell: 0, turn: 0 },
+        };
         let mut drainer = drainer;
-        let mut from = Some(0);
-        while let Some(start) = from {
-            from = self.drain_from(&mut drainer, start);
-        }
+        self.drain_below(root, &mut drainer);
         drainer
     }
 

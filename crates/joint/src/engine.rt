@@ -3,7 +3,7 @@
 ghost use Rattle.std.specs.Prelude.{◌≡◌, ◌<◌, ℕ, List, Option, Some, None, length, slice_get, slice_set, replicate, is_some, true, IfOk, MatchResult, if◌then◌else◌};
 ghost use Rattle.crossbeam_epoch.specs.declared.bag.Work.{Work};
 ghost use Rattle.crossbeam_epoch.specs.World.Machine.{deferred, place};
-ghost use Rattle.congee.specs.protocol.Play.{StepPlays, begun};
+ghost use Rattle.congee.specs.protocol.Play.{StepPlays, IsNew, begun};
 ghost use Rattle.joint.specs.Census.{AreCounted};
 ghost use Rattle.joint.specs.Forest.{nodes, frame, Refuses, with_collector};
 ghost use Rattle.joint.specs.Intact.{IsIntact, IsSecuring, MayStart, BeginsSecuring, Secured, WalkedOn, call_after, cleared, is_done, is_past, is_reserving, resting, over_at, root, writes};
@@ -28,7 +28,6 @@ use congee::protocol::{Kind, Phase, Stage};
 use congee::{Allocator, Machine, Move, Noise, Op, Payload, Small, Step, step_of};
 use crossbeam_epoch::{Event, Name, Outcome, Report};
 use std::alloc::{AllocError, Global};
-use std::mem;
 
 /// What the collector's laws say of the cells.
 pub(crate) fn cell_laws<P: Payload + Small>()
@@ -157,27 +156,6 @@ fn resting<P: Payload + Small>() -> Machine<Id, P>
         kind: Kind::Get,
         given: None,
         phase: Phase::Ended,
-    }
-}
-
-/// Puts a call in another's place, part by part: the phase of one on a key is small, and nothing of a scan's is moved.
-fn put_machine<P: Payload + Small>(place: &mut Machine<Id, P>, machine: Machine<Id, P>)
-    ensures { place.new ≡ machine }
-{
-    let Machine {
-        root,
-        key,
-        kind,
-        given,
-        phase,
-    } = machine;
-    place.root = root;
-    place.key = key;
-    drop(mem::replace(&mut place.kind, kind));
-    drop(mem::replace(&mut place.given, given));
-    match phase {
-        Phase::New => drop(mem::replace(&mut place.phase, Phase::New)),
-        phase => drop(mem::replace(&mut place.phase, phase)),
     }
 }
 
@@ -346,11 +324,23 @@ impl<P: Payload + Small, A: Allocator> Engine<P, A> {
         ensures census { self.new.census ≡ self.old.census }
     {
         call_laws::<P>();
+        self.begin_machine(who, op);
+        self.set_call(who, Call::Walking);
+    }
+
+    /// Begins a call on the tree where another one lies in a worker's place.
+    fn begin_machine(&mut self, who: usize, op: Op<P>)
+        requires { who < length self.old.machines.items }
+        ensures machines { self.new.machines.items ≡ slice_set self.old.machines.items who (begun root op) }
+        ensures new { IsNew (begun root op) }
+        ensures nodes { self.new.nodes ≡ self.old.nodes }
+        ensures calls { self.new.calls ≡ self.old.calls }
+        ensures census { self.new.census ≡ self.old.census }
+    {
         let root = Id {
             name: Name { cell: 0, turn: 0 },
         };
-        self.set_machine(who, Machine::new(root, op));
-        self.set_call(who, Call::Walking);
+        self.machines[who].begin(root, op);
     }
 
     /// Puts another call on the tree in a worker's place.
@@ -361,7 +351,7 @@ impl<P: Payload + Small, A: Allocator> Engine<P, A> {
         ensures calls { self.new.calls ≡ self.old.calls }
         ensures census { self.new.census ≡ self.old.census }
     {
-        put_machine(&mut self.machines[who], machine);
+        self.machines[who] = machine;
     }
 
     /// Begins a writing call in the place of a pinned worker: it takes no step yet.

@@ -7,40 +7,40 @@ use Rattle.trial.specs.Words.{text_of}
 
 -- the table in its order
 abbrev pub all : List Keyword
-all = key.New ∷ key.Limit ∷ key.Version ∷ key.Journal ∷ key.Reg ∷ key.Pin ∷ key.Unpin ∷ key.Repin ∷ key.Flush
-    ∷ key.Release ∷ key.Round ∷ key.Get ∷ key.Remove ∷ key.Insert ∷ key.Present ∷ key.Add ∷ key.Drop ∷ key.OrInsert
-    ∷ key.Cas ∷ key.Range ∷ key.Through ∷ key.Keys ∷ key.Empty ∷ key.Stats ∷ key.Begin ∷ key.Go ∷ key.Fail ∷ key.Charged
-    ∷ key.Waiting ∷ key.Close ∷ []
+all = key.Get ∷ key.Insert ∷ key.Remove ∷ key.Pin ∷ key.Unpin ∷ key.Round ∷ key.Flush ∷ key.Repin ∷ key.OrInsert
+    ∷ key.Present ∷ key.Add ∷ key.Drop ∷ key.Cas ∷ key.Range ∷ key.Through ∷ key.Keys ∷ key.Empty ∷ key.Stats
+    ∷ key.Begin ∷ key.Go ∷ key.Fail ∷ key.Reg ∷ key.Release ∷ key.New ∷ key.Limit ∷ key.Version ∷ key.Journal
+    ∷ key.Charged ∷ key.Waiting ∷ key.Close ∷ []
 
 -- a keyword's place in the table
 abbrev pub place_of : Keyword → ℕ
-place_of key.New = 0
-place_of key.Limit = 1
-place_of key.Version = 2
-place_of key.Journal = 3
-place_of key.Reg = 4
-place_of key.Pin = 5
-place_of key.Unpin = 6
+place_of key.New = 23
+place_of key.Limit = 24
+place_of key.Version = 25
+place_of key.Journal = 26
+place_of key.Reg = 21
+place_of key.Pin = 3
+place_of key.Unpin = 4
 place_of key.Repin = 7
-place_of key.Flush = 8
-place_of key.Release = 9
-place_of key.Round = 10
-place_of key.Get = 11
-place_of key.Remove = 12
-place_of key.Insert = 13
-place_of key.Present = 14
-place_of key.Add = 15
-place_of key.Drop = 16
-place_of key.OrInsert = 17
-place_of key.Cas = 18
-place_of key.Range = 19
-place_of key.Through = 20
-place_of key.Keys = 21
-place_of key.Empty = 22
-place_of key.Stats = 23
-place_of key.Begin = 24
-place_of key.Go = 25
-place_of key.Fail = 26
+place_of key.Flush = 6
+place_of key.Release = 22
+place_of key.Round = 5
+place_of key.Get = 0
+place_of key.Remove = 2
+place_of key.Insert = 1
+place_of key.Present = 9
+place_of key.Add = 10
+place_of key.Drop = 11
+place_of key.OrInsert = 8
+place_of key.Cas = 12
+place_of key.Range = 13
+place_of key.Through = 14
+place_of key.Keys = 15
+place_of key.Empty = 16
+place_of key.Stats = 17
+place_of key.Begin = 18
+place_of key.Go = 19
+place_of key.Fail = 20
 place_of key.Charged = 27
 place_of key.Waiting = 28
 place_of key.Close = 29

@@ -56,7 +56,7 @@ use Rattle.trial.proofs.WholeScans.{scan_finishes}
 
 -- a tree with these pairs, no call of which is in flight
 abbrev pub At : Index → Pairs ℕ → Type 0
-At s m = Rests s.world m × (length s.callers ≡ 256) × (length s.scans.items ≡ 256)
+At s m = Rests s.world m × (length s.callers.items ≡ 256) × (length s.scans.items ≡ 256)
 
 as_long : {A : Type 0} (b : Bool) (xs : List A) (i : ℕ) (x : A) → length xs ≡ 256 → length (if b then slice_set xs i x else xs) ≡ 256
 as_long true xs i x e = length-set xs i x ∙ e
@@ -65,7 +65,7 @@ as_long false xs i x e = e
 -- a registration leaves the map
 registers_at : MapLaws → (s s' : Index) (told : Outcome ℕ) (m : Pairs ℕ) → At s m → Registers s told s' → At s' m
 registers_at laws s s' told m b g =
-    (rests_after m s.world s'.world b.0 g.0.1.holds (laws.registers s.world 0 g.0.0 s'.world b.0.flights m b.0.holds g.0.1 b.0.stand b.0.in_flight), ap length g.1 ∙ b.1, ap (λ (x : _). length x.items) g.2 ∙ b.2)
+    (rests_after m s.world s'.world b.0 g.0.1.holds (laws.registers s.world 0 g.0.0 s'.world b.0.flights m b.0.holds g.0.1 b.0.stand b.0.in_flight), ap (λ (x : _). length x.items) g.1 ∙ b.1, ap (λ (x : _). length x.items) g.2 ∙ b.2)
 
 -- as many scans as before
 begun_scans : (w : ℕ) (o : Op ℕ) (f : Option Closure) (s s' : Index) (told : Outcome ℕ) → length s.scans.items ≡ 256 → Begins s w o f told s' → length s'.scans.items ≡ 256
@@ -81,14 +81,14 @@ called_scans : (w : ℕ) (o : Op ℕ) (f : Option Closure) (s s' : Index) (told 
 called_scans w o f s s' told e g = gone_on_scans w 9999 g.0 g.1 told s' g.3 (begun_scans w o f s g.0 g.1 e g.2)
 
 -- and as many callers
-gone_on_callers : (w left : ℕ) (s : Index) (stands told : Outcome ℕ) (s' : Index) → GoesOn w left s stands told s' → length s.callers ≡ 256 → length s'.callers ≡ 256
+gone_on_callers : (w left : ℕ) (s : Index) (stands told : Outcome ℕ) (s' : Index) → GoesOn w left s stands told s' → length s.callers.items ≡ 256 → length s'.callers.items ≡ 256
 gone_on_callers w left s stands told s' (stays s1 t1) e = e
 gone_on_callers w left s stands told s' (ends n s1 t1 x) e = e
 gone_on_callers w left s stands told s' (goes n s1 mid s2 st next t1 run step more) e =
-    gone_on_callers w n mid next told s' more (ap length step.1 ∙ length-set s1.callers w _ ∙ e)
+    gone_on_callers w n mid next told s' more (ap length step.1 ∙ length-set s1.callers.items w _ ∙ e)
 
-called_callers : (w : ℕ) (o : Op ℕ) (f : Option Closure) (s s' : Index) (told : Outcome ℕ) → length s.callers ≡ 256 → Calls s w o f told s' → length s'.callers ≡ 256
-called_callers w o f s s' told e g = gone_on_callers w 9999 g.0 g.1 told s' g.3 (ap length g.2.1 ∙ as_long (is_running g.1) s.callers w (fresh f) e)
+called_callers : (w : ℕ) (o : Op ℕ) (f : Option Closure) (s s' : Index) (told : Outcome ℕ) → length s.callers.items ≡ 256 → Calls s w o f told s' → length s'.callers.items ≡ 256
+called_callers w o f s s' told e g = gone_on_callers w 9999 g.0 g.1 told s' g.3 (ap length g.2.1 ∙ as_long (is_running g.1) s.callers.items w (fresh f) e)
 
 calls_at : MapLaws → (w : ℕ) (o : Op ℕ) (t : _) (f : Option Closure) (s s' : Index) (told : Outcome ℕ) (m : Pairs ℕ) → target o ≡ target.Collector t → At s m → Calls s w o f told s' → At s' m
 calls_at laws w o t f s s' told m e b g = (rests_beside laws w o t f m s s' told e b.0 g, called_callers w o f s s' told b.1 g, called_scans w o f s s' told b.2 g)
@@ -151,7 +151,7 @@ left_length (outcome.Refused r) w scans = refl
 replied_at : (w : ℕ) (s s' : Index) (stands : Outcome ℕ) (m : Pairs ℕ) → At s m → GaveAway s w stands s' → At s' m
 replied_at w s s' stands m b g =
     let P : Whole ℕ → Type 0 = λ x. Rests x m in
-    (subst P (sym g.world) b.0, ap length g.callers ∙ b.1, ap length g.scans ∙ left_length stands w s.scans.items ∙ b.2)
+    (subst P (sym g.world) b.0, ap (λ (x : _). length x.items) g.callers ∙ b.1, ap length g.scans ∙ left_length stands w s.scans.items ∙ b.2)
 
 -- a reply that is the map's, where the map has one
 abbrev pub Agrees : Bool → Option (Reply × Pairs ℕ) → Reply → Type 0
@@ -260,7 +260,7 @@ opened_at laws limits journal budget (Ok world) new r o g a =
     let Q : Whole ℕ → Type 0 = λ x. Rests x empty in
     let new_tree = laws.fresh world o.1 in
     let rests : Rests world empty = record { holds = o.4; flights = no_flights; stand = new_tree.0; in_flight = new_tree.1; over = λ i. refl } in
-    let callers : length g.0.callers ≡ 256 = ap length g.1.callers ∙ length-replicate {A = Caller} 256 (fresh None) in
+    let callers : length g.0.callers.items ≡ 256 = ap length g.1.callers ∙ length-replicate {A = Caller} 256 (fresh None) in
     let scans : length g.0.scans.items ≡ 256 = ap length g.1.scans ∙ length-replicate {A = List (ℕ × ℕ)} 256 [] in
     subst P (sym g.2) (subst Q (sym g.1.world) rests, callers, scans)
 opened_at laws limits journal budget (Err e) new r o g a = absurd (no_refusal _ r g.1 a)

@@ -123,31 +123,31 @@ pub record Went (w : ℕ) (closure : Option Closure) (s : Index) (stands : Outco
 abbrev went_none : (w : ℕ) (closure : Option Closure) (s : Index) (stands : Outcome ℕ) → Went w closure s stands s stands
 went_none w closure s stands = record { steps = []; each = tt; goes_on = tt; told_last = refl; after = refl; answers = λ last b. b; places = λ l. refl }
 
-went_more : (w : ℕ) (closure : Option Closure) (s mid s' : Index) (stands next told : Outcome ℕ) → is_running stands ≡ true → Behind closure stands (caller_at s.callers w) → Goes s w false next mid
+went_more : (w : ℕ) (closure : Option Closure) (s mid s' : Index) (stands next told : Outcome ℕ) → is_running stands ≡ true → Behind closure stands (caller_at s.callers.items w) → Goes s w false next mid
     → Went w closure mid next s' told → Went w closure s stands s' told
 went_more w closure s mid s' stands next told on b g more =
     let P : Outcome ℕ → Type 0 = λ o. Went w closure mid o s' told in
     let rest : Went w closure mid g.0.0.outcome s' told = subst P g.0.2 more in
     let few : length mid.scans.items ≡ length s.scans.items = ap length g.2 ∙ filled_length s.scans.items w next in
     record {
-      steps = record { step = record { worker = w; event = Go (noise_of (caller_at s.callers w) false) }; report = g.0.0; after = mid.world } ∷ rest.steps;
+      steps = record { step = record { worker = w; event = Go (noise_of (caller_at s.callers.items w) false) }; report = g.0.0; after = mid.world } ∷ rest.steps;
       each = (g.0.1, rest.each);
-      goes_on = (record { in_flight = running stands on; noise = noise_of (caller_at s.callers w) false; step = refl }, rest.goes_on);
+      goes_on = (record { in_flight = running stands on; noise = noise_of (caller_at s.callers.items w) false; step = refl }, rest.goes_on);
       told_last = rest.told_last;
       after = rest.after;
-      answers = λ last c. rest.answers _ (by_answer closure stands (caller_at s.callers w).answer last b.0 c);
+      answers = λ last c. rest.answers _ (by_answer closure stands (caller_at s.callers.items w).answer last b.0 c);
       places = λ l. rest.places (omega (arith, few, l))
           ∙ ap (λ p. told_places p rest.steps) (ap (λ x. places_at x w) g.2 ∙ filled_places s.scans.items w next l ∙ ap (λ o. placed true o (places_at s.scans.items w)) g.0.2);
     }
 
-went : (w : ℕ) (closure : Option Closure) (left : ℕ) (s : Index) (stands told : Outcome ℕ) (s' : Index) → Behind closure stands (caller_at s.callers w) → GoesOn w left s stands told s'
+went : (w : ℕ) (closure : Option Closure) (left : ℕ) (s : Index) (stands told : Outcome ℕ) (s' : Index) → Behind closure stands (caller_at s.callers.items w) → GoesOn w left s stands told s'
     → Went w closure s stands s' told
 went w closure left s stands told s' b (stays s1 t1) = went_none w closure s stands
 went w closure left s stands told s' b (ends n s1 t1 e) = went_none w closure s stands
 went w closure left s stands told s' b (goes n s1 mid s2 st next t1 on step more) =
     let P : List Caller → Type 0 = λ callers. Behind closure next (caller_at callers w) in
-    let c : Behind closure next (caller_at mid.callers w) =
-    subst P (sym step.1) (behind_set closure next s.callers w _ (behind_heard closure stands next (caller_at s.callers w) b)) in
+    let c : Behind closure next (caller_at mid.callers.items w) =
+    subst P (sym step.1) (behind_set closure next s.callers.items w _ (behind_heard closure stands next (caller_at s.callers.items w) b)) in
     went_more w closure s mid s' stands next told on b step (went w closure n mid next told s' c more)
 
 begun_behind : (w : ℕ) (closure : Option Closure) (callers callers' : List Caller) (first : Outcome ℕ) (b : Bool) → b ≡ true → callers' ≡ (if b then slice_set callers w (fresh closure) else callers)
@@ -160,7 +160,7 @@ begun_behind w closure callers callers' first b on e =
 -- the steps after the first one; a call that ended as it began has none
 first_then : (w left : ℕ) (closure : Option Closure) (op : Op ℕ) (s mid : Index) (first told : Outcome ℕ) (s' : Index) (b : Bool) → is_running first ≡ b → Begins s w op closure first mid → GoesOn w left mid first told s'
     → (x : Went w closure mid first s' told) × ((x.steps ≡ []) ⊎ (b ≡ true))
-first_then w left closure op s mid first told s' true run g more = (went w closure left mid first told s' (begun_behind w closure s.callers mid.callers first (is_running first) run g.1) more, inr refl)
+first_then w left closure op s mid first told s' true run g more = (went w closure left mid first told s' (begun_behind w closure s.callers.items mid.callers.items first (is_running first) run g.1) more, inr refl)
 first_then w left closure op s mid first told s' false run g (stays s1 t1) = (went_none w closure mid first, inl refl)
 first_then w left closure op s mid first told s' false run g (ends n s1 t1 e) = (went_none w closure mid first, inl refl)
 first_then w left closure op s mid first told s' false run g (goes n s1 mid2 s2 st next t1 on step more) = absurd (let f : true ≡ false = sym on ∙ run in cc f)

@@ -15,7 +15,7 @@ use Rattle.trial.specs.Places.{filled}
 -- a tree none of whose workers has a call
 pub record IsUncalled (w : Whole ℕ) (index : Index) : Type 0 where
   pub world : index.world ≡ w
-  pub callers : index.callers ≡ replicate 256 (fresh None)
+  pub callers : index.callers.items ≡ replicate 256 (fresh None)
   pub scans : index.scans.items ≡ replicate 256 []
 
 -- whether a call that stands so is in flight
@@ -36,14 +36,14 @@ Registers old told new = Steps old 0 Register told new × (new.callers ≡ old.c
 -- a call's first step; from it on, where it is in flight, its closure is the line's, and a scan has filled no place
 abbrev pub Begins : Index → ℕ → Op ℕ → Option Closure → Outcome ℕ → Index → Type 0
 Begins old who op closure told new = Steps old who (Begin op) told new
-    × (new.callers ≡ (if is_running told then slice_set old.callers who (fresh closure) else old.callers))
+    × (new.callers.items ≡ (if is_running told then slice_set old.callers.items who (fresh closure) else old.callers.items))
     × (new.scans.items ≡ (if is_running told then slice_set old.scans.items who [] else old.scans.items))
 
 -- a further step; where it asks, its closure has answered when the next one comes, and where it tells a pair, that stands
 -- in its place
 abbrev pub Goes : Index → ℕ → Bool → Outcome ℕ → Index → Type 0
-Goes old who fail told new = Steps old who (Go (noise_of (caller_at old.callers who) fail)) told new
-    × (new.callers ≡ slice_set old.callers who (heard (caller_at old.callers who) told)) × (new.scans.items ≡ filled old.scans.items who told)
+Goes old who fail told new = Steps old who (Go (noise_of (caller_at old.callers.items who) fail)) told new
+    × (new.callers.items ≡ slice_set old.callers.items who (heard (caller_at old.callers.items who) told)) × (new.scans.items ≡ filled old.scans.items who told)
 
 -- further steps of a call that stands so, none of which fails: so many are left, and fewer are taken where the call ends
 pub data GoesOn (who : ℕ) : ℕ → Index → Outcome ℕ → Outcome ℕ → Index → Type 0 where

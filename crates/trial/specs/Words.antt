@@ -1,5 +1,5 @@
 -- The words of the script's language.
-use Rattle.std.specs.Prelude.{◌≡◌, ◌<◌, ◌^◌, ℕ, Bool, false, not, ◌==◌, if◌then◌else◌, List, [], ◌∷◌, length, decimal, codes}
+use Rattle.std.specs.Prelude.{◌≡◌, ◌<◌, ◌^◌, ℕ, Bool, false, ◌==◌, ◌&&◌, nat_le, if◌then◌else◌, List, [], ◌∷◌, length, decimal, codes}
 use Rattle.std.specs.Str.Parse.{IsNumeral, digits_value, without_leading_plus}
 use Rattle.trial.specs.declared.keyword.Keyword.{Keyword}
 use Rattle.trial.specs.declared.keyword.Keyword.TheVariants as key
@@ -55,7 +55,7 @@ Reads bytes word.Other = ((k : Keyword) → bytes ≡ text_of k → ⊥) × ((n 
 abbrev pub IsUnsigned : List ℕ → ℕ → Type 0
 IsUnsigned bytes n = IsNumeral 10 (without_leading_plus bytes) × (digits_value 10 (without_leading_plus bytes) ≡ n) × (n < 2 ^ 64)
 
--- neither a plus leads nor a zero that isn't alone
+-- a digit leads, and no zero that isn't alone
 abbrev pub is_plain_text : List ℕ → Bool
 is_plain_text [] = false
-is_plain_text (b ∷ bs) = if b == 48 then length bs == 0 else not (b == 43)
+is_plain_text (b ∷ bs) = if b == 48 then length bs == 0 else nat_le 49 b && nat_le b 57

@@ -63,15 +63,12 @@ impl Caller {
     }
 
     /// After a step of the call that ended so.
-    pub fn heard(self, outcome: &Outcome<u64>) -> Caller
-        ensures { result ≡ heard self outcome.now }
+    pub fn hear(&mut self, outcome: &Outcome<u64>)
+        ensures { self.new ≡ heard self.old outcome.now }
     {
-        match (self.closure, outcome) {
-            (Some(closure), Outcome::Asks(found)) => Caller {
-                closure: self.closure,
-                answer: Some(closure.answer(*found)),
-            },
-            _ => Caller::new(self.closure),
-        }
+        self.answer = match (self.closure, outcome) {
+            (Some(closure), Outcome::Asks(found)) => Some(closure.answer(*found)),
+            _ => None,
+        };
     }
 }

@@ -1,6 +1,6 @@
 //! A tree with what stands behind its workers' calls, which go on from line to line.
-ghost use Rattle.std.specs.Prelude.{◌≡◌, ◌<◌, [], OnOk, IfOk, IfErr, slice_set, length, replicate};
-ghost use Rattle.trial.specs.Callers.{caller_at};
+ghost use Rattle.std.specs.Prelude.{◌≡◌, ◌<◌, [], None, OnOk, IfOk, IfErr, slice_set, length, replicate};
+ghost use Rattle.trial.specs.Callers.{caller_at, fresh, heard};
 ghost use Rattle.trial.specs.Calling.{IsUncalled, Registers, Begins, Goes, GoesOn, Calls, is_running};
 ghost use Rattle.trial.specs.Places.{places_at, filled};
 ghost use Rattle.trial.specs.declared.end.End.TheVariants as End;
@@ -24,9 +24,20 @@ const STEPS_MAX: u64 = 10_000;
 pub struct Index {
     pub world: World<u64, Limited>,
     /// By the worker's number.
-    pub callers: [Caller; CALLERS],
+    pub callers: Vec<Caller>,
     /// The places of each worker's scan, by the worker's number.
     pub scans: Vec<Places>,
+}
+
+/// What stands behind the calls of workers none of whom has begun one.
+fn no_callers(alloc: Global) -> Result<Vec<Caller>, AllocError>
+    ensures { IfOk result (λ callers. callers.items ≡ replicate 256 (fresh None)) }
+{
+    let mut callers = Vec::with_capacity(alloc, CALLERS)?;
+    for _i in 0..CALLERS {
+        callers.push(Caller::new(None))?;
+    }
+    Ok(callers)
 }
 
 /// The places of workers none of whom has begun a scan.
@@ -55,17 +66,18 @@ impl Index {
     pub fn new(alloc: Global, world: World<u64, Limited>) -> Result<Index, AllocError>
         ensures { IfOk result (λ index. IsUncalled world index) }
     {
+        let callers = no_callers(alloc)?;
         let scans = no_scans(alloc)?;
         Ok(Index {
             world,
-            callers: [Caller::new(None); CALLERS],
+            callers,
             scans,
         })
     }
 
     /// What stands behind a worker's call.
     fn caller(&self, worker: u32) -> Caller
-        ensures { result ≡ caller_at self.now.callers worker }
+        ensures { result ≡ caller_at self.now.callers.items worker }
     {
         match self.callers.get(worker as usize) {
             Some(caller) => *caller,
@@ -75,12 +87,23 @@ impl Index {
 
     /// Puts another caller behind a worker's call.
     fn set_caller(&mut self, worker: u32, caller: Caller)
-        ensures callers { self.new.callers ≡ slice_set self.old.callers worker caller }
+        ensures callers { self.new.callers.items ≡ slice_set self.old.callers.items worker caller }
         ensures world { self.new.world ≡ self.old.world }
         ensures scans { self.new.scans ≡ self.old.scans }
     {
-        if (worker as usize) < CALLERS {
+        if (worker as usize) < self.callers.len() {
             self.callers[worker as usize] = caller;
+        }
+    }
+
+    /// What stands behind a worker's call hears how a step of it ended.
+    fn hear(&mut self, worker: u32, outcome: &Outcome<u64>)
+        ensures callers { self.new.callers.items ≡ slice_set self.old.callers.items worker (heard (caller_at self.old.callers.items worker) outcome.now) }
+        ensures world { self.new.world ≡ self.old.world }
+        ensures scans { self.new.scans ≡ self.old.scans }
+    {
+        if (worker as usize) < self.callers.len() {
+            self.callers[worker as usize].hear(outcome);
         }
     }
 
@@ -161,7 +184,7 @@ impl Index {
             event: Event::Go(caller.noise(fail)),
         };
         let outcome = self.world.step(step).outcome;
-        self.set_caller(worker, caller.heard(&outcome));
+        self.hear(worker, &outcome);
         self.hear_scan(worker, &outcome)?;
         Ok(outcome)
     }

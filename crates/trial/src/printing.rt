@@ -1,5 +1,5 @@
 //! What is printed of a line, put piece by piece.
-ghost use Rattle.std.specs.Prelude.{◌≡◌, IfErr, OnOk};
+ghost use Rattle.std.specs.Prelude.{◌≡◌, IfErr, OnOk, Some};
 ghost use Rattle.std.specs.List.{flat_map};
 ghost use Rattle.trial.specs.Output.{Passes, Breaks, PutStops};
 ghost use Rattle.trial.specs.Texts.{drained_text, pair_text, pairs_text, printed, spaced, bad_line_text};
@@ -119,7 +119,17 @@ fn put_closed<W: Write>(output: &mut Output, writer: &mut W, closed: &Closed) ->
     output.put(writer, b"\n")
 }
 
-/// Puts a reply.
+/// Puts the reply that tells a value.
+fn put_value<W: Write>(output: &mut Output, writer: &mut W, value: u64) -> Result<(), End>
+    ensures ok { OnOk result (Passes (W.contents writer.old) output.old (W.contents writer.new) output.new (printed (Replies.Value (Some value)))) }
+    ensures err { IfErr result (λ e. (e ≡ End.Writing) × Breaks (W.contents writer.old) output.old (W.contents writer.new) (printed (Replies.Value (Some value)))) }
+{
+    output.put(writer, b"some ")?;
+    output.put_number(writer, value)?;
+    output.put(writer, b"\n")
+}
+
+/// Puts a reply. Those that nearly every line has, and those that may be long, take no memory.
 pub fn put_reply<W: Write>(
     alloc: Global,
     output: &mut Output,
@@ -130,6 +140,9 @@ pub fn put_reply<W: Write>(
     ensures err { IfErr result (λ e. PutStops (W.contents writer.old) output.old (W.contents writer.new) output.new (printed reply.now) e) }
 {
     let text = match reply {
+        Reply::Ok => return output.put(writer, b"ok\n"),
+        Reply::Value(None) => return output.put(writer, b"none\n"),
+        Reply::Value(Some(value)) => return put_value(output, writer, *value),
         Reply::Range(places) => return put_range(output, writer, places),
         Reply::Keys(keys) => return put_keys(output, writer, keys),
         Reply::Closed(closed) => return put_closed(output, writer, closed),

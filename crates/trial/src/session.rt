@@ -1,5 +1,5 @@
 //! The tree of a script, and what its commands do to it.
-ghost use Rattle.std.specs.Prelude.{◌≡◌, IfOk, IfErr, false};
+ghost use Rattle.std.specs.Prelude.{◌≡◌, IfOk, IfErr, None, false};
 ghost use Rattle.trial.specs.Session.{Answers, Replies, CallReplies, BeginReplies, GoReplies, FailReplies, JournalReplies, Rounds, Round, AfterPin, Unwinds, Opens, OpensWith};
 ghost use Rattle.trial.specs.Session.{closes, op_of, closure_of, refusal_of, limits_of, budget_of};
 ghost use Rattle.trial.specs.Places.{given, left, places_at};
@@ -146,9 +146,7 @@ fn world(alloc: Global, limits: Limits, opening: Opening) -> Result<World<u64, L
     Ok(world)
 }
 
-/// Opens a tree, or tells why there is none. Kept out of line, as the close is: a whole tree by value takes room that every
-/// line would clear.
-#[inline(never)]
+/// Opens a tree, or tells why there is none.
 fn open(alloc: Global, opening: Opening) -> Result<(Option<Index>, Reply), End>
     ensures ok { IfOk result (λ opened. OpensWith (limits_of opening) opening.journal (budget_of opening) opened.0 opened.1) }
     ensures err { IfErr result (λ e. e ≡ End.Memory) }
@@ -165,14 +163,21 @@ fn open(alloc: Global, opening: Opening) -> Result<(Option<Index>, Reply), End>
     }
 }
 
-/// The reply to a command where no tree is open.
-fn answer_closed(alloc: Global, command: Command) -> Result<(Option<Index>, Reply), End>
-    ensures ok { IfOk result (λ answered. Answers None command answered.0 answered.1) }
+/// The reply to a command where no tree is open. Kept out of line, as the close is: a whole tree by value takes room that
+/// every line would clear.
+#[inline(never)]
+fn answer_closed(alloc: Global, session: &mut Option<Index>, command: Command) -> Result<Reply, End>
+    requires { session.old ≡ None }
+    ensures ok { IfOk result (λ reply. Answers None command session.new reply) }
     ensures err { IfErr result (λ e. e ≡ End.Memory) }
 {
     match command {
-        Command::New(opening) => open(alloc, opening),
-        _ => Ok((None, Reply::Refused(Refused::NoTree))),
+        Command::New(opening) => {
+            let (index, reply) = open(alloc, opening)?;
+            *session = index;
+            Ok(reply)
+        }
+        _ => Ok(Reply::Refused(Refused::NoTree)),
     }
 }
 
@@ -306,10 +311,6 @@ pub fn answer(alloc: Global, session: &mut Option<Index>, command: Command) -> R
     }
     match session {
         Some(index) => answer_open(alloc, index, command),
-        None => {
-            let (index, reply) = answer_closed(alloc, command)?;
-            *session = index;
-            Ok(reply)
-        }
+        None => answer_closed(alloc, session, command),
     }
 }

@@ -27,14 +27,14 @@ fn unsigned(word: &[u8]) -> Option<u64>
     }
 }
 
-/// Whether neither a plus nor a further zero leads.
+/// Whether a digit leads, and no zero before a further byte.
 fn is_plain(word: &[u8]) -> bool
     ensures { result ≡ is_plain_text word.now }
 {
     match word {
         [] => false,
         [b'0', rest @ ..] => rest.is_empty(),
-        [first, ..] => *first != b'+',
+        [first, ..] => b'1' <= *first && *first <= b'9',
     }
 }
 

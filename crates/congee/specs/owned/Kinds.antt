@@ -7,8 +7,8 @@ use Rattle.congee.specs.declared.forms.base_node.Node.{Node}
 use Rattle.congee.specs.declared.forms.base_node.NodeType.{NodeType}
 use Rattle.congee.specs.declared.forms.child.Child.{Child}
 use Rattle.congee.specs.declared.forms.child.Child.TheVariants.{Blank, Node as Sub, Value}
-use Rattle.congee.specs.declared.owned.nodes.Slot.{Slot}
-use Rattle.congee.specs.declared.owned.nodes.Slot.TheVariants.{Inner, Leaf}
+use Rattle.congee.specs.declared.owned.slots.Slot.{Slot}
+use Rattle.congee.specs.declared.owned.slots.Slot.TheVariants.{Inner, Leaf}
 
 -- the node as before in the next greater form
 pub record IsGrown {C P : Type 0} (old new : Node C P) : Type 0 where

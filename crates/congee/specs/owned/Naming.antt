@@ -1,5 +1,5 @@
 -- Names of nodes as numbers.
-use Rattle.std.specs.Prelude.{◌≡◌, ℕ, zero, suc, ◌+◌, ◌*◌, ◌-◌, ◌/◌, ◌%◌, ◌<◌, Option, None, Some}
+use Rattle.std.specs.Prelude.{◌≡◌, ℕ, zero, suc, ◌+◌, ◌%◌, ◌<◌, Option, None, Some}
 
 -- the node has a slot of its own
 abbrev pub HasOwnSlot : ℕ → Type 0

@@ -1,6 +1,5 @@
 -- What single changes of the storage do to the nodes of an owned tree.
-use Rattle.std.specs.Prelude.{◌≡◌, ◌≢◌, ℕ, ◌<◌, ◌≤◌, length, slice_index, List, Option, None, Some, MatchOption}
-use Rattle.std.specs.Ordering.{nat_cmp}
+use Rattle.std.specs.Prelude.{◌≡◌, ◌≢◌, ℕ, ◌<◌, length, List, Option, None, Some}
 use Rattle.std.specs.FinMap as map
 use Rattle.slab.specs.Slab.{Updates, get}
 use Rattle.congee.specs.forms.Forms.{Becomes, children_of, form_of, next_form, prefix_of}

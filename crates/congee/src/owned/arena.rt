@@ -6,7 +6,8 @@ use crate::allocator::{Allocator, OOMError};
 use crate::forms::base_node::NodeType;
 use crate::forms::child::Small;
 use crate::keys::KEY_BYTES;
-use crate::owned::nodes::{Name, Nodes};
+use crate::owned::names::Name;
+use crate::owned::nodes::Nodes;
 use crate::owned::place::{Place, Spot, Way};
 use std::alloc::Global;
 
@@ -16,8 +17,8 @@ pub trait Stored: Small {
     ghost use Rattle.std.specs.Prelude.{ℕ};
     ghost use denote.Param.{layout};
     ghost use Rattle.congee.specs.forms.Room.{IsSmall};
-    ghost use Rattle.congee.specs.contracts.owned.nodes.Lone.{the_row as lone_row};
-    ghost use Rattle.congee.specs.contracts.owned.nodes.Slot.{the_row as slot_row};
+    ghost use Rattle.congee.specs.contracts.owned.lone.Lone.{the_row as lone_row};
+    ghost use Rattle.congee.specs.contracts.owned.slots.Slot.{the_row as slot_row};
     ghost use Rattle.congee.specs.contracts.forms.base_node.Node.{the_row as node_row};
     ghost use Rattle.std.specs.Borrow.{usize as word};
 

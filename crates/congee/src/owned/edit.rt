@@ -21,7 +21,7 @@ use crate::forms::base_node::NodeType;
 use crate::forms::prefix::MAX_PREFIX_LEN;
 use crate::keys::KEY_BYTES;
 use crate::owned::arena::{Arena, Stored};
-use crate::owned::nodes::Name;
+use crate::owned::names::Name;
 use std::alloc::Global;
 
 /// A node that was hung over another, and the byte under which that one hangs in it.
@@ -93,7 +93,8 @@ impl<P: Stored, A: Allocator> Arena<P, A> {
         Ok(())
     }
 
-    /// Puts a value into a leaf that has none for the key, or hands it back.
+    /// Puts a value into a leaf that has none for the key, or hands it back. One that lies in its parent's place takes a slot of
+    /// its own: it has room for another value, so that is never refused.
     pub(crate) fn add_value(
         &mut self,
         alloc: Global,
@@ -113,35 +114,11 @@ impl<P: Stored, A: Allocator> Arena<P, A> {
             key.now value (Some (room_for (heap_of self.old.nodes at)))) }
     {
         if at.is_inline() {
-            return self.add_inline(alloc, above, at, key, value);
+            let up = self.byte_at(above, key);
+            let leaf = self.nodes.unfold(above, up);
+            return self.add_beside(alloc, leaf, key, value);
         }
         self.add_beside(alloc, at, key, value)
-    }
-
-    /// Puts a value into a leaf that lies in its parent's place. It has room for another, so this is never refused.
-    fn add_inline(
-        &mut self,
-        alloc: Global,
-        above: Name,
-        at: Name,
-        key: &[u8; KEY_BYTES],
-        value: P,
-    ) -> Result<(), (OOMError, P)>
-        requires tree { IsTree self.old.nodes }
-        requires way { OnWay self.old.nodes key.now at }
-        requires hangs { Hangs self.old.nodes key.now above at }
-        requires inline { HasOwnSlot at → ⊥ }
-        requires free { child_for (heap_of self.old.nodes at) key.now ≡ Nothing }
-        requires leaf { length (heap_of self.old.nodes at).prefix ≡ MAX_PREFIX_LEN }
-        requires covered { Covers A.charged_of self.old }
-        ensures adds { OnOk result (Adds A.charged_of A.limit_of self.old self.new
-            key.now None value (Some (room_for (heap_of self.old.nodes at)))) }
-        ensures refused { IfErr result (Denies A.charged_of A.limit_of self.old self.new
-            key.now value (Some (room_for (heap_of self.old.nodes at)))) }
-    {
-        let up = self.byte_at(above, key);
-        let leaf = self.nodes.unfold(above, up);
-        self.add_beside(alloc, leaf, key, value)
     }
 
     /// Hangs a leaf for the key below an inner node that has nothing for it, or hands the value back.
@@ -261,26 +238,8 @@ impl<P: Stored, A: Allocator> Arena<P, A> {
         Fork { over, other }
     }
 
-    /// The same over a leaf that lies in its parent's place: it then lies in that of the new node.
-    fn part(&mut self, at: Name, below: Name, key: &[u8; KEY_BYTES], value: P)
-        requires tree { IsTree self.old.nodes }
-        requires way { OnWay self.old.nodes key.now at }
-        requires hangs { child_for (heap_of self.old.nodes at) key.now ≡ Below below }
-        requires differs { fits (heap_of self.old.nodes below).prefix key.now ≡ false }
-        requires inline { HasOwnSlot below → ⊥ }
-        requires room { HasRoomFor self.old.nodes 2 }
-        ensures tree { IsTree self.new.nodes }
-        ensures change { MapChange self.old.nodes self.new.nodes key.now None (Some value) }
-        ensures bytes { bytes_of self.new.nodes ≡ bytes_of self.old.nodes + size_of N4 + size_of N4 }
-        ensures allocator { self.new.allocator ≡ self.old.allocator }
-    {
-        let up = self.byte_at(at, key);
-        let leaf = self.nodes.unfold(at, up);
-        let Fork { over, other } = self.fork(at, leaf, key, value);
-        self.nodes.fold(over, other, leaf);
-    }
-
-    /// The same over either.
+    /// The same over a node of either kind: a leaf that lies in its parent's place takes a slot of its own, and then the
+    /// new node's place.
     fn host(&mut self, at: Name, below: Name, key: &[u8; KEY_BYTES], value: P)
         requires tree { IsTree self.old.nodes }
         requires way { OnWay self.old.nodes key.now at }
@@ -293,7 +252,10 @@ impl<P: Stored, A: Allocator> Arena<P, A> {
         ensures allocator { self.new.allocator ≡ self.old.allocator }
     {
         if below.is_inline() {
-            self.part(at, below, key, value);
+            let up = self.byte_at(at, key);
+            let leaf = self.nodes.unfold(at, up);
+            let Fork { over, other } = self.fork(at, leaf, key, value);
+            self.nodes.fold(over, other, leaf);
             return;
         }
         self.fork(at, below, key, value);
@@ -347,7 +309,7 @@ impl<P: Stored, A: Allocator> Arena<P, A> {
         value
     }
 
-    /// A leaf with one value goes.
+    /// A leaf with one value goes, from its parent's place or with its slot.
     #[inline(always)]
     fn drop_alone(&mut self, above: Name, at: Name, key: &[u8; KEY_BYTES]) -> P
         requires tree { IsTree self.old.nodes }
@@ -358,35 +320,9 @@ impl<P: Stored, A: Allocator> Arena<P, A> {
         ensures { Drops self.old self.new key.now at result }
     {
         if at.is_inline() {
-            return self.drop_inline(above, at, key);
+            let up = self.byte_at(above, key);
+            return self.nodes.unhang_leaf(above, up);
         }
-        self.drop_slot(above, at, key)
-    }
-
-    /// A leaf that lies in its parent's place goes.
-    #[inline(always)]
-    fn drop_inline(&mut self, above: Name, at: Name, key: &[u8; KEY_BYTES]) -> P
-        requires tree { IsTree self.old.nodes }
-        requires way { OnWay self.old.nodes key.now at }
-        requires held { IsHeld self.old.nodes key.now at }
-        requires hangs { Hangs self.old.nodes key.now above at }
-        requires inline { HasOwnSlot at → ⊥ }
-        ensures { Drops self.old self.new key.now at result }
-    {
-        let up = self.byte_at(above, key);
-        self.nodes.unhang_leaf(above, up)
-    }
-
-    /// A leaf with a slot of its own goes.
-    fn drop_slot(&mut self, above: Name, at: Name, key: &[u8; KEY_BYTES]) -> P
-        requires tree { IsTree self.old.nodes }
-        requires way { OnWay self.old.nodes key.now at }
-        requires held { IsHeld self.old.nodes key.now at }
-        requires hangs { Hangs self.old.nodes key.now above at }
-        requires last { (x : Form ℕ P) → get self.old.nodes at ≡ Some x → map.len (children_of x) ≡ 1 }
-        requires own { HasOwnSlot at }
-        ensures { Drops self.old self.new key.now at result }
-    {
         let byte = self.byte_at(at, key);
         let value = self.nodes.take_value(at, byte);
         let up = self.byte_at(above, key);

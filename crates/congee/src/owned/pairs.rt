@@ -17,7 +17,8 @@ use crate::allocator::{Allocator, OOMError};
 use crate::forms::base_node::{Node, NodeType};
 use crate::keys::KEY_BYTES;
 use crate::owned::arena::{Arena, Stored};
-use crate::owned::nodes::{Name, Nodes};
+use crate::owned::names::Name;
+use crate::owned::nodes::Nodes;
 use crate::owned::place::{Place, Spot, Way};
 use std::alloc::Global;
 

@@ -3,7 +3,7 @@ ghost use Rattle.std.specs.Prelude.{◌≡◌, ℕ, MatchOption};
 ghost use Rattle.congee.specs.owned.Stores.{child_now};
 ghost use Rattle.congee.specs.declared.forms.child.Child.TheVariants.{Node as Sub};
 
-use crate::owned::nodes::Name;
+use crate::owned::names::Name;
 
 /// What a node has for a key.
 #[derive(Drop)]

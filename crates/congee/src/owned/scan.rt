@@ -16,7 +16,7 @@ use crate::allocator::Allocator;
 use crate::keys::{KEY_BYTES, bytes_of_key};
 use crate::owned::arena::{Arena, Stored};
 use crate::owned::edit::first_apart;
-use crate::owned::nodes::Name;
+use crate::owned::names::Name;
 use crate::owned::place::Way;
 use crate::owned::sight::{Next, Sight};
 use arrayvec::ArrayVec;

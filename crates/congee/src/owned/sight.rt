@@ -12,7 +12,8 @@ use crate::forms::child::Child;
 use crate::forms::prefix::MAX_PREFIX_LEN;
 use crate::keys::key_of_bytes;
 use crate::owned::arena::Stored;
-use crate::owned::nodes::{Lone, Name};
+use crate::owned::lone::Lone;
+use crate::owned::names::Name;
 use crate::owned::placed::Placed;
 
 /// A node by what its name led to, so that a walk through its children looks nothing up again.

@@ -13,7 +13,7 @@ ghost use Rattle.congee.specs.owned.Weights.{HasBytesFrom, sizes_of};
 use crate::allocator::Allocator;
 use crate::keys::KEY_BYTES;
 use crate::owned::arena::{Arena, Stored};
-use crate::owned::nodes::Name;
+use crate::owned::names::Name;
 use crate::owned::stats::NodeStats;
 use std::alloc::{AllocError, Global};
 

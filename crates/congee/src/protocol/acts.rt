@@ -15,7 +15,7 @@ use crate::forms::child::Child;
 use crate::forms::prefix::MAX_PREFIX_LEN;
 use crate::keys::KEY_BYTES;
 use crate::protocol::machine::{Machine, Move, Outcome};
-use crate::protocol::phase::{Double, One, Parent, Phase, Plan, Single, Site, Two, taken};
+use crate::protocol::phase::{Double, One, Parent, Phase, Single, Site, Two, taken};
 use crate::protocol::store::{NodeName, Refusal, Seat, Store, Upgrade};
 use crate::protocol::turn::value_child;
 use judge::{Payload, Reply};
@@ -192,13 +192,7 @@ impl<C: NodeName, P: Payload> Machine<C, P> {
             }
             Ok(node) => {
                 let change = site.greater(leaf, node);
-                let at = site.at;
-                self.phase.ready(
-                    &self.kind,
-                    Plan::Above {
-                        two: Two { above, at, change },
-                    },
-                )
+                self.phase.ready_above(&self.kind, above, site.at, change)
             }
         }
     }
@@ -258,12 +252,7 @@ impl<C: NodeName, P: Payload> Machine<C, P> {
                     common,
                     byte,
                 };
-                self.phase.ready(
-                    &self.kind,
-                    Plan::Above {
-                        two: Two { above, at, change },
-                    },
-                )
+                self.phase.ready_above(&self.kind, above, at, change)
             }
         }
     }

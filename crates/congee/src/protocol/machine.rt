@@ -90,6 +90,19 @@ impl<C: NodeName, P: Payload> Machine<C, P> {
         }
     }
 
+    /// The call on the tree with this root, in the place of another one, which goes.
+    pub fn begin(&mut self, root: C, op: Op<P>)
+        ensures call { self.new ≡ begun root op }
+        ensures new { IsNew self.new }
+    {
+        op.begin(root, &mut self.phase);
+        let (key, kind, given) = op.parts();
+        self.root = root;
+        self.key = key;
+        self.kind = kind;
+        self.given = given;
+    }
+
     /// The next step of the call.
     #[inline(always)]
     pub fn next<S: Store<C, P>>(&mut self, store: &mut S, mut noise: Noise<C, P>) -> Move<P>

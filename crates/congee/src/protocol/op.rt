@@ -7,6 +7,7 @@ ghost use Rattle.congee.specs.protocol.Play.{parts, first_phase, IsBegin};
 use crate::protocol::phase::{Kind, Phase};
 use crate::protocol::store::NodeName;
 use crate::protocol::sweep::Sweep;
+use judge::Payload;
 
 /// A call on one key or a scan, before its closure has answered anything.
 #[derive(Drop)]
@@ -71,6 +72,26 @@ impl<P> Op<P> {
             Op::Exchange(key, old, new) => (key, Kind::Exchange { old }, new),
             Op::Range(start, _, _) => (start, Kind::Get, None),
             Op::RangeInclusive(start, _, _) => (start, Kind::Get, None),
+        }
+    }
+}
+
+impl<P: Payload> Op<P> {
+    /// Puts the first step of the call in the place of another call's. For a call on a key nothing of a scan is written.
+    pub(crate) fn begin<C: NodeName>(&self, root: C, phase: &mut Phase<C, P>)
+        ensures phase { phase.new ≡ first_phase root self.now }
+        ensures begins { (kind : Kind P) (given : Option P) → HasGift kind given → IsBegin kind given phase.new }
+    {
+        match self {
+            Op::Range(_, _, _) | Op::RangeInclusive(_, _, _) => {
+                *phase = self.first_phase(root);
+            }
+            Op::Get(_)
+            | Op::Insert(_, _)
+            | Op::Remove(_)
+            | Op::ComputePresent(_)
+            | Op::ComputeInsert(_)
+            | Op::Exchange(_, _, _) => *phase = Phase::New,
         }
     }
 }

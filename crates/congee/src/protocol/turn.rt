@@ -2,6 +2,7 @@
 ghost use Rattle.std.specs.Prelude.{◌≡◌, ℕ, ◌<◌, ◌⊎◌, Bool, true, false, Option, None, Some};
 ghost use Rattle.congee.specs.protocol.Steps.{turn_of, quiet, again, answered, finished, refused, decided, asking, adds, asks_new, absent_reply, form_above, after_version, after_read, down, started, ready, plan_here, unless_full, missing, absent, IsAsked, replaced, emptied, is_same, IsAtOld, IsAdded, IsExchanged, IsPresent, IsChecked, after_miss, after_change, greater, unwound, outcome_of, value_hung};
 ghost use Rattle.congee.specs.protocol.Events.{hung};
+ghost use Rattle.congee.specs.declared.protocol.phase.Plan.TheVariants as plan;
 
 use crate::forms::base_node::NodeType;
 use crate::forms::child::Child;
@@ -11,7 +12,6 @@ use crate::protocol::phase::{Double, Kind, Parent, Phase, Plan, Single, Site, Tw
 use crate::protocol::store::{NodeName, Reading, Refusal, Seat};
 use crate::protocol::sweep::Told;
 use judge::{Payload, Reply};
-use std::mem;
 
 /// What a step leaves: the call's next step, and what is reported. Contracts speak of both as one; a step changes the
 /// phase where it lies, and gives its report.
@@ -24,17 +24,18 @@ pub struct Turn<C: NodeName, P> {
 }
 
 impl<C: NodeName, P: Payload> Phase<C, P> {
-    /// The step leaves this one as the next, and its report.
+    /// The step leaves this one as the next, and its report. It is compiled into each step, and so are those that hand a phase on
+    /// to it: a phase is then made where it is to lie, and not copied there.
+    #[inline(always)]
     fn leave(&mut self, next: Self, decided: bool, outcome: Outcome<P>) -> Move<P>
         ensures { turn_of self.new result ≡ record { phase = next; report = record { decided = decided; outcome = outcome } } }
     {
-        // What isn't wanted any more is handed to `drop`: in place it would be a step for each variant, which the
-        // checker goes through at each branch.
-        drop(mem::replace(self, next));
+        *self = next;
         Move { decided, outcome }
     }
 
     /// The call goes on.
+    #[inline(always)]
     pub(crate) fn quiet(&mut self, next: Self) -> Move<P>
         ensures { turn_of self.new result ≡ quiet next }
     {
@@ -73,6 +74,7 @@ impl<C: NodeName, P: Payload> Phase<C, P> {
     }
 
     /// The call takes effect in this step, and goes on.
+    #[inline(always)]
     pub(crate) fn decided(&mut self, next: Self) -> Move<P>
         ensures { turn_of self.new result ≡ decided next }
     {
@@ -80,6 +82,7 @@ impl<C: NodeName, P: Payload> Phase<C, P> {
     }
 
     /// The closure is asked, for this value or for an absent key.
+    #[inline(always)]
     pub(crate) fn asking(&mut self, next: Self, value: Option<P>) -> Move<P>
         ensures { turn_of self.new result ≡ asking next value }
     {
@@ -251,6 +254,24 @@ impl<C: NodeName, P: Payload> Phase<C, P> {
         } else {
             self.started(plan, kind.absent_reply())
         }
+    }
+
+    /// The nodes are made that come in place of the one at hand.
+    pub(crate) fn ready_above(
+        &mut self,
+        kind: &Kind<P>,
+        above: Parent<C>,
+        at: Seat<C>,
+        change: Double<C>,
+    ) -> Move<P>
+        ensures { turn_of self.new result ≡ ready kind.now (plan.Above (record { above = above; at = at; change = change })) }
+    {
+        self.ready(
+            kind,
+            Plan::Above {
+                two: Two { above, at, change },
+            },
+        )
     }
 
     /// A node with no place gives way to a greater one; the root is never full.

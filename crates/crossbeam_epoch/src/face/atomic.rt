@@ -1,9 +1,10 @@
 //! Pointers that threads share.
 
-ghost use Rattle.std.specs.Prelude.{◌≡◌, ◌≢◌, ◌⊎◌, ◌%◌, ◌<◌, true, MatchResult, IfErr, IfSome, IsErr, MatchOption};
+ghost use Rattle.std.specs.Prelude.{◌≡◌, ◌≢◌, ◌⊎◌, ◌%◌, ◌<◌, true, false, MatchResult, IfErr, IfSome, IsErr, MatchOption};
 ghost use Rattle.crossbeam_epoch.specs.Face.Exchange.{IsExchange, GaveNext, GaveNone};
 ghost use Rattle.crossbeam_epoch.specs.Face.Pointer.{is_foreign};
 
+use crate::face::atomic_link::AtomicLink;
 use crate::face::guard::Guard;
 use crate::face::link::{Link, Tagged};
 use crate::face::ordering::CompareAndSetOrdering;
@@ -16,14 +17,15 @@ use crate::task::Task;
 use std::alloc::Global;
 use std::fmt;
 use std::fmt::{Debug, Formatter};
+use std::sync::Wait;
 use std::sync::atomic::Ordering;
-use std::sync::{Mutex, Wait};
 
 /// A pointer that threads share, to a value in a cell of a collector (the source's `Atomic`).
-/// Each call is one step on it, whatever the ordering.
+/// Each call is one step on it, whatever the ordering, and takes no lock while the pointer leads to one collector; an
+/// exchange for a value that isn't placed yet takes one.
 #[derive(Drop)]
 pub struct Atomic<T: Pointable> {
-    tagged: Mutex<Tagged<T>>,
+    link: AtomicLink<T>,
 }
 
 /// A compare-and-exchange that found another pointer: that one, and what was to be written.
@@ -44,7 +46,7 @@ impl<T: Pointable> Atomic<T> {
     /// A pointer that threads share from now on.
     fn of(tagged: Tagged<T>) -> Self {
         Atomic {
-            tagged: Mutex::new(tagged),
+            link: AtomicLink::new(tagged),
         }
     }
 
@@ -127,7 +129,7 @@ impl<T: Pointable + Drop> Atomic<T> {
     ) -> Shared<'g, T>
         ensures { result.link.tag < T.ALIGN }
     {
-        Shared::of(self.tagged.lock(rt).load())
+        Shared::of(self.link.load(rt))
     }
 
     /// The same as `load`.
@@ -153,7 +155,7 @@ impl<T: Pointable + Drop> Atomic<T> {
         ensures foreign { P.leads_elsewhere new guard.now.collector.now.id ≡ true → IsErr result }
     {
         let tagged = new.enter(rt, guard)?;
-        self.tagged.lock(rt).swap(tagged);
+        self.link.swap(rt, tagged.load());
         Ok(())
     }
 
@@ -169,7 +171,7 @@ impl<T: Pointable + Drop> Atomic<T> {
         ensures foreign { P.leads_elsewhere new guard.now.collector.now.id ≡ true → IsErr result }
     {
         let tagged = new.enter(rt, guard)?;
-        Ok(Shared::of(self.tagged.lock(rt).swap(tagged)))
+        Ok(Shared::of(self.link.swap(rt, tagged.load())))
     }
 
     /// Writes `new` where the pointer has the cell and the tag of `current`, and gives what was written; else it gives
@@ -189,8 +191,45 @@ impl<T: Pointable + Drop> Atomic<T> {
         if new.is_foreign(guard.collector.id()) {
             return Err((Fault::Foreign, new));
         }
-        let mut held = self.tagged.lock(rt);
-        exchange(rt, &mut held, current.link(), new, guard)
+        let Some(link) = new.as_link() else {
+            return self.place_and_exchange(rt, current.link(), new, guard);
+        };
+        let next = Tagged::<T>::new(link).load();
+        match self.link.exchange(rt, current.link(), next) {
+            Ok(()) => match new.enter(rt, guard) {
+                Ok(tagged) => Ok(Ok(Shared::of(tagged.load()))),
+                Err(_) => unreachable!(),
+            },
+            Err(now) => Ok(Err(CompareExchangeError {
+                current: Shared::of(now),
+                new,
+            })),
+        }
+    }
+
+    /// The same for a value, which is placed where the pointer is `current` and is held meanwhile.
+    fn place_and_exchange<'g, R: Wait, J: Task, P: Pointer<T>>(
+        &self,
+        rt: &R,
+        current: Link,
+        new: P,
+        guard: &'g Guard<'_, T, J>,
+    ) -> Result<Exchanged<'g, T, P>, (Fault, P)>
+        requires here { P.leads_elsewhere new guard.now.collector.now.id ≡ false }
+        ensures answer { IsExchange P.tag_bits T.ALIGN P.leads_to P.leads_elsewhere P.is_refusable P.refused_as guard.now.collector.now.id current new result }
+    {
+        let found = self.link.load(rt);
+        if found != current {
+            return Ok(Err(CompareExchangeError {
+                current: Shared::of(found),
+                new,
+            }));
+        }
+        let mut held = self.link.lock().lock(rt);
+        self.link.bring(rt, &mut held);
+        let answer = exchange(rt, &mut held, current, new, guard);
+        self.link.settle(&held);
+        answer
     }
 
     /// The same as `compare_exchange`; it is free to fail where they are equal too.
@@ -258,11 +297,12 @@ impl<T: Pointable + Drop> Atomic<T> {
     {
         let collector = guard.collector.id();
         for _ in rt.forever() {
-            let before = self.tagged.lock(rt).load();
+            let before = self.link.load(rt);
             let Some(next) = ask(&mut f, Shared::of(before), collector) else {
                 return Err(Shared::of(before));
             };
-            if self.tagged.lock(rt).update(before, next) {
+            let next = Tagged::<T>::new(next).load();
+            if self.link.replace(rt, before, next) {
                 return Ok(Shared::of(before));
             }
         }
@@ -279,7 +319,7 @@ impl<T: Pointable + Drop> Atomic<T> {
     ) -> Shared<'g, T>
         ensures { result.link.tag < T.ALIGN }
     {
-        Shared::of(self.tagged.lock(rt).fetch_and(tag))
+        Shared::of(self.link.fetch_and(rt, tag))
     }
 
     /// Adds the bits of the number modulo `T::ALIGN` to the tag, and gives the pointer before.
@@ -292,7 +332,7 @@ impl<T: Pointable + Drop> Atomic<T> {
     ) -> Shared<'g, T>
         ensures { result.link.tag < T.ALIGN }
     {
-        Shared::of(self.tagged.lock(rt).fetch_or(tag))
+        Shared::of(self.link.fetch_or(rt, tag))
     }
 
     /// Flips the bits of the number modulo `T::ALIGN` in the tag, and gives the pointer before.
@@ -305,15 +345,15 @@ impl<T: Pointable + Drop> Atomic<T> {
     ) -> Shared<'g, T>
         ensures { result.link.tag < T.ALIGN }
     {
-        Shared::of(self.tagged.lock(rt).fetch_xor(tag))
+        Shared::of(self.link.fetch_xor(rt, tag))
     }
 
     /// Takes the value out of its cell, which is destroyed. `None` as for `Shared::into_owned`.
     pub fn into_owned<R: Wait, J: Task>(self, rt: &R, guard: &Guard<'_, T, J>) -> Option<Owned<T>>
         ensures { IfSome result (λ o. o.tag < T.ALIGN) }
     {
-        let Atomic { tagged } = self;
-        Shared::of(tagged.into_inner().load()).into_owned(rt, guard)
+        let Atomic { link } = self;
+        Shared::of(link.into_inner()).into_owned(rt, guard)
     }
 
     /// The same as `into_owned`.

@@ -1,6 +1,6 @@
 //! What a collection tells.
 
-ghost use Rattle.std.specs.Prelude.{◌≡◌, ◌≤◌, ◌<◌, ◌+◌, ◌⊎◌, Some, None, IfSome};
+ghost use Rattle.std.specs.Prelude.{◌≡◌, ◌≤◌, ◌<◌, ◌+◌, ◌⊎◌, Some, None, IfSome, is_some};
 ghost use Rattle.crossbeam_epoch.specs.Limits.{most_bags};
 ghost use Rattle.crossbeam_epoch.specs.Face.Pins.{IsDue};
 
@@ -40,6 +40,13 @@ impl Collected {
             bags: self.bags + 1,
             rest: self.rest,
         }
+    }
+
+    /// Whether it stopped for want of another bag.
+    pub fn is_at_rest(self) -> bool
+        ensures { result ≡ is_some self.rest }
+    {
+        self.rest.is_some()
     }
 
     /// No bag more, since none was expired.

@@ -1,10 +1,10 @@
 //! The collector.
 
-ghost use Rattle.std.specs.Prelude.{◌≡◌, ◌<◌, ◌≤◌, ◌+◌, ◌^◌, ◌&&◌, ℕ, [], nat_eq, IfOk, IfErr, IfSome, MatchResult};
+ghost use Rattle.std.specs.Prelude.{◌≡◌, ◌<◌, ◌≤◌, ◌+◌, ◌^◌, ◌&&◌, ℕ, [], None, nat_eq, IfOk, IfErr, IfSome, MatchOption, MatchResult};
 ghost use Rattle.std.specs.Bool.{MatchBool};
-ghost use Rattle.crossbeam_epoch.specs.Limits.{within};
+ghost use Rattle.crossbeam_epoch.specs.Limits.{within, most_bags};
 ghost use Rattle.crossbeam_epoch.specs.Face.Pins.{IsRead, IsDue};
-ghost use Rattle.crossbeam_epoch.specs.Face.Queue.{TakesAll};
+ghost use Rattle.crossbeam_epoch.specs.Face.Queue.{IsTaken, TakesAll};
 ghost use Rattle.crossbeam_epoch.specs.Face.Tokens.{known, IsOf};
 
 use crate::bag::{BAG, BAGS, Bag, Sealed, Work};
@@ -13,7 +13,7 @@ use crate::face::handle::LocalHandle;
 use crate::face::internal::Internal;
 use crate::face::lent::{Lent, LentMut};
 use crate::face::pins::{Ended, Pins};
-use crate::face::queue::{EXPIRY, NoneExpired, Queue, Queued};
+use crate::face::queue::{EXPIRY, Queue, Queued, Seal};
 use crate::face::seats::Token;
 use crate::face::slots::{Kept, Slots};
 use crate::fault::Fault;
@@ -24,7 +24,7 @@ use crossbeam_utils::CachePadded;
 use std::alloc::{AllocError, Global};
 use std::fmt;
 use std::fmt::{Debug, Formatter};
-use std::sync::{Mutex, Wait};
+use std::sync::{Mutex, MutexGuard, Wait};
 
 /// An epoch-based garbage collector for values of one type (the source's `Collector`). What handles put off are jobs
 /// of the type J: boxed closures, or an enum of the user's own.
@@ -131,18 +131,11 @@ impl<T: Drop, J: Task> Collector<T, J> {
         self.pins.release(token, place);
     }
 
-    /// Queues these jobs with a seal, the epoch that this seat saw last; hands them back where there is no memory.
-    pub(crate) fn seal<R: Wait>(
-        &self,
-        rt: &R,
-        token: &Token,
-        seal: u64,
-        jobs: Bag<J>,
-    ) -> Result<Queued, Bag<J>>
-        requires { (known token.now).seen ≡ seal }
-        ensures { MatchResult result (λ q. q.seal ≡ seal) (λ j. j ≡ jobs) }
+    /// Queues the jobs of this bag with this seal, and leaves it empty. `None` where there is no memory.
+    pub(crate) fn seal<R: Wait>(&self, rt: &R, seal: Seal, bag: &mut Bag<J>) -> Option<Queued>
+        ensures { MatchOption result (bag.new ≡ bag.old) (λ q. (q.seal ≡ seal.epoch) × (bag.new ≡ [])) }
     {
-        self.lock().lock(rt).queue.push(token, seal, jobs)
+        self.lock().lock(rt).queue.push(seal, bag)
     }
 
     /// Places a value in a free cell, whose name is taken under the lock; hands it back where none is usable.
@@ -177,19 +170,6 @@ impl<T: Drop, J: Task> Collector<T, J> {
         Some(value)
     }
 
-    /// Takes the front bag off, where it is expired at the epoch that this seat saw last.
-    fn take_expired<R: Wait>(
-        &self,
-        rt: &R,
-        token: &Token,
-        seen: u64,
-    ) -> Result<Sealed<J>, NoneExpired>
-        requires { (known token.now).seen ≡ seen }
-        ensures { MatchResult result (λ b. b.seal + 2 ≤ seen) (λ n. n.seen ≡ seen) }
-    {
-        self.lock().lock(rt).queue.pop_expired(token, seen)
-    }
-
     /// Tries to advance the epoch once, then calls the jobs of expired bags from the queue's front: of at most `BAGS`, and
     /// of fewer only where none is left. No lock is held while a job runs.
     pub(crate) fn collect<R: Wait>(&self, rt: &R, token: &mut Token) -> Collected
@@ -201,36 +181,88 @@ impl<T: Drop, J: Task> Collector<T, J> {
         ensures bags { TakesAll (known token.new).seen result }
     {
         let seen = self.pins.advance(token);
-        let mut called = Collected::new();
-        for _ in 0..BAGS {
-            match self.call_expired(rt, token, seen) {
-                Ok(seal) => called = called.one_more(seal),
-                Err(none) => return called.at_rest(none),
+        let held = self.lock().lock(rt);
+        let first = self.call_front(rt, held, token, seen, Collected::new());
+        self.call_others(rt, token, seen, first)
+    }
+
+    /// The same, where the lock is taken first to queue the jobs of this bag with this seal. `None` where there is no memory
+    /// for that; then no job is called.
+    pub(crate) fn flush<R: Wait>(
+        &self,
+        rt: &R,
+        token: &mut Token,
+        seal: Seal,
+        bag: &mut Bag<J>,
+    ) -> Option<(Queued, Collected)>
+        requires of { IsOf self.now.pins.words.shared.table_id token.old }
+        ensures of { IsOf self.now.pins.words.shared.table_id token.new }
+        ensures view { known token.new ≡ record (known token.old) { seen = (known token.new).seen; passed = (known token.new).passed } }
+        ensures read { IsRead (known token.old) (known token.new).seen }
+        ensures queued { MatchOption result (bag.new ≡ bag.old) (λ r. (r.0.seal ≡ seal.epoch) × (bag.new ≡ [])) }
+        ensures due { IfSome result (λ r. IsDue (known token.new).seen r.1.newest) }
+        ensures bags { IfSome result (λ r. TakesAll (known token.new).seen r.1) }
+    {
+        let seen = self.pins.advance(token);
+        let mut held = self.lock().lock(rt);
+        let queued = held.queue.push(seal, bag)?;
+        let first = self.call_front(rt, held, token, seen, Collected::new());
+        Some((queued, self.call_others(rt, token, seen, first)))
+    }
+
+    /// Goes on with a collection that called the first bag, if there was one: with one hold of the lock for each other bag.
+    fn call_others<R: Wait>(&self, rt: &R, token: &Token, seen: u64, first: Collected) -> Collected
+        requires seen { (known token.now).seen ≡ seen }
+        requires first { IsDue seen first.newest × IsTaken seen 1 first }
+        ensures { IsDue seen result.newest × TakesAll seen result }
+    {
+        let mut called = first;
+        for _ in 1..BAGS {
+            if called.is_at_rest() {
+                return called;
             }
+            called = self.call_front(rt, self.lock().lock(rt), token, seen, called);
         }
         called
     }
 
-    /// Calls the jobs of the front bag, where it is expired at the epoch that this seat saw last, and answers its seal.
-    fn call_expired<R: Wait>(&self, rt: &R, token: &Token, seen: u64) -> Result<u64, NoneExpired>
-        requires { (known token.now).seen ≡ seen }
-        ensures { MatchResult result (λ s. s + 2 ≤ seen) (λ n. n.seen ≡ seen) }
+    /// Calls the jobs of the front bag, where it is expired at the epoch that this seat saw last. The lock is held, and is
+    /// let go before.
+    fn call_front<R: Wait>(
+        &self,
+        rt: &R,
+        mut held: MutexGuard<'_, Internal<J>>,
+        token: &Token,
+        seen: u64,
+        called: Collected,
+    ) -> Collected
+        requires seen { (known token.now).seen ≡ seen }
+        requires called { (called.bags < most_bags) × (called.rest ≡ None) × IsDue seen called.newest }
+        ensures due { IsDue seen result.newest }
+        ensures bags { IsTaken seen (called.bags + 1) result }
     {
-        let Sealed { seal, jobs } = self.take_expired(rt, token, seen)?;
+        if let Some(none) = held.queue.none_expired(seen) {
+            return called.at_rest(none);
+        }
+        let Sealed { seal, jobs } = held.queue.pop_expired(token, seen);
+        let rest = held.queue.none_expired(seen);
+        drop(held);
         self.call(rt, jobs);
-        Ok(seal)
+        let called = called.one_more(seal);
+        match rest {
+            Some(none) => called.at_rest(none),
+            None => called,
+        }
     }
 
     /// Calls these jobs, the first one first.
     fn call<R: Wait>(&self, rt: &R, mut jobs: Bag<J>) {
-        for _ in 0..BAG {
-            if jobs.is_empty() {
-                return;
-            }
-            match jobs.take_first().work {
-                Work::Blank => {}
-                Work::Remove(name) => drop(self.remove(rt, name)),
-                Work::Run(job) => job.run(),
+        for at in 0..BAG {
+            match jobs.take_work(at) {
+                None => return,
+                Some(Work::Blank) => {}
+                Some(Work::Remove(name)) => drop(self.remove(rt, name)),
+                Some(Work::Run(job)) => job.run(),
             }
         }
     }
@@ -247,14 +279,12 @@ fn call_bags<T: Drop, J: Task>(slots: &Slots<T>, queue: &mut Queue<J>, ended: &E
 
 /// Calls the jobs of a bag that is left at the end.
 fn call_left<T: Drop, J: Task>(slots: &Slots<T>, mut jobs: Bag<J>) {
-    for _ in 0..BAG {
-        if jobs.is_empty() {
-            return;
-        }
-        match jobs.take_first().work {
-            Work::Blank => {}
-            Work::Remove(name) => drop(slots.remove(name)),
-            Work::Run(job) => job.run(),
+    for at in 0..BAG {
+        match jobs.take_work(at) {
+            None => return,
+            Some(Work::Blank) => {}
+            Some(Work::Remove(name)) => drop(slots.remove(name)),
+            Some(Work::Run(job)) => job.run(),
         }
     }
 }

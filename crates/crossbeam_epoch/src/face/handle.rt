@@ -18,16 +18,16 @@ use crate::face::collector::Collector;
 use crate::face::guard::{Guard, Seat};
 use crate::face::note::Note;
 use crate::face::pins::Pin;
-use crate::face::queue::Queued;
+use crate::face::queue::{Queued, Seal};
 use crate::face::seats::Token;
 use crate::face::shared::Shared;
 use crate::fault::Fault;
 use crate::names::{Name, Pointable};
 use crate::task::{Job, Task};
+use std::fmt;
 use std::fmt::{Debug, Formatter};
 use std::marker::Model;
 use std::sync::Wait;
-use std::{fmt, mem};
 
 /// A participant of a collector (the source's `LocalHandle`). It keeps the jobs that it defers until its bag is full.
 /// A handle that is dropped stays registered, and its unsealed jobs are never called: `release` it.
@@ -284,6 +284,17 @@ impl<'c, T: Drop, J: Task> LocalHandle<'c, T, J> {
         self.seals.called.bags
     }
 
+    /// Reads the epoch, to seal its bag with.
+    fn look(&mut self) -> Seal
+        ensures same { self.new ≡ record self.old { knows = self.new.knows } }
+        ensures word { IsPinned self.new.guards self.new.epoch self.new.knows }
+        ensures seen { result.epoch ≡ self.new.knows.seen }
+        ensures read { 0 < self.old.guards → (self.old.epoch ≤ result.epoch) × (result.epoch ≤ self.old.epoch + 1) }
+    {
+        let epoch = self.collector.pins.look(&mut self.token);
+        Seal::of(&self.token, epoch)
+    }
+
     /// Seals the bag, unless it is empty, with an epoch that it reads first.
     fn seal<R: Wait>(&mut self, rt: &R) -> Result<(), Fault>
         ensures ok { OnOk result ((self.new.bag ≡ []) × (self.new ≡ record self.old { bag = self.new.bag; seals = record self.old.seals { queued = self.new.seals.queued }; knows = self.new.knows })) }
@@ -294,17 +305,13 @@ impl<'c, T: Drop, J: Task> LocalHandle<'c, T, J> {
         if self.bag.is_empty() {
             return Ok(());
         }
-        let jobs = mem::replace(&mut self.bag, Bag::new());
-        let seal = self.collector.pins.look(&mut self.token);
-        match self.collector.seal(rt, &self.token, seal, jobs) {
-            Ok(queued) => {
+        let seal = self.look();
+        match self.collector.seal(rt, seal, &mut self.bag) {
+            Some(queued) => {
                 self.seals.queued = Some(queued);
                 Ok(())
             }
-            Err(jobs) => {
-                self.bag = jobs;
-                Err(Fault::Memory)
-            }
+            None => Err(Fault::Memory),
         }
     }
 
@@ -361,7 +368,8 @@ impl<'c, T: Drop, J: Task> LocalHandle<'c, T, J> {
         self.defer(rt, guard, job)
     }
 
-    /// Seals the bag, unless it is empty, and collects. Refused as `Foreign`, or as `Memory`: then nothing was done.
+    /// Seals the bag, unless it is empty, and collects. Refused as `Foreign`, or as `Memory`: then the bag keeps its jobs, and
+    /// none was called. It takes the lock once, and once more for each bag that it calls beyond the first.
     pub fn flush<R: Wait>(&mut self, rt: &R, guard: &Guard<'_, T, J>) -> Result<(), Fault>
         ensures ok { OnOk result ((owns self.old.guards self.old.seat guard.now.seat ≡ true)
             × (self.new.bag ≡ []) × (self.new ≡ record self.old { bag = self.new.bag; seals = self.new.seals; knows = self.new.knows })) }
@@ -376,9 +384,22 @@ impl<'c, T: Drop, J: Task> LocalHandle<'c, T, J> {
         if !self.owns(guard) {
             return Err(Fault::Foreign);
         }
-        self.seal(rt)?;
-        self.collect(rt);
-        Ok(())
+        if self.bag.is_empty() {
+            self.collect(rt);
+            return Ok(());
+        }
+        let seal = self.look();
+        match self
+            .collector
+            .flush(rt, &mut self.token, seal, &mut self.bag)
+        {
+            Some((queued, called)) => {
+                let queued = Some(queued);
+                self.seals = Seals { queued, called };
+                Ok(())
+            }
+            None => Err(Fault::Memory),
+        }
     }
 
     /// Pins the participant anew, where this is its only guard and the epoch isn't the one that its word publishes. Refused

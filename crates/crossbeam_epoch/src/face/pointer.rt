@@ -14,7 +14,7 @@ use std::sync::Wait;
 
 /// A value with a tag, or a pointer to one (the source's `Pointer`).
 pub trait Pointer<T: Pointable>: Sized {
-    ghost use Rattle.std.specs.Prelude.{ℕ, Bool, Option, true, false, ◌≡◌, ◌%◌, MatchResult, IfErr, IfOk, IsErr};
+    ghost use Rattle.std.specs.Prelude.{ℕ, Bool, Option, true, false, ◌≡◌, ◌%◌, MatchResult, IfErr, IfOk, IfSome, IsErr};
     ghost use Rattle.crossbeam_epoch.specs.declared.fault.Fault.{Fault};
     ghost use Rattle.crossbeam_epoch.specs.declared.face.link.Site.{Site};
 
@@ -31,6 +31,15 @@ pub trait Pointer<T: Pointable>: Sized {
     /// Whether it leads to a cell of another collector than this one.
     fn is_foreign(&self, collector: u64) -> bool
         ensures { result ≡ leads_elsewhere self.now collector };
+
+    /// The pointer that it is, of what has no value to be placed: where it doesn't lead elsewhere, it enters.
+    fn as_link(&self) -> Option<Link>
+        ensures tag { IfSome result (λ l. l.tag ≡ tag_bits self.now) }
+        ensures site { IfSome result (λ l. (id : ℕ) → leads_to self.now id l.site) }
+        ensures enters { IfSome result (λ _. (id : ℕ) → leads_elsewhere self.now id ≡ false → is_refusable self.now id ≡ false) }
+    {
+        None
+    }
 
     /// The tagged pointer that leads to it: a value is placed in a cell of the guard's collector. A pointer is refused as `Foreign`
     /// where it leads elsewhere and nowhere else, a value as `CellsFull`; it comes back.
@@ -106,6 +115,10 @@ impl<'s, T: Pointable + Drop> Pointer<T> for Shared<'s, T> {
         }
     }
 
+    fn as_link(&self) -> Option<Link> {
+        Some(self.link())
+    }
+
     fn enter<R: Wait, J: Task>(
         self,
         _rt: &R,
@@ -138,6 +151,10 @@ impl<T: Pointable + Drop> Pointer<T> for Link {
             Some(site) => site.collector != collector,
             None => false,
         }
+    }
+
+    fn as_link(&self) -> Option<Link> {
+        Some(*self)
     }
 
     fn enter<R: Wait, J: Task>(

@@ -1,6 +1,6 @@
 //! The queue of sealed bags, and what is told of a bag that was queued, or that wasn't there to be taken.
 
-ghost use Rattle.std.specs.Prelude.{◌≡◌, ◌≤◌, ◌+◌, ◌∷◌, [], ◌++◌, MatchResult, MatchOption, false};
+ghost use Rattle.std.specs.Prelude.{◌≡◌, ◌≤◌, ◌+◌, ◌∷◌, [], ◌++◌, MatchOption, true, false};
 ghost use Rattle.crossbeam_epoch.specs.Face.Queue.{is_front_expired};
 ghost use Rattle.crossbeam_epoch.specs.Face.Tokens.{known};
 
@@ -10,6 +10,7 @@ use crate::face::pins::Ended;
 use crate::face::seats::Token;
 use crate::task::Task;
 use std::alloc::Global;
+use std::mem;
 
 /// How far the epoch has to be past a bag's seal.
 pub const EXPIRY: u64 = 2;
@@ -35,8 +36,24 @@ pub struct NoneExpired {
     seen: u64,
 }
 
-/// Sealed bags, the oldest in front. The one way in is by a seat, which seals a bag with the epoch that it saw last; the ways
-/// out are by a seat that saw an epoch two past the seal, and by the end.
+/// An epoch that a seat saw, with which a bag is sealed.
+#[derive(Clone, Copy, Drop)]
+pub struct Seal {
+    epoch: u64,
+}
+
+impl Seal {
+    /// The epoch that this seat saw last.
+    pub fn of(_token: &Token, epoch: u64) -> Seal
+        requires { (known _token.now).seen ≡ epoch }
+        ensures { result.epoch ≡ epoch }
+    {
+        Seal { epoch }
+    }
+}
+
+/// Sealed bags, the oldest in front. The one way in is with an epoch that a seat saw; the ways out are by a seat that saw
+/// an epoch two past the seal, and by the end.
 #[derive(Drop)]
 pub struct Queue<J: Task> {
     bags: Chain<J>,
@@ -52,19 +69,20 @@ impl<J: Task> Queue<J> {
         }
     }
 
-    /// Seals these jobs with the epoch that this seat saw last, and puts them behind the others. Hands them back where a
-    /// block is to be made for them and there is no memory.
-    pub fn push(&mut self, _token: &Token, seal: u64, jobs: Bag<J>) -> Result<Queued, Bag<J>>
-        requires { (known _token.now).seen ≡ seal }
-        ensures bags { MatchResult result
-            (λ q. (q.seal ≡ seal) × (self.new.bags.items ≡ self.old.bags.items ++ record { seal = seal; jobs = jobs } ∷ []))
-            (λ j. (j ≡ jobs) × (self.new.bags.items ≡ self.old.bags.items) × (self.old.bags.room ≡ 0)) }
+    /// Seals the jobs of this bag, which is left empty, and puts them behind the others. `None` where a block is to be made
+    /// for them and there is no memory.
+    pub fn push(&mut self, seal: Seal, bag: &mut Bag<J>) -> Option<Queued>
+        ensures bags { MatchOption result
+            ((bag.new ≡ bag.old) × (self.new.bags.items ≡ self.old.bags.items) × (self.old.bags.room ≡ 0))
+            (λ q. (q.seal ≡ seal.epoch) × (bag.new ≡ []) × (self.new.bags.items ≡ self.old.bags.items ++ record { seal = seal.epoch; jobs = bag.old } ∷ [])) }
     {
         if self.bags.reserve().is_err() {
-            return Err(jobs);
+            return None;
         }
+        let seal = seal.epoch;
+        let jobs = mem::replace(bag, Bag::new());
         self.bags.push_back_reserved(Sealed { seal, jobs });
-        Ok(Queued { seal })
+        Some(Queued { seal })
     }
 
     /// Whether the epoch that was seen is at least two past the seal of the front bag.
@@ -77,19 +95,29 @@ impl<J: Task> Queue<J> {
         }
     }
 
-    /// Takes the front bag off, for a seat that saw an epoch which is two past the bag's seal.
-    pub fn pop_expired(&mut self, _token: &Token, seen: u64) -> Result<Sealed<J>, NoneExpired>
-        requires { (known _token.now).seen ≡ seen }
-        ensures bags { MatchResult result
-            (λ b. (b.seal + 2 ≤ seen) × (self.old.bags.items ≡ b ∷ self.new.bags.items))
-            (λ n. (n.seen ≡ seen) × (is_front_expired (λ b. b.seal) self.old.bags.items seen ≡ false) × (self.new.bags.items ≡ self.old.bags.items)) }
+    /// That no front bag is expired, where it is so.
+    pub fn none_expired(&self, seen: u64) -> Option<NoneExpired>
+        ensures { MatchOption result
+            (is_front_expired (λ b. b.seal) self.now.bags.items seen ≡ true)
+            (λ n. (n.seen ≡ seen) × (is_front_expired (λ b. b.seal) self.now.bags.items seen ≡ false)) }
     {
-        if !self.is_front_expired(seen) {
-            return Err(NoneExpired { seen });
+        if self.is_front_expired(seen) {
+            None
+        } else {
+            Some(NoneExpired { seen })
         }
+    }
+
+    /// Takes the front bag off, for a seat that saw an epoch which is two past the bag's seal.
+    pub fn pop_expired(&mut self, _token: &Token, seen: u64) -> Sealed<J>
+        requires seen { (known _token.now).seen ≡ seen }
+        requires expired { is_front_expired (λ b. b.seal) self.old.bags.items seen ≡ true }
+        ensures due { result.seal + 2 ≤ seen }
+        ensures bags { self.old.bags.items ≡ result ∷ self.new.bags.items }
+    {
         match self.bags.pop_front() {
-            Some(bag) => Ok(bag),
-            None => Err(NoneExpired { seen }),
+            Some(bag) => bag,
+            None => unreachable!(),
         }
     }
 

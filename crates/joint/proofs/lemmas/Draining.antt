@@ -1,5 +1,5 @@
 -- A value goes out of its leaf, and a drainer takes the pairs of a tree one after the other.
-use Rattle.std.proofs.Common.{◌≡◌, ◌≢◌, ℕ, ◌<◌, ◌≤◌, ◌+◌, ◌^◌, ◌⊎◌, Bool, true, false, cond, List, [], ◌∷◌, length, get_or, refl, sym, ◌∙◌, ap, subst, inl, inr, arith}
+use Rattle.std.proofs.Common.{◌≡◌, ◌≢◌, ℕ, ◌<◌, ◌≤◌, ◌+◌, ◌*◌, ◌^◌, ◌⊎◌, Bool, true, false, cond, List, [], ◌∷◌, length, get_or, refl, sym, ◌∙◌, ap, subst, inl, inr, arith}
 use Rattle.std.specs.Prelude.{None, Some}
 use Rattle.std.specs.FinMap as map
 use Rattle.std.proofs.lemmas.Bool.{cases_lt}
@@ -10,28 +10,31 @@ use Rattle.congee.specs.forms.Places.{AllKeys}
 use Rattle.congee.specs.Heap.{Node, Hung, Nothing, Below, Holds, Stands, fits, child_for, value_at}
 use Rattle.congee.specs.Keys.{key_bytes, IsMapOf}
 use Rattle.congee.specs.Ledger.{Note, Tree, Linked}
+use Rattle.congee.specs.declared.protocol.store.Region.{Region}
 use Rattle.congee.specs.owned.Ranges.{in_range}
+use Rattle.congee.specs.protocol.Regions.{IsRegion, span, start_at}
 use Rattle.congee.specs.protocol.Events.{ChangeGives}
 use Rattle.congee.proofs.lemmas.Fits.{same_key}
 use Rattle.congee.proofs.lemmas.Graft.{Graft, old_down, old_leaves, old_up}
 use Rattle.congee.proofs.lemmas.Keys.{key_apart, key_length}
 use Rattle.congee.proofs.lemmas.Tree.{same_or_not, finds, aside}
 use Rattle.congee.proofs.lemmas.forms.BetweenLemmas.{all_found, get_find}
+use Rattle.congee.proofs.lemmas.protocol.Regions.{within_keys, byte_low, byte_high}
+use Rattle.congee.proofs.lemmas.protocol.SweepBytes.{region_top}
 use Rattle.congee.proofs.lemmas.owned.RangeLemmas.{range_none, range_first, range_all}
-use Rattle.joint.specs.declared.id.Id.{Id}
 use Rattle.joint.specs.Closing.{AgreesFrom, Drained, Takes, pairs_from}
-use Rattle.joint.specs.Survey.{IsTree, IsInTree, IsNearest, NonePast}
-use Rattle.joint.specs.View.{id_number}
+use Rattle.joint.specs.Levels.{IsNodeIn}
+use Rattle.joint.specs.Survey.{IsTree, NoneStand}
 
 -- a value goes out of the node where it hung
 module _ {V : Type 0} (h : ℕ → Node V) (n b : ℕ) (value : V) (h' : ℕ → Node V) (k : ChangeGives h n b Nothing h') (was : (h n).children b ≡ Holds value) where
-  same_prefix : (m : ℕ) → (h' m).prefix ≡ (h m).prefix
+  pub same_prefix : (m : ℕ) → (h' m).prefix ≡ (h m).prefix
   same_prefix m = elim (same_or_not m n) [
     | inl e ↦ (let P : ℕ → Type 0 = λ x. (h' x).prefix ≡ (h x).prefix in subst P (sym e) k.prefix)
     | inr ne ↦ ap (λ x. x.prefix) (k.others m ne)
   ]
 
-  stands_still : (m : ℕ) → Stands (h m) → Stands (h' m)
+  pub stands_still : (m : ℕ) → Stands (h m) → Stands (h' m)
   stands_still m s = elim (same_or_not m n) [
     | inl e ↦ (let P : ℕ → Type 0 = λ x. Stands (h x) → Stands (h' x) in subst P (sym e) (λ t. record { made = k.made ∙ t.made; kept = k.destroyed ∙ t.kept }) s)
     | inr ne ↦ subst Stands (sym (k.others m ne)) s
@@ -53,7 +56,7 @@ module _ {V : Type 0} (h : ℕ → Node V) (n b : ℕ) (value : V) (h' : ℕ →
       parents = λ m _ _ _. refl;
     }
 
-    still_tree : Tree a h'
+    pub still_tree : Tree a h'
     still_tree = record {
       root = t.root;
       empty = same_prefix 0 ∙ t.empty;
@@ -69,13 +72,6 @@ module _ {V : Type 0} (h : ℕ → Node V) (n b : ℕ) (value : V) (h' : ℕ →
     others_stand key x lk lx fit seven eb ne =
         aside a h h' n b t (record { prefix = λ m _. same_prefix m; others = λ m c _ q. ap (λ z. z.children c) (k.others m q); beside = k.beside }) 8 0 x t.root
         (λ fx by. ne (same_key (h n).prefix x key fx fit (omega (arith, lx, seven)) (omega (arith, lk, seven)) (by ∙ eb)))
-
-  pub still_stands : IsTree h → IsInTree h n → IsTree h'
-  still_stands t l = record { notes = t.notes; tree = still_tree t.notes t.tree (l t); stands = λ m s. stands_still m (t.stands m s) }
-
-hung_true : {V : Type 0} (b : Bool) (x : Hung V) (v : V) → cond b x Nothing ≡ Holds v → (b ≡ true) × (x ≡ Holds v)
-hung_true true x v e = (refl, e)
-hung_true false x v e = absurd (cc e)
 
 -- a range without its first keys, which have no pair
 module _ {X : Type 0} (start mid end : ℕ) (order : start ≤ mid) where
@@ -97,60 +93,67 @@ module _ {X : Type 0} (start mid end : ℕ) (order : start ≤ mid) where
     ]
   ]))
 
-module _ {V : Type 0} (h : ℕ → Node V) (t : IsTree h) (from : ℕ) (leaf : Id) (key : ℕ) (f : IsNearest h from leaf key) where
-  abbrev N : Node V
-  N = h (id_number leaf)
+-- the value under a byte of a leaf
+module _ {V : Type 0} (h : ℕ → Node V) (n : ℕ) (i : IsNodeIn h n) (x : Region) (r : IsRegion (h n).prefix x.base x.depth) (b : ℕ) (v : V) (small : b < 256) (was : (h n).children b ≡ Holds v) where
+  abbrev key : ℕ
+  key = start_at x.base x.depth b
 
-  fitted : fits N.prefix (key_bytes key) ≡ true
-  fitted = (hung_true (fits N.prefix (key_bytes key)) (child_for N (key_bytes key)) f.value f.here).0
+  seven : x.depth ≡ 7
+  seven = r.depth_is ∙ i.tree.tree.leaves n b v i.linked was
 
-  hung : child_for N (key_bytes key) ≡ Holds f.value
-  hung = (hung_true (fits N.prefix (key_bytes key)) (child_for N (key_bytes key)) f.value f.here).1
+  one : span (x.depth + 1) ≡ 1
+  one = ap (λ d. span (d + 1)) seven
 
-  seven : length N.prefix ≡ 7
-  seven = t.tree.leaves (id_number leaf) (get_or (key_bytes key) (length N.prefix) 0) f.value (f.linked t) hung
+  key_is : key ≡ x.base + b
+  key_is = ap (λ w. x.base + b * w) one ∙ omega arith
 
-  pub leaf_stands : Stands N
-  leaf_stands = t.stands (id_number leaf) (f.linked t)
+  next : start_at x.base x.depth (b + 1) ≡ key + 1
+  next = ap (λ w. x.base + (b + 1) * w) one ∙ omega (arith, key_is)
 
-  pub leaf_holds : (b : ℕ) → b ≡ get_or (key_bytes key) 7 0 → (v : V) × (N.children b ≡ Holds v)
-  leaf_holds b e = (f.value, ap (λ y. N.children y) (e ∙ ap (λ i. get_or (key_bytes key) i 0) (sym seven)) ∙ hung)
+  fits_key : (key < 2 ^ 64) × (fits (h n).prefix (key_bytes key) ≡ true)
+  fits_key =
+      let all : span x.depth ≡ 256 = ap span seven in
+      let top = region_top (h n).prefix x.base x.depth r in
+      let s : key < 2 ^ 64 = omega (arith, top, all, small, key_is) in
+      (s, within_keys (h n).prefix x.base x.depth r key s (omega (arith, key_is)) (omega (arith, all, small, key_is)))
+
+  byte_is : b ≡ get_or (key_bytes key) (length (h n).prefix) 0
+  byte_is =
+      let lo = byte_low (h n).prefix x.base x.depth r key b fits_key.0 fits_key.1 (omega arith) in
+      let hi = byte_high (h n).prefix x.base x.depth r key (b + 1) fits_key.0 fits_key.1 (omega (arith, next)) in
+      omega (arith, lo, hi)
+
+  value_is : value_at h (key_bytes key) ≡ Some v
+  value_is = finds i.tree.notes h i.tree.tree n (key_bytes key) (Holds v) i.linked fits_key.1 (ap (λ y. (h n).children y) (sym byte_is) ∙ was)
+
+  first : (m : Pairs V) → AgreesFrom h key m → IsFirst m key key v
+  first m agrees = record {
+    past = omega arith;
+    here = agrees key (omega arith) fits_key.0 ∙ value_is;
+    before = λ q lo hi. absurd (omega (arith, lo, hi));
+  }
 
   -- the drainer takes its pair
-  module _ (b : ℕ) (e : b ≡ get_or (key_bytes key) 7 0) (value : V) (was : N.children b ≡ Holds value) (h' : ℕ → Node V) (k : ChangeGives h (id_number leaf) b Nothing h') where
-    at_byte : b ≡ get_or (key_bytes key) (length N.prefix) 0
-    at_byte = e ∙ ap (λ i. get_or (key_bytes key) i 0) (sym seven)
-
-    pub leaf_stays : IsTree h'
-    leaf_stays = still_stands h (id_number leaf) b value h' k was t f.linked
-
-    value_is : value_at h (key_bytes key) ≡ Some value
-    value_is = finds t.notes h t.tree (id_number leaf) (key_bytes key) (Holds value) (f.linked t) fitted (ap (λ y. N.children y) (sym at_byte) ∙ was)
-
-    first : (m : Pairs V) → AgreesFrom h from m → IsFirst m from key value
-    first m agrees = record {
-      past = f.from_on;
-      here = agrees key f.from_on f.small ∙ value_is;
-      before = λ q lo hi. agrees q lo (omega (arith, hi, f.small)) ∙ f.before q lo hi;
-    }
-
-    pub takes_one : {D : Type 0} (drains : D → ℕ → V → D → Type 0) (before after : D) → drains before key value after → Takes drains h from before h' (key + 1) after
-    takes_one {D} drains before after d = record {
-      rest = λ q lo s. others_stand h (id_number leaf) b value h' k was t.notes t.tree (f.linked t) (key_bytes key) (key_bytes q) (key_length key) (key_length q) fitted seven at_byte
-          (key_apart q key s f.small (λ z. absurd (omega (arith, lo, z))));
-      drained = λ m agrees last l.
-          let Q : List (ℕ × V) → Type 0 = λ es. Drained drains before es last in
-          subst Q (sym (range_first m from (2 ^ 64) key value (first m agrees) f.small)) (after, d, l);
-    }
+  pub takes_value : (h' : ℕ → Node V) → ChangeGives h n b Nothing h' → {D : Type 0} (drains : D → ℕ → V → D → Type 0) (before after : D) → drains before key v after
+      → Takes drains h key before h' (start_at x.base x.depth (b + 1)) after
+  takes_value h' k {D} drains before after d =
+      let P : ℕ → Type 0 = λ to. Takes drains h key before h' to after in
+      subst P (sym next) (record {
+        rest = λ q lo s. others_stand h n b v h' k was i.tree.notes i.tree.tree i.linked (key_bytes key) (key_bytes q) (key_length key) (key_length q) fits_key.1 (sym r.depth_is ∙ seven) byte_is
+            (key_apart q key s fits_key.0 (λ z. absurd (omega (arith, lo, z))));
+        drained = λ m agrees last l.
+            let Q : List (ℕ × V) → Type 0 = λ es. Drained drains before es last in
+            subst Q (sym (range_first m key (2 ^ 64) key v (first m agrees) fits_key.0)) (after, d, l);
+      })
 
 module _ {V D : Type 0} (drains : D → ℕ → V → D → Type 0) where
-  -- none stands up to a key
-  pub takes_none : (h : ℕ → Node V) (from last : ℕ) (before : D) → NonePast h from last → Takes drains h from before h (last + 1) before
-  takes_none h from last before p = record {
+  -- none stands from one key to before another
+  pub takes_none : (h : ℕ → Node V) (from to : ℕ) (before : D) → from ≤ to → to ≤ 2 ^ 64 → NoneStand h from to → Takes drains h from before h to before
+  takes_none h from to before order small none = record {
     rest = λ q lo s. refl;
     drained = λ m agrees final l.
         let Q : List (ℕ × V) → Type 0 = λ es. Drained drains before es final in
-        subst Q (sym (range_skip from (last + 1) (2 ^ 64) (omega (arith, p.from_on)) m (λ q lo hi. agrees q lo (omega (arith, hi, p.small)) ∙ p.none q lo hi))) l;
+        subst Q (sym (range_skip from to (2 ^ 64) order m (λ q lo hi. agrees q lo (omega (arith, hi, small)) ∙ none q lo hi))) l;
   }
 
   pub takes_begin : (h : ℕ → Node V) (from : ℕ) (before : D) → Takes drains h from before h from before

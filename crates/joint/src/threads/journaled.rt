@@ -396,7 +396,7 @@ impl<L: Ledger, W: Watch, K: Word64, V: Word64, A: Allocator, D: Drop> Journaled
         ensures gathers { Gathers W.watched L.parts share.old result }
         ensures share { share.new ≡ share.old }
     {
-        self.tree.lock().lock(rt).gather(share)
+        self.tree.hold(rt).gather(share)
     }
 
     /// A copy of the journal, as one hold of the lock finds it: the entries of all writing calls that took effect so far,
@@ -404,7 +404,7 @@ impl<L: Ledger, W: Watch, K: Word64, V: Word64, A: Allocator, D: Drop> Journaled
     pub fn entries<R: Wait>(&self, rt: &R) -> Result<Vec<Entry<u64>>, Refusal>
         ensures { MatchResult result (λ entries. IsJournal entries.items) (λ e. e ≡ cause.Memory) }
     {
-        self.tree.lock().lock(rt).entries(self.alloc)
+        self.tree.hold(rt).entries(self.alloc)
     }
 }
 

@@ -29,7 +29,11 @@ use congee::{Allocator, Drainer, NodeStats, Payload, Small};
 use crossbeam_utils::CachePadded;
 use std::alloc::Global;
 use std::marker::PhantomData;
-use std::sync::{Mutex, Wait};
+use std::sync::{Mutex, MutexGuard, Wait};
+use std::thread;
+
+/// How often a thread looks for the lock before it sleeps.
+const TRIES: u32 = 64;
 
 /// An index under its lock.
 #[derive(Drop)]
@@ -74,9 +78,15 @@ impl<P: Payload + Small, T: Locked<P>> Tree<P, T> {
         }
     }
 
-    /// Its lock.
-    pub(crate) fn lock(&self) -> &Mutex<T> {
-        &self.locked
+    /// Takes the lock. A hold is shorter than a thread takes to sleep and wake, so others are let run at first.
+    pub(crate) fn hold<R: Wait>(&self, rt: &R) -> MutexGuard<'_, T> {
+        for _ in 0..TRIES {
+            if let Some(kept) = self.locked.try_lock() {
+                return kept;
+            }
+            thread::yield_now();
+        }
+        self.locked.lock(rt)
     }
 
     /// Whether the worker is of this index.
@@ -99,7 +109,7 @@ impl<P: Payload + Small, T: Locked<P>> Tree<P, T> {
         ensures holds { T.holds step.worker (T.asked call.now) step result }
         ensures told { IsToldInCall result.outcome }
     {
-        self.lock().lock(rt).turn(call, step)
+        self.hold(rt).turn(call, step)
     }
 
     /// A whole call of a worker's, each turn of which is a hold of the lock.
@@ -150,7 +160,7 @@ impl<P: Payload + Small, T: Locked<P>> Tree<P, T> {
     fn enter<R: Wait>(&self, rt: &R) -> Report<P>
         ensures { IsHold P.same_as P.always_copies register_step result }
     {
-        self.lock().lock(rt).register()
+        self.hold(rt).register()
     }
 
     /// A worker at the lowest free place of the table. Refused as TableFull.
@@ -370,7 +380,7 @@ impl<P: Payload + Small, T: Locked<P>> Tree<P, T> {
     pub(crate) fn charged<R: Wait>(&self, rt: &R) -> u64
         ensures { IsTold P.same_as P.always_copies charge_of result }
     {
-        let kept = self.lock().lock(rt);
+        let kept = self.hold(rt);
         let machine = kept.world();
         machine.sound();
         machine.charged()
@@ -380,7 +390,7 @@ impl<P: Payload + Small, T: Locked<P>> Tree<P, T> {
     pub(crate) fn waiting<R: Wait>(&self, rt: &R) -> u64
         ensures { IsTold P.same_as P.always_copies waiting_of result }
     {
-        let kept = self.lock().lock(rt);
+        let kept = self.hold(rt);
         let machine = kept.world();
         machine.sound();
         machine.waiting()
@@ -390,7 +400,7 @@ impl<P: Payload + Small, T: Locked<P>> Tree<P, T> {
     pub(crate) fn waiting_bytes<R: Wait>(&self, rt: &R) -> u64
         ensures { IsTold P.same_as P.always_copies waiting_bytes_of result }
     {
-        let kept = self.lock().lock(rt);
+        let kept = self.hold(rt);
         let machine = kept.world();
         machine.sound();
         machine.waiting_bytes()

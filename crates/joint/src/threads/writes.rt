@@ -79,8 +79,7 @@ impl<L: Ledger, W: Watch, A: Allocator, R: Wait> Turns<u64> for WritingHolds<'_,
     {
         let report = self
             .tree
-            .lock()
-            .lock(self.rt)
+            .hold(self.rt)
             .write(&self.op, &mut self.call, step);
         self.last = Some(Snapshot::of(&report));
         report

@@ -45,7 +45,7 @@ pub fn limits(cells: u32) -> Limits {
 }
 
 /// What is tried with a new handle, and under a guard of it.
-const CASES: [&str; 11] = [
+const CASES: [&str; 12] = [
     "a repin goes on",
     "guards nest",
     "a compare exchange looks at the tag",
@@ -57,6 +57,7 @@ const CASES: [&str; 11] = [
     "a pointer is refused elsewhere",
     "there is nothing to update",
     "a pointer is written",
+    "a pointer goes to another collector",
 ];
 
 #[test]
@@ -70,7 +71,7 @@ fn each_case_holds(rt: HostRuntime) -> Result<(), Fail> {
 }
 
 /// Whether each case holds.
-fn tries(rt: &impl Wait, alloc: Global, items: &Collector<Item>) -> Result<[bool; 11], Fault> {
+fn tries(rt: &impl Wait, alloc: Global, items: &Collector<Item>) -> Result<[bool; 12], Fault> {
     let mut handle = items.register(rt)?;
     let repins = repins(rt, &mut handle)?;
     let nests = nests(&mut handle)?;
@@ -259,7 +260,7 @@ impl<'a, R: Wait> Under<'a, '_, R> {
         items: &Collector<Item>,
         repins: bool,
         nests: bool,
-    ) -> Result<[bool; 11], Fault> {
+    ) -> Result<[bool; 12], Fault> {
         Ok([
             repins,
             nests,
@@ -272,6 +273,7 @@ impl<'a, R: Wait> Under<'a, '_, R> {
             self.refuses_elsewhere()?,
             self.stays_without_update(),
             self.writes_pointers(self.placed(6)?)?,
+            self.goes_elsewhere(self.placed(8)?)?,
         ])
     }
 
@@ -519,6 +521,50 @@ impl<'a, R: Wait> Under<'a, '_, R> {
         let refused = Under { guard, ..self }.is_foreign(link);
         spend(&mut handle, pinned);
         Ok(refused)
+    }
+
+    /// Whether a pointer that leads here goes to a cell of another collector, and to null.
+    fn goes_elsewhere(self, link: Link) -> Result<bool, Fault> {
+        let root: Atomic<Item> = Atomic::from_shared(Shared::of(link));
+        let other: Collector<Item> = Collector::new(self.rt, self.alloc, limits(2), 2)?;
+        let mut handle = other.register(self.rt)?;
+        let pinned = handle.pin()?;
+        let guard = &pinned;
+        let gone = Under { guard, ..self }.takes_over(&root, link);
+        spend(&mut handle, pinned);
+        gone
+    }
+
+    /// Whether an exchange for a new value, a tag call, a failed exchange and a swap find what stands there.
+    fn takes_over(self, root: &Atomic<Item>, from: Link) -> Result<bool, Fault> {
+        let (rt, guard) = (self.rt, self.guard);
+        let lost = self.places(root, Link::null(), 8)?.is_err();
+        let Ok(here) = self.places(root, from, 9)? else {
+            return Ok(false);
+        };
+        let before = root.fetch_or(rt, 3, SeqCst, guard).link();
+        let held = Link { tag: 3, ..here };
+        let failed = self.exchange(root, here, Link::null()) == Some(Err(held));
+        let swapped = swapped(rt, root, Link::null(), guard)?;
+        let null = root.load(rt, SeqCst, guard).is_null();
+        let stood = before == here && failed && swapped == held;
+        Ok(lost && stood && null && self.taken(held) == Some(9))
+    }
+
+    /// The pointer to this number's new value that an exchange writes; the number where it finds another pointer.
+    fn places(
+        self,
+        root: &Atomic<Item>,
+        from: Link,
+        number: u64,
+    ) -> Result<Result<Link, u64>, Fault> {
+        let owned = boxed(self.alloc, number)?;
+        let from = Shared::of(from);
+        match root.compare_exchange(self.rt, from, owned, SeqCst, SeqCst, self.guard) {
+            Ok(Ok(written)) => Ok(Ok(written.link())),
+            Ok(Err(error)) => Ok(Err(error.new.into_box().0)),
+            Err((fault, _owned)) => Err(fault),
+        }
     }
 
     /// Whether an update for which the closure gives this pointer writes nothing.

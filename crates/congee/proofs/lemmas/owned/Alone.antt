@@ -10,9 +10,9 @@ use Rattle.congee.specs.owned.Slots.{inner_child, lone_in, nodes_in, with_childr
 use Rattle.congee.specs.owned.Storage.{HasKind, IsStored}
 use Rattle.congee.specs.owned.Stores.{IsAlone, LeavesRoot}
 use Rattle.congee.specs.declared.forms.base_node.Node.{Node}
-use Rattle.congee.specs.declared.owned.nodes.Lone.{Lone}
-use Rattle.congee.specs.declared.owned.nodes.Slot.{Slot}
-use Rattle.congee.specs.declared.owned.nodes.Slot.TheVariants.{Inner, Leaf}
+use Rattle.congee.specs.declared.owned.lone.Lone.{Lone}
+use Rattle.congee.specs.declared.owned.slots.Slot.{Slot}
+use Rattle.congee.specs.declared.owned.slots.Slot.TheVariants.{Inner, Leaf}
 use Rattle.congee.proofs.lemmas.forms.MappedLemmas.{mapped_empty}
 use Rattle.congee.proofs.lemmas.owned.SlotChanges.{AtInner, at_inner, inner_slot}
 use Rattle.congee.proofs.lemmas.owned.SlotComes.{comes_stored, slot_updates}

@@ -1,16 +1,14 @@
 -- A leaf that takes a slot, or comes into its parent's place: names alone change.
-use Rattle.std.proofs.Common.{◌≡◌, ◌≢◌, ℕ, ◌%◌, ◌<◌, inl, inr, List, length, take, get_or, refl, sym, ap, subst, ◌∙◌, arith}
-use Rattle.std.specs.Prelude.{Option, None, Some}
+use Rattle.std.proofs.Common.{◌≡◌, ◌≢◌, ℕ, inl, inr, List, take, get_or, sym, ap, subst, ◌∙◌}
+use Rattle.std.specs.Prelude.{None, Some}
 use Rattle.std.specs.Ordering.{nat_cmp}
 use Rattle.std.specs.FinMap as map
-use Rattle.slab.specs.Slab.{get, Updates, slab_len}
-use Rattle.congee.specs.forms.Forms.{Becomes, children_of, form_of, prefix_of}
+use Rattle.slab.specs.Slab.{get, Updates}
+use Rattle.congee.specs.forms.Forms.{children_of, form_of, prefix_of}
 use Rattle.congee.specs.owned.Arena.{Nodes}
-use Rattle.congee.specs.owned.Changes.{IsLeafOf}
-use Rattle.congee.specs.owned.Naming.{HasOwnSlot}
 use Rattle.congee.specs.owned.OwnedSteps.{Sets}
 use Rattle.congee.specs.owned.Renames.{Renames}
-use Rattle.congee.specs.owned.Stores.{Folds, HangsLeaf, HasOne, IsLone, LosesLeaf}
+use Rattle.congee.specs.owned.Stores.{Folds, HangsLeaf, LosesLeaf}
 use Rattle.congee.specs.declared.forms.base_node.Node.{Node}
 use Rattle.congee.specs.declared.forms.base_node.Node.TheVariants.{N4, N16, N48, N256}
 use Rattle.congee.specs.declared.forms.base_node.NodeType.TheVariants.{N4 as T4}
@@ -19,7 +17,6 @@ use Rattle.congee.specs.declared.forms.child.Child.TheVariants.{Node as Sub, Val
 use Rattle.congee.proofs.lemmas.Tree.{same_or_not}
 use Rattle.congee.proofs.lemmas.forms.MappedLemmas.{same_answers}
 use Rattle.congee.proofs.lemmas.owned.Moves.{apart_of, insert_at, insert_beside, remove_beside}
-use Rattle.congee.proofs.lemmas.owned.SlotLens.{counted, len_two, len_update}
 
 -- nodes of the least form are told by their prefix and children
 pub same_least : {P : Type 0} (x y : Node ℕ P) → form_of x ≡ T4 → form_of y ≡ T4 → prefix_of x ≡ prefix_of y → children_of x ≡ children_of y → x ≡ y

@@ -3,20 +3,18 @@ use Rattle.std.proofs.Common.{rules, ◌≡◌, ◌≢◌, ℕ, zero, suc, ◌+�
 use Rattle.std.specs.Prelude.{Option, Some, None, IsSome, IsTrue, Bool, ◌↔◌, ◌%◌, Result, Ok, Err, OnOk, IfErr}
 use Rattle.std.specs.Ordering.{nat_cmp}
 use Rattle.std.specs.FinMap as map
-use Rattle.std.specs.FinMap.{gets}
 use Rattle.std.specs.Cmp.{nat_cmp_total}
-use Rattle.slab.specs.Slab.{get, ContainsKey, Updates, HasRoomFor, slab_len}
-use Rattle.congee.specs.Heap.{Below, Holds, Nothing, fits, child_for, value_at}
-use Rattle.congee.specs.Ledger.{Linked}
-use Rattle.congee.specs.forms.Forms.{prefix_of, children_of, form_of, size_of, capacity_of, is_full_of}
-use Rattle.congee.specs.owned.Arena.{Nodes, hung_in, node_of, heap_of, ledger_of, IsTree, OnWay, Hangs, Reached}
+use Rattle.slab.specs.Slab.{get, ContainsKey, Updates, HasRoomFor}
+use Rattle.congee.specs.Heap.{Below, Nothing, fits, child_for, value_at}
+use Rattle.congee.specs.forms.Forms.{prefix_of, children_of, form_of, size_of, is_full_of}
+use Rattle.congee.specs.owned.Arena.{Nodes, hung_in, node_of, heap_of, IsTree, OnWay, Hangs, Reached}
 use Rattle.congee.specs.owned.Sizes.{bytes_of, bytes_at}
 use Rattle.congee.specs.owned.Changes.{Differs, MapChange, AddsLeaf, AddsFork, DropsLeaf, DiffersAt}
 use Rattle.congee.specs.owned.Naming.{HasOwnSlot}
 use Rattle.congee.specs.owned.OwnedSteps.{Sets, Makes, MakesRoom, SameNodes, IsHeld, Hosts}
 use Rattle.congee.specs.owned.Kinds.{IsValue}
 use Rattle.congee.specs.owned.Renames.{Renames, Renamed}
-use Rattle.congee.specs.owned.Stores.{HangsLeaf, LosesLeaf, IsLone, HasOne, HasNode, HasInline}
+use Rattle.congee.specs.owned.Stores.{HangsLeaf, LosesLeaf, HasOne, HasNode, HasInline}
 use Rattle.congee.specs.owned.Wanted.{IsRefused, size_by, room_for}
 use Rattle.congee.specs.owned.Edits.{Denies}
 use Rattle.congee.specs.declared.allocator.OOMError.{OOMError}
@@ -29,7 +27,7 @@ use Rattle.congee.proofs.lemmas.Fits.{same_test, other_test}
 use Rattle.congee.proofs.lemmas.Tree.{same_or_not}
 use Rattle.congee.proofs.lemmas.forms.Full.{full_at, full_is}
 use Rattle.congee.proofs.lemmas.owned.Joins.{add_leaf_done, drop_leaf_done, add_fork_done}
-use Rattle.congee.proofs.lemmas.owned.Moves.{node_at, one_node, apart_of, prefix_at, stands_at, differs_insert, differs_remove, insert_at, insert_beside, len_one, single, free_is, held_is, held_seven, Roomy, roomy_byte}
+use Rattle.congee.proofs.lemmas.owned.Moves.{node_at, one_node, apart_of, prefix_at, stands_at, differs_insert, differs_remove, insert_at, insert_beside, len_one, single, held_is, held_seven, Roomy, roomy_byte}
 use Rattle.congee.proofs.lemmas.owned.Renaming.{renamed}
 use Rattle.congee.proofs.lemmas.owned.Sizes.{bytes_named, bytes_same, sets_bytes, makes_bytes}
 use Rattle.congee.proofs.lemmas.owned.SlotLens.{counted, len_update}

@@ -1,18 +1,16 @@
 -- A node of an arena takes another name: the tree, its map and its room stay.
-use Rattle.std.proofs.Common.{◌≡◌, ◌≢◌, ℕ, ◌==◌, ◌+◌, inl, inr, true, false, cond, List, [], length, refl, sym, ap, subst, ◌∙◌, arith}
+use Rattle.std.proofs.Common.{◌≡◌, ◌≢◌, ℕ, ◌==◌, ◌+◌, inl, inr, cond, List, length, refl, sym, ap, subst, ◌∙◌, arith}
 use Rattle.std.specs.Prelude.{Option, None, Some, is_some}
-use Rattle.std.specs.FinMap as map
-use Rattle.slab.specs.Slab.{get, Updates, ContainsKey}
-use Rattle.congee.specs.Heap.{Node, Below, value_at}
-use Rattle.congee.specs.Ledger.{Linked, Gone, Note, Tree, IsChild}
-use Rattle.congee.specs.forms.Forms.{Becomes, form_of, prefix_of, children_of, capacity_of, size_of}
+use Rattle.slab.specs.Slab.{get}
+use Rattle.congee.specs.Heap.{Below, value_at}
+use Rattle.congee.specs.Ledger.{Linked, Gone, IsChild}
+use Rattle.congee.specs.forms.Forms.{form_of, size_of}
 use Rattle.congee.specs.owned.Arena.{Nodes, hung_in, node_of, heap_of, ledger_of, IsFilled, IsTree}
 use Rattle.congee.specs.owned.Changes.{Differs, MapChange}
 use Rattle.congee.specs.owned.Edits.{Edits, Swaps, Adds, Frees}
 use Rattle.congee.specs.owned.Renames.{Renames, Renamed}
 use Rattle.congee.specs.owned.Sizes.{bytes_at, bytes_of}
 use Rattle.congee.specs.owned.Wanted.{InsertionFits, gain_of}
-use Rattle.congee.specs.declared.forms.base_node.Node.{Node as Form}
 use Rattle.congee.specs.declared.owned.arena.Arena.{Arena}
 use Rattle.congee.specs.declared.forms.child.Child.TheVariants.{Node as Sub}
 use Rattle.congee.proofs.lemmas.Fits.{same_test, other_test}
@@ -20,9 +18,9 @@ use Rattle.congee.proofs.lemmas.Rename.{Moves, in_place, move_tree, move_map}
 use Rattle.congee.proofs.lemmas.Tree.{same_or_not}
 use Rattle.congee.proofs.lemmas.owned.Edits.{wide_after}
 use Rattle.congee.proofs.lemmas.owned.Filled.{filled_at, filled_with, filled_none}
-use Rattle.congee.proofs.lemmas.owned.Moves.{apart_of, differs_insert, stands_at}
+use Rattle.congee.proofs.lemmas.owned.Moves.{differs_insert, stands_at}
 use Rattle.congee.proofs.lemmas.owned.Sizes.{bytes_named}
-use Rattle.congee.proofs.lemmas.owned.Totals.{total, total_same, total_update}
+use Rattle.congee.proofs.lemmas.owned.Totals.{total_same, total_update}
 use Rattle.congee.proofs.lemmas.owned.Ways.{linked_of}
 
 module _ {P : Type 0} (s s' : Nodes P) (p b n m : ℕ) (t : IsTree s) (k : Renames s s' p b n m) where

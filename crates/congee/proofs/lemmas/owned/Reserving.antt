@@ -4,8 +4,8 @@ use Rattle.std.specs.Prelude.{Result, Ok, Err, OnOk}
 use Rattle.slab.specs.Slab.{Slab, HasRoomFor}
 use Rattle.congee.specs.owned.Slots.{nodes_in}
 use Rattle.congee.specs.owned.Storage.{IsStored}
-use Rattle.congee.specs.declared.owned.nodes.Lone.{Lone}
-use Rattle.congee.specs.declared.owned.nodes.Slot.{Slot}
+use Rattle.congee.specs.declared.owned.lone.Lone.{Lone}
+use Rattle.congee.specs.declared.owned.slots.Slot.{Slot}
 use Rattle.congee.proofs.lemmas.owned.SlotComes.{wider_stored}
 
 -- room for the leaves in their parents' places and for more is room for more

@@ -1,28 +1,27 @@
 -- An inner node in a slot, and what a change of it at one byte leaves.
-use Rattle.std.proofs.Common.{◌≡◌, ◌≢◌, ℕ, suc, ◌+◌, ◌*◌, ◌%◌, ◌/◌, ◌<◌, ◌≤◌, false, inl, inr, List, length, refl, sym, ap, subst, ◌∙◌, arith}
+use Rattle.std.proofs.Common.{◌≡◌, ◌≢◌, ℕ, suc, ◌+◌, ◌*◌, ◌<◌, ◌≤◌, false, inl, inr, length, refl, sym, ap, subst, ◌∙◌, arith}
 use Rattle.std.specs.Prelude.{Option, None, Some, IsSome}
 use Rattle.std.specs.Ordering.{nat_cmp}
 use Rattle.std.specs.FinMap as map
 use Rattle.slab.specs.Slab.{Slab, get, ContainsKey, Updates, slab_len, with_value}
 use Rattle.slab.proofs.SlabLemmas.{Updates-with_value}
-use Rattle.congee.specs.forms.Forms.{Becomes, children_of, form_of, is_full_of, prefix_of}
+use Rattle.congee.specs.forms.Forms.{Becomes, children_of, is_full_of, prefix_of}
 use Rattle.congee.specs.owned.Arena.{Nodes}
-use Rattle.congee.specs.owned.Kinds.{IsInner, IsLeaf, prefix_in, full_in, inner_get, leaf_get, InnerBecomes, LeafBecomes}
+use Rattle.congee.specs.owned.Kinds.{IsInner, full_in, inner_get, InnerBecomes}
 use Rattle.congee.specs.owned.Naming.{offset_of, IsByte}
-use Rattle.congee.specs.owned.OwnedSteps.{Sets}
-use Rattle.congee.specs.owned.Slots.{inner_child, leaf_child, lone_node, with_children, slot_node, lone_in, in_slot, nodes_in}
+use Rattle.congee.specs.owned.Slots.{inner_child, leaf_child, lone_node, with_children, lone_in, in_slot, nodes_in}
 use Rattle.congee.specs.owned.Storage.{HasKind, IsStored}
 use Rattle.congee.specs.declared.forms.base_node.Node.{Node}
 use Rattle.congee.specs.declared.forms.child.Child.{Child}
-use Rattle.congee.specs.declared.owned.nodes.Lone.{Lone}
-use Rattle.congee.specs.declared.owned.nodes.Slot.{Slot}
-use Rattle.congee.specs.declared.owned.nodes.Slot.TheVariants.{Inner, Leaf}
+use Rattle.congee.specs.declared.owned.lone.Lone.{Lone}
+use Rattle.congee.specs.declared.owned.slots.Slot.{Slot}
+use Rattle.congee.specs.declared.owned.slots.Slot.TheVariants.{Inner, Leaf}
 use Rattle.std.proofs.lemmas.List.{length-take-le}
 use Rattle.congee.proofs.lemmas.Tree.{same_or_not}
 use Rattle.congee.proofs.lemmas.forms.MappedLemmas.{mapped_none}
 use Rattle.congee.proofs.lemmas.owned.SlotLens.{counted, len_two, len_update}
-use Rattle.congee.proofs.lemmas.owned.Slots.{get_inline, with_prefix, with_mapped, with_full, with_becomes}
-use Rattle.congee.proofs.lemmas.owned.Stored.{slot_seen, named_slot, named_seen, inline_seen, seen_prefix, seen_full, byte_beside}
+use Rattle.congee.proofs.lemmas.owned.Slots.{get_inline, with_prefix, with_mapped, with_full}
+use Rattle.congee.proofs.lemmas.owned.Stored.{slot_seen, named_slot, named_seen, inline_seen, byte_beside}
 
 -- the node of this name is the inner node in a slot
 pub record AtInner {P : Type 0} (s : Slab (Slot (Lone P) P)) (v : Nodes P) (at i : ℕ) (y : Node ℕ P) : Type 0 where

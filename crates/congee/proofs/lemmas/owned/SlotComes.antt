@@ -4,32 +4,31 @@ use Rattle.std.specs.List.{range_with_len}
 use Rattle.std.specs.Prelude.{count_by, is_some, map as list_map, Option, None, Some, IsSome, Result, Ok, Err, OnOk, OnErr}
 use Rattle.std.specs.Ordering.{nat_cmp}
 use Rattle.std.specs.FinMap as map
-use Rattle.slab.specs.Slab.{Slab, get, ContainsKey, Updates, SameValues, HasRoomFor, slab_len, with_value}
+use Rattle.slab.specs.Slab.{Slab, get, ContainsKey, Updates, SameValues, slab_len, with_value}
 use Rattle.slab.proofs.SlabLemmas.{Updates-with_value}
 use Rattle.congee.specs.forms.Forms.{children_of, form_of, is_full_of, next_form, prefix_of}
 use Rattle.congee.specs.forms.Mapped.{mapped}
 use Rattle.congee.specs.owned.Arena.{Nodes}
-use Rattle.congee.specs.owned.Kinds.{Grown, IsGrown, full_in}
+use Rattle.congee.specs.owned.Kinds.{Grown}
 use Rattle.congee.specs.owned.Naming.{HasOwnSlot, offset_of, IsByte}
 use Rattle.congee.specs.owned.OwnedSteps.{Makes}
-use Rattle.congee.specs.owned.Slots.{inner_child, leaf_child, lone_node, with_children, slot_node, lone_in, inline_at, in_slot, node_named, nodes_in}
+use Rattle.congee.specs.owned.Slots.{inner_child, leaf_child, with_children, slot_node, lone_in, inline_at, in_slot, node_named, nodes_in}
 use Rattle.congee.specs.owned.Storage.{HasKind, IsStored}
 use Rattle.congee.specs.owned.Stores.{GrowsTo, MakesLeaf}
 use Rattle.congee.specs.declared.forms.base_node.Node.{Node}
 use Rattle.congee.specs.declared.forms.base_node.NodeType.TheVariants.{N4}
-use Rattle.congee.specs.declared.forms.child.Child.{Child}
 use Rattle.congee.specs.declared.forms.child.Child.TheVariants.{Value}
-use Rattle.congee.specs.declared.owned.nodes.Lone.{Lone}
-use Rattle.congee.specs.declared.owned.nodes.Slot.{Slot}
-use Rattle.congee.specs.declared.owned.nodes.Slot.TheVariants.{Inner, Leaf}
+use Rattle.congee.specs.declared.owned.lone.Lone.{Lone}
+use Rattle.congee.specs.declared.owned.slots.Slot.{Slot}
+use Rattle.congee.specs.declared.owned.slots.Slot.TheVariants.{Inner, Leaf}
 use Rattle.congee.proofs.lemmas.Tree.{same_or_not}
 use Rattle.congee.proofs.lemmas.forms.MappedLemmas.{mapped_empty, mapped_insert}
 use Rattle.congee.proofs.lemmas.forms.Full.{full_at, full_is}
 use Rattle.congee.proofs.lemmas.owned.Moves.{node_at, insert_at, insert_beside}
 use Rattle.congee.proofs.lemmas.owned.SlotLens.{counted, len_update}
 use Rattle.congee.proofs.lemmas.owned.SlotOps.{own_slot}
-use Rattle.congee.proofs.lemmas.owned.Slots.{get_offset, beside_slot, in_offset, low_offset, with_form, with_prefix, with_mapped, with_full}
-use Rattle.congee.proofs.lemmas.owned.Stored.{slot_seen, slot_there, inline_seen, seen_prefix, seen_full, lone_full}
+use Rattle.congee.proofs.lemmas.owned.Slots.{get_offset, beside_slot, in_offset, low_offset, with_form, with_prefix, with_mapped}
+use Rattle.congee.proofs.lemmas.owned.Stored.{slot_seen, slot_there, inline_seen, lone_full}
 
 module _ {P : Type 0} (s s' : Slab (Slot (Lone P) P)) (i : ℕ) where
   -- a slot's node changes, and no leaf in its places: its name alone has another node

@@ -1,5 +1,5 @@
 -- The operations on an inner node's places, as the tree sees them.
-use Rattle.std.proofs.Common.{rules, ◌≡◌, ◌≢◌, ℕ, suc, ◌+◌, ◌-◌, ◌*◌, ◌%◌, ◌<◌, ◌≤◌, false, inl, inr, List, length, take, get_or, refl, sym, ap, subst, ◌∙◌, arith}
+use Rattle.std.proofs.Common.{◌≡◌, ◌≢◌, ℕ, suc, ◌+◌, ◌-◌, ◌*◌, ◌<◌, ◌≤◌, false, inl, inr, List, length, take, get_or, refl, sym, ap, subst, ◌∙◌, arith}
 use Rattle.std.specs.Prelude.{Option, None, Some, IsSome}
 use Rattle.std.specs.Option.{option_map}
 use Rattle.std.proofs.lemmas.List.{length-take-le}
@@ -16,17 +16,17 @@ use Rattle.congee.specs.owned.Naming.{HasOwnSlot, IsByte, offset_of}
 use Rattle.congee.specs.owned.OwnedSteps.{Sets}
 use Rattle.congee.specs.owned.Slots.{inner_child, lone_node, with_children, in_slot, lone_in, nodes_in}
 use Rattle.congee.specs.owned.Storage.{IsStored}
-use Rattle.congee.specs.owned.Stores.{HangsLeaf, LosesLeaf, HasInline, HasNode, IsLone, StandsWith}
+use Rattle.congee.specs.owned.Stores.{HangsLeaf, LosesLeaf, HasInline, HasNode, StandsWith}
 use Rattle.congee.specs.declared.forms.base_node.Node.{Node}
 use Rattle.congee.specs.declared.forms.child.Child.{Child}
 use Rattle.congee.specs.declared.forms.child.Child.TheVariants.{Blank, Node as Sub, Value}
-use Rattle.congee.specs.declared.owned.nodes.Lone.{Lone}
-use Rattle.congee.specs.declared.owned.nodes.Slot.{Slot}
-use Rattle.congee.specs.declared.owned.nodes.Slot.TheVariants.{Inner, Leaf}
+use Rattle.congee.specs.declared.owned.lone.Lone.{Lone}
+use Rattle.congee.specs.declared.owned.slots.Slot.{Slot}
+use Rattle.congee.specs.declared.owned.slots.Slot.TheVariants.{Inner}
 use Rattle.congee.proofs.lemmas.Tree.{same_or_not}
 use Rattle.congee.proofs.lemmas.forms.MappedLemmas.{get_mapped, none_mapped, mapped_insert, mapped_remove, mapped_none}
 use Rattle.congee.proofs.lemmas.owned.Moves.{node_at, insert_at, insert_beside, remove_at, remove_beside}
-use Rattle.congee.proofs.lemmas.owned.SlotChanges.{AtInner, InnerAfter, at_inner, inner_after, inner_slot, is_inner, inner_absent, inner_room, seen_after, lone_before, lone_after, others_after, stored_after}
+use Rattle.congee.proofs.lemmas.owned.SlotChanges.{AtInner, at_inner, inner_after, inner_slot, is_inner, inner_absent, inner_room, seen_after, lone_before, lone_after, others_after, stored_after}
 use Rattle.congee.proofs.lemmas.owned.SlotLens.{counted}
 use Rattle.congee.proofs.lemmas.owned.Stored.{lone_counts}
 use Rattle.congee.proofs.lemmas.owned.Slots.{get_inline, with_mapped, with_becomes}

@@ -19,9 +19,9 @@ use Rattle.congee.specs.declared.forms.base_node.NodeType.{NodeType}
 use Rattle.congee.specs.declared.forms.base_node.NodeType.TheVariants.{N4 as T4, N16 as T16, N48 as T48, N256 as T256}
 use Rattle.congee.specs.declared.forms.child.Child.{Child}
 use Rattle.congee.specs.declared.forms.child.Child.TheVariants.{Value}
-use Rattle.congee.specs.declared.owned.nodes.Lone.{Lone}
-use Rattle.congee.specs.declared.owned.nodes.Slot.{Slot}
-use Rattle.congee.specs.declared.owned.nodes.Slot.TheVariants.{Inner}
+use Rattle.congee.specs.declared.owned.lone.Lone.{Lone}
+use Rattle.congee.specs.declared.owned.slots.Slot.{Slot}
+use Rattle.congee.specs.declared.owned.slots.Slot.TheVariants.{Inner}
 use Rattle.congee.proofs.lemmas.Tree.{same_or_not}
 use Rattle.congee.proofs.lemmas.forms.MappedLemmas.{mapped_insert, same_answers, some_mapped}
 use Rattle.congee.proofs.lemmas.owned.Moves.{insert_at, insert_beside, one_node}

@@ -1,22 +1,18 @@
 -- The nodes in the slots of a slab, by their names.
-use Rattle.std.proofs.Common.{◌≡◌, ◌≢◌, ℕ, zero, suc, ◌+◌, ◌*◌, ◌/◌, ◌%◌, ◌<◌, ◌≤◌, inl, inr, List, [], ◌∷◌, length, get_or, refl, sym, ap, subst, ◌∙◌, arith}
-use Rattle.std.specs.Prelude.{Option, None, Some}
-use Rattle.std.specs.Option.{option_map, option_and_then}
+use Rattle.std.proofs.Common.{◌≡◌, ◌≢◌, ℕ, zero, suc, ◌+◌, ◌*◌, ◌/◌, ◌%◌, ◌<◌, ◌≤◌, inl, inr, List, [], ◌∷◌, length, get_or, refl, sym, ap, ◌∙◌, arith}
+use Rattle.std.specs.Prelude.{Option, None}
 use Rattle.std.proofs.lemmas.Bool.{cases_lt}
 use Rattle.std.proofs.lemmas.List.FromFn.{get_or-map-range_with_len, length-map-range_with_len}
 use Rattle.std.specs.FinMap as map
 use Rattle.slab.specs.Slab.{Slab, get, Updates}
 use Rattle.congee.specs.forms.Forms.{children_of, form_of, prefix_of, is_full_of, Becomes}
 use Rattle.congee.specs.forms.Mapped.{mapped}
-use Rattle.congee.specs.owned.Arena.{Nodes}
-use Rattle.congee.specs.owned.Slots.{slot_name, inline_name, with_children, slot_node, inline_at, lone_in, in_slot, node_named, nodes_in}
+use Rattle.congee.specs.owned.Slots.{slot_name, inline_name, with_children, in_slot, node_named, nodes_in}
 use Rattle.congee.specs.declared.forms.base_node.Node.{Node}
 use Rattle.congee.specs.declared.forms.base_node.Node.TheVariants.{N4, N16, N48, N256}
 use Rattle.congee.specs.declared.forms.child.Child.{Child}
-use Rattle.congee.specs.declared.owned.nodes.Lone.{Lone}
-use Rattle.congee.specs.declared.owned.nodes.Slot.{Slot}
-use Rattle.congee.specs.declared.owned.nodes.Slot.TheVariants.{Inner, Leaf}
-use Rattle.congee.proofs.lemmas.Tree.{same_or_not}
+use Rattle.congee.specs.declared.owned.lone.Lone.{Lone}
+use Rattle.congee.specs.declared.owned.slots.Slot.{Slot}
 use Rattle.congee.proofs.lemmas.forms.MappedLemmas.{len_mapped}
 
 none_past : {X : Type 0} (xs : List (Option X)) (n : ℕ) → length xs ≤ n → get_or xs n None ≡ None

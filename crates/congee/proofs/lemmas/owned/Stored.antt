@@ -1,25 +1,23 @@
 -- What stands under a name after the node in one slot changed.
-use Rattle.std.proofs.Common.{◌≡◌, ◌≢◌, ℕ, zero, suc, ◌+◌, ◌*◌, ◌/◌, ◌%◌, ◌<◌, ◌≤◌, ◌==◌, cond, false, inl, inr, List, [], ◌∷◌, length, take, get_or, refl, sym, ap, subst, ◌∙◌, arith}
-use Rattle.std.specs.Prelude.{Option, None, Some, IsSome, is_some}
-use Rattle.std.specs.Ordering.{nat_cmp}
+use Rattle.std.proofs.Common.{◌≡◌, ◌≢◌, ℕ, zero, suc, ◌+◌, ◌*◌, ◌/◌, ◌%◌, ◌<◌, ◌≤◌, ◌==◌, cond, false, inl, inr, List, length, take, get_or, refl, sym, ap, subst, ◌∙◌, arith}
+use Rattle.std.specs.Prelude.{Option, None, Some, IsSome}
 use Rattle.std.specs.FinMap as map
-use Rattle.std.proofs.lemmas.Bool.{cases_lt}
 use Rattle.std.proofs.lemmas.List.FromFn.{length-map-range_with_len}
 use Rattle.slab.specs.Slab.{Slab, get, ContainsKey, Updates, slab_len}
-use Rattle.congee.specs.forms.Forms.{Becomes, children_of, form_of, is_full_of, prefix_of}
+use Rattle.congee.specs.forms.Forms.{children_of, form_of, is_full_of, prefix_of}
 use Rattle.congee.specs.forms.Mapped.{mapped}
 use Rattle.congee.specs.Heap.{Hung, Nothing, Below as Under, Holds, child_for, fits}
 use Rattle.std.proofs.lemmas.List.{length-take-le}
 use Rattle.congee.specs.owned.Arena.{Nodes, hung_in, heap_of, node_of}
 use Rattle.congee.specs.owned.Kinds.{IsValue, prefix_in, form_in, len_in, full_in, inner_get}
 use Rattle.congee.specs.owned.Naming.{offset_of, IsByte}
-use Rattle.congee.specs.owned.Slots.{slot_name, inline_name, inner_child, leaf_child, lone_node, with_children, slot_node, inline_at, lone_in, under_offset, in_slot, node_named, nodes_in}
+use Rattle.congee.specs.owned.Slots.{inner_child, leaf_child, lone_node, with_children, slot_node, lone_in, in_slot, node_named, nodes_in}
 use Rattle.congee.specs.declared.forms.base_node.Node.{Node}
 use Rattle.congee.specs.declared.forms.child.Child.{Child}
 use Rattle.congee.specs.declared.forms.child.Child.TheVariants.{Blank, Node as Sub, Value}
-use Rattle.congee.specs.declared.owned.nodes.Lone.{Lone}
-use Rattle.congee.specs.declared.owned.nodes.Slot.{Slot}
-use Rattle.congee.specs.declared.owned.nodes.Slot.TheVariants.{Inner, Leaf}
+use Rattle.congee.specs.declared.owned.lone.Lone.{Lone}
+use Rattle.congee.specs.declared.owned.slots.Slot.{Slot}
+use Rattle.congee.specs.declared.owned.slots.Slot.TheVariants.{Inner, Leaf}
 use Rattle.std.specs.Borrow.{Bor}
 use Rattle.std.specs.Option.{option_copied, option_map}
 use Rattle.congee.specs.forms.Bytes.{IsFirst}
@@ -28,11 +26,11 @@ use Rattle.congee.specs.declared.owned.place.Way.{Way}
 use Rattle.congee.specs.declared.owned.place.Way.TheVariants.{Free, Held, Below, Apart}
 use Rattle.congee.proofs.lemmas.Fits.{same_test, other_test}
 use Rattle.congee.proofs.lemmas.Tree.{same_or_not}
-use Rattle.congee.proofs.lemmas.forms.MappedLemmas.{get_mapped, first_mapped, some_mapped, none_mapped, mapped_none}
+use Rattle.congee.proofs.lemmas.forms.MappedLemmas.{get_mapped, first_mapped, none_mapped}
 use Rattle.congee.proofs.lemmas.owned.Moves.{len_one, insert_at, insert_beside}
 use Rattle.congee.proofs.lemmas.owned.SlotLens.{counted, len_named}
-use Rattle.congee.proofs.lemmas.owned.Slots.{get_named, get_offset, get_slot, get_inline, beside_slot, in_offset, low_offset, with_mapped, with_form, with_prefix, with_len, with_full}
-use Rattle.congee.proofs.lemmas.owned.Totals.{total, total_same, total_update}
+use Rattle.congee.proofs.lemmas.owned.Slots.{get_offset, get_slot, get_inline, beside_slot, in_offset, low_offset, with_mapped, with_form, with_prefix, with_len, with_full}
+use Rattle.congee.proofs.lemmas.owned.Totals.{total, total_update}
 
 -- a child that is a value is no other
 pub value_only : {P : Type 0} (o : Option (Child ℕ P)) (x : Child ℕ P) → IsValue o → o ≡ Some x → ((v : P) → x ≡ Value v → ⊥) → ⊥

@@ -1,5 +1,5 @@
 -- A leaf that lies in its parent's place takes a slot of its own.
-use Rattle.std.proofs.Common.{◌≡◌, ◌≢◌, ℕ, ◌+◌, ◌-◌, ◌*◌, ◌<◌, ◌≤◌, false, inl, inr, length, get_or, refl, sym, ap, subst, ◌∙◌, arith}
+use Rattle.std.proofs.Common.{◌≡◌, ◌≢◌, ℕ, ◌+◌, ◌*◌, ◌<◌, ◌≤◌, false, inl, inr, length, get_or, refl, sym, ap, subst, ◌∙◌, arith}
 use Rattle.std.specs.Prelude.{Option, None, Some}
 use Rattle.std.specs.Ordering.{nat_cmp}
 use Rattle.std.specs.FinMap as map
@@ -19,8 +19,8 @@ use Rattle.congee.specs.declared.forms.base_node.NodeType.{NodeType}
 use Rattle.congee.specs.declared.forms.base_node.NodeType.TheVariants.{N4, N16, N48, N256}
 use Rattle.congee.specs.declared.forms.child.Child.{Child}
 use Rattle.congee.specs.declared.forms.child.Child.TheVariants.{Node as Sub, Value}
-use Rattle.congee.specs.declared.owned.nodes.Lone.{Lone}
-use Rattle.congee.specs.declared.owned.nodes.Slot.{Slot}
+use Rattle.congee.specs.declared.owned.lone.Lone.{Lone}
+use Rattle.congee.specs.declared.owned.slots.Slot.{Slot}
 use Rattle.congee.proofs.lemmas.Fits.{other_test}
 use Rattle.congee.proofs.lemmas.Tree.{same_or_not}
 use Rattle.congee.proofs.lemmas.forms.Full.{full_at, full_is}

@@ -1,6 +1,6 @@
 -- The sizes of the nodes of a tree are those of what stands in the slab: each node but the root hangs at one byte of one node,
 -- so all that the nodes weigh with what is below them is what they weigh themselves and what the children of all weigh.
-use Rattle.std.proofs.Common.{◌≡◌, ◌≢◌, ℕ, zero, suc, ◌+◌, ◌<◌, ◌≤◌, ◌==◌, ◌⊎◌, Bool, true, false, cond, List, [], ◌∷◌, ◌++◌, length, get_or, inl, inr, refl, sym, ap, subst, ◌∙◌, arith}
+use Rattle.std.proofs.Common.{◌≡◌, ◌≢◌, ℕ, zero, suc, ◌+◌, ◌<◌, ◌≤◌, ◌==◌, ◌⊎◌, Bool, true, false, cond, List, [], ◌∷◌, ◌++◌, length, inl, inr, refl, sym, ap, subst, ◌∙◌, arith}
 use Rattle.std.specs.Prelude.{Option, None, Some, is_some, IsSome}
 use Rattle.std.proofs.lemmas.Bool.{cases_lt}
 use Rattle.std.specs.FinMap as map
@@ -10,7 +10,7 @@ use Rattle.congee.specs.Ledger.{IsChild, HasParent}
 use Rattle.congee.specs.forms.Forms.{form_of, children_of, size_of}
 use Rattle.congee.specs.owned.Arena.{Nodes, hung_in, node_of, heap_of, ledger_of, IsTree}
 use Rattle.congee.specs.owned.Levels.{under_byte, under_bytes, with_node, nodes_from, nodes_of}
-use Rattle.congee.specs.owned.Sizes.{bytes_at, bytes_in, bytes_of}
+use Rattle.congee.specs.owned.Sizes.{bytes_at, bytes_of}
 use Rattle.congee.specs.owned.Stats.{Shape}
 use Rattle.congee.specs.owned.Weights.{sizes_of, HasBytes, HasBytesFrom}
 use Rattle.congee.specs.declared.forms.base_node.Node.{Node as Form}
@@ -22,7 +22,7 @@ use Rattle.congee.proofs.lemmas.Tree.{same_or_not}
 use Rattle.congee.proofs.lemmas.owned.Cursors.{nothing_blank}
 use Rattle.congee.proofs.lemmas.owned.Moves.{node_at}
 use Rattle.congee.proofs.lemmas.owned.Sizes.{bytes_total, past_slots}
-use Rattle.congee.proofs.lemmas.owned.Totals.{total, total_same, total_none, total_one, total_add, total_swap, total_first}
+use Rattle.congee.proofs.lemmas.owned.Totals.{total, total_same, total_none, total_one, total_add, total_swap}
 use Rattle.congee.proofs.lemmas.owned.Ways.{linked_of, stands_of, short_prefix}
 
 -- the nodes below the bytes that were passed have their children at bytes

@@ -4,6 +4,7 @@ use Rattle.std.specs.Prelude.{nat_lt, nat_le, nat_eq, OnOk, IfErr, IfSome, ◌�
 use Rattle.std.specs.Bool.{MatchBool}
 use Rattle.std.proofs.lemmas.Bool.{true≢false, eq-eqb, lt-ltb, ltb-true}
 use Rattle.std.proofs.lemmas.Bool.Decides.{nat_tests}
+use Rattle.std.proofs.lemmas.List.{nil_from_length}
 use Rattle.crossbeam_epoch.specs.declared.face.guard.Seat.{Seat}
 use Rattle.crossbeam_epoch.specs.declared.face.queue.Queued.{Queued}
 use Rattle.crossbeam_epoch.specs.declared.face.seats.View.{View}
@@ -93,6 +94,10 @@ later_due seen seal newest newest' due now told = subst (λ (n : Option ℕ). Is
 -- a bag that isn't empty holds a job
 pub some_job : (n : ℕ) (b : Bool) → b ≡ nat_eq n 0 → b ≡ false → 0 < n
 some_job n b is none = let h : nat_eq n 0 ≡ false = sym is ∙ none in grind (arith, nat_tests, h)
+
+-- an empty bag holds none
+pub no_job : {J : Type 0} (bag : List (Entry J)) (b : Bool) → b ≡ nat_eq (length bag) 0 → b ≡ true → bag ≡ []
+no_job bag b is none = let h : nat_eq (length bag) 0 ≡ true = sym is ∙ none in nil_from_length bag (grind (arith, nat_tests, h))
 
 -- a bag that isn't full has a free place, and no other bag is made for it
 pub has_room : {J : Type 0} (bag : List (Entry J)) (b : Bool) → b ≡ nat_eq (length bag) bag_places → length bag ≤ bag_places → b ≡ false → (bag ≡ with_room bag) × (nat_le bag_places (length bag) ≡ false)

@@ -18,7 +18,7 @@ loop-byte-preserved g t c =
     elim c.match-child.branch [
       | in-Blank w ↦ subst So (sym (ap (λ v. v.items) w.keys-is)) (put_none (nodes c.args.self.now) (id_number c.args.at) c.requires c.of-region.result c.loop-byte.invariant.region c.node-node.result.now c.slot.result.now.word (c.node-node.ensures.shape ∙ sym c.slot.ensures.node) c.loop-byte.from c.in-Some.byte c.in-Some.child.now c.in-Some.ensures (omega arith) c.args.keys.now.items c.loop-byte.keys.items c.loop-byte.invariant w.in-Blank.is)
       | in-Node+in_ok-keys_below-in-Node w ↦ subst So (sym (ap (λ v. v.items) w.keys-is)) (put_below (nodes c.args.self.now) (id_number c.args.at) c.requires c.of-region.result c.loop-byte.invariant.region c.node-node.result.now c.slot.result.now.word (c.node-node.ensures.shape ∙ sym c.slot.ensures.node) c.loop-byte.from c.in-Some.byte c.in-Some.child.now c.in-Some.ensures (omega arith) c.args.keys.now.items c.loop-byte.keys.items c.loop-byte.invariant w.in-Node.below w.keys_below.new.keys.items w.in-Node.is w.in_ok-keys_below-in-Node.ensures)
-      | in-Value+in_ok-push-in-Value w ↦ subst So (sym (ap (λ v. v.items) w.keys-is ∙ w.in_ok-push-in-Value.ensures.items)) (put_key (nodes c.args.self.now) (id_number c.args.at) c.requires c.of-region.result c.loop-byte.invariant.region c.node-node.result.now c.slot.result.now.word (c.node-node.ensures.shape ∙ sym c.slot.ensures.node) c.loop-byte.from c.in-Some.byte c.in-Some.child.now c.in-Some.ensures (omega arith) c.args.keys.now.items c.loop-byte.keys.items c.loop-byte.invariant _ w.part_of.result.first w.in-Value.is w.part_of.ensures.first)
+      | in-Value+in_ok-push-in-Value w ↦ subst So (sym (ap (λ v. v.items) w.keys-is ∙ w.in_ok-push-in-Value.ensures.items)) (put_key (nodes c.args.self.now) (id_number c.args.at) c.requires c.of-region.result c.loop-byte.invariant.region c.node-node.result.now c.slot.result.now.word (c.node-node.ensures.shape ∙ sym c.slot.ensures.node) c.loop-byte.from c.in-Some.byte c.in-Some.child.now c.in-Some.ensures (omega arith) c.args.keys.now.items c.loop-byte.keys.items c.loop-byte.invariant _ w.first_under.result w.in-Value.is w.first_under.ensures)
     ]
 
 pub returns : goal.returns

@@ -1,6 +1,5 @@
-use Rattle.std.proofs.Common.{refl, ap, replicate}
-use Rattle.trial.specs.declared.caller.Caller.{Caller}
+use Rattle.std.proofs.Common.{refl}
 use Rattle.trial.proofs.index.Index.new.Goals as goal
 
 pub returns : goal.returns
-returns c = record { world = refl; callers = ap (λ (x : Caller). replicate 256 x) c.new.ensures; scans = c.in_ok-scans.ensures }
+returns c = record { world = refl; callers = c.in_ok-callers.ensures; scans = c.in_ok-scans.ensures }

@@ -1,4 +1,4 @@
-use Rattle.std.proofs.Common.{rules, ◌≡◌, length, arith, refl, sym, ap, ◌∙◌, inl}
+use Rattle.std.proofs.Common.{rules, ◌≡◌, length, arith, refl, ap, ◌∙◌, inl}
 use Rattle.congee.proofs.lemmas.owned.Answered.{at_free}
 use Rattle.congee.proofs.lemmas.owned.Sizes.{bytes_same}
 use Rattle.congee.proofs.lemmas.owned.Moves.{roomy_stands, roomy_absent, roomy_room}

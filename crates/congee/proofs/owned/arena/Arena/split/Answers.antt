@@ -1,4 +1,4 @@
-use Rattle.std.proofs.Common.{rules, refl, inl, ◌≡◌, ap, ◌∙◌, sym, subst, arith}
+use Rattle.std.proofs.Common.{refl, inl, ◌≡◌, ap, ◌∙◌, arith}
 use Rattle.congee.specs.Heap.{fits, child_for}
 use Rattle.congee.proofs.lemmas.owned.Answered.{at_apart}
 use Rattle.congee.proofs.lemmas.owned.Renaming.{change_renamed}

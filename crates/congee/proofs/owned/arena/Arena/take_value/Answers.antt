@@ -1,4 +1,4 @@
-use Rattle.std.proofs.Common.{rules, ◌≡◌, length, refl, ap, ◌∙◌}
+use Rattle.std.proofs.Common.{rules, ◌≡◌, length, ap, ◌∙◌}
 use Rattle.congee.proofs.lemmas.owned.Hangings.{held_value, taken_hangs, taken_prefix}
 use Rattle.congee.proofs.lemmas.owned.Moves.{taken, held_seven}
 use Rattle.congee.proofs.lemmas.owned.Renaming.{renamed_change}

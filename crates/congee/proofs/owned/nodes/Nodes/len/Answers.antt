@@ -1,4 +1,4 @@
-use Rattle.std.proofs.Common.{◌≡◌, ◌*◌, ◌+◌, ◌%◌, ◌<◌, ℕ, get_or, inl, inr, refl, sym, ap, subst, ◌∙◌, arith}
+use Rattle.std.proofs.Common.{◌≡◌, ◌*◌, ◌+◌, ◌<◌, ℕ, get_or, inl, inr, refl, sym, ap, subst, ◌∙◌, arith}
 use Rattle.std.specs.Prelude.{Option, None, Some, IsSome}
 use Rattle.std.specs.Option.{option_map}
 use Rattle.std.specs.FinMap as map
@@ -7,9 +7,9 @@ use Rattle.congee.specs.owned.Kinds.{HasLowBytes}
 use Rattle.congee.specs.owned.Naming.{offset_of}
 use Rattle.congee.specs.owned.Slots.{inner_child, leaf_child, lone_node, slot_node}
 use Rattle.congee.specs.declared.forms.child.Child.TheVariants.{Value}
-use Rattle.congee.specs.declared.owned.nodes.Lone.{Lone}
-use Rattle.congee.specs.declared.owned.nodes.Slot.{Slot}
-use Rattle.congee.specs.declared.owned.nodes.Slot.TheVariants.{Inner, Leaf}
+use Rattle.congee.specs.declared.owned.lone.Lone.{Lone}
+use Rattle.congee.specs.declared.owned.slots.Slot.{Slot}
+use Rattle.congee.specs.declared.owned.slots.Slot.TheVariants.{Inner, Leaf}
 use Rattle.congee.proofs.lemmas.Tree.{same_or_not}
 use Rattle.congee.proofs.lemmas.forms.MappedLemmas.{get_mapped}
 use Rattle.congee.proofs.lemmas.owned.Moves.{insert_beside}

@@ -1,4 +1,4 @@
-use Rattle.std.proofs.Common.{rules, ap, subst, ◌∙◌, ◌<◌, length, arith}
+use Rattle.std.proofs.Common.{ap, ◌<◌, length, arith}
 use Rattle.congee.proofs.lemmas.owned.SlotComes.{comes_stored, comes_made}
 use Rattle.congee.proofs.lemmas.owned.SlotOps.{spare_room, same_view_room}
 use Rattle.congee.specs.forms.Forms.{prefix_of}

@@ -1,4 +1,4 @@
-use Rattle.std.proofs.Common.{rules, ◌≡◌, length, take, get_or, ap, ◌∙◌, arith}
+use Rattle.std.proofs.Common.{rules, ◌≡◌, length, get_or, ap, ◌∙◌, arith}
 use Rattle.std.proofs.lemmas.List.{length-take-le}
 use Rattle.std.specs.FinMap as map
 use Rattle.congee.specs.forms.Forms.{prefix_of}

@@ -1,7 +1,7 @@
 use denote.Param.{layout, param}
 use Rattle.std.specs.Borrow.{usize as word}
 use Rattle.std.proofs.Common.{rules}
-use Rattle.congee.specs.contracts.owned.nodes.Lone.{the_row as lone_row}
+use Rattle.congee.specs.contracts.owned.lone.Lone.{the_row as lone_row}
 use Rattle.congee.specs.forms.Room.{IsSmall}
 use Rattle.congee.specs.forms.RoomLemmas.{node16_fits, node48_fits, node256_fits}
 use Rattle.congee.proofs.lemmas.owned.SlotComes.{leaves_stored, leaves_done}

@@ -1,5 +1,5 @@
-use Rattle.std.proofs.Common.{rules, refl, ◌<◌}
-use Rattle.congee.proofs.lemmas.owned.SlotOps.{has_slot, slot_inner, slot_absent, slot_room, slot_present, none_free, node_free, own_slot, put_node_stored, put_node_done, same_capacity}
+use Rattle.std.proofs.Common.{rules, ◌<◌}
+use Rattle.congee.proofs.lemmas.owned.SlotOps.{has_slot, slot_present, node_free, own_slot, put_node_stored, put_node_done, same_capacity}
 use Rattle.congee.proofs.owned.nodes.Nodes.swap_node.Goals as goal
 
 pub index_mut-requires : goal.index_mut-requires

@@ -1,4 +1,4 @@
-use Rattle.std.proofs.Common.{sym, ap, ◌∙◌, refl, subst, ◌*◌}
+use Rattle.std.proofs.Common.{sym, ap, ◌∙◌}
 use Rattle.congee.specs.Heap.{fits}
 use Rattle.congee.specs.owned.Arena.{heap_of}
 use Rattle.congee.proofs.lemmas.owned.Stored.{slot_there, slot_fits}

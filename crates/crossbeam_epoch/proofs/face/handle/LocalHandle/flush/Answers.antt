@@ -1,20 +1,22 @@
-use Rattle.std.proofs.Common.{arith, ap, subst, sym, length}
-use Rattle.std.specs.Prelude.{nat_lt}
-use Rattle.crossbeam_epoch.specs.Face.Handle.{SealsUnder}
+use Rattle.std.proofs.Common.{ap, subst, sym, length, ◌<◌, ◌∙◌}
+use Rattle.std.proofs.lemmas.Bool.{lt-ltb}
+use Rattle.crossbeam_epoch.proofs.lemmas.face.Guards.{no_job, sealed_now, some_job}
 use Rattle.crossbeam_epoch.proofs.face.handle.LocalHandle.flush.Goals as goal
 
-pub returns-clause-saw : goal.returns-clause-saw
-returns-clause-saw g c =
-    let same = c.in_ok-seal.ensures.ok.1 in
-    let out = c.owns.ensures.out c.if-not-owns.false in
-    let t = c.collect.ensures.saw (omega (arith, ap (λ h. h.guards) same, out)) in
-    let low = t.0 in
-    let high = t.1 in
-    let epoch = ap (λ h. h.epoch) same in
-    (omega (arith, low, epoch), omega (arith, high, epoch))
+pub returns-then-is_empty-clause-ok : goal.returns-then-is_empty-clause-ok
+returns-then-is_empty-clause-ok g c =
+    let same = c.collect.ensures.same in
+    let empty = no_job _ _ c.is_empty.ensures c.if-is_empty.true in (
+      sym c.owns.ensures.value ∙ c.if-not-owns.false,
+      ap (λ h. h.bag) same ∙ (sym (ap (λ h. h.bag) c.self.view_is) ∙ empty),
+      same ∙ ap (λ h. record c.args.self.now { bag = h.bag; seals = h.seals; knows = c.collect.new.self.knows }) (sym same),
+    )
 
-pub returns-clause-sealed : goal.returns-clause-sealed
-returns-clause-sealed g c =
-    let now = c.args.self.now in
+pub returns-then-is_empty-clause-saw : goal.returns-then-is_empty-clause-saw
+returns-then-is_empty-clause-saw g c = c.collect.ensures.saw (c.owns.ensures.out c.if-not-owns.false)
+
+pub returns-in-Some-clause-sealed : goal.returns-in-Some-clause-sealed
+returns-in-Some-clause-sealed g c =
     let out = c.owns.ensures.out c.if-not-owns.false in
-    subst (λ s. SealsUnder (nat_lt 0 (length now.bag)) now.epoch now.seals.queued s) (sym (ap (λ h. h.seals.queued) c.collect.ensures.same)) (c.in_ok-seal.ensures.sealed out)
+    let some : 0 < length c.args.self.now.bag = subst (λ b. 0 < length b) (ap (λ h. h.bag) c.self.view_is) (some_job _ _ c.is_empty.ensures c.if-is_empty.false) in
+    sealed_now _ _ _ _ _ (lt-ltb 0 _ some) c.in-Some.ensures.queued.0 (c.look-seal.ensures.read out)

@@ -1,7 +1,0 @@
-use Rattle.std.proofs.Common.{subst}
-use Rattle.congee.proofs.lemmas.owned.Stored.{value_only}
-use Rattle.congee.specs.owned.Kinds.{IsValue, leaf_get}
-use Rattle.congee.proofs.owned.nodes.Slot.take_value.Goals as goal
-
-pub unreachable-requires : goal.unreachable-requires
-unreachable-requires g c = value_only _ c.remove.result (rw c.in-Leaf.is at c.requires.present) c.remove.ensures.before c.in_default.not-Value

@@ -1,0 +1,197 @@
+//! The nodes with slots of their own, inner ones and leaves.
+ghost use Rattle.std.specs.Prelude.{◌≡◌, ◌≤◌, length, Some, None, false, IsSome, OnOk, OnErr};
+ghost use Rattle.std.specs.FinMap as map;
+ghost use Rattle.congee.specs.Heap.{fits};
+ghost use Rattle.congee.specs.declared.keys.TheConstants.{KEY_BYTES};
+ghost use Rattle.congee.specs.declared.forms.prefix.TheConstants.{MAX_PREFIX_LEN};
+
+use crate::forms::base_node::NodeType;
+use crate::forms::child::{Child, Small};
+use crate::keys::KEY_BYTES;
+use crate::owned::placed::Placed;
+use std::alloc::{AllocError, Global};
+
+/// A node with a slot of its own. A child of an inner node is a node by its slot, or a leaf with one value.
+#[derive(Drop)]
+pub(crate) enum Slot<L: Small, P: Small> {
+    Inner(Placed<L>),
+    Leaf(Placed<P>),
+}
+
+impl<L: Small, P: Small> Slot<L, P> {
+    ghost use Rattle.congee.specs.Heap.{fits};
+    ghost use Rattle.congee.specs.forms.Forms.{capacity_of};
+    ghost use Rattle.congee.specs.declared.forms.child.Child.TheVariants.{Value};
+    ghost use Rattle.congee.specs.owned.Kinds.{prefix_in, form_in, len_in, full_in, HasLowBytes, IsInner, IsLeaf, inner_get, leaf_get, IsValue, Cleared, InnerBecomes, LeafBecomes, Grown};
+
+    #[inline(always)]
+    pub(crate) fn prefix(&self) -> &[u8]
+        ensures bytes { result.now ≡ prefix_in self.now }
+        ensures fits { length result.now ≤ MAX_PREFIX_LEN }
+    {
+        match self {
+            Slot::Inner(n) => n.prefix(),
+            Slot::Leaf(n) => n.prefix(),
+        }
+    }
+
+    #[inline(always)]
+    pub(crate) fn is_prefix_of(&self, key: &[u8; KEY_BYTES]) -> bool
+        ensures { result ≡ fits (prefix_in self.now) key.now }
+    {
+        match self {
+            Slot::Inner(n) => n.is_prefix_of(key),
+            Slot::Leaf(n) => n.is_prefix_of(key),
+        }
+    }
+
+    #[inline(always)]
+    pub(crate) fn node_type(&self) -> NodeType
+        ensures { result ≡ form_in self.now }
+    {
+        match self {
+            Slot::Inner(n) => n.node_type(),
+            Slot::Leaf(n) => n.node_type(),
+        }
+    }
+
+    #[inline(always)]
+    pub(crate) fn len(&self) -> usize
+        ensures count { result ≡ len_in self.now }
+        ensures fits { result ≤ capacity_of (form_in self.now) }
+        ensures bytes { HasLowBytes self.now }
+    {
+        match self {
+            Slot::Inner(n) => n.len(),
+            Slot::Leaf(n) => n.len(),
+        }
+    }
+
+    #[inline(always)]
+    pub(crate) fn is_full(&self) -> bool
+        ensures { result ≡ full_in self.now }
+    {
+        match self {
+            Slot::Inner(n) => n.is_full(),
+            Slot::Leaf(n) => n.is_full(),
+        }
+    }
+
+    pub(crate) fn grow(&mut self, alloc: Global) -> Result<(), AllocError>
+        ensures grown { OnOk result (Grown self.old self.new) }
+        ensures refused { OnErr result (self.new ≡ self.old) }
+    {
+        match self {
+            Slot::Inner(n) => n.grow(alloc),
+            Slot::Leaf(n) => n.grow(alloc),
+        }
+    }
+
+    /// A value of an inner node.
+    #[inline(always)]
+    pub(crate) fn lone(&self, byte: u8) -> &L
+        requires present { IsValue (inner_get self.now byte) }
+        ensures { inner_get self.now byte ≡ Some (Value result.now) }
+    {
+        match self {
+            Slot::Inner(n) => match n.get_child(byte) {
+                Some(Child::Value(lone)) => lone,
+                Some(Child::Node(_)) => unreachable!(),
+                Some(Child::Blank) => unreachable!(),
+                None => unreachable!(),
+            },
+            Slot::Leaf(_) => unreachable!(),
+        }
+    }
+
+    /// A leaf's value under a byte comes in.
+    #[inline(always)]
+    pub(crate) fn put_value(&mut self, byte: u8, value: P)
+        requires leaf { IsLeaf self.old }
+        requires absent { leaf_get self.old byte ≡ None }
+        requires room { full_in self.old ≡ false }
+        ensures { LeafBecomes self.old self.new (λ m. map.insert m byte (Value value)) }
+    {
+        match self {
+            Slot::Leaf(n) => n.insert(byte, Child::Value(value)),
+            Slot::Inner(_) => unreachable!(),
+        }
+    }
+
+    /// Another value comes in its place.
+    #[inline(always)]
+    pub(crate) fn change_value(&mut self, byte: u8, value: P) -> P
+        requires present { IsValue (leaf_get self.old byte) }
+        ensures was { leaf_get self.old byte ≡ Some (Value result) }
+        ensures now { LeafBecomes self.old self.new (λ m. map.insert m byte (Value value)) }
+    {
+        match self {
+            Slot::Leaf(n) => match n.change(byte, Child::Value(value)) {
+                Child::Value(old) => old,
+                _ => unreachable!(),
+            },
+            Slot::Inner(_) => unreachable!(),
+        }
+    }
+
+    #[inline(always)]
+    pub(crate) fn take_value(&mut self, byte: u8) -> P
+        requires present { IsValue (leaf_get self.old byte) }
+        ensures was { leaf_get self.old byte ≡ Some (Value result) }
+        ensures now { LeafBecomes self.old self.new (λ m. map.remove m byte) }
+    {
+        match self {
+            Slot::Leaf(n) => match n.remove(byte) {
+                Child::Value(old) => old,
+                _ => unreachable!(),
+            },
+            Slot::Inner(_) => unreachable!(),
+        }
+    }
+
+    #[inline(always)]
+    pub(crate) fn put_child(&mut self, byte: u8, child: Child<usize, L>)
+        requires inner { IsInner self.old }
+        requires absent { inner_get self.old byte ≡ None }
+        requires room { full_in self.old ≡ false }
+        ensures { InnerBecomes self.old self.new (λ m. map.insert m byte child) }
+    {
+        match self {
+            Slot::Inner(n) => n.insert(byte, child),
+            Slot::Leaf(_) => unreachable!(),
+        }
+    }
+
+    #[inline(always)]
+    pub(crate) fn change_child(&mut self, byte: u8, child: Child<usize, L>) -> Child<usize, L>
+        requires present { IsSome (inner_get self.old byte) }
+        ensures was { inner_get self.old byte ≡ Some result }
+        ensures now { InnerBecomes self.old self.new (λ m. map.insert m byte child) }
+    {
+        match self {
+            Slot::Inner(n) => n.change(byte, child),
+            Slot::Leaf(_) => unreachable!(),
+        }
+    }
+
+    #[inline(always)]
+    pub(crate) fn take_child(&mut self, byte: u8) -> Child<usize, L>
+        requires present { IsSome (inner_get self.old byte) }
+        ensures was { inner_get self.old byte ≡ Some result }
+        ensures now { InnerBecomes self.old self.new (λ m. map.remove m byte) }
+    {
+        match self {
+            Slot::Inner(n) => n.remove(byte),
+            Slot::Leaf(_) => unreachable!(),
+        }
+    }
+
+    pub(crate) fn clear(&mut self)
+        ensures { Cleared self.old self.new }
+    {
+        match self {
+            Slot::Inner(n) => n.clear(),
+            Slot::Leaf(n) => n.clear(),
+        }
+    }
+}
