@@ -64,6 +64,7 @@ pub mod MapSteps
 pub mod Mapped
 pub mod NameLists
 pub mod Opened
+pub mod Others
 pub mod Paths
 pub mod Placed
 pub mod PlainAgain

@@ -117,7 +117,7 @@ pub record ProgressLaws (T J : Type 0) : Type 0 where
 -- of calls on a tree, and of the same calls by numbers, over a store with this limit of versions and these causes of refusals
 pub record NumberLaws {C V : Type 0} (number : C → ℕ) (same : V → V → Bool) (always : Bool) (most : ℕ) (why : NodeType → Refusal → Type 0) : Type 0 where
   pub steps : (seen : Option (Seen Unnamed V)) (i : ℕ) (a : ℕ → Note) (h g h' : ℕ → Node V) (ms : List (Machine C V)) (m m' : Machine C V) (d : Move V) (fail : Bool) (answer : Option (Option V)) (order : List ℕ) (q : Machine ℕ V) (k : ℕ)
-      → ((form : NodeType) → why form Exhausted → ⊥) → ProtocolAt number same always a h ms → slice_get ms i ≡ Some m → Stepped number same always most why m h fail answer m' h' d → IsUnrefused d.outcome → Ordered order h → HeapAlike order h g → k ≡ length order → CallAlike order number h m q
+      → ((form : NodeType) → why form Exhausted → ⊥) → ProtocolAt number same always a h ms → slice_get ms i ≡ Some m → Stepped number same always most why m h fail answer m' h' d → IsUnrefused d.outcome → d.skipped ≡ false → Ordered order h → HeapAlike order h g → k ≡ length order → CallAlike order number h m q
       → MovedAlike order number h' m' d q (plain_step same most q (record { fail = fail; seen = seen; answer = answer }) g k)
   pub others : (i j : ℕ) (a : ℕ → Note) (h h' : ℕ → Node V) (ms : List (Machine C V)) (m m' other : Machine C V) (d : Move V) (order order' : List ℕ) (q : Machine ℕ V)
       → ProtocolAt number same always a h ms → slice_get ms j ≡ Some other → j ≢ i → Keeps number same always i a m h m' h' d → Longer order order' → CallAlike order number h other q → CallAlike order' number h' other q

@@ -71,8 +71,8 @@ pub fn locks_apart<P: Payload + Small>()
     call_laws::<P>();
 }
 
-/// Each node that leaves the tree in a run leaves it by the step in which a call takes effect, one at most of each call; the
-/// call then hands it over once, by one deferral of its destruction, under its worker's guard and into the place that was
+/// Each node that leaves the tree in a run leaves it by the step in which a call takes effect, two at most of each call; the
+/// call then hands it over once, by one deferral of its destruction, under its worker's guard and into a place that was
 /// made free for it. Until it is destroyed it stays out of the tree, locked, with its child nodes.
 pub fn nodes_leave<P: Payload + Small, A: Allocator>()
     ensures run { (s : Whole P) (taken : List (Taken P)) → Holds P.same_as P.always_copies s → AreTaken P.same_as P.always_copies s taken → AllLeaveOnce s taken }

@@ -74,7 +74,8 @@ module _ {P : Type 0} (s s' : Nodes P) (p b n m : ℕ) (t : IsTree s) (k : Renam
     prefix = rw (hp, hq) differs.prefix;
     child = rw hq (ap hung_in differs.here);
     beside = λ c ne. rw (hp, hq) (ap hung_in (differs.beside c ne));
-    node = ap node_of (k.stands ∙ sym k.stood);
+    same_prefix = ap (λ o. (node_of o).prefix) (k.stands ∙ sym k.stood);
+    same_children = λ c. ap (λ o. (node_of o).children c) (k.stands ∙ sym k.stood);
     nodes = λ x nn nm np. ap node_of (k.others x np nn nm);
     joined = linked_of s' parent m (stands_at s' m k.node k.stands);
     left = left;

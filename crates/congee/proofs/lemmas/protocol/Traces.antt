@@ -65,7 +65,7 @@ module _ {C V : Type 0} (number : C → ℕ) (same : V → V → Bool) (always :
   Sound h ms = Settled number same always h ms
 
   -- what a step leaves settled
-  settled_next : (h : ℕ → Node V) (ms : List (Machine C V)) (s : Step C V) (d : Move V) (h' : ℕ → Node V) (ms' : List (Machine C V)) (o : Option (Machine C V)) → slice_get ms s.who ≡ o → Sound h ms → NextAt number same always most (why h) h ms o s d h' ms' → Sound h' ms'
+  pub settled_next : (h : ℕ → Node V) (ms : List (Machine C V)) (s : Step C V) (d : Move V) (h' : ℕ → Node V) (ms' : List (Machine C V)) (o : Option (Machine C V)) → slice_get ms s.who ≡ o → Sound h ms → NextAt number same always most (why h) h ms o s d h' ms' → Sound h' ms'
   settled_next h ms s d h' ms' None e x n =
       let P : (ℕ → Node V) → Type 0 = λ y. Sound y ms' in
       let Q : List (Machine C V) → Type 0 = λ y. Sound h y in subst P (sym n.1) (subst Q (sym n.2) x)
