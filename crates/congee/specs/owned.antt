@@ -6,8 +6,11 @@ pub mod Content
 pub mod Cursor
 pub mod Drained
 pub mod Edits
+pub mod Entries
+pub mod EntryRoom
 pub mod Kinds
 pub mod Levels
+pub mod Lones
 pub mod Owned
 pub mod Place
 pub mod Ranges

@@ -5,7 +5,9 @@ pub mod Contents
 pub mod Cursors
 pub mod Drains
 pub mod Edits
+pub mod Entering
 pub mod Filled
+pub mod Firsts
 pub mod Folding
 pub mod Freeing
 pub mod Joins
@@ -14,6 +16,7 @@ pub mod OwnerLemmas
 pub mod Walks
 pub mod Puts
 pub mod RangeLemmas
+pub mod Refilling
 pub mod Renaming
 pub mod Rooms
 pub mod Root

@@ -36,8 +36,6 @@ impl<V: Drop> Small for ArcPayload<V> {
 impl<V: Drop> Stored for ArcPayload<V> {
     ghost use Rattle.std.proofs.Common.{rules};
 
-    ghost lone_small = { Prim.search rules };
-
     ghost leaf_fits = { Prim.search rules };
 
     ghost fits = { Prim.search rules };

@@ -18,10 +18,10 @@ ghost use Rattle.congee.specs.declared.forms.base_node.NodeType.TheVariants.{N4}
 
 use crate::allocator::{Allocator, OOMError};
 use crate::forms::base_node::NodeType;
-use crate::forms::prefix::MAX_PREFIX_LEN;
 use crate::keys::KEY_BYTES;
 use crate::owned::arena::{Arena, Stored};
 use crate::owned::names::Name;
+use crate::owned::parting::Parting;
 use std::alloc::Global;
 
 /// A node that was hung over another, and the byte under which that one hangs in it.
@@ -31,19 +31,6 @@ struct Fork {
     other: u8,
 }
 
-/// The first place where a key and a prefix that it lacks differ.
-pub(crate) fn first_apart(key: &[u8; KEY_BYTES], prefix: &[u8]) -> usize
-    requires short { length prefix.now ≤ MAX_PREFIX_LEN }
-    requires differs { fits prefix.now key.now ≡ false }
-    ensures { DiffersAt key.now prefix.now result }
-{
-    let mut common = 0;
-    while key[common] == prefix[common] {
-        common += 1;
-    }
-    common
-}
-
 impl<P: Stored, A: Allocator> Arena<P, A> {
     /// The key's byte at a node.
     #[inline(always)]
@@ -51,7 +38,7 @@ impl<P: Stored, A: Allocator> Arena<P, A> {
         requires { ContainsKey self.now.nodes at }
         ensures { result ≡ slice_index key.now (length (heap_of self.now.nodes at).prefix) }
     {
-        key[self.nodes.prefix(at).len()]
+        key[self.nodes.prefix_len(at)]
     }
 
     /// Puts another value in the place of the key's.
@@ -227,11 +214,9 @@ impl<P: Stored, A: Allocator> Arena<P, A> {
         ensures same { get self.new.nodes below ≡ get self.old.nodes below }
         ensures allocator { self.new.allocator ≡ self.old.allocator }
     {
-        let prefix = self.nodes.prefix(below);
-        let common = first_apart(key, prefix);
-        let other = prefix[common];
-        let over = self.nodes.make(&key[..common]);
-        self.nodes.hang_leaf(over, key[common], key, value);
+        let Parting { place, other } = self.nodes.parting(below, key);
+        let over = self.nodes.make(&key[..place]);
+        self.nodes.hang_leaf(over, key[place], key, value);
         self.nodes.hang_node(over, other, below);
         let up = self.byte_at(at, key);
         self.nodes.swap_node(at, up, over);

@@ -1,7 +1,8 @@
 //! What hangs in a node: it comes in, gives place to another, goes, or takes another name.
-ghost use Rattle.std.specs.Prelude.{◌≡◌, ◌<◌, ℕ, length, Some, None, false};
+ghost use Rattle.std.specs.Prelude.{◌≡◌, ◌<◌, ℕ, length, slice_index, Some, None, false};
 ghost use Rattle.std.specs.FinMap as map;
 ghost use Rattle.slab.specs.Slab.{get, ContainsKey, HasRoomFor};
+ghost use Rattle.congee.specs.owned.Entries.{first_byte};
 ghost use Rattle.congee.specs.forms.Forms.{children_of, is_full_of, prefix_of};
 ghost use Rattle.congee.specs.declared.keys.TheConstants.{KEY_BYTES};
 ghost use Rattle.congee.specs.declared.forms.prefix.TheConstants.{MAX_PREFIX_LEN};
@@ -34,6 +35,7 @@ impl<P: Stored> Nodes<P> {
         requires absent { (x : Form ℕ P) → get self.old at ≡ Some x → map.get (children_of x) byte ≡ None }
         requires room { (x : Form ℕ P) → get self.old at ≡ Some x → is_full_of x ≡ false }
         requires spare { HasRoomFor self.old 1 }
+        requires begins { (x : Form ℕ P) → get self.old at ≡ Some x → slice_index key.now 0 ≡ first_byte (prefix_of x) byte }
         ensures hangs { (x : Form ℕ P) → get self.old at ≡ Some x → HangsLeaf self.old self.new at x byte key.now value }
     {
         prove!(self.inline < self.slab.capacity());
@@ -47,6 +49,7 @@ impl<P: Stored> Nodes<P> {
         requires inner { (x : Form ℕ P) → get self.old at ≡ Some x → length (prefix_of x) < MAX_PREFIX_LEN }
         requires present { (x : Form ℕ P) → get self.old at ≡ Some x → HasNode (map.get (children_of x) byte) }
         requires spare { HasRoomFor self.old 1 }
+        requires begins { (x : Form ℕ P) → get self.old at ≡ Some x → slice_index key.now 0 ≡ first_byte (prefix_of x) byte }
         ensures hangs { (x : Form ℕ P) → get self.old at ≡ Some x → HangsLeaf self.old self.new at x byte key.now value }
         ensures capacity { self.new.capacity ≡ self.old.capacity }
     {
@@ -148,7 +151,7 @@ impl<P: Stored> Nodes<P> {
         match at.byte {
             None => self.slab[at.slot].change_value(byte, value),
             Some(place) => {
-                let key = self.lone(at.slot, place).key;
+                let key = self.slab[at.slot].lone(place).key;
                 match self.slab[at.slot].change_child(place, Child::Value(Lone { key, value })) {
                     Child::Value(lone) => {
                         let Lone { key: _, value } = lone;
@@ -202,6 +205,7 @@ impl<P: Stored> Nodes<P> {
         requires own { HasOwnSlot leaf }
         requires below { ContainsKey self.old leaf }
         requires lone { (y : Form ℕ P) → get self.old leaf ≡ Some y → HasOne y }
+        requires begins { (x y : Form ℕ P) → get self.old at ≡ Some x → get self.old leaf ≡ Some y → slice_index (prefix_of y) 0 ≡ first_byte (prefix_of x) byte }
         ensures folds { Folds self.old self.new at byte leaf }
         ensures capacity { self.new.capacity ≡ self.old.capacity }
     {

@@ -14,9 +14,10 @@ ghost use Rattle.congee.specs.owned.OwnedSteps.{IsRefusal, settled};
 ghost use Rattle.congee.specs.owned.Wanted.{WantsLeaf, freed_of, freed_by, wants_at, wants_of, lone_at};
 
 use crate::allocator::{Allocator, OOMError};
-use crate::forms::base_node::{Node, NodeType};
+use crate::forms::base_node::NodeType;
 use crate::keys::KEY_BYTES;
 use crate::owned::arena::{Arena, Stored};
+use crate::owned::inner::Inner;
 use crate::owned::names::Name;
 use crate::owned::nodes::Nodes;
 use crate::owned::place::{Place, Spot, Way};
@@ -36,7 +37,7 @@ impl<P: Stored, A: Allocator> Arena<P, A> {
     {
         let mut allocator = allocator;
         allocator.allocate(NodeType::N256.size())?;
-        let Ok(root) = Node::new(alloc, NodeType::N256, &[]) else {
+        let Ok(root) = Inner::new(alloc, NodeType::N256, &[]) else {
             return Err(OOMError::Memory);
         };
         match Nodes::new(alloc, root) {

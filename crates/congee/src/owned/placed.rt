@@ -36,8 +36,6 @@ impl<P: Small> Model for Placed<P> {
 }
 
 impl<P: Small> Placed<P> {
-    ghost use Rattle.congee.specs.declared.forms.base_node.NodeType.TheVariants.{N4};
-
     /// The node in its place.
     pub(crate) fn new(node: Node<usize, P>) -> Self
         ensures { result ≡ node }
@@ -45,19 +43,6 @@ impl<P: Small> Placed<P> {
         Placed {
             prefix: Prefix::new(node.prefix()),
             node,
-        }
-    }
-
-    /// An empty node of the least form.
-    pub(crate) fn least(prefix: &[u8]) -> Self
-        requires fits { length prefix.now ≤ MAX_PREFIX_LEN }
-        ensures form { form_of result ≡ N4 }
-        ensures prefix { prefix_of result ≡ prefix.now }
-        ensures children { children_of result ≡ map.empty }
-    {
-        Placed {
-            prefix: Prefix::new(prefix),
-            node: Node::least(prefix),
         }
     }
 
@@ -76,6 +61,15 @@ impl<P: Small> Placed<P> {
         ensures fits { length result.now ≤ MAX_PREFIX_LEN }
     {
         self.prefix.as_slice()
+    }
+
+    /// How many bytes they are.
+    #[inline(always)]
+    pub(crate) fn prefix_len(&self) -> usize
+        ensures count { result ≡ length (prefix_of self.now) }
+        ensures fits { result ≤ MAX_PREFIX_LEN }
+    {
+        self.prefix.len()
     }
 
     /// Whether its prefix is the beginning of the key.

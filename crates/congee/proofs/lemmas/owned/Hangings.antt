@@ -153,6 +153,9 @@ module _ {P : Type 0} where
       let p : length (prefix_of x) ≡ length (heap_of s at).prefix = ap length (ap prefix_of (one_node s' at x r.node e r.now) ∙ (r.prefix ∙ sym (prefix_at s at r.before r.was))) in
       omega (arith, p, l)
 
+  pub roomy_prefix : (s s' : Nodes P) (at : ℕ) → Roomy s s' at → (x : Form ℕ P) → get s' at ≡ Some x → prefix_of x ≡ (heap_of s at).prefix
+  roomy_prefix s s' at r x e = ap prefix_of (one_node s' at x r.node e r.now) ∙ (r.prefix ∙ sym (prefix_at s at r.before r.was))
+
   pub roomy_leaf : (s s' : Nodes P) (at : ℕ) → Roomy s s' at → length (heap_of s at).prefix ≡ 7 → (x : Form ℕ P) → get s' at ≡ Some x → length (prefix_of x) ≡ 7
   roomy_leaf s s' at r l x e = ap length (ap prefix_of (one_node s' at x r.node e r.now) ∙ (r.prefix ∙ sym (prefix_at s at r.before r.was))) ∙ l
 

@@ -1,5 +1,6 @@
 use Rattle.std.proofs.Common.{rules, sym, ap, ◌∙◌, arith}
 use Rattle.congee.specs.Heap.{fits}
+use Rattle.congee.proofs.lemmas.owned.Firsts.{first_below}
 use Rattle.congee.proofs.lemmas.owned.Hangings.{own_of, inline_of, unfolded, above_inner, child_inline, hosts_inner, hosts_child}
 use Rattle.congee.proofs.lemmas.owned.Renaming.{renamed, renamed_change, change_renamed}
 use Rattle.congee.proofs.lemmas.owned.Moves.{stands_at}
@@ -36,6 +37,11 @@ fold-requires-clause-inner g c = hosts_inner c.fork-over.new.self.nodes c.fork-o
 
 pub fold-requires-clause-present : goal.fold-requires-clause-present
 fold-requires-clause-present g c = hosts_child c.fork-over.new.self.nodes c.fork-over.result.over c.fork-over.result.other c.unfold-leaf.result c.fork-over.ensures.hosts
+
+pub fold-requires-clause-begins : goal.fold-requires-clause-begins
+fold-requires-clause-begins g c = λ x y e h.
+    first_below c.fork-over.new.self.nodes c.fork-over.ensures.tree c.fork-over.result.over c.fork-over.result.other c.unfold-leaf.result x y e h
+    (hosts_child c.fork-over.new.self.nodes c.fork-over.result.over c.fork-over.result.other c.unfold-leaf.result c.fork-over.ensures.hosts x e)
 
 pub fold-requires-clause-below : goal.fold-requires-clause-below
 fold-requires-clause-below g c =
