@@ -142,15 +142,12 @@ impl<P: Payload + Small> Slot<P> {
         ensures { IsOther (node_of self.now) byte (id_number result) }
     {
         let node = self.node();
-        let beside = match node.first_from(0) {
-            Some((at, _)) if at == byte => node.first_from(byte as usize + 1),
-            first => first,
-        };
-        match beside {
-            Some((_, Child::Node(id))) => *id,
-            Some((_, Child::Value(_))) => unreachable!(),
-            Some((_, Child::Blank)) => unreachable!(),
-            None => unreachable!(),
+        match node.first_from(0) {
+            Some((at, child)) if at != byte => name_in(child),
+            _ => match node.first_from(byte as usize + 1) {
+                Some((_, child)) => name_in(child),
+                None => unreachable!(),
+            },
         }
     }
 
@@ -276,6 +273,19 @@ impl<P: Payload + Small> Links for Slot<P> {
     }
 
     ghost fits = { Prim.search rules };
+}
+
+/// The node that a child is.
+fn name_in<P: Payload + Small>(child: &Child<Id, P>) -> Id
+    requires solid { child.now ≡ Hung.Blank → ⊥ }
+    requires name { (v : P) → child.now ≡ Hung.Value v → ⊥ }
+    ensures { child.now ≡ Hung.Node result }
+{
+    match child {
+        Child::Node(id) => *id,
+        Child::Value(_) => unreachable!(),
+        Child::Blank => unreachable!(),
+    }
 }
 
 /// The i-th name among the children of a node.
