@@ -8,8 +8,11 @@ pub mod Drained
 pub mod Edits
 pub mod Entries
 pub mod EntryRoom
+pub mod Going
 pub mod Kinds
+pub mod Lesser
 pub mod Levels
+pub mod Lifting
 pub mod Lones
 pub mod Owned
 pub mod Place

@@ -17,6 +17,7 @@ mod parting;
 mod place;
 mod placed;
 mod places;
+mod removing;
 mod scan;
 mod sight;
 mod slots;

@@ -17,6 +17,7 @@ mod interleavings;
 mod journal_lines;
 mod journaled;
 mod journals;
+mod lessening;
 mod lies;
 mod limits;
 mod machine;

@@ -4,6 +4,7 @@ use Rattle.congee.specs.Heap.{value_at}
 use Rattle.congee.specs.owned.Arena.{IsTree, heap_of}
 use Rattle.congee.specs.owned.Changes.{MapChange}
 use Rattle.congee.specs.owned.Charge.{Balances, KeepsLimit}
+use Rattle.congee.specs.owned.Going.{Going, Went}
 use Rattle.congee.specs.owned.OwnedSteps.{SameNodes}
 use Rattle.congee.specs.owned.Sizes.{bytes_of}
 use Rattle.congee.specs.owned.Wanted.{InsertionFits, IsRefused, gain_of, size_by}
@@ -40,10 +41,10 @@ module _ {P A : Type 0} where
     pub balance : Balances charged old new
     pub same_limit : KeepsLimit limit old new
 
-  -- an edit that makes no node: nodes of so many bytes go
-  pub record Frees (charged limit : A → ℕ) (old new : Arena P A) (key : List ℕ) (before after : Option P) (freed : ℕ) : Type 0 where
+  -- an edit that makes no node but a lesser one: these nodes go
+  pub record Frees (charged limit : A → ℕ) (old new : Arena P A) (key : List ℕ) (before after : Option P) (going : Option Going) : Type 0 where
     pub edits : Edits charged limit old new key before after
-    pub bytes : bytes_of new.nodes + freed ≡ bytes_of old.nodes
+    pub bytes : Went (charged old.allocator) (limit old.allocator) (bytes_of old.nodes) (bytes_of new.nodes) going
 
   -- the leaf at a name goes with its only value, the key's; the budget isn't touched yet
   pub record Drops (old new : Arena P A) (key : List ℕ) (at : ℕ) (value : P) : Type 0 where

@@ -3,6 +3,7 @@ use Rattle.std.specs.Prelude.{◌≡◌, ℕ, ◌+◌, ◌-◌, ◌^◌, Bool, f
 use Rattle.std.specs.Ordering.{nat_cmp}
 use Rattle.std.specs.FinMap as map
 use Rattle.std.specs.Coded.{Coded, code_by, coded×, coded_ℕ, coded_list}
+use Rattle.congee.specs.owned.Going.{Going, Went, going_code}
 use Rattle.congee.specs.owned.Wanted.{InsertionFits, IsRefused, gain_of}
 use Rattle.congee.specs.declared.allocator.OOMError.{OOMError}
 use Rattle.judge.specs.Answer.{answer}
@@ -10,21 +11,21 @@ use Rattle.judge.specs.declared.journal.Call.{Call}
 use Rattle.judge.specs.declared.journal.Reply.{Reply}
 
 -- each key's number with the value that its owner shares, the sum of the sizes of the nodes in bytes, which is what is
--- charged, for each absent key the sizes of the nodes that its insertion makes, and each key that is alone in its leaf
--- with the leaf's size
+-- charged, for each absent key the sizes of the nodes that its insertion makes, and what goes with each key's value where it is
+-- taken out
 pub record Owners (V : Type 0) : Type 0 where
   pub pairs : map.FinMap nat_cmp V
   pub bytes : ℕ
   pub wants : map.FinMap nat_cmp (List ℕ)
-  pub lone : map.FinMap nat_cmp ℕ
+  pub goes : map.FinMap nat_cmp Going
 
 abbrev pub owners_code : {V : Type 0} → Coded V → Coded (Owners V)
 owners_code {V} v =
     code_by
-    (map.FinMap nat_cmp V × (ℕ × (map.FinMap nat_cmp (List ℕ) × map.FinMap nat_cmp ℕ)))
-    (coded× (map.code coded_ℕ v) (coded× coded_ℕ (coded× (map.code coded_ℕ (coded_list coded_ℕ)) (map.code coded_ℕ coded_ℕ))))
-    (λ c. (c.pairs, (c.bytes, (c.wants, c.lone))))
-    (λ p. record { pairs = p.0; bytes = p.1.0; wants = p.1.1.0; lone = p.1.1.1 })
+    (map.FinMap nat_cmp V × (ℕ × (map.FinMap nat_cmp (List ℕ) × map.FinMap nat_cmp Going)))
+    (coded× (map.code coded_ℕ v) (coded× coded_ℕ (coded× (map.code coded_ℕ (coded_list coded_ℕ)) (map.code coded_ℕ going_code))))
+    (λ c. (c.pairs, (c.bytes, (c.wants, c.goes))))
+    (λ p. record { pairs = p.0; bytes = p.1.0; wants = p.1.1.0; goes = p.1.1.1 })
     (λ _. refl)
 
 -- no two owners are known to share equal values
@@ -49,7 +50,7 @@ module _ {V : Type 0} (old new : Owners V) where
     pub cause : IsRefused (map.get old.wants key) old.bytes (2 ^ 64 - 1) e
     pub unchanged : new ≡ old
 
-  -- a call that inserts no key: it is the one on the map, and nodes of so many bytes go
-  pub record OwnerModifies (freed : ℕ) (call : Call V) (reply : Reply V) : Type 0 where
+  -- a call that inserts no key: it is the one on the map, and these nodes go
+  pub record OwnerModifies (going : Option Going) (call : Call V) (reply : Reply V) : Type 0 where
     pub answers : OwnerAnswers old new call reply
-    pub bytes : new.bytes + freed ≡ old.bytes
+    pub bytes : Went old.bytes (2 ^ 64 - 1) old.bytes new.bytes going

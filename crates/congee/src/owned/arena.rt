@@ -41,26 +41,31 @@ impl<P: Stored, A: Allocator> Arena<P, A> {
         requires { IsTree self.now.nodes }
         ensures { Located self.now.nodes key.now result }
     {
+        let mut top = Name::root();
         let mut above = Name::root();
         let mut at = Name::root();
         loop {
             match self.nodes.look(at, key) {
                 Way::Free => return Place {
+                    top,
                     above,
                     at,
                     spot: Spot::Free,
                 },
                 Way::Held(_) => return Place {
+                    top,
                     above,
                     at,
                     spot: Spot::Held,
                 },
                 Way::Apart(below) => return Place {
+                    top,
                     above,
                     at,
                     spot: Spot::Apart(below),
                 },
                 Way::Below(below) => {
+                    top = above;
                     above = at;
                     at = below;
                 }

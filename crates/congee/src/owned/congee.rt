@@ -13,7 +13,7 @@ ghost use Rattle.congee.specs.owned.OwnedSteps.{IsRefusal};
 ghost use Rattle.congee.specs.owned.Ranges.{by_bytes, in_range, keys_by};
 ghost use Rattle.congee.specs.owned.Stats.{HasValue, IsTally, capped};
 ghost use Rattle.congee.specs.owned.Weights.{sizes_of};
-ghost use Rattle.congee.specs.owned.Wanted.{freed_of, freed_by};
+ghost use Rattle.congee.specs.owned.Going.{going_by};
 ghost use Rattle.judge.specs.declared.journal.Call.TheVariants as call;
 ghost use Rattle.judge.specs.declared.journal.Reply.TheVariants as reply;
 
@@ -50,9 +50,10 @@ impl<K, V, A: Allocator, D> Model for Congee<K, V, A, D> {
     ghost use Rattle.congee.specs.owned.Levels.{nodes_of};
     ghost use Rattle.congee.specs.owned.Sizes.{bytes_of};
     ghost use Rattle.congee.specs.owned.Table.{pairs_of};
-    ghost use Rattle.congee.specs.owned.Wanted.{wants_of, lone_of};
+    ghost use Rattle.congee.specs.owned.Going.{goes_of};
+    ghost use Rattle.congee.specs.owned.Wanted.{wants_of};
 
-    ghost view = { λ t. record { pairs = pairs_of t.arena.nodes; nodes = nodes_of t.arena.nodes; bytes = bytes_of t.arena.nodes; base = A.charged_of t.arena.allocator - bytes_of t.arena.nodes; wants = wants_of t.arena.nodes; lone = lone_of t.arena.nodes; allocator = t.arena.allocator; drainer = t.drainer } };
+    ghost view = { λ t. record { pairs = pairs_of t.arena.nodes; nodes = nodes_of t.arena.nodes; bytes = bytes_of t.arena.nodes; base = A.charged_of t.arena.allocator - bytes_of t.arena.nodes; wants = wants_of t.arena.nodes; goes = goes_of t.arena.nodes; allocator = t.arena.allocator; drainer = t.drainer } };
 
     ghost invariant = { λ t. IsTree t.arena.nodes × (bytes_of t.arena.nodes ≤ A.charged_of t.arena.allocator) };
 }
@@ -126,7 +127,7 @@ impl<K: Word64, V: Word64, A: Allocator, D: Drop> Congee<K, V, A, D> {
         requires { F.IsAlwaysCallable f }
         ensures asked { IfSome result (λ r. (after : F) × F.step f r.0 r.1 after) }
         ensures present { IfSome result (λ r. Modifies nat_eq A.charged_of A.limit_of self.old self.new
-            (freed_by r.1 (map.get self.old.lone (K.word key.now)))
+            (going_by r.1 (map.get self.old.goes (K.word key.now)))
             (call.ComputePresent (K.word key.now) r.1) (reply.ComputePresent (Some (r.0, r.1)))) }
         ensures absent { IfNone result (ChangesNothing nat_eq A.charged_of A.limit_of self.old self.new
             (call.ComputePresent (K.word key.now) None) (reply.ComputePresent None)) }
@@ -137,7 +138,7 @@ impl<K: Word64, V: Word64, A: Allocator, D: Drop> Congee<K, V, A, D> {
             return None;
         };
         let new = f(old);
-        self.arena.settle(&bytes, new);
+        self.arena.settle(self.alloc, &bytes, new);
         Some((old, new))
     }
 
@@ -173,7 +174,7 @@ impl<K: Word64, V: Word64, A: Allocator, D: Drop> Congee<K, V, A, D> {
         new: Option<V>,
     ) -> Result<Option<V>, Option<V>>
         ensures ok { IfOk result (λ r. (word : Option ℕ) × (word ≡ option_map V.word new) × (r ≡ new)
-            × Modifies nat_eq A.charged_of A.limit_of self.old self.new (freed_by new (map.get self.old.lone (K.word key.now)))
+            × Modifies nat_eq A.charged_of A.limit_of self.old self.new (going_by new (map.get self.old.goes (K.word key.now)))
             (call.Exchange (K.word key.now) (V.word old.now) word) (reply.Exchange (Ok word))) }
         ensures other { IfErr result (λ r. (found : Option ℕ) × (r ≡ option_map V.of_word found)
             × ChangesNothing nat_eq A.charged_of A.limit_of self.old self.new
@@ -187,7 +188,7 @@ impl<K: Word64, V: Word64, A: Allocator, D: Drop> Congee<K, V, A, D> {
             return Err(word_of(found));
         }
         let word = number_of(&new);
-        self.arena.settle(&bytes, word);
+        self.arena.settle(self.alloc, &bytes, word);
         Ok(new)
     }
 
@@ -218,12 +219,12 @@ impl<K: Word64, V: Word64, A: Allocator, D: Drop> Congee<K, V, A, D> {
     /// Takes a key's value out.
     pub fn remove(&mut self, key: &K) -> Option<V>
         ensures removes { (before : Option ℕ) × (result ≡ option_map V.of_word before)
-            × Modifies nat_eq A.charged_of A.limit_of self.old self.new (freed_of (map.get self.old.lone (K.word key.now)))
+            × Modifies nat_eq A.charged_of A.limit_of self.old self.new (map.get self.old.goes (K.word key.now))
             (call.Remove (K.word key.now)) (reply.Remove before) }
         ensures base { self.new.base ≡ self.old.base }
     {
         let bytes = bytes_of_key(key);
-        word_of(self.arena.remove(&bytes))
+        word_of(self.arena.remove(self.alloc, &bytes))
     }
 
     /// Takes every pair out, and every node but the root, whose bytes alone stay charged. The places that the nodes had

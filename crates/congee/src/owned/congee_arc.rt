@@ -7,7 +7,8 @@ ghost use Rattle.std.specs.FinMap as map;
 ghost use Rattle.congee.specs.forms.Forms.{size_of};
 ghost use Rattle.congee.specs.declared.forms.base_node.NodeType.TheVariants.{N256};
 ghost use Rattle.congee.specs.owned.Owners.{OwnerAnswers, OwnerInserts, OwnerRefuses, OwnerModifies};
-ghost use Rattle.congee.specs.owned.Wanted.{WantsLeaf, freed_of, freed_by};
+ghost use Rattle.congee.specs.owned.Going.{going_by};
+ghost use Rattle.congee.specs.owned.Wanted.{WantsLeaf};
 ghost use Rattle.congee.specs.owned.Ranges.{keys_by};
 ghost use Rattle.judge.specs.declared.journal.Call.TheVariants as call;
 ghost use Rattle.judge.specs.declared.journal.Reply.TheVariants as reply;
@@ -60,9 +61,10 @@ impl<K, V: Drop> Model for CongeeArc<K, V> {
     ghost use Rattle.congee.specs.owned.Arena.{IsTree};
     ghost use Rattle.congee.specs.owned.Sizes.{bytes_of};
     ghost use Rattle.congee.specs.owned.Table.{pairs_of};
-    ghost use Rattle.congee.specs.owned.Wanted.{wants_of, lone_of};
+    ghost use Rattle.congee.specs.owned.Going.{goes_of};
+    ghost use Rattle.congee.specs.owned.Wanted.{wants_of};
 
-    ghost view = { λ t. record { pairs = pairs_of t.arena.nodes; bytes = bytes_of t.arena.nodes; wants = wants_of t.arena.nodes; lone = lone_of t.arena.nodes } };
+    ghost view = { λ t. record { pairs = pairs_of t.arena.nodes; bytes = bytes_of t.arena.nodes; wants = wants_of t.arena.nodes; goes = goes_of t.arena.nodes } };
 
     ghost invariant = { λ t. IsTree t.arena.nodes × (bytes_of t.arena.nodes ≡ t.arena.allocator.charged) };
 }
@@ -156,11 +158,11 @@ impl<K: Word64, V: Drop> CongeeArc<K, V> {
 
     /// Takes a key's value out.
     pub fn remove(&mut self, key: K) -> Option<Arc<V, Global>>
-        ensures { OwnerModifies self.old self.new (freed_of (map.get self.old.lone (K.word key)))
+        ensures { OwnerModifies self.old self.new (map.get self.old.goes (K.word key))
             (call.Remove (K.word key)) (reply.Remove (option_map arc_value result)) }
     {
         let bytes = bytes_of_key(&key);
-        owner_of(self.arena.remove(&bytes))
+        owner_of(self.arena.remove(self.alloc, &bytes))
     }
 
     /// Puts the answer of `f` at a key that is present, or takes the key out where the answer is `None`.
@@ -174,7 +176,7 @@ impl<K: Word64, V: Drop> CongeeArc<K, V> {
         requires { F.IsAlwaysCallable f }
         ensures present { IfOk result (λ r. IfSome r (λ old. (given : _) × (new : _) × (after : F)
             × (arc_value given ≡ arc_value old) × F.step f given new after
-            × OwnerModifies self.old self.new (freed_by new (map.get self.old.lone (K.word key)))
+            × OwnerModifies self.old self.new (going_by new (map.get self.old.goes (K.word key)))
             (call.ComputePresent (K.word key) (option_map arc_value new))
             (reply.ComputePresent (Some (arc_value old, option_map arc_value new))))) }
         ensures absent { IfOk result (λ r. IfNone r (OwnerAnswers self.old self.new
@@ -188,7 +190,7 @@ impl<K: Word64, V: Drop> CongeeArc<K, V> {
             None => return Ok(None),
         };
         let new = payload_of(f(given));
-        Ok(owner_of(self.arena.settle(&bytes, new)))
+        Ok(owner_of(self.arena.settle(self.alloc, &bytes, new)))
     }
 
     /// Drops each value that stands.

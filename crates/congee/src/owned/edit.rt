@@ -1,4 +1,4 @@
-//! The changes at the end of a key's way: a value comes in, gives place to another, or goes.
+//! The changes at the end of a key's way where a value comes in or gives place to another.
 ghost use Rattle.std.specs.Prelude.{◌≡◌, ◌≢◌, ◌+◌, ℕ, [], ◌∷◌, length, slice_index, ◌<◌, ◌≤◌, Some, None, false, IfErr, OnOk};
 ghost use Rattle.std.specs.FinMap as map;
 ghost use Rattle.slab.specs.Slab.{get, ContainsKey, HasRoomFor};
@@ -34,7 +34,7 @@ struct Fork {
 impl<P: Stored, A: Allocator> Arena<P, A> {
     /// The key's byte at a node.
     #[inline(always)]
-    fn byte_at(&self, at: Name, key: &[u8; KEY_BYTES]) -> u8
+    pub(crate) fn byte_at(&self, at: Name, key: &[u8; KEY_BYTES]) -> u8
         requires { ContainsKey self.now.nodes at }
         ensures { result ≡ slice_index key.now (length (heap_of self.now.nodes at).prefix) }
     {
@@ -165,26 +165,9 @@ impl<P: Stored, A: Allocator> Arena<P, A> {
         }
     }
 
-    /// Takes a value out of a leaf that has others.
-    #[inline(always)]
-    pub(crate) fn take_value(&mut self, above: Name, at: Name, key: &[u8; KEY_BYTES]) -> P
-        requires own { HasOwnSlot at }
-        requires tree { IsTree self.old.nodes }
-        requires way { OnWay self.old.nodes key.now at }
-        requires held { IsHeld self.old.nodes key.now at }
-        requires hangs { Hangs self.old.nodes key.now above at }
-        requires others { (x : Form ℕ P) → get self.old.nodes at ≡ Some x → map.len (children_of x) ≢ 1 }
-        ensures { Swaps self.old self.new key.now (Some result) None }
-    {
-        let byte = self.byte_at(at, key);
-        let value = self.nodes.take_value(at, byte);
-        self.tuck(above, at, key);
-        value
-    }
-
     /// Puts a leaf of the least form with one value into its parent's place.
     #[inline(always)]
-    fn tuck(&mut self, above: Name, at: Name, key: &[u8; KEY_BYTES])
+    pub(crate) fn tuck(&mut self, above: Name, at: Name, key: &[u8; KEY_BYTES])
         requires own { HasOwnSlot at }
         requires tree { IsTree self.old.nodes }
         requires hangs { Hangs self.old.nodes key.now above at }
@@ -274,45 +257,5 @@ impl<P: Stored, A: Allocator> Arena<P, A> {
         }
         self.host(at, below, key, value);
         Ok(())
-    }
-
-    /// Takes a leaf's only value out, and the leaf with it.
-    #[inline(always)]
-    pub(crate) fn drop_leaf(&mut self, above: Name, at: Name, key: &[u8; KEY_BYTES]) -> P
-        requires tree { IsTree self.old.nodes }
-        requires way { OnWay self.old.nodes key.now at }
-        requires held { IsHeld self.old.nodes key.now at }
-        requires hangs { Hangs self.old.nodes key.now above at }
-        requires last { (x : Form ℕ P) → get self.old.nodes at ≡ Some x → map.len (children_of x) ≡ 1 }
-        requires covered { Covers A.charged_of self.old }
-        ensures { Frees A.charged_of A.limit_of self.old self.new
-            key.now (Some result) None (size_by (heap_of self.old.nodes at).capacity) }
-    {
-        let size = self.nodes.node_type(at).size();
-        let value = self.drop_alone(above, at, key);
-        self.allocator.deallocate(size);
-        value
-    }
-
-    /// A leaf with one value goes, from its parent's place or with its slot.
-    #[inline(always)]
-    fn drop_alone(&mut self, above: Name, at: Name, key: &[u8; KEY_BYTES]) -> P
-        requires tree { IsTree self.old.nodes }
-        requires way { OnWay self.old.nodes key.now at }
-        requires held { IsHeld self.old.nodes key.now at }
-        requires hangs { Hangs self.old.nodes key.now above at }
-        requires last { (x : Form ℕ P) → get self.old.nodes at ≡ Some x → map.len (children_of x) ≡ 1 }
-        ensures { Drops self.old self.new key.now at result }
-    {
-        if at.is_inline() {
-            let up = self.byte_at(above, key);
-            return self.nodes.unhang_leaf(above, up);
-        }
-        let byte = self.byte_at(at, key);
-        let value = self.nodes.take_value(at, byte);
-        let up = self.byte_at(above, key);
-        self.nodes.unhang_node(above, up);
-        self.nodes.remove(at);
-        value
     }
 }

@@ -1,9 +1,9 @@
 //! What hangs in a node: it comes in, gives place to another, goes, or takes another name.
-ghost use Rattle.std.specs.Prelude.{◌≡◌, ◌<◌, ℕ, length, slice_index, Some, None, false};
+ghost use Rattle.std.specs.Prelude.{◌≡◌, ◌≢◌, ◌+◌, ◌<◌, ℕ, length, slice_index, Some, None, false};
 ghost use Rattle.std.specs.FinMap as map;
 ghost use Rattle.slab.specs.Slab.{get, ContainsKey, HasRoomFor};
 ghost use Rattle.congee.specs.owned.Entries.{first_byte};
-ghost use Rattle.congee.specs.forms.Forms.{children_of, is_full_of, prefix_of};
+ghost use Rattle.congee.specs.forms.Forms.{children_of, form_of, is_full_of, prefix_of, size_of};
 ghost use Rattle.congee.specs.declared.keys.TheConstants.{KEY_BYTES};
 ghost use Rattle.congee.specs.declared.forms.prefix.TheConstants.{MAX_PREFIX_LEN};
 
@@ -15,11 +15,14 @@ use crate::owned::arena::Stored;
 use crate::owned::lone::{Lone, key_from};
 use crate::owned::names::Name;
 use crate::owned::nodes::Nodes;
+use crate::owned::place::Found;
 use crate::owned::placed::Placed;
 use crate::owned::slots::Slot;
 
 impl<P: Stored> Nodes<P> {
     ghost use Rattle.congee.specs.owned.Kinds.{IsValue};
+    ghost use Rattle.congee.specs.owned.Lifting.{HasOneNode, IsBegun, MovesUp};
+    ghost use Rattle.congee.specs.owned.Sizes.{bytes_of};
     ghost use Rattle.congee.specs.owned.Naming.{HasOwnSlot};
     ghost use Rattle.congee.specs.owned.OwnedSteps.{Makes, Sets};
     ghost use Rattle.congee.specs.owned.Renames.{Renames};
@@ -174,6 +177,37 @@ impl<P: Stored> Nodes<P> {
         ensures capacity { self.new.capacity ≡ self.old.capacity }
     {
         self.slab[at.slot].take_value(byte)
+    }
+
+    /// The only child of an inner node comes into the node's place in the one above, and the node goes.
+    pub(crate) fn lift(&mut self, above: Name, byte: u8, at: Name)
+        requires stands { ContainsKey self.old above }
+        requires inner { (x : Form ℕ P) → get self.old above ≡ Some x → length (prefix_of x) < MAX_PREFIX_LEN }
+        requires hung { (x : Form ℕ P) → get self.old above ≡ Some x → map.get (children_of x) byte ≡ Some (Sub at) }
+        requires own { HasOwnSlot at }
+        requires apart { above ≢ at }
+        requires below { ContainsKey self.old at }
+        requires inner_below { (y : Form ℕ P) → get self.old at ≡ Some y → length (prefix_of y) < MAX_PREFIX_LEN }
+        requires alone { (y : Form ℕ P) → get self.old at ≡ Some y → HasOneNode y }
+        requires begins { (x y : Form ℕ P) → get self.old above ≡ Some x → get self.old at ≡ Some y → IsBegun (prefix_of x) byte (prefix_of y) }
+        ensures lifts { (x y : Form ℕ P) → get self.old above ≡ Some x → get self.old at ≡ Some y → MovesUp self.old self.new above x byte at y }
+        ensures bytes { (y : Form ℕ P) → get self.old at ≡ Some y → bytes_of self.new + size_of (form_of y) ≡ bytes_of self.old }
+        ensures capacity { self.new.capacity ≡ self.old.capacity }
+    {
+        match self.first_from(at, 0) {
+            Some((below, Found::Node(child))) => {
+                self.unhang_node(at, below);
+                self.remove_bare(at);
+                self.swap_node(above, byte, child);
+            }
+            Some((below, Found::Leaf(..))) => {
+                let key = self.slab[at.slot].lone(below).key;
+                let value = self.unhang_leaf(at, below);
+                self.remove_bare(at);
+                self.swap_leaf(above, byte, &key, value);
+            }
+            _ => unreachable!(),
+        }
     }
 
     /// Gives the leaf under a byte, which lies in its parent's place, a slot of its own, and tells its name there.

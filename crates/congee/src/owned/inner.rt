@@ -1,10 +1,11 @@
 //! An inner node: its prefix, and the places of what hangs in it.
-ghost use Rattle.std.specs.Prelude.{◌≡◌, ◌≤◌, ◌<◌, ◌∷◌, ℕ, List, length, slice_index, false, MatchOption, None, Some, IsSome, IfOk, IfSome, OnOk, OnErr};
+ghost use Rattle.std.specs.Prelude.{◌≡◌, ◌≢◌, ◌≤◌, ◌<◌, ◌∷◌, ℕ, List, length, slice_index, false, MatchOption, None, Some, IsSome, IfOk, IfSome, OnOk, OnErr};
 ghost use Rattle.std.specs.Option.{option_map};
 ghost use Rattle.std.specs.FinMap as map;
 ghost use Rattle.congee.specs.Heap.{fits};
 ghost use Rattle.congee.specs.forms.Bytes.{IsFirst};
 ghost use Rattle.congee.specs.forms.Forms.{Becomes, capacity_of, children_of, form_of, is_full_of, next_form, prefix_of};
+ghost use Rattle.congee.specs.protocol.Steps.{form_below};
 ghost use Rattle.congee.specs.owned.Entries.{Begins, child_by, child_there, first_byte};
 
 use crate::forms::base_node::NodeType;
@@ -273,5 +274,18 @@ impl<P: Small> Inner<P> {
         ensures refused { OnErr result (self.new ≡ self.old) }
     {
         self.places.grow(alloc)
+    }
+
+    /// Becomes a node of the form below, where its children fit. Where memory is refused, which the least form doesn't want, the
+    /// node stays as it was.
+    pub(crate) fn shrink(&mut self, alloc: Global) -> Result<(), AllocError>
+        requires room { map.len (children_of self.old) ≤ capacity_of (form_below (form_of self.old)) }
+        ensures form { OnOk result (form_of self.new ≡ form_below (form_of self.old)) }
+        ensures prefix { OnOk result (prefix_of self.new ≡ prefix_of self.old) }
+        ensures children { OnOk result (children_of self.new ≡ children_of self.old) }
+        ensures refused { OnErr result (self.new ≡ self.old) }
+        ensures memory { OnErr result (form_below (form_of self.old) ≢ N4) }
+    {
+        self.places.shrink(alloc)
     }
 }

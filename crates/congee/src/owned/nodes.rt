@@ -1,9 +1,10 @@
 //! The storage of an owned tree: a slot for each node, but a leaf with one value lies in the place of its parent that it hangs in.
-ghost use Rattle.std.specs.Prelude.{◌≡◌, ◌*◌, ◌<◌, ◌≤◌, ◌^◌, ℕ, length, slice_index, Some, None, false, true, IsSome, IfOk, OnOk, OnErr, IsTrue, ◌↔◌};
+ghost use Rattle.std.specs.Prelude.{◌≡◌, ◌≢◌, ◌*◌, ◌<◌, ◌≤◌, ◌^◌, ℕ, length, slice_index, Some, None, false, true, IsSome, IfOk, OnOk, OnErr, IsTrue, ◌↔◌};
 ghost use Rattle.std.specs.FinMap as map;
 ghost use Rattle.slab.specs.Slab.{get, ContainsKey, HasRoomFor, SameValues, Updates};
 ghost use Rattle.congee.specs.Heap.{fits};
-ghost use Rattle.congee.specs.forms.Forms.{children_of, form_of, is_full_of, prefix_of};
+ghost use Rattle.congee.specs.forms.Forms.{capacity_of, children_of, form_of, is_full_of, prefix_of};
+ghost use Rattle.congee.specs.protocol.Steps.{form_below};
 ghost use Rattle.congee.specs.declared.forms.prefix.TheConstants.{MAX_PREFIX_LEN};
 
 use crate::forms::base_node::NodeType;
@@ -51,7 +52,9 @@ impl<P: Stored> Nodes<P> {
     ghost use Rattle.congee.specs.owned.Sizes.{bytes_of};
     ghost use Rattle.congee.specs.owned.Slots.{inner_child, with_children};
     ghost use Rattle.congee.specs.owned.Stores.{GrowsTo, IsAlone, LeavesRoot};
+    ghost use Rattle.congee.specs.owned.Lesser.{ShrinksTo};
     ghost use Rattle.congee.specs.declared.forms.base_node.Node.{Node as Form};
+    ghost use Rattle.congee.specs.declared.forms.base_node.NodeType.TheVariants.{N4};
 
     /// The root alone.
     pub(crate) fn new(alloc: Global, root: Inner<P>) -> Result<Self, AllocError>
@@ -188,6 +191,17 @@ impl<P: Stored> Nodes<P> {
         self.slab.remove(at.slot);
     }
 
+    /// Drops an inner node with a slot of its own and no children, which hangs nowhere.
+    pub(crate) fn remove_bare(&mut self, at: Name)
+        requires own { HasOwnSlot at }
+        requires stands { ContainsKey self.old at }
+        requires bare { (x : Form ℕ P) → get self.old at ≡ Some x → children_of x ≡ map.empty }
+        ensures gone { Updates self.old self.new at None }
+        ensures capacity { self.new.capacity ≡ self.old.capacity }
+    {
+        self.slab.remove(at.slot);
+    }
+
     /// Gives a node the next greater form. Where memory is refused, it stays as it was.
     pub(crate) fn grow(&mut self, alloc: Global, at: Name) -> Result<(), AllocError>
         requires stands { ContainsKey self.old at }
@@ -197,6 +211,19 @@ impl<P: Stored> Nodes<P> {
         ensures capacity { self.new.capacity ≡ self.old.capacity }
     {
         self.slab[at.slot].grow(alloc)
+    }
+
+    /// Gives a node the form below. Where memory is refused, which the least form doesn't want, it stays as it was.
+    pub(crate) fn shrink(&mut self, alloc: Global, at: Name) -> Result<(), AllocError>
+        requires own { HasOwnSlot at }
+        requires stands { ContainsKey self.old at }
+        requires room { (x : Form ℕ P) → get self.old at ≡ Some x → map.len (children_of x) ≤ capacity_of (form_below (form_of x)) }
+        ensures shrunk { OnOk result ((x : Form ℕ P) → get self.old at ≡ Some x → ShrinksTo self.old self.new at x) }
+        ensures refused { OnErr result (SameValues self.old self.new) }
+        ensures memory { OnErr result ((x : Form ℕ P) → get self.old at ≡ Some x → form_below (form_of x) ≢ N4) }
+        ensures capacity { self.new.capacity ≡ self.old.capacity }
+    {
+        self.slab[at.slot].shrink(alloc)
     }
 
     /// The sum of the sizes of all nodes, in bytes.

@@ -8,10 +8,11 @@ ghost use Rattle.congee.specs.owned.Arena.{IsTree, heap_of};
 ghost use Rattle.congee.specs.owned.Levels.{nodes_of};
 ghost use Rattle.congee.specs.owned.Charge.{Covers};
 ghost use Rattle.congee.specs.owned.Edits.{Adds, Denies, Frees};
+ghost use Rattle.congee.specs.owned.Going.{goes_at, going_by};
 ghost use Rattle.congee.specs.owned.Sizes.{bytes_of};
 ghost use Rattle.congee.specs.owned.Stats.{root_alone};
 ghost use Rattle.congee.specs.owned.OwnedSteps.{IsRefusal, settled};
-ghost use Rattle.congee.specs.owned.Wanted.{WantsLeaf, freed_of, freed_by, wants_at, wants_of, lone_at};
+ghost use Rattle.congee.specs.owned.Wanted.{WantsLeaf, wants_at, wants_of};
 
 use crate::allocator::{Allocator, OOMError};
 use crate::forms::base_node::NodeType;
@@ -76,7 +77,7 @@ impl<P: Stored, A: Allocator> Arena<P, A> {
         ensures refused { IfErr result (Denies A.charged_of A.limit_of self.old self.new
             key.now value (wants_at (heap_of self.old.nodes) key.now)) }
     {
-        let Place { above, at, spot } = self.locate(key);
+        let Place { above, at, spot, .. } = self.locate(key);
         match spot {
             Spot::Held => Ok(Some(self.replace(at, key, value))),
             Spot::Free => {
@@ -90,35 +91,35 @@ impl<P: Stored, A: Allocator> Arena<P, A> {
         }
     }
 
-    /// Takes a key's value out.
-    pub(crate) fn remove(&mut self, key: &[u8; KEY_BYTES]) -> Option<P>
+    /// Takes a key's value out, and what goes with it.
+    pub(crate) fn remove(&mut self, alloc: Global, key: &[u8; KEY_BYTES]) -> Option<P>
         requires tree { IsTree self.old.nodes }
         requires covered { Covers A.charged_of self.old }
         ensures { Frees A.charged_of A.limit_of self.old self.new
-            key.now result None (freed_of (lone_at (heap_of self.old.nodes) key.now)) }
+            key.now result None (goes_at (heap_of self.old.nodes) key.now) }
     {
         let place = self.locate(key);
         match place.spot {
-            Spot::Held => {
-                if self.nodes.len(place.at) == 1 {
-                    return Some(self.drop_leaf(place.above, place.at, key));
-                }
-                Some(self.take_value(place.above, place.at, key))
-            }
+            Spot::Held => Some(self.take(alloc, &place, key)),
             Spot::Free => None,
             Spot::Apart(_) => None,
         }
     }
 
     /// Where the key has a value, puts the new one in its place or takes it out, and gives the one before.
-    pub(crate) fn settle(&mut self, key: &[u8; KEY_BYTES], new: Option<P>) -> Option<P>
+    pub(crate) fn settle(
+        &mut self,
+        alloc: Global,
+        key: &[u8; KEY_BYTES],
+        new: Option<P>,
+    ) -> Option<P>
         requires tree { IsTree self.old.nodes }
         requires covered { Covers A.charged_of self.old }
         ensures { Frees A.charged_of A.limit_of self.old self.new
-            key.now result (settled result new) (freed_by new (lone_at (heap_of self.old.nodes) key.now)) }
+            key.now result (settled result new) (going_by new (goes_at (heap_of self.old.nodes) key.now)) }
     {
         let value = match new {
-            None => return self.remove(key),
+            None => return self.remove(alloc, key),
             Some(value) => value,
         };
         let place = self.locate(key);

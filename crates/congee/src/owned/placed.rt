@@ -1,10 +1,12 @@
 //! A node as a slot keeps it: beside it stands a copy of its prefix.
-ghost use Rattle.std.specs.Prelude.{◌≡◌, ◌<◌, ◌≤◌, ℕ, length, false, None, Some, IsSome, MatchOption, OnOk, OnErr};
+ghost use Rattle.std.specs.Prelude.{◌≡◌, ◌≢◌, ◌<◌, ◌≤◌, ℕ, length, false, None, Some, IsSome, MatchOption, OnOk, OnErr};
 ghost use Rattle.std.specs.Option.{option_copied};
 ghost use Rattle.std.specs.FinMap as map;
 ghost use Rattle.congee.specs.Heap.{fits};
 ghost use Rattle.congee.specs.forms.Bytes.{IsFirst};
 ghost use Rattle.congee.specs.forms.Forms.{Becomes, capacity_of, children_of, form_of, is_full_of, next_form, prefix_of};
+ghost use Rattle.congee.specs.protocol.Steps.{form_below};
+ghost use Rattle.congee.specs.declared.forms.base_node.NodeType.TheVariants.{N4};
 
 use crate::forms::base_node::{Node, NodeType};
 use crate::forms::child::{Child, Small};
@@ -160,5 +162,18 @@ impl<P: Small> Placed<P> {
         ensures refused { OnErr result (self.new ≡ self.old) }
     {
         self.node.grow(alloc)
+    }
+
+    /// Becomes a node of the form below, where its children fit. Where memory is refused, which the least form doesn't want, the
+    /// node stays as it was.
+    pub(crate) fn shrink(&mut self, alloc: Global) -> Result<(), AllocError>
+        requires room { map.len (children_of self.old) ≤ capacity_of (form_below (form_of self.old)) }
+        ensures form { OnOk result (form_of self.new ≡ form_below (form_of self.old)) }
+        ensures prefix { OnOk result (prefix_of self.new ≡ prefix_of self.old) }
+        ensures children { OnOk result (children_of self.new ≡ children_of self.old) }
+        ensures refused { OnErr result (self.new ≡ self.old) }
+        ensures memory { OnErr result (form_below (form_of self.old) ≢ N4) }
+    {
+        self.node.shrink(alloc)
     }
 }

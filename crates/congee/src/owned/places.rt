@@ -1,10 +1,11 @@
 //! The places of an inner node, in each form.
-ghost use Rattle.std.specs.Prelude.{◌≡◌, ◌≤◌, ◌<◌, ℕ, false, MatchOption, None, Some, IsSome, IfOk, OnOk, OnErr};
+ghost use Rattle.std.specs.Prelude.{◌≡◌, ◌≢◌, ◌≤◌, ◌<◌, ℕ, false, MatchOption, None, Some, IsSome, IfOk, OnOk, OnErr};
 ghost use Rattle.std.specs.Option.{option_copied};
 ghost use Rattle.std.specs.FinMap as map;
 ghost use Rattle.congee.specs.forms.Bytes.{IsFirst};
 ghost use Rattle.congee.specs.forms.Forms.{capacity_of, next_form};
 ghost use Rattle.congee.specs.owned.Entries.{form_in, entries_in, full_in, Refills};
+ghost use Rattle.congee.specs.protocol.Steps.{form_below};
 
 use crate::forms::base_node::NodeType;
 use crate::forms::child::Small;
@@ -72,6 +73,7 @@ impl<P: Small> Places<P> {
     pub(crate) fn new(alloc: Global, form: NodeType) -> Result<Self, AllocError>
         ensures form { IfOk result (λ n. form_in n ≡ form) }
         ensures entries { IfOk result (λ n. entries_in n ≡ map.empty) }
+        ensures memory { OnErr result (form ≢ N4) }
     {
         Ok(match form {
             NodeType::N4 => Places::N4(Sorted::new()),
@@ -254,6 +256,21 @@ impl<P: Small> Places<P> {
         prove!(self.len() <= form.capacity());
         self.move_to(&mut greater);
         *self = greater;
+        Ok(())
+    }
+
+    /// Becomes the form below with the same entries. Memory is asked for first, but for the least form: where it is refused, all stays.
+    pub(crate) fn shrink(&mut self, alloc: Global) -> Result<(), AllocError>
+        requires room { map.len (entries_in self.old) ≤ capacity_of (form_below (form_in self.old)) }
+        ensures form { OnOk result (form_in self.new ≡ form_below (form_in self.old)) }
+        ensures entries { OnOk result (entries_in self.new ≡ entries_in self.old) }
+        ensures refused { OnErr result (self.new ≡ self.old) }
+        ensures memory { OnErr result (form_below (form_in self.old) ≢ N4) }
+    {
+        let form = self.node_type().below();
+        let mut lesser = Places::new(alloc, form)?;
+        self.move_to(&mut lesser);
+        *self = lesser;
         Ok(())
     }
 }

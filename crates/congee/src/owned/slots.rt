@@ -1,5 +1,5 @@
 //! The nodes with slots of their own, inner ones and leaves.
-ghost use Rattle.std.specs.Prelude.{◌≡◌, ◌≤◌, length, slice_index, Some, None, false, IsSome, OnOk, OnErr};
+ghost use Rattle.std.specs.Prelude.{◌≡◌, ◌≢◌, ◌≤◌, length, slice_index, Some, None, false, IsSome, OnOk, OnErr};
 ghost use Rattle.std.specs.FinMap as map;
 ghost use Rattle.congee.specs.Heap.{fits};
 ghost use Rattle.congee.specs.declared.keys.TheConstants.{KEY_BYTES};
@@ -25,6 +25,9 @@ impl<P: Small> Slot<P> {
     ghost use Rattle.congee.specs.Heap.{fits};
     ghost use Rattle.congee.specs.forms.Forms.{capacity_of};
     ghost use Rattle.congee.specs.declared.forms.child.Child.TheVariants.{Value};
+    ghost use Rattle.congee.specs.protocol.Steps.{form_below};
+    ghost use Rattle.congee.specs.declared.forms.base_node.NodeType.TheVariants.{N4};
+    ghost use Rattle.congee.specs.owned.Lesser.{Shrunk};
     ghost use Rattle.congee.specs.owned.Entries.{Begins, first_byte, lone_seen};
     ghost use Rattle.congee.specs.owned.Kinds.{prefix_in, form_in, len_in, full_in, HasLowBytes, IsInner, IsLeaf, inner_get, leaf_get, IsValue, Cleared, InnerBecomes, LeafBecomes, Grown};
 
@@ -99,6 +102,19 @@ impl<P: Small> Slot<P> {
         match self {
             Slot::Inner(n) => n.grow(alloc),
             Slot::Leaf(n) => n.grow(alloc),
+        }
+    }
+
+    /// Becomes the form below. Where memory is refused, it stays as it was.
+    pub(crate) fn shrink(&mut self, alloc: Global) -> Result<(), AllocError>
+        requires room { len_in self.old ≤ capacity_of (form_below (form_in self.old)) }
+        ensures shrunk { OnOk result (Shrunk self.old self.new) }
+        ensures refused { OnErr result (self.new ≡ self.old) }
+        ensures memory { OnErr result (form_below (form_in self.old) ≢ N4) }
+    {
+        match self {
+            Slot::Inner(n) => n.shrink(alloc),
+            Slot::Leaf(n) => n.shrink(alloc),
         }
     }
 

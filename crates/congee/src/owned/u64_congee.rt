@@ -10,7 +10,7 @@ ghost use Rattle.congee.specs.owned.Nearest.{IsLeast, IsGreatest, pair_by};
 ghost use Rattle.congee.specs.owned.OwnedSteps.{IsRefusal};
 ghost use Rattle.congee.specs.owned.Ranges.{by_bytes, in_range, keys_by};
 ghost use Rattle.congee.specs.owned.Stats.{HasValue, IsTally, capped};
-ghost use Rattle.congee.specs.owned.Wanted.{freed_of, freed_by};
+ghost use Rattle.congee.specs.owned.Going.{going_by};
 ghost use Rattle.congee.specs.owned.Weights.{sizes_of};
 ghost use Rattle.judge.specs.declared.journal.Call.TheVariants as call;
 ghost use Rattle.judge.specs.declared.journal.Reply.TheVariants as reply;
@@ -65,7 +65,7 @@ impl<V: Word64, A: Allocator> U64Congee<V, A> {
     /// Takes a key's value out.
     pub fn remove(&mut self, key: u64) -> Option<V>
         ensures removes { (before : Option ℕ) × (result ≡ option_map V.of_word before)
-            × Modifies nat_eq A.charged_of A.limit_of self.old.tree self.new.tree (freed_of (map.get self.old.tree.lone key))
+            × Modifies nat_eq A.charged_of A.limit_of self.old.tree self.new.tree (map.get self.old.tree.goes key)
             (call.Remove key) (reply.Remove before) }
         ensures base { self.new.tree.base ≡ self.old.tree.base }
     {
@@ -82,7 +82,7 @@ impl<V: Word64, A: Allocator> U64Congee<V, A> {
         requires { F.IsAlwaysCallable f }
         ensures asked { IfSome result (λ r. (after : F) × F.step f r.0 r.1 after) }
         ensures present { IfSome result (λ r. Modifies nat_eq A.charged_of A.limit_of self.old.tree self.new.tree
-            (freed_by r.1 (map.get self.old.tree.lone key))
+            (going_by r.1 (map.get self.old.tree.goes key))
             (call.ComputePresent key r.1) (reply.ComputePresent (Some (r.0, r.1)))) }
         ensures absent { IfNone result (ChangesNothing nat_eq A.charged_of A.limit_of self.old.tree self.new.tree
             (call.ComputePresent key None) (reply.ComputePresent None)) }

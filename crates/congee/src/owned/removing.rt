@@ -1,0 +1,145 @@
+//! A removal at the end of a key's way, and what goes with the value: a leaf that it leaves empty, and then a node above that is
+//! left with one child, which moves up. A node that is left with few children gives place to one of a lesser form.
+ghost use Rattle.std.specs.Prelude.{◌≡◌, ◌≢◌, ◌+◌, ◌≤◌, ℕ, length, Some, None, IsTrue, ◌↔◌};
+ghost use Rattle.std.specs.FinMap as map;
+ghost use Rattle.slab.specs.Slab.{get, ContainsKey};
+ghost use Rattle.congee.specs.forms.Forms.{capacity_of, children_of, form_of, size_of};
+ghost use Rattle.congee.specs.protocol.Steps.{form_below};
+ghost use Rattle.congee.specs.owned.Arena.{IsTree, OnWay, Hangs, Reached, heap_of};
+ghost use Rattle.congee.specs.owned.Charge.{Covers, KeepsLimit};
+ghost use Rattle.congee.specs.owned.Edits.{Drops, Frees};
+ghost use Rattle.congee.specs.owned.Going.{going_last, going_one, lesser_of};
+ghost use Rattle.congee.specs.owned.Lesser.{Charges, Lessens, LosesChild, SameMap};
+ghost use Rattle.congee.specs.owned.Naming.{HasOwnSlot};
+ghost use Rattle.congee.specs.owned.OwnedSteps.{IsHeld, SameNodes};
+ghost use Rattle.congee.specs.owned.Sizes.{bytes_of};
+ghost use Rattle.congee.specs.declared.forms.base_node.Node.{Node as Form};
+
+use crate::allocator::Allocator;
+use crate::keys::KEY_BYTES;
+use crate::owned::arena::{Arena, Stored};
+use crate::owned::names::Name;
+use crate::owned::place::Place;
+use std::alloc::Global;
+
+impl<P: Stored, A: Allocator> Arena<P, A> {
+    /// Charges for the form below of a node that is about to lose a child, if it is small then and the budget has room.
+    #[inline(always)]
+    fn charge_lesser(&mut self, at: Name) -> bool
+        requires { ContainsKey self.old.nodes at }
+        ensures { Charges A.charged_of A.limit_of self.old self.new (lesser_of (heap_of self.old.nodes at)) result }
+    {
+        let form = self.nodes.node_type(at);
+        let count = self.nodes.len(at);
+        prove!(count <= 256);
+        form.shrinks(count as u16) && self.allocator.allocate(form.below().size()).is_ok()
+    }
+
+    /// A node gives place to one of the form below, which is charged already. Where memory is refused it stays, and that charge
+    /// is taken off.
+    fn lessen(&mut self, alloc: Global, at: Name)
+        requires tree { IsTree self.old.nodes }
+        requires stands { ContainsKey self.old.nodes at }
+        requires own { HasOwnSlot at }
+        requires below { at ≢ 0 }
+        requires room { (x : Form ℕ P) → get self.old.nodes at ≡ Some x → map.len (children_of x) ≤ capacity_of (form_below (form_of x)) }
+        requires covered { (x : Form ℕ P) → get self.old.nodes at ≡ Some x
+            → bytes_of self.old.nodes + size_of (form_below (form_of x)) ≤ A.charged_of self.old.allocator }
+        ensures same { SameMap self.old.nodes self.new.nodes }
+        ensures lessens { (x : Form ℕ P) → get self.old.nodes at ≡ Some x → Lessens A.charged_of self.old self.new (form_of x) }
+        ensures limit { KeepsLimit A.limit_of self.old self.new }
+    {
+        let form = self.nodes.node_type(at);
+        let off = match self.nodes.shrink(alloc, at) {
+            Ok(()) => form,
+            Err(_) => form.below(),
+        };
+        self.allocator.deallocate(off.size());
+    }
+
+    /// Takes a value out of a leaf that has others.
+    #[inline(always)]
+    fn take_value(&mut self, alloc: Global, above: Name, at: Name, key: &[u8; KEY_BYTES]) -> P
+        requires own { HasOwnSlot at }
+        requires tree { IsTree self.old.nodes }
+        requires way { OnWay self.old.nodes key.now at }
+        requires held { IsHeld self.old.nodes key.now at }
+        requires hangs { Hangs self.old.nodes key.now above at }
+        requires others { (x : Form ℕ P) → get self.old.nodes at ≡ Some x → map.len (children_of x) ≢ 1 }
+        requires covered { Covers A.charged_of self.old }
+        ensures { Frees A.charged_of A.limit_of self.old self.new
+            key.now (Some result) None (Some (going_one (heap_of self.old.nodes at))) }
+    {
+        let lesser = self.charge_lesser(at);
+        let byte = self.byte_at(at, key);
+        let value = self.nodes.take_value(at, byte);
+        if lesser {
+            self.lessen(alloc, at);
+        } else {
+            self.tuck(above, at, key);
+        }
+        value
+    }
+
+    /// A leaf with one value goes, from its parent's place or with its slot.
+    #[inline(always)]
+    fn drop_leaf(&mut self, above: Name, at: Name, key: &[u8; KEY_BYTES]) -> P
+        requires tree { IsTree self.old.nodes }
+        requires way { OnWay self.old.nodes key.now at }
+        requires held { IsHeld self.old.nodes key.now at }
+        requires hangs { Hangs self.old.nodes key.now above at }
+        requires last { (x : Form ℕ P) → get self.old.nodes at ≡ Some x → map.len (children_of x) ≡ 1 }
+        ensures drops { Drops self.old self.new key.now at result }
+        ensures above { LosesChild self.old.nodes self.new.nodes key.now above at }
+    {
+        if at.is_inline() {
+            let up = self.byte_at(above, key);
+            return self.nodes.unhang_leaf(above, up);
+        }
+        let byte = self.byte_at(at, key);
+        let value = self.nodes.take_value(at, byte);
+        let up = self.byte_at(above, key);
+        self.nodes.unhang_node(above, up);
+        self.nodes.remove(at);
+        value
+    }
+
+    /// A leaf goes with its only value, and the node above that has one other child, which comes into its place.
+    fn collapse(&mut self, place: &Place, key: &[u8; KEY_BYTES]) -> P
+    {
+        let leaf = self.nodes.node_type(place.at).size();
+        let node = self.nodes.node_type(place.above).size();
+        let value = self.drop_leaf(place.above, place.at, key);
+        let up = self.byte_at(place.top, key);
+        self.nodes.lift(place.top, up, place.above);
+        self.allocator.deallocate(leaf + node);
+        value
+    }
+
+    /// A leaf goes with its only value; the node above, which isn't left with one child, gives place to a lesser one if it is small.
+    #[inline(always)]
+    fn thin_out(&mut self, alloc: Global, above: Name, at: Name, key: &[u8; KEY_BYTES]) -> P
+    {
+        let leaf = self.nodes.node_type(at).size();
+        let lesser = !above.is_root() && self.charge_lesser(above);
+        let value = self.drop_leaf(above, at, key);
+        self.allocator.deallocate(leaf);
+        if lesser {
+            self.lessen(alloc, above);
+        }
+        value
+    }
+
+    /// Takes the value at the end of a key's way out.
+    #[inline(always)]
+    pub(crate) fn take(&mut self, alloc: Global, place: &Place, key: &[u8; KEY_BYTES]) -> P
+    {
+        if self.nodes.len(place.at) != 1 {
+            return self.take_value(alloc, place.above, place.at, key);
+        }
+        if !place.above.is_root() && self.nodes.len(place.above) == 2 {
+            return self.collapse(place, key);
+        }
+        self.thin_out(alloc, place.above, place.at, key)
+    }
+}
