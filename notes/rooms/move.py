@@ -33,7 +33,7 @@ def note(text):
 class Table:
     def __init__(self, path):
         self.rooms, self.src, self.spec, self.lemma = [], {}, {}, {}
-        self.items, self.fns, self.heads, self.new, self.files = [], [], {}, {}, {}
+        self.items, self.fns, self.heads, self.new, self.files, self.opened = [], [], {}, {}, {}, []
         for line in path.read_text(encoding="utf-8").splitlines():
             if not line.strip() or line.startswith("#"):
                 continue
@@ -51,6 +51,8 @@ class Table:
                 self.items.append(tuple(words))
             elif kind == "fn":
                 self.fns.append(tuple(words))
+            elif kind == "open":
+                self.opened.append((words[0], words[1:]))
             elif kind == "new":
                 self.new[words[0]] = rest.split(None, 1)[1]
             elif kind == "file":
@@ -497,12 +499,14 @@ def move_functions(table):
             own = [m[1] for m in re.finditer(r"^(?:pub(?:\([a-z]+\))? )?(?:fn|struct|enum|trait) (\w+)", files[old].text(), re.M)]
             for local, (kind, path, n, a) in imports.items():
                 mine = [x for x in found if x[1:] == (path, n, a)]
-                if not mine and (uses_alias(local[:-1], code) if local.endswith(".") else uses(local, code)):
+                text = clauses(code) if kind == "ghost" else code
+                if not mine and (uses_alias(local[:-1], text) if local.endswith(".") else uses(local, text)):
                     found.append((kind, path, n, a))
             for n in own:
                 if uses(n, code) and not re.search(rf"\bfn {n}\b", code):
                     found.append(("use", f"crate::{old.replace('.', '::')}", n, ""))
             # what is no longer used where it was
+            files[old].lines = without_empty_impls(files[old].text()).split("\n")
             drop_unused(files[old], [x for x in found])
         ghost, plain = rust_imports(found)
         out = [f"//! {table.files[new]}", ""] + ghost + ([""] if ghost else []) + plain
@@ -524,9 +528,25 @@ def move_functions(table):
             path = Path(str(path) + ".new")
         write(path, "\n".join(out) + "\n")
     for old, file in files.items():
-        text = re.sub(r"\n\nimpl[^\n]*\{\n+\}\n", "\n", file.text() + "\n")
-        write(file.path, text)
+        write(file.path, without_empty_impls(file.text()) + "\n")
+    for old, names in table.opened:
+        path = SRC / (old.replace(".", "/") + ".rt")
+        for name in names if path.is_file() else ():
+            text = read(path)
+            new = re.sub(rf"^(\s*)fn {name}\b", rf"\1pub(crate) fn {name}", text, count=1, flags=re.M)
+            if new == text and not re.search(rf"pub(\(crate\))? fn {name}\b", text):
+                note(f"open {name}: {old} doesn't have it")
+            write(path, new)
     return moved
+
+
+def without_empty_impls(text):
+    return re.sub(r"\n\nimpl[^\n]*\{\n+\}(?=\n|$)", "", text)
+
+
+def clauses(code):
+    """The lines of contracts, which alone see ghost names."""
+    return "\n".join(l for l in code.split("\n") if re.match(r"\s*(requires|ensures|ghost)\b", l))
 
 
 def drop_unused(file, candidates):
@@ -534,7 +554,7 @@ def drop_unused(file, candidates):
     text = file.text()
     body = re.sub(r"^(ghost )?use [^;]+;$", "", text, flags=re.M)
     body = re.sub(r"^    ghost use [^;]+;$", "", body, flags=re.M)
-    gone_ghost = {(p, n, a) for k, p, n, a in candidates if k == "ghost" and n and not uses(a or n, body)}
+    gone_ghost = {(p, n, a) for k, p, n, a in candidates if k == "ghost" and n and not uses(a or n, clauses(body))}
     gone_plain = {(p, n, a) for k, p, n, a in candidates if k == "use" and not uses(a or n, body)}
     out = []
     for line in file.lines:
@@ -685,7 +705,7 @@ class Plan:
 # ---------------------------------------------------------------- rewriting
 
 
-def rewrite_paths(plan, text, crate_paths):
+def rewrite_paths(plan, text, crate_paths, me=""):
     """Every path of a module in a text of code, definitions or proofs."""
 
     def declared(m):
@@ -728,13 +748,19 @@ def rewrite_paths(plan, text, crate_paths):
                     by["::".join(["crate"] + new[:-1])].append((new[-1], alias))
                 else:
                     new = plan.src_path(parts[1:])
+                    if (".".join(parts[1:]), name) in plan.fns:
+                        new = plan.fns[(".".join(parts[1:]), name)].split(".")
                     by["::".join(["crate"] + new)].append((name, alias))
             lines = []
             for path, names in sorted(by.items()):
-                lines.append(f"{m[1]}use {path}::{spelled(names)};" if len(names) == 1 else f"{m[1]}use {path}::{{{spelled(sorted(names))}}};")
-            return "\n".join(lines)
+                # a module's own modules need no import
+                own = path == "crate::" + me.replace(".", "::")
+                names = [(n, a) for n, a in names if not (own and f"{me}.{n}" in plan.src.values())]
+                if names:
+                    lines.append(f"{m[1]}use {path}::{spelled(names)};" if len(names) == 1 else f"{m[1]}use {path}::{{{spelled(sorted(names))}}};")
+            return "".join(l + "\n" for l in lines)
 
-        text = re.sub(r"^(\s*)use (crate::[^;]+);$", group, text, flags=re.M)
+        text = re.sub(r"^([ \t]*)use (crate::[^;]+);\n", group, text, flags=re.M)
 
         def path(m):
             parts = m[1].split("::")
@@ -850,7 +876,7 @@ def rewrite_edits(plan, moved_to):
 
     def place(old_file, old_text):
         module = old_file[len("src/") : -len(".rt")].replace("/", ".")
-        names = [targets.get(module, module)] + [new for full, o, new in plan.table.fns if o == module]
+        names = list(dict.fromkeys([targets.get(module, module)] + [new for full, o, new in plan.table.fns if o == module]))
         found = []
         for name in names:
             path = SRC / (name.replace(".", "/") + ".rt")
@@ -1015,7 +1041,8 @@ def main():
         text = read(path)
         if CRATE not in text and "crate::" not in text:
             continue
-        new = rewrite_paths(plan, text, path.is_relative_to(SRC))
+        code = path.is_relative_to(SRC)
+        new = rewrite_paths(plan, text, code, plan.src.get(module_of(path, SRC), "") if code else "")
         if new != text:
             write(path, new)
     pairs = []
