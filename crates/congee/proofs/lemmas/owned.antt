@@ -39,6 +39,7 @@ pub mod Surveys
 pub mod Sights
 pub mod Standing
 pub mod StatsTexts
+pub mod Goings
 pub mod Hangings
 pub mod Unfolds
 pub mod Folds
@@ -46,3 +47,5 @@ pub mod SlotValues
 pub mod SlotBytes
 pub mod Reserving
 pub mod Alone
+pub mod Lessening
+pub mod Lifting

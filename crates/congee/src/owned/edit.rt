@@ -12,9 +12,10 @@ ghost use Rattle.congee.specs.owned.Edits.{Adds, Denies, Drops, Frees, Swaps};
 ghost use Rattle.congee.specs.owned.Naming.{HasOwnSlot};
 ghost use Rattle.congee.specs.owned.OwnedSteps.{Hosts, IsHeld};
 ghost use Rattle.congee.specs.owned.Renames.{Renamed};
-ghost use Rattle.congee.specs.owned.Wanted.{room_for, free_wants, size_by};
+ghost use Rattle.congee.specs.owned.Wanted.{room_for, free_wants};
 ghost use Rattle.congee.specs.declared.forms.base_node.Node.{Node as Form};
 ghost use Rattle.congee.specs.declared.forms.base_node.NodeType.TheVariants.{N4};
+ghost use Rattle.congee.specs.declared.forms.prefix.TheConstants.{MAX_PREFIX_LEN};
 
 use crate::allocator::{Allocator, OOMError};
 use crate::forms::base_node::NodeType;

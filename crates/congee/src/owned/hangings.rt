@@ -184,7 +184,6 @@ impl<P: Stored> Nodes<P> {
         requires stands { ContainsKey self.old above }
         requires inner { (x : Form ℕ P) → get self.old above ≡ Some x → length (prefix_of x) < MAX_PREFIX_LEN }
         requires hung { (x : Form ℕ P) → get self.old above ≡ Some x → map.get (children_of x) byte ≡ Some (Sub at) }
-        requires own { HasOwnSlot at }
         requires apart { above ≢ at }
         requires below { ContainsKey self.old at }
         requires inner_below { (y : Form ℕ P) → get self.old at ≡ Some y → length (prefix_of y) < MAX_PREFIX_LEN }

@@ -191,10 +191,10 @@ impl<P: Stored> Nodes<P> {
         self.slab.remove(at.slot);
     }
 
-    /// Drops an inner node with a slot of its own and no children, which hangs nowhere.
+    /// Drops an inner node without children, which hangs nowhere.
     pub(crate) fn remove_bare(&mut self, at: Name)
-        requires own { HasOwnSlot at }
         requires stands { ContainsKey self.old at }
+        requires inner { (x : Form ℕ P) → get self.old at ≡ Some x → length (prefix_of x) < MAX_PREFIX_LEN }
         requires bare { (x : Form ℕ P) → get self.old at ≡ Some x → children_of x ≡ map.empty }
         ensures gone { Updates self.old self.new at None }
         ensures capacity { self.new.capacity ≡ self.old.capacity }
@@ -215,8 +215,8 @@ impl<P: Stored> Nodes<P> {
 
     /// Gives a node the form below. Where memory is refused, which the least form doesn't want, it stays as it was.
     pub(crate) fn shrink(&mut self, alloc: Global, at: Name) -> Result<(), AllocError>
-        requires own { HasOwnSlot at }
         requires stands { ContainsKey self.old at }
+        requires greater { (x : Form ℕ P) → get self.old at ≡ Some x → form_of x ≢ N4 }
         requires room { (x : Form ℕ P) → get self.old at ≡ Some x → map.len (children_of x) ≤ capacity_of (form_below (form_of x)) }
         ensures shrunk { OnOk result ((x : Form ℕ P) → get self.old at ≡ Some x → ShrinksTo self.old self.new at x) }
         ensures refused { OnErr result (SameValues self.old self.new) }

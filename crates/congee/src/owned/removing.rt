@@ -1,17 +1,18 @@
 //! A removal at the end of a key's way, and what goes with the value: a leaf that it leaves empty, and then a node above that is
 //! left with one child, which moves up. A node that is left with few children gives place to one of a lesser form.
-ghost use Rattle.std.specs.Prelude.{◌≡◌, ◌≢◌, ◌+◌, ◌≤◌, ℕ, length, Some, None, IsTrue, ◌↔◌};
+ghost use Rattle.std.specs.Prelude.{◌≡◌, ◌≢◌, ◌+◌, ◌≤◌, ℕ, Some, None};
 ghost use Rattle.std.specs.FinMap as map;
 ghost use Rattle.slab.specs.Slab.{get, ContainsKey};
 ghost use Rattle.congee.specs.forms.Forms.{capacity_of, children_of, form_of, size_of};
 ghost use Rattle.congee.specs.protocol.Steps.{form_below};
-ghost use Rattle.congee.specs.owned.Arena.{IsTree, OnWay, Hangs, Reached, heap_of};
+ghost use Rattle.congee.specs.owned.Arena.{IsTree, OnWay, Hangs, heap_of};
 ghost use Rattle.congee.specs.owned.Charge.{Covers, KeepsLimit};
 ghost use Rattle.congee.specs.owned.Edits.{Drops, Frees};
-ghost use Rattle.congee.specs.owned.Going.{going_last, going_one, lesser_of};
+ghost use Rattle.congee.specs.owned.Going.{goes_at, going_last, going_one, lesser_of};
 ghost use Rattle.congee.specs.owned.Lesser.{Charges, Lessens, LosesChild, SameMap};
 ghost use Rattle.congee.specs.owned.Naming.{HasOwnSlot};
-ghost use Rattle.congee.specs.owned.OwnedSteps.{IsHeld, SameNodes};
+ghost use Rattle.congee.specs.owned.OwnedSteps.{IsHeld};
+ghost use Rattle.congee.specs.owned.Place.{Located};
 ghost use Rattle.congee.specs.owned.Sizes.{bytes_of};
 ghost use Rattle.congee.specs.declared.forms.base_node.Node.{Node as Form};
 
@@ -19,7 +20,7 @@ use crate::allocator::Allocator;
 use crate::keys::KEY_BYTES;
 use crate::owned::arena::{Arena, Stored};
 use crate::owned::names::Name;
-use crate::owned::place::Place;
+use crate::owned::place::{Place, Spot};
 use std::alloc::Global;
 
 impl<P: Stored, A: Allocator> Arena<P, A> {
@@ -40,8 +41,8 @@ impl<P: Stored, A: Allocator> Arena<P, A> {
     fn lessen(&mut self, alloc: Global, at: Name)
         requires tree { IsTree self.old.nodes }
         requires stands { ContainsKey self.old.nodes at }
-        requires own { HasOwnSlot at }
         requires below { at ≢ 0 }
+        requires greater { (x : Form ℕ P) → get self.old.nodes at ≡ Some x → form_of x ≢ N4 }
         requires room { (x : Form ℕ P) → get self.old.nodes at ≡ Some x → map.len (children_of x) ≤ capacity_of (form_below (form_of x)) }
         requires covered { (x : Form ℕ P) → get self.old.nodes at ≡ Some x
             → bytes_of self.old.nodes + size_of (form_below (form_of x)) ≤ A.charged_of self.old.allocator }
@@ -105,20 +106,41 @@ impl<P: Stored, A: Allocator> Arena<P, A> {
     }
 
     /// A leaf goes with its only value, and the node above that has one other child, which comes into its place.
-    fn collapse(&mut self, place: &Place, key: &[u8; KEY_BYTES]) -> P
+    fn collapse(&mut self, top: Name, above: Name, at: Name, key: &[u8; KEY_BYTES]) -> P
+        requires tree { IsTree self.old.nodes }
+        requires way { OnWay self.old.nodes key.now at }
+        requires held { IsHeld self.old.nodes key.now at }
+        requires hangs { Hangs self.old.nodes key.now above at }
+        requires higher { Hangs self.old.nodes key.now top above }
+        requires last { (x : Form ℕ P) → get self.old.nodes at ≡ Some x → map.len (children_of x) ≡ 1 }
+        requires two { (x : Form ℕ P) → get self.old.nodes above ≡ Some x → map.len (children_of x) ≡ 2 }
+        requires covered { Covers A.charged_of self.old }
+        ensures { Frees A.charged_of A.limit_of self.old self.new
+            key.now (Some result) None (Some (going_last (heap_of self.old.nodes at) above (heap_of self.old.nodes above))) }
     {
-        let leaf = self.nodes.node_type(place.at).size();
-        let node = self.nodes.node_type(place.above).size();
-        let value = self.drop_leaf(place.above, place.at, key);
-        let up = self.byte_at(place.top, key);
-        self.nodes.lift(place.top, up, place.above);
-        self.allocator.deallocate(leaf + node);
+        let leaf = self.nodes.node_type(at).size();
+        let node = self.nodes.node_type(above).size();
+        let value = self.drop_leaf(above, at, key);
+        let up = self.byte_at(top, key);
+        self.nodes.lift(top, up, above);
+        self.allocator.deallocate(leaf);
+        self.allocator.deallocate(node);
         value
     }
 
-    /// A leaf goes with its only value; the node above, which isn't left with one child, gives place to a lesser one if it is small.
+    /// A leaf goes with its only value. The node above is the root, or it isn't left with one child, and gives place to a lesser
+    /// one if it is small.
     #[inline(always)]
     fn thin_out(&mut self, alloc: Global, above: Name, at: Name, key: &[u8; KEY_BYTES]) -> P
+        requires tree { IsTree self.old.nodes }
+        requires way { OnWay self.old.nodes key.now at }
+        requires held { IsHeld self.old.nodes key.now at }
+        requires hangs { Hangs self.old.nodes key.now above at }
+        requires last { (x : Form ℕ P) → get self.old.nodes at ≡ Some x → map.len (children_of x) ≡ 1 }
+        requires stays { above ≢ 0 → (x : Form ℕ P) → get self.old.nodes above ≡ Some x → map.len (children_of x) ≢ 2 }
+        requires covered { Covers A.charged_of self.old }
+        ensures { Frees A.charged_of A.limit_of self.old self.new
+            key.now (Some result) None (Some (going_last (heap_of self.old.nodes at) above (heap_of self.old.nodes above))) }
     {
         let leaf = self.nodes.node_type(at).size();
         let lesser = !above.is_root() && self.charge_lesser(above);
@@ -133,13 +155,20 @@ impl<P: Stored, A: Allocator> Arena<P, A> {
     /// Takes the value at the end of a key's way out.
     #[inline(always)]
     pub(crate) fn take(&mut self, alloc: Global, place: &Place, key: &[u8; KEY_BYTES]) -> P
+        requires tree { IsTree self.old.nodes }
+        requires located { Located self.old.nodes key.now place.now }
+        requires held { place.now.spot ≡ Spot.Held }
+        requires covered { Covers A.charged_of self.old }
+        ensures { Frees A.charged_of A.limit_of self.old self.new
+            key.now (Some result) None (goes_at (heap_of self.old.nodes) key.now) }
     {
-        if self.nodes.len(place.at) != 1 {
-            return self.take_value(alloc, place.above, place.at, key);
+        let (top, above, at) = (place.top, place.above, place.at);
+        if self.nodes.len(at) != 1 {
+            return self.take_value(alloc, above, at, key);
         }
-        if !place.above.is_root() && self.nodes.len(place.above) == 2 {
-            return self.collapse(place, key);
+        if !above.is_root() && self.nodes.len(above) == 2 {
+            return self.collapse(top, above, at, key);
         }
-        self.thin_out(alloc, place.above, place.at, key)
+        self.thin_out(alloc, above, at, key)
     }
 }

@@ -7,7 +7,7 @@ use Rattle.congee.specs.Ledger.{Linked, Gone, IsChild}
 use Rattle.congee.specs.forms.Forms.{form_of, size_of}
 use Rattle.congee.specs.owned.Arena.{Nodes, hung_in, node_of, heap_of, ledger_of, IsFilled, IsTree}
 use Rattle.congee.specs.owned.Changes.{Differs, MapChange}
-use Rattle.congee.specs.owned.Edits.{Edits, Swaps, Adds, Frees}
+use Rattle.congee.specs.owned.Edits.{Edits, Swaps, Adds}
 use Rattle.congee.specs.owned.Renames.{Renames, Renamed}
 use Rattle.congee.specs.owned.Sizes.{bytes_at, bytes_of}
 use Rattle.congee.specs.owned.Wanted.{InsertionFits, gain_of}
@@ -185,9 +185,6 @@ module _ {P A : Type 0} (charged limit : A → ℕ) (old mid new : Arena P A) (k
       bytes = a.bytes ∙ ap (λ n. n + gain_of wants) r.bytes;
     }
 
-    pub frees_renamed : (before after : Option P) (freed : ℕ) → Frees charged limit mid new key before after freed → Frees charged limit old new key before after freed
-    frees_renamed before after freed f = record { edits = edits_renamed before after f.edits; bytes = f.bytes ∙ r.bytes }
-
     pub swaps_renamed : (before after : Option P) → Swaps mid new key before after → Swaps old new key before after
     swaps_renamed before after w = record {
       tree = w.tree;
@@ -208,9 +205,6 @@ module _ {P A : Type 0} (charged limit : A → ℕ) (old mid new : Arena P A) (k
 
     pub renamed_adds : (before : Option P) (value : P) (wants : Option (List ℕ)) → Adds charged limit old mid key before value wants → Adds charged limit old new key before value wants
     renamed_adds before value wants a = record { edits = renamed_edits before (Some value) a.edits; fits = a.fits; bytes = r.bytes ∙ a.bytes }
-
-    pub renamed_frees : (before after : Option P) (freed : ℕ) → Frees charged limit old mid key before after freed → Frees charged limit old new key before after freed
-    renamed_frees before after freed f = record { edits = renamed_edits before after f.edits; bytes = ap (λ n. n + freed) r.bytes ∙ f.bytes }
 
     pub renamed_swaps : (before after : Option P) → Swaps old mid key before after → Swaps old new key before after
     renamed_swaps before after w = record {
