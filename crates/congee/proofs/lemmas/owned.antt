@@ -49,3 +49,5 @@ pub mod Reserving
 pub mod Alone
 pub mod Lessening
 pub mod Lifting
+pub mod Raising
+pub mod Removing

@@ -1,5 +1,5 @@
 -- What goes with a key's value where it is taken out.
-use Rattle.std.specs.Prelude.{◌≡◌, ◌≢◌, ℕ, zero, suc, ◌+◌, ◌≤◌, ◌<◌, ◌==◌, ◌⊎◌, not, cond, List, ◌^◌, Option, None, Some, refl}
+use Rattle.std.specs.Prelude.{◌≡◌, ◌≢◌, ℕ, zero, suc, ◌+◌, ◌≤◌, ◌<◌, ◌==◌, ◌⊎◌, cond, Bool, true, false, List, ◌^◌, Option, None, Some, refl}
 use Rattle.std.specs.Ordering.{nat_cmp}
 use Rattle.std.specs.FinMap.{FinMap}
 use Rattle.std.specs.Coded.{Coded, code_by, coded×, coded_ℕ, coded_option}
@@ -10,6 +10,7 @@ use Rattle.congee.specs.owned.Arena.{Nodes, heap_of}
 use Rattle.congee.specs.owned.Table.{table}
 use Rattle.congee.specs.owned.Wanted.{form_by, size_by}
 use Rattle.congee.specs.protocol.Steps.{form_below, shrinks}
+use Rattle.congee.specs.declared.forms.base_node.NodeType.{NodeType}
 use Rattle.congee.specs.declared.forms.base_node.NodeType.TheVariants.{N4}
 use Rattle.congee.specs.declared.keys.TheConstants.{KEY_BYTES}
 
@@ -45,10 +46,15 @@ abbrev pub Went : (charged limit before after : ℕ) → Option Going → Type 0
 Went charged limit before after None = after ≡ before
 Went charged limit before after (Some g) = GaveWay charged limit before after g.gone g.lesser
 
+-- whether a node of the form gives place to one of the form below
+abbrev pub lesser_if : Bool → NodeType → Option Lesser
+lesser_if false form = None
+lesser_if true form = Some (record { made = size_of (form_below form); left = size_of form })
+
 module _ {P : Type 0} where
-  -- a node that is small with a child fewer
+  -- a node that is small with a child fewer does
   abbrev pub lesser_of : Node P → Option Lesser
-  lesser_of n = cond (shrinks (form_by n.capacity) n.count) (Some (record { made = size_of (form_below (form_by n.capacity)); left = size_by n.capacity })) None
+  lesser_of n = lesser_if (shrinks (form_by n.capacity) n.count) (form_by n.capacity)
 
   -- a value goes from a leaf that has others
   abbrev pub going_one : Node P → Going

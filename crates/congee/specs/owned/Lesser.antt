@@ -6,7 +6,6 @@ use Rattle.congee.specs.Heap.{value_at}
 use Rattle.congee.specs.forms.Forms.{Becomes, children_of, form_of, prefix_of, size_of}
 use Rattle.congee.specs.owned.Arena.{Nodes, IsTree, heap_of}
 use Rattle.congee.specs.owned.Going.{Lesser}
-use Rattle.congee.specs.owned.OwnedSteps.{SameNodes}
 use Rattle.congee.specs.owned.Sizes.{bytes_of}
 use Rattle.congee.specs.protocol.Steps.{form_below}
 use Rattle.congee.specs.declared.forms.base_node.Node.{Node}
@@ -49,18 +48,17 @@ module _ {P : Type 0} where
     pub becomes : Becomes old new (map.remove (children_of old) (slice_index key (length (prefix_of old))))
     pub others : (m : ℕ) → m ≢ above → m ≢ at → get s' m ≡ get s m
 
-module _ {P A : Type 0} (charged limit : A → ℕ) (old new : Arena P A) where
-  -- a lesser node is charged, if one comes and it fits; the nodes stand as they did
+module _ {A : Type 0} (charged limit : A → ℕ) (old new : A) where
+  -- a lesser node is charged, if one comes and it fits
   abbrev pub ChargesLesser : Option Lesser → Bool → Type 0
   ChargesLesser None true = ⊥
-  ChargesLesser None false = charged new.allocator ≡ charged old.allocator
-  ChargesLesser (Some l) true = (charged new.allocator ≡ charged old.allocator + l.made) × (charged old.allocator + l.made ≤ limit old.allocator)
-  ChargesLesser (Some l) false = (charged new.allocator ≡ charged old.allocator) × (limit old.allocator < charged old.allocator + l.made)
+  ChargesLesser None false = charged new ≡ charged old
+  ChargesLesser (Some l) true = (charged new ≡ charged old + l.made) × (charged old + l.made ≤ limit old)
+  ChargesLesser (Some l) false = (charged new ≡ charged old) × (limit old < charged old + l.made)
 
   pub record Charges (lesser : Option Lesser) (result : Bool) : Type 0 where
-    pub nodes : new.nodes ≡ old.nodes
     pub charges : ChargesLesser lesser result
-    pub same_limit : limit new.allocator ≡ limit old.allocator
+    pub same_limit : limit new ≡ limit old
 
 -- a node of the form gave place to one of the form below, which was charged before, and its own charge went; or memory was
 -- refused, which the least form doesn't want, and the charge of the lesser one went

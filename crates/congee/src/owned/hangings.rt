@@ -1,5 +1,5 @@
 //! What hangs in a node: it comes in, gives place to another, goes, or takes another name.
-ghost use Rattle.std.specs.Prelude.{◌≡◌, ◌≢◌, ◌+◌, ◌<◌, ℕ, length, slice_index, Some, None, false};
+ghost use Rattle.std.specs.Prelude.{◌≡◌, ◌+◌, ◌<◌, ℕ, length, slice_index, Some, None, false};
 ghost use Rattle.std.specs.FinMap as map;
 ghost use Rattle.slab.specs.Slab.{get, ContainsKey, HasRoomFor};
 ghost use Rattle.congee.specs.owned.Entries.{first_byte};
@@ -15,13 +15,12 @@ use crate::owned::arena::Stored;
 use crate::owned::lone::{Lone, key_from};
 use crate::owned::names::Name;
 use crate::owned::nodes::Nodes;
-use crate::owned::place::Found;
 use crate::owned::placed::Placed;
 use crate::owned::slots::Slot;
 
 impl<P: Stored> Nodes<P> {
     ghost use Rattle.congee.specs.owned.Kinds.{IsValue};
-    ghost use Rattle.congee.specs.owned.Lifting.{HasOneNode, IsBegun, MovesUp};
+    ghost use Rattle.congee.specs.owned.Lifting.{HasOneNode, MayLift, MovesUp};
     ghost use Rattle.congee.specs.owned.Sizes.{bytes_of};
     ghost use Rattle.congee.specs.owned.Naming.{HasOwnSlot};
     ghost use Rattle.congee.specs.owned.OwnedSteps.{Makes, Sets};
@@ -179,33 +178,40 @@ impl<P: Stored> Nodes<P> {
         self.slab[at.slot].take_value(byte)
     }
 
-    /// The only child of an inner node comes into the node's place in the one above, and the node goes.
-    pub(crate) fn lift(&mut self, above: Name, byte: u8, at: Name)
-        requires stands { ContainsKey self.old above }
-        requires inner { (x : Form ℕ P) → get self.old above ≡ Some x → length (prefix_of x) < MAX_PREFIX_LEN }
-        requires hung { (x : Form ℕ P) → get self.old above ≡ Some x → map.get (children_of x) byte ≡ Some (Sub at) }
-        requires apart { above ≢ at }
-        requires below { ContainsKey self.old at }
-        requires inner_below { (y : Form ℕ P) → get self.old at ≡ Some y → length (prefix_of y) < MAX_PREFIX_LEN }
-        requires alone { (y : Form ℕ P) → get self.old at ≡ Some y → HasOneNode y }
-        requires begins { (x y : Form ℕ P) → get self.old above ≡ Some x → get self.old at ≡ Some y → IsBegun (prefix_of x) byte (prefix_of y) }
-        ensures lifts { (x y : Form ℕ P) → get self.old above ≡ Some x → get self.old at ≡ Some y → MovesUp self.old self.new above x byte at y }
-        ensures bytes { (y : Form ℕ P) → get self.old at ≡ Some y → bytes_of self.new + size_of (form_of y) ≡ bytes_of self.old }
-        ensures capacity { self.new.capacity ≡ self.old.capacity }
+    /// The only node that hangs in a node, and its byte.
+    fn only_child(&self, at: Name) -> (u8, Name)
+        requires stands { ContainsKey self.now at }
+        requires alone { (y : Form ℕ P) → get self.now at ≡ Some y → HasOneNode y }
+        ensures { (y : Form ℕ P) → get self.now at ≡ Some y → children_of y ≡ map.insert map.empty result.0 (Sub result.1) }
     {
         match self.first_from(at, 0) {
-            Some((below, Found::Node(child))) => {
+            Some((byte, found)) => match found.node() {
+                Some(child) => (byte, child),
+                None => unreachable!(),
+            },
+            None => unreachable!(),
+        }
+    }
+
+    /// The only child of an inner node comes into the node's place in the one above, and the node goes.
+    pub(crate) fn lift(&mut self, above: Name, byte: u8, at: Name)
+        requires { MayLift self.old above byte at }
+        ensures lifts { (r : MayLift self.old above byte at) → MovesUp self.old self.new above byte at r }
+        ensures bytes { (r : MayLift self.old above byte at) → bytes_of self.new + size_of (form_of r.lower) ≡ bytes_of self.old }
+    {
+        let (below, child) = self.only_child(at);
+        match child.byte {
+            None => {
                 self.unhang_node(at, below);
                 self.remove_bare(at);
                 self.swap_node(above, byte, child);
             }
-            Some((below, Found::Leaf(..))) => {
-                let key = self.slab[at.slot].lone(below).key;
+            Some(place) => {
+                let key = self.lone(child.slot, place).key;
                 let value = self.unhang_leaf(at, below);
                 self.remove_bare(at);
                 self.swap_leaf(above, byte, &key, value);
             }
-            _ => unreachable!(),
         }
     }
 

@@ -4,11 +4,11 @@ ghost use Rattle.std.specs.Prelude.{◌≡◌, ◌≢◌, ◌+◌, ◌≤◌, �
 ghost use Rattle.std.specs.FinMap as map;
 ghost use Rattle.slab.specs.Slab.{get, ContainsKey};
 ghost use Rattle.congee.specs.forms.Forms.{capacity_of, children_of, form_of, size_of};
-ghost use Rattle.congee.specs.protocol.Steps.{form_below};
+ghost use Rattle.congee.specs.protocol.Steps.{form_below, shrinks};
 ghost use Rattle.congee.specs.owned.Arena.{IsTree, OnWay, Hangs, heap_of};
 ghost use Rattle.congee.specs.owned.Charge.{Covers, KeepsLimit};
 ghost use Rattle.congee.specs.owned.Edits.{Drops, Frees};
-ghost use Rattle.congee.specs.owned.Going.{goes_at, going_last, going_one, lesser_of};
+ghost use Rattle.congee.specs.owned.Going.{goes_at, going_last, going_one, lesser_if};
 ghost use Rattle.congee.specs.owned.Lesser.{Charges, Lessens, LosesChild, SameMap};
 ghost use Rattle.congee.specs.owned.Naming.{HasOwnSlot};
 ghost use Rattle.congee.specs.owned.OwnedSteps.{IsHeld};
@@ -17,25 +17,36 @@ ghost use Rattle.congee.specs.owned.Sizes.{bytes_of};
 ghost use Rattle.congee.specs.declared.forms.base_node.Node.{Node as Form};
 
 use crate::allocator::Allocator;
+use crate::forms::base_node::NodeType;
 use crate::keys::KEY_BYTES;
 use crate::owned::arena::{Arena, Stored};
 use crate::owned::names::Name;
 use crate::owned::place::{Place, Spot};
 use std::alloc::Global;
 
-impl<P: Stored, A: Allocator> Arena<P, A> {
-    /// Charges for the form below of a node that is about to lose a child, if it is small then and the budget has room.
-    #[inline(always)]
-    fn charge_lesser(&mut self, at: Name) -> bool
-        requires { ContainsKey self.old.nodes at }
-        ensures { Charges A.charged_of A.limit_of self.old self.new (lesser_of (heap_of self.old.nodes at)) result }
-    {
-        let form = self.nodes.node_type(at);
-        let count = self.nodes.len(at);
-        prove!(count <= 256);
-        form.shrinks(count as u16) && self.allocator.allocate(form.below().size()).is_ok()
+/// Whether a node of the form with so many children gives place to a lesser one as it loses one.
+#[inline(always)]
+fn is_small(form: NodeType, count: usize) -> bool
+    ensures { result ≡ shrinks form count }
+{
+    match form {
+        NodeType::N4 => false,
+        NodeType::N16 => count <= 4,
+        NodeType::N48 => count <= 13,
+        NodeType::N256 => count <= 41,
     }
+}
 
+/// Charges for the form below of a node that is about to lose one of so many children, if it gives place to that one and the
+/// budget has room.
+#[inline(always)]
+fn charges_lesser<A: Allocator>(allocator: &mut A, form: NodeType, count: usize) -> bool
+    ensures { Charges A.charged_of A.limit_of allocator.old allocator.new (lesser_if (shrinks form count) form) result }
+{
+    is_small(form, count) && allocator.allocate(form.below().size()).is_ok()
+}
+
+impl<P: Stored, A: Allocator> Arena<P, A> {
     /// A node gives place to one of the form below, which is charged already. Where memory is refused it stays, and that charge
     /// is taken off.
     fn lessen(&mut self, alloc: Global, at: Name)
@@ -51,11 +62,11 @@ impl<P: Stored, A: Allocator> Arena<P, A> {
         ensures limit { KeepsLimit A.limit_of self.old self.new }
     {
         let form = self.nodes.node_type(at);
-        let off = match self.nodes.shrink(alloc, at) {
-            Ok(()) => form,
-            Err(_) => form.below(),
-        };
-        self.allocator.deallocate(off.size());
+        if self.nodes.shrink(alloc, at).is_err() {
+            self.allocator.deallocate(form.below().size());
+            return;
+        }
+        self.allocator.deallocate(form.size());
     }
 
     /// Takes a value out of a leaf that has others.
@@ -71,14 +82,15 @@ impl<P: Stored, A: Allocator> Arena<P, A> {
         ensures { Frees A.charged_of A.limit_of self.old self.new
             key.now (Some result) None (Some (going_one (heap_of self.old.nodes at))) }
     {
-        let lesser = self.charge_lesser(at);
+        let form = self.nodes.node_type(at);
+        let lesser = charges_lesser(&mut self.allocator, form, self.nodes.len(at));
         let byte = self.byte_at(at, key);
         let value = self.nodes.take_value(at, byte);
         if lesser {
             self.lessen(alloc, at);
-        } else {
-            self.tuck(above, at, key);
+            return value;
         }
+        self.tuck(above, at, key);
         value
     }
 
@@ -128,8 +140,26 @@ impl<P: Stored, A: Allocator> Arena<P, A> {
         value
     }
 
-    /// A leaf goes with its only value. The node above is the root, or it isn't left with one child, and gives place to a lesser
-    /// one if it is small.
+    /// A leaf goes with its only value from the root.
+    #[inline(always)]
+    fn drop_last(&mut self, at: Name, key: &[u8; KEY_BYTES]) -> P
+        requires tree { IsTree self.old.nodes }
+        requires way { OnWay self.old.nodes key.now at }
+        requires held { IsHeld self.old.nodes key.now at }
+        requires hangs { Hangs self.old.nodes key.now 0 at }
+        requires last { (x : Form ℕ P) → get self.old.nodes at ≡ Some x → map.len (children_of x) ≡ 1 }
+        requires covered { Covers A.charged_of self.old }
+        ensures { Frees A.charged_of A.limit_of self.old self.new
+            key.now (Some result) None (Some (going_last (heap_of self.old.nodes at) 0 (heap_of self.old.nodes 0))) }
+    {
+        let leaf = self.nodes.node_type(at).size();
+        let value = self.drop_leaf(Name::root(), at, key);
+        self.allocator.deallocate(leaf);
+        value
+    }
+
+    /// A leaf goes with its only value from an inner node that isn't left with one child. That one gives place to a lesser one
+    /// if it is small then.
     #[inline(always)]
     fn thin_out(&mut self, alloc: Global, above: Name, at: Name, key: &[u8; KEY_BYTES]) -> P
         requires tree { IsTree self.old.nodes }
@@ -137,17 +167,20 @@ impl<P: Stored, A: Allocator> Arena<P, A> {
         requires held { IsHeld self.old.nodes key.now at }
         requires hangs { Hangs self.old.nodes key.now above at }
         requires last { (x : Form ℕ P) → get self.old.nodes at ≡ Some x → map.len (children_of x) ≡ 1 }
-        requires stays { above ≢ 0 → (x : Form ℕ P) → get self.old.nodes above ≡ Some x → map.len (children_of x) ≢ 2 }
+        requires inner { above ≢ 0 }
+        requires more { (x : Form ℕ P) → get self.old.nodes above ≡ Some x → map.len (children_of x) ≢ 2 }
         requires covered { Covers A.charged_of self.old }
         ensures { Frees A.charged_of A.limit_of self.old self.new
             key.now (Some result) None (Some (going_last (heap_of self.old.nodes at) above (heap_of self.old.nodes above))) }
     {
         let leaf = self.nodes.node_type(at).size();
-        let lesser = !above.is_root() && self.charge_lesser(above);
+        let form = self.nodes.node_type(above);
+        let lesser = charges_lesser(&mut self.allocator, form, self.nodes.len(above));
         let value = self.drop_leaf(above, at, key);
         self.allocator.deallocate(leaf);
         if lesser {
             self.lessen(alloc, above);
+            return value;
         }
         value
     }
@@ -166,7 +199,10 @@ impl<P: Stored, A: Allocator> Arena<P, A> {
         if self.nodes.len(at) != 1 {
             return self.take_value(alloc, above, at, key);
         }
-        if !above.is_root() && self.nodes.len(above) == 2 {
+        if above.is_root() {
+            return self.drop_last(at, key);
+        }
+        if self.nodes.len(above) == 2 {
             return self.collapse(top, above, at, key);
         }
         self.thin_out(alloc, above, at, key)

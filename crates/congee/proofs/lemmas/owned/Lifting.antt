@@ -9,7 +9,7 @@ use Rattle.congee.specs.Ledger.{Linked, Gone, Note, Tree, IsChild, Lifts}
 use Rattle.congee.specs.forms.Forms.{capacity_of, children_of, form_of, prefix_of}
 use Rattle.congee.specs.owned.Arena.{Nodes, hung_in, node_of, heap_of, ledger_of, IsFilled, IsTree}
 use Rattle.congee.specs.owned.Lesser.{SameMap}
-use Rattle.congee.specs.owned.Lifting.{HasOneNode, MovesUp}
+use Rattle.congee.specs.owned.Lifting.{MayLift, MovesUp}
 use Rattle.congee.specs.declared.forms.base_node.Node.{Node}
 use Rattle.congee.specs.declared.forms.child.Child.TheVariants.{Node as Sub}
 use Rattle.congee.proofs.lemmas.Fits.{same_test, other_test}
@@ -37,9 +37,9 @@ with_below n b o = record {
   retired = n.retired;
 }
 
-module _ {P : Type 0} (s s' : Nodes P) (g b p : ℕ) (x y : Node ℕ P) (t : IsTree s) (wx : get s g ≡ Some x) (hung : map.get (children_of x) b ≡ Some (Sub p)) (wy : get s p ≡ Some y) (k : MovesUp s s' g x b p y) where
+module _ {P : Type 0} (s s' : Nodes P) (g b p : ℕ) (t : IsTree s) (r : MayLift s g b p) (k : MovesUp s s' g b p r) where
   abbrev o : ℕ
-  o = k.one.child
+  o = r.one.child
 
   abbrev m : ℕ
   m = k.name
@@ -57,29 +57,29 @@ module _ {P : Type 0} (s s' : Nodes P) (g b p : ℕ) (x y : Node ℕ P) (t : IsT
   abbrev h1 : ℕ → Seen P
   h1 n = cond (n == g) (with_below (h g) b o) (h n)
 
-  hg : h g ≡ node_of (Some x)
-  hg = ap node_of wx
+  hg : h g ≡ node_of (Some r.upper)
+  hg = ap node_of r.was
 
-  hp : h p ≡ node_of (Some y)
-  hp = ap node_of wy
+  hp : h p ≡ node_of (Some r.lower)
+  hp = ap node_of r.stood
 
   linked_g : (a g).status ≡ Linked
-  linked_g = linked_of s t.parent g (stands_at s g x wx)
+  linked_g = linked_of s t.parent g (stands_at s g r.upper r.was)
 
   hung_p : (h g).children b ≡ Below p
-  hung_p = rw hg (ap hung_in hung)
+  hung_p = rw hg (ap hung_in r.hung)
 
   child_p : IsChild a h g b p
   child_p = t.tree.down g b p linked_g hung_p
 
-  only_o : (h p).children k.one.byte ≡ Below o
-  only_o = rw hp (ap (λ z. hung_in (map.get z k.one.byte)) k.one.children ∙ ap hung_in (insert_at map.empty k.one.byte (Sub o)))
+  only_o : (h p).children r.one.byte ≡ Below o
+  only_o = rw hp (ap (λ z. hung_in (map.get z r.one.byte)) r.one.children ∙ ap hung_in (insert_at map.empty r.one.byte (Sub o)))
 
-  alone : (c : ℕ) → c ≢ k.one.byte → (h p).children c ≡ Nothing
-  alone c ne = rw hp (ap (λ z. hung_in (map.get z c)) k.one.children ∙ ap hung_in (insert_beside map.empty k.one.byte (Sub o) c ne ∙ map.get-empty _ c))
+  alone : (c : ℕ) → c ≢ r.one.byte → (h p).children c ≡ Nothing
+  alone c ne = rw hp (ap (λ z. hung_in (map.get z c)) r.one.children ∙ ap hung_in (insert_beside map.empty r.one.byte (Sub o) c ne ∙ map.get-empty _ c))
 
-  child_o : IsChild a h p k.one.byte o
-  child_o = t.tree.down p k.one.byte o child_p.linked only_o
+  child_o : IsChild a h p r.one.byte o
+  child_o = t.tree.down p r.one.byte o child_p.linked only_o
 
   by_length : (u w : ℕ) → length (h u).prefix < length (h w).prefix → u ≢ w
   by_length u w l e = let z : length (h u).prefix ≡ length (h w).prefix = ap (λ v. length (h v).prefix) e in absurd (omega (arith, l))
@@ -102,7 +102,7 @@ module _ {P : Type 0} (s s' : Nodes P) (g b p : ℕ) (x y : Node ℕ P) (t : IsT
   ro : 0 ≢ o
   ro = by_length 0 o (omega (arith, child_o.longer, root_length))
 
-  lifts : Lifts a h a1 h1 g b p k.one.byte o
+  lifts : Lifts a h a1 h1 g b p r.one.byte o
   lifts = record {
     linked = linked_g;
     hung = hung_p;
@@ -120,7 +120,7 @@ module _ {P : Type 0} (s s' : Nodes P) (g b p : ℕ) (x y : Node ℕ P) (t : IsT
   }
 
   t1 : Tree a1 h1
-  t1 = lift_tree a h a1 h1 g b p k.one.byte o t.tree lifts
+  t1 = lift_tree a h a1 h1 g b p r.one.byte o t.tree lifts
 
   -- a linked node of it, which stood before
   not_p : (n : ℕ) → (a1 n).status ≡ Linked → n ≢ p
@@ -156,7 +156,7 @@ module _ {P : Type 0} (s s' : Nodes P) (g b p : ℕ) (x y : Node ℕ P) (t : IsT
   linked' : (n : ℕ) → (a1 n).status ≡ Linked → (a' (in_place o m n)).status ≡ Linked
   linked' n l = elim (same_or_not n o) [
     | inl e ↦ (let Q : ℕ → Type 0 = λ z. (a' (in_place o m z)).status ≡ Linked in
-        subst Q (sym e) (ap (λ z. (a' z).status) put ∙ linked_of s' parent' m (stands_at s' m k.node k.stands)))
+        subst Q (sym e) (ap (λ z. (a' z).status) put ∙ linked_of s' parent' m (stands_at s' m r.node k.stands)))
     | inr no ↦ ap (λ z. (a' z).status) (kept n no) ∙ linked_of s' parent' n (elim (same_or_not n g) [
       | inl e ↦ (let Q : ℕ → Type 0 = λ z. ContainsKey s' z in subst Q (sym e) (stands_at s' g k.new k.now))
       | inr ng ↦ subst IsSome (sym (same_node n (was n l) ng (not_p n l) no)) (was n l)
@@ -173,7 +173,7 @@ module _ {P : Type 0} (s s' : Nodes P) (g b p : ℕ) (x y : Node ℕ P) (t : IsT
   only' n l =
       let st = stands_of s' parent' n l in
       elim (same_or_not n m) [
-        | inl e ↦ record { before = o; linked = now_linked o (λ q. po (sym q)) (stands_at s o k.node k.stood); is = put ∙ sym e }
+        | inl e ↦ record { before = o; linked = now_linked o (λ q. po (sym q)) (stands_at s o r.node r.child); is = put ∙ sym e }
         | inr nm ↦ (let np : n ≢ p = (λ e. none_not p k.left (at_name n p e st)) in
             let no : n ≢ o = (λ e. elim k.named [
               | inl q ↦ nm (e ∙ sym q)
@@ -182,7 +182,7 @@ module _ {P : Type 0} (s s' : Nodes P) (g b p : ℕ) (x y : Node ℕ P) (t : IsT
             record {
               before = n;
               linked = elim (same_or_not n g) [
-                | inl e ↦ (let Q : ℕ → Type 0 = λ z. (a1 z).status ≡ Linked in subst Q (sym e) (now_linked g gp (stands_at s g x wx)))
+                | inl e ↦ (let Q : ℕ → Type 0 = λ z. (a1 z).status ≡ Linked in subst Q (sym e) (now_linked g gp (stands_at s g r.upper r.was)))
                 | inr ng ↦ now_linked n np (subst IsSome (k.others n ng np no nm) st)
               ];
               is = kept n no;
@@ -201,7 +201,7 @@ module _ {P : Type 0} (s s' : Nodes P) (g b p : ℕ) (x y : Node ℕ P) (t : IsT
   as_before n ng = ap (λ w. cond w (with_below (h g) b o) (h n)) (other_test n g ng)
 
   moved : heap_of s' m ≡ h1 o
-  moved = ap node_of (k.stands ∙ sym k.stood) ∙ sym (as_before o (λ e. go (sym e)))
+  moved = ap node_of (k.stands ∙ sym r.child) ∙ sym (as_before o (λ e. go (sym e)))
 
   same_heap : (n : ℕ) → (a1 n).status ≡ Linked → n ≢ g → n ≢ o → heap_of s' n ≡ h1 n
   same_heap n l ng no = ap node_of (same_node n (was n l) ng (not_p n l) no) ∙ sym (as_before n ng)
@@ -219,7 +219,7 @@ module _ {P : Type 0} (s s' : Nodes P) (g b p : ℕ) (x y : Node ℕ P) (t : IsT
 
   -- elsewhere hangs no node of the child's old name
   unnamed : (n c : ℕ) → (a1 n).status ≡ Linked → (n ≡ g → c ≢ b) → (h1 n).children c ≡ named (in_place o m) ((h1 n).children c)
-  unnamed n c l ne = of ((h1 n).children c) (λ e. let w : (n ≡ g) × (c ≡ b) = one_place a1 h1 t1 n c g b o l (now_linked g gp (stands_at s g x wx)) e lifts.child in ne w.0 w.1)
+  unnamed n c l ne = of ((h1 n).children c) (λ e. let w : (n ≡ g) × (c ≡ b) = one_place a1 h1 t1 n c g b o l (now_linked g gp (stands_at s g r.upper r.was)) e lifts.child in ne w.0 w.1)
     where
       of : (z : Hung P) → (z ≡ Below o → ⊥) → z ≡ named (in_place o m) z
       of Nothing f = refl
@@ -229,14 +229,14 @@ module _ {P : Type 0} (s s' : Nodes P) (g b p : ℕ) (x y : Node ℕ P) (t : IsT
   children' : (n c : ℕ) → (a1 n).status ≡ Linked → (heap_of s' (in_place o m n)).children c ≡ named (in_place o m) ((h1 n).children c)
   children' n c l = elim (same_or_not n o) [
     | inl e ↦ (let Q : ℕ → Type 0 = λ z. (heap_of s' (in_place o m z)).children c ≡ named (in_place o m) ((h1 z).children c) in
-        subst Q (sym e) (ap (λ z. (heap_of s' z).children c) put ∙ (ap (λ z. z.children c) moved ∙ unnamed o c (now_linked o (λ q. po (sym q)) (stands_at s o k.node k.stood)) (λ q. absurd (go (sym q))))))
+        subst Q (sym e) (ap (λ z. (heap_of s' z).children c) put ∙ (ap (λ z. z.children c) moved ∙ unnamed o c (now_linked o (λ q. po (sym q)) (stands_at s o r.node r.child)) (λ q. absurd (go (sym q))))))
     | inr no ↦ ap (λ z. (heap_of s' z).children c) (kept n no) ∙ elim (same_or_not n g) [
       | inl e ↦ (let Q : ℕ → Type 0 = λ z. (heap_of s' z).children c ≡ named (in_place o m) ((h1 z).children c) in
           subst Q (sym e) (ap (λ z. (node_of z).children c) k.now ∙ elim (same_or_not c b) [
             | inl w ↦ (let R : ℕ → Type 0 = λ z. hung_in (map.get (children_of k.new) z) ≡ named (in_place o m) ((h1 g).children z) in
-                subst R (sym w) (ap (λ z. hung_in (map.get z b)) k.becomes.children ∙ (ap hung_in (insert_at (children_of x) b (Sub m)) ∙ (ap Below (sym put) ∙ sym (ap (named (in_place o m)) lifts.child)))))
-            | inr w ↦ ap (λ z. hung_in (map.get z c)) k.becomes.children ∙ (ap hung_in (insert_beside (children_of x) b (Sub m) c w)
-                ∙ (sym (ap (λ z. z.children c) hg) ∙ (sym (lifts.beside c w) ∙ unnamed g c (now_linked g gp (stands_at s g x wx)) (λ _. w))))
+                subst R (sym w) (ap (λ z. hung_in (map.get z b)) k.becomes.children ∙ (ap hung_in (insert_at (children_of r.upper) b (Sub m)) ∙ (ap Below (sym put) ∙ sym (ap (named (in_place o m)) lifts.child)))))
+            | inr w ↦ ap (λ z. hung_in (map.get z c)) k.becomes.children ∙ (ap hung_in (insert_beside (children_of r.upper) b (Sub m) c w)
+                ∙ (sym (ap (λ z. z.children c) hg) ∙ (sym (lifts.beside c w) ∙ unnamed g c (now_linked g gp (stands_at s g r.upper r.was)) (λ _. w))))
           ]))
       | inr ng ↦ ap (λ z. z.children c) (same_heap n l ng no) ∙ unnamed n c l (λ e. absurd (ng e))
     ]
@@ -247,11 +247,11 @@ module _ {P : Type 0} (s s' : Nodes P) (g b p : ℕ) (x y : Node ℕ P) (t : IsT
 
   filled' : (n : ℕ) → IsFilled (get s' n)
   filled' n = elim (same_or_not n m) [
-    | inl e ↦ filled_at s' n m (Some k.node) e k.stands (subst IsFilled k.stood (t.filled o))
+    | inl e ↦ filled_at s' n m (Some r.node) e k.stands (subst IsFilled r.child (t.filled o))
     | inr nm ↦ elim (same_or_not n p) [
       | inl e ↦ filled_at s' n p None e k.left filled_none
       | inr np ↦ elim (same_or_not n g) [
-        | inl e ↦ filled_at s' n g (Some k.new) e k.now (filled_with k.new b (Sub m) (ap (λ z. map.get z b) k.becomes.children ∙ insert_at (children_of x) b (Sub m)))
+        | inl e ↦ filled_at s' n g (Some k.new) e k.now (filled_with k.new b (Sub m) (ap (λ z. map.get z b) k.becomes.children ∙ insert_at (children_of r.upper) b (Sub m)))
         | inr ng ↦ elim (same_or_not n o) [
           | inl e ↦ elim k.named [
             | inl q ↦ absurd (nm (e ∙ sym q))
@@ -271,8 +271,8 @@ module _ {P : Type 0} (s s' : Nodes P) (g b p : ℕ) (x y : Node ℕ P) (t : IsT
     tree = record {
       parent = parent';
       tree = renamed_tree (in_place o m) a1 h1 a' (heap_of s') t1 moves_named;
-      wide = wide_after s s' g x k.new t.wide wx k.now (λ w. ap capacity_of k.becomes.form ∙ w) (λ ng. same_node 0 root_stands ng rp ro);
+      wide = wide_after s s' g r.upper k.new t.wide r.was k.now (λ w. ap capacity_of k.becomes.form ∙ w) (λ ng. same_node 0 root_stands ng rp ro);
       filled = filled';
     };
-    values = λ key len. renamed_map (in_place o m) a1 h1 a' (heap_of s') t1 moves_named key ∙ lift_map a h a1 h1 g b p k.one.byte o t.tree lifts key len;
+    values = λ key len. renamed_map (in_place o m) a1 h1 a' (heap_of s') t1 moves_named key ∙ lift_map a h a1 h1 g b p r.one.byte o t.tree lifts key len;
   }

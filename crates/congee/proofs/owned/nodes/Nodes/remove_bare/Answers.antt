@@ -4,7 +4,6 @@ use Rattle.std.proofs.Common.{rules}
 use Rattle.congee.specs.forms.Room.{IsSmall}
 use Rattle.congee.specs.forms.RoomLemmas.{node16_fits, node48_fits, node256_fits}
 use Rattle.congee.proofs.lemmas.owned.Lessening.{bare_stored, bare_done}
-
 use Rattle.congee.proofs.lemmas.owned.SlotOps.{has_slot, same_view_room}
 use Rattle.congee.specs.owned.EntryRoom.{places16_fits, places48_fits, places256_fits}
 use Rattle.congee.proofs.owned.nodes.Nodes.remove_bare.Goals as goal

@@ -1,0 +1,263 @@
+-- A removal on an arena, step by step: a leaf goes, the node above it loses a child, and gives place to a lesser one or to its
+-- other child.
+use Rattle.std.proofs.Common.{◌≡◌, ◌≢◌, ℕ, zero, suc, ◌+◌, ◌-◌, ◌<◌, ◌≤◌, ◌⊎◌, ◌==◌, inl, inr, Bool, true, false, cond, List, [], ◌∷◌, length, get_or, refl, sym, ap, subst, ◌∙◌, arith}
+use Rattle.std.specs.Prelude.{Option, None, Some, is_some, IsSome}
+use Rattle.std.specs.Ordering.{nat_cmp}
+use Rattle.std.specs.Cmp.{nat_cmp_total}
+use Rattle.std.specs.FinMap as map
+use Rattle.std.proofs.lemmas.Bool.Decides.{eqb_tells, nat_tests}
+use Rattle.slab.specs.Slab.{get, ContainsKey, Updates}
+use Rattle.congee.specs.Heap.{Node as Seen, Hung, Nothing, Below, Holds, fits, child_for, value_at}
+use Rattle.congee.specs.Ledger.{IsChild}
+use Rattle.congee.specs.forms.Forms.{Becomes, capacity_of, children_of, form_of, prefix_of, size_of}
+use Rattle.congee.specs.owned.Arena.{Nodes, hung_in, node_of, heap_of, ledger_of, IsTree, OnWay, Hangs}
+use Rattle.congee.specs.owned.Changes.{MapChange}
+use Rattle.congee.specs.owned.Entries.{first_byte}
+use Rattle.congee.specs.owned.Going.{GaveWay, going_from, going_last, going_one, lesser_if, lesser_of}
+use Rattle.congee.specs.owned.Lesser.{Charges, Lessens, LosesChild, SameMap}
+use Rattle.congee.specs.owned.Lifting.{HasOneNode, MayLift}
+use Rattle.congee.specs.owned.OwnedSteps.{Sets}
+use Rattle.congee.specs.owned.Sizes.{bytes_of}
+use Rattle.congee.specs.owned.Stores.{LosesLeaf}
+use Rattle.congee.specs.owned.Wanted.{form_by, size_by}
+use Rattle.congee.specs.protocol.Steps.{form_below, shrinks}
+use Rattle.congee.specs.declared.forms.base_node.Node.{Node}
+use Rattle.congee.specs.declared.forms.base_node.Node.TheVariants as form
+use Rattle.congee.specs.declared.forms.base_node.NodeType.{NodeType}
+use Rattle.congee.specs.declared.forms.base_node.NodeType.TheVariants.{N4, N16, N48, N256}
+use Rattle.congee.specs.declared.forms.child.Child.{Child}
+use Rattle.congee.specs.declared.forms.child.Child.TheVariants.{Blank, Node as Sub, Value}
+use Rattle.congee.specs.declared.owned.arena.Arena.{Arena}
+use Rattle.congee.proofs.lemmas.Tree.{same_or_not}
+use Rattle.congee.proofs.lemmas.owned.Hangings.{above_inner, child_there, only_pair}
+use Rattle.congee.proofs.lemmas.owned.Firsts.{first_below}
+use Rattle.congee.proofs.lemmas.owned.Moves.{insert_at, node_at, one_node, prefix_at, stands_at}
+use Rattle.congee.proofs.lemmas.owned.Ways.{above_apart, below_stands, is_child, linked_of, stands_of}
+
+module _ {P : Type 0} where
+  form_is : (x : Node ℕ P) → form_by (node_of (Some x)).capacity ≡ form_of x
+  form_is (form.N4 n) = refl
+  form_is (form.N16 n) = refl
+  form_is (form.N48 n) = refl
+  form_is (form.N256 n) = refl
+
+  -- a node's form and count, as the tree sees it
+  pub seen_form : (s : Nodes P) (n : ℕ) (x : Node ℕ P) → get s n ≡ Some x → form_by (heap_of s n).capacity ≡ form_of x
+  seen_form s n x e = ap (λ o. form_by (node_of o).capacity) e ∙ form_is x
+
+  pub seen_size : (s : Nodes P) (n : ℕ) (x : Node ℕ P) → get s n ≡ Some x → size_by (heap_of s n).capacity ≡ size_of (form_of x)
+  seen_size s n x e = ap size_of (seen_form s n x e)
+
+  pub seen_count : (s : Nodes P) (n : ℕ) (x : Node ℕ P) → get s n ≡ Some x → (heap_of s n).count ≡ map.len (children_of x)
+  seen_count s n x e = ap (λ o. (node_of o).count) e
+
+  pub lesser_is : (s : Nodes P) (n : ℕ) (x : Node ℕ P) → get s n ≡ Some x → lesser_of (heap_of s n) ≡ lesser_if (shrinks (form_of x) (map.len (children_of x))) (form_of x)
+  lesser_is s n x e = rw (seen_form s n x e, seen_count s n x e) refl
+
+-- a node that gives place to a lesser one is no least one, and its children fit there
+pub shrinks_greater : (f : NodeType) (n : ℕ) → shrinks f n ≡ true → f ≢ N4
+shrinks_greater N4 n s e = absurd (let z : false ≡ true = s in cc)
+shrinks_greater N16 n s e = absurd (cc)
+shrinks_greater N48 n s e = absurd (cc)
+shrinks_greater N256 n s e = absurd (cc)
+
+pub shrinks_room : (f : NodeType) (n : ℕ) → shrinks f n ≡ true → n ≤ capacity_of (form_below f)
+shrinks_room N4 n e = absurd (let z : false ≡ true = e in cc)
+shrinks_room N16 n e = grind (arith, nat_tests)
+shrinks_room N48 n e = grind (arith, nat_tests)
+shrinks_room N256 n e = grind (arith, nat_tests)
+
+-- the least form alone has the least size
+pub size_not_least : (f : NodeType) → f ≢ N4 → size_of f ≢ 64
+size_not_least N4 ne e = ne refl
+size_not_least N16 ne e = absurd (omega (arith, e))
+size_not_least N48 ne e = absurd (omega (arith, e))
+size_not_least N256 ne e = absurd (omega (arith, e))
+
+pub len_left : {X : Type 0} (m : map.FinMap nat_cmp X) (k : ℕ) → map.len (map.remove m k) ≤ map.len m
+len_left m k = of (map.contains_key m k) (map.len-remove nat_cmp_total m k)
+  where
+    of : (b : Bool) → map.len (map.remove m k) ≡ cond b (map.len m - 1) (map.len m) → map.len (map.remove m k) ≤ map.len m
+    of true e = omega (arith, e)
+    of false e = omega (arith, e)
+
+pub len_fewer : {X : Type 0} (m : map.FinMap nat_cmp X) (k : ℕ) (x : X) → map.get m k ≡ Some x → map.len (map.remove m k) ≡ map.len m - 1
+len_fewer m k x e = let c : map.contains_key m k ≡ true = ap is_some e in map.len-remove nat_cmp_total m k ∙ rw c refl
+
+-- how the charge and the sizes moved
+module _ {A : Type 0} (charged limit : A → ℕ) (c0 c1 : A) where
+  pub charges_true : (b : Bool) (f : NodeType) → Charges charged limit c0 c1 (lesser_if b f) true → (b ≡ true) × (charged c1 ≡ charged c0 + size_of (form_below f)) × (charged c0 + size_of (form_below f) ≤ limit c0)
+  charges_true true f k = (refl, k.charges)
+  charges_true false f k = absurd (k.charges)
+
+  pub charges_false : (b : Bool) (f : NodeType) → Charges charged limit c0 c1 (lesser_if b f) false → charged c1 ≡ charged c0
+  charges_false true f k = k.charges.0
+  charges_false false f k = k.charges
+
+  -- no lesser node was charged
+  pub stayed : (b : Bool) (f : NodeType) (before after gone : ℕ) → Charges charged limit c0 c1 (lesser_if b f) false → after + gone ≡ before → GaveWay (charged c0) (limit c0) before after gone (lesser_if b f)
+  stayed true f before after gone k e = inr (e, inl k.charges.1)
+  stayed false f before after gone k e = e
+
+  module _ {P : Type 0} (mid new : Arena P A) where
+    -- one was, after which nodes of so many bytes went
+    pub gave_way : (b : Bool) (f : NodeType) (before gone : ℕ) → Charges charged limit c0 c1 (lesser_if b f) true → bytes_of mid.nodes + gone ≡ before → Lessens charged mid new f
+        → GaveWay (charged c0) (limit c0) before (bytes_of new.nodes) gone (lesser_if b f)
+    gave_way false f before gone k e l = absurd (k.charges)
+    gave_way true f before gone k e l = elim l [
+      | inl m ↦ inl (k.charges.1, (let z = m.1 in omega (arith, z, e)))
+      | inr m ↦ inr ((let z = m.1.0 in omega (arith, z, e)), inr (size_not_least (form_below f) m.1.1))
+    ]
+
+    pub gave_balance : (b : Bool) (f : NodeType) (before gone : ℕ) → Charges charged limit c0 c1 (lesser_if b f) true → charged mid.allocator + gone ≡ charged c1 → bytes_of mid.nodes + gone ≡ before → Lessens charged mid new f
+        → charged new.allocator + before ≡ charged c0 + bytes_of new.nodes
+    gave_balance false f before gone k c e l = absurd (k.charges)
+    gave_balance true f before gone k c e l =
+        let q = k.charges.0 in
+        elim l [
+          | inl m ↦ (let y = m.0 in let z = m.1 in omega (arith, q, c, e, y, z))
+          | inr m ↦ (let y = m.0 in let z = m.1.0 in omega (arith, q, c, e, y, z))
+        ]
+
+module _ {P : Type 0} where
+  -- the map changes as it does before nodes move
+  pub kept_change : (s s' s'' : Nodes P) (key : List ℕ) (before after : Option P) → length key ≡ 8 → MapChange s s' key before after → SameMap s' s'' → MapChange s s'' key before after
+  kept_change s s' s'' key before after len c k = record {
+    was = c.was;
+    now = k.values key len ∙ c.now;
+    others = λ q l ne. k.values q l ∙ c.others q l ne;
+  }
+
+  -- the node above a leaf that went
+  pub lost_child : (s s' : Nodes P) (key : List ℕ) (above at up : ℕ) (v : P) → IsTree s → Hangs s key above at → up ≡ get_or key (length (heap_of s above).prefix) 0
+      → ((x : Node ℕ P) → get s above ≡ Some x → LosesLeaf s s' above x up v) → LosesChild s s' key above at
+  lost_child s s' key above at up v t h b takes =
+      let n = node_at s above h.way.stands in
+      let k = takes n.0 n.1 in
+      let z : Some (Sub k.leaf) ≡ Some (Sub at) = sym k.child ∙ child_there s t key above at h.way.stands h.child n.0 n.1 up b in
+      let leaf : k.leaf ≡ at = same_name k.leaf at z in
+      let place : up ≡ get_or key (length (prefix_of n.0)) 0 = b ∙ ap (λ p. get_or key (length p) 0) (prefix_at s above n.0 n.1) in
+      let B : ℕ → Type 0 = λ y. Becomes n.0 k.node (map.remove (children_of n.0) y) in
+      record { old = n.0; new = k.node; was = n.1; now = k.now; becomes = subst B place k.becomes; others = λ m na nt. k.others m na (λ e. nt (e ∙ leaf)) }
+    where
+      name_or : Option (Child ℕ P) → ℕ
+      name_or None = 0
+      name_or (Some Blank) = 0
+      name_or (Some (Sub c)) = c
+      name_or (Some (Value v)) = 0
+
+      same_name : (m n : ℕ) → Some (Sub {P = P} m) ≡ Some (Sub n) → m ≡ n
+      same_name m n e = ap name_or e
+
+  pub dropped_child : (s0 s1 s2 s3 : Nodes P) (key : List ℕ) (above at byte up : ℕ) → IsTree s0 → OnWay s0 key at → Hangs s0 key above at
+      → ((x : Node ℕ P) → get s0 at ≡ Some x → Sets s0 s1 at x (map.remove (children_of x) byte))
+      → up ≡ get_or key (length (heap_of s1 above).prefix) 0
+      → ((x : Node ℕ P) → get s1 above ≡ Some x → Sets s1 s2 above x (map.remove (children_of x) up)) → Updates s2 s3 at None → LosesChild s0 s3 key above at
+  dropped_child s0 s1 s2 s3 key above at byte up t w h sets1 b sets2 u =
+      let ne : above ≢ at = above_apart s0 t key above at h in
+      let l = node_at s0 at w.stands in
+      let n = node_at s0 above h.way.stands in
+      let j = sets1 l.0 l.1 in
+      let e1 : get s1 above ≡ Some n.0 = j.updates.others above ne ∙ n.1 in
+      let k = sets2 n.0 e1 in
+      let place : up ≡ get_or key (length (prefix_of n.0)) 0 = b ∙ ap (λ p. get_or key (length p) 0) (prefix_at s1 above n.0 e1) in
+      let B : ℕ → Type 0 = λ y. Becomes n.0 k.node (map.remove (children_of n.0) y) in
+      record {
+        old = n.0;
+        new = k.node;
+        was = n.1;
+        now = u.others above ne ∙ k.updates.changed;
+        becomes = subst B place k.becomes;
+        others = λ m na nt. u.others m nt ∙ (k.updates.others m na ∙ j.updates.others m nt);
+      }
+
+  -- what that node has then
+  module _ (s s' : Nodes P) (key : List ℕ) (above at : ℕ) (t : IsTree s) (h : Hangs s key above at) (k : LosesChild s s' key above at) where
+    pub child_lost : map.get (children_of k.old) (get_or key (length (prefix_of k.old)) 0) ≡ Some (Sub at)
+    child_lost = child_there s t key above at h.way.stands h.child k.old k.was _ (ap (λ p. get_or key (length p) 0) (sym (prefix_at s above k.old k.was)))
+
+    pub fewer : map.len (children_of k.new) ≡ map.len (children_of k.old) - 1
+    fewer = ap map.len k.becomes.children ∙ len_fewer (children_of k.old) _ (Sub at) child_lost
+
+    pub lost_inner : length (prefix_of k.new) < 7
+    lost_inner =
+        let p : length (prefix_of k.new) ≡ length (prefix_of k.old) = ap length k.becomes.prefix in
+        let l = above_inner s t key above at h.way.stands h.child k.old k.was in
+        omega (arith, p, l)
+
+  -- a node with one child that isn't a leaf has a node there
+  pub has_one_node : (s : Nodes P) → IsTree s → (n : ℕ) (y : Node ℕ P) → get s n ≡ Some y → length (prefix_of y) < 7 → map.len (children_of y) ≡ 1 → HasOneNode y
+  has_one_node s t n y e inner one = of pair.1 refl
+    where
+      pair : (k : ℕ) × (x : Child ℕ P) × (children_of y ≡ map.insert map.empty k x)
+      pair = only_pair (children_of y) one
+
+      linked = linked_of s t.parent n (stands_at s n y e)
+
+      seen : (heap_of s n).children pair.0 ≡ hung_in (Some pair.1)
+      seen = ap (λ o. (node_of o).children pair.0) e ∙ ap hung_in (ap (λ m. map.get m pair.0) pair.2 ∙ insert_at map.empty pair.0 pair.1)
+
+      of : (x : Child ℕ P) → pair.1 ≡ x → HasOneNode y
+      of Blank q = absurd (
+        let i = t.tree.down n pair.0 0 linked (seen ∙ ap (λ z. hung_in (Some z)) q) in
+        let z : length (heap_of s 0).prefix ≡ 0 = ap length t.tree.empty in
+        let l = i.longer in omega (arith, l, z))
+      of (Sub c) q = record { byte = pair.0; child = c; children = pair.2 ∙ ap (map.insert map.empty pair.0) q }
+      of (Value v) q = absurd (
+        let l = t.tree.leaves n pair.0 v linked (seen ∙ ap (λ z. hung_in (Some z)) q) in
+        let p : length (heap_of s n).prefix ≡ length (prefix_of y) = ap (λ o. length (node_of o).prefix) e in
+        omega (arith, l, p, inner))
+
+  first_some : (p : List ℕ) (b : ℕ) → 0 < length p → first_byte p b ≡ get_or p 0 0
+  first_some [] b l = absurd (omega (arith, l))
+  first_some (x ∷ p) b l = refl
+
+  -- so it may come into that one's place
+  pub may_lift : (s : Nodes P) → IsTree s → (above byte at : ℕ) (upper lower : Node ℕ P) → get s above ≡ Some upper → get s at ≡ Some lower → map.get (children_of upper) byte ≡ Some (Sub at)
+      → length (prefix_of lower) < 7 → map.len (children_of lower) ≡ 1 → MayLift s above byte at
+  may_lift s t above byte at upper lower was stood hung inner one =
+      let o = has_one_node s t at lower stood inner one in
+      let i : IsChild (ledger_of s t.parent) (heap_of s) above byte at = t.tree.down above byte at (linked_of s t.parent above (stands_at s above upper was)) (ap (λ z. (node_of z).children byte) was ∙ ap hung_in hung) in
+      let here : map.get (children_of lower) o.byte ≡ Some (Sub o.child) = ap (λ m. map.get m o.byte) o.children ∙ insert_at map.empty o.byte (Sub o.child) in
+      let j : IsChild (ledger_of s t.parent) (heap_of s) at o.byte o.child = t.tree.down at o.byte o.child i.linked (ap (λ z. (node_of z).children o.byte) stood ∙ ap hung_in here) in
+      let n = node_at s o.child (stands_of s t.parent o.child j.linked) in
+      let l = i.longer in let m = j.longer in
+      let pu : length (heap_of s above).prefix ≡ length (prefix_of upper) = ap length (prefix_at s above upper was) in
+      let pl : length (heap_of s at).prefix ≡ length (prefix_of lower) = ap length (prefix_at s at lower stood) in
+      record {
+        upper = upper;
+        lower = lower;
+        was = was;
+        stood = stood;
+        hung = hung;
+        inner = omega (arith, l, pu, pl, inner);
+        inner_below = inner;
+        one = o;
+        node = n.0;
+        child = n.1;
+        apart = λ e. let z : length (heap_of s above).prefix ≡ length (heap_of s at).prefix = ap (λ y. length (heap_of s y).prefix) e in absurd (omega (arith, l, z));
+        child_apart = λ e. let z : length (heap_of s o.child).prefix ≡ length (heap_of s above).prefix = ap (λ y. length (heap_of s y).prefix) e in absurd (omega (arith, l, m, z));
+        child_apart_below = λ e. let z : length (heap_of s o.child).prefix ≡ length (heap_of s at).prefix = ap (λ y. length (heap_of s y).prefix) e in absurd (omega (arith, m, z));
+        begins = first_below s t at o.byte o.child lower n.0 stood n.1 here ∙ (first_some (prefix_of lower) o.byte (omega (arith, l, pu, pl)) ∙ first_below s t above byte at upper lower was stood hung);
+      }
+
+-- what goes with a leaf from another node than the root
+module _ {P : Type 0} (leaf above : Seen P) where
+  pub going_two : (n : ℕ) → n ≢ 0 → above.count ≡ 2 → going_last leaf n above ≡ record { gone = size_by leaf.capacity + size_by above.capacity; lesser = None }
+  going_two zero ne e = absurd (ne refl)
+  going_two (suc n) ne e = rw e refl
+
+  pub going_more : (n : ℕ) → n ≢ 0 → above.count ≢ 2 → going_last leaf n above ≡ record { gone = size_by leaf.capacity; lesser = lesser_of above }
+  going_more zero ne e = absurd (ne refl)
+  going_more (suc n) ne e =
+      let f : (above.count == 2) ≡ false = elim (eqb_tells above.count 2) [ inl q ↦ absurd (e q.1) | inr q ↦ q.0 ] in
+      rw f refl
+
+module _ {P : Type 0} (h : ℕ → Seen P) (above n : ℕ) where
+  pub going_alone : (h n).count ≡ 1 → going_from h above n ≡ going_last (h n) above (h above)
+  going_alone e = rw e refl
+
+  pub going_beside : (h n).count ≢ 1 → going_from h above n ≡ going_one (h n)
+  going_beside e =
+      let f : ((h n).count == 1) ≡ false = elim (eqb_tells (h n).count 1) [ inl q ↦ absurd (e q.1) | inr q ↦ q.0 ] in
+      rw f refl
