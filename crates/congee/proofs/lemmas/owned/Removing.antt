@@ -22,9 +22,9 @@ use Rattle.congee.specs.owned.Stores.{LosesLeaf}
 use Rattle.congee.specs.owned.Wanted.{form_by, size_by}
 use Rattle.congee.specs.protocol.Steps.{form_below, shrinks}
 use Rattle.congee.specs.declared.forms.base_node.Node.{Node}
-use Rattle.congee.specs.declared.forms.base_node.Node.TheVariants as form
+use Rattle.congee.specs.declared.forms.base_node.Node.TheVariants.{N4, N16, N48, N256}
 use Rattle.congee.specs.declared.forms.base_node.NodeType.{NodeType}
-use Rattle.congee.specs.declared.forms.base_node.NodeType.TheVariants.{N4, N16, N48, N256}
+use Rattle.congee.specs.declared.forms.base_node.NodeType.TheVariants.{N4 as T4, N16 as T16, N48 as T48, N256 as T256}
 use Rattle.congee.specs.declared.forms.child.Child.{Child}
 use Rattle.congee.specs.declared.forms.child.Child.TheVariants.{Blank, Node as Sub, Value}
 use Rattle.congee.specs.declared.owned.arena.Arena.{Arena}
@@ -36,10 +36,10 @@ use Rattle.congee.proofs.lemmas.owned.Ways.{above_apart, below_stands, is_child,
 
 module _ {P : Type 0} where
   form_is : (x : Node ℕ P) → form_by (node_of (Some x)).capacity ≡ form_of x
-  form_is (form.N4 n) = refl
-  form_is (form.N16 n) = refl
-  form_is (form.N48 n) = refl
-  form_is (form.N256 n) = refl
+  form_is (N4 n) = refl
+  form_is (N16 n) = refl
+  form_is (N48 n) = refl
+  form_is (N256 n) = refl
 
   -- a node's form and count, as the tree sees it
   pub seen_form : (s : Nodes P) (n : ℕ) (x : Node ℕ P) → get s n ≡ Some x → form_by (heap_of s n).capacity ≡ form_of x
@@ -55,24 +55,24 @@ module _ {P : Type 0} where
   lesser_is s n x e = rw (seen_form s n x e, seen_count s n x e) refl
 
 -- a node that gives place to a lesser one is no least one, and its children fit there
-pub shrinks_greater : (f : NodeType) (n : ℕ) → shrinks f n ≡ true → f ≢ N4
-shrinks_greater N4 n s e = absurd (let z : false ≡ true = s in cc)
-shrinks_greater N16 n s e = absurd (cc)
-shrinks_greater N48 n s e = absurd (cc)
-shrinks_greater N256 n s e = absurd (cc)
+pub shrinks_greater : (f : NodeType) (n : ℕ) → shrinks f n ≡ true → f ≢ T4
+shrinks_greater T4 n s e = absurd (let z : false ≡ true = s in cc)
+shrinks_greater T16 n s e = absurd (cc)
+shrinks_greater T48 n s e = absurd (cc)
+shrinks_greater T256 n s e = absurd (cc)
 
 pub shrinks_room : (f : NodeType) (n : ℕ) → shrinks f n ≡ true → n ≤ capacity_of (form_below f)
-shrinks_room N4 n e = absurd (let z : false ≡ true = e in cc)
-shrinks_room N16 n e = grind (arith, nat_tests)
-shrinks_room N48 n e = grind (arith, nat_tests)
-shrinks_room N256 n e = grind (arith, nat_tests)
+shrinks_room T4 n e = absurd (let z : false ≡ true = e in cc)
+shrinks_room T16 n e = grind (arith, nat_tests)
+shrinks_room T48 n e = grind (arith, nat_tests)
+shrinks_room T256 n e = grind (arith, nat_tests)
 
 -- the least form alone has the least size
-pub size_not_least : (f : NodeType) → f ≢ N4 → size_of f ≢ 64
-size_not_least N4 ne e = ne refl
-size_not_least N16 ne e = absurd (omega (arith, e))
-size_not_least N48 ne e = absurd (omega (arith, e))
-size_not_least N256 ne e = absurd (omega (arith, e))
+pub size_not_least : (f : NodeType) → f ≢ T4 → size_of f ≢ 64
+size_not_least T4 ne e = ne refl
+size_not_least T16 ne e = absurd (omega (arith, e))
+size_not_least T48 ne e = absurd (omega (arith, e))
+size_not_least T256 ne e = absurd (omega (arith, e))
 
 pub len_left : {X : Type 0} (m : map.FinMap nat_cmp X) (k : ℕ) → map.len (map.remove m k) ≤ map.len m
 len_left m k = of (map.contains_key m k) (map.len-remove nat_cmp_total m k)
