@@ -11,6 +11,7 @@ use Rattle.congee.specs.forms.Mapped.{mapped}
 use Rattle.congee.specs.owned.Arena.{Nodes, hung_in, node_of, heap_of, ledger_of, IsFilled, IsTree}
 use Rattle.congee.specs.owned.Lesser.{Shrunk, ShrinksTo, SameMap}
 use Rattle.congee.specs.owned.Naming.{offset_of, IsByte}
+use Rattle.congee.specs.owned.OwnedSteps.{SameNodes}
 use Rattle.congee.specs.owned.Sizes.{bytes_at, bytes_of}
 use Rattle.congee.specs.owned.Slots.{inner_child, leaf_child, with_children, slot_node, lone_in, inline_at, in_slot, nodes_in}
 use Rattle.congee.specs.owned.Storage.{HasKind, IsStored}
@@ -31,6 +32,7 @@ use Rattle.congee.proofs.lemmas.owned.SlotComes.{slot_updates, slot_stored}
 use Rattle.congee.proofs.lemmas.owned.SlotLens.{counted, len_update}
 use Rattle.congee.proofs.lemmas.owned.Slots.{with_form, with_prefix, with_mapped, with_len}
 use Rattle.congee.proofs.lemmas.owned.Stored.{slot_seen, slot_there, inline_seen, seen_len}
+use Rattle.congee.proofs.lemmas.owned.Ways.{same_tree}
 
 -- a node of a greater form has a slot, and takes the form below there
 module _ {P : Type 0} (s : Slab (Slot P)) (v : Nodes P) (is : nodes_in s ≡ v) (inline : ℕ) (st : IsStored s inline) (at i : ℕ) (byte : Option ℕ) (name : 257 * i + offset_of byte ≡ at) (low : IsByte byte)
@@ -252,3 +254,9 @@ module _ {P : Type 0} (s s' : Nodes P) (at : ℕ) (x y : Node ℕ P) (t : IsTree
       let r = bytes_update s s' at (Some y) u in
       let b : bytes_at (get s at) ≡ size_of (form_of x) = ap bytes_at was in
       omega (arith, r, b)
+
+-- where every name has the node that it had, the map stays
+pub still_map : {P : Type 0} (s s' : Nodes P) → IsTree s → SameNodes s s' → SameMap s s'
+still_map s s' t e =
+    let h : heap_of s' ≡ heap_of s = λ i n. ap node_of (e n) i in
+    record { tree = same_tree s s' e t; values = λ key len. ap (λ z. value_at z key) h }

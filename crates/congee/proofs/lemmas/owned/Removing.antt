@@ -54,6 +54,11 @@ module _ {P : Type 0} where
   pub lesser_is : (s : Nodes P) (n : ℕ) (x : Node ℕ P) → get s n ≡ Some x → lesser_of (heap_of s n) ≡ lesser_if (shrinks (form_of x) (map.len (children_of x))) (form_of x)
   lesser_is s n x e = rw (seen_form s n x e, seen_count s n x e) refl
 
+module _ {P : Type 0} where
+  -- as a call read the node's form and count
+  pub lesser_read : (s : Nodes P) (at : ℕ) (x : Node ℕ P) (f : NodeType) (n : ℕ) → get s at ≡ Some x → f ≡ form_of x → n ≡ map.len (children_of x) → lesser_of (heap_of s at) ≡ lesser_if (shrinks f n) f
+  lesser_read s at x f n e ef en = lesser_is s at x e ∙ (rw (ef, en) refl)
+
 -- a node that gives place to a lesser one is no least one, and its children fit there
 pub shrinks_greater : (f : NodeType) (n : ℕ) → shrinks f n ≡ true → f ≢ T4
 shrinks_greater T4 n s e = absurd (let z : false ≡ true = s in cc)
@@ -86,38 +91,73 @@ len_fewer m k x e = let c : map.contains_key m k ≡ true = ap is_some e in map.
 
 -- how the charge and the sizes moved
 module _ {A : Type 0} (charged limit : A → ℕ) (c0 c1 : A) where
-  pub charges_true : (b : Bool) (f : NodeType) → Charges charged limit c0 c1 (lesser_if b f) true → (b ≡ true) × (charged c1 ≡ charged c0 + size_of (form_below f)) × (charged c0 + size_of (form_below f) ≤ limit c0)
-  charges_true true f k = (refl, k.charges)
-  charges_true false f k = absurd (k.charges)
+  pub charges_true : (b : Bool) (f : NodeType) (r : Bool) → r ≡ true → Charges charged limit c0 c1 (lesser_if b f) r → (b ≡ true) × (charged c1 ≡ charged c0 + size_of (form_below f)) × (charged c0 + size_of (form_below f) ≤ limit c0)
+  charges_true true f true e k = (refl, k.charges)
+  charges_true false f true e k = absurd (k.charges)
+  charges_true b f false e k = absurd (let z : false ≡ true = e in cc)
 
-  pub charges_false : (b : Bool) (f : NodeType) → Charges charged limit c0 c1 (lesser_if b f) false → charged c1 ≡ charged c0
-  charges_false true f k = k.charges.0
-  charges_false false f k = k.charges
+  pub charges_false : (b : Bool) (f : NodeType) (r : Bool) → r ≡ false → Charges charged limit c0 c1 (lesser_if b f) r → charged c1 ≡ charged c0
+  charges_false true f false e k = k.charges.0
+  charges_false false f false e k = k.charges
+  charges_false b f true e k = absurd (let z : true ≡ false = e in cc)
+
+  -- the charge is no less
+  pub charges_more : (b : Bool) (f : NodeType) (r : Bool) → Charges charged limit c0 c1 (lesser_if b f) r → charged c0 ≤ charged c1
+  charges_more true f true k = (let z = k.charges.0 in omega (arith, z))
+  charges_more false f true k = absurd (k.charges)
+  charges_more true f false k = (let z = k.charges.0 in omega (arith, z))
+  charges_more false f false k = (let z = k.charges in omega (arith, z))
 
   -- no lesser node was charged
-  pub stayed : (b : Bool) (f : NodeType) (before after gone : ℕ) → Charges charged limit c0 c1 (lesser_if b f) false → after + gone ≡ before → GaveWay (charged c0) (limit c0) before after gone (lesser_if b f)
-  stayed true f before after gone k e = inr (e, inl k.charges.1)
-  stayed false f before after gone k e = e
+  pub stayed : (b : Bool) (f : NodeType) (r : Bool) (before after gone : ℕ) → r ≡ false → Charges charged limit c0 c1 (lesser_if b f) r → after + gone ≡ before → GaveWay (charged c0) (limit c0) before after gone (lesser_if b f)
+  stayed true f false before after gone q k e = inr (e, inl k.charges.1)
+  stayed false f false before after gone q k e = e
+  stayed b f true before after gone q k e = absurd (let z : true ≡ false = q in cc)
 
   module _ {P : Type 0} (mid new : Arena P A) where
     -- one was, after which nodes of so many bytes went
-    pub gave_way : (b : Bool) (f : NodeType) (before gone : ℕ) → Charges charged limit c0 c1 (lesser_if b f) true → bytes_of mid.nodes + gone ≡ before → Lessens charged mid new f
+    pub gave_way : (b : Bool) (f : NodeType) (r : Bool) (before gone : ℕ) → r ≡ true → Charges charged limit c0 c1 (lesser_if b f) r → bytes_of mid.nodes + gone ≡ before → Lessens charged mid new f
         → GaveWay (charged c0) (limit c0) before (bytes_of new.nodes) gone (lesser_if b f)
-    gave_way false f before gone k e l = absurd (k.charges)
-    gave_way true f before gone k e l = elim l [
+    gave_way false f true before gone q k e l = absurd (k.charges)
+    gave_way true f true before gone q k e l = elim l [
       | inl m ↦ inl (k.charges.1, (let z = m.1 in omega (arith, z, e)))
       | inr m ↦ inr ((let z = m.1.0 in omega (arith, z, e)), inr (size_not_least (form_below f) m.1.1))
     ]
+    gave_way b f false before gone q k e l = absurd (let z : false ≡ true = q in cc)
 
-    pub gave_balance : (b : Bool) (f : NodeType) (before gone : ℕ) → Charges charged limit c0 c1 (lesser_if b f) true → charged mid.allocator + gone ≡ charged c1 → bytes_of mid.nodes + gone ≡ before → Lessens charged mid new f
+    pub gave_balance : (b : Bool) (f : NodeType) (r : Bool) (before gone : ℕ) → r ≡ true → Charges charged limit c0 c1 (lesser_if b f) r → charged mid.allocator + gone ≡ charged c1 → bytes_of mid.nodes + gone ≡ before → Lessens charged mid new f
         → charged new.allocator + before ≡ charged c0 + bytes_of new.nodes
-    gave_balance false f before gone k c e l = absurd (k.charges)
-    gave_balance true f before gone k c e l =
-        let q = k.charges.0 in
+    gave_balance b f r before gone q k c e l =
+        let z = (charges_true b f r q k).1.0 in
         elim l [
-          | inl m ↦ (let y = m.0 in let z = m.1 in omega (arith, q, c, e, y, z))
-          | inr m ↦ (let y = m.0 in let z = m.1.0 in omega (arith, q, c, e, y, z))
+          | inl m ↦ (let y = m.0 in let w = m.1 in omega (arith, z, c, e, y, w))
+          | inr m ↦ (let y = m.0 in let w = m.1.0 in omega (arith, z, c, e, y, w))
         ]
+
+  -- what a lesser node's coming wants, where the node lost a child
+  module _ {P : Type 0} (mid : Nodes P) (at : ℕ) (old new : Node ℕ P) (f : NodeType) (n : ℕ) (r : Bool) (is : r ≡ true) (ef : f ≡ form_of old) (en : n ≡ map.len (children_of old)) (now : get mid at ≡ Some new)
+      (form : form_of new ≡ form_of old) (fewer : map.len (children_of new) ≤ map.len (children_of old)) (k : Charges charged limit c0 c1 (lesser_if (shrinks f n) f) r) where
+    small : shrinks f n ≡ true
+    small = (charges_true (shrinks f n) f r is k).0
+
+    form_there : (x : Node ℕ P) → get mid at ≡ Some x → form_of x ≡ f
+    form_there x e = ap form_of (one_node mid at x new e now) ∙ (form ∙ sym ef)
+
+    pub ready_greater : (x : Node ℕ P) → get mid at ≡ Some x → form_of x ≢ T4
+    ready_greater x e q = shrinks_greater f n small (sym (form_there x e) ∙ q)
+
+    pub ready_room : (x : Node ℕ P) → get mid at ≡ Some x → map.len (children_of x) ≤ capacity_of (form_below (form_of x))
+    ready_room x e =
+        let l : map.len (children_of x) ≡ map.len (children_of new) = ap (λ y. map.len (children_of y)) (one_node mid at x new e now) in
+        let c : capacity_of (form_below (form_of x)) ≡ capacity_of (form_below f) = ap (λ y. capacity_of (form_below y)) (form_there x e) in
+        let m = shrinks_room f n small in
+        omega (arith, l, c, m, en, fewer)
+
+    pub ready_covered : (cm gone : ℕ) → cm + gone ≡ charged c1 → bytes_of mid + gone ≤ charged c0 → (x : Node ℕ P) → get mid at ≡ Some x → bytes_of mid + size_of (form_below (form_of x)) ≤ cm
+    ready_covered cm gone e b x h =
+        let c : size_of (form_below (form_of x)) ≡ size_of (form_below f) = ap (λ y. size_of (form_below y)) (form_there x h) in
+        let m = (charges_true (shrinks f n) f r is k).1.0 in
+        omega (arith, e, b, c, m)
 
 module _ {P : Type 0} where
   -- the map changes as it does before nodes move
@@ -240,6 +280,52 @@ module _ {P : Type 0} where
         child_apart_below = λ e. let z : length (heap_of s o.child).prefix ≡ length (heap_of s at).prefix = ap (λ y. length (heap_of s y).prefix) e in absurd (omega (arith, m, z));
         begins = first_below s t at o.byte o.child lower n.0 stood n.1 here ∙ (first_some (prefix_of lower) o.byte (omega (arith, l, pu, pl)) ∙ first_below s t above byte at upper lower was stood hung);
       }
+
+module _ {P : Type 0} where
+  -- a leaf isn't the root
+  pub leaf_not_root : (s : Nodes P) (n : ℕ) → IsTree s → length (heap_of s n).prefix ≡ 7 → n ≢ 0
+  leaf_not_root s n t seven e =
+      let y : length (heap_of s 0).prefix ≡ 0 = ap length t.tree.empty in
+      let z : length (heap_of s n).prefix ≡ length (heap_of s 0).prefix = ap (λ m. length (heap_of s m).prefix) e in
+      absurd (omega (arith, seven, y, z))
+
+  -- nor is what hangs in a node
+  pub hung_not_root : (s : Nodes P) (key : List ℕ) (above n : ℕ) → IsTree s → Hangs s key above n → n ≢ 0
+  hung_not_root s key above n t h e =
+      let l = (is_child s t above n key h.way.stands h.child).longer in
+      let y : length (heap_of s 0).prefix ≡ 0 = ap length t.tree.empty in
+      let z : length (heap_of s n).prefix ≡ length (heap_of s 0).prefix = ap (λ m. length (heap_of s m).prefix) e in
+      absurd (omega (arith, l, y, z))
+
+  module _ (s mid : Nodes P) (key : List ℕ) (top above at : ℕ) (t : IsTree s) (h : Hangs s key above at) (higher : Hangs s key top above) (k : LosesChild s mid key above at) where
+    above_child : IsChild (ledger_of s t.parent) (heap_of s) above (get_or key (length (heap_of s above).prefix) 0) at
+    above_child = is_child s t above at key h.way.stands h.child
+
+    top_child : IsChild (ledger_of s t.parent) (heap_of s) top (get_or key (length (heap_of s top).prefix) 0) above
+    top_child = is_child s t top above key higher.way.stands higher.child
+
+    -- the node above the one that loses its child
+    pub top_same : get mid top ≡ get s top
+    top_same =
+        let l = above_child.longer in
+        let m = top_child.longer in
+        k.others top (above_apart s t key top above higher)
+        (λ e. let z : length (heap_of s top).prefix ≡ length (heap_of s at).prefix = ap (λ y. length (heap_of s y).prefix) e in absurd (omega (arith, l, m, z)))
+
+    pub top_stands : ContainsKey mid top
+    top_stands = subst IsSome (sym top_same) higher.way.stands
+
+    pub lift_ready : (up : ℕ) → IsTree mid → up ≡ get_or key (length (heap_of mid top).prefix) 0 → ((x : Node ℕ P) → get s above ≡ Some x → map.len (children_of x) ≡ 2) → MayLift mid top up above
+    lift_ready up t' b two =
+        let u = node_at s top higher.way.stands in
+        let place : up ≡ get_or key (length (heap_of s top).prefix) 0 = b ∙ ap (λ o. get_or key (length (node_of o).prefix) 0) top_same in
+        let n = fewer s mid key above at t h k in
+        let c = two k.old k.was in
+        may_lift mid t' top up above u.0 k.new (top_same ∙ u.1) k.now (child_there s t key top above higher.way.stands higher.child u.0 u.1 up place) (lost_inner s mid key above at t h k) (omega (arith, n, c))
+
+    -- its size is that of the node as it was
+    pub lifted_size : (up : ℕ) (r : MayLift mid top up above) (x : Node ℕ P) → get s above ≡ Some x → size_of (form_of r.lower) ≡ size_of (form_of x)
+    lifted_size up r x e = ap size_of (ap form_of (one_node mid above r.lower k.new r.stood k.now) ∙ (k.becomes.form ∙ ap form_of (one_node s above k.old x k.was e)))
 
 -- what goes with a leaf from another node than the root
 module _ {P : Type 0} (leaf above : Seen P) where
