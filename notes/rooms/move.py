@@ -33,7 +33,7 @@ def note(text):
 class Table:
     def __init__(self, path):
         self.rooms, self.src, self.spec, self.lemma = [], {}, {}, {}
-        self.items, self.fns, self.heads, self.new, self.files, self.opened = [], [], {}, {}, {}, []
+        self.items, self.fns, self.heads, self.new, self.files, self.opened, self.rows = [], [], {}, {}, {}, [], []
         for line in path.read_text(encoding="utf-8").splitlines():
             if not line.strip() or line.startswith("#"):
                 continue
@@ -42,7 +42,9 @@ class Table:
             if kind == "rooms":
                 self.rooms = words
             elif kind == "head":
-                self.heads[words[0]] = rest.split(None, 1)[1]
+                self.heads.setdefault(words[0], []).append(rest.partition(" ")[2])
+            elif kind == "table":
+                self.rows.append(rest)
             elif kind == "src":
                 self.src[words[0]] = words[1]
             elif kind in ("spec", "lemma"):
@@ -812,6 +814,11 @@ def rewrite_mods(plan):
     mods = "".join(f"mod {m};\n" for m in tops) + ("#[cfg(test)]\nmod tests;\n" if tests else "")
     text = re.sub(r"(#!\[tactic\(auto\)\]\n)\n*", rf"\1\n{mods}\n", text, count=1)
 
+    if table.rows and "//! | What | Its file |" in text:
+        text = re.sub(r"(?m)(^//! \|.*\n)+", "".join(f"//! {r}\n" for r in table.rows), text, count=1)
+    else:
+        note("lib.rt: its table of files isn't where it was")
+
     def again(m):
         by = defaultdict(list)
         for path, name, alias in flat_use(m[1]):
@@ -832,11 +839,17 @@ def rewrite_mods(plan):
     for room in table.rooms[1:]:
         mods = room_file(plan, room)
         path = SRC / f"{room}.rt"
+        head = [("//! " + l).rstrip() for l in table.heads.get(room, [])]
         if not path.is_file():
-            write(path, f"//! {table.heads.get(room, room)}\n\n" + "\n".join(mods) + "\n")
+            write(path, "\n".join(head) + "\n\n" + "\n".join(mods) + "\n")
             continue
         text = read(path)
-        have = re.findall(r"^(?:pub(?:\([a-z]+\))? )?mod \w+;$", text, re.M)
+        if head:
+            first, _, rest = text.partition("\n")
+            text = "\n".join([first, "//!"] + head) + "\n" + rest
+        for old, new in plan.src.items():
+            if old.startswith(room + ".") and old != new:
+                text = re.sub(rf"^(//!.*)`{old.split('.')[-1]}`", rf"\1`{new.split('.')[-1]}`", text, flags=re.M)
         text = re.sub(r"^(?:pub(?:\([a-z]+\))? )?mod \w+;\n", "", text, flags=re.M)
         lines = text.split("\n")
         at = 0
@@ -844,7 +857,6 @@ def rewrite_mods(plan):
             at += 1
         lines[at:at] = mods + [""]
         write(path, re.sub(r"\n{3,}", "\n\n", "\n".join(lines)).rstrip("\n") + "\n")
-        del have
 
 
 def plan_functions(plan):
@@ -920,10 +932,44 @@ def spec_file(plan, name):
     return plan.spec[name].replace(".", "/") if name in plan.spec else None
 
 
+def defines(path, name):
+    return re.search(rf"(?m)^\s*(?:(?:pub|data|record|abbrev|def|ghost|trait|enum|struct|private) )*{re.escape(name)}\b", read(path)) is not None
+
+
+def model_row(plan, line):
+    """The files of a row of MODEL, where a word of it has gone to another one."""
+    cells = line.split(" | ")
+    files = re.findall(r"`(specs/[^`]+)`", cells[1])
+    words = [n.split()[0].strip(".") for n in re.findall(r"`([^`]+)`", cells[0])]
+    if not files or not all((JOINT / f).is_file() for f in files) or re.search(r"`src/", cells[1]):
+        return line
+    found = []
+    for word in words:
+        mine = [f for f in files if defines(JOINT / f, word)]
+        if not mine:
+            gone = [plan.spec[new].replace(".", "/") for name, _, new in plan.table.items if name == word]
+            mine = [str(p.relative_to(JOINT)) for p in sorted(SPECS.rglob("*.antt")) if defines(p, word)]
+            mine = [f"specs/{g}.antt" for g in gone] or mine
+            if len(mine) != 1:
+                return line
+        found += [f for f in mine if f not in found]
+    if set(found) != set(files):
+        cells[1] = ", ".join(f"`{f}`" for f in found)
+        return " | ".join(cells)
+    return line
+
+
+def elsewhere():
+    """The names of files that other crates have, and their definitions by their path."""
+    names = {p.name for p in sources() if not p.is_relative_to(JOINT)}
+    specs = {p.name for d in Path("crates").iterdir() if d != JOINT for p in d.glob("specs/*.antt")}
+    return names, specs
+
+
 def docs_text(plan, file, text):
     lines, crate = text.split("\n"), None
-    moved_fn = {new: None for _, _, new in plan.table.fns}
-    del moved_fn
+    names, specs = elsewhere()
+    joint_files = {old.split(".")[-1]: new for old, new in plan.src.items()}
     for i, line in enumerate(lines):
         if line.startswith("#"):
             m = re.search(r"`(judge|crossbeam_epoch|congee|joint|trial)", line)
@@ -951,6 +997,28 @@ def docs_text(plan, file, text):
         if crate == CRATE:
             line = re.sub(r"(?<![\w/])((?<!` )`?specs/)([A-Z]\w+)\.antt", spec, line) if not re.search(r"`(?:judge|crossbeam_epoch|congee|trial)` `specs/", line) else line
             line = re.sub(r"(?<![\w/])(`src/)([\w/]+)\.rt", src, line)
+
+        # of the crate alone, whatever stands before it
+        def only(m):
+            new = spec_file(plan, m[2])
+            return m[1] + new + ".antt" if new and m[2] + ".antt" not in specs else m[0]
+
+        line = re.sub(r"(?<![\w/])(`specs/)(\w+)\.antt", only, line)
+        walked = file == "ARCHITECTURE.md" and re.search(r"\| \d+ \|$", line)
+
+        def bare(m):
+            new = joint_files.get(m[1])
+            if not new or new == m[1]:
+                return m[0]
+            if f"`{CRATE}/src/threads`" in line:
+                return "`" + new.split(".")[-1] + ".rt"
+            if walked or f"{CRATE}/src/" in line or m[1] + ".rt" not in names:
+                return "`" + new.replace(".", "/") + ".rt"
+            return m[0]
+
+        line = re.sub(r"`([a-z_0-9]+)\.rt", bare, line)
+        if file == "MODEL.md" and crate == CRATE and line.startswith("| `"):
+            line = model_row(plan, line)
         if file == "PROOF.md" and crate == CRATE and line.startswith("|"):
 
             def lemma(m):
