@@ -202,7 +202,7 @@ def rename_defined(crate, kind, module, old, new):
                             exporters.add(e)
                             again = True
     # a new word that is there already means something else
-    clash = [p for p in scope if has_word(read(p), new)]
+    clash = [p for p in scope if (has_word(read(p), new) if p.suffix == ".antt" else in_scope(read(p), new))]
     hard = [p for p in clash if p.suffix == ".antt" or p == home]
     if hard and not all(only_field(read(p), new) for p in hard):
         for p in hard:
@@ -238,6 +238,21 @@ def rename_defined(crate, kind, module, old, new):
             write(path, changed)
     docs_word(crate, old, new)
     return True
+
+
+def in_scope(text, word):
+    """Whether a word already means something in the clauses of a file of code: it is imported for them, or is a type there."""
+    for line in text.split("\n"):
+        m = USE.match(line)
+        if m and (any(word == (a or n) for n, a in names_of(m["names"] or "")) or m["alias"] == word):
+            return True
+    if word[:1].isupper():
+        if re.search(rf"(?m)^\s*(?:pub(?:\([a-z]+\))? )?(?:struct|enum|trait|type) {word}\b", text):
+            return True
+        for m in re.finditer(r"^\s*(?:pub(?:\([a-z]+\))? )?use ([^;]+);", text, re.M):
+            if any(word == (a or n) for _, n, a in flat_use(m[1])):
+                return True
+    return False
 
 
 def only_field(text, word):
