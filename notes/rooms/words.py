@@ -236,7 +236,7 @@ def rename_defined(crate, kind, module, old, new):
         changed = re.sub(rf"(?<![\w'.]){re.escape(alias)}\.{re.escape(old)}(?!{WORD})", f"{alias}.{new}", text)
         if changed != text:
             write(path, changed)
-    docs_word(crate, old, new)
+    docs_word(crate, old, new, home)
     return True
 
 
@@ -406,7 +406,7 @@ def rename_type(crate, module, old, new):
         elif ("+" in folder.name or inside or folder.name != old) and glued(folder.name, old, new) != folder.name and (len(owners) == 1 or inside):
             if folder.name[:1].isupper():
                 move_folder(crate, folder, folder.with_name(glued(folder.name, old, new)))
-    docs_word(crate, old, new)
+    docs_word(crate, old, new, home)
     return True
 
 
@@ -515,7 +515,7 @@ def rename_fn(crate, module, old, new):
         write(path, changed)
         edit_lines(path, lambda l: call.sub(new, l))
     rename_in_answers(crate, module, old, new, callers, home)
-    docs_word(crate, old, new)
+    docs_word(crate, old, new, home, "fn")
     return True
 
 
@@ -706,12 +706,21 @@ def by_crate(path):
         yield line, crate
 
 
-def docs_word(crate, old, new):
+def docs_word(crate, old, new, home=None, kind="word"):
+    """A word in documents, where a line speaks of the crate, and, where others have a word so spelled, of its file."""
+    short = {"crossbeam_epoch": "e/", "congee": "c/", "trial": "t/", "joint": "", "judge": "judge/"}[crate]
+    file = str(home.relative_to(ROOT / crate)) if home else None
+    start = rf"(?m)^\s*(?:(?:pub|abbrev|record|data|struct|enum|trait|type|fn|const)(?:\(crate\))? )*{re.escape(old)}(?!{WORD})"
+    alone = home is None or sum(re.search(start, read(p)) is not None for p in paths(crate)) <= 1
     for path in doc_files():
         out = []
         for line, here in by_crate(path):
             said = re.findall(r"`(judge|crossbeam_epoch|congee|joint|trial)` `", line)
-            if here == crate or (here is None and crate in said) or path.name == "ARCHITECTURE.md" and walked(line, crate, old):
+            if path.name == "ARCHITECTURE.md" and re.search(r"\| \d+ \|$", line):
+                line = walked(line, short + file.removeprefix("src/"), old, new) if file and kind == "fn" else line
+            elif kind != "fn" and (here == crate or here is None and crate in said) and (alone or f"`{file}`" in line):
+                line = in_ticks(line, old, new)
+            elif kind == "fn" and alone and here == crate:
                 line = in_ticks(line, old, new)
             out.append(line)
         changed = "\n".join(out)
@@ -719,9 +728,16 @@ def docs_word(crate, old, new):
             write(path, changed)
 
 
-def walked(line, crate, old):
-    short = {"crossbeam_epoch": "e/", "congee": "c/", "trial": "t/"}.get(crate)
-    return re.search(r"\| \d+ \|$", line) is not None and (short is None or short in line)
+def walked(line, file, old, new):
+    """A function in a row of the walk, whose file stands before it."""
+    now = None
+
+    def one(m):
+        nonlocal now
+        now = m[1] or now
+        return m[0] if now != file or m[2] != old else "`" + (f"{m[1]}: " if m[1] else "") + new + "`"
+
+    return re.sub(r"`(?:([\w/]+\.rt): )?(\w+)`", one, line)
 
 
 def docs_file(crate, kind, was, now):
