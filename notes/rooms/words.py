@@ -711,7 +711,7 @@ def docs_word(crate, old, new, home=None, kind="word"):
     short = {"crossbeam_epoch": "e/", "congee": "c/", "trial": "t/", "joint": "", "judge": "judge/"}[crate]
     file = str(home.relative_to(ROOT / crate)) if home else None
     start = rf"(?m)^\s*(?:(?:pub|abbrev|record|data|struct|enum|trait|type|fn|const)(?:\(crate\))? )*{re.escape(old)}(?!{WORD})"
-    alone = home is None or sum(re.search(start, read(p)) is not None for p in paths(crate)) <= 1
+    alone = home is None or not any(re.search(start, read(p)) for p in paths(crate) if p != home)
     for path in doc_files():
         out = []
         for line, here in by_crate(path):
