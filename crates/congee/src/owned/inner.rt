@@ -234,11 +234,7 @@ impl<P: Small> Inner<P> {
 
     /// Puts another child under a byte that has one, and gives the one before.
     #[inline(always)]
-    pub(crate) fn change(
-        &mut self,
-        byte: u8,
-        child: Child<usize, Lone<P>>,
-    ) -> Child<usize, Lone<P>>
+    pub(crate) fn change(&mut self, byte: u8, child: Child<usize, Lone<P>>) -> Child<usize, Lone<P>>
         requires present { IsSome (map.get (children_of self.old) byte) }
         requires begins { Begins (first_byte (prefix_of self.old) byte) child }
         ensures before { map.get (children_of self.old) byte ≡ Some result }

@@ -174,9 +174,7 @@ impl<P: Stored> Nodes<P> {
         ensures own { HasOwnSlot result }
         ensures capacity { self.new.capacity ≡ self.old.capacity }
     {
-        let slot = self
-            .slab
-            .insert_reserved(Slot::Inner(Inner::least(prefix)));
+        let slot = self.slab.insert_reserved(Slot::Inner(Inner::least(prefix)));
         Name::of(slot)
     }
 

@@ -77,7 +77,12 @@ impl<P: Stored, A: Allocator> Arena<P, A> {
         ensures refused { IfErr result (Denies A.charged_of A.limit_of self.old self.new
             key.now value (wants_at (heap_of self.old.nodes) key.now)) }
     {
-        let Place { above, at, spot, .. } = self.locate(key);
+        let Place {
+            above,
+            at,
+            spot,
+            ..
+        } = self.locate(key);
         match spot {
             Spot::Held => Ok(Some(self.replace(at, key, value))),
             Spot::Free => {

@@ -15,6 +15,7 @@ ghost use Rattle.congee.specs.owned.OwnedSteps.{IsHeld};
 ghost use Rattle.congee.specs.owned.Place.{Located};
 ghost use Rattle.congee.specs.owned.Sizes.{bytes_of};
 ghost use Rattle.congee.specs.declared.forms.base_node.Node.{Node as Form};
+ghost use Rattle.congee.specs.declared.forms.base_node.NodeType.TheVariants.{N4};
 
 use crate::allocator::Allocator;
 use crate::forms::base_node::NodeType;

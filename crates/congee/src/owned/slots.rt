@@ -196,7 +196,11 @@ impl<P: Small> Slot<P> {
     }
 
     #[inline(always)]
-    pub(crate) fn change_child(&mut self, byte: u8, child: Child<usize, Lone<P>>) -> Child<usize, Lone<P>>
+    pub(crate) fn change_child(
+        &mut self,
+        byte: u8,
+        child: Child<usize, Lone<P>>,
+    ) -> Child<usize, Lone<P>>
         requires present { IsSome (inner_get self.old byte) }
         requires begins { Begins (first_byte (prefix_in self.old) byte) child }
         ensures was { inner_get self.old byte ≡ Some result }

@@ -133,8 +133,10 @@ const COLLAPSES: [(&[u64], u64, u64, u64); 7] = [
 #[test]
 fn the_other_child_moves_up(rt: HostRuntime) -> Result<(), Fail> {
     for (keys, gone, before, after) in COLLAPSES {
-        let mut tree: U64Congee<u64, DefaultAllocator> =
-            U64Congee::new(rt.alloc(), DefaultAllocator::new())?;
+        let mut tree: U64Congee<u64, DefaultAllocator> = U64Congee::new(
+            rt.alloc(),
+            DefaultAllocator::new(),
+        )?;
         for key in keys {
             tree.insert(*key, *key)?;
         }
@@ -168,7 +170,11 @@ fn a_lesser_node_past_the_budget_is_done_without(rt: HostRuntime) -> Result<(), 
     for (limit, four, three) in LIMITS {
         let mut tree = with_keys(rt.alloc(), Limited::new(limit), 1, 5, 1)?;
         tree.insert(1 << 56, 0)?;
-        assert_eq!(rt; (tree.remove(&1), tree.charged()), (Some(1), four), "{limit}");
+        assert_eq!(rt;
+            (tree.remove(&1), tree.charged()),
+            (Some(1), four),
+            "{limit}"
+        );
         assert_eq!(rt;
             (tree.compute_if_present(&2, |_| None), tree.charged()),
             (Some((2, None)), three),
@@ -201,13 +207,7 @@ const COUNTS: [(u64, u64, u64, u64); 12] = [
 ];
 
 /// The nodes that are made as a key comes and goes so often, in a tree of `most` keys of which but `count` went.
-fn made(
-    alloc: Global,
-    count: u64,
-    most: u64,
-    distance: u64,
-    pairs: u64,
-) -> Result<u64, OOMError> {
+fn made(alloc: Global, count: u64, most: u64, distance: u64, pairs: u64) -> Result<u64, OOMError> {
     let allocator = Counting {
         budget: DefaultAllocator::new(),
         made: 0,
@@ -230,7 +230,11 @@ fn a_growth_and_a_shrink_do_not_alternate(rt: HostRuntime) -> Result<(), Fail> {
     for (count, most, distance, leaves) in COUNTS {
         let once = made(rt.alloc(), count, most, distance, 1)?;
         let often = made(rt.alloc(), count, most, distance, 1_001)?;
-        assert_eq!(rt; often.wrapping_sub(once), leaves.wrapping_mul(1_000), "{count} at {distance}");
+        assert_eq!(rt;
+            often.wrapping_sub(once),
+            leaves.wrapping_mul(1_000),
+            "{count} at {distance}"
+        );
     }
     Ok(())
 }

@@ -8,7 +8,7 @@ use Rattle.std.specs.FinMap as map
 use Rattle.std.proofs.lemmas.Bool.Decides.{eqb_tells, nat_tests}
 use Rattle.slab.specs.Slab.{get, ContainsKey, Updates}
 use Rattle.congee.specs.Heap.{Node as Seen, Hung, Nothing, Below, Holds, fits, child_for, value_at}
-use Rattle.congee.specs.Ledger.{IsChild}
+use Rattle.congee.specs.Ledger.{IsChild, Linked}
 use Rattle.congee.specs.forms.Forms.{Becomes, capacity_of, children_of, form_of, prefix_of, size_of}
 use Rattle.congee.specs.owned.Arena.{Nodes, hung_in, node_of, heap_of, ledger_of, IsTree, OnWay, Hangs}
 use Rattle.congee.specs.owned.Changes.{MapChange}
@@ -52,12 +52,13 @@ module _ {P : Type 0} where
   seen_count s n x e = ap (λ o. (node_of o).count) e
 
   pub lesser_is : (s : Nodes P) (n : ℕ) (x : Node ℕ P) → get s n ≡ Some x → lesser_of (heap_of s n) ≡ lesser_if (shrinks (form_of x) (map.len (children_of x))) (form_of x)
-  lesser_is s n x e = rw (seen_form s n x e, seen_count s n x e) refl
+  lesser_is s n x e = ap (λ f. lesser_if (shrinks f (heap_of s n).count) f) (seen_form s n x e) ∙ ap (λ c. lesser_if (shrinks (form_of x) c) (form_of x)) (seen_count s n x e)
 
 module _ {P : Type 0} where
   -- as a call read the node's form and count
   pub lesser_read : (s : Nodes P) (at : ℕ) (x : Node ℕ P) (f : NodeType) (n : ℕ) → get s at ≡ Some x → f ≡ form_of x → n ≡ map.len (children_of x) → lesser_of (heap_of s at) ≡ lesser_if (shrinks f n) f
-  lesser_read s at x f n e ef en = lesser_is s at x e ∙ (rw (ef, en) refl)
+  lesser_read s at x f n e ef en =
+      lesser_is s at x e ∙ (ap (λ t. lesser_if (shrinks t (map.len (children_of x))) t) (sym ef) ∙ ap (λ c. lesser_if (shrinks f c) f) (sym en))
 
 -- a node that gives place to a lesser one is no least one, and its children fit there
 pub shrinks_greater : (f : NodeType) (n : ℕ) → shrinks f n ≡ true → f ≢ T4
@@ -174,20 +175,13 @@ module _ {P : Type 0} where
   lost_child s s' key above at up v t h b takes =
       let n = node_at s above h.way.stands in
       let k = takes n.0 n.1 in
-      let z : Some (Sub k.leaf) ≡ Some (Sub at) = sym k.child ∙ child_there s t key above at h.way.stands h.child n.0 n.1 up b in
-      let leaf : k.leaf ≡ at = same_name k.leaf at z in
+      let leaf : k.leaf ≡ at = same_name (map.get (children_of n.0) up) k.leaf at k.child (child_there s t key above at h.way.stands h.child n.0 n.1 up b) in
       let place : up ≡ get_or key (length (prefix_of n.0)) 0 = b ∙ ap (λ p. get_or key (length p) 0) (prefix_at s above n.0 n.1) in
       let B : ℕ → Type 0 = λ y. Becomes n.0 k.node (map.remove (children_of n.0) y) in
       record { old = n.0; new = k.node; was = n.1; now = k.now; becomes = subst B place k.becomes; others = λ m na nt. k.others m na (λ e. nt (e ∙ leaf)) }
     where
-      name_or : Option (Child ℕ P) → ℕ
-      name_or None = 0
-      name_or (Some Blank) = 0
-      name_or (Some (Sub c)) = c
-      name_or (Some (Value v)) = 0
-
-      same_name : (m n : ℕ) → Some (Sub {P = P} m) ≡ Some (Sub n) → m ≡ n
-      same_name m n e = ap name_or e
+      same_name : (o : Option (Child ℕ P)) (m n : ℕ) → o ≡ Some (Sub m) → o ≡ Some (Sub n) → m ≡ n
+      same_name o m n e h = let a : Child ℕ P = Sub m in let d : Child ℕ P = Sub n in let z : Some a ≡ Some d = sym e ∙ h in cc
 
   pub dropped_child : (s0 s1 s2 s3 : Nodes P) (key : List ℕ) (above at byte up : ℕ) → IsTree s0 → OnWay s0 key at → Hangs s0 key above at
       → ((x : Node ℕ P) → get s0 at ≡ Some x → Sets s0 s1 at x (map.remove (children_of x) byte))
@@ -232,6 +226,7 @@ module _ {P : Type 0} where
       pair : (k : ℕ) × (x : Child ℕ P) × (children_of y ≡ map.insert map.empty k x)
       pair = only_pair (children_of y) one
 
+      linked : (ledger_of s t.parent n).status ≡ Linked
       linked = linked_of s t.parent n (stands_at s n y e)
 
       seen : (heap_of s n).children pair.0 ≡ hung_in (Some pair.1)
@@ -239,14 +234,14 @@ module _ {P : Type 0} where
 
       of : (x : Child ℕ P) → pair.1 ≡ x → HasOneNode y
       of Blank q = absurd (
-        let i = t.tree.down n pair.0 0 linked (seen ∙ ap (λ z. hung_in (Some z)) q) in
-        let z : length (heap_of s 0).prefix ≡ 0 = ap length t.tree.empty in
-        let l = i.longer in omega (arith, l, z))
+          let i = t.tree.down n pair.0 0 linked (seen ∙ ap (λ z. hung_in (Some z)) q) in
+          let z : length (heap_of s 0).prefix ≡ 0 = ap length t.tree.empty in
+          let l = i.longer in omega (arith, l, z))
       of (Sub c) q = record { byte = pair.0; child = c; children = pair.2 ∙ ap (map.insert map.empty pair.0) q }
       of (Value v) q = absurd (
-        let l = t.tree.leaves n pair.0 v linked (seen ∙ ap (λ z. hung_in (Some z)) q) in
-        let p : length (heap_of s n).prefix ≡ length (prefix_of y) = ap (λ o. length (node_of o).prefix) e in
-        omega (arith, l, p, inner))
+          let l = t.tree.leaves n pair.0 v linked (seen ∙ ap (λ z. hung_in (Some z)) q) in
+          let p : length (heap_of s n).prefix ≡ length (prefix_of y) = ap (λ o. length (node_of o).prefix) e in
+          omega (arith, l, p, inner))
 
   first_some : (p : List ℕ) (b : ℕ) → 0 < length p → first_byte p b ≡ get_or p 0 0
   first_some [] b l = absurd (omega (arith, l))
