@@ -7,7 +7,7 @@ ghost use Rattle.congee.specs.forms.Forms.{children_of, size_of};
 ghost use Rattle.congee.specs.owned.Arena.{IsTree, OnWay, Hangs, Reached, heap_of};
 ghost use Rattle.congee.specs.owned.Charge.{Covers};
 ghost use Rattle.congee.specs.owned.Sizes.{bytes_of};
-ghost use Rattle.congee.specs.owned.Changes.{DiffersAt, MapChange};
+ghost use Rattle.congee.specs.owned.Changes.{MapChange};
 ghost use Rattle.congee.specs.owned.Edits.{Adds, Denies, Drops, Frees, Swaps};
 ghost use Rattle.congee.specs.owned.Naming.{HasOwnSlot};
 ghost use Rattle.congee.specs.owned.OwnedSteps.{Hosts, IsHeld};

@@ -1,4 +1,4 @@
-use Rattle.std.proofs.Common.{◌≡◌, ◌<◌, ◌+◌, [], ◌∷◌, ◌++◌, true, length, get_or, sym, ap, subst, arith}
+use Rattle.std.proofs.Common.{◌≡◌, ◌<◌, ◌+◌, [], ◌∷◌, ◌++◌, true, length, get_or, sym, ap, subst, ◌∙◌, arith}
 use Rattle.congee.specs.Heap.{Below, Holds, Nothing, fits}
 use Rattle.congee.specs.Keys.{key_bytes}
 use Rattle.congee.specs.forms.Forms.{prefix_of}
