@@ -200,6 +200,17 @@ impl<P: Stored> Nodes<P> {
         ensures bytes { (r : MayLift self.old above byte at) → bytes_of self.new + size_of (form_of r.lower) ≡ bytes_of self.old }
     {
         let (below, child) = self.only_child(at);
+        self.raise(above, byte, at, below, child);
+    }
+
+    // The same with that child, under its byte.
+    fn raise(&mut self, above: Name, byte: u8, at: Name, below: u8, child: Name)
+        requires may { MayLift self.old above byte at }
+        requires only { (y : Form ℕ P) → get self.old at ≡ Some y → children_of y ≡ map.insert map.empty below (Sub child) }
+        ensures lifts { (r : MayLift self.old above byte at) → MovesUp self.old self.new above byte at r }
+        ensures bytes { (r : MayLift self.old above byte at) → bytes_of self.new + size_of (form_of r.lower) ≡ bytes_of self.old }
+    {
+        prove!(self.inline <= self.slab.capacity());
         match child.byte {
             None => {
                 self.unhang_node(at, below);

@@ -1,31 +1,35 @@
 -- What stands in the storage where a node's only child takes the node's place.
-use Rattle.std.proofs.Common.{◌≡◌, ◌≢◌, ℕ, ◌+◌, ◌<◌, inl, inr, true, List, length, take, get_or, refl, sym, ap, subst, ◌∙◌, arith}
+use Rattle.std.proofs.Common.{◌≡◌, ◌≢◌, ℕ, zero, suc, ◌+◌, ◌*◌, ◌/◌, ◌%◌, ◌<◌, ◌≤◌, inl, inr, true, List, length, take, get_or, refl, sym, ap, subst, ◌∙◌, arith}
 use Rattle.std.specs.Prelude.{Option, None, Some, is_some, IsSome}
 use Rattle.std.specs.Ordering.{nat_cmp}
 use Rattle.std.specs.Cmp.{nat_cmp_total}
 use Rattle.std.specs.FinMap as map
 use Rattle.std.proofs.lemmas.List.{get_or-take}
-use Rattle.slab.specs.Slab.{get, ContainsKey, HasRoomFor, Updates}
+use Rattle.slab.specs.Slab.{Slab, get, ContainsKey, HasRoomFor, Updates}
 use Rattle.congee.specs.forms.Bytes.{IsFirst}
 use Rattle.congee.specs.forms.Forms.{children_of, form_of, prefix_of, size_of}
 use Rattle.congee.specs.owned.Arena.{Nodes}
 use Rattle.congee.specs.owned.Entries.{first_byte}
 use Rattle.congee.specs.owned.Lifting.{HasOneNode, MayLift, MovesUp}
-use Rattle.congee.specs.owned.Naming.{HasOwnSlot}
+use Rattle.congee.specs.owned.Naming.{HasOwnSlot, IsByte, byte_of, offset_of}
 use Rattle.congee.specs.owned.OwnedSteps.{Sets}
 use Rattle.congee.specs.owned.Sizes.{bytes_at, bytes_of}
-use Rattle.congee.specs.owned.Slots.{lone_node}
+use Rattle.congee.specs.owned.Slots.{lone_node, nodes_in}
 use Rattle.congee.specs.owned.Stores.{HangsLeaf, HasInline, HasNode, LosesLeaf}
 use Rattle.congee.specs.declared.forms.base_node.Node.{Node}
 use Rattle.congee.specs.declared.forms.child.Child.{Child}
 use Rattle.congee.specs.declared.forms.child.Child.TheVariants.{Node as Sub, Value}
 use Rattle.congee.specs.declared.owned.lone.Lone.{Lone}
+use Rattle.congee.specs.declared.owned.slots.Slot.{Slot}
 use Rattle.congee.proofs.lemmas.Tree.{same_or_not}
 use Rattle.congee.proofs.lemmas.owned.Folding.{one_child, same_least}
 use Rattle.congee.proofs.lemmas.owned.Hangings.{bytes_two}
 use Rattle.congee.proofs.lemmas.owned.Moves.{apart_of, insert_at, insert_beside, len_one, node_at, one_node, stands_at}
 use Rattle.congee.proofs.lemmas.owned.Sizes.{bytes_update, sets_bytes}
+use Rattle.congee.proofs.lemmas.owned.SlotChanges.{inner_own}
 use Rattle.congee.proofs.lemmas.owned.SlotLens.{counted, len_update}
+use Rattle.congee.proofs.lemmas.owned.Slots.{in_offset, low_offset}
+use Rattle.congee.proofs.lemmas.owned.SlotValues.{own_none}
 use Rattle.congee.proofs.lemmas.owned.Unfolds.{one_value}
 
 module _ {X : Type 0} where
@@ -52,6 +56,14 @@ module _ {X : Type 0} where
         e ∙ (ap (λ n. map.insert map.empty n x) (sym q) ∙ ap (map.insert map.empty b) (sym w)))
     | inr ne ↦ (let z : Some y ≡ None = sym f.here ∙ (ap (λ z. map.get z b) e ∙ (insert_beside map.empty k x b ne ∙ map.get-empty _ b)) in absurd (cc))
   ]
+
+module _ {X : Type 0} where
+  -- what comes first in a map of one pair is what it has
+  pub first_same : (m : map.FinMap nat_cmp X) (k : ℕ) (x : X) (b : ℕ) (y : X) → m ≡ map.insert map.empty k x → IsFirst m 0 b y → y ≡ x
+  first_same m k x b y e f = one_value b k y x (sym (first_one m k x b y e f) ∙ e)
+
+  pub never_none : (m : map.FinMap nat_cmp X) (k : ℕ) (x : X) → m ≡ map.insert map.empty k x → ((q : ℕ) → 0 ≤ q → map.get m q ≡ None) → ⊥
+  never_none m k x e f = let z : Some x ≡ None = sym (ap (λ n. map.get n k) e ∙ insert_at map.empty k x) ∙ f k (omega arith) in cc
 
 module _ {P : Type 0} (s : Nodes P) (g b p : ℕ) (r : MayLift s g b p) (q o : ℕ) (only : (y : Node ℕ P) → get s p ≡ Some y → children_of y ≡ map.insert map.empty q (Sub o)) where
   pub at_byte : (y : Node ℕ P) → get s p ≡ Some y → map.get (children_of y) q ≡ Some (Sub o)
@@ -217,3 +229,18 @@ module _ {P : Type 0} (s : Nodes P) (g b p : ℕ) (r : MayLift s g b p) (q o : �
             let k : bytes_at (get s3 g) ≡ size_of (form_of r.upper) = ap bytes_at put_leaf.now ∙ ap size_of put_leaf.becomes.form in
             let l : bytes_at (get s3 put_leaf.leaf) ≡ 64 = ap bytes_at put_leaf.taken ∙ ap size_of put_leaf.form in
             omega (arith, one, a, c, d, f, u, two, i, j, k, l)
+
+-- an inner node has a slot of its own
+pub inner_has_slot : {P : Type 0} (s : Slab (Slot P)) (v : Nodes P) → nodes_in s ≡ v → (at : ℕ) (y : Node ℕ P) → get v at ≡ Some y → length (prefix_of y) < 7 → HasOwnSlot at
+inner_has_slot s v is at y e short = own_none at (at / 257) (byte_of (at % 257)) name (inner_own s v is at (at / 257) (byte_of (at % 257)) name (low (at % 257) (low_offset at)) y e short)
+  where
+    back : (m : ℕ) → offset_of (byte_of m) ≡ m
+    back zero = refl
+    back (suc m) = omega arith
+
+    name : 257 * (at / 257) + offset_of (byte_of (at % 257)) ≡ at
+    name = ap (λ m. 257 * (at / 257) + m) (back (at % 257)) ∙ sym (in_offset (at / 257) at refl)
+
+    low : (m : ℕ) → m < 257 → IsByte (byte_of m)
+    low zero l = tt
+    low (suc m) l = omega (arith, l)
