@@ -14,7 +14,7 @@ use Rattle.congee.specs.owned.Arena.{Nodes, hung_in, node_of, heap_of, ledger_of
 use Rattle.congee.specs.owned.Changes.{MapChange}
 use Rattle.congee.specs.owned.Entries.{first_byte}
 use Rattle.congee.specs.owned.Going.{GaveWay, going_from, going_last, going_one, lesser_if, lesser_of}
-use Rattle.congee.specs.owned.Lesser.{Charges, Lessens, LosesChild, SameMap}
+use Rattle.congee.specs.owned.Lesser.{Charges, LosesChild, SameMap}
 use Rattle.congee.specs.owned.Lifting.{HasOneNode, MayLift}
 use Rattle.congee.specs.owned.OwnedSteps.{Sets}
 use Rattle.congee.specs.owned.Sizes.{bytes_of}
@@ -27,7 +27,6 @@ use Rattle.congee.specs.declared.forms.base_node.NodeType.{NodeType}
 use Rattle.congee.specs.declared.forms.base_node.NodeType.TheVariants.{N4 as T4, N16 as T16, N48 as T48, N256 as T256}
 use Rattle.congee.specs.declared.forms.child.Child.{Child}
 use Rattle.congee.specs.declared.forms.child.Child.TheVariants.{Blank, Node as Sub, Value}
-use Rattle.congee.specs.declared.owned.arena.Arena.{Arena}
 use Rattle.congee.proofs.lemmas.Tree.{same_or_not}
 use Rattle.congee.proofs.lemmas.owned.Hangings.{above_inner, child_there, only_pair}
 use Rattle.congee.proofs.lemmas.owned.Firsts.{first_below}
@@ -90,6 +89,11 @@ len_left m k = of (map.contains_key m k) (map.len-remove nat_cmp_total m k)
 pub len_fewer : {X : Type 0} (m : map.FinMap nat_cmp X) (k : ℕ) (x : X) → map.get m k ≡ Some x → map.len (map.remove m k) ≡ map.len m - 1
 len_fewer m k x e = let c : map.contains_key m k ≡ true = ap is_some e in map.len-remove nat_cmp_total m k ∙ rw c refl
 
+-- what a lesser node's coming does, by the charge and the sizes before and after
+abbrev pub LessensBy : (cm bm cn bn : ℕ) → NodeType → Type 0
+LessensBy cm bm cn bn f =
+    ((cn + size_of f ≡ cm) × (bn + size_of f ≡ bm + size_of (form_below f))) ⊎ ((cn + size_of (form_below f) ≡ cm) × (bn ≡ bm) × (form_below f ≢ T4))
+
 -- how the charge and the sizes moved
 module _ {A : Type 0} (charged limit : A → ℕ) (c0 c1 : A) where
   pub charges_true : (b : Bool) (f : NodeType) (r : Bool) → r ≡ true → Charges charged limit c0 c1 (lesser_if b f) r → (b ≡ true) × (charged c1 ≡ charged c0 + size_of (form_below f)) × (charged c0 + size_of (form_below f) ≤ limit c0)
@@ -115,10 +119,10 @@ module _ {A : Type 0} (charged limit : A → ℕ) (c0 c1 : A) where
   stayed false f false before after gone q k e = e
   stayed b f true before after gone q k e = absurd (let z : true ≡ false = q in cc)
 
-  module _ {P : Type 0} (mid new : Arena P A) where
-    -- one was, after which nodes of so many bytes went
-    pub gave_way : (b : Bool) (f : NodeType) (r : Bool) (before gone : ℕ) → r ≡ true → Charges charged limit c0 c1 (lesser_if b f) r → bytes_of mid.nodes + gone ≡ before → Lessens charged mid new f
-        → GaveWay (charged c0) (limit c0) before (bytes_of new.nodes) gone (lesser_if b f)
+  -- one was, after which nodes of so many bytes went
+  module _ (cm bm cn bn : ℕ) where
+    pub gave_way : (b : Bool) (f : NodeType) (r : Bool) (before gone : ℕ) → r ≡ true → Charges charged limit c0 c1 (lesser_if b f) r → bm + gone ≡ before → LessensBy cm bm cn bn f
+        → GaveWay (charged c0) (limit c0) before bn gone (lesser_if b f)
     gave_way false f true before gone q k e l = absurd (k.charges)
     gave_way true f true before gone q k e l = elim l [
       | inl m ↦ inl (k.charges.1, (let z = m.1 in omega (arith, z, e)))
@@ -126,8 +130,8 @@ module _ {A : Type 0} (charged limit : A → ℕ) (c0 c1 : A) where
     ]
     gave_way b f false before gone q k e l = absurd (let z : false ≡ true = q in cc)
 
-    pub gave_balance : (b : Bool) (f : NodeType) (r : Bool) (before gone : ℕ) → r ≡ true → Charges charged limit c0 c1 (lesser_if b f) r → charged mid.allocator + gone ≡ charged c1 → bytes_of mid.nodes + gone ≡ before → Lessens charged mid new f
-        → charged new.allocator + before ≡ charged c0 + bytes_of new.nodes
+    pub gave_balance : (b : Bool) (f : NodeType) (r : Bool) (before gone : ℕ) → r ≡ true → Charges charged limit c0 c1 (lesser_if b f) r → cm + gone ≡ charged c1 → bm + gone ≡ before → LessensBy cm bm cn bn f
+        → cn + before ≡ charged c0 + bn
     gave_balance b f r before gone q k c e l =
         let z = (charges_true b f r q k).1.0 in
         elim l [

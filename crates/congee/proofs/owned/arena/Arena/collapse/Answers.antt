@@ -26,8 +26,8 @@ deallocate-requires g c =
     let cover = c.requires.covered in
     omega (arith, size, same, bytes, cover)
 
-pub deallocate-2-requires : goal.deallocate-2-requires
-deallocate-2-requires g c =
+pub deallocate-requires-2 : goal.deallocate-requires-2
+deallocate-requires-2 g c =
     let s = c.args.self.now.nodes in
     let l = node_at s c.args.at c.requires.way.stands in
     let n = node_at s c.args.above c.requires.hangs.way.stands in

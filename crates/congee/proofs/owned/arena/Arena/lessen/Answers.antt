@@ -29,8 +29,8 @@ returns-then-is_err-clause-lessens g c = λ x e.
     let off = c.deallocate.ensures.charged in
     inr ((omega (arith, size, off), bytes_same c.args.self.now.nodes c.shrink.new.self same), search rules)
 
-pub deallocate-2-requires : goal.deallocate-2-requires
-deallocate-2-requires g c =
+pub deallocate-requires-2 : goal.deallocate-requires-2
+deallocate-requires-2 g c =
     let n = node_at c.args.self.now.nodes c.args.at c.requires.stands in
     let k = of_ok c.shrink.result c.if-is_err.ensures.negation c.shrink.ensures.shrunk n.0 n.1 in
     let bytes = reformed_bytes c.args.self.now.nodes c.shrink.new.self c.args.at n.0 k.node c.requires.tree c.requires.below n.1 k.updates k.shrunk.prefix k.shrunk.children in

@@ -3,12 +3,11 @@ use Rattle.std.specs.FinMap as map
 use Rattle.congee.specs.forms.Forms.{children_of, form_of}
 use Rattle.congee.specs.owned.Arena.{heap_of}
 use Rattle.congee.specs.owned.Going.{GaveWay, lesser_of}
-use Rattle.congee.specs.owned.Lesser.{Lessens}
 use Rattle.congee.specs.owned.Sizes.{bytes_of}
 use Rattle.congee.specs.protocol.Steps.{shrinks}
 use Rattle.congee.proofs.lemmas.owned.Hangings.{held_value, taken_hangs, taken_prefix}
 use Rattle.congee.proofs.lemmas.owned.Moves.{node_at, taken, held_seven, stands_at}
-use Rattle.congee.proofs.lemmas.owned.Removing.{charges_false, gave_balance, gave_way, kept_change, leaf_not_root, len_left, lesser_read, ready_covered, ready_greater, ready_room, stayed}
+use Rattle.congee.proofs.lemmas.owned.Removing.{LessensBy, charges_false, gave_balance, gave_way, kept_change, leaf_not_root, len_left, lesser_read, ready_covered, ready_greater, ready_room, stayed}
 use Rattle.congee.proofs.lemmas.owned.Renaming.{renamed_change}
 use Rattle.congee.proofs.owned.arena.Arena.take_value.Goals as goal
 
@@ -68,14 +67,14 @@ returns-then-lesser g c =
     let k = c.take_value-value.ensures.takes l.0 l.1 in
     let r = taken s c.take_value-value.new.self c.args.key.now c.args.at c.byte_at-byte.result c.take_value-value.result len c.requires.tree c.requires.way c.requires.held c.requires.others c.byte_at-byte.ensures c.take_value-value.ensures.was c.take_value-value.ensures.takes in
     let form : form_of k.node ≡ F = k.becomes.form ∙ sym (c.node_type-form.ensures l.0 l.1) in
-    let lessens = subst (λ f. Lessens g.A.Allocator.charged_of _ c.lessen.new.self f) form (c.lessen.ensures.lessens k.node k.updates.changed) in
+    let lessens = subst (λ f. LessensBy (g.A.Allocator.charged_of c.charges_lesser-lesser.new.allocator) (bytes_of c.take_value-value.new.self) (g.A.Allocator.charged_of c.lessen.new.self.allocator) (bytes_of c.lessen.new.self.nodes) f) form (c.lessen.ensures.lessens k.node k.updates.changed) in
     let bytes = r.1 in
-    let way = gave_way g.A.Allocator.charged_of g.A.Allocator.limit_of c.args.self.now.allocator c.charges_lesser-lesser.new.allocator _ c.lessen.new.self (shrinks F n) F c.charges_lesser-lesser.result (bytes_of s) 0 is c.charges_lesser-lesser.ensures (omega (arith, bytes)) lessens in
+    let way = gave_way g.A.Allocator.charged_of g.A.Allocator.limit_of c.args.self.now.allocator c.charges_lesser-lesser.new.allocator (g.A.Allocator.charged_of c.charges_lesser-lesser.new.allocator) (bytes_of c.take_value-value.new.self) (g.A.Allocator.charged_of c.lessen.new.self.allocator) (bytes_of c.lessen.new.self.nodes) (shrinks F n) F c.charges_lesser-lesser.result (bytes_of s) 0 is c.charges_lesser-lesser.ensures (omega (arith, bytes)) lessens in
     record {
       edits = record {
         tree = c.lessen.ensures.same.tree;
         change = kept_change s c.take_value-value.new.self c.lessen.new.self.nodes c.args.key.now _ _ len r.0.1 c.lessen.ensures.same;
-        balance = gave_balance g.A.Allocator.charged_of g.A.Allocator.limit_of c.args.self.now.allocator c.charges_lesser-lesser.new.allocator _ c.lessen.new.self (shrinks F n) F c.charges_lesser-lesser.result (bytes_of s) 0 is c.charges_lesser-lesser.ensures (omega arith) (omega (arith, bytes)) lessens;
+        balance = gave_balance g.A.Allocator.charged_of g.A.Allocator.limit_of c.args.self.now.allocator c.charges_lesser-lesser.new.allocator (g.A.Allocator.charged_of c.charges_lesser-lesser.new.allocator) (bytes_of c.take_value-value.new.self) (g.A.Allocator.charged_of c.lessen.new.self.allocator) (bytes_of c.lessen.new.self.nodes) (shrinks F n) F c.charges_lesser-lesser.result (bytes_of s) 0 is c.charges_lesser-lesser.ensures (omega arith) (omega (arith, bytes)) lessens;
         same_limit = c.lessen.ensures.limit ∙ c.charges_lesser-lesser.ensures.same_limit;
       };
       bytes = subst (λ z. GaveWay (g.A.Allocator.charged_of c.args.self.now.allocator) (g.A.Allocator.limit_of c.args.self.now.allocator) (bytes_of s) (bytes_of c.lessen.new.self.nodes) 0 z)

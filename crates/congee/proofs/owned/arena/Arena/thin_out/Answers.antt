@@ -3,13 +3,12 @@ use Rattle.std.specs.FinMap as map
 use Rattle.congee.specs.forms.Forms.{children_of, form_of, size_of}
 use Rattle.congee.specs.owned.Arena.{heap_of}
 use Rattle.congee.specs.owned.Going.{GaveWay, Went, lesser_of}
-use Rattle.congee.specs.owned.Lesser.{Lessens}
 use Rattle.congee.specs.owned.Sizes.{bytes_of}
 use Rattle.congee.specs.owned.Wanted.{size_by}
 use Rattle.congee.specs.protocol.Steps.{shrinks}
 use Rattle.std.specs.Prelude.{Some, None}
 use Rattle.congee.proofs.lemmas.owned.Moves.{node_at, stands_at}
-use Rattle.congee.proofs.lemmas.owned.Removing.{charges_false, charges_more, fewer, gave_balance, gave_way, going_more, kept_change, lesser_read, ready_covered, ready_greater, ready_room, seen_count, seen_size, stayed}
+use Rattle.congee.proofs.lemmas.owned.Removing.{LessensBy, charges_false, charges_more, fewer, gave_balance, gave_way, going_more, kept_change, lesser_read, ready_covered, ready_greater, ready_room, seen_count, seen_size, stayed}
 use Rattle.congee.proofs.owned.arena.Arena.thin_out.Goals as goal
 
 pub deallocate-requires : goal.deallocate-requires
@@ -71,14 +70,14 @@ returns-then-lesser g c =
     let same : g.A.Allocator.charged_of c.drop_leaf-value.new.self.allocator ≡ g.A.Allocator.charged_of c.charges_lesser-lesser.new.allocator = ap g.A.Allocator.charged_of d.allocator in
     let off = c.deallocate.ensures.charged in
     let form : form_of k.new ≡ F = k.becomes.form ∙ sym (c.node_type-form.ensures k.old k.was) in
-    let lessens = subst (λ f. Lessens g.A.Allocator.charged_of _ c.lessen.new.self f) form (c.lessen.ensures.lessens k.new k.now) in
-    let way = gave_way g.A.Allocator.charged_of g.A.Allocator.limit_of c.args.self.now.allocator c.charges_lesser-lesser.new.allocator _ c.lessen.new.self (shrinks F n) F c.charges_lesser-lesser.result (bytes_of s) gone is c.charges_lesser-lesser.ensures d.bytes lessens in
+    let lessens = subst (λ f. LessensBy (g.A.Allocator.charged_of c.deallocate.new.self) (bytes_of c.drop_leaf-value.new.self.nodes) (g.A.Allocator.charged_of c.lessen.new.self.allocator) (bytes_of c.lessen.new.self.nodes) f) form (c.lessen.ensures.lessens k.new k.now) in
+    let way = gave_way g.A.Allocator.charged_of g.A.Allocator.limit_of c.args.self.now.allocator c.charges_lesser-lesser.new.allocator (g.A.Allocator.charged_of c.deallocate.new.self) (bytes_of c.drop_leaf-value.new.self.nodes) (g.A.Allocator.charged_of c.lessen.new.self.allocator) (bytes_of c.lessen.new.self.nodes) (shrinks F n) F c.charges_lesser-lesser.result (bytes_of s) gone is c.charges_lesser-lesser.ensures d.bytes lessens in
     let more = going_more (heap_of s c.args.at) (heap_of s c.args.above) c.args.above c.requires.inner (λ e. c.requires.more k.old k.was (sym (seen_count s c.args.above k.old k.was) ∙ e)) in
     record {
       edits = record {
         tree = c.lessen.ensures.same.tree;
         change = kept_change s c.drop_leaf-value.new.self.nodes c.lessen.new.self.nodes c.args.key.now _ _ len d.change c.lessen.ensures.same;
-        balance = gave_balance g.A.Allocator.charged_of g.A.Allocator.limit_of c.args.self.now.allocator c.charges_lesser-lesser.new.allocator _ c.lessen.new.self (shrinks F n) F c.charges_lesser-lesser.result (bytes_of s) gone is c.charges_lesser-lesser.ensures (omega (arith, off, same, size)) d.bytes lessens;
+        balance = gave_balance g.A.Allocator.charged_of g.A.Allocator.limit_of c.args.self.now.allocator c.charges_lesser-lesser.new.allocator (g.A.Allocator.charged_of c.deallocate.new.self) (bytes_of c.drop_leaf-value.new.self.nodes) (g.A.Allocator.charged_of c.lessen.new.self.allocator) (bytes_of c.lessen.new.self.nodes) (shrinks F n) F c.charges_lesser-lesser.result (bytes_of s) gone is c.charges_lesser-lesser.ensures (omega (arith, off, same, size)) d.bytes lessens;
         same_limit = c.lessen.ensures.limit ∙ (c.deallocate.ensures.limit ∙ (ap g.A.Allocator.limit_of d.allocator ∙ c.charges_lesser-lesser.ensures.same_limit));
       };
       bytes = subst (λ z. Went (g.A.Allocator.charged_of c.args.self.now.allocator) (g.A.Allocator.limit_of c.args.self.now.allocator) (bytes_of s) (bytes_of c.lessen.new.self.nodes) (Some z)) (sym more)
