@@ -650,7 +650,7 @@ def rename_file(crate, kind, old, new):
             if path.is_relative_to(ROOT / crate / "src"):
                 changed = re.sub(rf"\bcrate::{x}\b", f"crate::{y}", changed)
                 here = module_of(path, ROOT / crate / "src")
-                if here == (was.rpartition(".")[0] or "lib"):
+                if here == was.rpartition(".")[0] or "." not in was and here in ("lib", "main"):
                     changed = re.sub(rf"(?m)^(\s*(?:pub(?:\([a-z]+\))? )?mod ){last};", rf"\g<1>{fresh};", changed)
                     changed = re.sub(rf"(?m)^(\s*pub(?:\(crate\))? use (?:self::)?){last}::", rf"\g<1>{fresh}::", changed)
                     changed = re.sub(rf"(?m)^(//!.*)`{last}`", rf"\g<1>`{fresh}`", changed)
@@ -754,7 +754,11 @@ def docs_file(crate, kind, was, now):
                 if mine or here is None:
                     line = re.sub(rf"(?<=specs/){re.escape(a)}(?=\.antt)", b, line)
             elif mine:
-                line = re.sub(rf"(?<![\w/])((?:{crate}/)?(?:src/)?){re.escape(a)}(?=\.rt)", lambda m: m[1] + b, line)
+                short = {"crossbeam_epoch": "e/", "congee": "c/", "trial": "t/"}.get(crate)
+                if not (short and path.name == "ARCHITECTURE.md" and re.search(r"\| \d+ \|$", line)):
+                    line = re.sub(rf"(?<![\w/])((?:{crate}/)?(?:src/)?){re.escape(a)}(?=\.rt)", lambda m: m[1] + b, line)
+                else:
+                    line = re.sub(rf"(?<![\w/])({short}){re.escape(a)}(?=\.rt)", lambda m: m[1] + b, line)
             out.append(line)
         changed = "\n".join(out)
         if changed != read(path):
