@@ -21,14 +21,14 @@ use Rattle.congee.proofs.lemmas.owned.Answered.{located_held, located_hangs}
 use Rattle.congee.proofs.lemmas.owned.Tables.{table_below}
 use Rattle.congee.proofs.lemmas.owned.Ways.{linked_of, is_child}
 
+pick : (b : Bool) (x y : Option Going) → x ≡ y → cond b x None ≡ cond b y None
+pick b x y e = ap (λ z. cond b z None) e
+
 module _ {V : Type 0} where
   end_same : (h : ℕ → Node V) (above n : ℕ) (f g : ℕ → Option Going) (x : Hung V) → ((c : ℕ) → x ≡ Below c → f c ≡ g c) → at_leaf h above n f x ≡ at_leaf h above n g x
   end_same h above n f g Nothing e = refl
   end_same h above n f g (Below c) e = e c refl
   end_same h above n f g (Holds v) e = refl
-
-  pick : (b : Bool) (x y : Option Going) → x ≡ y → cond b x None ≡ cond b y None
-  pick b x y e = ap (λ z. cond b z None) e
 
   stable : (a : ℕ → Note) (h : ℕ → Node V) → Tree a h → (f g above n : ℕ) (key : List ℕ) → (a n).status ≡ Linked
       → 8 ≤ f + length (h n).prefix → 8 ≤ g + length (h n).prefix → goes_down h f above n key ≡ goes_down h g above n key

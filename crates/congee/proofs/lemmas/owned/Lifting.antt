@@ -115,7 +115,7 @@ module _ {P : Type 0} (s s' : Nodes P) (g b p : ℕ) (t : IsTree s) (r : MayLift
     left = λ e. let z : Gone ≡ Linked = sym (ap (λ w. cond w Gone (a p).status) (same_test p p refl)) ∙ e in cc;
     stays = λ n ne. ap (λ w. cond w Gone (a n).status) (other_test n p ne);
     parent = ap (λ w. cond w g (t.parent o)) (same_test o o refl);
-    parents = λ n l np no. ap (λ w. cond w g (t.parent n)) (other_test n o no);
+    parents = λ n l np no. ap (λ w. cond w g (t.parent n)) (other_test n o nv);
     nodes = λ n ng np. ap (λ w. cond w (with_below (h g) b o) (h n)) (other_test n g ng);
   }
 
@@ -133,8 +133,8 @@ module _ {P : Type 0} (s s' : Nodes P) (g b p : ℕ) (t : IsTree s) (r : MayLift
   now_linked n ne st = lifts.stays n ne ∙ linked_of s t.parent n st
 
   free_name : (n : ℕ) → ContainsKey s n → n ≢ o → n ≢ m
-  free_name n st no e = elim k.named [
-    | inl q ↦ no (e ∙ q)
+  free_name n st nv e = elim k.named [
+    | inl q ↦ nv (e ∙ q)
     | inr q ↦ (let Q : ℕ → Type 0 = λ z. ContainsKey s z in let z : ContainsKey s m = subst Q e st in let w : false ≡ true = rw q.0 at z in cc)
   ]
 
@@ -151,15 +151,15 @@ module _ {P : Type 0} (s s' : Nodes P) (g b p : ℕ) (t : IsTree s) (r : MayLift
   a' = ledger_of s' parent'
 
   same_node : (n : ℕ) → ContainsKey s n → n ≢ g → n ≢ p → n ≢ o → get s' n ≡ get s n
-  same_node n st ng np no = k.others n ng np no (free_name n st no)
+  same_node n st ng np nv = k.others n ng np nv (free_name n st nv)
 
   linked' : (n : ℕ) → (a1 n).status ≡ Linked → (a' (in_place o m n)).status ≡ Linked
   linked' n l = elim (same_or_not n o) [
     | inl e ↦ (let Q : ℕ → Type 0 = λ z. (a' (in_place o m z)).status ≡ Linked in
         subst Q (sym e) (ap (λ z. (a' z).status) put ∙ linked_of s' parent' m (stands_at s' m r.node k.stands)))
-    | inr no ↦ ap (λ z. (a' z).status) (kept n no) ∙ linked_of s' parent' n (elim (same_or_not n g) [
+    | inr nv ↦ ap (λ z. (a' z).status) (kept n nv) ∙ linked_of s' parent' n (elim (same_or_not n g) [
       | inl e ↦ (let Q : ℕ → Type 0 = λ z. ContainsKey s' z in subst Q (sym e) (stands_at s' g k.new k.now))
-      | inr ng ↦ subst IsSome (sym (same_node n (was n l) ng (not_p n l) no)) (was n l)
+      | inr ng ↦ subst IsSome (sym (same_node n (was n l) ng (not_p n l) nv)) (was n l)
     ])
   ]
 
@@ -175,7 +175,7 @@ module _ {P : Type 0} (s s' : Nodes P) (g b p : ℕ) (t : IsTree s) (r : MayLift
       elim (same_or_not n m) [
         | inl e ↦ record { before = o; linked = now_linked o (λ q. po (sym q)) (stands_at s o r.node r.child); is = put ∙ sym e }
         | inr nm ↦ (let np : n ≢ p = (λ e. none_not p k.left (at_name n p e st)) in
-            let no : n ≢ o = (λ e. elim k.named [
+            let nv : n ≢ o = (λ e. elim k.named [
               | inl q ↦ nm (e ∙ sym q)
               | inr q ↦ none_not o q.1 (at_name n o e st)
             ]) in
@@ -183,7 +183,7 @@ module _ {P : Type 0} (s s' : Nodes P) (g b p : ℕ) (t : IsTree s) (r : MayLift
               before = n;
               linked = elim (same_or_not n g) [
                 | inl e ↦ (let Q : ℕ → Type 0 = λ z. (a1 z).status ≡ Linked in subst Q (sym e) (now_linked g gp (stands_at s g r.upper r.was)))
-                | inr ng ↦ now_linked n np (subst IsSome (k.others n ng np no nm) st)
+                | inr ng ↦ now_linked n np (subst IsSome (k.others n ng np nv nm) st)
               ];
               is = kept n no;
             })
@@ -193,7 +193,7 @@ module _ {P : Type 0} (s s' : Nodes P) (g b p : ℕ) (t : IsTree s) (r : MayLift
   parents' n l = elim (same_or_not n o) [
     | inl e ↦ (let Q : ℕ → Type 0 = λ z. (a' (in_place o m z)).parent ≡ in_place o m (a1 z).parent in
         subst Q (sym e) (ap (λ z. (a' z).parent) put ∙ (ap (λ w. cond w g (in_place o m (t.parent m))) (same_test m m refl) ∙ sym (ap (in_place o m) lifts.parent ∙ kept g go))))
-    | inr no ↦ ap (λ z. (a' z).parent) (kept n no) ∙ (ap (λ w. cond w g (in_place o m (t.parent n))) (other_test n m (free_name n (was n l) no)) ∙ ap (in_place o m) (sym (ap (λ w. cond w g (t.parent n)) (other_test n o no))))
+    | inr nv ↦ ap (λ z. (a' z).parent) (kept n nv) ∙ (ap (λ w. cond w g (in_place o m (t.parent n))) (other_test n m (free_name n (was n l) nv)) ∙ ap (in_place o m) (sym (ap (λ w. cond w g (t.parent n)) (other_test n o nv))))
   ]
 
   -- a node as it was, but for the one above
@@ -204,16 +204,16 @@ module _ {P : Type 0} (s s' : Nodes P) (g b p : ℕ) (t : IsTree s) (r : MayLift
   moved = ap node_of (k.stands ∙ sym r.child) ∙ sym (as_before o (λ e. go (sym e)))
 
   same_heap : (n : ℕ) → (a1 n).status ≡ Linked → n ≢ g → n ≢ o → heap_of s' n ≡ h1 n
-  same_heap n l ng no = ap node_of (same_node n (was n l) ng (not_p n l) no) ∙ sym (as_before n ng)
+  same_heap n l ng nv = ap node_of (same_node n (was n l) ng (not_p n l) nv) ∙ sym (as_before n ng)
 
   prefix' : (n : ℕ) → (a1 n).status ≡ Linked → (heap_of s' (in_place o m n)).prefix ≡ (h1 n).prefix
   prefix' n l = elim (same_or_not n o) [
     | inl e ↦ (let Q : ℕ → Type 0 = λ z. (heap_of s' (in_place o m z)).prefix ≡ (h1 z).prefix in
         subst Q (sym e) (ap (λ z. (heap_of s' z).prefix) put ∙ ap (λ z. z.prefix) moved))
-    | inr no ↦ ap (λ z. (heap_of s' z).prefix) (kept n no) ∙ elim (same_or_not n g) [
+    | inr nv ↦ ap (λ z. (heap_of s' z).prefix) (kept n nv) ∙ elim (same_or_not n g) [
       | inl e ↦ (let Q : ℕ → Type 0 = λ z. (heap_of s' z).prefix ≡ (h1 z).prefix in
           subst Q (sym e) (ap (λ z. (node_of z).prefix) k.now ∙ (k.becomes.prefix ∙ (sym (ap (λ z. z.prefix) hg) ∙ sym lifts.prefix))))
-      | inr ng ↦ ap (λ z. z.prefix) (same_heap n l ng no)
+      | inr ng ↦ ap (λ z. z.prefix) (same_heap n l ng nv)
     ]
   ]
 
@@ -230,7 +230,7 @@ module _ {P : Type 0} (s s' : Nodes P) (g b p : ℕ) (t : IsTree s) (r : MayLift
   children' n c l = elim (same_or_not n o) [
     | inl e ↦ (let Q : ℕ → Type 0 = λ z. (heap_of s' (in_place o m z)).children c ≡ named (in_place o m) ((h1 z).children c) in
         subst Q (sym e) (ap (λ z. (heap_of s' z).children c) put ∙ (ap (λ z. z.children c) moved ∙ unnamed o c (now_linked o (λ q. po (sym q)) (stands_at s o r.node r.child)) (λ q. absurd (go (sym q))))))
-    | inr no ↦ ap (λ z. (heap_of s' z).children c) (kept n no) ∙ elim (same_or_not n g) [
+    | inr nv ↦ ap (λ z. (heap_of s' z).children c) (kept n nv) ∙ elim (same_or_not n g) [
       | inl e ↦ (let Q : ℕ → Type 0 = λ z. (heap_of s' z).children c ≡ named (in_place o m) ((h1 z).children c) in
           subst Q (sym e) (ap (λ z. (node_of z).children c) k.now ∙ elim (same_or_not c b) [
             | inl w ↦ (let R : ℕ → Type 0 = λ z. hung_in (map.get (children_of k.new) z) ≡ named (in_place o m) ((h1 g).children z) in
@@ -238,7 +238,7 @@ module _ {P : Type 0} (s s' : Nodes P) (g b p : ℕ) (t : IsTree s) (r : MayLift
             | inr w ↦ ap (λ z. hung_in (map.get z c)) k.becomes.children ∙ (ap hung_in (insert_beside (children_of r.upper) b (Sub m) c w)
                 ∙ (sym (ap (λ z. z.children c) hg) ∙ (sym (lifts.beside c w) ∙ unnamed g c (now_linked g gp (stands_at s g r.upper r.was)) (λ _. w))))
           ]))
-      | inr ng ↦ ap (λ z. z.children c) (same_heap n l ng no) ∙ unnamed n c l (λ e. absurd (ng e))
+      | inr ng ↦ ap (λ z. z.children c) (same_heap n l ng nv) ∙ unnamed n c l (λ e. absurd (ng e))
     ]
   ]
 
@@ -257,7 +257,7 @@ module _ {P : Type 0} (s s' : Nodes P) (g b p : ℕ) (t : IsTree s) (r : MayLift
             | inl q ↦ absurd (nm (e ∙ sym q))
             | inr q ↦ filled_at s' n o None e q.1 filled_none
           ]
-          | inr no ↦ subst IsFilled (sym (k.others n ng np no nm)) (t.filled n)
+          | inr nv ↦ subst IsFilled (sym (k.others n ng np nv nm)) (t.filled n)
         ]
       ]
     ]

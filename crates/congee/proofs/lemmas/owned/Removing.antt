@@ -89,6 +89,11 @@ len_left m k = of (map.contains_key m k) (map.len-remove nat_cmp_total m k)
 pub len_fewer : {X : Type 0} (m : map.FinMap nat_cmp X) (k : ℕ) (x : X) → map.get m k ≡ Some x → map.len (map.remove m k) ≡ map.len m - 1
 len_fewer m k x e = let c : map.contains_key m k ≡ true = ap is_some e in map.len-remove nat_cmp_total m k ∙ rw c refl
 
+-- what a prefix begins with
+first_some : (p : List ℕ) (b : ℕ) → 0 < length p → first_byte p b ≡ get_or p 0 0
+first_some [] b l = absurd (omega (arith, l))
+first_some (x ∷ p) b l = refl
+
 -- what a lesser node's coming does, by the charge and the sizes before and after
 abbrev pub LessensBy : (cm bm cn bn : ℕ) → NodeType → Type 0
 LessensBy cm bm cn bn f =
@@ -97,7 +102,7 @@ LessensBy cm bm cn bn f =
 -- how the charge and the sizes moved
 module _ {A : Type 0} (charged limit : A → ℕ) (c0 c1 : A) where
   pub charges_true : (b : Bool) (f : NodeType) (r : Bool) → r ≡ true → Charges charged limit c0 c1 (lesser_if b f) r → (b ≡ true) × (charged c1 ≡ charged c0 + size_of (form_below f)) × (charged c0 + size_of (form_below f) ≤ limit c0)
-  charges_true true f true e k = (refl, k.charges)
+  charges_true true f true e k = (refl, k.charges.0, k.charges.1)
   charges_true false f true e k = absurd (k.charges)
   charges_true b f false e k = absurd (let z : false ≡ true = e in cc)
 
@@ -126,17 +131,17 @@ module _ {A : Type 0} (charged limit : A → ℕ) (c0 c1 : A) where
     gave_way false f true before gone q k e l = absurd (k.charges)
     gave_way true f true before gone q k e l = elim l [
       | inl m ↦ inl (k.charges.1, (let z = m.1 in omega (arith, z, e)))
-      | inr m ↦ inr ((let z = m.1.0 in omega (arith, z, e)), inr (size_not_least (form_below f) m.1.1))
+      | inr m ↦ inr ((let z = m.1 in omega (arith, z, e)), inr (size_not_least (form_below f) m.2))
     ]
     gave_way b f false before gone q k e l = absurd (let z : false ≡ true = q in cc)
 
     pub gave_balance : (b : Bool) (f : NodeType) (r : Bool) (before gone : ℕ) → r ≡ true → Charges charged limit c0 c1 (lesser_if b f) r → cm + gone ≡ charged c1 → bm + gone ≡ before → LessensBy cm bm cn bn f
         → cn + before ≡ charged c0 + bn
     gave_balance b f r before gone q k c e l =
-        let z = (charges_true b f r q k).1.0 in
+        let z = (charges_true b f r q k).1 in
         elim l [
           | inl m ↦ (let y = m.0 in let w = m.1 in omega (arith, z, c, e, y, w))
-          | inr m ↦ (let y = m.0 in let w = m.1.0 in omega (arith, z, c, e, y, w))
+          | inr m ↦ (let y = m.0 in let w = m.1 in omega (arith, z, c, e, y, w))
         ]
 
   -- what a lesser node's coming wants, where the node lost a child
@@ -161,7 +166,7 @@ module _ {A : Type 0} (charged limit : A → ℕ) (c0 c1 : A) where
     pub ready_covered : (cm gone : ℕ) → cm + gone ≡ charged c1 → bytes_of mid + gone ≤ charged c0 → (x : Node ℕ P) → get mid at ≡ Some x → bytes_of mid + size_of (form_below (form_of x)) ≤ cm
     ready_covered cm gone e b x h =
         let c : size_of (form_below (form_of x)) ≡ size_of (form_below f) = ap (λ y. size_of (form_below y)) (form_there x h) in
-        let m = (charges_true (shrinks f n) f r is k).1.0 in
+        let m = (charges_true (shrinks f n) f r is k).1 in
         omega (arith, e, b, c, m)
 
 module _ {P : Type 0} where
@@ -246,10 +251,6 @@ module _ {P : Type 0} where
           let l = t.tree.leaves n pair.0 v linked (seen ∙ ap (λ z. hung_in (Some z)) q) in
           let p : length (heap_of s n).prefix ≡ length (prefix_of y) = ap (λ o. length (node_of o).prefix) e in
           omega (arith, l, p, inner))
-
-  first_some : (p : List ℕ) (b : ℕ) → 0 < length p → first_byte p b ≡ get_or p 0 0
-  first_some [] b l = absurd (omega (arith, l))
-  first_some (x ∷ p) b l = refl
 
   -- so it may come into that one's place
   pub may_lift : (s : Nodes P) → IsTree s → (above byte at : ℕ) (upper lower : Node ℕ P) → get s above ≡ Some upper → get s at ≡ Some lower → map.get (children_of upper) byte ≡ Some (Sub at)

@@ -27,7 +27,7 @@ returns-then-is_err-clause-lessens g c = λ x e.
     let same : SameValues c.args.self.now.nodes c.shrink.new.self = search rules in
     let size : c.size.result ≡ size_of (form_below (form_of x)) = c.size.ensures ∙ ap size_of (c.below.ensures ∙ ap form_below (c.node_type-form.ensures x e)) in
     let off = c.deallocate.ensures.charged in
-    inr ((omega (arith, size, off), bytes_same c.args.self.now.nodes c.shrink.new.self same), search rules)
+    inr (omega (arith, size, off), bytes_same c.args.self.now.nodes c.shrink.new.self same, search rules)
 
 pub deallocate-requires-2 : goal.deallocate-requires-2
 deallocate-requires-2 g c =
