@@ -115,7 +115,7 @@ module _ {P : Type 0} (s s' : Nodes P) (g b p : ℕ) (t : IsTree s) (r : MayLift
     left = λ e. let z : Gone ≡ Linked = sym (ap (λ w. cond w Gone (a p).status) (same_test p p refl)) ∙ e in cc;
     stays = λ n ne. ap (λ w. cond w Gone (a n).status) (other_test n p ne);
     parent = ap (λ w. cond w g (t.parent o)) (same_test o o refl);
-    parents = λ n l np no. ap (λ w. cond w g (t.parent n)) (other_test n o nv);
+    parents = λ n l np nv. ap (λ w. cond w g (t.parent n)) (other_test n o nv);
     nodes = λ n ng np. ap (λ w. cond w (with_below (h g) b o) (h n)) (other_test n g ng);
   }
 
@@ -185,7 +185,7 @@ module _ {P : Type 0} (s s' : Nodes P) (g b p : ℕ) (t : IsTree s) (r : MayLift
                 | inl e ↦ (let Q : ℕ → Type 0 = λ z. (a1 z).status ≡ Linked in subst Q (sym e) (now_linked g gp (stands_at s g r.upper r.was)))
                 | inr ng ↦ now_linked n np (subst IsSome (k.others n ng np nv nm) st)
               ];
-              is = kept n no;
+              is = kept n nv;
             })
       ]
 

@@ -4,7 +4,8 @@ use Rattle.congee.specs.owned.Owners.{never_same}
 use Rattle.congee.specs.owned.Wanted.{wants_of, InsertionFits, IsRefused}
 use Rattle.congee.proofs.lemmas.owned.Contents.{insert_told, grown, found_at, fitted_at, refused_at, denied_tree, denied_bytes}
 use Rattle.congee.proofs.lemmas.owned.Tables.{same_pairs}
-use Rattle.congee.proofs.lemmas.owned.Wanting.{same_wants, same_lone}
+use Rattle.congee.proofs.lemmas.owned.Goings.{same_goes}
+use Rattle.congee.proofs.lemmas.owned.Wanting.{same_wants}
 use Rattle.congee.proofs.owned.congee_arc.CongeeArc.insert.Goals as goal
 
 pub returns-in-Ok-clause-inserts : goal.returns-in-Ok-clause-inserts
@@ -28,10 +29,10 @@ returns-clause-refused g c =
     let p = same_pairs c.self.inside.arena.nodes c.insert.new.self.nodes refused.same in
     let b = denied_bytes _ _ _ _ _ _ _ _ refused in
     let w = same_wants c.self.inside.arena.nodes c.insert.new.self.nodes refused.same in
-    let l = same_lone c.self.inside.arena.nodes c.insert.new.self.nodes refused.same in
+    let l = same_goes c.self.inside.arena.nodes c.insert.new.self.nodes refused.same in
     let Q : ℕ → Type 0 = λ n. IsRefused (map.get (wants_of c.self.inside.arena.nodes) (g.K.Word64.word c.args.key)) n (2 ^ 64 - 1) c.in-Err.e in
     rw (← c.self.view_is) (record {
       absent = sym (found_at c.self.inside.arena (g.K.Word64.word c.args.key) c.bytes_of_key-bytes.ensures.small c.bytes_of_key-bytes.result c.bytes_of_key-bytes.ensures.bytes None (sym refused.absent));
       cause = subst Q (sym c.self.invariant.1) (refused_at c.self.inside.arena (g.K.Word64.word c.args.key) c.bytes_of_key-bytes.ensures.small c.bytes_of_key-bytes.result c.bytes_of_key-bytes.ensures.bytes _ _ c.in-Err.e refused.cause);
-      unchanged = λ i. record { pairs = p i; bytes = b i; wants = w i; lone = l i };
+      unchanged = λ i. record { pairs = p i; bytes = b i; wants = w i; goes = l i };
     })
