@@ -17,7 +17,7 @@ use Rattle.joint.specs.declared.refusal.Refusal.{Refusal}
 use Rattle.joint.specs.declared.nodes.slot.Slot.{Slot}
 use Rattle.joint.specs.declared.refusal.Refusal.TheVariants as refusal
 use Rattle.joint.specs.nodes.Altering.{Fills, IsNewSlot}
-use Rattle.joint.specs.nodes.Forest.{Forest, nodes}
+use Rattle.joint.specs.nodes.Nodes.{Nodes, nodes}
 use Rattle.joint.specs.Limits.{AreAllowed}
 use Rattle.joint.specs.nodes.Slots.{slot_names}
 use Rattle.joint.specs.nodes.Ties.{Rooted}
@@ -36,7 +36,7 @@ pub record IsNewRoot {V : Type 0} (n : Node V) : Type 0 where
   pub live : n.obsolete ≡ false
 
 -- a root alone, charged within the limit; nobody is registered, and one root of the collector holds it
-pub record IsOpened {V : Type 0} (limits : Limits) (charge limit : ℕ) (s : Forest V) : Type 0 where
+pub record IsOpened {V : Type 0} (limits : Limits) (charge limit : ℕ) (s : Nodes V) : Type 0 where
   pub allowed : AreAllowed limits
   pub fresh : FreshRoot (nodes s)
   pub bare : IsNewRoot (nodes s 0)

@@ -18,7 +18,7 @@ use Rattle.congee.specs.owned.Stats.{capped, no_nodes, info_at, Counts, Shape, I
 use Rattle.congee.proofs.lemmas.owned.Surveys.{bytes_same, none_more, one_more}
 use Rattle.congee.proofs.lemmas.owned.Tallies.{IsTally-counted}
 use Rattle.joint.specs.declared.id.Id.{Id}
-use Rattle.joint.specs.declared.nodes.slot.Word.{Word}
+use Rattle.joint.specs.declared.nodes.slot.LockWord.{LockWord}
 use Rattle.joint.specs.nodes.Levels.{form_with, shape_of, nodes_from, nodes_of, IsNodeIn}
 use Rattle.joint.specs.nodes.Survey.{IsTree}
 use Rattle.joint.specs.nodes.View.{id_number, hung_at, shape}
@@ -65,7 +65,7 @@ module _ {V : Type 0} (h : ℕ → Node V) where
     pub opened : level < vec_len new.levels
     pub levels : vec_len old.levels ≤ vec_len new.levels
 
-  module _ (n : ℕ) (x : Form Id V) (w : Word) (e : shape x w ≡ h n) where
+  module _ (n : ℕ) (x : Form Id V) (w : LockWord) (e : shape x w ≡ h n) where
     -- the node alone
     pub begun : (old new : NodeStats) (level : ℕ) → Counts old new level (form_of x) (map.len (children_of x)) → Counted old new level n 0
     unfolding under_bytes

@@ -1,6 +1,6 @@
 use Rattle.std.proofs.Common.{refl, arith}
 use Rattle.joint.proofs.lemmas.nodes.Accounts.{standing_inside, standing_some, waits_some, bytes_some, charge_some, kept_emptied, gone_node}
-use Rattle.joint.proofs.lemmas.nodes.Kept.{there_in, orderly_stored}
+use Rattle.joint.proofs.lemmas.nodes.NodesInvariant.{there_in, orderly_stored}
 use Rattle.joint.proofs.nodes.store.NodesStoreId.give_back.Goals as goal
 
 pub take_away-requires : goal.take_away-requires

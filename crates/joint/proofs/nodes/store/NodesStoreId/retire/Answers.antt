@@ -1,10 +1,10 @@
 use Rattle.std.proofs.Common.{◌≡◌, true, refl, ap, sym, ◌∙◌, subst}
 use Rattle.congee.specs.protocol.Events.{SameBut}
-use Rattle.joint.specs.declared.nodes.slot.Word.{Word}
-use Rattle.joint.specs.nodes.Forest.{nodes}
+use Rattle.joint.specs.declared.nodes.slot.LockWord.{LockWord}
+use Rattle.joint.specs.nodes.Nodes.{nodes}
 use Rattle.joint.specs.nodes.View.{id_number, heap, worded}
 use Rattle.joint.proofs.lemmas.nodes.Accounts.{standing_inside, kept_marked, count_few, bytes_small}
-use Rattle.joint.proofs.lemmas.nodes.Kept.{there_in, node_in, orderly_stored, frame_in, worded_in}
+use Rattle.joint.proofs.lemmas.nodes.NodesInvariant.{there_in, node_in, orderly_stored, frame_in, worded_in}
 use Rattle.joint.proofs.nodes.store.NodesStoreId.retire.Goals as goal
 
 pub mark-requires-clause-inside : goal.mark-requires-clause-inside
@@ -30,6 +30,6 @@ returns-clause-rest g c = frame_in _ _ c.self.view_is c.args.node.name c.set_wor
 
 pub returns-clause-gives : goal.returns-clause-gives
 returns-clause-gives g c =
-    let w : Word = record c.slot.result.now.word { retired = true } in
+    let w : LockWord = record c.slot.result.now.word { retired = true } in
     let e : worded w (nodes c.args.self.now (id_number c.args.node)) ≡ record (nodes c.args.self.now (id_number c.args.node)) { retired = true } = subst (λ x. worded w x ≡ record x { retired = true }) (sym c.slot.ensures.node) refl in
     subst (λ x. SameBut (nodes c.args.self.now) (id_number c.args.node) x (heap c.set_word.new.collector.store)) e (worded_in _ _ c.self.view_is c.args.node.name c.set_word.new.collector c.set_word.ensures.beside w c.set_word.ensures.slot)
