@@ -142,13 +142,17 @@ impl<P: Payload + Small> Slot<P> {
         ensures { IsOther (node_of self.now) byte (id_number result) }
     {
         let node = self.node();
-        match node.first_from(0) {
-            Some((at, child)) if at != byte => name_in(child),
-            _ => match node.first_from(byte as usize + 1) {
-                Some((_, child)) => name_in(child),
-                None => unreachable!(),
-            },
+        prove!(node.len() == 2);
+        let Some((at, first)) = node.first_from(0) else {
+            unreachable!();
+        };
+        if at != byte {
+            return name_in(first);
         }
+        let Some((_, next)) = node.first_from(byte as usize + 1) else {
+            unreachable!();
+        };
+        name_in(next)
     }
 
     /// Gives its children to an empty slot: values are moved, and the names of nodes stay here too.
