@@ -17,6 +17,8 @@ the row left. Kinds:
   specfile M N        the file of a module of definitions
   lemmafile M N       the file of a module of lemmas
   srcfile M N         the file of a module of code
+  call FILE | old | new       a call in src/FILE of a method whose name others have too, with the answers of its function
+  prose FILE | old | new      words of a comment or a page, in the crate's file or, with the crate -, at the root
 """
 
 import re
@@ -476,7 +478,10 @@ def rename_fn(crate, module, old, new):
         note(f"fn {crate} {module} {old}: isn't there")
         return False
     fns = [p for p in paths(crate, suffixes=(".rt",)) if re.search(rf"\bfn {old}\b", read(p))]
-    call = re.compile(rf"(?<!\w)(?<!fn ){old}(?=(?:::<[^>]*>+)?\()")
+    starts = re.findall(rf"^( *)(?:pub(?:\([a-z]+\))? )?(?:const )?fn {old}\b[^{{;]*?(\bself\b)?[,)]", read(home), re.M)
+    method, free = any(s for _, s in starts), any(not s for _, s in starts)
+    before = r"(?<!\w)(?<!fn )" if method and free else r"(?<=\.)" if method else r"(?<![\w.])(?<!fn )"
+    call = re.compile(rf"{before}{old}(?=(?:::<[^>]*>+)?\()")
     exported = re.search(rf"^\s*pub(?:\(crate\))? fn {old}\b", read(home), re.M) is not None
     if re.search(rf"\bfn {new}\b", read(home)):
         note(f"fn {module}.{old}: {new} is there already")
@@ -516,6 +521,20 @@ def rename_fn(crate, module, old, new):
         edit_lines(path, lambda l: call.sub(new, l))
     rename_in_answers(crate, module, old, new, callers, home)
     docs_word(crate, old, new, home, "fn")
+    return True
+
+
+def rename_call(crate, module, old, new):
+    home = src_path(crate, module)
+    if not home.is_file() or old not in read(home):
+        note(f"call {crate} {module}: '{old}' isn't there")
+        return False
+    text = read(home)
+    names = [n for n, a, b in bodies(text) if old in "\n".join(text.split("\n")[a : b + 1])]
+    write(home, text.replace(old, new))
+    edit_lines(home, lambda l: l.replace(old, new))
+    x, y = re.search(r"(\w+)\($", old)[1], re.search(r"(\w+)\($", new)[1]
+    rename_in_answers(crate, "", x, y, [(home, n) for n in names], home)
     return True
 
 
@@ -687,6 +706,15 @@ def rename_file(crate, kind, old, new):
 # ---------------------------------------------------------------- documents
 
 
+def rename_prose(crate, file, old, new):
+    path = Path(file) if crate == "-" else ROOT / crate / file
+    if not path.is_file() or read(path).count(old) != 1:
+        note(f"prose {path}: '{old}' stands {read(path).count(old) if path.is_file() else 'nowhere, the file isn’t there; 0'} times; left")
+        return False
+    write(path, read(path).replace(old, new))
+    return True
+
+
 def doc_files():
     return [p for p in sorted(Path("docs").glob("*.md")) + [Path("README.md"), Path("CONTRIBUTING.md")] if p.is_file()]
 
@@ -775,6 +803,12 @@ def main():
             continue
         words = line.split("#")[0].split()
         kind, crate, rest = words[0], words[1], words[2:]
+        if kind in ("prose", "call"):
+            head, old, new = (x.strip() for x in line.split(" | "))
+            did = (rename_prose if kind == "prose" else rename_call)(crate, head.split()[2], old, new)
+            done, left = done + bool(did), left + (not did)
+            print(("renamed: " if did else "LEFT:    ") + line)
+            continue
         if kind == "left":
             continue
         did = {
