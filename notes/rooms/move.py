@@ -1019,10 +1019,16 @@ def docs_text(plan, file, text):
         line = re.sub(r"`([a-z_0-9]+)\.rt", bare, line)
         if file == "MODEL.md" and crate == CRATE and line.startswith("| `"):
             line = model_row(plan, line)
-        if file == "PROOF.md" and crate == CRATE and line.startswith("|"):
+        for full, old, new in plan.table.fns:
+            was = plan.src.get(old, old).replace(".", "/")
+            if f"`{full.replace('.', '::')}`" in line:
+                line = line.replace(f"`{CRATE}/src/{was}.rt`", f"`{CRATE}/src/{new.replace('.', '/')}.rt`")
+        if file == "ARCHITECTURE.md" or file == "PROOF.md" and crate == CRATE and line.startswith("|"):
 
             def lemma(m):
                 new = plan.lemma.get(m[1])
+                if new and not re.search(rf"(?m)^\s*(?:pub )?{m[2]}\b", read(LEMMAS / (new.replace(".", "/") + ".antt"))):
+                    new = None
                 return f"`{new.replace('.', '/')}: {m[2]}`" if new else m[0]
 
             line = re.sub(r"`([A-Z]\w*): (\w+)`", lemma, line)
