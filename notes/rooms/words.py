@@ -719,6 +719,18 @@ def doc_files():
     return [p for p in sorted(Path("docs").glob("*.md")) + [Path("README.md"), Path("CONTRIBUTING.md")] if p.is_file()]
 
 
+ARGUMENTS = {
+    "headline": "joint",
+    "The collector's machine": "crossbeam_epoch",
+    "The face for threads": "crossbeam_epoch",
+    "Node forms": "congee",
+    "Owned trees": "congee",
+    "A call on a shared tree": "congee",
+    "One machine": "joint",
+    "The program": "trial",
+}
+
+
 def by_crate(path):
     """The lines of a document, each with the crate that it speaks of, where a heading or its row says so."""
     crate = None
@@ -727,8 +739,8 @@ def by_crate(path):
             m = re.search(r"`(judge|crossbeam_epoch|congee|joint|trial)", line)
             if m:
                 crate = m[1]
-            elif path.name == "PROOF.md" and re.search(r"headline|One machine", line):
-                crate = "joint"
+            elif path.name == "PROOF.md" and (m := next((c for h, c in ARGUMENTS.items() if h in line), None)):
+                crate = m
             elif line.startswith("## "):
                 crate = None
         yield line, crate
@@ -743,7 +755,8 @@ def docs_word(crate, old, new, home=None, kind="word"):
     for path in doc_files():
         out = []
         for line, here in by_crate(path):
-            said = re.findall(r"`(judge|crossbeam_epoch|congee|joint|trial)` `", line)
+            said = set(re.findall(r"`(judge|crossbeam_epoch|congee|joint|trial)(?:`|::)", line))
+            said = said if len(said) == 1 or f"`{crate}` `" in line else set()
             if path.name == "ARCHITECTURE.md" and re.search(r"\| \d+ \|$", line):
                 line = walked(line, short + file.removeprefix("src/"), old, new) if file and kind == "fn" else line
             elif kind != "fn" and (here == crate or here is None and crate in said) and (alone or f"`{file}`" in line):
