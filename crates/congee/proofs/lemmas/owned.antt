@@ -6,6 +6,7 @@ pub mod Cursors
 pub mod Drains
 pub mod Edits
 pub mod Entering
+pub mod EntrySizes
 pub mod Filled
 pub mod Firsts
 pub mod Folding

@@ -1,7 +1,7 @@
 -- The room that the entries of an inner node take: what stands in a box fits in memory.
 use Rattle.std.specs.Prelude.{ℕ, ◌≤◌, ◌<◌, ◌+◌, ◌*◌, ◌^◌, []}
 use native.Mathlib.Omega.{arith}
-use mir.Syntax.{Ty, w8, w16, w64, ty_int, ty_ptr, ty_unit, ty_array, ty_struct, ty_enum, tnil, tcons, ttnil, ttcons}
+use mir.Syntax.{Ty, w8, w16, w64, ty_int, ty_ptr, ty_array, ty_struct, ty_enum, tnil, tcons, ttnil, ttcons}
 use denote.Param.{layout}
 use denote.RattleType.{RattleType}
 use prog.Memory.{size}

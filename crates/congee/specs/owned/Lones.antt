@@ -1,5 +1,5 @@
 -- Leaves with one value: two of the same key and value are one.
-use Rattle.std.specs.Prelude.{◌≡◌, ℕ, ◌<◌, List, length, slice_index}
+use Rattle.std.specs.Prelude.{◌≡◌, ◌<◌, length, slice_index}
 use Rattle.std.specs.Coded.{Coded, coded×, coded_ℕ, coded_list, le_prop}
 use base.Stored.{coded_via}
 use mathlib.Core.HLevel.{is_prop→PathP}

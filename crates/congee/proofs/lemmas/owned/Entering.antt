@@ -17,7 +17,7 @@ use Rattle.congee.specs.declared.owned.entries.Tail.{Tail}
 use Rattle.congee.specs.declared.owned.lone.Lone.{Lone}
 use Rattle.congee.specs.declared.owned.places.Places.{Places}
 use Rattle.congee.specs.declared.owned.places.Places.TheVariants.{N4, N16, N48, N256}
-use Rattle.congee.proofs.lemmas.forms.MappedLemmas.{first_mapped, get_mapped, len_mapped, mapped_empty, mapped_insert, mapped_none, mapped_remove, none_mapped}
+use Rattle.congee.proofs.lemmas.forms.MappedLemmas.{first_mapped, get_mapped, len_mapped, mapped_empty, mapped_insert, mapped_none, mapped_remove}
 
 -- a list of seven is its seven bytes
 pub seven : (t : List ℕ) → length t ≡ 7 → get_or t 0 0 ∷ get_or t 1 0 ∷ get_or t 2 0 ∷ get_or t 3 0 ∷ get_or t 4 0 ∷ get_or t 5 0 ∷ get_or t 6 0 ∷ [] ≡ t

@@ -3,13 +3,12 @@ use Rattle.std.proofs.Common.{◌≡◌, ℕ, zero, suc, ◌<◌, true, List, []
 use Rattle.std.specs.Prelude.{Some}
 use Rattle.std.specs.FinMap as map
 use Rattle.slab.specs.Slab.{get}
-use Rattle.congee.specs.Heap.{fits, child_for}
+use Rattle.congee.specs.Heap.{fits}
 use Rattle.congee.specs.Ledger.{IsChild}
 use Rattle.congee.specs.forms.Forms.{children_of, prefix_of}
 use Rattle.congee.specs.owned.Arena.{IsTree, Nodes, hung_in, heap_of, ledger_of, node_of}
 use Rattle.congee.specs.owned.Entries.{first_byte}
 use Rattle.congee.specs.declared.forms.base_node.Node.{Node}
-use Rattle.congee.specs.declared.forms.child.Child.{Child}
 use Rattle.congee.specs.declared.forms.child.Child.TheVariants.{Node as Sub}
 use Rattle.congee.proofs.lemmas.Fits.{fits_byte}
 use Rattle.congee.proofs.lemmas.owned.Moves.{prefix_at}

@@ -4,7 +4,6 @@ use Rattle.std.specs.Prelude.{Result, Ok, Err, OnOk}
 use Rattle.slab.specs.Slab.{Slab, HasRoomFor}
 use Rattle.congee.specs.owned.Slots.{nodes_in}
 use Rattle.congee.specs.owned.Storage.{IsStored}
-use Rattle.congee.specs.declared.owned.lone.Lone.{Lone}
 use Rattle.congee.specs.declared.owned.slots.Slot.{Slot}
 use Rattle.congee.proofs.lemmas.owned.SlotComes.{wider_stored}
 

@@ -11,7 +11,6 @@ use Rattle.congee.specs.owned.Slots.{slot_name, inline_name, with_children, in_s
 use Rattle.congee.specs.declared.forms.base_node.Node.{Node}
 use Rattle.congee.specs.declared.forms.base_node.Node.TheVariants.{N4, N16, N48, N256}
 use Rattle.congee.specs.declared.forms.child.Child.{Child}
-use Rattle.congee.specs.declared.owned.lone.Lone.{Lone}
 use Rattle.congee.specs.declared.owned.slots.Slot.{Slot}
 use Rattle.congee.proofs.lemmas.forms.MappedLemmas.{len_mapped}
 

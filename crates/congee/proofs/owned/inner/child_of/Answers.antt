@@ -1,4 +1,4 @@
-use Rattle.std.proofs.Common.{◌≡◌, ◌∷◌, refl, sym, ap, ◌∙◌}
+use Rattle.std.proofs.Common.{◌∷◌, refl, sym, ap, ◌∙◌}
 use Rattle.congee.specs.declared.forms.child.Child.TheVariants.{Value}
 use Rattle.congee.specs.owned.Entries.{child_by, first_byte}
 use Rattle.congee.proofs.lemmas.owned.Entering.{leaf_is}

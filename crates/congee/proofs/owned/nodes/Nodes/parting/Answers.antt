@@ -7,7 +7,7 @@ use Rattle.congee.specs.owned.Changes.{DiffersAt}
 use Rattle.congee.specs.owned.Entries.{lone_seen}
 use Rattle.congee.specs.declared.forms.base_node.Node.{Node}
 use Rattle.congee.proofs.lemmas.owned.Moves.{node_at}
-use Rattle.congee.proofs.lemmas.owned.Stored.{lone_prefix, named_lone, named_lone_seen, named_slot, named_seen, seen_prefix}
+use Rattle.congee.proofs.lemmas.owned.Stored.{named_lone, named_lone_seen, named_slot, named_seen, seen_prefix}
 use Rattle.congee.proofs.owned.nodes.Nodes.parting.Given.{Over}
 use Rattle.congee.proofs.owned.nodes.Nodes.parting.Goals.{After-prefix, After-lone}
 use Rattle.congee.proofs.owned.nodes.Nodes.parting.Goals as goal
