@@ -37,6 +37,7 @@ pub mod Events
 pub mod Exchanging
 pub mod Few
 pub mod Filing
+pub mod Filling
 pub mod Flights
 pub mod Found
 pub mod Fresh

@@ -142,16 +142,17 @@ impl<P: Payload + Small> Slot<P> {
         ensures { IsOther (node_of self.now) byte (id_number result) }
     {
         let node = self.node();
-        let beside = match node.first_from(0) {
-            Some((at, _)) if at == byte => node.first_from(byte as usize + 1),
-            first => first,
+        prove!(node.len() == 2);
+        let Some((at, first)) = node.first_from(0) else {
+            unreachable!();
         };
-        match beside {
-            Some((_, Child::Node(id))) => *id,
-            Some((_, Child::Value(_))) => unreachable!(),
-            Some((_, Child::Blank)) => unreachable!(),
-            None => unreachable!(),
+        if at != byte {
+            return name_in(first);
         }
+        let Some((_, next)) = node.first_from(byte as usize + 1) else {
+            unreachable!();
+        };
+        name_in(next)
     }
 
     /// Gives its children to an empty slot: values are moved, and the names of nodes stay here too.
@@ -276,6 +277,19 @@ impl<P: Payload + Small> Links for Slot<P> {
     }
 
     ghost fits = { Prim.search rules };
+}
+
+/// The node that a child is.
+fn name_in<P: Payload + Small>(child: &Child<Id, P>) -> Id
+    requires solid { child.now ≡ Hung.Blank → ⊥ }
+    requires name { (v : P) → child.now ≡ Hung.Value v → ⊥ }
+    ensures { child.now ≡ Hung.Node result }
+{
+    match child {
+        Child::Node(id) => *id,
+        Child::Value(_) => unreachable!(),
+        Child::Blank => unreachable!(),
+    }
 }
 
 /// The i-th name among the children of a node.
