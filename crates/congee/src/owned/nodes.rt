@@ -11,7 +11,7 @@ use crate::forms::prefix::MAX_PREFIX_LEN;
 use crate::owned::arena::Stored;
 use crate::owned::lone::Lone;
 use crate::owned::names::Name;
-use crate::owned::placed::Placed;
+use crate::owned::slot_node::SlotNode;
 use crate::owned::slots::Slot;
 use slab::Slab;
 use std::alloc::{AllocError, Global};
@@ -58,7 +58,7 @@ impl<P: Stored> Nodes<P> {
         ensures root { IfOk result (λ t. IsAlone t (with_children (inner_child 0) root)) }
     {
         let mut slab = Slab::new(alloc);
-        match slab.insert(Slot::Inner(Placed::new(root))) {
+        match slab.insert(Slot::Inner(SlotNode::new(root))) {
             Ok(_) => Ok(Nodes { slab, inline: 0 }),
             Err(_) => Err(AllocError),
         }
@@ -146,7 +146,7 @@ impl<P: Stored> Nodes<P> {
     {
         let slot = self
             .slab
-            .insert_reserved(Slot::Inner(Placed::least(prefix)));
+            .insert_reserved(Slot::Inner(SlotNode::least(prefix)));
         Name::of(slot)
     }
 

@@ -14,7 +14,7 @@ use crate::keys::key_of_bytes;
 use crate::owned::arena::Stored;
 use crate::owned::lone::Lone;
 use crate::owned::names::Name;
-use crate::owned::placed::Placed;
+use crate::owned::slot_node::SlotNode;
 
 /// A node by what its name led to, so that a walk through its children looks nothing up again.
 #[derive(Drop)]
@@ -22,9 +22,9 @@ pub(crate) enum Sight<'a, P: Stored> {
     /// A leaf with one value, in the place of its parent.
     Inline(&'a Lone<P>),
     /// An inner node, and its slot.
-    Inner(usize, &'a Placed<Lone<P>>),
+    Inner(usize, &'a SlotNode<Lone<P>>),
     /// A leaf with a slot of its own, and the least key that it may have.
-    Leaf(u64, &'a Placed<P>),
+    Leaf(u64, &'a SlotNode<P>),
 }
 
 /// What hangs under a node's byte.

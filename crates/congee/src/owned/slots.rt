@@ -8,14 +8,14 @@ ghost use Rattle.congee.specs.declared.forms.prefix.TheConstants.{MAX_PREFIX_LEN
 use crate::forms::base_node::NodeType;
 use crate::forms::child::{Child, Small};
 use crate::keys::KEY_BYTES;
-use crate::owned::placed::Placed;
+use crate::owned::slot_node::SlotNode;
 use std::alloc::{AllocError, Global};
 
 /// A node with a slot of its own. A child of an inner node is a node by its slot, or a leaf with one value.
 #[derive(Drop)]
 pub(crate) enum Slot<L: Small, P: Small> {
-    Inner(Placed<L>),
-    Leaf(Placed<P>),
+    Inner(SlotNode<L>),
+    Leaf(SlotNode<P>),
 }
 
 impl<L: Small, P: Small> Slot<L, P> {

@@ -15,12 +15,12 @@ use std::marker::Model;
 
 /// A node, and a copy of its prefix. A greater form lies in a box, and the copy is read without it.
 #[derive(Drop)]
-pub(crate) struct Placed<P: Small> {
+pub(crate) struct SlotNode<P: Small> {
     prefix: Prefix,
     node: Node<usize, P>,
 }
 
-impl<P: Small> Model for Placed<P> {
+impl<P: Small> Model for SlotNode<P> {
     ghost use Rattle.std.specs.Prelude.{ℕ, ◌≡◌};
     ghost use Rattle.congee.specs.declared.forms.base_node.Node.{Node};
     ghost use Rattle.congee.specs.forms.Forms.{prefix_of};
@@ -35,14 +35,14 @@ impl<P: Small> Model for Placed<P> {
     ghost invariant = { λ p. p.prefix ≡ prefix_of p.node };
 }
 
-impl<P: Small> Placed<P> {
+impl<P: Small> SlotNode<P> {
     ghost use Rattle.congee.specs.declared.forms.base_node.NodeType.TheVariants.{N4};
 
     /// The node in its place.
     pub(crate) fn new(node: Node<usize, P>) -> Self
         ensures { result ≡ node }
     {
-        Placed {
+        SlotNode {
             prefix: Prefix::new(node.prefix()),
             node,
         }
@@ -55,7 +55,7 @@ impl<P: Small> Placed<P> {
         ensures prefix { prefix_of result ≡ prefix.now }
         ensures children { children_of result ≡ map.empty }
     {
-        Placed {
+        SlotNode {
             prefix: Prefix::new(prefix),
             node: Node::least(prefix),
         }
