@@ -1,10 +1,11 @@
 -- The nodes that wait are those that were handed over and those that a call has taken out, each listed once.
 use Rattle.std.proofs.Common.{◌≡◌, ◌≢◌, ℕ, ◌+◌, ◌&&◌, not, Bool, true, false, List, length, arith, refl, sym, ◌∙◌, ap, inl, inr}
-use Rattle.std.specs.Prelude.{Option, None, Some, is_some, slice_get, ◌<◌, zero, suc, [], ◌∷◌, ◌⊎◌, map}
+use Rattle.std.specs.Prelude.{Option, None, Some, IfSome, is_some, slice_get, ◌<◌, zero, suc, [], ◌∷◌, ◌⊎◌, map}
 use Rattle.std.specs.List.{All, AllPairs, Contains, flat_map, sum_by}
 use Rattle.std.proofs.lemmas.Bool.{false≢true}
 use Rattle.std.proofs.lemmas.List.Kept.{AllPairs-cons}
 use Rattle.std.proofs.lemmas.List.Elements.{Contains-append_cases, Contains-append_left, Contains-append_right}
+use Rattle.judge.specs.declared.journal.Reply.{Reply}
 use Rattle.congee.specs.declared.protocol.machine.Machine.{Machine}
 use Rattle.congee.specs.declared.protocol.phase.Kind.{Kind}
 use Rattle.congee.specs.declared.protocol.phase.Phase.{Phase}
@@ -160,6 +161,17 @@ module _ {V : Type 0} (same : V → V → Bool) (always : Bool) (s : Forest V) (
       let k : EachKnown id_number same always settled.0 (nodes s) i m = settled.1.each i m at in
       let x : IsTaken id_number same always i settled.0 (nodes s) (key_bytes m.key) n = taken_out id_number same always i settled.0 (nodes s) (key_bytes m.key) n m.key m.kind m.given m.phase k.known t in
       (settled.1.words.each n).stands (ap is_published x.gone)
+
+  -- and so does another one beside it
+  pub both_stand : (i : ℕ) (m : Machine Id V) (n : Id) (next : Option Id) → slice_get ms i ≡ Some m → ((k : ℕ) → (k ≡ id_number n) ⊎ IsMade id_number next k → TakenBy id_number m.phase k) → Stands (nodes s (id_number n)) × IfSome next (λ c. Stands (nodes s (id_number c)))
+  both_stand i m n None at t = (taken_stands i m (id_number n) at (t (id_number n) (inl refl)), tt)
+  both_stand i m n (Some c) at t = (taken_stands i m (id_number n) at (t (id_number n) (inl refl)), taken_stands i m (id_number c) at (t (id_number c) (inr refl)))
+
+-- a call in another phase has taken out none
+pub none_taken : {V : Type 0} (p : Phase Id V) → ((n : Id) (next : Option Id) (q : Id) (r : Reply V) → p ≡ Obsolete n next q r → ⊥) → ((n : Id) (next : Option Id) (q : Id) (r : Reply V) → p ≡ Retire n next q r → ⊥) → taken p ≡ []
+none_taken (Obsolete n next q r) f g = absurd (f n next q r refl)
+none_taken (Retire n next q r) f g = absurd (g n next q r refl)
+none_taken _ f g = refl
 
 module _ {V : Type 0} (same : V → V → Bool) (always : Bool) (laws : CallLaws {C = Id} {V = V} id_number same always) (s : Whole V) (holds : Holds same always s) where
   abbrev settled : Settled id_number same always (nodes s.forest) s.machines
