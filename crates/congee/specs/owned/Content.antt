@@ -5,6 +5,7 @@ use Rattle.std.specs.FinMap as map
 use Rattle.std.specs.Coded.{Coded, code_by, coded×, coded_ℕ, coded_list}
 use Rattle.congee.specs.forms.Forms.{size_of}
 use Rattle.congee.specs.declared.forms.base_node.NodeType.TheVariants.{N256}
+use Rattle.congee.specs.owned.Full.{AllFilled, NoneSkipped}
 use Rattle.congee.specs.owned.Going.{Going, Went, going_code}
 use Rattle.congee.specs.owned.Stats.{Shape, root_alone, shape_code}
 use Rattle.congee.specs.owned.Wanted.{InsertionFits, IsRefused, WantsLeaf, gain_of}
@@ -61,18 +62,20 @@ pub record Unchanged {V A D : Type 0} (old new : Content V A D) : Type 0 where
   pub goes : new.goes ≡ old.goes
 
 module _ {V A D : Type 0} (same : V → V → Bool) (charged limit : A → ℕ) (old new : Content V A D) where
-  -- an insertion: the call is the one on the map, the nodes that it makes fitted the budget, and the sum of the nodes' sizes
-  -- grows by theirs
+  -- an insertion: the call is the one on the map, the nodes that it makes fitted the budget, the sum of the nodes' sizes grows
+  -- by theirs, and a tree that was filled is
   pub record Inserts (key : ℕ) (call : Call V) (reply : Reply V) : Type 0 where
     pub answers : AnswersAsMap same old new call reply
     pub fits : InsertionFits (map.get old.wants key) (charged old.allocator) (limit old.allocator)
     pub bytes : new.bytes ≡ old.bytes + gain_of (map.get old.wants key)
+    pub filled : AllFilled old.nodes → AllFilled new.nodes
     pub keeps : KeepsCharge charged limit old new
 
-  -- a call that inserts no key: it is the one on the map, and these nodes go
+  -- a call that inserts no key: it is the one on the map, these nodes go, and a tree that was filled is, if none was skipped
   pub record Modifies (going : Option Going) (call : Call V) (reply : Reply V) : Type 0 where
     pub answers : AnswersAsMap same old new call reply
     pub bytes : Went (charged old.allocator) (limit old.allocator) old.bytes new.bytes going
+    pub filled : AllFilled old.nodes → NoneSkipped old.bytes new.bytes going → AllFilled new.nodes
     pub keeps : KeepsCharge charged limit old new
 
   -- a call that changes nothing: it is the one on the map

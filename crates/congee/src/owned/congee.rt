@@ -216,7 +216,9 @@ impl<K: Word64, V: Word64, A: Allocator, D: Drop> Congee<K, V, A, D> {
         }
     }
 
-    /// Takes a key's value out.
+    /// Takes a key's value out. A node that it leaves small gives place to a lesser one; where the budget or memory has no room for
+    /// that one it stays, and no call is refused. As long as none stays so, each node but the root holds two nodes at least or one
+    /// value, and isn't too small for its form.
     pub fn remove(&mut self, key: &K) -> Option<V>
         ensures removes { (before : Option ℕ) × (result ≡ option_map V.of_word before)
             × Modifies nat_eq A.charged_of A.limit_of self.old self.new (map.get self.old.goes (K.word key.now))

@@ -62,7 +62,9 @@ impl<V: Word64, A: Allocator> U64Congee<V, A> {
         self.tree.insert(key, value)
     }
 
-    /// Takes a key's value out.
+    /// Takes a key's value out. A node that it leaves small gives place to a lesser one; where the budget or memory has no room for
+    /// that one it stays, and no call is refused. As long as none stays so, each node but the root holds two nodes at least or one
+    /// value, and isn't too small for its form.
     pub fn remove(&mut self, key: u64) -> Option<V>
         ensures removes { (before : Option ℕ) × (result ≡ option_map V.of_word before)
             × Modifies nat_eq A.charged_of A.limit_of self.old.tree self.new.tree (map.get self.old.tree.goes key)
