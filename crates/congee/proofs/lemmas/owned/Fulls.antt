@@ -1,0 +1,134 @@
+-- The nodes of an arena are filled where those of the tree are, each with its level.
+use Rattle.std.proofs.Common.{◌≡◌, ◌≢◌, ℕ, zero, suc, ◌+◌, ◌<◌, ◌≤◌, ◌⊎◌, List, [], ◌∷◌, ◌++◌, length, inl, inr, refl, sym, ap, subst, ◌∙◌, arith}
+use Rattle.std.specs.Prelude.{Option, None, Some, IsSome}
+use Rattle.std.specs.List.{All}
+use Rattle.std.proofs.lemmas.List.Elements.{All-append, All-cons, All-head, All-nil, All-tail}
+use Rattle.std.specs.FinMap as map
+use Rattle.slab.specs.Slab.{get, ContainsKey}
+use Rattle.congee.specs.Heap.{Hung, Nothing, Below, Holds}
+use Rattle.congee.specs.Ledger.{IsChild}
+use Rattle.congee.specs.forms.Forms.{capacity_of, children_of, form_of, prefix_of}
+use Rattle.congee.specs.owned.Arena.{Nodes, hung_in, node_of, heap_of, ledger_of, IsTree}
+use Rattle.congee.specs.owned.Full.{AllFilled, IsFilledShape, NodesFilled}
+use Rattle.congee.specs.owned.Levels.{shape_of, under_byte, under_bytes, with_node, nodes_from, nodes_of}
+use Rattle.congee.specs.owned.Stats.{Shape, root_alone}
+use Rattle.congee.specs.owned.Weights.{HasBytes}
+use Rattle.congee.specs.protocol.Filled.{FilledAs}
+use Rattle.congee.specs.declared.forms.base_node.Node.{Node as Form}
+use Rattle.congee.specs.declared.forms.child.Child.{Child}
+use Rattle.congee.proofs.lemmas.Tree.{same_or_not}
+use Rattle.congee.proofs.lemmas.owned.Moves.{node_at}
+use Rattle.congee.proofs.lemmas.owned.Ways.{linked_of, stands_of, short_prefix}
+
+abbrev Full : Shape → Type 0
+Full n = n.level ≢ 0 → IsFilledShape n
+
+-- a tree whose root stands alone is filled
+pub root_filled : AllFilled root_alone
+root_filled = All-cons Full _ [] (λ ne. absurd (ne refl)) (All-nil Full)
+
+parts : (xs ys : List Shape) → All Full (xs ++ ys) → All Full xs × All Full ys
+parts [] ys h = (All-nil Full, h)
+parts (x ∷ xs) ys h =
+    let r = parts xs ys (All-tail Full x (xs ++ ys) h) in
+    (All-cons Full x xs (All-head Full x (xs ++ ys) h) r.0, r.1)
+
+module _ {P : Type 0} where
+  all_under : (go : ℕ → List Shape) (children : ℕ → Hung P) (n : ℕ) → ((b c : ℕ) → children b ≡ Below c → AllFilled (go c)) → AllFilled (under_bytes go children n)
+  unfolding under_bytes
+  all_under go children zero h = All-nil Full
+  all_under go children (suc b) h = All-append Full (under_bytes go children b) (under_byte go (children b)) (all_under go children b h) (of (children b) (λ c e. h b c e))
+    where
+      of : (x : Hung P) → ((c : ℕ) → x ≡ Below c → AllFilled (go c)) → AllFilled (under_byte go x)
+      of Nothing g = All-nil Full
+      of (Below c) g = g c refl
+      of (Holds v) g = All-nil Full
+
+  all_with : (go : ℕ → List Shape) (level : ℕ) (o : Option (Form ℕ P)) → ((b c : ℕ) → (node_of o).children b ≡ Below c → AllFilled (go c))
+      → ((x : Form ℕ P) → o ≡ Some x → level ≢ 0 → FilledAs (length (prefix_of x)) (map.len (children_of x)) (capacity_of (form_of x))) → AllFilled (with_node go level o)
+  all_with go level None below h = All-nil Full
+  all_with go level (Some x) below h = All-cons Full (shape_of level x) _ (λ ne. h x refl ne) (all_under go (λ b. hung_in (map.get (children_of x) b)) 256 below)
+
+  under_all : (go : ℕ → List Shape) (children : ℕ → Hung P) (n b c : ℕ) → AllFilled (under_bytes go children n) → b < n → children b ≡ Below c → AllFilled (go c)
+  unfolding under_bytes
+  under_all go children zero b c h l e = absurd (omega (arith, l))
+  under_all go children (suc m) b c h l e =
+      let p = parts (under_bytes go children m) (under_byte go (children m)) h in
+      elim (same_or_not b m) [
+        | inl i ↦ (let is : children m ≡ Below c = ap children (sym i) ∙ e in subst (λ z. AllFilled (under_byte go z)) is p.1)
+        | inr ne ↦ under_all go children m b c p.0 (omega (arith, l, ne)) e
+      ]
+
+module _ {P : Type 0} (s : Nodes P) (t : IsTree s) where
+  child_of : (n b c : ℕ) → (heap_of s n).children b ≡ Below c → ContainsKey s n × IsChild (ledger_of s t.parent) (heap_of s) n b c
+  child_of n b c e =
+      let h : ContainsKey s n = there (get s n) e in
+      (h, t.tree.down n b c (linked_of s t.parent n h) e)
+    where
+      there : (o : Option (Form ℕ P)) → (node_of o).children b ≡ Below c → IsSome o
+      there None e = absurd (let z : Nothing ≡ Below c = e in cc)
+      there (Some x) e = refl
+
+  -- the root hangs nowhere
+  not_root : (n b c : ℕ) → (heap_of s n).children b ≡ Below c → c ≢ 0
+  not_root n b c e z =
+      let i = (child_of n b c e).1 in
+      let l : length (heap_of s c).prefix ≡ 0 = ap (λ k. length (heap_of s k).prefix) z ∙ ap length t.tree.empty in
+      absurd (omega (arith, i.longer, l))
+
+  all_from : NodesFilled s → (f level n : ℕ) → (level ≢ 0 → n ≢ 0) → AllFilled (nodes_from (get s) f level n)
+  unfolding nodes_from
+  all_from h zero level n ne = All-nil Full
+  all_from h (suc f) level n ne =
+      all_with (λ c. nodes_from (get s) f (level + 1) c) level (get s n) (λ b c e. all_from h f (level + 1) c (λ _. not_root n b c e)) (λ x e l. h n x (ne l) e)
+
+  -- where the nodes of the arena are filled, those of the tree are
+  pub shapes_filled : NodesFilled s → AllFilled (nodes_of s)
+  unfolding nodes_of
+  shapes_filled h = all_from h 8 0 0 (λ ne. absurd (ne refl))
+
+  -- a node is among those from one down
+  abbrev Found : ℕ → Type 0
+  Found n = (f level : ℕ) × (8 ≤ suc f + length (heap_of s n).prefix) × (n ≢ 0 → level ≢ 0) × AllFilled (nodes_from (get s) (suc f) level n)
+
+  go_down : ((n : ℕ) → HasBytes (get s n)) → (f level n b c : ℕ) → AllFilled (nodes_from (get s) (suc f) level n) → (heap_of s n).children b ≡ Below c → AllFilled (nodes_from (get s) f (level + 1) c)
+  unfolding nodes_from
+  go_down bytes f level n b c h e =
+      let x = node_at s n (child_of n b c e).0 in
+      let here : hung_in (map.get (children_of x.0) b) ≡ Below c = (let g : (node_of (get s n)).children b ≡ Below c = e in rw x.1 at g) in
+      let all : AllFilled (with_node (λ c. nodes_from (get s) f (level + 1) c) level (Some x.0)) = subst (λ o. AllFilled (with_node (λ c. nodes_from (get s) f (level + 1) c) level o)) x.1 h in
+      under_all (λ c. nodes_from (get s) f (level + 1) c) (λ b. hung_in (map.get (children_of x.0) b)) 256 b c (All-tail Full _ _ all) (bytes n x.0 x.1 b (hung_some (map.get (children_of x.0) b) here)) here
+    where
+      hung_some : (o : Option (Child ℕ P)) → hung_in o ≡ Below c → IsSome o
+      hung_some None e = absurd (let z : Nothing ≡ Below c = e in cc)
+      hung_some (Some c) e = refl
+
+  shape_there : (f level n : ℕ) (x : Form ℕ P) → AllFilled (nodes_from (get s) (suc f) level n) → get s n ≡ Some x → level ≢ 0 → FilledAs (length (prefix_of x)) (map.len (children_of x)) (capacity_of (form_of x))
+  unfolding nodes_from
+  shape_there f level n x h e ne = All-head Full (shape_of level x) _ (subst (λ o. AllFilled (with_node (λ c. nodes_from (get s) f (level + 1) c) level o)) e h) ne
+
+  found : ((n : ℕ) → HasBytes (get s n)) → AllFilled (nodes_from (get s) 8 0 0) → (d n : ℕ) → length (heap_of s n).prefix ≤ d → ContainsKey s n → Found n
+  found bytes root d n l h = elim (same_or_not n 0) [
+    | inl e ↦ subst Found (sym e) (7, 0, (omega arith, ((λ ne. absurd (ne refl)), root)))
+    | inr ne ↦
+        (let u = t.tree.up n (linked_of s t.parent n h) ne in
+        let c = child_of (t.parent n) u.byte n u.holds in
+        let short = short_prefix s t n h in
+        let above = at_parent d (omega (arith, c.1.longer, l)) c.0 c.1.longer l in
+        next above.0 (omega (arith, above.1.1.0, c.1.longer)) (omega (arith, above.1.1.0, c.1.longer, short)) (above.1.0) (go_down bytes above.0 above.1.0 (t.parent n) u.byte n above.1.1.1.1 u.holds))
+  ]
+    where
+      at_parent : (d : ℕ) → 0 < d → ContainsKey s (t.parent n) → length (heap_of s (t.parent n)).prefix < length (heap_of s n).prefix → length (heap_of s n).prefix ≤ d → Found (t.parent n)
+      at_parent zero lt h longer l = absurd (omega (arith, lt))
+      at_parent (suc d) lt h longer l = found bytes root d (t.parent n) (omega (arith, longer, l)) h
+
+      next : (f : ℕ) → 8 ≤ f + length (heap_of s n).prefix → 0 < f → (level : ℕ) → AllFilled (nodes_from (get s) f (level + 1) n) → Found n
+      next zero le lt level h = absurd (omega (arith, lt))
+      next (suc f) le lt level h = (f, level + 1, (omega (arith, le), ((λ ne z. absurd (omega (arith, z))), h)))
+
+  -- and the other way, where children hang at bytes
+  pub nodes_filled : ((n : ℕ) → HasBytes (get s n)) → AllFilled (nodes_of s) → NodesFilled s
+  unfolding nodes_of
+  nodes_filled bytes h n x ne e =
+      let at : Found n = found bytes h (length (heap_of s n).prefix) n (omega arith) (let z : IsSome (Some x) = refl in subst IsSome (sym e) z) in
+      shape_there at.0 at.1.0 n x at.1.1.1.1 e (at.1.1.1.0 ne)
