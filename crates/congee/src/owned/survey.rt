@@ -4,6 +4,7 @@ ghost use Rattle.std.specs.FinMap as map;
 ghost use Rattle.std.specs.List.{All};
 ghost use Rattle.slab.specs.Slab.{get, ContainsKey};
 ghost use Rattle.congee.specs.owned.Arena.{IsTree, heap_of};
+ghost use Rattle.congee.specs.owned.Full.{AllFilled, NodesFilled};
 ghost use Rattle.congee.specs.owned.Levels.{nodes_from, nodes_of};
 ghost use Rattle.congee.specs.owned.Stats.{HasValue, IsTally, Shape, capped};
 ghost use Rattle.congee.specs.owned.Sizes.{bytes_of};
@@ -45,6 +46,14 @@ impl<P: Stored, A: Allocator> Arena<P, A> {
     pub(crate) fn leaves_hold(&self)
         requires { IsTree self.now.nodes }
         ensures { All HasValue (nodes_of self.now.nodes) }
+    {}
+
+    /// Where each node but the root is filled, each is with its level.
+    #[tactic(auto, using(crate::proofs::lemmas::owned::Fulls::shapes_filled))]
+    pub(crate) fn nodes_filled(&self)
+        requires tree { IsTree self.now.nodes }
+        requires filled { NodesFilled self.now.nodes }
+        ensures { AllFilled (nodes_of self.now.nodes) }
     {}
 
     /// The number of pairs; one past `u64::MAX` stays there.

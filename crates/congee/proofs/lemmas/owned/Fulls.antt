@@ -107,28 +107,32 @@ module _ {P : Type 0} (s : Nodes P) (t : IsTree s) where
   unfolding nodes_from
   shape_there f level n x h e ne = All-head Full (shape_of level x) _ (subst (λ o. AllFilled (with_node (λ c. nodes_from (get s) f (level + 1) c) level o)) e h) ne
 
+  at_root : AllFilled (nodes_from (get s) 8 0 0) → (n : ℕ) → n ≡ 0 → Found n
+  at_root root n e = subst Found (sym e) (7, 0, omega arith, (λ ne. absurd (ne refl)), root)
+
+  next : (f level n : ℕ) → 8 ≤ f + length (heap_of s n).prefix → 0 < f → AllFilled (nodes_from (get s) f (level + 1) n) → Found n
+  next zero level n le lt h = absurd (omega (arith, lt))
+  next (suc f) level n le lt h = (f, level + 1, omega (arith, le), (λ ne z. absurd (omega (arith, z))), h)
+
   found : ((n : ℕ) → HasBytes (get s n)) → AllFilled (nodes_from (get s) 8 0 0) → (d n : ℕ) → length (heap_of s n).prefix ≤ d → ContainsKey s n → Found n
-  found bytes root d n l h = elim (same_or_not n 0) [
-    | inl e ↦ subst Found (sym e) (7, 0, (omega arith, ((λ ne. absurd (ne refl)), root)))
+  found bytes root zero n l h = elim (same_or_not n 0) [
+    | inl e ↦ at_root root n e
+    | inr ne ↦ (let u = t.tree.up n (linked_of s t.parent n h) ne in
+        let i = (child_of (t.parent n) u.byte n u.holds).1 in absurd (omega (arith, i.longer, l)))
+  ]
+  found bytes root (suc d) n l h = elim (same_or_not n 0) [
+    | inl e ↦ at_root root n e
     | inr ne ↦
         (let u = t.tree.up n (linked_of s t.parent n h) ne in
         let c = child_of (t.parent n) u.byte n u.holds in
         let short = short_prefix s t n h in
-        let above = at_parent d (omega (arith, c.1.longer, l)) c.0 c.1.longer l in
-        next above.0 (omega (arith, above.1.1.0, c.1.longer)) (omega (arith, above.1.1.0, c.1.longer, short)) (above.1.0) (go_down bytes above.0 above.1.0 (t.parent n) u.byte n above.1.1.1.1 u.holds))
+        let above : Found (t.parent n) = found bytes root d (t.parent n) (omega (arith, c.1.longer, l)) c.0 in
+        next above.0 above.1 n (omega (arith, above.2, c.1.longer)) (omega (arith, above.2, c.1.longer, short)) (go_down bytes above.0 above.1 (t.parent n) u.byte n above.4 u.holds))
   ]
-    where
-      at_parent : (d : ℕ) → 0 < d → ContainsKey s (t.parent n) → length (heap_of s (t.parent n)).prefix < length (heap_of s n).prefix → length (heap_of s n).prefix ≤ d → Found (t.parent n)
-      at_parent zero lt h longer l = absurd (omega (arith, lt))
-      at_parent (suc d) lt h longer l = found bytes root d (t.parent n) (omega (arith, longer, l)) h
-
-      next : (f : ℕ) → 8 ≤ f + length (heap_of s n).prefix → 0 < f → (level : ℕ) → AllFilled (nodes_from (get s) f (level + 1) n) → Found n
-      next zero le lt level h = absurd (omega (arith, lt))
-      next (suc f) le lt level h = (f, level + 1, (omega (arith, le), ((λ ne z. absurd (omega (arith, z))), h)))
 
   -- and the other way, where children hang at bytes
   pub nodes_filled : ((n : ℕ) → HasBytes (get s n)) → AllFilled (nodes_of s) → NodesFilled s
   unfolding nodes_of
   nodes_filled bytes h n x ne e =
       let at : Found n = found bytes h (length (heap_of s n).prefix) n (omega arith) (let z : IsSome (Some x) = refl in subst IsSome (sym e) z) in
-      shape_there at.0 at.1.0 n x at.1.1.1.1 e (at.1.1.1.0 ne)
+      shape_there at.0 at.1 n x at.4 e (at.3 ne)
