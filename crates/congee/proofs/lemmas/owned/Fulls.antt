@@ -1,5 +1,5 @@
 -- The nodes of an arena are filled where those of the tree are, each with its level.
-use Rattle.std.proofs.Common.{◌≡◌, ◌≢◌, ℕ, zero, suc, ◌+◌, ◌<◌, ◌≤◌, ◌⊎◌, List, [], ◌∷◌, ◌++◌, length, inl, inr, refl, sym, ap, subst, ◌∙◌, arith}
+use Rattle.std.proofs.Common.{◌≡◌, ◌≢◌, ℕ, zero, suc, ◌+◌, ◌<◌, ◌≤◌, ◌⊎◌, false, List, [], ◌∷◌, ◌++◌, length, inl, inr, refl, sym, ap, subst, ◌∙◌, arith}
 use Rattle.std.specs.Prelude.{Option, None, Some, IsSome}
 use Rattle.std.specs.List.{All}
 use Rattle.std.proofs.lemmas.List.Elements.{All-append, All-cons, All-head, All-nil, All-tail}
@@ -7,18 +7,24 @@ use Rattle.std.specs.FinMap as map
 use Rattle.slab.specs.Slab.{get, ContainsKey}
 use Rattle.congee.specs.Heap.{Hung, Nothing, Below, Holds}
 use Rattle.congee.specs.Ledger.{IsChild}
-use Rattle.congee.specs.forms.Forms.{capacity_of, children_of, form_of, prefix_of}
+use Rattle.congee.specs.forms.Forms.{capacity_of, children_of, form_of, next_form, prefix_of}
 use Rattle.congee.specs.owned.Arena.{Nodes, hung_in, node_of, heap_of, ledger_of, IsTree}
 use Rattle.congee.specs.owned.Full.{AllFilled, IsFilledShape, NodesFilled}
 use Rattle.congee.specs.owned.Levels.{shape_of, under_byte, under_bytes, with_node, nodes_from, nodes_of}
 use Rattle.congee.specs.owned.Stats.{Shape, root_alone}
 use Rattle.congee.specs.owned.Weights.{HasBytes}
-use Rattle.congee.specs.protocol.Filled.{FilledAs}
+use Rattle.congee.specs.protocol.Events.{places}
+use Rattle.congee.specs.protocol.Filled.{least_in, FilledAs}
+use Rattle.congee.specs.protocol.Steps.{form_below, shrinks}
 use Rattle.congee.specs.declared.forms.base_node.Node.{Node as Form}
+use Rattle.congee.specs.declared.forms.base_node.NodeType.{NodeType}
+use Rattle.congee.specs.declared.forms.base_node.NodeType.TheVariants.{N4, N16, N48, N256}
 use Rattle.congee.specs.declared.forms.child.Child.{Child}
 use Rattle.congee.proofs.lemmas.Tree.{same_or_not}
 use Rattle.congee.proofs.lemmas.owned.Moves.{node_at}
 use Rattle.congee.proofs.lemmas.owned.Ways.{linked_of, stands_of, short_prefix}
+use Rattle.congee.proofs.lemmas.protocol.Filling.{enough}
+use Rattle.congee.proofs.lemmas.protocol.FillingSteps.{lessened, spared}
 
 abbrev Full : Shape → Type 0
 Full n = n.level ≢ 0 → IsFilledShape n
@@ -136,3 +142,57 @@ module _ {P : Type 0} (s : Nodes P) (t : IsTree s) where
   nodes_filled bytes h n x ne e =
       let at : Found n = found bytes h (length (heap_of s n).prefix) n (omega arith) (let z : IsSome (Some x) = refl in subst IsSome (sym e) z) in
       shape_there at.0 at.1 n x at.4 e (at.3 ne)
+
+same_places : (form : NodeType) → capacity_of form ≡ places form
+same_places N4 = refl
+same_places N16 = refl
+same_places N48 = refl
+same_places N256 = refl
+
+-- one that isn't small without a child, without it
+pub filled_less : (size k : ℕ) (form : NodeType) → shrinks form (suc k) ≡ false → 1 ≤ k → (size < 7 → 2 ≤ k) → FilledAs size k (capacity_of form)
+filled_less size k form e one two = record { some = one; branches = two; least = enough form k (capacity_of form) (same_places form) (spared form (suc k) k e refl) }
+
+-- a filled one without a child, in the form below
+pub filled_lesser : (size k : ℕ) (form : NodeType) → FilledAs size (suc k) (capacity_of form) → 1 ≤ k → (size < 7 → 2 ≤ k) → FilledAs size k (capacity_of (form_below form))
+filled_lesser size k form x one two = record {
+  some = one;
+  branches = two;
+  least = enough (form_below form) k (capacity_of (form_below form)) (same_places (form_below form)) (lessened form (suc k) k (x.least form (sym (same_places form))) refl);
+}
+
+-- a full one with a further child, in the next form
+pub filled_greater : (size k : ℕ) (form : NodeType) → k ≡ capacity_of form → FilledAs size k (capacity_of form) → FilledAs size (suc k) (capacity_of (next_form form))
+filled_greater size k form e x = record {
+  some = omega arith;
+  branches = λ l. let b = x.branches l in omega (arith, b);
+  least = enough (next_form form) (suc k) (capacity_of (next_form form)) (same_places (next_form form)) (more form e);
+}
+  where
+    more : (form : NodeType) → k ≡ capacity_of form → least_in (next_form form) ≤ suc k
+    more N4 e = omega (arith, e)
+    more N16 e = omega (arith, e)
+    more N48 e = omega (arith, e)
+    more N256 e = omega (arith, e)
+
+module _ {P : Type 0} where
+  -- a node is filled
+  abbrev pub IsFull : Form ℕ P → Type 0
+  IsFull x = FilledAs (length (prefix_of x)) (map.len (children_of x)) (capacity_of (form_of x))
+
+  -- each node stood before, under a name of a node that isn't the root, or is filled
+  pub filled_then : (s s' : Nodes P) → NodesFilled s → ((n : ℕ) (x : Form ℕ P) → n ≢ 0 → get s' n ≡ Some x → ((m : ℕ) × (m ≢ 0) × (get s m ≡ Some x)) ⊎ IsFull x) → NodesFilled s'
+  filled_then s s' h each n x ne e = elim (each n x ne e) [
+    | inl was ↦ h was.0 x was.1 was.2
+    | inr full ↦ full
+  ]
+
+  -- one node is another one, which is filled, and the others are as before
+  pub filled_but : (s s' : Nodes P) (at : ℕ) (y : Form ℕ P) → NodesFilled s → (at ≢ 0 → IsFull y) → get s' at ≡ Some y → ((m : ℕ) → m ≢ at → get s' m ≡ get s m) → NodesFilled s'
+  filled_but s s' at y h full is others n x ne e = elim (same_or_not n at) [
+    | inl q ↦
+        (let i : Some y ≡ Some x = sym is ∙ (ap (λ k. get s' k) (sym q) ∙ e) in
+        let j : y ≡ x = cc in
+        subst IsFull j (full (subst (λ k. k ≢ 0) q ne)))
+    | inr apart ↦ h n x ne (sym (others n apart) ∙ e)
+  ]

@@ -59,13 +59,13 @@ not_one n e q = let z : n == 1 ≡ true = same_test n 1 q in cc
 not_two : (n : ℕ) → n == 2 ≡ false → n ≢ 2
 not_two n e q = let z : n == 2 ≡ true = same_test n 2 q in cc
 
-spared : (form : NodeType) (n k : ℕ) → shrinks form n ≡ false → suc k ≡ n → least_in form ≤ k
+pub spared : (form : NodeType) (n k : ℕ) → shrinks form n ≡ false → suc k ≡ n → least_in form ≤ k
 spared N4 n k e s = omega arith
 spared N16 n k e s = omega (arith, s, less_or n 4 e)
 spared N48 n k e s = omega (arith, s, less_or n 13 e)
 spared N256 n k e s = omega (arith, s, less_or n 41 e)
 
-lessened : (form : NodeType) (n k : ℕ) → least_in form ≤ n → suc k ≡ n → least_in (form_below form) ≤ k
+pub lessened : (form : NodeType) (n k : ℕ) → least_in form ≤ n → suc k ≡ n → least_in (form_below form) ≤ k
 lessened N4 n k l s = omega arith
 lessened N16 n k l s = omega arith
 lessened N48 n k l s = omega (arith, s, l)
