@@ -18,9 +18,20 @@ IsFilledShape n = FilledAs n.prefix n.children (capacity_of n.form)
 abbrev pub AllFilled : List Shape → Type 0
 AllFilled nodes = All (λ n. n.level ≢ 0 → IsFilledShape n) nodes
 
--- the same of the nodes of an arena
+-- so many places are right for the node
+abbrev pub FilledIn : {P : Type 0} → ℕ → Node ℕ P → Type 0
+FilledIn capacity x = FilledAs (length (prefix_of x)) (map.len (children_of x)) capacity
+
+abbrev pub IsFull : {P : Type 0} → Node ℕ P → Type 0
+IsFull x = FilledIn (capacity_of (form_of x)) x
+
+-- the nodes of an arena are, but the root
 abbrev pub NodesFilled : {P : Type 0} → Nodes P → Type 0
-NodesFilled {P} s = (n : ℕ) (x : Node ℕ P) → n ≢ 0 → get s n ≡ Some x → FilledAs (length (prefix_of x)) (map.len (children_of x)) (capacity_of (form_of x))
+NodesFilled {P} s = (n : ℕ) (x : Node ℕ P) → n ≢ 0 → get s n ≡ Some x → IsFull x
+
+-- but the root and this one
+abbrev pub OthersFilled : {P : Type 0} → Nodes P → ℕ → Type 0
+OthersFilled {P} s at = (n : ℕ) (x : Node ℕ P) → n ≢ 0 → n ≢ at → get s n ≡ Some x → IsFull x
 
 -- the lesser node that was wanted stands in the place of the greater one, as the sum of the nodes' sizes tells
 abbrev pub LesserCame : (before after gone : ℕ) → Option Lesser → Type 0

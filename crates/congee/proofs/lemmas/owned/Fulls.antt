@@ -9,7 +9,7 @@ use Rattle.congee.specs.Heap.{Hung, Nothing, Below, Holds}
 use Rattle.congee.specs.Ledger.{IsChild}
 use Rattle.congee.specs.forms.Forms.{capacity_of, children_of, form_of, next_form, prefix_of}
 use Rattle.congee.specs.owned.Arena.{Nodes, hung_in, node_of, heap_of, ledger_of, IsTree}
-use Rattle.congee.specs.owned.Full.{AllFilled, IsFilledShape, NodesFilled}
+use Rattle.congee.specs.owned.Full.{AllFilled, IsFilledShape, IsFull, NodesFilled}
 use Rattle.congee.specs.owned.Levels.{shape_of, under_byte, under_bytes, with_node, nodes_from, nodes_of}
 use Rattle.congee.specs.owned.Stats.{Shape, root_alone}
 use Rattle.congee.specs.owned.Weights.{HasBytes}
@@ -51,7 +51,7 @@ module _ {P : Type 0} where
       of (Holds v) g = All-nil Full
 
   all_with : (go : ℕ → List Shape) (level : ℕ) (o : Option (Form ℕ P)) → ((b c : ℕ) → (node_of o).children b ≡ Below c → AllFilled (go c))
-      → ((x : Form ℕ P) → o ≡ Some x → level ≢ 0 → FilledAs (length (prefix_of x)) (map.len (children_of x)) (capacity_of (form_of x))) → AllFilled (with_node go level o)
+      → ((x : Form ℕ P) → o ≡ Some x → level ≢ 0 → IsFull x) → AllFilled (with_node go level o)
   all_with go level None below h = All-nil Full
   all_with go level (Some x) below h = All-cons Full (shape_of level x) _ (λ ne. h x refl ne) (all_under go (λ b. hung_in (map.get (children_of x) b)) 256 below)
 
@@ -109,7 +109,7 @@ module _ {P : Type 0} (s : Nodes P) (t : IsTree s) where
       hung_some None e = absurd (let z : Nothing ≡ Below c = e in cc)
       hung_some (Some c) e = refl
 
-  shape_there : (f level n : ℕ) (x : Form ℕ P) → AllFilled (nodes_from (get s) (suc f) level n) → get s n ≡ Some x → level ≢ 0 → FilledAs (length (prefix_of x)) (map.len (children_of x)) (capacity_of (form_of x))
+  shape_there : (f level n : ℕ) (x : Form ℕ P) → AllFilled (nodes_from (get s) (suc f) level n) → get s n ≡ Some x → level ≢ 0 → IsFull x
   unfolding nodes_from
   shape_there f level n x h e ne = All-head Full (shape_of level x) _ (subst (λ o. AllFilled (with_node (λ c. nodes_from (get s) f (level + 1) c) level o)) e h) ne
 
@@ -176,10 +176,6 @@ filled_greater size k form e x = record {
     more N256 e = omega (arith, e)
 
 module _ {P : Type 0} where
-  -- a node is filled
-  abbrev pub IsFull : Form ℕ P → Type 0
-  IsFull x = FilledAs (length (prefix_of x)) (map.len (children_of x)) (capacity_of (form_of x))
-
   -- each node stood before, under a name of a node that isn't the root, or is filled
   pub filled_then : (s s' : Nodes P) → NodesFilled s → ((n : ℕ) (x : Form ℕ P) → n ≢ 0 → get s' n ≡ Some x → ((m : ℕ) × (m ≢ 0) × (get s m ≡ Some x)) ⊎ IsFull x) → NodesFilled s'
   filled_then s s' h each n x ne e = elim (each n x ne e) [
