@@ -140,8 +140,8 @@ module _ {P : Type 0} (s : Nodes P) (t : IsTree s) where
   pub nodes_filled : ((n : ℕ) → HasBytes (get s n)) → AllFilled (nodes_of s) → NodesFilled s
   unfolding nodes_of
   nodes_filled bytes h n x ne e =
-      let at : Found n = found bytes h (length (heap_of s n).prefix) n (omega arith) (let z : IsSome (Some x) = refl in subst IsSome (sym e) z) in
-      shape_there at.0 at.1 n x at.4 e (at.3 ne)
+      let place : Found n = found bytes h (length (heap_of s n).prefix) n (omega arith) (let z : IsSome (Some x) = refl in subst IsSome (sym e) z) in
+      shape_there place.0 place.1 n x place.4 e (place.3 ne)
 
 same_places : (form : NodeType) → capacity_of form ≡ places form
 same_places N4 = refl
