@@ -1,10 +1,11 @@
 #!/usr/bin/env python3
 """Runs `rt ci` with its parts begun in another order; what each part does and judges is the kit's own.
 
-By itself `rt ci` gives a proof one processor where the number of parts side by side is set, and tries a crate's edits once its
-proof has ended: then the longest chain, two libraries and the tests, takes longer than all work shared by four processors.
-Here each part begins once the libraries below it stand and its memory is free, and a proof gets several processors; the edits
-of all crates but the largest go on behind the rest. A kit that has its parts otherwise runs them as it does.
+By itself `rt ci` runs most parts alone, since it reckons a part's memory by its lines; told how many go side by side, it gives a
+proof one processor, and begins a crate's edits once its proof has ended. The longest chain, two libraries and the tests, takes
+longer then than all work shared by four processors. Here a proof begins once what it waits for has ended and the memory that it
+was seen to hold is free, and gets several processors; edits give way to proofs, and fill what these leave free. A kit that has
+its parts otherwise runs them as it does.
 """
 import contextlib
 import importlib.machinery
@@ -16,9 +17,11 @@ import threading
 from concurrent.futures import FIRST_COMPLETED, ThreadPoolExecutor, wait
 
 # How many processors a part asks for, and the share that it was seen to hold of the memory that the kit reckons for its crate.
-PROCESSORS = {"proof": 3, "tests": 4, "edits": 2}
-SHARES = {"proof": 0.45, "tests": 0.65, "edits": 0.22}
-# How many steps of niceness the edits that nothing waits for give way.
+# Some kits try each edit as a part of its own, over a check that is a part too (the seed); others all of a crate's as one.
+PROCESSORS = {"proof": 3, "tests": 4, "seed": 2}
+SHARES = {"proof": 0.45, "tests": 0.65, "seed": 0.4}
+EDITS = 0.22
+# How many steps of niceness what isn't a proof gives way.
 BEHIND = 5
 
 
@@ -50,37 +53,36 @@ def in_lanes(tasks, rt):
     """Runs the parts and returns what each gave. A part is what it waits for, its work in lines, its memory in bytes, and a
     call that gets what was given and how many jobs it may use."""
     behind = chain_behind(tasks)
-    largest = max((it for it in tasks if it[1] == "edits"), key=lambda it: tasks[it][1], default=None)
-    memory, left, running, given = 0.85 * rt.free(), sorted(tasks, key=lambda it: -behind[it]), {}, {}
-    jobs = {kind: min(number, rt.processors()) for kind, number in PROCESSORS.items()}
-    with ThreadPoolExecutor(len(tasks)) as pool:
+    is_proof = lambda it: it[1] in ("proof", "tests")
+    left = sorted(tasks, key=lambda it: (not is_proof(it), -behind[it] if is_proof(it) else 0))
+    lanes, memory, running, given = rt.processors(), 0.85 * rt.free(), {}, {}
+    with getattr(rt, "ending", contextlib.nullcontext)(), ThreadPoolExecutor(4 * lanes) as pool:
         while left or running:
             for key in [*left]:
-                name, kind = key
-                _, _, needs, call = tasks[key]
-                # a crate's edits need the libraries below it, as its proof does; they count only where it is proved
-                waits = tasks[name, "proof"][0] if kind == "edits" else tasks[key][0]
-                needs *= SHARES[kind]
-                is_free = not running or needs <= memory - sum(held for _, held in running.values())
-                if not is_free or not all(it in given for it in waits):
+                waits, lines, needs, call = tasks[key]
+                if not all(it in given for it in waits):
                     continue
-                known = {(name, "proof"): all(given[it] for it in waits), (name, "tests"): True} if kind == "edits" else {}
-                steps = BEHIND if kind == "edits" and key != largest else 0
+                held, busy = (sum(it[at] for it in running.values()) for at in (1, 2))
+                needs *= SHARES.get(key[1], EDITS)
+                # what has no lines ends at once
+                jobs = PROCESSORS.get(key[1], 1) if lines or not is_proof(key) else 0
+                is_free = held + needs <= memory and (is_proof(key) or busy < lanes + 1)
+                if running and jobs and not is_free:
+                    continue
                 left.remove(key)
-                running[pool.submit(begin, call, {**known, **given}, jobs[kind], steps)] = key, needs
+                steps = 0 if is_proof(key) else BEHIND
+                running[pool.submit(begin, call, given, max(1, jobs), steps)] = key, needs, jobs
             for it in wait(running, return_when=FIRST_COMPLETED).done:
                 given[running.pop(it)[0]] = it.result()
     return given
 
 
 def main():
-    os.environ.setdefault("RT_JOBS", str(min(4, len(os.sched_getaffinity(0)))))
     rt = load(os.path.realpath(shutil.which("rt")))
-    if all(hasattr(rt, it) for it in ("in_lanes", "must_fail_all", "free", "processors", "main")):
+    if all(hasattr(rt, it) for it in ("in_lanes", "free", "processors", "main")):
         rt.in_lanes = lambda tasks: in_lanes(tasks, rt)
-        # (rt ci tries edits by one job, whatever it was given)
-        tries = rt.must_fail_all
-        rt.must_fail_all = lambda crate, edits, _: tries(crate, edits, ["--jobs", str(PROCESSORS["edits"])])
+    else:
+        os.environ.setdefault("RT_JOBS", str(min(4, len(os.sched_getaffinity(0)))))
     return rt.main(["ci"])
 
 
