@@ -1,5 +1,5 @@
 -- A node's only child takes its place.
-use Rattle.std.specs.Prelude.{◌≡◌, ◌≢◌, ℕ, ◌<◌, ◌⊎◌, List, length, slice_index, None, Some}
+use Rattle.std.specs.Prelude.{◌≡◌, ◌≢◌, ℕ, ◌<◌, ◌⊎◌, length, slice_index, None, Some}
 use Rattle.std.specs.FinMap as map
 use Rattle.slab.specs.Slab.{get}
 use Rattle.congee.specs.forms.Forms.{Becomes, children_of, prefix_of}

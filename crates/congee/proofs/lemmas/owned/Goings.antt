@@ -3,7 +3,6 @@ use Rattle.std.proofs.Common.{◌≡◌, ◌≢◌, ℕ, zero, suc, ◌+◌, ◌
 use Rattle.std.specs.Prelude.{Option, None, Some}
 use Rattle.std.specs.Option.{option_map}
 use Rattle.std.specs.FinMap as map
-use Rattle.slab.specs.Slab.{get}
 use Rattle.congee.specs.Heap.{Hung, Nothing, Below, Holds, Node, fits, child_for}
 use Rattle.congee.specs.Ledger.{Linked, Note, IsChild, HasParent, Tree}
 use Rattle.congee.specs.Keys.{key_bytes}

@@ -1,11 +1,11 @@
 -- A node takes the form below, or leaves its slot without children.
-use Rattle.std.proofs.Common.{◌≡◌, ◌≢◌, ℕ, suc, ◌+◌, ◌*◌, ◌<◌, ◌≤◌, ◌⊎◌, true, false, inl, inr, Bool, List, length, refl, sym, ap, subst, ◌∙◌, arith}
-use Rattle.std.specs.Prelude.{Option, None, Some, IsSome, Result, Ok, Err, OnOk, OnErr, is_some, cond}
+use Rattle.std.proofs.Common.{◌≡◌, ◌≢◌, ℕ, suc, ◌+◌, ◌*◌, ◌<◌, ◌≤◌, inl, inr, length, refl, sym, ap, subst, ◌∙◌, arith}
+use Rattle.std.specs.Prelude.{Option, None, Some, Result, Ok, Err, OnOk, OnErr, is_some, cond}
 use Rattle.std.specs.FinMap as map
 use Rattle.slab.specs.Slab.{Slab, get, ContainsKey, Updates, SameValues, slab_len, with_value}
 use Rattle.slab.proofs.SlabLemmas.{Updates-with_value}
-use Rattle.congee.specs.Heap.{Node as Seen, Hung, Nothing, Below, Holds, value_at}
-use Rattle.congee.specs.Ledger.{Linked, Gone, Note, Tree}
+use Rattle.congee.specs.Heap.{Hung, Nothing, Below, Holds, value_at}
+use Rattle.congee.specs.Ledger.{Linked, Gone}
 use Rattle.congee.specs.forms.Forms.{capacity_of, children_of, form_of, prefix_of, size_of}
 use Rattle.congee.specs.forms.Mapped.{mapped}
 use Rattle.congee.specs.owned.Arena.{Nodes, hung_in, node_of, heap_of, ledger_of, IsFilled, IsTree}
@@ -13,19 +13,18 @@ use Rattle.congee.specs.owned.Lesser.{Shrunk, ShrinksTo, SameMap}
 use Rattle.congee.specs.owned.Naming.{offset_of, IsByte}
 use Rattle.congee.specs.owned.OwnedSteps.{SameNodes}
 use Rattle.congee.specs.owned.Sizes.{bytes_at, bytes_of}
-use Rattle.congee.specs.owned.Slots.{inner_child, leaf_child, with_children, slot_node, lone_in, inline_at, in_slot, nodes_in}
+use Rattle.congee.specs.owned.Slots.{inner_child, leaf_child, slot_node, lone_in, inline_at, in_slot, nodes_in}
 use Rattle.congee.specs.owned.Storage.{HasKind, IsStored}
 use Rattle.congee.specs.protocol.Steps.{form_below}
 use Rattle.congee.specs.declared.forms.base_node.Node.{Node}
 use Rattle.congee.specs.declared.forms.base_node.NodeType.TheVariants.{N4}
-use Rattle.congee.specs.declared.owned.lone.Lone.{Lone}
 use Rattle.congee.specs.declared.owned.slots.Slot.{Slot}
 use Rattle.congee.specs.declared.owned.slots.Slot.TheVariants.{Inner, Leaf}
 use Rattle.congee.specs.owned.Kinds.{form_in, len_in}
 use Rattle.congee.proofs.lemmas.Rename.{Renamed, named, renamed_tree, renamed_map}
 use Rattle.congee.proofs.lemmas.Tree.{same_or_not}
-use Rattle.congee.proofs.lemmas.owned.Filled.{filled_at, filled_some}
-use Rattle.congee.proofs.lemmas.owned.Moves.{node_at, one_node}
+use Rattle.congee.proofs.lemmas.owned.Filled.{filled_some}
+use Rattle.congee.proofs.lemmas.owned.Moves.{node_at}
 use Rattle.congee.proofs.lemmas.owned.Sizes.{bytes_update}
 use Rattle.congee.proofs.lemmas.owned.SlotChanges.{AtInner, at_inner}
 use Rattle.congee.proofs.lemmas.owned.SlotComes.{slot_updates, slot_stored}

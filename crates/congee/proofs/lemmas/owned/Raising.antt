@@ -1,6 +1,6 @@
 -- What stands in the storage where a node's only child takes the node's place.
-use Rattle.std.proofs.Common.{◌≡◌, ◌≢◌, ℕ, zero, suc, ◌+◌, ◌*◌, ◌/◌, ◌%◌, ◌<◌, ◌≤◌, inl, inr, true, List, length, take, get_or, refl, sym, ap, subst, ◌∙◌, arith}
-use Rattle.std.specs.Prelude.{Option, None, Some, is_some, IsSome}
+use Rattle.std.proofs.Common.{◌≡◌, ◌≢◌, ℕ, zero, suc, ◌+◌, ◌*◌, ◌/◌, ◌%◌, ◌<◌, ◌≤◌, inl, inr, true, length, get_or, refl, sym, ap, subst, ◌∙◌, arith}
+use Rattle.std.specs.Prelude.{None, Some, is_some}
 use Rattle.std.specs.Ordering.{nat_cmp}
 use Rattle.std.specs.Cmp.{nat_cmp_total}
 use Rattle.std.specs.FinMap as map
@@ -10,12 +10,12 @@ use Rattle.congee.specs.forms.Bytes.{IsFirst}
 use Rattle.congee.specs.forms.Forms.{children_of, form_of, prefix_of, size_of}
 use Rattle.congee.specs.owned.Arena.{Nodes}
 use Rattle.congee.specs.owned.Entries.{first_byte}
-use Rattle.congee.specs.owned.Lifting.{HasOneNode, MayLift, MovesUp}
+use Rattle.congee.specs.owned.Lifting.{MayLift, MovesUp}
 use Rattle.congee.specs.owned.Naming.{HasOwnSlot, IsByte, byte_of, offset_of}
 use Rattle.congee.specs.owned.OwnedSteps.{Sets}
 use Rattle.congee.specs.owned.Sizes.{bytes_at, bytes_of}
 use Rattle.congee.specs.owned.Slots.{lone_node, nodes_in}
-use Rattle.congee.specs.owned.Stores.{HangsLeaf, HasInline, HasNode, LosesLeaf}
+use Rattle.congee.specs.owned.Stores.{HangsLeaf, HasNode, LosesLeaf}
 use Rattle.congee.specs.declared.forms.base_node.Node.{Node}
 use Rattle.congee.specs.declared.forms.child.Child.{Child}
 use Rattle.congee.specs.declared.forms.child.Child.TheVariants.{Node as Sub, Value}
@@ -24,7 +24,7 @@ use Rattle.congee.specs.declared.owned.slots.Slot.{Slot}
 use Rattle.congee.proofs.lemmas.Tree.{same_or_not}
 use Rattle.congee.proofs.lemmas.owned.Folding.{one_child, same_least}
 use Rattle.congee.proofs.lemmas.owned.Hangings.{bytes_two}
-use Rattle.congee.proofs.lemmas.owned.Moves.{apart_of, insert_at, insert_beside, len_one, node_at, one_node, stands_at}
+use Rattle.congee.proofs.lemmas.owned.Moves.{apart_of, insert_at, insert_beside, len_one, one_node, stands_at}
 use Rattle.congee.proofs.lemmas.owned.Sizes.{bytes_update, sets_bytes}
 use Rattle.congee.proofs.lemmas.owned.SlotChanges.{inner_own}
 use Rattle.congee.proofs.lemmas.owned.SlotLens.{counted, len_update}

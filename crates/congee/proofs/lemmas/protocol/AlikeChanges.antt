@@ -1,5 +1,5 @@
 -- The changes that a call makes of nodes on a store, and of the same nodes by their numbers.
-use Rattle.std.proofs.Common.{◌≡◌, ◌≢◌, ℕ, zero, suc, ◌+◌, ◌<◌, ◌≤◌, ◌==◌, cond, arith, List, refl, sym, ◌∙◌, ap, subst, inl, inr}
+use Rattle.std.proofs.Common.{◌≡◌, ◌≢◌, ℕ, zero, suc, ◌+◌, ◌<◌, ◌≤◌, cond, arith, List, refl, sym, ◌∙◌, ap, subst, inl, inr}
 use Rattle.std.specs.Prelude.{Option, None, Some, slice_index, slice_get}
 use Rattle.congee.specs.declared.protocol.phase.Parent.{Parent}
 use Rattle.congee.specs.declared.protocol.phase.Single.{Single}
@@ -11,7 +11,7 @@ use Rattle.congee.specs.declared.protocol.phase.Two.{Two}
 use Rattle.congee.specs.declared.protocol.phase.Phase.{Phase}
 use Rattle.congee.specs.declared.protocol.phase.Phase.TheVariants.{ChangeTwo}
 use Rattle.congee.specs.Heap.{Node, Hung, Nothing, Below, Stands}
-use Rattle.congee.specs.protocol.Alike.{Ordered, HungAlike, NodeAlike, HeapAlike, Named, SeatAlike, ParentAlike, TopAlike, SingleAlike, DoubleAlike, TwoAlike}
+use Rattle.congee.specs.protocol.Alike.{Ordered, HungAlike, NodeAlike, HeapAlike, Named, SeatAlike, TopAlike, SingleAlike, DoubleAlike, TwoAlike}
 use Rattle.congee.specs.protocol.Events.{IsOther, ChangeGives, HoldsValues, HoldsNodes, TakeOverGives, BackGives}
 use Rattle.congee.specs.protocol.PlainSteps.{name_or, other_from, other_of, change_top, back, hang, copy, clear, back_one, back_two, change_one, change_two}
 use Rattle.congee.specs.protocol.Steps.{PutsLesser, Collapses, Lessens, MayLessen, MayTop, BackOne, BackTwo, value_hung, ChangedOne, ChangedTwo, MayBackOne, MayBackTwo, MayChangeOne, MayChangeTwo}

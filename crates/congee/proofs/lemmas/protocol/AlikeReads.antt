@@ -13,7 +13,6 @@ use Rattle.congee.specs.declared.protocol.store.Reading.TheVariants.{Differs, Fi
 use Rattle.congee.specs.declared.protocol.store.Region.{Region}
 use Rattle.congee.specs.declared.protocol.store.Seat.{Seat}
 use Rattle.congee.specs.declared.protocol.store.Seen.{Seen}
-use Rattle.congee.specs.declared.protocol.phase.Parent.{Parent}
 use Rattle.congee.specs.declared.protocol.phase.Above.{Above as Over}
 use Rattle.congee.specs.declared.protocol.phase.Site.{Site}
 use Rattle.congee.specs.declared.protocol.phase.Phase.TheVariants.{Check, CheckUncopied, CheckMiss}

@@ -27,11 +27,11 @@ use Rattle.congee.specs.Heap.{Node, Stands, is_taken, version_of}
 use Rattle.congee.specs.protocol.Alike.{Ordered, NodeAlike, HeapAlike, Named, SeatAlike, ParentAlike, TopAlike, MadeAlike, ReadAlike, OneAlike, TwoAlike, PhaseAlike, TurnAlike, IsUnrefused, WentAlike}
 use Rattle.congee.specs.protocol.Events.{upgrade_gives, NewNode}
 use Rattle.congee.specs.protocol.PlainSteps.{Mark, made_lesser, upgraded_top, put, lock, new_node, reading, swung, checked, at_old, given_old, given_new, back_one, back_two, Went, went, passes, making, upgraded_one, upgraded_above, upgraded_below, passed_above, phase_step}
-use Rattle.congee.specs.protocol.Steps.{quiet, skipping, set_at, both, form_below, lesser_form, node_of, given_up, after_retire, after_unwind, again, answered, refused, form_above, after_version, after_read, after_miss, ready, unless_full, IsIf, IsChecked, IsAtOld, MadeLeaf, greater, MadeGreater, MadeTop, MadeBeside, MadeLesser, IsCheckedAbove, UpgradedOne, UpgradedTop, UpgradedAbove, UpgradedBelow, outcome_of, swept, PhaseStepped, MayBackOne, MayBackTwo, MayStep}
+use Rattle.congee.specs.protocol.Steps.{quiet, skipping, set_at, both, form_below, node_of, given_up, again, answered, refused, form_above, after_version, after_read, after_miss, ready, unless_full, IsIf, IsChecked, IsAtOld, MadeLeaf, greater, MadeGreater, MadeTop, MadeBeside, MadeLesser, IsCheckedAbove, UpgradedOne, UpgradedTop, UpgradedAbove, UpgradedBelow, outcome_of, swept, PhaseStepped, MayBackOne, MayBackTwo, MayStep}
 use Rattle.congee.specs.declared.forms.prefix.TheConstants.{MAX_PREFIX_LEN}
 use Rattle.congee.proofs.lemmas.protocol.AlikeChanges.{HoldsRight, back_one_pair, back_two_pair, change_one_pair, change_two_pair}
 use Rattle.congee.proofs.lemmas.protocol.AlikeHeaps.{Pair, pair_same, ordered_still, pair_locked, pair_freed, pair_marked, pair_handed, later_place, new_place, new_ordered, new_alike}
-use Rattle.congee.proofs.lemmas.protocol.AlikeLater.{named_later, seat_later, parent_later, top_later, made_later, read_later}
+use Rattle.congee.proofs.lemmas.protocol.AlikeLater.{named_later, seat_later, parent_later, made_later, read_later}
 use Rattle.congee.proofs.lemmas.protocol.AlikeReads.{taken_alike, version_same, read_alike}
 use Rattle.congee.proofs.lemmas.protocol.AlikeScans.{SwungAlike, swung_alike}
 use Rattle.congee.proofs.lemmas.protocol.AlikeTurns.{quiet_alike, answered_alike, refused_alike, finished_alike, decided_alike, alike_at, alike_to, again_alike, version_alike, checked_alike, miss_alike, old_alike, full_alike, greater_alike, ready_alike, GivenAlike, given_alike, change_alike, node_alike, retired_alike, left_alike, given_up_alike}

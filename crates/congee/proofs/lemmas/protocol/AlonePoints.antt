@@ -38,7 +38,7 @@ use Rattle.congee.specs.Ledger.{Note, Linked, is_published, IsChild, Tree, LockW
 use Rattle.congee.specs.protocol.Events.{hung, NewNode, ReadGives, upgrade_gives}
 use Rattle.congee.specs.protocol.Holdings.{LockedBy}
 use Rattle.congee.specs.protocol.Protocol.{ChildOf, IsFar, IsAbove, IsLesser, Knows, Known}
-use Rattle.congee.specs.protocol.Steps.{skipping, shrinks, set_at, both as both_of, last_out, near_of, node_of, below, given_up, after_top, after_retire, after_unwind, again, answered, refused, CopyFailed, adds, asks_new, absent_reply, greater, seat_above, after_version, after_read, down, started, ready, plan_here, unless_full, absent, IsAsked, replaced, taken_out, is_same, IsAtOld, IsAdded, IsExchanged, IsPresent, IsChecked, after_miss, IsGiven, IsGivenNew, MadeLeaf, MadeGreater, MadeTop, MadeBeside, MadeLesser, UpgradedOne, UpgradedTop, UpgradedAbove, UpgradedBelow, after_change, PhaseStepped}
+use Rattle.congee.specs.protocol.Steps.{skipping, shrinks, set_at, both as both_of, last_out, near_of, node_of, given_up, after_top, after_retire, again, answered, refused, CopyFailed, adds, asks_new, absent_reply, greater, seat_above, after_version, after_read, down, started, ready, plan_here, unless_full, absent, IsAsked, replaced, taken_out, is_same, IsAtOld, IsAdded, IsExchanged, IsPresent, IsChecked, after_miss, IsGiven, IsGivenNew, MadeLeaf, MadeGreater, MadeTop, MadeBeside, MadeLesser, UpgradedOne, UpgradedTop, UpgradedAbove, UpgradedBelow, after_change, PhaseStepped}
 use Rattle.congee.specs.protocol.Alone.{IsPoint, seats_if, seats_top, seats_over, seats_site, seats_plan, AreTaken, IsUndisturbed, IsAnswer, HasAnswer, steps_down, steps_next, steps_left}
 use Rattle.congee.specs.protocol.Trace.{goes_on, is_asked}
 use Rattle.congee.proofs.lemmas.Fits.{both, same_test}

@@ -13,11 +13,11 @@ use Rattle.congee.specs.declared.protocol.phase.Parent.{Parent}
 use Rattle.congee.specs.declared.protocol.phase.Site.{Site}
 use Rattle.congee.specs.declared.protocol.phase.Single.TheVariants.{Set, Link}
 use Rattle.congee.specs.declared.protocol.phase.Plan.TheVariants.{Above}
-use Rattle.congee.specs.declared.protocol.phase.Phase.TheVariants.{MakeLeaf, MakeGreater, MakeTop, MakeBeside, MakeLesser, UpgradeOne, UpgradeTop, UpgradeAbove}
+use Rattle.congee.specs.declared.protocol.phase.Phase.TheVariants.{MakeLeaf, MakeGreater, MakeTop, MakeBeside, MakeLesser}
 use Rattle.congee.specs.declared.protocol.turn.Turn.{Turn}
 use Rattle.congee.specs.Heap.{Node, Hung, Nothing, Holds, fits}
 use Rattle.congee.specs.protocol.Events.{NewNode, Parts, places}
-use Rattle.congee.specs.protocol.Steps.{quiet, skipping, shrinks, form_below, set_at, both, refused, form_above, greater, MadeLeaf, MadeGreater, MadeTop, MadeBeside, MadeLesser}
+use Rattle.congee.specs.protocol.Steps.{shrinks, form_below, both, refused, form_above, greater, MadeLeaf, MadeGreater, MadeTop, MadeBeside, MadeLesser}
 use Rattle.congee.specs.Keys.{key_bytes}
 use Rattle.congee.specs.Ledger.{Note, is_published, Tree, LockWords}
 use Rattle.congee.specs.protocol.Protocol.{Seated, ChildOf, Sees, Knows, Made, FitsOne, Goes, Settles, MadeLeafFor, PlanKnown, Known, Effect}

@@ -55,7 +55,7 @@ use Rattle.congee.specs.protocol.Protocol.{IsFailure, Known}
 use Rattle.congee.specs.protocol.SweepEvents.{IsAny}
 use Rattle.congee.specs.protocol.SweepKnown.{SweepKnownAt}
 use Rattle.congee.specs.protocol.SweepSteps.{whole, is_outside, last_of, Swung, anew, left_to, entered, begins, IsFollowed, SweptAt}
-use Rattle.congee.specs.protocol.Steps.{shrinks, lesser_form, both, last_out, after_top, after_retire, after_unwind, given_up, again, refused, asking, CopyFailed as Uncopied_turn, adds, asks_new, absent_reply, form_above, greater, after_version, after_read, down, started, ready, plan_here, unless_full, absent, IsAsked, replaced, taken_out, is_same, IsAtOld, IsAdded, IsExchanged, IsPresent, IsChecked, after_miss, IsGiven, IsGivenNew, MadeLeaf, MadeGreater, MadeTop, MadeBeside, MadeLesser, UpgradedOne, UpgradedTop, UpgradedAbove, UpgradedBelow, after_change, unwound, outcome_of, PhaseStepped}
+use Rattle.congee.specs.protocol.Steps.{shrinks, lesser_form, both, last_out, after_top, after_retire, after_unwind, given_up, again, refused, asking, CopyFailed as Uncopied_turn, adds, asks_new, absent_reply, form_above, greater, after_version, after_read, down, started, ready, plan_here, unless_full, absent, IsAsked, replaced, taken_out, is_same, IsAtOld, IsAdded, IsExchanged, IsPresent, IsChecked, after_miss, IsGiven, IsGivenNew, MadeLeaf, MadeGreater, MadeTop, MadeBeside, MadeLesser, UpgradedOne, UpgradedTop, UpgradedAbove, UpgradedBelow, after_change, outcome_of, PhaseStepped}
 use Rattle.congee.proofs.lemmas.Fits.{equal}
 use Rattle.congee.proofs.lemmas.Graft.{on_test}
 use Rattle.congee.proofs.lemmas.protocol.Touch.{by_test}

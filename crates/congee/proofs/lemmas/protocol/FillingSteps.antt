@@ -397,12 +397,12 @@ module _ {C V : Type 0} (number : C → ℕ) (same : V → V → Bool) (always :
       let x : IsFilled (h (number s.at.node)) = was_filled a h t f (number s.at.node) (taken_linked a h w (number s.at.node) s.at.version pu q') nz in
       let P : ℕ → Type 0 = λ z. least_in (form_above s.count) ≤ suc z in
       filled_same (length (h (number s.at.node)).prefix) (suc (h (number s.at.node)).count) (h' (number c)).capacity (length (h' (number s.at.node)).prefix) (suc (h' (number s.at.node)).count) (h' (number c)).capacity
-        (ap (λ z. length z.prefix) e) (ap (λ z. suc z.count) e) refl
-        (record {
-          some = omega arith;
-          branches = λ z. omega (arith, x.branches z);
-          least = enough (form_above s.count) (suc (h (number s.at.node)).count) (h' (number c)).capacity g.capacity (subst P (sym y.count) (grown s.count));
-        })
+      (ap (λ z. length z.prefix) e) (ap (λ z. suc z.count) e) refl
+      (record {
+        some = omega arith;
+        branches = λ z. omega (arith, x.branches z);
+        least = enough (form_above s.count) (suc (h (number s.at.node)).count) (h' (number c)).capacity g.capacity (subst P (sym y.count) (grown s.count));
+      })
 
   greater_made_next : (s : Site C) (p : Parent C) (leaf : Option C) (turn : Turn C V) (x : Result C Refusal) → Known number same always i a h k (key_bytes k) kind given (MakeGreater s p leaf) → IsSmall number h leaf
       → MadeGreater number kind s p leaf h (key_bytes k) x h' turn → Next number h' given turn
@@ -435,11 +435,11 @@ module _ {C V : Type 0} (number : C → ℕ) (same : V → V → Bool) (always :
       let l : least_in s.form ≤ s.count = omega (arith, y.count, x.least s.form (sym y.form)) in
       let es : suc j ≡ s.count = ej ∙ (ap (λ z. z.count) e ∙ y.count) in
       filled_same (length (h (number s.at.node)).prefix) j (h' (number c)).capacity (length (h' (number s.at.node)).prefix) j (h' (number c)).capacity (ap (λ z. length z.prefix) e) refl refl
-        (record {
-          some = some_left s.form s.count j small l es;
-          branches = λ z. absurd (omega (arith, z, m.depth, d));
-          least = enough (form_below s.form) j (h' (number c)).capacity g.capacity (lessened s.form s.count j l es);
-        })
+      (record {
+        some = some_left s.form s.count j small l es;
+        branches = λ z. absurd (omega (arith, z, m.depth, d));
+        least = enough (form_below s.form) j (h' (number c)).capacity g.capacity (lessened s.form s.count j l es);
+      })
 
   -- a lesser node with the other children of the node above
   above_fills : (p : Parent C) (n : ℕ) (c : C) → ChildOf number a h (key_bytes k) p n → 2 < p.count → NewNode h (number c) (form_below p.form) (key_bytes k) p.depth h' → is_taken (h' (number p.seat.node)) p.seat.version ≡ true
@@ -453,11 +453,11 @@ module _ {C V : Type 0} (number : C → ℕ) (same : V → V → Bool) (always :
       let l : least_in p.form ≤ p.count = omega (arith, y.1, x.least p.form (sym y.2)) in
       let es : suc j ≡ p.count = ej ∙ (ap (λ z. z.count) e ∙ y.1) in
       filled_same (length (h (number p.seat.node)).prefix) j (h' (number c)).capacity (length (h' (number p.seat.node)).prefix) j (h' (number c)).capacity (ap (λ z. length z.prefix) e) refl refl
-        (record {
-          some = omega (arith, es, more);
-          branches = λ _. omega (arith, es, more);
-          least = enough (form_below p.form) j (h' (number c)).capacity g.capacity (lessened p.form p.count j l es);
-        })
+      (record {
+        some = omega (arith, es, more);
+        branches = λ _. omega (arith, es, more);
+        least = enough (form_below p.form) j (h' (number c)).capacity g.capacity (lessened p.form p.count j l es);
+      })
 
   lesser_made_next : (s : Site C) (p : Parent C) (top : Option (Parent C)) (r : Reply V) (turn : Turn C V) (x : Result C Refusal) → Known number same always i a h k (key_bytes k) kind given (MakeLesser s p top r) → turn.report.skipped ≡ false
       → MadeLesser number s p top r h (key_bytes k) x h' turn → Next number h' given turn

@@ -24,10 +24,10 @@ use Rattle.congee.specs.declared.protocol.phase.Phase.TheVariants.{New, Version,
 use Rattle.congee.specs.declared.protocol.turn.Turn.{Turn}
 use Rattle.congee.specs.Heap.{Node, Hung, Below, is_taken}
 use Rattle.congee.specs.protocol.Events.{SameBut, NewNode, ChangeGives, TakeOverGives, BackGives}
-use Rattle.congee.specs.protocol.Steps.{skipping, node_of, both, given_up, after_top, after_retire, after_unwind, PutsLesser, Collapses, Lessens, quiet, again, decided, asking, asks_new, absent_reply, started, ready, plan_here, unless_full, unwound, greater, after_change, BackOne, BackTwo, BackLeaf, MadeLeaf, MadeGreater, MadeTop, MadeBeside, MadeLesser, UpgradedOne, UpgradedTop, UpgradedAbove, UpgradedBelow, ChangedOne, ChangedTwo, IsGivenNew, PhaseStepped}
+use Rattle.congee.specs.protocol.Steps.{node_of, both, given_up, after_top, after_retire, after_unwind, PutsLesser, Collapses, Lessens, quiet, again, decided, asking, asks_new, absent_reply, started, ready, plan_here, unless_full, unwound, greater, after_change, BackOne, BackTwo, BackLeaf, MadeLeaf, MadeGreater, MadeTop, MadeBeside, MadeLesser, UpgradedOne, UpgradedTop, UpgradedAbove, UpgradedBelow, ChangedOne, ChangedTwo, IsGivenNew, PhaseStepped}
 use Rattle.congee.specs.Keys.{key_bytes}
 use Rattle.congee.specs.Ledger.{Note, Unmade, Held, Linked, is_published, Tree, LockWords}
-use Rattle.congee.specs.protocol.Protocol.{HasTop, TopLocked, Made, Holding, MadeOne, MadeTwo, MadeLeafFor, Fares, Known}
+use Rattle.congee.specs.protocol.Protocol.{HasTop, Made, Holding, MadeOne, MadeTwo, MadeLeafFor, Fares, Known}
 use Rattle.congee.specs.protocol.Holdings.{IsTop, LockedBy, MadeForOne, MadeForTwo, MadeForPlan, IsMade, MadeBy}
 use Rattle.congee.proofs.lemmas.Graft.{on_test}
 use Rattle.congee.proofs.lemmas.Tree.{same_or_not}

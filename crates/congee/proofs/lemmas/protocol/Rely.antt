@@ -20,7 +20,7 @@ use Rattle.congee.specs.Heap.{Node, Hung}
 use Rattle.congee.specs.protocol.Events.{hung, Parts}
 use Rattle.congee.specs.Ledger.{Note}
 use Rattle.congee.specs.protocol.Protocol.{ChildOf, IsFar, IsAbove, TopLocked, AlsoOut, AlsoHolding, IsLesser, Knows, Made, PlacedOne, WantedOne, MadeOne, OneKnown, OneLocked, PlacedTwo, WantedTwo, MadeTwo, TwoKnown, AboveLocked, HalfLocked, TwoLocked, TakenOut, SeatedIf, PlanKnown, MadeLeafFor, Known, Rely}
-use Rattle.congee.specs.protocol.Names.{name_above, names_over, names_two, name_seated, name_made, names_site, names_one, names_plan, names}
+use Rattle.congee.specs.protocol.Names.{name_above, names_over, name_seated, name_made, names_site, names_one, names_plan, names}
 use Rattle.congee.proofs.lemmas.protocol.Each.{Each, left, right}
 pub use Rattle.congee.proofs.lemmas.protocol.Seats.{seated_kept, fresh_kept, fits_kept, holding_kept, made_kept}
 use Rattle.congee.proofs.lemmas.protocol.SweepRely.{sweep_known_kept}

@@ -1,5 +1,5 @@
 -- The steps of a call that change the tree: each one answers as the map.
-use Rattle.std.proofs.Common.{◌≡◌, ◌≢◌, ℕ, ◌<◌, ◌==◌, Bool, true, List, [], ◌∷◌, length, get_or, refl, sym, ◌∙◌, ap, subst, arith}
+use Rattle.std.proofs.Common.{◌≡◌, ◌≢◌, ℕ, ◌<◌, Bool, true, List, length, get_or, refl, sym, ◌∙◌, ap, subst, arith}
 use Rattle.std.specs.Prelude.{Option, None, Some}
 use Rattle.judge.specs.declared.journal.Reply.{Reply}
 use Rattle.congee.specs.declared.protocol.phase.Kind.{Kind}
@@ -14,15 +14,15 @@ use Rattle.congee.specs.declared.protocol.phase.Phase.{Phase}
 use Rattle.congee.specs.declared.protocol.phase.Phase.TheVariants.{ChangeOne, ChangeTwo, Obsolete, UnlockBelow, Unlock}
 use Rattle.congee.specs.Heap.{Node, Hung, Nothing, Below, Holds, fits, child_for}
 use Rattle.congee.specs.protocol.Events.{ChangeGives, TakeOverGives}
-use Rattle.congee.specs.protocol.Steps.{decided, PutsLesser, Collapses, Lessens as LessensTop, ChangedOne, ChangedTwo, after_top, after_change}
+use Rattle.congee.specs.protocol.Steps.{decided, Collapses, Lessens as LessensTop, ChangedOne, ChangedTwo, after_top, after_change}
 use Rattle.congee.specs.Keys.{key_bytes}
-use Rattle.congee.specs.Ledger.{Note, Linked, is_published, IsChild, Tree, LockWords}
+use Rattle.congee.specs.Ledger.{Note, is_published, IsChild, Tree, LockWords}
 use Rattle.congee.specs.protocol.Protocol.{Made, Holding, PlacedOne, WantedOne, MadeOne, value_in, FitsOne, PlacedTwo, WantedTwo, MadeTwo, FitsTwo, AboveLocked, TopLocked, TakenOut, Settles, Known}
 use Rattle.congee.specs.protocol.Answers.{Decides}
 use Rattle.congee.proofs.lemmas.Fits.{fits_same}
 use Rattle.congee.proofs.lemmas.protocol.Grow.{a_value, a_leaf}
 use Rattle.congee.proofs.lemmas.protocol.Touch.{noted, noted_other}
-use Rattle.congee.proofs.lemmas.protocol.Change.{Changed, StaysLocked, Live, live_made, live_changed, live_same, joined, leaf_filled, leaf_same, made_apart, under_above, under_taken, live_taken, set_changed, link_changed, unlink_changed}
+use Rattle.congee.proofs.lemmas.protocol.Change.{Changed, live_made, live_changed, live_same, joined, leaf_filled, leaf_same, made_apart, under_above, under_taken, live_taken, set_changed, link_changed, unlink_changed}
 use Rattle.congee.proofs.lemmas.protocol.Regrow.{regrown, regrown_leaf, regrown_status, regrown_owner, regrown_old, no_leaf, new_leaf, regrow_changed}
 use Rattle.congee.proofs.lemmas.protocol.Parting.{split_changed}
 use Rattle.congee.proofs.lemmas.protocol.Lessening.{SecondOut, shrink_changed, collapsed, collapse_changed, lessened, lessen_changed}

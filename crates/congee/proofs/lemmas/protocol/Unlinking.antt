@@ -1,7 +1,7 @@
 -- What a step takes out of the tree: nothing, or the nodes that its call then hands over.
 use Rattle.std.specs.List.{Contains}
 use Rattle.std.proofs.lemmas.List.Elements.{Contains-append_left, Contains-push}
-use Rattle.std.proofs.Common.{◌≡◌, ◌≢◌, ℕ, zero, suc, ◌<◌, ◌⊎◌, inl, inr, Bool, true, false, List, [], ◌∷◌, ◌++◌, length, get_or, refl, sym, ◌∙◌, ap, subst, arith}
+use Rattle.std.proofs.Common.{◌≡◌, ℕ, zero, suc, ◌<◌, ◌⊎◌, inl, inr, Bool, true, false, List, [], ◌∷◌, ◌++◌, length, get_or, refl, sym, ◌∙◌, ap, subst, arith}
 use Rattle.std.proofs.Math.ListN.{set}
 use Rattle.std.specs.Prelude.{Option, None, Some, slice_get}
 use Rattle.congee.specs.declared.forms.base_node.NodeType.{NodeType}
@@ -16,7 +16,7 @@ use Rattle.congee.specs.declared.protocol.turn.Turn.{Turn}
 use Rattle.congee.specs.declared.protocol.machine.Machine.{Machine}
 use Rattle.congee.specs.declared.protocol.run.Step.{Step}
 use Rattle.congee.specs.Heap.{Node, Below, Stands}
-use Rattle.congee.specs.protocol.Steps.{quiet, finished, after_retire, PhaseStepped}
+use Rattle.congee.specs.protocol.Steps.{after_retire, PhaseStepped}
 use Rattle.congee.specs.Keys.{key_bytes}
 use Rattle.congee.specs.Ledger.{Note, Status, Unmade, Held, Linked, Gone, Back, Destroyed, is_published, is_spent, IsChild, HasParent, Tree, LockWords}
 use Rattle.congee.specs.protocol.Protocol.{Fares, TopLocked, AlsoOut, AlsoHolding, TakenOut, Known}

@@ -1,4 +1,3 @@
-use Rattle.std.specs.Prelude.{None}
 use Rattle.congee.proofs.lemmas.owned.Answered.{located_free, located_apart}
 use Rattle.congee.proofs.lemmas.owned.Freeing.{none_frees}
 use Rattle.congee.proofs.lemmas.owned.Goings.{located_goes_free, located_goes_apart}

@@ -1,12 +1,11 @@
-use Rattle.std.proofs.Common.{rules, ◌≡◌, ◌+◌, ◌≤◌, ℕ, true, false, length, refl, sym, ap, subst, ◌∙◌, arith}
-use Rattle.std.specs.FinMap as map
-use Rattle.congee.specs.forms.Forms.{children_of, form_of, size_of}
+use Rattle.std.proofs.Common.{rules, ◌≡◌, ℕ, true, false, length, sym, ap, subst, ◌∙◌, arith}
+use Rattle.congee.specs.forms.Forms.{form_of, size_of}
 use Rattle.congee.specs.owned.Arena.{heap_of}
-use Rattle.congee.specs.owned.Going.{GaveWay, Went, lesser_of}
+use Rattle.congee.specs.owned.Going.{GaveWay, Went}
 use Rattle.congee.specs.owned.Sizes.{bytes_of}
 use Rattle.congee.specs.owned.Wanted.{size_by}
 use Rattle.congee.specs.protocol.Steps.{shrinks}
-use Rattle.std.specs.Prelude.{Some, None}
+use Rattle.std.specs.Prelude.{Some}
 use Rattle.congee.proofs.lemmas.owned.Moves.{node_at, stands_at}
 use Rattle.congee.proofs.lemmas.owned.Removing.{LessensBy, charges_false, charges_more, fewer, gave_balance, gave_way, going_more, kept_change, lesser_read, ready_covered, ready_greater, ready_room, seen_count, seen_size, stayed}
 use Rattle.congee.proofs.owned.arena.Arena.thin_out.Goals as goal

@@ -1,4 +1,4 @@
-use Rattle.std.proofs.Common.{◌≡◌, ◌≤◌, sym, ap, ◌∙◌, arith}
+use Rattle.std.proofs.Common.{◌≡◌, sym, ap, ◌∙◌, arith}
 use Rattle.std.specs.FinMap as map
 use Rattle.congee.specs.forms.Forms.{capacity_of, children_of, form_of}
 use Rattle.congee.specs.owned.EntryRoom.{places_fits}

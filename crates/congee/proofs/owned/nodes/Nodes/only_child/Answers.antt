@@ -1,4 +1,4 @@
-use Rattle.std.proofs.Common.{sym, ap, ◌∙◌}
+use Rattle.std.proofs.Common.{ap, ◌∙◌}
 use Rattle.std.specs.FinMap as map
 use Rattle.congee.specs.forms.Forms.{children_of}
 use Rattle.congee.specs.declared.forms.child.Child.TheVariants.{Node as Sub}

@@ -1,11 +1,7 @@
-use Rattle.std.proofs.Common.{rules, ◌≡◌, ◌+◌, ◌*◌, ◌<◌, refl, sym, ap, subst, ◌∙◌, arith}
-use Rattle.std.specs.Prelude.{Some}
-use Rattle.std.specs.FinMap as map
+use Rattle.std.proofs.Common.{rules, ◌+◌, ◌*◌, ◌<◌, sym, ap, subst, ◌∙◌, arith}
 use Rattle.slab.specs.Slab.{get}
-use Rattle.congee.specs.forms.Forms.{children_of}
 use Rattle.congee.specs.owned.Entries.{lone_seen}
 use Rattle.congee.specs.owned.Naming.{offset_of}
-use Rattle.congee.specs.owned.Slots.{lone_node}
 use Rattle.congee.specs.owned.Stores.{HasInline, HasNode}
 use Rattle.congee.proofs.lemmas.owned.Moves.{stands_at}
 use Rattle.congee.proofs.lemmas.owned.Raising.{at_byte, child_is, inner_has_slot, leaf_above, leaf_bare, leaf_begins, leaf_bytes, leaf_inner, leaf_moves, leaf_room, leaf_stands, lower_inner, node_above, node_bare, node_bytes, node_inner, node_moves, node_stands, upper_inner, upper_node, upper_stands}
