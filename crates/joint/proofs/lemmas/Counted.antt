@@ -1,7 +1,7 @@
 -- The counts that are kept beside the machine, over its steps.
 use Rattle.std.proofs.Common.{◌≡◌, ◌≢◌, ℕ, zero, suc, ◌+◌, ◌*◌, ◌^◌, ◌==◌, ◌<◌, ◌≤◌, arith, Bool, true, false, cond, List, [], ◌∷◌, length, refl, sym, ◌∙◌, ap, subst, inl, inr}
 use Rattle.std.proofs.Math.ListN.{set}
-use Rattle.std.specs.Prelude.{Option, None, Some, IfSome, Box, map, nat_eq, replicate, slice_get, if◌then◌else◌}
+use Rattle.std.specs.Prelude.{Option, None, Some, Box, map, nat_eq, replicate, slice_get, if◌then◌else◌}
 use Rattle.std.specs.FinMap.{empty, get, len, empty_of_len, get-empty, len-empty}
 use Rattle.std.specs.Ordering.{nat_cmp}
 use Rattle.std.specs.List.{Contains, flat_map, sum_by}

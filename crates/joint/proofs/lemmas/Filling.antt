@@ -1,5 +1,5 @@
 -- Where no step goes on without a node that it wanted, each node of the tree stays filled.
-use Rattle.std.proofs.Common.{◌≡◌, ◌≢◌, ◌<◌, ℕ, Bool, true, false, List, [], ◌∷◌, length, refl, sym, ◌∙◌, ap, subst, inl, inr, ◌⊎◌}
+use Rattle.std.proofs.Common.{◌≡◌, ◌<◌, ℕ, Bool, true, false, List, [], ◌∷◌, length, refl, sym, ◌∙◌, ap, subst, inl, inr}
 use Rattle.std.proofs.Math.ListN.{set}
 use Rattle.std.specs.Prelude.{Option, None, Some, slice_get, if◌then◌else◌}
 use Rattle.std.proofs.lemmas.Option.{slice_get_within}
@@ -11,11 +11,10 @@ use Rattle.congee.specs.declared.protocol.machine.Noise.{Noise}
 use Rattle.congee.specs.declared.protocol.op.Op.{Op as Point}
 use Rattle.congee.specs.declared.protocol.op.Op.TheVariants as point
 use Rattle.congee.specs.declared.protocol.phase.Phase.{Phase}
-use Rattle.congee.specs.declared.protocol.phase.Phase.TheVariants.{Ended}
 use Rattle.congee.specs.Heap.{Node}
 use Rattle.congee.specs.protocol.Destroys.{Destroys}
 use Rattle.congee.specs.protocol.Filled.{Fills, KeepsFilled}
-use Rattle.congee.specs.protocol.Play.{Settled, begun, first_phase}
+use Rattle.congee.specs.protocol.Play.{Settled, begun}
 use Rattle.joint.specs.declared.call.Call.{Call}
 use Rattle.joint.specs.declared.call.Call.TheVariants.{Idle, Collecting, Reserving, Securing, Walking}
 use Rattle.joint.specs.declared.id.Id.{Id}
@@ -153,10 +152,10 @@ module _ {V : Type 0} (same : V → V → Bool) (always : Bool) (laws : CallLaws
         let keeps = leaves.keeps same always laws s.forest s'.forest s.machines k.step.between (record { who = w; noise = noise }) k.move holds.0.safe k.step.walked old.0 old.1 in
         let skip : k.move.skipped ≡ false = sym (ap (λ y. y.skipped) k.report) ∙ none in
         let full : KeepsFilled id_number (nodes s'.forest) (set s.machines w moved.now) =
-            filling s.forest w settled.0 (nodes s.forest) (nodes s'.forest) s.machines old.0 moved.now k.move noise.fail noise.answer settled.1 old.1 keeps moved.step skip f in
+        filling s.forest w settled.0 (nodes s.forest) (nodes s'.forest) s.machines old.0 moved.now k.move noise.fail noise.answer settled.1 old.1 keeps moved.step skip f in
         let Q : List (Machine Id V) → Type 0 = λ ms. KeepsFilled id_number (nodes s'.forest) ms in
         subst Q (sym (k.step.machines ∙ cleared_is s.machines k.step.between w old.0 moved.now old.1 moved.calls))
-            (filled_again (nodes s'.forest) s.machines w moved.now (rested moved.now) full (slice_get_within s.machines w old.0 old.1) (fills_rested (nodes s'.forest) moved.now))
+        (filled_again (nodes s'.forest) s.machines w moved.now (rested moved.now) full (slice_get_within s.machines w old.0 old.1) (fills_rested (nodes s'.forest) moved.now))
 
   module _ (s s' : Whole V) (w : ℕ) (holds : EngineHolds same always s) (f : StaysFilled s) where
     goes : (k : Option (Call V)) (noise : Noise Id V) (r : Report V) → slice_get s.calls w ≡ k → GoesAt same always s w k noise r s' → r.skipped ≡ false → StaysFilled s'

@@ -103,17 +103,17 @@ module _ {V : Type 0} (same : V → V → Bool) (always : Bool) (s : Forest V) (
 
     rests : IsSafe same always s ms → IsSafe same always s (set ms who resting)
     rests safe =
-      let x : length (place s.collector who).bag + most_left m.kind m.phase ≤ 64 = (safe.sound.sound.guarded who m here).secured in
-      let room : length (place s.collector who).bag + 0 ≤ 64 = omega (arith, x) in
-      record {
-      sound = record {
-        top = safe.sound.top;
-        past = safe.sound.past;
-        sound = begin.begun slot_names view id_number same always either safe.sound.top safe.sound.past s.collector ms safe.sound.sound who resting (settled (heap_of view s.collector.store) safe.sound.sound.settled) refl (λ k x. x)
-            (record { registered = λ u. absurd u; pinned = λ u. absurd u; idle = λ u. absurd u; secured = room });
-      };
-      within = safe.within;
-    }
+        let x : length (place s.collector who).bag + most_left m.kind m.phase ≤ 64 = (safe.sound.sound.guarded who m here).secured in
+        let room : length (place s.collector who).bag + 0 ≤ 64 = omega (arith, x) in
+        record {
+          sound = record {
+            top = safe.sound.top;
+            past = safe.sound.past;
+            sound = begin.begun slot_names view id_number same always either safe.sound.top safe.sound.past s.collector ms safe.sound.sound who resting (settled (heap_of view s.collector.store) safe.sound.sound.settled) refl (λ k x. x)
+                (record { registered = λ u. absurd u; pinned = λ u. absurd u; idle = λ u. absurd u; secured = room });
+          };
+          within = safe.within;
+        }
 
   pub cleared_safe : IsSafe same always s ms → IsSafe same always s (cleared ms who)
   cleared_safe safe =

@@ -15,12 +15,12 @@ use Rattle.joint.proofs.engine.Engine.taken.Goals as goal
 pub weighed-requires-clause-stands : goal.weighed-requires-clause-stands
 weighed-requires-clause-stands g c = (let P : Phase Id g.row.P.Denot → Type 0 = λ p. (k : ℕ) → (k ≡ id_number c.in-Obsolete.node) ⊎ IsMade id_number c.in-Obsolete.next k → TakenBy id_number p k in
     both_stand g.P.Payload.same_as g.P.Payload.always_copies c.args.self.now.nodes c.args.self.now.machines.items c.args.self.now.calls.items c.requires.intact c.args.who c.index.result.now c.in-Obsolete.node c.in-Obsolete.next
-        (slice_get_read c.args.self.now.machines.items (length c.args.self.now.machines.items) c.args.who c.index.result.now refl c.requires.inside c.index.ensures) (subst P (sym c.in-Obsolete.is) (λ k x. x))).0
+    (slice_get_read c.args.self.now.machines.items (length c.args.self.now.machines.items) c.args.who c.index.result.now refl c.requires.inside c.index.ensures) (subst P (sym c.in-Obsolete.is) (λ k x. x))).0
 
 pub weighed-requires-clause-stand : goal.weighed-requires-clause-stand
 weighed-requires-clause-stand g c = (let P : Phase Id g.row.P.Denot → Type 0 = λ p. (k : ℕ) → (k ≡ id_number c.in-Obsolete.node) ⊎ IsMade id_number c.in-Obsolete.next k → TakenBy id_number p k in
     both_stand g.P.Payload.same_as g.P.Payload.always_copies c.args.self.now.nodes c.args.self.now.machines.items c.args.self.now.calls.items c.requires.intact c.args.who c.index.result.now c.in-Obsolete.node c.in-Obsolete.next
-        (slice_get_read c.args.self.now.machines.items (length c.args.self.now.machines.items) c.args.who c.index.result.now refl c.requires.inside c.index.ensures) (subst P (sym c.in-Obsolete.is) (λ k x. x))).1
+    (slice_get_read c.args.self.now.machines.items (length c.args.self.now.machines.items) c.args.who c.index.result.now refl c.requires.inside c.index.ensures) (subst P (sym c.in-Obsolete.is) (λ k x. x))).1
 
 pub returns-in-Obsolete-clause-nodes : goal.returns-in-Obsolete-clause-nodes
 returns-in-Obsolete-clause-nodes g c = c.weighed.ensures.nodes ∙ sym (length-map (c.in-Obsolete.node ∷ in_list c.in-Obsolete.next) id_number) ∙ ap length (sym (ap taken_at (slice_get_read c.args.self.now.machines.items (length c.args.self.now.machines.items) c.args.who c.index.result.now refl c.requires.inside c.index.ensures) ∙ ap (λ p. map id_number (taken p)) c.in-Obsolete.is))
@@ -31,12 +31,12 @@ returns-in-Obsolete-clause-bytes g c = c.weighed.ensures.bytes ∙ ap (sum_by (b
 pub weighed-requires-in-Retire-clause-stands : goal.weighed-requires-in-Retire-clause-stands
 weighed-requires-in-Retire-clause-stands g c = (let P : Phase Id g.row.P.Denot → Type 0 = λ p. (k : ℕ) → (k ≡ id_number c.in-Retire.node) ⊎ IsMade id_number c.in-Retire.next k → TakenBy id_number p k in
     both_stand g.P.Payload.same_as g.P.Payload.always_copies c.args.self.now.nodes c.args.self.now.machines.items c.args.self.now.calls.items c.requires.intact c.args.who c.index.result.now c.in-Retire.node c.in-Retire.next
-        (slice_get_read c.args.self.now.machines.items (length c.args.self.now.machines.items) c.args.who c.index.result.now refl c.requires.inside c.index.ensures) (subst P (sym c.in-Retire.is) (λ k x. x))).0
+    (slice_get_read c.args.self.now.machines.items (length c.args.self.now.machines.items) c.args.who c.index.result.now refl c.requires.inside c.index.ensures) (subst P (sym c.in-Retire.is) (λ k x. x))).0
 
 pub weighed-requires-in-Retire-clause-stand : goal.weighed-requires-in-Retire-clause-stand
 weighed-requires-in-Retire-clause-stand g c = (let P : Phase Id g.row.P.Denot → Type 0 = λ p. (k : ℕ) → (k ≡ id_number c.in-Retire.node) ⊎ IsMade id_number c.in-Retire.next k → TakenBy id_number p k in
     both_stand g.P.Payload.same_as g.P.Payload.always_copies c.args.self.now.nodes c.args.self.now.machines.items c.args.self.now.calls.items c.requires.intact c.args.who c.index.result.now c.in-Retire.node c.in-Retire.next
-        (slice_get_read c.args.self.now.machines.items (length c.args.self.now.machines.items) c.args.who c.index.result.now refl c.requires.inside c.index.ensures) (subst P (sym c.in-Retire.is) (λ k x. x))).1
+    (slice_get_read c.args.self.now.machines.items (length c.args.self.now.machines.items) c.args.who c.index.result.now refl c.requires.inside c.index.ensures) (subst P (sym c.in-Retire.is) (λ k x. x))).1
 
 pub returns-in-Retire-clause-nodes : goal.returns-in-Retire-clause-nodes
 returns-in-Retire-clause-nodes g c = c.weighed-in-Retire.ensures.nodes ∙ sym (length-map (c.in-Retire.node ∷ in_list c.in-Retire.next) id_number) ∙ ap length (sym (ap taken_at (slice_get_read c.args.self.now.machines.items (length c.args.self.now.machines.items) c.args.who c.index.result.now refl c.requires.inside c.index.ensures) ∙ ap (λ p. map id_number (taken p)) c.in-Retire.is))

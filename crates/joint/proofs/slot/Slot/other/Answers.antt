@@ -1,5 +1,4 @@
-use Rattle.std.proofs.Common.{◌≡◌, ◌≢◌, ◌+◌, ◌∙◌, IsSome, refl, sym, subst}
-use Rattle.std.specs.FinMap as map
+use Rattle.std.proofs.Common.{◌≢◌, ◌+◌, ◌∙◌, IsSome, refl, sym, subst}
 use Rattle.congee.specs.Heap.{Node, Nothing}
 use Rattle.congee.specs.protocol.Events.{HoldsNodes, IsOther}
 use Rattle.joint.specs.View.{id_number}
@@ -21,7 +20,7 @@ returns-then-at-byte g c =
     let there = (let P : Node g.row.P.Denot → Type 0 = λ y. y.children c.args.byte ≢ Nothing in subst P (sym c.node-node.ensures.shape) c.requires.there) in
     let P : Node g.row.P.Denot → Type 0 = λ y. IsOther y c.args.byte (id_number c.name_in.result) in
     subst P c.node-node.ensures.shape (first_other c.node-node.result.now c.node-node.ensures.solid (sym c.len.ensures.count ∙ c.if-prove.false) c.args.byte there c.args.self.now.word c.in-Some.at c.in-Some.first.now c.name_in.result
-        (c.len.ensures.bytes c.in-Some.at (subst IsSome (sym c.in-Some.ensures.here) refl)) c.if-at-byte.true c.in-Some.ensures c.name_in.ensures)
+    (c.len.ensures.bytes c.in-Some.at (subst IsSome (sym c.in-Some.ensures.here) refl)) c.if-at-byte.true c.in-Some.ensures c.name_in.ensures)
 
 pub unreachable-requires-in_default-first_from : goal.unreachable-requires-in_default-first_from
 unreachable-requires-in_default-first_from g c =
@@ -38,4 +37,4 @@ returns g c =
     let there = (let P : Node g.row.P.Denot → Type 0 = λ y. y.children c.args.byte ≢ Nothing in subst P (sym c.node-node.ensures.shape) c.requires.there) in
     let P : Node g.row.P.Denot → Type 0 = λ y. IsOther y c.args.byte (id_number c.name_in-2.result) in
     subst P c.node-node.ensures.shape (next_other c.node-node.result.now c.node-node.ensures.solid (sym c.len.ensures.count ∙ c.if-prove.false) c.args.byte there c.args.self.now.word c.in-Some-first_from.field-0-0 c.in-Some-first_from.next.now c.name_in-2.result
-        (c.len.ensures.bytes c.in-Some-first_from.field-0-0 (subst IsSome (sym c.in-Some-first_from.ensures.here) refl)) c.in-Some-first_from.ensures c.name_in-2.ensures)
+    (c.len.ensures.bytes c.in-Some-first_from.field-0-0 (subst IsSome (sym c.in-Some-first_from.ensures.here) refl)) c.in-Some-first_from.ensures c.name_in-2.ensures)
