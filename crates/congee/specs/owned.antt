@@ -8,6 +8,7 @@ pub mod Drained
 pub mod Edits
 pub mod Entries
 pub mod EntryRoom
+pub mod Full
 pub mod Going
 pub mod Kinds
 pub mod Lesser

@@ -11,6 +11,7 @@ pub mod Filled
 pub mod Firsts
 pub mod Folding
 pub mod Freeing
+pub mod Fulls
 pub mod Joins
 pub mod Moves
 pub mod OwnerLemmas
