@@ -12,6 +12,7 @@ pub mod Firsts
 pub mod Folding
 pub mod Freeing
 pub mod Fulls
+pub mod FullSteps
 pub mod Joins
 pub mod Moves
 pub mod OwnerLemmas

@@ -13,11 +13,11 @@ use borrow.Author.Tests.{ltb-true}
 use Rattle.slab.specs.Slab.{get, ContainsKey}
 use Rattle.congee.specs.Heap.{Hung, Nothing, Below, Holds}
 use Rattle.congee.specs.Ledger.{IsChild}
-use Rattle.congee.specs.forms.Forms.{capacity_of, children_of, form_of, next_form, prefix_of}
+use Rattle.congee.specs.forms.Forms.{Becomes, capacity_of, children_of, form_of, next_form, prefix_of}
 use Rattle.congee.specs.owned.Arena.{Nodes, hung_in, node_of, heap_of, ledger_of, IsTree}
 use Rattle.congee.specs.owned.Full.{AllFilled, HasEnough, NodesFilled, OthersFilled, fewest, lacks, lacks_all, lacking_of}
 use Rattle.congee.specs.owned.Levels.{shape_of, under_byte, under_bytes, with_node, nodes_from, nodes_of}
-use Rattle.congee.specs.owned.OwnedSteps.{SameNodes}
+use Rattle.congee.specs.owned.OwnedSteps.{SameNodes, Sets}
 use Rattle.congee.specs.owned.Stats.{Shape}
 use Rattle.congee.specs.owned.Wanted.{form_by}
 use Rattle.congee.specs.protocol.Events.{places}
@@ -26,6 +26,7 @@ use Rattle.congee.specs.protocol.Steps.{form_below, shrinks}
 use Rattle.congee.specs.declared.forms.base_node.Node.{Node as Form}
 use Rattle.congee.specs.declared.forms.base_node.NodeType.{NodeType}
 use Rattle.congee.specs.declared.forms.base_node.NodeType.TheVariants.{N4, N16, N48, N256}
+use Rattle.congee.specs.declared.forms.child.Child.{Child}
 use Rattle.congee.proofs.lemmas.Tree.{same_or_not}
 use Rattle.congee.proofs.lemmas.owned.Filled.{has_pair}
 use Rattle.congee.proofs.lemmas.owned.Ways.{linked_of}
@@ -265,3 +266,17 @@ module _ {P : Type 0} where
 
   pub others_filled : (s : Nodes P) (at : ℕ) → NodesFilled s → OthersFilled s at
   others_filled s at h n x ne apart e = h n x ne e
+
+  -- nodes that are the same have enough if they had
+  pub same_filled : (s s' : Nodes P) → SameNodes s s' → NodesFilled s → NodesFilled s'
+  same_filled s s' e h n x ne at = h n x ne (sym (e n) ∙ at)
+
+  -- a node with another child in the place of one
+  pub changed_enough : (x y : Form ℕ P) (byte : ℕ) (c d : Child ℕ P) → map.get (children_of x) byte ≡ Some d → Becomes x y (map.insert (children_of x) byte c) → HasEnough x → HasEnough y
+  changed_enough x y byte c d there b f =
+      let n : map.len (children_of y) ≡ map.len (children_of x) = ap map.len b.children ∙ len_kept (children_of x) byte c d there in
+      enough_more x y b.form b.prefix (omega (arith, n)) f
+
+  pub set_filled : (s s' : Nodes P) (at : ℕ) (x : Form ℕ P) (byte : ℕ) (c d : Child ℕ P) → get s at ≡ Some x → map.get (children_of x) byte ≡ Some d → Sets s s' at x (map.insert (children_of x) byte c) → NodesFilled s → NodesFilled s'
+  set_filled s s' at x byte c d e there k h =
+      filled_but s s' at k.node (others_filled s at h) (λ ne. changed_enough x k.node byte c d there k.becomes (h at x ne e)) k.updates.changed k.updates.others

@@ -266,6 +266,10 @@ module _ {P : Type 0} (s s' : Nodes P) (g b p : ℕ) (t : IsTree s) (r : MayLift
   root_stands : ContainsKey s 0
   root_stands = stands_of s t.parent 0 t.tree.root
 
+  -- the child isn't the root
+  pub moved_apart : o ≢ 0
+  moved_apart e = ro (sym e)
+
   pub moved_up : SameMap s s'
   moved_up = record {
     tree = record {

@@ -187,7 +187,7 @@ module _ {P : Type 0} where
       let leaf : k.leaf ≡ at = same_name (map.get (children_of n.0) up) k.leaf at k.child (child_there s t key above at h.way.stands h.child n.0 n.1 up b) in
       let place : up ≡ get_or key (length (prefix_of n.0)) 0 = b ∙ ap (λ p. get_or key (length p) 0) (prefix_at s above n.0 n.1) in
       let B : ℕ → Type 0 = λ y. Becomes n.0 k.node (map.remove (children_of n.0) y) in
-      record { old = n.0; new = k.node; was = n.1; now = k.now; becomes = subst B place k.becomes; others = λ m na nt. k.others m na (λ e. nt (e ∙ leaf)) }
+      record { old = n.0; new = k.node; was = n.1; now = k.now; becomes = subst B place k.becomes; left = subst (λ z. get s' z ≡ None) leaf k.left; others = λ m na nt. k.others m na (λ e. nt (e ∙ leaf)) }
     where
       same_name : (o : Option (Child ℕ P)) (m n : ℕ) → o ≡ Some (Sub m) → o ≡ Some (Sub n) → m ≡ n
       same_name o m n e h = let a : Child ℕ P = Sub m in let d : Child ℕ P = Sub n in let z : Some a ≡ Some d = sym e ∙ h in cc
@@ -211,6 +211,7 @@ module _ {P : Type 0} where
         was = n.1;
         now = u.others above ne ∙ k.updates.changed;
         becomes = subst B place k.becomes;
+        left = u.changed;
         others = λ m na nt. u.others m nt ∙ (k.updates.others m na ∙ j.updates.others m nt);
       }
 
