@@ -31,10 +31,13 @@ use Rattle.congee.proofs.lemmas.owned.Moves.{differs_insert, node_at}
 use Rattle.congee.proofs.lemmas.owned.Removing.{lesser_read}
 
 -- a full form has as many children as it can have
+equal_by : (n m : ℕ) → n == m ≡ true → n ≡ m
+equal_by n m e = grind (arith, nat_tests)
+
 full_capacity : (form : NodeType) (n : ℕ) → full_at form n ≡ true → n ≡ capacity_of form
-full_capacity N4 n e = grind (arith, nat_tests)
-full_capacity N16 n e = grind (arith, nat_tests)
-full_capacity N48 n e = grind (arith, nat_tests)
+full_capacity N4 n e = equal_by n 4 e
+full_capacity N16 n e = equal_by n 16 e
+full_capacity N48 n e = equal_by n 48 e
 full_capacity N256 n e = absurd (let z : false ≡ true = e in cc)
 
 module _ {P : Type 0} where
@@ -129,9 +132,9 @@ module _ {P : Type 0} where
 -- a lesser node that was wanted, and isn't there, was skipped
 pub came_not : (form : NodeType) (n before after gone : ℕ) → shrinks form n ≡ true → after + gone ≡ before → LesserCame before after gone (lesser_if (shrinks form n) form) → ⊥
 came_not N4 n before after gone s e c = let z : false ≡ true = s in cc
-came_not N16 n before after gone s e c = let k = subst (λ b. LesserCame before after gone (lesser_if b N16)) s c in omega (arith, k, e)
-came_not N48 n before after gone s e c = let k = subst (λ b. LesserCame before after gone (lesser_if b N48)) s c in omega (arith, k, e)
-came_not N256 n before after gone s e c = let k = subst (λ b. LesserCame before after gone (lesser_if b N256)) s c in omega (arith, k, e)
+came_not N16 n before after gone s e c = let k : after + gone + 168 ≡ before + 64 = subst (λ b. LesserCame before after gone (lesser_if b N16)) s c in omega (arith, k, e)
+came_not N48 n before after gone s e c = let k : after + gone + 672 ≡ before + 168 = subst (λ b. LesserCame before after gone (lesser_if b N48)) s c in omega (arith, k, e)
+came_not N256 n before after gone s e c = let k : after + gone + 2104 ≡ before + 672 = subst (λ b. LesserCame before after gone (lesser_if b N256)) s c in omega (arith, k, e)
 
 -- the sum of the sizes tells whether a node took the form below
 pub never_less : (form : NodeType) (before after : ℕ) → form ≢ N4 → after ≡ before → after + size_of form ≡ before + size_of (form_below form) → ⊥
@@ -189,8 +192,8 @@ module _ {P : Type 0} where
   pub lessened_filled : (s s' : Nodes P) (at : ℕ) (x y : Form ℕ P) → OthersFilled s at → FilledIn (capacity_of (form_below (form_of x))) x → form_of y ≡ form_below (form_of x) → prefix_of y ≡ prefix_of x → children_of y ≡ children_of x
       → get s' at ≡ Some y → ((m : ℕ) → m ≢ at → get s' m ≡ get s m) → NodesFilled s'
   lessened_filled s s' at x y h f form prefix children now others =
-      let g = subst (λ p. FilledAs (length p) (map.len (children_of x)) (capacity_of (form_below (form_of x)))) (sym prefix) f in
-      let k = subst (λ m. FilledAs (length (prefix_of y)) (map.len m) (capacity_of (form_below (form_of x)))) (sym children) g in
+      let g : FilledAs (length (prefix_of y)) (map.len (children_of x)) (capacity_of (form_below (form_of x))) = subst (λ p. FilledAs (length p) (map.len (children_of x)) (capacity_of (form_below (form_of x)))) (sym prefix) f in
+      let k : FilledAs (length (prefix_of y)) (map.len (children_of y)) (capacity_of (form_below (form_of x))) = subst (λ m. FilledAs (length (prefix_of y)) (map.len m) (capacity_of (form_below (form_of x)))) (sym children) g in
       let full : HasEnough y = subst (λ w. FilledAs (length (prefix_of y)) (map.len (children_of y)) (capacity_of w)) (sym form) k in
       filled_but s s' at y h (λ _. full) now others
 

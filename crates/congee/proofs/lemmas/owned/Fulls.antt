@@ -1,5 +1,5 @@
 -- How full the nodes of an arena are: what they lack, and those of the tree, each with its level.
-use Rattle.std.proofs.Common.{◌≡◌, ◌≢◌, ℕ, zero, suc, ◌+◌, ◌-◌, ◌<◌, ◌≤◌, ◌⊎◌, Bool, true, false, cond, ltb, List, [], ◌∷◌, length, drop, get_or, inl, inr, refl, sym, ap, subst, ◌∙◌, arith, rules}
+use Rattle.std.proofs.Common.{◌≡◌, ◌≢◌, ℕ, zero, suc, ◌+◌, ◌-◌, ◌<◌, ◌≤◌, ◌⊎◌, Bool, true, false, cond, leb, ltb, List, [], ◌∷◌, length, drop, get_or, inl, inr, refl, sym, ap, subst, ◌∙◌, arith}
 use Rattle.std.specs.Prelude.{Option, None, Some, IsSome, is_some}
 use Rattle.std.specs.Ordering.{nat_cmp}
 use Rattle.std.specs.Cmp.{nat_cmp_total}
@@ -8,7 +8,6 @@ use Rattle.std.proofs.lemmas.List.Elements.{All-append, All-cons, All-nil}
 use Rattle.std.proofs.lemmas.Bool.{lt-ltb}
 use Rattle.std.proofs.lemmas.Bool.Decides.{nat_tests}
 use Rattle.std.specs.FinMap as map
-use Rattle.std.specs.FinMap.{gets}
 use borrow.Author.Tests.{ltb-true}
 use Rattle.slab.specs.Slab.{get, ContainsKey}
 use Rattle.congee.specs.Heap.{Hung, Nothing, Below, Holds}
@@ -29,6 +28,7 @@ use Rattle.congee.specs.declared.forms.base_node.NodeType.TheVariants.{N4, N16, 
 use Rattle.congee.specs.declared.forms.child.Child.{Child}
 use Rattle.congee.proofs.lemmas.Tree.{same_or_not}
 use Rattle.congee.proofs.lemmas.owned.Filled.{has_pair}
+use Rattle.congee.proofs.lemmas.owned.Moves.{remove_beside}
 use Rattle.congee.proofs.lemmas.owned.Ways.{linked_of}
 
 -- a form by its places
@@ -66,10 +66,13 @@ some_least : (b : Bool) → 1 ≤ cond b 2 1
 some_least true = omega arith
 some_least false = omega arith
 
+two_least : (size : ℕ) → size < 7 → 2 ≤ cond (ltb size 7) 2 1
+two_least size l = rw (lt-ltb size 7 l) (omega arith)
+
 pub has_enough : (form : NodeType) (size count : ℕ) → fewest form size - count ≡ 0 → FilledAs size count (capacity_of form)
 has_enough form size count e =
     let one = some_least (ltb size 7) in
-    filled_as form size count (omega (arith, e, one)) (λ l. let two : cond (ltb size 7) 2 1 ≡ 2 = ap (λ b. cond b 2 1) (lt-ltb size 7 l) in omega (arith, e, two)) (omega (arith, e))
+    filled_as form size count (omega (arith, e, one)) (λ l. let two = two_least size l in omega (arith, e, two)) (omega (arith, e))
 
 pub lacks_none : (form : NodeType) (size count : ℕ) → FilledAs size count (capacity_of form) → fewest form size - count ≡ 0
 lacks_none form size count f =
@@ -182,11 +185,14 @@ module _ {P : Type 0} (s : Nodes P) (t : IsTree s) where
   shapes_filled e = all_from (filled_where s e) 8 0 0 (λ ne. absurd (ne refl))
 
 -- what a node that isn't small without a child has without it
+less_or : (n m : ℕ) → leb n m ≡ false → m < n
+less_or n m e = grind (arith, nat_tests)
+
 spared : (form : NodeType) (k : ℕ) → shrinks form (suc k) ≡ false → least_in form ≤ k
 spared N4 k e = omega arith
-spared N16 k e = grind (arith, nat_tests)
-spared N48 k e = grind (arith, nat_tests)
-spared N256 k e = grind (arith, nat_tests)
+spared N16 k e = omega (arith, less_or (suc k) 4 e)
+spared N48 k e = omega (arith, less_or (suc k) 13 e)
+spared N256 k e = omega (arith, less_or (suc k) 41 e)
 
 pub filled_less : (size k : ℕ) (form : NodeType) → shrinks form (suc k) ≡ false → 1 ≤ k → (size < 7 → 2 ≤ k) → FilledAs size k (capacity_of form)
 filled_less size k form e one two = filled_as form size k one two (spared form k e)
@@ -227,7 +233,7 @@ module _ {X : Type 0} where
   len_two m k l x y ne e f =
       let c : map.contains_key m k ≡ true = ap is_some e in
       let r : map.len (map.remove m k) ≡ map.len m - 1 = map.len-remove nat_cmp_total m k ∙ rw c refl in
-      let g : map.get (map.remove m k) l ≡ Some y = grind (gets, rules, ne, f) in
+      let g : map.get (map.remove m k) l ≡ Some y = remove_beside m k l (λ q. ne (sym q)) ∙ f in
       let h = has_pair (map.remove m k) l y g in
       omega (arith, r, h)
 
