@@ -49,7 +49,6 @@ impl<P: Stored, A: Allocator> Arena<P, A> {
     {}
 
     /// Where no node but the root lacks a child, each has as many as it should.
-    #[tactic(auto, using(crate::proofs::lemmas::owned::Fulls::shapes_filled))]
     pub(crate) fn nodes_filled(&self)
         requires { IsTree self.now.nodes }
         ensures { lacking_of self.now.nodes ≡ 0 → AllFilled (nodes_of self.now.nodes) }
