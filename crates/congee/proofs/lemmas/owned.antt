@@ -23,6 +23,7 @@ pub mod Refilling
 pub mod Renaming
 pub mod Rooms
 pub mod Root
+pub mod Running
 pub mod Scanned
 pub mod Sizes
 pub mod SlotChanges

@@ -1,5 +1,5 @@
 //! The owned tree of words.
-ghost use Rattle.std.specs.Prelude.{◌≡◌, ◌+◌, ◌≤◌, ◌^◌, ℕ, Option, None, Some, Ok, Err, IfOk, IfErr, IfSome, IfNone, OnOk};
+ghost use Rattle.std.specs.Prelude.{◌≡◌, ◌+◌, ◌≤◌, ◌^◌, ℕ, List, Option, None, Some, Ok, Err, IfOk, IfErr, IfSome, IfNone, OnOk};
 ghost use Rattle.std.specs.Prelude.{IsTrue, IsSome, ◌↔◌, nat_eq, length, take, drop};
 ghost use Rattle.std.specs.Option.{option_map};
 ghost use Rattle.std.specs.List.{All};
@@ -12,6 +12,7 @@ ghost use Rattle.congee.specs.owned.Drained.{Drained};
 ghost use Rattle.congee.specs.owned.Full.{AllFilled};
 ghost use Rattle.congee.specs.owned.OwnedSteps.{IsRefusal};
 ghost use Rattle.congee.specs.owned.Ranges.{by_bytes, in_range, keys_by};
+ghost use Rattle.congee.specs.owned.Runs.{GoesOn, IsRun};
 ghost use Rattle.congee.specs.owned.Stats.{HasValue, IsTally, capped};
 ghost use Rattle.congee.specs.owned.Weights.{sizes_of};
 ghost use Rattle.congee.specs.owned.Going.{going_by};
@@ -374,10 +375,12 @@ impl<K: Word64, V: Word64, A: Allocator, D: Drop> Congee<K, V, A, D> {
         self.arena.leaves_hold();
     }
 
-    /// Where no node but the root lacks a child, which is so in a new tree and after every call that skips no lesser node that it
-    /// wants, each has two nodes below it at least, or one value, and isn't too small for its form.
+    /// Where no node but the root lacks a child, each has two nodes below it at least, or one value, and isn't too small for its
+    /// form. It is so after any calls on a new tree of which none goes on without a lesser node that it wants.
     pub fn nodes_filled(&self)
-        ensures { self.now.lacking ≡ 0 → AllFilled self.now.nodes }
+        ensures filled { self.now.lacking ≡ 0 → AllFilled self.now.nodes }
+        ensures run { (first : _) (calls : List _) → first.lacking ≡ 0
+            → IsRun (GoesOn nat_eq A.charged_of A.limit_of) first calls self.now → AllFilled self.now.nodes }
     {
         self.arena.nodes_filled();
     }

@@ -1,5 +1,5 @@
 //! The owned tree whose keys are numbers.
-ghost use Rattle.std.specs.Prelude.{◌≡◌, ◌+◌, ◌↔◌, ◌^◌, ℕ, Option, Some, None, IfOk, IfErr, IfSome, IfNone, IsSome, IsTrue, OnOk, nat_eq, length, take, drop};
+ghost use Rattle.std.specs.Prelude.{◌≡◌, ◌+◌, ◌↔◌, ◌^◌, ℕ, List, Option, Some, None, IfOk, IfErr, IfSome, IfNone, IsSome, IsTrue, OnOk, nat_eq, length, take, drop};
 ghost use Rattle.std.specs.Option.{option_map};
 ghost use Rattle.std.specs.List.{All};
 ghost use Rattle.std.specs.FinMap as map;
@@ -10,6 +10,7 @@ ghost use Rattle.congee.specs.owned.Full.{AllFilled};
 ghost use Rattle.congee.specs.owned.Nearest.{IsLeast, IsGreatest, pair_by};
 ghost use Rattle.congee.specs.owned.OwnedSteps.{IsRefusal};
 ghost use Rattle.congee.specs.owned.Ranges.{by_bytes, in_range, keys_by};
+ghost use Rattle.congee.specs.owned.Runs.{GoesOn, IsRun};
 ghost use Rattle.congee.specs.owned.Stats.{HasValue, IsTally, capped};
 ghost use Rattle.congee.specs.owned.Going.{going_by};
 ghost use Rattle.congee.specs.owned.Weights.{sizes_of};
@@ -196,10 +197,12 @@ impl<V: Word64, A: Allocator> U64Congee<V, A> {
         self.tree.leaves_hold();
     }
 
-    /// Where no node but the root lacks a child, which is so in a new tree and after every call that skips no lesser node that it
-    /// wants, each has two nodes below it at least, or one value, and isn't too small for its form.
+    /// Where no node but the root lacks a child, each has two nodes below it at least, or one value, and isn't too small for its
+    /// form. It is so after any calls on a new tree of which none goes on without a lesser node that it wants.
     pub fn nodes_filled(&self)
-        ensures { self.now.tree.lacking ≡ 0 → AllFilled self.now.tree.nodes }
+        ensures filled { self.now.tree.lacking ≡ 0 → AllFilled self.now.tree.nodes }
+        ensures run { (first : _) (calls : List _) → first.lacking ≡ 0
+            → IsRun (GoesOn nat_eq A.charged_of A.limit_of) first calls self.now.tree → AllFilled self.now.tree.nodes }
     {
         self.tree.nodes_filled();
     }

@@ -1,12 +1,12 @@
 -- What insertions and removals leave of nodes that have enough children.
-use Rattle.std.proofs.Common.{◌≡◌, ◌≢◌, ℕ, suc, ◌+◌, ◌-◌, ◌<◌, ◌≤◌, ◌==◌, inl, inr, Bool, true, false, cond, List, length, take, get_or, refl, sym, ap, subst, ◌∙◌, arith}
-use Rattle.std.specs.Prelude.{Option, None, Some}
+use Rattle.std.proofs.Common.{◌≡◌, ◌≢◌, ℕ, suc, ◌+◌, ◌<◌, ◌≤◌, ◌==◌, inl, inr, Bool, true, false, cond, List, length, get_or, refl, sym, ap, subst, ◌∙◌, arith}
+use Rattle.std.specs.Prelude.{None, Some}
 use Rattle.std.specs.FinMap as map
 use Rattle.std.proofs.lemmas.Bool.Decides.{nat_tests}
 use Rattle.std.proofs.lemmas.List.{length-take}
 use Rattle.slab.specs.Slab.{get, ContainsKey}
 use Rattle.congee.specs.forms.Forms.{Becomes, capacity_of, children_of, form_of, is_full_of, next_form, prefix_of, size_of}
-use Rattle.congee.specs.owned.Arena.{Nodes, IsTree, Hangs, heap_of}
+use Rattle.congee.specs.owned.Arena.{Nodes, IsTree, heap_of}
 use Rattle.congee.specs.owned.Changes.{IsLeafOf}
 use Rattle.congee.specs.owned.Full.{FilledIn, HasEnough, LesserCame, NodesFilled, OthersFilled}
 use Rattle.congee.specs.owned.Going.{lesser_if, lesser_of}
@@ -122,9 +122,9 @@ module _ {P : Type 0} where
           | inl q ↦ inr (here s4 HasEnough m at x k.node q e k.updates.changed (changed_enough n.0 k.node byte (Sub over) (Sub below) (there n.0 e3) k.becomes (h at n.0 (λ z. ne (q ∙ z)) n.1)))
           | inr na ↦ elim (same_or_not m over) [
             | inl q ↦ inr (here s3 HasEnough m over x f.forks.node q (sym (k.updates.others m na) ∙ e) f.forks.updates.changed over_enough)
-            | inr no ↦ elim (same_or_not m f.hangs.leaf) [
-              | inl q ↦ inr (here s2 HasEnough m f.hangs.leaf x f.hangs.made q (sym (f.forks.updates.others m no) ∙ (sym (k.updates.others m na) ∙ e)) f.hangs.taken (leaf_enough f.hangs.made key v len f.hangs.form f.hangs.has))
-              | inr nl ↦ inl (m, ne, sym (f.made.updates.others m no) ∙ (sym (f.hangs.others m no nl) ∙ (sym (f.forks.updates.others m no) ∙ (sym (k.updates.others m na) ∙ e))))
+            | inr nv ↦ elim (same_or_not m f.hangs.leaf) [
+              | inl q ↦ inr (here s2 HasEnough m f.hangs.leaf x f.hangs.made q (sym (f.forks.updates.others m nv) ∙ (sym (k.updates.others m na) ∙ e)) f.hangs.taken (leaf_enough f.hangs.made key v len f.hangs.form f.hangs.has))
+              | inr nl ↦ inl (m, ne, sym (f.made.updates.others m nv) ∙ (sym (f.hangs.others m nv nl) ∙ (sym (f.forks.updates.others m nv) ∙ (sym (k.updates.others m na) ∙ e))))
             ]
           ]
         ])
