@@ -1,7 +1,7 @@
 -- Runs of writing calls on an owned tree in which none goes on without a lesser node that it wants.
 use Rattle.std.specs.Prelude.{◌≡◌, ℕ, Bool, List, [], ◌∷◌, Option}
 use Rattle.congee.specs.owned.Content.{Content, Inserts, IsBare, Modifies, Unchanged}
-use Rattle.congee.specs.owned.Full.{NoneSkipped}
+use Rattle.congee.specs.owned.Full.{AllFilled, NoneSkipped}
 use Rattle.congee.specs.owned.Going.{Going}
 use Rattle.congee.specs.owned.Owners.{Owners, OwnerInserts, OwnerModifies}
 use Rattle.judge.specs.declared.journal.Call.{Call}
@@ -19,8 +19,15 @@ pub data GoesOn {V A D : Type 0} (same : V → V → Bool) (charged limit : A �
   Left : Unchanged old new → GoesOn same charged limit old new
   Cleared : IsBare new → GoesOn same charged limit old new
 
+-- the nodes of a tree have enough children after any such calls on one that lacked none
+abbrev pub StaysFilled : {V A D : Type 0} → (V → V → Bool) → (A → ℕ) → (A → ℕ) → Content V A D → Type 0
+StaysFilled {V} {A} {D} same charged limit last = (first : Content V A D) (calls : List (Content V A D)) → first.lacking ≡ 0 → IsRun (GoesOn same charged limit) first calls last → AllFilled last.nodes
+
 -- the same on a tree of owners
 pub data OwnerGoesOn {V : Type 0} (old new : Owners V) : Type 0 where
   OwnerInserted : (key : ℕ) (call : Call V) (reply : Reply V) → OwnerInserts old new key call reply → OwnerGoesOn old new
   OwnerModified : (going : Option Going) (call : Call V) (reply : Reply V) → OwnerModifies old new going call reply → NoneSkipped old.bytes new.bytes going → OwnerGoesOn old new
   OwnerLeft : new ≡ old → OwnerGoesOn old new
+
+abbrev pub OwnersStayFilled : {V : Type 0} → Owners V → Type 0
+OwnersStayFilled {V} last = (first : Owners V) (calls : List (Owners V)) → first.lacking ≡ 0 → IsRun OwnerGoesOn first calls last → AllFilled last.nodes

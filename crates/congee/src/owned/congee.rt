@@ -1,5 +1,5 @@
 //! The owned tree of words.
-ghost use Rattle.std.specs.Prelude.{◌≡◌, ◌+◌, ◌≤◌, ◌^◌, ℕ, List, Option, None, Some, Ok, Err, IfOk, IfErr, IfSome, IfNone, OnOk};
+ghost use Rattle.std.specs.Prelude.{◌≡◌, ◌+◌, ◌≤◌, ◌^◌, ℕ, Option, None, Some, Ok, Err, IfOk, IfErr, IfSome, IfNone, OnOk};
 ghost use Rattle.std.specs.Prelude.{IsTrue, IsSome, ◌↔◌, nat_eq, length, take, drop};
 ghost use Rattle.std.specs.Option.{option_map};
 ghost use Rattle.std.specs.List.{All};
@@ -12,7 +12,7 @@ ghost use Rattle.congee.specs.owned.Drained.{Drained};
 ghost use Rattle.congee.specs.owned.Full.{AllFilled};
 ghost use Rattle.congee.specs.owned.OwnedSteps.{IsRefusal};
 ghost use Rattle.congee.specs.owned.Ranges.{by_bytes, in_range, keys_by};
-ghost use Rattle.congee.specs.owned.Runs.{GoesOn, IsRun};
+ghost use Rattle.congee.specs.owned.Runs.{StaysFilled};
 ghost use Rattle.congee.specs.owned.Stats.{HasValue, IsTally, capped};
 ghost use Rattle.congee.specs.owned.Weights.{sizes_of};
 ghost use Rattle.congee.specs.owned.Going.{going_by};
@@ -379,8 +379,7 @@ impl<K: Word64, V: Word64, A: Allocator, D: Drop> Congee<K, V, A, D> {
     /// form. It is so after any calls on a new tree of which none goes on without a lesser node that it wants.
     pub fn nodes_filled(&self)
         ensures filled { self.now.lacking ≡ 0 → AllFilled self.now.nodes }
-        ensures run { (first : _) (calls : List _) → first.lacking ≡ 0
-            → IsRun (GoesOn nat_eq A.charged_of A.limit_of) first calls self.now → AllFilled self.now.nodes }
+        ensures run { StaysFilled nat_eq A.charged_of A.limit_of self.now }
     {
         self.arena.nodes_filled();
     }

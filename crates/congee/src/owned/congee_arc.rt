@@ -1,5 +1,5 @@
 //! The owned tree of shared values.
-ghost use Rattle.std.specs.Prelude.{◌≡◌, ◌↔◌, ◌-◌, List, None, Some, IsSome, IsTrue};
+ghost use Rattle.std.specs.Prelude.{◌≡◌, ◌↔◌, ◌-◌, None, Some, IsSome, IsTrue};
 ghost use Rattle.std.specs.Prelude.{IfOk, IfErr, IfSome, IfNone, OnErr};
 ghost use Rattle.std.specs.Option.{option_map};
 ghost use Rattle.std.specs.Arc.{arc_value};
@@ -9,7 +9,7 @@ ghost use Rattle.congee.specs.declared.forms.base_node.NodeType.TheVariants.{N25
 ghost use Rattle.congee.specs.owned.Owners.{OwnerAnswers, OwnerInserts, OwnerRefuses, OwnerModifies};
 ghost use Rattle.congee.specs.owned.Full.{AllFilled};
 ghost use Rattle.congee.specs.owned.Going.{going_by};
-ghost use Rattle.congee.specs.owned.Runs.{IsRun, OwnerGoesOn};
+ghost use Rattle.congee.specs.owned.Runs.{OwnersStayFilled};
 ghost use Rattle.congee.specs.owned.Stats.{root_alone};
 ghost use Rattle.congee.specs.owned.Wanted.{WantsLeaf};
 ghost use Rattle.congee.specs.owned.Ranges.{keys_by};
@@ -205,8 +205,7 @@ impl<K: Word64, V: Drop> CongeeArc<K, V> {
     /// form. It is so after any calls on a new tree of which none goes on without a lesser node that it wants.
     pub fn nodes_filled(&self)
         ensures filled { self.now.lacking ≡ 0 → AllFilled self.now.nodes }
-        ensures run { (first : _) (calls : List _) → first.lacking ≡ 0
-            → IsRun OwnerGoesOn first calls self.now → AllFilled self.now.nodes }
+        ensures run { OwnersStayFilled self.now }
     {
         self.arena.nodes_filled();
     }

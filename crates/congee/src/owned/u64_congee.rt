@@ -1,5 +1,5 @@
 //! The owned tree whose keys are numbers.
-ghost use Rattle.std.specs.Prelude.{◌≡◌, ◌+◌, ◌↔◌, ◌^◌, ℕ, List, Option, Some, None, IfOk, IfErr, IfSome, IfNone, IsSome, IsTrue, OnOk, nat_eq, length, take, drop};
+ghost use Rattle.std.specs.Prelude.{◌≡◌, ◌+◌, ◌↔◌, ◌^◌, ℕ, Option, Some, None, IfOk, IfErr, IfSome, IfNone, IsSome, IsTrue, OnOk, nat_eq, length, take, drop};
 ghost use Rattle.std.specs.Option.{option_map};
 ghost use Rattle.std.specs.List.{All};
 ghost use Rattle.std.specs.FinMap as map;
@@ -10,7 +10,7 @@ ghost use Rattle.congee.specs.owned.Full.{AllFilled};
 ghost use Rattle.congee.specs.owned.Nearest.{IsLeast, IsGreatest, pair_by};
 ghost use Rattle.congee.specs.owned.OwnedSteps.{IsRefusal};
 ghost use Rattle.congee.specs.owned.Ranges.{by_bytes, in_range, keys_by};
-ghost use Rattle.congee.specs.owned.Runs.{GoesOn, IsRun};
+ghost use Rattle.congee.specs.owned.Runs.{StaysFilled};
 ghost use Rattle.congee.specs.owned.Stats.{HasValue, IsTally, capped};
 ghost use Rattle.congee.specs.owned.Going.{going_by};
 ghost use Rattle.congee.specs.owned.Weights.{sizes_of};
@@ -201,8 +201,7 @@ impl<V: Word64, A: Allocator> U64Congee<V, A> {
     /// form. It is so after any calls on a new tree of which none goes on without a lesser node that it wants.
     pub fn nodes_filled(&self)
         ensures filled { self.now.tree.lacking ≡ 0 → AllFilled self.now.tree.nodes }
-        ensures run { (first : _) (calls : List _) → first.lacking ≡ 0
-            → IsRun (GoesOn nat_eq A.charged_of A.limit_of) first calls self.now.tree → AllFilled self.now.tree.nodes }
+        ensures run { StaysFilled nat_eq A.charged_of A.limit_of self.now.tree }
     {
         self.tree.nodes_filled();
     }

@@ -3,7 +3,7 @@ use Rattle.std.proofs.Common.{◌≡◌, ℕ, Bool, List, [], ◌∷◌, sym, ap
 use Rattle.congee.specs.owned.Content.{Content}
 use Rattle.congee.specs.owned.Full.{AllFilled}
 use Rattle.congee.specs.owned.Owners.{Owners}
-use Rattle.congee.specs.owned.Runs.{IsRun, GoesOn, Inserted, Modified, Left, Cleared, OwnerGoesOn, OwnerInserted, OwnerModified, OwnerLeft}
+use Rattle.congee.specs.owned.Runs.{IsRun, GoesOn, Inserted, Modified, Left, Cleared, StaysFilled, OwnersStayFilled, OwnerGoesOn, OwnerInserted, OwnerModified, OwnerLeft}
 
 -- what each call keeps is so after all of them
 module _ {S : Type 0} (next : S → S → Type 0) (P : S → Type 0) (keeps : (a b : S) → next a b → P a → P b) where
@@ -18,8 +18,7 @@ module _ {V A D : Type 0} (same : V → V → Bool) (charged limit : A → ℕ) 
   call_filled old new (Left u) e = u.lacking ∙ e
   call_filled old new (Cleared b) e = b.filled
 
-  pub run_filled : (now : Content V A D) → (now.lacking ≡ 0 → AllFilled now.nodes) → (first : Content V A D) (calls : List (Content V A D)) → first.lacking ≡ 0
-      → IsRun (GoesOn same charged limit) first calls now → AllFilled now.nodes
+  pub run_filled : (now : Content V A D) → (now.lacking ≡ 0 → AllFilled now.nodes) → StaysFilled same charged limit now
   run_filled now f first calls e r = f (kept (GoesOn same charged limit) (λ (t : Content V A D). t.lacking ≡ 0) call_filled first calls now r e)
 
 module _ {V : Type 0} where
@@ -28,6 +27,5 @@ module _ {V : Type 0} where
   owner_filled old new (OwnerModified going call reply m none) e = m.filled e none
   owner_filled old new (OwnerLeft u) e = ap (λ (t : Owners V). t.lacking) u ∙ e
 
-  pub owners_filled : (now : Owners V) → (now.lacking ≡ 0 → AllFilled now.nodes) → (first : Owners V) (calls : List (Owners V)) → first.lacking ≡ 0
-      → IsRun OwnerGoesOn first calls now → AllFilled now.nodes
+  pub owners_filled : (now : Owners V) → (now.lacking ≡ 0 → AllFilled now.nodes) → OwnersStayFilled now
   owners_filled now f first calls e r = f (kept OwnerGoesOn (λ (t : Owners V). t.lacking ≡ 0) owner_filled first calls now r e)
