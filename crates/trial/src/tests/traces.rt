@@ -233,7 +233,8 @@ impl Trace {
         if text.is_empty() {
             return Ok(());
         }
-        self.tell(&format!(in alloc; "{}{text}", self.steps)?)
+        let steps = self.steps;
+        self.tell(&format!(in alloc; "{steps}{text}")?)
     }
 
     /// A whole call of a worker.
