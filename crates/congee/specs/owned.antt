@@ -8,6 +8,7 @@ pub mod Drained
 pub mod Edits
 pub mod Entries
 pub mod EntryRoom
+pub mod Full
 pub mod Going
 pub mod Kinds
 pub mod Lesser
@@ -18,6 +19,7 @@ pub mod Owned
 pub mod Place
 pub mod Ranges
 pub mod Renames
+pub mod Runs
 pub mod Sights
 pub mod Sizes
 pub mod Slots

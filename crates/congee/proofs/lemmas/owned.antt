@@ -11,6 +11,8 @@ pub mod Filled
 pub mod Firsts
 pub mod Folding
 pub mod Freeing
+pub mod Fulls
+pub mod FullSteps
 pub mod Joins
 pub mod Moves
 pub mod OwnerLemmas
@@ -21,6 +23,7 @@ pub mod Refilling
 pub mod Renaming
 pub mod Rooms
 pub mod Root
+pub mod Running
 pub mod Scanned
 pub mod Sizes
 pub mod SlotChanges

@@ -39,13 +39,14 @@ module _ {P : Type 0} where
     pub tree : IsTree s'
     pub values : (key : List ℕ) → length key ≡ 8 → value_at (heap_of s') key ≡ value_at (heap_of s) key
 
-  -- the node `above` loses the child at the key's byte, the leaf `at`; all others stand as they did
+  -- the node `above` loses the child at the key's byte, the leaf `at`, which goes; all others stand as they did
   pub record LosesChild (s s' : Nodes P) (key : List ℕ) (above at : ℕ) : Type 0 where
     pub old : Node ℕ P
     pub new : Node ℕ P
     pub was : get s above ≡ Some old
     pub now : get s' above ≡ Some new
     pub becomes : Becomes old new (map.remove (children_of old) (slice_index key (length (prefix_of old))))
+    pub left : get s' at ≡ None
     pub others : (m : ℕ) → m ≢ above → m ≢ at → get s' m ≡ get s m
 
 module _ {A : Type 0} (charged limit : A → ℕ) (old new : A) where

@@ -9,8 +9,10 @@ ghost use Rattle.congee.specs.declared.forms.base_node.NodeType.TheVariants.{N25
 ghost use Rattle.congee.specs.owned.Nearest.{IsLeast, IsGreatest, pair_by};
 ghost use Rattle.congee.specs.owned.Content.{Inserts, IsBare, KeepsCharge, ChangesNothing, Refuses, Modifies};
 ghost use Rattle.congee.specs.owned.Drained.{Drained};
+ghost use Rattle.congee.specs.owned.Full.{AllFilled};
 ghost use Rattle.congee.specs.owned.OwnedSteps.{IsRefusal};
 ghost use Rattle.congee.specs.owned.Ranges.{by_bytes, in_range, keys_by};
+ghost use Rattle.congee.specs.owned.Runs.{StaysFilled};
 ghost use Rattle.congee.specs.owned.Stats.{HasValue, IsTally, capped};
 ghost use Rattle.congee.specs.owned.Weights.{sizes_of};
 ghost use Rattle.congee.specs.owned.Going.{going_by};
@@ -47,13 +49,14 @@ impl<K, V, A: Allocator, D> Model for Congee<K, V, A, D> {
     ghost coded = { content_code coded_ℕ A.code D.code };
 
     ghost use Rattle.congee.specs.owned.Arena.{IsTree};
+    ghost use Rattle.congee.specs.owned.Full.{lacking_of};
     ghost use Rattle.congee.specs.owned.Levels.{nodes_of};
     ghost use Rattle.congee.specs.owned.Sizes.{bytes_of};
     ghost use Rattle.congee.specs.owned.Table.{pairs_of};
     ghost use Rattle.congee.specs.owned.Going.{goes_of};
     ghost use Rattle.congee.specs.owned.Wanted.{wants_of};
 
-    ghost view = { λ t. record { pairs = pairs_of t.arena.nodes; nodes = nodes_of t.arena.nodes; bytes = bytes_of t.arena.nodes; base = A.charged_of t.arena.allocator - bytes_of t.arena.nodes; wants = wants_of t.arena.nodes; goes = goes_of t.arena.nodes; allocator = t.arena.allocator; drainer = t.drainer } };
+    ghost view = { λ t. record { pairs = pairs_of t.arena.nodes; nodes = nodes_of t.arena.nodes; bytes = bytes_of t.arena.nodes; lacking = lacking_of t.arena.nodes; base = A.charged_of t.arena.allocator - bytes_of t.arena.nodes; wants = wants_of t.arena.nodes; goes = goes_of t.arena.nodes; allocator = t.arena.allocator; drainer = t.drainer } };
 
     ghost invariant = { λ t. IsTree t.arena.nodes × (bytes_of t.arena.nodes ≤ A.charged_of t.arena.allocator) };
 }
@@ -216,7 +219,8 @@ impl<K: Word64, V: Word64, A: Allocator, D: Drop> Congee<K, V, A, D> {
         }
     }
 
-    /// Takes a key's value out.
+    /// Takes a key's value out. A node that it leaves small gives place to a lesser one. Where budget or memory has no room for that
+    /// one, it is skipped, and the node stays.
     pub fn remove(&mut self, key: &K) -> Option<V>
         ensures removes { (before : Option ℕ) × (result ≡ option_map V.of_word before)
             × Modifies nat_eq A.charged_of A.limit_of self.old self.new (map.get self.old.goes (K.word key.now))
@@ -369,6 +373,15 @@ impl<K: Word64, V: Word64, A: Allocator, D: Drop> Congee<K, V, A, D> {
         ensures { All HasValue self.now.nodes }
     {
         self.arena.leaves_hold();
+    }
+
+    /// Where no node but the root lacks a child, each has two nodes below it at least, or one value, and isn't too small for its
+    /// form. It is so after any calls on a new tree of which none goes on without a lesser node that it wants.
+    pub fn nodes_filled(&self)
+        ensures filled { self.now.lacking ≡ 0 → AllFilled self.now.nodes }
+        ensures run { StaysFilled nat_eq A.charged_of A.limit_of self.now }
+    {
+        self.arena.nodes_filled();
     }
 
     /// The bytes that the allocator has charged: those that it had charged before the tree was opened, and the nodes' sizes.

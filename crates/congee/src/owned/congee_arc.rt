@@ -7,7 +7,10 @@ ghost use Rattle.std.specs.FinMap as map;
 ghost use Rattle.congee.specs.forms.Forms.{size_of};
 ghost use Rattle.congee.specs.declared.forms.base_node.NodeType.TheVariants.{N256};
 ghost use Rattle.congee.specs.owned.Owners.{OwnerAnswers, OwnerInserts, OwnerRefuses, OwnerModifies};
+ghost use Rattle.congee.specs.owned.Full.{AllFilled};
 ghost use Rattle.congee.specs.owned.Going.{going_by};
+ghost use Rattle.congee.specs.owned.Runs.{OwnersStayFilled};
+ghost use Rattle.congee.specs.owned.Stats.{root_alone};
 ghost use Rattle.congee.specs.owned.Wanted.{WantsLeaf};
 ghost use Rattle.congee.specs.owned.Ranges.{keys_by};
 ghost use Rattle.judge.specs.declared.journal.Call.TheVariants as call;
@@ -59,12 +62,14 @@ impl<K, V: Drop> Model for CongeeArc<K, V> {
     ghost coded = { owners_code V.code };
 
     ghost use Rattle.congee.specs.owned.Arena.{IsTree};
+    ghost use Rattle.congee.specs.owned.Full.{lacking_of};
+    ghost use Rattle.congee.specs.owned.Levels.{nodes_of};
     ghost use Rattle.congee.specs.owned.Sizes.{bytes_of};
     ghost use Rattle.congee.specs.owned.Table.{pairs_of};
     ghost use Rattle.congee.specs.owned.Going.{goes_of};
     ghost use Rattle.congee.specs.owned.Wanted.{wants_of};
 
-    ghost view = { λ t. record { pairs = pairs_of t.arena.nodes; bytes = bytes_of t.arena.nodes; wants = wants_of t.arena.nodes; goes = goes_of t.arena.nodes } };
+    ghost view = { λ t. record { pairs = pairs_of t.arena.nodes; nodes = nodes_of t.arena.nodes; bytes = bytes_of t.arena.nodes; lacking = lacking_of t.arena.nodes; wants = wants_of t.arena.nodes; goes = goes_of t.arena.nodes } };
 
     ghost invariant = { λ t. IsTree t.arena.nodes × (bytes_of t.arena.nodes ≡ t.arena.allocator.charged) };
 }
@@ -98,6 +103,8 @@ impl<K: Word64, V: Drop> CongeeArc<K, V> {
     pub fn new(alloc: Global) -> Result<Self, OOMError>
         ensures empty { IfOk result (λ t. t.pairs ≡ map.empty) }
         ensures root { IfOk result (λ t. t.bytes ≡ size_of N256) }
+        ensures nodes { IfOk result (λ t. t.nodes ≡ root_alone) }
+        ensures filled { IfOk result (λ t. t.lacking ≡ 0) }
         ensures wants { IfOk result (λ t. WantsLeaf t.wants) }
         ensures refused { IfErr result (λ e. e ≡ OOMError.Memory) }
     {
@@ -156,7 +163,8 @@ impl<K: Word64, V: Drop> CongeeArc<K, V> {
         }
     }
 
-    /// Takes a key's value out.
+    /// Takes a key's value out. A node that it leaves small gives place to a lesser one. Where budget or memory has no room for that
+    /// one, it is skipped, and the node stays.
     pub fn remove(&mut self, key: K) -> Option<Arc<V, Global>>
         ensures { OwnerModifies self.old self.new (map.get self.old.goes (K.word key))
             (call.Remove (K.word key)) (reply.Remove (option_map arc_value result)) }
@@ -191,6 +199,15 @@ impl<K: Word64, V: Drop> CongeeArc<K, V> {
         };
         let new = payload_of(f(given));
         Ok(owner_of(self.arena.settle(self.alloc, &bytes, new)))
+    }
+
+    /// Where no node but the root lacks a child, each has two nodes below it at least, or one value, and isn't too small for its
+    /// form. It is so after any calls on a new tree of which none goes on without a lesser node that it wants.
+    pub fn nodes_filled(&self)
+        ensures filled { self.now.lacking ≡ 0 → AllFilled self.now.nodes }
+        ensures run { OwnersStayFilled self.now }
+    {
+        self.arena.nodes_filled();
     }
 
     /// Drops each value that stands.

@@ -9,6 +9,7 @@ ghost use Rattle.congee.specs.owned.Charge.{Covers};
 ghost use Rattle.congee.specs.owned.Sizes.{bytes_of};
 ghost use Rattle.congee.specs.owned.Changes.{MapChange};
 ghost use Rattle.congee.specs.owned.Edits.{Adds, Denies, Drops, Frees, Swaps};
+ghost use Rattle.congee.specs.owned.Full.{NodesFilled};
 ghost use Rattle.congee.specs.owned.Naming.{HasOwnSlot};
 ghost use Rattle.congee.specs.owned.OwnedSteps.{Hosts, IsHeld};
 ghost use Rattle.congee.specs.owned.Renames.{Renamed};
@@ -194,6 +195,7 @@ impl<P: Stored, A: Allocator> Arena<P, A> {
         ensures tree { IsTree self.new.nodes }
         ensures change { MapChange self.old.nodes self.new.nodes key.now None (Some value) }
         ensures bytes { bytes_of self.new.nodes ≡ bytes_of self.old.nodes + size_of N4 + size_of N4 }
+        ensures filled { NodesFilled self.old.nodes → NodesFilled self.new.nodes }
         ensures hosts { Hosts self.new.nodes result.over result.other below }
         ensures same { get self.new.nodes below ≡ get self.old.nodes below }
         ensures allocator { self.new.allocator ≡ self.old.allocator }
@@ -218,6 +220,7 @@ impl<P: Stored, A: Allocator> Arena<P, A> {
         ensures tree { IsTree self.new.nodes }
         ensures change { MapChange self.old.nodes self.new.nodes key.now None (Some value) }
         ensures bytes { bytes_of self.new.nodes ≡ bytes_of self.old.nodes + size_of N4 + size_of N4 }
+        ensures filled { NodesFilled self.old.nodes → NodesFilled self.new.nodes }
         ensures allocator { self.new.allocator ≡ self.old.allocator }
     {
         if below.is_inline() {

@@ -8,6 +8,7 @@ ghost use Rattle.congee.specs.protocol.Steps.{form_below, shrinks};
 ghost use Rattle.congee.specs.owned.Arena.{IsTree, OnWay, Hangs, heap_of};
 ghost use Rattle.congee.specs.owned.Charge.{Covers, KeepsLimit};
 ghost use Rattle.congee.specs.owned.Edits.{Drops, Frees};
+ghost use Rattle.congee.specs.owned.Full.{FilledIn, NodesFilled, OthersFilled};
 ghost use Rattle.congee.specs.owned.Going.{goes_at, going_last, going_one, lesser_if};
 ghost use Rattle.congee.specs.owned.Lesser.{Charges, Lessens, LosesChild, SameMap};
 ghost use Rattle.congee.specs.owned.Naming.{HasOwnSlot};
@@ -60,6 +61,10 @@ impl<P: Stored, A: Allocator> Arena<P, A> {
             → bytes_of self.old.nodes + size_of (form_below (form_of x)) ≤ A.charged_of self.old.allocator }
         ensures same { SameMap self.old.nodes self.new.nodes }
         ensures lessens { (x : Form ℕ P) → get self.old.nodes at ≡ Some x → Lessens A.charged_of self.old self.new (form_of x) }
+        ensures filled { (x : Form ℕ P) → get self.old.nodes at ≡ Some x
+            → OthersFilled self.old.nodes at → FilledIn (capacity_of (form_below (form_of x))) x
+            → bytes_of self.new.nodes + size_of (form_of x) ≡ bytes_of self.old.nodes + size_of (form_below (form_of x))
+            → NodesFilled self.new.nodes }
         ensures limit { KeepsLimit A.limit_of self.old self.new }
     {
         let form = self.nodes.node_type(at);

@@ -14,6 +14,7 @@ use Rattle.congee.specs.owned.Changes.{MapChange}
 use Rattle.congee.specs.owned.Charge.{Balances, Covers, KeepsLimit}
 use Rattle.congee.specs.owned.Content.{Content, KeepsCharge, Unchanged, Inserts, Modifies, ChangesNothing, Refuses}
 use Rattle.congee.specs.owned.Edits.{Adds, Denies, Frees}
+use Rattle.congee.specs.owned.Full.{NoneSkipped, lacking_of}
 use Rattle.congee.specs.owned.Going.{Going, Went, goes_at, goes_of, going_by}
 use Rattle.congee.specs.owned.Levels.{nodes_of}
 use Rattle.congee.specs.owned.Owned.{Answered}
@@ -24,6 +25,7 @@ use Rattle.congee.specs.owned.Wanted.{InsertionFits, IsRefused, gain_of, wants_a
 use Rattle.congee.specs.declared.allocator.OOMError.{OOMError}
 use Rattle.congee.specs.declared.owned.arena.Arena.{Arena}
 use Rattle.congee.proofs.lemmas.owned.Answered.{answered_insert, answered_compute, answered_remove, answered_present, answered_absent, present_change, exchange_done, exchange_refused}
+use Rattle.congee.proofs.lemmas.owned.Fulls.{same_lacking, still_none}
 use Rattle.congee.proofs.lemmas.owned.Sizes.{bytes_same}
 use Rattle.congee.proofs.lemmas.owned.Surveys.{same_nodes}
 use Rattle.congee.proofs.lemmas.owned.Tables.{answer_pairs, get_pairs, same_pairs}
@@ -85,6 +87,13 @@ module _ {P A : Type 0} (same : P → P → Bool) (charged limit : A → ℕ) (o
   went by before after f =
       subst (λ z. Went (charged old.allocator) (limit old.allocator) (bytes_of old.nodes) (bytes_of new.nodes) (going_by by z)) (ap (goes_at (heap_of old.nodes)) is ∙ sym (get_goes old.nodes k small)) f.bytes
 
+  -- and what is left then, if no lesser node was skipped
+  pub filled_still : {Y : Type 0} (by : Option Y) (before after : Option P) → Frees charged limit old new key before after (going_by by (goes_at (heap_of old.nodes) key))
+      → lacking_of old.nodes ≡ 0 → NoneSkipped (bytes_of old.nodes) (bytes_of new.nodes) (going_by by (map.get (goes_of old.nodes) k)) → lacking_of new.nodes ≡ 0
+  filled_still by before after f e n =
+      let none = subst (λ z. NoneSkipped (bytes_of old.nodes) (bytes_of new.nodes) (going_by by z)) (sym (ap (goes_at (heap_of old.nodes)) is ∙ sym (get_goes old.nodes k small))) n in
+      still_none old.nodes new.nodes (λ h. f.filled h none) e
+
 -- what is found at a key stands in the pairs
 pub found_at : {P A : Type 0} (t : Arena P A) (k : ℕ) → k < 2 ^ 64 → (key : List ℕ) → key ≡ key_bytes k → (o : Option P) → o ≡ value_at (heap_of t.nodes) key → o ≡ map.get (pairs_of t.nodes) k
 found_at t k small key is o e = get_pairs t.nodes k small o (e ∙ ap (value_at (heap_of t.nodes)) is)
@@ -103,7 +112,7 @@ refused_at t k small key is charged limit e r =
 
 -- an arena with its drainer, as contracts see it
 abbrev pub content : {A D : Type 0} → (A → ℕ) → D → Arena ℕ A → Content ℕ A D
-content charged d t = record { pairs = pairs_of t.nodes; nodes = nodes_of t.nodes; bytes = bytes_of t.nodes; base = charged t.allocator - bytes_of t.nodes; wants = wants_of t.nodes; goes = goes_of t.nodes; allocator = t.allocator; drainer = d }
+content charged d t = record { pairs = pairs_of t.nodes; nodes = nodes_of t.nodes; bytes = bytes_of t.nodes; lacking = lacking_of t.nodes; base = charged t.allocator - bytes_of t.nodes; wants = wants_of t.nodes; goes = goes_of t.nodes; allocator = t.allocator; drainer = d }
 
 module _ {A D : Type 0} (charged limit : A → ℕ) (d : D) (old new : Arena ℕ A) where
   keeps : Balances charged old new → KeepsLimit limit old new → KeepsCharge charged limit (content charged d old) (content charged d new)
@@ -114,6 +123,7 @@ module _ {A D : Type 0} (charged limit : A → ℕ) (d : D) (old new : Arena ℕ
     pairs = same_pairs old.nodes new.nodes same;
     nodes = same_nodes old.nodes new.nodes same;
     bytes = bytes_same old.nodes new.nodes same;
+    lacking = same_lacking old.nodes new.nodes same;
     wants = same_wants old.nodes new.nodes same;
     goes = same_goes old.nodes new.nodes same;
   }
@@ -125,6 +135,7 @@ module _ {A D : Type 0} (charged limit : A → ℕ) (d : D) (old new : Arena ℕ
       answers = insert_told nat_eq charged limit old new k small key is before v _ a;
       fits = fitted_at old k small key is (charged old.allocator) (limit old.allocator) a.fits;
       bytes = grown nat_eq charged limit old new k small key is before v a;
+      filled = still_none old.nodes new.nodes a.filled;
       keeps = keeps a.edits.balance a.edits.same_limit;
     }
 
@@ -139,6 +150,7 @@ module _ {A D : Type 0} (charged limit : A → ℕ) (d : D) (old new : Arena ℕ
             answers = compute_told nat_eq charged limit old new k small key is found v _ b;
             fits = fitted_at old k small key is (charged old.allocator) (limit old.allocator) a.fits;
             bytes = grown nat_eq charged limit old new k small key is found v b;
+            filled = still_none old.nodes new.nodes a.filled;
             keeps = keeps a.edits.balance a.edits.same_limit;
           },
         )
@@ -157,6 +169,7 @@ module _ {A D : Type 0} (charged limit : A → ℕ) (d : D) (old new : Arena ℕ
     removes before f = record {
       answers = remove_told nat_eq charged limit old new k small key is before _ f;
       bytes = went nat_eq charged limit old new k small key is {Y = ℕ} None before None f;
+      filled = filled_still nat_eq charged limit old new k small key is {Y = ℕ} None before None f;
       keeps = keeps f.edits.balance f.edits.same_limit;
     }
 
@@ -166,6 +179,7 @@ module _ {A D : Type 0} (charged limit : A → ℕ) (d : D) (old new : Arena ℕ
     settles r v after found f = record {
       answers = present_told nat_eq charged limit old new k small key is r v after _ found f;
       bytes = went nat_eq charged limit old new k small key is after r (settled r after) f;
+      filled = filled_still nat_eq charged limit old new k small key is after r (settled r after) f;
       keeps = keeps f.edits.balance f.edits.same_limit;
     }
 
@@ -176,6 +190,7 @@ module _ {A D : Type 0} (charged limit : A → ℕ) (d : D) (old new : Arena ℕ
       answers = answer_pairs nat_eq old.nodes new.nodes (call.Exchange k v after) (reply.Exchange (Ok after))
           (exchange_done old.nodes new.nodes k small v after (present_at nat_eq charged limit old new k small key is r v after _ found f));
       bytes = went nat_eq charged limit old new k small key is after r (settled r after) f;
+      filled = filled_still nat_eq charged limit old new k small key is after r (settled r after) f;
       keeps = keeps f.edits.balance f.edits.same_limit;
     }
 

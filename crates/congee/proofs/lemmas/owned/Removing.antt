@@ -7,7 +7,7 @@ use Rattle.std.specs.Cmp.{nat_cmp_total}
 use Rattle.std.specs.FinMap as map
 use Rattle.std.proofs.lemmas.Bool.Decides.{eqb_tells, nat_tests}
 use Rattle.slab.specs.Slab.{get, ContainsKey, Updates}
-use Rattle.congee.specs.Heap.{Node as Seen}
+use Rattle.congee.specs.Heap.{Node as Seen, Hung, Nothing, Below, Holds, fits, child_for, value_at}
 use Rattle.congee.specs.Ledger.{IsChild, Linked}
 use Rattle.congee.specs.forms.Forms.{Becomes, capacity_of, children_of, form_of, prefix_of, size_of}
 use Rattle.congee.specs.owned.Arena.{Nodes, hung_in, node_of, heap_of, ledger_of, IsTree, OnWay, Hangs}
@@ -27,10 +27,11 @@ use Rattle.congee.specs.declared.forms.base_node.NodeType.{NodeType}
 use Rattle.congee.specs.declared.forms.base_node.NodeType.TheVariants.{N4 as T4, N16 as T16, N48 as T48, N256 as T256}
 use Rattle.congee.specs.declared.forms.child.Child.{Child}
 use Rattle.congee.specs.declared.forms.child.Child.TheVariants.{Blank, Node as Sub, Value}
+use Rattle.congee.proofs.lemmas.Tree.{same_or_not}
 use Rattle.congee.proofs.lemmas.owned.Hangings.{above_inner, child_there, only_pair}
 use Rattle.congee.proofs.lemmas.owned.Firsts.{first_below}
 use Rattle.congee.proofs.lemmas.owned.Moves.{insert_at, node_at, one_node, prefix_at, stands_at}
-use Rattle.congee.proofs.lemmas.owned.Ways.{above_apart, is_child, linked_of, stands_of}
+use Rattle.congee.proofs.lemmas.owned.Ways.{above_apart, below_stands, is_child, linked_of, stands_of}
 
 module _ {P : Type 0} where
   form_is : (x : Node ℕ P) → form_by (node_of (Some x)).capacity ≡ form_of x
@@ -186,7 +187,7 @@ module _ {P : Type 0} where
       let leaf : k.leaf ≡ at = same_name (map.get (children_of n.0) up) k.leaf at k.child (child_there s t key above at h.way.stands h.child n.0 n.1 up b) in
       let place : up ≡ get_or key (length (prefix_of n.0)) 0 = b ∙ ap (λ p. get_or key (length p) 0) (prefix_at s above n.0 n.1) in
       let B : ℕ → Type 0 = λ y. Becomes n.0 k.node (map.remove (children_of n.0) y) in
-      record { old = n.0; new = k.node; was = n.1; now = k.now; becomes = subst B place k.becomes; others = λ m na nt. k.others m na (λ e. nt (e ∙ leaf)) }
+      record { old = n.0; new = k.node; was = n.1; now = k.now; becomes = subst B place k.becomes; left = subst (λ z. get s' z ≡ None) leaf k.left; others = λ m na nt. k.others m na (λ e. nt (e ∙ leaf)) }
     where
       same_name : (o : Option (Child ℕ P)) (m n : ℕ) → o ≡ Some (Sub m) → o ≡ Some (Sub n) → m ≡ n
       same_name o m n e h = let a : Child ℕ P = Sub m in let d : Child ℕ P = Sub n in let z : Some a ≡ Some d = sym e ∙ h in cc
@@ -210,6 +211,7 @@ module _ {P : Type 0} where
         was = n.1;
         now = u.others above ne ∙ k.updates.changed;
         becomes = subst B place k.becomes;
+        left = u.changed;
         others = λ m na nt. u.others m nt ∙ (k.updates.others m na ∙ j.updates.others m nt);
       }
 

@@ -1,10 +1,11 @@
-use Rattle.std.proofs.Common.{rules, ◌≡◌, ◌+◌, length, sym, ap, subst, ◌∙◌, arith}
+use Rattle.std.proofs.Common.{rules, ◌≡◌, ◌+◌, ◌≤◌, ℕ, length, sym, ap, subst, ◌∙◌, arith}
 use Rattle.std.specs.Prelude.{Some}
 use Rattle.congee.specs.forms.Forms.{form_of, size_of}
-use Rattle.congee.specs.owned.Arena.{heap_of}
+use Rattle.congee.specs.owned.Arena.{heap_of, IsTree}
 use Rattle.congee.specs.owned.Going.{Went}
 use Rattle.congee.specs.owned.Sizes.{bytes_of}
 use Rattle.congee.specs.owned.Wanted.{size_by}
+use Rattle.congee.proofs.lemmas.owned.FullSteps.{lifted_filled, lost_others}
 use Rattle.congee.proofs.lemmas.owned.Lifting.{moved_up}
 use Rattle.congee.proofs.lemmas.owned.Moves.{node_at}
 use Rattle.congee.proofs.lemmas.owned.Removing.{going_two, hung_not_root, kept_change, lift_ready, lifted_size, seen_count, seen_size, top_stands}
@@ -71,4 +72,6 @@ returns g c =
         same_limit = c.deallocate-2.ensures.limit ∙ (c.deallocate.ensures.limit ∙ ap g.A.Allocator.limit_of d.allocator);
       };
       bytes = subst (λ z. Went (g.A.Allocator.charged_of c.args.self.now.allocator) (g.A.Allocator.limit_of c.args.self.now.allocator) (bytes_of s) (bytes_of c.lift.new.self) (Some z)) (sym two) gone;
+      filled = λ h _. lifted_filled mid c.lift.new.self c.args.top c.byte_at-up.result c.args.above d.tree r (c.lift.ensures.lifts r)
+          (lost_others s mid c.args.key.now c.args.above c.args.at c.drop_leaf-value.ensures.above h);
     }

@@ -1,7 +1,8 @@
-use Rattle.std.proofs.Common.{◌≡◌, sym, ap, subst, ◌∙◌, arith}
-use Rattle.congee.specs.forms.Forms.{size_of}
+use Rattle.std.proofs.Common.{◌≡◌, ◌+◌, ◌≤◌, sym, ap, subst, ◌∙◌, arith}
+use Rattle.congee.specs.forms.Forms.{form_of, size_of}
 use Rattle.congee.specs.owned.Arena.{Hangs, heap_of}
 use Rattle.congee.specs.owned.Wanted.{size_by}
+use Rattle.congee.proofs.lemmas.owned.FullSteps.{lost_others}
 use Rattle.congee.proofs.lemmas.owned.Moves.{node_at}
 use Rattle.congee.proofs.lemmas.owned.Removing.{seen_size}
 use Rattle.congee.proofs.owned.arena.Arena.drop_last.Goals as goal
@@ -34,4 +35,5 @@ returns g c =
         same_limit = c.deallocate.ensures.limit ∙ ap g.A.Allocator.limit_of d.allocator;
       };
       bytes = bytes;
+      filled = λ h _ n x ne e. lost_others c.args.self.now.nodes c.drop_leaf-value.new.self.nodes c.args.key.now c.root.result c.args.at c.drop_leaf-value.ensures.above h n x ne (λ q. ne (q ∙ c.root.ensures)) e;
     }

@@ -2,11 +2,13 @@ use Rattle.std.proofs.Common.{rules, ◌≡◌, ◌≢◌, length, take, get_or,
 use Rattle.slab.specs.Slab.{get}
 use Rattle.congee.specs.Heap.{fits}
 use Rattle.congee.specs.forms.Forms.{prefix_of}
+use Rattle.congee.specs.owned.Arena.{node_of}
 use Rattle.congee.specs.owned.Entries.{first_byte}
 use Rattle.congee.proofs.lemmas.owned.Firsts.{first_taken}
+use Rattle.congee.proofs.lemmas.owned.FullSteps.{fork_filled}
 use Rattle.congee.proofs.lemmas.owned.Moves.{node_at, one_node, prefix_at, stands_at, fresh_absent, fresh_room, fresh_made}
 use Rattle.congee.proofs.lemmas.owned.Ways.{below_stands}
-use Rattle.congee.proofs.lemmas.owned.Hangings.{Forked, forked_at, fork_hung, fork_hosts, fork_below, fork_hangs, made_inner, hung_inner, hung_absent, hung_room, room_made, up_inner, up_node, short_take}
+use Rattle.congee.proofs.lemmas.owned.Hangings.{child_there, Forked, forked_at, fork_hung, fork_hosts, fork_below, fork_hangs, made_inner, hung_inner, hung_absent, hung_room, room_made, up_inner, up_node, short_take}
 use Rattle.congee.proofs.owned.arena.Arena.fork.Given.{Over}
 use Rattle.congee.proofs.owned.arena.Arena.fork.Goals.{After-parting-place, After-hang_node}
 use Rattle.congee.proofs.owned.arena.Arena.fork.Goals as goal
@@ -137,6 +139,16 @@ returns-clause-bytes g c =
     let r = fork_hung c.args.self.now.nodes c.make-over.new.self c.hang_leaf.new.self c.hang_node.new.self c.args.key.now c.parting-place.result.place c.make-over.result _ c.args.below c.args.value (forked g (goal.at.returns-clause-bytes g c).After-hang_node)
     c.swap_node.new.self c.args.at c.byte_at-up.result len c.requires.tree c.requires.way c.requires.hangs c.requires.differs c.byte_at-up.ensures c.swap_node.ensures.swaps in
     omega (arith, r.1)
+
+pub returns-clause-filled : goal.returns-clause-filled
+returns-clause-filled g c =
+    let len : length c.args.key.now ≡ 8 = search rules in
+    let f = forked g (goal.at.returns-clause-filled g c).After-hang_node in
+    let same = there g (goal.at.returns-clause-filled g c).After-hang_node in
+    fork_filled c.args.self.now.nodes c.make-over.new.self c.hang_leaf.new.self c.hang_node.new.self c.swap_node.new.self c.args.key.now c.parting-place.result.place c.make-over.result _ c.args.below c.args.at c.byte_at-up.result c.args.value f len c.requires.way.stands
+    (λ x e. child_there c.args.self.now.nodes c.requires.tree c.args.key.now c.args.at c.args.below c.requires.way.stands c.requires.hangs x (sym same ∙ e) c.byte_at-up.result
+    (c.byte_at-up.ensures ∙ ap (λ o. get_or c.args.key.now (length (node_of o).prefix) 0) same))
+    c.swap_node.ensures.swaps
 
 pub returns-clause-hosts : goal.returns-clause-hosts
 returns-clause-hosts g c =

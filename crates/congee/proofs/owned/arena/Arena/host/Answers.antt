@@ -67,5 +67,11 @@ returns-then-is_inline-clause-bytes g c =
     let f = renamed c.fork-over.new.self.nodes c.fold.new.self c.fork-over.result.over c.fork-over.result.other c.unfold-leaf.result c.fold.ensures.folds.name c.fork-over.ensures.tree c.fold.ensures.folds.renames in
     omega (arith, u.renamed.bytes, f.bytes, c.fork-over.ensures.bytes)
 
+pub returns-then-is_inline-clause-filled : goal.returns-then-is_inline-clause-filled
+returns-then-is_inline-clause-filled g c = λ h.
+    let u = unfolded c.args.self.now.nodes c.unfold-leaf.new.self c.args.key.now c.args.at c.args.below c.byte_at-up.result c.unfold-leaf.result c.requires.tree c.requires.way c.requires.hangs c.byte_at-up.ensures c.unfold-leaf.ensures.renames in
+    let f = renamed c.fork-over.new.self.nodes c.fold.new.self c.fork-over.result.over c.fork-over.result.other c.unfold-leaf.result c.fold.ensures.folds.name c.fork-over.ensures.tree c.fold.ensures.folds.renames in
+    f.filled (c.fork-over.ensures.filled (u.renamed.filled h))
+
 pub fork-requires-clause-own : goal.fork-requires-clause-own
 fork-requires-clause-own g c = own_of c.is_inline.result c.args.below c.is_inline.ensures (search rules)

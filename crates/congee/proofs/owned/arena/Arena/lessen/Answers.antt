@@ -1,9 +1,12 @@
-use Rattle.std.proofs.Common.{rules, ◌≡◌, inl, inr, ap, ◌∙◌, arith}
-use Rattle.slab.specs.Slab.{SameValues}
+use Rattle.std.proofs.Common.{rules, ◌≡◌, ◌+◌, ◌≤◌, inl, inr, refl, sym, ap, ◌∙◌, arith}
+use Rattle.slab.specs.Slab.{SameValues, get}
+use Rattle.std.specs.Prelude.{Some}
 use Rattle.congee.specs.forms.Forms.{form_of, size_of}
+use Rattle.congee.specs.owned.Lesser.{ShrinksTo}
 use Rattle.congee.specs.protocol.Steps.{form_below}
+use Rattle.congee.proofs.lemmas.owned.FullSteps.{lessened_filled, never_less}
 use Rattle.congee.proofs.lemmas.owned.Lessening.{reformed, reformed_bytes, still_map}
-use Rattle.congee.proofs.lemmas.owned.Moves.{node_at}
+use Rattle.congee.proofs.lemmas.owned.Moves.{node_at, one_node}
 use Rattle.congee.proofs.lemmas.owned.Rooms.{of_ok}
 use Rattle.congee.proofs.lemmas.owned.Sizes.{bytes_same}
 use Rattle.congee.proofs.owned.arena.Arena.lessen.Goals as goal
@@ -27,6 +30,12 @@ returns-then-is_err-clause-lessens g c = λ x e.
     let off = c.deallocate.ensures.charged in
     inr (omega (arith, size, off), bytes_same c.args.self.now.nodes c.shrink.new.self same, search rules)
 
+pub returns-then-is_err-clause-filled : goal.returns-then-is_err-clause-filled
+returns-then-is_err-clause-filled g c = λ x e _ _ came.
+    let same : SameValues c.args.self.now.nodes c.shrink.new.self = search rules in
+    let bytes = bytes_same c.args.self.now.nodes c.shrink.new.self same in
+    absurd (never_less (form_of x) _ _ (c.requires.greater x e) bytes came)
+
 pub deallocate-requires-2 : goal.deallocate-requires-2
 deallocate-requires-2 g c =
     let n = node_at c.args.self.now.nodes c.args.at c.requires.stands in
@@ -42,6 +51,11 @@ returns-clause-same g c =
     let n = node_at c.args.self.now.nodes c.args.at c.requires.stands in
     let k = of_ok c.shrink.result c.if-is_err.ensures.negation c.shrink.ensures.shrunk n.0 n.1 in
     reformed c.args.self.now.nodes c.shrink.new.self c.args.at n.0 k.node c.requires.tree c.requires.below n.1 k.updates k.shrunk.prefix k.shrunk.children
+
+pub returns-clause-filled : goal.returns-clause-filled
+returns-clause-filled g c = λ x e others enough came.
+    let k = of_ok c.shrink.result c.if-is_err.ensures.negation c.shrink.ensures.shrunk x e in
+    lessened_filled c.args.self.now.nodes c.shrink.new.self c.args.at x k.node others enough k.shrunk.form k.shrunk.prefix k.shrunk.children k.updates.changed k.updates.others
 
 pub returns-clause-lessens : goal.returns-clause-lessens
 returns-clause-lessens g c = λ x e.

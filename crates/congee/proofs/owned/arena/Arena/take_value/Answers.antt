@@ -1,12 +1,16 @@
-use Rattle.std.proofs.Common.{rules, ◌≡◌, true, false, length, sym, ap, subst, ◌∙◌, arith}
+use Rattle.std.proofs.Common.{rules, ◌≡◌, ◌+◌, ◌-◌, ℕ, true, false, length, refl, sym, ap, subst, ◌∙◌, arith}
 use Rattle.std.specs.FinMap as map
-use Rattle.congee.specs.forms.Forms.{children_of, form_of}
-use Rattle.congee.specs.owned.Going.{GaveWay}
+use Rattle.congee.specs.forms.Forms.{children_of, form_of, prefix_of, size_of}
+use Rattle.congee.specs.owned.Arena.{heap_of}
+use Rattle.congee.specs.owned.Going.{GaveWay, lesser_of}
 use Rattle.congee.specs.owned.Sizes.{bytes_of}
-use Rattle.congee.specs.protocol.Steps.{shrinks}
+use Rattle.congee.specs.protocol.Steps.{form_below, shrinks}
+use Rattle.congee.specs.declared.forms.child.Child.TheVariants.{Value}
+use Rattle.congee.proofs.lemmas.owned.FullSteps.{came_then, less_enough, lesser_enough, none_wanted, read_came, read_shrinks}
+use Rattle.congee.proofs.lemmas.owned.Fulls.{filled_but, others_filled}
 use Rattle.congee.proofs.lemmas.owned.Hangings.{held_value, taken_hangs, taken_prefix}
-use Rattle.congee.proofs.lemmas.owned.Moves.{node_at, taken, held_seven, stands_at}
-use Rattle.congee.proofs.lemmas.owned.Removing.{LessensBy, charges_false, gave_balance, gave_way, kept_change, leaf_not_root, len_left, lesser_read, ready_covered, ready_greater, ready_room, stayed}
+use Rattle.congee.proofs.lemmas.owned.Moves.{node_at, prefix_at, taken, held_seven, stands_at}
+use Rattle.congee.proofs.lemmas.owned.Removing.{LessensBy, charges_false, charges_true, gave_balance, gave_way, kept_change, leaf_not_root, len_fewer, len_left, lesser_read, ready_covered, ready_greater, ready_room, stayed}
 use Rattle.congee.proofs.lemmas.owned.Renaming.{renamed_change}
 use Rattle.congee.proofs.owned.arena.Arena.take_value.Goals as goal
 
@@ -78,6 +82,19 @@ returns-then-lesser g c =
       };
       bytes = subst (λ z. GaveWay (g.A.Allocator.charged_of c.args.self.now.allocator) (g.A.Allocator.limit_of c.args.self.now.allocator) (bytes_of s) (bytes_of c.lessen.new.self.nodes) 0 z)
           (sym (lesser_read s c.args.at l.0 F n l.1 (c.node_type-form.ensures l.0 l.1) (c.len.ensures.count l.0 l.1))) way;
+      filled = λ h none.
+          let enough = h c.args.at l.0 (leaf_not_root s c.args.at c.requires.tree (held_seven s c.args.key.now c.args.at c.requires.tree c.requires.way c.requires.held)) l.1 in
+          let there = sym (c.take_value-value.ensures.was l.0 l.1) in
+          let others = c.requires.others l.0 l.1 in
+          let less : map.len (children_of k.node) ≡ map.len (children_of l.0) - 1 = ap map.len k.becomes.children ∙ len_fewer (children_of l.0) c.byte_at-byte.result (Value c.take_value-value.result) there in
+          let some = enough.some in
+          let seven : length (prefix_of l.0) ≡ 7 = ap length (sym (prefix_at s c.args.at l.0 l.1)) ∙ held_seven s c.args.key.now c.args.at c.requires.tree c.requires.way c.requires.held in
+          let lacks = lesser_enough l.0 k.node k.becomes.form k.becomes.prefix (omega (arith, less, some)) (omega (arith, less, some, others)) (λ inner. absurd (omega (arith, inner, seven))) enough in
+          let small = (charges_true g.A.Allocator.charged_of g.A.Allocator.limit_of c.args.self.now.allocator c.charges_lesser-lesser.new.allocator (shrinks F n) F c.charges_lesser-lesser.result is c.charges_lesser-lesser.ensures).0 in
+          let came = came_then F n (bytes_of s) (bytes_of c.lessen.new.self.nodes) 0 small (read_came s c.args.at l.0 F n l.1 (c.node_type-form.ensures l.0 l.1) (c.len.ensures.count l.0 l.1) (bytes_of s) (bytes_of c.lessen.new.self.nodes) 0 none) in
+          let moved : bytes_of c.lessen.new.self.nodes + size_of F ≡ bytes_of c.take_value-value.new.self + size_of (form_below F) = omega (arith, came, bytes) in
+          c.lessen.ensures.filled k.node k.updates.changed (λ m x ne na e. h m x ne (sym (k.updates.others m na) ∙ e)) lacks
+          (subst (λ f. bytes_of c.lessen.new.self.nodes + size_of f ≡ bytes_of c.take_value-value.new.self + size_of (form_below f)) (sym form) moved);
     }
 
 pub tuck-requires-clause-tree : goal.tuck-requires-clause-tree
@@ -114,4 +131,15 @@ returns g c =
       bytes = subst (λ z. GaveWay (g.A.Allocator.charged_of c.args.self.now.allocator) (g.A.Allocator.limit_of c.args.self.now.allocator) (bytes_of s) (bytes_of c.tuck.new.self.nodes) 0 z)
           (sym (lesser_read s c.args.at l.0 F n l.1 (c.node_type-form.ensures l.0 l.1) (c.len.ensures.count l.0 l.1)))
           (stayed g.A.Allocator.charged_of g.A.Allocator.limit_of c.args.self.now.allocator c.charges_lesser-lesser.new.allocator (shrinks F n) F c.charges_lesser-lesser.result (bytes_of s) (bytes_of c.tuck.new.self.nodes) 0 no c.charges_lesser-lesser.ensures (omega (arith, bytes)));
+      filled = λ h none.
+          let k = c.take_value-value.ensures.takes l.0 l.1 in
+          let enough = h c.args.at l.0 (leaf_not_root s c.args.at c.requires.tree (held_seven s c.args.key.now c.args.at c.requires.tree c.requires.way c.requires.held)) l.1 in
+          let there = sym (c.take_value-value.ensures.was l.0 l.1) in
+          let others = c.requires.others l.0 l.1 in
+          let less : map.len (children_of k.node) ≡ map.len (children_of l.0) - 1 = ap map.len k.becomes.children ∙ len_fewer (children_of l.0) c.byte_at-byte.result (Value c.take_value-value.result) there in
+          let some = enough.some in
+          let seven : length (prefix_of l.0) ≡ 7 = ap length (sym (prefix_at s c.args.at l.0 l.1)) ∙ held_seven s c.args.key.now c.args.at c.requires.tree c.requires.way c.requires.held in
+          let not_small = none_wanted F n (bytes_of s) (bytes_of c.tuck.new.self.nodes) 0 (omega (arith, bytes)) (read_came s c.args.at l.0 F n l.1 (c.node_type-form.ensures l.0 l.1) (c.len.ensures.count l.0 l.1) (bytes_of s) (bytes_of c.tuck.new.self.nodes) 0 none) in
+          let spare = less_enough l.0 k.node k.becomes.form k.becomes.prefix (omega (arith, less, some)) (omega (arith, less, some, others)) (λ inner. absurd (omega (arith, inner, seven))) enough (read_shrinks l.0 F n (c.node_type-form.ensures l.0 l.1) (c.len.ensures.count l.0 l.1) not_small) in
+          c.tuck.ensures.renamed.filled (filled_but s c.take_value-value.new.self c.args.at k.node (others_filled s c.args.at h) (λ _. spare) k.updates.changed k.updates.others);
     }
