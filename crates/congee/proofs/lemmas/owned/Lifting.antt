@@ -1,16 +1,14 @@
 -- A node's only child takes the node's place: the tree and its map stay.
-use Rattle.std.proofs.Common.{◌≡◌, ◌≢◌, ℕ, ◌==◌, ◌<◌, ◌≤◌, inl, inr, true, false, cond, List, length, refl, sym, ap, subst, ◌∙◌, arith}
-use Rattle.std.specs.Prelude.{Option, None, Some, is_some, IsSome}
-use Rattle.std.specs.Ordering.{nat_cmp}
+use Rattle.std.proofs.Common.{◌≡◌, ◌≢◌, ℕ, ◌==◌, ◌<◌, inl, inr, true, false, cond, length, refl, sym, ap, subst, ◌∙◌, arith}
+use Rattle.std.specs.Prelude.{None, Some, IsSome}
 use Rattle.std.specs.FinMap as map
 use Rattle.slab.specs.Slab.{get, ContainsKey}
-use Rattle.congee.specs.Heap.{Node as Seen, Hung, Nothing, Below, Holds, value_at}
+use Rattle.congee.specs.Heap.{Node as Seen, Hung, Nothing, Below, Holds}
 use Rattle.congee.specs.Ledger.{Linked, Gone, Note, Tree, IsChild, Lifts}
-use Rattle.congee.specs.forms.Forms.{capacity_of, children_of, form_of, prefix_of}
+use Rattle.congee.specs.forms.Forms.{capacity_of, children_of}
 use Rattle.congee.specs.owned.Arena.{Nodes, hung_in, node_of, heap_of, ledger_of, IsFilled, IsTree}
 use Rattle.congee.specs.owned.Lesser.{SameMap}
 use Rattle.congee.specs.owned.Lifting.{MayLift, MovesUp}
-use Rattle.congee.specs.declared.forms.base_node.Node.{Node}
 use Rattle.congee.specs.declared.forms.child.Child.TheVariants.{Node as Sub}
 use Rattle.congee.proofs.lemmas.Fits.{same_test, other_test}
 use Rattle.congee.proofs.lemmas.Graft.{one_place}
@@ -19,7 +17,7 @@ use Rattle.congee.proofs.lemmas.Rename.{Renamed, Named, named, in_place, renamed
 use Rattle.congee.proofs.lemmas.Tree.{same_or_not}
 use Rattle.congee.proofs.lemmas.owned.Edits.{wide_after}
 use Rattle.congee.proofs.lemmas.owned.Filled.{filled_at, filled_with, filled_none}
-use Rattle.congee.proofs.lemmas.owned.Moves.{differs_insert, insert_at, insert_beside, stands_at}
+use Rattle.congee.proofs.lemmas.owned.Moves.{insert_at, insert_beside, stands_at}
 use Rattle.congee.proofs.lemmas.owned.Ways.{linked_of, stands_of}
 
 -- a node with a node's name at a byte

@@ -7,7 +7,7 @@ use Rattle.std.specs.Cmp.{nat_cmp_total}
 use Rattle.std.specs.FinMap as map
 use Rattle.std.proofs.lemmas.Bool.Decides.{eqb_tells, nat_tests}
 use Rattle.slab.specs.Slab.{get, ContainsKey, Updates}
-use Rattle.congee.specs.Heap.{Node as Seen, Hung, Nothing, Below, Holds, fits, child_for, value_at}
+use Rattle.congee.specs.Heap.{Node as Seen}
 use Rattle.congee.specs.Ledger.{IsChild, Linked}
 use Rattle.congee.specs.forms.Forms.{Becomes, capacity_of, children_of, form_of, prefix_of, size_of}
 use Rattle.congee.specs.owned.Arena.{Nodes, hung_in, node_of, heap_of, ledger_of, IsTree, OnWay, Hangs}
@@ -27,11 +27,10 @@ use Rattle.congee.specs.declared.forms.base_node.NodeType.{NodeType}
 use Rattle.congee.specs.declared.forms.base_node.NodeType.TheVariants.{N4 as T4, N16 as T16, N48 as T48, N256 as T256}
 use Rattle.congee.specs.declared.forms.child.Child.{Child}
 use Rattle.congee.specs.declared.forms.child.Child.TheVariants.{Blank, Node as Sub, Value}
-use Rattle.congee.proofs.lemmas.Tree.{same_or_not}
 use Rattle.congee.proofs.lemmas.owned.Hangings.{above_inner, child_there, only_pair}
 use Rattle.congee.proofs.lemmas.owned.Firsts.{first_below}
 use Rattle.congee.proofs.lemmas.owned.Moves.{insert_at, node_at, one_node, prefix_at, stands_at}
-use Rattle.congee.proofs.lemmas.owned.Ways.{above_apart, below_stands, is_child, linked_of, stands_of}
+use Rattle.congee.proofs.lemmas.owned.Ways.{above_apart, is_child, linked_of, stands_of}
 
 module _ {P : Type 0} where
   form_is : (x : Node ℕ P) → form_by (node_of (Some x)).capacity ≡ form_of x

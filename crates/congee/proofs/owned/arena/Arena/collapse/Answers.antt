@@ -1,7 +1,7 @@
-use Rattle.std.proofs.Common.{rules, ◌≡◌, ◌+◌, ◌≤◌, ℕ, length, sym, ap, subst, ◌∙◌, arith}
+use Rattle.std.proofs.Common.{rules, ◌≡◌, ◌+◌, length, sym, ap, subst, ◌∙◌, arith}
 use Rattle.std.specs.Prelude.{Some}
 use Rattle.congee.specs.forms.Forms.{form_of, size_of}
-use Rattle.congee.specs.owned.Arena.{heap_of, IsTree}
+use Rattle.congee.specs.owned.Arena.{heap_of}
 use Rattle.congee.specs.owned.Going.{Went}
 use Rattle.congee.specs.owned.Sizes.{bytes_of}
 use Rattle.congee.specs.owned.Wanted.{size_by}

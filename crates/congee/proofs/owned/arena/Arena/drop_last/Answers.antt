@@ -1,5 +1,5 @@
-use Rattle.std.proofs.Common.{◌≡◌, ◌+◌, ◌≤◌, sym, ap, subst, ◌∙◌, arith}
-use Rattle.congee.specs.forms.Forms.{form_of, size_of}
+use Rattle.std.proofs.Common.{◌≡◌, sym, ap, subst, ◌∙◌, arith}
+use Rattle.congee.specs.forms.Forms.{size_of}
 use Rattle.congee.specs.owned.Arena.{Hangs, heap_of}
 use Rattle.congee.specs.owned.Wanted.{size_by}
 use Rattle.congee.proofs.lemmas.owned.FullSteps.{lost_others}

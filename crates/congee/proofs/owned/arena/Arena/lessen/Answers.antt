@@ -1,12 +1,10 @@
-use Rattle.std.proofs.Common.{rules, ◌≡◌, ◌+◌, ◌≤◌, inl, inr, refl, sym, ap, ◌∙◌, arith}
-use Rattle.slab.specs.Slab.{SameValues, get}
-use Rattle.std.specs.Prelude.{Some}
+use Rattle.std.proofs.Common.{rules, ◌≡◌, inl, inr, ap, ◌∙◌, arith}
+use Rattle.slab.specs.Slab.{SameValues}
 use Rattle.congee.specs.forms.Forms.{form_of, size_of}
-use Rattle.congee.specs.owned.Lesser.{ShrinksTo}
 use Rattle.congee.specs.protocol.Steps.{form_below}
 use Rattle.congee.proofs.lemmas.owned.FullSteps.{lessened_filled, never_less}
 use Rattle.congee.proofs.lemmas.owned.Lessening.{reformed, reformed_bytes, still_map}
-use Rattle.congee.proofs.lemmas.owned.Moves.{node_at, one_node}
+use Rattle.congee.proofs.lemmas.owned.Moves.{node_at}
 use Rattle.congee.proofs.lemmas.owned.Rooms.{of_ok}
 use Rattle.congee.proofs.lemmas.owned.Sizes.{bytes_same}
 use Rattle.congee.proofs.owned.arena.Arena.lessen.Goals as goal

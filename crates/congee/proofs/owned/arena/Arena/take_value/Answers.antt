@@ -1,8 +1,7 @@
-use Rattle.std.proofs.Common.{rules, ◌≡◌, ◌+◌, ◌-◌, ℕ, true, false, length, refl, sym, ap, subst, ◌∙◌, arith}
+use Rattle.std.proofs.Common.{rules, ◌≡◌, ◌+◌, ◌-◌, true, false, length, sym, ap, subst, ◌∙◌, arith}
 use Rattle.std.specs.FinMap as map
 use Rattle.congee.specs.forms.Forms.{children_of, form_of, prefix_of, size_of}
-use Rattle.congee.specs.owned.Arena.{heap_of}
-use Rattle.congee.specs.owned.Going.{GaveWay, lesser_of}
+use Rattle.congee.specs.owned.Going.{GaveWay}
 use Rattle.congee.specs.owned.Sizes.{bytes_of}
 use Rattle.congee.specs.protocol.Steps.{form_below, shrinks}
 use Rattle.congee.specs.declared.forms.child.Child.TheVariants.{Value}

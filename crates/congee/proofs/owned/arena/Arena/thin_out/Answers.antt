@@ -1,13 +1,12 @@
-use Rattle.std.proofs.Common.{rules, ◌≡◌, ◌+◌, ◌≤◌, ℕ, true, false, length, refl, sym, ap, subst, ◌∙◌, arith}
-use Rattle.std.specs.FinMap as map
-use Rattle.congee.specs.forms.Forms.{children_of, form_of, size_of}
+use Rattle.std.proofs.Common.{rules, ◌≡◌, ◌+◌, ℕ, true, false, length, refl, sym, ap, subst, ◌∙◌, arith}
+use Rattle.congee.specs.forms.Forms.{form_of, size_of}
 use Rattle.congee.specs.owned.Arena.{heap_of}
 use Rattle.congee.specs.owned.Full.{NoneSkipped}
-use Rattle.congee.specs.owned.Going.{GaveWay, Went, lesser_of}
+use Rattle.congee.specs.owned.Going.{GaveWay, Went}
 use Rattle.congee.specs.owned.Sizes.{bytes_of}
 use Rattle.congee.specs.owned.Wanted.{size_by}
 use Rattle.congee.specs.protocol.Steps.{form_below, shrinks}
-use Rattle.std.specs.Prelude.{Some, None}
+use Rattle.std.specs.Prelude.{Some}
 use Rattle.congee.proofs.lemmas.owned.FullSteps.{came_then, less_enough, lesser_enough, lost_others, none_wanted, read_came, read_shrinks}
 use Rattle.congee.proofs.lemmas.owned.Fulls.{filled_but}
 use Rattle.congee.proofs.lemmas.owned.Hangings.{above_inner}
