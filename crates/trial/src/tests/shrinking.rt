@@ -105,7 +105,10 @@ fn an_inner_node_goes_down_through_all_forms(rt: HostRuntime) -> Result<(), Fail
 fn given_back(index: &mut Index, made: Call<u64>) -> u64 {
     let mut report = begin(index, 0, op_of(made));
     let mut back = report.destroyed;
-    while is_in_flight(&report.outcome) {
+    for _ in 0..100u32 {
+        if !is_in_flight(&report.outcome) {
+            break;
+        }
         report = go(index, 0, None);
         back = back.saturating_add(report.destroyed);
     }
@@ -149,11 +152,18 @@ fn a_growth_and_a_shrink_do_not_alternate(rt: HostRuntime) -> Result<(), Fail> {
             ));
             assert_eq!(rt;
                 (back, index.charged()),
-                (0, charged.wrapping_add(pair.wrapping_mul(leaves).wrapping_mul(64))),
+                (
+                    0,
+                    charged.wrapping_add(pair.wrapping_mul(leaves).wrapping_mul(64))
+                ),
                 "{count} at {distance}"
             );
         }
-        assert_eq!(rt; index.waiting(), leaves.wrapping_mul(1_000), "{count} at {distance}");
+        assert_eq!(rt;
+            index.waiting(),
+            leaves.wrapping_mul(1_000),
+            "{count} at {distance}"
+        );
     }
     Ok(())
 }
@@ -164,7 +174,8 @@ const TURNS: [u32; 5] = [1, 1, 1, 1, 5];
 
 /// A removal that takes an inner node out, beside another call, whose steps are parted into turns as well. All of the removal's
 /// steps before its first lock come first: so they do in any order in which the other call hasn't locked a node before.
-const REMOVAL: &str = "two removals below one node: 1:1 256:2; remove 1; remove 256; 2104; 2104; ; 3 3 3 1 1 1 6";
+const REMOVAL: &str =
+    "two removals below one node: 1:1 256:2; remove 1; remove 256; 2104; 2104; ; 3 3 3 1 1 1 6";
 
 const STAYS: &str =
     "an insertion into the leaf that stays: 1:1 256:2; remove 1; insert 257 9; 2168; 2168; ; 3 3 3 1 1 1 2";
@@ -190,6 +201,12 @@ fn advances(index: &mut Index, flight: &mut Flight, steps: u32, turn: u32) {
     }
 }
 
+/// How many turns both calls of a case have.
+fn turns_in(others: &[u32]) -> u32 {
+    let other = u32::try_from(others.len()).unwrap_or(0);
+    other.saturating_add(TURNS.len() as u32)
+}
+
 /// Both calls of a case, of which the removal has a turn where a bit of `order` tells it so, with a collection after each turn.
 fn fly(index: &mut Index, case: &Case, order: u32, others: &[u32]) -> (Flight, Flight) {
     let mut first = begun(index, 0, case.pair.0);
@@ -197,7 +214,7 @@ fn fly(index: &mut Index, case: &Case, order: u32, others: &[u32]) -> (Flight, F
     let mut second = begun(index, 1, case.pair.1);
     let mut turns = TURNS.iter();
     let mut beside = others.iter();
-    let count = (TURNS.len() as u32).saturating_add(others.len() as u32);
+    let count = turns_in(others);
     for turn in 0..count {
         if order.wrapping_shr(turn) % 2 == 1 {
             advances(index, &mut first, *turns.next().unwrap_or(&0), turn);
@@ -215,7 +232,7 @@ fn fly(index: &mut Index, case: &Case, order: u32, others: &[u32]) -> (Flight, F
 /// How many orders of a case's turns are right, up to the first that isn't.
 fn right_orders(alloc: Global, case: &Case, others: &[u32]) -> Result<(u32, bool), Fail> {
     let turns = TURNS.len() as u32;
-    let count = turns.saturating_add(others.len() as u32);
+    let count = turns_in(others);
     let mut tried = 0u32;
     for order in 0..1u32.wrapping_shl(count) {
         if order.count_ones() == turns {
@@ -259,13 +276,17 @@ fn a_removal_takes_a_node_out_beside_another_removal(rt: HostRuntime) -> Result<
 }
 
 #[test]
-fn a_removal_takes_a_node_out_beside_an_insertion_into_the_leaf_that_stays(rt: HostRuntime) -> Result<(), Fail> {
+fn a_removal_takes_a_node_out_beside_an_insertion_into_the_leaf_that_stays(
+    rt: HostRuntime,
+) -> Result<(), Fail> {
     assert_eq!(rt; wrong_of(rt.alloc(), &[STAYS])?, None);
     Ok(())
 }
 
 #[test]
-fn a_removal_takes_a_node_out_beside_an_insertion_into_the_leaf_that_goes(rt: HostRuntime) -> Result<(), Fail> {
+fn a_removal_takes_a_node_out_beside_an_insertion_into_the_leaf_that_goes(
+    rt: HostRuntime,
+) -> Result<(), Fail> {
     assert_eq!(rt; wrong_of(rt.alloc(), &[GOES])?, None);
     Ok(())
 }
