@@ -307,7 +307,10 @@ fn shared_values_move_with_their_nodes(rt: HostRuntime) -> Result<(), Fail> {
         assert!(rt; owner.is_some_and(|owner| *owner == key));
     }
     for key in 58..60u64 {
-        let owner = tree.get(key.wrapping_mul(256)).ok().ok_or("no more owners")?;
+        let owner = tree
+            .get(key.wrapping_mul(256))
+            .ok()
+            .ok_or("no more owners")?;
         assert!(rt; owner.is_some_and(|owner| *owner == key));
     }
     tree.close();

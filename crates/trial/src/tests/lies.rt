@@ -119,11 +119,7 @@ fn first_wrong(alloc: Global, cases: &[&'static str]) -> Result<Option<&'static 
 
 #[test]
 fn calls_that_are_lied_to_answer_as_one_map(rt: HostRuntime) -> Result<(), Fail> {
-    for cases in [
-        INSERTIONS.as_slice(),
-        LOOKS.as_slice(),
-        REMOVALS.as_slice(),
-    ] {
+    for cases in [INSERTIONS.as_slice(), LOOKS.as_slice(), REMOVALS.as_slice()] {
         assert_eq!(rt; first_wrong(rt.alloc(), cases)?, None);
     }
     Ok(())

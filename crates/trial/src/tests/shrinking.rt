@@ -149,11 +149,18 @@ fn a_growth_and_a_shrink_do_not_alternate(rt: HostRuntime) -> Result<(), Fail> {
             ));
             assert_eq!(rt;
                 (back, index.charged()),
-                (0, charged.wrapping_add(pair.wrapping_mul(leaves).wrapping_mul(64))),
+                (
+                    0,
+                    charged.wrapping_add(pair.wrapping_mul(leaves).wrapping_mul(64))
+                ),
                 "{count} at {distance}"
             );
         }
-        assert_eq!(rt; index.waiting(), leaves.wrapping_mul(1_000), "{count} at {distance}");
+        assert_eq!(rt;
+            index.waiting(),
+            leaves.wrapping_mul(1_000),
+            "{count} at {distance}"
+        );
     }
     Ok(())
 }
@@ -164,7 +171,8 @@ const TURNS: [u32; 5] = [1, 1, 1, 1, 5];
 
 /// A removal that takes an inner node out, beside another call, whose steps are parted into turns as well. All of the removal's
 /// steps before its first lock come first: so they do in any order in which the other call hasn't locked a node before.
-const REMOVAL: &str = "two removals below one node: 1:1 256:2; remove 1; remove 256; 2104; 2104; ; 3 3 3 1 1 1 6";
+const REMOVAL: &str =
+    "two removals below one node: 1:1 256:2; remove 1; remove 256; 2104; 2104; ; 3 3 3 1 1 1 6";
 
 const STAYS: &str =
     "an insertion into the leaf that stays: 1:1 256:2; remove 1; insert 257 9; 2168; 2168; ; 3 3 3 1 1 1 2";
@@ -259,13 +267,17 @@ fn a_removal_takes_a_node_out_beside_another_removal(rt: HostRuntime) -> Result<
 }
 
 #[test]
-fn a_removal_takes_a_node_out_beside_an_insertion_into_the_leaf_that_stays(rt: HostRuntime) -> Result<(), Fail> {
+fn a_removal_takes_a_node_out_beside_an_insertion_into_the_leaf_that_stays(
+    rt: HostRuntime,
+) -> Result<(), Fail> {
     assert_eq!(rt; wrong_of(rt.alloc(), &[STAYS])?, None);
     Ok(())
 }
 
 #[test]
-fn a_removal_takes_a_node_out_beside_an_insertion_into_the_leaf_that_goes(rt: HostRuntime) -> Result<(), Fail> {
+fn a_removal_takes_a_node_out_beside_an_insertion_into_the_leaf_that_goes(
+    rt: HostRuntime,
+) -> Result<(), Fail> {
     assert_eq!(rt; wrong_of(rt.alloc(), &[GOES])?, None);
     Ok(())
 }
