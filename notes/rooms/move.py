@@ -1,7 +1,7 @@
 #!/usr/bin/env python3
 """Moves the modules of the crate `joint` into rooms by layer, by the table rooms.txt beside this file.
 
-usage, at the project's root:  python3 notes/rooms/move.py [--dry]
+run at the project's root:  python3 notes/rooms/move.py
 
 It may be applied to any state of the tree before the move. What the table doesn't name is placed by what it imports, and
 printed. At the end it prints which imports of definitions lead upwards, and what it could not resolve.
