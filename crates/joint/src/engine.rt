@@ -1,29 +1,42 @@
 //! The calls on the tree and the collector, one step at a time.
+//!
+//! A worker has one call `in_flight` at most; a `step` begins one or goes on with it, by its event. A writing call reserves
+//! its place in a journal, secures places of its worker's bag for the nodes that it may hand over, and then walks the tree; a
+//! reading one walks at once. `census` and `waiting` count the pairs and what calls have taken out; `journaling` and `request`
+//! tell what a journal wants of a call and what its worker asked for; `close` ends them all.
+
+pub(crate) mod census;
+pub(crate) mod close;
+pub(crate) mod in_flight;
+pub(crate) mod journaling;
+pub(crate) mod request;
+pub(crate) mod step;
+pub(crate) mod waiting;
 
 ghost use Rattle.std.specs.Prelude.{◌≡◌, ◌<◌, ℕ, List, Option, Some, None, length, slice_get, slice_set, replicate, is_some, true, IfOk, MatchResult, if◌then◌else◌};
 ghost use Rattle.crossbeam_epoch.specs.declared.bag.Work.{Work};
 ghost use Rattle.crossbeam_epoch.specs.World.Machine.{deferred, place};
 ghost use Rattle.congee.specs.protocol.Play.{StepPlays, IsNew, begun};
-ghost use Rattle.joint.specs.Census.{AreCounted};
-ghost use Rattle.joint.specs.Forest.{nodes, frame, Refuses, with_collector};
-ghost use Rattle.joint.specs.Intact.{IsIntact, IsSecuring, MayStart, BeginsSecuring, Secured, WalkedOn, call_after, cleared, is_done, is_past, is_reserving, resting, over_at, root, writes};
-ghost use Rattle.joint.specs.Laws.{CellLaws, CallLaws, ProgressLaws};
-ghost use Rattle.joint.specs.declared.call.Call.TheVariants as Call;
+ghost use Rattle.joint.specs.engine.Census.{AreCounted};
+ghost use Rattle.joint.specs.nodes.Forest.{nodes, frame, Refuses, with_collector};
+ghost use Rattle.joint.specs.engine.Intact.{IsIntact, IsSecuring, MayStart, BeginsSecuring, Secured, WalkedOn, call_after, cleared, is_done, is_past, is_reserving, resting, over_at, root, writes};
+ghost use Rattle.joint.specs.engine.Laws.{CellLaws, CallLaws, ProgressLaws};
+ghost use Rattle.joint.specs.declared.engine.in_flight.Call.TheVariants as Call;
 ghost use Rattle.crossbeam_epoch.specs.declared.world.report.Event.TheVariants as Event;
-ghost use Rattle.joint.specs.Opening.{IsOpened, IsUnopened};
-ghost use Rattle.joint.specs.Runs.{IsFresh};
+ghost use Rattle.joint.specs.nodes.Opening.{IsOpened, IsUnopened};
+ghost use Rattle.joint.specs.engine.Engine.{IsFresh, whole, EngineHolds, is_in_flight};
 ghost use Rattle.joint.specs.Reports.{told};
-ghost use Rattle.joint.specs.Whole.{whole, EngineHolds, is_in_flight};
-ghost use Rattle.joint.specs.View.{id_number};
-ghost use Rattle.joint.specs.Machines.{IsSafe, Rests, Runs, Owes, IsSafeOrOwes, Walked, Collected, retiring_at, slot_names};
+ghost use Rattle.joint.specs.nodes.View.{id_number};
+ghost use Rattle.joint.specs.engine.Machines.{IsSafe, Rests, Runs, Owes, IsSafeOrOwes, Walked, Collected, retiring_at};
+ghost use Rattle.joint.specs.nodes.Slots.{slot_names};
 
-use crate::call::Call;
-use crate::census::Census;
+use crate::engine::census::Census;
+use crate::engine::in_flight::Call;
 use crate::id::Id;
 use crate::limits::Limits;
 use crate::nodes::Nodes;
+use crate::nodes::slot::Slot;
 use crate::refusal::Refusal;
-use crate::slot::Slot;
 use congee::protocol::{Kind, Phase, Stage};
 use congee::{Allocator, Machine, Move, Noise, Op, Payload, Small, Step, step_of};
 use crossbeam_epoch::{Event, Name, Outcome, Report};

@@ -1,20 +1,36 @@
 //! The nodes of a shared tree in the cells of a collector.
+//!
+//! A cell holds a `slot`: a node beside its lock word. `cells` takes one out, changes it and puts it back; `Nodes` says the
+//! same of nodes, and serves the protocol's calls as their `store`, which `reading` reads for. `collector` has the collector's
+//! own calls on the nodes, `counts` what was handed over and of what size. `opening` makes the root; `survey`, `stats` and
+//! `close` go through the whole tree. `account` is what came in with the allocator.
+
+pub(crate) mod account;
+pub(crate) mod cells;
+pub(crate) mod close;
+pub(crate) mod collector;
+pub(crate) mod counts;
+pub(crate) mod opening;
+pub(crate) mod reading;
+pub(crate) mod slot;
+pub(crate) mod stats;
+pub(crate) mod store;
+pub(crate) mod survey;
 
 ghost use Rattle.std.specs.Prelude.{◌≡◌, ◌+◌, ◌-◌, ◌*◌, ◌^◌, ◌<◌, ◌≤◌, ℕ, true, length};
 ghost use Rattle.std.specs.List.{sum_by};
 ghost use Rattle.congee.specs.protocol.Events.{hung, SameBut, MayChange, ChangeGives};
 ghost use Rattle.congee.specs.Heap.{Holds, Nothing, Stands};
 ghost use Rattle.joint.specs.declared.limits.TheConstants.{CELLS_MAX};
-ghost use Rattle.joint.specs.Forest.{IsCharged, total, nodes, frame};
-ghost use Rattle.joint.specs.Listing.{bytes_of, handed_nodes, standing_nodes};
-ghost use Rattle.joint.specs.Solid.{IsWhole};
-ghost use Rattle.joint.specs.View.{id_number, node_of, worded};
+ghost use Rattle.joint.specs.nodes.Forest.{IsCharged, total, nodes, frame};
+ghost use Rattle.joint.specs.nodes.Listing.{bytes_of, handed_nodes, standing_nodes};
+ghost use Rattle.joint.specs.nodes.Solid.{IsWhole};
+ghost use Rattle.joint.specs.nodes.View.{id_number, node_of, worded};
 
-use crate::account::Account;
-use crate::cells;
-use crate::counts::Counts;
 use crate::id::Id;
-use crate::slot::{Slot, Word};
+use crate::nodes::account::Account;
+use crate::nodes::counts::Counts;
+use crate::nodes::slot::{Slot, Word};
 use congee::{Allocator, Child, Payload, Small};
 use crossbeam_epoch::World;
 use std::alloc::Global;
@@ -34,8 +50,8 @@ pub struct Nodes<P: Payload + Small, A: Allocator> {
 
 impl<P: Payload + Small, A: Allocator> Model for Nodes<P, A> {
     ghost use Rattle.std.specs.Coded.{codes};
-    ghost use Rattle.joint.specs.MapCode.{map_code};
-    ghost use Rattle.joint.specs.Forest.{Forest, IsKept};
+    ghost use Rattle.joint.specs.nodes.MapCode.{map_code};
+    ghost use Rattle.joint.specs.nodes.Forest.{Forest, IsKept};
 
     ghost Value = { Forest P };
 

@@ -9,11 +9,13 @@ use Rattle.joint.specs.declared.steps.Event.TheVariants.{Register}
 use Rattle.joint.specs.declared.steps.Op.{Op}
 use Rattle.joint.specs.declared.steps.Outcome.TheVariants.{Done}
 use Rattle.joint.specs.declared.steps.Report.{Report}
-use Rattle.joint.specs.Forest.{nodes}
-use Rattle.joint.specs.MapCalls.{AreOfCall, HasScanned, KeepsAll, PlaysCall, answered_after, told_after, told_places}
+use Rattle.joint.specs.nodes.Forest.{nodes}
+use Rattle.joint.specs.calls.MapCalls.{AreOfCall, HasScanned, KeepsAll, PlaysCall, answered_after, told_after, told_places}
 use Rattle.joint.specs.Reports.{range_of, target}
-use Rattle.joint.specs.Runs.{Taken, AreTaken, after_all, Flights, no_flights, AreInFlight, IsFresh}
-use Rattle.joint.specs.Whole.{Whole, Holds, IsStep}
+use Rattle.joint.specs.calls.Runs.{Taken, AreTaken, after_all}
+use Rattle.joint.specs.engine.Engine.{IsFresh, Whole}
+use Rattle.joint.specs.engine.Flying.{Flights, no_flights, AreInFlight}
+use Rattle.joint.specs.world.Whole.{Holds, IsStep}
 
 -- what the machine promises of whole calls, of registrations, and of a tree as it is opened
 pub record MapLaws : Type 0 where

@@ -19,10 +19,10 @@ use Rattle.joint.specs.declared.steps.Outcome.TheVariants as outcome
 use Rattle.joint.specs.declared.steps.Survey.{Survey}
 use Rattle.joint.specs.declared.steps.Survey.TheVariants as survey
 use Rattle.joint.specs.declared.steps.Target.TheVariants as target
-use Rattle.joint.specs.MapCalls.{Answered as Last, IsPresent, IsComputed}
+use Rattle.joint.specs.calls.MapCalls.{Answered as Last, IsPresent, IsComputed}
 use Rattle.joint.specs.Reports.{target}
-use Rattle.joint.specs.Runs.{no_flights}
-use Rattle.joint.specs.Whole.{Whole}
+use Rattle.joint.specs.engine.Flying.{no_flights}
+use Rattle.joint.specs.engine.Engine.{Whole}
 use Rattle.trial.specs.declared.caller.Caller.{Caller}
 use Rattle.trial.specs.declared.caller.Closure.{Closure}
 use Rattle.trial.specs.declared.caller.Closure.TheVariants as closure

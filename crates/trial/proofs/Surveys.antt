@@ -13,10 +13,10 @@ use Rattle.joint.specs.declared.steps.Survey.{Survey}
 use Rattle.joint.specs.declared.steps.Survey.TheVariants as survey
 use Rattle.joint.specs.declared.steps.Target.{Target}
 use Rattle.joint.specs.declared.steps.Target.TheVariants as target
-use Rattle.joint.specs.MapCalls.{KeepsAll, PlaysCall}
+use Rattle.joint.specs.calls.MapCalls.{KeepsAll, PlaysCall}
 use Rattle.joint.specs.Reports.{target}
-use Rattle.joint.specs.Survey.{IsEmptiness, keys_of}
-use Rattle.joint.specs.Surveys.{MapTells}
+use Rattle.joint.specs.nodes.Survey.{IsEmptiness, keys_of}
+use Rattle.joint.specs.engine.Surveys.{MapTells}
 use Rattle.trial.specs.declared.caller.Closure.{Closure}
 use Rattle.trial.specs.declared.index.Index.{Index}
 use Rattle.trial.specs.declared.reply.Reply.TheVariants as reply

@@ -16,12 +16,14 @@ use Rattle.joint.specs.declared.steps.Outcome.TheVariants as outcome
 use Rattle.joint.specs.declared.steps.Report.{Report}
 use Rattle.joint.specs.declared.steps.Target.{Target}
 use Rattle.joint.specs.declared.steps.Target.TheVariants as target
-use Rattle.joint.specs.Forest.{nodes}
-use Rattle.joint.specs.MapCalls.{AllGoOn, Answered as Last, answered_by, answered_after, IsOnMap, TookEffect, PlaysKey, PlaysCall, told_after, told_places}
+use Rattle.joint.specs.nodes.Forest.{nodes}
+use Rattle.joint.specs.calls.MapCalls.{AllGoOn, Answered as Last, answered_by, answered_after, IsOnMap, TookEffect, PlaysKey, PlaysCall, told_after, told_places}
 use Rattle.joint.specs.Reports.{target}
-use Rattle.joint.specs.Runs.{Taken, AreTaken, after_all, Flights, AreInFlight}
-use Rattle.joint.specs.Scans.{placed}
-use Rattle.joint.specs.Whole.{Whole, Holds, IsOnKey, IsStep, is_in_flight}
+use Rattle.joint.specs.calls.Runs.{Taken, AreTaken, after_all}
+use Rattle.joint.specs.engine.Flying.{Flights, AreInFlight}
+use Rattle.joint.specs.calls.Scans.{placed}
+use Rattle.joint.specs.world.Whole.{Holds, IsOnKey, IsStep}
+use Rattle.joint.specs.engine.Engine.{Whole, is_in_flight}
 use Rattle.trial.specs.declared.caller.Caller.{Caller}
 use Rattle.trial.specs.declared.caller.Closure.{Closure}
 use Rattle.trial.specs.declared.index.Index.{Index}

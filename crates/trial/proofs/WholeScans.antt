@@ -12,10 +12,11 @@ use Rattle.joint.specs.declared.steps.Op.{Op}
 use Rattle.joint.specs.declared.steps.Op.TheVariants as ops
 use Rattle.joint.specs.declared.steps.Outcome.{Outcome}
 use Rattle.joint.specs.declared.steps.Outcome.TheVariants as outcome
-use Rattle.joint.specs.MapCalls.{Answered as Last, IsOfScan, IsScanning, PlaysCall, PlaysScan, told_places}
+use Rattle.joint.specs.calls.MapCalls.{Answered as Last, IsOfScan, IsScanning, PlaysCall, PlaysScan, told_places}
 use Rattle.joint.specs.Reports.{range_of, target}
-use Rattle.joint.specs.Runs.{Flights}
-use Rattle.joint.specs.Whole.{Whole, Holds}
+use Rattle.joint.specs.engine.Flying.{Flights}
+use Rattle.joint.specs.world.Whole.{Holds}
+use Rattle.joint.specs.engine.Engine.{Whole}
 use Rattle.trial.specs.declared.caller.Closure.{Closure}
 use Rattle.trial.specs.declared.index.Index.{Index}
 use Rattle.trial.specs.declared.reply.Reply.TheVariants as reply

@@ -6,7 +6,8 @@ use Rattle.joint.specs.declared.steps.Op.{Op}
 use Rattle.joint.specs.declared.steps.Outcome.{Outcome}
 use Rattle.joint.specs.declared.steps.Outcome.TheVariants as outcome
 use Rattle.joint.specs.declared.steps.Report.{Report}
-use Rattle.joint.specs.Whole.{Whole, IsStep}
+use Rattle.joint.specs.world.Whole.{IsStep}
+use Rattle.joint.specs.engine.Engine.{Whole}
 use Rattle.trial.specs.declared.caller.Closure.{Closure}
 use Rattle.trial.specs.declared.index.Index.{Index}
 use Rattle.trial.specs.Callers.{fresh, noise_of, heard, caller_at}

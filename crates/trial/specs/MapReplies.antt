@@ -8,7 +8,7 @@ use Rattle.judge.specs.declared.journal.Call.{Call as Point}
 use Rattle.judge.specs.declared.journal.Call.TheVariants as point
 use Rattle.judge.specs.declared.journal.Reply.{Reply as Told}
 use Rattle.congee.specs.owned.Ranges.{in_range}
-use Rattle.joint.specs.Survey.{keys_of}
+use Rattle.joint.specs.nodes.Survey.{keys_of}
 use Rattle.trial.specs.declared.command.Call.{Call}
 use Rattle.trial.specs.declared.command.Call.TheVariants as call
 use Rattle.trial.specs.declared.command.Command.{Command}

@@ -15,12 +15,13 @@ use Rattle.joint.specs.declared.steps.Op.TheVariants as op
 use Rattle.joint.specs.declared.steps.Outcome.{Outcome}
 use Rattle.joint.specs.declared.steps.Outcome.TheVariants as outcome
 use Rattle.joint.specs.Limits.{usual}
-use Rattle.joint.specs.Listing.{bytes_of, waiting_nodes}
-use Rattle.joint.specs.Log.{opened_log}
-use Rattle.joint.specs.Opening.{HasPlaces, IsOpened, IsUnjournaled, IsUnopened}
-use Rattle.joint.specs.Forest.{nodes}
-use Rattle.joint.specs.Runs.{IsFresh}
-use Rattle.joint.specs.Whole.{Whole, Holds}
+use Rattle.joint.specs.nodes.Listing.{bytes_of}
+use Rattle.joint.specs.engine.Census.{waiting_nodes}
+use Rattle.joint.specs.engine.Log.{opened_log}
+use Rattle.joint.specs.nodes.Opening.{HasPlaces, IsOpened, IsUnjournaled, IsUnopened}
+use Rattle.joint.specs.nodes.Forest.{nodes}
+use Rattle.joint.specs.engine.Engine.{IsFresh, Whole}
+use Rattle.joint.specs.world.Whole.{Holds}
 use Rattle.trial.specs.declared.caller.Closure.{Closure}
 use Rattle.trial.specs.declared.caller.Closure.TheVariants as closure
 use Rattle.trial.specs.declared.command.Opening.{Opening}

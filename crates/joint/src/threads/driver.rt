@@ -7,8 +7,9 @@ ghost use Rattle.joint.specs.declared.steps.Op.{Op};
 ghost use Rattle.joint.specs.declared.steps.Report.{Report};
 ghost use Rattle.joint.specs.declared.steps.Step.{Step};
 ghost use Rattle.congee.specs.Keys.{key_bytes};
-ghost use Rattle.joint.specs.Driving.{IsDriven, IsToldInCall, IsTurn, begin_step, ended, go_step};
-ghost use Rattle.joint.specs.Whole.{IsStep, Whole};
+ghost use Rattle.joint.specs.threads.Driving.{IsDriven, IsToldInCall, IsTurn, begin_step, ended, go_step};
+ghost use Rattle.joint.specs.world.Whole.{IsStep};
+ghost use Rattle.joint.specs.engine.Engine.{Whole};
 
 use crate::refusal::Refusal;
 use crate::steps::{Done, Event, Op, Outcome, Report, Step};

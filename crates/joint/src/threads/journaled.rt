@@ -2,18 +2,16 @@
 
 ghost use Rattle.std.specs.Prelude.{◌≡◌, ◌<◌, ℕ, false, length, nat_eq, true, IfErr, IfOk, MatchResult};
 ghost use Rattle.std.specs.Option.{option_map};
-ghost use Rattle.joint.specs.Journals.{IsJournal};
-ghost use Rattle.joint.specs.Opening.{IsUnshared};
-ghost use Rattle.joint.specs.Pinned.{CallsPinned, KeepsWorker};
-ghost use Rattle.joint.specs.Threads.{Answers, AreKeys, As, Closes, Hands, IsAccount, IsHold, IsRound, IsTold, IsUnclosed, Pins, Scans, Serves, is_held_by, is_of, register_step, registered};
-ghost use Rattle.joint.specs.Threads.{charge_of, waiting_bytes_of, waiting_of};
-ghost use Rattle.joint.specs.Threads.{computed, counted, either_words, emptied, exchanged, got, if_present, inserted, listed, or_insert, removed, replaced, scanned, told, words};
-ghost use Rattle.joint.specs.Writing.{Gathers, Reads, Writes, WritesMute};
+ghost use Rattle.joint.specs.threads.Journals.{IsJournal};
+ghost use Rattle.joint.specs.nodes.Opening.{IsUnshared};
+ghost use Rattle.joint.specs.threads.Pinned.{CallsPinned, KeepsWorker};
+ghost use Rattle.joint.specs.threads.Threads.{Answers, AreKeys, As, Closes, Hands, IsAccount, IsHold, IsRound, IsTold, IsUnclosed, Pins, Scans, Serves, is_held_by, is_of, register_step, registered, charge_of, waiting_bytes_of, waiting_of, computed, counted, either_words, emptied, exchanged, got, if_present, inserted, listed, or_insert, removed, replaced, scanned, told, words};
+ghost use Rattle.joint.specs.threads.Writing.{Gathers, Reads, Writes, WritesMute};
 ghost use Rattle.joint.specs.declared.refusal.Refusal.TheVariants as cause;
 ghost use Rattle.joint.specs.declared.steps.Op.TheVariants as op;
 
-use crate::account::Account;
 use crate::limits::Limits;
+use crate::nodes::account::Account;
 use crate::refusal::Refusal;
 use crate::steps::Op;
 use crate::threads::answers::{IfPresent, OrInsert};
@@ -23,7 +21,7 @@ use crate::threads::share::Share;
 use crate::threads::tokens::{Guard, Worker};
 use crate::threads::tree::Tree;
 use crate::threads::watch::Watch;
-use crate::threads::words::{OfWords, are_keys, either_words, to_word, words};
+use crate::threads::word_congee::{OfWords, are_keys, either_words, to_word, words};
 use crate::world::World;
 use congee::{Allocator, DefaultAllocator, Drainer, NoDrain, NodeStats, Word64};
 use judge::Entry;

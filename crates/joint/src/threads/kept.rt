@@ -2,14 +2,15 @@
 //! writing calls.
 
 ghost use Rattle.std.specs.Prelude.{◌≡◌, ◌≤◌, ◌↔◌, ℕ, None, false, true, nat_eq, slice_get, IsTrue, IfOk, MatchResult};
-ghost use Rattle.joint.specs.Closing.{IsClosed, IsNotClosed};
-ghost use Rattle.joint.specs.Driving.{IsToldInCall};
-ghost use Rattle.joint.specs.Journals.{IsCounted, IsJournal, count_watched};
-ghost use Rattle.joint.specs.Opening.{HasPlaces};
-ghost use Rattle.joint.specs.Threads.{register_step};
-ghost use Rattle.joint.specs.Whole.{IsOfCall, IsStep};
+ghost use Rattle.joint.specs.engine.Closing.{IsClosed, IsNotClosed};
+ghost use Rattle.joint.specs.threads.Driving.{IsToldInCall};
+ghost use Rattle.joint.specs.threads.Journals.{IsCounted, IsJournal, count_watched};
+ghost use Rattle.joint.specs.nodes.Opening.{HasPlaces};
+ghost use Rattle.joint.specs.threads.Threads.{register_step};
+ghost use Rattle.joint.specs.world.Whole.{IsStep};
+ghost use Rattle.joint.specs.engine.Engine.{IsOfCall};
 ghost use Rattle.joint.specs.Asked.{changes};
-ghost use Rattle.joint.specs.Writing.{Appended, Gathers, GathersOf, IsInFlight, MayStep, ReadingTurn, Reads, WontRepeat, WritingTurn};
+ghost use Rattle.joint.specs.threads.Writing.{Appended, Gathers, GathersOf, IsInFlight, MayStep, ReadingTurn, Reads, WontRepeat, WritingTurn};
 ghost use Rattle.joint.specs.declared.refusal.Refusal.TheVariants as cause;
 
 use crate::refusal::Refusal;

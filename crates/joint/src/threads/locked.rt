@@ -4,10 +4,11 @@ ghost use Rattle.std.specs.Prelude.{◌≡◌, ℕ, MatchResult};
 ghost use Rattle.joint.specs.declared.steps.Op.{Op};
 ghost use Rattle.joint.specs.declared.steps.Report.{Report};
 ghost use Rattle.joint.specs.declared.steps.Step.{Step};
-ghost use Rattle.joint.specs.Closing.{IsClosed, IsNotClosed};
-ghost use Rattle.joint.specs.Driving.{IsToldInCall};
-ghost use Rattle.joint.specs.Threads.{ByHold, ByStep, IsHold, register_step};
-ghost use Rattle.joint.specs.Whole.{IsOfCall, IsStep, Whole};
+ghost use Rattle.joint.specs.engine.Closing.{IsClosed, IsNotClosed};
+ghost use Rattle.joint.specs.threads.Driving.{IsToldInCall};
+ghost use Rattle.joint.specs.threads.Threads.{ByHold, ByStep, IsHold, register_step};
+ghost use Rattle.joint.specs.world.Whole.{IsStep};
+ghost use Rattle.joint.specs.engine.Engine.{IsOfCall, Whole};
 
 use crate::refusal::Refusal;
 use crate::steps::{Event, Op, Report, Step};

@@ -1,11 +1,11 @@
 //! What a writing call on an index with a journal has come to.
 
 ghost use Rattle.std.specs.Prelude.{◌≡◌, ◌+◌};
-ghost use Rattle.joint.specs.Log.{hears};
-ghost use Rattle.joint.specs.Writing.{given_after, noted, settled, told_with, unwritten, weight};
+ghost use Rattle.joint.specs.engine.Log.{hears};
+ghost use Rattle.joint.specs.threads.Writing.{given_after, noted, settled, told_with, unwritten, weight};
 
+use crate::engine::request::Request;
 use crate::refusal::Refusal;
-use crate::request::Request;
 use crate::steps::{Done, Event, Op, Outcome, Report};
 use crate::threads::share::Share;
 use crate::threads::watch::Watch;
@@ -22,7 +22,7 @@ pub(crate) struct Progress<L: Ledger> {
 }
 
 impl<L: Ledger> Model for Progress<L> {
-    ghost use Rattle.joint.specs.Writing.{Progress};
+    ghost use Rattle.joint.specs.threads.Writing.{Progress};
 
     ghost Value = { Progress };
 

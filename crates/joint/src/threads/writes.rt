@@ -3,8 +3,8 @@
 ghost use Rattle.std.specs.Prelude.{◌≡◌, ℕ, [], None, Some, true};
 ghost use Rattle.std.specs.Option.{option_map};
 ghost use Rattle.joint.specs.Asked.{changes};
-ghost use Rattle.joint.specs.Driving.{IsToldInCall, IsTurn};
-ghost use Rattle.joint.specs.Writing.{IsWritingTurn, Writes, WritesMute, unwritten};
+ghost use Rattle.joint.specs.threads.Driving.{IsToldInCall, IsTurn};
+ghost use Rattle.joint.specs.threads.Writing.{IsWritingTurn, Writes, WritesMute, unwritten};
 
 use crate::steps::{Op, Report, Step};
 use crate::threads::answers::{Answer, Silent};

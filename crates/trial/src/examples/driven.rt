@@ -1,8 +1,8 @@
 //! What an owner of an index concludes of a whole call whose turns he gives himself, with no proof of his own.
 ghost use Rattle.std.specs.Prelude.{◌≡◌, None, Some, nat_eq, true};
 ghost use Rattle.std.specs.Option.{option_map};
-ghost use Rattle.joint.specs.Driving.{IsDriven, IsToldInCall, IsTurn, ended};
-ghost use Rattle.joint.specs.Whole.{IsStep};
+ghost use Rattle.joint.specs.threads.Driving.{IsDriven, IsToldInCall, IsTurn, ended};
+ghost use Rattle.joint.specs.world.Whole.{IsStep};
 
 use congee::Allocator;
 use joint::{Done, Op, Refusal, Report, Step, Turns, World, drive, turns_tell};

@@ -3,10 +3,11 @@ ghost use Rattle.std.specs.Prelude.{◌≡◌, ℕ, IfOk, IfSome, Some, nat_eq, 
 ghost use Rattle.std.specs.FinMap.{empty, entries};
 ghost use Rattle.judge.specs.Answer.{Pairs};
 ghost use Rattle.congee.specs.Keys.{IsMapOf};
-ghost use Rattle.joint.specs.Closing.{Drained as AllDrained};
-ghost use Rattle.joint.specs.Forest.{nodes};
-ghost use Rattle.joint.specs.Runs.{RunsMap, no_flights};
-ghost use Rattle.joint.specs.Whole.{Whole};
+ghost use Rattle.joint.specs.nodes.Draining.{Drained as AllDrained};
+ghost use Rattle.joint.specs.nodes.Forest.{nodes};
+ghost use Rattle.joint.specs.calls.Runs.{RunsMap};
+ghost use Rattle.joint.specs.engine.Flying.{no_flights};
+ghost use Rattle.joint.specs.engine.Engine.{Whole};
 
 use congee::{Allocator, DefaultAllocator, Drainer, NoDrain};
 use joint::{Limits, Op, Ran, Refusal, Step, World};

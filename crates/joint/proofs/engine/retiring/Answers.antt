@@ -1,7 +1,7 @@
 use Rattle.std.proofs.Common.{sym, ◌∙◌, ap}
 use Rattle.std.proofs.lemmas.Option.{slice_get-get_or, slice_get_past}
-use Rattle.joint.specs.Machines.{retiring, retiring_at}
-use Rattle.joint.proofs.lemmas.Retiring.{retiring_none}
+use Rattle.joint.specs.engine.Machines.{retiring, retiring_at}
+use Rattle.joint.proofs.lemmas.engine.Retiring.{retiring_none}
 use Rattle.joint.proofs.engine.retiring.Goals as goal
 
 pub returns-in-Retire : goal.returns-in-Retire

@@ -1,6 +1,7 @@
 use Rattle.std.proofs.Common.{◌≡◌, ◌∙◌, refl, ap, subst, sym, List, Some}
 use Rattle.std.specs.Prelude.{ℕ, length}
-use Rattle.joint.specs.Listing.{bytes_of, waiting_nodes}
+use Rattle.joint.specs.nodes.Listing.{bytes_of}
+use Rattle.joint.specs.engine.Census.{waiting_nodes}
 use Rattle.std.specs.List.{sum_by}
 use Rattle.trial.specs.declared.command.Command.{Command}
 use Rattle.trial.specs.declared.index.Index.{Index}

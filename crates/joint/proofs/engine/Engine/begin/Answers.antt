@@ -1,13 +1,13 @@
 use Rattle.std.proofs.Common.{◌<◌, ℕ, refl, sym, ◌∙◌, ap, subst}
 use Rattle.std.specs.Prelude.{slice_get}
-use Rattle.joint.specs.Log.{no_log}
+use Rattle.joint.specs.engine.Log.{no_log}
 use Rattle.joint.specs.declared.refusal.Refusal.TheVariants.{Unknown}
 use Rattle.joint.specs.declared.steps.Outcome.TheVariants.{Refused}
 use Rattle.joint.specs.declared.steps.Target.{Target}
 use Rattle.joint.specs.Refusals.{of_fault}
-use Rattle.joint.specs.Beginning.{Begun}
-use Rattle.joint.specs.Whole.{quiet, kind_of}
-use Rattle.joint.proofs.lemmas.Turning.{unknown, busy, idle_call}
+use Rattle.joint.specs.engine.Beginning.{Begun}
+use Rattle.joint.specs.engine.Engine.{quiet, kind_of}
+use Rattle.joint.proofs.lemmas.engine.Turning.{unknown, busy, idle_call}
 use Rattle.joint.proofs.engine.Engine.begin.Goals as goal
 
 pub is_busy-requires : goal.is_busy-requires

@@ -1,8 +1,8 @@
-use Rattle.joint.specs.Log.{no_log}
+use Rattle.joint.specs.engine.Log.{no_log}
 use Rattle.std.proofs.Common.{◌≡◌, refl, sym, ◌∙◌, ap}
 use Rattle.std.specs.Prelude.{is_some}
 use Rattle.crossbeam_epoch.specs.World.Machine.{place}
-use Rattle.joint.proofs.lemmas.Turning.{unpinned, ends_at_once, enters, reserves, word_is}
+use Rattle.joint.proofs.lemmas.engine.Turning.{unpinned, ends_at_once, enters, reserves, word_is}
 use Rattle.joint.proofs.engine.Engine.begin_point.Goals as goal
 
 pub returns-then-not-is_pinned-clause-begun : goal.returns-then-not-is_pinned-clause-begun

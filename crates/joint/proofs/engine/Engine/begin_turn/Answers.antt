@@ -1,7 +1,7 @@
 use Rattle.std.proofs.Common.{refl, ◌∙◌, ap}
-use Rattle.joint.specs.Log.{no_log}
-use Rattle.joint.specs.Whole.{collection}
-use Rattle.joint.proofs.lemmas.Turning.{turns}
+use Rattle.joint.specs.engine.Log.{no_log}
+use Rattle.joint.specs.engine.Engine.{collection}
+use Rattle.joint.proofs.lemmas.engine.Turning.{turns}
 use Rattle.joint.proofs.engine.Engine.begin_turn.Goals as goal
 
 pub returns-clause-begun : goal.returns-clause-begun

@@ -1,8 +1,8 @@
 use Rattle.std.proofs.Common.{refl}
-use Rattle.joint.specs.Log.{no_log}
-use Rattle.joint.specs.declared.call.Call.TheVariants.{Walking}
-use Rattle.joint.proofs.lemmas.Turning.{goes_on}
-use Rattle.joint.proofs.lemmas.Walking.{registered}
+use Rattle.joint.specs.engine.Log.{no_log}
+use Rattle.joint.specs.declared.engine.in_flight.Call.TheVariants.{Walking}
+use Rattle.joint.proofs.lemmas.engine.Turning.{goes_on}
+use Rattle.joint.proofs.lemmas.engine.Walking.{registered}
 use Rattle.joint.proofs.engine.Engine.go.Goals as goal
 
 pub returns-then-is_walking-clause-does : goal.returns-then-is_walking-clause-does

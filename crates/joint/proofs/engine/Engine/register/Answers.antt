@@ -1,12 +1,12 @@
 use Rattle.std.proofs.Common.{◌≡◌, ◌<◌, ◌≤◌, length, arith, rules, sym, ◌∙◌, ap, subst, inl, inr}
-use Rattle.joint.specs.Log.{no_log}
+use Rattle.joint.specs.engine.Log.{no_log}
 use Rattle.joint.specs.declared.steps.Kind.TheVariants.{Collection}
 use Rattle.joint.specs.declared.steps.Outcome.TheVariants.{Refused}
-use Rattle.joint.specs.Forest.{Forest}
-use Rattle.joint.specs.Intact.{IsIntact}
+use Rattle.joint.specs.nodes.Forest.{Forest}
+use Rattle.joint.specs.engine.Intact.{IsIntact}
 use Rattle.joint.specs.Refusals.{of_fault}
-use Rattle.joint.specs.Whole.{quiet}
-use Rattle.joint.proofs.lemmas.Registered.{taken_at}
+use Rattle.joint.specs.engine.Engine.{quiet}
+use Rattle.joint.proofs.lemmas.engine.Registered.{taken_at}
 use Rattle.joint.proofs.engine.Engine.register.Goals as goal
 
 pub overflow_cast-place : goal.overflow_cast-place

@@ -1,7 +1,7 @@
 use Rattle.std.proofs.Common.{refl}
 use Rattle.joint.specs.declared.steps.Event.TheVariants.{Go}
-use Rattle.joint.specs.Log.{no_log}
-use Rattle.joint.proofs.lemmas.Events.{goes}
+use Rattle.joint.specs.engine.Log.{no_log}
+use Rattle.joint.proofs.lemmas.engine.Events.{goes}
 use Rattle.joint.proofs.engine.Engine.step_on.Goals as goal
 
 pub returns-clause-step : goal.returns-clause-step

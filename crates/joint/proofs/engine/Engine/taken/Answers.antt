@@ -5,11 +5,11 @@ use Rattle.std.proofs.lemmas.Option.{slice_get_read}
 use Rattle.congee.specs.declared.protocol.phase.Phase.{Phase}
 use Rattle.congee.specs.protocol.Holdings.{IsMade, TakenBy}
 use Rattle.joint.specs.declared.id.Id.{Id}
-use Rattle.joint.specs.Census.{taken_at}
-use Rattle.joint.specs.Journaling.{in_list}
-use Rattle.joint.specs.Listing.{bytes_of, taken}
-use Rattle.joint.specs.View.{id_number}
-use Rattle.joint.proofs.lemmas.Waiting.{both_stand, none_taken}
+use Rattle.joint.specs.engine.Census.{taken_at, taken}
+use Rattle.joint.specs.engine.Journaling.{in_list}
+use Rattle.joint.specs.nodes.Listing.{bytes_of}
+use Rattle.joint.specs.nodes.View.{id_number}
+use Rattle.joint.proofs.lemmas.world.Waiting.{both_stand, none_taken}
 use Rattle.joint.proofs.engine.Engine.taken.Goals as goal
 
 pub weighed-requires-clause-stands : goal.weighed-requires-clause-stands

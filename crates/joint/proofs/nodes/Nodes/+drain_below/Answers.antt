@@ -1,9 +1,9 @@
 use Rattle.std.proofs.Common.{rules, ◌+◌, ◌<◌, ◌-◌, ◌∙◌, length, refl, sym, ap, subst, arith}
 use Rattle.congee.specs.Heap.{Node}
 use Rattle.congee.specs.protocol.Regions.{IsRegion}
-use Rattle.joint.specs.Forest.{Forest, frame, nodes}
-use Rattle.joint.specs.View.{id_number}
-use Rattle.joint.proofs.lemmas.DrainWalks.{TakenSoFar, begun, below_in, ended, holds, node_in, went_below, went_blank, went_value}
+use Rattle.joint.specs.nodes.Forest.{Forest, frame, nodes}
+use Rattle.joint.specs.nodes.View.{id_number}
+use Rattle.joint.proofs.lemmas.nodes.DrainWalks.{TakenSoFar, begun, below_in, ended, holds, node_in, went_below, went_blank, went_value}
 use Rattle.joint.proofs.nodes.Nodes.+drain_below.Goals as goal
 use Rattle.joint.proofs.nodes.Nodes.+drain_below.Goals.{in-Blank, in-Node, in-Value}
 

@@ -1,7 +1,7 @@
 use Rattle.std.proofs.Common.{arith, ◌∷◌, refl, ap, sym, ◌∙◌, subst}
 use Rattle.crossbeam_epoch.specs.World.Reach.{moment, Tells, step_act}
-use Rattle.joint.specs.Machines.{slot_names}
-use Rattle.joint.proofs.lemmas.Accounts.{moved, kept_same, unchanged_by, emptied_by, is_inside, standing_some, waits_some, bytes_some, charge_some, charged_less, kept_emptied}
+use Rattle.joint.specs.nodes.Slots.{slot_names}
+use Rattle.joint.proofs.lemmas.nodes.Accounts.{moved, kept_same, unchanged_by, emptied_by, is_inside, standing_some, waits_some, bytes_some, charge_some, charged_less, kept_emptied}
 use Rattle.joint.proofs.nodes.Nodes.collect.Goals as goal
 
 pub invariant_of-self : goal.invariant_of-self

@@ -1,7 +1,7 @@
 use Rattle.std.proofs.Common.{◌≡◌, length, sym, ap, subst, ◌∙◌}
 use Rattle.std.specs.Prelude.{slice_get}
-use Rattle.joint.specs.Writing.{Appended}
-use Rattle.joint.proofs.lemmas.Appending.{appended_at, steps_on}
+use Rattle.joint.specs.threads.Writing.{Appended}
+use Rattle.joint.proofs.lemmas.threads.Appending.{appended_at, steps_on}
 use Rattle.joint.proofs.threads.kept.step_on.Goals as goal
 
 pub returns-clause-appended : goal.returns-clause-appended

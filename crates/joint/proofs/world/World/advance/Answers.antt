@@ -1,12 +1,13 @@
 use Rattle.std.proofs.Common.{◌≡◌, false, refl, sym, ◌∙◌, ap, subst}
 use Rattle.std.specs.Prelude.{◌&&◌, slice_get}
 use Rattle.joint.specs.declared.steps.Event.TheVariants.{Go}
-use Rattle.joint.specs.Intact.{is_reserving}
-use Rattle.joint.specs.Journaling.{entry_of, reply_by}
-use Rattle.joint.specs.Log.{is_full, no_log, request_at}
-use Rattle.joint.specs.Whole.{Whole, IsStep}
-use Rattle.joint.proofs.lemmas.Advanced.{go_step, kept_by, recounted_same, room_by, went_by}
-use Rattle.joint.proofs.lemmas.Logged.{raises}
+use Rattle.joint.specs.engine.Intact.{is_reserving}
+use Rattle.joint.specs.engine.Journaling.{entry_of, reply_by}
+use Rattle.joint.specs.engine.Log.{is_full, no_log, request_at}
+use Rattle.joint.specs.world.Whole.{IsStep}
+use Rattle.joint.specs.engine.Engine.{Whole}
+use Rattle.joint.proofs.lemmas.calls.Advanced.{go_step, kept_by, recounted_same, room_by, went_by}
+use Rattle.joint.proofs.lemmas.world.Logged.{raises}
 use Rattle.joint.proofs.world.World.advance.Goals as goal
 
 pub recount-requires : goal.recount-requires

@@ -1,9 +1,10 @@
 use Rattle.std.proofs.Common.{◌∙◌, ap, subst}
 use Rattle.joint.specs.declared.steps.Event.TheVariants.{Begin}
-use Rattle.joint.specs.Log.{noted}
-use Rattle.joint.specs.Whole.{Whole, IsStep}
-use Rattle.joint.proofs.lemmas.Advanced.{begin_step}
-use Rattle.joint.proofs.lemmas.Found.{there_is}
+use Rattle.joint.specs.engine.Log.{noted}
+use Rattle.joint.specs.world.Whole.{IsStep}
+use Rattle.joint.specs.engine.Engine.{Whole}
+use Rattle.joint.proofs.lemmas.calls.Advanced.{begin_step}
+use Rattle.joint.proofs.lemmas.nodes.Found.{there_is}
 use Rattle.joint.proofs.world.World.begin.Goals as goal
 
 pub invariant_of-self : goal.invariant_of-self

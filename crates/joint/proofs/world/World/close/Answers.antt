@@ -1,6 +1,6 @@
 use Rattle.std.proofs.Common.{subst}
-use Rattle.joint.specs.Closing.{IsClosed}
-use Rattle.joint.specs.Whole.{Whole}
+use Rattle.joint.specs.engine.Closing.{IsClosed}
+use Rattle.joint.specs.engine.Engine.{Whole}
 use Rattle.joint.proofs.world.World.close.Goals as goal
 
 pub returns : goal.returns

@@ -1,13 +1,14 @@
 use Rattle.std.proofs.Common.{◌≡◌, true, false, sym, ◌∙◌, ap, subst}
 use Rattle.std.specs.Prelude.{◌&&◌, None, slice_get, slice_set}
-use Rattle.joint.specs.declared.call.Call.TheVariants.{Idle}
+use Rattle.joint.specs.declared.engine.in_flight.Call.TheVariants.{Idle}
 use Rattle.joint.specs.declared.steps.Event.TheVariants.{Go}
-use Rattle.joint.specs.Forest.{Forest, IsCharged}
-use Rattle.joint.specs.Intact.{is_reserving}
-use Rattle.joint.specs.Log.{is_full}
-use Rattle.joint.specs.Whole.{Whole, IsStep}
-use Rattle.joint.proofs.lemmas.Advanced.{and_left, and_right, give_up_step}
-use Rattle.joint.proofs.lemmas.Counted.{counted_at}
+use Rattle.joint.specs.nodes.Forest.{Forest, IsCharged}
+use Rattle.joint.specs.engine.Intact.{is_reserving}
+use Rattle.joint.specs.engine.Log.{is_full}
+use Rattle.joint.specs.world.Whole.{IsStep}
+use Rattle.joint.specs.engine.Engine.{Whole}
+use Rattle.joint.proofs.lemmas.calls.Advanced.{and_left, and_right, give_up_step}
+use Rattle.joint.proofs.lemmas.calls.Counted.{counted_at}
 use Rattle.joint.proofs.world.World.give_up.Goals as goal
 
 pub invariant_of-self : goal.invariant_of-self

@@ -1,9 +1,10 @@
 use Rattle.std.proofs.Common.{◌≡◌, false, sym, ◌∙◌, subst}
 use Rattle.std.specs.Prelude.{ltb}
 use Rattle.joint.specs.declared.steps.Event.TheVariants.{Go}
-use Rattle.joint.specs.Log.{request_at}
-use Rattle.joint.specs.Whole.{Whole, IsStep}
-use Rattle.joint.proofs.lemmas.Advanced.{unkept_step}
+use Rattle.joint.specs.engine.Log.{request_at}
+use Rattle.joint.specs.world.Whole.{IsStep}
+use Rattle.joint.specs.engine.Engine.{Whole}
+use Rattle.joint.proofs.lemmas.calls.Advanced.{unkept_step}
 use Rattle.joint.proofs.world.World.go_unkept.Goals as goal
 
 pub invariant_of-self : goal.invariant_of-self

@@ -4,9 +4,9 @@ use Rattle.judge.specs.declared.journal.Entry.{Entry}
 use Rattle.judge.specs.Answer.{Pairs}
 use Rattle.judge.specs.Journal.{IsLegal, Legal}
 use Rattle.congee.specs.Keys.{IsMapOf}
-use Rattle.joint.specs.Forest.{nodes}
-use Rattle.joint.specs.Whole.{Whole}
-use Rattle.joint.proofs.lemmas.Advanced.{journal_legal, journal_replays}
+use Rattle.joint.specs.nodes.Forest.{nodes}
+use Rattle.joint.specs.engine.Engine.{Whole}
+use Rattle.joint.proofs.lemmas.calls.Advanced.{journal_legal, journal_replays}
 use Rattle.joint.proofs.world.World.journal.Goals as goal
 
 pub returns-clause-legal : goal.returns-clause-legal

@@ -1,7 +1,8 @@
 use Rattle.std.proofs.Common.{refl, subst}
 use Rattle.joint.specs.declared.steps.Event.TheVariants.{Register}
-use Rattle.joint.specs.Whole.{Whole, IsStep}
-use Rattle.joint.proofs.lemmas.Advanced.{register_step}
+use Rattle.joint.specs.world.Whole.{IsStep}
+use Rattle.joint.specs.engine.Engine.{Whole}
+use Rattle.joint.proofs.lemmas.calls.Advanced.{register_step}
 use Rattle.joint.proofs.world.World.register.Goals as goal
 
 pub invariant_of-self : goal.invariant_of-self

@@ -1,7 +1,7 @@
 use Rattle.std.proofs.Common.{◌-◌, arith, subst}
 use Rattle.joint.specs.declared.steps.Step.{Step}
-use Rattle.joint.specs.Whole.{IsStep}
-use Rattle.joint.proofs.lemmas.Calling.{calling_end, calling_first, calling_more, calling_none}
+use Rattle.joint.specs.world.Whole.{IsStep}
+use Rattle.joint.proofs.lemmas.calls.Calling.{calling_end, calling_first, calling_more, calling_none}
 use Rattle.joint.proofs.world.World.take_steps.Goals as goal
 
 pub returns-then-most-eq0 : goal.returns-then-most-eq0

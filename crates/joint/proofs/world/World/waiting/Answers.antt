@@ -1,5 +1,6 @@
 use Rattle.std.proofs.Common.{subst}
-use Rattle.joint.specs.Whole.{Whole, Holds}
+use Rattle.joint.specs.world.Whole.{Holds}
+use Rattle.joint.specs.engine.Engine.{Whole}
 use Rattle.joint.proofs.world.World.waiting.Goals as goal
 
 pub returns-clause-listed : goal.returns-clause-listed

@@ -1,5 +1,5 @@
 use Rattle.std.proofs.Common.{◌∙◌}
-use Rattle.joint.proofs.lemmas.Watching.{journaled}
+use Rattle.joint.proofs.lemmas.threads.Watching.{journaled}
 use Rattle.joint.proofs.threads.kept.Kept.entries.Goals as goal
 
 pub returns-in-Ok-clause-journal : goal.returns-in-Ok-clause-journal

@@ -1,6 +1,6 @@
 use Rattle.std.proofs.Common.{◌≡◌, ◌<◌, ◌^◌, arith, refl, subst, ◌∙◌}
-use Rattle.joint.specs.Shares.{Tally}
-use Rattle.joint.proofs.lemmas.Watching.{count_bounded, journaled}
+use Rattle.joint.specs.threads.Shares.{Tally}
+use Rattle.joint.proofs.lemmas.threads.Watching.{count_bounded, journaled}
 use Rattle.joint.proofs.threads.kept.Kept.gather.Goals as goal
 
 pub returns-in-0-clause-exact : goal.returns-in-0-clause-exact

@@ -1,8 +1,8 @@
 use Rattle.std.proofs.Common.{rules, ◌≡◌, arith, sym, ◌∙◌}
 use Rattle.std.specs.Prelude.{None, nat_eq, false, true}
 use Rattle.joint.specs.Asked.{changes}
-use Rattle.joint.proofs.lemmas.Holding.{step_tells}
-use Rattle.joint.proofs.lemmas.WritingStep.{read_count}
+use Rattle.joint.proofs.lemmas.threads.Holding.{step_tells}
+use Rattle.joint.proofs.lemmas.threads.WritingStep.{read_count}
 use Rattle.joint.proofs.threads.kept.Kept.read.Goals as goal
 
 pub invariant_of-self : goal.invariant_of-self

@@ -1,10 +1,10 @@
 use Rattle.std.proofs.Common.{rules, arith, sym, ap, subst, ◌∙◌}
 use Rattle.std.specs.Prelude.{IsTrue, nat_eq, true}
 use Rattle.joint.specs.declared.steps.Report.{Report}
-use Rattle.joint.specs.Driving.{IsToldInCall}
-use Rattle.joint.specs.Writing.{Progress, WritingTurn, given_after, noted}
-use Rattle.joint.proofs.lemmas.Holding.{step_tells}
-use Rattle.joint.proofs.lemmas.WritingStep.{hold_turn, told_tells, write_count}
+use Rattle.joint.specs.threads.Driving.{IsToldInCall}
+use Rattle.joint.specs.threads.Writing.{Progress, WritingTurn, given_after, noted}
+use Rattle.joint.proofs.lemmas.threads.Holding.{step_tells}
+use Rattle.joint.proofs.lemmas.threads.WritingStep.{hold_turn, told_tells, write_count}
 use Rattle.joint.proofs.threads.kept.Kept.write.Goals as goal
 
 pub invariant_of-self : goal.invariant_of-self

@@ -1,6 +1,6 @@
 use Rattle.std.proofs.Common.{rules, ◌≡◌, [], None, length, refl}
-use Rattle.joint.specs.Writing.{unwritten}
-use Rattle.joint.proofs.lemmas.WritingTurns.{counts, from_start, none_of}
+use Rattle.joint.specs.threads.Writing.{unwritten}
+use Rattle.joint.proofs.lemmas.threads.WritingTurns.{counts, from_start, none_of}
 use Rattle.joint.proofs.threads.writes.Tree+u64+Kept+L+W+A.drive_writing.Goals as goal
 
 pub returns : goal.returns

@@ -1,6 +1,6 @@
 use Rattle.std.proofs.Common.{None}
-use Rattle.joint.specs.Writing.{IsWritingTurn, unwritten}
-use Rattle.joint.proofs.lemmas.Holding.{mute}
+use Rattle.joint.specs.threads.Writing.{IsWritingTurn, unwritten}
+use Rattle.joint.proofs.lemmas.threads.Holding.{mute}
 use Rattle.joint.proofs.threads.writes.Tree+u64+Kept+L+W+A.write_silently.Goals as goal
 
 pub returns : goal.returns
