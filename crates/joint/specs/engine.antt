@@ -8,6 +8,6 @@ pub mod Intact
 pub mod Journaling
 pub mod Laws
 pub mod Log
-pub mod Machines
+pub mod Safety
 pub mod Sound
 pub mod Surveys

@@ -1,6 +1,6 @@
 pub mod Altering
 pub mod Draining
-pub mod Forest
+pub mod Nodes
 pub mod Heap
 pub mod Levels
 pub mod Listing
@@ -10,6 +10,6 @@ pub mod RoomLemmas
 pub mod Slots
 pub mod Solid
 pub mod Survey
-pub mod Tallies
+pub mod CellMarks
 pub mod Ties
 pub mod View

@@ -1,3 +1,3 @@
 pub mod MapSteps
 pub mod Whereabouts
-pub mod Whole
+pub mod World

@@ -22,7 +22,7 @@ ghost use Rattle.std.specs.List.{sum_by};
 ghost use Rattle.congee.specs.protocol.Events.{hung, SameBut, MayChange, ChangeGives};
 ghost use Rattle.congee.specs.Heap.{Holds, Nothing, Stands};
 ghost use Rattle.joint.specs.declared.limits.TheConstants.{CELLS_MAX};
-ghost use Rattle.joint.specs.nodes.Forest.{IsCharged, total, nodes, frame};
+ghost use Rattle.joint.specs.nodes.Nodes.{IsCharged, total, nodes, frame};
 ghost use Rattle.joint.specs.nodes.Listing.{bytes_of, handed_nodes, standing_nodes};
 ghost use Rattle.joint.specs.nodes.Solid.{IsWhole};
 ghost use Rattle.joint.specs.nodes.View.{id_number, node_of, worded};
@@ -30,7 +30,7 @@ ghost use Rattle.joint.specs.nodes.View.{id_number, node_of, worded};
 use crate::id::Id;
 use crate::nodes::account::Account;
 use crate::nodes::counts::Counts;
-use crate::nodes::slot::{Slot, Word};
+use crate::nodes::slot::{LockWord, Slot};
 use congee::{Allocator, Child, Payload, Small};
 use crossbeam_epoch::World;
 use std::alloc::Global;
@@ -51,9 +51,9 @@ pub struct Nodes<P: Payload + Small, A: Allocator> {
 impl<P: Payload + Small, A: Allocator> Model for Nodes<P, A> {
     ghost use Rattle.std.specs.Coded.{codes};
     ghost use Rattle.joint.specs.nodes.MapCode.{map_code};
-    ghost use Rattle.joint.specs.nodes.Forest.{Forest, IsKept};
+    ghost use Rattle.joint.specs.nodes.Nodes.{Nodes as State, IsKept};
 
-    ghost Value = { Forest P };
+    ghost Value = { State P };
 
     ghost coded = { Prim.hlevel (codes, map_code) };
 
@@ -153,7 +153,7 @@ impl<P: Payload + Small, A: Allocator> Nodes<P, A> {
     }
 
     /// Gives a node another lock word, with the mark that it has.
-    pub(crate) fn set_word(&mut self, at: Id, word: Word)
+    pub(crate) fn set_word(&mut self, at: Id, word: LockWord)
         requires stands { Stands (nodes self.old (id_number at)) }
         requires mark { word.retired ≡ (nodes self.old (id_number at)).retired }
         ensures frame { frame self.new ≡ frame self.old }

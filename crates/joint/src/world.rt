@@ -14,13 +14,13 @@ ghost use Rattle.judge.specs.Journal.{IsLegal, Legal};
 ghost use Rattle.congee.specs.Heap.{Stands};
 ghost use Rattle.congee.specs.Keys.{IsMapOf};
 ghost use Rattle.joint.specs.engine.Closing.{IsClosed, IsNotClosed, account_of};
-ghost use Rattle.joint.specs.nodes.Forest.{nodes};
+ghost use Rattle.joint.specs.nodes.Nodes.{nodes};
 ghost use Rattle.joint.specs.engine.Journaling.{asks_at, has_place};
 ghost use Rattle.joint.specs.nodes.Listing.{IsListOf, bytes_of, standing_nodes};
 ghost use Rattle.joint.specs.engine.Census.{waiting_nodes};
 ghost use Rattle.joint.specs.engine.Log.{opened_log, request_at};
 ghost use Rattle.joint.specs.nodes.Opening.{HasPlaces, IsOpened, IsUnjournaled, IsUnopened};
-ghost use Rattle.joint.specs.world.Whole.{IsNew, Holds};
+ghost use Rattle.joint.specs.world.World.{IsNew, Holds};
 ghost use Rattle.joint.specs.engine.Engine.{IsFresh};
 ghost use Rattle.joint.specs.world.Whereabouts.{AllSomewhere, IsWaiting};
 
@@ -48,10 +48,10 @@ impl<P: Payload + Small, A: Allocator> Model for World<P, A> {
     ghost use Rattle.joint.specs.nodes.MapCode.{map_code};
     ghost use Rattle.std.specs.Prelude.{◌≡◌};
     ghost use Rattle.joint.specs.engine.Census.{AreCounted};
-    ghost use Rattle.joint.specs.world.Whole.{Holds};
-    ghost use Rattle.joint.specs.engine.Engine.{Whole};
+    ghost use Rattle.joint.specs.world.World.{Holds};
+    ghost use Rattle.joint.specs.engine.Engine.{World as State};
 
-    ghost Value = { Whole P };
+    ghost Value = { State P };
 
     ghost coded = { Prim.hlevel (codes, map_code) };
 

@@ -22,7 +22,7 @@ use Rattle.joint.specs.declared.steps.Target.TheVariants as target
 use Rattle.joint.specs.calls.MapCalls.{Answered as Last, IsPresent, IsComputed}
 use Rattle.joint.specs.Reports.{target}
 use Rattle.joint.specs.engine.Flying.{no_flights}
-use Rattle.joint.specs.engine.Engine.{Whole}
+use Rattle.joint.specs.engine.Engine.{World}
 use Rattle.trial.specs.declared.caller.Caller.{Caller}
 use Rattle.trial.specs.declared.caller.Closure.{Closure}
 use Rattle.trial.specs.declared.caller.Closure.TheVariants as closure
@@ -150,7 +150,7 @@ left_length (outcome.Refused r) w scans = refl
 
 replied_at : (w : ℕ) (s s' : Index) (stands : Outcome ℕ) (m : Pairs ℕ) → At s m → GaveAway s w stands s' → At s' m
 replied_at w s s' stands m b g =
-    let P : Whole ℕ → Type 0 = λ x. Rests x m in
+    let P : World ℕ → Type 0 = λ x. Rests x m in
     (subst P (sym g.world) b.0, ap (λ (x : _). length x.items) g.callers ∙ b.1, ap length g.scans ∙ left_length stands w s.scans.items ∙ b.2)
 
 -- a reply that is the map's, where the map has one
@@ -253,11 +253,11 @@ asks_at laws (command.New o) s s' r m b g w a = absurd g
 asks_at laws command.Journal s s' r m b g w a = ((let P : Index → Type 0 = λ x. At x m in subst P (sym g.0) b), tt)
 asks_at laws command.Close s s' r m b g w a = absurd g
 
-opened_at : MapLaws → (limits : Limits) (journal : Option ℕ) (budget : ℕ) (result : Result (Whole ℕ) Refusal) (new : Session) (r : Reply) → Opens limits journal 0 budget result → Opened result new r → IsAnswer r
+opened_at : MapLaws → (limits : Limits) (journal : Option ℕ) (budget : ℕ) (result : Result (World ℕ) Refusal) (new : Session) (r : Reply) → Opens limits journal 0 budget result → Opened result new r → IsAnswer r
     → AtMap new empty
 opened_at laws limits journal budget (Ok world) new r o g a =
     let P : Session → Type 0 = λ x. AtMap x empty in
-    let Q : Whole ℕ → Type 0 = λ x. Rests x empty in
+    let Q : World ℕ → Type 0 = λ x. Rests x empty in
     let new_tree = laws.fresh world o.1 in
     let rests : Rests world empty = record { holds = o.4; flights = no_flights; stand = new_tree.0; in_flight = new_tree.1; over = λ i. refl } in
     let callers : length g.0.callers.items ≡ 256 = ap length g.1.callers ∙ length-replicate {A = Caller} 256 (fresh None) in

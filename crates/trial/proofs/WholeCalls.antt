@@ -16,14 +16,14 @@ use Rattle.joint.specs.declared.steps.Outcome.TheVariants as outcome
 use Rattle.joint.specs.declared.steps.Report.{Report}
 use Rattle.joint.specs.declared.steps.Target.{Target}
 use Rattle.joint.specs.declared.steps.Target.TheVariants as target
-use Rattle.joint.specs.nodes.Forest.{nodes}
+use Rattle.joint.specs.nodes.Nodes.{nodes}
 use Rattle.joint.specs.calls.MapCalls.{AllGoOn, Answered as Last, answered_by, answered_after, IsOnMap, TookEffect, PlaysKey, PlaysCall, told_after, told_places}
 use Rattle.joint.specs.Reports.{target}
 use Rattle.joint.specs.calls.Runs.{Taken, AreTaken, after_all}
 use Rattle.joint.specs.engine.Flying.{Flights, AreInFlight}
 use Rattle.joint.specs.calls.Scans.{placed}
-use Rattle.joint.specs.world.Whole.{Holds, IsOnKey, IsStep}
-use Rattle.joint.specs.engine.Engine.{Whole, is_in_flight}
+use Rattle.joint.specs.world.World.{Holds, IsOnKey, IsStep}
+use Rattle.joint.specs.engine.Engine.{World, is_in_flight}
 use Rattle.trial.specs.declared.caller.Caller.{Caller}
 use Rattle.trial.specs.declared.caller.Closure.{Closure}
 use Rattle.trial.specs.declared.index.Index.{Index}
@@ -209,7 +209,7 @@ module _ (w : ℕ) (op : Op ℕ) (closure : Option Closure) (s s' : Index) (told
   plays_call laws m b =
       let x = laws.plays s.world first_of c.rest.steps b.flights m w op b.holds (c.step, c.rest.each) b.stand b.in_flight (record { begins = refl; goes_on = c.rest.goes_on }) in
       let P : Outcome ℕ → Type 0 = λ o. PlaysCall nat_eq b.flights m w last_of (target op) o (after_all c.mid.world c.rest.steps) in
-      let Q : Whole ℕ → Type 0 = λ y. PlaysCall nat_eq b.flights m w last_of (target op) told y in
+      let Q : World ℕ → Type 0 = λ y. PlaysCall nat_eq b.flights m w last_of (target op) told y in
       subst Q c.rest.after (subst P c.rest.told_last x)
 
 -- a call on the collector leaves the pairs
@@ -262,7 +262,7 @@ module _ (w : ℕ) (m : Pairs ℕ) where
   by_told a closure p last (outcome.Registered who) ps s b s' d c h x i = absurd x
   by_told a closure p last (outcome.Refused e) ps s b s' d c h x i = absurd i
 
-  plays_key : (fs : Flights ℕ) (last : Last ℕ) (a : Asked ℕ) (told : Outcome ℕ) (s : Whole ℕ) → IsOnKey a → PlaysCall nat_eq fs m w last (target.Tree a) told s → PlaysKey nat_eq fs m w last a told s
+  plays_key : (fs : Flights ℕ) (last : Last ℕ) (a : Asked ℕ) (told : Outcome ℕ) (s : World ℕ) → IsOnKey a → PlaysCall nat_eq fs m w last (target.Tree a) told s → PlaysKey nat_eq fs m w last a told s
   plays_key fs last (asks.Get k) told s u x = x
   plays_key fs last (asks.Insert k v) told s u x = x
   plays_key fs last (asks.Remove k) told s u x = x

@@ -15,8 +15,8 @@ use Rattle.joint.specs.declared.steps.Outcome.TheVariants as outcome
 use Rattle.joint.specs.calls.MapCalls.{Answered as Last, IsOfScan, IsScanning, PlaysCall, PlaysScan, told_places}
 use Rattle.joint.specs.Reports.{range_of, target}
 use Rattle.joint.specs.engine.Flying.{Flights}
-use Rattle.joint.specs.world.Whole.{Holds}
-use Rattle.joint.specs.engine.Engine.{Whole}
+use Rattle.joint.specs.world.World.{Holds}
+use Rattle.joint.specs.engine.Engine.{World}
 use Rattle.trial.specs.declared.caller.Closure.{Closure}
 use Rattle.trial.specs.declared.index.Index.{Index}
 use Rattle.trial.specs.declared.reply.Reply.TheVariants as reply
@@ -36,7 +36,7 @@ past_or_within : (n i : ℕ) → (n ≤ i) ⊎ (i < n)
 past_or_within n i = grind arith
 
 -- a worker with a scan in flight is one of the tree's
-within : (s : Whole ℕ) (m : Pairs ℕ) (fs : Flights ℕ) (w : ℕ) → Holds nat_eq true s → IsScanning fs m w s → w < 256
+within : (s : World ℕ) (m : Pairs ℕ) (fs : Flights ℕ) (w : ℕ) → Holds nat_eq true s → IsScanning fs m w s → w < 256
 within s m fs w h x = elim (past_or_within (length s.calls) w) [
   | inl p ↦ absurd (
       let P : Bool → Type 0 = λ b. (if b then x.flight else fs w) ≡ Over in
@@ -47,7 +47,7 @@ within s m fs w h x = elim (past_or_within (length s.calls) w) [
   | inr p ↦ omega (arith, p, h.0.few)
 ]
 
-scanning : (m : Pairs ℕ) (fs : Flights ℕ) (w : ℕ) (o : Outcome ℕ) (s : Whole ℕ) → is_running o ≡ true → PlaysScan fs m w o s → IsScanning fs m w s
+scanning : (m : Pairs ℕ) (fs : Flights ℕ) (w : ℕ) (o : Outcome ℕ) (s : World ℕ) → is_running o ≡ true → PlaysScan fs m w o s → IsScanning fs m w s
 scanning m fs w outcome.Running s e x = x
 scanning m fs w (outcome.Asks found) s e x = absurd x
 scanning m fs w (outcome.Found place key value) s e x = x
@@ -56,7 +56,7 @@ scanning m fs w (outcome.Done d) s e x = absurd (cc e)
 scanning m fs w (outcome.Refused r) s e x = absurd (cc e)
 
 -- what a scan makes of the map
-plays_scan : (fs : Flights ℕ) (m : Pairs ℕ) (w : ℕ) (last : Last ℕ) (op : Op ℕ) (start end size : ℕ) (told : Outcome ℕ) (s : Whole ℕ) → range_of op ≡ Some (start, end, size) → PlaysCall nat_eq fs m w last (target op) told s → PlaysScan fs m w told s
+plays_scan : (fs : Flights ℕ) (m : Pairs ℕ) (w : ℕ) (last : Last ℕ) (op : Op ℕ) (start end size : ℕ) (told : Outcome ℕ) (s : World ℕ) → range_of op ≡ Some (start, end, size) → PlaysCall nat_eq fs m w last (target op) told s → PlaysScan fs m w told s
 plays_scan fs m w last (ops.Range a b n) start end size told s e x = x
 plays_scan fs m w last (ops.RangeInclusive a b n) start end size told s e x = x
 plays_scan fs m w last ops.Pin start end size told s e x = absurd (cc e)

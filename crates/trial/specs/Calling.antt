@@ -6,15 +6,15 @@ use Rattle.joint.specs.declared.steps.Op.{Op}
 use Rattle.joint.specs.declared.steps.Outcome.{Outcome}
 use Rattle.joint.specs.declared.steps.Outcome.TheVariants as outcome
 use Rattle.joint.specs.declared.steps.Report.{Report}
-use Rattle.joint.specs.world.Whole.{IsStep}
-use Rattle.joint.specs.engine.Engine.{Whole}
+use Rattle.joint.specs.world.World.{IsStep}
+use Rattle.joint.specs.engine.Engine.{World}
 use Rattle.trial.specs.declared.caller.Closure.{Closure}
 use Rattle.trial.specs.declared.index.Index.{Index}
 use Rattle.trial.specs.Callers.{fresh, noise_of, heard, caller_at}
 use Rattle.trial.specs.Places.{filled}
 
 -- a tree none of whose workers has a call
-pub record IsUncalled (w : Whole ℕ) (index : Index) : Type 0 where
+pub record IsUncalled (w : World ℕ) (index : Index) : Type 0 where
   pub world : index.world ≡ w
   pub callers : index.callers.items ≡ replicate 256 (fresh None)
   pub scans : index.scans.items ≡ replicate 256 []

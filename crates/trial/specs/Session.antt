@@ -19,9 +19,9 @@ use Rattle.joint.specs.nodes.Listing.{bytes_of}
 use Rattle.joint.specs.engine.Census.{waiting_nodes}
 use Rattle.joint.specs.engine.Log.{opened_log}
 use Rattle.joint.specs.nodes.Opening.{HasPlaces, IsOpened, IsUnjournaled, IsUnopened}
-use Rattle.joint.specs.nodes.Forest.{nodes}
-use Rattle.joint.specs.engine.Engine.{IsFresh, Whole}
-use Rattle.joint.specs.world.Whole.{Holds}
+use Rattle.joint.specs.nodes.Nodes.{nodes}
+use Rattle.joint.specs.engine.Engine.{IsFresh, World}
+use Rattle.joint.specs.world.World.{Holds}
 use Rattle.trial.specs.declared.caller.Closure.{Closure}
 use Rattle.trial.specs.declared.caller.Closure.TheVariants as closure
 use Rattle.trial.specs.declared.command.Opening.{Opening}
@@ -137,7 +137,7 @@ FailReplies old who new r = (stands : Outcome ℕ) × (mid : Index) × Goes old 
 
 -- What is told of a journal: as many as it has entries, and that they are legal; there is none where no journal is kept. Or
 -- memory was refused for what judges them.
-pub record JournalReplies (s : Whole ℕ) (r : Reply) : Type 0 where
+pub record JournalReplies (s : World ℕ) (r : Reply) : Type 0 where
   pub legal : IsLegal nat_eq s.log.entries
   pub none : s.log.places ≡ 0 → s.log.entries ≡ []
   pub reply : (r ≡ reply.Journal (length s.log.entries) verdict.Legal) ⊎ (r ≡ reply.Refused (refused.Tree refusal.Memory))
@@ -201,20 +201,20 @@ IsRefused limits None charge limit e = IsUnopened limits charge limit e
 IsRefused limits (Some places) charge limit e = IsUnjournaled limits places charge limit e
 
 -- a tree with a root alone and this journal, of which all that always does holds, or why there is none
-abbrev pub Opens : Limits → Option ℕ → ℕ → ℕ → Result (Whole ℕ) Refusal → Type 0
+abbrev pub Opens : Limits → Option ℕ → ℕ → ℕ → Result (World ℕ) Refusal → Type 0
 Opens limits journal charge limit (Ok world) = IsOpened limits charge limit world.forest × IsFresh world × IfSome journal HasPlaces
     × (world.log ≡ opened_log limits.epoch.participants (journal_places journal)) × Holds nat_eq true world
 Opens limits journal charge limit (Err e) = IsRefused limits journal charge limit e
 
 -- a tree is opened so, or refused
-abbrev pub Opened : Result (Whole ℕ) Refusal → Session → Reply → Type 0
+abbrev pub Opened : Result (World ℕ) Refusal → Session → Reply → Type 0
 Opened (Ok world) new r = (index : Index) × IsUncalled world index × (new ≡ Some index) × (r ≡ reply.Ok)
 Opened (Err e) new r = (new ≡ None) × (r ≡ reply.Refused (refused.Tree e))
 
 -- the limits that an opening names and its journal, and what the tree says to them
 abbrev pub OpensWith : Option Limits → Option ℕ → ℕ → Session → Reply → Type 0
 OpensWith None journal budget new r = Refuses (refused.Tree refusal.Limits) None new r
-OpensWith (Some limits) journal budget new r = (result : Result (Whole ℕ) Refusal) × Opens limits journal 0 budget result × Opened result new r
+OpensWith (Some limits) journal budget new r = (result : Result (World ℕ) Refusal) × Opens limits journal 0 budget result × Opened result new r
 
 -- what a command does to a session, and its reply
 abbrev pub Answers : Session → Command → Session → Reply → Type 0

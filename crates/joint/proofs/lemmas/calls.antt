@@ -1,4 +1,4 @@
-pub mod Advanced
+pub mod WorldSteps
 pub mod Alone
 pub mod AloneCalls
 pub mod AloneTold
@@ -7,7 +7,7 @@ pub mod Beside
 pub mod CallScans
 pub mod CallSurveys
 pub mod Calling
-pub mod Counted
+pub mod CensusSteps
 pub mod Ends
 pub mod Filling
 pub mod KeyCalls
@@ -15,7 +15,7 @@ pub mod KeyReplies
 pub mod Leaves
 pub mod LeavesRuns
 pub mod LeavesSteps
-pub mod Left
+pub mod HeldNodes
 pub mod MapCalls
 pub mod PlainAgain
 pub mod PlainCalls
@@ -31,5 +31,5 @@ pub mod Scans
 pub mod Sparing
 pub mod StretchRuns
 pub mod Stretches
-pub mod Sweeping
+pub mod AloneScans
 pub mod Wanted

@@ -2,12 +2,12 @@ pub mod Asking
 pub mod Bags
 pub mod Effects
 pub mod Flights
-pub mod GivingUp
+pub mod JournalFull
 pub mod Logged
 pub mod MapSteps
-pub mod Mapped
-pub mod Placed
-pub mod Rekept
+pub mod JournaledSteps
+pub mod JournalPlaces
+pub mod KeptMarks
 pub mod Requested
 pub mod RunJournals
 pub mod Standing

@@ -13,7 +13,7 @@ use Rattle.joint.specs.declared.steps.Outcome.TheVariants.{Running, Asks, Done, 
 use Rattle.joint.specs.declared.steps.Target.TheVariants.{Tree}
 use Rattle.joint.specs.Reports.{target}
 use Rattle.joint.specs.world.MapSteps.{Line}
-use Rattle.joint.specs.world.Whole.{IsOnKey}
+use Rattle.joint.specs.world.World.{IsOnKey}
 use Rattle.joint.specs.engine.Engine.{is_in_flight}
 
 abbrev pub is_go : {V : Type 0} → Event V → Bool

@@ -14,7 +14,7 @@ use Rattle.joint.specs.declared.steps.Survey.TheVariants as survey
 use Rattle.joint.specs.Reports.{range_of, goes_on}
 use Rattle.joint.specs.calls.Runs.{IsRun}
 use Rattle.joint.specs.engine.Surveys.{MapTells}
-use Rattle.joint.specs.engine.Engine.{Whole, is_busy, is_in_flight, misuse}
+use Rattle.joint.specs.engine.Engine.{World, is_busy, is_in_flight, misuse}
 
 abbrev pub next_step : {V : Type 0} → ℕ → Step V
 next_step who = record { worker = who; event = Go (record { fail = false; seen = None; answer = None }) }
@@ -57,7 +57,7 @@ kept_report r = record r { outcome = put_away r.outcome }
 
 -- a call of at most so many steps, which answers its last report: it stops where the call ends or wants an answer, and
 -- else after so many steps; each pair that a scan finds comes to its place
-pub record IsCalled {V : Type 0} (same : V → V → Bool) (always : Bool) (s : Whole V) (who : ℕ) (op : Op V) (most : ℕ) (places : List (ℕ × V)) (result : Option (Report V)) (places' : List (ℕ × V)) (s' : Whole V) : Type 0 where
+pub record IsCalled {V : Type 0} (same : V → V → Bool) (always : Bool) (s : World V) (who : ℕ) (op : Op V) (most : ℕ) (places : List (ℕ × V)) (result : Option (Report V)) (places' : List (ℕ × V)) (s' : World V) : Type 0 where
   pub reports : List (Report V)
   pub run : IsRun same always s (steps_of who op (length reports)) reports s'
   pub bounded : length reports ≤ most

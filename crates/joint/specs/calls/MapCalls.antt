@@ -25,12 +25,12 @@ use Rattle.joint.specs.declared.steps.Report.{Report}
 use Rattle.joint.specs.declared.steps.Target.{Target}
 use Rattle.joint.specs.declared.steps.Target.TheVariants as target
 use Rattle.joint.specs.engine.Flying.{Flights, with_flight, AreInFlight}
-use Rattle.joint.specs.nodes.Forest.{nodes}
+use Rattle.joint.specs.nodes.Nodes.{nodes}
 use Rattle.joint.specs.Reports.{target, reply_in}
 use Rattle.joint.specs.calls.Runs.{Taken}
 use Rattle.joint.specs.calls.Scans.{placed}
 use Rattle.joint.specs.engine.Surveys.{MapTells}
-use Rattle.joint.specs.engine.Engine.{Whole, is_in_flight}
+use Rattle.joint.specs.engine.Engine.{World, is_in_flight}
 
 -- a further step of a worker's call, which is in flight after a step that told this
 pub record GoesOn {V : Type 0} (who : ℕ) (told : Outcome V) (t : Taken V) : Type 0 where
@@ -91,14 +91,14 @@ IsOnMap m last (point.Range start end size) c = ⊥
 IsOnMap m last (point.RangeInclusive start last_key size) c = ⊥
 
 -- it took effect: the map m answers it so, and the next map's pairs stand
-pub record TookEffect {V : Type 0} (same : V → V → Bool) (m : Pairs V) (last : Answered V) (p : Point V) (reply : Reply V) (s : Whole V) : Type 0 where
+pub record TookEffect {V : Type 0} (same : V → V → Bool) (m : Pairs V) (last : Answered V) (p : Point V) (reply : Reply V) (s : World V) : Type 0 where
   pub call : Entered V
   pub on_map : IsOnMap m last p call
   pub answers : (answer same m call).0 ≡ reply
   pub stand : IsMapOf (nodes s.forest) (answer same m call).1
 
 -- it is in flight, and has not yet taken effect: the pairs stand as they did
-pub record IsUndecided {V : Type 0} (fs : Flights V) (m : Pairs V) (who : ℕ) (p : Point V) (s : Whole V) : Type 0 where
+pub record IsUndecided {V : Type 0} (fs : Flights V) (m : Pairs V) (who : ℕ) (p : Point V) (s : World V) : Type 0 where
   pub free : fs who ≡ Over
   pub value : Option V
   pub question : Question V
@@ -106,7 +106,7 @@ pub record IsUndecided {V : Type 0} (fs : Flights V) (m : Pairs V) (who : ℕ) (
   pub stand : IsMapOf (nodes s.forest) m
 
 -- it is in flight, and has: this will be its reply
-pub record IsDecided {V : Type 0} (same : V → V → Bool) (fs : Flights V) (m : Pairs V) (who : ℕ) (last : Answered V) (p : Point V) (s : Whole V) : Type 0 where
+pub record IsDecided {V : Type 0} (same : V → V → Bool) (fs : Flights V) (m : Pairs V) (who : ℕ) (last : Answered V) (p : Point V) (s : World V) : Type 0 where
   pub free : fs who ≡ Over
   pub reply : Reply V
   pub in_flight : AreInFlight s (with_flight fs who (Decided reply))
@@ -118,16 +118,16 @@ IsOfScan (Scanning start end size states places) = Unit {0}
 IsOfScan _ = ⊥
 
 -- it leaves the pairs, and the calls in flight are those that were
-abbrev pub KeepsAll : {V : Type 0} → Flights V → Pairs V → Whole V → Type 0
+abbrev pub KeepsAll : {V : Type 0} → Flights V → Pairs V → World V → Type 0
 KeepsAll fs m s = IsMapOf (nodes s.forest) m × AreInFlight s fs
 
-abbrev pub IsDoneWith : {V : Type 0} → (V → V → Bool) → Flights V → Pairs V → Answered V → Point V → Answer V → Whole V → Type 0
+abbrev pub IsDoneWith : {V : Type 0} → (V → V → Bool) → Flights V → Pairs V → Answered V → Point V → Answer V → World V → Type 0
 IsDoneWith same fs m last p (done.Reply r) s = TookEffect same m last p r s × AreInFlight s fs
 IsDoneWith same fs m last p _ s = ⊥
 
 -- A call on one key that stands so, begun where the pairs m stood and these calls were in flight: done, it is the map's
 -- call, and answers as that does; refused, it leaves the pairs. Either way the calls in flight are those that were.
-abbrev pub PlaysKey : {V : Type 0} → (V → V → Bool) → Flights V → Pairs V → ℕ → Answered V → Point V → Outcome V → Whole V → Type 0
+abbrev pub PlaysKey : {V : Type 0} → (V → V → Bool) → Flights V → Pairs V → ℕ → Answered V → Point V → Outcome V → World V → Type 0
 PlaysKey same fs m who last p Running s = IsUndecided fs m who p s ⊎ IsDecided same fs m who last p s
 PlaysKey same fs m who last p (Asks found) s = IsUndecided fs m who p s
 PlaysKey same fs m who last p (Done d) s = IsDoneWith same fs m last p d s
@@ -145,18 +145,18 @@ pub record HasScanned {V : Type 0} (start end size count : ℕ) (m : Pairs V) (p
   pub scan : IsScan {V = V} start end size (m ∷ []) (take count places)
 
 -- a scan in flight, which leaves the pairs
-pub record IsScanning {V : Type 0} (fs : Flights V) (m : Pairs V) (who : ℕ) (s : Whole V) : Type 0 where
+pub record IsScanning {V : Type 0} (fs : Flights V) (m : Pairs V) (who : ℕ) (s : World V) : Type 0 where
   pub free : fs who ≡ Over
   pub flight : Flight V
   pub of_scan : IsOfScan flight
   pub in_flight : AreInFlight s (with_flight fs who flight)
   pub stand : IsMapOf (nodes s.forest) m
 
-abbrev pub IsScanDone : {V : Type 0} → Flights V → Pairs V → Answer V → Whole V → Type 0
+abbrev pub IsScanDone : {V : Type 0} → Flights V → Pairs V → Answer V → World V → Type 0
 IsScanDone fs m (done.Scanned count) s = KeepsAll fs m s
 IsScanDone fs m _ s = ⊥
 
-abbrev pub PlaysScan : {V : Type 0} → Flights V → Pairs V → ℕ → Outcome V → Whole V → Type 0
+abbrev pub PlaysScan : {V : Type 0} → Flights V → Pairs V → ℕ → Outcome V → World V → Type 0
 PlaysScan fs m who Running s = IsScanning fs m who s
 PlaysScan fs m who (Found place key value) s = IsScanning fs m who s
 PlaysScan fs m who (Done d) s = IsScanDone fs m d s
@@ -165,7 +165,7 @@ PlaysScan fs m who _ s = ⊥
 
 -- what a worker's call that stands so makes of the map: one on one key what the map makes of it; every other one leaves the
 -- pairs, and one of one step tells of them
-abbrev pub PlaysCall : {V : Type 0} → (V → V → Bool) → Flights V → Pairs V → ℕ → Answered V → Target V → Outcome V → Whole V → Type 0
+abbrev pub PlaysCall : {V : Type 0} → (V → V → Bool) → Flights V → Pairs V → ℕ → Answered V → Target V → Outcome V → World V → Type 0
 PlaysCall same fs m who last (target.Tree (point.Range start end size)) told s = PlaysScan fs m who told s
 PlaysCall same fs m who last (target.Tree (point.RangeInclusive start last_key size)) told s = PlaysScan fs m who told s
 PlaysCall same fs m who last (target.Tree p) told s = PlaysKey same fs m who last p told s
@@ -173,7 +173,7 @@ PlaysCall same fs m who last (target.Collector op) told s = KeepsAll fs m s
 PlaysCall same fs m who last (target.Survey k) told s = MapTells m k told × KeepsAll fs m s
 
 -- a whole call that answered this, to whose closure no answer came
-abbrev pub CallPlays : {V : Type 0} → (V → V → Bool) → Flights V → Pairs V → ℕ → Op V → Option (Report V) → Whole V → Type 0
+abbrev pub CallPlays : {V : Type 0} → (V → V → Bool) → Flights V → Pairs V → ℕ → Op V → Option (Report V) → World V → Type 0
 CallPlays same fs m who op None s = KeepsAll fs m s
 CallPlays same fs m who op (Some r) s = PlaysCall same fs m who None (target op) r.outcome s
 
@@ -191,5 +191,5 @@ reply_of (Some r) = reply_in r.outcome
 
 -- the map m answers this call so, where it is one on one key that asks no closure; its pairs stand then, and the calls in
 -- flight are those that were
-abbrev pub AnswersKey : {V : Type 0} → (V → V → Bool) → Flights V → Pairs V → Op V → Option (Report V) → Whole V → Type 0
+abbrev pub AnswersKey : {V : Type 0} → (V → V → Bool) → Flights V → Pairs V → Op V → Option (Report V) → World V → Type 0
 AnswersKey {V} same fs m o told s = (c : Entered V) (r : Reply V) → asked_of o ≡ Some c → reply_of told ≡ Some r → (r ≡ (answer same m c).0) × KeepsAll fs (answer same m c).1 s

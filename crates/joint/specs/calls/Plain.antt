@@ -17,8 +17,8 @@ use Rattle.congee.specs.protocol.Alike.{Ordered, HeapAlike, CallAlike, Longer}
 use Rattle.congee.specs.protocol.PlainSteps.{Mark, put, new_node, Plain, with_call, call_after, Went, plain_step}
 use Rattle.congee.specs.protocol.Play.{begun}
 use Rattle.judge.specs.Answer.{Pairs}
-use Rattle.joint.specs.declared.engine.in_flight.Call.{Call}
-use Rattle.joint.specs.declared.engine.in_flight.Call.TheVariants.{Idle, Collecting, Reserving, Securing, Walking}
+use Rattle.joint.specs.declared.engine.in_flight.InFlight.{InFlight}
+use Rattle.joint.specs.declared.engine.in_flight.InFlight.TheVariants.{Idle, Collecting, Reserving, Securing, Walking}
 use Rattle.joint.specs.declared.id.Id.{Id}
 use Rattle.joint.specs.declared.refusal.Refusal.{Refusal}
 use Rattle.joint.specs.declared.refusal.Refusal.TheVariants.{Exhausted}
@@ -34,11 +34,11 @@ use Rattle.joint.specs.declared.steps.Step.{Step}
 use Rattle.joint.specs.declared.steps.Survey.{Survey}
 use Rattle.joint.specs.declared.steps.Target.{Target}
 use Rattle.joint.specs.declared.steps.Target.TheVariants as target
-use Rattle.joint.specs.nodes.Forest.{nodes}
+use Rattle.joint.specs.nodes.Nodes.{nodes}
 use Rattle.joint.specs.Reports.{target, told}
 use Rattle.joint.specs.engine.Surveys.{TellsOf}
 use Rattle.joint.specs.nodes.View.{id_number}
-use Rattle.joint.specs.engine.Engine.{Whole, finds_none}
+use Rattle.joint.specs.engine.Engine.{World, finds_none}
 
 -- what happens in a step on the tree: a call begins, a call of one step tells, or a call goes on. Each name that an event
 -- tells of a changed node is one mark, since none is followed
@@ -168,7 +168,7 @@ AreUnrefused [] = Unit {0}
 AreUnrefused (r ∷ rs) = IsUnhindered r × AreUnrefused rs
 
 -- a worker's call, and the same one by numbers: a writing call that still makes its places free hasn't begun on the tree
-abbrev pub InPlain : {V : Type 0} → List ℕ → (ℕ → Node V) → Call V → Machine Id V → Machine ℕ V → Type 0
+abbrev pub InPlain : {V : Type 0} → List ℕ → (ℕ → Node V) → InFlight V → Machine Id V → Machine ℕ V → Type 0
 InPlain order h Idle m q = Unit {0}
 InPlain order h (Collecting op) m q = Unit {0}
 InPlain order h (Reserving op) m q = q ≡ begun 0 op
@@ -177,20 +177,20 @@ InPlain order h Walking m q = CallAlike order id_number h m q
 
 -- the machine's nodes in the order in which they were made; so a state of the plain run agrees with that of the machine: by
 -- number on the nodes that aren't destroyed, and on the calls in flight
-pub record Agree {V : Type 0} (s : Whole V) (order : List ℕ) (p : Plain V) : Type 0 where
+pub record Agree {V : Type 0} (s : World V) (order : List ℕ) (p : Plain V) : Type 0 where
   pub ordered : Ordered order (nodes s.forest)
   pub root : slice_get order 0 ≡ Some 0
   pub made : p.made ≡ length order
   pub heap : HeapAlike order (nodes s.forest) p.heap
-  pub calls : (i : ℕ) (k : Call V) (m : Machine Id V) → slice_get s.calls i ≡ Some k → slice_get s.machines i ≡ Some m → InPlain order (nodes s.forest) k m (p.calls i)
+  pub calls : (i : ℕ) (k : InFlight V) (m : Machine Id V) → slice_get s.calls i ≡ Some k → slice_get s.machines i ≡ Some m → InPlain order (nodes s.forest) k m (p.calls i)
 
 -- a step leaves both agreeing: one on the tree moves both and tells what the plain run's tells, any other leaves that as it is
-abbrev pub FollowsStep : {V : Type 0} → (V → V → Bool) → ℕ → Option (TreeStep V) → Whole V → Report V → List ℕ → Plain V → Type 0
+abbrev pub FollowsStep : {V : Type 0} → (V → V → Bool) → ℕ → Option (TreeStep V) → World V → Report V → List ℕ → Plain V → Type 0
 FollowsStep same most None s r order p = Agree s order p
 FollowsStep same most (Some t) s r order p = StepTells same most p t r × ((now : List ℕ) × Longer order now × Agree s now (step_after same most p t))
 
 -- a run of these steps, which told this, told on the tree what the plain run of its projection tells, and leaves both agreeing
-pub record FollowsRun {V : Type 0} (same : V → V → Bool) (most : ℕ) (steps : List (Step V)) (reports : List (Report V)) (s : Whole V) (order : List ℕ) (p : Plain V) : Type 0 where
+pub record FollowsRun {V : Type 0} (same : V → V → Bool) (most : ℕ) (steps : List (Step V)) (reports : List (Report V)) (s : World V) (order : List ℕ) (p : Plain V) : Type 0 where
   pub told : AreTold same most p (projection steps reports) (answers steps reports)
   pub now : List ℕ
   pub longer : Longer order now

@@ -9,15 +9,15 @@ use Rattle.joint.specs.engine.Census.{waiting_nodes}
 use Rattle.joint.specs.calls.Plain.{AreTold, AreUnrefused, answers, opened_plain, projection}
 use Rattle.joint.specs.calls.Rounds.{IsQuiet, Round, AreRounds, steps_in, bags_left, rounds_wanted, CameBack}
 use Rattle.joint.specs.calls.Runs.{Taken, after_all, IsRun, RunsMap, AllSpare}
-use Rattle.joint.specs.engine.Engine.{Whole}
+use Rattle.joint.specs.engine.Engine.{World}
 use Rattle.joint.specs.engine.Flying.{no_flights}
 use Rattle.joint.specs.calls.Scans.{ScansHold, EmptyScansHold}
-use Rattle.joint.specs.world.Whole.{IsNew}
+use Rattle.joint.specs.world.World.{IsNew}
 
 -- a run of these steps, which told this, from the opening of an index with these limits to the state s'
-pub record KeepsPromises {V : Type 0} (same : V → V → Bool) (always : Bool) (limits : Limits) (steps : List (Step V)) (reports : List (Report V)) (s' : Whole V) : Type 0 where
+pub record KeepsPromises {V : Type 0} (same : V → V → Bool) (always : Bool) (limits : Limits) (steps : List (Step V)) (reports : List (Report V)) (s' : World V) : Type 0 where
   -- the index as it was opened
-  pub opened : Whole V
+  pub opened : World V
   pub is_new : IsNew limits opened
   -- the calls on single keys that took effect answer as one ordered map, in the order of their deciding steps, each within
   -- its call

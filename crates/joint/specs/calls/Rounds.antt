@@ -7,7 +7,7 @@ use Rattle.crossbeam_epoch.specs.declared.bag.Entry.{Entry as Job}
 use Rattle.crossbeam_epoch.specs.declared.bag.Work.TheVariants.{Remove}
 use Rattle.congee.specs.declared.protocol.machine.Noise.{Noise}
 use Rattle.congee.specs.Heap.{Stands}
-use Rattle.joint.specs.declared.engine.in_flight.Call.TheVariants.{Idle}
+use Rattle.joint.specs.declared.engine.in_flight.InFlight.TheVariants.{Idle}
 use Rattle.joint.specs.declared.id.Id.{Id}
 use Rattle.joint.specs.declared.steps.Done.TheVariants as done
 use Rattle.joint.specs.declared.steps.Event.TheVariants.{Begin, Go}
@@ -15,14 +15,14 @@ use Rattle.joint.specs.declared.steps.Op.{Op}
 use Rattle.joint.specs.declared.steps.Op.TheVariants.{Pin, Unpin, Flush}
 use Rattle.joint.specs.declared.steps.Outcome.{Outcome}
 use Rattle.joint.specs.declared.steps.Outcome.TheVariants.{Running, Done}
-use Rattle.joint.specs.nodes.Forest.{nodes}
+use Rattle.joint.specs.nodes.Nodes.{nodes}
 use Rattle.joint.specs.Names.{named}
 use Rattle.joint.specs.calls.Runs.{Taken, after_all}
 use Rattle.joint.specs.world.Whereabouts.{IsInTree, IsWaiting}
-use Rattle.joint.specs.engine.Engine.{Whole, place_of}
+use Rattle.joint.specs.engine.Engine.{World, place_of}
 
 -- every registered worker is between calls and unpinned, and the epoch is at least three below its greatest
-pub record IsQuiet {V : Type 0} (s : Whole V) : Type 0 where
+pub record IsQuiet {V : Type 0} (s : World V) : Type 0 where
   pub idle : (i : ℕ) → (place_of s i).registered ≡ true → slice_get s.calls i ≡ Some Idle
   pub unpinned : (i : ℕ) → (place_of s i).registered ≡ true → (place_of s i).word ≡ None
   pub far : s.forest.collector.epoch + 3 ≤ s.forest.collector.limits.epoch_max
@@ -58,7 +58,7 @@ steps_in [] = []
 steps_in (r ∷ rs) = (r.pin ++ (r.flush ++ r.unpin)) ++ steps_in rs
 
 -- the bags that are queued after the first flush
-abbrev pub bags_left : {V : Type 0} → Whole V → List (Round V) → ℕ
+abbrev pub bags_left : {V : Type 0} → World V → List (Round V) → ℕ
 bags_left s [] = length s.forest.collector.queue
 bags_left s (r ∷ rs) = length (after_all s (r.pin ++ r.flush)).forest.collector.queue
 
@@ -67,7 +67,7 @@ abbrev pub rounds_wanted : ℕ → ℕ
 rounds_wanted bags = 2 + div_ceil bags most_bags
 
 -- the node waits, and its removal is in the unsealed bag of another registered worker
-pub record IsLeft {V : Type 0} (s : Whole V) (who n : ℕ) : Type 0 where
+pub record IsLeft {V : Type 0} (s : World V) (who n : ℕ) : Type 0 where
   pub waits : IsWaiting s n
   pub worker : ℕ
   pub other : worker ≢ who
@@ -77,6 +77,6 @@ pub record IsLeft {V : Type 0} (s : Whole V) (who n : ℕ) : Type 0 where
   pub removal : job.work ≡ Remove (named n)
 
 -- memory came back: each node that stands is in the tree, or is left in such a bag, and no bag has more than 64
-pub record CameBack {V : Type 0} (s : Whole V) (who : ℕ) : Type 0 where
+pub record CameBack {V : Type 0} (s : World V) (who : ℕ) : Type 0 where
   pub each : (n : ℕ) → Stands (nodes s.forest n) → IsInTree s n ⊎ IsLeft s who n
   pub few : (i : ℕ) → length (place_of s i).bag ≤ bag_places

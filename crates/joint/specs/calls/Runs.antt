@@ -7,29 +7,29 @@ use Rattle.congee.specs.Keys.{IsMapOf}
 use Rattle.joint.specs.declared.steps.Report.{Report}
 use Rattle.joint.specs.declared.steps.Step.{Step}
 use Rattle.joint.specs.engine.Flying.{Flights, AreInFlight}
-use Rattle.joint.specs.nodes.Forest.{nodes}
-use Rattle.joint.specs.world.Whole.{Holds, IsStep}
-use Rattle.joint.specs.engine.Engine.{Whole, SparesUsed}
+use Rattle.joint.specs.nodes.Nodes.{nodes}
+use Rattle.joint.specs.world.World.{Holds, IsStep}
+use Rattle.joint.specs.engine.Engine.{World, SparesUsed}
 use Rattle.joint.specs.world.MapSteps.{Line, MapStep, looks_up}
 
 -- a step that was taken, with what it told and the state after it
 pub record Taken (V : Type 0) : Type 0 where
   pub step : Step V
   pub report : Report V
-  pub after : Whole V
+  pub after : World V
 
 -- steps taken one after another
-abbrev pub AreTaken : {V : Type 0} → (V → V → Bool) → Bool → Whole V → List (Taken V) → Type 0
+abbrev pub AreTaken : {V : Type 0} → (V → V → Bool) → Bool → World V → List (Taken V) → Type 0
 AreTaken same always s [] = Unit {0}
 AreTaken same always s (t ∷ ts) = IsStep same always s t.step t.report t.after × AreTaken same always t.after ts
 
 -- the state after them
-abbrev pub after_all : {V : Type 0} → Whole V → List (Taken V) → Whole V
+abbrev pub after_all : {V : Type 0} → World V → List (Taken V) → World V
 after_all s [] = s
 after_all s (t ∷ ts) = after_all t.after ts
 
 -- a run of these steps, which told this, from one state to another
-pub record IsRun {V : Type 0} (same : V → V → Bool) (always : Bool) (s : Whole V) (steps : List (Step V)) (reports : List (Report V)) (s' : Whole V) : Type 0 where
+pub record IsRun {V : Type 0} (same : V → V → Bool) (always : Bool) (s : World V) (steps : List (Step V)) (reports : List (Report V)) (s' : World V) : Type 0 where
   pub taken : List (Taken V)
   pub each : AreTaken same always s taken
   pub steps_are : map (λ t. t.step) taken ≡ steps
@@ -70,7 +70,7 @@ AreLines (t ∷ ts) [] = ⊥
 AreLines (t ∷ ts) (l ∷ ls) = IsLine t l × AreLines ts ls
 
 -- what a list of steps makes of the pairs m that stood, to those that stand at its end, and of the calls in flight
-pub record PlaysMap {V : Type 0} (same : V → V → Bool) (fs : Flights V) (m : Pairs V) (s : Whole V) (taken : List (Taken V)) : Type 0 where
+pub record PlaysMap {V : Type 0} (same : V → V → Bool) (fs : Flights V) (m : Pairs V) (s : World V) (taken : List (Taken V)) : Type 0 where
   pub lines : List (Line V)
   pub flights : Flights V
   pub are_lines : AreLines taken lines
@@ -84,13 +84,13 @@ AllHold same always [] = Unit {0}
 AllHold same always (t ∷ ts) = Holds same always t.after × AllHold same always ts
 
 -- and no step destroys a node in use
-abbrev pub AllSpare : {V : Type 0} → Whole V → List (Taken V) → Type 0
+abbrev pub AllSpare : {V : Type 0} → World V → List (Taken V) → Type 0
 AllSpare s [] = Unit {0}
 AllSpare s (t ∷ ts) = SparesUsed s t.step.worker t.after × AllSpare t.after ts
 
 -- what a run of these steps, which told this, makes of the pairs m that stood and of the calls in flight: it is a map's
 -- run, and its entries are legal from m to the pairs that stand at its end
-pub record RunsMap {V : Type 0} (same : V → V → Bool) (fs : Flights V) (m : Pairs V) (steps : List (Step V)) (reports : List (Report V)) (s' : Whole V) : Type 0 where
+pub record RunsMap {V : Type 0} (same : V → V → Bool) (fs : Flights V) (m : Pairs V) (steps : List (Step V)) (reports : List (Report V)) (s' : World V) : Type 0 where
   pub lines : List (Line V)
   pub flights : Flights V
   pub steps_are : map (λ l. l.step) lines ≡ steps
@@ -117,7 +117,7 @@ KeepsWrites (l ∷ ls) = KeepsWrite l × KeepsWrites ls
 
 -- what a run makes of the map and of the journal: that goes on with the entries of the writing calls that took effect in it
 -- and of the look-ups that were kept, in deciding order
-pub record RunsJournal {V : Type 0} (same : V → V → Bool) (fs : Flights V) (m : Pairs V) (s : Whole V) (steps : List (Step V)) (reports : List (Report V)) (s' : Whole V) : Type 0 where
+pub record RunsJournal {V : Type 0} (same : V → V → Bool) (fs : Flights V) (m : Pairs V) (s : World V) (steps : List (Step V)) (reports : List (Report V)) (s' : World V) : Type 0 where
   pub runs : RunsMap same fs m steps reports s'
   pub entries : s'.log.entries ≡ s.log.entries ++ kept_entries runs.lines
   pub writes : 0 < s.log.places → KeepsWrites runs.lines

@@ -9,9 +9,9 @@ use Rattle.congee.specs.Keys.{key_bytes}
 use Rattle.joint.specs.declared.steps.Op.{Op}
 use Rattle.joint.specs.declared.steps.Report.{Report}
 use Rattle.joint.specs.calls.Calling.{IsCalled}
-use Rattle.joint.specs.nodes.Forest.{nodes}
+use Rattle.joint.specs.nodes.Nodes.{nodes}
 use Rattle.joint.specs.calls.MapCalls.{reply_of}
-use Rattle.joint.specs.engine.Engine.{Whole}
+use Rattle.joint.specs.engine.Engine.{World}
 
 -- the map that has at each key below a bound what this function has there, and nothing from the bound on
 unfoldable pub pairs_below : {V : Type 0} → (ℕ → Option V) → ℕ → Pairs V
@@ -23,7 +23,7 @@ unfoldable pub the_pairs : {V : Type 0} → (ℕ → Node V) → Pairs V
 the_pairs h = pairs_below (λ k. value_at h (key_bytes k)) (2 ^ 64)
 
 -- and in the machine
-abbrev pub pairs_of : {V : Type 0} → Whole V → Pairs V
+abbrev pub pairs_of : {V : Type 0} → World V → Pairs V
 pairs_of s = the_pairs (nodes s.forest)
 
 -- where a call on one key that asks no closure has ended with this reply: the map m answers it so, the next map has at the
@@ -34,5 +34,5 @@ AnswersAs same (Some r) None m m' = Unit {0}
 AnswersAs same (Some r) (Some c) m m' = (r ≡ (answer same m c).0) × (get m' (key_of c) ≡ leaves same c (get m (key_of c))) × (m' ≡ (answer same m c).1)
 
 -- the reply of a whole call that was given no places, if its last report has one
-abbrev pub IsReplied : {V : Type 0} → (V → V → Bool) → Bool → Whole V → ℕ → Op V → ℕ → Option (Reply V) → Whole V → Type 0
+abbrev pub IsReplied : {V : Type 0} → (V → V → Bool) → Bool → World V → ℕ → Op V → ℕ → Option (Reply V) → World V → Type 0
 IsReplied {V} same always s who op most result s' = (told : Option (Report V)) × (places : List (ℕ × V)) × IsCalled same always s who op most [] told places s' × (result ≡ reply_of told)

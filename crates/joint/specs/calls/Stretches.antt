@@ -13,10 +13,10 @@ use Rattle.joint.specs.declared.id.Id.{Id}
 use Rattle.joint.specs.declared.steps.Event.{Event}
 use Rattle.joint.specs.declared.steps.Event.TheVariants.{Begin, Go}
 use Rattle.joint.specs.declared.steps.Op.TheVariants.{Unpin}
-use Rattle.joint.specs.nodes.Forest.{nodes}
+use Rattle.joint.specs.nodes.Nodes.{nodes}
 use Rattle.joint.specs.calls.Runs.{Taken}
 use Rattle.joint.specs.nodes.View.{id_number}
-use Rattle.joint.specs.engine.Engine.{Whole, misuse, place_of}
+use Rattle.joint.specs.engine.Engine.{World, misuse, place_of}
 
 -- a pin or a repin publishes in its participant's next step
 abbrev pub publishes : Phase → Bool
@@ -30,24 +30,24 @@ turns_stretch (Begin Unpin) p = nat_le p.guards 1
 turns_stretch (Go noise) p = publishes p.phase
 turns_stretch _ p = false
 
-pub record EndsStretch {V : Type 0} (who : ℕ) (s : Whole V) (t : Taken V) : Type 0 where
+pub record EndsStretch {V : Type 0} (who : ℕ) (s : World V) (t : Taken V) : Type 0 where
   pub worker : t.step.worker ≡ who
   pub accepted : misuse s who t.step.event ≡ None
   pub turns : turns_stretch t.step.event (place_of s who) ≡ true
 
 -- the worker's call has the name of the node, which it hasn't made: it was read in a node above, and checked there
-pub record HasChecked {V : Type 0} (s : Whole V) (who n : ℕ) : Type 0 where
+pub record HasChecked {V : Type 0} (s : World V) (who n : ℕ) : Type 0 where
   pub call : Machine Id V
   pub here : slice_get s.machines who ≡ Some call
   pub named : Contains (names id_number call.phase) n
   pub unmade : MadeBy id_number call.phase n → ⊥
 
 -- the worker is pinned, and the node is in the tree or was checked by the worker's call
-pub record SeesNode {V : Type 0} (s : Whole V) (who n : ℕ) : Type 0 where
+pub record SeesNode {V : Type 0} (s : World V) (who n : ℕ) : Type 0 where
   pub pinned : is_some (place_of s who).word ≡ true
   pub sees : InTree (nodes s.forest) n ⊎ HasChecked s who n
 
 -- the node stands after each step, until the worker's stretch ends
-abbrev pub StandsOn : {V : Type 0} → ℕ → ℕ → Whole V → List (Taken V) → Type 0
+abbrev pub StandsOn : {V : Type 0} → ℕ → ℕ → World V → List (Taken V) → Type 0
 StandsOn who n s [] = Unit {0}
 StandsOn who n s (t ∷ ts) = EndsStretch who s t ⊎ (Stands (nodes t.after.forest n) × StandsOn who n t.after ts)

@@ -10,7 +10,7 @@ use Rattle.joint.specs.declared.steps.Outcome.{Outcome}
 use Rattle.joint.specs.declared.steps.Outcome.TheVariants.{Asks}
 use Rattle.joint.specs.calls.Alone.{OthersUnlocked, AllInFlight, steps_alone}
 use Rattle.joint.specs.calls.Runs.{Taken}
-use Rattle.joint.specs.engine.Engine.{Whole, is_busy}
+use Rattle.joint.specs.engine.Engine.{World, is_busy}
 
 abbrev pub is_question : {V : Type 0} → Outcome V → Bool
 is_question (Asks found) = true
@@ -52,15 +52,15 @@ AreNextTold who op told (t ∷ ts) = IsNextTold who op told t × AreNextTold who
 
 -- a step and those after it: where it begins a call while no other call holds a lock, and the first n of those after it are
 -- the call's next ones, so many steps don't leave it in flight
-abbrev pub EndsAloneTold : {V : Type 0} → Whole V → Taken V → List (Taken V) → Type 0
+abbrev pub EndsAloneTold : {V : Type 0} → World V → Taken V → List (Taken V) → Type 0
 EndsAloneTold {V} s t ts = (who n : ℕ) (op : Op V) → t.step ≡ record { worker = who; event = Begin op } → OthersUnlocked s who → AreNextTold who op t.report.outcome (take n ts) → AllInFlight (t ∷ take n ts)
     → length (t ∷ take n ts) < steps_alone s op
 
 -- of each step of a run
-abbrev pub AllEndAloneTold : {V : Type 0} → Whole V → List (Taken V) → Type 0
+abbrev pub AllEndAloneTold : {V : Type 0} → World V → List (Taken V) → Type 0
 AllEndAloneTold s [] = Unit {0}
 AllEndAloneTold s (t ∷ ts) = EndsAloneTold s t ts × AllEndAloneTold t.after ts
 
 -- no other worker has a call in flight
-abbrev pub OthersIdle : {V : Type 0} → Whole V → ℕ → Type 0
+abbrev pub OthersIdle : {V : Type 0} → World V → ℕ → Type 0
 OthersIdle s who = (i : ℕ) → i ≢ who → is_busy (slice_get s.calls i) ≡ false

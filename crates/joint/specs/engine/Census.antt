@@ -15,11 +15,11 @@ use Rattle.joint.specs.declared.engine.census.Census.{Census}
 use Rattle.joint.specs.declared.engine.census.Change.{Change}
 use Rattle.joint.specs.declared.engine.census.Change.TheVariants.{More, Fewer, Same}
 use Rattle.joint.specs.declared.id.Id.{Id}
-use Rattle.joint.specs.nodes.Forest.{Forest, nodes}
+use Rattle.joint.specs.nodes.Nodes.{Nodes, nodes}
 use Rattle.joint.specs.nodes.Listing.{bytes_of, handed_nodes}
 use Rattle.joint.specs.engine.Journaling.{in_list}
 use Rattle.joint.specs.nodes.View.{id_number}
-use Rattle.joint.specs.engine.Engine.{Whole}
+use Rattle.joint.specs.engine.Engine.{World}
 
 -- the nodes that a call has taken out of the tree and not yet handed over
 abbrev pub taken : {V : Type 0} → Phase Id V → List Id
@@ -31,7 +31,7 @@ abbrev pub taken_by : {V : Type 0} → Machine Id V → List ℕ
 taken_by m = map id_number (taken m.phase)
 
 -- the counts are those of the pairs that stand and of the nodes that calls have taken out and not yet handed over
-pub record AreCounted {V : Type 0} (k : Census) (s : Forest V) (ms : List (Machine Id V)) : Type 0 where
+pub record AreCounted {V : Type 0} (k : Census) (s : Nodes V) (ms : List (Machine Id V)) : Type 0 where
   pub pairs : Pairs V
   pub stand : IsMapOf (nodes s) pairs
   pub count : k.pairs ≡ len pairs
@@ -86,5 +86,5 @@ taken_at None = []
 taken_at (Some m) = taken_by m
 
 -- the nodes that wait: those that were handed over, and those that calls have taken out and not yet handed over
-abbrev pub waiting_nodes : {V : Type 0} → Whole V → List ℕ
+abbrev pub waiting_nodes : {V : Type 0} → World V → List ℕ
 waiting_nodes s = handed_nodes s.forest ++ flat_map taken_by s.machines

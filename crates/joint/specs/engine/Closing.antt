@@ -7,24 +7,24 @@ use Rattle.congee.specs.Keys.{IsMapOf}
 use Rattle.joint.specs.declared.nodes.account.Account.{Account}
 use Rattle.joint.specs.declared.refusal.Refusal.{Refusal}
 use Rattle.joint.specs.declared.refusal.Refusal.TheVariants.{WorkersLeft}
-use Rattle.joint.specs.nodes.Forest.{nodes}
-use Rattle.joint.specs.engine.Engine.{Whole}
+use Rattle.joint.specs.nodes.Nodes.{nodes}
+use Rattle.joint.specs.engine.Engine.{World}
 use Rattle.joint.specs.nodes.Draining.{Drained}
 
 -- what came in with the allocator: what it had charged before the first node, and its limit
-abbrev pub account_of : {V : Type 0} → Whole V → Account
+abbrev pub account_of : {V : Type 0} → World V → Account
 account_of s = record { charged = s.forest.base; limit = s.forest.limit }
 
 -- no worker was registered; the drainer took each pair, in ascending order of the keys, and the allocator has the charge
 -- with which it came, and its limit
-pub record IsClosed {V D : Type 0} (drains : D → ℕ → V → D → Type 0) (s : Whole V) (before : D) (charge limit : ℕ) (after : D) : Type 0 where
+pub record IsClosed {V D : Type 0} (drains : D → ℕ → V → D → Type 0) (s : World V) (before : D) (charge limit : ℕ) (after : D) : Type 0 where
   pub no_worker : registered_in s.forest.collector ≡ 0
   pub drained : (m : Pairs V) → IsMapOf (nodes s.forest) m → Drained drains before (entries m) after
   pub charge_is : charge ≡ s.forest.base
   pub limit_is : limit ≡ s.forest.limit
 
 -- workers were registered, and all comes back as it was
-pub record IsNotClosed {V D : Type 0} (s : Whole V) (before : D) (e : Refusal) (s' : Whole V) (after : D) : Type 0 where
+pub record IsNotClosed {V D : Type 0} (s : World V) (before : D) (e : Refusal) (s' : World V) (after : D) : Type 0 where
   pub workers : 0 < registered_in s.forest.collector
   pub why : e ≡ WorkersLeft (registered_in s.forest.collector)
   pub state : s' ≡ s

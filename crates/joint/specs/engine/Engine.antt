@@ -22,8 +22,8 @@ use Rattle.congee.specs.protocol.Holdings.{MadeBy}
 use Rattle.congee.specs.protocol.Names.{names}
 use Rattle.congee.specs.protocol.Play.{begun}
 use Rattle.congee.specs.protocol.Opening.{RootAlone}
-use Rattle.joint.specs.declared.engine.in_flight.Call.{Call}
-use Rattle.joint.specs.declared.engine.in_flight.Call.TheVariants.{Idle, Collecting, Reserving, Securing, Walking}
+use Rattle.joint.specs.declared.engine.in_flight.InFlight.{InFlight}
+use Rattle.joint.specs.declared.engine.in_flight.InFlight.TheVariants.{Idle, Collecting, Reserving, Securing, Walking}
 use Rattle.joint.specs.declared.id.Id.{Id}
 use Rattle.joint.specs.declared.refusal.Refusal.TheVariants.{TableFull}
 use Rattle.joint.specs.declared.steps.Event.{Event}
@@ -39,35 +39,35 @@ use Rattle.joint.specs.declared.steps.Survey.{Survey}
 use Rattle.joint.specs.declared.steps.Survey.TheVariants as survey
 use Rattle.joint.specs.declared.steps.Target.{Target}
 use Rattle.joint.specs.declared.steps.Target.TheVariants as target
-use Rattle.joint.specs.nodes.Forest.{Forest, nodes, total, with_collector, IsCharged}
+use Rattle.joint.specs.nodes.Nodes.{Nodes, nodes, total, with_collector, IsCharged}
 use Rattle.joint.specs.engine.Intact.{IsIntact, BeginsSecuring, Secured, WalkedOn, call_after, over_at, root}
 use Rattle.joint.specs.engine.Log.{Log, no_log}
-use Rattle.joint.specs.engine.Machines.{Collected}
+use Rattle.joint.specs.engine.Safety.{Collected}
 use Rattle.joint.specs.Refusals.{of_fault}
 use Rattle.joint.specs.Reports.{target, told, collected}
 use Rattle.joint.specs.engine.Surveys.{TellsOf}
 use Rattle.joint.specs.nodes.View.{id_number}
 
 -- the nodes in the collector's cells, and for each worker its call on the tree and its call in flight
-pub record Whole (V : Type 0) : Type 0 where
-  pub forest : Forest V
+pub record World (V : Type 0) : Type 0 where
+  pub forest : Nodes V
   pub machines : List (Machine Id V)
-  pub calls : List (Call V)
+  pub calls : List (InFlight V)
   -- what is written down of the calls
   pub log : Log V
 
 -- the machine beside what it writes down
-abbrev pub whole : {V : Type 0} → Forest V → List (Machine Id V) → List (Call V) → Whole V
-whole s ms ks = record { forest = s; machines = ms; calls = ks; log = no_log }
+abbrev pub without_log : {V : Type 0} → Nodes V → List (Machine Id V) → List (InFlight V) → World V
+without_log s ms ks = record { forest = s; machines = ms; calls = ks; log = no_log }
 
-abbrev pub engine_of : {V : Type 0} → Whole V → Whole V
-engine_of s = whole s.forest s.machines s.calls
+abbrev pub engine_of : {V : Type 0} → World V → World V
+engine_of s = without_log s.forest s.machines s.calls
 
-abbrev pub place_of : {V : Type 0} → Whole V → ℕ → Participant (Unit {0})
+abbrev pub place_of : {V : Type 0} → World V → ℕ → Participant (Unit {0})
 place_of s who = place s.forest.collector who
 
 -- whether the worker has a call in flight
-abbrev pub is_busy : {V : Type 0} → Option (Call V) → Bool
+abbrev pub is_busy : {V : Type 0} → Option (InFlight V) → Bool
 is_busy None = false
 is_busy (Some Idle) = false
 is_busy (Some (Collecting op)) = true
@@ -90,16 +90,16 @@ interruption (target.Tree op) = fault.Busy
 interruption (target.Survey k) = fault.Busy
 
 -- why a begin is refused before anything is done, the first cause of several
-abbrev pub begin_misuse : {V J : Type 0} → Target V → Option (Call V) → Participant J → Option Fault
+abbrev pub begin_misuse : {V J : Type 0} → Target V → Option (InFlight V) → Participant J → Option Fault
 begin_misuse t call p = if p.registered then (if is_busy call then Some (interruption t) else unready t p) else Some fault.Unknown
 
 -- and why a step is
-abbrev pub misuse_at : {V J : Type 0} → Event V → Option (Call V) → Participant J → Option Fault
+abbrev pub misuse_at : {V J : Type 0} → Event V → Option (InFlight V) → Participant J → Option Fault
 misuse_at Register call p = None
 misuse_at (Begin op) call p = begin_misuse (target op) call p
 misuse_at (Go noise) call p = if p.registered then (if is_busy call then None else Some fault.Idle) else Some fault.Unknown
 
-abbrev pub misuse : {V : Type 0} → Whole V → ℕ → Event V → Option Fault
+abbrev pub misuse : {V : Type 0} → World V → ℕ → Event V → Option Fault
 misuse s who event = misuse_at event (slice_get s.calls who) (place_of s who)
 
 -- a step that begins a call on the tree is one of the tree
@@ -123,24 +123,24 @@ one_if None = 0
 one_if (Some n) = 1
 
 -- the nodes that a step of the collector destroyed, by the job that it called
-abbrev pub destroyed_by : Option (ℕ × Option Name) → ℕ
-destroyed_by None = 0
-destroyed_by (Some job) = one_if job.1
+abbrev pub destroyed_count : Option (ℕ × Option Name) → ℕ
+destroyed_count None = 0
+destroyed_count (Some job) = one_if job.1
 
 -- the report of a step of the collector, from what the collector tells
 abbrev pub collection : {V : Type 0} → Collection → Outcome V → Report V
-collection c outcome = record { kind = OfCollector; decided = false; kept = false; skipped = false; destroyed = destroyed_by c.called; outcome = outcome }
+collection c outcome = record { kind = OfCollector; decided = false; kept = false; skipped = false; destroyed = destroyed_count c.called; outcome = outcome }
 
 -- the nodes that stand
-abbrev pub standing : {V : Type 0} → Forest V → ℕ
+abbrev pub standing : {V : Type 0} → Nodes V → ℕ
 standing s = total (λ slot. 1) s.collector.store
 
 -- the report of a step of a call on the tree; no step both makes and destroys nodes
-abbrev pub walk : {V : Type 0} → Forest V → Move V → Forest V → Report V
+abbrev pub walk : {V : Type 0} → Nodes V → Move V → Nodes V → Report V
 walk s d s' = record { kind = Tree; decided = d.decided; kept = false; skipped = d.skipped; destroyed = standing s - standing s'; outcome = told d.outcome }
 
 -- a worker takes the lowest free place, where there is one
-pub record Registers {V : Type 0} (s : Whole V) (n : ℕ) (r : Report V) (s' : Whole V) : Type 0 where
+pub record Registers {V : Type 0} (s : World V) (n : ℕ) (r : Report V) (s' : World V) : Type 0 where
   pub inside : n < length s.forest.collector.table
   pub free : (place_of s n).registered ≡ false
   pub lowest : (q : ℕ) → q < n → (place_of s q).registered ≡ true
@@ -148,13 +148,13 @@ pub record Registers {V : Type 0} (s : Whole V) (n : ℕ) (r : Report V) (s' : W
   pub state : s' ≡ record s { forest = with_collector s.forest (registered s.forest.collector n) }
 
 -- and is refused where there is none
-pub record FindsNoPlace {V : Type 0} (s : Whole V) (r : Report V) (s' : Whole V) : Type 0 where
+pub record FindsNoPlace {V : Type 0} (s : World V) (r : Report V) (s' : World V) : Type 0 where
   pub full : (q : ℕ) → q < length s.forest.collector.table → (place_of s q).registered ≡ true
   pub report : r ≡ quiet OfCollector (Refused TableFull)
   pub state : s' ≡ s
 
 -- a call on the collector begins, or goes on, until it ends
-pub record Collects {V : Type 0} (same : V → V → Bool) (always : Bool) (s : Whole V) (who : ℕ) (event : Turn) (call : Call V) (r : Report V) (s' : Whole V) : Type 0 where
+pub record Collects {V : Type 0} (same : V → V → Bool) (always : Bool) (s : World V) (who : ℕ) (event : Turn) (call : InFlight V) (r : Report V) (s' : World V) : Type 0 where
   pub turn : Collection
   pub step : Collected same always s.forest s.machines who event turn s'.forest
   pub machines : s'.machines ≡ s.machines
@@ -162,7 +162,7 @@ pub record Collects {V : Type 0} (same : V → V → Bool) (always : Bool) (s : 
   pub report : r ≡ collection turn (collected turn.outcome)
 
 -- a reading call begins on the tree
-pub record Enters {V : Type 0} (s : Whole V) (who : ℕ) (op : Point V) (r : Report V) (s' : Whole V) : Type 0 where
+pub record Enters {V : Type 0} (s : World V) (who : ℕ) (op : Point V) (r : Report V) (s' : World V) : Type 0 where
   pub state : s' ≡ record s { machines = slice_set s.machines who (begun root op); calls = slice_set s.calls who Walking }
   pub report : r ≡ quiet Tree Running
 
@@ -173,16 +173,16 @@ finds_none (point.RangeInclusive start last size) = cond (leb start last) (size 
 finds_none _ = false
 
 -- it ends as it begins
-pub record ScansNothing {V : Type 0} (s : Whole V) (r : Report V) (s' : Whole V) : Type 0 where
+pub record ScansNothing {V : Type 0} (s : World V) (r : Report V) (s' : World V) : Type 0 where
   pub state : s' ≡ s
   pub report : r ≡ quiet Tree (Done (Scanned 0))
 
-abbrev pub EntersUnless : {V : Type 0} → Bool → Whole V → ℕ → Point V → Report V → Whole V → Type 0
+abbrev pub EntersUnless : {V : Type 0} → Bool → World V → ℕ → Point V → Report V → World V → Type 0
 EntersUnless true s who op r s' = ScansNothing s r s'
 EntersUnless false s who op r s' = Enters s who op r s'
 
 -- a writing call begins
-pub record Reserves {V : Type 0} (s : Whole V) (who : ℕ) (op : Point V) (r : Report V) (s' : Whole V) : Type 0 where
+pub record Reserves {V : Type 0} (s : World V) (who : ℕ) (op : Point V) (r : Report V) (s' : World V) : Type 0 where
   pub state : s' ≡ record s { calls = slice_set s.calls who (Reserving op) }
   pub report : r ≡ quiet Tree Running
 
@@ -191,43 +191,43 @@ abbrev pub reserving : {V : Type 0} → Turned → Outcome V
 reserving turned.Done = Running
 reserving o = collected o
 
-pub record GoesOnReserving {V : Type 0} (same : V → V → Bool) (always : Bool) (s : Whole V) (who : ℕ) (r : Report V) (s' : Whole V) : Type 0 where
+pub record GoesOnReserving {V : Type 0} (same : V → V → Bool) (always : Bool) (s : World V) (who : ℕ) (r : Report V) (s' : World V) : Type 0 where
   pub turn : Collection
   pub step : Secured same always s.forest s.machines s.calls who turn s'.forest s'.machines s'.calls
   pub report : r ≡ collection turn (reserving turn.outcome)
 
 -- its first step begins to make the places free, and goes on with that at once
-pub record SecuresFirst {V : Type 0} (same : V → V → Bool) (always : Bool) (s : Whole V) (who : ℕ) (r : Report V) (s' : Whole V) : Type 0 where
-  pub between : Whole V
+pub record SecuresFirst {V : Type 0} (same : V → V → Bool) (always : Bool) (s : World V) (who : ℕ) (r : Report V) (s' : World V) : Type 0 where
+  pub between : World V
   pub begins : BeginsSecuring same always s.forest s.machines s.calls who between.forest between.machines between.calls
   pub goes : GoesOnReserving same always between who r s'
 
 -- a step of a call on the tree, which ends with its last one
-pub record Walks {V : Type 0} (same : V → V → Bool) (always : Bool) (s : Whole V) (who : ℕ) (noise : Noise Id V) (r : Report V) (s' : Whole V) : Type 0 where
+pub record Walks {V : Type 0} (same : V → V → Bool) (always : Bool) (s : World V) (who : ℕ) (noise : Noise Id V) (r : Report V) (s' : World V) : Type 0 where
   pub move : Move V
   pub step : WalkedOn same always s.forest s.machines (record { who = who; noise = noise }) move s'.forest s'.machines
   pub calls : s'.calls ≡ slice_set s.calls who (if over_at (slice_get s'.machines who) then Idle else Walking)
   pub report : r ≡ walk s.forest move s'.forest
 
-abbrev pub BeginsOnTree : {V : Type 0} → (V → V → Bool) → Bool → Whole V → ℕ → Point V → Report V → Whole V → Type 0
+abbrev pub BeginsOnTree : {V : Type 0} → (V → V → Bool) → Bool → World V → ℕ → Point V → Report V → World V → Type 0
 BeginsOnTree same always s who (point.Get k) r s' = Enters s who (point.Get k) r s'
 BeginsOnTree {V} same always s who (point.Range start end size) r s' = EntersUnless (finds_none {V = V} (point.Range start end size)) s who (point.Range start end size) r s'
 BeginsOnTree {V} same always s who (point.RangeInclusive start last size) r s' = EntersUnless (finds_none {V = V} (point.RangeInclusive start last size)) s who (point.RangeInclusive start last size) r s'
 BeginsOnTree same always s who op r s' = Reserves s who op r s'
 
 -- a call of one step tells of the tree as it stands
-pub record Surveys {V : Type 0} (s : Whole V) (k : Survey) (r : Report V) (s' : Whole V) : Type 0 where
+pub record Surveys {V : Type 0} (s : World V) (k : Survey) (r : Report V) (s' : World V) : Type 0 where
   pub state : s' ≡ s
   pub outcome : Outcome V
   pub report : r ≡ quiet Tree outcome
   pub tells : TellsOf (nodes s.forest) k outcome
 
-abbrev pub BeginsAt : {V : Type 0} → (V → V → Bool) → Bool → Whole V → ℕ → Target V → Report V → Whole V → Type 0
+abbrev pub BeginsAt : {V : Type 0} → (V → V → Bool) → Bool → World V → ℕ → Target V → Report V → World V → Type 0
 BeginsAt same always s who (target.Collector op) r s' = Collects same always s who (collector.Begin op) (Collecting op) r s'
 BeginsAt same always s who (target.Tree op) r s' = BeginsOnTree same always s who op r s'
 BeginsAt same always s who (target.Survey k) r s' = Surveys s k r s'
 
-abbrev pub GoesAt : {V : Type 0} → (V → V → Bool) → Bool → Whole V → ℕ → Option (Call V) → Noise Id V → Report V → Whole V → Type 0
+abbrev pub GoesAt : {V : Type 0} → (V → V → Bool) → Bool → World V → ℕ → Option (InFlight V) → Noise Id V → Report V → World V → Type 0
 GoesAt same always s who None noise r s' = ⊥
 GoesAt same always s who (Some Idle) noise r s' = ⊥
 GoesAt same always s who (Some (Collecting op)) noise r s' = Collects same always s who collector.Go (Collecting op) r s'
@@ -236,18 +236,18 @@ GoesAt same always s who (Some (Securing op)) noise r s' = GoesOnReserving same 
 GoesAt same always s who (Some Walking) noise r s' = Walks same always s who noise r s'
 
 -- what a step does that isn't misused
-abbrev pub Proceeds : {V : Type 0} → (V → V → Bool) → Bool → Whole V → ℕ → Event V → Report V → Whole V → Type 0
+abbrev pub Proceeds : {V : Type 0} → (V → V → Bool) → Bool → World V → ℕ → Event V → Report V → World V → Type 0
 Proceeds {V} same always s who Register r s' = ((n : ℕ) × Registers s n r s') ⊎ FindsNoPlace s r s'
 Proceeds same always s who (Begin op) r s' = BeginsAt same always s who (target op) r s'
 Proceeds same always s who (Go noise) r s' = GoesAt same always s who (slice_get s.calls who) noise r s'
 
 -- one that is is refused for that, and changes nothing
-abbrev pub Does : {V : Type 0} → (V → V → Bool) → Bool → Whole V → ℕ → Event V → Option Fault → Report V → Whole V → Type 0
+abbrev pub Does : {V : Type 0} → (V → V → Bool) → Bool → World V → ℕ → Event V → Option Fault → Report V → World V → Type 0
 Does same always s who event (Some f) r s' = (r ≡ quiet (kind_at event) (Refused (of_fault f))) × (s' ≡ s)
 Does same always s who event None r s' = Proceeds same always s who event r s'
 
 -- what always holds of it
-abbrev pub EngineHolds : {V : Type 0} → (V → V → Bool) → Bool → Whole V → Type 0
+abbrev pub EngineHolds : {V : Type 0} → (V → V → Bool) → Bool → World V → Type 0
 EngineHolds same always s = IsIntact same always s.forest s.machines s.calls × IsCharged s.forest
 
 -- a registration is no step of a call
@@ -265,26 +265,26 @@ is_in_flight (Done done) = false
 is_in_flight (Refused refusal) = false
 
 -- one step
-pub record IsEngineStep {V : Type 0} (same : V → V → Bool) (always : Bool) (s : Whole V) (step : Step V) (r : Report V) (s' : Whole V) : Type 0 where
+pub record IsEngineStep {V : Type 0} (same : V → V → Bool) (always : Bool) (s : World V) (step : Step V) (r : Report V) (s' : World V) : Type 0 where
   pub does : Does same always s step.worker step.event (misuse s step.worker step.event) r s'
   -- after a step of its call that isn't misused a worker has a call in flight exactly where the report says so
   pub flight : IsOfCall step.event → misuse s step.worker step.event ≡ None → is_busy (slice_get s'.calls step.worker) ≡ is_in_flight r.outcome
   pub holds : EngineHolds same always s'
 
 -- the node was handed over, and no call has its name
-pub record IsUnused {V : Type 0} (s : Whole V) (n : ℕ) : Type 0 where
+pub record IsUnused {V : Type 0} (s : World V) (n : ℕ) : Type 0 where
   pub waits : (nodes s.forest n).retired ≡ true
   pub unnamed : (i : ℕ) (m : Machine Id V) → slice_get s.machines i ≡ Some m → Contains (names id_number m.phase) n → ⊥
 
 -- the worker's call has made the node, and neither hung it nor given it back
-abbrev pub IsHeldBy : {V : Type 0} → Whole V → ℕ → ℕ → Type 0
+abbrev pub IsHeldBy : {V : Type 0} → World V → ℕ → ℕ → Type 0
 IsHeldBy {V} s who n = (m : Machine Id V) × (slice_get s.machines who ≡ Some m) × MadeBy id_number m.phase n
 
 -- a worker's step destroys nodes that wait and that no call names, and nodes that its own call had made
-abbrev pub SparesUsed : {V : Type 0} → Whole V → ℕ → Whole V → Type 0
+abbrev pub SparesUsed : {V : Type 0} → World V → ℕ → World V → Type 0
 SparesUsed s who s' = (n : ℕ) → Stands (nodes s.forest n) → Stands (nodes s'.forest n) ⊎ (IsUnused s n ⊎ IsHeldBy s who n)
 
 -- a root alone, and no call in flight
-pub record IsFresh {V : Type 0} (s : Whole V) : Type 0 where
+pub record IsFresh {V : Type 0} (s : World V) : Type 0 where
   pub alone : RootAlone (nodes s.forest)
-  pub idle : (i : ℕ) (k : Call V) → slice_get s.calls i ≡ Some k → k ≡ Idle
+  pub idle : (i : ℕ) (k : InFlight V) → slice_get s.calls i ≡ Some k → k ≡ Idle

@@ -6,7 +6,7 @@ use Rattle.crossbeam_epoch.specs.World.Fits.{weight}
 use Rattle.crossbeam_epoch.specs.World.Machine.{name_of}
 use Rattle.crossbeam_epoch.specs.World.Sealing.{IsSealing, bit, counts_name}
 use Rattle.congee.specs.protocol.Handing.{is_waiting}
-use Rattle.joint.specs.nodes.Forest.{Forest, nodes}
+use Rattle.joint.specs.nodes.Nodes.{Nodes, nodes}
 use Rattle.joint.specs.Names.{number}
 
 -- whether a job is the removal of this name, as a number
@@ -19,7 +19,7 @@ others e = if is_some (name_of e.work) then 0 else 1
 
 -- no seal is past the epoch and no empty bag is queued; the removal of each node that waits for its destruction stands in
 -- one place of a bag, and nothing else does
-pub record IsFiled {V : Type 0} (s : Forest V) : Type 0 where
+pub record IsFiled {V : Type 0} (s : Nodes V) : Type 0 where
   pub expiry : s.collector.limits.expiry ≡ 2
   pub sealing : IsSealing s.collector
   pub filed : (n : Name) → weight (removes n) s.collector ≡ bit (is_waiting (nodes s (number n)))

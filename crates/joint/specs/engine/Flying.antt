@@ -2,10 +2,10 @@
 use Rattle.std.specs.Prelude.{◌≡◌, ◌≤◌, ◌==◌, ℕ, Some, length, slice_get, if◌then◌else◌}
 use Rattle.congee.specs.declared.protocol.machine.Machine.{Machine}
 use Rattle.congee.specs.protocol.Play.{Flight, Over, begun, flight, Follows}
-use Rattle.joint.specs.declared.engine.in_flight.Call.{Call}
-use Rattle.joint.specs.declared.engine.in_flight.Call.TheVariants.{Idle, Collecting, Reserving, Securing, Walking}
+use Rattle.joint.specs.declared.engine.in_flight.InFlight.{InFlight}
+use Rattle.joint.specs.declared.engine.in_flight.InFlight.TheVariants.{Idle, Collecting, Reserving, Securing, Walking}
 use Rattle.joint.specs.declared.id.Id.{Id}
-use Rattle.joint.specs.engine.Engine.{Whole}
+use Rattle.joint.specs.engine.Engine.{World}
 use Rattle.joint.specs.engine.Intact.{root}
 
 -- the call on the tree that each worker has in flight
@@ -19,13 +19,13 @@ abbrev pub with_flight : {V : Type 0} → Flights V → ℕ → Flight V → Fli
 with_flight fs w f v = if v == w then f else fs v
 
 -- how a worker's call in flight is watched, with its machine on the tree
-abbrev pub InFlight : {V : Type 0} → Call V → Machine Id V → Flight V → Type 0
-InFlight Idle m f = f ≡ Over
-InFlight (Collecting op) m f = f ≡ Over
-InFlight (Reserving op) m f = f ≡ flight (begun root op)
-InFlight (Securing op) m f = f ≡ flight (begun root op)
-InFlight Walking m f = Follows m f
+abbrev pub IsInFlight : {V : Type 0} → InFlight V → Machine Id V → Flight V → Type 0
+IsInFlight Idle m f = f ≡ Over
+IsInFlight (Collecting op) m f = f ≡ Over
+IsInFlight (Reserving op) m f = f ≡ flight (begun root op)
+IsInFlight (Securing op) m f = f ≡ flight (begun root op)
+IsInFlight Walking m f = Follows m f
 
-pub record AreInFlight {V : Type 0} (s : Whole V) (fs : Flights V) : Type 0 where
-  pub each : (i : ℕ) (k : Call V) (m : Machine Id V) → slice_get s.calls i ≡ Some k → slice_get s.machines i ≡ Some m → InFlight k m (fs i)
+pub record AreInFlight {V : Type 0} (s : World V) (fs : Flights V) : Type 0 where
+  pub each : (i : ℕ) (k : InFlight V) (m : Machine Id V) → slice_get s.calls i ≡ Some k → slice_get s.machines i ≡ Some m → IsInFlight k m (fs i)
   pub beyond : (i : ℕ) → length s.calls ≤ i → fs i ≡ Over

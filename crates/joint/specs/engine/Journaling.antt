@@ -10,8 +10,8 @@ use Rattle.congee.specs.declared.protocol.phase.Kind.{Kind}
 use Rattle.congee.specs.declared.protocol.phase.Kind.TheVariants as kind
 use Rattle.congee.specs.declared.protocol.phase.Phase.{Phase}
 use Rattle.congee.specs.declared.protocol.phase.Phase.TheVariants.{AskOld, AskNew, Obsolete, Retire, UnlockBelow, Unlock, Sweep, Ended}
-use Rattle.joint.specs.declared.engine.in_flight.Call.{Call}
-use Rattle.joint.specs.declared.engine.in_flight.Call.TheVariants.{Idle, Collecting, Reserving, Securing, Walking}
+use Rattle.joint.specs.declared.engine.in_flight.InFlight.{InFlight}
+use Rattle.joint.specs.declared.engine.in_flight.InFlight.TheVariants.{Idle, Collecting, Reserving, Securing, Walking}
 use Rattle.joint.specs.declared.id.Id.{Id}
 use Rattle.joint.specs.declared.engine.request.Request.{Request}
 use Rattle.joint.specs.declared.steps.Done.TheVariants as done
@@ -49,7 +49,7 @@ is_writing None = false
 is_writing (Some m) = is_pending m.phase && may_write m.kind
 
 -- a place of the journal is reserved for a writing call from its first step on, until it takes effect or is refused
-abbrev pub has_place : {V : Type 0} → Option (Call V) → Option (Machine Id V) → Bool
+abbrev pub has_place : {V : Type 0} → Option (InFlight V) → Option (Machine Id V) → Bool
 has_place None m = false
 has_place (Some Idle) m = false
 has_place (Some (Collecting op)) m = false
@@ -62,7 +62,7 @@ abbrev pub one_where : Bool → ℕ
 one_where true = 1
 one_where false = 0
 
-abbrev pub places_of : {V : Type 0} → List (Call V) → List (Machine Id V) → ℕ
+abbrev pub places_of : {V : Type 0} → List (InFlight V) → List (Machine Id V) → ℕ
 places_of [] ms = 0
 places_of (k ∷ ks) [] = 0
 places_of (k ∷ ks) (m ∷ ms) = one_where (has_place (Some k) (Some m)) + places_of ks ms

@@ -50,9 +50,9 @@ abbrev pub asked : {V : Type 0} → Op V → Option (Request V)
 asked op = Some (record { op = op; answer = None })
 
 -- with another request in a worker's place, where one is to be noted
-abbrev pub noted : {V : Type 0} → Log V → ℕ → Bool → Option (Request V) → Log V
-noted l who true q = record l { requests = slice_set l.requests who q }
-noted l who false q = l
+abbrev pub with_request : {V : Type 0} → Log V → ℕ → Bool → Option (Request V) → Log V
+with_request l who true q = record l { requests = slice_set l.requests who q }
+with_request l who false q = l
 
 -- to take the key out is no answer where a value is wanted
 abbrev pub with_none : {V : Type 0} → Op V → Option (Option V) → Option (Option V)
@@ -60,12 +60,12 @@ with_none (ComputeInsert k) answer = answer
 with_none _ answer = Some None
 
 -- a call that asks hears an answer, or none comes
-abbrev pub hears : {V : Type 0} → Option (Option V) → Request V → Request V
-hears None q = q
-hears (Some None) q = record { op = q.op; answer = with_none q.op q.answer }
-hears (Some (Some x)) q = record { op = q.op; answer = Some (Some x) }
+abbrev pub with_answer : {V : Type 0} → Option (Option V) → Request V → Request V
+with_answer None q = q
+with_answer (Some None) q = record { op = q.op; answer = with_none q.op q.answer }
+with_answer (Some (Some x)) q = record { op = q.op; answer = Some (Some x) }
 
-abbrev pub heard_by : {V : Type 0} → Bool → Option (Option V) → Option (Request V) → Option (Request V)
-heard_by true answer (Some q) = Some (hears answer q)
-heard_by true answer None = None
-heard_by false answer q = q
+abbrev pub answered_if : {V : Type 0} → Bool → Option (Option V) → Option (Request V) → Option (Request V)
+answered_if true answer (Some q) = Some (with_answer answer q)
+answered_if true answer None = None
+answered_if false answer q = q

@@ -12,7 +12,7 @@ use Rattle.congee.specs.Heap.{Nothing, Holds}
 use Rattle.congee.specs.protocol.Events.{hung, weight, kept, HoldsValues, HoldsNodes}
 use Rattle.joint.specs.declared.id.Id.{Id}
 use Rattle.joint.specs.declared.nodes.slot.Slot.{Slot}
-use Rattle.joint.specs.nodes.Forest.{total, size}
+use Rattle.joint.specs.nodes.Nodes.{total, size}
 use Rattle.joint.specs.nodes.Solid.{IsWhole}
 use Rattle.joint.specs.nodes.View.{id_number, node_of}
 
@@ -82,7 +82,7 @@ IsOverBudget charge limit size (Budget charged wanted most) = (limit < charge + 
 IsOverBudget charge limit size _ = ⊥
 
 -- one slot's children go over into another, which was empty: values are moved, and the names of nodes stay in the first too
-pub record HandsOver {P : Type 0} (a b a' b' : Slot P) : Type 0 where
+pub record MovesTo {P : Type 0} (a b a' b' : Slot P) : Type 0 where
   pub word_old : a'.word ≡ a.word
   pub word : b'.word ≡ b.word
   pub size_old : size a' ≡ size a

@@ -5,7 +5,7 @@ use Rattle.crossbeam_epoch.specs.declared.world.cells.Cell.{Cell}
 use Rattle.crossbeam_epoch.specs.World.Store.{value_at}
 use Rattle.congee.specs.Heap.{Node}
 use Rattle.congee.specs.protocol.Handing.{is_waiting}
-use Rattle.joint.specs.nodes.Forest.{Forest, nodes, of_value, size}
+use Rattle.joint.specs.nodes.Nodes.{Nodes, nodes, of_value, size}
 use Rattle.joint.specs.Names.{number, named}
 
 -- the list has each number of which P holds once, and no other
@@ -23,20 +23,20 @@ last_names i [] = []
 last_names i (c ∷ cs) = last_name i c ∷ last_names (suc i) cs
 
 -- the nodes that pass a test
-abbrev pub nodes_that : {V : Type 0} → (Node V → Bool) → Forest V → List ℕ
+abbrev pub nodes_that : {V : Type 0} → (Node V → Bool) → Nodes V → List ℕ
 nodes_that test s = filter (λ n. test (nodes s n)) (last_names 0 s.collector.store.cells)
 
 abbrev pub is_standing : {V : Type 0} → Node V → Bool
 is_standing n = n.made && not n.destroyed
 
 -- the nodes that stand
-abbrev pub standing_nodes : {V : Type 0} → Forest V → List ℕ
+abbrev pub standing_nodes : {V : Type 0} → Nodes V → List ℕ
 standing_nodes s = nodes_that is_standing s
 
 -- those of them that were handed over
-abbrev pub handed_nodes : {V : Type 0} → Forest V → List ℕ
+abbrev pub handed_nodes : {V : Type 0} → Nodes V → List ℕ
 handed_nodes s = nodes_that is_waiting s
 
 -- what is charged for the node that stands under a number, in bytes
-abbrev pub bytes_of : {V : Type 0} → Forest V → ℕ → ℕ
+abbrev pub bytes_of : {V : Type 0} → Nodes V → ℕ → ℕ
 bytes_of s n = of_value size (value_at s.collector.store (named n))

@@ -17,7 +17,7 @@ use Rattle.joint.specs.declared.refusal.Refusal.{Refusal}
 use Rattle.joint.specs.declared.nodes.slot.Slot.{Slot}
 use Rattle.joint.specs.declared.refusal.Refusal.TheVariants as refusal
 use Rattle.joint.specs.nodes.Altering.{Fills, IsNewSlot}
-use Rattle.joint.specs.nodes.Forest.{Forest, nodes}
+use Rattle.joint.specs.nodes.Nodes.{Nodes, nodes}
 use Rattle.joint.specs.Limits.{AreAllowed}
 use Rattle.joint.specs.nodes.Slots.{slot_names}
 use Rattle.joint.specs.nodes.Ties.{Rooted}
@@ -36,7 +36,7 @@ pub record IsNewRoot {V : Type 0} (n : Node V) : Type 0 where
   pub live : n.obsolete ≡ false
 
 -- a root alone, charged within the limit; nobody is registered, and one root of the collector holds it
-pub record IsOpened {V : Type 0} (limits : Limits) (charge limit : ℕ) (s : Forest V) : Type 0 where
+pub record IsOpened {V : Type 0} (limits : Limits) (charge limit : ℕ) (s : Nodes V) : Type 0 where
   pub allowed : AreAllowed limits
   pub fresh : FreshRoot (nodes s)
   pub bare : IsNewRoot (nodes s 0)
@@ -77,9 +77,9 @@ pub record IsPlanted {V : Type 0} (limits : EpochLimits) (c : State (Slot V) (Un
   pub root : (s : Slot V) × (Fills (opened_store {T = Slot V} limits.cells limits.turn_max) top s c.store × IsNewSlot s N256 [])
   pub told : Tells slot_names (moment slot_names Quiet c ∷ []) c
   pub resting : IsResting c
-  pub tallies : k.tallies.items ≡ record { form = N256; waits = false } ∷ []
+  pub cell_marks : k.cell_marks.items ≡ record { form = N256; waits = false } ∷ []
   pub one : k.standing ≡ 1
   pub none : k.waiting ≡ 0
   pub no_bytes : k.waiting_bytes ≡ 0
-  pub room : limits.cells ≤ vec_capacity k.tallies
+  pub room : limits.cells ≤ vec_capacity k.cell_marks
   pub last : limits.turn_max < 2 ^ 32

@@ -9,7 +9,7 @@ use Rattle.congee.specs.Heap.{Node, Hung, Nothing}
 use Rattle.congee.specs.protocol.Events.{hung}
 use Rattle.joint.specs.declared.id.Id.{Id}
 use Rattle.joint.specs.declared.nodes.slot.Slot.{Slot}
-use Rattle.joint.specs.declared.nodes.slot.Word.{Word}
+use Rattle.joint.specs.declared.nodes.slot.LockWord.{LockWord}
 use Rattle.joint.specs.nodes.Heap.{heap_of}
 use Rattle.joint.specs.Names.{number}
 
@@ -56,7 +56,7 @@ node_of s = record {
 }
 
 -- the node of a form under a lock word
-abbrev pub shape : {P : Type 0} → Form Id P → Word → Node P
+abbrev pub shape : {P : Type 0} → Form Id P → LockWord → Node P
 shape n w = record {
   prefix = prefix_of n;
   children = child_at n;
@@ -90,11 +90,11 @@ abbrev pub heap : {P : Type 0} → Store (Slot P) → ℕ → Node P
 heap st = heap_of view st
 
 -- whether the word is free at this version
-abbrev pub is_word : Word → ℕ → Bool
+abbrev pub is_word : LockWord → ℕ → Bool
 is_word w version = (w.version == version) && (not w.locked && not w.obsolete)
 
 -- the node with another lock word
-abbrev pub worded : {P : Type 0} → Word → Node P → Node P
+abbrev pub worded : {P : Type 0} → LockWord → Node P → Node P
 worded w n = record n { version = w.version; locked = w.locked; obsolete = w.obsolete; retired = w.retired }
 
 -- what stands in a cell while its node is out to be changed

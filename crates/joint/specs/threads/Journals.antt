@@ -5,11 +5,11 @@ use Rattle.judge.specs.Answer.{Pairs}
 use Rattle.judge.specs.Journal.{IsLegal, Legal}
 use Rattle.judge.specs.declared.journal.Entry.{Entry}
 use Rattle.congee.specs.Keys.{IsMapOf}
-use Rattle.joint.specs.nodes.Forest.{nodes}
+use Rattle.joint.specs.nodes.Nodes.{nodes}
 use Rattle.joint.specs.engine.Journaling.{one_where}
 use Rattle.joint.specs.nodes.Opening.{HasPlaces}
 use Rattle.joint.specs.world.MapSteps.{looks_up}
-use Rattle.joint.specs.engine.Engine.{Whole}
+use Rattle.joint.specs.engine.Engine.{World}
 
 -- whether an entry is one of a writing call, and watched
 abbrev pub is_watched : (Entry ℕ → Bool) → Entry ℕ → Bool
@@ -21,7 +21,7 @@ count_watched watched [] = 0
 count_watched watched (e ∷ es) = one_where (is_watched watched e) + count_watched watched es
 
 -- a journal is kept, which is legal and replays to the pairs that stand
-pub record IsJournaled (s : Whole ℕ) : Type 0 where
+pub record IsJournaled (s : World ℕ) : Type 0 where
   pub places : HasPlaces s.log.places
   pub long : length s.log.entries ≤ s.log.places
   pub legal : IsLegal nat_eq s.log.entries
@@ -29,7 +29,7 @@ pub record IsJournaled (s : Whole ℕ) : Type 0 where
 
 -- these are the entries of such a journal
 abbrev pub IsJournal : List (Entry ℕ) → Type 0
-IsJournal entries = (s : Whole ℕ) × IsJournaled s × (entries ≡ s.log.entries)
+IsJournal entries = (s : World ℕ) × IsJournaled s × (entries ≡ s.log.entries)
 
 -- so many entries of such a journal are of writing calls and watched
 abbrev pub IsCounted : (Entry ℕ → Bool) → ℕ → Type 0

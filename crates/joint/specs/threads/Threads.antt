@@ -26,8 +26,8 @@ use Rattle.joint.specs.engine.Closing.{IsClosed, account_of}
 use Rattle.joint.specs.threads.Driving.{IsDriven, ended}
 use Rattle.joint.specs.nodes.Listing.{bytes_of}
 use Rattle.joint.specs.engine.Census.{waiting_nodes}
-use Rattle.joint.specs.world.Whole.{Holds, IsStep}
-use Rattle.joint.specs.engine.Engine.{Whole}
+use Rattle.joint.specs.world.World.{Holds, IsStep}
+use Rattle.joint.specs.engine.Engine.{World}
 
 -- the worker is of the index of this number
 abbrev pub is_of : ℕ → Worker → Bool
@@ -53,10 +53,10 @@ End V = Result (Answer V) Refusal
 
 -- a hold of the lock is one step of the machine, in whatever state others have left it
 abbrev pub IsHold : {V : Type 0} → (V → V → Bool) → Bool → Step V → Report V → Type 0
-IsHold {V} same always step r = (s : Whole V) × (s' : Whole V) × IsStep same always s step r s'
+IsHold {V} same always step r = (s : World V) × (s' : World V) × IsStep same always s step r s'
 
 -- a turn of a call, on the machine that stands, whatever call of whatever worker it is of
-abbrev pub ByStep : {V : Type 0} → (V → V → Bool) → Bool → Whole V → ℕ → Op V → Step V → Report V → Whole V → Type 0
+abbrev pub ByStep : {V : Type 0} → (V → V → Bool) → Bool → World V → ℕ → Op V → Step V → Report V → World V → Type 0
 ByStep same always s who o step r s' = IsStep same always s step r s'
 
 -- and in whatever state others have left it
@@ -212,26 +212,26 @@ abbrev pub As : {A B : Type 0} → (A → Type 0) → (A → B) → B → Type 0
 As {A} does of result = (read : A) × does read × (result ≡ of read)
 
 -- what is told of the machine, in whatever state others have left it
-abbrev pub IsTold : {V B : Type 0} → (V → V → Bool) → Bool → (Whole V → B) → B → Type 0
-IsTold {V} same always of result = (s : Whole V) × Holds same always s × (result ≡ of s)
+abbrev pub IsTold : {V B : Type 0} → (V → V → Bool) → Bool → (World V → B) → B → Type 0
+IsTold {V} same always of result = (s : World V) × Holds same always s × (result ≡ of s)
 
 -- the bytes charged, the nodes that wait, and the bytes of those
-abbrev pub charge_of : {V : Type 0} → Whole V → ℕ
+abbrev pub charge_of : {V : Type 0} → World V → ℕ
 charge_of s = s.forest.charge
 
-abbrev pub waiting_of : {V : Type 0} → Whole V → ℕ
+abbrev pub waiting_of : {V : Type 0} → World V → ℕ
 waiting_of s = length (waiting_nodes s)
 
-abbrev pub waiting_bytes_of : {V : Type 0} → Whole V → ℕ
+abbrev pub waiting_bytes_of : {V : Type 0} → World V → ℕ
 waiting_bytes_of s = sum_by (bytes_of s.forest) (waiting_nodes s)
 
 -- a closed index: the machine that the lock kept was closed with this drainer
 abbrev pub Closes : {V D : Type 0} → (V → V → Bool) → Bool → (D → ℕ → V → D → Type 0) → D → ℕ → ℕ → D → Type 0
-Closes {V} same always drains before charge limit after = (s : Whole V) × Holds same always s × IsClosed drains s before charge limit after
+Closes {V} same always drains before charge limit after = (s : World V) × Holds same always s × IsClosed drains s before charge limit after
 
 -- the same of one whose pairs are dropped
 abbrev pub Drops : {V : Type 0} → (V → V → Bool) → Bool → ℕ → ℕ → Type 0
-Drops {V} same always charge limit = (s : Whole V) × Holds same always s × (registered_in s.forest.collector ≡ 0) × (charge ≡ s.forest.base) × (limit ≡ s.forest.limit)
+Drops {V} same always charge limit = (s : World V) × Holds same always s × (registered_in s.forest.collector ≡ 0) × (charge ≡ s.forest.base) × (limit ≡ s.forest.limit)
 
 -- an account has this charge and this limit
 abbrev pub IsAccount : Account → ℕ → ℕ → Type 0
@@ -239,8 +239,8 @@ IsAccount account charge limit = (charge ≡ account.charged) × (limit ≡ acco
 
 -- it wasn't closed, since workers were registered; or since the lock kept a machine with which another account came in
 abbrev pub IsUnclosed : {V : Type 0} → (V → V → Bool) → Bool → Account → Refusal → Type 0
-IsUnclosed {V} same always account (WorkersLeft n) = (s : Whole V) × Holds same always s × (0 < n) × (n ≡ registered_in s.forest.collector)
-IsUnclosed {V} same always account Foreign = (s : Whole V) × Holds same always s × (account_of s ≢ account)
+IsUnclosed {V} same always account (WorkersLeft n) = (s : World V) × Holds same always s × (0 < n) × (n ≡ registered_in s.forest.collector)
+IsUnclosed {V} same always account Foreign = (s : World V) × Holds same always s × (account_of s ≢ account)
 IsUnclosed same always account _ = ⊥
 
 -- a closure over owners that is asked for a present value alone

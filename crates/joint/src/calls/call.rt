@@ -8,7 +8,7 @@ ghost use Rattle.joint.specs.calls.Calling.{FillsPlaces, IsCalled, TellsMap, kep
 ghost use Rattle.joint.specs.Reports.{goes_on};
 ghost use Rattle.joint.specs.declared.steps.Event.TheVariants.{Go};
 ghost use Rattle.joint.specs.declared.steps.Outcome.TheVariants.{Running};
-ghost use Rattle.joint.specs.nodes.Forest.{IsBeside, nodes};
+ghost use Rattle.joint.specs.nodes.Nodes.{IsBeside, nodes};
 ghost use Rattle.joint.specs.calls.MapCalls.{AnswersKey, CallPlays};
 ghost use Rattle.joint.specs.engine.Flying.{AreInFlight, Flights};
 
@@ -59,13 +59,13 @@ impl<P: Payload + Small, A: Allocator> World<P, A> {
         }
         let mut left = most - 1;
         let mut report = self.begin(who, op);
-        keep(&mut report, found);
+        put_found(&mut report, found);
         if is_last(left, &report.outcome) {
             return Some(report);
         }
         while left > 0 {
             let mut report = self.go(who, quiet_noise());
-            keep(&mut report, found);
+            put_found(&mut report, found);
             left -= 1;
             if is_last(left, &report.outcome) {
                 return Some(report);
@@ -97,7 +97,7 @@ fn put<P: Drop>(outcome: Outcome<P>, found: &mut [(u64, P)])
 
 /// Writes the pair of a report to its place.
 #[inline(always)]
-fn keep<P: Drop>(report: &mut Report<P>, found: &mut [(u64, P)])
+fn put_found<P: Drop>(report: &mut Report<P>, found: &mut [(u64, P)])
     ensures found { found.new ≡ put report.old.outcome found.old }
     ensures report { report.new ≡ kept_report report.old }
 {

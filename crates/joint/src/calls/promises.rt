@@ -6,9 +6,9 @@ ghost use Rattle.joint.specs.declared.steps.Report.{Report as Told};
 ghost use Rattle.joint.specs.declared.steps.Step.{Step as Asked};
 ghost use Rattle.joint.specs.calls.Plain.{AreSame, AreUnrefused, answers, projection};
 ghost use Rattle.joint.specs.calls.Promises.{KeepsPromises};
-ghost use Rattle.joint.specs.world.Whole.{IsNew, Holds};
+ghost use Rattle.joint.specs.world.World.{IsNew, Holds};
 ghost use Rattle.joint.specs.calls.Runs.{IsRun};
-ghost use Rattle.joint.specs.engine.Engine.{Whole};
+ghost use Rattle.joint.specs.engine.Engine.{World};
 
 use crate::calls::laws::{comes_back, runs_alone, runs_plain, runs_spare};
 use congee::{Allocator, Payload, Small};
@@ -23,8 +23,8 @@ use congee::{Allocator, Payload, Small};
 /// Two such runs of indexes with one greatest version, neither of which refuses anything, tell the same where their steps on
 /// the tree are the same, whatever their collectors did.
 pub fn keeps_promises<P: Payload + Small, A: Allocator>()
-    ensures keeps { (limits : Limits) (s s' : Whole P) (steps : List (Asked P)) (reports : List (Told P)) → IsNew limits s → Holds P.same_as P.always_copies s → IsRun P.same_as P.always_copies s steps reports s' → KeepsPromises P.same_as P.always_copies limits steps reports s' }
-    ensures alike { (limits others : Limits) (s q : Whole P) (a b : List (Asked P)) (told again : List (Told P)) → limits.version_max ≡ others.version_max → KeepsPromises P.same_as P.always_copies limits a told s → KeepsPromises P.same_as P.always_copies others b again q → AreUnrefused told → AreUnrefused again → projection a told ≡ projection b again → AreSame (answers a told) (answers b again) }
+    ensures keeps { (limits : Limits) (s s' : World P) (steps : List (Asked P)) (reports : List (Told P)) → IsNew limits s → Holds P.same_as P.always_copies s → IsRun P.same_as P.always_copies s steps reports s' → KeepsPromises P.same_as P.always_copies limits steps reports s' }
+    ensures alike { (limits others : Limits) (s q : World P) (a b : List (Asked P)) (told again : List (Told P)) → limits.version_max ≡ others.version_max → KeepsPromises P.same_as P.always_copies limits a told s → KeepsPromises P.same_as P.always_copies others b again q → AreUnrefused told → AreUnrefused again → projection a told ≡ projection b again → AreSame (answers a told) (answers b again) }
 {
     runs_spare::<P, A>();
     comes_back::<P>();

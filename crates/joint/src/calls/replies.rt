@@ -5,9 +5,9 @@ ghost use Rattle.std.specs.FinMap.{empty};
 ghost use Rattle.judge.specs.Answer.{Pairs};
 ghost use Rattle.congee.specs.Heap.{Node};
 ghost use Rattle.congee.specs.Keys.{IsMapOf};
-ghost use Rattle.joint.specs.nodes.Forest.{IsBeside};
+ghost use Rattle.joint.specs.nodes.Nodes.{IsBeside};
 ghost use Rattle.joint.specs.calls.MapCalls.{asked_of};
-ghost use Rattle.joint.specs.engine.Engine.{IsFresh, Whole};
+ghost use Rattle.joint.specs.engine.Engine.{IsFresh, World as State};
 ghost use Rattle.joint.specs.engine.Flying.{AreInFlight, Flights};
 ghost use Rattle.joint.specs.calls.Standing.{AnswersAs, IsReplied, pairs_of, the_pairs};
 
@@ -20,7 +20,7 @@ use judge::Reply;
 pub fn pairs_stand<P: Payload + Small>()
     ensures stands { (h : ℕ → Node P) → IsMapOf h (the_pairs h) }
     ensures alone { (h : ℕ → Node P) (m : Pairs P) → IsMapOf h m → m ≡ the_pairs h }
-    ensures fresh { (s : Whole P) → IsFresh s → pairs_of s ≡ empty }
+    ensures fresh { (s : State P) → IsFresh s → pairs_of s ≡ empty }
 {}
 
 impl<P: Payload + Small, A: Allocator> World<P, A> {

@@ -13,14 +13,14 @@ ghost use Rattle.joint.specs.calls.Alone.{OthersUnlocked};
 ghost use Rattle.joint.specs.calls.Answering.{AllDecide};
 ghost use Rattle.joint.specs.calls.Ends.{AllEndWell, IdleUnasked, IsBetween, ReadersRefused};
 ghost use Rattle.joint.specs.calls.Filling.{NoneSkipped, StaysFilled};
-ghost use Rattle.joint.specs.nodes.Forest.{nodes};
+ghost use Rattle.joint.specs.nodes.Nodes.{nodes};
 ghost use Rattle.joint.specs.engine.Journaling.{asks_at};
 ghost use Rattle.joint.specs.calls.Leaving.{AllLeaveOnce, LeftLocked, LocksApart, LocksHeld, MarkedLeft};
 ghost use Rattle.joint.specs.engine.Log.{opened_log};
-ghost use Rattle.joint.specs.world.Whole.{IsNew, Holds, IsStep};
+ghost use Rattle.joint.specs.world.World.{IsNew, Holds, IsStep};
 ghost use Rattle.joint.specs.calls.Runs.{Taken, AreTaken, after_all, IsRun, IsMapRun, RunsJournal};
 ghost use Rattle.joint.specs.world.MapSteps.{Line};
-ghost use Rattle.joint.specs.engine.Engine.{IsFresh, Whole, is_busy};
+ghost use Rattle.joint.specs.engine.Engine.{IsFresh, World, is_busy};
 ghost use Rattle.joint.specs.engine.Flying.{Flights, AreInFlight, no_flights};
 ghost use Rattle.joint.specs.calls.Stretches.{SeesNode, StandsOn};
 ghost use Rattle.joint.specs.calls.Wanted.{AllEndAloneTold, OthersIdle, wants_after, wants_if};
@@ -33,34 +33,34 @@ use congee::{Allocator, Machine, Payload, Small};
 
 /// A call's next step takes its closure's answer exactly where the newest of its further steps has asked.
 pub fn answers_wanted<P: Payload + Small>()
-    ensures step { (s : Whole P) (step : Asked P) (r : Told P) (s' : Whole P) (who : ℕ) → Holds P.same_as P.always_copies s → IsStep P.same_as P.always_copies s step r s' → asks_at (slice_get s'.machines who) ≡ wants_if (asks_at (slice_get s.machines who)) (step.worker == who) step.event r.outcome }
-    ensures run { (s : Whole P) (taken : List (Taken P)) (who : ℕ) → Holds P.same_as P.always_copies s → AreTaken P.same_as P.always_copies s taken → asks_at (slice_get (after_all s taken).machines who) ≡ wants_after who (asks_at (slice_get s.machines who)) taken }
-    ensures fresh { (s : Whole P) (taken : List (Taken P)) (who : ℕ) → IsFresh s → Holds P.same_as P.always_copies s → AreTaken P.same_as P.always_copies s taken → asks_at (slice_get (after_all s taken).machines who) ≡ wants_after who false taken }
+    ensures step { (s : World P) (step : Asked P) (r : Told P) (s' : World P) (who : ℕ) → Holds P.same_as P.always_copies s → IsStep P.same_as P.always_copies s step r s' → asks_at (slice_get s'.machines who) ≡ wants_if (asks_at (slice_get s.machines who)) (step.worker == who) step.event r.outcome }
+    ensures run { (s : World P) (taken : List (Taken P)) (who : ℕ) → Holds P.same_as P.always_copies s → AreTaken P.same_as P.always_copies s taken → asks_at (slice_get (after_all s taken).machines who) ≡ wants_after who (asks_at (slice_get s.machines who)) taken }
+    ensures fresh { (s : World P) (taken : List (Taken P)) (who : ℕ) → IsFresh s → Holds P.same_as P.always_copies s → AreTaken P.same_as P.always_copies s taken → asks_at (slice_get (after_all s taken).machines who) ≡ wants_after who false taken }
 {}
 
 /// The journal of any run, of whole calls too: it goes on with the entries of the writing calls that took effect in it and of
 /// the look-ups that were kept, in deciding order. In each state it is legal and replays to the pairs that stand; where none
 /// is kept it is empty.
 pub fn runs_journal<P: Payload + Small>()
-    ensures goes_on { (s : Whole P) (steps : List (Asked P)) (reports : List (Told P)) (s' : Whole P) (fs : Flights P) (m : Pairs P) → Holds P.same_as P.always_copies s → IsRun P.same_as P.always_copies s steps reports s' → IsMapOf (nodes s.forest) m → AreInFlight s fs → RunsJournal P.same_as fs m s steps reports s' }
-    ensures fresh { (s : Whole P) (steps : List (Asked P)) (reports : List (Told P)) (s' : Whole P) → IsFresh s → Holds P.same_as P.always_copies s → IsRun P.same_as P.always_copies s steps reports s' → RunsJournal P.same_as no_flights empty s steps reports s' }
-    ensures replays { (s : Whole P) (m : Pairs P) → Holds P.same_as P.always_copies s → 0 < s.log.places → IsMapOf (nodes s.forest) m → Legal P.same_as empty s.log.entries m }
-    ensures none { (s : Whole P) → Holds P.same_as P.always_copies s → s.log.places ≡ 0 → s.log.entries ≡ [] }
+    ensures goes_on { (s : World P) (steps : List (Asked P)) (reports : List (Told P)) (s' : World P) (fs : Flights P) (m : Pairs P) → Holds P.same_as P.always_copies s → IsRun P.same_as P.always_copies s steps reports s' → IsMapOf (nodes s.forest) m → AreInFlight s fs → RunsJournal P.same_as fs m s steps reports s' }
+    ensures fresh { (s : World P) (steps : List (Asked P)) (reports : List (Told P)) (s' : World P) → IsFresh s → Holds P.same_as P.always_copies s → IsRun P.same_as P.always_copies s steps reports s' → RunsJournal P.same_as no_flights empty s steps reports s' }
+    ensures replays { (s : World P) (m : Pairs P) → Holds P.same_as P.always_copies s → 0 < s.log.places → IsMapOf (nodes s.forest) m → Legal P.same_as empty s.log.entries m }
+    ensures none { (s : World P) → Holds P.same_as P.always_copies s → s.log.places ≡ 0 → s.log.entries ≡ [] }
 {}
 
 /// A call that is over, done or refused, leaves its worker between calls: none in flight, no lock held, no node made that
 /// isn't hung, none owed; and so it is in each state where a worker has no call in flight. A misused step leaves nodes and
 /// calls as they were. Of a worker without a call nothing is written down as asked.
 pub fn calls_end<P: Payload + Small>()
-    ensures between { (s : Whole P) (who : ℕ) → Holds P.same_as P.always_copies s → is_busy (slice_get s.calls who) ≡ false → IsBetween s who }
-    ensures run { (s : Whole P) (taken : List (Taken P)) → Holds P.same_as P.always_copies s → AreTaken P.same_as P.always_copies s taken → AllEndWell s taken }
-    ensures unasked { (s : Whole P) (taken : List (Taken P)) → P.always_copies ≡ true → Holds P.same_as P.always_copies s → AreTaken P.same_as P.always_copies s taken → IdleUnasked s → IdleUnasked (after_all s taken) }
-    ensures opened { (s : Whole P) (workers places : ℕ) → s.log ≡ opened_log workers places → IdleUnasked s }
+    ensures between { (s : World P) (who : ℕ) → Holds P.same_as P.always_copies s → is_busy (slice_get s.calls who) ≡ false → IsBetween s who }
+    ensures run { (s : World P) (taken : List (Taken P)) → Holds P.same_as P.always_copies s → AreTaken P.same_as P.always_copies s taken → AllEndWell s taken }
+    ensures unasked { (s : World P) (taken : List (Taken P)) → P.always_copies ≡ true → Holds P.same_as P.always_copies s → AreTaken P.same_as P.always_copies s taken → IdleUnasked s → IdleUnasked (after_all s taken) }
+    ensures opened { (s : World P) (workers places : ℕ) → s.log ≡ opened_log workers places → IdleUnasked s }
 {}
 
 /// A look-up, a scan, the question whether the index is empty and a pin are refused for misuse or as Count alone.
 pub fn readers_refused<P: Payload + Small>()
-    ensures { (s : Whole P) (taken : List (Taken P)) → Holds P.same_as P.always_copies s → AreTaken P.same_as P.always_copies s taken → ReadersRefused s taken }
+    ensures { (s : World P) (taken : List (Taken P)) → Holds P.same_as P.always_copies s → AreTaken P.same_as P.always_copies s taken → ReadersRefused s taken }
 {
     progress::<P>();
 }
@@ -68,9 +68,9 @@ pub fn readers_refused<P: Payload + Small>()
 /// In each state no two calls hold one lock, what a call holds is locked, and a node that was marked obsolete has left the
 /// tree.
 pub fn locks_apart<P: Payload + Small>()
-    ensures apart { (s : Whole P) → Holds P.same_as P.always_copies s → LocksApart s }
-    ensures held { (s : Whole P) → Holds P.same_as P.always_copies s → LocksHeld s }
-    ensures marked { (s : Whole P) → Holds P.same_as P.always_copies s → MarkedLeft s }
+    ensures apart { (s : World P) → Holds P.same_as P.always_copies s → LocksApart s }
+    ensures held { (s : World P) → Holds P.same_as P.always_copies s → LocksHeld s }
+    ensures marked { (s : World P) → Holds P.same_as P.always_copies s → MarkedLeft s }
 {
     call_laws::<P>();
 }
@@ -79,9 +79,9 @@ pub fn locks_apart<P: Payload + Small>()
 /// call then hands it over once, by one deferral of its destruction, under its worker's guard and into a place that was
 /// made free for it. Until it is destroyed it stays out of the tree, locked, with its child nodes.
 pub fn nodes_leave<P: Payload + Small, A: Allocator>()
-    ensures run { (s : Whole P) (taken : List (Taken P)) → Holds P.same_as P.always_copies s → AreTaken P.same_as P.always_copies s taken → AllLeaveOnce s taken }
-    ensures locked { (s : Whole P) (taken : List (Taken P)) → Holds P.same_as P.always_copies s → AreTaken P.same_as P.always_copies s taken → LeftLocked s → LeftLocked (after_all s taken) }
-    ensures opened { (limits : Limits) (s : Whole P) → IsNew limits s → LeftLocked s }
+    ensures run { (s : World P) (taken : List (Taken P)) → Holds P.same_as P.always_copies s → AreTaken P.same_as P.always_copies s taken → AllLeaveOnce s taken }
+    ensures locked { (s : World P) (taken : List (Taken P)) → Holds P.same_as P.always_copies s → AreTaken P.same_as P.always_copies s taken → LeftLocked s → LeftLocked (after_all s taken) }
+    ensures opened { (limits : Limits) (s : World P) → IsNew limits s → LeftLocked s }
 {
     call_laws::<P>();
     Machine::<Id, P>::leaves::<Nodes<P, A>>();
@@ -90,9 +90,9 @@ pub fn nodes_leave<P: Payload + Small, A: Allocator>()
 /// As long as no step goes on without a node that it wanted, each node of the tree but the root has a child, each that holds
 /// nodes two of them, and none is too small for its form.
 pub fn nodes_filled<P: Payload + Small, A: Allocator>()
-    ensures run { (s : Whole P) (taken : List (Taken P)) → Holds P.same_as P.always_copies s → AreTaken P.same_as P.always_copies s taken → NoneSkipped taken → StaysFilled s → StaysFilled (after_all s taken) }
-    ensures opened { (limits : Limits) (s : Whole P) → IsNew limits s → Holds P.same_as P.always_copies s → StaysFilled s }
-    ensures filled { (s : Whole P) → StaysFilled s → AllFilled (nodes s.forest) }
+    ensures run { (s : World P) (taken : List (Taken P)) → Holds P.same_as P.always_copies s → AreTaken P.same_as P.always_copies s taken → NoneSkipped taken → StaysFilled s → StaysFilled (after_all s taken) }
+    ensures opened { (limits : Limits) (s : World P) → IsNew limits s → Holds P.same_as P.always_copies s → StaysFilled s }
+    ensures filled { (s : World P) → StaysFilled s → AllFilled (nodes s.forest) }
 {
     call_laws::<P>();
     Machine::<Id, P>::filled::<Nodes<P, A>>();
@@ -107,7 +107,7 @@ pub fn calls_answer<P: Payload + Small>()
 /// A node that is in the tree while a worker is pinned, or whose name the worker's call has read and checked, stands until the
 /// stretch of the worker's guard ends, whether the call still has its name or not.
 pub fn guards_keep<P: Payload + Small, A: Allocator>()
-    ensures { (who n : ℕ) (s : Whole P) (taken : List (Taken P)) → Holds P.same_as P.always_copies s → AreTaken P.same_as P.always_copies s taken → SeesNode s who n → StandsOn who n s taken }
+    ensures { (who n : ℕ) (s : World P) (taken : List (Taken P)) → Holds P.same_as P.always_copies s → AreTaken P.same_as P.always_copies s taken → SeesNode s who n → StandsOn who n s taken }
 {
     call_laws::<P>();
     cell_laws::<P>();
@@ -117,8 +117,8 @@ pub fn guards_keep<P: Payload + Small, A: Allocator>()
 /// A call whose steps nobody else's come between, while no other call holds a lock, ends within its number of steps, where its
 /// worker answers exactly what the newest report asked. No other call holds one where no other worker has a call in flight.
 pub fn alone_by_reports<P: Payload + Small, A: Allocator>()
-    ensures runs { (s : Whole P) (taken : List (Taken P)) → Holds P.same_as P.always_copies s → AreTaken P.same_as P.always_copies s taken → AllEndAloneTold s taken }
-    ensures idle { (s : Whole P) (who : ℕ) → Holds P.same_as P.always_copies s → OthersIdle s who → OthersUnlocked s who }
+    ensures runs { (s : World P) (taken : List (Taken P)) → Holds P.same_as P.always_copies s → AreTaken P.same_as P.always_copies s taken → AllEndAloneTold s taken }
+    ensures idle { (s : World P) (who : ℕ) → Holds P.same_as P.always_copies s → OthersIdle s who → OthersUnlocked s who }
 {
     runs_alone::<P, A>();
 }

@@ -4,7 +4,7 @@ use congee::Op;
 
 /// A worker's call in flight.
 #[derive(Drop)]
-pub enum Call<P> {
+pub enum InFlight<P> {
     /// There is none.
     Idle,
     /// A call on the collector.

@@ -4,7 +4,7 @@ ghost use Rattle.std.specs.Prelude.{◌≡◌, true, slice_get};
 ghost use Rattle.joint.specs.engine.Journaling.{asks_at, has_place, is_asking, is_pending, is_writing, may_write, reply_at, reply_by, reply_in};
 
 use crate::engine::Engine;
-use crate::engine::in_flight::Call;
+use crate::engine::in_flight::InFlight;
 use crate::engine::request::copy_reply;
 use crate::id::Id;
 use crate::steps::{Done, Outcome};
@@ -28,8 +28,8 @@ impl<P: Payload + Small, A: Allocator> Engine<P, A> {
         ensures { result ≡ has_place (slice_get self.now.calls.items who) (slice_get self.now.machines.items who) }
     {
         match self.calls.get(who) {
-            Some(Call::Securing(_)) => true,
-            Some(Call::Walking) => self.is_writing(who),
+            Some(InFlight::Securing(_)) => true,
+            Some(InFlight::Walking) => self.is_writing(who),
             // There is none, it is no writing call, or it has taken no step.
             _ => false,
         }

@@ -2,7 +2,7 @@
 
 ghost use Rattle.std.specs.Prelude.{◌≡◌, None, true, IfSome, IsSome};
 ghost use Rattle.joint.specs.engine.Journaling.{call_of, given_by};
-ghost use Rattle.joint.specs.engine.Log.{hears, with_none};
+ghost use Rattle.joint.specs.engine.Log.{with_answer, with_none};
 
 use crate::steps::Op;
 use judge::{Call, Payload, Reply};
@@ -29,8 +29,8 @@ impl<P: Payload> Request<P> {
     }
 
     /// The call takes the answer, or none came; `None` where a value can't be copied.
-    pub(crate) fn hear(self, answer: &Option<Option<P>>) -> Option<Self>
-        ensures equal { IfSome result (λ q. q ≡ hears answer.now self) }
+    pub(crate) fn with_answer(self, answer: &Option<Option<P>>) -> Option<Self>
+        ensures equal { IfSome result (λ q. q ≡ with_answer answer.now self) }
         ensures always { P.always_copies ≡ true → IsSome result }
     {
         match answer {

@@ -5,13 +5,13 @@ ghost use Rattle.judge.specs.Answer.{Pairs};
 ghost use Rattle.congee.specs.Keys.{IsMapOf};
 ghost use Rattle.joint.specs.engine.Beginning.{Begun, stage_of};
 ghost use Rattle.joint.specs.engine.Census.{AreCounted, effect_of};
-ghost use Rattle.joint.specs.nodes.Forest.{nodes};
+ghost use Rattle.joint.specs.nodes.Nodes.{nodes};
 ghost use Rattle.joint.specs.nodes.Survey.{IsEmptiness};
-ghost use Rattle.joint.specs.engine.Engine.{whole, Does, EngineHolds, IsEngineStep, Proceeds, misuse, quiet, collection, destroyed_by, finds_none, interruption, is_busy, kind_of, reserving, Surveys, Walks};
+ghost use Rattle.joint.specs.engine.Engine.{without_log, Does, EngineHolds, IsEngineStep, Proceeds, misuse, quiet, collection, destroyed_count, finds_none, interruption, is_busy, kind_of, reserving, Surveys, Walks};
 ghost use Rattle.joint.specs.Reports.{told};
 ghost use Rattle.joint.specs.declared.steps.Event.TheVariants as Event;
 ghost use Rattle.joint.specs.engine.Intact.{IsIntact, WalkedOn, over_at, writes};
-ghost use Rattle.joint.specs.declared.engine.in_flight.Call.TheVariants as Call;
+ghost use Rattle.joint.specs.declared.engine.in_flight.InFlight.TheVariants as InFlight;
 ghost use Rattle.joint.specs.declared.steps.Survey.TheVariants as Survey;
 ghost use Rattle.joint.specs.declared.steps.Target.TheVariants as Target;
 ghost use Rattle.joint.specs.declared.steps.Outcome.TheVariants as Outcome;
@@ -19,7 +19,7 @@ ghost use Rattle.joint.specs.declared.steps.Kind.TheVariants as Kind;
 ghost use Rattle.crossbeam_epoch.specs.World.Machine.{place};
 
 use crate::engine::census::{Change, effect_after};
-use crate::engine::in_flight::{Call, Stage};
+use crate::engine::in_flight::{InFlight, Stage};
 use crate::engine::{Engine, call_laws, cell_laws, progress};
 use crate::id::Id;
 use crate::refusal::Refusal;
@@ -30,9 +30,9 @@ use crossbeam_epoch::Fault;
 impl<P: Payload + Small, A: Allocator> Engine<P, A> {
     /// The step in which a worker registers.
     pub(crate) fn step_in(&mut self, worker: u32) -> Report<P>
-        requires holds { EngineHolds P.same_as P.always_copies (whole self.old.nodes self.old.machines.items self.old.calls.items) }
+        requires holds { EngineHolds P.same_as P.always_copies (without_log self.old.nodes self.old.machines.items self.old.calls.items) }
         requires counted { AreCounted self.old.census self.old.nodes self.old.machines.items }
-        ensures step { IsEngineStep P.same_as P.always_copies (whole self.old.nodes self.old.machines.items self.old.calls.items) (record { worker = worker; event = Event.Register }) result (whole self.new.nodes self.new.machines.items self.new.calls.items) }
+        ensures step { IsEngineStep P.same_as P.always_copies (without_log self.old.nodes self.old.machines.items self.old.calls.items) (record { worker = worker; event = Event.Register }) result (without_log self.new.nodes self.new.machines.items self.new.calls.items) }
         ensures counted { AreCounted self.new.census self.new.nodes self.new.machines.items }
     {
         call_laws::<P>();
@@ -43,9 +43,9 @@ impl<P: Payload + Small, A: Allocator> Engine<P, A> {
 
     /// The step in which a worker begins a call.
     pub(crate) fn step_begin(&mut self, worker: u32, op: Op<P>) -> Report<P>
-        requires holds { EngineHolds P.same_as P.always_copies (whole self.old.nodes self.old.machines.items self.old.calls.items) }
+        requires holds { EngineHolds P.same_as P.always_copies (without_log self.old.nodes self.old.machines.items self.old.calls.items) }
         requires counted { AreCounted self.old.census self.old.nodes self.old.machines.items }
-        ensures step { IsEngineStep P.same_as P.always_copies (whole self.old.nodes self.old.machines.items self.old.calls.items) (record { worker = worker; event = Event.Begin op }) result (whole self.new.nodes self.new.machines.items self.new.calls.items) }
+        ensures step { IsEngineStep P.same_as P.always_copies (without_log self.old.nodes self.old.machines.items self.old.calls.items) (record { worker = worker; event = Event.Begin op }) result (without_log self.new.nodes self.new.machines.items self.new.calls.items) }
         ensures counted { AreCounted self.new.census self.new.nodes self.new.machines.items }
     {
         call_laws::<P>();
@@ -57,9 +57,9 @@ impl<P: Payload + Small, A: Allocator> Engine<P, A> {
     /// The next step of a worker's call.
     #[inline(always)]
     pub(crate) fn step_on(&mut self, worker: u32, noise: Noise<Id, P>) -> Report<P>
-        requires holds { EngineHolds P.same_as P.always_copies (whole self.old.nodes self.old.machines.items self.old.calls.items) }
+        requires holds { EngineHolds P.same_as P.always_copies (without_log self.old.nodes self.old.machines.items self.old.calls.items) }
         requires counted { AreCounted self.old.census self.old.nodes self.old.machines.items }
-        ensures step { IsEngineStep P.same_as P.always_copies (whole self.old.nodes self.old.machines.items self.old.calls.items) (record { worker = worker; event = Event.Go noise }) result (whole self.new.nodes self.new.machines.items self.new.calls.items) }
+        ensures step { IsEngineStep P.same_as P.always_copies (without_log self.old.nodes self.old.machines.items self.old.calls.items) (record { worker = worker; event = Event.Go noise }) result (without_log self.new.nodes self.new.machines.items self.new.calls.items) }
         ensures counted { AreCounted self.new.census self.new.nodes self.new.machines.items }
     {
         call_laws::<P>();
@@ -72,7 +72,7 @@ impl<P: Payload + Small, A: Allocator> Engine<P, A> {
     fn register(&mut self) -> Report<P>
         requires intact { IsIntact P.same_as P.always_copies self.old.nodes self.old.machines.items self.old.calls.items }
         ensures intact { IsIntact P.same_as P.always_copies self.new.nodes self.new.machines.items self.new.calls.items }
-        ensures registers { Proceeds P.same_as P.always_copies (whole self.old.nodes self.old.machines.items self.old.calls.items) 0 Event.Register result (whole self.new.nodes self.new.machines.items self.new.calls.items) }
+        ensures registers { Proceeds P.same_as P.always_copies (without_log self.old.nodes self.old.machines.items self.old.calls.items) 0 Event.Register result (without_log self.new.nodes self.new.machines.items self.new.calls.items) }
         ensures census { self.new.census ≡ self.old.census }
     {
         cell_laws::<P>();
@@ -88,7 +88,7 @@ impl<P: Payload + Small, A: Allocator> Engine<P, A> {
         requires intact { IsIntact P.same_as P.always_copies self.old.nodes self.old.machines.items self.old.calls.items }
         requires counted { AreCounted self.old.census self.old.nodes self.old.machines.items }
         ensures intact { IsIntact P.same_as P.always_copies self.new.nodes self.new.machines.items self.new.calls.items }
-        ensures begun { Begun P.same_as P.always_copies (whole self.old.nodes self.old.machines.items self.old.calls.items) who target result (whole self.new.nodes self.new.machines.items self.new.calls.items) }
+        ensures begun { Begun P.same_as P.always_copies (without_log self.old.nodes self.old.machines.items self.old.calls.items) who target result (without_log self.new.nodes self.new.machines.items self.new.calls.items) }
         ensures census { self.new.census ≡ self.old.census }
     {
         if !self.nodes.is_registered(who) {
@@ -98,19 +98,19 @@ impl<P: Payload + Small, A: Allocator> Engine<P, A> {
             return refused(kind_of(&target), Refusal::of_fault(interruption(&target)));
         }
         match target {
-            Target::Collector(op) => self.begin_turn(who, op),
-            Target::Tree(op) => self.begin_point(who, op),
+            Target::Collector(op) => self.begin_on_collector(who, op),
+            Target::Tree(op) => self.begin_on_tree(who, op),
             Target::Survey(survey) => self.answer_survey(who, survey),
         }
     }
 
     /// Begins a call on the collector, of a worker without a call in flight.
-    fn begin_turn(&mut self, who: usize, op: crossbeam_epoch::Op) -> Report<P>
+    fn begin_on_collector(&mut self, who: usize, op: crossbeam_epoch::Op) -> Report<P>
         requires intact { IsIntact P.same_as P.always_copies self.old.nodes self.old.machines.items self.old.calls.items }
         requires registered { (place self.old.nodes.collector who).registered ≡ true }
-        requires idle { slice_get self.old.calls.items who ≡ Some Call.Idle }
+        requires idle { slice_get self.old.calls.items who ≡ Some InFlight.Idle }
         ensures intact { IsIntact P.same_as P.always_copies self.new.nodes self.new.machines.items self.new.calls.items }
-        ensures begun { Begun P.same_as P.always_copies (whole self.old.nodes self.old.machines.items self.old.calls.items) who (Target.Collector op) result (whole self.new.nodes self.new.machines.items self.new.calls.items) }
+        ensures begun { Begun P.same_as P.always_copies (without_log self.old.nodes self.old.machines.items self.old.calls.items) who (Target.Collector op) result (without_log self.new.nodes self.new.machines.items self.new.calls.items) }
         ensures census { self.new.census ≡ self.old.census }
     {
         progress::<P>();
@@ -120,12 +120,12 @@ impl<P: Payload + Small, A: Allocator> Engine<P, A> {
     }
 
     /// Begins a call on the tree, of a worker without a call in flight.
-    fn begin_point(&mut self, who: usize, op: congee::Op<P>) -> Report<P>
+    fn begin_on_tree(&mut self, who: usize, op: congee::Op<P>) -> Report<P>
         requires intact { IsIntact P.same_as P.always_copies self.old.nodes self.old.machines.items self.old.calls.items }
         requires registered { (place self.old.nodes.collector who).registered ≡ true }
-        requires idle { slice_get self.old.calls.items who ≡ Some Call.Idle }
+        requires idle { slice_get self.old.calls.items who ≡ Some InFlight.Idle }
         ensures intact { IsIntact P.same_as P.always_copies self.new.nodes self.new.machines.items self.new.calls.items }
-        ensures begun { Begun P.same_as P.always_copies (whole self.old.nodes self.old.machines.items self.old.calls.items) who (Target.Tree op) result (whole self.new.nodes self.new.machines.items self.new.calls.items) }
+        ensures begun { Begun P.same_as P.always_copies (without_log self.old.nodes self.old.machines.items self.old.calls.items) who (Target.Tree op) result (without_log self.new.nodes self.new.machines.items self.new.calls.items) }
         ensures census { self.new.census ≡ self.old.census }
     {
         if !self.nodes.is_pinned(who) {
@@ -147,9 +147,9 @@ impl<P: Payload + Small, A: Allocator> Engine<P, A> {
     fn answer_survey(&self, who: usize, survey: Survey) -> Report<P>
         requires intact { IsIntact P.same_as P.always_copies self.now.nodes self.now.machines.items self.now.calls.items }
         requires registered { (place self.now.nodes.collector who).registered ≡ true }
-        requires idle { slice_get self.now.calls.items who ≡ Some Call.Idle }
+        requires idle { slice_get self.now.calls.items who ≡ Some InFlight.Idle }
         requires counted { AreCounted self.now.census self.now.nodes self.now.machines.items }
-        ensures { Begun P.same_as P.always_copies (whole self.now.nodes self.now.machines.items self.now.calls.items) who (Target.Survey survey) result (whole self.now.nodes self.now.machines.items self.now.calls.items) }
+        ensures { Begun P.same_as P.always_copies (without_log self.now.nodes self.now.machines.items self.now.calls.items) who (Target.Survey survey) result (without_log self.now.nodes self.now.machines.items self.now.calls.items) }
     {
         match survey {
             Survey::Keys => self.tell_keys(),
@@ -167,7 +167,7 @@ impl<P: Payload + Small, A: Allocator> Engine<P, A> {
     /// All keys.
     fn tell_keys(&self) -> Report<P>
         requires { IsIntact P.same_as P.always_copies self.now.nodes self.now.machines.items self.now.calls.items }
-        ensures { Surveys (whole self.now.nodes self.now.machines.items self.now.calls.items) Survey.Keys result (whole self.now.nodes self.now.machines.items self.now.calls.items) }
+        ensures { Surveys (without_log self.now.nodes self.now.machines.items self.now.calls.items) Survey.Keys result (without_log self.now.nodes self.now.machines.items self.now.calls.items) }
     {
         match self.nodes.keys(self.census.capped() as usize) {
             Ok(keys) => report(Kind::Tree, Outcome::Done(Done::Keys(keys))),
@@ -179,7 +179,7 @@ impl<P: Payload + Small, A: Allocator> Engine<P, A> {
     fn tell_empty(&self) -> Report<P>
         requires intact { IsIntact P.same_as P.always_copies self.now.nodes self.now.machines.items self.now.calls.items }
         requires counted { AreCounted self.now.census self.now.nodes self.now.machines.items }
-        ensures { Surveys (whole self.now.nodes self.now.machines.items self.now.calls.items) Survey.IsEmpty result (whole self.now.nodes self.now.machines.items self.now.calls.items) }
+        ensures { Surveys (without_log self.now.nodes self.now.machines.items self.now.calls.items) Survey.IsEmpty result (without_log self.now.nodes self.now.machines.items self.now.calls.items) }
     {
         report(Kind::Tree, Outcome::Done(Done::Empty(self.is_empty())))
     }
@@ -196,7 +196,7 @@ impl<P: Payload + Small, A: Allocator> Engine<P, A> {
     fn tell_stats(&self) -> Report<P>
         requires intact { IsIntact P.same_as P.always_copies self.now.nodes self.now.machines.items self.now.calls.items }
         requires counted { AreCounted self.now.census self.now.nodes self.now.machines.items }
-        ensures { Surveys (whole self.now.nodes self.now.machines.items self.now.calls.items) Survey.Stats result (whole self.now.nodes self.now.machines.items self.now.calls.items) }
+        ensures { Surveys (without_log self.now.nodes self.now.machines.items self.now.calls.items) Survey.Stats result (without_log self.now.nodes self.now.machines.items self.now.calls.items) }
     {
         match self.nodes.stats(self.census.capped()) {
             Ok(stats) => report(Kind::Tree, Outcome::Done(Done::Stats(stats))),
@@ -210,11 +210,11 @@ impl<P: Payload + Small, A: Allocator> Engine<P, A> {
         requires intact { IsIntact P.same_as P.always_copies self.old.nodes self.old.machines.items self.old.calls.items }
         requires counted { AreCounted self.old.census self.old.nodes self.old.machines.items }
         ensures intact { IsIntact P.same_as P.always_copies self.new.nodes self.new.machines.items self.new.calls.items }
-        ensures does { Does P.same_as P.always_copies (whole self.old.nodes self.old.machines.items self.old.calls.items) who (Event.Go noise) (misuse (whole self.old.nodes self.old.machines.items self.old.calls.items) who (Event.Go noise)) result (whole self.new.nodes self.new.machines.items self.new.calls.items) }
+        ensures does { Does P.same_as P.always_copies (without_log self.old.nodes self.old.machines.items self.old.calls.items) who (Event.Go noise) (misuse (without_log self.old.nodes self.old.machines.items self.old.calls.items) who (Event.Go noise)) result (without_log self.new.nodes self.new.machines.items self.new.calls.items) }
         ensures counted { AreCounted self.new.census self.new.nodes self.new.machines.items }
     {
         if self.is_walking(who) {
-            self.go_point(who, noise)
+            self.go_on_tree(who, noise)
         } else {
             self.go_other(who)
         }
@@ -222,11 +222,11 @@ impl<P: Payload + Small, A: Allocator> Engine<P, A> {
 
     /// Whether a worker's call takes its steps on the tree.
     fn is_walking(&self, who: usize) -> bool
-        ensures walking { result ≡ true → slice_get self.now.calls.items who ≡ Some Call.Walking }
-        ensures other { result ≡ false → slice_get self.now.calls.items who ≡ Some Call.Walking → ⊥ }
+        ensures walking { result ≡ true → slice_get self.now.calls.items who ≡ Some InFlight.Walking }
+        ensures other { result ≡ false → slice_get self.now.calls.items who ≡ Some InFlight.Walking → ⊥ }
     {
         match self.calls.get(who) {
-            Some(Call::Walking) => true,
+            Some(InFlight::Walking) => true,
             // There is none, or it is on the collector, or before its first step on the tree.
             _ => false,
         }
@@ -235,11 +235,11 @@ impl<P: Payload + Small, A: Allocator> Engine<P, A> {
     /// The next step of a worker's call that isn't on the tree yet, or there is none.
     #[inline(never)]
     fn go_other(&mut self, who: usize) -> Report<P>
-        requires other { slice_get self.old.calls.items who ≡ Some Call.Walking → ⊥ }
+        requires other { slice_get self.old.calls.items who ≡ Some InFlight.Walking → ⊥ }
         requires intact { IsIntact P.same_as P.always_copies self.old.nodes self.old.machines.items self.old.calls.items }
         requires counted { AreCounted self.old.census self.old.nodes self.old.machines.items }
         ensures intact { IsIntact P.same_as P.always_copies self.new.nodes self.new.machines.items self.new.calls.items }
-        ensures does { (noise : Noise Id P) → Does P.same_as P.always_copies (whole self.old.nodes self.old.machines.items self.old.calls.items) who (Event.Go noise) (misuse (whole self.old.nodes self.old.machines.items self.old.calls.items) who (Event.Go noise)) result (whole self.new.nodes self.new.machines.items self.new.calls.items) }
+        ensures does { (noise : Noise Id P) → Does P.same_as P.always_copies (without_log self.old.nodes self.old.machines.items self.old.calls.items) who (Event.Go noise) (misuse (without_log self.old.nodes self.old.machines.items self.old.calls.items) who (Event.Go noise)) result (without_log self.new.nodes self.new.machines.items self.new.calls.items) }
         ensures counted { AreCounted self.new.census self.new.nodes self.new.machines.items }
     {
         if !self.nodes.is_registered(who) {
@@ -266,12 +266,12 @@ impl<P: Payload + Small, A: Allocator> Engine<P, A> {
 
     /// The next step of a worker's call on the tree.
     #[inline(always)]
-    fn go_point(&mut self, who: usize, noise: Noise<Id, P>) -> Report<P>
+    fn go_on_tree(&mut self, who: usize, noise: Noise<Id, P>) -> Report<P>
         requires intact { IsIntact P.same_as P.always_copies self.old.nodes self.old.machines.items self.old.calls.items }
-        requires on { slice_get self.old.calls.items who ≡ Some Call.Walking }
+        requires on { slice_get self.old.calls.items who ≡ Some InFlight.Walking }
         requires counted { AreCounted self.old.census self.old.nodes self.old.machines.items }
         ensures intact { IsIntact P.same_as P.always_copies self.new.nodes self.new.machines.items self.new.calls.items }
-        ensures walks { Walks P.same_as P.always_copies (whole self.old.nodes self.old.machines.items self.old.calls.items) who noise result (whole self.new.nodes self.new.machines.items self.new.calls.items) }
+        ensures walks { Walks P.same_as P.always_copies (without_log self.old.nodes self.old.machines.items self.old.calls.items) who noise result (without_log self.new.nodes self.new.machines.items self.new.calls.items) }
         ensures counted { AreCounted self.new.census self.new.nodes self.new.machines.items }
     {
         let before = self.nodes.standing();
@@ -283,11 +283,11 @@ impl<P: Payload + Small, A: Allocator> Engine<P, A> {
     #[inline(always)]
     fn go_counted(&mut self, who: usize, noise: Noise<Id, P>) -> Move<P>
         requires intact { IsIntact P.same_as P.always_copies self.old.nodes self.old.machines.items self.old.calls.items }
-        requires on { slice_get self.old.calls.items who ≡ Some Call.Walking }
+        requires on { slice_get self.old.calls.items who ≡ Some InFlight.Walking }
         requires counted { AreCounted self.old.census self.old.nodes self.old.machines.items }
         ensures intact { IsIntact P.same_as P.always_copies self.new.nodes self.new.machines.items self.new.calls.items }
         ensures walked { WalkedOn P.same_as P.always_copies self.old.nodes self.old.machines.items (record { who = who; noise = noise }) result self.new.nodes self.new.machines.items }
-        ensures calls { self.new.calls.items ≡ slice_set self.old.calls.items who (if over_at (slice_get self.new.machines.items who) then Call.Idle else Call.Walking) }
+        ensures calls { self.new.calls.items ≡ slice_set self.old.calls.items who (if over_at (slice_get self.new.machines.items who) then InFlight.Idle else InFlight.Walking) }
         ensures counted { AreCounted self.new.census self.new.nodes self.new.machines.items }
     {
         call_laws::<P>();
@@ -319,7 +319,7 @@ impl<P: Payload + Small, A: Allocator> Engine<P, A> {
         ensures { result ≡ is_busy (slice_get self.now.calls.items who) }
     {
         match &self.calls[who] {
-            Call::Idle => false,
+            InFlight::Idle => false,
             // On the collector, on the tree, or before that making places free.
             _ => true,
         }
@@ -331,11 +331,11 @@ impl<P: Payload + Small, A: Allocator> Engine<P, A> {
         ensures { Some result ≡ option_map stage_of (slice_get self.now.calls.items who) }
     {
         match &self.calls[who] {
-            Call::Idle => Stage::Idle,
-            Call::Collecting(op) => Stage::Collecting(*op),
-            Call::Reserving(_) => Stage::Reserving,
-            Call::Securing(_) => Stage::Securing,
-            Call::Walking => Stage::Walking,
+            InFlight::Idle => Stage::Idle,
+            InFlight::Collecting(op) => Stage::Collecting(*op),
+            InFlight::Reserving(_) => Stage::Reserving,
+            InFlight::Securing(_) => Stage::Securing,
+            InFlight::Walking => Stage::Walking,
         }
     }
 }
@@ -362,8 +362,8 @@ pub(crate) fn refused<P>(kind: Kind, refusal: Refusal) -> Report<P>
 }
 
 /// The nodes that a step of the collector destroyed.
-fn destroyed_by(report: &crossbeam_epoch::Report) -> u64
-    ensures { result ≡ destroyed_by report.now.called }
+fn destroyed_count(report: &crossbeam_epoch::Report) -> u64
+    ensures { result ≡ destroyed_count report.now.called }
 {
     match report.called {
         None => 0,
@@ -381,7 +381,7 @@ fn collection<P>(report: crossbeam_epoch::Report, outcome: Outcome<P>) -> Report
         decided: false,
         kept: false,
         skipped: false,
-        destroyed: destroyed_by(&report),
+        destroyed: destroyed_count(&report),
         outcome,
     }
 }

@@ -4,12 +4,12 @@ ghost use Rattle.std.specs.Prelude.{◌≡◌, ◌*◌, ◌<◌, ◌≤◌, ◌�
 ghost use Rattle.std.specs.List.{sum_by};
 ghost use Rattle.congee.specs.Heap.{Stands};
 ghost use Rattle.joint.specs.engine.Census.{AreCounted, taken_at, waiting_nodes};
-ghost use Rattle.joint.specs.nodes.Forest.{nodes};
+ghost use Rattle.joint.specs.nodes.Nodes.{nodes};
 ghost use Rattle.joint.specs.engine.Intact.{IsIntact};
 ghost use Rattle.joint.specs.engine.Journaling.{in_list};
 ghost use Rattle.joint.specs.nodes.Listing.{bytes_of};
 ghost use Rattle.joint.specs.nodes.View.{id_number};
-ghost use Rattle.joint.specs.engine.Engine.{whole};
+ghost use Rattle.joint.specs.engine.Engine.{without_log};
 
 use crate::engine::Engine;
 use crate::engine::census::Taken;
@@ -22,7 +22,7 @@ impl<P: Payload + Small, A: Allocator> Engine<P, A> {
     pub(crate) fn waiting(&self) -> u64
         requires intact { IsIntact P.same_as P.always_copies self.now.nodes self.now.machines.items self.now.calls.items }
         requires counted { AreCounted self.now.census self.now.nodes self.now.machines.items }
-        ensures { result ≡ length (waiting_nodes (whole self.now.nodes self.now.machines.items self.now.calls.items)) }
+        ensures { result ≡ length (waiting_nodes (without_log self.now.nodes self.now.machines.items self.now.calls.items)) }
     {
         self.nodes.handed() + self.census.taken.nodes
     }
@@ -31,7 +31,7 @@ impl<P: Payload + Small, A: Allocator> Engine<P, A> {
     pub(crate) fn waiting_bytes(&self) -> u64
         requires intact { IsIntact P.same_as P.always_copies self.now.nodes self.now.machines.items self.now.calls.items }
         requires counted { AreCounted self.now.census self.now.nodes self.now.machines.items }
-        ensures { result ≡ sum_by (bytes_of self.now.nodes) (waiting_nodes (whole self.now.nodes self.now.machines.items self.now.calls.items)) }
+        ensures { result ≡ sum_by (bytes_of self.now.nodes) (waiting_nodes (without_log self.now.nodes self.now.machines.items self.now.calls.items)) }
     {
         self.nodes.handed_bytes() + self.census.taken.bytes
     }

@@ -8,12 +8,12 @@ ghost use Rattle.congee.specs.declared.forms.prefix.TheConstants.{MAX_PREFIX_LEN
 ghost use Rattle.congee.specs.protocol.Events.{hung, MayChange, TakesOver};
 ghost use Rattle.congee.specs.forms.Forms.{size_of};
 ghost use Rattle.congee.specs.Heap.{Holds};
-ghost use Rattle.joint.specs.nodes.Altering.{Alters, Hangs, Fills, Empties, IsNewSlot, IsNoSlot, IsOverBudget, HandsOver, Exchanges, Pulls};
+ghost use Rattle.joint.specs.nodes.Altering.{Alters, Hangs, Fills, Empties, IsNewSlot, IsNoSlot, IsOverBudget, MovesTo, Exchanges, Pulls};
 ghost use Rattle.joint.specs.nodes.Solid.{IsWhole};
 ghost use Rattle.joint.specs.nodes.View.{id_number, node_of, out};
 
 use crate::id::Id;
-use crate::nodes::slot::{Slot, Word};
+use crate::nodes::slot::{LockWord, Slot};
 use congee::{Allocator, Child, NodeType, OOMError, Payload, Refusal, Small};
 use crossbeam_epoch::{Name, World};
 use std::alloc::Global;
@@ -42,7 +42,11 @@ fn put_back<P: Payload + Small>(collector: &mut World<Slot<P>, ()>, at: Name, sl
 }
 
 /// Gives a node another lock word.
-pub(crate) fn set_word<P: Payload + Small>(collector: &mut World<Slot<P>, ()>, at: Name, word: Word)
+pub(crate) fn set_word<P: Payload + Small>(
+    collector: &mut World<Slot<P>, ()>,
+    at: Name,
+    word: LockWord,
+)
     requires { is_some (value_at collector.old.store at) ≡ true }
     ensures beside { collector.new ≡ with_store collector.old collector.new.store }
     ensures slot { (s : Slot P) × Alters collector.old.store at s (record s { word = word }) collector.new.store }
@@ -161,7 +165,7 @@ pub(crate) fn charge<A: Allocator>(allocator: &mut A, form: NodeType) -> Result<
 
 /// Gives the children of one node to another, an empty one: values are moved, and the names of nodes stay in the first
 /// too.
-pub(crate) fn hand_over<P: Payload + Small>(
+pub(crate) fn move_children<P: Payload + Small>(
     collector: &mut World<Slot<P>, ()>,
     old: Name,
     node: Name,
@@ -172,12 +176,12 @@ pub(crate) fn hand_over<P: Payload + Small>(
     requires whole { (n : Name) (s : Slot P) → value_at collector.old.store n ≡ Some s → IsWhole s.node }
     requires room { (a b : Slot P) → value_at collector.old.store old ≡ Some a → value_at collector.old.store node ≡ Some b → TakesOver (node_of a) (node_of b) }
     ensures beside { collector.new ≡ with_store collector.old collector.new.store }
-    ensures slots { (a : Slot P) × ((b : Slot P) × ((a' : Slot P) × ((b' : Slot P) × (Exchanges collector.old.store old node a b a' b' collector.new.store × HandsOver a b a' b')))) }
+    ensures slots { (a : Slot P) × ((b : Slot P) × ((a' : Slot P) × ((b' : Slot P) × (Exchanges collector.old.store old node a b a' b' collector.new.store × MovesTo a b a' b')))) }
 {
     World::<Slot<P>, ()>::cells();
     let mut from = take_out(collector, old);
     let mut to = take_out(collector, node);
-    from.hand_over(&mut to);
+    from.move_to(&mut to);
     put_back(collector, node, to);
     put_back(collector, old, from);
 }

@@ -6,7 +6,7 @@ ghost use Rattle.judge.specs.Answer.{Pairs};
 ghost use Rattle.crossbeam_epoch.specs.World.Ending.{registered_in};
 ghost use Rattle.congee.specs.Keys.{IsMapOf};
 ghost use Rattle.joint.specs.nodes.Draining.{TakesBelow, Drained};
-ghost use Rattle.joint.specs.nodes.Forest.{nodes, frame};
+ghost use Rattle.joint.specs.nodes.Nodes.{nodes, frame};
 ghost use Rattle.joint.specs.nodes.Levels.{IsNodeIn};
 ghost use Rattle.joint.specs.nodes.Survey.{IsTree};
 ghost use Rattle.joint.specs.nodes.View.{id_number};

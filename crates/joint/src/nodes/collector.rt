@@ -9,7 +9,7 @@ ghost use Rattle.crossbeam_epoch.specs.World.Progress.{Moves};
 ghost use Rattle.crossbeam_epoch.specs.World.Reach.{Moment, Quiet, Marked, moment, step_act, Tells};
 ghost use Rattle.crossbeam_epoch.specs.World.History.{Deferred};
 ghost use Rattle.crossbeam_epoch.specs.World.Steps.{IsReport, after, destroy_fault};
-ghost use Rattle.joint.specs.nodes.Forest.{IsCharged, IsBeside, with_collector, gone_by};
+ghost use Rattle.joint.specs.nodes.Nodes.{IsCharged, IsBeside, with_collector, gone_by};
 ghost use Rattle.joint.specs.nodes.Slots.{slot_names};
 
 use crate::id::Id;
@@ -64,7 +64,7 @@ impl<P: Payload + Small, A: Allocator> Nodes<P, A> {
         World::<Slot<P>, ()>::order();
         World::<Slot<P>, ()>::cells();
         let report = self.collector.step(who, event);
-        match destroyed_by(&report) {
+        match destroyed_name(&report) {
             None => report,
             Some(name) => {
                 let size = self.counts.take_off(name.cell);
@@ -87,7 +87,7 @@ impl<P: Payload + Small, A: Allocator> Nodes<P, A> {
 }
 
 /// The name of the cell that a step destroyed.
-fn destroyed_by(report: &Report) -> Option<Name>
+fn destroyed_name(report: &Report) -> Option<Name>
     ensures { result ≡ gone_by report.now.called }
 {
     match report.called {

@@ -8,12 +8,12 @@ ghost use Rattle.congee.specs.forms.Forms.{children_of, prefix_of};
 ghost use Rattle.congee.specs.Heap.{fits, is_taken};
 ghost use Rattle.congee.specs.protocol.Seeing.{IsSeen, ReadSees, LeastSees};
 ghost use Rattle.congee.specs.protocol.SweepEvents.{LeastGives, LeastTruly, IsAny};
-ghost use Rattle.joint.specs.declared.nodes.slot.Word.{Word};
+ghost use Rattle.joint.specs.declared.nodes.slot.LockWord.{LockWord};
 ghost use Rattle.joint.specs.nodes.Solid.{IsSolid, IsLook, IsUncopied};
 ghost use Rattle.joint.specs.nodes.View.{id_number, shape, child_at};
 
 use crate::id::Id;
-use crate::nodes::slot::Word;
+use crate::nodes::slot::LockWord;
 use congee::protocol::{Least, Reading};
 use congee::{Child, KEY_BYTES, Node, Payload, Seen, Small};
 
@@ -80,7 +80,7 @@ fn as_seen<P: Payload + Small>(byte: u8, seen: Option<Seen<Id, P>>) -> Seen<Id, 
 /// Compares the key with the node's prefix, and looks at the key's byte.
 pub(crate) fn read<P: Payload + Small>(
     node: &Node<Id, P>,
-    word: Word,
+    word: LockWord,
     version: u64,
     key: &[u8; KEY_BYTES],
     seen: Option<Seen<Id, P>>,
@@ -115,7 +115,7 @@ pub(crate) fn read<P: Payload + Small>(
 fn least_child<P: Payload + Small>(node: &Node<Id, P>, from: u16, last: u8) -> Least<Id, P>
     requires { IsSolid (children_of node.now) }
     ensures any { IsAny P.always_copies result }
-    ensures truly { (w : Word) → LeastTruly id_number (shape node.now w) from last result }
+    ensures truly { (w : LockWord) → LeastTruly id_number (shape node.now w) from last result }
 {
     let Some((byte, child)) = node.first_from(from as usize) else {
         return Least::Nothing;
@@ -136,7 +136,7 @@ fn least_child<P: Payload + Small>(node: &Node<Id, P>, from: u16, last: u8) -> L
 /// The child of the least byte within bounds, for a call that took this version, or what another call is to see.
 pub(crate) fn least<P: Payload + Small>(
     node: &Node<Id, P>,
-    word: Word,
+    word: LockWord,
     version: u64,
     from: u16,
     last: u8,

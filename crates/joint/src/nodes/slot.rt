@@ -9,8 +9,8 @@ ghost use Rattle.joint.specs.nodes.Slots.{names_in};
 ghost use Rattle.congee.specs.protocol.Events.{hung, HoldsNodes, IsOther, MayChange, TakesOver};
 ghost use Rattle.congee.specs.Heap.{Below, Holds, Nothing};
 ghost use Rattle.std.specs.FinMap as map;
-ghost use Rattle.joint.specs.declared.nodes.slot.Word.{Word};
-ghost use Rattle.joint.specs.nodes.Altering.{Hangs, HandsOver, IsNewSlot, Pulls};
+ghost use Rattle.joint.specs.declared.nodes.slot.LockWord.{LockWord};
+ghost use Rattle.joint.specs.nodes.Altering.{Hangs, MovesTo, IsNewSlot, Pulls};
 ghost use Rattle.joint.specs.nodes.Solid.{AreAlike, IsLeft, IsSolid, IsWhole, hang};
 ghost use Rattle.joint.specs.nodes.View.{id_number, child_at, node_of, out, shape, is_word};
 
@@ -43,19 +43,19 @@ impl<P: Small> Housed for P {
 pub struct Slot<P: Housed> {
     /// There is none only while the node is out to be changed.
     pub node: Option<Box<Node<Id, P>>>,
-    pub word: Word,
+    pub word: LockWord,
 }
 
 /// A node's lock word, and whether it was handed over for its destruction.
 #[derive(Clone, Copy, Drop)]
-pub struct Word {
+pub struct LockWord {
     pub version: u64,
     pub locked: bool,
     pub obsolete: bool,
     pub retired: bool,
 }
 
-impl Word {
+impl LockWord {
     /// Whether the word is free at this version.
     pub(crate) fn is_at(self, version: u64) -> bool
         ensures { result ≡ is_word self version }
@@ -71,7 +71,7 @@ impl<P: Payload + Small> Slot<P> {
     {
         Slot {
             node: None,
-            word: Word {
+            word: LockWord {
                 version: 0,
                 locked: false,
                 obsolete: false,
@@ -88,7 +88,7 @@ impl<P: Payload + Small> Slot<P> {
         let node = Box::new(alloc, Node::new(alloc, form, prefix)?)?;
         Ok(Slot {
             node: Some(node),
-            word: Word {
+            word: LockWord {
                 version: 0,
                 locked: false,
                 obsolete: false,
@@ -156,24 +156,24 @@ impl<P: Payload + Small> Slot<P> {
     }
 
     /// Gives its children to an empty slot: values are moved, and the names of nodes stay here too.
-    pub(crate) fn hand_over(&mut self, greater: &mut Slot<P>)
+    pub(crate) fn move_to(&mut self, greater: &mut Slot<P>)
         requires whole { IsWhole self.old.node }
         requires whole_greater { IsWhole greater.old.node }
         requires room { TakesOver (node_of self.old) (node_of greater.old) }
-        ensures { HandsOver self.old greater.old self.new greater.new }
+        ensures { MovesTo self.old greater.old self.new greater.new }
     {
         let Some(node) = &mut self.node else {
             unreachable!();
         };
         match &mut greater.node {
-            Some(greater) => hand_over(node, greater),
+            Some(greater) => move_to(node, greater),
             None => unreachable!(),
         }
     }
 }
 
 /// Gives a node's children to an empty one: values are moved, and the names of nodes stay in the first too.
-fn hand_over<P: Payload + Small>(node: &mut Node<Id, P>, greater: &mut Node<Id, P>)
+fn move_to<P: Payload + Small>(node: &mut Node<Id, P>, greater: &mut Node<Id, P>)
     requires empty { children_of greater.old ≡ map.empty }
     requires room { map.len (children_of node.old) ≤ capacity_of (form_of greater.old) }
     requires alike { AreAlike node.old }
@@ -225,7 +225,7 @@ fn copy_names<P: Payload + Small>(node: &Node<Id, P>, greater: &mut Node<Id, P>)
 /// Hangs the child at the byte of a node, in place of what hangs there, or takes out what hangs there.
 fn hang<P: Payload + Small>(node: &mut Node<Id, P>, byte: u8, child: Child<Id, P>)
     requires solid { IsSolid (children_of node.old) }
-    requires room { (w : Word) → MayChange (shape node.old w) byte (hung id_number child) }
+    requires room { (w : LockWord) → MayChange (shape node.old w) byte (hung id_number child) }
     ensures { Becomes node.old node.new (hang (children_of node.old) byte child) }
 {
     match child {

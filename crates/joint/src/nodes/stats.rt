@@ -5,7 +5,7 @@ ghost use Rattle.std.specs.FinMap as map;
 ghost use Rattle.congee.specs.Keys.{IsMapOf};
 ghost use Rattle.congee.specs.owned.Stats.{IsTally, Shape, capped};
 ghost use Rattle.judge.specs.Answer.{Pairs};
-ghost use Rattle.joint.specs.nodes.Forest.{nodes};
+ghost use Rattle.joint.specs.nodes.Nodes.{nodes};
 ghost use Rattle.joint.specs.nodes.Levels.{IsNodeIn, nodes_from, nodes_of};
 ghost use Rattle.joint.specs.nodes.Survey.{IsTree};
 ghost use Rattle.joint.specs.nodes.View.{id_number};

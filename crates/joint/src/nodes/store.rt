@@ -5,23 +5,23 @@ ghost use Rattle.congee.specs.Heap.{Stands, is_taken};
 ghost use Rattle.congee.specs.protocol.Events.{hung, ReadGives, UpgradeGives, MayChange, ChangeGives};
 ghost use Rattle.congee.specs.protocol.Seeing.{ReadSees, LeastSees};
 ghost use Rattle.congee.specs.protocol.SweepEvents.{LeastGives};
-ghost use Rattle.joint.specs.nodes.Forest.{nodes, frame};
+ghost use Rattle.joint.specs.nodes.Nodes.{nodes, frame};
 ghost use Rattle.joint.specs.nodes.View.{id_number};
 
 use crate::id::Id;
-use crate::nodes::slot::Word;
+use crate::nodes::slot::LockWord;
 use crate::nodes::{Nodes, cells, reading};
 use congee::protocol::{Least, Reading, Region, Seat, Upgrade};
 use congee::{Allocator, Child, KEY_BYTES, NodeType, Payload, Refusal, Seen, Small, Store};
 
 impl<P: Payload + Small, A: Allocator> Store<Id, P> for Nodes<P, A> {
-    ghost use Rattle.joint.specs.nodes.Forest.{Forest, nodes, frame, Refuses};
+    ghost use Rattle.joint.specs.nodes.Nodes.{Nodes as State, nodes, frame, Refuses};
 
     ghost heap = { nodes };
 
     ghost version_max = { λ s. s.version_max };
 
-    ghost Rest = { Forest P };
+    ghost Rest = { State P };
 
     ghost rest = { frame };
 
@@ -83,7 +83,7 @@ impl<P: Payload + Small, A: Allocator> Store<Id, P> for Nodes<P, A> {
         }
         self.set_word(
             at.node,
-            Word {
+            LockWord {
                 locked: true,
                 ..word
             },
@@ -138,7 +138,7 @@ impl<P: Payload + Small, A: Allocator> Store<Id, P> for Nodes<P, A> {
 
     fn take_over(&mut self, old: Id, node: Id) {
         if !old.is(node) {
-            cells::hand_over(&mut self.collector, old.name, node.name);
+            cells::move_children(&mut self.collector, old.name, node.name);
         }
     }
 
@@ -152,7 +152,7 @@ impl<P: Payload + Small, A: Allocator> Store<Id, P> for Nodes<P, A> {
         let word = self.slot(node).word;
         self.set_word(
             node,
-            Word {
+            LockWord {
                 obsolete: true,
                 ..word
             },
@@ -165,7 +165,7 @@ impl<P: Payload + Small, A: Allocator> Store<Id, P> for Nodes<P, A> {
         cells::set_word(
             &mut self.collector,
             node.name,
-            Word {
+            LockWord {
                 retired: true,
                 ..word
             },
@@ -177,7 +177,7 @@ impl<P: Payload + Small, A: Allocator> Store<Id, P> for Nodes<P, A> {
         let word = self.slot(node).word;
         self.set_word(
             node,
-            Word {
+            LockWord {
                 version: word.version + 1,
                 locked: false,
                 ..word

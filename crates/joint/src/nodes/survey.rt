@@ -6,7 +6,7 @@ ghost use Rattle.congee.specs.Keys.{IsMapOf};
 ghost use Rattle.congee.specs.protocol.Regions.{start_at};
 ghost use Rattle.congee.specs.protocol.SweepSteps.{width};
 ghost use Rattle.judge.specs.Answer.{Pairs};
-ghost use Rattle.joint.specs.nodes.Forest.{nodes};
+ghost use Rattle.joint.specs.nodes.Nodes.{nodes};
 ghost use Rattle.joint.specs.nodes.Levels.{IsNodeIn};
 ghost use Rattle.joint.specs.nodes.Survey.{IsRegionOf, IsTree, PutsKeys, keys_of};
 ghost use Rattle.joint.specs.nodes.View.{id_number};

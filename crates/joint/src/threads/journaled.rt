@@ -16,7 +16,7 @@ use crate::refusal::Refusal;
 use crate::steps::Op;
 use crate::threads::answers::{IfPresent, OrInsert};
 use crate::threads::ends::{computed, exchanged, inserted, removed, replaced};
-use crate::threads::kept::Kept;
+use crate::threads::journaled_world::JournaledWorld;
 use crate::threads::share::Share;
 use crate::threads::tokens::{Guard, Worker};
 use crate::threads::tree::Tree;
@@ -37,7 +37,7 @@ use std::sync::ledger::{Blank, Ledger};
 /// else, which no schedule brings about, it answers the reply of its entry, or is refused as Idle where it has none.
 #[derive(Drop)]
 pub struct Journaled<L: Ledger, W: Watch, K, V, A: Allocator = DefaultAllocator, D = NoDrain> {
-    tree: Tree<u64, Kept<L, W, A>>,
+    tree: Tree<u64, JournaledWorld<L, W, A>>,
     drainer: D,
     alloc: Global,
     words: PhantomData<(K, V)>,
@@ -74,7 +74,7 @@ impl<L: Ledger, W: Watch, K: Word64, V: Word64, A: Allocator, D: Drop> Journaled
         let world = World::new_journaled(alloc, limits, allocator, places)?;
         let (book, tokens) = blank.open::<L>();
         let journaled = Journaled {
-            tree: Tree::of(limits.id, account, Kept::with(world, book)),
+            tree: Tree::of(limits.id, account, JournaledWorld::with(world, book)),
             drainer,
             alloc,
             words: PhantomData,

@@ -2,7 +2,7 @@
 
 ghost use Rattle.std.specs.Prelude.{◌≡◌, ◌+◌, ◌-◌, ◌*◌, ◌^◌, ◌%◌, ◌<◌, ◌≤◌};
 ghost use Rattle.joint.specs.engine.Journaling.{one_where};
-ghost use Rattle.joint.specs.threads.Shares.{Tally, counts_more};
+ghost use Rattle.joint.specs.threads.Shares.{ShareView, counts_more};
 
 use std::marker::{Model, PhantomData};
 use std::sync::ledger::{Book, Ledger, Share as Tokens};
@@ -39,9 +39,9 @@ pub struct Share<L: Ledger> {
 
 impl<L: Ledger> Model for Share<L> {
     ghost use Rattle.std.specs.Prelude.{◌≡◌, ◌^◌, ◌%◌, ◌<◌, ◌≤◌};
-    ghost use Rattle.joint.specs.threads.Shares.{Tally};
+    ghost use Rattle.joint.specs.threads.Shares.{ShareView};
 
-    ghost Value = { Tally };
+    ghost Value = { ShareView };
 
     ghost view = { λ s. record { parts = s.parts; count = s.tokens.amount } };
 

@@ -5,8 +5,8 @@ ghost use Rattle.joint.specs.engine.Intact.{is_reserving};
 ghost use Rattle.judge.specs.declared.journal.Entry.{Entry};
 ghost use Rattle.joint.specs.declared.engine.request.Request.{Request};
 ghost use Rattle.joint.specs.engine.Journaling.{asks_at, entry_of, in_list, kept_if, reply_by};
-ghost use Rattle.joint.specs.engine.Log.{has_room, heard_by, is_full, noted, request_at};
-ghost use Rattle.joint.specs.world.Whole.{IsStep};
+ghost use Rattle.joint.specs.engine.Log.{has_room, answered_if, is_full, with_request, request_at};
+ghost use Rattle.joint.specs.world.World.{IsStep};
 ghost use Rattle.joint.specs.engine.Engine.{is_in_flight};
 
 use crate::engine::Engine;
@@ -47,7 +47,7 @@ impl<P: Payload + Small, A: Allocator> World<P, A> {
         let request = Request::of(&op);
         let report = self.engine.step_begin(worker, op);
         let on = is_in_flight(&report.outcome);
-        note(&mut self.log, worker as usize, on, request);
+        put_request_if(&mut self.log, worker as usize, on, request);
         report
     }
 
@@ -78,9 +78,9 @@ impl<P: Payload + Small, A: Allocator> World<P, A> {
     {
         let who = worker as usize;
         let asks = takes_answer(&self.engine, who, &noise.answer);
-        hear(&mut self.log, who, asks, &noise.answer);
+        take_answer(&mut self.log, who, asks, &noise.answer);
         let told = self.engine.step_on(worker, noise);
-        note(&mut self.log, who, !is_in_flight(&told.outcome), None);
+        put_request_if(&mut self.log, who, !is_in_flight(&told.outcome), None);
         told
     }
 
@@ -89,52 +89,52 @@ impl<P: Payload + Small, A: Allocator> World<P, A> {
     fn go_kept(&mut self, worker: u32, noise: Noise<Id, P>) -> Report<P>
         ensures { IsStep P.same_as P.always_copies self.old (record { worker = worker; event = Event.Go noise }) result self.new }
     {
-        if self.gives_up(worker as usize) {
-            self.give_up(worker as usize)
+        if self.finds_journal_full(worker as usize) {
+            self.tell_journal_full(worker as usize)
         } else {
-            self.advance(worker, noise)
+            self.go_journaled(worker, noise)
         }
     }
 
     /// Whether a worker's call is a writing one in its first step for which the journal has no place.
-    fn gives_up(&self, who: usize) -> bool
+    fn finds_journal_full(&self, who: usize) -> bool
         ensures { result ≡ (is_reserving (slice_get self.now.calls who) && is_full self.now.log) }
     {
         self.engine.is_reserving(who) && self.log.is_full()
     }
 
     /// Ends such a call.
-    fn give_up(&mut self, who: usize) -> Report<P>
+    fn tell_journal_full(&mut self, who: usize) -> Report<P>
         requires { (is_reserving (slice_get self.old.calls who) && is_full self.old.log) ≡ true }
         ensures { (noise : Noise Id P) → IsStep P.same_as P.always_copies self.old (record { worker = who; event = Event.Go noise }) result self.new }
     {
         self.engine.abandon(who);
-        note(&mut self.log, who, true, None);
+        put_request_if(&mut self.log, who, true, None);
         refused(Kind::Collection, Refusal::JournalFull)
     }
 
     /// The next step of any other call.
-    fn advance(&mut self, worker: u32, noise: Noise<Id, P>) -> Report<P>
+    fn go_journaled(&mut self, worker: u32, noise: Noise<Id, P>) -> Report<P>
         requires { (is_reserving (slice_get self.old.calls worker) && is_full self.old.log) ≡ false }
         ensures { IsStep P.same_as P.always_copies self.old (record { worker = worker; event = Event.Go noise }) result self.new }
     {
         let who = worker as usize;
         let asks = takes_answer(&self.engine, who, &noise.answer);
-        hear(&mut self.log, who, asks, &noise.answer);
+        take_answer(&mut self.log, who, asks, &noise.answer);
         let before = self.engine.has_place(who);
         let mut told = self.engine.step_on(worker, noise);
         let after = self.engine.has_place(who);
         self.log.recount(before, after);
         told.kept = keep(&self.engine, &mut self.log, worker, &told);
-        note(&mut self.log, who, !is_in_flight(&told.outcome), None);
+        put_request_if(&mut self.log, who, !is_in_flight(&told.outcome), None);
         told
     }
 }
 
 /// Puts a request in its worker's place, where it is to be noted.
 #[inline(always)]
-fn note<P: Drop>(log: &mut Log<P>, who: usize, on: bool, request: Option<Request<P>>)
-    ensures { log.new ≡ noted log.old who on request }
+fn put_request_if<P: Drop>(log: &mut Log<P>, who: usize, on: bool, request: Option<Request<P>>)
+    ensures { log.new ≡ with_request log.old who on request }
 {
     if on {
         log.put_request(who, request);
@@ -148,7 +148,7 @@ fn takes_answer<P: Payload + Small, A: Allocator>(
     who: usize,
     answer: &Option<Option<P>>,
 ) -> bool
-    ensures { (q : Option (Request P)) → heard_by result answer.now q ≡ heard_by (asks_at (slice_get engine.now.machines.items who)) answer.now q }
+    ensures { (q : Option (Request P)) → answered_if result answer.now q ≡ answered_if (asks_at (slice_get engine.now.machines.items who)) answer.now q }
 {
     match answer {
         Some(_) => engine.asks(who),
@@ -158,21 +158,24 @@ fn takes_answer<P: Payload + Small, A: Allocator>(
 
 /// What a worker asked for takes the answer that its call takes in this step; it goes where a value can't be copied.
 #[inline(always)]
-fn hear<P: Payload>(log: &mut Log<P>, who: usize, asks: bool, answer: &Option<Option<P>>)
-    ensures heard { P.always_copies ≡ true → request_at log.new.requests who ≡ heard_by asks answer.now (request_at log.old.requests who) }
+fn take_answer<P: Payload>(log: &mut Log<P>, who: usize, asks: bool, answer: &Option<Option<P>>)
+    ensures heard { P.always_copies ≡ true → request_at log.new.requests who ≡ answered_if asks answer.now (request_at log.old.requests who) }
     ensures left { log.new ≡ record log.old { requests = slice_set log.old.requests who (request_at log.new.requests who) } }
 {
     if asks {
         let request = log.put_request(who, None);
-        log.put_request(who, heard(request, answer));
+        log.put_request(who, with_answer(request, answer));
     }
 }
 
 /// A request with the answer that its call takes.
-fn heard<P: Payload>(request: Option<Request<P>>, answer: &Option<Option<P>>) -> Option<Request<P>>
-    ensures { P.always_copies ≡ true → result ≡ heard_by true answer.now request }
+fn with_answer<P: Payload>(
+    request: Option<Request<P>>,
+    answer: &Option<Option<P>>,
+) -> Option<Request<P>>
+    ensures { P.always_copies ≡ true → result ≡ answered_if true answer.now request }
 {
-    request?.hear(answer)
+    request?.with_answer(answer)
 }
 
 /// Writes the entry of a worker's call down that took effect in a step with this report, where a place is free that nobody

@@ -2,7 +2,7 @@
 ghost use Rattle.std.specs.Prelude.{◌≡◌, None, Some, nat_eq, true};
 ghost use Rattle.std.specs.Option.{option_map};
 ghost use Rattle.joint.specs.threads.Driving.{IsDriven, IsToldInCall, IsTurn, ended};
-ghost use Rattle.joint.specs.world.Whole.{IsStep};
+ghost use Rattle.joint.specs.world.World.{IsStep};
 
 use congee::Allocator;
 use joint::{Done, Op, Refusal, Report, Step, Turns, World, drive, turns_tell};

@@ -1,6 +1,6 @@
 use Rattle.std.proofs.Common.{sym, ◌∙◌, ap}
 use Rattle.std.proofs.lemmas.Option.{slice_get-get_or, slice_get_past}
-use Rattle.joint.specs.engine.Machines.{retiring, retiring_at}
+use Rattle.joint.specs.engine.Safety.{retiring, retiring_at}
 use Rattle.joint.proofs.lemmas.engine.Retiring.{retiring_none}
 use Rattle.joint.proofs.engine.retiring.Goals as goal
 

@@ -24,8 +24,8 @@ use Rattle.congee.specs.Heap.{Node}
 use Rattle.congee.specs.protocol.Alone.{NoOtherLocks, IsUndisturbed, HasAnswer, IsPast, StepsOn, steps_left, steps_whole, tree_nodes, tree_pairs}
 use Rattle.congee.specs.protocol.Play.{Settled, begun, first_phase}
 use Rattle.congee.specs.protocol.Steps.{Stepped}
-use Rattle.joint.specs.declared.engine.in_flight.Call.{Call}
-use Rattle.joint.specs.declared.engine.in_flight.Call.TheVariants.{Idle, Collecting, Reserving, Securing, Walking}
+use Rattle.joint.specs.declared.engine.in_flight.InFlight.{InFlight}
+use Rattle.joint.specs.declared.engine.in_flight.InFlight.TheVariants.{Idle, Collecting, Reserving, Securing, Walking}
 use Rattle.joint.specs.declared.id.Id.{Id}
 use Rattle.joint.specs.declared.nodes.slot.Slot.{Slot}
 use Rattle.joint.specs.declared.steps.Event.TheVariants.{Begin, Go}
@@ -36,15 +36,15 @@ use Rattle.joint.specs.declared.steps.Survey.{Survey}
 use Rattle.joint.specs.declared.steps.Survey.TheVariants as survey
 use Rattle.joint.specs.declared.steps.Step.{Step}
 use Rattle.joint.specs.calls.Alone.{OthersUnlocked, IsNext, AreNext, AllInFlight, steps_alone, AllEndAlone}
-use Rattle.joint.specs.nodes.Forest.{Forest, nodes, Refuses}
+use Rattle.joint.specs.nodes.Nodes.{Nodes, nodes, Refuses}
 use Rattle.joint.specs.engine.Intact.{IsAt, IsIntact, call_after, is_done, is_past, over_at, rested, resting, root, secured_call, secured_machines, writes}
 use Rattle.joint.specs.engine.Laws.{CallLaws, AloneLaw, WholeLaw, ProgressLaws}
 use Rattle.joint.specs.Reports.{target, collected}
 use Rattle.joint.specs.calls.Runs.{Taken, AreTaken}
 use Rattle.joint.specs.engine.Sound.{IsUnderWay}
 use Rattle.joint.specs.nodes.View.{id_number}
-use Rattle.joint.specs.world.Whole.{Holds, IsStep, StepsUnless, gives_up}
-use Rattle.joint.specs.engine.Engine.{Whole, EngineHolds, BeginsAt, Collects, Does, EntersUnless, Enters, GoesAt, GoesOnReserving, Reserves, Surveys, Walks, engine_of, finds_none, is_busy, is_in_flight, misuse, reserving}
+use Rattle.joint.specs.world.World.{Holds, IsStep, StepsUnless, finds_journal_full}
+use Rattle.joint.specs.engine.Engine.{World, EngineHolds, BeginsAt, Collects, Does, EntersUnless, Enters, GoesAt, GoesOnReserving, Reserves, Surveys, Walks, engine_of, finds_none, is_busy, is_in_flight, misuse, reserving}
 use Rattle.joint.proofs.lemmas.engine.Collecting.{either, there, inside_machines, set_here}
 use Rattle.joint.proofs.lemmas.engine.Entering.{begin_within, begin_idle}
 use Rattle.joint.proofs.lemmas.engine.Reported.{may_go}
@@ -53,7 +53,7 @@ use Rattle.joint.proofs.lemmas.engine.Telling.{survey_ends}
 use Rattle.joint.proofs.lemmas.engine.Walking as walking
 
 -- the steps that a worker's call takes at most from here on
-abbrev left_of : {V : Type 0} → Forest V → ℕ → Option (Call V) → Option (Machine Id V) → ℕ
+abbrev left_of : {V : Type 0} → Nodes V → ℕ → Option (InFlight V) → Option (Machine Id V) → ℕ
 left_of f who (Some (Collecting op)) m = turns_left f.collector who
 left_of f who (Some (Reserving op)) m = 46
 left_of f who (Some (Securing op)) m = turns_left f.collector who + 43
@@ -61,12 +61,12 @@ left_of f who (Some Walking) (Some m) = steps_left id_number (nodes f) m.phase
 left_of f who _ _ = 0
 
 -- and what is sure of it
-abbrev sure_of : {V : Type 0} → Forest V → Option (Call V) → Option (Machine Id V) → Type 0
+abbrev sure_of : {V : Type 0} → Nodes V → Option (InFlight V) → Option (Machine Id V) → Type 0
 sure_of f (Some Walking) (Some m) = IsUndisturbed id_number (nodes f) m.phase
 sure_of f _ _ = Unit {0}
 
 -- no other call holds a lock, and so many steps are left at most
-record Alone {V : Type 0} (s : Whole V) (who n : ℕ) : Type 0 where
+record Alone {V : Type 0} (s : World V) (who n : ℕ) : Type 0 where
   pub unlocked : OthersUnlocked s who
   pub sure : sure_of s.forest (slice_get s.calls who) (slice_get s.machines who)
   pub left : left_of s.forest who (slice_get s.calls who) (slice_get s.machines who) ≤ n
@@ -123,18 +123,18 @@ module _ {V : Type 0} where
   rest_on h h' x false now on = (on.undisturbed, on.nearer)
 
 module _ {V : Type 0} (same : V → V → Bool) (always : Bool) (laws : CallLaws {C = Id} {V = V} id_number same always) (turns : ProgressLaws (Slot V) (Unit {0}))
-    (steps : (f : Forest V) → AloneLaw {C = Id} {V = V} id_number same always f.version_max (Refuses f)) (begins : (h : ℕ → Node V) (p : Point V) → IsUndisturbed id_number h (first_phase root p)) (whole_left : WholeLaw V id_number) where
-  module _ (s s' : Whole V) (w : ℕ) (holds : EngineHolds same always s) where
+    (steps : (f : Nodes V) → AloneLaw {C = Id} {V = V} id_number same always f.version_max (Refuses f)) (begins : (h : ℕ → Node V) (p : Point V) → IsUndisturbed id_number h (first_phase root p)) (whole_left : WholeLaw V id_number) where
+  module _ (s s' : World V) (w : ℕ) (holds : EngineHolds same always s) where
     -- what a step makes of the call, with n steps left before it
     abbrev After : ℕ → Type 0
     After n = Alone s' w (n - 1) × (0 < n)
 
     -- with the call in its place, and as many steps as its place says
-    after_by : (k : Call V) (m : Option (Machine Id V)) (n : ℕ) → OthersUnlocked s' w → slice_get s'.calls w ≡ Some k → slice_get s'.machines w ≡ m → sure_of s'.forest (Some k) m → left_of s'.forest w (Some k) m < n → After n
+    after_by : (k : InFlight V) (m : Option (Machine Id V)) (n : ℕ) → OthersUnlocked s' w → slice_get s'.calls w ≡ Some k → slice_get s'.machines w ≡ m → sure_of s'.forest (Some k) m → left_of s'.forest w (Some k) m < n → After n
     after_by k m n free ek em sure less = (
       record {
         unlocked = free;
-        sure = (let P : Option (Call V) → Type 0 = λ x. sure_of s'.forest x (slice_get s'.machines w) in let Q : Option (Machine Id V) → Type 0 = λ y. sure_of s'.forest (Some k) y in subst P (sym ek) (subst Q (sym em) sure));
+        sure = (let P : Option (InFlight V) → Type 0 = λ x. sure_of s'.forest x (slice_get s'.machines w) in let Q : Option (Machine Id V) → Type 0 = λ y. sure_of s'.forest (Some k) y in subst P (sym ek) (subst Q (sym em) sure));
         left = (let a = ap (λ x. left_of s'.forest w x (slice_get s'.machines w)) ek in let b = ap (λ y. left_of s'.forest w (Some k) y) em in omega (arith, a, b, less));
       },
       omega (arith, less),
@@ -154,7 +154,7 @@ module _ {V : Type 0} (same : V → V → Bool) (always : Bool) (laws : CallLaws
     walked_by false n f free ek busy em u l = after_by Walking (Some f) n free ek em u l
 
     -- a securing, after the last step of which the call is on the tree
-    module _ (b : Whole V) (intact : IsIntact same always b.forest b.machines b.calls) (p : Point V) (e : slice_get b.calls w ≡ Some (Securing p)) (free : OthersUnlocked b w) where
+    module _ (b : World V) (intact : IsIntact same always b.forest b.machines b.calls) (p : Point V) (e : slice_get b.calls w ≡ Some (Securing p)) (free : OthersUnlocked b w) where
       inside : w < length b.calls
       inside = slice_get_within b.calls w (Securing p) e
 
@@ -204,7 +204,7 @@ module _ {V : Type 0} (same : V → V → Bool) (always : Bool) (laws : CallLaws
         walked_by (over_at (slice_get s'.machines w)) n (rested moved.now) (unlocked_set w s.machines s'.machines (rested moved.now) final free) calls busy here rest.0 (let q = rest.1 in let b = (sure m.0 m.1).1 in omega (arith, q, b))
 
     -- the next step of a call in flight
-    goes : (k : Option (Call V)) (noise : Noise Id V) (r : Report V) (n : ℕ) → slice_get s.calls w ≡ k → noise.fail ≡ false → ((m : Machine Id V) → slice_get s.machines w ≡ Some m → HasAnswer m.kind m.phase noise.answer) → Alone s w n
+    goes : (k : Option (InFlight V)) (noise : Noise Id V) (r : Report V) (n : ℕ) → slice_get s.calls w ≡ k → noise.fail ≡ false → ((m : Machine Id V) → slice_get s.machines w ≡ Some m → HasAnswer m.kind m.phase noise.answer) → Alone s w n
         → GoesAt same always s w k noise r s' → is_in_flight r.outcome ≡ true → is_busy (slice_get s'.calls w) ≡ true → After n
     goes None noise r n e unfailed answers al x on busy = absurd x
     goes (Some Idle) noise r n e unfailed answers al x on busy = absurd x
@@ -228,7 +228,7 @@ module _ {V : Type 0} (same : V → V → Bool) (always : Bool) (laws : CallLaws
         secures s holds.0 p e al.unlocked r n x on (let y = al.left in omega (arith, left, y))
     goes (Some Walking) noise r n e unfailed answers al x on busy =
         walks noise r n e unfailed answers al.unlocked (λ m at.
-        let P : Option (Call V) → Type 0 = λ y. sure_of s.forest y (slice_get s.machines w) in
+        let P : Option (InFlight V) → Type 0 = λ y. sure_of s.forest y (slice_get s.machines w) in
         let Q : Option (Machine Id V) → Type 0 = λ y. sure_of s.forest (Some Walking) y in
         let left : left_of s.forest w (slice_get s.calls w) (slice_get s.machines w) ≡ steps_left id_number (nodes s.forest) m.phase = ap (λ y. left_of s.forest w y (slice_get s.machines w)) e ∙ ap (λ y. left_of s.forest w (Some Walking) y) at in
         (subst Q at (subst P e al.sure), (let y = al.left in omega (arith, left, y)))) x busy
@@ -245,7 +245,7 @@ module _ {V : Type 0} (same : V → V → Bool) (always : Bool) (laws : CallLaws
       length s.forest.collector.table + 526,
       record {
         unlocked = free;
-        sure = (let P : Option (Call V) → Type 0 = λ y. sure_of s'.forest y (slice_get s'.machines w) in subst P (sym (at_place s.calls s'.calls w (Collecting c) l e)) tt);
+        sure = (let P : Option (InFlight V) → Type 0 = λ y. sure_of s'.forest y (slice_get s'.machines w) in subst P (sym (at_place s.calls s'.calls w (Collecting c) l e)) tt);
         left = (let a = ap (λ y. left_of s'.forest w y (slice_get s'.machines w)) (at_place s.calls s'.calls w (Collecting c) l e) in let x = g.2 in omega (arith, a, x));
       },
       omega arith,
@@ -260,7 +260,7 @@ module _ {V : Type 0} (same : V → V → Bool) (always : Bool) (laws : CallLaws
       idle : slice_get s.calls w ≡ Some Idle
       idle = idle_at (slice_get s.calls w) (there s.calls w within) (begin_idle same always s s' w holds o none)
         where
-          idle_at : (k : Option (Call V)) → (x : Call V) × (k ≡ Some x) → is_busy k ≡ false → k ≡ Some Idle
+          idle_at : (k : Option (InFlight V)) → (x : InFlight V) × (k ≡ Some x) → is_busy k ≡ false → k ≡ Some Idle
           idle_at None x e = absurd (let q : None ≡ Some x.0 = x.1 in cc)
           idle_at (Some Idle) x e = refl
           idle_at (Some (Collecting c)) x e = absurd (cc e)
@@ -332,13 +332,13 @@ module _ {V : Type 0} (same : V → V → Bool) (always : Bool) (laws : CallLaws
           of op.Stats y = absurd (survey_on survey.Stats y)
 
   -- a step of a call in flight
-  next_on : (s : Whole V) (t : Taken V) (w n : ℕ) → Holds same always s → IsStep same always s t.step t.report t.after → is_busy (slice_get s.calls w) ≡ true → IsNext w s t → is_in_flight t.report.outcome ≡ true → Alone s w n
+  next_on : (s : World V) (t : Taken V) (w n : ℕ) → Holds same always s → IsStep same always s t.step t.report t.after → is_busy (slice_get s.calls w) ≡ true → IsNext w s t → is_in_flight t.report.outcome ≡ true → Alone s w n
       → Alone t.after w (n - 1) × (0 < n) × (is_busy (slice_get t.after.calls w) ≡ true)
   next_on s t w n h is busy next on al =
       let P : Step V → Type 0 = λ y. IsStep same always s y t.report t.after in
       let x : IsStep same always s (record { worker = w; event = Go next.noise }) t.report t.after = subst P next.step is in
       let after : is_busy (slice_get t.after.calls w) ≡ true = x.flight tt (may_go same always s w (h.0, h.1) next.noise busy) ∙ on in
-      let y = taken_by (gives_up s w (Go next.noise)) x.does after in (y.0, y.1, after)
+      let y = taken_by (finds_journal_full s w (Go next.noise)) x.does after in (y.0, y.1, after)
     where
       taken_by : (b : Bool) → StepsUnless same always b s (record { worker = w; event = Go next.noise }) t.report t.after → is_busy (slice_get t.after.calls w) ≡ true → Alone t.after w (n - 1) × (0 < n)
       taken_by true x after = absurd (false≢true (sym (ap (λ y. is_in_flight y.outcome) x.report) ∙ on))
@@ -349,14 +349,14 @@ module _ {V : Type 0} (same : V → V → Bool) (always : Bool) (laws : CallLaws
           (record { unlocked = g.0.unlocked; sure = g.0.sure; left = g.0.left }, g.1)
 
   -- as many as are left at most
-  steps_end : (s : Whole V) (ts : List (Taken V)) (w n : ℕ) → Holds same always s → AreTaken same always s ts → is_busy (slice_get s.calls w) ≡ true → AreNext w s ts → AllInFlight ts → Alone s w n → length ts ≤ n
+  steps_end : (s : World V) (ts : List (Taken V)) (w n : ℕ) → Holds same always s → AreTaken same always s ts → is_busy (slice_get s.calls w) ≡ true → AreNext w s ts → AllInFlight ts → Alone s w n → length ts ≤ n
   steps_end s [] w n h x busy next on al = omega arith
   steps_end s (t ∷ ts) w n h x busy next on al =
       let y = next_on s t w n h x.0 busy next.0 on.0 al in
       let r = steps_end t.after ts w (n - 1) x.0.holds x.1 y.2 next.1 on.1 y.0 in
       let l = y.1 in omega (arith, r, l)
 
-  first_on : (s : Whole V) (t : Taken V) (w : ℕ) (o : Op V) → Holds same always s → IsStep same always s t.step t.report t.after → t.step ≡ record { worker = w; event = Begin o } → OthersUnlocked s w → is_in_flight t.report.outcome ≡ true
+  first_on : (s : World V) (t : Taken V) (w : ℕ) (o : Op V) → Holds same always s → IsStep same always s t.step t.report t.after → t.step ≡ record { worker = w; event = Begin o } → OthersUnlocked s w → is_in_flight t.report.outcome ≡ true
       → ((k : ℕ) × Alone t.after w k × (k + 2 ≤ steps_alone s o)) × (is_busy (slice_get t.after.calls w) ≡ true)
   first_on s t w o h is e free on =
       let P : Step V → Type 0 = λ y. IsStep same always s y t.report t.after in
@@ -372,18 +372,18 @@ module _ {V : Type 0} (same : V → V → Bool) (always : Bool) (laws : CallLaws
       taken_by : StepsUnless same always false s (record { worker = w; event = Begin o }) t.report t.after → ((k : ℕ) × Alone t.after w k × (k + 2 ≤ steps_alone s o)) × (misuse s w (Begin o) ≡ None)
       taken_by x = begun_by (misuse s w (Begin o)) x.told refl x.engine.does (sym (ap (λ y. is_in_flight y.outcome) x.report) ∙ on)
 
-  taken_front : (s : Whole V) (n : ℕ) (ts : List (Taken V)) → AreTaken same always s ts → AreTaken same always s (take n ts)
+  taken_front : (s : World V) (n : ℕ) (ts : List (Taken V)) → AreTaken same always s ts → AreTaken same always s (take n ts)
   taken_front s zero [] x = tt
   taken_front s zero (t ∷ ts) x = tt
   taken_front s (suc n) [] x = tt
   taken_front s (suc n) (t ∷ ts) x = (x.0, taken_front t.after n ts x.1)
 
-  pub ends_here : (s : Whole V) (t : Taken V) (ts : List (Taken V)) (w : ℕ) (o : Op V) → Holds same always s → AreTaken same always s (t ∷ ts) → t.step ≡ record { worker = w; event = Begin o } → OthersUnlocked s w → AreNext w t.after ts → AllInFlight (t ∷ ts) → length (t ∷ ts) < steps_alone s o
+  pub ends_here : (s : World V) (t : Taken V) (ts : List (Taken V)) (w : ℕ) (o : Op V) → Holds same always s → AreTaken same always s (t ∷ ts) → t.step ≡ record { worker = w; event = Begin o } → OthersUnlocked s w → AreNext w t.after ts → AllInFlight (t ∷ ts) → length (t ∷ ts) < steps_alone s o
   ends_here s t ts w o h x e free next on =
       let f = first_on s t w o h x.0 e free on.0 in
       let r = steps_end t.after ts w f.0.0 x.0.holds x.1 f.1 next on.1 f.0.1 in
       let k = f.0.2 in omega (arith, r, k)
 
-  pub all_end_alone : (s : Whole V) (ts : List (Taken V)) → Holds same always s → AreTaken same always s ts → AllEndAlone s ts
+  pub all_end_alone : (s : World V) (ts : List (Taken V)) → Holds same always s → AreTaken same always s ts → AllEndAlone s ts
   all_end_alone s [] h x = tt
   all_end_alone s (t ∷ ts) h x = ((λ w n o e free next on. ends_here s t (take n ts) w o h (x.0, taken_front t.after n ts x.1) e free next on), all_end_alone t.after ts x.0.holds x.1)

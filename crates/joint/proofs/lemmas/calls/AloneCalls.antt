@@ -31,12 +31,12 @@ use Rattle.joint.specs.engine.Journaling.{asks_at, is_asking}
 use Rattle.joint.specs.calls.Runs.{Taken, AreTaken}
 use Rattle.joint.specs.world.MapSteps.{GoMap, PendingStep, BeginMap, BeginsOr, Line}
 use Rattle.joint.specs.engine.Flying.{Flights}
-use Rattle.joint.specs.world.Whole.{Holds, IsStep}
-use Rattle.joint.specs.engine.Engine.{Whole, engine_of, is_in_flight}
+use Rattle.joint.specs.world.World.{Holds, IsStep}
+use Rattle.joint.specs.engine.Engine.{World, engine_of, is_in_flight}
 use Rattle.joint.proofs.lemmas.engine.Entering.{begin_free}
 use Rattle.joint.proofs.lemmas.world.Flights.{flight_here}
-use Rattle.joint.proofs.lemmas.world.Mapped.{mapped}
-use Rattle.joint.proofs.lemmas.world.Placed.{asks_here, begun_asks}
+use Rattle.joint.proofs.lemmas.world.JournaledSteps.{mapped}
+use Rattle.joint.proofs.lemmas.world.JournalPlaces.{asks_here, begun_asks}
 use Rattle.joint.proofs.lemmas.world.Requested.{asks, is_asked}
 
 module _ {V : Type 0} where
@@ -133,14 +133,14 @@ module _ {V : Type 0} where
 
 module _ {V : Type 0} (same : V → V → Bool) (always : Bool) where
   -- after a step of its own a call that goes on wants no answer
-  quiet_on : (s : Whole V) (t : Taken V) (w : ℕ) → Holds same always s → IsStep same always s t.step t.report t.after → (t.step ≡ next_step w) → goes_on t.report.outcome ≡ true → asks_at (slice_get t.after.machines w) ≡ false
+  quiet_on : (s : World V) (t : Taken V) (w : ℕ) → Holds same always s → IsStep same always s t.step t.report t.after → (t.step ≡ next_step w) → goes_on t.report.outcome ≡ true → asks_at (slice_get t.after.machines w) ≡ false
   quiet_on s t w h x e g =
       let P : Step V → Type 0 = λ y. IsStep same always s y t.report t.after in
       let y : IsStep same always s (next_step w) t.report t.after = subst P e x in
       let a = mapped same always s (next_step w) t.after h.2.flights h.2.pairs h y.holds h.2.stand h.2.in_flight t.report y in
       asks_here same always t.after w (y.holds.0, y.holds.1) a.flights a.in_flight ∙ quiet_go same h.2.flights (h.2.flights w) h.2.pairs None (record { step = next_step w; report = t.report; entry = a.entry; pairs = a.pairs }) a.flights refl g a.map
 
-  quiet_first : (s : Whole V) (t : Taken V) (w : ℕ) (o : Op V) → Holds same always s → IsStep same always s t.step t.report t.after → t.step ≡ record { worker = w; event = Begin o } → is_in_flight t.report.outcome ≡ true → goes_on t.report.outcome ≡ true → asks_at (slice_get t.after.machines w) ≡ false
+  quiet_first : (s : World V) (t : Taken V) (w : ℕ) (o : Op V) → Holds same always s → IsStep same always s t.step t.report t.after → t.step ≡ record { worker = w; event = Begin o } → is_in_flight t.report.outcome ≡ true → goes_on t.report.outcome ≡ true → asks_at (slice_get t.after.machines w) ≡ false
   quiet_first s t w o h x e on g =
       let P : Step V → Type 0 = λ y. IsStep same always s y t.report t.after in
       let y : IsStep same always s (record { worker = w; event = Begin o }) t.report t.after = subst P e x in
@@ -149,10 +149,10 @@ module _ {V : Type 0} (same : V → V → Bool) (always : Bool) where
       asks_here same always t.after w (y.holds.0, y.holds.1) a.flights a.in_flight
       ∙ quiet_target h.2.flights h.2.pairs (target o) (record { step = record { worker = w; event = Begin o }; report = t.report; entry = a.entry; pairs = a.pairs }) a.flights free.0 g a.map
 
-  none_at : (s : Whole V) (w : ℕ) → asks_at (slice_get s.machines w) ≡ false → (m : Machine Id V) → slice_get s.machines w ≡ Some m → HasAnswer m.kind m.phase None
+  none_at : (s : World V) (w : ℕ) → asks_at (slice_get s.machines w) ≡ false → (m : Machine Id V) → slice_get s.machines w ≡ Some m → HasAnswer m.kind m.phase None
   none_at s w e m at = none_wanted m.kind m.phase (sym (ap asks_at at) ∙ e)
 
-  are_next : (s : Whole V) (w n : ℕ) (ts : List (Taken V)) → Holds same always s → AreTaken same always s ts → map (λ (t : Taken V). t.step) ts ≡ replicate n (next_step w) → AllGoOn ts → asks_at (slice_get s.machines w) ≡ false → AreNext w s ts
+  are_next : (s : World V) (w n : ℕ) (ts : List (Taken V)) → Holds same always s → AreTaken same always s ts → map (λ (t : Taken V). t.step) ts ≡ replicate n (next_step w) → AllGoOn ts → asks_at (slice_get s.machines w) ≡ false → AreNext w s ts
   are_next s w n [] h x e g q = tt
   are_next s w zero (t ∷ ts) h x e g q = absurd (cc e)
   are_next s w (suc n) (t ∷ ts) h x e g q =
@@ -162,7 +162,7 @@ module _ {V : Type 0} (same : V → V → Bool) (always : Bool) where
         are_next t.after w n ts x.0.holds x.1 more g.1 (quiet_on s t w h x.0 is g.0),
       )
 
-  no_call : (s : Whole V) (o : Op V) → 0 < steps_alone s o
+  no_call : (s : World V) (o : Op V) → 0 < steps_alone s o
   no_call s Pin = omega arith
   no_call s Unpin = omega arith
   no_call s Repin = omega arith
@@ -176,8 +176,8 @@ module _ {V : Type 0} (same : V → V → Bool) (always : Bool) where
   no_call s _ = omega arith
 
   -- the law of whole runs
-  module _ (ends : (s : Whole V) (t : Taken V) (ts : List (Taken V)) (w : ℕ) (o : Op V) → Holds same always s → AreTaken same always s (t ∷ ts) → t.step ≡ record { worker = w; event = Begin o } → OthersUnlocked s w → AreNext w t.after ts → AllInFlight (t ∷ ts) → length (t ∷ ts) < steps_alone s o) where
-    stops : (s : Whole V) (w : ℕ) (o : Op V) (most : ℕ) (ts : List (Taken V)) (reports : List (Report V)) (r : Report V) → Holds same always s → AreTaken same always s ts → map (λ (t : Taken V). t.report) ts ≡ reports → map (λ (t : Taken V). t.step) ts ≡ steps_of w o (length reports)
+  module _ (ends : (s : World V) (t : Taken V) (ts : List (Taken V)) (w : ℕ) (o : Op V) → Holds same always s → AreTaken same always s (t ∷ ts) → t.step ≡ record { worker = w; event = Begin o } → OthersUnlocked s w → AreNext w t.after ts → AllInFlight (t ∷ ts) → length (t ∷ ts) < steps_alone s o) where
+    stops : (s : World V) (w : ℕ) (o : Op V) (most : ℕ) (ts : List (Taken V)) (reports : List (Report V)) (r : Report V) → Holds same always s → AreTaken same always s ts → map (λ (t : Taken V). t.report) ts ≡ reports → map (λ (t : Taken V). t.step) ts ≡ steps_of w o (length reports)
         → GoOn reports → option_map kept_report (last_of reports) ≡ Some r → OthersUnlocked s w → steps_alone s o ≤ most → most ≤ length reports → goes_on r.outcome ≡ true → ⊥
     stops s w o most [] reports r h x er es g l free le long on =
         let n : 0 ≡ length reports = ap length er in
@@ -199,7 +199,7 @@ module _ {V : Type 0} (same : V → V → Bool) (always : Bool) where
         let m : length qs ≡ length ts = length-map ts (λ (y : Taken V). y.report) in
         omega (arith, short, n, m, le, long)
 
-    pub call_ends : (s : Whole V) (w : ℕ) (o : Op V) (most : ℕ) (places : List (ℕ × V)) (result : Option (Report V)) (places' : List (ℕ × V)) (s' : Whole V) → Holds same always s → IsCalled same always s w o most places result places' s' → CallEndsAlone s w o most result
+    pub call_ends : (s : World V) (w : ℕ) (o : Op V) (most : ℕ) (places : List (ℕ × V)) (result : Option (Report V)) (places' : List (ℕ × V)) (s' : World V) → Holds same always s → IsCalled same always s w o most places result places' s' → CallEndsAlone s w o most result
     call_ends s w o most places result places' s' h x free le r is = elim (cases_lt (length x.reports) most) [
       | inl l ↦ x.stops r is l
       | inr l ↦ elim (cases_Bool (goes_on r.outcome)) [

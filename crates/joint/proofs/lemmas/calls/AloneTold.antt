@@ -20,8 +20,8 @@ use Rattle.congee.specs.declared.protocol.phase.Phase.TheVariants.{AskOld, AskNe
 use Rattle.congee.specs.protocol.Alone.{HasAnswer, IsAnswer}
 use Rattle.congee.specs.protocol.Holdings.{LockedBy}
 use Rattle.congee.specs.protocol.Play.{Flight, Pending, Decided, Over, Unbegun, Scanning, Question, Undecided, Concludes, ScanTells, Follows, begun, parts, flight, flight_in, heard, resolved}
-use Rattle.joint.specs.declared.engine.in_flight.Call.{Call}
-use Rattle.joint.specs.declared.engine.in_flight.Call.TheVariants.{Idle, Collecting, Reserving, Securing, Walking}
+use Rattle.joint.specs.declared.engine.in_flight.InFlight.{InFlight}
+use Rattle.joint.specs.declared.engine.in_flight.InFlight.TheVariants.{Idle, Collecting, Reserving, Securing, Walking}
 use Rattle.joint.specs.declared.id.Id.{Id}
 use Rattle.joint.specs.declared.steps.Event.{Event}
 use Rattle.joint.specs.declared.steps.Event.TheVariants.{Begin, Go}
@@ -34,23 +34,23 @@ use Rattle.joint.specs.declared.steps.Step.{Step}
 use Rattle.joint.specs.declared.steps.Target.{Target}
 use Rattle.joint.specs.declared.steps.Target.TheVariants as target
 use Rattle.joint.specs.calls.Alone.{OthersUnlocked, AreNext, AllEndAlone}
-use Rattle.joint.specs.nodes.Forest.{nodes}
+use Rattle.joint.specs.nodes.Nodes.{nodes}
 use Rattle.joint.specs.engine.Intact.{IsAt, root}
 use Rattle.joint.specs.engine.Journaling.{asks_at, is_asking}
 use Rattle.joint.specs.Reports.{collected, target, told}
 use Rattle.joint.specs.calls.Runs.{Taken, AreTaken}
 use Rattle.joint.specs.world.MapSteps.{EventMap, GoMap, PendingStep, BeginMap, BeginsOr, Line}
-use Rattle.joint.specs.engine.Flying.{Flights, InFlight, AreInFlight}
+use Rattle.joint.specs.engine.Flying.{Flights, IsInFlight, AreInFlight}
 use Rattle.joint.specs.nodes.View.{id_number}
 use Rattle.joint.specs.calls.Wanted.{is_question, wants_if, IsReply, RepliesTo, AreNextTold, AllEndAloneTold, OthersIdle}
-use Rattle.joint.specs.world.Whole.{Holds, IsStep}
-use Rattle.joint.specs.engine.Engine.{Whole, BeginsAt, BeginsOnTree, Does, EntersUnless, engine_of, finds_none, is_in_flight, misuse, place_of}
+use Rattle.joint.specs.world.World.{Holds, IsStep}
+use Rattle.joint.specs.engine.Engine.{World, BeginsAt, BeginsOnTree, Does, EntersUnless, engine_of, finds_none, is_in_flight, misuse, place_of}
 use Rattle.joint.proofs.lemmas.engine.Collecting.{there}
 use Rattle.joint.proofs.lemmas.calls.Ends.{rests}
 use Rattle.joint.proofs.lemmas.engine.Entering.{begin_free}
 use Rattle.joint.proofs.lemmas.world.Flights.{flight_here, eqb_same}
-use Rattle.joint.proofs.lemmas.world.Mapped.{mapped}
-use Rattle.joint.proofs.lemmas.world.Placed.{asks_here}
+use Rattle.joint.proofs.lemmas.world.JournaledSteps.{mapped}
+use Rattle.joint.proofs.lemmas.world.JournalPlaces.{asks_here}
 use Rattle.joint.proofs.lemmas.world.Requested.{asks}
 use Rattle.joint.proofs.lemmas.engine.Telling.{survey_ends}
 use Rattle.joint.proofs.lemmas.calls.Wanted.{step_wants}
@@ -153,7 +153,7 @@ module _ {V : Type 0} where
   replies o _ answer e r = absurd (false≢true e)
 
   -- the call has its answer where it takes one
-  flying : (k : Call V) (c : Participant (Unit {0})) (m : Machine Id V) (f : Flight V) → is_asking m.phase ≡ true → IsAt k c m → InFlight k m f → Follows m f
+  flying : (k : InFlight V) (c : Participant (Unit {0})) (m : Machine Id V) (f : Flight V) → is_asking m.phase ≡ true → IsAt k c m → IsInFlight k m f → Follows m f
   flying Walking c m f e a i = i
   flying Idle c m f e a i = absurd (false≢true (sym (ap is_asking a.1) ∙ e))
   flying (Collecting o) c m f e a i = absurd (false≢true (sym (ap is_asking a.1) ∙ e))
@@ -185,11 +185,11 @@ module _ {V : Type 0} where
 
 module _ {V : Type 0} (same : V → V → Bool) (always : Bool) where
   -- a begin asks nothing
-  scan_quiet : (s s' : Whole V) (w : ℕ) (p : Point V) (r : Report V) (none : Bool) → EntersUnless none s w p r s' → is_question r.outcome ≡ false
+  scan_quiet : (s s' : World V) (w : ℕ) (p : Point V) (r : Report V) (none : Bool) → EntersUnless none s w p r s' → is_question r.outcome ≡ false
   scan_quiet s s' w p r true y = ap (λ z. is_question z.outcome) y.report
   scan_quiet s s' w p r false y = ap (λ z. is_question z.outcome) y.report
 
-  tree_quiet : (s s' : Whole V) (w : ℕ) (p : Point V) (r : Report V) → BeginsOnTree same always s w p r s' → is_question r.outcome ≡ false
+  tree_quiet : (s s' : World V) (w : ℕ) (p : Point V) (r : Report V) → BeginsOnTree same always s w p r s' → is_question r.outcome ≡ false
   tree_quiet s s' w (point.Get k) r x = ap (λ y. is_question y.outcome) x.report
   tree_quiet s s' w (point.Range start end size) r x = scan_quiet s s' w (point.Range start end size) r (finds_none {V = V} (point.Range start end size)) x
   tree_quiet s s' w (point.RangeInclusive start last size) r x = scan_quiet s s' w (point.RangeInclusive start last size) r (finds_none {V = V} (point.RangeInclusive start last size)) x
@@ -199,17 +199,17 @@ module _ {V : Type 0} (same : V → V → Bool) (always : Bool) where
   tree_quiet s s' w (point.ComputeInsert k) r x = ap (λ y. is_question y.outcome) x.report
   tree_quiet s s' w (point.Exchange k a b) r x = ap (λ y. is_question y.outcome) x.report
 
-  begin_quiet : (s s' : Whole V) (w : ℕ) (t : Target V) (r : Report V) → BeginsAt same always s w t r s' → is_question r.outcome ≡ false
+  begin_quiet : (s s' : World V) (w : ℕ) (t : Target V) (r : Report V) → BeginsAt same always s w t r s' → is_question r.outcome ≡ false
   begin_quiet s s' w (target.Collector c) r x = ap (λ y. is_question y.outcome) x.report ∙ of_collector V x.turn.outcome
   begin_quiet s s' w (target.Tree p) r x = tree_quiet s s' w p r x
   begin_quiet s s' w (target.Survey k) r x = ap (λ y. is_question y.outcome) x.report ∙ unasked x.outcome (survey_ends (nodes s.forest) k x.outcome x.tells)
 
-  does_quiet : (s s' : Whole V) (w : ℕ) (o : Op V) (f : Option Fault) (r : Report V) → Does same always s w (Begin o) f r s' → is_question r.outcome ≡ false
+  does_quiet : (s s' : World V) (w : ℕ) (o : Op V) (f : Option Fault) (r : Report V) → Does same always s w (Begin o) f r s' → is_question r.outcome ≡ false
   does_quiet s s' w o None r x = begin_quiet s s' w (target o) r x
   does_quiet s s' w o (Some f) r x = ap (λ y. is_question y.outcome) x.0
 
   -- steps that are told to be the call's next ones are
-  next_told : (s : Whole V) (us : List (Taken V)) (w : ℕ) (o : Op V) (told : Outcome V) (fs : Flights V) → Holds same always s → AreInFlight s fs → asks_at (slice_get s.machines w) ≡ is_question told → Kinded o (fs w) → AreTaken same always s us → AreNextTold w o told us → AreNext w s us
+  next_told : (s : World V) (us : List (Taken V)) (w : ℕ) (o : Op V) (told : Outcome V) (fs : Flights V) → Holds same always s → AreInFlight s fs → asks_at (slice_get s.machines w) ≡ is_question told → Kinded o (fs w) → AreTaken same always s us → AreNextTold w o told us → AreNext w s us
   next_told s [] w o told fs h fl q k x next = tt
   next_told s (t ∷ us) w o told fs h fl q k x next =
       let y = next.0 in
@@ -238,7 +238,7 @@ module _ {V : Type 0} (same : V → V → Bool) (always : Bool) where
           let c = there s.calls w (subst (λ i. w < i) h.0.machines (slice_get_within s.machines w m at)) in
           flying c.0 (place_of s w) m (fs w) e (h.0.each w c.0 m c.1 at) (fl.each w c.0 m c.1 at)
 
-  taken_front : (s : Whole V) (n : ℕ) (ts : List (Taken V)) → AreTaken same always s ts → AreTaken same always s (take n ts)
+  taken_front : (s : World V) (n : ℕ) (ts : List (Taken V)) → AreTaken same always s ts → AreTaken same always s (take n ts)
   taken_front s zero [] x = tt
   taken_front s zero (t ∷ ts) x = tt
   taken_front s (suc n) [] x = tt
@@ -255,7 +255,7 @@ module _ {V : Type 0} (same : V → V → Bool) (always : Bool) where
   target_kind o fs m (target.Survey k) l fs' t over on x = kinded o (fs' l.step.worker) Over (ap (λ (z : Flights V). z l.step.worker) x.stays.same_flights ∙ over) tt
 
   -- a begin that is accepted, and the steps after it
-  first_told : (s : Whole V) (t : Taken V) (us : List (Taken V)) (w : ℕ) (o : Op V) → Holds same always s → IsStep same always s t.step t.report t.after → AreTaken same always t.after us → t.step ≡ record { worker = w; event = Begin o } → is_in_flight t.report.outcome ≡ true → AreNextTold w o t.report.outcome us → AreNext w t.after us
+  first_told : (s : World V) (t : Taken V) (us : List (Taken V)) (w : ℕ) (o : Op V) → Holds same always s → IsStep same always s t.step t.report t.after → AreTaken same always t.after us → t.step ≡ record { worker = w; event = Begin o } → is_in_flight t.report.outcome ≡ true → AreNextTold w o t.report.outcome us → AreNext w t.after us
   first_told s t us w o h is x e on next =
       let P : Step V → Type 0 = λ y. IsStep same always s y t.report t.after in
       let step : Step V = record { worker = w; event = Begin o } in
@@ -274,7 +274,7 @@ module _ {V : Type 0} (same : V → V → Bool) (always : Bool) where
       stays true c r = refl
       stays false c r = refl
 
-  pub all_told : (s : Whole V) (ts : List (Taken V)) → Holds same always s → AreTaken same always s ts → AllEndAlone s ts → AllEndAloneTold s ts
+  pub all_told : (s : World V) (ts : List (Taken V)) → Holds same always s → AreTaken same always s ts → AllEndAlone s ts → AllEndAloneTold s ts
   all_told s [] h x all = tt
   all_told s (t ∷ ts) h x all = (
     (λ w n o e free next on. all.0 w n o e free (first_told s t (take n ts) w o h x.0 (taken_front t.after n ts x.1) e on.0 next) on),
@@ -282,5 +282,5 @@ module _ {V : Type 0} (same : V → V → Bool) (always : Bool) where
   )
 
   -- where no other worker has a call in flight, none holds a lock
-  pub idle_unlocked : (s : Whole V) (w : ℕ) → Holds same always s → OthersIdle s w → OthersUnlocked s w
+  pub idle_unlocked : (s : World V) (w : ℕ) → Holds same always s → OthersIdle s w → OthersUnlocked s w
   idle_unlocked s w h idle j n m ne at x = let P : Phase Id V → Type 0 = λ p. LockedBy id_number p n in subst P (rests same always s j h (idle j ne) m at) x

@@ -24,7 +24,7 @@ use Rattle.joint.specs.Reports.{target, told}
 use Rattle.joint.specs.calls.Runs.{IsMapRun}
 use Rattle.joint.specs.world.MapSteps.{EventMap, GoMap, PendingStep, BeginMap, BeginsOr, Line}
 use Rattle.joint.specs.engine.Flying.{Flights, with_flight}
-use Rattle.joint.specs.world.Whole.{IsOnKey}
+use Rattle.joint.specs.world.World.{IsOnKey}
 use Rattle.joint.specs.engine.Engine.{is_in_flight}
 use Rattle.joint.proofs.lemmas.world.Flights.{ends_stays, flight_here, flight_apart}
 

@@ -11,8 +11,8 @@ use Rattle.joint.specs.declared.steps.Outcome.TheVariants.{Running, Asks, Found,
 use Rattle.joint.specs.calls.Calling.{next_step, steps_of, GoOn, last_of, put, put_all, put_away, kept_report, IsCalled}
 use Rattle.joint.specs.Reports.{goes_on}
 use Rattle.joint.specs.calls.Runs.{IsRun}
-use Rattle.joint.specs.world.Whole.{Holds, IsStep}
-use Rattle.joint.specs.engine.Engine.{Whole, is_busy, is_in_flight, misuse}
+use Rattle.joint.specs.world.World.{Holds, IsStep}
+use Rattle.joint.specs.engine.Engine.{World, is_busy, is_in_flight, misuse}
 use Rattle.joint.proofs.lemmas.engine.Reported.{may_go}
 use Rattle.joint.proofs.lemmas.calls.Runs.{runs_join}
 
@@ -67,7 +67,7 @@ going (Refused refusal) e = absurd (cc e)
 
 module _ {V : Type 0} (same : V → V → Bool) (always : Bool) where
   -- how far a call has come, with so many steps left
-  pub record Calling (s : Whole V) (who : ℕ) (op : Op V) (most left : ℕ) (places : List (ℕ × V)) (report : Report V) (places' : List (ℕ × V)) (s' : Whole V) : Type 0 where
+  pub record Calling (s : World V) (who : ℕ) (op : Op V) (most left : ℕ) (places : List (ℕ × V)) (report : Report V) (places' : List (ℕ × V)) (s' : World V) : Type 0 where
     pub reports : List (Report V)
     pub run : IsRun same always s (steps_of who op (length reports)) reports s'
     pub count : length reports + left ≡ most
@@ -79,10 +79,10 @@ module _ {V : Type 0} (same : V → V → Bool) (always : Bool) where
     pub holds : Holds same always s'
     pub flight : misuse s who (Begin op) ≡ None → is_busy (slice_get s'.calls who) ≡ is_in_flight report.outcome
 
-  one : (s s' : Whole V) (step : Step V) (r : Report V) → IsStep same always s step r s' → IsRun same always s (step ∷ []) (r ∷ []) s'
+  one : (s s' : World V) (step : Step V) (r : Report V) → IsStep same always s step r s' → IsRun same always s (step ∷ []) (r ∷ []) s'
   one s s' step r x = record { taken = record { step = step; report = r; after = s' } ∷ []; each = (x, tt); steps_are = refl; reports_are = refl; last = refl }
 
-  pub calling_first : (s s' : Whole V) (who : ℕ) (op : Op V) (most left : ℕ) (places places' : List (ℕ × V)) (r r' : Report V) → IsStep same always s (record { worker = who; event = Begin op }) r s' → left + 1 ≡ most → r' ≡ kept_report r → places' ≡ put r.outcome places
+  pub calling_first : (s s' : World V) (who : ℕ) (op : Op V) (most left : ℕ) (places places' : List (ℕ × V)) (r r' : Report V) → IsStep same always s (record { worker = who; event = Begin op }) r s' → left + 1 ≡ most → r' ≡ kept_report r → places' ≡ put r.outcome places
       → Calling s who op most left places r' places' s'
   calling_first s s' who op most left places places' r r' x n k f = record {
     reports = r ∷ [];
@@ -97,7 +97,7 @@ module _ {V : Type 0} (same : V → V → Bool) (always : Bool) where
     flight = λ m. x.flight tt m ∙ sym (away_flight r.outcome) ∙ sym (ap (λ y. is_in_flight y.outcome) k);
   }
 
-  pub calling_more : (s s1 s2 : Whole V) (who : ℕ) (op : Op V) (most left left' : ℕ) (places places1 places2 : List (ℕ × V)) (q r r' : Report V) → Calling s who op most left places q places1 s1 → goes_on q.outcome ≡ true → IsStep same always s1 (next_step who) r s2
+  pub calling_more : (s s1 s2 : World V) (who : ℕ) (op : Op V) (most left left' : ℕ) (places places1 places2 : List (ℕ × V)) (q r r' : Report V) → Calling s who op most left places q places1 s1 → goes_on q.outcome ≡ true → IsStep same always s1 (next_step who) r s2
       → left ≡ left' + 1 → r' ≡ kept_report r → places2 ≡ put r.outcome places1 → Calling s who op most left' places r' places2 s2
   calling_more s s1 s2 who op most left left' places places1 places2 q r r' c g x n k f =
       let P : List (Step V) → Type 0 = λ y. IsRun same always s y (c.reports ++ r ∷ []) s2 in
@@ -119,14 +119,14 @@ module _ {V : Type 0} (same : V → V → Bool) (always : Bool) where
         last_snoc (p ∷ qs) last x e = last_more p qs x
 
   -- and that there is a next one
-  pub record Going (s : Whole V) (who : ℕ) (op : Op V) (most left : ℕ) (places : List (ℕ × V)) (places' : List (ℕ × V)) (s' : Whole V) : Type 0 where
+  pub record Going (s : World V) (who : ℕ) (op : Op V) (most left : ℕ) (places : List (ℕ × V)) (places' : List (ℕ × V)) (s' : World V) : Type 0 where
     pub report : Report V
     pub calling : Calling s who op most left places report places' s'
     pub goes : goes_on report.outcome ≡ true
     pub more : 0 < left
 
   -- a call of no steps
-  pub calling_none : (s : Whole V) (who : ℕ) (op : Op V) (most : ℕ) (places : List (ℕ × V)) → most ≡ 0 → IsCalled same always s who op most places None places s
+  pub calling_none : (s : World V) (who : ℕ) (op : Op V) (most : ℕ) (places : List (ℕ × V)) → most ≡ 0 → IsCalled same always s who op most places None places s
   calling_none s who op most places e = record {
     reports = [];
     run = record { taken = []; each = tt; steps_are = refl; reports_are = refl; last = refl };
@@ -140,7 +140,7 @@ module _ {V : Type 0} (same : V → V → Bool) (always : Bool) where
   }
 
   -- the call stops
-  pub calling_end : (s : Whole V) (who : ℕ) (op : Op V) (most left : ℕ) (places : List (ℕ × V)) (report : Report V) (places' : List (ℕ × V)) (s' : Whole V) → Calling s who op most left places report places' s' → (0 < left → goes_on report.outcome ≡ false)
+  pub calling_end : (s : World V) (who : ℕ) (op : Op V) (most left : ℕ) (places : List (ℕ × V)) (report : Report V) (places' : List (ℕ × V)) (s' : World V) → Calling s who op most left places report places' s' → (0 < left → goes_on report.outcome ≡ false)
       → IsCalled same always s who op most places (Some report) places' s'
   calling_end s who op most left places report places' s' c stop = record {
     reports = c.reports;

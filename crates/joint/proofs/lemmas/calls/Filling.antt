@@ -15,8 +15,8 @@ use Rattle.congee.specs.Heap.{Node}
 use Rattle.congee.specs.protocol.Destroys.{Destroys}
 use Rattle.congee.specs.protocol.Filled.{Fills, KeepsFilled}
 use Rattle.congee.specs.protocol.Play.{Settled, begun}
-use Rattle.joint.specs.declared.engine.in_flight.Call.{Call}
-use Rattle.joint.specs.declared.engine.in_flight.Call.TheVariants.{Idle, Collecting, Reserving, Securing, Walking}
+use Rattle.joint.specs.declared.engine.in_flight.InFlight.{InFlight}
+use Rattle.joint.specs.declared.engine.in_flight.InFlight.TheVariants.{Idle, Collecting, Reserving, Securing, Walking}
 use Rattle.joint.specs.declared.id.Id.{Id}
 use Rattle.joint.specs.declared.limits.Limits.{Limits}
 use Rattle.joint.specs.declared.steps.Event.{Event}
@@ -25,19 +25,19 @@ use Rattle.joint.specs.declared.steps.Report.{Report}
 use Rattle.joint.specs.declared.steps.Target.{Target}
 use Rattle.joint.specs.declared.steps.Target.TheVariants as target
 use Rattle.joint.specs.calls.Filling.{NoneSkipped, StaysFilled}
-use Rattle.joint.specs.nodes.Forest.{Forest, nodes, Refuses}
+use Rattle.joint.specs.nodes.Nodes.{Nodes, nodes, Refuses}
 use Rattle.joint.specs.engine.Intact.{is_done, rested, resting, root, secured_machines}
 use Rattle.joint.specs.engine.Laws.{CallLaws, FilledLaws, FillingLaw}
-use Rattle.joint.specs.world.Whole.{IsNew, Holds, StepsUnless, gives_up}
+use Rattle.joint.specs.world.World.{IsNew, Holds, StepsUnless, finds_journal_full}
 use Rattle.joint.specs.Reports.{target}
 use Rattle.joint.specs.calls.Runs.{Taken, AreTaken, after_all}
 use Rattle.joint.specs.nodes.View.{id_number}
-use Rattle.joint.specs.engine.Engine.{Whole, EngineHolds, BeginsAt, BeginsOnTree, Does, EntersUnless, GoesAt, GoesOnReserving, Walks, engine_of, finds_none, misuse}
-use Rattle.joint.proofs.lemmas.engine.Apart.{one_set}
+use Rattle.joint.specs.engine.Engine.{World, EngineHolds, BeginsAt, BeginsOnTree, Does, EntersUnless, GoesAt, GoesOnReserving, Walks, engine_of, finds_none, misuse}
+use Rattle.joint.proofs.lemmas.engine.OneCallChanges.{one_set}
 use Rattle.joint.proofs.lemmas.engine.Collecting.{either, there}
 use Rattle.joint.proofs.lemmas.world.Flights.{set_at}
 use Rattle.joint.proofs.lemmas.calls.Leaves as leaves
-use Rattle.joint.proofs.lemmas.engine.Resting.{cleared_is}
+use Rattle.joint.proofs.lemmas.engine.ScanEnds.{cleared_is}
 
 module _ {V : Type 0} (h : ℕ → Node V) where
   abbrev Filled : List (Machine Id V) → Type 0
@@ -82,7 +82,7 @@ module _ {V : Type 0} (h : ℕ → Node V) where
     by true = tt
     by false = f
 
-  secured_filled : (o : Turned) (k : Option (Call V)) (ms : List (Machine Id V)) (w : ℕ) → Filled ms → Filled (secured_machines o k ms w)
+  secured_filled : (o : Turned) (k : Option (InFlight V)) (ms : List (Machine Id V)) (w : ℕ) → Filled ms → Filled (secured_machines o k ms w)
   secured_filled turned.Done (Some (Securing op)) ms w f = filled_at ms w (begun root op) f (fills_begun op)
   secured_filled turned.Done (Some Idle) ms w f = f
   secured_filled turned.Done (Some (Collecting op)) ms w f = f
@@ -93,8 +93,8 @@ module _ {V : Type 0} (h : ℕ → Node V) where
   secured_filled (turned.Refused e) k ms w f = f
 
 module _ {V : Type 0} (same : V → V → Bool) (always : Bool) (laws : CallLaws {C = Id} {V = V} id_number same always) (fills : FilledLaws {C = Id} {V = V} id_number same always)
-    (filling : (f : Forest V) → FillingLaw {C = Id} {V = V} id_number same always f.version_max (Refuses f)) where
-  module _ (s s' : Whole V) (w : ℕ) (holds : EngineHolds same always s) (f : StaysFilled s) where
+    (filling : (f : Nodes V) → FillingLaw {C = Id} {V = V} id_number same always f.version_max (Refuses f)) where
+  module _ (s s' : World V) (w : ℕ) (holds : EngineHolds same always s) (f : StaysFilled s) where
     abbrev settled : Settled id_number same always (nodes s.forest) s.machines
     settled = holds.0.safe.sound.sound.settled
 
@@ -157,8 +157,8 @@ module _ {V : Type 0} (same : V → V → Bool) (always : Bool) (laws : CallLaws
         subst Q (sym (k.step.machines ∙ cleared_is s.machines k.step.between w old.0 moved.now old.1 moved.calls))
         (filled_again (nodes s'.forest) s.machines w moved.now (rested moved.now) full (slice_get_within s.machines w old.0 old.1) (fills_rested (nodes s'.forest) moved.now))
 
-  module _ (s s' : Whole V) (w : ℕ) (holds : EngineHolds same always s) (f : StaysFilled s) where
-    goes : (k : Option (Call V)) (noise : Noise Id V) (r : Report V) → slice_get s.calls w ≡ k → GoesAt same always s w k noise r s' → r.skipped ≡ false → StaysFilled s'
+  module _ (s s' : World V) (w : ℕ) (holds : EngineHolds same always s) (f : StaysFilled s) where
+    goes : (k : Option (InFlight V)) (noise : Noise Id V) (r : Report V) → slice_get s.calls w ≡ k → GoesAt same always s w k noise r s' → r.skipped ≡ false → StaysFilled s'
     goes None noise r e x none = absurd x
     goes (Some Idle) noise r e x none = absurd x
     goes (Some (Collecting op)) noise r e x none = destroyed s s' w holds f x.step.destroys x.machines
@@ -174,21 +174,21 @@ module _ {V : Type 0} (same : V → V → Bool) (always : Bool) (laws : CallLaws
     does (Begin op) None r x none = begins s s' w holds f (target op) r x
     does (Go noise) None r x none = goes (slice_get s.calls w) noise r refl x none
 
-  step : (s : Whole V) (t : Taken V) → Holds same always s → StaysFilled s → t.report.skipped ≡ false → (b : Bool) → StepsUnless same always b s t.step t.report t.after → StaysFilled t.after
+  step : (s : World V) (t : Taken V) → Holds same always s → StaysFilled s → t.report.skipped ≡ false → (b : Bool) → StepsUnless same always b s t.step t.report t.after → StaysFilled t.after
   step s t h f none true y = unchanged s t.after t.step.worker (h.0, h.1) f (ap (λ z. nodes z.forest) y.state) (ap (λ z. z.machines) y.state)
   step s t h f none false y = does (engine_of s) (engine_of t.after) t.step.worker (h.0, h.1) f t.step.event (misuse s t.step.worker t.step.event) y.told y.engine.does (sym (ap (λ z. z.skipped) y.report) ∙ none)
 
-  pub all_filled : (s : Whole V) (ts : List (Taken V)) → Holds same always s → AreTaken same always s ts → NoneSkipped ts → StaysFilled s → StaysFilled (after_all s ts)
+  pub all_filled : (s : World V) (ts : List (Taken V)) → Holds same always s → AreTaken same always s ts → NoneSkipped ts → StaysFilled s → StaysFilled (after_all s ts)
   all_filled s [] h x none f = f
-  all_filled s (t ∷ ts) h x none f = all_filled t.after ts x.0.holds x.1 none.1 (step s t h f none.0 (gives_up s t.step.worker t.step.event) x.0.does)
+  all_filled s (t ∷ ts) h x none f = all_filled t.after ts x.0.holds x.1 none.1 (step s t h f none.0 (finds_journal_full s t.step.worker t.step.event) x.0.does)
 
-  pub opens_filled : (limits : Limits) (s : Whole V) → IsNew limits s → Holds same always s → StaysFilled s
+  pub opens_filled : (limits : Limits) (s : World V) → IsNew limits s → Holds same always s → StaysFilled s
   opens_filled limits s new h = record {
     tree = (fills.opens (nodes s.forest) [] new.opened.2.fresh (λ i m e. absurd (cc e))).tree;
     calls = λ i m e. (
         let l : i < length s.calls = subst (λ n. i < n) h.0.machines (slice_get_within s.machines i m e) in
         let k = there s.calls i l in
-        let P : Call V → Type 0 = λ c. slice_get s.calls i ≡ Some c in
+        let P : InFlight V → Type 0 = λ c. slice_get s.calls i ≡ Some c in
         let at = h.0.each i Idle m (subst P (new.fresh.idle i k.0 k.1) k.1) e in
         let Q : Phase Id V → Type 0 = λ p. Fills id_number (nodes s.forest) m.given p in
         subst Q (sym at.1) tt);

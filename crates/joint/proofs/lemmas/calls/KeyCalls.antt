@@ -29,23 +29,23 @@ use Rattle.joint.specs.declared.steps.Report.{Report}
 use Rattle.joint.specs.declared.steps.Step.{Step}
 use Rattle.joint.specs.declared.steps.Target.{Target}
 use Rattle.joint.specs.declared.steps.Target.TheVariants as target
-use Rattle.joint.specs.nodes.Forest.{nodes}
+use Rattle.joint.specs.nodes.Nodes.{nodes}
 use Rattle.joint.specs.engine.Intact.{root}
 use Rattle.joint.specs.calls.MapCalls.{AllGoOn, told_after, Answered, answered_by, answer_in, answered_after, IsPresent, IsComputed, IsOnMap, TookEffect, IsUndecided, IsDecided, KeepsAll, IsDoneWith, PlaysKey}
 use Rattle.joint.specs.Reports.{target, told}
 use Rattle.joint.specs.calls.Runs.{Taken, AreTaken, after_all}
 use Rattle.joint.specs.world.MapSteps.{GoMap, Advances, PendingStep, BeginMap, BeginsOr, EndsAtOnce, EndsEmpty, BeginsFlight, Stays, Line}
-use Rattle.joint.specs.engine.Flying.{Flights, with_flight, InFlight, AreInFlight}
-use Rattle.joint.specs.world.Whole.{Holds, IsOnKey, IsStep}
-use Rattle.joint.specs.engine.Engine.{Whole, is_in_flight}
+use Rattle.joint.specs.engine.Flying.{Flights, with_flight, IsInFlight, AreInFlight}
+use Rattle.joint.specs.world.World.{Holds, IsOnKey, IsStep}
+use Rattle.joint.specs.engine.Engine.{World, is_in_flight}
 use Rattle.joint.proofs.lemmas.world.Flights.{flight_here}
-use Rattle.joint.proofs.lemmas.world.Mapped.{Mapped, mapped}
+use Rattle.joint.proofs.lemmas.world.JournaledSteps.{Mapped, mapped}
 
 -- flights that are the same one by one
 module _ {V : Type 0} where
-  pub same_flights : (s : Whole V) (fs gs : Flights V) → ((i : ℕ) → fs i ≡ gs i) → AreInFlight s fs → AreInFlight s gs
+  pub same_flights : (s : World V) (fs gs : Flights V) → ((i : ℕ) → fs i ≡ gs i) → AreInFlight s fs → AreInFlight s gs
   same_flights s fs gs same fl = record {
-    each = λ i k m a b. subst (λ (f : Flight V). InFlight k m f) (same i) (fl.each i k m a b);
+    each = λ i k m a b. subst (λ (f : Flight V). IsInFlight k m f) (same i) (fl.each i k m a b);
     beyond = λ i l. sym (same i) ∙ fl.beyond i l;
   }
 
@@ -57,7 +57,7 @@ module _ {V : Type 0} where
         | inr e ↦ subst P (sym e) refl
       ]
 
-  pub once_more : (s : Whole V) (fs : Flights V) (w : ℕ) (f g : Flight V) → AreInFlight s (with_flight (with_flight fs w f) w g) → AreInFlight s (with_flight fs w g)
+  pub once_more : (s : World V) (fs : Flights V) (w : ℕ) (f g : Flight V) → AreInFlight s (with_flight (with_flight fs w f) w g) → AreInFlight s (with_flight fs w g)
   once_more s fs w f g fl = same_flights s _ _ (set_again fs w f g) fl
 
   set_back : (fs : Flights V) (w : ℕ) → fs w ≡ Over → (i : ℕ) → with_flight fs w Over i ≡ fs i
@@ -68,7 +68,7 @@ module _ {V : Type 0} where
         | inr e ↦ subst P (sym e) refl
       ]
 
-  pub as_before : (s : Whole V) (fs : Flights V) (w : ℕ) → fs w ≡ Over → AreInFlight s (with_flight fs w Over) → AreInFlight s fs
+  pub as_before : (s : World V) (fs : Flights V) (w : ℕ) → fs w ≡ Over → AreInFlight s (with_flight fs w Over) → AreInFlight s fs
   as_before s fs w over fl = same_flights s _ _ (set_back fs w over) fl
 
 -- the value that a call has: a call without a closure keeps the one that it was given
@@ -209,7 +209,7 @@ abbrev pub gone : {V : Type 0} → ℕ → Noise Id V → Step V
 gone w noise = record { worker = w; event = Go noise }
 
 -- a step in which no call on the tree goes on
-pub stays : {V : Type 0} (fs : Flights V) (m : Pairs V) (l : Line V) (fs' : Flights V) (s : Whole V) → Stays fs m l fs' → IsMapOf (nodes s.forest) l.pairs → AreInFlight s fs' → KeepsAll fs m s
+pub stays : {V : Type 0} (fs : Flights V) (m : Pairs V) (l : Line V) (fs' : Flights V) (s : World V) → Stays fs m l fs' → IsMapOf (nodes s.forest) l.pairs → AreInFlight s fs' → KeepsAll fs m s
 stays {V} fs m l fs' s x st fl =
     let P : Pairs V → Type 0 = λ n. IsMapOf (nodes s.forest) n in
     let Q : Flights V → Type 0 = λ n. AreInFlight s n in
@@ -217,7 +217,7 @@ stays {V} fs m l fs' s x st fl =
 
 module _ {V : Type 0} (same : V → V → Bool) (always : Bool) (fs : Flights V) (m : Pairs V) (w : ℕ) (p : Point V) (on_key : IsOnKey p) where
   -- before it took effect, with what the call has of its closure
-  record Before (last : Answered V) (said : Outcome V) (s : Whole V) : Type 0 where
+  record Before (last : Answered V) (said : Outcome V) (s : World V) : Type 0 where
     free : fs w ≡ Over
     value : Option V
     question : Question V
@@ -225,7 +225,7 @@ module _ {V : Type 0} (same : V → V → Bool) (always : Bool) (fs : Flights V)
     stand : IsMapOf (nodes s.forest) m
     tied : Tied (parts p).1 (parts p).2 last said value question
 
-  abbrev Course : Answered V → Outcome V → Whole V → Type 0
+  abbrev Course : Answered V → Outcome V → World V → Type 0
   Course last Running s = Before last Running s ⊎ IsDecided same fs m w last p s
   Course last (Asks o) s = Before last (Asks o) s
   Course last (Found place key value) s = ⊥
@@ -233,10 +233,10 @@ module _ {V : Type 0} (same : V → V → Bool) (always : Bool) (fs : Flights V)
   Course last (Done d) s = IsDoneWith same fs m last p d s
   Course last (Refused e) s = IsMapOf (nodes s.forest) m × AreInFlight s fs
 
-  before_key : (last : Answered V) (said : Outcome V) (s : Whole V) → Before last said s → IsUndecided fs m w p s
+  before_key : (last : Answered V) (said : Outcome V) (s : World V) → Before last said s → IsUndecided fs m w p s
   before_key last said s b = record { free = b.free; value = b.value; question = b.question; in_flight = b.in_flight; stand = b.stand }
 
-  plays : (last : Answered V) (said : Outcome V) (s : Whole V) → Course last said s → PlaysKey same fs m w last p said s
+  plays : (last : Answered V) (said : Outcome V) (s : World V) → Course last said s → PlaysKey same fs m w last p said s
   plays last Running s (inl b) = inl (before_key last Running s b)
   plays last Running s (inr b) = inr b
   plays last (Asks o) s b = before_key last (Asks o) s b
@@ -246,7 +246,7 @@ module _ {V : Type 0} (same : V → V → Bool) (always : Bool) (fs : Flights V)
   plays last (Refused e) s b = b
 
   -- a step that took effect, or a later one
-  concluded : (r : Reply V) (o : Moved V) (f : Flight V) (last : Answered V) (said : Outcome V) (s : Whole V) → fs w ≡ Over → said ≡ told o → Concludes r o f → AreInFlight s (with_flight fs w f)
+  concluded : (r : Reply V) (o : Moved V) (f : Flight V) (last : Answered V) (said : Outcome V) (s : World V) → fs w ≡ Over → said ≡ told o → Concludes r o f → AreInFlight s (with_flight fs w f)
       → TookEffect same m last p r s → Course last said s
   concluded r moved.Running f last said s free e u fl t =
       let P : Outcome V → Type 0 = λ x. Course last x s in
@@ -263,7 +263,7 @@ module _ {V : Type 0} (same : V → V → Bool) (always : Bool) (fs : Flights V)
   concluded r (moved.Refused cause) f last said s free e u fl t = absurd u
 
   -- a step before it
-  undecided : (v : Option V) (q : Question V) (o : Moved V) (f : Flight V) (last : Answered V) (said : Outcome V) (s : Whole V) → fs w ≡ Over → said ≡ told o
+  undecided : (v : Option V) (q : Question V) (o : Moved V) (f : Flight V) (last : Answered V) (said : Outcome V) (s : World V) → fs w ≡ Over → said ≡ told o
       → Ready (parts p).1 (parts p).2 last v q → Undecided (parts p).0 (parts p).1 v q o f → AreInFlight s (with_flight fs w f) → IsMapOf (nodes s.forest) m → Course last said s
   undecided v q moved.Running f last said s free e r u fl st =
       let P : Outcome V → Type 0 = λ x. Course last x s in
@@ -288,7 +288,7 @@ module _ {V : Type 0} (same : V → V → Bool) (always : Bool) (fs : Flights V)
   undecided v q (moved.Found place key x) f last said s free e r u fl st = absurd u
   undecided v q (moved.Scanned count) f last said s free e r u fl st = absurd u
 
-  pending : (v : Option V) (q : Question V) (b : Bool) (l : Line V) (f : Flight V) (last : Answered V) (s : Whole V) → fs w ≡ Over → Ready (parts p).1 (parts p).2 last v q
+  pending : (v : Option V) (q : Question V) (b : Bool) (l : Line V) (f : Flight V) (last : Answered V) (s : World V) → fs w ≡ Over → Ready (parts p).1 (parts p).2 last v q
       → PendingStep same (parts p).0 (parts p).1 v q m b l f → AreInFlight s (with_flight fs w f) → IsMapOf (nodes s.forest) l.pairs → Course last l.report.outcome s
   pending v q false l f last s free r (inl t) fl st =
       let P : Pairs V → Type 0 = λ x. IsMapOf (nodes s.forest) x in
@@ -308,7 +308,7 @@ module _ {V : Type 0} (same : V → V → Bool) (always : Bool) (fs : Flights V)
       })
 
   -- a further step
-  from_before : (noise : Noise Id V) (last : Answered V) (said : Outcome V) (s : Whole V) (r : Report V) (s' : Whole V) → Holds same always s → Before last said s → IsStep same always s (gone w noise) r s'
+  from_before : (noise : Noise Id V) (last : Answered V) (said : Outcome V) (s : World V) (r : Report V) (s' : World V) → Holds same always s → Before last said s → IsStep same always s (gone w noise) r s'
       → Course (answered_by noise.answer said last) r.outcome s'
   from_before noise last said s r s' h b x =
       let f : Flight V = Pending (parts p).0 (parts p).1 b.value b.question in
@@ -320,7 +320,7 @@ module _ {V : Type 0} (same : V → V → Bool) (always : Bool) (fs : Flights V)
       pending (heard (parts p).1 b.question noise.answer b.value) (resolved (parts p).1 b.question noise.answer) r.decided l a.next (answered_by noise.answer said last) s' b.free
       (ready (parts p).1 (parts p).2 b.value b.question last said noise.answer b.tied) a.step fl y.stand
 
-  from_decided : (noise : Noise Id V) (last : Answered V) (s : Whole V) (r : Report V) (s' : Whole V) → Holds same always s → IsDecided same fs m w last p s → IsStep same always s (gone w noise) r s'
+  from_decided : (noise : Noise Id V) (last : Answered V) (s : World V) (r : Report V) (s' : World V) → Holds same always s → IsDecided same fs m w last p s → IsStep same always s (gone w noise) r s'
       → Course last r.outcome s'
   from_decided noise last s r s' h b x =
       let f : Flight V = Decided b.reply in
@@ -342,7 +342,7 @@ module _ {V : Type 0} (same : V → V → Bool) (always : Bool) (fs : Flights V)
   keeps_last None last = refl
   keeps_last (Some x) last = refl
 
-  further : (noise : Noise Id V) (last : Answered V) (said : Outcome V) (s : Whole V) (r : Report V) (s' : Whole V) → Holds same always s → is_in_flight said ≡ true → Course last said s
+  further : (noise : Noise Id V) (last : Answered V) (said : Outcome V) (s : World V) (r : Report V) (s' : World V) → Holds same always s → is_in_flight said ≡ true → Course last said s
       → IsStep same always s (gone w noise) r s' → Course (answered_by noise.answer said last) r.outcome s'
   further noise last Running s r s' h on (inl b) x = from_before noise last Running s r s' h b x
   further noise last Running s r s' h on (inr b) x =
@@ -354,7 +354,7 @@ module _ {V : Type 0} (same : V → V → Bool) (always : Bool) (fs : Flights V)
   further noise last (Done d) s r s' h on b x = absurd (cc on)
   further noise last (Refused e) s r s' h on b x = absurd (cc on)
 
-  ends : (more : List (Taken V)) (last : Answered V) (said : Outcome V) (s : Whole V) → Holds same always s → Course last said s → AreTaken same always s more → AllGoOn w said more
+  ends : (more : List (Taken V)) (last : Answered V) (said : Outcome V) (s : World V) → Holds same always s → Course last said s → AreTaken same always s more → AllGoOn w said more
       → Course (answered_after said last more) (told_after said more) (after_all s more)
   ends [] last said s h c x g = c
   ends (t ∷ ts) last said s h c x g =
@@ -363,7 +363,7 @@ module _ {V : Type 0} (same : V → V → Bool) (always : Bool) (fs : Flights V)
       ends ts (answered_by (answer_in t.step.event) said last) t.report.outcome t.after x.0.holds next x.1 g.1
 
   -- the first step
-  begins : (op : Op V) (s : Whole V) (r : Report V) (s' : Whole V) → target op ≡ target.Tree p → Holds same always s → IsMapOf (nodes s.forest) m → AreInFlight s fs
+  begins : (op : Op V) (s : World V) (r : Report V) (s' : World V) → target op ≡ target.Tree p → Holds same always s → IsMapOf (nodes s.forest) m → AreInFlight s fs
       → IsStep same always s (begin_of w op) r s' → Course None r.outcome s'
   begins op s r s' on_tree h st fl x = begun_so r.outcome refl begin where
     y : Mapped same always s (begin_of w op) r s' fs m
@@ -402,7 +402,7 @@ module _ {V : Type 0} (same : V → V → Bool) (always : Bool) (fs : Flights V)
     begun_so (Done d) is z = absurd (never_at_once fs m p d l y.flights on_key z)
 
   -- the whole call
-  pub key_plays : (op : Op V) (s : Whole V) (first : Taken V) (more : List (Taken V)) → target op ≡ target.Tree p → Holds same always s → IsMapOf (nodes s.forest) m → AreInFlight s fs
+  pub key_plays : (op : Op V) (s : World V) (first : Taken V) (more : List (Taken V)) → target op ≡ target.Tree p → Holds same always s → IsMapOf (nodes s.forest) m → AreInFlight s fs
       → IsStep same always s (begin_of w op) first.report first.after → AreTaken same always first.after more → AllGoOn w first.report.outcome more
       → PlaysKey same fs m w (answered_after first.report.outcome None more) p (told_after first.report.outcome more) (after_all first.after more)
   key_plays op s first more on_tree h st fl x y g =

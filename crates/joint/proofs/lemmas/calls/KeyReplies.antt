@@ -14,14 +14,14 @@ use Rattle.joint.specs.declared.steps.Op.TheVariants as op
 use Rattle.joint.specs.declared.steps.Outcome.{Outcome}
 use Rattle.joint.specs.declared.steps.Outcome.TheVariants.{Running, Asks, Found, Registered, Done, Refused}
 use Rattle.joint.specs.declared.steps.Report.{Report}
-use Rattle.joint.specs.nodes.Forest.{nodes}
+use Rattle.joint.specs.nodes.Nodes.{nodes}
 use Rattle.joint.specs.calls.MapCalls.{CallPlays, IsDoneWith, IsOnMap, KeepsAll, PlaysKey, asked_of, reply_of}
 use Rattle.joint.specs.Reports.{reply_in}
 use Rattle.joint.specs.engine.Flying.{Flights}
-use Rattle.joint.specs.engine.Engine.{Whole}
-use Rattle.joint.proofs.lemmas.nodes.Kept.{same_some}
+use Rattle.joint.specs.engine.Engine.{World}
+use Rattle.joint.proofs.lemmas.nodes.NodesInvariant.{same_some}
 
-module _ {V : Type 0} (same : V → V → Bool) (fs : Flights V) (m : Pairs V) (s : Whole V) (r : Reply V) where
+module _ {V : Type 0} (same : V → V → Bool) (fs : Flights V) (m : Pairs V) (s : World V) (r : Reply V) where
   -- the map answers this call so, and its pairs stand
   abbrev Plays : Entered V → Type 0
   Plays c = (r ≡ (answer same m c).0) × KeepsAll fs (answer same m c).1 s

@@ -24,16 +24,16 @@ use Rattle.congee.specs.protocol.Protocol.{AlsoOut, Known}
 use Rattle.congee.specs.protocol.Steps.{PhaseStepped, after_retire}
 use Rattle.joint.specs.declared.id.Id.{Id}
 use Rattle.joint.specs.engine.Census.{taken_at}
-use Rattle.joint.specs.nodes.Forest.{Forest, nodes, Refuses}
+use Rattle.joint.specs.nodes.Nodes.{Nodes, nodes, Refuses}
 use Rattle.joint.specs.engine.Intact.{is_done, rested, resting}
 use Rattle.joint.specs.engine.Laws.{CallLaws}
 use Rattle.joint.specs.calls.Leaving.{HandsOver}
-use Rattle.joint.specs.engine.Machines.{IsSafe, Walked, after_walk, retiring, retiring_at}
+use Rattle.joint.specs.engine.Safety.{IsSafe, Walked, after_walk, retiring, retiring_at}
 use Rattle.joint.specs.engine.Sound.{Guards, IsSecured, IsUnderWay}
 use Rattle.joint.specs.nodes.View.{id_number}
 use Rattle.joint.proofs.lemmas.world.Flights.{set_at}
-use Rattle.joint.proofs.lemmas.calls.Left.{IsOwed, taken_owed}
-use Rattle.joint.proofs.lemmas.engine.Secured.{retiring_room}
+use Rattle.joint.proofs.lemmas.calls.HeldNodes.{IsOwed, taken_owed}
+use Rattle.joint.proofs.lemmas.engine.SecuredPlaces.{retiring_room}
 use Rattle.joint.proofs.lemmas.world.Waiting.{is_taken, taken_is}
 
 abbrev nobody : ℕ → List ℕ
@@ -131,7 +131,7 @@ module _ {V : Type 0} where
     leads_same h h' a down keep path x.0 c (down n b x.0 l x.1) x.2,
   )
 
-module _ {V : Type 0} (same : V → V → Bool) (always : Bool) (laws : CallLaws {C = Id} {V = V} id_number same always) (f f' : Forest V) (ms between : List (Machine Id V)) (step : Turn Id V) (d : Move V) (safe : IsSafe same always f ms)
+module _ {V : Type 0} (same : V → V → Bool) (always : Bool) (laws : CallLaws {C = Id} {V = V} id_number same always) (f f' : Nodes V) (ms between : List (Machine Id V)) (step : Turn Id V) (d : Move V) (safe : IsSafe same always f ms)
     (walked : Walked same always f ms step d f' between) (m : Machine Id V) (at : slice_get ms step.who ≡ Some m) where
   abbrev who : ℕ
   who = step.who

@@ -30,8 +30,8 @@ use Rattle.congee.specs.Heap.{Node, Stands}
 use Rattle.congee.specs.protocol.Handing.{InTree, is_waiting}
 use Rattle.congee.specs.protocol.Holdings.{TakenBy}
 use Rattle.congee.specs.protocol.Play.{Flight, Pending, Decided, Over, Unbegun, Scanning, Question, Undecided, ScanTells, Follows, flight_in}
-use Rattle.joint.specs.declared.engine.in_flight.Call.{Call}
-use Rattle.joint.specs.declared.engine.in_flight.Call.TheVariants.{Idle, Collecting, Reserving, Securing, Walking}
+use Rattle.joint.specs.declared.engine.in_flight.InFlight.{InFlight}
+use Rattle.joint.specs.declared.engine.in_flight.InFlight.TheVariants.{Idle, Collecting, Reserving, Securing, Walking}
 use Rattle.joint.specs.declared.id.Id.{Id}
 use Rattle.joint.specs.declared.steps.Event.{Event}
 use Rattle.joint.specs.declared.limits.Limits.{Limits}
@@ -42,11 +42,11 @@ use Rattle.joint.specs.declared.steps.Outcome.TheVariants.{Running}
 use Rattle.joint.specs.declared.steps.Target.{Target}
 use Rattle.joint.specs.declared.steps.Target.TheVariants as target
 use Rattle.joint.specs.declared.steps.Report.{Report}
-use Rattle.joint.specs.nodes.Forest.{Forest, nodes, Refuses}
+use Rattle.joint.specs.nodes.Nodes.{Nodes, nodes, Refuses}
 use Rattle.joint.specs.engine.Intact.{call_after, is_done, is_reserving, over_at, rested, resting}
 use Rattle.joint.specs.engine.Laws.{CallLaws, LeavesLaw}
 use Rattle.joint.specs.calls.Leaving.{TakesOut, HandsOver, StaysLeft, LeavesRightly, LeftLocked, BeginsAnew, TakesNone, HandsNone, AllLeaveOnce}
-use Rattle.joint.specs.world.Whole.{IsNew, Holds, IsStep, StepsUnless, GivesUp, gives_up}
+use Rattle.joint.specs.world.World.{IsNew, Holds, IsStep, StepsUnless, FindsJournalFull, finds_journal_full}
 use Rattle.joint.specs.Reports.{target}
 use Rattle.joint.specs.engine.Sound.{IsUnderWay}
 use Rattle.joint.specs.calls.Runs.{Taken, AreTaken, after_all}
@@ -54,15 +54,15 @@ use Rattle.joint.specs.world.MapSteps.{EventMap, GoMap, PendingStep, Line}
 use Rattle.joint.specs.engine.Flying.{Flights}
 use Rattle.joint.specs.nodes.View.{id_number}
 use Rattle.joint.specs.world.Whereabouts.{IsWaiting, IsDestroyed, IsTakenBy}
-use Rattle.joint.specs.engine.Engine.{Whole, EngineHolds, BeginsAt, BeginsOnTree, Collects, Does, EntersUnless, GoesAt, Walks, engine_of, finds_none, is_in_flight, misuse, quiet}
-use Rattle.joint.proofs.lemmas.engine.Apart.{Apart, one_same, one_set, step_apart}
+use Rattle.joint.specs.engine.Engine.{World, EngineHolds, BeginsAt, BeginsOnTree, Collects, Does, EntersUnless, GoesAt, Walks, engine_of, finds_none, is_in_flight, misuse, quiet}
+use Rattle.joint.proofs.lemmas.engine.OneCallChanges.{Apart, one_same, one_set, step_apart}
 use Rattle.joint.proofs.lemmas.calls.Ends.{and_left}
 use Rattle.joint.proofs.lemmas.engine.Entering.{begin_within}
 use Rattle.joint.proofs.lemmas.world.Flights.{flight_here, set_at}
 use Rattle.joint.proofs.lemmas.calls.LeavesSteps.{IsTaking, IsLost, Parts, SameLeft, same_left, step_parts, walking_of}
-use Rattle.joint.proofs.lemmas.calls.Left.{blank, is_locked, taken_waits, taken_stands, retired_waits, waits_is}
-use Rattle.joint.proofs.lemmas.world.Mapped.{mapped}
-use Rattle.joint.proofs.lemmas.engine.Resting.{cleared_is}
+use Rattle.joint.proofs.lemmas.calls.HeldNodes.{blank, is_locked, taken_waits, taken_stands, retired_waits, waits_is}
+use Rattle.joint.proofs.lemmas.world.JournaledSteps.{mapped}
+use Rattle.joint.proofs.lemmas.engine.ScanEnds.{cleared_is}
 use Rattle.joint.proofs.lemmas.calls.Sparing.{all_spare}
 use Rattle.joint.proofs.lemmas.world.Whereabouts.{somewhere}
 
@@ -124,7 +124,7 @@ Past Ended = Unit {0}
 Past _ = ⊥
 
 -- so is the worker's call, or it isn't on the tree
-abbrev IsPast : {V : Type 0} → Option (Call V) → Option (Machine Id V) → Type 0
+abbrev IsPast : {V : Type 0} → Option (InFlight V) → Option (Machine Id V) → Type 0
 IsPast (Some Idle) m = Unit {0}
 IsPast (Some (Collecting op)) m = Unit {0}
 IsPast (Some Walking) (Some m) = Past m.phase
@@ -159,7 +159,7 @@ module _ {V : Type 0} where
   past_collects turned.Done op m = tt
   past_collects (turned.Refused f) op m = tt
 
-  past_reserves : (k : Option (Call V)) (m : Option (Machine Id V)) → IsPast k m → is_reserving k ≡ true → ⊥
+  past_reserves : (k : Option (InFlight V)) (m : Option (Machine Id V)) → IsPast k m → is_reserving k ≡ true → ⊥
   past_reserves (Some (Reserving p)) m u e = u
   past_reserves (Some Idle) m u e = false≢true e
   past_reserves (Some (Collecting c)) m u e = false≢true e
@@ -167,22 +167,22 @@ module _ {V : Type 0} where
   past_reserves (Some Walking) m u e = false≢true e
   past_reserves None m u e = false≢true e
 
-module _ {V : Type 0} (same : V → V → Bool) (always : Bool) (s s' : Whole V) (w : ℕ) (holds : EngineHolds same always s) where
+module _ {V : Type 0} (same : V → V → Bool) (always : Bool) (s s' : World V) (w : ℕ) (holds : EngineHolds same always s) where
   abbrev After : Type 0
   After = IsPast (slice_get s'.calls w) (slice_get s'.machines w)
 
   past_same : s'.calls ≡ s.calls → s'.machines ≡ s.machines → IsPast (slice_get s.calls w) (slice_get s.machines w) → After
   past_same c m u =
-      let P : List (Call V) → Type 0 = λ ks. IsPast (slice_get ks w) (slice_get s'.machines w) in
+      let P : List (InFlight V) → Type 0 = λ ks. IsPast (slice_get ks w) (slice_get s'.machines w) in
       let Q : List (Machine Id V) → Type 0 = λ ms. IsPast (slice_get s.calls w) (slice_get ms w) in
       subst P (sym c) (subst Q (sym m) u)
 
-  placed : (k : Call V) → w < length s.calls → s'.calls ≡ set s.calls w k → slice_get s'.calls w ≡ Some k
+  placed : (k : InFlight V) → w < length s.calls → s'.calls ≡ set s.calls w k → slice_get s'.calls w ≡ Some k
   placed k l e = ap (λ xs. slice_get xs w) e ∙ set_at s.calls w k l
 
   collects_past : (event : Turning) (op : Work) (r : Report V) → w < length s.calls → Collects same always s w event (Collecting op) r s' → After
   collects_past event op r l x =
-      let P : Option (Call V) → Type 0 = λ k. IsPast k (slice_get s'.machines w) in
+      let P : Option (InFlight V) → Type 0 = λ k. IsPast k (slice_get s'.machines w) in
       subst P (sym (placed (call_after x.turn.outcome (Collecting op)) l x.calls)) (past_collects x.turn.outcome op (slice_get s'.machines w))
 
   module _ (op : Op V) (none : misuse s w (Begin op) ≡ None) (u : IsPast (slice_get s.calls w) (slice_get s.machines w)) where
@@ -217,13 +217,13 @@ module _ {V : Type 0} (same : V → V → Bool) (always : Bool) (s s' : Whole V)
       by (over_at (slice_get s'.machines w)) (rested mv.now) now (past_rested mv.now p) (placed _ (slice_get_within s.calls w Walking e) x.calls)
     where
       by : (o : Bool) (y : Machine Id V) → slice_get s'.machines w ≡ Some y → Past y.phase → slice_get s'.calls w ≡ Some (if o then Idle else Walking) → After
-      by true y n z c = let P : Option (Call V) → Type 0 = λ k. IsPast k (slice_get s'.machines w) in subst P (sym c) tt
+      by true y n z c = let P : Option (InFlight V) → Type 0 = λ k. IsPast k (slice_get s'.machines w) in subst P (sym c) tt
       by false y n z c =
-          let P : Option (Call V) → Type 0 = λ k. IsPast k (slice_get s'.machines w) in
+          let P : Option (InFlight V) → Type 0 = λ k. IsPast k (slice_get s'.machines w) in
           let Q : Option (Machine Id V) → Type 0 = λ k. IsPast (Some Walking) k in
           subst P (sym c) (subst Q (sym n) z)
 
-  goes_past : (k : Option (Call V)) (o : Option (Machine Id V)) (noise : Noise Id V) (r : Report V) → slice_get s.calls w ≡ k → slice_get s.machines w ≡ o → IsPast k o → GoesAt same always s w k noise r s' → After
+  goes_past : (k : Option (InFlight V)) (o : Option (Machine Id V)) (noise : Noise Id V) (r : Report V) → slice_get s.calls w ≡ k → slice_get s.machines w ≡ o → IsPast k o → GoesAt same always s w k noise r s' → After
   goes_past (Some (Collecting op)) o noise r e at u x = collects_past turning.Go op r (slice_get_within s.calls w (Collecting op) e) x
   goes_past (Some Walking) (Some m) noise r e at u x = walks_past noise r m e at u x
   goes_past (Some Walking) None noise r e at u x = absurd u
@@ -246,15 +246,15 @@ module _ {V : Type 0} (same : V → V → Bool) (always : Bool) (s s' : Whole V)
 stands_waits : {V : Type 0} (n : Node V) → n.retired ≡ true → Stands n → is_waiting n ≡ true
 stands_waits n r st = ap (λ b. b && (n.made && not n.destroyed)) r ∙ ap (λ b. true && (b && not n.destroyed)) st.made ∙ ap (λ b. true && (true && not b)) st.kept
 
-module _ {V : Type 0} (same : V → V → Bool) (always : Bool) (laws : CallLaws {C = Id} {V = V} id_number same always) (leaves_law : (f : Forest V) → LeavesLaw {C = Id} {V = V} id_number same always f.version_max (Refuses f)) where
+module _ {V : Type 0} (same : V → V → Bool) (always : Bool) (laws : CallLaws {C = Id} {V = V} id_number same always) (leaves_law : (f : Nodes V) → LeavesLaw {C = Id} {V = V} id_number same always f.version_max (Refuses f)) where
   -- a node that waits was handed over, or a call has it
-  waits_as : (s : Whole V) → Holds same always s → (n : ℕ) → IsWaiting s n → (is_waiting (nodes s.forest n) ≡ true) ⊎ ((i : ℕ) × IsTakenBy s i n)
+  waits_as : (s : World V) → Holds same always s → (n : ℕ) → IsWaiting s n → (is_waiting (nodes s.forest n) ≡ true) ⊎ ((i : ℕ) × IsTakenBy s i n)
   waits_as s h n y = elim ((somewhere same always laws s h n y.stands.made).handed y) [
     | inl e ↦ inl (stands_waits (nodes s.forest n) e y.stands)
     | inr e ↦ inr e
   ]
 
-  module _ (s : Whole V) (t : Taken V) (h : Holds same always s) (x : IsStep same always s t.step t.report t.after) where
+  module _ (s : World V) (t : Taken V) (h : Holds same always s) (x : IsStep same always s t.step t.report t.after) where
     abbrev w : ℕ
     w = t.step.worker
 
@@ -273,7 +273,7 @@ module _ {V : Type 0} (same : V → V → Bool) (always : Bool) (laws : CallLaws
         (λ u e. g.pending u (decided_is g.old (h.2.flights w) u e (h.2.in_flight.each w Walking g.old g.walking g.at))) now.1 m
 
     -- where it is refused for want of a place of the journal nothing happens to the nodes
-    given_up : GivesUp s w t.report t.after → Here
+    given_up : FindsJournalFull s w t.report t.after → Here
     given_up y = record {
       leaves = λ n i. inl (let P : (ℕ → Node V) → Type 0 = λ z. InTree z n in subst P (sym nodes_same) i);
       owed = λ i n z. inl (z.0, ap (λ v. slice_get v.machines i) y.state ∙ z.1, z.2);
@@ -292,7 +292,7 @@ module _ {V : Type 0} (same : V → V → Bool) (always : Bool) (laws : CallLaws
     parts_by false y = step_parts same always laws leaves_law (engine_of s) (engine_of t.after) w (h.0, h.1) t.step.event (misuse s w t.step.event) y.told refl y.engine.does
 
     abbrev parts : Here
-    parts = parts_by (gives_up s w t.step.event) x.does
+    parts = parts_by (finds_journal_full s w t.step.event) x.does
 
     stays_left : (n : ℕ) → SameLeft (nodes s.forest n) (nodes t.after.forest n) → IsWaiting t.after n → StaysLeft s t.after n
     stays_left n y z = record { waits = z; locked = y.locked; marked = y.marked; children = y.children }
@@ -374,7 +374,7 @@ module _ {V : Type 0} (same : V → V → Bool) (always : Bool) (laws : CallLaws
       where
         here : (g : IsTaking (engine_of s) w t.step.event) → Past g.old.phase
         here g =
-            let P : Option (Call V) → Type 0 = λ k. IsPast k (slice_get s.machines w) in
+            let P : Option (InFlight V) → Type 0 = λ k. IsPast k (slice_get s.machines w) in
             let Q : Option (Machine Id V) → Type 0 = λ m. IsPast (Some Walking) m in
             subst Q g.at (subst P g.walking p)
 
@@ -391,19 +391,19 @@ module _ {V : Type 0} (same : V → V → Bool) (always : Bool) (laws : CallLaws
 
     past_other : (v : ℕ) → v ≢ w → IsPast (slice_get s.calls v) (slice_get s.machines v) → IsPast (slice_get t.after.calls v) (slice_get t.after.machines v)
     past_other v n u =
-        let a = apart_by (gives_up s w t.step.event) x.does in
-        let P : Option (Call V) → Type 0 = λ k. IsPast k (slice_get t.after.machines v) in
+        let a = apart_by (finds_journal_full s w t.step.event) x.does in
+        let P : Option (InFlight V) → Type 0 = λ k. IsPast k (slice_get t.after.machines v) in
         let Q : Option (Machine Id V) → Type 0 = λ m. IsPast (slice_get s.calls v) m in
         subst P (sym (a.calls.other v n)) (subst Q (sym (a.machines.other v n)) u)
 
     past_own : IsPast (slice_get s.calls w) (slice_get s.machines w) → BeginsAnew w t ⊎ IsPast (slice_get t.after.calls w) (slice_get t.after.machines w)
-    past_own u = by (gives_up s w t.step.event) refl x.does where
-      not_given : (event : Event V) → gives_up s w event ≡ true → ⊥
+    past_own u = by (finds_journal_full s w t.step.event) refl x.does where
+      not_given : (event : Event V) → finds_journal_full s w event ≡ true → ⊥
       not_given Register e = false≢true e
       not_given (Begin op) e = false≢true e
       not_given (Go noise) e = past_reserves (slice_get s.calls w) (slice_get s.machines w) u (and_left _ _ e)
 
-      by : (b : Bool) → gives_up s w t.step.event ≡ b → StepsUnless same always b s t.step t.report t.after → BeginsAnew w t ⊎ IsPast (slice_get t.after.calls w) (slice_get t.after.machines w)
+      by : (b : Bool) → finds_journal_full s w t.step.event ≡ b → StepsUnless same always b s t.step t.report t.after → BeginsAnew w t ⊎ IsPast (slice_get t.after.calls w) (slice_get t.after.machines w)
       by true e y = absurd (not_given t.step.event e)
       by false e y = elim (past_does same always (engine_of s) (engine_of t.after) w (h.0, h.1) t.step.event (misuse s w t.step.event) y.told refl u y.engine.does) [
         | inl z ↦ inl (record { worker = refl; op = z.0; begins = z.1; on = ap (λ v. is_in_flight v.outcome) y.report ∙ z.2 })
@@ -412,11 +412,11 @@ module _ {V : Type 0} (same : V → V → Bool) (always : Bool) (laws : CallLaws
 
     taken_after : (n : ℕ) → IsTakenBy t.after w n → IsPast (slice_get t.after.calls w) (slice_get t.after.machines w)
     taken_after n y =
-        let P : Option (Call V) → Type 0 = λ k. IsPast k (slice_get t.after.machines w) in
+        let P : Option (InFlight V) → Type 0 = λ k. IsPast k (slice_get t.after.machines w) in
         let Q : Option (Machine Id V) → Type 0 = λ m. IsPast (Some Walking) m in
         subst P (sym (walking_of same always t.after (x.holds.0, x.holds.1) w n y)) (subst Q (sym y.1) (taken_past y.0.phase n y.2))
 
-  takes_none : (v : ℕ) (s : Whole V) (ts : List (Taken V)) → Holds same always s → AreTaken same always s ts → IsPast (slice_get s.calls v) (slice_get s.machines v) → TakesNone v s ts
+  takes_none : (v : ℕ) (s : World V) (ts : List (Taken V)) → Holds same always s → AreTaken same always s ts → IsPast (slice_get s.calls v) (slice_get s.machines v) → TakesNone v s ts
   takes_none v s [] h x u = tt
   takes_none v s (t ∷ ts) h x u = elim (cases_Bool (v == t.step.worker)) [
     | inl b ↦ (
@@ -434,11 +434,11 @@ module _ {V : Type 0} (same : V → V → Bool) (always : Bool) (laws : CallLaws
         inr ((λ q. absurd (n (sym q))), takes_none v t.after ts x.0.holds x.1 (past_other s t h x.0 v n u)))
   ]
 
-  hands_none : (n : ℕ) (s : Whole V) (ts : List (Taken V)) → Holds same always s → AreTaken same always s ts → (is_waiting (nodes s.forest n) ≡ true) ⊎ IsLost (nodes s.forest n) → HandsNone n s ts
+  hands_none : (n : ℕ) (s : World V) (ts : List (Taken V)) → Holds same always s → AreTaken same always s ts → (is_waiting (nodes s.forest n) ≡ true) ⊎ IsLost (nodes s.forest n) → HandsNone n s ts
   hands_none n s [] h x y = tt
   hands_none n s (t ∷ ts) h x y = (hands_again s t h x.0 t.step.worker n y, hands_none n t.after ts x.0.holds x.1 (still_handed s t h x.0 n y))
 
-  pub all_leave_once : (s : Whole V) (ts : List (Taken V)) → Holds same always s → AreTaken same always s ts → AllLeaveOnce s ts
+  pub all_leave_once : (s : World V) (ts : List (Taken V)) → Holds same always s → AreTaken same always s ts → AllLeaveOnce s ts
   all_leave_once s [] h x = tt
   all_leave_once s (t ∷ ts) h x = (
     record {
@@ -449,12 +449,12 @@ module _ {V : Type 0} (same : V → V → Bool) (always : Bool) (laws : CallLaws
     all_leave_once t.after ts x.0.holds x.1,
   )
 
-  pub all_left_locked : (s : Whole V) (ts : List (Taken V)) → Holds same always s → AreTaken same always s ts → LeftLocked s → LeftLocked (after_all s ts)
+  pub all_left_locked : (s : World V) (ts : List (Taken V)) → Holds same always s → AreTaken same always s ts → LeftLocked s → LeftLocked (after_all s ts)
   all_left_locked s [] h x l = l
   all_left_locked s (t ∷ ts) h x l = all_left_locked t.after ts x.0.holds x.1 (left_locked s t h x.0 l)
 
 -- in an index as it opens no node has left the tree
-pub opens_locked : {V : Type 0} (limits : Limits) (s : Whole V) → IsNew limits s → LeftLocked s
+pub opens_locked : {V : Type 0} (limits : Limits) (s : World V) → IsNew limits s → LeftLocked s
 opens_locked {V} limits s new n y = elim (cases_Bool (n == 0)) [
   | inl e ↦ absurd (let q : n ≡ 0 = eqb-true n 0 e in let P : ℕ → Type 0 = λ k. IsWaiting s k in (subst P q y).out [] refl)
   | inr e ↦ absurd (false≢true (sym (new.opened.2.fresh.others n (eqb-false n 0 e)) ∙ y.stands.made))

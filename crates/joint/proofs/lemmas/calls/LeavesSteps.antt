@@ -28,32 +28,32 @@ use Rattle.congee.specs.protocol.Holdings.{TakenBy}
 use Rattle.congee.specs.protocol.Leaving.{StepLeaves}
 use Rattle.congee.specs.protocol.Play.{Decided, IsMoved, Settled, flight_in}
 use Rattle.congee.specs.protocol.Steps.{PhaseStepped}
-use Rattle.joint.specs.declared.engine.in_flight.Call.{Call}
-use Rattle.joint.specs.declared.engine.in_flight.Call.TheVariants.{Idle, Collecting, Reserving, Securing, Walking}
+use Rattle.joint.specs.declared.engine.in_flight.InFlight.{InFlight}
+use Rattle.joint.specs.declared.engine.in_flight.InFlight.TheVariants.{Idle, Collecting, Reserving, Securing, Walking}
 use Rattle.joint.specs.declared.id.Id.{Id}
 use Rattle.joint.specs.declared.steps.Event.{Event}
 use Rattle.joint.specs.declared.steps.Event.TheVariants.{Register, Begin, Go}
 use Rattle.joint.specs.declared.steps.Report.{Report}
 use Rattle.joint.specs.declared.steps.Target.{Target}
 use Rattle.joint.specs.declared.steps.Target.TheVariants as target
-use Rattle.joint.specs.nodes.Forest.{Forest, nodes, Refuses}
+use Rattle.joint.specs.nodes.Nodes.{Nodes, nodes, Refuses}
 use Rattle.joint.specs.engine.Intact.{IsAt, rested}
 use Rattle.joint.specs.engine.Laws.{CallLaws, LeavesLaw}
 use Rattle.joint.specs.calls.Leaving.{TakesOut, HandsOver}
-use Rattle.joint.specs.engine.Machines.{after_walk, retiring, retiring_at}
+use Rattle.joint.specs.engine.Safety.{after_walk, retiring, retiring_at}
 use Rattle.joint.specs.Reports.{target}
 use Rattle.joint.specs.nodes.View.{id_number}
 use Rattle.joint.specs.world.Whereabouts.{IsTakenBy}
-use Rattle.joint.specs.engine.Engine.{Whole, EngineHolds, BeginsAt, BeginsOnTree, Does, EntersUnless, GoesAt, Walks, finds_none, is_busy, misuse, place_of}
-use Rattle.joint.proofs.lemmas.engine.Apart.{Apart, one_set, step_apart}
+use Rattle.joint.specs.engine.Engine.{World, EngineHolds, BeginsAt, BeginsOnTree, Does, EntersUnless, GoesAt, Walks, finds_none, is_busy, misuse, place_of}
+use Rattle.joint.proofs.lemmas.engine.OneCallChanges.{Apart, one_set, step_apart}
 use Rattle.joint.proofs.lemmas.engine.Collecting.{there}
 use Rattle.joint.proofs.lemmas.engine.Entering.{begin_idle}
 use Rattle.joint.proofs.lemmas.world.Flights.{set_at}
 use Rattle.joint.proofs.lemmas.calls.Leaves as leaves
 use Rattle.joint.proofs.lemmas.calls.Leaves.{Owes, Marks, Hands, Waits, leads_same, taken_stays}
-use Rattle.joint.proofs.lemmas.calls.Left.{taken_owed, waits_is}
+use Rattle.joint.proofs.lemmas.calls.HeldNodes.{taken_owed, waits_is}
 use Rattle.joint.proofs.lemmas.engine.Reserving.{same_nodes}
-use Rattle.joint.proofs.lemmas.engine.Resting.{cleared_is}
+use Rattle.joint.proofs.lemmas.engine.ScanEnds.{cleared_is}
 
 -- what a step leaves of a node that left the tree
 pub record SameLeft {V : Type 0} (p q : Node V) : Type 0 where
@@ -67,7 +67,7 @@ pub same_left : {V : Type 0} (p q : Node V) → q ≡ p → SameLeft p q
 same_left p q e = record { locked = ap (λ y. y.locked) e; marked = λ o. ap (λ y. y.obsolete) e ∙ o; children = λ b. ap (λ y. y.children b) e; made = ap (λ y. y.made) e; kept = ap (λ y. y.destroyed) e }
 
 -- the step of the call that takes a node out
-pub record IsTaking {V : Type 0} (s : Whole V) (w : ℕ) (event : Event V) : Type 0 where
+pub record IsTaking {V : Type 0} (s : World V) (w : ℕ) (event : Event V) : Type 0 where
   pub noise : Noise Id V
   pub goes : event ≡ Go noise
   pub walking : slice_get s.calls w ≡ Some Walking
@@ -81,7 +81,7 @@ pub record IsLost {V : Type 0} (n : Node V) : Type 0 where
   pub made : n.made ≡ true
   pub destroyed : n.destroyed ≡ true
 
-pub record Parts {V : Type 0} (s s' : Whole V) (w : ℕ) (event : Event V) : Type 0 where
+pub record Parts {V : Type 0} (s s' : World V) (w : ℕ) (event : Event V) : Type 0 where
   pub leaves : (n : ℕ) → InTree (nodes s.forest) n → InTree (nodes s'.forest) n ⊎ (TakesOut s s' w n × IsTaking s w event)
   pub owed : (i n : ℕ) → IsTakenBy s i n → IsTakenBy s' i n ⊎ ((w ≡ i) × HandsOver s.forest s'.forest i n)
   pub handed : (n : ℕ) → is_waiting (nodes s.forest n) ≡ false → is_waiting (nodes s'.forest n) ≡ true → IsTakenBy s w n × HandsOver s.forest s'.forest w n
@@ -91,14 +91,14 @@ pub record Parts {V : Type 0} (s s' : Whole V) (w : ℕ) (event : Event V) : Typ
   pub defers : (s'.forest.collector.next ≡ s.forest.collector.next) ⊎ ((n : ℕ) × IsTakenBy s w n × HandsOver s.forest s'.forest w n)
 
 module _ {V : Type 0} (same : V → V → Bool) (always : Bool) where
-  taken_walks : (k : Call V) (p : Participant (Unit {0})) (m : Machine Id V) (n : ℕ) → IsAt k p m → TakenBy id_number m.phase n → k ≡ Walking
+  taken_walks : (k : InFlight V) (p : Participant (Unit {0})) (m : Machine Id V) (n : ℕ) → IsAt k p m → TakenBy id_number m.phase n → k ≡ Walking
   taken_walks Walking p m n a x = refl
   taken_walks Idle p m n a x = absurd (let P : Phase Id V → Type 0 = λ y. TakenBy id_number y n in subst P a.1 x)
   taken_walks (Collecting op) p m n a x = absurd (let P : Phase Id V → Type 0 = λ y. TakenBy id_number y n in subst P a.1 x)
   taken_walks (Reserving op) p m n a x = absurd (let P : Phase Id V → Type 0 = λ y. TakenBy id_number y n in subst P a.3 x)
   taken_walks (Securing op) p m n a x = absurd (let P : Phase Id V → Type 0 = λ y. TakenBy id_number y n in subst P a.2 x)
 
-  module _ (s : Whole V) (holds : EngineHolds same always s) where
+  module _ (s : World V) (holds : EngineHolds same always s) where
     pub walking_of : (i n : ℕ) → IsTakenBy s i n → slice_get s.calls i ≡ Some Walking
     walking_of i n x =
         let l : i < length s.calls = subst (λ k. i < k) holds.0.machines (slice_get_within s.machines i x.0 x.1) in
@@ -114,8 +114,8 @@ module _ {V : Type 0} (same : V → V → Bool) (always : Bool) where
   reply_taken most why root k kind fail answer given given' (Unlock c u) h h' t r n e x y = absurd (let P : Said Id V → Type 0 = λ z. TakenBy id_number z.phase n in subst P x.2 y)
   reply_taken most why root k kind fail answer given given' _ h h' t r n e x y = absurd (cc e)
 
-module _ {V : Type 0} (same : V → V → Bool) (always : Bool) (laws : CallLaws {C = Id} {V = V} id_number same always) (leaves_law : (f : Forest V) → LeavesLaw {C = Id} {V = V} id_number same always f.version_max (Refuses f)) where
-  module _ (s s' : Whole V) (w : ℕ) (holds : EngineHolds same always s) (event : Event V) (r : Report V) where
+module _ {V : Type 0} (same : V → V → Bool) (always : Bool) (laws : CallLaws {C = Id} {V = V} id_number same always) (leaves_law : (f : Nodes V) → LeavesLaw {C = Id} {V = V} id_number same always f.version_max (Refuses f)) where
+  module _ (s s' : World V) (w : ℕ) (holds : EngineHolds same always s) (event : Event V) (r : Report V) where
     abbrev settled : Settled id_number same always (nodes s.forest) s.machines
     settled = holds.0.safe.sound.sound.settled
 
@@ -173,7 +173,7 @@ module _ {V : Type 0} (same : V → V → Bool) (always : Bool) (laws : CallLaws
       old : (m : Machine Id V) × (slice_get s.machines w ≡ Some m)
       old = there s.machines w (subst (λ n. w < n) (sym holds.0.machines) (slice_get_within s.calls w Walking on))
 
-      abbrev f : Forest V
+      abbrev f : Nodes V
       f = s.forest
 
       abbrev moved : IsMoved id_number same always s.forest.version_max (Refuses s.forest) (nodes s.forest) s.machines old.0 turn k.move (nodes s'.forest) k.step.between
@@ -305,7 +305,7 @@ module _ {V : Type 0} (same : V → V → Bool) (always : Bool) (laws : CallLaws
     begins (target.Tree op) t x = begins_tree op t x
     begins (target.Survey k) t x = unchanged x.state
 
-    goes : (k : Option (Call V)) (noise : Noise Id V) → event ≡ Go noise → slice_get s.calls w ≡ k → Apart s s' w → GoesAt same always s w k noise r s' → Parts s s' w event
+    goes : (k : Option (InFlight V)) (noise : Noise Id V) → event ≡ Go noise → slice_get s.calls w ≡ k → Apart s s' w → GoesAt same always s w k noise r s' → Parts s s' w event
     goes None noise is e a x = absurd x
     goes (Some Idle) noise is e a x = absurd x
     goes (Some (Collecting op)) noise is e a x = destroyed x.step.destroys x.step.moves.next (apart_keeps a (λ q. let z : Some (Collecting op) ≡ Some Walking = sym e ∙ q in cc))
@@ -318,7 +318,7 @@ module _ {V : Type 0} (same : V → V → Bool) (always : Bool) (laws : CallLaws
     goes (Some (Securing op)) noise is e a x = destroyed x.step.collected.destroys x.step.collected.moves.next (apart_keeps a (λ q. let z : Some (Securing op) ≡ Some Walking = sym e ∙ q in cc))
     goes (Some Walking) noise is e a x = walks noise is e x
 
-  pub step_parts : (s s' : Whole V) (w : ℕ) (holds : EngineHolds same always s) (event : Event V) (o : Option Fault) (r : Report V) → misuse s w event ≡ o → Does same always s w event o r s' → Parts s s' w event
+  pub step_parts : (s s' : World V) (w : ℕ) (holds : EngineHolds same always s) (event : Event V) (o : Option Fault) (r : Report V) → misuse s w event ≡ o → Does same always s w event o r s' → Parts s s' w event
   step_parts s s' w holds event (Some f) r e x = unchanged s s' w holds event r x.1
   step_parts s s' w holds Register None r e (inl x) = calm s s' w holds Register r (ap (λ y. nodes y.forest) x.1.state) (ap (λ y. y.forest.collector.next) x.1.state) (λ i n y. (y.0, ap (λ z. slice_get z.machines i) x.1.state ∙ y.1, y.2))
   step_parts s s' w holds Register None r e (inr x) = unchanged s s' w holds Register r x.state

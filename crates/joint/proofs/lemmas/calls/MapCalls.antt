@@ -23,19 +23,19 @@ use Rattle.joint.specs.declared.steps.Target.{Target}
 use Rattle.joint.specs.declared.steps.Target.TheVariants as target
 use Rattle.joint.specs.calls.Calling.{IsCalled, next_step, steps_of, GoOn, last_of, last_or, put_away, kept_report}
 use Rattle.joint.specs.Reports.{goes_on, range_of, target}
-use Rattle.joint.specs.nodes.Forest.{nodes}
+use Rattle.joint.specs.nodes.Nodes.{nodes}
 use Rattle.joint.specs.engine.Intact.{root}
 use Rattle.joint.specs.calls.MapCalls.{AllGoOn, AreOfCall, told_after, Answered, answered_by, answer_in, answered_after, KeepsAll, told_places, HasScanned, PlaysKey, PlaysScan, PlaysCall, CallPlays}
 use Rattle.joint.specs.calls.Runs.{Taken, AreTaken, after_all}
 use Rattle.joint.specs.world.MapSteps.{GoMap, BeginMap, Line}
 use Rattle.joint.specs.engine.Flying.{Flights, AreInFlight}
 use Rattle.joint.specs.engine.Surveys.{MapTells}
-use Rattle.joint.specs.world.Whole.{Holds, IsStep}
-use Rattle.joint.specs.engine.Engine.{Whole, engine_of, is_in_flight}
+use Rattle.joint.specs.world.World.{Holds, IsStep}
+use Rattle.joint.specs.engine.Engine.{World, engine_of, is_in_flight}
 use Rattle.joint.proofs.lemmas.engine.Entering.{begin_free}
-use Rattle.joint.proofs.lemmas.world.Mapped.{Mapped, mapped}
+use Rattle.joint.proofs.lemmas.world.JournaledSteps.{Mapped, mapped}
 use Rattle.joint.proofs.lemmas.calls.KeyCalls.{begin_of, gone, key_plays, stays}
-use Rattle.joint.proofs.lemmas.calls.Sweeping.{Sweeps, scan_plays, sweeps}
+use Rattle.joint.proofs.lemmas.calls.AloneScans.{Sweeps, scan_plays, sweeps}
 
 module _ {V : Type 0} (m : Pairs V) where
   -- a call of one step has ended
@@ -55,39 +55,39 @@ module _ {V : Type 0} (m : Pairs V) where
 
 module _ {V : Type 0} (same : V → V → Bool) (always : Bool) (fs : Flights V) (m : Pairs V) (w : ℕ) where
   -- a worker whose begin was accepted had no call in flight
-  free_of : (op : Op V) (s : Whole V) (r : Report V) (s' : Whole V) → Holds same always s → AreInFlight s fs → IsStep same always s (begin_of w op) r s' → is_in_flight r.outcome ≡ true → fs w ≡ Over
+  free_of : (op : Op V) (s : World V) (r : Report V) (s' : World V) → Holds same always s → AreInFlight s fs → IsStep same always s (begin_of w op) r s' → is_in_flight r.outcome ≡ true → fs w ≡ Over
   free_of op s r s' h fl x on =
       (begin_free same always (engine_of s) (engine_of s') w (h.0, h.1) fs (record { each = fl.each; beyond = fl.beyond }) op x.does.told x.does.engine.does (sym (ap (λ z. is_in_flight z.outcome) x.does.report) ∙ on)).0
 
   -- a call that isn't on the tree
-  quiet_step : (noise : Noise Id V) (s : Whole V) (r : Report V) (s' : Whole V) → fs w ≡ Over → Holds same always s → KeepsAll fs m s → IsStep same always s (gone w noise) r s' → KeepsAll fs m s'
+  quiet_step : (noise : Noise Id V) (s : World V) (r : Report V) (s' : World V) → fs w ≡ Over → Holds same always s → KeepsAll fs m s → IsStep same always s (gone w noise) r s' → KeepsAll fs m s'
   quiet_step noise s r s' free h b x =
       let y : Mapped same always s (gone w noise) r s' fs m = mapped same always s (gone w noise) s' fs m h x.holds b.0 b.1 r x in
       let l : Line V = record { step = gone w noise; report = r; entry = y.entry; pairs = y.pairs } in
       let P : Flight V → Type 0 = λ z. GoMap same fs z m noise.answer l y.flights in
       stays fs m l y.flights s' (subst P free y.map) y.stand y.in_flight
 
-  quiet_steps : (more : List (Taken V)) (said : Outcome V) (s : Whole V) → fs w ≡ Over → Holds same always s → KeepsAll fs m s → AreTaken same always s more → AllGoOn w said more → KeepsAll fs m (after_all s more)
+  quiet_steps : (more : List (Taken V)) (said : Outcome V) (s : World V) → fs w ≡ Over → Holds same always s → KeepsAll fs m s → AreTaken same always s more → AllGoOn w said more → KeepsAll fs m (after_all s more)
   quiet_steps [] said s free h b x g = b
   quiet_steps (t ∷ ts) said s free h b x g =
       let P : Step V → Type 0 = λ y. IsStep same always s y t.report t.after in
       quiet_steps ts t.report.outcome t.after free x.0.holds (quiet_step g.0.noise s t.report t.after free h b (subst P g.0.step x.0)) x.1 g.1
 
-  quiet_begin : (op : Op V) (t : _) (s : Whole V) (r : Report V) (s' : Whole V) → target op ≡ target.Collector t → Holds same always s → KeepsAll fs m s → IsStep same always s (begin_of w op) r s' → KeepsAll fs m s'
+  quiet_begin : (op : Op V) (t : _) (s : World V) (r : Report V) (s' : World V) → target op ≡ target.Collector t → Holds same always s → KeepsAll fs m s → IsStep same always s (begin_of w op) r s' → KeepsAll fs m s'
   quiet_begin op t s r s' e h b x =
       let y : Mapped same always s (begin_of w op) r s' fs m = mapped same always s (begin_of w op) s' fs m h x.holds b.0 b.1 r x in
       let l : Line V = record { step = begin_of w op; report = r; entry = y.entry; pairs = y.pairs } in
       let P : Target V → Type 0 = λ z. BeginMap fs m z l y.flights in
       stays fs m l y.flights s' (subst P e y.map) y.stand y.in_flight
 
-  quiet_call : (op : Op V) (t : _) (s : Whole V) (first : Taken V) (more : List (Taken V)) → target op ≡ target.Collector t → Holds same always s → KeepsAll fs m s → IsStep same always s (begin_of w op) first.report first.after
+  quiet_call : (op : Op V) (t : _) (s : World V) (first : Taken V) (more : List (Taken V)) → target op ≡ target.Collector t → Holds same always s → KeepsAll fs m s → IsStep same always s (begin_of w op) first.report first.after
       → AreTaken same always first.after more → AllGoOn w first.report.outcome more → KeepsAll fs m (after_all first.after more)
   quiet_call op t s first [] e h b x y g = quiet_begin op t s first.report first.after e h b x
   quiet_call op t s first (u ∷ us) e h b x y g =
       quiet_steps (u ∷ us) first.report.outcome first.after (free_of op s first.report first.after h b.1 x g.0.in_flight) x.holds (quiet_begin op t s first.report first.after e h b x) y g
 
   -- one of one step
-  survey_step : (op : Op V) (k : Survey) (s : Whole V) (r : Report V) (s' : Whole V) → target op ≡ target.Survey k → Holds same always s → KeepsAll fs m s → IsStep same always s (begin_of w op) r s' → MapTells m k r.outcome × KeepsAll fs m s'
+  survey_step : (op : Op V) (k : Survey) (s : World V) (r : Report V) (s' : World V) → target op ≡ target.Survey k → Holds same always s → KeepsAll fs m s → IsStep same always s (begin_of w op) r s' → MapTells m k r.outcome × KeepsAll fs m s'
   survey_step op k s r s' e h b x =
       let y : Mapped same always s (begin_of w op) r s' fs m = mapped same always s (begin_of w op) s' fs m h x.holds b.0 b.1 r x in
       let l : Line V = record { step = begin_of w op; report = r; entry = y.entry; pairs = y.pairs } in
@@ -95,7 +95,7 @@ module _ {V : Type 0} (same : V → V → Bool) (always : Bool) (fs : Flights V)
       let z : BeginMap fs m (target.Survey k) l y.flights = subst P e y.map in
       (z.tells, stays fs m l y.flights s' z.stays y.stand y.in_flight)
 
-  survey_call : (op : Op V) (k : Survey) (s : Whole V) (first : Taken V) (more : List (Taken V)) → target op ≡ target.Survey k → Holds same always s → KeepsAll fs m s → IsStep same always s (begin_of w op) first.report first.after
+  survey_call : (op : Op V) (k : Survey) (s : World V) (first : Taken V) (more : List (Taken V)) → target op ≡ target.Survey k → Holds same always s → KeepsAll fs m s → IsStep same always s (begin_of w op) first.report first.after
       → AllGoOn w first.report.outcome more → MapTells m k (told_after first.report.outcome more) × KeepsAll fs m (after_all first.after more)
   survey_call op k s first [] e h b x g = survey_step op k s first.report first.after e h b x
   survey_call op k s first (u ∷ us) e h b x g =
@@ -110,14 +110,14 @@ scan_of asked start end size ranged =
 
 module _ {V : Type 0} (same : V → V → Bool) (always : Bool) (fs : Flights V) (m : Pairs V) (w : ℕ) where
   -- a scan
-  scan_call : (op : Op V) (asked : Point V) (start end size : ℕ) → point_range asked ≡ Some (start, end, size) → (s : Whole V) (first : Taken V) (more : List (Taken V)) → target op ≡ target.Tree asked → Holds same always s → KeepsAll fs m s
+  scan_call : (op : Op V) (asked : Point V) (start end size : ℕ) → point_range asked ≡ Some (start, end, size) → (s : World V) (first : Taken V) (more : List (Taken V)) → target op ≡ target.Tree asked → Holds same always s → KeepsAll fs m s
       → IsStep same always s (begin_of w op) first.report first.after → AreTaken same always first.after more → AllGoOn w first.report.outcome more → PlaysScan fs m w (told_after first.report.outcome more) (after_all first.after more)
   scan_call op asked start end size ranged s first more e h b x y g =
       let k = scan_of asked start end size ranged in
       scan_plays same always fs m w start end size k.from k.to k.places k.promises _ _ _ (sweeps same always fs m w start end size k.from k.to k.places k.promises op asked s first more e ranged k.unbegun h b x y g)
 
   -- any call
-  by_target : (op : Op V) (t : Target V) (s : Whole V) (first : Taken V) (more : List (Taken V)) → target op ≡ t → Holds same always s → KeepsAll fs m s → IsStep same always s (begin_of w op) first.report first.after
+  by_target : (op : Op V) (t : Target V) (s : World V) (first : Taken V) (more : List (Taken V)) → target op ≡ t → Holds same always s → KeepsAll fs m s → IsStep same always s (begin_of w op) first.report first.after
       → AreTaken same always first.after more → AllGoOn w first.report.outcome more → PlaysCall same fs m w (answered_after first.report.outcome None more) t (told_after first.report.outcome more) (after_all first.after more)
   by_target op (target.Collector t) s first more e h b x y g = quiet_call same always fs m w op t s first more e h b x y g
   by_target op (target.Survey k) s first more e h b x y g = survey_call same always fs m w op k s first more e h b x g
@@ -131,7 +131,7 @@ module _ {V : Type 0} (same : V → V → Bool) (always : Bool) (fs : Flights V)
   by_target op (target.Tree (point.Exchange k old new)) s first more e h b x y g = key_plays same always fs m w (point.Exchange k old new) tt op s first more e h b.0 b.1 x y g
 
   -- a report of it has no pair to put away
-  away_key : (p : Point V) (last : Answered V) (said : Outcome V) (s : Whole V) → PlaysKey same fs m w last p said s → PlaysKey same fs m w last p (put_away said) s
+  away_key : (p : Point V) (last : Answered V) (said : Outcome V) (s : World V) → PlaysKey same fs m w last p said s → PlaysKey same fs m w last p (put_away said) s
   away_key p last Running s x = x
   away_key p last (Asks o) s x = x
   away_key p last (Found place key value) s x = absurd x
@@ -139,7 +139,7 @@ module _ {V : Type 0} (same : V → V → Bool) (always : Bool) (fs : Flights V)
   away_key p last (Done d) s x = x
   away_key p last (Refused e) s x = x
 
-  away_scan : (said : Outcome V) (s : Whole V) → PlaysScan fs m w said s → PlaysScan fs m w (put_away said) s
+  away_scan : (said : Outcome V) (s : World V) → PlaysScan fs m w said s → PlaysScan fs m w (put_away said) s
   away_scan Running s x = x
   away_scan (Found place key value) s x = x
   away_scan (Asks o) s x = absurd x
@@ -155,7 +155,7 @@ module _ {V : Type 0} (same : V → V → Bool) (always : Bool) (fs : Flights V)
   away_told (Done d) e = refl
   away_told (Refused r) e = refl
 
-  away : (t : Target V) (last : Answered V) (said : Outcome V) (s : Whole V) → PlaysCall same fs m w last t said s → PlaysCall same fs m w last t (put_away said) s
+  away : (t : Target V) (last : Answered V) (said : Outcome V) (s : World V) → PlaysCall same fs m w last t said s → PlaysCall same fs m w last t (put_away said) s
   away (target.Tree (point.Get k)) last said s x = away_key (point.Get k) last said s x
   away (target.Tree (point.Insert k v)) last said s x = away_key (point.Insert k v) last said s x
   away (target.Tree (point.Remove k)) last said s x = away_key (point.Remove k) last said s x
@@ -168,14 +168,14 @@ module _ {V : Type 0} (same : V → V → Bool) (always : Bool) (fs : Flights V)
   away (target.Survey k) last said s x = (subst (λ o. MapTells m k o) (away_told said (told_ended m k said x.0)) x.0, x.1)
 
 module _ {V : Type 0} (same : V → V → Bool) (always : Bool) where
-  pub plays_call : (s : Whole V) (first : Taken V) (more : List (Taken V)) (fs : Flights V) (m : Pairs V) (who : ℕ) (op : Op V) → Holds same always s → AreTaken same always s (first ∷ more) → IsMapOf (nodes s.forest) m → AreInFlight s fs
+  pub plays_call : (s : World V) (first : Taken V) (more : List (Taken V)) (fs : Flights V) (m : Pairs V) (who : ℕ) (op : Op V) → Holds same always s → AreTaken same always s (first ∷ more) → IsMapOf (nodes s.forest) m → AreInFlight s fs
       → AreOfCall who op first more → PlaysCall same fs m who (answered_after first.report.outcome None more) (target op) (told_after first.report.outcome more) (after_all s (first ∷ more))
   plays_call s first more fs m who op h x st fl c =
       let P : Step V → Type 0 = λ y. IsStep same always s y first.report first.after in
       by_target same always fs m who op (target op) s first more refl h (st, fl) (subst P c.begins x.0) x.1 c.goes_on
 
   -- a registration leaves the pairs
-  pub register_keeps : (s : Whole V) (who : ℕ) (r : Report V) (s' : Whole V) (fs : Flights V) (m : Pairs V) → Holds same always s → IsStep same always s (record { worker = who; event = Register }) r s' → IsMapOf (nodes s.forest) m → AreInFlight s fs
+  pub register_keeps : (s : World V) (who : ℕ) (r : Report V) (s' : World V) (fs : Flights V) (m : Pairs V) → Holds same always s → IsStep same always s (record { worker = who; event = Register }) r s' → IsMapOf (nodes s.forest) m → AreInFlight s fs
       → KeepsAll fs m s'
   register_keeps s who r s' fs m h x st fl =
       let step : Step V = record { worker = who; event = Register } in
@@ -183,7 +183,7 @@ module _ {V : Type 0} (same : V → V → Bool) (always : Bool) where
       stays fs m (record { step = step; report = r; entry = y.entry; pairs = y.pairs }) y.flights s' y.map y.stand y.in_flight
 
   -- what a scan that is done has told
-  scanned_so : (s : Whole V) (first : Taken V) (more : List (Taken V)) (fs : Flights V) (m : Pairs V) (who : ℕ) (op : Op V) (asked : Point V) (start end size count : ℕ) → target op ≡ target.Tree asked → point_range asked ≡ Some (start, end, size)
+  scanned_so : (s : World V) (first : Taken V) (more : List (Taken V)) (fs : Flights V) (m : Pairs V) (who : ℕ) (op : Op V) (asked : Point V) (start end size count : ℕ) → target op ≡ target.Tree asked → point_range asked ≡ Some (start, end, size)
       → Holds same always s → AreTaken same always s (first ∷ more) → IsMapOf (nodes s.forest) m → AreInFlight s fs → AreOfCall who op first more → told_after first.report.outcome more ≡ Done (Scanned count)
       → HasScanned start end size count m (told_places [] more)
   scanned_so s first more fs m who op asked start end size count on ranged h x st fl c e =
@@ -193,7 +193,7 @@ module _ {V : Type 0} (same : V → V → Bool) (always : Bool) where
       let y : Q (Done (Scanned count)) = subst Q e (sweeps same always fs m who start end size k.from k.to k.places k.promises op asked s first more on ranged k.unbegun h (st, fl) (subst P c.begins x.0) x.1 c.goes_on) in
       y.0
 
-  pub scanned : (s : Whole V) (first : Taken V) (more : List (Taken V)) (fs : Flights V) (m : Pairs V) (who : ℕ) (op : Op V) (start end size count : ℕ) → Holds same always s → AreTaken same always s (first ∷ more) → IsMapOf (nodes s.forest) m → AreInFlight s fs
+  pub scanned : (s : World V) (first : Taken V) (more : List (Taken V)) (fs : Flights V) (m : Pairs V) (who : ℕ) (op : Op V) (start end size count : ℕ) → Holds same always s → AreTaken same always s (first ∷ more) → IsMapOf (nodes s.forest) m → AreInFlight s fs
       → range_of op ≡ Some (start, end, size) → AreOfCall who op first more → told_after first.report.outcome more ≡ Done (Scanned count) → HasScanned start end size count m (told_places [] more)
   scanned s first more fs m who (ops.Range a b n) start end size count h x st fl ranged c e = scanned_so s first more fs m who (ops.Range a b n) (point.Range a b n) start end size count refl ranged h x st fl c e
   scanned s first more fs m who (ops.RangeInclusive a b n) start end size count h x st fl ranged c e = scanned_so s first more fs m who (ops.RangeInclusive a b n) (point.RangeInclusive a b n) start end size count refl ranged h x st fl c e
@@ -248,21 +248,21 @@ module _ {V : Type 0} (who : ℕ) where
   told_last [] r = refl
   told_last (t ∷ ts) r = told_last ts t.report
 
-module _ {V : Type 0} (same : V → V → Bool) (always : Bool) (s : Whole V) (fs : Flights V) (m : Pairs V) (who : ℕ) (op : Op V) (h : Holds same always s) (st : IsMapOf (nodes s.forest) m) (fl : AreInFlight s fs) where
+module _ {V : Type 0} (same : V → V → Bool) (always : Bool) (s : World V) (fs : Flights V) (m : Pairs V) (who : ℕ) (op : Op V) (h : Holds same always s) (st : IsMapOf (nodes s.forest) m) (fl : AreInFlight s fs) where
   by_taken : (ts : List (Taken V)) (result : Option (Report V)) → AreTaken same always s ts → steps_in who ts ≡ steps_of who op (length (reports_of who ts)) → GoOn (reports_of who ts)
       → option_map kept_report (last_of (reports_of who ts)) ≡ result → CallPlays same fs m who op result (after_all s ts)
   by_taken [] result x steps on last = subst (λ r. CallPlays same fs m who op r s) last (st, fl)
   by_taken (t ∷ ts) result x steps on last =
       let here : t.step ≡ record { worker = who; event = Begin op } = cc in
       let more : steps_in who ts ≡ replicate (length (reports_of who ts)) (next_step who) = cc in
-      let s' : Whole V = after_all t.after ts in
+      let s' : World V = after_all t.after ts in
       let z = plays_call same always s t ts fs m who op h x st fl (record { begins = here; goes_on = all_go_on who ts t.report _ more on }) in
       let P : Answered V → Type 0 = λ a. PlaysCall same fs m who a (target op) (told_after t.report.outcome ts) s' in
       let Q : Outcome V → Type 0 = λ o. PlaysCall same fs m who None (target op) o s' in
       let y : Q (last_or t.report (reports_of who ts)).outcome = subst Q (told_last who ts t.report) (subst P (unanswered who ts t.report.outcome _ more) z) in
       subst (λ r. CallPlays same fs m who op r s') last (away same always fs m who (target op) None _ s' y)
 
-  pub called_plays : (most : ℕ) (places : List (ℕ × V)) (result : Option (Report V)) (places' : List (ℕ × V)) (s' : Whole V) → IsCalled same always s who op most places result places' s' → CallPlays same fs m who op result s'
+  pub called_plays : (most : ℕ) (places : List (ℕ × V)) (result : Option (Report V)) (places' : List (ℕ × V)) (s' : World V) → IsCalled same always s who op most places result places' s' → CallPlays same fs m who op result s'
   called_plays most places result places' s' c =
       let ts : List (Taken V) = c.run.taken in
       let e : reports_of who ts ≡ c.reports = c.run.reports_are in

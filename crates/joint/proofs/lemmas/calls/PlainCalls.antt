@@ -25,25 +25,25 @@ use Rattle.congee.specs.protocol.Alike.{Ordered, HeapAlike, CallAlike, Longer, M
 use Rattle.congee.specs.protocol.Answers.{Keeps}
 use Rattle.congee.specs.protocol.PlainSteps.{Plain, Went, with_call, call_after as plain_call, plain_step}
 use Rattle.congee.specs.protocol.Play.{begun, EachKnown, ProtocolAt, IsMoved}
-use Rattle.joint.specs.declared.engine.in_flight.Call.{Call}
-use Rattle.joint.specs.declared.engine.in_flight.Call.TheVariants.{Idle, Collecting, Reserving, Securing, Walking}
+use Rattle.joint.specs.declared.engine.in_flight.InFlight.{InFlight}
+use Rattle.joint.specs.declared.engine.in_flight.InFlight.TheVariants.{Idle, Collecting, Reserving, Securing, Walking}
 use Rattle.joint.specs.declared.id.Id.{Id}
 use Rattle.joint.specs.declared.nodes.slot.Slot.{Slot}
 use Rattle.joint.specs.declared.refusal.Refusal.TheVariants.{Exhausted}
 use Rattle.joint.specs.declared.steps.Outcome.TheVariants.{Refused}
 use Rattle.joint.specs.declared.steps.Report.{Report}
-use Rattle.joint.specs.nodes.Forest.{Forest, nodes, Refuses}
+use Rattle.joint.specs.nodes.Nodes.{Nodes, nodes, Refuses}
 use Rattle.joint.specs.engine.Intact.{call_after, secured_call, secured_machines, is_done, is_over, over_at, resting, rested, root}
 use Rattle.joint.specs.engine.Laws.{NumberLaws}
-use Rattle.joint.specs.engine.Machines.{IsSafe, Collected, Walked}
+use Rattle.joint.specs.engine.Safety.{IsSafe, Collected, Walked}
 use Rattle.joint.specs.calls.Plain.{unnamed, unnamed_seen, IsUnrefused, IsUnhindered, InPlain, Agree}
 use Rattle.joint.specs.Refusals.{of_tree, of_fault}
 use Rattle.joint.specs.Reports.{told}
 use Rattle.joint.specs.nodes.View.{view, id_number}
 use Rattle.joint.specs.Names.{named}
-use Rattle.joint.specs.engine.Engine.{Whole, Collects, Enters, Reserves, reserving, GoesOnReserving, Walks}
+use Rattle.joint.specs.engine.Engine.{World, Collects, Enters, Reserves, reserving, GoesOnReserving, Walks}
 use Rattle.joint.proofs.lemmas.engine.Collecting.{either}
-use Rattle.joint.proofs.lemmas.engine.Resting.{cleared_is}
+use Rattle.joint.proofs.lemmas.engine.ScanEnds.{cleared_is}
 
 -- a refusal of the collector, or of a node, is for another cause than versions
 pub fault_apart : (f : Fault) → of_fault f ≡ Exhausted → ⊥
@@ -73,7 +73,7 @@ view_made : {V : Type 0} (g : Bool) (v : Option (Slot V)) → (view g v).retired
 view_made g None e = absurd cc
 view_made g (Some s) e = refl
 
-pub made_before : {V : Type 0} (s : Forest V) (c : ℕ) → (nodes s c).retired ≡ true → (nodes s c).made ≡ true
+pub made_before : {V : Type 0} (s : Nodes V) (c : ℕ) → (nodes s c).retired ≡ true → (nodes s c).made ≡ true
 made_before s c e = view_made (was_given s.collector.store (named c)) (value_at s.collector.store (named c)) e
 
 set_other : {A : Type 0} (xs : List A) (i j : ℕ) (x : A) → j ≢ i → slice_get (set xs i x) j ≡ slice_get xs j
@@ -93,20 +93,20 @@ longer_root order now l e = let P : List ℕ → Type 0 = λ z. slice_get z 0 �
 
 module _ {V : Type 0} (same : V → V → Bool) (always : Bool) where
   -- one worker's call was exchanged, and each other is the same
-  module _ (s s' : Whole V) (w : ℕ) (order now : List ℕ) (p p' : Plain V) where
-    exchanged : (k' : Call V) → s'.calls ≡ set s.calls w k' → Ordered now (nodes s'.forest) → slice_get now 0 ≡ Some 0 → p'.made ≡ length now → HeapAlike now (nodes s'.forest) p'.heap
+  module _ (s s' : World V) (w : ℕ) (order now : List ℕ) (p p' : Plain V) where
+    exchanged : (k' : InFlight V) → s'.calls ≡ set s.calls w k' → Ordered now (nodes s'.forest) → slice_get now 0 ≡ Some 0 → p'.made ≡ length now → HeapAlike now (nodes s'.forest) p'.heap
         → ((m : Machine Id V) → slice_get s'.machines w ≡ Some m → InPlain now (nodes s'.forest) k' m (p'.calls w))
-        → ((i : ℕ) (k : Call V) (m : Machine Id V) → i ≢ w → slice_get s.calls i ≡ Some k → slice_get s'.machines i ≡ Some m → InPlain now (nodes s'.forest) k m (p'.calls i)) → Agree s' now p'
+        → ((i : ℕ) (k : InFlight V) (m : Machine Id V) → i ≢ w → slice_get s.calls i ≡ Some k → slice_get s'.machines i ≡ Some m → InPlain now (nodes s'.forest) k m (p'.calls i)) → Agree s' now p'
     exchanged k' ec o r c x here apart = record {
       ordered = o;
       root = r;
       made = c;
       heap = x;
       calls = λ i k m a b.
-          let P : List (Call V) → Type 0 = λ ks. slice_get ks i ≡ Some k in
+          let P : List (InFlight V) → Type 0 = λ ks. slice_get ks i ≡ Some k in
           elim (either s.calls w i k' k (subst P ec a)) [
             | inl e ↦ (
-                let Q : Call V → Type 0 = λ y. InPlain now (nodes s'.forest) y m (p'.calls i) in
+                let Q : InFlight V → Type 0 = λ y. InPlain now (nodes s'.forest) y m (p'.calls i) in
                 let R : ℕ → Type 0 = λ j. InPlain now (nodes s'.forest) k' m (p'.calls j) in
                 let S : ℕ → Type 0 = λ j. slice_get s'.machines j ≡ Some m in
                 subst Q e.1 (subst R (sym e.0) (here m (subst S e.0 b))))
@@ -115,26 +115,26 @@ module _ {V : Type 0} (same : V → V → Bool) (always : Bool) where
     }
 
   -- a worker's call that a change of nodes and order keeps
-  kept_call : (order now : List ℕ) (h h' : ℕ → Node V) (k : Call V) (m : Machine Id V) (q : Machine ℕ V) → (CallAlike order id_number h m q → CallAlike now id_number h' m q) → InPlain order h k m q → InPlain now h' k m q
+  kept_call : (order now : List ℕ) (h h' : ℕ → Node V) (k : InFlight V) (m : Machine Id V) (q : Machine ℕ V) → (CallAlike order id_number h m q → CallAlike now id_number h' m q) → InPlain order h k m q → InPlain now h' k m q
   kept_call order now h h' Idle m q f e = tt
   kept_call order now h h' (Collecting op) m q f e = tt
   kept_call order now h h' (Reserving op) m q f e = e
   kept_call order now h h' (Securing op) m q f e = e
   kept_call order now h h' Walking m q f e = f e
 
-  module _ (s : Whole V) (laws : NumberLaws {C = Id} {V = V} id_number same always s.forest.version_max (Refuses s.forest)) (order : List ℕ) (p : Plain V) (w : ℕ) where
+  module _ (s : World V) (laws : NumberLaws {C = Id} {V = V} id_number same always s.forest.version_max (Refuses s.forest)) (order : List ℕ) (p : Plain V) (w : ℕ) where
     no_version : (form : NodeType) → Refuses s.forest form cause.Exhausted → ⊥
     no_version form e = e
 
     -- a step of the collector
-    module _ (s' : Whole V) (event : Turn) (r : Collection) (c : Collected same always s.forest s.machines w event r s'.forest) (a : Agree s order p) where
+    module _ (s' : World V) (event : Turn) (r : Collection) (c : Collected same always s.forest s.machines w event r s'.forest) (a : Agree s order p) where
       spared : SparedAlike order id_number (nodes s.forest) s.machines (nodes s'.forest)
       spared = laws.spared order (nodes s.forest) (nodes s'.forest) s.machines c.destroys
 
-      others : (i : ℕ) (k : Call V) (m : Machine Id V) → slice_get s.calls i ≡ Some k → slice_get s.machines i ≡ Some m → InPlain order (nodes s'.forest) k m (p.calls i)
+      others : (i : ℕ) (k : InFlight V) (m : Machine Id V) → slice_get s.calls i ≡ Some k → slice_get s.machines i ≡ Some m → InPlain order (nodes s'.forest) k m (p.calls i)
       others i k m ak am = kept_call order order (nodes s.forest) (nodes s'.forest) k m (p.calls i) (spared.calls i m (p.calls i) am) (a.calls i k m ak am)
 
-      pub collected_agrees : (k' : Call V) → s'.calls ≡ set s.calls w k' → ((i : ℕ) (m : Machine Id V) → i ≢ w → slice_get s'.machines i ≡ Some m → slice_get s.machines i ≡ Some m)
+      pub collected_agrees : (k' : InFlight V) → s'.calls ≡ set s.calls w k' → ((i : ℕ) (m : Machine Id V) → i ≢ w → slice_get s'.machines i ≡ Some m → slice_get s.machines i ≡ Some m)
           → ((m : Machine Id V) → slice_get s'.machines w ≡ Some m → InPlain order (nodes s'.forest) k' m (p.calls w)) → Agree s' order p
       collected_agrees k' ec em here = exchanged s s' w order order p p k' ec (spared.order_is (made_before s.forest) a.ordered) a.root a.made (spared.nodes p.heap a.heap) here (λ i k m n ak am. others i k m ak (em i m n am))
 
@@ -143,7 +143,7 @@ module _ {V : Type 0} (same : V → V → Bool) (always : Bool) where
     idle_after turned.Done op h m q = tt
     idle_after (turned.Refused f) op h m q = tt
 
-    pub collects : (s' : Whole V) (event : Turn) (op : Work) (r : Report V) → Agree s order p → Collects same always s w event (Collecting op) r s' → Agree s' order p
+    pub collects : (s' : World V) (event : Turn) (op : Work) (r : Report V) → Agree s order p → Collects same always s w event (Collecting op) r s' → Agree s' order p
     collects s' event op r a k = collected_agrees s' event k.turn k.step a (call_after k.turn.outcome (Collecting op)) k.calls
         (λ i m n b. let P : List (Machine Id V) → Type 0 = λ ms. slice_get ms i ≡ Some m in subst P k.machines b) (λ m b. idle_after k.turn.outcome op (nodes s'.forest) m (p.calls w))
 
@@ -152,19 +152,19 @@ module _ {V : Type 0} (same : V → V → Bool) (always : Bool) where
       machine_here : (m : Machine Id V) → slice_get s.machines w ≡ Some m → p.calls w ≡ begun 0 op
       machine_here m b = a.calls w (Securing op) m here b
 
-      pub secures : (s' : Whole V) (r : Report V) (o : Turned) → IsUnrefused r.outcome → (x : GoesOnReserving same always s w r s') → x.turn.outcome ≡ o → ((m : Machine Id V) → slice_get s'.machines w ≡ Some m → (n : Machine Id V) × (slice_get s.machines w ≡ Some n)) → Agree s' order p
+      pub secures : (s' : World V) (r : Report V) (o : Turned) → IsUnrefused r.outcome → (x : GoesOnReserving same always s w r s') → x.turn.outcome ≡ o → ((m : Machine Id V) → slice_get s'.machines w ≡ Some m → (n : Machine Id V) × (slice_get s.machines w ≡ Some n)) → Agree s' order p
       secures s' r turned.Running un x e there =
-          let P : Option (Call V) → Type 0 = λ k. s'.calls ≡ set s.calls w (secured_call x.turn.outcome k) in
+          let P : Option (InFlight V) → Type 0 = λ k. s'.calls ≡ set s.calls w (secured_call x.turn.outcome k) in
           let Q : Turned → Type 0 = λ z. s'.calls ≡ set s.calls w (secured_call z (Some (Securing op))) in
-          let R : Option (Call V) → Type 0 = λ k. s'.machines ≡ secured_machines x.turn.outcome k s.machines w in
+          let R : Option (InFlight V) → Type 0 = λ k. s'.machines ≡ secured_machines x.turn.outcome k s.machines w in
           let S : Turned → Type 0 = λ z. s'.machines ≡ secured_machines z (Some (Securing op)) s.machines w in
           let em : s'.machines ≡ s.machines = subst S e (subst R here x.step.machine) in
           collected_agrees s' collector.Go x.turn x.step.collected a (Securing op) (subst Q e (subst P here x.step.call))
           (λ i m n b. let T : List (Machine Id V) → Type 0 = λ ms. slice_get ms i ≡ Some m in subst T em b) (λ m b. machine_here (there m b).0 (there m b).1)
       secures s' r turned.Done un x e there =
-          let P : Option (Call V) → Type 0 = λ k. s'.calls ≡ set s.calls w (secured_call x.turn.outcome k) in
+          let P : Option (InFlight V) → Type 0 = λ k. s'.calls ≡ set s.calls w (secured_call x.turn.outcome k) in
           let Q : Turned → Type 0 = λ z. s'.calls ≡ set s.calls w (secured_call z (Some (Securing op))) in
-          let R : Option (Call V) → Type 0 = λ k. s'.machines ≡ secured_machines x.turn.outcome k s.machines w in
+          let R : Option (InFlight V) → Type 0 = λ k. s'.machines ≡ secured_machines x.turn.outcome k s.machines w in
           let S : Turned → Type 0 = λ z. s'.machines ≡ secured_machines z (Some (Securing op)) s.machines w in
           let em : s'.machines ≡ set s.machines w (begun root op) = subst S e (subst R here x.step.machine) in
           collected_agrees s' collector.Go x.turn x.step.collected a Walking (subst Q e (subst P here x.step.call))
@@ -193,10 +193,10 @@ module _ {V : Type 0} (same : V → V → Bool) (always : Bool) where
     plain_apart : (q : Plain V) (i j : ℕ) (m : Machine ℕ V) → j ≢ i → (with_call q i m).calls j ≡ q.calls j
     plain_apart q i j m n = ap (λ b. cond b m (q.calls j)) (ne_eqb j i n)
 
-    pub enters : (s' : Whole V) (op : Point V) (r : Report V) → Agree s order p → Enters s w op r s' → Agree s' order (with_call p w (begun 0 op))
+    pub enters : (s' : World V) (op : Point V) (r : Report V) → Agree s order p → Enters s w op r s' → Agree s' order (with_call p w (begun 0 op))
     enters s' op r a k =
-        let P : Whole V → Type 0 = λ y. Agree y order (with_call p w (begun 0 op)) in
-        let t : Whole V = record s { machines = set s.machines w (begun root op); calls = set s.calls w Walking } in
+        let P : World V → Type 0 = λ y. Agree y order (with_call p w (begun 0 op)) in
+        let t : World V = record s { machines = set s.machines w (begun root op); calls = set s.calls w Walking } in
         subst P (sym k.state) (exchanged s (record s { machines = set s.machines w (begun root op); calls = set s.calls w Walking }) w order order p (with_call p w (begun 0 op)) Walking refl a.ordered a.root a.made a.heap
         (λ m b.
         let U : Machine Id V → Type 0 = λ z. CallAlike order id_number (nodes s.forest) z ((with_call p w (begun 0 op)).calls w) in
@@ -212,15 +212,15 @@ module _ {V : Type 0} (same : V → V → Bool) (always : Bool) where
           | inr z ↦ subst U (sym (plain_apart p w i (begun 0 op) n)) (a.calls i k m ak z.1)
         ]))
 
-    pub reserves : (s' : Whole V) (op : Point V) (r : Report V) → Agree s order p → Reserves s w op r s' → Agree s' order (with_call p w (begun 0 op))
+    pub reserves : (s' : World V) (op : Point V) (r : Report V) → Agree s order p → Reserves s w op r s' → Agree s' order (with_call p w (begun 0 op))
     reserves s' op r a k =
-        let P : Whole V → Type 0 = λ y. Agree y order (with_call p w (begun 0 op)) in
+        let P : World V → Type 0 = λ y. Agree y order (with_call p w (begun 0 op)) in
         subst P (sym k.state) (exchanged s (record s { calls = set s.calls w (Reserving op) }) w order order p (with_call p w (begun 0 op)) (Reserving op) refl a.ordered a.root a.made a.heap
         (λ m b. plain_here p w (begun 0 op))
         (λ i k m n ak am. let U : Machine ℕ V → Type 0 = λ z. InPlain order (nodes s.forest) k m z in subst U (sym (plain_apart p w i (begun 0 op) n)) (a.calls i k m ak am)))
 
     -- a call goes on
-    module _ (s' : Whole V) (noise : Noise Id V) (r : Report V) (m : Machine Id V) (hk : slice_get s.calls w ≡ Some Walking) (hm : slice_get s.machines w ≡ Some m) (safe : IsSafe same always s.forest s.machines)
+    module _ (s' : World V) (noise : Noise Id V) (r : Report V) (m : Machine Id V) (hk : slice_get s.calls w ≡ Some Walking) (hm : slice_get s.machines w ≡ Some m) (safe : IsSafe same always s.forest s.machines)
         (a : Agree s order p) (x : Walks same always s w noise r s') (un : IsUnhindered r) where
       abbrev q : Machine ℕ V
       q = p.calls w

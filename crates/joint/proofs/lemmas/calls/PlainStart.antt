@@ -6,18 +6,18 @@ use Rattle.congee.specs.declared.forms.base_node.NodeType.TheVariants.{N256}
 use Rattle.congee.specs.Heap.{Hung, Nothing}
 use Rattle.congee.specs.protocol.Alike.{Ordered, HungAlike, NodeAlike, HeapAlike}
 use Rattle.congee.specs.protocol.PlainSteps.{new_node}
-use Rattle.joint.specs.declared.engine.in_flight.Call.{Call}
+use Rattle.joint.specs.declared.engine.in_flight.InFlight.{InFlight}
 use Rattle.joint.specs.declared.limits.Limits.{Limits}
-use Rattle.joint.specs.nodes.Forest.{nodes}
+use Rattle.joint.specs.nodes.Nodes.{nodes}
 use Rattle.joint.specs.nodes.Opening.{IsOpened}
 use Rattle.joint.specs.calls.Plain.{opened_plain, InPlain, Agree}
-use Rattle.joint.specs.engine.Engine.{IsFresh, Whole}
+use Rattle.joint.specs.engine.Engine.{IsFresh, World}
 
 only_root : (n c : ℕ) → slice_get (0 ∷ []) n ≡ Some c → (n ≡ 0) × (0 ≡ c)
 only_root zero c e = (refl, cc)
 only_root (suc n) c e = absurd cc
 
-module _ {V : Type 0} (limits : Limits) (charge limit : ℕ) (s : Whole V) (opened : IsOpened limits charge limit s.forest) (fresh : IsFresh s) where
+module _ {V : Type 0} (limits : Limits) (charge limit : ℕ) (s : World V) (opened : IsOpened limits charge limit s.forest) (fresh : IsFresh s) where
   root_alike : NodeAlike (0 ∷ []) (nodes s.forest 0) (new_node N256 [])
   root_alike = record {
     stands = record { made = refl; kept = refl };
@@ -54,5 +54,5 @@ module _ {V : Type 0} (limits : Limits) (charge limit : ℕ) (s : Whole V) (open
     root = refl;
     made = refl;
     heap = heap_alike;
-    calls = λ i k m a b. (let P : Call V → Type 0 = λ z. InPlain (0 ∷ []) (nodes s.forest) z m (opened_plain.calls i) in subst P (sym (fresh.idle i k a)) tt);
+    calls = λ i k m a b. (let P : InFlight V → Type 0 = λ z. InPlain (0 ∷ []) (nodes s.forest) z m (opened_plain.calls i) in subst P (sym (fresh.idle i k a)) tt);
   }

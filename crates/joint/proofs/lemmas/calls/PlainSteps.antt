@@ -14,8 +14,8 @@ use Rattle.congee.specs.declared.protocol.op.Op.TheVariants as point
 use Rattle.congee.specs.protocol.Alike.{Longer}
 use Rattle.congee.specs.protocol.PlainSteps.{Plain, with_call}
 use Rattle.congee.specs.protocol.Play.{begun}
-use Rattle.joint.specs.declared.engine.in_flight.Call.{Call}
-use Rattle.joint.specs.declared.engine.in_flight.Call.TheVariants.{Idle, Collecting, Reserving, Securing, Walking}
+use Rattle.joint.specs.declared.engine.in_flight.InFlight.{InFlight}
+use Rattle.joint.specs.declared.engine.in_flight.InFlight.TheVariants.{Idle, Collecting, Reserving, Securing, Walking}
 use Rattle.joint.specs.declared.id.Id.{Id}
 use Rattle.joint.specs.declared.refusal.Refusal.TheVariants.{Exhausted, JournalFull, TableFull}
 use Rattle.joint.specs.declared.steps.Event.{Event}
@@ -29,7 +29,7 @@ use Rattle.joint.specs.declared.steps.Report.{Report}
 use Rattle.joint.specs.declared.steps.Step.{Step}
 use Rattle.joint.specs.declared.steps.Target.{Target}
 use Rattle.joint.specs.declared.steps.Target.TheVariants as target
-use Rattle.joint.specs.nodes.Forest.{Forest, nodes, Refuses, IsBeside}
+use Rattle.joint.specs.nodes.Nodes.{Nodes, nodes, Refuses, IsBeside}
 use Rattle.joint.specs.engine.Intact.{securing_of}
 use Rattle.joint.specs.engine.Laws.{NumberLaws}
 use Rattle.joint.specs.calls.Plain.{TreeStep, Starts, begin_at, step_at, tree_step, started, start_told, step_after, plain_after, AreTold, projection, answers, with_some, with_first, IsUnhindered, AreUnrefused, Agree, FollowsStep, FollowsRun}
@@ -37,8 +37,8 @@ use Rattle.joint.specs.Refusals.{of_fault}
 use Rattle.joint.specs.Reports.{target, told}
 use Rattle.joint.specs.calls.Runs.{Taken, AreTaken, IsRun, after_all}
 use Rattle.joint.specs.nodes.View.{id_number}
-use Rattle.joint.specs.world.Whole.{Holds, IsStep, StepsUnless, gives_up}
-use Rattle.joint.specs.engine.Engine.{Whole, engine_of, misuse, quiet, finds_none, EntersUnless, Reserves, BeginsOnTree, BeginsAt, GoesAt, Proceeds, Does}
+use Rattle.joint.specs.world.World.{Holds, IsStep, StepsUnless, finds_journal_full}
+use Rattle.joint.specs.engine.Engine.{World, engine_of, misuse, quiet, finds_none, EntersUnless, Reserves, BeginsOnTree, BeginsAt, GoesAt, Proceeds, Does}
 use Rattle.joint.proofs.lemmas.calls.Beside.{whole_step}
 use Rattle.joint.proofs.lemmas.engine.Collecting.{set_here}
 use Rattle.joint.proofs.lemmas.calls.PlainCalls.{fault_apart, collects, collected_agrees, secures, enters, reserves, moved_alike, walked_agrees}
@@ -50,12 +50,12 @@ same_longer order = ([], sym (append-nil order))
 pub then_longer : (a b c : List ℕ) → Longer a b → Longer b c → Longer a c
 then_longer a b c x y = (x.0 ++ y.0, y.1 ∙ ap (λ z. z ++ y.0) x.1 ∙ append_assoc a x.0 y.0)
 
-module _ {V : Type 0} (same : V → V → Bool) (always : Bool) (laws : (f : Forest V) → NumberLaws {C = Id} {V = V} id_number same always f.version_max (Refuses f)) where
-  module _ (s s' : Whole V) (w : ℕ) (order : List ℕ) (p : Plain V) (holds : Holds same always s) (whole_agrees : Agree s order p) where
-    abbrev e : Whole V
+module _ {V : Type 0} (same : V → V → Bool) (always : Bool) (laws : (f : Nodes V) → NumberLaws {C = Id} {V = V} id_number same always f.version_max (Refuses f)) where
+  module _ (s s' : World V) (w : ℕ) (order : List ℕ) (p : Plain V) (holds : Holds same always s) (whole_agrees : Agree s order p) where
+    abbrev e : World V
     e = engine_of s
 
-    abbrev e' : Whole V
+    abbrev e' : World V
     e' = engine_of s'
 
     abbrev most : ℕ
@@ -70,7 +70,7 @@ module _ {V : Type 0} (same : V → V → Bool) (always : Bool) (laws : (f : For
     abbrev Goal : Option (TreeStep V) → Report V → Type 0
     Goal o r = FollowsStep same most o (engine_of s') r order p
 
-    machine_at : (k : Call V) → slice_get s.calls w ≡ Some k → (x : Machine Id V) × (slice_get s.machines w ≡ Some x)
+    machine_at : (k : InFlight V) → slice_get s.calls w ≡ Some k → (x : Machine Id V) × (slice_get s.machines w ≡ Some x)
     machine_at k q = elim (slice_get_cases s.machines w).1 [
       | inl x ↦ (x.0, x.2)
       | inr x ↦ absurd (let l : w < length s.calls = slice_get_within s.calls w k q in let n : length s.machines ≡ length s.calls = holds.0.machines in let b : length s.machines ≤ w = x.0 in omega (arith, b, l, n))
@@ -91,7 +91,7 @@ module _ {V : Type 0} (same : V → V → Bool) (always : Bool) (laws : (f : For
     scan_at op r true none x =
         let P : Report V → Type 0 = λ z. Goal (start op) z in
         let Q : Bool → Type 0 = λ b. ((false ≡ false) × ◌≡◌ {A = Outcome V} (Done (Scanned 0)) (start_told b)) × ((now : List ℕ) × Longer order now × Agree (engine_of s') now (started b p w op)) in
-        let R : Whole V → Type 0 = λ z. Agree z order p in
+        let R : World V → Type 0 = λ z. Agree z order p in
         subst P (sym x.report) (subst Q (sym none) ((refl, refl), (order, same_longer order, subst R (sym x.state) a)))
 
     reserves_at : (op : Point V) (r : Report V) → finds_none op ≡ false → Reserves (engine_of s) w op r (engine_of s') → Goal (start op) r
@@ -132,7 +132,7 @@ module _ {V : Type 0} (same : V → V → Bool) (always : Bool) (laws : (f : For
     target_at (target.Tree op) r x = let P : Kind → Type 0 = λ z. Goal (begin_of (target.Tree op) z) r in subst P (sym (begin_kind op r x)) (point_at op r x)
     target_at (target.Survey k) r x =
         let P : Report V → Type 0 = λ z. Goal (begin_of (target.Survey k) z.kind) z in
-        let R : Whole V → Type 0 = λ z. Agree z order p in
+        let R : World V → Type 0 = λ z. Agree z order p in
         let known = holds.0.safe.sound.sound.settled in
         let stand = holds.2.stand in
         subst P (sym x.report) (
@@ -148,7 +148,7 @@ module _ {V : Type 0} (same : V → V → Bool) (always : Bool) (laws : (f : For
     abbrev go_of : Noise Id V → Kind → Option (TreeStep V)
     go_of noise k = step_at w (Go noise) k
 
-    call_at : (k : Option (Call V)) (noise : Noise Id V) (r : Report V) → slice_get s.calls w ≡ k → IsUnhindered r → GoesAt same always (engine_of s) w k noise r (engine_of s') → Goal (go_of noise r.kind) r
+    call_at : (k : Option (InFlight V)) (noise : Noise Id V) (r : Report V) → slice_get s.calls w ≡ k → IsUnhindered r → GoesAt same always (engine_of s) w k noise r (engine_of s') → Goal (go_of noise r.kind) r
     call_at None noise r q un x = absurd x
     call_at (Some Idle) noise r q un x = absurd x
     call_at (Some (Collecting op)) noise r q un x =
@@ -159,8 +159,8 @@ module _ {V : Type 0} (same : V → V → Bool) (always : Bool) (laws : (f : For
         subst P (sym x.report) (secures same always (engine_of s) law order p w op q a (engine_of s') r x.turn.outcome un.0 x refl (λ m b. machine_at (Securing op) q))
     call_at (Some (Reserving op)) noise r q un x =
         let P : Report V → Type 0 = λ z. Goal (go_of noise z.kind) z in
-        let calls : x.between.calls ≡ set s.calls w (Securing op) = x.begins.call ∙ ap (λ (k : Option (Call V)). set s.calls w (securing_of k)) q in
-        let here : slice_get x.between.calls w ≡ Some (Securing op) = ap (λ (ks : List (Call V)). slice_get ks w) calls ∙ set_here s.calls w (Securing op) (Reserving op) q in
+        let calls : x.between.calls ≡ set s.calls w (Securing op) = x.begins.call ∙ ap (λ (k : Option (InFlight V)). set s.calls w (securing_of k)) q in
+        let here : slice_get x.between.calls w ≡ Some (Securing op) = ap (λ (ks : List (InFlight V)). slice_get ks w) calls ∙ set_here s.calls w (Securing op) (Reserving op) q in
         let T : List (Machine Id V) → Type 0 = λ ms. (n : Machine Id V) × (slice_get ms w ≡ Some n) in
         let middle : Agree x.between order p = collected_agrees same always (engine_of s) law order p w x.between (collector.Begin (Secure 2)) x.begins.turn x.begins.collected a (Securing op) calls
         (λ i m n b. let R : List (Machine Id V) → Type 0 = λ ms. slice_get ms i ≡ Some m in subst R x.begins.machine b)
@@ -183,7 +183,7 @@ module _ {V : Type 0} (same : V → V → Bool) (always : Bool) (laws : (f : For
     proceeds_at : (event : Event V) (r : Report V) → IsUnhindered r → Proceeds same always (engine_of s) w event r (engine_of s') → Goal (step_at w event r.kind) r
     proceeds_at Register r un (inl x) =
         let P : Report V → Type 0 = λ z. Goal (step_at w Register z.kind) z in
-        let R : Whole V → Type 0 = λ z. Agree z order p in
+        let R : World V → Type 0 = λ z. Agree z order p in
         subst P (sym x.1.report) (subst R (sym x.1.state) (record { ordered = a.ordered; root = a.root; made = a.made; heap = a.heap; calls = a.calls }))
     proceeds_at Register r un (inr x) =
         let z : TableFull ≡ Exhausted = un.0 TableFull (ap (λ y. y.outcome) x.report) in
@@ -216,12 +216,12 @@ module _ {V : Type 0} (same : V → V → Bool) (always : Bool) (laws : (f : For
         subst P (sym x.report) (kept_too (step_at w event x.told.kind) x.told _ (again (step_at w event x.told.kind) x.told (does_at event (misuse (engine_of s) w event) x.told (subst Q x.report un) x.engine.does)))
 
   -- a step of the machine
-  pub step_follows : (s s' : Whole V) (step : Step V) (r : Report V) (order : List ℕ) (p : Plain V) → Holds same always s → IsStep same always s step r s' → IsUnhindered r → Agree s order p
+  pub step_follows : (s s' : World V) (step : Step V) (r : Report V) (order : List ℕ) (p : Plain V) → Holds same always s → IsStep same always s step r s' → IsUnhindered r → Agree s order p
       → FollowsStep same s.forest.version_max (tree_step step r) s' r order p
-  step_follows s s' step r order p holds x un a = unless_at s s' step.worker order p holds a step.event (gives_up s step.worker step.event) r un x.does
+  step_follows s s' step r order p holds x un a = unless_at s s' step.worker order p holds a step.event (finds_journal_full s step.worker step.event) r un x.does
 
   -- and a list of them
-  put_first : (top : ℕ) (o : Option (TreeStep V)) (s s' : Whole V) (r : Report V) (order : List ℕ) (p : Plain V) (steps : List (Step V)) (reports : List (Report V)) → FollowsStep same top o s r order p
+  put_first : (top : ℕ) (o : Option (TreeStep V)) (s s' : World V) (r : Report V) (order : List ℕ) (p : Plain V) (steps : List (Step V)) (reports : List (Report V)) → FollowsStep same top o s r order p
       → ((order' : List ℕ) (p' : Plain V) → Agree s order' p' → FollowsRun same top steps reports s' order' p')
       → (AreTold same top p (with_some o (projection steps reports)) (with_first o r (answers steps reports))) × ((now : List ℕ) × Longer order now × Agree s' now (plain_after same top p (with_some o (projection steps reports))))
   put_first top None s s' r order p steps reports x go =
@@ -231,23 +231,23 @@ module _ {V : Type 0} (same : V → V → Bool) (always : Bool) (laws : (f : For
       let f : FollowsRun same top steps reports s' x.1.0 (step_after same top p t) = go x.1.0 (step_after same top p t) x.1.2 in
       ((x.0, f.told), (f.now, then_longer order x.1.0 f.now x.1.1 f.longer, f.agree))
 
-  all_follow : (top : ℕ) (s : Whole V) (taken : List (Taken V)) (order : List ℕ) (p : Plain V) → s.forest.version_max ≡ top → Holds same always s → AreTaken same always s taken → AreUnrefused (map (λ t. t.report) taken) → Agree s order p
+  all_follow : (top : ℕ) (s : World V) (taken : List (Taken V)) (order : List ℕ) (p : Plain V) → s.forest.version_max ≡ top → Holds same always s → AreTaken same always s taken → AreUnrefused (map (λ t. t.report) taken) → Agree s order p
       → FollowsRun same top (map (λ t. t.step) taken) (map (λ t. t.report) taken) (after_all s taken) order p
   all_follow top s [] order p e holds x un a = record { told = tt; now = order; longer = same_longer order; agree = a }
   all_follow top s (t ∷ ts) order p e holds x un a =
       let P : ℕ → Type 0 = λ m. FollowsStep same m (tree_step t.step t.report) t.after t.report order p in
       let one : FollowsStep same top (tree_step t.step t.report) t.after t.report order p = subst P e (step_follows s t.after t.step t.report order p holds x.0 un.0 a) in
-      let beside : IsBeside s.forest t.after.forest = whole_step same always s t.step t.report t.after (gives_up s t.step.worker t.step.event) x.0.does in
+      let beside : IsBeside s.forest t.after.forest = whole_step same always s t.step t.report t.after (finds_journal_full s t.step.worker t.step.event) x.0.does in
       let f = put_first top (tree_step t.step t.report) t.after (after_all t.after ts) t.report order p (map (λ t. t.step) ts) (map (λ t. t.report) ts) one
       (λ order' p' a'. all_follow top t.after ts order' p' (beside.versions ∙ e) x.0.holds x.1 un.1 a') in
       record { told = f.0; now = f.1.0; longer = f.1.1; agree = f.1.2 }
 
   -- a run
-  pub run_follows : (s s' : Whole V) (steps : List (Step V)) (reports : List (Report V)) (order : List ℕ) (p : Plain V) → Holds same always s → IsRun same always s steps reports s' → AreUnrefused reports → Agree s order p
+  pub run_follows : (s s' : World V) (steps : List (Step V)) (reports : List (Report V)) (order : List ℕ) (p : Plain V) → Holds same always s → IsRun same always s steps reports s' → AreUnrefused reports → Agree s order p
       → FollowsRun same s.forest.version_max steps reports s' order p
   run_follows s s' steps reports order p holds run un a =
       let P : List (Step V) → Type 0 = λ z. FollowsRun same s.forest.version_max z reports s' order p in
       let Q : List (Report V) → Type 0 = λ z. FollowsRun same s.forest.version_max (map (λ t. t.step) run.taken) z s' order p in
-      let R : Whole V → Type 0 = λ z. FollowsRun same s.forest.version_max (map (λ t. t.step) run.taken) (map (λ t. t.report) run.taken) z order p in
+      let R : World V → Type 0 = λ z. FollowsRun same s.forest.version_max (map (λ t. t.step) run.taken) (map (λ t. t.report) run.taken) z order p in
       let U : List (Report V) → Type 0 = λ z. AreUnrefused z in
       subst P run.steps_are (subst Q run.reports_are (subst R run.last (all_follow s.forest.version_max s run.taken order p refl holds run.each (subst U (sym run.reports_are) un) a)))

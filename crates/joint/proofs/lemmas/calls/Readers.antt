@@ -40,8 +40,8 @@ use Rattle.congee.specs.Keys.{key_bytes}
 use Rattle.congee.specs.protocol.Causes.{Causes, IsCause}
 use Rattle.congee.specs.protocol.Play.{IsMoved, begun}
 use Rattle.congee.specs.protocol.Steps.{PhaseStepped, IsIf, IsChecked, after_version, after_read, after_miss, again, answered, refused}
-use Rattle.joint.specs.declared.engine.in_flight.Call.{Call}
-use Rattle.joint.specs.declared.engine.in_flight.Call.TheVariants.{Idle, Collecting, Reserving, Securing, Walking}
+use Rattle.joint.specs.declared.engine.in_flight.InFlight.{InFlight}
+use Rattle.joint.specs.declared.engine.in_flight.InFlight.TheVariants.{Idle, Collecting, Reserving, Securing, Walking}
 use Rattle.joint.specs.declared.id.Id.{Id}
 use Rattle.joint.specs.declared.refusal.Refusal.{Refusal}
 use Rattle.joint.specs.declared.refusal.Refusal.TheVariants.{Count}
@@ -54,7 +54,7 @@ use Rattle.joint.specs.declared.steps.Outcome.{Outcome}
 use Rattle.joint.specs.declared.steps.Outcome.TheVariants.{Running, Asks, Found, Registered, Done, Refused}
 use Rattle.joint.specs.declared.steps.Report.{Report}
 use Rattle.joint.specs.calls.Ends.{RefusesReader, AllRefuseReader, ReadersRefused, is_reading}
-use Rattle.joint.specs.nodes.Forest.{nodes, Refuses}
+use Rattle.joint.specs.nodes.Nodes.{nodes, Refuses}
 use Rattle.joint.specs.engine.Intact.{IsAt, is_reserving, call_after, over_at, rested, resting, is_done, root}
 use Rattle.joint.specs.engine.Laws.{ProgressLaws}
 use Rattle.joint.specs.Refusals.{of_fault, of_tree}
@@ -62,14 +62,14 @@ use Rattle.joint.specs.Reports.{collected, told}
 use Rattle.joint.specs.calls.Runs.{Taken, AreTaken}
 use Rattle.joint.specs.engine.Surveys.{TellsEmpty}
 use Rattle.joint.specs.nodes.View.{id_number}
-use Rattle.joint.specs.world.Whole.{Holds, IsStep, StepsUnless, gives_up}
-use Rattle.joint.specs.engine.Engine.{Whole, EngineHolds, IsOfCall, Collects, Does, EntersUnless, Enters, GoesAt, Walks, engine_of, finds_none, is_busy, is_in_flight, misuse, place_of}
-use Rattle.joint.proofs.lemmas.engine.Apart.{Apart, one_set, step_apart}
+use Rattle.joint.specs.world.World.{Holds, IsStep, StepsUnless, finds_journal_full}
+use Rattle.joint.specs.engine.Engine.{World, EngineHolds, IsOfCall, Collects, Does, EntersUnless, Enters, GoesAt, Walks, engine_of, finds_none, is_busy, is_in_flight, misuse, place_of}
+use Rattle.joint.proofs.lemmas.engine.OneCallChanges.{Apart, one_set, step_apart}
 use Rattle.joint.proofs.lemmas.engine.Collecting.{there}
 use Rattle.joint.proofs.lemmas.calls.Ends.{and_left}
 use Rattle.joint.proofs.lemmas.engine.Entering.{begin_idle, begin_within}
 use Rattle.joint.proofs.lemmas.world.Flights.{set_at}
-use Rattle.joint.proofs.lemmas.engine.Resting.{cleared_is}
+use Rattle.joint.proofs.lemmas.engine.ScanEnds.{cleared_is}
 
 -- the phases of a call that only reads
 abbrev pub Reads : {V : Type 0} → Phase Id V → Type 0
@@ -84,12 +84,12 @@ Reads Ended = Unit {0}
 Reads _ = ⊥
 
 -- the worker has a reading call in flight
-abbrev pub IsReader : {V : Type 0} → Option (Call V) → Option (Machine Id V) → Type 0
+abbrev pub IsReader : {V : Type 0} → Option (InFlight V) → Option (Machine Id V) → Type 0
 IsReader (Some (Collecting work.Pin)) m = Unit {0}
 IsReader (Some Walking) (Some m) = (m.kind ≡ kind.Get) × Reads m.phase
 IsReader _ m = ⊥
 
-abbrev pub ReaderAt : {V : Type 0} → Whole V → ℕ → Type 0
+abbrev pub ReaderAt : {V : Type 0} → World V → ℕ → Type 0
 ReaderAt s w = IsReader (slice_get s.calls w) (slice_get s.machines w)
 
 version_reads : (V : Type 0) (r : Id) (above : Option (Over Id)) (n : Id) (v : Option ℕ) → Reads {V = V} (after_version r above n v).phase
@@ -189,7 +189,7 @@ unready_is false busy f u e = absurd (cc e)
 
 module _ {V : Type 0} (same : V → V → Bool) (always : Bool) (turns : ProgressLaws (Slot V) (Unit {0})) where
   -- one step, but for the journal
-  module _ (s s' : Whole V) (w : ℕ) (holds : EngineHolds same always s) where
+  module _ (s s' : World V) (w : ℕ) (holds : EngineHolds same always s) where
     -- what is told of a reading call, and that it stays one while it is in flight
     abbrev Goes : Report V → Type 0
     Goes r = ((e : Refusal) → r.outcome ≡ Refused e → e ≡ Count) × (is_busy (slice_get s'.calls w) ≡ true → ReaderAt s' w)
@@ -197,7 +197,7 @@ module _ {V : Type 0} (same : V → V → Bool) (always : Bool) (turns : Progres
     within_machines : w < length s.calls → w < length s.machines
     within_machines l = subst (λ n. w < n) (sym holds.0.machines) l
 
-    placed : (k : Call V) → w < length s.calls → s'.calls ≡ set s.calls w k → slice_get s'.calls w ≡ Some k
+    placed : (k : InFlight V) → w < length s.calls → s'.calls ≡ set s.calls w k → slice_get s'.calls w ≡ Some k
     placed k l e = ap (λ xs. slice_get xs w) e ∙ set_at s.calls w k l
 
     pins : (event : _) (r : Report V) → w < length s.calls → ((f : Fault) (x : Collects same always s w event (Collecting work.Pin) r s') → x.turn.outcome ≡ turned.Refused f → ⊥) → Collects same always s w event (Collecting work.Pin) r s' → Goes r
@@ -205,11 +205,11 @@ module _ {V : Type 0} (same : V → V → Bool) (always : Bool) (turns : Progres
       (λ e q. absurd (not_refused {V = V} x.turn.outcome e (λ f. n f x) (sym (ap (λ y. y.outcome) x.report) ∙ q))),
       (λ b.
           let at : slice_get s'.calls w ≡ Some (call_after x.turn.outcome (Collecting work.Pin)) = placed _ l x.calls in
-          let P : Option (Call V) → Type 0 = λ k. IsReader k (slice_get s'.machines w) in
+          let P : Option (InFlight V) → Type 0 = λ k. IsReader k (slice_get s'.machines w) in
           subst P (sym at) (pin_on x.turn.outcome (sym (ap is_busy at) ∙ b) (slice_get s'.machines w))),
     )
 
-    machine_at : (k : Call V) → slice_get s.calls w ≡ Some k → (m : Machine Id V) × (slice_get s.machines w ≡ Some m)
+    machine_at : (k : InFlight V) → slice_get s.calls w ≡ Some k → (m : Machine Id V) × (slice_get s.machines w ≡ Some m)
     machine_at k e = there s.machines w (within_machines (slice_get_within s.calls w k e))
 
     pin_goes : (noise : Noise Id V) (r : Report V) → slice_get s.calls w ≡ Some (Collecting work.Pin) → Collects same always s w turning.Go (Collecting work.Pin) r s' → Goes r
@@ -232,11 +232,11 @@ module _ {V : Type 0} (same : V → V → Bool) (always : Bool) (turns : Progres
         by : (o : Bool) (y : Machine Id V) → slice_get s'.machines w ≡ Some y → (y.kind ≡ kind.Get) × Reads y.phase → is_busy (slice_get s'.calls w) ≡ true → slice_get s'.calls w ≡ Some (if o then Idle else Walking) → ReaderAt s' w
         by true y n z b c = absurd (false≢true (sym (ap is_busy c) ∙ b))
         by false y n z b c =
-            let P : Option (Call V) → Type 0 = λ k. IsReader k (slice_get s'.machines w) in
+            let P : Option (InFlight V) → Type 0 = λ k. IsReader k (slice_get s'.machines w) in
             let Q : Option (Machine Id V) → Type 0 = λ k. IsReader (Some Walking) k in
             subst P (sym c) (subst Q (sym n) z)
 
-    goes : (k : Option (Call V)) (o : Option (Machine Id V)) (noise : Noise Id V) (r : Report V) → slice_get s.calls w ≡ k → slice_get s.machines w ≡ o → IsReader k o → GoesAt same always s w k noise r s' → Goes r
+    goes : (k : Option (InFlight V)) (o : Option (Machine Id V)) (noise : Noise Id V) (r : Report V) → slice_get s.calls w ≡ k → slice_get s.machines w ≡ o → IsReader k o → GoesAt same always s w k noise r s' → Goes r
     goes (Some (Collecting work.Pin)) o noise r e at u x = pin_goes noise r e x
     goes (Some Walking) (Some m) noise r e at u x = walks noise r m e at u x
     goes (Some Walking) None noise r e at u x = absurd u
@@ -261,7 +261,7 @@ module _ {V : Type 0} (same : V → V → Bool) (always : Bool) (turns : Progres
       idle : slice_get s.calls w ≡ Some Idle
       idle = idle_at (slice_get s.calls w) (there s.calls w within) (begin_idle same always s s' w holds o none)
         where
-          idle_at : (k : Option (Call V)) → (x : Call V) × (k ≡ Some x) → is_busy k ≡ false → k ≡ Some Idle
+          idle_at : (k : Option (InFlight V)) → (x : InFlight V) × (k ≡ Some x) → is_busy k ≡ false → k ≡ Some Idle
           idle_at None x e = absurd (let q : None ≡ Some x.0 = x.1 in cc)
           idle_at (Some Idle) x e = refl
           idle_at (Some (Collecting c)) x e = absurd (cc e)
@@ -275,7 +275,7 @@ module _ {V : Type 0} (same : V → V → Bool) (always : Bool) (turns : Progres
         (λ b.
             let c : slice_get s'.calls w ≡ Some Walking = placed Walking within (ap (λ y. y.calls) x.state) in
             let m : slice_get s'.machines w ≡ Some (begun root p) = ap (λ y. slice_get y.machines w) x.state ∙ set_at s.machines w (begun root p) (within_machines within) in
-            let P : Option (Call V) → Type 0 = λ y. IsReader y (slice_get s'.machines w) in
+            let P : Option (InFlight V) → Type 0 = λ y. IsReader y (slice_get s'.machines w) in
             let Q : Option (Machine Id V) → Type 0 = λ y. IsReader (Some Walking) y in
             subst P (sym c) (subst Q (sym m) (k, u))),
       )
@@ -318,17 +318,17 @@ module _ {V : Type 0} (same : V → V → Bool) (always : Bool) (turns : Progres
     reader_begins _ r n q x = absurd (false≢true q)
 
   -- a step that isn't the worker's leaves its reading call
-  others : (s s' : Whole V) (i w : ℕ) → i ≢ w → Apart s s' w → ReaderAt s i → ReaderAt s' i
+  others : (s s' : World V) (i w : ℕ) → i ≢ w → Apart s s' w → ReaderAt s i → ReaderAt s' i
   others s s' i w n a u =
-      let P : Option (Call V) → Type 0 = λ k. IsReader k (slice_get s'.machines i) in
+      let P : Option (InFlight V) → Type 0 = λ k. IsReader k (slice_get s'.machines i) in
       let Q : Option (Machine Id V) → Type 0 = λ m. IsReader (slice_get s.calls i) m in
       subst P (sym (a.calls.other i n)) (subst Q (sym (a.machines.other i n)) u)
 
   -- a misused step leaves it as well
-  unchanged : (s s' : Whole V) (i : ℕ) → s' ≡ s → ReaderAt s i → ReaderAt s' i
-  unchanged s s' i e u = subst (λ (y : Whole V). ReaderAt y i) (sym e) u
+  unchanged : (s s' : World V) (i : ℕ) → s' ≡ s → ReaderAt s i → ReaderAt s' i
+  unchanged s s' i e u = subst (λ (y : World V). ReaderAt y i) (sym e) u
 
-  reader_busy : (k : Option (Call V)) (m : Option (Machine Id V)) → IsReader k m → is_busy k ≡ true
+  reader_busy : (k : Option (InFlight V)) (m : Option (Machine Id V)) → IsReader k m → is_busy k ≡ true
   reader_busy (Some (Collecting work.Pin)) m u = refl
   reader_busy (Some Walking) (Some m) u = refl
   reader_busy (Some Walking) None u = absurd u
@@ -338,7 +338,7 @@ module _ {V : Type 0} (same : V → V → Bool) (always : Bool) (turns : Progres
   reader_busy (Some (Collecting _)) m u = absurd u
   reader_busy None m u = absurd u
 
-  unreserving : (k : Option (Call V)) (m : Option (Machine Id V)) → IsReader k m → is_reserving k ≡ true → ⊥
+  unreserving : (k : Option (InFlight V)) (m : Option (Machine Id V)) → IsReader k m → is_reserving k ≡ true → ⊥
   unreserving (Some (Reserving p)) m u e = u
   unreserving (Some Idle) m u e = false≢true e
   unreserving (Some (Collecting c)) m u e = false≢true e
@@ -351,10 +351,10 @@ module _ {V : Type 0} (same : V → V → Bool) (always : Bool) (turns : Progres
   busy_fault true false f u e q = false≢true e
   busy_fault false busy f u e q = cc q
 
-  abbrev Keeps : (s : Whole V) → Taken V → ℕ → Type 0
+  abbrev Keeps : (s : World V) → Taken V → ℕ → Type 0
   Keeps s t i = (t.step.worker ≡ i → IsOfCall t.step.event → RefusesReader s t) × (is_busy (slice_get t.after.calls i) ≡ true → ReaderAt t.after i)
 
-  module _ (s : Whole V) (t : Taken V) (h : Holds same always s) where
+  module _ (s : World V) (t : Taken V) (h : Holds same always s) where
     abbrev w : ℕ
     w = t.step.worker
 
@@ -367,16 +367,16 @@ module _ {V : Type 0} (same : V → V → Bool) (always : Bool) (turns : Progres
           inl (f, m, (let y : of_fault f ≡ e = cc in sym y))),
       (λ b. unchanged (engine_of s) (engine_of t.after) w d.1 u),
     )
-    own_by Register None r m u (inl d) = ((λ c. absurd c), (λ b. let P : Whole V → Type 0 = λ y. ReaderAt y w in subst P (sym d.1.state) u))
+    own_by Register None r m u (inl d) = ((λ c. absurd c), (λ b. let P : World V → Type 0 = λ y. ReaderAt y w in subst P (sym d.1.state) u))
     own_by Register None r m u (inr d) = ((λ c. absurd c), (λ b. unchanged (engine_of s) (engine_of t.after) w d.state u))
     own_by (Begin op) None r m u d = absurd (busy_fault (place_of s w).registered (is_busy (slice_get s.calls w)) _ _ (reader_busy (slice_get s.calls w) (slice_get s.machines w) u) m)
     own_by (Go noise) None r m u d =
         let g = reader_goes (engine_of s) (engine_of t.after) w (h.0, h.1) noise None r m refl u d in
         ((λ c e q. inr (g.0 e q)), g.1)
 
-    own : (b : Bool) → gives_up s w t.step.event ≡ b → ReaderAt s w → StepsUnless same always b s t.step t.report t.after → Keeps s t w
+    own : (b : Bool) → finds_journal_full s w t.step.event ≡ b → ReaderAt s w → StepsUnless same always b s t.step t.report t.after → Keeps s t w
     own true g u x = absurd (by t.step.event g) where
-      by : (event : Event V) → gives_up s w event ≡ true → ⊥
+      by : (event : Event V) → finds_journal_full s w event ≡ true → ⊥
       by Register e = false≢true e
       by (Begin op) e = false≢true e
       by (Go noise) e = unreserving (slice_get s.calls w) (slice_get s.machines w) u (and_left _ _ e)
@@ -393,9 +393,9 @@ module _ {V : Type 0} (same : V → V → Bool) (always : Bool) (turns : Progres
     other true i n u x = (
       (λ e. absurd (n (sym e))),
       (λ b.
-          let c : slice_get t.after.calls i ≡ slice_get s.calls i = ap (λ (y : Whole V). slice_get y.calls i) x.state ∙ (one_set s.calls (set s.calls w Idle) w Idle refl).other i n in
-          let m : slice_get t.after.machines i ≡ slice_get s.machines i = ap (λ (y : Whole V). slice_get y.machines i) x.state in
-          let P : Option (Call V) → Type 0 = λ k. IsReader k (slice_get t.after.machines i) in
+          let c : slice_get t.after.calls i ≡ slice_get s.calls i = ap (λ (y : World V). slice_get y.calls i) x.state ∙ (one_set s.calls (set s.calls w Idle) w Idle refl).other i n in
+          let m : slice_get t.after.machines i ≡ slice_get s.machines i = ap (λ (y : World V). slice_get y.machines i) x.state in
+          let P : Option (InFlight V) → Type 0 = λ k. IsReader k (slice_get t.after.machines i) in
           let Q : Option (Machine Id V) → Type 0 = λ y. IsReader (slice_get s.calls i) y in
           subst P (sym c) (subst Q (sym m) u)),
     )
@@ -409,8 +409,8 @@ module _ {V : Type 0} (same : V → V → Bool) (always : Bool) (turns : Progres
       | inl b ↦ (
           let e : i ≡ w = eqb-true i w b in
           let P : ℕ → Type 0 = λ j. Keeps s t j in
-          subst P (sym e) (own (gives_up s w t.step.event) refl (subst (λ j. ReaderAt s j) e u) x.does))
-      | inr b ↦ other (gives_up s w t.step.event) i (eqb-false i w b) u x.does
+          subst P (sym e) (own (finds_journal_full s w t.step.event) refl (subst (λ j. ReaderAt s j) e u) x.does))
+      | inr b ↦ other (finds_journal_full s w t.step.event) i (eqb-false i w b) u x.does
     ]
 
     -- a step that begins one
@@ -435,11 +435,11 @@ module _ {V : Type 0} (same : V → V → Bool) (always : Bool) (turns : Progres
           (λ b. y.1 (sym (ap (λ z. is_in_flight z.outcome) x.does.report) ∙ b)),
         )
 
-  all_refuse : (i : ℕ) (s : Whole V) (ts : List (Taken V)) → Holds same always s → AreTaken same always s ts → ReaderAt s i → AllRefuseReader i s ts
+  all_refuse : (i : ℕ) (s : World V) (ts : List (Taken V)) → Holds same always s → AreTaken same always s ts → ReaderAt s i → AllRefuseReader i s ts
   all_refuse i s [] h x u = tt
   all_refuse i s (t ∷ ts) h x u = let k = kept s t h x.0 i u in (k.0, λ b. all_refuse i t.after ts x.0.holds x.1 (k.1 b))
 
-  pub readers : (s : Whole V) (ts : List (Taken V)) → Holds same always s → AreTaken same always s ts → ReadersRefused s ts
+  pub readers : (s : World V) (ts : List (Taken V)) → Holds same always s → AreTaken same always s ts → ReadersRefused s ts
   readers s [] h x = tt
   readers s (t ∷ ts) h x = (
     (λ o e q. let b = reads_begun s t h o e q x.0 in (b.0, λ on. all_refuse t.step.worker t.after ts x.0.holds x.1 (b.1 on))),

@@ -21,7 +21,7 @@ use Rattle.joint.specs.declared.steps.Report.{Report}
 use Rattle.joint.specs.calls.MapCalls.{CallPlays, PlaysKey, PlaysScan}
 use Rattle.joint.specs.Reports.{reply_in}
 use Rattle.joint.specs.engine.Flying.{AreInFlight, Flights}
-use Rattle.joint.specs.engine.Engine.{Whole}
+use Rattle.joint.specs.engine.Engine.{World}
 use Rattle.joint.specs.calls.Standing.{pairs_below, the_pairs, AnswersAs}
 
 module _ {V : Type 0} (at : ℕ → Option V) where
@@ -65,7 +65,7 @@ answers_as same (Some r) (Some c) m m' x =
     (is.0, ap (λ n. get n k) is.1 ∙ get-set_at_here m k (leaves same c (get m k)), is.1)
 
 -- a call that ended with a reply has left the calls in flight
-module _ {V : Type 0} (same : V → V → Bool) (fs : Flights V) (m : Pairs V) (s : Whole V) where
+module _ {V : Type 0} (same : V → V → Bool) (fs : Flights V) (m : Pairs V) (s : World V) where
   key_keeps : (who : ℕ) (p : Point V) (o : Outcome V) → IsSome (reply_in o) → PlaysKey same fs m who None p o s → AreInFlight s fs
   key_keeps who p (Done (done.Reply r)) is x = x.1
   key_keeps who p (Done done.Unit) is x = absurd x

@@ -38,8 +38,8 @@ use Rattle.congee.specs.declared.protocol.phase.Phase.TheVariants.{Ended}
 use Rattle.congee.specs.Heap.{Node, Stands}
 use Rattle.congee.specs.protocol.Handing.{is_waiting}
 use Rattle.congee.specs.protocol.Holdings.{MadeBy, TakenBy}
-use Rattle.joint.specs.declared.engine.in_flight.Call.{Call}
-use Rattle.joint.specs.declared.engine.in_flight.Call.TheVariants.{Idle, Collecting, Reserving, Securing, Walking}
+use Rattle.joint.specs.declared.engine.in_flight.InFlight.{InFlight}
+use Rattle.joint.specs.declared.engine.in_flight.InFlight.TheVariants.{Idle, Collecting, Reserving, Securing, Walking}
 use Rattle.joint.specs.declared.id.Id.{Id}
 use Rattle.joint.specs.declared.nodes.slot.Slot.{Slot}
 use Rattle.joint.specs.declared.steps.Done.TheVariants as done
@@ -54,12 +54,12 @@ use Rattle.joint.specs.declared.steps.Step.{Step}
 use Rattle.joint.specs.declared.steps.Target.{Target}
 use Rattle.joint.specs.declared.steps.Target.TheVariants as target
 use Rattle.joint.specs.engine.Filed.{removes}
-use Rattle.joint.specs.nodes.Forest.{nodes}
+use Rattle.joint.specs.nodes.Nodes.{nodes}
 use Rattle.joint.specs.engine.Intact.{IsAt, call_after, is_reserving}
 use Rattle.joint.specs.engine.Laws.{CallLaws}
 use Rattle.joint.specs.engine.Census.{waiting_nodes}
 use Rattle.joint.specs.engine.Log.{is_full}
-use Rattle.joint.specs.engine.Machines.{Collected}
+use Rattle.joint.specs.engine.Safety.{Collected}
 use Rattle.joint.specs.nodes.Slots.{slot_names}
 use Rattle.joint.specs.NameLemmas.{number_named}
 use Rattle.joint.specs.Names.{number, named}
@@ -69,8 +69,8 @@ use Rattle.joint.specs.calls.Rounds.{IsQuiet, GoesToEnd, IsWhole, Round, IsRound
 use Rattle.joint.specs.calls.Runs.{Taken, AreTaken, IsRun, after_all}
 use Rattle.joint.specs.nodes.View.{id_number}
 use Rattle.joint.specs.world.Whereabouts.{IsInTree, IsSomewhere}
-use Rattle.joint.specs.world.Whole.{Holds, IsStep, TakesStep, StepsUnless}
-use Rattle.joint.specs.engine.Engine.{Whole, engine_of, place_of, is_busy, interruption, unready, misuse, Proceeds, Does, GoesAt, BeginsAt, Collects}
+use Rattle.joint.specs.world.World.{Holds, IsStep, TakesStep, StepsUnless}
+use Rattle.joint.specs.engine.Engine.{World, engine_of, place_of, is_busy, interruption, unready, misuse, Proceeds, Does, GoesAt, BeginsAt, Collects}
 use Rattle.joint.proofs.lemmas.world.Bags.{jobs_waiting}
 use Rattle.joint.proofs.lemmas.engine.Collecting.{set_here, there}
 use Rattle.joint.proofs.lemmas.engine.Filing.{is_name_same}
@@ -115,20 +115,20 @@ of_registered true x e = refl
 of_registered false x e = absurd (cc e)
 
 module _ {V : Type 0} (same : V → V → Bool) (always : Bool) where
-  pub split : (s : Whole V) (a b : List (Taken V)) → AreTaken same always s (a ++ b) → AreTaken same always s a × AreTaken same always (after_all s a) b
+  pub split : (s : World V) (a b : List (Taken V)) → AreTaken same always s (a ++ b) → AreTaken same always s a × AreTaken same always (after_all s a) b
   split s [] b x = (tt, x)
   split s (t ∷ a) b x = let y = split t.after a b x.1 in ((x.0, y.0), y.1)
 
-  pub after_both : (s : Whole V) (a b : List (Taken V)) → after_all s (a ++ b) ≡ after_all (after_all s a) b
+  pub after_both : (s : World V) (a b : List (Taken V)) → after_all s (a ++ b) ≡ after_all (after_all s a) b
   after_both s [] b = refl
   after_both s (t ∷ a) b = after_both t.after a b
 
-  still_holds : (s : Whole V) (a : List (Taken V)) → Holds same always s → AreTaken same always s a → Holds same always (after_all s a)
+  still_holds : (s : World V) (a : List (Taken V)) → Holds same always s → AreTaken same always s a → Holds same always (after_all s a)
   still_holds s [] h x = h
   still_holds s (t ∷ a) h x = still_holds t.after a x.0.holds x.1
 
   -- a step of a call on the collector
-  pub record CallStep (s : Whole V) (who : ℕ) (event : Turn) (k : Call V) (o : Outcome V) (s' : Whole V) : Type 0 where
+  pub record CallStep (s : World V) (who : ℕ) (event : Turn) (k : InFlight V) (o : Outcome V) (s' : World V) : Type 0 where
     pub turn : Collection
     pub step : Collected same always s.forest s.machines who event turn s'.forest
     pub machines : s'.machines ≡ s.machines
@@ -136,14 +136,14 @@ module _ {V : Type 0} (same : V → V → Bool) (always : Bool) where
     pub outcome : o ≡ collected turn.outcome
     pub inside : who < length s.calls
 
-  by_misuse : (s s' : Whole V) (who : ℕ) (event : Event V) (x : Option Fault) (told : Report V) → Does same always s who event x told s' → Unrefused told.outcome → (x ≡ None) × Proceeds same always s who event told s'
+  by_misuse : (s s' : World V) (who : ℕ) (event : Event V) (x : Option Fault) (told : Report V) → Does same always s who event x told s' → Unrefused told.outcome → (x ≡ None) × Proceeds same always s who event told s'
   by_misuse s s' who event None told d u = (refl, d)
   by_misuse s s' who event (Some f) told d u = absurd (not_refused told.outcome u (of_fault f) (ap (λ (r : Report V). r.outcome) d.0))
 
-  as_step : (s s' : Whole V) (who : ℕ) (event : Turn) (k : Call V) (told : Report V) (o : Outcome V) → told.outcome ≡ o → who < length s.calls → Collects same always (engine_of s) who event k told (engine_of s') → CallStep s who event k o s'
+  as_step : (s s' : World V) (who : ℕ) (event : Turn) (k : InFlight V) (told : Report V) (o : Outcome V) → told.outcome ≡ o → who < length s.calls → Collects same always (engine_of s) who event k told (engine_of s') → CallStep s who event k o s'
   as_step s s' who event k told o e inside c = record { turn = c.turn; step = c.step; machines = c.machines; calls = c.calls; outcome = sym e ∙ ap (λ (r : Report V). r.outcome) c.report; inside = inside }
 
-  begins : (s : Whole V) (t : Taken V) (who : ℕ) (o : Op V) (x : Turning) → Holds same always s → target o ≡ target.Collector x → IsStep same always s t.step t.report t.after → t.step ≡ record { worker = who; event = Begin o } → Unrefused t.report.outcome
+  begins : (s : World V) (t : Taken V) (who : ℕ) (o : Op V) (x : Turning) → Holds same always s → target o ≡ target.Collector x → IsStep same always s t.step t.report t.after → t.step ≡ record { worker = who; event = Begin o } → Unrefused t.report.outcome
       → CallStep s who (turn.Begin x) (Collecting x) t.report.outcome t.after
   begins s t who o x h e is at u =
       let P : Step V → Type 0 = λ y. IsStep same always s y t.report t.after in
@@ -156,20 +156,20 @@ module _ {V : Type 0} (same : V → V → Bool) (always : Bool) where
       let R : Target V → Type 0 = λ y. BeginsAt same always (engine_of s) who y tk.told (engine_of t.after) in
       as_step s t.after who (turn.Begin x) (Collecting x) tk.told t.report.outcome out inside (subst R e d.1)
 
-  goes : (s : Whole V) (t : Taken V) (who : ℕ) (noise : Noise Id V) (x : Turning) → who < length s.calls → slice_get s.calls who ≡ Some (Collecting x) → IsStep same always s t.step t.report t.after → t.step ≡ record { worker = who; event = Go noise } → Unrefused t.report.outcome
+  goes : (s : World V) (t : Taken V) (who : ℕ) (noise : Noise Id V) (x : Turning) → who < length s.calls → slice_get s.calls who ≡ Some (Collecting x) → IsStep same always s t.step t.report t.after → t.step ≡ record { worker = who; event = Go noise } → Unrefused t.report.outcome
       → CallStep s who turn.Go (Collecting x) t.report.outcome t.after
   goes s t who noise x inside on is at u =
       let P : Step V → Type 0 = λ y. IsStep same always s y t.report t.after in
-      let D : Option (Call V) → Type 0 = λ k. StepsUnless same always (is_reserving k && is_full s.log) s (record { worker = who; event = Go noise }) t.report t.after in
+      let D : Option (InFlight V) → Type 0 = λ k. StepsUnless same always (is_reserving k && is_full s.log) s (record { worker = who; event = Go noise }) t.report t.after in
       let tk : TakesStep same always s (record { worker = who; event = Go noise }) t.report t.after = subst D on (subst P at is).does in
       let out : tk.told.outcome ≡ t.report.outcome = sym (ap (λ (r : Report V). r.outcome) tk.report) in
       let Q : Outcome V → Type 0 = λ y. Unrefused y in
       let d = by_misuse (engine_of s) (engine_of t.after) who (Go noise) (misuse (engine_of s) who (Go noise)) tk.told tk.engine.does (subst Q (sym out) u) in
-      let R : Option (Call V) → Type 0 = λ k. GoesAt same always (engine_of s) who k noise tk.told (engine_of t.after) in
+      let R : Option (InFlight V) → Type 0 = λ k. GoesAt same always (engine_of s) who k noise tk.told (engine_of t.after) in
       as_step s t.after who turn.Go (Collecting x) tk.told t.report.outcome out inside (subst R on d.1)
 
   -- what a whole call leaves
-  pub record Finished (s : Whole V) (who : ℕ) (x : Turning) (s' : Whole V) : Type 0 where
+  pub record Finished (s : World V) (who : ℕ) (x : Turning) (s' : World V) : Type 0 where
     pub ends : collector.Finishes s.forest.collector who x s'.forest.collector
     pub machines : s'.machines ≡ s.machines
     pub calls : s'.calls ≡ slice_set s.calls who Idle
@@ -177,7 +177,7 @@ module _ {V : Type 0} (same : V → V → Bool) (always : Bool) where
 
   module _ (laws : RoundLaws {T = Slot V} (Unit {0}) slot_names) where
     -- from one step of it on
-    to_end : (c0 : State (Slot V) (Unit {0})) (who : ℕ) (x : Turning) (ts : List (Taken V)) (s now : Whole V) (n : ℕ) (newest : Option Collection) (event : Turn) (o : Outcome V) → IsGoing c0 who x n newest event s.forest.collector → CallStep s who event (Collecting x) o now
+    to_end : (c0 : State (Slot V) (Unit {0})) (who : ℕ) (x : Turning) (ts : List (Taken V)) (s now : World V) (n : ℕ) (newest : Option Collection) (event : Turn) (o : Outcome V) → IsGoing c0 who x n newest event s.forest.collector → CallStep s who event (Collecting x) o now
         → AreTaken same always now ts → GoesToEnd who o ts
         → collector.Finishes c0 who x (after_all now ts).forest.collector × ((after_all now ts).machines ≡ s.machines) × ((after_all now ts).calls ≡ slice_set s.calls who Idle)
     to_end c0 who x [] s now n newest event o g c are end =
@@ -191,17 +191,17 @@ module _ {V : Type 0} (same : V → V → Bool) (always : Bool) where
         let on : c.turn.outcome ≡ turned.Running = was_running {V = V} c.turn.outcome (sym c.outcome ∙ end.0) in
         let calls : now.calls ≡ slice_set s.calls who (Collecting x) = c.calls ∙ ap (λ (y : Turned). slice_set s.calls who (call_after y (Collecting x))) on in
         let old = there s.calls who c.inside in
-        let here : slice_get now.calls who ≡ Some (Collecting x) = ap (λ (ks : List (Call V)). slice_get ks who) calls ∙ set_here s.calls who (Collecting x) old.0 old.1 in
+        let here : slice_get now.calls who ≡ Some (Collecting x) = ap (λ (ks : List (InFlight V)). slice_get ks who) calls ∙ set_here s.calls who (Collecting x) old.0 old.1 in
         let inside : who < length now.calls = slice_get_within now.calls who (Collecting x) here in
         let next = goes now t who end.1.0 x inside here are.0 end.1.1 (by_end who t.report.outcome ts end.2) in
         let more = laws.more c0 s.forest.collector now.forest.collector who x n newest event c.turn g c.step.report c.step.state on in
         let r = to_end c0 who x ts now t.after (n + 1) (Some c.turn) turn.Go t.report.outcome more next are.1 end.2 in (
           r.0,
           r.1 ∙ c.machines,
-          r.2 ∙ ap (λ (ks : List (Call V)). slice_set ks who Idle) calls ∙ set-set s.calls who (Collecting x) Idle,
+          r.2 ∙ ap (λ (ks : List (InFlight V)). slice_set ks who Idle) calls ∙ set-set s.calls who (Collecting x) Idle,
         )
 
-    whole_call : (s : Whole V) (who : ℕ) (o : Op V) (x : Turning) (ts : List (Taken V)) → Holds same always s → target o ≡ target.Collector x → AreTaken same always s ts → IsWhole who o ts → Finished s who x (after_all s ts)
+    whole_call : (s : World V) (who : ℕ) (o : Op V) (x : Turning) (ts : List (Taken V)) → Holds same always s → target o ≡ target.Collector x → AreTaken same always s ts → IsWhole who o ts → Finished s who x (after_all s ts)
     whole_call s who o x [] h e are w = absurd w
     whole_call s who o x (t ∷ ts) h e are w =
         let c = begins s t who o x h e are.0 w.0 (by_end who t.report.outcome ts w.1) in
@@ -209,7 +209,7 @@ module _ {V : Type 0} (same : V → V → Bool) (always : Bool) where
         record { ends = r.0; machines = r.1; calls = r.2; inside = c.inside }
 
     -- a whole round
-    pub record Rounded (s : Whole V) (who : ℕ) (flushed s' : Whole V) : Type 0 where
+    pub record Rounded (s : World V) (who : ℕ) (flushed s' : World V) : Type 0 where
       pub round : collector.IsRound s.forest.collector who s'.forest.collector
       pub queue : round.flushed.queue ≡ flushed.forest.collector.queue
       pub holds : Holds same always s'
@@ -217,7 +217,7 @@ module _ {V : Type 0} (same : V → V → Bool) (always : Bool) where
       pub calls : s'.calls ≡ slice_set s.calls who Idle
       pub inside : who < length s.calls
 
-    whole_round : (s : Whole V) (who : ℕ) (r : Round V) → Holds same always s → AreTaken same always s (r.pin ++ (r.flush ++ r.unpin)) → IsRound who r → Rounded s who (after_all s (r.pin ++ r.flush)) (after_all s (r.pin ++ (r.flush ++ r.unpin)))
+    whole_round : (s : World V) (who : ℕ) (r : Round V) → Holds same always s → AreTaken same always s (r.pin ++ (r.flush ++ r.unpin)) → IsRound who r → Rounded s who (after_all s (r.pin ++ r.flush)) (after_all s (r.pin ++ (r.flush ++ r.unpin)))
     whole_round s who r h are is =
         let a = split s r.pin (r.flush ++ r.unpin) are in
         let s1 = after_all s r.pin in
@@ -232,31 +232,31 @@ module _ {V : Type 0} (same : V → V → Bool) (always : Bool) where
         let x3 = whole_call s2 who Unpin op.Unpin r.unpin h2 refl b.1 is.unpins in
         let to2 : after_all s (r.pin ++ r.flush) ≡ s2 = after_both s r.pin r.flush in
         let to3 : after_all s (r.pin ++ (r.flush ++ r.unpin)) ≡ s3 = after_both s r.pin (r.flush ++ r.unpin) ∙ after_both s1 r.flush r.unpin in
-        let P : Whole V → Type 0 = λ y. Rounded s who y (after_all s (r.pin ++ (r.flush ++ r.unpin))) in
-        let Q : Whole V → Type 0 = λ y. Rounded s who s2 y in
+        let P : World V → Type 0 = λ y. Rounded s who y (after_all s (r.pin ++ (r.flush ++ r.unpin))) in
+        let Q : World V → Type 0 = λ y. Rounded s who s2 y in
         subst P (sym to2) (subst Q (sym to3) (record {
           round = record { pinned = s1.forest.collector; flushed = s2.forest.collector; pins = x1.ends; flushes = x2.ends; unpins = x3.ends };
           queue = refl;
           holds = h3;
           machines = x3.machines ∙ x2.machines ∙ x1.machines;
-          calls = x3.calls ∙ ap (λ (ks : List (Call V)). slice_set ks who Idle) (x2.calls ∙ ap (λ (ks : List (Call V)). slice_set ks who Idle) x1.calls ∙ set-set s.calls who Idle Idle) ∙ set-set s.calls who Idle Idle;
+          calls = x3.calls ∙ ap (λ (ks : List (InFlight V)). slice_set ks who Idle) (x2.calls ∙ ap (λ (ks : List (InFlight V)). slice_set ks who Idle) x1.calls ∙ set-set s.calls who Idle Idle) ∙ set-set s.calls who Idle Idle;
           inside = x1.inside;
         }))
 
     -- more of them
-    pub record Ran (s : Whole V) (who n : ℕ) (s' : Whole V) : Type 0 where
+    pub record Ran (s : World V) (who n : ℕ) (s' : World V) : Type 0 where
       pub rounds : collector.AreRounds s.forest.collector who n s'.forest.collector
       pub holds : Holds same always s'
       pub machines : s'.machines ≡ s.machines
 
-    more_rounds : (rs : List (Round V)) (s : Whole V) (who : ℕ) → Holds same always s → AreTaken same always s (steps_in rs) → AreRounds who rs → Ran s who (length rs) (after_all s (steps_in rs))
+    more_rounds : (rs : List (Round V)) (s : World V) (who : ℕ) → Holds same always s → AreTaken same always s (steps_in rs) → AreRounds who rs → Ran s who (length rs) (after_all s (steps_in rs))
     more_rounds [] s who h are is = record { rounds = refl; holds = h; machines = refl }
     more_rounds (r ∷ rs) s who h are is =
         let a = split s (r.pin ++ (r.flush ++ r.unpin)) (steps_in rs) are in
         let s1 = after_all s (r.pin ++ (r.flush ++ r.unpin)) in
         let x = whole_round s who r h a.0 is.0 in
         let y = more_rounds rs s1 who x.holds a.1 is.1 in
-        let P : Whole V → Type 0 = λ z. Ran s who (suc (length rs)) z in
+        let P : World V → Type 0 = λ z. Ran s who (suc (length rs)) z in
         subst P (sym (after_both s (r.pin ++ (r.flush ++ r.unpin)) (steps_in rs))) (record {
           rounds = (s1.forest.collector, x.round, y.rounds);
           holds = y.holds;
@@ -264,12 +264,12 @@ module _ {V : Type 0} (same : V → V → Bool) (always : Bool) where
         })
 
     -- in a quiet state no call on the tree is in flight
-    module _ (s : Whole V) (h : Holds same always s) (q : IsQuiet s) where
-      idle_at : (i : ℕ) (m : Machine Id V) → slice_get s.machines i ≡ Some m → (k : Call V) → slice_get s.calls i ≡ Some k → (b : Bool) → (place_of s i).registered ≡ b → m.phase ≡ Ended
+    module _ (s : World V) (h : Holds same always s) (q : IsQuiet s) where
+      idle_at : (i : ℕ) (m : Machine Id V) → slice_get s.machines i ≡ Some m → (k : InFlight V) → slice_get s.calls i ≡ Some k → (b : Bool) → (place_of s i).registered ≡ b → m.phase ≡ Ended
       idle_at i m here k at true reg =
           let e : Some k ≡ Some Idle = sym at ∙ q.idle i reg in
           let same_call : k ≡ Idle = cc in
-          let P : Call V → Type 0 = λ y. IsAt y (place_of s i) m in
+          let P : InFlight V → Type 0 = λ y. IsAt y (place_of s i) m in
           (subst P same_call (h.0.each i k m at here)).1
       idle_at i m here Idle at false reg = (h.0.each i Idle m at here).1
       idle_at i m here (Collecting o) at false reg = (h.0.each i (Collecting o) m at here).1
@@ -327,7 +327,7 @@ retired_waits x r s = let m : x.made ≡ true = s.made in let k : x.destroyed �
 
 module _ {V : Type 0} (same : V → V → Bool) (always : Bool) (calls : CallLaws {C = Id} {V = V} id_number same always) (laws : RoundLaws {T = Slot V} (Unit {0}) slot_names) where
   -- where a removal stands that is in no queued bag and in no hand
-  in_other_bag : (s s' : Whole V) (who : ℕ) → Holds same always s' → collector.IsEmptied s.forest.collector who s'.forest.collector → (n : Name) → 1 ≤ weight (removes n) s'.forest.collector
+  in_other_bag : (s s' : World V) (who : ℕ) → Holds same always s' → collector.IsEmptied s.forest.collector who s'.forest.collector → (n : Name) → 1 ≤ weight (removes n) s'.forest.collector
       → (q : ℕ) × (q ≢ who) × ((place_of s' q).registered ≡ true) × ((e : Entry (Unit {0})) × Contains (place_of s' q).bag e × (e.work ≡ Remove n))
   in_other_bag s s' who h x n some =
       let c = s'.forest.collector in
@@ -350,7 +350,7 @@ module _ {V : Type 0} (same : V → V → Bool) (always : Bool) (calls : CallLaw
           let z = no_jobs (removes n) (place s'.forest.collector q).bag (ap (λ (p : Participant (Unit {0})). p.bag) free) in
           omega (arith, z, some))
 
-  left_over : (s s' : Whole V) (who : ℕ) → Holds same always s → IsQuiet s → Holds same always s' → s'.machines ≡ s.machines → collector.IsEmptied s.forest.collector who s'.forest.collector → CameBack s' who
+  left_over : (s s' : World V) (who : ℕ) → Holds same always s → IsQuiet s → Holds same always s' → s'.machines ≡ s.machines → collector.IsEmptied s.forest.collector who s'.forest.collector → CameBack s' who
   left_over s s' who h quiet h' machines x = record { each = each; few = λ i. h'.0.safe.sound.sound.orderly.bags i }
     where
       over : (i : ℕ) (m : Machine Id V) → slice_get s'.machines i ≡ Some m → m.phase ≡ Ended
@@ -385,7 +385,7 @@ module _ {V : Type 0} (same : V → V → Bool) (always : Bool) (calls : CallLaw
             ]
           ]
 
-  pub came_back : (s : Whole V) (who : ℕ) (rounds : List (Round V)) → Holds same always s → IsQuiet s → AreRounds who rounds → AreTaken same always s (steps_in rounds) → rounds_wanted (bags_left s rounds) ≤ length rounds → CameBack (after_all s (steps_in rounds)) who
+  pub came_back : (s : World V) (who : ℕ) (rounds : List (Round V)) → Holds same always s → IsQuiet s → AreRounds who rounds → AreTaken same always s (steps_in rounds) → rounds_wanted (bags_left s rounds) ≤ length rounds → CameBack (after_all s (steps_in rounds)) who
   came_back s who [] h quiet are taken enough = absurd (omega (arith, enough))
   came_back s who (r ∷ rs) h quiet are taken enough =
       let a = split same always s (r.pin ++ (r.flush ++ r.unpin)) (steps_in rs) taken in
@@ -395,11 +395,11 @@ module _ {V : Type 0} (same : V → V → Bool) (always : Bool) (calls : CallLaw
       let sound = h.0.safe.sound in
       let few : 1 + div_ceil (length x.round.flushed.queue) 8 ≤ length rs = (let e = ap (λ (q : List (Sealed (Unit {0}))). div_ceil (length q) 8) x.queue in omega (arith, e, enough)) in
       let emptied = laws.empties sound.past s.forest.collector s1.forest.collector (after_all s1 (steps_in rs)).forest.collector who (length rs) sound.sound.tells sound.sound.orderly h.0.filed.sealing h.0.filed.expiry (collector_quiet same always laws s h quiet) x.round y.rounds few in
-      let P : Whole V → Type 0 = λ z. CameBack z who in
+      let P : World V → Type 0 = λ z. CameBack z who in
       subst P (sym (after_both same always s (r.pin ++ (r.flush ++ r.unpin)) (steps_in rs))) (left_over s (after_all s1 (steps_in rs)) who h quiet y.holds (y.machines ∙ x.machines) emptied)
 
   -- no more bags are left than nodes wait
-  bags_few : (s : Whole V) (who : ℕ) (rounds : List (Round V)) → Holds same always s → IsQuiet s → AreRounds who rounds → AreTaken same always s (steps_in rounds) → 0 < length rounds → bags_left s rounds ≤ length (waiting_nodes s)
+  bags_few : (s : World V) (who : ℕ) (rounds : List (Round V)) → Holds same always s → IsQuiet s → AreRounds who rounds → AreTaken same always s (steps_in rounds) → 0 < length rounds → bags_left s rounds ≤ length (waiting_nodes s)
   bags_few s who [] h quiet are taken some = absurd (omega arith)
   bags_few s who (r ∷ rs) h quiet are taken some =
       let a = split same always s (r.pin ++ (r.flush ++ r.unpin)) (steps_in rs) taken in
@@ -411,7 +411,7 @@ module _ {V : Type 0} (same : V → V → Bool) (always : Bool) (calls : CallLaw
       let jobs = jobs_waiting s h.0.filed in
       omega (arith, few, e, jobs)
 
-  pub all_came_back : (s : Whole V) (who : ℕ) (rounds : List (Round V)) → Holds same always s → IsQuiet s → AreRounds who rounds → AreTaken same always s (steps_in rounds) → rounds_wanted (length (waiting_nodes s)) ≤ length rounds → CameBack (after_all s (steps_in rounds)) who
+  pub all_came_back : (s : World V) (who : ℕ) (rounds : List (Round V)) → Holds same always s → IsQuiet s → AreRounds who rounds → AreTaken same always s (steps_in rounds) → rounds_wanted (length (waiting_nodes s)) ≤ length rounds → CameBack (after_all s (steps_in rounds)) who
   all_came_back s who rounds h quiet are taken enough =
       let few = bags_few s who rounds h quiet are taken (omega (arith, enough)) in
       let low = div_ceil_times (bags_left s rounds) 8 (omega arith) in
@@ -421,9 +421,9 @@ module _ {V : Type 0} (same : V → V → Bool) (always : Bool) (calls : CallLaw
       came_back s who rounds h quiet are taken (omega (arith, a, b, few, enough))
 
 -- the same of a run
-pub in_run : {V : Type 0} (same : V → V → Bool) (always : Bool) (s s' : Whole V) (steps : List (Step V)) (reports : List (Report V)) (who : ℕ) (rounds : List (Round V))
+pub in_run : {V : Type 0} (same : V → V → Bool) (always : Bool) (s s' : World V) (steps : List (Step V)) (reports : List (Report V)) (who : ℕ) (rounds : List (Round V))
     → (AreTaken same always s (steps_in rounds) → CameBack (after_all s (steps_in rounds)) who) → (run : IsRun same always s steps reports s') → run.taken ≡ steps_in rounds → CameBack s' who
 in_run {V} same always s s' steps reports who rounds law run is =
     let P : List (Taken V) → Type 0 = λ ts. AreTaken same always s ts in
-    let Q : Whole V → Type 0 = λ x. CameBack x who in
+    let Q : World V → Type 0 = λ x. CameBack x who in
     subst Q (ap (after_all s) (sym is) ∙ run.last) (law (subst P is run.each))

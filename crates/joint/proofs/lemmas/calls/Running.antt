@@ -8,12 +8,12 @@ use Rattle.judge.specs.Answer.{Pairs}
 use Rattle.congee.specs.Keys.{IsMapOf}
 use Rattle.joint.specs.declared.steps.Report.{Report}
 use Rattle.joint.specs.declared.steps.Step.{Step}
-use Rattle.joint.specs.nodes.Forest.{nodes}
+use Rattle.joint.specs.nodes.Nodes.{nodes}
 use Rattle.joint.specs.calls.Runs.{Taken, IsRun, AreLines, PlaysMap, RunsJournal, RunsMap, pairs_after}
 use Rattle.joint.specs.world.MapSteps.{Line}
-use Rattle.joint.specs.engine.Engine.{IsFresh, Whole}
+use Rattle.joint.specs.engine.Engine.{IsFresh, World}
 use Rattle.joint.specs.engine.Flying.{Flights, AreInFlight, no_flights}
-use Rattle.joint.specs.world.Whole.{Holds, IsStep}
+use Rattle.joint.specs.world.World.{Holds, IsStep}
 use Rattle.joint.proofs.lemmas.calls.Runs.{runs_join, runs_map, runs_journal, entries_legal, standing_empty, fresh_flights}
 
 -- a list that got no memory for one more is full
@@ -27,13 +27,13 @@ none_more (Err e) failed len len1 len2 places places1 places2 is so full kept l 
 
 module _ {V : Type 0} (same : V → V → Bool) (always : Bool) where
   -- how far the steps have come: those taken and those left
-  pub record Progress (s : Whole V) (all rest : List (Step V)) (done : ℕ) (reports : List (Report V)) (s' : Whole V) : Type 0 where
+  pub record Progress (s : World V) (all rest : List (Step V)) (done : ℕ) (reports : List (Report V)) (s' : World V) : Type 0 where
     pub taken : List (Step V)
     pub split : all ≡ taken ++ rest
     pub count : length taken ≡ done
     pub run : IsRun same always s taken reports s'
 
-  pub progress_none : (s : Whole V) (all rest : List (Step V)) (done : ℕ) (reports : List (Report V)) → rest ≡ all → done ≡ 0 → reports ≡ [] → Progress s all rest done reports s
+  pub progress_none : (s : World V) (all rest : List (Step V)) (done : ℕ) (reports : List (Report V)) → rest ≡ all → done ≡ 0 → reports ≡ [] → Progress s all rest done reports s
   progress_none s all rest done reports e n q = record {
     taken = [];
     split = sym e;
@@ -41,7 +41,7 @@ module _ {V : Type 0} (same : V → V → Bool) (always : Bool) where
     run = (let P : List (Report V) → Type 0 = λ x. IsRun same always s [] x s in subst P (sym q) (record { taken = []; each = tt; steps_are = refl; reports_are = refl; last = refl }));
   }
 
-  pub progress_more : (s : Whole V) (all rest rest' : List (Step V)) (done done1 done' : ℕ) (reports reports1 reports' : List (Report V)) (s1 s2 : Whole V) (step : Step V) (report : Report V)
+  pub progress_more : (s : World V) (all rest rest' : List (Step V)) (done done1 done' : ℕ) (reports reports1 reports' : List (Report V)) (s1 s2 : World V) (step : Step V) (report : Report V)
       → Progress s all rest done reports s1 → rest ≡ step ∷ rest' → done1 ≡ done → done' ≡ done1 + 1 → reports1 ≡ reports → reports' ≡ reports1 ++ report ∷ [] → IsStep same always s1 step report s2 → Progress s all rest' done' reports' s2
   progress_more s all rest rest' done done1 done' reports reports1 reports' s1 s2 step report p e n1 n q1 q x =
       let one : IsRun same always s1 (step ∷ []) (report ∷ []) s2 = record {
@@ -60,13 +60,13 @@ module _ {V : Type 0} (same : V → V → Bool) (always : Bool) where
       }
 
   -- once none is left, all were taken
-  pub progress_all : (s : Whole V) (all rest : List (Step V)) (done done' : ℕ) (reports : List (Report V)) (s' : Whole V) → Progress s all rest done reports s' → length rest ≡ 0 → done' ≡ done → done' < length all → ⊥
+  pub progress_all : (s : World V) (all rest : List (Step V)) (done done' : ℕ) (reports : List (Report V)) (s' : World V) → Progress s all rest done reports s' → length rest ≡ 0 → done' ≡ done → done' < length all → ⊥
   progress_all s all rest done done' reports s' p none is fewer =
       let split : length all ≡ length p.taken + length rest = ap length p.split ∙ length-append p.taken rest in
       let count : length p.taken ≡ done = p.count in
       omega (arith, none, split, count, is, fewer)
 
-  pub progress_end : (s : Whole V) (all rest : List (Step V)) (done done' : ℕ) (reports reports' : List (Report V)) (s' : Whole V) → Progress s all rest done reports s' → done' ≡ done → reports' ≡ reports → IsRun same always s (take done' all) reports' s'
+  pub progress_end : (s : World V) (all rest : List (Step V)) (done done' : ℕ) (reports reports' : List (Report V)) (s' : World V) → Progress s all rest done reports s' → done' ≡ done → reports' ≡ reports → IsRun same always s (take done' all) reports' s'
   progress_end s all rest done done' reports reports' s' p n q =
       let e : take done' all ≡ p.taken = ap (λ x. take x all) (n ∙ sym p.count) ∙ (ap (take (length p.taken)) p.split ∙ take-append_seam p.taken rest) in
       let P : List (Step V) → Type 0 = λ x. IsRun same always s x reports' s' in
@@ -86,12 +86,12 @@ module _ {V : Type 0} (same : V → V → Bool) (always : Bool) where
   lines_reports (t ∷ ts) [] x = absurd x
   lines_reports (t ∷ ts) (l ∷ ls) x = let a : l.report ≡ t.report = x.0.report in let b = lines_reports ts ls x.1 in cc (a, b)
 
-  pub run_map : (s : Whole V) (steps : List (Step V)) (reports : List (Report V)) (s' : Whole V) (fs : Flights V) (m : Pairs V) → Holds same always s → IsRun same always s steps reports s' → IsMapOf (nodes s.forest) m → AreInFlight s fs
+  pub run_map : (s : World V) (steps : List (Step V)) (reports : List (Report V)) (s' : World V) (fs : Flights V) (m : Pairs V) → Holds same always s → IsRun same always s steps reports s' → IsMapOf (nodes s.forest) m → AreInFlight s fs
       → RunsMap same fs m steps reports s'
   run_map s steps reports s' fs m h r st fl =
       let p : PlaysMap same fs m s r.taken = runs_map same always s r.taken fs m h r.each st fl in
-      let P : Whole V → Type 0 = λ x. IsMapOf (nodes x.forest) (pairs_after m p.lines) in
-      let Q : Whole V → Type 0 = λ x. AreInFlight x p.flights in
+      let P : World V → Type 0 = λ x. IsMapOf (nodes x.forest) (pairs_after m p.lines) in
+      let Q : World V → Type 0 = λ x. AreInFlight x p.flights in
       record {
         lines = p.lines;
         flights = p.flights;
@@ -103,21 +103,21 @@ module _ {V : Type 0} (same : V → V → Bool) (always : Bool) where
         legal = entries_legal same always fs m p.lines p.flights p.run;
       }
 
-  pub run_fresh : (s : Whole V) (steps : List (Step V)) (reports : List (Report V)) (s' : Whole V) → IsFresh s → Holds same always s → IsRun same always s steps reports s' → RunsMap same no_flights empty steps reports s'
+  pub run_fresh : (s : World V) (steps : List (Step V)) (reports : List (Report V)) (s' : World V) → IsFresh s → Holds same always s → IsRun same always s steps reports s' → RunsMap same no_flights empty steps reports s'
   run_fresh s steps reports s' fresh h r = run_map s steps reports s' no_flights empty h r (standing_empty same always (nodes s.forest) fresh.alone) (fresh_flights same always s fresh)
 
   -- and what it makes of the journal
-  pub run_journal : (s : Whole V) (steps : List (Step V)) (reports : List (Report V)) (s' : Whole V) (fs : Flights V) (m : Pairs V) → Holds same always s → IsRun same always s steps reports s' → IsMapOf (nodes s.forest) m → AreInFlight s fs
+  pub run_journal : (s : World V) (steps : List (Step V)) (reports : List (Report V)) (s' : World V) (fs : Flights V) (m : Pairs V) → Holds same always s → IsRun same always s steps reports s' → IsMapOf (nodes s.forest) m → AreInFlight s fs
       → RunsJournal same fs m s steps reports s'
   unfolding run_map
   run_journal s steps reports s' fs m h r st fl =
       let j = runs_journal same always s r.taken fs m h r.each st fl in
       record {
         runs = run_map s steps reports s' fs m h r st fl;
-        entries = ap (λ (y : Whole V). y.log.entries) (sym r.last) ∙ j.entries;
+        entries = ap (λ (y : World V). y.log.entries) (sym r.last) ∙ j.entries;
         writes = j.writes;
-        places = ap (λ (y : Whole V). y.log.places) (sym r.last) ∙ j.places;
+        places = ap (λ (y : World V). y.log.places) (sym r.last) ∙ j.places;
       }
 
-  pub fresh_journal : (s : Whole V) (steps : List (Step V)) (reports : List (Report V)) (s' : Whole V) → IsFresh s → Holds same always s → IsRun same always s steps reports s' → RunsJournal same no_flights empty s steps reports s'
+  pub fresh_journal : (s : World V) (steps : List (Step V)) (reports : List (Report V)) (s' : World V) → IsFresh s → Holds same always s → IsRun same always s steps reports s' → RunsJournal same no_flights empty s steps reports s'
   fresh_journal s steps reports s' fresh h r = run_journal s steps reports s' no_flights empty h r (standing_empty same always (nodes s.forest) fresh.alone) (fresh_flights same always s fresh)

@@ -14,7 +14,7 @@ use Rattle.congee.specs.Heap.{Node, Hung, fits, child_for, of_child, walk, value
 use Rattle.congee.specs.Keys.{IsMapOf, key_bytes}
 use Rattle.congee.specs.protocol.Opening.{RootAlone}
 use Rattle.congee.specs.protocol.Play.{Flight, Pending, Decided, Over, Unbegun, Scanning, Question, heard, resolved}
-use Rattle.joint.specs.declared.engine.in_flight.Call.{Call}
+use Rattle.joint.specs.declared.engine.in_flight.InFlight.{InFlight}
 use Rattle.joint.specs.declared.steps.Event.{Event}
 use Rattle.joint.specs.declared.steps.Event.TheVariants.{Register, Begin, Go}
 use Rattle.joint.specs.declared.steps.Outcome.{Outcome}
@@ -23,20 +23,20 @@ use Rattle.joint.specs.declared.steps.Report.{Report}
 use Rattle.joint.specs.declared.steps.Step.{Step}
 use Rattle.joint.specs.declared.steps.Target.{Target}
 use Rattle.joint.specs.declared.steps.Target.TheVariants as target
-use Rattle.joint.specs.nodes.Forest.{nodes}
+use Rattle.joint.specs.nodes.Nodes.{nodes}
 use Rattle.joint.specs.engine.Journaling.{in_list}
 use Rattle.joint.specs.Reports.{target}
 use Rattle.joint.specs.calls.Runs.{Taken, AreTaken, after_all, IsRun, IsMapRun, with_entry, entries, pairs_after, PlaysMap, AllHold, KeepsWrites, kept_entries, kept_of}
 use Rattle.joint.specs.world.MapSteps.{EventMap, GoMap, PendingStep, BeginMap, BeginsOr, Stays, Line}
-use Rattle.joint.specs.engine.Engine.{IsFresh, Whole}
-use Rattle.joint.specs.engine.Flying.{Flights, no_flights, InFlight, AreInFlight}
-use Rattle.joint.specs.world.Whole.{Holds}
+use Rattle.joint.specs.engine.Engine.{IsFresh, World}
+use Rattle.joint.specs.engine.Flying.{Flights, no_flights, IsInFlight, AreInFlight}
+use Rattle.joint.specs.world.World.{Holds}
 use Rattle.joint.proofs.lemmas.world.Flights.{ends_stays}
-use Rattle.joint.proofs.lemmas.world.Mapped.{Mapped, mapped}
+use Rattle.joint.proofs.lemmas.world.JournaledSteps.{Mapped, mapped}
 
 module _ {V : Type 0} (same : V → V → Bool) (always : Bool) where
   -- the pairs stand and the calls are watched from step to step
-  pub runs_map : (s : Whole V) (taken : List (Taken V)) (fs : Flights V) (m : Pairs V) → Holds same always s → AreTaken same always s taken → IsMapOf (nodes s.forest) m → AreInFlight s fs → PlaysMap same fs m s taken
+  pub runs_map : (s : World V) (taken : List (Taken V)) (fs : Flights V) (m : Pairs V) → Holds same always s → AreTaken same always s taken → IsMapOf (nodes s.forest) m → AreInFlight s fs → PlaysMap same fs m s taken
   runs_map s [] fs m h x st fl = record { lines = []; flights = fs; are_lines = tt; run = refl; stand = st; in_flight = fl }
   runs_map s (t ∷ ts) fs m h x st fl =
       let a : Mapped same always s t.step t.report t.after fs m = mapped same always s t.step t.after fs m h x.0.holds st fl t.report x.0 in
@@ -52,7 +52,7 @@ module _ {V : Type 0} (same : V → V → Bool) (always : Bool) where
       }
 
   -- what the journal keeps of them
-  pub record Journals (s : Whole V) (taken : List (Taken V)) (lines : List (Line V)) : Type 0 where
+  pub record Journals (s : World V) (taken : List (Taken V)) (lines : List (Line V)) : Type 0 where
     pub entries : (after_all s taken).log.entries ≡ s.log.entries ++ kept_entries lines
     pub writes : 0 < s.log.places → KeepsWrites lines
     pub places : (after_all s taken).log.places ≡ s.log.places
@@ -61,7 +61,7 @@ module _ {V : Type 0} (same : V → V → Bool) (always : Bool) where
   first_kept None es = refl
   first_kept (Some e) es = refl
 
-  pub runs_journal : (s : Whole V) (taken : List (Taken V)) (fs : Flights V) (m : Pairs V) (h : Holds same always s) (x : AreTaken same always s taken) (st : IsMapOf (nodes s.forest) m) (fl : AreInFlight s fs) → Journals s taken (runs_map s taken fs m h x st fl).lines
+  pub runs_journal : (s : World V) (taken : List (Taken V)) (fs : Flights V) (m : Pairs V) (h : Holds same always s) (x : AreTaken same always s taken) (st : IsMapOf (nodes s.forest) m) (fl : AreInFlight s fs) → Journals s taken (runs_map s taken fs m h x st fl).lines
   unfolding runs_map
   runs_journal s [] fs m h x st fl = record { entries = sym (append-nil s.log.entries); writes = λ p. tt; places = refl }
   runs_journal s (t ∷ ts) fs m h x st fl =
@@ -76,22 +76,22 @@ module _ {V : Type 0} (same : V → V → Bool) (always : Bool) where
       }
 
   -- in each state what always holds
-  pub all_hold : (s : Whole V) (taken : List (Taken V)) → AreTaken same always s taken → AllHold same always taken
+  pub all_hold : (s : World V) (taken : List (Taken V)) → AreTaken same always s taken → AllHold same always taken
   all_hold s [] x = tt
   all_hold s (t ∷ ts) x = (x.0.holds, all_hold t.after ts x.1)
 
   -- steps after steps
-  pub taken_on : (s : Whole V) (a b : List (Taken V)) → AreTaken same always s a → AreTaken same always (after_all s a) b → AreTaken same always s (a ++ b)
+  pub taken_on : (s : World V) (a b : List (Taken V)) → AreTaken same always s a → AreTaken same always (after_all s a) b → AreTaken same always s (a ++ b)
   taken_on s [] b x y = y
   taken_on s (t ∷ a) b x y = (x.0, taken_on t.after a b x.1 y)
 
-  after_on : (s : Whole V) (a b : List (Taken V)) → after_all s (a ++ b) ≡ after_all (after_all s a) b
+  after_on : (s : World V) (a b : List (Taken V)) → after_all s (a ++ b) ≡ after_all (after_all s a) b
   after_on s [] b = refl
   after_on s (t ∷ a) b = after_on t.after a b
 
-  pub runs_join : (s s1 s2 : Whole V) (a b : List (Step V)) (q r : List (Report V)) → IsRun same always s a q s1 → IsRun same always s1 b r s2 → IsRun same always s (a ++ b) (q ++ r) s2
+  pub runs_join : (s s1 s2 : World V) (a b : List (Step V)) (q r : List (Report V)) → IsRun same always s a q s1 → IsRun same always s1 b r s2 → IsRun same always s (a ++ b) (q ++ r) s2
   runs_join s s1 s2 a b q r x y =
-      let P : Whole V → Type 0 = λ z. AreTaken same always z y.taken in
+      let P : World V → Type 0 = λ z. AreTaken same always z y.taken in
       record {
         taken = x.taken ++ y.taken;
         each = taken_on s x.taken y.taken x.each (subst P (sym x.last) y.each);
@@ -163,12 +163,12 @@ module _ {V : Type 0} (same : V → V → Bool) (always : Bool) where
         ]
 
   -- and no call is in flight
-  pub fresh_flights : (s : Whole V) → IsFresh s → AreInFlight s no_flights
+  pub fresh_flights : (s : World V) → IsFresh s → AreInFlight s no_flights
   fresh_flights s fresh = record {
-    each = λ i k m a b. let P : Call V → Type 0 = λ y. InFlight y m Over in subst P (sym (fresh.idle i k a)) refl;
+    each = λ i k m a b. let P : InFlight V → Type 0 = λ y. IsInFlight y m Over in subst P (sym (fresh.idle i k a)) refl;
     beyond = λ i l. refl;
   }
 
   -- from the empty map on
-  pub runs_fresh : (s : Whole V) (taken : List (Taken V)) → IsFresh s → Holds same always s → AreTaken same always s taken → PlaysMap same no_flights empty s taken
+  pub runs_fresh : (s : World V) (taken : List (Taken V)) → IsFresh s → Holds same always s → AreTaken same always s taken → PlaysMap same no_flights empty s taken
   runs_fresh s taken fresh h x = runs_map s taken no_flights empty h x (standing_empty (nodes s.forest) fresh.alone) (fresh_flights s fresh)

@@ -16,8 +16,8 @@ use Rattle.congee.specs.Heap.{Node, Stands}
 use Rattle.congee.specs.protocol.Leaving.{StepLeaves}
 use Rattle.congee.specs.protocol.Names.{names}
 use Rattle.congee.specs.protocol.Play.{EachKnown, Settled}
-use Rattle.joint.specs.declared.engine.in_flight.Call.{Call}
-use Rattle.joint.specs.declared.engine.in_flight.Call.TheVariants.{Idle, Collecting, Reserving, Securing, Walking}
+use Rattle.joint.specs.declared.engine.in_flight.InFlight.{InFlight}
+use Rattle.joint.specs.declared.engine.in_flight.InFlight.TheVariants.{Idle, Collecting, Reserving, Securing, Walking}
 use Rattle.joint.specs.declared.id.Id.{Id}
 use Rattle.joint.specs.declared.steps.Event.{Event}
 use Rattle.joint.specs.declared.steps.Event.TheVariants.{Register, Begin, Go}
@@ -25,13 +25,13 @@ use Rattle.joint.specs.declared.steps.Report.{Report}
 use Rattle.joint.specs.declared.steps.Step.{Step}
 use Rattle.joint.specs.declared.steps.Target.{Target}
 use Rattle.joint.specs.declared.steps.Target.TheVariants as target
-use Rattle.joint.specs.nodes.Forest.{Forest, nodes, Refuses}
+use Rattle.joint.specs.nodes.Nodes.{Nodes, nodes, Refuses}
 use Rattle.joint.specs.engine.Laws.{LeavesLaw}
 use Rattle.joint.specs.Reports.{target}
 use Rattle.joint.specs.calls.Runs.{Taken, AreTaken, AllSpare}
 use Rattle.joint.specs.nodes.View.{id_number}
-use Rattle.joint.specs.world.Whole.{Holds, StepsUnless, gives_up}
-use Rattle.joint.specs.engine.Engine.{Whole, EngineHolds, engine_of, misuse, finds_none, EntersUnless, Walks, BeginsAt, BeginsOnTree, GoesAt, Proceeds, Does, SparesUsed}
+use Rattle.joint.specs.world.World.{Holds, StepsUnless, finds_journal_full}
+use Rattle.joint.specs.engine.Engine.{World, EngineHolds, engine_of, misuse, finds_none, EntersUnless, Walks, BeginsAt, BeginsOnTree, GoesAt, Proceeds, Does, SparesUsed}
 use Rattle.joint.proofs.lemmas.engine.Reserving.{same_nodes}
 
 -- what a step of the collector destroys waited, and no call has its name
@@ -48,8 +48,8 @@ collected_spares {V} h h' ms n d st = elim (d.each n) [
   )
 ]
 
-module _ {V : Type 0} (same : V → V → Bool) (always : Bool) (leaves : (s : Forest V) → LeavesLaw {C = Id} {V = V} id_number same always s.version_max (Refuses s)) where
-  module _ (s s' : Whole V) (w : ℕ) (holds : EngineHolds same always s) where
+module _ {V : Type 0} (same : V → V → Bool) (always : Bool) (leaves : (s : Nodes V) → LeavesLaw {C = Id} {V = V} id_number same always s.version_max (Refuses s)) where
+  module _ (s s' : World V) (w : ℕ) (holds : EngineHolds same always s) where
     as_before : nodes s'.forest ≡ nodes s.forest → SparesUsed s w s'
     as_before e n st = inl (let P : (ℕ → Node V) → Type 0 = λ h. Stands (h n) in subst P (sym e) st)
 
@@ -62,7 +62,7 @@ module _ {V : Type 0} (same : V → V → Bool) (always : Bool) (leaves : (s : F
       | inr x ↦ inr (inl (record { waits = x.0; unnamed = x.1 }))
     ]
 
-    machine_at : (k : Call V) → slice_get s.calls w ≡ Some k → (x : Machine Id V) × (slice_get s.machines w ≡ Some x)
+    machine_at : (k : InFlight V) → slice_get s.calls w ≡ Some k → (x : Machine Id V) × (slice_get s.machines w ≡ Some x)
     machine_at k e = elim (slice_get_cases s.machines w).1 [
       | inl x ↦ (x.0, x.2)
       | inr x ↦ absurd (let l : w < length s.calls = slice_get_within s.calls w k e in omega (arith, x.0, l, holds.0.machines))
@@ -102,7 +102,7 @@ module _ {V : Type 0} (same : V → V → Bool) (always : Bool) (leaves : (s : F
     begins (target.Tree op) r x = begins_tree op r x
     begins (target.Survey k) r x = unchanged x.state
 
-    goes : (k : Option (Call V)) (noise : Noise Id V) (r : Report V) → slice_get s.calls w ≡ k → GoesAt same always s w k noise r s' → SparesUsed s w s'
+    goes : (k : Option (InFlight V)) (noise : Noise Id V) (r : Report V) → slice_get s.calls w ≡ k → GoesAt same always s w k noise r s' → SparesUsed s w s'
     goes None noise r e x = absurd x
     goes (Some Idle) noise r e x = absurd x
     goes (Some (Collecting op)) noise r e x = by_collector x.step.destroys
@@ -123,7 +123,7 @@ module _ {V : Type 0} (same : V → V → Bool) (always : Bool) (leaves : (s : F
     step_spares event None r x = proceeds event r x
     step_spares event (Some f) r x = unchanged x.1
 
-  whole_step : (s : Whole V) (step : Step V) (r : Report V) (s' : Whole V) (b : Bool) → Holds same always s → StepsUnless same always b s step r s' → SparesUsed s step.worker s'
+  whole_step : (s : World V) (step : Step V) (r : Report V) (s' : World V) (b : Bool) → Holds same always s → StepsUnless same always b s step r s' → SparesUsed s step.worker s'
   whole_step s step r s' true h x = as_before s s' step.worker (h.0, h.1) (ap (λ y. nodes y.forest) x.state)
   whole_step s step r s' false h x = λ n st. elim (step_spares (engine_of s) (engine_of s') step.worker (h.0, h.1) step.event (misuse (engine_of s) step.worker step.event) x.told x.engine.does n st) [
     | inl y ↦ inl y
@@ -131,6 +131,6 @@ module _ {V : Type 0} (same : V → V → Bool) (always : Bool) (leaves : (s : F
     | inr (inr y) ↦ inr (inr y)
   ]
 
-  pub all_spare : (s : Whole V) (taken : List (Taken V)) → Holds same always s → AreTaken same always s taken → AllSpare s taken
+  pub all_spare : (s : World V) (taken : List (Taken V)) → Holds same always s → AreTaken same always s taken → AllSpare s taken
   all_spare s [] h x = tt
-  all_spare s (t ∷ ts) h x = (whole_step s t.step t.report t.after (gives_up s t.step.worker t.step.event) h x.0.does, all_spare t.after ts x.0.holds x.1)
+  all_spare s (t ∷ ts) h x = (whole_step s t.step t.report t.after (finds_journal_full s t.step.worker t.step.event) h x.0.does, all_spare t.after ts x.0.holds x.1)

@@ -37,8 +37,8 @@ use Rattle.congee.specs.protocol.Handing.{InTree}
 use Rattle.congee.specs.protocol.Holdings.{MadeBy}
 use Rattle.congee.specs.protocol.Leaving.{StepLeaves}
 use Rattle.congee.specs.protocol.Play.{IsMoved, Settled, begun}
-use Rattle.joint.specs.declared.engine.in_flight.Call.{Call}
-use Rattle.joint.specs.declared.engine.in_flight.Call.TheVariants.{Idle, Collecting, Reserving, Securing, Walking}
+use Rattle.joint.specs.declared.engine.in_flight.InFlight.{InFlight}
+use Rattle.joint.specs.declared.engine.in_flight.InFlight.TheVariants.{Idle, Collecting, Reserving, Securing, Walking}
 use Rattle.joint.specs.declared.id.Id.{Id}
 use Rattle.joint.specs.declared.nodes.slot.Slot.{Slot}
 use Rattle.joint.specs.declared.steps.Event.{Event}
@@ -46,10 +46,10 @@ use Rattle.joint.specs.declared.steps.Event.TheVariants.{Register, Begin, Go}
 use Rattle.joint.specs.declared.steps.Op.{Op}
 use Rattle.joint.specs.declared.steps.Op.TheVariants as op
 use Rattle.joint.specs.declared.steps.Report.{Report}
-use Rattle.joint.specs.nodes.Forest.{Forest, nodes, Refuses}
+use Rattle.joint.specs.nodes.Nodes.{Nodes, nodes, Refuses}
 use Rattle.joint.specs.engine.Intact.{BeginsSecuring, IsAt, is_done, rested, resting, root, secured_machines}
 use Rattle.joint.specs.engine.Laws.{CallLaws, CellLaws, LeavesLaw}
-use Rattle.joint.specs.engine.Machines.{Collected, retiring, retiring_at, after_walk}
+use Rattle.joint.specs.engine.Safety.{Collected, retiring, retiring_at, after_walk}
 use Rattle.joint.specs.nodes.Slots.{slot_names}
 use Rattle.joint.specs.NameLemmas.{number_named}
 use Rattle.joint.specs.Names.{named}
@@ -57,15 +57,15 @@ use Rattle.joint.specs.calls.Runs.{Taken, AreTaken}
 use Rattle.joint.specs.engine.Sound.{Guards, IsSecured, IsUnderWay, Sound}
 use Rattle.joint.specs.calls.Stretches.{EndsStretch, HasChecked, SeesNode, StandsOn, publishes, turns_stretch}
 use Rattle.joint.specs.nodes.View.{view, id_number}
-use Rattle.joint.specs.world.Whole.{Holds, StepsUnless, gives_up}
-use Rattle.joint.specs.engine.Engine.{Whole, EngineHolds, IsHeldBy, BeginsOnTree, Collects, Does, EntersUnless, Enters, GoesAt, GoesOnReserving, Reserves, Walks, engine_of, finds_none, misuse, place_of}
+use Rattle.joint.specs.world.World.{Holds, StepsUnless, finds_journal_full}
+use Rattle.joint.specs.engine.Engine.{World, EngineHolds, IsHeldBy, BeginsOnTree, Collects, Does, EntersUnless, Enters, GoesAt, GoesOnReserving, Reserves, Walks, engine_of, finds_none, misuse, place_of}
 use Rattle.joint.proofs.lemmas.engine.Collecting.{either, there}
 use Rattle.joint.proofs.lemmas.engine.HandOver.{held_place}
 use Rattle.joint.proofs.lemmas.calls.Leaves as leaves
 use Rattle.joint.proofs.lemmas.nodes.Paths.{in_reach}
 use Rattle.joint.proofs.lemmas.engine.Reserving.{next_here}
-use Rattle.joint.proofs.lemmas.engine.Resting.{cleared_is}
-use Rattle.joint.proofs.lemmas.engine.Secured.{retiring_room}
+use Rattle.joint.proofs.lemmas.engine.ScanEnds.{cleared_is}
+use Rattle.joint.proofs.lemmas.engine.SecuredPlaces.{retiring_room}
 use Rattle.joint.proofs.lemmas.nodes.SlotViews.{slot_view}
 use Rattle.joint.proofs.lemmas.calls.Stretches.{IsBlocked, sees_blocks, stored, joined, deferring, turned, live_on, turns}
 use Rattle.joint.proofs.lemmas.nodes.Views.{ties}
@@ -93,7 +93,7 @@ module _ {V : Type 0} where
     by true y = absurd y
     by false y = y
 
-module _ {V : Type 0} (same : V → V → Bool) (always : Bool) (laws : CallLaws {C = Id} {V = V} id_number same always) (cells : CellLaws {T = Slot V} (Unit {0}) slot_names) (leaves_law : (f : Forest V) → LeavesLaw {C = Id} {V = V} id_number same always f.version_max (Refuses f))
+module _ {V : Type 0} (same : V → V → Bool) (always : Bool) (laws : CallLaws {C = Id} {V = V} id_number same always) (cells : CellLaws {T = Slot V} (Unit {0}) slot_names) (leaves_law : (f : Nodes V) → LeavesLaw {C = Id} {V = V} id_number same always f.version_max (Refuses f))
     (p n : ℕ) where
   abbrev it : Name
   it = named n
@@ -101,17 +101,17 @@ module _ {V : Type 0} (same : V → V → Bool) (always : Bool) (laws : CallLaws
   abbrev At : State (Slot V) (Unit {0}) → Type 0
   At c = (h : List Mark) × IsBlocked p it h c
 
-  live : (f : Forest V) → Stands (nodes f n) → is_some (value_at f.collector.store it) ≡ true
+  live : (f : Nodes V) → Stands (nodes f n) → is_some (value_at f.collector.store it) ≡ true
   live f st = let P : ℕ → Type 0 = λ k. Stands (nodes f k) in (ties slot_names view slot_view f.collector.store).live it (subst P (sym (number_named n)) st)
 
-  stands : (f : Forest V) → is_some (value_at f.collector.store it) ≡ true → Stands (nodes f n)
+  stands : (f : Nodes V) → is_some (value_at f.collector.store it) ≡ true → Stands (nodes f n)
   stands f e = let P : ℕ → Type 0 = λ k. Stands (nodes f k) in subst P (number_named n) ((ties slot_names view slot_view f.collector.store).stands it e)
 
-  abbrev On : Forest V → Type 0
+  abbrev On : Nodes V → Type 0
   On f = At f.collector × Stands (nodes f n)
 
   -- a step of the collector
-  collected : (f f' : Forest V) (ms : List (Machine Id V)) (who : ℕ) (event : Turning) (r : Collection) → (who ≡ p → turns event (place f.collector who) ≡ false) → Collected same always f ms who event r f' → On f → On f'
+  collected : (f f' : Nodes V) (ms : List (Machine Id V)) (who : ℕ) (event : Turning) (r : Collection) → (who ≡ p → turns event (place f.collector who) ≡ false) → Collected same always f ms who event r f' → On f → On f'
   collected f f' ms who event r calm c o =
       let P : State (Slot V) (Unit {0}) → Type 0 = λ y. IsBlocked p it (marks f.collector who event r o.0.0) y in (
         (marks f.collector who event r o.0.0, subst P (sym c.state) (turned p it o.0.0 f.collector who event r c.report calm o.0.1)),
@@ -119,11 +119,11 @@ module _ {V : Type 0} (same : V → V → Bool) (always : Bool) (laws : CallLaws
       )
 
   -- what holds while the stretch lasts
-  pub record Lasts (s : Whole V) : Type 0 where
+  pub record Lasts (s : World V) : Type 0 where
     pub on : On s.forest
     pub unheld : (j : ℕ) → IsHeldBy s j n → ⊥
 
-  module _ (s s' : Whole V) (w : ℕ) (holds : EngineHolds same always s) where
+  module _ (s s' : World V) (w : ℕ) (holds : EngineHolds same always s) where
     abbrev settled : Settled id_number same always (nodes s.forest) s.machines
     settled = holds.0.safe.sound.sound.settled
 
@@ -144,7 +144,7 @@ module _ {V : Type 0} (same : V → V → Bool) (always : Bool) (laws : CallLaws
     lasts o u l = record { on = o; unheld = λ j y. l.unheld j (u j y) }
 
     same_forest : s'.forest ≡ s.forest → Unheld → Lasts s → Lasts s'
-    same_forest e u l = lasts (subst (λ (f : Forest V). On f) (sym e) l.on) u l
+    same_forest e u l = lasts (subst (λ (f : Nodes V). On f) (sym e) l.on) u l
 
     enters : (o : Point V) (r : Report V) → Enters s w o r s' → Lasts s → Lasts s'
     enters o r x l = same_forest (ap (λ y. y.forest) x.state) (instead s.machines (begun root o) (begun_unmade o n) refl (ap (λ y. y.machines) x.state)) l
@@ -156,10 +156,10 @@ module _ {V : Type 0} (same : V → V → Bool) (always : Bool) (laws : CallLaws
     reserves : (o : Point V) (r : Report V) → Reserves s w o r s' → Lasts s → Lasts s'
     reserves o r x l = same_forest (ap (λ y. y.forest) x.state) (still (ap (λ y. y.machines) x.state)) l
 
-    collects : (event : Turning) (k : Call V) (r : Report V) → (w ≡ p → turns event (place_of s w) ≡ false) → Collects same always s w event k r s' → Lasts s → Lasts s'
+    collects : (event : Turning) (k : InFlight V) (r : Report V) → (w ≡ p → turns event (place_of s w) ≡ false) → Collects same always s w event k r s' → Lasts s → Lasts s'
     collects event k r calm x l = lasts (collected s.forest s'.forest s.machines w event x.turn calm x.step l.on) (still x.machines) l
 
-    secured_unheld : (o : Turned) (k : Option (Call V)) (ms : List (Machine Id V)) → s.machines ≡ ms → s'.machines ≡ secured_machines o k ms w → Unheld
+    secured_unheld : (o : Turned) (k : Option (InFlight V)) (ms : List (Machine Id V)) → s.machines ≡ ms → s'.machines ≡ secured_machines o k ms w → Unheld
     secured_unheld turned.Done (Some (Securing c)) ms e e' = instead ms (begun root c) (begun_unmade c n) e e'
     secured_unheld turned.Done (Some Idle) ms e e' = still (e' ∙ sym e)
     secured_unheld turned.Done (Some (Collecting c)) ms e e' = still (e' ∙ sym e)
@@ -169,7 +169,7 @@ module _ {V : Type 0} (same : V → V → Bool) (always : Bool) (laws : CallLaws
     secured_unheld turned.Running k ms e e' = still (e' ∙ sym e)
     secured_unheld (turned.Refused f) k ms e e' = still (e' ∙ sym e)
 
-    machine_at : (k : Call V) → slice_get s.calls w ≡ Some k → (m : Machine Id V) × (slice_get s.machines w ≡ Some m)
+    machine_at : (k : InFlight V) → slice_get s.calls w ≡ Some k → (m : Machine Id V) × (slice_get s.machines w ≡ Some m)
     machine_at k e = there s.machines w (subst (λ i. w < i) (sym holds.0.machines) (slice_get_within s.calls w k e))
 
     securing : (c : Point V) (r : Report V) → slice_get s.calls w ≡ Some (Securing c) → GoesOnReserving same always s w r s' → Lasts s → Lasts s'
@@ -275,14 +275,14 @@ module _ {V : Type 0} (same : V → V → Bool) (always : Bool) (laws : CallLaws
     begins op.Stats r calm x l = same_forest (ap (λ y. y.forest) x.state) (still (ap (λ y. y.machines) x.state)) l
 
   -- a writing call begins to make its place free
-  begins_securing : (s b : Whole V) (w : ℕ) → BeginsSecuring same always s.forest s.machines s.calls w b.forest b.machines b.calls → Lasts s → Lasts b
+  begins_securing : (s b : World V) (w : ℕ) → BeginsSecuring same always s.forest s.machines s.calls w b.forest b.machines b.calls → Lasts s → Lasts b
   begins_securing s b w x l = record {
     on = collected s.forest b.forest s.machines w (turning.Begin (work.Secure 2)) x.turn (λ z. refl) x.collected l.on;
     unheld = λ j y. l.unheld j (y.0, sym (ap (λ ms. slice_get ms j) x.machine) ∙ y.1, y.2);
   }
 
-  module _ (s s' : Whole V) (w : ℕ) (holds : EngineHolds same always s) where
-    goes : (k : Option (Call V)) (noise : Noise Id V) (r : Report V) → slice_get s.calls w ≡ k → (w ≡ p → publishes (place_of s w).phase ≡ false) → GoesAt same always s w k noise r s' → Lasts s → Lasts s'
+  module _ (s s' : World V) (w : ℕ) (holds : EngineHolds same always s) where
+    goes : (k : Option (InFlight V)) (noise : Noise Id V) (r : Report V) → slice_get s.calls w ≡ k → (w ≡ p → publishes (place_of s w).phase ≡ false) → GoesAt same always s w k noise r s' → Lasts s → Lasts s'
     goes None noise r e calm x l = absurd x
     goes (Some Idle) noise r e calm x l = absurd x
     goes (Some (Collecting c)) noise r e calm x l = collects s s' w holds turning.Go (Collecting c) r calm x l
@@ -293,21 +293,21 @@ module _ {V : Type 0} (same : V → V → Bool) (always : Bool) (laws : CallLaws
 
     pub does : (event : Event V) (o : Option Fault) (r : Report V) → misuse s w event ≡ o → (w ≡ p → misuse s w event ≡ None → turns_stretch event (place_of s w) ≡ false) → Does same always s w event o r s' → Lasts s → Lasts s'
     does event (Some f) r e calm x l = same_forest s s' w holds (ap (λ y. y.forest) x.1) (still s s' w holds (ap (λ y. y.machines) x.1)) l
-    does Register None r e calm (inl x) l = lasts s s' w holds (subst (λ (f : Forest V). On f) (sym (ap (λ y. y.forest) x.1.state)) ((l.on.0.0, joined p it l.on.0.0 s.forest.collector x.0 x.1.inside l.on.0.1), l.on.1)) (still s s' w holds (ap (λ y. y.machines) x.1.state)) l
+    does Register None r e calm (inl x) l = lasts s s' w holds (subst (λ (f : Nodes V). On f) (sym (ap (λ y. y.forest) x.1.state)) ((l.on.0.0, joined p it l.on.0.0 s.forest.collector x.0 x.1.inside l.on.0.1), l.on.1)) (still s s' w holds (ap (λ y. y.machines) x.1.state)) l
     does Register None r e calm (inr x) l = same_forest s s' w holds (ap (λ y. y.forest) x.state) (still s s' w holds (ap (λ y. y.machines) x.state)) l
     does (Begin o) None r e calm x l = begins s s' w holds o r (λ z. calm z e) x l
     does (Go noise) None r e calm x l = goes (slice_get s.calls w) noise r refl (λ z. calm z e) x l
 
-  step_by : (s : Whole V) (t : Taken V) (b : Bool) → Holds same always s → (t.step.worker ≡ p → misuse s t.step.worker t.step.event ≡ None → turns_stretch t.step.event (place_of s t.step.worker) ≡ false) → StepsUnless same always b s t.step t.report t.after → Lasts s → Lasts t.after
+  step_by : (s : World V) (t : Taken V) (b : Bool) → Holds same always s → (t.step.worker ≡ p → misuse s t.step.worker t.step.event ≡ None → turns_stretch t.step.event (place_of s t.step.worker) ≡ false) → StepsUnless same always b s t.step t.report t.after → Lasts s → Lasts t.after
   step_by s t true h calm x l = record {
-    on = subst (λ (f : Forest V). On f) (sym (ap (λ (y : Whole V). y.forest) x.state)) l.on;
-    unheld = λ j y. l.unheld j (y.0, sym (ap (λ (z : Whole V). slice_get z.machines j) x.state) ∙ y.1, y.2);
+    on = subst (λ (f : Nodes V). On f) (sym (ap (λ (y : World V). y.forest) x.state)) l.on;
+    unheld = λ j y. l.unheld j (y.0, sym (ap (λ (z : World V). slice_get z.machines j) x.state) ∙ y.1, y.2);
   }
   step_by s t false h calm x l =
       let d : Lasts (engine_of t.after) = does (engine_of s) (engine_of t.after) t.step.worker (h.0, h.1) t.step.event (misuse s t.step.worker t.step.event) x.told refl calm x.engine.does (record { on = l.on; unheld = l.unheld }) in
       record { on = d.on; unheld = d.unheld }
 
-  ends_or : (s : Whole V) (t : Taken V) → EndsStretch p s t ⊎ (t.step.worker ≡ p → misuse s t.step.worker t.step.event ≡ None → turns_stretch t.step.event (place_of s t.step.worker) ≡ false)
+  ends_or : (s : World V) (t : Taken V) → EndsStretch p s t ⊎ (t.step.worker ≡ p → misuse s t.step.worker t.step.event ≡ None → turns_stretch t.step.event (place_of s t.step.worker) ≡ false)
   ends_or s t = elim (cases_Bool (t.step.worker == p)) [
     | inr b ↦ inr (λ e m. absurd (eqb-false t.step.worker p b e))
     | inl b ↦ (
@@ -323,15 +323,15 @@ module _ {V : Type 0} (same : V → V → Bool) (always : Bool) (laws : CallLaws
       by None m e on = inl (record { worker = e; accepted = subst (λ w. misuse s w t.step.event ≡ None) e m; turns = subst (λ w. turns_stretch t.step.event (place_of s w) ≡ true) e on })
       by (Some f) m e on = inr (λ q z. absurd (let y : None ≡ Some f = sym z ∙ m in cc))
 
-  all_stand : (s : Whole V) (ts : List (Taken V)) → Holds same always s → AreTaken same always s ts → Lasts s → StandsOn p n s ts
+  all_stand : (s : World V) (ts : List (Taken V)) → Holds same always s → AreTaken same always s ts → Lasts s → StandsOn p n s ts
   all_stand s [] h y l = tt
   all_stand s (t ∷ ts) h y l = elim (ends_or s t) [
     | inl e ↦ inl e
-    | inr calm ↦ (let now : Lasts t.after = step_by s t (gives_up s t.step.worker t.step.event) h calm y.0.does l in inr (now.on.1, all_stand t.after ts y.0.holds y.1 now))
+    | inr calm ↦ (let now : Lasts t.after = step_by s t (finds_journal_full s t.step.worker t.step.event) h calm y.0.does l in inr (now.on.1, all_stand t.after ts y.0.holds y.1 now))
   ]
 
   -- a worker that is pinned begins so with what it sees
-  sees : (s : Whole V) → Holds same always s → SeesNode s p n → Lasts s
+  sees : (s : World V) → Holds same always s → SeesNode s p n → Lasts s
   sees s h v = by v.sees where
     sound : Sound slot_names view id_number same always h.0.safe.sound.top h.0.safe.sound.past s.forest.collector s.machines
     sound = h.0.safe.sound.sound
@@ -370,5 +370,5 @@ module _ {V : Type 0} (same : V → V → Bool) (always : Bool) (laws : CallLaws
               from seen st (λ j y. let R : ℕ → Type 0 = λ k. MadeBy id_number y.0.phase k in sound.unseen j y.0 it y.1 (subst R (sym (number_named n)) y.2) (cells.visible_was h.0.safe.sound.past p it seen)))
         ]
 
-  pub stands_on : (s : Whole V) (ts : List (Taken V)) → Holds same always s → AreTaken same always s ts → SeesNode s p n → StandsOn p n s ts
+  pub stands_on : (s : World V) (ts : List (Taken V)) → Holds same always s → AreTaken same always s ts → SeesNode s p n → StandsOn p n s ts
   stands_on s ts h y v = all_stand s ts h y (sees s h v)

@@ -17,8 +17,8 @@ use Rattle.congee.specs.declared.protocol.phase.Phase.{Phase}
 use Rattle.congee.specs.declared.protocol.phase.Phase.TheVariants.{Sweep, Ended}
 use Rattle.congee.specs.declared.protocol.sweep.Sweep.{Sweep as Scan}
 use Rattle.congee.specs.protocol.Play.{Flight, Pending, Decided, Over, Unbegun, Scanning, Question, Unasked, Asked, Replied, Carries, Undecided, Concludes, ScanTells, Follows, ScanFollows, begun, flight, flight_in}
-use Rattle.joint.specs.declared.engine.in_flight.Call.{Call}
-use Rattle.joint.specs.declared.engine.in_flight.Call.TheVariants.{Idle, Collecting, Reserving, Securing, Walking}
+use Rattle.joint.specs.declared.engine.in_flight.InFlight.{InFlight}
+use Rattle.joint.specs.declared.engine.in_flight.InFlight.TheVariants.{Idle, Collecting, Reserving, Securing, Walking}
 use Rattle.joint.specs.declared.id.Id.{Id}
 use Rattle.joint.specs.declared.steps.Event.{Event}
 use Rattle.joint.specs.declared.steps.Event.TheVariants.{Register, Begin, Go}
@@ -33,15 +33,15 @@ use Rattle.joint.specs.engine.Journaling.{asks_at}
 use Rattle.joint.specs.Reports.{collected, target, told}
 use Rattle.joint.specs.calls.Runs.{Taken, AreTaken, after_all}
 use Rattle.joint.specs.world.MapSteps.{EventMap, GoMap, PendingStep, BeginMap, BeginsOr, Line}
-use Rattle.joint.specs.engine.Engine.{IsFresh, Whole, EngineHolds, Does, GoesAt, engine_of, misuse, place_of, reserving}
+use Rattle.joint.specs.engine.Engine.{IsFresh, World, EngineHolds, Does, GoesAt, engine_of, misuse, place_of, reserving}
 use Rattle.joint.specs.engine.Flying.{Flights, AreInFlight, no_flights, with_flight}
 use Rattle.joint.specs.engine.Sound.{IsUnderWay}
 use Rattle.joint.specs.calls.Wanted.{is_question, wants_if, wants_after}
-use Rattle.joint.specs.world.Whole.{Holds, IsStep, StepsUnless, gives_up}
+use Rattle.joint.specs.world.World.{Holds, IsStep, StepsUnless, finds_journal_full}
 use Rattle.joint.proofs.lemmas.engine.Collecting.{there}
 use Rattle.joint.proofs.lemmas.world.Flights.{ends_stays, flight_here, flight_apart}
-use Rattle.joint.proofs.lemmas.world.Mapped.{mapped}
-use Rattle.joint.proofs.lemmas.world.Placed.{asks_here, begun_asks}
+use Rattle.joint.proofs.lemmas.world.JournaledSteps.{mapped}
+use Rattle.joint.proofs.lemmas.world.JournalPlaces.{asks_here, begun_asks}
 use Rattle.joint.proofs.lemmas.world.Requested.{asks, is_asked}
 use Rattle.joint.proofs.lemmas.calls.Runs.{fresh_flights}
 use Rattle.std.proofs.lemmas.Option.{slice_get_within}
@@ -161,14 +161,14 @@ module _ {V : Type 0} where
 
 module _ {V : Type 0} (same : V → V → Bool) (always : Bool) where
   -- a step of a worker that has no call on the tree asks nothing
-  module _ (s s' : Whole V) (w : ℕ) (holds : EngineHolds same always s) (fs : Flights V) (fl : AreInFlight s fs) (over : fs w ≡ Over) where
+  module _ (s s' : World V) (w : ℕ) (holds : EngineHolds same always s) (fs : Flights V) (fl : AreInFlight s fs) (over : fs w ≡ Over) where
     none_walks : slice_get s.calls w ≡ Some Walking → ⊥
     none_walks e =
         let x : (y : Machine Id V) × (slice_get s.machines w ≡ Some y) = there s.machines w (subst (λ n. w < n) (sym holds.0.machines) (slice_get_within s.calls w Walking e)) in
         let at : IsAt Walking (place_of s w) x.0 = holds.0.each w Walking x.0 e x.1 in
         watched x.0 at.0 at.1 (subst (λ (f : Flight V). Follows x.0 f) over (fl.each w Walking x.0 e x.1))
 
-    goes_quiet : (k : Option (Call V)) (noise : Noise Id V) (r : Report V) → slice_get s.calls w ≡ k → GoesAt same always s w k noise r s' → is_question r.outcome ≡ false
+    goes_quiet : (k : Option (InFlight V)) (noise : Noise Id V) (r : Report V) → slice_get s.calls w ≡ k → GoesAt same always s w k noise r s' → is_question r.outcome ≡ false
     goes_quiet None noise r e x = absurd x
     goes_quiet (Some Idle) noise r e x = absurd x
     goes_quiet (Some (Collecting c)) noise r e x = ap (λ y. is_question y.outcome) x.report ∙ of_collector V x.turn.outcome
@@ -180,7 +180,7 @@ module _ {V : Type 0} (same : V → V → Bool) (always : Bool) where
     does_quiet noise None r x = goes_quiet (slice_get s.calls w) noise r refl x
     does_quiet noise (Some f) r x = ap (λ y. is_question y.outcome) x.0
 
-  step_quiet : (s s' : Whole V) (step : Step V) (r : Report V) (b : Bool) (holds : Holds same always s) (fs : Flights V) → AreInFlight s fs → (noise : Noise Id V) → step.event ≡ Go noise → fs step.worker ≡ Over → StepsUnless same always b s step r s' → is_question r.outcome ≡ false
+  step_quiet : (s s' : World V) (step : Step V) (r : Report V) (b : Bool) (holds : Holds same always s) (fs : Flights V) → AreInFlight s fs → (noise : Noise Id V) → step.event ≡ Go noise → fs step.worker ≡ Over → StepsUnless same always b s step r s' → is_question r.outcome ≡ false
   step_quiet s s' step r true holds fs fl noise e over x = ap (λ y. is_question y.outcome) x.report
   step_quiet s s' step r false holds fs fl noise e over x =
       let P : Event V → Type 0 = λ y. Does same always (engine_of s) step.worker y (misuse (engine_of s) step.worker y) x.told (engine_of s') in
@@ -188,19 +188,19 @@ module _ {V : Type 0} (same : V → V → Bool) (always : Bool) where
       ∙ does_quiet (engine_of s) (engine_of s') step.worker (holds.0, holds.1) fs (record { each = fl.each; beyond = fl.beyond }) over noise (misuse (engine_of s) step.worker (Go noise)) x.told (subst P e x.engine.does)
 
   -- what each call wants after a step
-  pub step_wants : (s : Whole V) (step : Step V) (r : Report V) (s' : Whole V) (w : ℕ) → Holds same always s → IsStep same always s step r s'
+  pub step_wants : (s : World V) (step : Step V) (r : Report V) (s' : World V) (w : ℕ) → Holds same always s → IsStep same always s step r s'
       → asks_at (slice_get s'.machines w) ≡ wants_if (asks_at (slice_get s.machines w)) (step.worker == w) step.event r.outcome
   step_wants s step r s' w h x =
       let a = mapped same always s step s' h.2.flights h.2.pairs h x.holds h.2.stand h.2.in_flight r x in
       let l : Line V = record { step = step; report = r; entry = a.entry; pairs = a.pairs } in
       let before = asks_here same always s w (h.0, h.1) h.2.flights h.2.in_flight in
       let after = asks_here same always s' w (x.holds.0, x.holds.1) a.flights a.in_flight in
-      let quiet : (noise : Noise Id V) → step.event ≡ Go noise → h.2.flights step.worker ≡ Over → is_question r.outcome ≡ false = λ noise e over. step_quiet s s' step r (gives_up s step.worker step.event) h h.2.flights h.2.in_flight noise e over x.does in
+      let quiet : (noise : Noise Id V) → step.event ≡ Go noise → h.2.flights step.worker ≡ Over → is_question r.outcome ≡ false = λ noise e over. step_quiet s s' step r (finds_journal_full s step.worker step.event) h h.2.flights h.2.in_flight noise e over x.does in
       after ∙ event_tells same h.2.flights h.2.pairs step.event l a.flights w quiet a.map (step.worker == w) refl ∙ sym (ap (λ b. wants_if b (step.worker == w) step.event r.outcome) before)
 
-  pub run_wants : (s : Whole V) (ts : List (Taken V)) (w : ℕ) → Holds same always s → AreTaken same always s ts → asks_at (slice_get (after_all s ts).machines w) ≡ wants_after w (asks_at (slice_get s.machines w)) ts
+  pub run_wants : (s : World V) (ts : List (Taken V)) (w : ℕ) → Holds same always s → AreTaken same always s ts → asks_at (slice_get (after_all s ts).machines w) ≡ wants_after w (asks_at (slice_get s.machines w)) ts
   run_wants s [] w h x = refl
   run_wants s (t ∷ ts) w h x = run_wants t.after ts w x.0.holds x.1 ∙ ap (λ b. wants_after w b ts) (step_wants s t.step t.report t.after w h x.0)
 
-  pub fresh_wants : (s : Whole V) (ts : List (Taken V)) (w : ℕ) → IsFresh s → Holds same always s → AreTaken same always s ts → asks_at (slice_get (after_all s ts).machines w) ≡ wants_after w false ts
+  pub fresh_wants : (s : World V) (ts : List (Taken V)) (w : ℕ) → IsFresh s → Holds same always s → AreTaken same always s ts → asks_at (slice_get (after_all s ts).machines w) ≡ wants_after w false ts
   fresh_wants s ts w fresh h x = run_wants s ts w h x ∙ ap (λ b. wants_after w b ts) (asks_here same always s w (h.0, h.1) no_flights (fresh_flights same always s fresh))

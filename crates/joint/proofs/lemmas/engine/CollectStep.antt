@@ -12,9 +12,9 @@ use Rattle.congee.specs.protocol.Destroys.{Destroys}
 use Rattle.congee.specs.protocol.Play.{Settled}
 use Rattle.joint.specs.declared.id.Id.{Id}
 use Rattle.joint.specs.declared.nodes.slot.Slot.{Slot}
-use Rattle.joint.specs.nodes.Forest.{Forest, nodes, IsBeside, IsCharged}
+use Rattle.joint.specs.nodes.Nodes.{Nodes, nodes, IsBeside, IsCharged}
 use Rattle.joint.specs.engine.Laws.{CellLaws, CallLaws}
-use Rattle.joint.specs.engine.Machines.{IsSafe, Rests, Collected}
+use Rattle.joint.specs.engine.Safety.{IsSafe, Rests, Collected}
 use Rattle.joint.specs.nodes.Slots.{slot_names}
 use Rattle.joint.specs.nodes.View.{view, id_number}
 use Rattle.joint.proofs.lemmas.engine.Collected.{collected, destroys, spares_all}
@@ -22,7 +22,7 @@ use Rattle.joint.proofs.lemmas.engine.Filing.{filed_collected}
 use Rattle.joint.proofs.lemmas.nodes.SlotViews.{slot_view}
 
 pub swept : {V : Type 0} (same : V → V → Bool) (always : Bool) → CellLaws {T = Slot V} (Unit {0}) slot_names → CallLaws {C = Id} {V = V} id_number same always
-    → (s s' : Forest V) (ms : List (Machine Id V)) (who : ℕ) (event : Event) (r : Report) → IsSafe same always s ms → Rests ms who
+    → (s s' : Nodes V) (ms : List (Machine Id V)) (who : ℕ) (event : Event) (r : Report) → IsSafe same always s ms → Rests ms who
     → IsReport s.collector who event r → s'.collector ≡ after s.collector who event r.outcome → Moves s.collector who r.called s'.collector
     → ((h : List Moment) → Tells slot_names h s.collector → Tells slot_names (moment slot_names (step_act s.collector who event r) s'.collector ∷ h) s'.collector) → IsBeside s s' → IsCharged s' → Collected same always s ms who event r s'
 swept {V} same always cells calls s s' ms who event r i rests report e m told beside charged =

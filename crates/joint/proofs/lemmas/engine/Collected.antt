@@ -25,11 +25,11 @@ use Rattle.joint.specs.Names.{number, named}
 use Rattle.joint.specs.nodes.Heap.{IsView, node_at, heap_of}
 use Rattle.joint.specs.engine.Laws.{CellLaws, CallLaws}
 use Rattle.joint.specs.engine.Sound.{Guards, Sound}
-use Rattle.joint.proofs.lemmas.engine.Guarded.{deferred_on, pinned_stretch, ended_guards, no_names}
+use Rattle.joint.proofs.lemmas.engine.NamesInStretch.{deferred_on, pinned_stretch, ended_guards, no_names}
 use Rattle.joint.specs.NameLemmas.{number_named, same_name}
 use Rattle.joint.proofs.lemmas.nodes.Views.{ties, here, stands_at}
 use Rattle.joint.proofs.lemmas.nodes.Paths.{in_tree}
-use Rattle.joint.proofs.lemmas.engine.Reaching.{Reaches, was_in}
+use Rattle.joint.proofs.lemmas.engine.ReachMoments.{Reaches, was_in}
 
 -- what a name stands for after a step of the collector
 abbrev pub Fate : {T : Type 0} → Option T → Option T → Type 0

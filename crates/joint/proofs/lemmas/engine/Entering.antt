@@ -14,8 +14,8 @@ use Rattle.congee.specs.declared.protocol.machine.Noise.{Noise}
 use Rattle.congee.specs.declared.protocol.op.Op.{Op as Point}
 use Rattle.congee.specs.declared.protocol.op.Op.TheVariants as point
 use Rattle.congee.specs.protocol.Play.{Over, begun}
-use Rattle.joint.specs.declared.engine.in_flight.Call.{Call}
-use Rattle.joint.specs.declared.engine.in_flight.Call.TheVariants.{Idle, Collecting, Reserving, Securing, Walking}
+use Rattle.joint.specs.declared.engine.in_flight.InFlight.{InFlight}
+use Rattle.joint.specs.declared.engine.in_flight.InFlight.TheVariants.{Idle, Collecting, Reserving, Securing, Walking}
 use Rattle.joint.specs.declared.id.Id.{Id}
 use Rattle.joint.specs.declared.steps.Event.TheVariants.{Register, Begin, Go}
 use Rattle.joint.specs.declared.steps.Op.{Op}
@@ -26,12 +26,12 @@ use Rattle.joint.specs.engine.Intact.{call_after, is_reserving, root}
 use Rattle.joint.specs.engine.Journaling.{has_place}
 use Rattle.joint.specs.Reports.{target}
 use Rattle.joint.specs.engine.Flying.{Flights, AreInFlight}
-use Rattle.joint.specs.engine.Engine.{Whole, EngineHolds, BeginsAt, BeginsOnTree, Does, EntersUnless, GoesAt, finds_none, is_busy, is_in_flight, misuse, place_of}
+use Rattle.joint.specs.engine.Engine.{World, EngineHolds, BeginsAt, BeginsOnTree, Does, EntersUnless, GoesAt, finds_none, is_busy, is_in_flight, misuse, place_of}
 use Rattle.joint.proofs.lemmas.engine.Collecting.{set_here, there}
 use Rattle.joint.proofs.lemmas.engine.HandOver.{held_place}
 
 module _ {V : Type 0} where
-  idle_place : (k : Option (Call V)) (o : Option (Machine Id V)) → is_busy k ≡ false → has_place k o ≡ false
+  idle_place : (k : Option (InFlight V)) (o : Option (Machine Id V)) → is_busy k ≡ false → has_place k o ≡ false
   idle_place None o e = refl
   idle_place (Some Idle) o e = refl
   idle_place (Some (Collecting op)) o e = absurd (cc e)
@@ -45,13 +45,13 @@ module _ {V : Type 0} where
   collecting_place (turned.Refused f) op m = refl
 
   -- the call in a place that was set, if the place is there
-  at_place : (ks ks' : List (Call V)) (w : ℕ) (k : Call V) → w < length ks → ks' ≡ set ks w k → slice_get ks' w ≡ Some k
-  at_place ks ks' w k l e = let x : (y : Call V) × (slice_get ks w ≡ Some y) = there ks w l in ap (λ xs. slice_get xs w) e ∙ set_here ks w k x.0 x.1
+  at_place : (ks ks' : List (InFlight V)) (w : ℕ) (k : InFlight V) → w < length ks → ks' ≡ set ks w k → slice_get ks' w ≡ Some k
+  at_place ks ks' w k l e = let x : (y : InFlight V) × (slice_get ks w ≡ Some y) = there ks w l in ap (λ xs. slice_get xs w) e ∙ set_here ks w k x.0 x.1
 
   machine_place : (ms ms' : List (Machine Id V)) (w : ℕ) (m : Machine Id V) → w < length ms → ms' ≡ set ms w m → slice_get ms' w ≡ Some m
   machine_place ms ms' w m l e = let x : (y : Machine Id V) × (slice_get ms w ≡ Some y) = there ms w l in ap (λ xs. slice_get xs w) e ∙ set_here ms w m x.0 x.1
 
-module _ {V : Type 0} (same : V → V → Bool) (always : Bool) (s s' : Whole V) (w : ℕ) (holds : EngineHolds same always s) where
+module _ {V : Type 0} (same : V → V → Bool) (always : Bool) (s s' : World V) (w : ℕ) (holds : EngineHolds same always s) where
   abbrev before : Bool
   before = has_place (slice_get s.calls w) (slice_get s.machines w)
 
@@ -81,7 +81,7 @@ module _ {V : Type 0} (same : V → V → Bool) (always : Bool) (s s' : Whole V)
     even : after ≡ false → after ≡ before
     even e = e ∙ sym (idle_place (slice_get s.calls w) (slice_get s.machines w) begin_idle)
 
-    none_at : (k : Call V) → s'.calls ≡ set s.calls w k → ((o : Option (Machine Id V)) → has_place (Some k) o ≡ false) → after ≡ before
+    none_at : (k : InFlight V) → s'.calls ≡ set s.calls w k → ((o : Option (Machine Id V)) → has_place (Some k) o ≡ false) → after ≡ before
     none_at k e n = even (ap (λ x. has_place x (slice_get s'.machines w)) (at_place s.calls s'.calls w k begin_within e) ∙ n (slice_get s'.machines w))
 
     reads : (p : Point V) → s' ≡ record s { machines = set s.machines w (begun root p); calls = set s.calls w Walking } → has_place (Some Walking) (Some (begun root p)) ≡ false → after ≡ before
@@ -121,7 +121,7 @@ module _ {V : Type 0} (same : V → V → Bool) (always : Bool) (s s' : Whole V)
   register_even r (inr x) = unchanged x.state
 
   -- a call that begins and stays in flight is of a worker that had none
-  free_flight : (fs : Flights V) → AreInFlight s fs → (k : Option (Call V)) → slice_get s.calls w ≡ k → is_busy k ≡ false → fs w ≡ Over
+  free_flight : (fs : Flights V) → AreInFlight s fs → (k : Option (InFlight V)) → slice_get s.calls w ≡ k → is_busy k ≡ false → fs w ≡ Over
   free_flight fs fl None e b = elim (slice_get_cases s.calls w).1 [
     | inl x ↦ absurd (let q : None ≡ Some x.0 = sym e ∙ x.2 in cc)
     | inr x ↦ fl.beyond w x.0
@@ -143,7 +143,7 @@ module _ {V : Type 0} (same : V → V → Bool) (always : Bool) (s s' : Whole V)
       (free_flight fs fl (slice_get s.calls w) refl (begin_idle op n), begin_within op n)
 
   -- the first step of a writing call doesn't decide
-  first_by : (k : Option (Call V)) (noise : Noise Id V) (r : Report V) → is_reserving k ≡ true → GoesAt same always s w k noise r s' → r.decided ≡ false
+  first_by : (k : Option (InFlight V)) (noise : Noise Id V) (r : Report V) → is_reserving k ≡ true → GoesAt same always s w k noise r s' → r.decided ≡ false
   first_by (Some (Reserving op)) noise r e x = ap (λ y. y.decided) x.goes.report
   first_by (Some Idle) noise r e x = absurd (cc e)
   first_by (Some (Collecting op)) noise r e x = absurd (cc e)

@@ -11,19 +11,19 @@ use Rattle.joint.specs.declared.steps.Report.{Report}
 use Rattle.joint.specs.declared.steps.Step.{Step}
 use Rattle.joint.specs.declared.steps.Target.{Target}
 use Rattle.joint.specs.engine.Beginning.{BeginsUnless, Begun}
-use Rattle.joint.specs.nodes.Forest.{IsCharged}
+use Rattle.joint.specs.nodes.Nodes.{IsCharged}
 use Rattle.joint.specs.engine.Intact.{IsIntact}
 use Rattle.joint.specs.Reports.{target}
 use Rattle.joint.specs.engine.Laws.{CallLaws}
 use Rattle.joint.specs.nodes.View.{id_number}
-use Rattle.joint.specs.engine.Engine.{Whole, EngineHolds, Does, IsEngineStep, Proceeds, misuse}
+use Rattle.joint.specs.engine.Engine.{World, EngineHolds, Does, IsEngineStep, Proceeds, misuse}
 use Rattle.joint.proofs.lemmas.engine.Reported.{in_flight}
 
-pub does_begin : {V : Type 0} (same : V → V → Bool) (always : Bool) (w : Whole V) (who : ℕ) (op : Op V) (m : Option Fault) (r : Report V) (w' : Whole V) → BeginsUnless same always w who (target op) m r w' → Does same always w who (Begin op) m r w'
+pub does_begin : {V : Type 0} (same : V → V → Bool) (always : Bool) (w : World V) (who : ℕ) (op : Op V) (m : Option Fault) (r : Report V) (w' : World V) → BeginsUnless same always w who (target op) m r w' → Does same always w who (Begin op) m r w'
 does_begin same always w who op None r w' b = b
 does_begin same always w who op (Some f) r w' b = b
 
-module _ {V : Type 0} (same : V → V → Bool) (always : Bool) (laws : CallLaws {C = Id} {V = V} id_number same always) (w w' : Whole V) (holds : EngineHolds same always w) (step : Step V) (r : Report V) (intact : IsIntact same always w'.forest w'.machines w'.calls) (charged : IsCharged w'.forest) where
+module _ {V : Type 0} (same : V → V → Bool) (always : Bool) (laws : CallLaws {C = Id} {V = V} id_number same always) (w w' : World V) (holds : EngineHolds same always w) (step : Step V) (r : Report V) (intact : IsIntact same always w'.forest w'.machines w'.calls) (charged : IsCharged w'.forest) where
   by_event : (e : Event V) → step.event ≡ e → Does same always w step.worker e (misuse w step.worker e) r w' → IsEngineStep same always w step r w'
   by_event e q d =
       let P : Event V → Type 0 = λ x. Does same always w step.worker x (misuse w step.worker x) r w' in

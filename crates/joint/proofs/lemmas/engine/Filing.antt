@@ -34,16 +34,16 @@ use Rattle.joint.specs.declared.id.Id.{Id}
 use Rattle.joint.specs.declared.limits.Limits.{Limits}
 use Rattle.joint.specs.declared.nodes.slot.Slot.{Slot}
 use Rattle.joint.specs.engine.Filed.{IsFiled, others, removes}
-use Rattle.joint.specs.nodes.Forest.{Forest, nodes, Refuses, with_collector}
+use Rattle.joint.specs.nodes.Nodes.{Nodes, nodes, Refuses, with_collector}
 use Rattle.joint.specs.engine.Laws.{CellLaws}
-use Rattle.joint.specs.engine.Machines.{IsSafe, Owes, retiring, retiring_at}
+use Rattle.joint.specs.engine.Safety.{IsSafe, Owes, retiring, retiring_at}
 use Rattle.joint.specs.nodes.Slots.{slot_names}
 use Rattle.joint.specs.NameLemmas.{same_name}
 use Rattle.joint.specs.Names.{number}
 use Rattle.joint.specs.nodes.Opening.{IsOpened, top_roots}
 use Rattle.joint.specs.nodes.View.{view, heap, id_number}
 use Rattle.joint.proofs.lemmas.engine.HandOver.{held_place}
-use Rattle.joint.proofs.lemmas.nodes.Made.{taken_out}
+use Rattle.joint.proofs.lemmas.nodes.MadeUnhanded.{taken_out}
 use Rattle.joint.proofs.lemmas.engine.Retiring.{retiring_some}
 use Rattle.joint.proofs.lemmas.nodes.SlotViews.{slot_view}
 use Rattle.joint.proofs.lemmas.nodes.Views.{here, ties}
@@ -149,7 +149,7 @@ module _ {V : Type 0} (cells : CellLaws {T = Slot V} (Unit {0}) slot_names) wher
   fewer s s' (Some c) f j none = let e = j.4 f in omega (arith, e, none)
 
   -- a step of the collector
-  pub filed_collected : (s s' : Forest V) (who : ℕ) (event : Event) (r : Report) (h : List Mark) → Fits h s.collector → IsReport s.collector who event r → s'.collector ≡ after s.collector who event r.outcome
+  pub filed_collected : (s s' : Nodes V) (who : ℕ) (event : Event) (r : Report) (h : List Mark) → Fits h s.collector → IsReport s.collector who event r → s'.collector ≡ after s.collector who event r.outcome
       → Moves s.collector who r.called s'.collector → IsFiled s → IsFiled s'
   filed_collected s s' who event r h fits report e m f = record {
     expiry = ap (λ l. l.expiry) m.limits ∙ f.expiry;
@@ -159,7 +159,7 @@ module _ {V : Type 0} (cells : CellLaws {T = Slot V} (Unit {0}) slot_names) wher
   }
 
   -- a node that a step of a call makes wait
-  module _ (same : V → V → Bool) (always : Bool) (s s' : Forest V) (ms ms' : List (Machine Id V)) (step : Step Id V) (d : Move V) (plays : StepPlays id_number same always s.version_max (Refuses s) (nodes s) ms step d (nodes s') ms') where
+  module _ (same : V → V → Bool) (always : Bool) (s s' : Nodes V) (ms ms' : List (Machine Id V)) (step : Step Id V) (d : Move V) (plays : StepPlays id_number same always s.version_max (Refuses s) (nodes s) ms step d (nodes s') ms') where
     handed : (k : ℕ) (m : Machine Id V) (by : ℕ → List ℕ) → slice_get ms step.who ≡ Some m → HandsNode (λ (i : ℕ). []) (nodes s) step.who k by (nodes s') → (x : Phase Id V) → m.phase ≡ x → TakenBy id_number x k
         → (node : Id) × (retiring_at (slice_get ms step.who) ≡ Some node) × (k ≡ id_number node)
     handed k m by at hands (Retire node next p r) is (inl e) = (node, ap retiring_at at ∙ ap retiring is, e)
@@ -212,7 +212,7 @@ module _ {V : Type 0} (cells : CellLaws {T = Slot V} (Unit {0}) slot_names) wher
     }
 
     -- and one whose node is handed over
-    pub filed_handed : (node : Id) → retiring_at (slice_get ms step.who) ≡ Some node → s'.collector ≡ with_store s.collector s'.collector.store → IsSafe same always s ms → Owes same always s' ms' step.who node → (s2 : Forest V)
+    pub filed_handed : (node : Id) → retiring_at (slice_get ms step.who) ≡ Some node → s'.collector ≡ with_store s.collector s'.collector.store → IsSafe same always s ms → Owes same always s' ms' step.who node → (s2 : Nodes V)
         → s2 ≡ with_collector s' (deferred s'.collector step.who (Remove node.name)) → IsFiled s → IsFiled s2
     filed_handed node some clock safe owes s2 is f =
         let c' = s'.collector in
@@ -220,7 +220,7 @@ module _ {V : Type 0} (cells : CellLaws {T = Slot V} (Unit {0}) slot_names) wher
         let inside = held_place c'.table step.who owes.registered in
         let keeps = cells.deferred_orderly c' step.who (Remove node.name) inside owes.room owes.safe.sound.sound.orderly in
         let between : IsSealing c' = subst (λ (x : State (Slot V) (Unit {0})). IsSealing x) (sym clock) (cells.seals_stored s.collector c'.store s.collector.roots f.sealing) in
-        let P : Forest V → Type 0 = λ x. IsFiled x in
+        let P : Nodes V → Type 0 = λ x. IsFiled x in
         subst P (sym is) (record {
           expiry = ap (λ c. c.limits.expiry) clock ∙ f.expiry;
           sealing = sealing_more c' step.who entry inside owes.idle between;
@@ -283,7 +283,7 @@ module _ {V : Type 0} (cells : CellLaws {T = Slot V} (Unit {0}) slot_names) wher
             (let z : later ≡ before = omega (arith, more, zero) in z) ∙ old ∙ ap bit (sym stays)
 
   -- a place is given out
-  pub filed_registered : (s : Forest V) (n : ℕ) → n < length s.collector.table → Orderly s.collector → IsFiled s → IsFiled (with_collector s (registered s.collector n))
+  pub filed_registered : (s : Nodes V) (n : ℕ) → n < length s.collector.table → Orderly s.collector → IsFiled s → IsFiled (with_collector s (registered s.collector n))
   filed_registered s n inside orderly f =
       let keeps = cells.registered_jobs s.collector n inside orderly in
       record {
@@ -294,7 +294,7 @@ module _ {V : Type 0} (cells : CellLaws {T = Slot V} (Unit {0}) slot_names) wher
       }
 
   -- a root alone
-  pub filed_opened : (limits : Limits) (charge limit : ℕ) (s : Forest V) → IsOpened limits charge limit s → IsFiled s
+  pub filed_opened : (limits : Limits) (charge limit : ℕ) (s : Nodes V) → IsOpened limits charge limit s → IsFiled s
   filed_opened limits charge limit s begin = record {
     expiry = ap (λ c. c.limits.expiry) begin.clock ∙ begin.allowed.expiry;
     sealing = subst (λ (x : State (Slot V) (Unit {0})). IsSealing x) (sym begin.clock) (cells.seals_stored (opened limits.epoch 1) s.collector.store top_roots (cells.seals_opened limits.epoch 1));

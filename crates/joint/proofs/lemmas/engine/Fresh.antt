@@ -9,12 +9,12 @@ use Rattle.congee.specs.declared.protocol.phase.Phase.TheVariants.{Ended}
 use Rattle.congee.specs.protocol.Bounds.{Within}
 use Rattle.congee.specs.protocol.Play.{IsIdle, Settled}
 use Rattle.joint.specs.engine.Log.{no_log}
-use Rattle.joint.specs.declared.engine.in_flight.Call.{Call}
-use Rattle.joint.specs.declared.engine.in_flight.Call.TheVariants.{Idle}
+use Rattle.joint.specs.declared.engine.in_flight.InFlight.{InFlight}
+use Rattle.joint.specs.declared.engine.in_flight.InFlight.TheVariants.{Idle}
 use Rattle.joint.specs.declared.id.Id.{Id}
 use Rattle.joint.specs.declared.limits.Limits.{Limits}
 use Rattle.joint.specs.declared.nodes.slot.Slot.{Slot}
-use Rattle.joint.specs.nodes.Forest.{Forest, nodes, IsCharged}
+use Rattle.joint.specs.nodes.Nodes.{Nodes, nodes, IsCharged}
 use Rattle.joint.specs.engine.Intact.{IsAt, IsIntact, resting}
 use Rattle.joint.specs.engine.Laws.{CellLaws, CallLaws}
 use Rattle.joint.specs.nodes.Slots.{slot_names}
@@ -22,7 +22,7 @@ use Rattle.joint.specs.nodes.Opening.{IsOpened, top}
 use Rattle.joint.specs.engine.Engine.{IsFresh, EngineHolds}
 use Rattle.joint.specs.nodes.View.{view, id_number}
 use Rattle.joint.proofs.lemmas.engine.Filing.{filed_opened}
-use Rattle.joint.proofs.lemmas.engine.Opened as open_it
+use Rattle.joint.proofs.lemmas.engine.SoundOpening as open_it
 use Rattle.joint.proofs.lemmas.nodes.SlotViews.{slot_view}
 
 one_of : {A : Type 0} (n : ℕ) (x : A) (i : ℕ) (y : A) → slice_get (replicate n x) i ≡ Some y → x ≡ y
@@ -31,14 +31,14 @@ one_of (suc n) x zero y e = let q : x ≡ y = cc in q
 one_of (suc n) x (suc i) y e = one_of n x i y e
 
 module _ {V : Type 0} (same : V → V → Bool) (always : Bool) (cells : CellLaws {T = Slot V} (Unit {0}) slot_names) (calls : CallLaws {C = Id} {V = V} id_number same always)
-    (limits : Limits) (charge limit : ℕ) (s : Forest V) (begin : IsOpened limits charge limit s) (charged : IsCharged s) where
+    (limits : Limits) (charge limit : ℕ) (s : Nodes V) (begin : IsOpened limits charge limit s) (charged : IsCharged s) where
   abbrev n : ℕ
   n = limits.epoch.participants
 
   abbrev ms : List (Machine Id V)
   ms = replicate n resting
 
-  abbrev ks : List (Call V)
+  abbrev ks : List (InFlight V)
   ks = replicate n Idle
 
   over : (i : ℕ) (m : Machine Id V) → slice_get ms i ≡ Some m → m.phase ≡ Ended
@@ -50,8 +50,8 @@ module _ {V : Type 0} (same : V → V → Bool) (always : Bool) (cells : CellLaw
   settled : Settled id_number same always (nodes s) ms
   settled = calls.opens (nodes s) ms begin.fresh idle
 
-  at_first : (i : ℕ) (k : Call V) (m : Machine Id V) → slice_get ks i ≡ Some k → slice_get ms i ≡ Some m → IsAt k (place s.collector i) m
-  at_first i k m here at = let P : Call V → Type 0 = λ x. IsAt x (place s.collector i) m in subst P (one_of n Idle i k here) (begin.resting.idle i, over i m at)
+  at_first : (i : ℕ) (k : InFlight V) (m : Machine Id V) → slice_get ks i ≡ Some k → slice_get ms i ≡ Some m → IsAt k (place s.collector i) m
+  at_first i k m here at = let P : InFlight V → Type 0 = λ x. IsAt x (place s.collector i) m in subst P (one_of n Idle i k here) (begin.resting.idle i, over i m at)
 
   table : length s.collector.table ≡ n
   table = ap (λ x. length x.table) begin.clock ∙ length-replicate n _
@@ -68,7 +68,7 @@ module _ {V : Type 0} (same : V → V → Bool) (always : Bool) (cells : CellLaw
     };
     machines = length-replicate n resting ∙ sym (length-replicate n Idle);
     table = table ∙ sym (length-replicate n Idle);
-    few = (let P : ℕ → Type 0 = λ k. k ≤ 256 in subst P (sym (length-replicate {A = Call V} n Idle)) begin.allowed.participants);
+    few = (let P : ℕ → Type 0 = λ k. k ≤ 256 in subst P (sym (length-replicate {A = InFlight V} n Idle)) begin.allowed.participants);
     filed = filed_opened cells limits charge limit s begin;
     each = at_first;
   }

@@ -17,16 +17,16 @@ use Rattle.crossbeam_epoch.specs.World.Steps.{when, quiet_fault, or_count, defer
 use Rattle.congee.specs.declared.protocol.machine.Machine.{Machine}
 use Rattle.joint.specs.declared.id.Id.{Id}
 use Rattle.joint.specs.declared.nodes.slot.Slot.{Slot}
-use Rattle.joint.specs.nodes.Forest.{Forest, nodes, with_collector}
+use Rattle.joint.specs.nodes.Nodes.{Nodes, nodes, with_collector}
 use Rattle.joint.specs.engine.Laws.{CellLaws, CallLaws}
-use Rattle.joint.specs.engine.Machines.{IsSafe, Owes}
+use Rattle.joint.specs.engine.Safety.{IsSafe, Owes}
 use Rattle.joint.specs.nodes.Slots.{slot_names}
 use Rattle.joint.specs.Names.{number, named}
 use Rattle.joint.specs.NameLemmas.{named_number, number_named}
 use Rattle.joint.specs.engine.Sound.{IsSecured, Guards}
 use Rattle.joint.specs.nodes.View.{view, id_number}
-use Rattle.joint.proofs.lemmas.engine.Handed.{handed}
-use Rattle.joint.proofs.lemmas.engine.Reaching.{entered_live}
+use Rattle.joint.proofs.lemmas.engine.SoundHandOver.{handed}
+use Rattle.joint.proofs.lemmas.engine.ReachMoments.{entered_live}
 use Rattle.joint.proofs.lemmas.nodes.SlotViews.{slot_view}
 use Rattle.joint.proofs.lemmas.nodes.Tickets.{at_most}
 use Rattle.joint.proofs.lemmas.nodes.Views.{ties}
@@ -41,7 +41,7 @@ held_place {J} table who e = elim (cases_lt who (length table)) [
 ]
 
 module _ {V : Type 0} (same : V → V → Bool) (always : Bool) (cells : CellLaws {T = Slot V} (Unit {0}) slot_names) (calls : CallLaws {C = Id} {V = V} id_number same always)
-    (s : Forest V) (ms : List (Machine Id V)) (who : ℕ) (node : Id) (few : (n : ℕ) → (nodes s n).made ≡ true → n < 2 ^ 64 - 1) (owes : Owes same always s ms who node) where
+    (s : Nodes V) (ms : List (Machine Id V)) (who : ℕ) (node : Id) (few : (n : ℕ) → (nodes s n).made ≡ true → n < 2 ^ 64 - 1) (owes : Owes same always s ms who node) where
   abbrev c : State (Slot V) (Unit {0})
   c = s.collector
 
@@ -135,12 +135,12 @@ module _ {V : Type 0} (same : V → V → Bool) (always : Bool) (cells : CellLaw
     | inr ne ↦ subst (λ (p : Participant (Unit {0})). Guards p m) (sym (place_apart i ne)) (owes.safe.sound.sound.guarded i m at)
   ]
 
-  pub handed_safe : (t : ℕ) (s' : Forest V) → s' ≡ with_collector s (after_deferral c who work) → t ≡ c.next
+  pub handed_safe : (t : ℕ) (s' : Nodes V) → s' ≡ with_collector s (after_deferral c who work) → t ≡ c.next
       → ((h : List Moment) → Tells slot_names h c → Tells slot_names (moment slot_names (Marked (Deferred t (Some node.name))) s'.collector ∷ h) s'.collector) → IsSafe same always s' ms
   handed_safe t s' e ticket told =
       let at : s' ≡ with_collector s next = e ∙ ap (with_collector s) into_place in
-      let P : Forest V → Type 0 = λ x. Tells slot_names (moment slot_names (Marked (Deferred t (Some node.name))) x.collector ∷ past) x.collector in
-      let Q : Forest V → Type 0 = λ x. IsSafe same always x ms in
+      let P : Nodes V → Type 0 = λ x. Tells slot_names (moment slot_names (Marked (Deferred t (Some node.name))) x.collector ∷ past) x.collector in
+      let Q : Nodes V → Type 0 = λ x. IsSafe same always x ms in
       subst Q (sym at) (record {
         sound = record {
           top = owes.safe.sound.top;

@@ -11,11 +11,11 @@ use Rattle.crossbeam_epoch.specs.World.Reach.{Act, Quiet, Marked, GivenBack, Mom
 use Rattle.congee.specs.declared.protocol.machine.Machine.{Machine}
 use Rattle.congee.specs.protocol.Handing.{InTree}
 use Rattle.congee.specs.Ledger.{Linked}
-use Rattle.joint.specs.declared.engine.in_flight.Call.{Call}
-use Rattle.joint.specs.declared.engine.in_flight.Call.TheVariants.{Idle, Collecting, Reserving, Securing, Walking}
+use Rattle.joint.specs.declared.engine.in_flight.InFlight.{InFlight}
+use Rattle.joint.specs.declared.engine.in_flight.InFlight.TheVariants.{Idle, Collecting, Reserving, Securing, Walking}
 use Rattle.joint.specs.declared.id.Id.{Id}
 use Rattle.joint.specs.declared.nodes.slot.Slot.{Slot}
-use Rattle.joint.specs.nodes.Forest.{Forest, with_collector}
+use Rattle.joint.specs.nodes.Nodes.{Nodes, with_collector}
 use Rattle.joint.specs.engine.Intact.{IsAt, IsIntact}
 use Rattle.joint.specs.engine.Laws.{CellLaws, CallLaws}
 use Rattle.joint.specs.nodes.Slots.{slot_names}
@@ -24,7 +24,7 @@ use Rattle.joint.specs.engine.Sound.{Guards, Sound}
 use Rattle.joint.specs.nodes.View.{view, heap, id_number}
 use Rattle.joint.proofs.lemmas.engine.Filing.{filed_registered}
 use Rattle.joint.proofs.lemmas.nodes.Paths.{in_tree}
-use Rattle.joint.proofs.lemmas.engine.Reaching.{Reaches, was_in}
+use Rattle.joint.proofs.lemmas.engine.ReachMoments.{Reaches, was_in}
 use Rattle.joint.proofs.lemmas.nodes.SlotViews.{slot_view}
 use Rattle.joint.proofs.lemmas.nodes.Views.{ties}
 
@@ -34,7 +34,7 @@ is_gift (Marked k) = ⊥
 is_gift (GivenBack n) = Unit {0}
 
 module _ {V : Type 0} (same : V → V → Bool) (always : Bool) (cells : CellLaws {T = Slot V} (Unit {0}) slot_names) (calls : CallLaws {C = Id} {V = V} id_number same always)
-    (s : Forest V) (ms : List (Machine Id V)) (ks : List (Call V)) (intact : IsIntact same always s ms ks) (n : ℕ) (inside : n < length s.collector.table) (free : (place s.collector n).registered ≡ false)
+    (s : Nodes V) (ms : List (Machine Id V)) (ks : List (InFlight V)) (intact : IsIntact same always s ms ks) (n : ℕ) (inside : n < length s.collector.table) (free : (place s.collector n).registered ≡ false)
     (told : (h : List Moment) → Tells slot_names h s.collector → Tells slot_names (moment slot_names Quiet (registered s.collector n) ∷ h) (registered s.collector n)) where
   abbrev c : State (Slot V) (Unit {0})
   c = s.collector
@@ -107,7 +107,7 @@ module _ {V : Type 0} (same : V → V → Bool) (always : Bool) (cells : CellLaw
     guarded = guards;
   }
 
-  at_here : (k : Call V) (m : Machine Id V) → IsAt k (place c n) m → IsAt k put m
+  at_here : (k : InFlight V) (m : Machine Id V) → IsAt k (place c n) m → IsAt k put m
   at_here Idle m x = x
   at_here (Collecting op) m x = absurd (let z : (place c n).registered ≡ true = x.0.0 in cc)
   at_here (Reserving op) m x = absurd (let z : (place c n).registered ≡ true = x.0 in cc)
@@ -130,9 +130,9 @@ module _ {V : Type 0} (same : V → V → Bool) (always : Bool) (cells : CellLaw
   }
 
 -- the same of the state that is left
-pub taken_at : {V : Type 0} (same : V → V → Bool) (always : Bool) → CellLaws {T = Slot V} (Unit {0}) slot_names → CallLaws {C = Id} {V = V} id_number same always → (s s' : Forest V) (ms : List (Machine Id V)) (ks : List (Call V)) → IsIntact same always s ms ks → (n : ℕ)
+pub taken_at : {V : Type 0} (same : V → V → Bool) (always : Bool) → CellLaws {T = Slot V} (Unit {0}) slot_names → CallLaws {C = Id} {V = V} id_number same always → (s s' : Nodes V) (ms : List (Machine Id V)) (ks : List (InFlight V)) → IsIntact same always s ms ks → (n : ℕ)
     → n < length s.collector.table → (place s.collector n).registered ≡ false → s' ≡ with_collector s (registered s.collector n)
     → ((h : List Moment) → Tells slot_names h s.collector → Tells slot_names (moment slot_names Quiet s'.collector ∷ h) s'.collector) → IsIntact same always s' ms ks
 taken_at {V} same always cells calls s s' ms ks intact n inside free e told =
-    let P : Forest V → Type 0 = λ x. IsIntact same always x ms ks in
-    subst P (sym e) (taken same always cells calls s ms ks intact n inside free (λ h t. let Q : Forest V → Type 0 = λ x. Tells slot_names (moment slot_names Quiet x.collector ∷ h) x.collector in subst Q e (told h t)))
+    let P : Nodes V → Type 0 = λ x. IsIntact same always x ms ks in
+    subst P (sym e) (taken same always cells calls s ms ks intact n inside free (λ h t. let Q : Nodes V → Type 0 = λ x. Tells slot_names (moment slot_names Quiet x.collector ∷ h) x.collector in subst Q e (told h t)))

@@ -13,20 +13,20 @@ use Rattle.congee.specs.declared.protocol.machine.Outcome.{Outcome as Moved}
 use Rattle.congee.specs.declared.protocol.machine.Outcome.TheVariants as moved
 use Rattle.congee.specs.declared.protocol.op.Op.{Op as Point}
 use Rattle.congee.specs.declared.protocol.op.Op.TheVariants as point
-use Rattle.joint.specs.declared.engine.in_flight.Call.{Call}
-use Rattle.joint.specs.declared.engine.in_flight.Call.TheVariants.{Idle, Collecting, Reserving, Securing, Walking}
+use Rattle.joint.specs.declared.engine.in_flight.InFlight.{InFlight}
+use Rattle.joint.specs.declared.engine.in_flight.InFlight.TheVariants.{Idle, Collecting, Reserving, Securing, Walking}
 use Rattle.joint.specs.declared.id.Id.{Id}
 use Rattle.joint.specs.declared.steps.Event.{Event}
 use Rattle.joint.specs.declared.steps.Event.TheVariants.{Register, Begin, Go}
 use Rattle.joint.specs.declared.steps.Report.{Report}
 use Rattle.joint.specs.declared.steps.Target.{Target}
 use Rattle.joint.specs.declared.steps.Target.TheVariants as target
-use Rattle.joint.specs.nodes.Forest.{nodes}
+use Rattle.joint.specs.nodes.Nodes.{nodes}
 use Rattle.joint.specs.engine.Intact.{call_after, secured_call, over_at}
 use Rattle.joint.specs.engine.Laws.{CallLaws}
 use Rattle.joint.specs.Reports.{target, told, collected}
 use Rattle.joint.specs.nodes.View.{id_number}
-use Rattle.joint.specs.engine.Engine.{Whole, EngineHolds, Does, Proceeds, BeginsAt, BeginsOnTree, EntersUnless, finds_none, GoesAt, Collects, Walks, GoesOnReserving, SecuresFirst, IsOfCall, is_busy, is_in_flight, misuse, place_of, reserving}
+use Rattle.joint.specs.engine.Engine.{World, EngineHolds, Does, Proceeds, BeginsAt, BeginsOnTree, EntersUnless, finds_none, GoesAt, Collects, Walks, GoesOnReserving, SecuresFirst, IsOfCall, is_busy, is_in_flight, misuse, place_of, reserving}
 use Rattle.joint.proofs.lemmas.engine.Collecting.{set_here, there}
 use Rattle.joint.proofs.lemmas.engine.Ending.{goes}
 use Rattle.joint.proofs.lemmas.engine.HandOver.{held_place}
@@ -52,7 +52,7 @@ module _ {V : Type 0} where
   told_goes (moved.Refused cause) = refl
 
   -- a call of the collector's goes on, or there is none
-  after_turn : (k : Call V) → is_busy (Some k) ≡ true → (o : Turned) → is_busy (Some (call_after o k)) ≡ is_in_flight {V = V} (collected o)
+  after_turn : (k : InFlight V) → is_busy (Some k) ≡ true → (o : Turned) → is_busy (Some (call_after o k)) ≡ is_in_flight {V = V} (collected o)
   after_turn k b turned.Running = b
   after_turn k b turned.Done = refl
   after_turn k b (turned.Refused f) = refl
@@ -63,16 +63,16 @@ module _ {V : Type 0} where
   after_securing op (turned.Refused f) = refl
 
   -- the call in a place that was set
-  at_place : (calls calls' : List (Call V)) (w : ℕ) (k : Call V) → w < length calls → calls' ≡ set calls w k → slice_get calls' w ≡ Some k
-  at_place calls calls' w k l e = let x : (y : Call V) × (slice_get calls w ≡ Some y) = there calls w l in ap (λ xs. slice_get xs w) e ∙ set_here calls w k x.0 x.1
+  at_place : (calls calls' : List (InFlight V)) (w : ℕ) (k : InFlight V) → w < length calls → calls' ≡ set calls w k → slice_get calls' w ≡ Some k
+  at_place calls calls' w k l e = let x : (y : InFlight V) × (slice_get calls w ≡ Some y) = there calls w l in ap (λ xs. slice_get xs w) e ∙ set_here calls w k x.0 x.1
 
-  securing_goes : (calls calls' : List (Call V)) (w : ℕ) (op : Point V) (o : Turned) → slice_get calls w ≡ Some (Securing op) → calls' ≡ set calls w (secured_call o (slice_get calls w)) → is_busy (slice_get calls' w) ≡ is_in_flight {V = V} (reserving o)
+  securing_goes : (calls calls' : List (InFlight V)) (w : ℕ) (op : Point V) (o : Turned) → slice_get calls w ≡ Some (Securing op) → calls' ≡ set calls w (secured_call o (slice_get calls w)) → is_busy (slice_get calls' w) ≡ is_in_flight {V = V} (reserving o)
   securing_goes calls calls' w op o e c =
       ap is_busy (at_place calls calls' w (secured_call o (slice_get calls w)) (slice_get_within calls w (Securing op) e) c) ∙ ap (λ k. is_busy (Some (secured_call o k))) e ∙ after_securing op o
 
-module _ {V : Type 0} (same : V → V → Bool) (always : Bool) (s : Whole V) (w : ℕ) (holds : EngineHolds same always s) where
+module _ {V : Type 0} (same : V → V → Bool) (always : Bool) (s : World V) (w : ℕ) (holds : EngineHolds same always s) where
   -- a call in flight is of a registered worker, so its next step isn't misused
-  busy_registered : (k : Option (Call V)) → slice_get s.calls w ≡ k → is_busy k ≡ true → (place_of s w).registered ≡ true
+  busy_registered : (k : Option (InFlight V)) → slice_get s.calls w ≡ k → is_busy k ≡ true → (place_of s w).registered ≡ true
   busy_registered None e b = absurd (cc b)
   busy_registered (Some Idle) e b = absurd (cc b)
   busy_registered (Some (Collecting op)) e b = (let x = there s.machines w (subst (λ n. w < n) (sym holds.0.machines) (slice_get_within s.calls w (Collecting op) e)) in (holds.0.each w (Collecting op) x.0 e x.1).0.0)
@@ -88,17 +88,17 @@ module _ {V : Type 0} (same : V → V → Bool) (always : Bool) (s : Whole V) (w
       let f : (if is_busy (slice_get s.calls w) then None else Some fault.Idle) ≡ None = ap (λ c. if c then None else Some fault.Idle) b in
       ap (λ c. if c then (if is_busy (slice_get s.calls w) then None else Some fault.Idle) else Some fault.Unknown) r ∙ f
 
-module _ {V : Type 0} (same : V → V → Bool) (always : Bool) (laws : CallLaws {C = Id} {V = V} id_number same always) (s s' : Whole V) (w : ℕ) (holds : EngineHolds same always s) where
+module _ {V : Type 0} (same : V → V → Bool) (always : Bool) (laws : CallLaws {C = Id} {V = V} id_number same always) (s s' : World V) (w : ℕ) (holds : EngineHolds same always s) where
   abbrev Tells : Report V → Type 0
   Tells r = is_busy (slice_get s'.calls w) ≡ is_in_flight r.outcome
 
-  put : (r : Report V) (k : Call V) → w < length s.calls → s'.calls ≡ set s.calls w k → is_busy (Some k) ≡ is_in_flight r.outcome → Tells r
+  put : (r : Report V) (k : InFlight V) → w < length s.calls → s'.calls ≡ set s.calls w k → is_busy (Some k) ≡ is_in_flight r.outcome → Tells r
   put r k l e b = ap is_busy (at_place s.calls s'.calls w k l e) ∙ b
 
-  collects : (event : Turn) (k : Call V) (r : Report V) → is_busy (Some k) ≡ true → w < length s.calls → Collects same always s w event k r s' → Tells r
+  collects : (event : Turn) (k : InFlight V) (r : Report V) → is_busy (Some k) ≡ true → w < length s.calls → Collects same always s w event k r s' → Tells r
   collects event k r b l x = put r (call_after x.turn.outcome k) l x.calls (after_turn k b x.turn.outcome ∙ sym (ap (λ y. is_in_flight y.outcome) x.report))
 
-  securing : (op : Point V) (r : Report V) (b : Whole V) → slice_get b.calls w ≡ Some (Securing op) → GoesOnReserving same always b w r s' → Tells r
+  securing : (op : Point V) (r : Report V) (b : World V) → slice_get b.calls w ≡ Some (Securing op) → GoesOnReserving same always b w r s' → Tells r
   securing op r b e x = securing_goes b.calls s'.calls w op x.turn.outcome e x.step.call ∙ sym (ap (λ y. is_in_flight y.outcome) x.report)
 
   secures_first : (op : Point V) (r : Report V) → slice_get s.calls w ≡ Some (Reserving op) → SecuresFirst same always s w r s' → Tells r
@@ -132,7 +132,7 @@ module _ {V : Type 0} (same : V → V → Bool) (always : Bool) (laws : CallLaws
   begins (target.Survey k) r fr l x =
       ap (λ y. is_busy (slice_get y.calls w)) x.state ∙ fr ∙ sym (survey_ends (nodes s.forest) k x.outcome x.tells) ∙ sym (ap (λ y. is_in_flight y.outcome) x.report)
 
-  on : (k : Option (Call V)) (noise : Noise Id V) (r : Report V) → slice_get s.calls w ≡ k → GoesAt same always s w k noise r s' → Tells r
+  on : (k : Option (InFlight V)) (noise : Noise Id V) (r : Report V) → slice_get s.calls w ≡ k → GoesAt same always s w k noise r s' → Tells r
   on None noise r e x = absurd x
   on (Some Idle) noise r e x = absurd x
   on (Some (Collecting op)) noise r e x = collects _ (Collecting op) r refl (slice_get_within s.calls w (Collecting op) e) x

@@ -17,21 +17,21 @@ use Rattle.crossbeam_epoch.specs.World.Progress.{Begins, Empties, refusal}
 use Rattle.crossbeam_epoch.specs.World.Steps.{after, begin_fault, begun_at, called_in}
 use Rattle.congee.specs.declared.protocol.machine.Machine.{Machine}
 use Rattle.congee.specs.declared.protocol.op.Op.{Op}
-use Rattle.joint.specs.declared.engine.in_flight.Call.{Call}
-use Rattle.joint.specs.declared.engine.in_flight.Call.TheVariants.{Idle, Collecting, Reserving, Securing, Walking}
+use Rattle.joint.specs.declared.engine.in_flight.InFlight.{InFlight}
+use Rattle.joint.specs.declared.engine.in_flight.InFlight.TheVariants.{Idle, Collecting, Reserving, Securing, Walking}
 use Rattle.joint.specs.declared.engine.in_flight.Stage.TheVariants as about
 use Rattle.joint.specs.declared.id.Id.{Id}
 use Rattle.joint.specs.declared.nodes.slot.Slot.{Slot}
 use Rattle.joint.specs.engine.Beginning.{stage_of}
-use Rattle.joint.specs.nodes.Forest.{Forest, nodes}
+use Rattle.joint.specs.nodes.Nodes.{Nodes, nodes}
 use Rattle.joint.specs.engine.Intact.{IsAt, IsIntact, BeginsSecuring, is_reserving, securing_of, writes}
 use Rattle.joint.specs.engine.Laws.{ProgressLaws}
-use Rattle.joint.specs.engine.Machines.{Rests, Collected}
+use Rattle.joint.specs.engine.Safety.{Rests, Collected}
 use Rattle.joint.specs.nodes.View.{heap}
 use Rattle.joint.proofs.lemmas.engine.Collecting.{either, there, set_here, intact_at, inside, inside_machines, after_step}
 use Rattle.joint.proofs.lemmas.engine.HandOver.{held_place}
 
-pub reserving_call : {V : Type 0} (x : Option (Call V)) → is_reserving x ≡ true → (op : Op V) × (x ≡ Some (Reserving op))
+pub reserving_call : {V : Type 0} (x : Option (InFlight V)) → is_reserving x ≡ true → (op : Op V) × (x ≡ Some (Reserving op))
 reserving_call (Some (Reserving op)) e = (op, refl)
 reserving_call (Some Idle) e = absurd (cc e)
 reserving_call (Some (Collecting op)) e = absurd (cc e)
@@ -39,7 +39,7 @@ reserving_call (Some (Securing op)) e = absurd (cc e)
 reserving_call (Some Walking) e = absurd (cc e)
 reserving_call None e = absurd (cc e)
 
-pub reserving_stage : {V : Type 0} (x : Option (Call V)) → Some about.Reserving ≡ option_map stage_of x → is_reserving x ≡ true
+pub reserving_stage : {V : Type 0} (x : Option (InFlight V)) → Some about.Reserving ≡ option_map stage_of x → is_reserving x ≡ true
 reserving_stage (Some (Reserving op)) e = refl
 reserving_stage (Some Idle) e = absurd (cc e)
 reserving_stage (Some (Collecting op)) e = absurd (cc e)
@@ -48,7 +48,7 @@ reserving_stage (Some Walking) e = absurd (cc e)
 reserving_stage None e = absurd (cc e)
 
 -- what it leaves
-module _ {V : Type 0} (same : V → V → Bool) (always : Bool) (s : Forest V) (ms : List (Machine Id V)) (calls : List (Call V)) (who : ℕ) (s' : Forest V) (ms' : List (Machine Id V)) (calls' : List (Call V)) (b : BeginsSecuring same always s ms calls who s' ms' calls') where
+module _ {V : Type 0} (same : V → V → Bool) (always : Bool) (s : Nodes V) (ms : List (Machine Id V)) (calls : List (InFlight V)) (who : ℕ) (s' : Nodes V) (ms' : List (Machine Id V)) (calls' : List (InFlight V)) (b : BeginsSecuring same always s ms calls who s' ms' calls') where
   -- no job was called
   pub same_nodes : nodes s' ≡ nodes s
   same_nodes =
@@ -62,9 +62,9 @@ module _ {V : Type 0} (same : V → V → Bool) (always : Bool) (s : Forest V) (
   pub next_here : (op : Op V) → slice_get calls who ≡ Some (Reserving op) → slice_get calls' who ≡ Some (Securing op)
   next_here op e = ap (λ ks. slice_get ks who) (next_calls op e) ∙ set_here calls who (Securing op) (Reserving op) e
 
-module _ {V : Type 0} (same : V → V → Bool) (always : Bool) (s : Forest V) (ms : List (Machine Id V)) (calls : List (Call V)) (intact : IsIntact same always s ms calls) (who : ℕ) where
+module _ {V : Type 0} (same : V → V → Bool) (always : Bool) (s : Nodes V) (ms : List (Machine Id V)) (calls : List (InFlight V)) (intact : IsIntact same always s ms calls) (who : ℕ) where
   -- another call comes into the worker's place
-  exchanged : (k' : Call V) → ((m : Machine Id V) → slice_get ms who ≡ Some m → IsAt k' (place s.collector who) m) → IsIntact same always s ms (set calls who k')
+  exchanged : (k' : InFlight V) → ((m : Machine Id V) → slice_get ms who ≡ Some m → IsAt k' (place s.collector who) m) → IsIntact same always s ms (set calls who k')
   exchanged k' now = record {
     safe = intact.safe;
     machines = intact.machines ∙ sym (length-set calls who k');
@@ -74,7 +74,7 @@ module _ {V : Type 0} (same : V → V → Bool) (always : Bool) (s : Forest V) (
     each = λ i k m at here. elim (either calls who i k' k at) [
       | inl e ↦ (
           let P : ℕ → Type 0 = λ j. IsAt k' (place s.collector j) m in
-          let Q : Call V → Type 0 = λ x. IsAt x (place s.collector i) m in
+          let Q : InFlight V → Type 0 = λ x. IsAt x (place s.collector i) m in
           subst Q e.1 (subst P (sym e.0) (now m (subst (λ (j : ℕ). slice_get ms j ≡ Some m) e.0 here))))
       | inr apart ↦ intact.each i k m apart.1 here
     ];
@@ -100,7 +100,7 @@ module _ {V : Type 0} (same : V → V → Bool) (always : Bool) (s : Forest V) (
     abandoned = exchanged Idle (λ m here. ((at m here).2, (at m here).3))
 
   -- a securing begins, and runs on
-  module _ (laws : ProgressLaws (Slot V) (Unit {0})) (op : Op V) (on : slice_get calls who ≡ Some (Reserving op)) (r : Report) (s' : Forest V) (did : Collected same always s ms who (Begin (Secure 2)) r s') where
+  module _ (laws : ProgressLaws (Slot V) (Unit {0})) (op : Op V) (on : slice_get calls who ≡ Some (Reserving op)) (r : Report) (s' : Nodes V) (did : Collected same always s ms who (Begin (Secure 2)) r s') where
     abbrev c : State (Slot V) (Unit {0})
     c = s.collector
 
@@ -142,7 +142,7 @@ module _ {V : Type 0} (same : V → V → Bool) (always : Bool) (s : Forest V) (
     begun : Begins c who (Secure 2) Running s'.collector
     begun = let P : Outcome → Type 0 = λ o. Begins c who (Secure 2) o s'.collector in subst P runs begins
 
-    pub begins_securing : (s2 : Forest V) (ms' : List (Machine Id V)) (calls' : List (Call V)) → s2 ≡ s' → ms' ≡ ms → calls' ≡ set (set calls who Idle) who (Securing op) → BeginsSecuring same always s ms calls who s2 ms' calls'
+    pub begins_securing : (s2 : Nodes V) (ms' : List (Machine Id V)) (calls' : List (InFlight V)) → s2 ≡ s' → ms' ≡ ms → calls' ≡ set (set calls who Idle) who (Securing op) → BeginsSecuring same always s ms calls who s2 ms' calls'
     begins_securing s2 ms' calls' es em ec =
         let q : calls' ≡ set calls who (Securing op) = ec ∙ set-set calls who Idle (Securing op) in
         let i : IsIntact same always s' ms (set calls who (Securing op)) = after_step same always s ms calls intact who (Begin (Secure 2)) r s' (Securing op) did (λ m at.
@@ -151,7 +151,7 @@ module _ {V : Type 0} (same : V → V → Bool) (always : Bool) (s : Forest V) (
         record {
           intact = intact_at same always s' s2 ms ms' (set calls who (Securing op)) calls' es em q i;
           turn = r;
-          collected = subst (λ (y : Forest V). Collected same always s ms who (Begin (Secure 2)) r y) (sym es) did;
+          collected = subst (λ (y : Nodes V). Collected same always s ms who (Begin (Secure 2)) r y) (sym es) did;
           running = runs;
           call = q ∙ sym (ap (λ k. set calls who (securing_of k)) on);
           machine = em;

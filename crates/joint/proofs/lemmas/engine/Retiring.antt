@@ -5,7 +5,7 @@ use Rattle.judge.specs.declared.journal.Reply.{Reply}
 use Rattle.congee.specs.declared.protocol.phase.Phase.{Phase}
 use Rattle.congee.specs.declared.protocol.phase.Phase.TheVariants.{Retire}
 use Rattle.joint.specs.declared.id.Id.{Id}
-use Rattle.joint.specs.engine.Machines.{retiring}
+use Rattle.joint.specs.engine.Safety.{retiring}
 
 pub retiring_none : {V : Type 0} (s : Phase Id V) → ((n : Id) (next : Option Id) (p : Id) (r : Reply V) → s ≡ Retire n next p r → ⊥) → None ≡ retiring s
 retiring_none (Retire n next p r) f = absurd (f n next p r refl)

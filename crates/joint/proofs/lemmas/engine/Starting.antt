@@ -15,17 +15,17 @@ use Rattle.congee.specs.declared.protocol.phase.Phase.TheVariants.{New, Ended}
 use Rattle.congee.specs.protocol.Holdings.{MadeBy}
 use Rattle.congee.specs.protocol.Names.{names}
 use Rattle.congee.specs.protocol.Play.{begun, first_phase, parts, IsNew}
-use Rattle.joint.specs.declared.engine.in_flight.Call.{Call}
-use Rattle.joint.specs.declared.engine.in_flight.Call.TheVariants.{Idle, Walking}
+use Rattle.joint.specs.declared.engine.in_flight.InFlight.{InFlight}
+use Rattle.joint.specs.declared.engine.in_flight.InFlight.TheVariants.{Idle, Walking}
 use Rattle.joint.specs.declared.id.Id.{Id}
-use Rattle.joint.specs.nodes.Forest.{Forest}
+use Rattle.joint.specs.nodes.Nodes.{Nodes}
 use Rattle.joint.specs.nodes.Heap.{heap_of}
 use Rattle.joint.specs.engine.Intact.{IsAt, IsIntact, MayStart, is_done, root}
 use Rattle.joint.specs.engine.Laws.{CallLaws}
 use Rattle.joint.specs.nodes.Slots.{slot_names}
 use Rattle.joint.specs.engine.Sound.{IsUnderWay, IsSecured, Guards}
 use Rattle.joint.specs.nodes.View.{view, id_number}
-use Rattle.joint.proofs.lemmas.engine.Begun as begin
+use Rattle.joint.proofs.lemmas.engine.SoundBegins as begin
 use Rattle.joint.proofs.lemmas.engine.Collecting.{either, there}
 
 -- a call that has not begun has no names, has made nothing, is under way, and needs places only if it writes
@@ -46,7 +46,7 @@ first (ComputePresent k) = record { names_none = refl; no_made = λ k x. x; unde
 first (ComputeInsert k) = record { names_none = refl; no_made = λ k x. x; under_way = tt; not_done = refl; secured = λ jobs x. x }
 first (Exchange k old new) = record { names_none = refl; no_made = λ k x. x; under_way = tt; not_done = refl; secured = λ jobs x. x }
 
-module _ {V : Type 0} (same : V → V → Bool) (always : Bool) (laws : CallLaws {C = Id} {V = V} id_number same always) (s : Forest V) (ms : List (Machine Id V)) (calls : List (Call V)) (intact : IsIntact same always s ms calls) (who : ℕ)
+module _ {V : Type 0} (same : V → V → Bool) (always : Bool) (laws : CallLaws {C = Id} {V = V} id_number same always) (s : Nodes V) (ms : List (Machine Id V)) (calls : List (InFlight V)) (intact : IsIntact same always s ms calls) (who : ℕ)
     (idle : slice_get calls who ≡ Some Idle) (op : Op V) (may : MayStart s.collector who op) (m : Machine Id V) (is : m ≡ begun root op) (new : IsNew m) where
   old : (x : Machine Id V) × (slice_get ms who ≡ Some x)
   old = there ms who (subst (λ (k : ℕ). who < k) (sym intact.machines) (slice_get_within calls who Idle idle))
@@ -84,7 +84,7 @@ module _ {V : Type 0} (same : V → V → Bool) (always : Bool) (laws : CallLaws
     filed = intact.filed;
     each = λ i k x at here. elim (either calls who i Walking k at) [
       | inl e ↦ (
-          let P : Call V → Type 0 = λ y. IsAt y (place s.collector i) x in
+          let P : InFlight V → Type 0 = λ y. IsAt y (place s.collector i) x in
           subst P e.1 (elim (laws.either ms who i m x here) [
             | inl q ↦ (let Q : Machine Id V → Type 0 = λ y. IsUnderWay y.phase × (is_done y.phase ≡ false) in subst Q q.1 (begins.under_way, begins.not_done))
             | inr apart ↦ absurd (apart.0 e.0)

@@ -27,24 +27,24 @@ use Rattle.congee.specs.protocol.Protocol.{Known, TakenOut}
 use Rattle.congee.specs.protocol.Steps.{PhaseStepped, after_retire}
 use Rattle.joint.specs.declared.id.Id.{Id}
 use Rattle.joint.specs.declared.nodes.slot.Slot.{Slot}
-use Rattle.joint.specs.nodes.Forest.{Forest, nodes, frame, Refuses}
+use Rattle.joint.specs.nodes.Nodes.{Nodes, nodes, frame, Refuses}
 use Rattle.joint.specs.engine.Laws.{CellLaws, CallLaws, LeavesLaw}
-use Rattle.joint.specs.engine.Machines.{IsSound, IsSafe, Runs, retiring, retiring_at, Owes, IsSafeOrOwes}
+use Rattle.joint.specs.engine.Safety.{IsSound, IsSafe, Runs, retiring, retiring_at, Owes, IsSafeOrOwes}
 use Rattle.joint.specs.nodes.Slots.{slot_names}
 use Rattle.joint.specs.engine.Sound.{IsSecured, Guards}
 use Rattle.joint.specs.nodes.View.{view, heap, id_number}
 use Rattle.joint.proofs.lemmas.engine.Retiring.{retiring_some}
-use Rattle.joint.proofs.lemmas.engine.Secured.{handed_secured, retiring_room, secured_step}
+use Rattle.joint.proofs.lemmas.engine.SecuredPlaces.{handed_secured, retiring_room, secured_step}
 use Rattle.joint.proofs.lemmas.nodes.SlotViews.{slot_view}
 use Rattle.joint.proofs.lemmas.nodes.Views.{ties}
-use Rattle.joint.proofs.lemmas.engine.Went.{Went, went}
+use Rattle.joint.proofs.lemmas.engine.SoundSteps.{Went, went}
 
 -- sound calls follow the protocol
 pub protocol : {J V : Type 0} (same : V → V → Bool) (always : Bool) (s : State (Slot V) J) (ms : List (Machine Id V)) → IsSound same always s ms → Protocol id_number same always (heap s.store) ms
 protocol same always s ms i = record { notes = i.sound.settled.0; tree = i.sound.settled.1.tree; words = i.sound.settled.1.words; each = i.sound.settled.1.each }
 
 module _ {V : Type 0} (same : V → V → Bool) (always : Bool) (cells : CellLaws {T = Slot V} (Unit {0}) slot_names) (calls : CallLaws {C = Id} {V = V} id_number same always)
-    (s s' : Forest V) (leaves : LeavesLaw {C = Id} {V = V} id_number same always s.version_max (Refuses s)) (ms ms' : List (Machine Id V)) (step : Step Id V) (d : Move V)
+    (s s' : Nodes V) (leaves : LeavesLaw {C = Id} {V = V} id_number same always s.version_max (Refuses s)) (ms ms' : List (Machine Id V)) (step : Step Id V) (d : Move V)
     (safe : IsSafe same always s ms) (run : Runs ms step.who) (fr : frame s' ≡ frame s) (within : Within s'.version_max (nodes s'))
     (plays : StepPlays id_number same always s.version_max (Refuses s) (nodes s) ms step d (nodes s') ms') where
   abbrev m : Machine Id V

@@ -16,8 +16,8 @@ use Rattle.congee.specs.declared.protocol.machine.Machine.{Machine}
 use Rattle.congee.specs.declared.protocol.op.Op.{Op as Point}
 use Rattle.congee.specs.declared.protocol.op.Op.TheVariants as point
 use Rattle.congee.specs.protocol.Play.{begun}
-use Rattle.joint.specs.declared.engine.in_flight.Call.{Call}
-use Rattle.joint.specs.declared.engine.in_flight.Call.TheVariants.{Idle, Collecting, Reserving, Securing, Walking}
+use Rattle.joint.specs.declared.engine.in_flight.InFlight.{InFlight}
+use Rattle.joint.specs.declared.engine.in_flight.InFlight.TheVariants.{Idle, Collecting, Reserving, Securing, Walking}
 use Rattle.joint.specs.declared.id.Id.{Id}
 use Rattle.joint.specs.declared.nodes.slot.Slot.{Slot}
 use Rattle.joint.specs.declared.steps.Done.TheVariants.{Scanned}
@@ -33,13 +33,13 @@ use Rattle.congee.specs.declared.protocol.machine.Noise.{Noise}
 use Rattle.joint.specs.declared.engine.in_flight.Stage.TheVariants as about
 use Rattle.joint.specs.declared.steps.Event.TheVariants.{Go}
 use Rattle.joint.specs.engine.Beginning.{BeginsUnless, Begun, stage_of}
-use Rattle.joint.specs.nodes.Forest.{IsCharged, sizes}
+use Rattle.joint.specs.nodes.Nodes.{IsCharged, sizes}
 use Rattle.joint.specs.engine.Intact.{IsIntact, IsSecuring, call_after, root, writes}
 use Rattle.joint.specs.engine.Laws.{ProgressLaws}
-use Rattle.joint.specs.engine.Machines.{Collected}
+use Rattle.joint.specs.engine.Safety.{Collected}
 use Rattle.joint.specs.Refusals.{of_fault}
 use Rattle.joint.specs.Reports.{collected}
-use Rattle.joint.specs.engine.Engine.{Whole, is_busy, unready, interruption, kind_of, quiet, collection, misuse, finds_none, BeginsAt, BeginsOnTree, GoesAt, Does, Enters, EntersUnless, Reserves, Surveys, begin_misuse}
+use Rattle.joint.specs.engine.Engine.{World, is_busy, unready, interruption, kind_of, quiet, collection, misuse, finds_none, BeginsAt, BeginsOnTree, GoesAt, Does, Enters, EntersUnless, Reserves, Surveys, begin_misuse}
 use Rattle.joint.proofs.lemmas.engine.Collecting.{there, inside_machines}
 
 -- what stands there, written once more, changes nothing
@@ -53,19 +53,19 @@ pub word_is : (b r w : Bool) → b ≡ (r && w) → r ≡ true → w ≡ b
 word_is b true w e q = sym e
 word_is b false w e q = absurd (cc q)
 
-pub idle_call : {V : Type 0} (o : Option (Call V)) (n : ℕ) (calls : List (Call V)) → n < length calls → o ≡ slice_get calls n → is_busy o ≡ false → o ≡ Some Idle
+pub idle_call : {V : Type 0} (o : Option (InFlight V)) (n : ℕ) (calls : List (InFlight V)) → n < length calls → o ≡ slice_get calls n → is_busy o ≡ false → o ≡ Some Idle
 idle_call (Some Idle) n calls l e b = refl
 idle_call (Some (Collecting op)) n calls l e b = absurd (cc b)
 idle_call (Some (Reserving op)) n calls l e b = absurd (cc b)
 idle_call (Some (Securing op)) n calls l e b = absurd (cc b)
 idle_call (Some Walking) n calls l e b = absurd (cc b)
-idle_call None n calls l e b = absurd (let x : (k : Call _) × (slice_get calls n ≡ Some k) = there calls n l in let z : None ≡ Some x.0 = e ∙ x.1 in cc)
+idle_call None n calls l e b = absurd (let x : (k : InFlight _) × (slice_get calls n ≡ Some k) = there calls n l in let z : None ≡ Some x.0 = e ∙ x.1 in cc)
 
-module _ {V : Type 0} (same : V → V → Bool) (always : Bool) (w : Whole V) (who : ℕ) where
+module _ {V : Type 0} (same : V → V → Bool) (always : Bool) (w : World V) (who : ℕ) where
   abbrev c : State (Slot V) (Unit {0})
   c = w.forest.collector
 
-  abbrev Or : Target V → Option Fault → Report V → Whole V → Type 0
+  abbrev Or : Target V → Option Fault → Report V → World V → Type 0
   Or t m r w' = BeginsUnless same always w who t m r w'
 
   refused : (t : Target V) (f : Fault) (r : Report V) → begin_misuse t (slice_get w.calls who) (place c who) ≡ Some f → r ≡ quiet (kind_of t) (outcome.Refused (of_fault f)) → Begun same always w who t r w
@@ -83,7 +83,7 @@ module _ {V : Type 0} (same : V → V → Bool) (always : Bool) (w : Whole V) (w
   past : (t : Target V) → (place c who).registered ≡ true → slice_get w.calls who ≡ Some Idle → begin_misuse t (slice_get w.calls who) (place c who) ≡ unready t (place c who)
   past t r e = at_place t r ∙ ap (λ x. if is_busy x then Some (interruption t) else unready t (place c who)) e
 
-  proceeds : (t : Target V) (r : Report V) (w' : Whole V) → begin_misuse t (slice_get w.calls who) (place c who) ≡ None → BeginsAt same always w who t r w' → Begun same always w who t r w'
+  proceeds : (t : Target V) (r : Report V) (w' : World V) → begin_misuse t (slice_get w.calls who) (place c who) ≡ None → BeginsAt same always w who t r w' → Begun same always w who t r w'
   proceeds t r w' e b = let P : Option Fault → Type 0 = λ m. Or t m r w' in subst P (sym e) b
 
   no_word : (x : Option ℕ) → is_some x ≡ false → when (is_none x) fault.Unpinned ≡ Some fault.Unpinned
@@ -98,7 +98,7 @@ module _ {V : Type 0} (same : V → V → Bool) (always : Bool) (w : Whole V) (w
     pub unpinned : (op : Point V) (r : Report V) → is_some (place c who).word ≡ false → r ≡ quiet kind.Tree (outcome.Refused (of_fault fault.Unpinned)) → Begun same always w who (Tree op) r w
     unpinned op r p q = refused (Tree op) fault.Unpinned r (past (Tree op) reg idle ∙ no_word (place c who).word p) q
 
-    on_tree : (op : Point V) (r : Report V) (w' : Whole V) → is_some (place c who).word ≡ true → BeginsOnTree same always w who op r w' → Begun same always w who (Tree op) r w'
+    on_tree : (op : Point V) (r : Report V) (w' : World V) → is_some (place c who).word ≡ true → BeginsOnTree same always w who op r w' → Begun same always w who (Tree op) r w'
     on_tree op r w' p b = proceeds (Tree op) r w' (past (Tree op) reg idle ∙ word (place c who).word p) b
 
     -- a call of one step
@@ -117,7 +117,7 @@ module _ {V : Type 0} (same : V → V → Bool) (always : Bool) (w : Whole V) (w
     pub asks_unpinned : (r : Report V) → is_some (place c who).word ≡ false → r ≡ quiet kind.Tree (outcome.Refused (of_fault fault.Unpinned)) → Begun same always w who (target.Survey survey.IsEmpty) r w
     asks_unpinned r p q = refused (target.Survey survey.IsEmpty) fault.Unpinned r (past (target.Survey survey.IsEmpty) reg idle ∙ no_word (place c who).word p) q
 
-    enter : (op : Point V) (r : Report V) (w' : Whole V) → finds_none op ≡ false → writes op ≡ false → Enters w who op r w' → BeginsOnTree same always w who op r w'
+    enter : (op : Point V) (r : Report V) (w' : World V) → finds_none op ≡ false → writes op ≡ false → Enters w who op r w' → BeginsOnTree same always w who op r w'
     enter (point.Get k) r w' n e b = b
     enter (point.Range start end size) r w' n e b = let P : Bool → Type 0 = λ x. EntersUnless x w who (point.Range start end size) r w' in subst P (sym n) b
     enter (point.RangeInclusive start last size) r w' n e b = let P : Bool → Type 0 = λ x. EntersUnless x w who (point.RangeInclusive start last size) r w' in subst P (sym n) b
@@ -127,7 +127,7 @@ module _ {V : Type 0} (same : V → V → Bool) (always : Bool) (w : Whole V) (w
     enter (point.ComputeInsert k) r w' n e b = absurd (cc e)
     enter (point.Exchange k old new) r w' n e b = absurd (cc e)
 
-    reserve : (op : Point V) (r : Report V) (w' : Whole V) → writes op ≡ true → Reserves w who op r w' → BeginsOnTree same always w who op r w'
+    reserve : (op : Point V) (r : Report V) (w' : World V) → writes op ≡ true → Reserves w who op r w' → BeginsOnTree same always w who op r w'
     reserve (point.Get k) r w' e b = absurd (cc e)
     reserve (point.Range start end size) r w' e b = absurd (cc e)
     reserve (point.RangeInclusive start last size) r w' e b = absurd (cc e)
@@ -151,19 +151,19 @@ module _ {V : Type 0} (same : V → V → Bool) (always : Bool) (w : Whole V) (w
     pub ends_at_once : (op : Point V) (r : Report V) → is_some (place c who).word ≡ true → finds_none op ≡ true → r ≡ quiet kind.Tree (outcome.Done (Scanned 0)) → Begun same always w who (Tree op) r w
     ends_at_once op r p n q = on_tree op r w p (at_once op r n q)
 
-    pub enters : (op : Point V) (r : Report V) (w' : Whole V) → is_some (place c who).word ≡ true → finds_none op ≡ false → writes op ≡ false → w'.forest ≡ w.forest → w'.machines ≡ set w.machines who (begun root op) → w'.calls ≡ set w.calls who Walking → w'.log ≡ w.log → r ≡ quiet kind.Tree outcome.Running → Begun same always w who (Tree op) r w'
+    pub enters : (op : Point V) (r : Report V) (w' : World V) → is_some (place c who).word ≡ true → finds_none op ≡ false → writes op ≡ false → w'.forest ≡ w.forest → w'.machines ≡ set w.machines who (begun root op) → w'.calls ≡ set w.calls who Walking → w'.log ≡ w.log → r ≡ quiet kind.Tree outcome.Running → Begun same always w who (Tree op) r w'
     enters op r w' p n e ef em ec el q =
         let state : w' ≡ record w { machines = set w.machines who (begun root op); calls = set w.calls who Walking } =
         ap (λ y. record { forest = y; machines = w'.machines; calls = w'.calls; log = w'.log }) ef ∙ ap (λ y. record { forest = w.forest; machines = y; calls = w'.calls; log = w'.log }) em ∙ ap (λ y. record { forest = w.forest; machines = set w.machines who (begun root op); calls = y; log = w'.log }) ec ∙ ap (λ y. record { forest = w.forest; machines = set w.machines who (begun root op); calls = set w.calls who Walking; log = y }) el in
         on_tree op r w' p (enter op r w' n e (record { state = state; report = q }))
 
-    pub reserves : (op : Point V) (r : Report V) (w' : Whole V) → is_some (place c who).word ≡ true → writes op ≡ true → w'.forest ≡ w.forest → w'.machines ≡ w.machines → w'.calls ≡ set w.calls who (Reserving op) → w'.log ≡ w.log → r ≡ quiet kind.Tree outcome.Running → Begun same always w who (Tree op) r w'
+    pub reserves : (op : Point V) (r : Report V) (w' : World V) → is_some (place c who).word ≡ true → writes op ≡ true → w'.forest ≡ w.forest → w'.machines ≡ w.machines → w'.calls ≡ set w.calls who (Reserving op) → w'.log ≡ w.log → r ≡ quiet kind.Tree outcome.Running → Begun same always w who (Tree op) r w'
     reserves op r w' p e ef em ec el q =
         let state : w' ≡ record w { calls = set w.calls who (Reserving op) } =
         ap (λ y. record { forest = y; machines = w'.machines; calls = w'.calls; log = w'.log }) ef ∙ ap (λ y. record { forest = w.forest; machines = y; calls = w'.calls; log = w'.log }) em ∙ ap (λ y. record { forest = w.forest; machines = w.machines; calls = y; log = w'.log }) ec ∙ ap (λ y. record { forest = w.forest; machines = w.machines; calls = set w.calls who (Reserving op); log = y }) el in
         on_tree op r w' p (reserve op r w' e (record { state = state; report = q }))
 
-    module _ (laws : ProgressLaws (Slot V) (Unit {0})) (intact : IsIntact same always w.forest w.machines w.calls) (op : Turn) (x : Collection) (w' : Whole V) (did : Collected same always w.forest w.machines who (event.Begin op) x w'.forest) where
+    module _ (laws : ProgressLaws (Slot V) (Unit {0})) (intact : IsIntact same always w.forest w.machines w.calls) (op : Turn) (x : Collection) (w' : World V) (did : Collected same always w.forest w.machines who (event.Begin op) x w'.forest) where
       begins : Begins c who op x.outcome w'.forest.collector
       begins =
           let m : (m : Machine Id V) × (slice_get w.machines who ≡ Some m) = there w.machines who (inside_machines same always w.forest w.machines w.calls intact who Idle idle) in
@@ -218,15 +218,15 @@ module _ {V : Type 0} (same : V → V → Bool) (always : Bool) (w : Whole V) (w
     pub go_idle : (noise : Noise Id V) (r : Report V) → slice_get w.calls who ≡ Some Idle → r ≡ quiet kind.Collection (outcome.Refused (of_fault fault.Idle)) → Does same always w who (Go noise) (misuse w who (Go noise)) r w
     go_idle noise r e q = go_refused noise fault.Idle r (placed noise ∙ ap (λ o. if is_busy o then None else Some fault.Idle) e) q
 
-    pub goes_on : (noise : Noise Id V) (r : Report V) (w' : Whole V) (k : Call V) → slice_get w.calls who ≡ Some k → is_busy (Some k) ≡ true → GoesAt same always w who (Some k) noise r w' → Does same always w who (Go noise) (misuse w who (Go noise)) r w'
+    pub goes_on : (noise : Noise Id V) (r : Report V) (w' : World V) (k : InFlight V) → slice_get w.calls who ≡ Some k → is_busy (Some k) ≡ true → GoesAt same always w who (Some k) noise r w' → Does same always w who (Go noise) (misuse w who (Go noise)) r w'
     goes_on noise r w' k e b d =
         let none : misuse w who (Go noise) ≡ None = placed noise ∙ ap (λ o. if is_busy o then None else Some fault.Idle) e ∙ ap (λ x. if x then None else Some fault.Idle) b in
         let P : Option Fault → Type 0 = λ m. Does same always w who (Go noise) m r w' in
-        let Q : Option (Call V) → Type 0 = λ o. GoesAt same always w who o noise r w' in
+        let Q : Option (InFlight V) → Type 0 = λ o. GoesAt same always w who o noise r w' in
         subst P (sym none) (subst Q (sym e) d)
 
 -- what stands in flight, by what it is about
-pub is_idle : {V : Type 0} (o : Option (Call V)) → Some about.Idle ≡ option_map stage_of o → o ≡ Some Idle
+pub is_idle : {V : Type 0} (o : Option (InFlight V)) → Some about.Idle ≡ option_map stage_of o → o ≡ Some Idle
 is_idle (Some Idle) e = refl
 is_idle (Some (Collecting op)) e = absurd (cc e)
 is_idle (Some (Reserving op)) e = absurd (cc e)
@@ -234,7 +234,7 @@ is_idle (Some (Securing op)) e = absurd (cc e)
 is_idle (Some Walking) e = absurd (cc e)
 is_idle None e = absurd (cc e)
 
-pub is_collecting : {V : Type 0} (o : Option (Call V)) (op : Turn) → Some (about.Collecting op) ≡ option_map stage_of o → o ≡ Some (Collecting op)
+pub is_collecting : {V : Type 0} (o : Option (InFlight V)) (op : Turn) → Some (about.Collecting op) ≡ option_map stage_of o → o ≡ Some (Collecting op)
 is_collecting (Some (Collecting y)) op e = ap (λ z. Some (Collecting z)) (let q : y ≡ op = cc in q)
 is_collecting (Some Idle) op e = absurd (cc e)
 is_collecting (Some (Reserving y)) op e = absurd (cc e)
@@ -242,7 +242,7 @@ is_collecting (Some (Securing y)) op e = absurd (cc e)
 is_collecting (Some Walking) op e = absurd (cc e)
 is_collecting None op e = absurd (cc e)
 
-pub is_securing : {V : Type 0} (o : Option (Call V)) → Some about.Securing ≡ option_map stage_of o → IsSecuring o
+pub is_securing : {V : Type 0} (o : Option (InFlight V)) → Some about.Securing ≡ option_map stage_of o → IsSecuring o
 is_securing (Some (Securing y)) e = tt
 is_securing (Some Idle) e = absurd (cc e)
 is_securing (Some (Collecting y)) e = absurd (cc e)
@@ -250,7 +250,7 @@ is_securing (Some (Reserving y)) e = absurd (cc e)
 is_securing (Some Walking) e = absurd (cc e)
 is_securing None e = absurd (cc e)
 
-pub is_walking : {V : Type 0} (o : Option (Call V)) → Some about.Walking ≡ option_map stage_of o → o ≡ Some Walking
+pub is_walking : {V : Type 0} (o : Option (InFlight V)) → Some about.Walking ≡ option_map stage_of o → o ≡ Some Walking
 is_walking (Some Walking) e = refl
 is_walking (Some Idle) e = absurd (cc e)
 is_walking (Some (Collecting y)) e = absurd (cc e)

@@ -11,9 +11,9 @@ use Rattle.congee.specs.declared.protocol.machine.Move.{Move}
 use Rattle.congee.specs.protocol.Play.{StepPlays}
 use Rattle.joint.specs.declared.id.Id.{Id}
 use Rattle.joint.specs.declared.nodes.slot.Slot.{Slot}
-use Rattle.joint.specs.nodes.Forest.{Forest, nodes, frame, Refuses, IsBeside, with_collector}
+use Rattle.joint.specs.nodes.Nodes.{Nodes, nodes, frame, Refuses, IsBeside, with_collector}
 use Rattle.joint.specs.engine.Laws.{CellLaws}
-use Rattle.joint.specs.engine.Machines.{IsSafe, Owes, IsSafeOrOwes, retiring_at, after_walk, Walked}
+use Rattle.joint.specs.engine.Safety.{IsSafe, Owes, IsSafeOrOwes, retiring_at, after_walk, Walked}
 use Rattle.joint.specs.nodes.Slots.{slot_names}
 use Rattle.joint.specs.nodes.View.{heap, id_number}
 use Rattle.joint.proofs.lemmas.engine.Filing.{filed_walked, filed_handed}
@@ -24,7 +24,7 @@ written n old new l e =
     let none : drop (length new) old ≡ [] = drop_all (length new) old (omega (arith, e)) in
     ap (λ xs. take n (new ++ xs)) none ∙ ap (take n) (append-nil new) ∙ take_all n new (omega (arith, l, e))
 
-module _ {V : Type 0} (same : V → V → Bool) (always : Bool) (cells : CellLaws {T = Slot V} (Unit {0}) slot_names) (s s' : Forest V) (ms ms' : List (Machine Id V)) (step : Step Id V) (d : Move V)
+module _ {V : Type 0} (same : V → V → Bool) (always : Bool) (cells : CellLaws {T = Slot V} (Unit {0}) slot_names) (s s' : Nodes V) (ms ms' : List (Machine Id V)) (step : Step Id V) (d : Move V)
     (plays : StepPlays id_number same always s.version_max (Refuses s) (nodes s) ms step d (nodes s') ms') (fr : frame s' ≡ frame s) where
   beside : IsBeside s s'
   beside = record { base = ap (λ x. x.base) fr; limit = ap (λ x. x.limit) fr; versions = ap (λ x. x.version_max) fr }
@@ -43,7 +43,7 @@ module _ {V : Type 0} (same : V → V → Bool) (always : Bool) (cells : CellLaw
   owes_some n e safe = let P : Option Id → Type 0 = λ x. IsSafeOrOwes same always x s' ms' step.who in subst P e safe
 
   -- one is, and is handed over
-  pub walked_some : (n : Id) → retiring_at (slice_get ms step.who) ≡ Some n → (s2 : Forest V) → s2 ≡ with_collector s' (deferred s'.collector step.who (Remove n.name)) → IsSafe same always s ms → Owes same always s' ms' step.who n → IsSafe same always s2 ms' → Walked same always s ms step d s2 ms'
+  pub walked_some : (n : Id) → retiring_at (slice_get ms step.who) ≡ Some n → (s2 : Nodes V) → s2 ≡ with_collector s' (deferred s'.collector step.who (Remove n.name)) → IsSafe same always s ms → Owes same always s' ms' step.who n → IsSafe same always s2 ms' → Walked same always s ms step d s2 ms'
   walked_some n e s2 is before owes safe =
       let store : s2.collector.store ≡ s'.collector.store = ap (λ x. x.collector.store) is in
       let P : Store (Slot V) → Type 0 = λ st. StepPlays id_number same always s.version_max (Refuses s) (nodes s) ms step d (heap st) ms' in
@@ -59,7 +59,7 @@ module _ {V : Type 0} (same : V → V → Bool) (always : Bool) (cells : CellLaw
       }
 
 -- the same over the vector of the calls, as it is lent out and written back
-module _ {V : Type 0} (same : V → V → Bool) (always : Bool) (cells : CellLaws {T = Slot V} (Unit {0}) slot_names) (s s' : Forest V) (items lent read new : List (Machine Id V)) (n : ℕ) (step : Step Id V) (d : Move V)
+module _ {V : Type 0} (same : V → V → Bool) (always : Bool) (cells : CellLaws {T = Slot V} (Unit {0}) slot_names) (s s' : Nodes V) (items lent read new : List (Machine Id V)) (n : ℕ) (step : Step Id V) (d : Move V)
     (value : lent ≡ items) (seen : read ≡ items) (len : length lent ≡ n) (long : length new ≡ length lent)
     (plays : StepPlays id_number same always s.version_max (Refuses s) (nodes s) lent step d (nodes s') new) (fr : frame s' ≡ frame s)
     (safe : IsSafeOrOwes same always (retiring_at (slice_get lent step.who)) s' new step.who) where
@@ -84,7 +84,7 @@ module _ {V : Type 0} (same : V → V → Bool) (always : Bool) (cells : CellLaw
   pub walked : None ≡ retiring_at (slice_get read step.who) → Walked same always s items step d s' back
   walked e = let P : List (Machine Id V) → Type 0 = λ xs. Walked same always s items step d s' xs in subst P (sym whole) (walked_none same always cells s s' items new step d played fr (at_items None e) safe_or)
 
-  pub walked_over : (o : Id) → Some o ≡ retiring_at (slice_get read step.who) → (s2 : Forest V) (ms2 : List (Machine Id V)) → ms2 ≡ back → s2 ≡ with_collector s' (deferred s'.collector step.who (Remove o.name)) → IsSafe same always s items → IsSafe same always s2 ms2
+  pub walked_over : (o : Id) → Some o ≡ retiring_at (slice_get read step.who) → (s2 : Nodes V) (ms2 : List (Machine Id V)) → ms2 ≡ back → s2 ≡ with_collector s' (deferred s'.collector step.who (Remove o.name)) → IsSafe same always s items → IsSafe same always s2 ms2
       → Walked same always s items step d s2 ms2
   walked_over o e s2 ms2 same2 is before ok =
       let q : ms2 ≡ new = same2 ∙ whole in

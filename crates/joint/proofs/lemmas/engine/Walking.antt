@@ -13,20 +13,20 @@ use Rattle.congee.specs.declared.protocol.machine.Move.{Move}
 use Rattle.congee.specs.declared.protocol.phase.Phase.{Phase}
 use Rattle.congee.specs.declared.protocol.phase.Phase.TheVariants.{Ended}
 use Rattle.congee.specs.protocol.Play.{IsMoved}
-use Rattle.joint.specs.declared.engine.in_flight.Call.{Call}
-use Rattle.joint.specs.declared.engine.in_flight.Call.TheVariants.{Idle, Walking}
+use Rattle.joint.specs.declared.engine.in_flight.InFlight.{InFlight}
+use Rattle.joint.specs.declared.engine.in_flight.InFlight.TheVariants.{Idle, Walking}
 use Rattle.joint.specs.declared.id.Id.{Id}
 use Rattle.joint.specs.declared.nodes.slot.Slot.{Slot}
-use Rattle.joint.specs.nodes.Forest.{Forest, nodes, Refuses}
+use Rattle.joint.specs.nodes.Nodes.{Nodes, nodes, Refuses}
 use Rattle.joint.specs.engine.Intact.{IsAt, IsIntact, WalkedOn, cleared, cleared_at, is_done, is_over, over_at, rested, resting}
 use Rattle.joint.specs.engine.Laws.{CallLaws}
-use Rattle.joint.specs.engine.Machines.{IsSafe, Runs, retiring_at, after_walk, Walked}
+use Rattle.joint.specs.engine.Safety.{IsSafe, Runs, retiring_at, after_walk, Walked}
 use Rattle.joint.specs.engine.Sound.{IsUnderWay}
 use Rattle.joint.specs.nodes.View.{id_number}
 use Rattle.joint.proofs.lemmas.engine.Ending.{goes}
 use Rattle.joint.proofs.lemmas.engine.Collecting.{either, there, inside_machines, set_here}
 use Rattle.joint.proofs.lemmas.engine.HandOver.{held_place}
-use Rattle.joint.proofs.lemmas.engine.Resting.{not_done, cleared_safe, cleared_is, now_between, told_final}
+use Rattle.joint.proofs.lemmas.engine.ScanEnds.{not_done, cleared_safe, cleared_is, now_between, told_final}
 
 over_ended : {V : Type 0} (x : Phase Id V) → is_over x ≡ true → x ≡ Ended
 over_ended Ended e = refl
@@ -37,7 +37,7 @@ not_over Ended e = absurd (cc e)
 not_over _ e = tt
 
 -- a worker whose call is on the tree is registered
-pub registered : {V : Type 0} (same : V → V → Bool) (always : Bool) (s : Forest V) (ms : List (Machine Id V)) (calls : List (Call V)) → IsIntact same always s ms calls → (who : ℕ) → slice_get calls who ≡ Some Walking → (place s.collector who).registered ≡ true
+pub registered : {V : Type 0} (same : V → V → Bool) (always : Bool) (s : Nodes V) (ms : List (Machine Id V)) (calls : List (InFlight V)) → IsIntact same always s ms calls → (who : ℕ) → slice_get calls who ≡ Some Walking → (place s.collector who).registered ≡ true
 registered same always s ms calls intact who on =
     let x = there ms who (inside_machines same always s ms calls intact who Walking on) in
     (intact.safe.sound.sound.guarded who x.0 x.1).registered (intact.each who Walking x.0 on x.1).0
@@ -66,7 +66,7 @@ rests m = by (is_done m.phase) refl where
   by true e o = absurd (cc o)
   by false e o = e
 
-module _ {V : Type 0} (same : V → V → Bool) (always : Bool) (laws : CallLaws {C = Id} {V = V} id_number same always) (s : Forest V) (ms : List (Machine Id V)) (calls : List (Call V)) (intact : IsIntact same always s ms calls) (step : Step Id V)
+module _ {V : Type 0} (same : V → V → Bool) (always : Bool) (laws : CallLaws {C = Id} {V = V} id_number same always) (s : Nodes V) (ms : List (Machine Id V)) (calls : List (InFlight V)) (intact : IsIntact same always s ms calls) (step : Step Id V)
     (on : slice_get calls step.who ≡ Some Walking) where
   abbrev old : (x : Machine Id V) × (slice_get ms step.who ≡ Some x)
   old = there ms step.who (inside_machines same always s ms calls intact step.who Walking on)
@@ -74,10 +74,10 @@ module _ {V : Type 0} (same : V → V → Bool) (always : Bool) (laws : CallLaws
   abbrev pub runs : Runs ms step.who
   runs = (old.0, old.1, (intact.each step.who Walking old.0 on old.1).0)
 
-  pub long_walk : (d : Move V) (s' : Forest V) (ms' : List (Machine Id V)) → Walked same always s ms step d s' ms' → length ms' ≡ length ms
+  pub long_walk : (d : Move V) (s' : Nodes V) (ms' : List (Machine Id V)) → Walked same always s ms step d s' ms' → length ms' ≡ length ms
   long_walk d s' ms' walked = let moved = walked.plays.moved old.0 old.1 in ap length moved.calls ∙ length-set ms step.who moved.now
 
-  module _ (d : Move V) (s' : Forest V) (ms' : List (Machine Id V)) (on_walked : WalkedOn same always s ms step d s' ms') where
+  module _ (d : Move V) (s' : Nodes V) (ms' : List (Machine Id V)) (on_walked : WalkedOn same always s ms step d s' ms') where
     abbrev walked : Walked same always s ms step d s' on_walked.between
     walked = on_walked.walked
 
@@ -127,7 +127,7 @@ module _ {V : Type 0} (same : V → V → Bool) (always : Bool) (laws : CallLaws
     pub over_now : over_at (slice_get ms' step.who) ≡ not (goes d.outcome)
     over_now = ap over_at now_here ∙ told
 
-    abbrev next : Call V
+    abbrev next : InFlight V
     next = if over_at (slice_get ms' step.who) then Idle else Walking
 
     by_end : (b : Bool) → is_over final.phase ≡ b → IsAt (if b then Idle else Walking) (place s'.collector step.who) final
@@ -150,7 +150,7 @@ module _ {V : Type 0} (same : V → V → Bool) (always : Bool) (laws : CallLaws
         | inl e ↦ (
             let q : Some final ≡ Some m = sym now_here ∙ subst (λ (j : ℕ). slice_get ms' j ≡ Some m) e.0 here in
             let x : final ≡ m = cc in
-            let P : Call V → Type 0 = λ y. IsAt y (place s'.collector i) m in
+            let P : InFlight V → Type 0 = λ y. IsAt y (place s'.collector i) m in
             let Q : ℕ → Type 0 = λ j. IsAt next (place s'.collector j) m in
             let R : Machine Id V → Type 0 = λ y. IsAt next (place s'.collector step.who) y in
             subst P e.1 (subst Q (sym e.0) (subst R x at_now)))
@@ -164,7 +164,7 @@ module _ {V : Type 0} (same : V → V → Bool) (always : Bool) (laws : CallLaws
     }
 
   -- a call that goes on has nothing to clear
-  pub uncleared : (d : Move V) (s' : Forest V) (between : List (Machine Id V)) → Walked same always s ms step d s' between → goes d.outcome ≡ true → between ≡ cleared between step.who
+  pub uncleared : (d : Move V) (s' : Nodes V) (between : List (Machine Id V)) → Walked same always s ms step d s' between → goes d.outcome ≡ true → between ≡ cleared between step.who
   uncleared d s' between w g =
       let on_walked : WalkedOn same always s ms step d s' (cleared between step.who) = record { between = between; walked = w; machines = refl } in
       let now : Machine Id V = (moved d s' (cleared between step.who) on_walked).now in

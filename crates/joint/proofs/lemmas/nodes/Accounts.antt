@@ -17,18 +17,18 @@ use Rattle.congee.specs.protocol.Events.{BackGives, NewNode, places}
 use Rattle.congee.specs.forms.Forms.{capacity_of, size_of}
 use Rattle.congee.specs.Heap.{fits}
 use Rattle.joint.specs.declared.nodes.counts.Counts.{Counts}
-use Rattle.joint.specs.declared.nodes.counts.Tally.{Tally}
+use Rattle.joint.specs.declared.nodes.counts.CellMark.{CellMark}
 use Rattle.joint.specs.declared.nodes.slot.Slot.{Slot}
-use Rattle.joint.specs.declared.nodes.slot.Word.{Word}
+use Rattle.joint.specs.declared.nodes.slot.LockWord.{LockWord}
 use Rattle.joint.specs.nodes.Altering.{Alters, Fills, Empties, IsNewSlot}
-use Rattle.joint.specs.nodes.Forest.{Forest, nodes, total, size, waits, waiting_size, sizes, waiting, waiting_bytes, IsTally, IsTallied, IsKept, AreWhole, gone_by}
+use Rattle.joint.specs.nodes.Nodes.{Nodes, nodes, total, size, waits, waiting_size, sizes, waiting, waiting_bytes, IsTally, IsTallied, IsKept, AreWhole, gone_by}
 use Rattle.joint.specs.NameLemmas.{number_named}
 use Rattle.joint.specs.Names.{number, named}
 use Rattle.joint.specs.nodes.Solid.{IsWhole}
-use Rattle.joint.specs.nodes.Tallies.{no_tally, tally_at, noted}
+use Rattle.joint.specs.nodes.CellMarks.{no_mark, mark_at, with_mark}
 use Rattle.joint.specs.nodes.View.{heap, view, node_of}
 use Rattle.joint.proofs.lemmas.nodes.Altering.{cell_of, inside, same_or}
-use Rattle.joint.proofs.lemmas.nodes.Kept.{same_some, node_here, node_is}
+use Rattle.joint.proofs.lemmas.nodes.NodesInvariant.{same_some, node_here, node_is}
 use Rattle.joint.proofs.lemmas.nodes.Totals.{counted, emptied_empties, is_open, IsOpen, placed_here, placed_apart, placed_total, placed_long, total_bound, waiting_few, bytes_few}
 
 -- two names of one cell that stand are one
@@ -40,53 +40,53 @@ one_standing st m n x y e f q =
     let t : m.turn ≡ n.turn = omega (arith, a, b, z) in
     ap (λ i. record { cell = i; turn = m.turn }) q ∙ ap (λ i. record { cell = n.cell; turn = i }) t
 
-module _ {P : Type 0} (F : Forest P) (k : Counts) (kept : IsKept k F) where
-  pub standing_inside : (n : Name) → is_some (value_at F.collector.store n) ≡ true → n.cell < length k.tallies.items
+module _ {P : Type 0} (F : Nodes P) (k : Counts) (kept : IsKept k F) where
+  pub standing_inside : (n : Name) → is_some (value_at F.collector.store n) ≡ true → n.cell < length k.cell_marks.items
   standing_inside n e = go (value_at F.collector.store n) refl
     where
-      go : (o : Option (Slot P)) → value_at F.collector.store n ≡ o → n.cell < length k.tallies.items
+      go : (o : Option (Slot P)) → value_at F.collector.store n ≡ o → n.cell < length k.cell_marks.items
       go None z = (let b : false ≡ true = sym (ap is_some z) ∙ e in absurd (cc b))
       go (Some s) z = (let a = inside F.collector.store n s z in omega (arith, a, kept.wide))
 
   module _ (n : Name) (s : Slot P) (st' : Store (Slot P)) (em : Empties F.collector.store n s st') where
-    abbrev tally : Tally
-    tally = tally_at k.tallies.items n.cell
+    abbrev cell_mark : CellMark
+    cell_mark = mark_at k.cell_marks.items n.cell
 
-    U : IsTally s tally
+    U : IsTally s cell_mark
     U = kept.tallied n s em.was
 
     -- what can be taken off
-    pub is_inside : n.cell < length k.tallies.items
+    pub is_inside : n.cell < length k.cell_marks.items
     is_inside = (let a = inside F.collector.store n s em.was in omega (arith, a, kept.wide))
 
     pub standing_some : 1 ≤ k.standing
     standing_some = (let c = counted (λ x. 1) F.collector.store n s em.was in omega (arith, c, kept.standing_is))
 
-    pub waits_some : tally.waits ≡ true → 1 ≤ k.waiting
+    pub waits_some : cell_mark.waits ≡ true → 1 ≤ k.waiting
     waits_some e =
         let one : waits s ≡ 1 = ap (λ (b : Bool). if b then 1 else 0) (U.waits_is ∙ e) in
         let c = counted waits F.collector.store n s em.was in
         omega (arith, one, c, kept.count_is)
 
-    pub bytes_some : tally.waits ≡ true → size_of tally.form ≤ k.waiting_bytes
+    pub bytes_some : cell_mark.waits ≡ true → size_of cell_mark.form ≤ k.waiting_bytes
     bytes_some e =
         let one : waiting_size s ≡ size s = ap (λ (b : Bool). if b then size s else 0) (U.waits_is ∙ e) in
         let c = counted waiting_size F.collector.store n s em.was in
         omega (arith, one, c, kept.bytes_is, U.size_is)
 
-    pub charge_some : size_of tally.form ≤ F.charge
+    pub charge_some : size_of cell_mark.form ≤ F.charge
     charge_some = (
         let c = counted size F.collector.store n s em.was in
         let a : F.charge ≡ F.base + sizes F.collector.store = kept.charged in
         omega (arith, c, a, U.size_is))
 
-    pub charged_less : (charge : ℕ) → charge + size_of tally.form ≡ F.charge → charge ≡ F.base + sizes st'
+    pub charged_less : (charge : ℕ) → charge + size_of cell_mark.form ≡ F.charge → charge ≡ F.base + sizes st'
     charged_less charge e = (
         let e0 : sizes st' + size s ≡ sizes F.collector.store = em.sums size in
         let a : F.charge ≡ F.base + sizes F.collector.store = kept.charged in
         omega (arith, e, e0, a, U.size_is))
 
-module _ {P : Type 0} (F F' : Forest P) (k : Counts) (kept : IsKept k F) (orderly : Orderly F'.collector) where
+module _ {P : Type 0} (F F' : Nodes P) (k : Counts) (kept : IsKept k F) (orderly : Orderly F'.collector) where
   -- where the cells and the charge are as before
   pub kept_same : F'.collector.store ≡ F.collector.store → F'.charge ≡ F.charge → F'.base ≡ F.base → IsKept k F'
   kept_same st charge base =
@@ -99,27 +99,27 @@ module _ {P : Type 0} (F F' : Forest P) (k : Counts) (kept : IsKept k F) (orderl
         count_is = kept.count_is ∙ sym (ap waiting st);
         bytes_is = kept.bytes_is ∙ sym (ap waiting_bytes st);
         whole = subst AreWhole (sym st) kept.whole;
-        tallied = subst (λ x. IsTallied x k.tallies.items) (sym st) kept.tallied;
+        tallied = subst (λ x. IsTallied x k.cell_marks.items) (sym st) kept.tallied;
         wide = kept.wide ∙ sym (ap (λ x. length x.cells) st);
         bounded = subst (λ x. length x.cells ≤ x.most) (sym st) kept.bounded;
         few = subst (λ x. x.most ≤ 16777215) (sym st) kept.few;
         used = subst (λ x. (i : ℕ) → i < length x.cells → 1 ≤ (cell_at x i).turns) (sym st) kept.used;
         turns = subst (λ x. (i : ℕ) → (cell_at x i).turns ≤ x.turn_max + 1) (sym st) kept.turns;
         last = subst (λ x. x.turn_max < 2 ^ 32) (sym st) kept.last;
-        roomy = subst (λ x. x.most ≤ vec_capacity k.tallies) (sym st) kept.roomy;
+        roomy = subst (λ x. x.most ≤ vec_capacity k.cell_marks) (sym st) kept.roomy;
       }
 
   module _ (n : Name) (s : Slot P) (em : Empties F.collector.store n s F'.collector.store) where
-    abbrev t : Tally
-    t = tally_at k.tallies.items n.cell
+    abbrev t : CellMark
+    t = mark_at k.cell_marks.items n.cell
 
     T : IsTally s t
     T = kept.tallied n s em.was
 
     -- where a node goes
-    pub kept_emptied : (k' : Counts) → k'.standing + 1 ≡ k.standing → F'.charge + size_of t.form ≡ F.charge → F'.base ≡ F.base → k'.tallies ≡ k.tallies → k'.waiting + (if t.waits then 1 else 0) ≡ k.waiting
+    pub kept_emptied : (k' : Counts) → k'.standing + 1 ≡ k.standing → F'.charge + size_of t.form ≡ F.charge → F'.base ≡ F.base → k'.cell_marks ≡ k.cell_marks → k'.waiting + (if t.waits then 1 else 0) ≡ k.waiting
         → k'.waiting_bytes + (if t.waits then size_of t.form else 0) ≡ k.waiting_bytes → IsKept k' F'
-    kept_emptied k' standing charge base tallies count bytes =
+    kept_emptied k' standing charge base cell_marks count bytes =
         let e0 : sizes F'.collector.store + size s ≡ sizes F.collector.store = em.sums size in
         let e1 : waiting F'.collector.store + waits s ≡ waiting F.collector.store = em.sums waits in
         let e2 : waiting_bytes F'.collector.store + waiting_size s ≡ waiting_bytes F.collector.store = em.sums waiting_size in
@@ -137,20 +137,20 @@ module _ {P : Type 0} (F F' : Forest P) (k : Counts) (kept : IsKept k F) (orderl
           count_is = omega (arith, count, e1, w1, kept.count_is);
           bytes_is = omega (arith, bytes, e2, w2, kept.bytes_is);
           whole = λ m x e. kept.whole m x (apart m x e);
-          tallied = λ m x e. subst (λ (y : List Tally). IsTally x (tally_at y m.cell)) (sym (ap (λ v. v.items) tallies)) (kept.tallied m x (apart m x e));
-          wide = ap (λ v. length v.items) tallies ∙ kept.wide ∙ sym em.wide;
+          tallied = λ m x e. subst (λ (y : List CellMark). IsTally x (mark_at y m.cell)) (sym (ap (λ v. v.items) cell_marks)) (kept.tallied m x (apart m x e));
+          wide = ap (λ v. length v.items) cell_marks ∙ kept.wide ∙ sym em.wide;
           bounded = omega (arith, kept.bounded, em.wide, em.most);
           few = omega (arith, kept.few, em.most);
           used = λ i l. (let p = kept.used i (omega (arith, l, em.wide)) in omega (arith, p, em.turns i));
           turns = λ i. (let p = kept.turns i in omega (arith, p, em.turns i, em.turn_max));
           last = omega (arith, kept.last, em.turn_max);
-          roomy = (let z : vec_capacity k'.tallies ≡ vec_capacity k.tallies = ap vec_capacity tallies in omega (arith, z, kept.roomy, em.most));
+          roomy = (let z : vec_capacity k'.cell_marks ≡ vec_capacity k.cell_marks = ap vec_capacity cell_marks in omega (arith, z, kept.roomy, em.most));
         }
 
   -- where a node comes
   module _ (n : Name) (s : Slot P) (fills : Fills F.collector.store n s F'.collector.store) (form : NodeType) (k' : Counts)
       (charge : F'.charge ≡ F.charge + size_of form) (base : F'.base ≡ F.base) (sz : size s ≡ size_of form) (free : s.word.retired ≡ false) (whole : IsWhole s.node)
-      (tallies : k'.tallies.items ≡ noted k.tallies.items n.cell (record { form = form; waits = false })) (room : vec_capacity k'.tallies ≡ vec_capacity k.tallies)
+      (cell_marks : k'.cell_marks.items ≡ with_mark k.cell_marks.items n.cell (record { form = form; waits = false })) (room : vec_capacity k'.cell_marks ≡ vec_capacity k.cell_marks)
       (standing : k'.standing ≡ k.standing + 1) (count : k'.waiting ≡ k.waiting) (bytes : k'.waiting_bytes ≡ k.waiting_bytes) where
     abbrev st : Store (Slot P)
     st = F.collector.store
@@ -161,41 +161,41 @@ module _ {P : Type 0} (F F' : Forest P) (k : Counts) (kept : IsKept k F) (orderl
     open_cell : IsOpen st n
     open_cell = is_open st n fills.next
 
-    abbrev new_tally : Tally
+    abbrev new_tally : CellMark
     new_tally = record { form = form; waits = false }
 
-    note_end : (ts : List Tally) (x d : Tally) → get_or (ts ++ x ∷ []) (length ts) d ≡ x
+    note_end : (ts : List CellMark) (x d : CellMark) → get_or (ts ++ x ∷ []) (length ts) d ≡ x
     note_end [] x d = refl
     note_end (y ∷ ts) x d = note_end ts x d
 
-    note_before : (ts : List Tally) (x d : Tally) (i : ℕ) → i ≢ length ts → get_or (ts ++ x ∷ []) i d ≡ get_or ts i d
+    note_before : (ts : List CellMark) (x d : CellMark) (i : ℕ) → i ≢ length ts → get_or (ts ++ x ∷ []) i d ≡ get_or ts i d
     note_before [] x d zero ne = absurd (ne refl)
     note_before [] x d (suc i) ne = refl
     note_before (y ∷ ts) x d zero ne = refl
     note_before (y ∷ ts) x d (suc i) ne = note_before ts x d i (λ e. ne (ap suc e))
 
-    near : n.cell ≤ length k.tallies.items
+    near : n.cell ≤ length k.cell_marks.items
     near = (let a = open_cell.near in omega (arith, a, kept.wide))
 
-    here_in : (b : Bool) → nat_lt n.cell (length k.tallies.items) ≡ b → tally_at (if b then slice_set k.tallies.items n.cell new_tally else k.tallies.items ++ new_tally ∷ []) n.cell ≡ new_tally
-    here_in true e = get_or-set_same k.tallies.items n.cell new_tally no_tally (let l : n.cell < length k.tallies.items = grind (arith, nat_tests, e) in l)
-    here_in false e = (let q : n.cell ≡ length k.tallies.items = (let g : length k.tallies.items ≤ n.cell = grind (arith, nat_tests, e) in omega (arith, g, near)) in
-        ap (λ j. get_or (k.tallies.items ++ new_tally ∷ []) j no_tally) q ∙ note_end k.tallies.items new_tally no_tally)
+    here_in : (b : Bool) → nat_lt n.cell (length k.cell_marks.items) ≡ b → mark_at (if b then slice_set k.cell_marks.items n.cell new_tally else k.cell_marks.items ++ new_tally ∷ []) n.cell ≡ new_tally
+    here_in true e = get_or-set_same k.cell_marks.items n.cell new_tally no_mark (let l : n.cell < length k.cell_marks.items = grind (arith, nat_tests, e) in l)
+    here_in false e = (let q : n.cell ≡ length k.cell_marks.items = (let g : length k.cell_marks.items ≤ n.cell = grind (arith, nat_tests, e) in omega (arith, g, near)) in
+        ap (λ j. get_or (k.cell_marks.items ++ new_tally ∷ []) j no_mark) q ∙ note_end k.cell_marks.items new_tally no_mark)
 
-    apart_in : (b : Bool) → nat_lt n.cell (length k.tallies.items) ≡ b → (i : ℕ) → i ≢ n.cell → tally_at (if b then slice_set k.tallies.items n.cell new_tally else k.tallies.items ++ new_tally ∷ []) i ≡ tally_at k.tallies.items i
-    apart_in true e i ne = get_or-set_other k.tallies.items n.cell i new_tally no_tally ne
-    apart_in false e i ne = (let q : n.cell ≡ length k.tallies.items = (let g : length k.tallies.items ≤ n.cell = grind (arith, nat_tests, e) in omega (arith, g, near)) in
-        note_before k.tallies.items new_tally no_tally i (λ z. ne (z ∙ sym q)))
+    apart_in : (b : Bool) → nat_lt n.cell (length k.cell_marks.items) ≡ b → (i : ℕ) → i ≢ n.cell → mark_at (if b then slice_set k.cell_marks.items n.cell new_tally else k.cell_marks.items ++ new_tally ∷ []) i ≡ mark_at k.cell_marks.items i
+    apart_in true e i ne = get_or-set_other k.cell_marks.items n.cell i new_tally no_mark ne
+    apart_in false e i ne = (let q : n.cell ≡ length k.cell_marks.items = (let g : length k.cell_marks.items ≤ n.cell = grind (arith, nat_tests, e) in omega (arith, g, near)) in
+        note_before k.cell_marks.items new_tally no_mark i (λ z. ne (z ∙ sym q)))
 
-    long_in : (b : Bool) → nat_lt n.cell (length k.tallies.items) ≡ b → (length (if b then slice_set k.tallies.items n.cell new_tally else k.tallies.items ++ new_tally ∷ []) ≡ length k.tallies.items) × (n.cell < length k.tallies.items) ⊎ (length (if b then slice_set k.tallies.items n.cell new_tally else k.tallies.items ++ new_tally ∷ []) ≡ length k.tallies.items + 1) × (n.cell ≡ length k.tallies.items)
-    long_in true e = inl (length-set k.tallies.items n.cell new_tally, (let l : n.cell < length k.tallies.items = grind (arith, nat_tests, e) in l))
-    long_in false e = inr (length_push k.tallies.items new_tally, (let g : length k.tallies.items ≤ n.cell = grind (arith, nat_tests, e) in omega (arith, g, near)))
+    long_in : (b : Bool) → nat_lt n.cell (length k.cell_marks.items) ≡ b → (length (if b then slice_set k.cell_marks.items n.cell new_tally else k.cell_marks.items ++ new_tally ∷ []) ≡ length k.cell_marks.items) × (n.cell < length k.cell_marks.items) ⊎ (length (if b then slice_set k.cell_marks.items n.cell new_tally else k.cell_marks.items ++ new_tally ∷ []) ≡ length k.cell_marks.items + 1) × (n.cell ≡ length k.cell_marks.items)
+    long_in true e = inl (length-set k.cell_marks.items n.cell new_tally, (let l : n.cell < length k.cell_marks.items = grind (arith, nat_tests, e) in l))
+    long_in false e = inr (length_push k.cell_marks.items new_tally, (let g : length k.cell_marks.items ≤ n.cell = grind (arith, nat_tests, e) in omega (arith, g, near)))
 
-    pub tally_here : tally_at k'.tallies.items n.cell ≡ new_tally
-    tally_here = ap (λ ts. tally_at ts n.cell) tallies ∙ here_in (nat_lt n.cell (length k.tallies.items)) refl
+    pub tally_here : mark_at k'.cell_marks.items n.cell ≡ new_tally
+    tally_here = ap (λ ts. mark_at ts n.cell) cell_marks ∙ here_in (nat_lt n.cell (length k.cell_marks.items)) refl
 
-    pub tally_apart : (i : ℕ) → i ≢ n.cell → tally_at k'.tallies.items i ≡ tally_at k.tallies.items i
-    tally_apart i ne = ap (λ ts. tally_at ts i) tallies ∙ apart_in (nat_lt n.cell (length k.tallies.items)) refl i ne
+    pub tally_apart : (i : ℕ) → i ≢ n.cell → mark_at k'.cell_marks.items i ≡ mark_at k.cell_marks.items i
+    tally_apart i ne = ap (λ ts. mark_at ts i) cell_marks ∙ apart_in (nat_lt n.cell (length k.cell_marks.items)) refl i ne
 
     total_is : (f : Slot P → ℕ) → total f st' ≡ total f st + f s
     total_is f = ap (total f) fills.state ∙ placed_total st n s fills.next f
@@ -212,16 +212,16 @@ module _ {P : Type 0} (F F' : Forest P) (k : Counts) (kept : IsKept k F) (orderl
       | inr x ↦ (let a : length st'.cells ≡ length (placed st n s).cells = ap (λ y. length y.cells) fills.state in let b : st'.most ≡ st.most = ap (λ y. y.most) fills.state in omega (arith, a, b, x.0, x.1, open_cell.below))
     ]
 
-    same_long : length k'.tallies.items ≡ length st'.cells
+    same_long : length k'.cell_marks.items ≡ length st'.cells
     same_long =
         let a : length st'.cells ≡ length (placed st n s).cells = ap (λ y. length y.cells) fills.state in
-        let b : length k'.tallies.items ≡ length (noted k.tallies.items n.cell new_tally) = ap length tallies in
+        let b : length k'.cell_marks.items ≡ length (with_mark k.cell_marks.items n.cell new_tally) = ap length cell_marks in
         elim (placed_long st n s fills.next) [
-          | inl x ↦ elim (long_in (nat_lt n.cell (length k.tallies.items)) refl) [
+          | inl x ↦ elim (long_in (nat_lt n.cell (length k.cell_marks.items)) refl) [
             | inl y ↦ omega (arith, a, b, x.0, y.0, kept.wide)
             | inr y ↦ absurd (omega (arith, x.1, y.1, kept.wide))
           ]
-          | inr x ↦ elim (long_in (nat_lt n.cell (length k.tallies.items)) refl) [
+          | inr x ↦ elim (long_in (nat_lt n.cell (length k.cell_marks.items)) refl) [
             | inl y ↦ absurd (omega (arith, x.1, y.1, kept.wide))
             | inr y ↦ omega (arith, a, b, x.0, y.0, kept.wide)
           ]
@@ -272,7 +272,7 @@ module _ {P : Type 0} (F F' : Forest P) (k : Counts) (kept : IsKept k F) (orderl
             | inl q ↦ (
                 let z : s ≡ x = same_some s x (sym fills.sets.value ∙ ap (value_at st') (sym q) ∙ e) in
                 let new : IsTally s new_tally = record { size_is = sz; waits_is = free } in
-                subst (λ (y : Slot P). IsTally y (tally_at k'.tallies.items m.cell)) z (subst (IsTally s) (sym (ap (λ (y : Name). tally_at k'.tallies.items y.cell) q ∙ tally_here)) new))
+                subst (λ (y : Slot P). IsTally y (mark_at k'.cell_marks.items m.cell)) z (subst (IsTally s) (sym (ap (λ (y : Name). mark_at k'.cell_marks.items y.cell) q ∙ tally_here)) new))
             | inr ne ↦ (
                 let before : value_at st m ≡ Some x = sym (fills.sets.others m ne) ∙ e in
                 subst (IsTally x) (sym (tally_apart m.cell (vacant_cell m x before))) (kept.tallied m x before))
@@ -287,22 +287,22 @@ module _ {P : Type 0} (F F' : Forest P) (k : Counts) (kept : IsKept k F) (orderl
         }
 
   -- where a node is handed over
-  module _ (n : Name) (s : Slot P) (w : Word) (alters : Alters F.collector.store n s (record s { word = w }) F'.collector.store) (k' : Counts)
+  module _ (n : Name) (s : Slot P) (w : LockWord) (alters : Alters F.collector.store n s (record s { word = w }) F'.collector.store) (k' : Counts)
       (charge : F'.charge ≡ F.charge) (base : F'.base ≡ F.base) (mark : w.retired ≡ true) (free : s.word.retired ≡ false)
-      (tallies : k'.tallies.items ≡ slice_set k.tallies.items n.cell (record (tally_at k.tallies.items n.cell) { waits = true })) (room : vec_capacity k'.tallies ≡ vec_capacity k.tallies)
-      (standing : k'.standing ≡ k.standing) (count : k'.waiting ≡ k.waiting + 1) (bytes : k'.waiting_bytes ≡ k.waiting_bytes + size_of (tally_at k.tallies.items n.cell).form) where
-    abbrev marked : Tally
-    marked = record (tally_at k.tallies.items n.cell) { waits = true }
+      (cell_marks : k'.cell_marks.items ≡ slice_set k.cell_marks.items n.cell (record (mark_at k.cell_marks.items n.cell) { waits = true })) (room : vec_capacity k'.cell_marks ≡ vec_capacity k.cell_marks)
+      (standing : k'.standing ≡ k.standing) (count : k'.waiting ≡ k.waiting + 1) (bytes : k'.waiting_bytes ≡ k.waiting_bytes + size_of (mark_at k.cell_marks.items n.cell).form) where
+    abbrev marked : CellMark
+    marked = record (mark_at k.cell_marks.items n.cell) { waits = true }
 
     abbrev s' : Slot P
     s' = record s { word = w }
 
-    at : n.cell < length k.tallies.items
+    at : n.cell < length k.cell_marks.items
     at = (let a = inside F.collector.store n s alters.was in omega (arith, a, kept.wide))
 
     pub kept_marked : IsKept k' F'
     kept_marked =
-        let U : IsTally s (tally_at k.tallies.items n.cell) = kept.tallied n s alters.was in
+        let U : IsTally s (mark_at k.cell_marks.items n.cell) = kept.tallied n s alters.was in
         let e0 : sizes F'.collector.store + size s ≡ sizes F.collector.store + size s = alters.sums size in
         let e1 : waiting F'.collector.store + waits s ≡ waiting F.collector.store + waits s' = alters.sums waits in
         let e2 : waiting_bytes F'.collector.store + waiting_size s ≡ waiting_bytes F.collector.store + waiting_size s' = alters.sums waiting_size in
@@ -325,15 +325,15 @@ module _ {P : Type 0} (F F' : Forest P) (k : Counts) (kept : IsKept k F) (orderl
             | inl q ↦ (
                 let z : s' ≡ x = same_some s' x (sym alters.sets.value ∙ ap (value_at F'.collector.store) (sym q) ∙ e) in
                 let new : IsTally s' marked = record { size_is = U.size_is; waits_is = mark } in
-                let is : tally_at k'.tallies.items m.cell ≡ marked = ap (λ (y : Name). tally_at k'.tallies.items y.cell) q ∙ ap (λ ts. tally_at ts n.cell) tallies ∙ get_or-set_same k.tallies.items n.cell marked no_tally at in
-                subst (λ (y : Slot P). IsTally y (tally_at k'.tallies.items m.cell)) z (subst (IsTally s') (sym is) new))
+                let is : mark_at k'.cell_marks.items m.cell ≡ marked = ap (λ (y : Name). mark_at k'.cell_marks.items y.cell) q ∙ ap (λ ts. mark_at ts n.cell) cell_marks ∙ get_or-set_same k.cell_marks.items n.cell marked no_mark at in
+                subst (λ (y : Slot P). IsTally y (mark_at k'.cell_marks.items m.cell)) z (subst (IsTally s') (sym is) new))
             | inr ne ↦ (
                 let before : value_at F.collector.store m ≡ Some x = sym (alters.sets.others m ne) ∙ e in
                 let off : m.cell ≢ n.cell = λ q. ne (one_standing F.collector.store m n x s before alters.was q) in
-                let is : tally_at k'.tallies.items m.cell ≡ tally_at k.tallies.items m.cell = ap (λ ts. tally_at ts m.cell) tallies ∙ get_or-set_other k.tallies.items n.cell m.cell marked no_tally off in
+                let is : mark_at k'.cell_marks.items m.cell ≡ mark_at k.cell_marks.items m.cell = ap (λ ts. mark_at ts m.cell) cell_marks ∙ get_or-set_other k.cell_marks.items n.cell m.cell marked no_mark off in
                 subst (IsTally x) (sym is) (kept.tallied m x before))
           ];
-          wide = ap length tallies ∙ length-set k.tallies.items n.cell marked ∙ kept.wide ∙ sym alters.wide;
+          wide = ap length cell_marks ∙ length-set k.cell_marks.items n.cell marked ∙ kept.wide ∙ sym alters.wide;
           bounded = omega (arith, kept.bounded, alters.wide, alters.most);
           few = omega (arith, kept.few, alters.most);
           used = λ i l. (let p = kept.used i (omega (arith, l, alters.wide)) in omega (arith, p, alters.turns i));
@@ -342,7 +342,7 @@ module _ {P : Type 0} (F F' : Forest P) (k : Counts) (kept : IsKept k F) (orderl
           roomy = omega (arith, kept.roomy, alters.most, room);
         }
 
-module _ {P : Type 0} (F : Forest P) (k : Counts) (kept : IsKept k F) where
+module _ {P : Type 0} (F : Nodes P) (k : Counts) (kept : IsKept k F) where
   pub count_few : k.waiting ≤ 16777215
   count_few = (let a = waiting_few F.collector.store in omega (arith, a, kept.count_is, kept.bounded, kept.few))
 
@@ -377,7 +377,7 @@ emptied_by {T} law st st' (Some (t, Some m)) n e q = subst (λ x. (s : T) × Emp
     go (Some s) z = (s, subst (Empties st m s) (sym e.1) (emptied_empties st m s z (law st m e.0)))
 
 -- a node that goes is destroyed
-pub gone_node : {P : Type 0} (F G : Forest P) (view_is : F ≡ G) (n : Name) (s : Slot P) (st' : Store (Slot P)) → Empties F.collector.store n s st' → BackGives (nodes G) (number n) (heap st')
+pub gone_node : {P : Type 0} (F G : Nodes P) (view_is : F ≡ G) (n : Name) (s : Slot P) (st' : Store (Slot P)) → Empties F.collector.store n s st' → BackGives (nodes G) (number n) (heap st')
 gone_node {P} F G view_is n s st' em =
     let q : heap st' (number n) ≡ view {P = P} true None = node_here st' n ∙ ap (λ b. view b (value_at st' n)) em.sets.used ∙ ap (λ v. view true v) em.sets.value in
     record {
@@ -390,7 +390,7 @@ gone_node {P} F G view_is n s st' em =
     }
 
 -- a new node
-pub new_node : {P : Type 0} (F G : Forest P) (view_is : F ≡ G) (n : Name) (s : Slot P) (st' : Store (Slot P)) (form : NodeType) (prefix key : List ℕ) (size : ℕ)
+pub new_node : {P : Type 0} (F G : Nodes P) (view_is : F ≡ G) (n : Name) (s : Slot P) (st' : Store (Slot P)) (form : NodeType) (prefix key : List ℕ) (size : ℕ)
     → Fills F.collector.store n s st' → IsNewSlot s form prefix → fits prefix key ≡ true → length prefix ≡ size → NewNode (nodes G) (number n) form key size (heap st')
 new_node {P} F G view_is n s st' form prefix key size fills fresh fit long =
     let q : heap st' (number n) ≡ node_of s = node_is st' n s fills.sets.value in

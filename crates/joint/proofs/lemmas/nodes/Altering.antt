@@ -10,7 +10,7 @@ use Rattle.crossbeam_epoch.specs.declared.world.cells.Cell.{Cell}
 use Rattle.crossbeam_epoch.specs.declared.names.Name.{Name}
 use Rattle.crossbeam_epoch.specs.World.Store.{Store, Sets, fresh, cell_at, value_in, value_at, was_given, replaced}
 use Rattle.joint.specs.nodes.Altering.{Alters, Exchanges}
-use Rattle.joint.specs.nodes.Forest.{of_value, of_cell, total}
+use Rattle.joint.specs.nodes.Nodes.{of_value, of_cell, total}
 
 under : {T : Type 0} (b : Bool) (x : Option T) (v : T) → (if b then x else None) ≡ Some v → (b ≡ true) × (x ≡ Some v)
 under true x v e = (refl, e)

@@ -20,8 +20,8 @@ use Rattle.congee.proofs.lemmas.forms.MapLemmas.{len_less}
 use Rattle.congee.proofs.lemmas.protocol.Leftovers.{kept_node, kept_value}
 use Rattle.joint.specs.declared.id.Id.{Id}
 use Rattle.joint.specs.declared.nodes.slot.Slot.{Slot}
-use Rattle.joint.specs.declared.nodes.slot.Word.{Word}
-use Rattle.joint.specs.nodes.Altering.{HandsOver}
+use Rattle.joint.specs.declared.nodes.slot.LockWord.{LockWord}
+use Rattle.joint.specs.nodes.Altering.{MovesTo}
 use Rattle.joint.specs.nodes.Solid.{AreAlike, IsLeft, IsSolid, IsWhole}
 use Rattle.joint.specs.nodes.View.{hung_at, child_at, node_of}
 use Rattle.joint.proofs.lemmas.nodes.Hanging.{put_here, put_beside, taken_here, taken_beside, full_is, empty_solid}
@@ -180,8 +180,8 @@ module _ {P : Type 0} where
   pub alike_in : (a : Slot P) (n : Box (Form Id P) Global) → a.node ≡ Some n → HoldsAlike (node_of a) → AreAlike n.value
   alike_in a n e alike = subst (λ o. HoldsAlike (node_of (slot_with a o))) e alike
 
-  hands_box : (n m : Box (Form Id P) Global) (n' m' : Form Id P) (w v : Word) → IsSolid (children_of n.value) → Becomes m.value m' (children_of n.value) → IsLeft n.value n'
-      → HandsOver (record { node = Some n; word = w }) (record { node = Some m; word = v }) (record { node = Some (with_value n n'); word = w }) (record { node = Some (with_value m m'); word = v })
+  hands_box : (n m : Box (Form Id P) Global) (n' m' : Form Id P) (w v : LockWord) → IsSolid (children_of n.value) → Becomes m.value m' (children_of n.value) → IsLeft n.value n'
+      → MovesTo (record { node = Some n; word = w }) (record { node = Some m; word = v }) (record { node = Some (with_value n n'); word = w }) (record { node = Some (with_value m m'); word = v })
   hands_box n m n' m' w v solid moved left = record {
     word_old = refl;
     word = refl;
@@ -201,8 +201,8 @@ module _ {P : Type 0} where
   }
 
   pub hands_slots : (a b : Slot P) (n m : Box (Form Id P) Global) (n' m' : Form Id P) → a.node ≡ Some n → b.node ≡ Some m → IsWhole a.node → Becomes m.value m' (children_of n.value) → IsLeft n.value n'
-      → HandsOver a b (record { node = Some (with_value n n'); word = a.word }) (record { node = Some (with_value m m'); word = b.word })
+      → MovesTo a b (record { node = Some (with_value n n'); word = a.word }) (record { node = Some (with_value m m'); word = b.word })
   hands_slots a b n m n' m' e f whole moved left =
-      subst (λ o. HandsOver (slot_with a o) b (record { node = Some (with_value n n'); word = a.word }) (record { node = Some (with_value m m'); word = b.word })) (sym e)
-      (subst (λ o. HandsOver (record { node = Some n; word = a.word }) (slot_with b o) (record { node = Some (with_value n n'); word = a.word }) (record { node = Some (with_value m m'); word = b.word })) (sym f)
+      subst (λ o. MovesTo (slot_with a o) b (record { node = Some (with_value n n'); word = a.word }) (record { node = Some (with_value m m'); word = b.word })) (sym e)
+      (subst (λ o. MovesTo (record { node = Some n; word = a.word }) (slot_with b o) (record { node = Some (with_value n n'); word = a.word }) (record { node = Some (with_value m m'); word = b.word })) (sym f)
       (hands_box n m n' m' a.word b.word (subst IsWhole e whole) moved left))

@@ -21,7 +21,7 @@ use Rattle.congee.proofs.lemmas.protocol.Regions.{whole, start_mono, span_pos}
 use Rattle.congee.proofs.lemmas.protocol.SweepBytes.{region_top}
 use Rattle.congee.proofs.lemmas.protocol.SweepKept.{child_after, child_before}
 use Rattle.joint.specs.declared.id.Id.{Id}
-use Rattle.joint.specs.declared.nodes.slot.Word.{Word}
+use Rattle.joint.specs.declared.nodes.slot.LockWord.{LockWord}
 use Rattle.joint.specs.nodes.Draining.{TakesBelow, Takes, Drained}
 use Rattle.joint.specs.nodes.Levels.{IsNodeIn}
 use Rattle.joint.specs.nodes.Survey.{IsTree}
@@ -76,7 +76,7 @@ module _ {V D : Type 0} (drains : D → ℕ → V → D → Type 0) (h : ℕ →
         takes_more drains h h1 h1 x.base (at from) (at b) before mid mid (omega arith) up so.takes
         (takes_none drains h1 (at from) (at b) mid up (top b small).0 (none_bytes h1 n node_in x r from b small none))
 
-    module _ (y : Form Id V) (w : Word) (e : shape y w ≡ h1 n) where
+    module _ (y : Form Id V) (w : LockWord) (e : shape y w ≡ h1 n) where
       hangs : (b : ℕ) (o : Option (Child Id V)) → map.get (children_of y) b ≡ o → (h1 n).children b ≡ hung_at o
       hangs b o g = sym (ap (λ (z : Node V). z.children b) e) ∙ ap hung_at g
 

@@ -14,15 +14,15 @@ use Rattle.joint.specs.declared.nodes.counts.Counts.{Counts}
 use Rattle.congee.specs.declared.forms.base_node.Node.{Node as Form}
 use Rattle.joint.specs.declared.id.Id.{Id}
 use Rattle.joint.specs.declared.nodes.slot.Slot.{Slot}
-use Rattle.joint.specs.nodes.Altering.{Exchanges, HandsOver}
-use Rattle.joint.specs.nodes.Forest.{Forest, nodes, with_collector, frame, size, waits, waiting_size, sizes, waiting, waiting_bytes, IsTally, IsKept}
+use Rattle.joint.specs.nodes.Altering.{Exchanges, MovesTo}
+use Rattle.joint.specs.nodes.Nodes.{Nodes, nodes, with_collector, frame, size, waits, waiting_size, sizes, waiting, waiting_bytes, IsTally, IsKept}
 use Rattle.joint.specs.NameLemmas.{number_named}
 use Rattle.joint.specs.Names.{number, named}
 use Rattle.joint.specs.nodes.Solid.{IsWhole}
-use Rattle.joint.specs.nodes.Tallies.{tally_at}
+use Rattle.joint.specs.nodes.CellMarks.{mark_at}
 use Rattle.joint.specs.nodes.View.{heap, view, hung_at, count_in, child_in, node_of}
 use Rattle.joint.proofs.lemmas.nodes.Altering.{same_or}
-use Rattle.joint.proofs.lemmas.nodes.Kept.{same_some, node_is, node_in, orderly_stored, same_frame}
+use Rattle.joint.proofs.lemmas.nodes.NodesInvariant.{same_some, node_is, node_in, orderly_stored, same_frame}
 
 -- an empty node has no children
 bare_view : {P : Type 0} (g : Bool) (v : Option (Slot P)) → (view g v).count ≡ 0 → (b : ℕ) → (view g v).children b ≡ Nothing
@@ -33,7 +33,7 @@ bare_view {P} g (Some s) e b = by s.node e where
   by (Some n) e = ap (λ m. hung_at (map.get m b)) (map.empty_of_len (children_of n.value) e) ∙ ap hung_at (map.get-empty nat_cmp b)
 
 -- it takes over from itself
-pub same_gives : {P : Type 0} (F : Forest P) (m n : ℕ) → m ≡ n → TakesOver (nodes F m) (nodes F n) → TakeOverGives (nodes F) m n (nodes F)
+pub same_gives : {P : Type 0} (F : Nodes P) (m n : ℕ) → m ≡ n → TakesOver (nodes F m) (nodes F n) → TakeOverGives (nodes F) m n (nodes F)
 same_gives F m n q t = subst (λ k. TakeOverGives (nodes F) m k (nodes F)) q (itself (subst (λ k. TakesOver (nodes F m) (nodes F k)) (sym q) t)) where
   itself : TakesOver (nodes F m) (nodes F m) → TakeOverGives (nodes F) m m (nodes F)
   itself t = record {
@@ -61,7 +61,7 @@ same_gives F m n q t = subst (λ k. TakeOverGives (nodes F) m k (nodes F)) q (it
     others = λ x nc nm. refl;
   }
 
-module _ {P : Type 0} (F : Forest P) (c' : State (Slot P) (Unit {0})) (beside : c' ≡ with_store F.collector c'.store) (m n : Name) (a b a' b' : Slot P) (ex : Exchanges F.collector.store m n a b a' b' c'.store) (hands : HandsOver a b a' b') where
+module _ {P : Type 0} (F : Nodes P) (c' : State (Slot P) (Unit {0})) (beside : c' ≡ with_store F.collector c'.store) (m n : Name) (a b a' b' : Slot P) (ex : Exchanges F.collector.store m n a b a' b' c'.store) (hands : MovesTo a b a' b') where
   abbrev st : Store (Slot P)
   st = F.collector.store
 
@@ -87,10 +87,10 @@ module _ {P : Type 0} (F : Forest P) (c' : State (Slot P) (Unit {0})) (beside : 
       let z1 = same_waiting a a' mark_old hands.size_old in
       let z2 = same_waiting b b' mark hands.size_is in
       let c : F.charge ≡ F.base + sizes st = kept.charged in
-      let p : IsTally a (tally_at k.tallies.items m.cell) = kept.tallied m a ex.was_old in
-      let q : IsTally b (tally_at k.tallies.items n.cell) = kept.tallied n b ex.was in
-      let p' : IsTally a' (tally_at k.tallies.items m.cell) = record { size_is = hands.size_old ∙ p.size_is; waits_is = mark_old ∙ p.waits_is } in
-      let q' : IsTally b' (tally_at k.tallies.items n.cell) = record { size_is = hands.size_is ∙ q.size_is; waits_is = mark ∙ q.waits_is } in
+      let p : IsTally a (mark_at k.cell_marks.items m.cell) = kept.tallied m a ex.was_old in
+      let q : IsTally b (mark_at k.cell_marks.items n.cell) = kept.tallied n b ex.was in
+      let p' : IsTally a' (mark_at k.cell_marks.items m.cell) = record { size_is = hands.size_old ∙ p.size_is; waits_is = mark_old ∙ p.waits_is } in
+      let q' : IsTally b' (mark_at k.cell_marks.items n.cell) = record { size_is = hands.size_is ∙ q.size_is; waits_is = mark ∙ q.waits_is } in
       record {
         orderly = orderly_stored F.collector c' beside kept.orderly;
         charged = omega (arith, c, e0, hands.size_old, hands.size_is);
@@ -105,9 +105,9 @@ module _ {P : Type 0} (F : Forest P) (c' : State (Slot P) (Unit {0})) (beside : 
           ]
         ];
         tallied = λ x s e. elim (same_or x m) [
-          | inl y ↦ (let z : a' ≡ s = same_some a' s (sym ex.is_old ∙ ap (value_at c'.store) (sym y) ∙ e) in subst (λ (t : Slot P). IsTally t (tally_at k.tallies.items x.cell)) z (subst (λ (t : Name). IsTally a' (tally_at k.tallies.items t.cell)) (sym y) p'))
+          | inl y ↦ (let z : a' ≡ s = same_some a' s (sym ex.is_old ∙ ap (value_at c'.store) (sym y) ∙ e) in subst (λ (t : Slot P). IsTally t (mark_at k.cell_marks.items x.cell)) z (subst (λ (t : Name). IsTally a' (mark_at k.cell_marks.items t.cell)) (sym y) p'))
           | inr nm ↦ elim (same_or x n) [
-            | inl y ↦ (let z : b' ≡ s = same_some b' s (sym ex.is ∙ ap (value_at c'.store) (sym y) ∙ e) in subst (λ (t : Slot P). IsTally t (tally_at k.tallies.items x.cell)) z (subst (λ (t : Name). IsTally b' (tally_at k.tallies.items t.cell)) (sym y) q'))
+            | inl y ↦ (let z : b' ≡ s = same_some b' s (sym ex.is ∙ ap (value_at c'.store) (sym y) ∙ e) in subst (λ (t : Slot P). IsTally t (mark_at k.cell_marks.items x.cell)) z (subst (λ (t : Name). IsTally b' (mark_at k.cell_marks.items t.cell)) (sym y) q'))
             | inr nn ↦ kept.tallied x s (sym (ex.others x nm nn) ∙ e)
           ]
         ];
@@ -120,7 +120,7 @@ module _ {P : Type 0} (F : Forest P) (c' : State (Slot P) (Unit {0})) (beside : 
         roomy = omega (arith, kept.roomy, ex.most);
       }
 
-  module _ (G : Forest P) (view_is : F ≡ G) where
+  module _ (G : Nodes P) (view_is : F ≡ G) where
     pub frame_exchanged : frame (with_collector F c') ≡ frame G
     frame_exchanged = same_frame F c' beside ex.most ex.turn_max ∙ ap frame view_is
 
@@ -158,5 +158,5 @@ module _ {P : Type 0} (F : Forest P) (c' : State (Slot P) (Unit {0})) (beside : 
               ap (λ g. view g (value_at c'.store (named x))) (ex.given (named x)) ∙ ap (λ v. view (was_given st (named x)) v) (ex.others (named x) am an) ∙ ap (λ y. nodes y x) view_is;
         }
 
-pub takes_in : {P : Type 0} (F G : Forest P) (view_is : F ≡ G) (m n : Name) (x y : Slot P) → value_at F.collector.store m ≡ Some x → value_at F.collector.store n ≡ Some y → TakesOver (nodes G (number m)) (nodes G (number n)) → TakesOver (node_of x) (node_of y)
+pub takes_in : {P : Type 0} (F G : Nodes P) (view_is : F ≡ G) (m n : Name) (x y : Slot P) → value_at F.collector.store m ≡ Some x → value_at F.collector.store n ≡ Some y → TakesOver (nodes G (number m)) (nodes G (number n)) → TakesOver (node_of x) (node_of y)
 takes_in F G view_is m n x y e f takes = subst (λ z. TakesOver z (node_of y)) (node_in F G view_is m x e) (subst (λ z. TakesOver (nodes G (number m)) z) (node_in F G view_is n y f) takes)

@@ -18,14 +18,14 @@ use Rattle.congee.specs.Heap.{Nothing, Below, Holds}
 use Rattle.congee.proofs.lemmas.forms.MapLemmas.{same_is, len_new, len_again, len_less}
 use Rattle.joint.specs.declared.id.Id.{Id}
 use Rattle.joint.specs.declared.nodes.slot.Slot.{Slot}
-use Rattle.joint.specs.declared.nodes.slot.Word.{Word}
+use Rattle.joint.specs.declared.nodes.slot.LockWord.{LockWord}
 use Rattle.joint.specs.nodes.Altering.{Hangs, IsNewSlot, Pulls}
 use Rattle.joint.specs.nodes.Solid.{IsSolid, IsWhole, hang}
 use Rattle.joint.specs.nodes.View.{id_number, hung_at, child_at, child_in, shape, node_of}
-use Rattle.joint.proofs.lemmas.nodes.Seen.{there}
+use Rattle.joint.proofs.lemmas.nodes.ByteLooks.{there}
 
 -- some lock word
-abbrev pub no_word : Word
+abbrev pub no_word : LockWord
 no_word = record { version = 0; locked = false; obsolete = false; retired = false }
 
 abbrev IsThere : {P : Type 0} → Child Id P → Type 0
@@ -117,7 +117,7 @@ module _ {P : Type 0} where
     hang_count (Sub c) solid some = put_count (Sub c) (map.get m b) refl (solid b)
     hang_count (Value v) solid some = put_count (Value v) (map.get m b) refl (solid b)
 
-  some_blank : (n : Form Id P) (w : Word) (b : ℕ) (x : Child Id P) → MayChange (shape n w) b (hung id_number x) → x ≡ Blank → IsSome (map.get (children_of n) b)
+  some_blank : (n : Form Id P) (w : LockWord) (b : ℕ) (x : Child Id P) → MayChange (shape n w) b (hung id_number x) → x ≡ Blank → IsSome (map.get (children_of n) b)
   some_blank n w b x may e = let z : MayChange (shape n w) b Nothing = subst (λ y. MayChange (shape n w) b (hung id_number y)) e may in there (map.get (children_of n) b) z
 
   abbrev slot_with : Slot P → Option (Box (Form Id P) Global) → Slot P
@@ -126,12 +126,12 @@ module _ {P : Type 0} where
   pub solid_in : (s : Slot P) (n : Box (Form Id P) Global) → s.node ≡ Some n → IsWhole s.node → IsSolid (children_of n.value)
   solid_in s n e whole = subst IsWhole e whole
 
-  pub room_of : (s : Slot P) (n : Box (Form Id P) Global) (b : ℕ) (x : Child Id P) (w : Word) → s.node ≡ Some n → MayChange (node_of s) b (hung id_number x) → MayChange (shape n.value w) b (hung id_number x)
+  pub room_of : (s : Slot P) (n : Box (Form Id P) Global) (b : ℕ) (x : Child Id P) (w : LockWord) → s.node ≡ Some n → MayChange (node_of s) b (hung id_number x) → MayChange (shape n.value w) b (hung id_number x)
   room_of s n b Blank w e may = subst (λ o. MayChange (node_of (slot_with s o)) b Nothing) e may
   room_of s n b (Sub c) w e may = subst (λ o. MayChange (node_of (slot_with s o)) b (Below (id_number c))) e may
   room_of s n b (Value v) w e may = subst (λ o. MayChange (node_of (slot_with s o)) b (Holds v)) e may
 
-  hangs_box : (n : Box (Form Id P) Global) (w : Word) (n' : Form Id P) (b : ℕ) (x : Child Id P) → IsSolid (children_of n.value) → MayChange (shape n.value w) b (hung id_number x)
+  hangs_box : (n : Box (Form Id P) Global) (w : LockWord) (n' : Form Id P) (b : ℕ) (x : Child Id P) → IsSolid (children_of n.value) → MayChange (shape n.value w) b (hung id_number x)
       → Becomes n.value n' (hang (children_of n.value) b x) → Hangs (record { node = Some n; word = w }) b x (record { node = Some (with_value n n'); word = w })
   hangs_box n w n' b x solid may becomes = record {
     word = refl;

@@ -21,7 +21,7 @@ use Rattle.congee.proofs.lemmas.protocol.Regions.{whole, start_mono, span_pos}
 use Rattle.congee.proofs.lemmas.protocol.SweepBytes.{region_top}
 use Rattle.congee.proofs.lemmas.protocol.SweepKept.{child_after, child_before, lacks_bytes, lacks_beside, has_value}
 use Rattle.joint.specs.declared.id.Id.{Id}
-use Rattle.joint.specs.declared.nodes.slot.Word.{Word}
+use Rattle.joint.specs.declared.nodes.slot.LockWord.{LockWord}
 use Rattle.joint.specs.nodes.Levels.{IsNodeIn}
 use Rattle.joint.specs.nodes.Survey.{IsTree, AllAbove, Ascend, Has, AreKeys, AreKeysBelow, PutsKeys}
 use Rattle.joint.specs.nodes.View.{id_number, hung_at, shape}
@@ -139,7 +139,7 @@ module _ {V : Type 0} (h : ℕ → Node V) (n : ℕ) (i : IsNodeIn h n) (x : Reg
     keys = λ m st k. (let e : x.base ≡ at 0 = omega arith in let P : ℕ → Type 0 = λ b. AreKeysBelow m b old in subst P e k);
   }
 
-  module _ (y : Form Id V) (w : Word) (e : shape y w ≡ h n) where
+  module _ (y : Form Id V) (w : LockWord) (e : shape y w ≡ h n) where
     hangs : (b : ℕ) (o : Option (Child Id V)) → get (children_of y) b ≡ o → (h n).children b ≡ hung_at o
     hangs b o g = sym (ap (λ (z : Node V). z.children b) e) ∙ ap hung_at g
 

@@ -11,13 +11,13 @@ use Rattle.crossbeam_epoch.specs.declared.names.Name.{Name}
 use Rattle.crossbeam_epoch.specs.World.Store.{Store, fresh, cell_at, value_at, was_given}
 use Rattle.congee.specs.Heap.{Node}
 use Rattle.joint.specs.declared.nodes.slot.Slot.{Slot}
-use Rattle.joint.specs.nodes.Forest.{Forest, nodes, of_value, of_cell, total, size}
+use Rattle.joint.specs.nodes.Nodes.{Nodes, nodes, of_value, of_cell, total, size}
 use Rattle.joint.specs.nodes.Listing.{last_name, last_names, nodes_that, bytes_of}
 use Rattle.joint.specs.NameLemmas.{named_number, number_named, same_name}
 use Rattle.joint.specs.Names.{number, named}
 use Rattle.joint.specs.nodes.View.{view}
 use Rattle.joint.proofs.lemmas.nodes.Altering.{cell_of, inside}
-use Rattle.joint.proofs.lemmas.nodes.Kept.{node_here}
+use Rattle.joint.proofs.lemmas.nodes.NodesInvariant.{node_here}
 
 module _ {X : Type 0} where
   contains_more : (y x : X) (xs : List X) → Contains xs x → Contains (y ∷ xs) x
@@ -146,11 +146,11 @@ pub ones : {X : Type 0} (xs : List X) → length xs ≡ sum_by (λ x. 1) xs
 ones [] = refl
 ones (x ∷ xs) = (let a = ones xs in let b = sum_by-cons (λ y. 1) x xs in omega (arith, a, b))
 
-pub bytes_are : {P : Type 0} (F : Forest P) (n : Name) (v : Slot P) → value_at F.collector.store n ≡ Some v → bytes_of F (number n) ≡ size v
+pub bytes_are : {P : Type 0} (F : Nodes P) (n : Name) (v : Slot P) → value_at F.collector.store n ≡ Some v → bytes_of F (number n) ≡ size v
 bytes_are F n v e = ap (λ x. of_value size (value_at F.collector.store x)) (named_number n) ∙ ap (of_value size) e
 
 -- a test of nodes that only what stands passes, by its slot
-module _ {P : Type 0} (test : Node P → Bool) (q : Slot P → Bool) (none : (g : Bool) → test (view g None) ≡ false) (some : (g : Bool) (v : Slot P) → test (view g (Some v)) ≡ q v) (F : Forest P) where
+module _ {P : Type 0} (test : Node P → Bool) (q : Slot P → Bool) (none : (g : Bool) → test (view g None) ≡ false) (some : (g : Bool) (v : Slot P) → test (view g (Some v)) ≡ q v) (F : Nodes P) where
   abbrev st : Store (Slot P)
   st = F.collector.store
 

@@ -19,21 +19,21 @@ use Rattle.congee.specs.declared.forms.base_node.NodeType.TheVariants.{N256}
 use Rattle.congee.specs.protocol.Bounds.{Within}
 use Rattle.congee.specs.protocol.Opening.{FreshRoot}
 use Rattle.joint.specs.declared.nodes.counts.Counts.{Counts}
-use Rattle.joint.specs.declared.nodes.counts.Tally.{Tally}
+use Rattle.joint.specs.declared.nodes.counts.CellMark.{CellMark}
 use Rattle.joint.specs.declared.limits.Limits.{Limits}
 use Rattle.joint.specs.declared.nodes.slot.Slot.{Slot}
 use Rattle.joint.specs.nodes.Altering.{Fills, IsNewSlot}
-use Rattle.joint.specs.nodes.Forest.{Forest, nodes, of_cell, total, size, waits, waiting_size, sizes, waiting, waiting_bytes, IsTally, IsKept}
+use Rattle.joint.specs.nodes.Nodes.{Nodes, nodes, of_cell, total, size, waits, waiting_size, sizes, waiting, waiting_bytes, IsTally, IsKept}
 use Rattle.joint.specs.Limits.{AreAllowed}
 use Rattle.joint.specs.nodes.Slots.{slot_names}
 use Rattle.joint.specs.NameLemmas.{number_named}
 use Rattle.joint.specs.Names.{number, named}
 use Rattle.joint.specs.nodes.Opening.{top, top_roots, IsPlanted, IsOpened}
 use Rattle.joint.specs.nodes.Solid.{IsWhole}
-use Rattle.joint.specs.nodes.Tallies.{tally_at, noted}
+use Rattle.joint.specs.nodes.CellMarks.{mark_at, with_mark}
 use Rattle.joint.specs.nodes.View.{view, node_of}
 use Rattle.joint.proofs.lemmas.nodes.Altering.{cell_of, given}
-use Rattle.joint.proofs.lemmas.nodes.Kept.{same_some}
+use Rattle.joint.proofs.lemmas.nodes.NodesInvariant.{same_some}
 
 next_top : {T : Type 0} (most last : ℕ) (n : Name) → IsNext (opened_store {T = T} most last) n → n ≡ top
 next_top {T} most last n next =
@@ -100,14 +100,14 @@ module _ {P : Type 0} (limits : EpochLimits) (s0 c1 c2 : State (Slot P) (Unit {0
       } in
       subst IsResting (sym came) r
 
-abbrev root_tally : Tally
+abbrev root_tally : CellMark
 root_tally = record { form = N256; waits = false }
 
-pub noted_root : (ts : List Tally) (old : List Tally) (n : Name) → ts ≡ noted old n.cell root_tally → old ≡ [] → n ≡ top → ts ≡ root_tally ∷ []
-noted_root ts old n e none is = e ∙ ap (λ x. noted x n.cell root_tally) none ∙ ap (λ (x : Name). noted [] x.cell root_tally) is
+pub noted_root : (ts : List CellMark) (old : List CellMark) (n : Name) → ts ≡ with_mark old n.cell root_tally → old ≡ [] → n ≡ top → ts ≡ root_tally ∷ []
+noted_root ts old n e none is = e ∙ ap (λ x. with_mark x n.cell root_tally) none ∙ ap (λ (x : Name). with_mark [] x.cell root_tally) is
 
 -- the cells with a root alone
-module _ {P : Type 0} (limits : Limits) (F : Forest P) (k : Counts) (planted : IsPlanted limits.epoch F.collector k) (allowed : AreAllowed limits) where
+module _ {P : Type 0} (limits : Limits) (F : Nodes P) (k : Counts) (planted : IsPlanted limits.epoch F.collector k) (allowed : AreAllowed limits) where
   abbrev s : Slot P
   s = planted.root.0
 
@@ -160,7 +160,7 @@ module _ {P : Type 0} (limits : Limits) (F : Forest P) (k : Counts) (planted : I
       let most : st.most ≡ limits.epoch.cells = ap (λ y. y.most) store_is in
       let last : st.turn_max ≡ limits.epoch.turn_max = ap (λ y. y.turn_max) store_is in
       let long : length st.cells ≡ 1 = ap (λ y. length y.cells) store_is in
-      let tally : IsTally s (tally_at k.tallies.items 0) = subst (λ ts. IsTally s (tally_at ts 0)) (sym planted.tallies) (record { size_is = new.size_is; waits_is = free }) in
+      let cell_mark : IsTally s (mark_at k.cell_marks.items 0) = subst (λ ts. IsTally s (mark_at ts 0)) (sym planted.cell_marks) (record { size_is = new.size_is; waits_is = free }) in
       record {
         orderly = planted.resting.orderly;
         charged = omega (arith, charge, e0, z);
@@ -168,8 +168,8 @@ module _ {P : Type 0} (limits : Limits) (F : Forest P) (k : Counts) (planted : I
         count_is = omega (arith, planted.none, e1, w1);
         bytes_is = omega (arith, planted.no_bytes, e2, w2);
         whole = λ n x e. subst (λ (y : Slot P). IsWhole y.node) (of_one n x e).1 new.whole;
-        tallied = λ n x e. subst (λ (y : Slot P). IsTally y (tally_at k.tallies.items n.cell)) (of_one n x e).1 (subst (λ i. IsTally s (tally_at k.tallies.items i)) (sym (of_one n x e).0) tally);
-        wide = ap length planted.tallies ∙ sym long;
+        tallied = λ n x e. subst (λ (y : Slot P). IsTally y (mark_at k.cell_marks.items n.cell)) (of_one n x e).1 (subst (λ i. IsTally s (mark_at k.cell_marks.items i)) (sym (of_one n x e).0) cell_mark);
+        wide = ap length planted.cell_marks ∙ sym long;
         bounded = omega (arith, long, most, allowed.some_cell);
         few = omega (arith, most, allowed.cells);
         used = λ i l. used_one i (omega (arith, l, long));

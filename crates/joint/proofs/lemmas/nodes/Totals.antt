@@ -16,7 +16,7 @@ use Rattle.congee.specs.forms.Forms.{form_of, size_of}
 use Rattle.joint.specs.declared.id.Id.{Id}
 use Rattle.joint.specs.declared.nodes.slot.Slot.{Slot}
 use Rattle.joint.specs.nodes.Altering.{Empties}
-use Rattle.joint.specs.nodes.Forest.{of_value, of_cell, total, size_in, size, waits, waiting_size, waiting, waiting_bytes}
+use Rattle.joint.specs.nodes.Nodes.{of_value, of_cell, total, size_in, size, waits, waiting_size, waiting, waiting_bytes}
 use Rattle.joint.proofs.lemmas.nodes.Altering.{cell_of, inside}
 
 pub size_bound : (f : NodeType) → size_of f ≤ 2104

@@ -18,14 +18,14 @@ use Rattle.joint.specs.declared.steps.Report.{Report}
 use Rattle.joint.specs.declared.steps.Step.{Step}
 use Rattle.joint.specs.Asked.{changes}
 use Rattle.joint.specs.engine.Journaling.{HasAnswer, asks_at, call_of, entry_of, has_place, in_list, kept_if, on_insert, on_present, reply_by, with_call}
-use Rattle.joint.specs.engine.Log.{has_room, heard_by, hears}
+use Rattle.joint.specs.engine.Log.{has_room, answered_if, with_answer}
 use Rattle.joint.specs.Reports.{target}
 use Rattle.joint.specs.world.MapSteps.{looks_up}
-use Rattle.joint.specs.world.Whole.{GivesUp, Holds, IsStep, StepsUnless, TakesStep, entry_at, gives_up, heard_at, kept_at}
-use Rattle.joint.specs.engine.Engine.{Whole}
+use Rattle.joint.specs.world.World.{FindsJournalFull, Holds, IsStep, StepsUnless, TakesStep, entry_at, finds_journal_full, answered_request, kept_at}
+use Rattle.joint.specs.engine.Engine.{World}
 use Rattle.joint.specs.threads.Writing.{Appended, IsEntryOf, IsInFlight, MayStep}
 use Rattle.joint.proofs.lemmas.world.Effects.{begin_undecided, effect}
-use Rattle.joint.proofs.lemmas.nodes.Kept.{same_some}
+use Rattle.joint.proofs.lemmas.nodes.NodesInvariant.{same_some}
 use Rattle.joint.proofs.lemmas.world.Logged.{result}
 
 -- what is kept is the entry of a step that decides
@@ -46,12 +46,12 @@ entry_called who q None e x a = absurd (cc x)
 entry_called who q (Some r) e x a = called_by who q r (call_of q.op q.answer r) e refl x a
 
 -- a call hears the answer that is wanted
-heard_wanted : (asks : Bool) (answer : Option (Option ℕ)) (q : Request ℕ) → ((a : Option ℕ) → answer ≡ Some a → asks ≡ true) → heard_by asks answer (Some q) ≡ Some (hears answer q)
+heard_wanted : (asks : Bool) (answer : Option (Option ℕ)) (q : Request ℕ) → ((a : Option ℕ) → answer ≡ Some a → asks ≡ true) → answered_if asks answer (Some q) ≡ Some (with_answer answer q)
 heard_wanted true answer q w = refl
 heard_wanted false None q w = refl
 heard_wanted false (Some a) q w = absurd (false≢true (w a refl))
 
-hears_op : (answer : Option (Option ℕ)) (q : Request ℕ) → (hears answer q).op ≡ q.op
+hears_op : (answer : Option (Option ℕ)) (q : Request ℕ) → (with_answer answer q).op ≡ q.op
 hears_op None q = refl
 hears_op (Some None) q = refl
 hears_op (Some (Some a)) q = refl
@@ -89,11 +89,11 @@ entry_changes op.IsEmpty a r c q = absurd (cc q)
 entry_changes op.Stats a r c q = absurd (cc q)
 
 -- a step that appends nothing
-record Still (s s' : Whole ℕ) : Type 0 where
+record Still (s s' : World ℕ) : Type 0 where
   pub entries : s'.log.entries ≡ s.log.entries
   pub places : s'.log.places ≡ s.log.places
 
-module _ (s s' : Whole ℕ) (who : ℕ) (h : Holds nat_eq true s) where
+module _ (s s' : World ℕ) (who : ℕ) (h : Holds nat_eq true s) where
   -- a step that is no step of a call in flight
   module _ (event : Event ℕ) (r : Report ℕ) where
     abbrev step : Step ℕ
@@ -125,10 +125,10 @@ module _ (s s' : Whole ℕ) (who : ℕ) (h : Holds nat_eq true s) where
     Appends = (kept : Option (Entry ℕ)) × Appended s s' who o given (Go noise) kept
 
     abbrev hearing : Request ℕ
-    hearing = hears noise.answer asked
+    hearing = with_answer noise.answer asked
 
-    heard : heard_at s who (Go noise) ≡ Some hearing
-    heard = ap (heard_by (asks_at (slice_get s.machines who)) noise.answer) own ∙ heard_wanted _ noise.answer asked wanted
+    heard : answered_request s who (Go noise) ≡ Some hearing
+    heard = ap (answered_if (asks_at (slice_get s.machines who)) noise.answer) own ∙ heard_wanted _ noise.answer asked wanted
 
     -- the entry that is kept has its closure's answer, and its place where it writes
     record Keeps (e : Entry ℕ) : Type 0 where
@@ -159,12 +159,12 @@ module _ (s s' : Whole ℕ) (who : ℕ) (h : Holds nat_eq true s) where
       },
     )
 
-    given_up : GivesUp s who r s' → Appends
+    given_up : FindsJournalFull s who r s' → Appends
     given_up t = (
       None,
       record {
-        entries = ap (λ (y : Whole ℕ). y.log.entries) t.state ∙ sym (append-nil s.log.entries);
-        places = ap (λ (y : Whole ℕ). y.log.places) t.state;
+        entries = ap (λ (y : World ℕ). y.log.entries) t.state ∙ sym (append-nil s.log.entries);
+        places = ap (λ (y : World ℕ). y.log.places) t.state;
         of = λ e q. absurd (cc q);
         had = λ e q. absurd (cc q);
       },
@@ -175,10 +175,10 @@ module _ (s s' : Whole ℕ) (who : ℕ) (h : Holds nat_eq true s) where
     either false x = taken x
 
     went : IsStep nat_eq true s go r s' → Appends
-    went x = either (gives_up s who (Go noise)) x.does
+    went x = either (finds_journal_full s who (Go noise)) x.does
 
 -- a step of a call
-pub steps_on : (s s' : Whole ℕ) (step : Step ℕ) (o : Op ℕ) (given : Option (Option ℕ)) (r : Report ℕ) → Holds nat_eq true s → IsStep nat_eq true s step r s' → MayStep s step.worker o given step.event
+pub steps_on : (s s' : World ℕ) (step : Step ℕ) (o : Op ℕ) (given : Option (Option ℕ)) (r : Report ℕ) → Holds nat_eq true s → IsStep nat_eq true s step r s' → MayStep s step.worker o given step.event
     → (kept : Option (Entry ℕ)) × Appended s s' step.worker o given step.event kept
 steps_on s s' step o given r h x may = by step.event x may where
   by : (event : Event ℕ) → IsStep nat_eq true s (record { worker = step.worker; event = event }) r s' → MayStep s step.worker o given event → (kept : Option (Entry ℕ)) × Appended s s' step.worker o given event kept

@@ -21,8 +21,8 @@ use Rattle.congee.specs.declared.protocol.op.Op.{Op as Point}
 use Rattle.congee.specs.declared.protocol.op.Op.TheVariants as point
 use Rattle.congee.specs.declared.protocol.store.Refusal.TheVariants as cause
 use Rattle.congee.specs.Heap.{Node}
-use Rattle.joint.specs.declared.engine.in_flight.Call.{Call}
-use Rattle.joint.specs.declared.engine.in_flight.Call.TheVariants as call
+use Rattle.joint.specs.declared.engine.in_flight.InFlight.{InFlight}
+use Rattle.joint.specs.declared.engine.in_flight.InFlight.TheVariants as call
 use Rattle.joint.specs.declared.id.Id.{Id}
 use Rattle.joint.specs.declared.refusal.Refusal.TheVariants.{Memory}
 use Rattle.joint.specs.declared.steps.Done.TheVariants as done
@@ -42,8 +42,8 @@ use Rattle.joint.specs.Refusals.{of_fault}
 use Rattle.joint.specs.Reports.{target, told, collected}
 use Rattle.joint.specs.engine.Surveys.{TellsOf}
 use Rattle.joint.specs.threads.Threads.{IsHold}
-use Rattle.joint.specs.world.Whole.{StepsUnless, gives_up}
-use Rattle.joint.specs.engine.Engine.{BeginsAt, BeginsOnTree, Collects, Does, EntersUnless, GoesAt, IsOfCall, Proceeds, Whole, engine_of, finds_none, interruption, is_busy, misuse, place_of, reserving, unready}
+use Rattle.joint.specs.world.World.{StepsUnless, finds_journal_full}
+use Rattle.joint.specs.engine.Engine.{BeginsAt, BeginsOnTree, Collects, Does, EntersUnless, GoesAt, IsOfCall, Proceeds, World, engine_of, finds_none, interruption, is_busy, misuse, place_of, reserving, unready}
 
 -- not for tokens of another index
 abbrev Own : Option Fault → Type 0
@@ -93,7 +93,7 @@ module _ {J : Type 0} (p : Participant J) where
 fault_own : {T J : Type 0} (s : State T J) (who : ℕ) (event : Turn) → Own (collector.fault s who event)
 fault_own s who event = own_if (place s who).registered _ (Some fault.Unknown) (event_own (place s who) event (place s who).phase) (tt {0})
 
-misuse_own : {V : Type 0} (s : Whole V) (who : ℕ) (event : Event V) → Own (misuse s who event)
+misuse_own : {V : Type 0} (s : World V) (who : ℕ) (event : Event V) → Own (misuse s who event)
 misuse_own s who Register = tt {0}
 misuse_own s who (Begin op) =
     own_if (place_of s who).registered _ (Some fault.Unknown)
@@ -133,14 +133,14 @@ module _ {V : Type 0} where
   survey_tells h survey.Stats (Refused Memory) t = tt {0}
   survey_tells h survey.Stats _ t = absurd t
 
-module _ {V : Type 0} (same : V → V → Bool) (always : Bool) (s s' : Whole V) (who : ℕ) where
+module _ {V : Type 0} (same : V → V → Bool) (always : Bool) (s s' : World V) (who : ℕ) where
   abbrev Tells : Report V → Type 0
   Tells r = IsToldInCall r.outcome
 
   so : (r : Report V) (o : Outcome V) → r.outcome ≡ o → IsToldInCall o → Tells r
   so r o is t = subst IsToldInCall (sym is) t
 
-  collects : (b : Whole V) (event : Turn) (k : Call V) (r : Report V) → Collects same always b who event k r s' → Tells r
+  collects : (b : World V) (event : Turn) (k : InFlight V) (r : Report V) → Collects same always b who event k r s' → Tells r
   collects b event k r x =
       so r (collected x.turn.outcome) (ap (λ r. r.outcome) x.report)
       (collected_tells V b.forest.collector who event _ x.turn.outcome (fault_own b.forest.collector who event) x.step.report.outcome)
@@ -164,7 +164,7 @@ module _ {V : Type 0} (same : V → V → Bool) (always : Bool) (s s' : Whole V)
   begins (target.Tree op) r x = begins_tree op r x
   begins (target.Survey k) r x = so r x.outcome (ap (λ r. r.outcome) x.report) (survey_tells _ k x.outcome x.tells)
 
-  goes : (k : Option (Call V)) (noise : Noise Id V) (r : Report V) → GoesAt same always s who k noise r s' → Tells r
+  goes : (k : Option (InFlight V)) (noise : Noise Id V) (r : Report V) → GoesAt same always s who k noise r s' → Tells r
   goes None noise r x = absurd x
   goes (Some call.Idle) noise r x = absurd x
   goes (Some (call.Collecting op)) noise r x = collects s turn.Go (call.Collecting op) r x
@@ -212,7 +212,7 @@ module _ {V : Type 0} where
   turn_worker who op (Some r) step t = go_worker who r.outcome step t
 
 module _ {V : Type 0} (same : V → V → Bool) (always : Bool) where
-  taken_tells : (s s' : Whole V) (step : Step V) (r : Report V) (gives : Bool) → IsOfCall step.event → StepsUnless same always gives s step r s' → IsToldInCall r.outcome
+  taken_tells : (s s' : World V) (step : Step V) (r : Report V) (gives : Bool) → IsOfCall step.event → StepsUnless same always gives s step r s' → IsToldInCall r.outcome
   taken_tells s s' step r true c x = subst IsToldInCall (sym (ap (λ r. r.outcome) x.report)) (tt {0})
   taken_tells s s' step r false c x =
       let told : IsToldInCall x.told.outcome = does same always (engine_of s) (engine_of s') step.worker step.event (misuse (engine_of s) step.worker step.event) x.told c (misuse_own (engine_of s) step.worker step.event) x.engine.does in
@@ -220,7 +220,7 @@ module _ {V : Type 0} (same : V → V → Bool) (always : Bool) where
 
   -- a step of a call tells no registration, and no token of another index
   pub step_tells : (step : Step V) (r : Report V) → IsOfCall step.event → IsHold same always step r → IsToldInCall r.outcome
-  step_tells step r c h = taken_tells h.0 h.1 step r (gives_up h.0 step.worker step.event) c h.2.does
+  step_tells step r c h = taken_tells h.0 h.1 step r (finds_journal_full h.0 step.worker step.event) c h.2.does
 
 module _ {V Q : Type 0} (hold : ℕ → Op V → Step V → Report V → Type 0) (pair : ℕ → V → Q) (who : ℕ) (op : Op V) {S : Type 0} (worker : S → ℕ) (oper : S → Op V) where
   abbrev Gives : S → Step V → Report V → S → Type 0

@@ -7,9 +7,9 @@ use Rattle.joint.specs.engine.Journaling.{in_list, one_where}
 use Rattle.joint.specs.threads.Journals.{IsJournaled, count_watched, is_watched}
 use Rattle.joint.specs.nodes.Opening.{HasPlaces}
 use Rattle.joint.specs.world.MapSteps.{looks_up}
-use Rattle.joint.specs.world.Whole.{Holds}
-use Rattle.joint.specs.engine.Engine.{Whole}
-use Rattle.joint.proofs.lemmas.calls.Advanced.{journal_legal, journal_replays}
+use Rattle.joint.specs.world.World.{Holds}
+use Rattle.joint.specs.engine.Engine.{World}
+use Rattle.joint.proofs.lemmas.calls.WorldSteps.{journal_legal, journal_replays}
 
 module _ (watched : Entry ℕ → Bool) where
   one_more : (xs : List (Entry ℕ)) (e : Entry ℕ) → count_watched watched (xs ++ e ∷ []) ≡ count_watched watched xs + one_where (is_watched watched e)
@@ -39,7 +39,7 @@ module _ (watched : Entry ℕ → Bool) where
   count_bounded (x ∷ xs) = let rest = count_bounded xs in let one = one_or_none (is_watched watched x) in omega (arith, rest, one)
 
 -- what holds of a machine with so many places
-pub journaled : (s : Whole ℕ) → Holds nat_eq true s → HasPlaces s.log.places → IsJournaled s
+pub journaled : (s : World ℕ) → Holds nat_eq true s → HasPlaces s.log.places → IsJournaled s
 journaled s h p = record {
   places = p;
   long = let room = h.2.room in omega (arith, room);

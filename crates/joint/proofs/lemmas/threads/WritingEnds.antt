@@ -15,10 +15,10 @@ use Rattle.joint.specs.declared.steps.Op.{Op}
 use Rattle.joint.specs.declared.steps.Op.TheVariants as op
 use Rattle.joint.specs.threads.Driving.{Turn}
 use Rattle.joint.specs.engine.Journaling.{call_of, on_insert, on_present}
-use Rattle.joint.specs.threads.Shares.{Tally}
+use Rattle.joint.specs.threads.Shares.{ShareView}
 use Rattle.joint.specs.threads.Threads.{End, Serves, computed, either_words, exchanged, inserted, removed, replaced, words}
 use Rattle.joint.specs.threads.Writing.{Counts}
-use Rattle.joint.proofs.lemmas.nodes.Kept.{same_some}
+use Rattle.joint.proofs.lemmas.nodes.NodesInvariant.{same_some}
 
 -- a call by the index's own tokens, and another
 pub served : {B : Type 0} (b : Bool) (does : Result B Refusal → Type 0) (r : Result B Refusal) → b ≡ true → does r → Serves b does r
@@ -38,7 +38,7 @@ pub either_refused : {B : Type 0} (of : ℕ → B) (P : Refusal → Type 0) (r :
 either_refused of P (Ok v) x = x
 either_refused of P (Err e) x = x
 
-module _ (watched : Entry ℕ → Bool) (who : ℕ) (ts : List (Turn ℕ)) (s s' : Tally) where
+module _ (watched : Entry ℕ → Bool) (who : ℕ) (ts : List (Turn ℕ)) (s s' : ShareView) where
   abbrev Same : Refusal → Type 0
   Same e = s' ≡ s
 

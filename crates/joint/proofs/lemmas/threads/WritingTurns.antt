@@ -14,11 +14,11 @@ use Rattle.joint.specs.declared.steps.Report.{Report}
 use Rattle.joint.specs.declared.steps.Step.{Step}
 use Rattle.joint.specs.threads.Driving.{AreTurns, Turn, Turns, ended}
 use Rattle.joint.specs.engine.Journaling.{in_list, one_where}
-use Rattle.joint.specs.threads.Shares.{Tally, counts_more}
+use Rattle.joint.specs.threads.Shares.{ShareView, counts_more}
 use Rattle.joint.specs.threads.Threads.{End}
-use Rattle.joint.specs.engine.Engine.{Whole}
+use Rattle.joint.specs.engine.Engine.{World}
 use Rattle.joint.specs.threads.Writing.{Appends, Counts, HoldsWriting, IsAnswered, IsEntryOf, IsWritingTurn, Progress, WritingTurn, given_after, given_by_turns, settled, told_with, unwritten}
-use Rattle.joint.proofs.lemmas.calls.Advanced.{journal_legal}
+use Rattle.joint.proofs.lemmas.calls.WorldSteps.{journal_legal}
 
 -- no items
 pub none_of : {A : Type 0} (xs : List A) → length xs ≡ 0 → xs ≡ []
@@ -57,7 +57,7 @@ told_fits (Some e) (Registered n) = refl
 told_fits (Some e) (Done d) = refl
 
 module _ (watched : Entry ℕ → Bool) (who : ℕ) (o : Op ℕ) where
-  turn_fits : (p : Progress) (s : Whole ℕ) (step : Step ℕ) (r : Report ℕ) (p' : Progress) (s' : Whole ℕ) → WritingTurn watched who o p s step r p' s' → Fits p'.entry r.outcome
+  turn_fits : (p : Progress) (s : World ℕ) (step : Step ℕ) (r : Report ℕ) (p' : Progress) (s' : World ℕ) → WritingTurn watched who o p s step r p' s' → Fits p'.entry r.outcome
   turn_fits p s step r p' s' (inl x) = subst (λ y. Fits p'.entry y) (sym (ap (λ y. y.outcome) x.tells)) (told_fits p'.entry x.told.outcome)
   turn_fits p s step r p' s' (inr x) = subst (λ y. Fits p'.entry y) (sym x.ends) (subst (λ y. Fits y (settled p.entry)) (sym (ap (λ y. y.entry) x.same)) (settled_fits p.entry))
 
@@ -108,7 +108,7 @@ module _ (watched : Entry ℕ → Bool) (who : ℕ) (o : Op ℕ) where
     none_follow e r (t ∷ ts) p f places p' places' out q x = absurd (over calls e r f t.step x.0 q x.2)
 
     module _ (t : Turn ℕ) (ts : List (Turn ℕ)) (p p1 p' : Progress) (rest : (e : Option (Entry ℕ)) → p1.entry ≡ e → Comes e p1 ts p') where
-      after_entry : (e : Option (Entry ℕ)) (n : Entry ℕ) (b c : Whole ℕ) → p.entry ≡ e → (h : HoldsWriting watched who o p b t.step t.report p1 c) → h.appended ≡ Some n → Comes e p (t ∷ ts) p'
+      after_entry : (e : Option (Entry ℕ)) (n : Entry ℕ) (b c : World ℕ) → p.entry ≡ e → (h : HoldsWriting watched who o p b t.step t.report p1 c) → h.appended ≡ Some n → Comes e p (t ∷ ts) p'
       after_entry e n b c q h w =
           let a : Appends watched who o (given_after o p.given t.step.event) p (Some n) p1 = subst (λ y. Appends watched who o (given_after o p.given t.step.event) p y p1) w h.appends in
           let none : e ≡ None = sym q ∙ a.0 in
@@ -144,11 +144,11 @@ module _ (watched : Entry ℕ → Bool) (who : ℕ) (o : Op ℕ) where
           share = c.share ∙ ap (λ y. counts_more y.share (one_where (watched c.entry))) a;
         })
 
-      after_hold : (e a : Option (Entry ℕ)) (b c : Whole ℕ) → p.entry ≡ e → (h : HoldsWriting watched who o p b t.step t.report p1 c) → h.appended ≡ a → Comes e p (t ∷ ts) p'
+      after_hold : (e a : Option (Entry ℕ)) (b c : World ℕ) → p.entry ≡ e → (h : HoldsWriting watched who o p b t.step t.report p1 c) → h.appended ≡ a → Comes e p (t ∷ ts) p'
       after_hold e (Some n) b c q h w = after_entry e n b c q h w
       after_hold e None b c q h w = after_none e q (subst (λ y. Appends watched who o (given_after o p.given t.step.event) p y p1) w h.appends)
 
-    after_turn : (t : Turn ℕ) (ts : List (Turn ℕ)) (p p1 p' : Progress) (f : F) (places places' : List Q) (out : Outcome ℕ) (e : Option (Entry ℕ)) → ((e : Option (Entry ℕ)) → p1.entry ≡ e → Comes e p1 ts p') → (b c : Whole ℕ) → p.entry ≡ e → WritingTurn watched who o p b t.step t.report p1 c
+    after_turn : (t : Turn ℕ) (ts : List (Turn ℕ)) (p p1 p' : Progress) (f : F) (places places' : List Q) (out : Outcome ℕ) (e : Option (Entry ℕ)) → ((e : Option (Entry ℕ)) → p1.entry ≡ e → Comes e p1 ts p') → (b c : World ℕ) → p.entry ≡ e → WritingTurn watched who o p b t.step t.report p1 c
         → Are p1 f (Some t.report) places ts p' places' out → Comes e p (t ∷ ts) p'
     after_turn t ts p p1 p' f places places' out e rest b c q (inl h) x = after_hold t ts p p1 p' rest e h.appended b c q h refl
     after_turn t ts p p1 p' f places places' out e rest b c q (inr s) x =
@@ -160,7 +160,7 @@ module _ (watched : Entry ℕ → Bool) (who : ℕ) (o : Op ℕ) where
     comes (t ∷ ts) p f last places p' places' out e q x = after_turn t ts p x.1 p' x.0 _ places' out e (λ e1 q1. comes ts x.1 x.0 (Some t.report) _ p' places' out e1 q1 x.4) x.3.0 x.3.1 q x.3.2 x.4
 
     -- what a whole call counts on its share
-    counts_by : (ts : List (Turn ℕ)) (share : Tally) (p' : Progress) (end : End ℕ) → Fits p'.entry (ended end) → Stays (unwritten share) p' ⊎ Counted (unwritten share) ts p' → Counts watched who o ts share p'.share end
+    counts_by : (ts : List (Turn ℕ)) (share : ShareView) (p' : Progress) (end : End ℕ) → Fits p'.entry (ended end) → Stays (unwritten share) p' ⊎ Counted (unwritten share) ts p' → Counts watched who o ts share p'.share end
     counts_by ts share p' (Err refusal) fit (inl s) = s.share
     counts_by ts share p' (Err refusal) fit (inr c) = absurd (subst (λ y. Fits y (Refused refusal)) c.has fit)
     counts_by ts share p' (Ok d) fit (inl s) = absurd (none_done d (subst (λ y. Fits y (Done d)) s.entry fit)) where
@@ -175,7 +175,7 @@ module _ (watched : Entry ℕ → Bool) (who : ℕ) (o : Op ℕ) where
       by (done.Empty b) f = absurd f
       by (done.Stats stats) f = absurd f
 
-    pub counts : (ts : List (Turn ℕ)) (share : Tally) (f : F) (places : List Q) (p' : Progress) (places' : List Q) (end : End ℕ) → Are (unwritten share) f None places ts p' places' (ended end) → Counts watched who o ts share p'.share end
+    pub counts : (ts : List (Turn ℕ)) (share : ShareView) (f : F) (places : List Q) (p' : Progress) (places' : List Q) (end : End ℕ) → Are (unwritten share) f None places ts p' places' (ended end) → Counts watched who o ts share p'.share end
     counts ts share f places p' places' end x =
         counts_by ts share p' end (ends_fit ts (unwritten share) f None places p' places' (ended end) (λ r q. absurd (cc q)) x) (comes ts (unwritten share) f None places p' places' (ended end) None refl x)
 

@@ -23,15 +23,15 @@ use Rattle.joint.specs.declared.steps.Target.{Target}
 use Rattle.joint.specs.declared.steps.Target.TheVariants as target
 use Rattle.joint.specs.engine.Intact.{root}
 use Rattle.joint.specs.engine.Journaling.{asks_at}
-use Rattle.joint.specs.engine.Log.{asked, heard_by, request_at}
+use Rattle.joint.specs.engine.Log.{asked, answered_if, request_at}
 use Rattle.joint.specs.Reports.{target, told}
 use Rattle.joint.specs.world.MapSteps.{EventMap, GoMap, PendingStep, BeginMap, BeginsOr, Stays, Line}
 use Rattle.joint.specs.engine.Flying.{Flights, AreInFlight, with_flight}
-use Rattle.joint.specs.world.Whole.{IsAsked, requests_after}
-use Rattle.joint.specs.engine.Engine.{Whole, EngineHolds, Does, is_in_flight, misuse, engine_of}
+use Rattle.joint.specs.world.World.{IsAsked, requests_after}
+use Rattle.joint.specs.engine.Engine.{World, EngineHolds, Does, is_in_flight, misuse, engine_of}
 use Rattle.joint.proofs.lemmas.world.Flights.{ends_stays, flight_here, flight_apart}
 use Rattle.joint.proofs.lemmas.world.Requested.{Heard, asks, is_asked, heard_is, undecided_asked, begins_asked}
-use Rattle.joint.proofs.lemmas.world.Placed.{asks_here}
+use Rattle.joint.proofs.lemmas.world.JournalPlaces.{asks_here}
 use Rattle.joint.proofs.lemmas.engine.Entering.{begin_free}
 
 module _ {V : Type 0} where
@@ -80,7 +80,7 @@ module _ {V : Type 0} where
         subst P (sym (request_apart qs w i o n)) (subst (λ (x : Flight V). IsAsked (request_at qs i) x) (sym (apart i n)) (each i)))
   ]
 
-module _ {V : Type 0} (same : V → V → Bool) (always : Bool) (s s' : Whole V) (w : ℕ) (holds : EngineHolds same always (engine_of s)) (fs : Flights V) (m : Pairs V) (fl : AreInFlight (engine_of s) fs)
+module _ {V : Type 0} (same : V → V → Bool) (always : Bool) (s s' : World V) (w : ℕ) (holds : EngineHolds same always (engine_of s)) (fs : Flights V) (m : Pairs V) (fl : AreInFlight (engine_of s) fs)
     (long : length s.log.requests ≡ length s.calls) (each : (i : ℕ) → IsAsked (request_at s.log.requests i) (fs i)) where
   abbrev qs : List (Option (Request V))
   qs = s.log.requests
@@ -123,7 +123,7 @@ module _ {V : Type 0} (same : V → V → Bool) (always : Bool) (s s' : Whole V)
   -- a worker's call goes on
   module _ (noise : Noise Id V) (on : Bool) where
     abbrev next : Option (Request V)
-    next = if on then heard_by (asks_at (slice_get s.machines w)) noise.answer (request_at qs w) else None
+    next = if on then answered_if (asks_at (slice_get s.machines w)) noise.answer (request_at qs w) else None
 
     gone : (fs' : Flights V) (f' : Flight V) → fs' ≡ with_flight fs w f' → IsAsked (request_at (slice_set qs w next) w) f' → Agrees (slice_set qs w next) fs'
     gone fs' f' e x = asked_set qs fs w next f' each x fs' (ap (λ (g : Flights V). g w) e ∙ flight_here fs w f') (λ i n. ap (λ (g : Flights V). g i) e ∙ flight_apart fs w i f' n)
@@ -136,12 +136,12 @@ module _ {V : Type 0} (same : V → V → Bool) (always : Bool) (s s' : Whole V)
     past_or_in : (n i : ℕ) → (n ≤ i) ⊎ (i < n)
     past_or_in n i = grind arith
 
-  pub pending_next : (noise : Noise Id V) (k : ℕ) (kd : Kind V) (v : Option V) (q : Question V) → fs w ≡ Pending k kd v q → Heard (heard_by (asks_at (slice_get s.machines w)) noise.answer (request_at qs w)) k kd (heard kd q noise.answer v) (resolved kd q noise.answer)
+  pub pending_next : (noise : Noise Id V) (k : ℕ) (kd : Kind V) (v : Option V) (q : Question V) → fs w ≡ Pending k kd v q → Heard (answered_if (asks_at (slice_get s.machines w)) noise.answer (request_at qs w)) k kd (heard kd q noise.answer v) (resolved kd q noise.answer)
   pending_next noise k kd v q e =
       let a : IsAsked (request_at qs w) (Pending k kd v q) = subst (λ (x : Flight V). IsAsked (request_at qs w) x) e (each w) in
       let b : asks_at (slice_get s.machines w) ≡ is_asked q = asks_here same always (engine_of s) w holds fs fl ∙ ap asks e in
-      let P : Bool → Type 0 = λ z. Heard (heard_by z noise.answer (request_at qs w)) k kd (heard kd q noise.answer v) (resolved kd q noise.answer) in
-      let Q : Option (Request V) → Type 0 = λ o. Heard (heard_by (is_asked q) noise.answer o) k kd (heard kd q noise.answer v) (resolved kd q noise.answer) in
+      let P : Bool → Type 0 = λ z. Heard (answered_if z noise.answer (request_at qs w)) k kd (heard kd q noise.answer v) (resolved kd q noise.answer) in
+      let Q : Option (Request V) → Type 0 = λ o. Heard (answered_if (is_asked q) noise.answer o) k kd (heard kd q noise.answer v) (resolved kd q noise.answer) in
       subst P (sym b) (subst Q (sym a.1) (heard_is a.0 k kd v q noise.answer a.2 a.3))
 
   pending_case : (noise : Noise Id V) (k : ℕ) (kd : Kind V) (v : Option V) (q : Question V) (l : Line V) (d : Bool) (f' : Flight V) (on : Bool) → fs w ≡ Pending k kd v q → is_in_flight l.report.outcome ≡ on

@@ -15,12 +15,12 @@ use Rattle.crossbeam_epoch.specs.World.Machine.{State, name_of}
 use Rattle.crossbeam_epoch.specs.World.Sealing.{bit, counts_name}
 use Rattle.congee.specs.protocol.Handing.{is_waiting}
 use Rattle.joint.specs.engine.Filed.{IsFiled, others, removes}
-use Rattle.joint.specs.nodes.Forest.{Forest, nodes}
+use Rattle.joint.specs.nodes.Nodes.{Nodes, nodes}
 use Rattle.joint.specs.nodes.Listing.{handed_nodes}
 use Rattle.joint.specs.engine.Census.{waiting_nodes, taken_by}
 use Rattle.joint.specs.NameLemmas.{named_number}
 use Rattle.joint.specs.Names.{number, named}
-use Rattle.joint.specs.engine.Engine.{Whole}
+use Rattle.joint.specs.engine.Engine.{World}
 use Rattle.joint.proofs.lemmas.engine.Filing.{is_name_itself}
 use Rattle.joint.proofs.lemmas.nodes.Listing.{listed, ones}
 use Rattle.joint.proofs.lemmas.world.Waiting.{none_waits, some_waits}
@@ -115,7 +115,7 @@ bit_true true n a b = refl
 bit_true false n a b = absurd (omega (arith, a, b))
 
 -- each job is the removal of a node of the list, where the list has every node that waits
-module _ {V : Type 0} (s : Forest V) (f : IsFiled s) (ns : List ℕ) (all : (n : ℕ) → is_waiting (nodes s n) ≡ true → Contains ns n) where
+module _ {V : Type 0} (s : Nodes V) (f : IsFiled s) (ns : List ℕ) (all : (n : ℕ) → is_waiting (nodes s n) ≡ true → Contains ns n) where
   abbrev bare : Entry (Unit {0}) → ℕ
   bare e = if nat_lt 0 (cover s.collector ns e) then 0 else 1
 
@@ -163,7 +163,7 @@ module _ {V : Type 0} (s : Forest V) (f : IsFiled s) (ns : List ℕ) (all : (n :
       omega (arith, a, b, c, none_bare, d, ones ns)
 
 -- so no more than nodes wait
-pub jobs_waiting : {V : Type 0} (s : Whole V) → IsFiled s.forest → job_count s.forest.collector ≤ length (waiting_nodes s)
+pub jobs_waiting : {V : Type 0} (s : World V) → IsFiled s.forest → job_count s.forest.collector ≤ length (waiting_nodes s)
 jobs_waiting {V} s f =
     let few = jobs_few s.forest f (handed_nodes s.forest) (λ n w. listed is_waiting (λ v. v.word.retired) (none_waits V) some_waits s.forest n w) in
     let more = length-append (handed_nodes s.forest) (flat_map taken_by s.machines) in

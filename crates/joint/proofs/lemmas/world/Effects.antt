@@ -29,14 +29,14 @@ use Rattle.joint.specs.engine.Log.{counted, has_room, request_at}
 use Rattle.joint.specs.Reports.{target, told}
 use Rattle.joint.specs.world.MapSteps.{looks_up, EventMap, GoMap, PendingStep, TakesEffect, BeginMap, BeginsOr, Stays, Line}
 use Rattle.joint.specs.engine.Flying.{Flights, AreInFlight, with_flight}
-use Rattle.joint.specs.world.Whole.{IsAsked, entry_at, heard_at}
-use Rattle.joint.specs.engine.Engine.{Whole, EngineHolds, Does, engine_of, misuse}
-use Rattle.joint.proofs.lemmas.engine.Apart.{Apart, counts_one, places_counted}
+use Rattle.joint.specs.world.World.{IsAsked, entry_at, answered_request}
+use Rattle.joint.specs.engine.Engine.{World, EngineHolds, Does, engine_of, misuse}
+use Rattle.joint.proofs.lemmas.engine.OneCallChanges.{Apart, counts_one, places_counted}
 use Rattle.joint.proofs.lemmas.world.Asking.{pending_next}
 use Rattle.joint.proofs.lemmas.engine.Entering.{first_undecided}
 use Rattle.joint.proofs.lemmas.world.Flights.{ends_stays, flight_here}
-use Rattle.joint.proofs.lemmas.world.Placed.{concluded_writes, place_here, place_writes, reply_here}
-use Rattle.joint.proofs.lemmas.nodes.Kept.{same_some}
+use Rattle.joint.proofs.lemmas.world.JournalPlaces.{concluded_writes, place_here, place_writes, reply_here}
+use Rattle.joint.proofs.lemmas.nodes.NodesInvariant.{same_some}
 use Rattle.joint.proofs.lemmas.world.Requested.{request_answered, request_call, writes_on}
 
 module _ {V : Type 0} where
@@ -69,7 +69,7 @@ module _ {V : Type 0} where
       ap (λ x. entry_of w x ro) oq ∙ ap (λ x. entry_of w (Some q) x) ror ∙ ap (with_call w r) oc
       ∙ ap (λ x. Some (record { worker = x; call = c; reply = r })) (sym ew) ∙ ap (λ x. Some (record { worker = e.worker; call = x; reply = r })) (sym ec) ∙ ap (λ x. Some (record { worker = e.worker; call = e.call; reply = x })) (sym er)
 
-module _ {V : Type 0} (same : V → V → Bool) (always : Bool) (s s' : Whole V) (w : ℕ) (holds : EngineHolds same always (engine_of s)) (holds' : EngineHolds same always (engine_of s')) (fs fs' : Flights V) (m : Pairs V)
+module _ {V : Type 0} (same : V → V → Bool) (always : Bool) (s s' : World V) (w : ℕ) (holds : EngineHolds same always (engine_of s)) (holds' : EngineHolds same always (engine_of s')) (fs fs' : Flights V) (m : Pairs V)
     (fl : AreInFlight (engine_of s) fs) (fl' : AreInFlight (engine_of s') fs') (long : length s.log.requests ≡ length s.calls) (l : Line V) (we : l.step.worker ≡ w) where
   abbrev before : Bool
   before = has_place (slice_get s.calls w) (slice_get s.machines w)
@@ -83,7 +83,7 @@ module _ {V : Type 0} (same : V → V → Bool) (always : Bool) (s s' : Whole V)
     pub is_entry : l.entry ≡ Some entry
     pub answers : Answers same m entry l.pairs
     pub noted : ((i : ℕ) → IsAsked (request_at s.log.requests i) (fs i)) → entry_at s w event l.report s' ≡ Some entry
-    pub answered : ((i : ℕ) → IsAsked (request_at s.log.requests i) (fs i)) → (q : Request V) → heard_at s w event ≡ Some q → HasAnswer q.op q.answer entry.reply
+    pub answered : ((i : ℕ) → IsAsked (request_at s.log.requests i) (fs i)) → (q : Request V) → answered_request s w event ≡ Some q → HasAnswer q.op q.answer entry.reply
     pub had : before ≡ not (looks_up entry.call)
     pub has : after ≡ false
 
@@ -197,7 +197,7 @@ module _ {V : Type 0} (same : V → V → Bool) (always : Bool) (s s' : Whole V)
   leaves (Go noise) d x = go_leaves noise.answer (fs l.step.worker) d x
 
 -- the place that a call gives back is free for its entry
-pub room_for : {V : Type 0} (s s' : Whole V) (w : ℕ) → length s.machines ≡ length s.calls → Apart (engine_of s) (engine_of s') w → has_place (slice_get s.calls w) (slice_get s.machines w) ≡ true → has_place (slice_get s'.calls w) (slice_get s'.machines w) ≡ false
+pub room_for : {V : Type 0} (s s' : World V) (w : ℕ) → length s.machines ≡ length s.calls → Apart (engine_of s) (engine_of s') w → has_place (slice_get s.calls w) (slice_get s.machines w) ≡ true → has_place (slice_get s'.calls w) (slice_get s'.machines w) ≡ false
     → length s.log.entries + s.log.reserved ≤ s.log.places → s.log.reserved ≡ places_of s.calls s.machines → s'.log.reserved ≡ places_of s'.calls s'.machines → has_room (record s.log { reserved = s'.log.reserved }) ≡ true
 room_for {V} s s' w l a b c room r r' =
     let one : 0 < places_of s.calls s.machines = counts_one s.calls s.machines w l b in

@@ -9,14 +9,14 @@ use Rattle.congee.specs.declared.protocol.op.Op.TheVariants as point
 use Rattle.congee.specs.declared.protocol.phase.Phase.TheVariants.{Ended, Sweep}
 use Rattle.judge.specs.Answer.{Pairs}
 use Rattle.congee.specs.protocol.Play.{Flight, Pending, Over, Unasked, begun, parts, range_of, flight, Follows, Following}
-use Rattle.joint.specs.declared.engine.in_flight.Call.{Call}
-use Rattle.joint.specs.declared.engine.in_flight.Call.TheVariants.{Idle, Collecting, Reserving, Securing, Walking}
+use Rattle.joint.specs.declared.engine.in_flight.InFlight.{InFlight}
+use Rattle.joint.specs.declared.engine.in_flight.InFlight.TheVariants.{Idle, Collecting, Reserving, Securing, Walking}
 use Rattle.joint.specs.declared.id.Id.{Id}
 use Rattle.joint.specs.declared.steps.Done.{Done as Answer}
 use Rattle.joint.specs.declared.steps.Done.TheVariants as done
 use Rattle.joint.specs.engine.Intact.{root, writes}
 use Rattle.joint.specs.world.MapSteps.{EndsAtOnce, EndsEmpty, Stays, Line}
-use Rattle.joint.specs.engine.Flying.{Flights, with_flight, InFlight}
+use Rattle.joint.specs.engine.Flying.{Flights, with_flight, IsInFlight}
 
 pub eqb_same : (w : ℕ) → (w == w) ≡ true
 eqb_same w = true_from_ne_false (w == w) (λ e. eqb-false w w e refl)
@@ -76,45 +76,45 @@ module _ {V : Type 0} where
   ended m f e (inr (s, p, x)) = absurd (let q : Ended ≡ Sweep s = sym e ∙ p in cc)
 
   -- each machine's own flight, for those whose call is on the tree
-  abbrev pub own : Call V → Flight V → Flight V
+  abbrev pub own : InFlight V → Flight V → Flight V
   own Walking f = f
   own Idle f = Over
   own (Collecting op) f = Over
   own (Reserving op) f = Over
   own (Securing op) f = Over
 
-  abbrev pub listed : List (Call V) → Flights V → ℕ → List (Flight V)
+  abbrev pub listed : List (InFlight V) → Flights V → ℕ → List (Flight V)
   listed [] fs i = []
   listed (k ∷ ks) fs i = own k (fs i) ∷ listed ks fs (suc i)
 
-  pub listed_at : (ks : List (Call V)) (fs : Flights V) (i j : ℕ) → slice_get ks j ≡ Some Walking → slice_get (listed ks fs i) j ≡ Some (fs (i + j))
+  pub listed_at : (ks : List (InFlight V)) (fs : Flights V) (i j : ℕ) → slice_get ks j ≡ Some Walking → slice_get (listed ks fs i) j ≡ Some (fs (i + j))
   listed_at [] fs i j e = absurd cc
   listed_at (k ∷ ks) fs i zero e =
       let q : k ≡ Walking = cc in
-      let P : Call V → Type 0 = λ x. Some (own x (fs i)) ≡ Some (fs (i + 0)) in
+      let P : InFlight V → Type 0 = λ x. Some (own x (fs i)) ≡ Some (fs (i + 0)) in
       subst P (sym q) (ap (λ n. Some (fs n)) (omega arith))
   listed_at (k ∷ ks) fs i (suc j) e = listed_at ks fs (suc i) j e ∙ ap (λ n. Some (fs n)) (omega arith)
 
   ended_follows : (m : Machine Id V) → m.phase ≡ Ended → Follows m Over
   ended_follows m e = inl (tt, (let P : _ → Type 0 = λ p. Over ≡ flight (record m { phase = p }) in subst P (sym e) refl))
 
-  own_follows : (k : Call V) (m : Machine Id V) (f : Flight V) → InFlight k m f → ((k ≡ Walking → ⊥) → m.phase ≡ Ended) → Follows m (own k f)
+  own_follows : (k : InFlight V) (m : Machine Id V) (f : Flight V) → IsInFlight k m f → ((k ≡ Walking → ⊥) → m.phase ≡ Ended) → Follows m (own k f)
   own_follows Idle m f i e = ended_follows m (e (λ q. cc))
   own_follows (Collecting op) m f i e = ended_follows m (e (λ q. cc))
   own_follows (Reserving op) m f i e = ended_follows m (e (λ q. cc))
   own_follows (Securing op) m f i e = ended_follows m (e (λ q. cc))
   own_follows Walking m f i e = i
 
-  pub following : (ks : List (Call V)) (ms : List (Machine Id V)) (fs : Flights V) (i : ℕ) → length ms ≡ length ks
-      → ((j : ℕ) (k : Call V) (m : Machine Id V) → slice_get ks j ≡ Some k → slice_get ms j ≡ Some m → InFlight k m (fs (i + j)))
-      → ((j : ℕ) (k : Call V) (m : Machine Id V) → slice_get ks j ≡ Some k → slice_get ms j ≡ Some m → (k ≡ Walking → ⊥) → m.phase ≡ Ended)
+  pub following : (ks : List (InFlight V)) (ms : List (Machine Id V)) (fs : Flights V) (i : ℕ) → length ms ≡ length ks
+      → ((j : ℕ) (k : InFlight V) (m : Machine Id V) → slice_get ks j ≡ Some k → slice_get ms j ≡ Some m → IsInFlight k m (fs (i + j)))
+      → ((j : ℕ) (k : InFlight V) (m : Machine Id V) → slice_get ks j ≡ Some k → slice_get ms j ≡ Some m → (k ≡ Walking → ⊥) → m.phase ≡ Ended)
       → Following ms (listed ks fs i)
   following [] [] fs i l each rest = tt
   following [] (m ∷ ms) fs i l each rest = absurd (omega (arith, l))
   following (k ∷ ks) [] fs i l each rest = absurd (omega (arith, l))
   following (k ∷ ks) (m ∷ ms) fs i l each rest = (
-    own_follows k m (fs i) (let P : ℕ → Type 0 = λ n. InFlight k m (fs n) in subst P (omega arith) (each 0 k m refl refl)) (rest 0 k m refl refl),
-    following ks ms fs (suc i) (omega (arith, l)) (λ j x y a b. let P : ℕ → Type 0 = λ n. InFlight x y (fs n) in subst P (omega arith) (each (suc j) x y a b)) (λ j x y a b. rest (suc j) x y a b),
+    own_follows k m (fs i) (let P : ℕ → Type 0 = λ n. IsInFlight k m (fs n) in subst P (omega arith) (each 0 k m refl refl)) (rest 0 k m refl refl),
+    following ks ms fs (suc i) (omega (arith, l)) (λ j x y a b. let P : ℕ → Type 0 = λ n. IsInFlight x y (fs n) in subst P (omega arith) (each (suc j) x y a b)) (λ j x y a b. rest (suc j) x y a b),
   )
 
   -- what is watched of one machine

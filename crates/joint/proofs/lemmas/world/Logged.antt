@@ -19,20 +19,20 @@ use Rattle.joint.specs.declared.steps.Event.{Event}
 use Rattle.joint.specs.declared.steps.Event.TheVariants.{Register, Begin, Go}
 use Rattle.joint.specs.declared.steps.Report.{Report}
 use Rattle.joint.specs.declared.steps.Step.{Step}
-use Rattle.joint.specs.nodes.Forest.{nodes}
+use Rattle.joint.specs.nodes.Nodes.{nodes}
 use Rattle.joint.specs.engine.Intact.{is_reserving}
 use Rattle.joint.specs.engine.Journaling.{has_place, in_list, kept_if, places_of}
 use Rattle.joint.specs.engine.Log.{counted, has_room, is_full, recounted, request_at}
 use Rattle.joint.specs.world.MapSteps.{looks_up, EventMap, Line}
 use Rattle.joint.specs.engine.Flying.{Flights, AreInFlight}
-use Rattle.joint.specs.world.Whole.{Holds, IsAsked, IsLogged, IsStep, StepsUnless, entry_at, gives_up, kept_at, requests_after}
-use Rattle.joint.specs.engine.Engine.{Whole, EngineHolds, IsEngineStep, Does, engine_of, is_in_flight, misuse}
-use Rattle.joint.proofs.lemmas.engine.Apart.{Apart, places_counted, step_apart}
+use Rattle.joint.specs.world.World.{Holds, IsAsked, IsLogged, IsStep, StepsUnless, entry_at, finds_journal_full, kept_at, requests_after}
+use Rattle.joint.specs.engine.Engine.{World, EngineHolds, IsEngineStep, Does, engine_of, is_in_flight, misuse}
+use Rattle.joint.proofs.lemmas.engine.OneCallChanges.{Apart, places_counted, step_apart}
 use Rattle.joint.proofs.lemmas.world.Asking.{asked_after}
 use Rattle.joint.proofs.lemmas.world.Effects.{Effect, Leaves, effect, leaves, room_for}
 use Rattle.joint.proofs.lemmas.engine.Entering.{begin_even, register_even}
 use Rattle.joint.proofs.lemmas.world.MapSteps.{Result, on_map}
-use Rattle.joint.proofs.lemmas.world.Placed.{go_writes, place_here, place_writes}
+use Rattle.joint.proofs.lemmas.world.JournalPlaces.{go_writes, place_here, place_writes}
 use Rattle.joint.proofs.lemmas.engine.Recounting.{has_room_is, recounted_room}
 use Rattle.joint.proofs.lemmas.world.Requested.{writes_on}
 
@@ -59,14 +59,14 @@ recounted_on zero b a n l = absurd (omega (arith, l))
 recounted_on (suc p) b a n l = refl
 
 -- what the machine writes down in a step
-pub record Written {V : Type 0} (always : Bool) (s s' : Whole V) (step : Step V) (told : Report V) : Type 0 where
+pub record Written {V : Type 0} (always : Bool) (s s' : World V) (step : Step V) (told : Report V) : Type 0 where
   pub entries : s'.log.entries ≡ s.log.entries ++ in_list (kept_at s step.worker step.event told s')
   pub places : s'.log.places ≡ s.log.places
   pub reserved : s'.log.reserved ≡ recounted s.log.places (has_place (slice_get s.calls step.worker) (slice_get s.machines step.worker)) (has_place (slice_get s'.calls step.worker) (slice_get s'.machines step.worker)) s.log.reserved
   pub requests : always ≡ true → s'.log.requests ≡ requests_after s step.worker step.event (is_in_flight told.outcome)
   pub long : length s'.log.requests ≡ length s.log.requests
 
-module _ {V : Type 0} (same : V → V → Bool) (always : Bool) (s s' : Whole V) (step : Step V) (told : Report V) (h : Holds same always s) (e : IsEngineStep same always (engine_of s) step told (engine_of s')) where
+module _ {V : Type 0} (same : V → V → Bool) (always : Bool) (s s' : World V) (step : Step V) (told : Report V) (h : Holds same always s) (e : IsEngineStep same always (engine_of s) step told (engine_of s')) where
   abbrev w : ℕ
   w = step.worker
 
@@ -169,7 +169,7 @@ module _ {V : Type 0} (same : V → V → Bool) (always : Bool) (s s' : Whole V)
       ]
 
     -- only the first step of a writing call reserves a place
-    raises_by : (event : Event V) → Result same always (engine_of s) (engine_of s') w holds fs m st fl event told (λ l f'. EventMap same fs m event l f') → gives_up s w event ≡ false → before ≡ false → after ≡ true → after ≡ before ⊎ ((noise : Noise Id V) × (event ≡ Go noise)) → is_full s.log ≡ false
+    raises_by : (event : Event V) → Result same always (engine_of s) (engine_of s') w holds fs m st fl event told (λ l f'. EventMap same fs m event l f') → finds_journal_full s w event ≡ false → before ≡ false → after ≡ true → after ≡ before ⊎ ((noise : Noise Id V) × (event ≡ Go noise)) → is_full s.log ≡ false
     raises_by event x g b a (inl q) = absurd (false≢true (sym b ∙ sym q ∙ a))
     raises_by Register x g b a (inr y) = absurd (let z : Register ≡ Go y.0 = y.1 in cc)
     raises_by (Begin op) x g b a (inr y) = absurd (let z : Begin op ≡ Go y.0 = y.1 in cc)
@@ -196,10 +196,10 @@ module _ {V : Type 0} (same : V → V → Bool) (always : Bool) (s s' : Whole V)
   abbrev now : Result same always (engine_of s) (engine_of s') w holds here.flights here.pairs here.stand (fl here.flights here.pairs here.stand here.in_flight here.asked) step.event told (λ l f'. EventMap same here.flights here.pairs step.event l f')
   now = result here.flights here.pairs here.stand here.in_flight here.asked
 
-  pub raises : gives_up s w step.event ≡ false → before ≡ false → after ≡ true → is_full s.log ≡ false
+  pub raises : finds_journal_full s w step.event ≡ false → before ≡ false → after ≡ true → is_full s.log ≡ false
   raises g b a = raises_by here.flights here.pairs here.stand here.in_flight here.asked step.event now g b a (even_or_go step.event e.does)
 
-  module _ (x : Written always s s' step told) (g : gives_up s w step.event ≡ false) where
+  module _ (x : Written always s s' step told) (g : finds_journal_full s w step.event ≡ false) where
     entries_long : length s'.log.entries ≡ length s.log.entries + length (in_list kept)
     entries_long = ap length x.entries ∙ length-append s.log.entries (in_list kept)
 

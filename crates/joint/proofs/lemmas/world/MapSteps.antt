@@ -37,8 +37,8 @@ use Rattle.congee.specs.protocol.Sweeps.{IsScan}
 use Rattle.congee.specs.Heap.{Node}
 use Rattle.congee.specs.Keys.{IsMapOf, key_bytes}
 use Rattle.congee.specs.protocol.Play.{Flight, Pending, Decided, Over, Unbegun, Scanning, Question, Unasked, heard, resolved, begun, parts, flight, Follows, Following, Watched, WatchedAt, PendingMoves}
-use Rattle.joint.specs.declared.engine.in_flight.Call.{Call}
-use Rattle.joint.specs.declared.engine.in_flight.Call.TheVariants.{Idle, Collecting, Reserving, Securing, Walking}
+use Rattle.joint.specs.declared.engine.in_flight.InFlight.{InFlight}
+use Rattle.joint.specs.declared.engine.in_flight.InFlight.TheVariants.{Idle, Collecting, Reserving, Securing, Walking}
 use Rattle.joint.specs.declared.id.Id.{Id}
 use Rattle.joint.specs.declared.steps.Event.{Event}
 use Rattle.joint.specs.declared.steps.Event.TheVariants.{Register, Begin, Go}
@@ -50,18 +50,18 @@ use Rattle.joint.specs.declared.steps.Outcome.TheVariants.{Running, Done, Refuse
 use Rattle.joint.specs.declared.steps.Report.{Report}
 use Rattle.joint.specs.declared.steps.Target.{Target}
 use Rattle.joint.specs.declared.steps.Target.TheVariants as target
-use Rattle.joint.specs.nodes.Forest.{nodes, Refuses}
+use Rattle.joint.specs.nodes.Nodes.{nodes, Refuses}
 use Rattle.joint.specs.engine.Intact.{IsAt, IsIntact, call_after, secured_call, secured_machines, is_over, over_at, rested, root, writes}
 use Rattle.joint.specs.Refusals.{of_fault}
 use Rattle.joint.specs.Reports.{target, told}
 use Rattle.joint.specs.engine.Surveys.{MapTells}
 use Rattle.joint.specs.world.MapSteps.{EventMap, GoMap, FlightStep, PendingStep, BeginMap, BeginsOr, EndsAtOnce, FindsNone, Stays, Line}
-use Rattle.joint.specs.engine.Flying.{Flights, with_flight, InFlight, AreInFlight}
-use Rattle.joint.specs.engine.Engine.{Whole, EngineHolds, misuse, is_busy, place_of, quiet, collection, finds_none, Collects, Enters, EntersUnless, Reserves, GoesOnReserving, SecuresFirst, reserving, Walks, BeginsAt, BeginsOnTree, GoesAt, Proceeds, Does as Acts}
+use Rattle.joint.specs.engine.Flying.{Flights, with_flight, IsInFlight, AreInFlight}
+use Rattle.joint.specs.engine.Engine.{World, EngineHolds, misuse, is_busy, place_of, quiet, collection, finds_none, Collects, Enters, EntersUnless, Reserves, GoesOnReserving, SecuresFirst, reserving, Walks, BeginsAt, BeginsOnTree, GoesAt, Proceeds, Does as Acts}
 use Rattle.joint.proofs.lemmas.engine.Collecting.{either}
 use Rattle.joint.proofs.lemmas.engine.Reserving.{same_nodes, next_calls, next_here}
 use Rattle.joint.proofs.lemmas.engine.Telling.{map_tells}
-use Rattle.joint.proofs.lemmas.engine.Resting.{cleared_is, done_over, rest_follows}
+use Rattle.joint.proofs.lemmas.engine.ScanEnds.{cleared_is, done_over, rest_follows}
 use Rattle.joint.proofs.lemmas.world.Flights.{set_at, flight_here, flight_apart, pending, begun_follows, ended, listed, listed_at, following, followed}
 
 -- the pairs stand on where the map is the same
@@ -105,12 +105,12 @@ is_ended Ended e = refl
 is_ended _ e = absurd cc
 
 -- what is left of a call on the collector is watched as nothing
-collecting_over : {V : Type 0} (o : Turned) (op : Work) (x : Machine Id V) (f : Flight V) → f ≡ Over → InFlight (call_after o (Collecting op)) x f
+collecting_over : {V : Type 0} (o : Turned) (op : Work) (x : Machine Id V) (f : Flight V) → f ≡ Over → IsInFlight (call_after o (Collecting op)) x f
 collecting_over turned.Running op x f e = e
 collecting_over turned.Done op x f e = e
 collecting_over (turned.Refused g) op x f e = e
 
-module _ {V : Type 0} (same : V → V → Bool) (always : Bool) (s s' : Whole V) (w : ℕ) (holds : EngineHolds same always s) (fs : Flights V) (m : Pairs V) (st : IsMapOf (nodes s.forest) m) (fl : AreInFlight s fs) where
+module _ {V : Type 0} (same : V → V → Bool) (always : Bool) (s s' : World V) (w : ℕ) (holds : EngineHolds same always s) (fs : Flights V) (m : Pairs V) (st : IsMapOf (nodes s.forest) m) (fl : AreInFlight s fs) where
   -- the line of a step with this report, and what comes of it
   abbrev line : Event V → Report V → Option (Entry V) → Pairs V → Line V
   line event r e m' = record { step = record { worker = w; event = event }; report = r; entry = e; pairs = m' }
@@ -126,7 +126,7 @@ module _ {V : Type 0} (same : V → V → Bool) (always : Bool) (s s' : Whole V)
   abbrev intact : IsIntact same always s.forest s.machines s.calls
   intact = holds.0
 
-  machine_at : (k : Call V) → slice_get s.calls w ≡ Some k → (x : Machine Id V) × (slice_get s.machines w ≡ Some x)
+  machine_at : (k : InFlight V) → slice_get s.calls w ≡ Some k → (x : Machine Id V) × (slice_get s.machines w ≡ Some x)
   machine_at k e = elim (slice_get_cases s.machines w).1 [
     | inl x ↦ (x.0, x.2)
     | inr x ↦ absurd (let l : w < length s.calls = slice_get_within s.calls w k e in omega (arith, x.0, l, intact.machines))
@@ -142,7 +142,7 @@ module _ {V : Type 0} (same : V → V → Bool) (always : Bool) (s s' : Whole V)
   ]
 
   -- a worker without a call in flight is watched as nothing
-  free : (k : Option (Call V)) → slice_get s.calls w ≡ k → is_busy k ≡ false → fs w ≡ Over
+  free : (k : Option (InFlight V)) → slice_get s.calls w ≡ k → is_busy k ≡ false → fs w ≡ Over
   free None e b = elim (slice_get_cases s.calls w).1 [
     | inl x ↦ absurd (let q : None ≡ Some x.0 = sym e ∙ x.2 in cc)
     | inr x ↦ fl.beyond w x.0
@@ -159,28 +159,28 @@ module _ {V : Type 0} (same : V → V → Bool) (always : Bool) (s s' : Whole V)
     entry = None;
     pairs = m;
     flights = fs;
-    stand = (let P : Whole V → Type 0 = λ y. IsMapOf (nodes y.forest) m in subst P (sym e) st);
+    stand = (let P : World V → Type 0 = λ y. IsMapOf (nodes y.forest) m in subst P (sym e) st);
     step = x;
-    in_flight = (let P : Whole V → Type 0 = λ y. AreInFlight y fs in subst P (sym e) fl);
+    in_flight = (let P : World V → Type 0 = λ y. AreInFlight y fs in subst P (sym e) fl);
   }
 
   stays : (event : Event V) (r : Report V) (m' : Pairs V) → r.decided ≡ false → Stays fs m (line event r None m) fs
   stays event r m' d = record { undecided = d; no_entry = refl; same_pairs = refl; same_flights = refl }
 
   -- one worker's call was exchanged
-  pub set_in_flight : (fs' : Flights V) (k' : Call V) → w < length s.calls → s'.calls ≡ slice_set s.calls w k'
+  pub set_in_flight : (fs' : Flights V) (k' : InFlight V) → w < length s.calls → s'.calls ≡ slice_set s.calls w k'
       → ((i : ℕ) (x : Machine Id V) → i ≢ w → slice_get s'.machines i ≡ Some x → slice_get s.machines i ≡ Some x)
-      → ((x : Machine Id V) → slice_get s'.machines w ≡ Some x → InFlight k' x (fs' w)) → ((i : ℕ) → i ≢ w → fs' i ≡ fs i) → AreInFlight s' fs'
+      → ((x : Machine Id V) → slice_get s'.machines w ≡ Some x → IsInFlight k' x (fs' w)) → ((i : ℕ) → i ≢ w → fs' i ≡ fs i) → AreInFlight s' fs'
   set_in_flight fs' k' l ec em here apart = record {
     each = λ i k x a b.
-        let P : List (Call V) → Type 0 = λ ks. slice_get ks i ≡ Some k in
+        let P : List (InFlight V) → Type 0 = λ ks. slice_get ks i ≡ Some k in
         elim (either s.calls w i k' k (subst P ec a)) [
           | inl e ↦ (
-              let Q : Call V → Type 0 = λ y. InFlight y x (fs' i) in
-              let R : ℕ → Type 0 = λ j. InFlight k' x (fs' j) in
+              let Q : InFlight V → Type 0 = λ y. IsInFlight y x (fs' i) in
+              let R : ℕ → Type 0 = λ j. IsInFlight k' x (fs' j) in
               let S : ℕ → Type 0 = λ j. slice_get s'.machines j ≡ Some x in
               subst Q e.1 (subst R (sym e.0) (here x (subst S e.0 b))))
-          | inr e ↦ (let Q : Flight V → Type 0 = λ f. InFlight k x f in subst Q (sym (apart i e.0)) (fl.each i k x e.1 (em i x e.0 b)))
+          | inr e ↦ (let Q : Flight V → Type 0 = λ f. IsInFlight k x f in subst Q (sym (apart i e.0)) (fl.each i k x e.1 (em i x e.0 b)))
         ];
     beyond = λ i b.
         let n : length s'.calls ≡ length s.calls = ap length ec ∙ length-set s.calls w k' in
@@ -216,7 +216,7 @@ module _ {V : Type 0} (same : V → V → Bool) (always : Bool) (s s' : Whole V)
     entry = None;
     pairs = m;
     flights = starts op;
-    stand = (let P : Whole V → Type 0 = λ y. IsMapOf (nodes y.forest) m in subst P (sym k.state) st);
+    stand = (let P : World V → Type 0 = λ y. IsMapOf (nodes y.forest) m in subst P (sym k.state) st);
     step = begins_line event op r f k.report;
     in_flight = set_in_flight (starts op) Walking l (ap (λ y. y.calls) k.state)
         (λ i y n b.
@@ -241,7 +241,7 @@ module _ {V : Type 0} (same : V → V → Bool) (always : Bool) (s s' : Whole V)
     entry = None;
     pairs = m;
     flights = starts op;
-    stand = (let P : Whole V → Type 0 = λ y. IsMapOf (nodes y.forest) m in subst P (sym k.state) st);
+    stand = (let P : World V → Type 0 = λ y. IsMapOf (nodes y.forest) m in subst P (sym k.state) st);
     step = begins_line event op r f k.report;
     in_flight = set_in_flight (starts op) (Reserving op) l (ap (λ y. y.calls) k.state)
         (λ i y n b. let P : List (Machine Id V) → Type 0 = λ ms. slice_get ms i ≡ Some y in subst P (ap (λ y. y.machines) k.state) b)
@@ -392,11 +392,11 @@ module _ {V : Type 0} (same : V → V → Bool) (always : Bool) (s s' : Whole V)
     }
 
     -- from a state whose pairs and calls on the tree are these
-    reserving_from : (b : Whole V) (x : Machine Id V) → IsAt (Securing op) (place_of b w) x → slice_get b.calls w ≡ Some (Securing op) → nodes b.forest ≡ nodes s.forest → b.machines ≡ s.machines → ((k : Call V) → slice_set b.calls w k ≡ slice_set s.calls w k)
+    reserving_from : (b : World V) (x : Machine Id V) → IsAt (Securing op) (place_of b w) x → slice_get b.calls w ≡ Some (Securing op) → nodes b.forest ≡ nodes s.forest → b.machines ≡ s.machines → ((k : InFlight V) → slice_set b.calls w k ≡ slice_set s.calls w k)
         → (r : Report V) → GoesOnReserving same always b w r s' → Went r
     reserving_from b x at e en em ec r k =
-        let P : Option (Call V) → Type 0 = λ c. s'.calls ≡ slice_set b.calls w (secured_call k.turn.outcome c) in
-        let Q : Option (Call V) → Type 0 = λ c. s'.machines ≡ secured_machines k.turn.outcome c b.machines w in
+        let P : Option (InFlight V) → Type 0 = λ c. s'.calls ≡ slice_set b.calls w (secured_call k.turn.outcome c) in
+        let Q : Option (InFlight V) → Type 0 = λ c. s'.machines ≡ secured_machines k.turn.outcome c b.machines w in
         let R : Turned → Type 0 = λ o. IsOutcome b.forest.collector w collector.Go (fault_of b.forest.collector w collector.Go) o in
         let S : (ℕ → Node V) → Type 0 = λ h. SameMap h (nodes s'.forest) in
         subst Went (sym k.report) (reserving_case k.turn k.turn.outcome (subst P e k.step.call ∙ ec _) (subst Q e k.step.machine ∙ ap (λ ms. secured_machines k.turn.outcome (Some (Securing op)) ms w) em)
@@ -412,7 +412,7 @@ module _ {V : Type 0} (same : V → V → Bool) (always : Bool) (s s' : Whole V)
   secures_first : (op : Point V) (noise : Noise Id V) → slice_get s.calls w ≡ Some (Reserving op) → (r : Report V) → SecuresFirst same always s w r s' → Result (Go noise) r (λ l f'. GoMap same fs (fs w) m noise.answer l f')
   secures_first op noise e r k =
       let x : (x : Machine Id V) × (slice_get s.machines w ≡ Some x) = machine_at (Reserving op) e in
-      let b : Whole V = k.between in
+      let b : World V = k.between in
       let here : slice_get b.calls w ≡ Some (Securing op) = next_here same always s.forest s.machines s.calls w b.forest b.machines b.calls k.begins op e in
       let there : slice_get b.machines w ≡ Some x.0 = ap (λ ms. slice_get ms w) k.begins.machine ∙ x.1 in
       let at : IsAt (Securing op) (place_of b w) x.0 = k.begins.intact.each w (Securing op) x.0 here there in
@@ -428,7 +428,7 @@ module _ {V : Type 0} (same : V → V → Bool) (always : Bool) (s s' : Whole V)
     own_at : slice_get own w ≡ Some (fs w)
     own_at = listed_at s.calls fs 0 w e ∙ ap (λ n. Some (fs n)) (omega arith)
 
-    rest : (k : Call V) (c : Participant (Unit {0})) (x : Machine Id V) → IsAt k c x → (k ≡ Walking → ⊥) → x.phase ≡ Ended
+    rest : (k : InFlight V) (c : Participant (Unit {0})) (x : Machine Id V) → IsAt k c x → (k ≡ Walking → ⊥) → x.phase ≡ Ended
     rest Idle c x a n = a.1
     rest (Collecting op) c x a n = a.1
     rest (Reserving op) c x a n = a.3
@@ -437,7 +437,7 @@ module _ {V : Type 0} (same : V → V → Bool) (always : Bool) (s s' : Whole V)
 
     follow : Following s.machines own
     follow = following s.calls s.machines fs 0 intact.machines
-        (λ j k x a b. let P : ℕ → Type 0 = λ n. InFlight k x (fs n) in subst P (omega arith) (fl.each j k x a b))
+        (λ j k x a b. let P : ℕ → Type 0 = λ n. IsInFlight k x (fs n) in subst P (omega arith) (fl.each j k x a b))
         (λ j k x a b. rest k (place_of s j) x (intact.each j k x a b))
 
     -- what the step tells, by whether it decides
@@ -496,10 +496,10 @@ module _ {V : Type 0} (same : V → V → Bool) (always : Bool) (s s' : Whole V)
       apart = λ i n. flight_apart fs w i f' n;
     }
 
-  after_walk : (y : Machine Id V) (g : Flight V) → slice_get s'.machines w ≡ Some y → Follows y g → InFlight (if over_at (slice_get s'.machines w) then Idle else Walking) y g
+  after_walk : (y : Machine Id V) (g : Flight V) → slice_get s'.machines w ≡ Some y → Follows y g → IsInFlight (if over_at (slice_get s'.machines w) then Idle else Walking) y g
   after_walk y g b f =
-      let P : Option (Machine Id V) → Type 0 = λ o. InFlight (if over_at o then Idle else Walking) y g in
-      let Q : Bool → Type 0 = λ c. InFlight (if c then Idle else Walking) y g in
+      let P : Option (Machine Id V) → Type 0 = λ o. IsInFlight (if over_at o then Idle else Walking) y g in
+      let Q : Bool → Type 0 = λ c. IsInFlight (if c then Idle else Walking) y g in
       subst P (sym b) (elim (cases_Bool (is_over y.phase)) [
         | inl c ↦ subst Q (sym c) (ended y g (is_ended y.phase c) f)
         | inr c ↦ subst Q (sym c) f
@@ -537,7 +537,7 @@ module _ {V : Type 0} (same : V → V → Bool) (always : Bool) (s s' : Whole V)
             (λ y b.
             let is : rested moved.now ≡ y = let q : Some (rested moved.now) ≡ Some y = sym last ∙ b in cc in
             let F : Machine Id V → Type 0 = λ z. Follows z at.0 in
-            let G : Flight V → Type 0 = λ g. InFlight (if over_at (slice_get s'.machines w) then Idle else Walking) y g in
+            let G : Flight V → Type 0 = λ g. IsInFlight (if over_at (slice_get s'.machines w) then Idle else Walking) y g in
             subst G (sym fly.here) (after_walk y at.0 b (subst F is went)))
             fly.apart;
       }
@@ -548,14 +548,14 @@ module _ {V : Type 0} (same : V → V → Bool) (always : Bool) (s s' : Whole V)
     entry = None;
     pairs = m;
     flights = fs;
-    stand = (let P : Whole V → Type 0 = λ y. IsMapOf (nodes y.forest) m in subst P (sym x.1.state) st);
+    stand = (let P : World V → Type 0 = λ y. IsMapOf (nodes y.forest) m in subst P (sym x.1.state) st);
     step = stays Register r m (ap (λ y. y.decided) x.1.report);
-    in_flight = (let P : Whole V → Type 0 = λ y. AreInFlight y fs in subst P (sym x.1.state) (record { each = fl.each; beyond = fl.beyond }));
+    in_flight = (let P : World V → Type 0 = λ y. AreInFlight y fs in subst P (sym x.1.state) (record { each = fl.each; beyond = fl.beyond }));
   }
   registers r (inr x) = unchanged Register r (λ l f'. EventMap same fs m Register l f') x.state (stays Register r m (ap (λ y. y.decided) x.report))
 
   -- a begin that isn't misused is of a registered worker without a call in flight
-  may_begin : (k : Option (Call V)) (b : Bool) (f : Fault) (o : Option Fault) → slice_get s.calls w ≡ k → (place_of s w).registered ≡ b
+  may_begin : (k : Option (InFlight V)) (b : Bool) (f : Fault) (o : Option Fault) → slice_get s.calls w ≡ k → (place_of s w).registered ≡ b
       → (if b then (if is_busy k then Some f else o) else Some fault.Unknown) ≡ None → (fs w ≡ Over) × (w < length s.calls)
   may_begin k false f o e be x = absurd cc
   may_begin k true f o e be x = elim (cases_Bool (is_busy k)) [
@@ -590,7 +590,7 @@ module _ {V : Type 0} (same : V → V → Bool) (always : Bool) (s s' : Whole V)
       let x : (x : Machine Id V) × (slice_get s.machines w ≡ Some x) = machine_at Walking e in
       (intact.safe.sound.sound.guarded w x.0 x.1).registered (intact.each w Walking x.0 e x.1).0
 
-  go_case : (noise : Noise Id V) (r : Report V) (k : Option (Call V)) (b : Bool) → slice_get s.calls w ≡ k → (place_of s w).registered ≡ b
+  go_case : (noise : Noise Id V) (r : Report V) (k : Option (InFlight V)) (b : Bool) → slice_get s.calls w ≡ k → (place_of s w).registered ≡ b
       → Acts same always s w (Go noise) (if b then (if is_busy k then None else Some fault.Idle) else Some fault.Unknown) r s' → Result (Go noise) r (λ l f'. GoMap same fs (fs w) m noise.answer l f')
   go_case noise r None false e be x = refused_go noise r fault.Unknown (free None e refl) x
   go_case noise r None true e be x = refused_go noise r fault.Idle (free None e refl) x
@@ -600,19 +600,19 @@ module _ {V : Type 0} (same : V → V → Bool) (always : Bool) (s s' : Whole V)
       refused_go noise r fault.Unknown (fl.each w (Collecting op) (machine_at (Collecting op) e).0 e (machine_at (Collecting op) e).1) x
   go_case noise r (Some (Collecting op)) true e be x =
       let o : fs w ≡ Over = fl.each w (Collecting op) (machine_at (Collecting op) e).0 e (machine_at (Collecting op) e).1 in
-      let P : Option (Call V) → Type 0 = λ c. GoesAt same always s w c noise r s' in
+      let P : Option (InFlight V) → Type 0 = λ c. GoesAt same always s w c noise r s' in
       collects (Go noise) collector.Go op r (λ l f'. GoMap same fs (fs w) m noise.answer l f') o (inside be) (subst P e x) (over_go noise r o)
   go_case noise r (Some (Reserving op)) false e be x = absurd (let q : false ≡ true = sym be ∙ reserving_registered op e in false≢true q)
   go_case noise r (Some (Reserving op)) true e be x =
-      let P : Option (Call V) → Type 0 = λ c. GoesAt same always s w c noise r s' in
+      let P : Option (InFlight V) → Type 0 = λ c. GoesAt same always s w c noise r s' in
       secures_first op noise e r (subst P e x)
   go_case noise r (Some (Securing op)) false e be x = absurd (let q : false ≡ true = sym be ∙ securing_registered op e in false≢true q)
   go_case noise r (Some (Securing op)) true e be x =
-      let P : Option (Call V) → Type 0 = λ c. GoesAt same always s w c noise r s' in
+      let P : Option (InFlight V) → Type 0 = λ c. GoesAt same always s w c noise r s' in
       reserving_on op noise e r (subst P e x)
   go_case noise r (Some Walking) false e be x = absurd (let q : false ≡ true = sym be ∙ walking_registered e in false≢true q)
   go_case noise r (Some Walking) true e be x =
-      let P : Option (Call V) → Type 0 = λ c. GoesAt same always s w c noise r s' in
+      let P : Option (InFlight V) → Type 0 = λ c. GoesAt same always s w c noise r s' in
       walks noise r e (subst P e x)
 
   -- whatever the step is

@@ -23,9 +23,9 @@ use Rattle.joint.specs.declared.steps.Op.TheVariants.{Get, Insert, Remove, Compu
 use Rattle.joint.specs.declared.steps.Target.TheVariants.{Tree}
 use Rattle.joint.specs.engine.Intact.{root}
 use Rattle.joint.specs.engine.Journaling.{HasAnswer, call_of, is_asking, is_pending, may_write, reply_in}
-use Rattle.joint.specs.engine.Log.{asked, hears, heard_by}
+use Rattle.joint.specs.engine.Log.{asked, with_answer, answered_if}
 use Rattle.joint.specs.Reports.{target}
-use Rattle.joint.specs.world.Whole.{value_of, IsOnKey, IsRequestOf, IsQuestionOf, IsAsked}
+use Rattle.joint.specs.world.World.{value_of, IsOnKey, IsRequestOf, IsQuestionOf, IsAsked}
 
 module _ {V : Type 0} where
   -- whether a call that is watched so asks, has yet to take effect and may write then, or has which reply
@@ -76,7 +76,7 @@ module _ {V : Type 0} where
 
   -- a request that is heard is of the same call with the value that it has then
   hear_none : (op : Op V) (answer : Option (Option V)) (kd : Kind V) (v : Option V) (p : Point V) → target op ≡ Tree p → (parts p).1 ≡ kd → Asking kd → value_of op answer ≡ v
-      → value_of op (hears (Some None) (record { op = op; answer = answer })).answer ≡ (heard kd (Asked None) (Some None) v)
+      → value_of op (with_answer (Some None) (record { op = op; answer = answer })).answer ≡ (heard kd (Asked None) (Some None) v)
   hear_none (ComputePresent k) answer kd v p t e a q =
       let i : point.ComputePresent k ≡ p = cc in
       let P : Kind V → Type 0 = λ x. None ≡ heard x (Asked None) (Some None) v in
@@ -106,7 +106,7 @@ module _ {V : Type 0} where
 
   -- the question is settled by no value too, but where one is wanted
   none_settles : (op : Op V) (answer : Option (Option V)) (kd : Kind V) (found : Option V) (p : Point V) → target op ≡ Tree p → (parts p).1 ≡ kd → Asking kd
-      → IsQuestionOf kd (after_none kd found) (hears (Some None) (record { op = op; answer = answer })).answer
+      → IsQuestionOf kd (after_none kd found) (with_answer (Some None) (record { op = op; answer = answer })).answer
   none_settles (ComputePresent k) answer kd found p t e a =
       let i : point.ComputePresent k ≡ p = cc in
       let P : Kind V → Type 0 = λ x. IsQuestionOf x (after_none x found) (Some None) in
@@ -131,18 +131,18 @@ module _ {V : Type 0} where
     pub question : IsQuestionOf kd u request.answer
 
   pub heard_is : (q : Request V) (k : ℕ) (kd : Kind V) (v : Option V) (u : Question V) (answer : Option (Option V)) → IsRequestOf q k kd v → IsQuestionOf kd u q.answer
-      → Heard (heard_by (is_asked u) answer (Some q)) k kd (heard kd u answer v) (resolved kd u answer)
+      → Heard (answered_if (is_asked u) answer (Some q)) k kd (heard kd u answer v) (resolved kd u answer)
   heard_is q k kd v Unasked answer r a = record { request = q; is = refl; of = r; question = a }
   heard_is q k kd v (Replied o) answer r a = record { request = q; is = refl; of = r; question = a }
   heard_is q k kd v (Asked o) None r a = record { request = q; is = refl; of = r; question = a }
   heard_is q k kd v (Asked o) (Some None) r a = record {
-    request = hears (Some None) q;
+    request = with_answer (Some None) q;
     is = refl;
     of = record { point = r.point; on_tree = r.on_tree; on_key = r.on_key; key = r.key; same_kind = r.same_kind; value = hear_none q.op q.answer kd v r.point r.on_tree r.same_kind a r.value };
     question = none_settles q.op q.answer kd o r.point r.on_tree r.same_kind a;
   }
   heard_is q k kd v (Asked o) (Some (Some x)) r a = record {
-    request = hears (Some (Some x)) q;
+    request = with_answer (Some (Some x)) q;
     is = refl;
     of = record { point = r.point; on_tree = r.on_tree; on_key = r.on_key; key = r.key; same_kind = r.same_kind; value = hear_some q.op x kd r.point r.on_tree r.same_kind a };
     question = refl;

@@ -22,22 +22,22 @@ use Rattle.joint.specs.declared.nodes.slot.Slot.{Slot}
 use Rattle.crossbeam_epoch.specs.declared.names.Name.{Name}
 use Rattle.crossbeam_epoch.specs.World.Store.{value_at}
 use Rattle.congee.specs.forms.Forms.{size_of}
-use Rattle.joint.specs.declared.engine.in_flight.Call.{Call}
+use Rattle.joint.specs.declared.engine.in_flight.InFlight.{InFlight}
 use Rattle.joint.specs.declared.nodes.counts.Counts.{Counts}
 use Rattle.joint.specs.engine.Intact.{IsIntact}
 use Rattle.joint.specs.Names.{number}
-use Rattle.joint.specs.nodes.Tallies.{tally_at}
-use Rattle.joint.specs.nodes.Forest.{Forest, nodes, sizes, IsKept}
+use Rattle.joint.specs.nodes.CellMarks.{mark_at}
+use Rattle.joint.specs.nodes.Nodes.{Nodes, nodes, sizes, IsKept}
 use Rattle.joint.specs.engine.Journaling.{in_list}
 use Rattle.joint.specs.engine.Laws.{CallLaws}
 use Rattle.joint.specs.nodes.Listing.{IsListOf, bytes_of, is_standing, standing_nodes, handed_nodes}
 use Rattle.joint.specs.engine.Census.{waiting_nodes, taken_by, taken}
 use Rattle.joint.specs.nodes.View.{view, id_number}
 use Rattle.joint.specs.world.Whereabouts.{IsWaiting, IsTakenBy}
-use Rattle.joint.specs.world.Whole.{Holds}
-use Rattle.joint.specs.engine.Engine.{Whole}
+use Rattle.joint.specs.world.World.{Holds}
+use Rattle.joint.specs.engine.Engine.{World}
 use Rattle.joint.proofs.lemmas.nodes.Listing.{pairs_append, gives, given, once, nodes_once, counted_nodes, weighed_nodes, bytes_are, listed, unlisted}
-use Rattle.joint.proofs.lemmas.nodes.Made.{IsTaken, made_unretired, taken_out}
+use Rattle.joint.proofs.lemmas.nodes.MadeUnhanded.{IsTaken, made_unretired, taken_out}
 use Rattle.joint.proofs.lemmas.world.Whereabouts.{gone_waits, somewhere}
 
 -- tests that what doesn't stand fails
@@ -69,7 +69,7 @@ of_both true true a b = absurd (cc b)
 of_both false d a b = absurd (cc a)
 
 -- the nodes that stand are listed
-pub standing_listed : {V : Type 0} (F : Forest V) → IsListOf (λ n. Stands (nodes F n)) (standing_nodes F)
+pub standing_listed : {V : Type 0} (F : Nodes V) → IsListOf (λ n. Stands (nodes F n)) (standing_nodes F)
 standing_listed {V} F = record {
   once = nodes_once is_standing (λ v. true) (none_stands V) some_stands F;
   those = λ n. (
@@ -79,7 +79,7 @@ standing_listed {V} F = record {
 }
 
 -- as many as are counted in the cells, and as many bytes
-module _ {P : Type 0} (F : Forest P) (k : Counts) (kept : IsKept k F) where
+module _ {P : Type 0} (F : Nodes P) (k : Counts) (kept : IsKept k F) where
   -- and charged
   pub standing_weight : F.charge ≡ F.base + sum_by (bytes_of F) (standing_nodes F)
   standing_weight =
@@ -93,11 +93,11 @@ module _ {P : Type 0} (F : Forest P) (k : Counts) (kept : IsKept k F) where
   pub handed_weight : k.waiting_bytes ≡ sum_by (bytes_of F) (handed_nodes F)
   handed_weight = kept.bytes_is ∙ sym (weighed_nodes is_waiting (λ v. v.word.retired) (none_waits P) some_waits F kept.used)
 
-  -- a tally tells what is charged
-  pub tallied_bytes : (n : Name) → is_some (value_at F.collector.store n) ≡ true → size_of (tally_at k.tallies.items n.cell).form ≡ bytes_of F (number n)
+  -- a cell's mark tells what is charged
+  pub tallied_bytes : (n : Name) → is_some (value_at F.collector.store n) ≡ true → size_of (mark_at k.cell_marks.items n.cell).form ≡ bytes_of F (number n)
   tallied_bytes n e = go (value_at F.collector.store n) refl e
     where
-      go : (o : Option (Slot P)) → value_at F.collector.store n ≡ o → is_some o ≡ true → size_of (tally_at k.tallies.items n.cell).form ≡ bytes_of F (number n)
+      go : (o : Option (Slot P)) → value_at F.collector.store n ≡ o → is_some o ≡ true → size_of (mark_at k.cell_marks.items n.cell).form ≡ bytes_of F (number n)
       go None q t = absurd (cc t)
       go (Some v) q t = sym (kept.tallied n v q).size_is ∙ sym (bytes_are F n v q)
 
@@ -155,7 +155,7 @@ phase_once same always i a h k kind given (Obsolete m next p r) x = out_once i a
 phase_once same always i a h k kind given (Retire m next p r) x = out_once i a h m next x.1
 phase_once same always i a h k kind given _ x = λ i j d l m. absurd (let z : j < 0 = m in omega (arith, z))
 
-module _ {V : Type 0} (same : V → V → Bool) (always : Bool) (s : Forest V) (ms : List (Machine Id V)) (calls : List (Call V)) (intact : IsIntact same always s ms calls) where
+module _ {V : Type 0} (same : V → V → Bool) (always : Bool) (s : Nodes V) (ms : List (Machine Id V)) (calls : List (InFlight V)) (intact : IsIntact same always s ms calls) where
   -- what a call has taken out stands
   pub taken_stands : (i : ℕ) (m : Machine Id V) (n : ℕ) → slice_get ms i ≡ Some m → TakenBy id_number m.phase n → Stands (nodes s n)
   taken_stands i m n at t =
@@ -175,7 +175,7 @@ none_taken (Obsolete n next q r) f g = absurd (f n next q r refl)
 none_taken (Retire n next q r) f g = absurd (g n next q r refl)
 none_taken _ f g = refl
 
-module _ {V : Type 0} (same : V → V → Bool) (always : Bool) (laws : CallLaws {C = Id} {V = V} id_number same always) (s : Whole V) (holds : Holds same always s) where
+module _ {V : Type 0} (same : V → V → Bool) (always : Bool) (laws : CallLaws {C = Id} {V = V} id_number same always) (s : World V) (holds : Holds same always s) where
   abbrev settled : Settled id_number same always (nodes s.forest) s.machines
   settled = holds.0.safe.sound.sound.settled
 

@@ -9,14 +9,14 @@ use Rattle.congee.specs.protocol.Holdings.{Holdings, MadeBy}
 use Rattle.congee.specs.Ledger.{Note, Status, Unmade, Held, Linked, Gone, Back, Destroyed, is_published, is_spent}
 use Rattle.congee.specs.protocol.Play.{EachKnown, ProtocolAt, Settled}
 use Rattle.joint.specs.declared.id.Id.{Id}
-use Rattle.joint.specs.nodes.Forest.{nodes}
+use Rattle.joint.specs.nodes.Nodes.{nodes}
 use Rattle.joint.specs.engine.Laws.{CallLaws}
 use Rattle.joint.specs.nodes.View.{id_number}
 use Rattle.joint.specs.world.Whereabouts.{IsHeld, IsInTree, IsWaiting, IsDestroyed, IsSomewhere, IsTakenBy}
-use Rattle.joint.specs.world.Whole.{Holds}
-use Rattle.joint.specs.engine.Engine.{Whole, IsHeldBy}
+use Rattle.joint.specs.world.World.{Holds}
+use Rattle.joint.specs.engine.Engine.{World, IsHeldBy}
 
-module _ {V : Type 0} (same : V → V → Bool) (always : Bool) (laws : CallLaws {C = Id} {V = V} id_number same always) (s : Whole V) (holds : Holds same always s) (n : ℕ) (made : (nodes s.forest n).made ≡ true) where
+module _ {V : Type 0} (same : V → V → Bool) (always : Bool) (laws : CallLaws {C = Id} {V = V} id_number same always) (s : World V) (holds : Holds same always s) (n : ℕ) (made : (nodes s.forest n).made ≡ true) where
   abbrev pub settled : Settled id_number same always (nodes s.forest) s.machines
   settled = holds.0.safe.sound.sound.settled
 

@@ -1,4 +1,4 @@
-use Rattle.joint.specs.nodes.Forest.{nodes}
+use Rattle.joint.specs.nodes.Nodes.{nodes}
 use Rattle.joint.proofs.calls.laws.counts_pairs.Goals as goal
 
 pub returns : goal.returns

@@ -1,4 +1,4 @@
-use Rattle.joint.specs.nodes.Forest.{nodes}
+use Rattle.joint.specs.nodes.Nodes.{nodes}
 use Rattle.joint.proofs.lemmas.calls.MapCalls.{plays_call, register_keeps, scanned}
 use Rattle.joint.proofs.lemmas.calls.Runs.{standing_empty, fresh_flights}
 use Rattle.joint.proofs.calls.map_laws.calls_map.Goals as goal

@@ -1,6 +1,6 @@
 use Rattle.std.proofs.Common.{sym}
 use Rattle.std.specs.FinMap.{empty}
-use Rattle.joint.specs.nodes.Forest.{nodes}
+use Rattle.joint.specs.nodes.Nodes.{nodes}
 use Rattle.joint.proofs.lemmas.calls.Replied.{one_stands, stand}
 use Rattle.joint.proofs.lemmas.calls.Runs.{standing_empty}
 use Rattle.joint.proofs.calls.replies.pairs_stand.Goals as goal

@@ -1,4 +1,4 @@
-use Rattle.joint.proofs.lemmas.calls.Left.{locks_apart, locks_held, marked_left}
+use Rattle.joint.proofs.lemmas.calls.HeldNodes.{locks_apart, locks_held, marked_left}
 use Rattle.joint.proofs.calls.run_laws.locks_apart.Goals as goal
 
 pub returns-clause-apart : goal.returns-clause-apart

@@ -1,4 +1,4 @@
-use Rattle.joint.proofs.lemmas.calls.Advanced.{journal_replays}
+use Rattle.joint.proofs.lemmas.calls.WorldSteps.{journal_replays}
 use Rattle.joint.proofs.lemmas.world.RunJournals.{none_kept}
 use Rattle.joint.proofs.lemmas.calls.Running.{run_journal, fresh_journal}
 use Rattle.joint.proofs.calls.run_laws.runs_journal.Goals as goal

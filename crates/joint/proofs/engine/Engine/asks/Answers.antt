@@ -1,7 +1,7 @@
 use Rattle.std.proofs.Common.{◌∙◌, ap}
 use Rattle.std.specs.Prelude.{slice_get}
 use Rattle.joint.specs.engine.Journaling.{asks_at}
-use Rattle.joint.proofs.lemmas.nodes.Found.{found_at, found_none}
+use Rattle.joint.proofs.lemmas.nodes.TableLookups.{found_at, found_none}
 use Rattle.joint.proofs.engine.Engine.asks.Goals as goal
 
 pub returns-in-Some : goal.returns-in-Some

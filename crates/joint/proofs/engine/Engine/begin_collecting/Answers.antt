@@ -1,6 +1,6 @@
 use Rattle.std.proofs.Common.{◌∙◌, ap}
 use Rattle.std.specs.Prelude.{slice_set}
-use Rattle.joint.specs.declared.engine.in_flight.Call.TheVariants.{Idle}
+use Rattle.joint.specs.declared.engine.in_flight.InFlight.TheVariants.{Idle}
 use Rattle.joint.proofs.lemmas.engine.Collecting.{inside, idle_rests, begun, intact_at}
 use Rattle.joint.proofs.engine.Engine.begin_collecting.Goals as goal
 

@@ -1,8 +1,8 @@
 use Rattle.std.proofs.Common.{◌≡◌, ◌+◌, ◌<◌, ℕ, arith, length, sym, ◌∙◌, ap, subst}
 use Rattle.std.proofs.lemmas.List.{length-set}
-use Rattle.joint.specs.declared.engine.in_flight.Call.TheVariants.{Walking}
+use Rattle.joint.specs.declared.engine.in_flight.InFlight.TheVariants.{Walking}
 use Rattle.joint.proofs.lemmas.engine.Collecting.{inside_machines}
-use Rattle.joint.proofs.lemmas.calls.Counted.{bytes_small, counted_walk, few_machines, had, had_bytes, pairs_room, pairs_there, taken_few}
+use Rattle.joint.proofs.lemmas.calls.CensusSteps.{bytes_small, counted_walk, few_machines, had, had_bytes, pairs_room, pairs_there, taken_few}
 use Rattle.joint.proofs.lemmas.engine.Walking.{final_is}
 use Rattle.joint.proofs.engine.Engine.go_counted.Goals as goal
 

@@ -3,7 +3,7 @@ use Rattle.std.specs.Prelude.{slice_get, slice_set}
 use Rattle.crossbeam_epoch.specs.declared.world.report.Event.TheVariants.{Go}
 use Rattle.congee.specs.protocol.Play.{begun}
 use Rattle.joint.specs.engine.Intact.{root}
-use Rattle.joint.specs.declared.engine.in_flight.Call.TheVariants.{Securing, Walking}
+use Rattle.joint.specs.declared.engine.in_flight.InFlight.TheVariants.{Securing, Walking}
 use Rattle.joint.proofs.lemmas.engine.Collecting.{collected_at, intact_at, securing_rests, securing_inside, secures_on, refused_then, free_intact, free_idle, free_may, started_then}
 use Rattle.joint.proofs.engine.Engine.go_securing.Goals as goal
 

@@ -2,7 +2,7 @@ use Rattle.std.proofs.Common.{◌≡◌, ◌<◌, ℕ, List, true, false, get_or
 use Rattle.std.specs.Prelude.{Some, not, slice_get, slice_set, if◌then◌else◌}
 use Rattle.std.proofs.lemmas.List.{set-get_or}
 use Rattle.std.proofs.lemmas.Option.{slice_get-get_or}
-use Rattle.joint.specs.declared.engine.in_flight.Call.TheVariants.{Idle, Walking}
+use Rattle.joint.specs.declared.engine.in_flight.InFlight.TheVariants.{Idle, Walking}
 use Rattle.joint.proofs.lemmas.engine.Collecting.{inside, inside_machines, intact_at}
 use Rattle.joint.specs.engine.Intact.{over_at}
 use Rattle.joint.proofs.lemmas.engine.Reported.{told_goes}

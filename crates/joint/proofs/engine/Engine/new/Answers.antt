@@ -1,4 +1,4 @@
-use Rattle.joint.proofs.lemmas.calls.Counted.{counted_first}
+use Rattle.joint.proofs.lemmas.calls.CensusSteps.{counted_first}
 use Rattle.joint.proofs.lemmas.engine.Fresh.{intact, fresh}
 use Rattle.joint.proofs.lemmas.calls.Runs.{standing_empty}
 use Rattle.joint.proofs.engine.Engine.new.Goals as goal

@@ -1,5 +1,5 @@
 use Rattle.std.proofs.Common.{ap}
-use Rattle.joint.specs.declared.engine.in_flight.Call.TheVariants.{Idle}
+use Rattle.joint.specs.declared.engine.in_flight.InFlight.TheVariants.{Idle}
 use Rattle.joint.proofs.lemmas.engine.Collecting.{inside, intact_at}
 use Rattle.joint.proofs.lemmas.engine.Reserving.{reserved}
 use Rattle.joint.proofs.engine.Engine.reserve.Goals as goal

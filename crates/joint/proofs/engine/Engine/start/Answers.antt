@@ -1,6 +1,6 @@
 use Rattle.std.proofs.Common.{◌∙◌, ap, refl}
 use Rattle.congee.specs.protocol.Play.{begun}
-use Rattle.joint.specs.declared.engine.in_flight.Call.TheVariants.{Idle}
+use Rattle.joint.specs.declared.engine.in_flight.InFlight.TheVariants.{Idle}
 use Rattle.joint.specs.engine.Intact.{root}
 use Rattle.joint.proofs.lemmas.engine.Collecting.{inside, inside_machines, intact_at}
 use Rattle.joint.proofs.lemmas.engine.Starting.{started}

@@ -3,7 +3,7 @@ use Rattle.std.specs.List.{flat_map}
 use Rattle.std.proofs.lemmas.List.{length-append}
 use Rattle.joint.specs.nodes.Listing.{handed_nodes}
 use Rattle.joint.specs.engine.Census.{taken_by}
-use Rattle.joint.proofs.lemmas.calls.Counted.{few_machines, taken_few}
+use Rattle.joint.proofs.lemmas.calls.CensusSteps.{few_machines, taken_few}
 use Rattle.joint.proofs.engine.Engine.waiting.Goals as goal
 
 pub overflow_add-result : goal.overflow_add-result

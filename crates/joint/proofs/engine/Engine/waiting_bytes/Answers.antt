@@ -3,7 +3,7 @@ use Rattle.std.specs.List.{flat_map}
 use Rattle.std.proofs.lemmas.List.Sums.{sum_by-append}
 use Rattle.joint.specs.nodes.Listing.{bytes_of, handed_nodes}
 use Rattle.joint.specs.engine.Census.{taken_by}
-use Rattle.joint.proofs.lemmas.calls.Counted.{bytes_small, few_machines}
+use Rattle.joint.proofs.lemmas.calls.CensusSteps.{bytes_small, few_machines}
 use Rattle.joint.proofs.engine.Engine.waiting_bytes.Goals as goal
 
 pub overflow_add-result : goal.overflow_add-result

@@ -1,5 +1,5 @@
 use Rattle.std.proofs.Common.{◌-◌, length}
-use Rattle.joint.specs.nodes.Forest.{nodes}
+use Rattle.joint.specs.nodes.Nodes.{nodes}
 use Rattle.joint.specs.nodes.View.{id_number}
 use Rattle.joint.proofs.lemmas.nodes.Counting.{Counted}
 use Rattle.joint.proofs.nodes.Nodes.+count_from.Given as goal

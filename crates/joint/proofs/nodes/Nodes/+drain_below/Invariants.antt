@@ -1,5 +1,5 @@
 use Rattle.std.proofs.Common.{◌≡◌, ◌-◌, length}
-use Rattle.joint.specs.nodes.Forest.{nodes, frame}
+use Rattle.joint.specs.nodes.Nodes.{nodes, frame}
 use Rattle.joint.specs.nodes.Levels.{IsNodeIn}
 use Rattle.joint.specs.nodes.View.{id_number}
 use Rattle.joint.proofs.lemmas.nodes.DrainWalks.{TakenSoFar}

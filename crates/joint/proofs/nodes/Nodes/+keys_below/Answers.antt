@@ -1,5 +1,5 @@
 use Rattle.std.proofs.Common.{rules, ℕ, List, ◌+◌, ◌<◌, ◌-◌, ◌∙◌, length, sym, ap, subst, arith}
-use Rattle.joint.specs.nodes.Forest.{nodes}
+use Rattle.joint.specs.nodes.Nodes.{nodes}
 use Rattle.joint.specs.nodes.View.{id_number}
 use Rattle.joint.proofs.lemmas.nodes.KeyWalks.{PutSoFar, below_in, ended, put_below, put_key, put_none}
 use Rattle.joint.proofs.nodes.Nodes.+keys_below.Goals as goal

@@ -1,5 +1,5 @@
 use Rattle.std.proofs.Common.{◌-◌, length}
-use Rattle.joint.specs.nodes.Forest.{nodes}
+use Rattle.joint.specs.nodes.Nodes.{nodes}
 use Rattle.joint.specs.nodes.View.{id_number}
 use Rattle.joint.proofs.lemmas.nodes.KeyWalks.{PutSoFar}
 use Rattle.joint.proofs.nodes.Nodes.+keys_below.Given as goal

@@ -1,4 +1,4 @@
-use Rattle.joint.specs.nodes.Forest.{nodes}
+use Rattle.joint.specs.nodes.Nodes.{nodes}
 use Rattle.joint.proofs.lemmas.nodes.DrainWalks.{all_taken}
 use Rattle.joint.proofs.nodes.Nodes.drain.Goals as goal
 

@@ -1,7 +1,7 @@
 use Rattle.std.proofs.Common.{subst}
 use Rattle.congee.specs.protocol.Events.{hung, MayChange}
 use Rattle.joint.specs.nodes.View.{id_number}
-use Rattle.joint.proofs.lemmas.nodes.Kept.{there_in, node_in, frame_in, changed_in, kept_changed}
+use Rattle.joint.proofs.lemmas.nodes.NodesInvariant.{there_in, node_in, frame_in, changed_in, kept_changed}
 use Rattle.joint.proofs.nodes.Nodes.hang.Goals as goal
 
 pub hang-requires-clause-stands : goal.hang-requires-clause-stands

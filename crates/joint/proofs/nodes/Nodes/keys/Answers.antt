@@ -1,5 +1,5 @@
 use Rattle.std.proofs.Common.{List, subst}
-use Rattle.joint.specs.nodes.Forest.{nodes}
+use Rattle.joint.specs.nodes.Nodes.{nodes}
 use Rattle.joint.specs.nodes.Survey.{PutsKeys}
 use Rattle.joint.proofs.lemmas.nodes.Keyed.{keys_are}
 use Rattle.joint.proofs.lemmas.nodes.KeyWalks.{all_put, keys_all}

@@ -1,6 +1,6 @@
 use Rattle.std.proofs.Common.{◌≡◌, subst}
 use Rattle.congee.specs.Heap.{Node, Holds}
-use Rattle.joint.proofs.lemmas.nodes.Kept.{there_in, node_in, value_in, pulled_in, kept_pulled}
+use Rattle.joint.proofs.lemmas.nodes.NodesInvariant.{there_in, node_in, value_in, pulled_in, kept_pulled}
 use Rattle.joint.proofs.nodes.Nodes.pull.Goals as goal
 
 pub pull-requires-clause-stands : goal.pull-requires-clause-stands

@@ -1,4 +1,4 @@
-use Rattle.joint.proofs.lemmas.nodes.Kept.{there_in, frame_in, worded_in, kept_worded}
+use Rattle.joint.proofs.lemmas.nodes.NodesInvariant.{there_in, frame_in, worded_in, kept_worded}
 use Rattle.joint.proofs.nodes.Nodes.set_word.Goals as goal
 
 pub set_word-requires : goal.set_word-requires

@@ -1,7 +1,7 @@
 use Rattle.std.proofs.Common.{◌≡◌, length, sym, ap, ◌∙◌}
 use Rattle.std.specs.Prelude.{slice_index}
 use Rattle.congee.specs.forms.Forms.{capacity_of, prefix_of}
-use Rattle.joint.proofs.lemmas.nodes.Seen.{places_of, seen_truly}
+use Rattle.joint.proofs.lemmas.nodes.ByteLooks.{places_of, seen_truly}
 use Rattle.joint.proofs.nodes.reading.read.Goals as goal
 
 pub returns-in-Some-look-clause-gives : goal.returns-in-Some-look-clause-gives

@@ -1,5 +1,5 @@
 use Rattle.std.proofs.Common.{IsSome, sym, ap, subst, ◌∙◌}
-use Rattle.joint.specs.nodes.Forest.{nodes}
+use Rattle.joint.specs.nodes.Nodes.{nodes}
 use Rattle.joint.specs.calls.MapCalls.{asked_of, reply_of}
 use Rattle.joint.specs.calls.Standing.{pairs_of}
 use Rattle.joint.proofs.lemmas.calls.Replied.{answers_as, one_stands, replied_keeps, stand}

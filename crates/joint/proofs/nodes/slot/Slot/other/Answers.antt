@@ -2,7 +2,7 @@ use Rattle.std.proofs.Common.{◌≢◌, ◌+◌, ◌∙◌, IsSome, refl, sym, 
 use Rattle.congee.specs.Heap.{Node, Nothing}
 use Rattle.congee.specs.protocol.Events.{HoldsNodes, IsOther}
 use Rattle.joint.specs.nodes.View.{id_number}
-use Rattle.joint.proofs.lemmas.nodes.Others.{first_other, next_other, no_value, some_first, some_next}
+use Rattle.joint.proofs.lemmas.nodes.OtherChild.{first_other, next_other, no_value, some_first, some_next}
 use Rattle.joint.proofs.nodes.slot.Slot.other.Goals as goal
 
 pub unreachable-requires : goal.unreachable-requires

@@ -1,6 +1,6 @@
 use Rattle.std.proofs.Common.{refl, arith}
 use Rattle.joint.proofs.lemmas.nodes.Accounts.{standing_inside, standing_some, waits_some, bytes_some, charge_some, kept_emptied, gone_node}
-use Rattle.joint.proofs.lemmas.nodes.Kept.{there_in, orderly_stored}
+use Rattle.joint.proofs.lemmas.nodes.NodesInvariant.{there_in, orderly_stored}
 use Rattle.joint.proofs.nodes.store.NodesStoreId.give_back.Goals as goal
 
 pub take_away-requires : goal.take_away-requires
@@ -24,7 +24,7 @@ deallocate-requires g c = let some = charge_some _ _ c.self.invariant c.args.nod
 pub invariant_of-self : goal.invariant_of-self
 invariant_of-self g c =
     kept_emptied _ _ _ c.self.invariant (orderly_stored c.self.inside.collector c.take_away.new.collector c.take_away.ensures.beside c.self.invariant.orderly) c.args.node.name c.take_away.ensures.slot.0 c.take_away.ensures.slot.1 c.take_off-size.new.self c.take_off-size.ensures.standing
-    (omega (arith, c.deallocate.ensures.charged, c.take_off-size.ensures.size)) refl c.take_off-size.ensures.tallies c.take_off-size.ensures.waiting c.take_off-size.ensures.bytes
+    (omega (arith, c.deallocate.ensures.charged, c.take_off-size.ensures.size)) refl c.take_off-size.ensures.cell_marks c.take_off-size.ensures.waiting c.take_off-size.ensures.bytes
 
 pub returns-clause-gives : goal.returns-clause-gives
 returns-clause-gives g c = gone_node _ _ c.self.view_is c.args.node.name c.take_away.ensures.slot.0 c.take_away.new.collector.store c.take_away.ensures.slot.1

@@ -1,10 +1,10 @@
 use Rattle.std.proofs.Common.{◌≡◌, true, refl, ap, sym, ◌∙◌, subst}
 use Rattle.congee.specs.protocol.Events.{SameBut}
-use Rattle.joint.specs.declared.nodes.slot.Word.{Word}
-use Rattle.joint.specs.nodes.Forest.{nodes}
+use Rattle.joint.specs.declared.nodes.slot.LockWord.{LockWord}
+use Rattle.joint.specs.nodes.Nodes.{nodes}
 use Rattle.joint.specs.nodes.View.{id_number, heap, worded}
 use Rattle.joint.proofs.lemmas.nodes.Accounts.{standing_inside, kept_marked, count_few, bytes_small}
-use Rattle.joint.proofs.lemmas.nodes.Kept.{there_in, node_in, orderly_stored, frame_in, worded_in}
+use Rattle.joint.proofs.lemmas.nodes.NodesInvariant.{there_in, node_in, orderly_stored, frame_in, worded_in}
 use Rattle.joint.proofs.nodes.store.NodesStoreId.retire.Goals as goal
 
 pub mark-requires-clause-inside : goal.mark-requires-clause-inside
@@ -23,13 +23,13 @@ pub invariant_of-self : goal.invariant_of-self
 invariant_of-self g c =
     kept_marked _ _ _ c.self.invariant (orderly_stored c.self.inside.collector c.set_word.new.collector c.set_word.ensures.beside c.self.invariant.orderly) c.args.node.name c.set_word.ensures.slot.0 _ c.set_word.ensures.slot.1 c.mark.new.self refl refl refl
     (sym (ap (λ n. n.retired) (node_in _ _ c.self.view_is c.args.node.name c.set_word.ensures.slot.0 c.set_word.ensures.slot.1.was)) ∙ c.requires.once)
-    c.mark.ensures.tallies c.mark.ensures.room c.mark.ensures.standing c.mark.ensures.waiting c.mark.ensures.bytes
+    c.mark.ensures.cell_marks c.mark.ensures.room c.mark.ensures.standing c.mark.ensures.waiting c.mark.ensures.bytes
 
 pub returns-clause-rest : goal.returns-clause-rest
 returns-clause-rest g c = frame_in _ _ c.self.view_is c.args.node.name c.set_word.new.collector c.set_word.ensures.beside _ _ c.set_word.ensures.slot.1
 
 pub returns-clause-gives : goal.returns-clause-gives
 returns-clause-gives g c =
-    let w : Word = record c.slot.result.now.word { retired = true } in
+    let w : LockWord = record c.slot.result.now.word { retired = true } in
     let e : worded w (nodes c.args.self.now (id_number c.args.node)) ≡ record (nodes c.args.self.now (id_number c.args.node)) { retired = true } = subst (λ x. worded w x ≡ record x { retired = true }) (sym c.slot.ensures.node) refl in
     subst (λ x. SameBut (nodes c.args.self.now) (id_number c.args.node) x (heap c.set_word.new.collector.store)) e (worded_in _ _ c.self.view_is c.args.node.name c.set_word.new.collector c.set_word.ensures.beside w c.set_word.ensures.slot)

@@ -1,5 +1,5 @@
 use Rattle.std.proofs.Common.{◌≡◌, ap, arith}
-use Rattle.joint.specs.nodes.Forest.{nodes}
+use Rattle.joint.specs.nodes.Nodes.{nodes}
 use Rattle.joint.specs.nodes.View.{id_number}
 use Rattle.joint.proofs.nodes.store.NodesStoreId.unlock.Goals as goal
 
