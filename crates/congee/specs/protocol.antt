@@ -16,7 +16,7 @@ pub mod Regions
 pub mod Sweeps
 pub mod SweepEvents
 pub mod SweepSteps
-pub mod Seats
+pub mod Stamps
 pub mod SweepKnown
 pub mod Bounds
 pub mod Causes

@@ -41,6 +41,6 @@ pub use phase::{Above, Double, Kind, One, Parent, Phase, Plan, Single, Site, Two
 pub use plain::PlainStore;
 pub use plain_node::PlainNode;
 pub use run::{Played, Step, play, step_of};
-pub use store::{Least, NodeName, Reading, Refusal, Region, Seat, Seen, Store, Upgrade};
-pub use sweep::{Path, Rung, Stage, Sweep, Told};
-pub use turn::Turn;
+pub use store::{Least, NodeName, Reading, Refusal, Region, Seen, Stamp, Store, Upgrade};
+pub use sweep::{Path, Rung, ScanReport, Stage, Sweep};
+pub use turn::NextPhase;

@@ -18,7 +18,7 @@ use Rattle.joint.specs.Reports.{target}
 use Rattle.joint.specs.nodes.Survey.{IsEmptiness, keys_of}
 use Rattle.joint.specs.engine.Surveys.{MapTells}
 use Rattle.trial.specs.declared.caller.Closure.{Closure}
-use Rattle.trial.specs.declared.index.Index.{Index}
+use Rattle.trial.specs.declared.open_tree.OpenTree.{OpenTree}
 use Rattle.trial.specs.declared.reply.Reply.TheVariants as reply
 use Rattle.trial.specs.Calling.{Calls}
 use Rattle.trial.specs.MapReplies.{IsAnswer, is_nil}
@@ -27,11 +27,11 @@ use Rattle.trial.proofs.MapSteps.{MapLaws, Rests, rests_after}
 use Rattle.trial.proofs.WholeCalls.{called, last_of, plays_call}
 
 -- what it tells, and the tree as it was
-pub record Surveyed (m : Pairs ℕ) (k : Survey) (s' : Index) (told : Outcome ℕ) : Type 0 where
+pub record Surveyed (m : Pairs ℕ) (k : Survey) (s' : OpenTree) (told : Outcome ℕ) : Type 0 where
   pub rests : Rests s'.world m
   pub tells : MapTells m k told
 
-pub survey_finishes : MapLaws → (w : ℕ) (o : Op ℕ) (k : Survey) (f : Option Closure) (m : Pairs ℕ) (s s' : Index) (told : Outcome ℕ) → target o ≡ target.Survey k → Rests s.world m → Calls s w o f told s'
+pub survey_finishes : MapLaws → (w : ℕ) (o : Op ℕ) (k : Survey) (f : Option Closure) (m : Pairs ℕ) (s s' : OpenTree) (told : Outcome ℕ) → target o ≡ target.Survey k → Rests s.world m → Calls s w o f told s'
     → Surveyed m k s' told
 survey_finishes laws w o k f m s s' told is b g =
     let c = called w o f s s' told g in

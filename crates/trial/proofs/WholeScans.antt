@@ -18,7 +18,7 @@ use Rattle.joint.specs.engine.Flying.{Flights}
 use Rattle.joint.specs.world.World.{Holds}
 use Rattle.joint.specs.engine.Engine.{World}
 use Rattle.trial.specs.declared.caller.Closure.{Closure}
-use Rattle.trial.specs.declared.index.Index.{Index}
+use Rattle.trial.specs.declared.open_tree.OpenTree.{OpenTree}
 use Rattle.trial.specs.declared.reply.Reply.TheVariants as reply
 use Rattle.trial.specs.Calling.{is_running, Calls}
 use Rattle.trial.specs.MapReplies.{IsAnswer}
@@ -74,7 +74,7 @@ plays_scan fs m w last ops.Keys start end size told s e x = absurd (cc e)
 plays_scan fs m w last ops.IsEmpty start end size told s e x = absurd (cc e)
 plays_scan fs m w last ops.Stats start end size told s e x = absurd (cc e)
 
-module _ (laws : MapLaws) (w start end size : ℕ) (op : Op ℕ) (ranged : range_of op ≡ Some (start, end, size)) (m : Pairs ℕ) (closure : Option Closure) (s s' : Index) (told : Outcome ℕ) (b : Rests s.world m) (all : length s.scans.items ≡ 256) (c : Called w op closure s s' told) where
+module _ (laws : MapLaws) (w start end size : ℕ) (op : Op ℕ) (ranged : range_of op ≡ Some (start, end, size)) (m : Pairs ℕ) (closure : Option Closure) (s s' : OpenTree) (told : Outcome ℕ) (b : Rests s.world m) (all : length s.scans.items ≡ 256) (c : Called w op closure s s' told) where
   -- its first step
   began : PlaysScan b.flights m w c.report.outcome c.mid.world
   began = plays_scan b.flights m w _ op start end size c.report.outcome c.mid.world ranged
@@ -107,12 +107,12 @@ module _ (laws : MapLaws) (w start end size : ℕ) (op : Op ℕ) (ranged : range
       ]
 
 -- the scan has ended as the map says
-pub record FoundAll (m : Pairs ℕ) (start end size w : ℕ) (s : Index) (stands : Outcome ℕ) : Type 0 where
+pub record FoundAll (m : Pairs ℕ) (start end size w : ℕ) (s : OpenTree) (stands : Outcome ℕ) : Type 0 where
   pub rests : Rests s.world m
   pub reply : reply_of (given stands (places_at s.scans.items w)) stands ≡ reply.Range (finds m start end size)
 
 -- a whole scan
-pub scan_finishes : MapLaws → (w start end size : ℕ) (op : Op ℕ) → range_of op ≡ Some (start, end, size) → (m : Pairs ℕ) (closure : Option Closure) (s s' : Index) (last : Outcome ℕ) (ps : List (ℕ × ℕ)) → Rests s.world m
+pub scan_finishes : MapLaws → (w start end size : ℕ) (op : Op ℕ) → range_of op ≡ Some (start, end, size) → (m : Pairs ℕ) (closure : Option Closure) (s s' : OpenTree) (last : Outcome ℕ) (ps : List (ℕ × ℕ)) → Rests s.world m
     → length s.scans.items ≡ 256 → Calls s w op closure last s' → IsAnswer (reply_of ps last) → FoundAll m start end size w s' last
 scan_finishes laws w start end size op ranged m closure s s' last ps b len g a = by_told last refl (plays_scan b.flights m w _ op start end size last s'.world ranged (plays_call w op closure s s' last c laws m b)) where
   c : Called w op closure s s' last

@@ -125,7 +125,7 @@ impl Program {
     }
 
     /// One read, and the replies to the lines that it completes. The end, if it came.
-    fn turn<R: Read, W: Write>(
+    fn read_once<R: Read, W: Write>(
         &mut self,
         reader: &mut R,
         writer: &mut W,

@@ -1,7 +1,7 @@
 -- A change of the tree at one byte of one node, by which nodes come into the tree or leave it.
 use Rattle.std.proofs.Common.{◌≡◌, ◌≢◌, ℕ, zero, suc, ◌<◌, ◌⊎◌, inl, inr, Bool, true, false, List, length, get_or, refl, sym, ◌∙◌, ap, subst, arith}
 use Rattle.congee.specs.Heap.{Below, Holds, Node, fits, walk}
-use Rattle.congee.specs.Ledger.{Linked, Note, IsChild, HasParent, Tree}
+use Rattle.congee.specs.Notes.{Linked, Note, IsChild, HasParent, Tree}
 use Rattle.congee.proofs.lemmas.Tree.{same_or_not, step_same}
 
 -- what a graft at byte b of node n leaves: all but what hung there

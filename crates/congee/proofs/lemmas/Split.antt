@@ -2,7 +2,7 @@
 use Rattle.std.proofs.Common.{◌≡◌, ◌≢◌, ℕ, ◌<◌, ◌≤◌, inl, inr, true, false, List, length, get_or, refl, sym, ◌∙◌, subst, arith}
 use Rattle.std.specs.Prelude.{None, Some}
 use Rattle.congee.specs.Heap.{Nothing, Below, Holds, Node, fits, child_for, walk, value_at}
-use Rattle.congee.specs.Ledger.{Linked, Note, IsChild, HasParent, Tree}
+use Rattle.congee.specs.Notes.{Linked, Note, IsChild, HasParent, Tree}
 use Rattle.congee.proofs.lemmas.Fits.{fits_trans, fits_byte}
 use Rattle.congee.proofs.lemmas.Tree.{same_or_not, stable, enter, finds, misses}
 use Rattle.congee.proofs.lemmas.Graft.{Graft, old_down, old_leaves, old_up, untouched, on_test}

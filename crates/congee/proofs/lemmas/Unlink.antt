@@ -2,7 +2,7 @@
 use Rattle.std.proofs.Common.{◌≡◌, ◌≢◌, ℕ, inl, inr, true, List, length, get_or, refl, sym, ◌∙◌, ap, subst, arith}
 use Rattle.std.specs.Prelude.{None, Some}
 use Rattle.congee.specs.Heap.{Nothing, Below, Holds, Node, fits, child_for, value_at}
-use Rattle.congee.specs.Ledger.{Linked, Note, IsChild, HasParent, Tree}
+use Rattle.congee.specs.Notes.{Linked, Note, IsChild, HasParent, Tree}
 use Rattle.congee.proofs.lemmas.Tree.{same_or_not, finds}
 use Rattle.congee.proofs.lemmas.Graft.{Graft, old_down, old_leaves, old_up, untouched, on_test}
 use Rattle.congee.proofs.lemmas.Link.{Leaf, leaf_no_node, leaf_value, leaf_other, child_moved}

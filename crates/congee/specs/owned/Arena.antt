@@ -3,7 +3,7 @@ use Rattle.std.specs.Prelude.{◌≡◌, ◌≢◌, ◌<◌, ℕ, true, false, L
 use Rattle.std.specs.FinMap as map
 use Rattle.slab.specs.Slab.{Slab, get, ContainsKey}
 use Rattle.congee.specs.Heap.{Node, Hung, Nothing, Below, Holds, fits, child_for}
-use Rattle.congee.specs.Ledger.{Linked, Gone, Note, Tree}
+use Rattle.congee.specs.Notes.{Linked, Gone, Note, Tree}
 use Rattle.congee.specs.forms.Forms.{prefix_of, children_of, form_of, capacity_of}
 use Rattle.congee.specs.declared.forms.base_node.Node.{Node as Form}
 use Rattle.congee.specs.declared.forms.child.Child.{Child}

@@ -7,7 +7,7 @@ use Rattle.congee.specs.declared.protocol.store.Least.{Least}
 use Rattle.congee.specs.declared.protocol.store.Least.TheVariants as least
 use Rattle.congee.specs.declared.protocol.store.Refusal.{Refusal}
 use Rattle.congee.specs.declared.protocol.store.Refusal.TheVariants as refusal
-use Rattle.congee.specs.declared.protocol.store.Seat.{Seat}
+use Rattle.congee.specs.declared.protocol.store.Stamp.{Stamp}
 use Rattle.congee.specs.declared.protocol.phase.Parent.{Parent}
 use Rattle.congee.specs.declared.protocol.phase.Above.{Above as Over}
 use Rattle.congee.specs.declared.protocol.phase.Site.{Site}
@@ -25,7 +25,7 @@ use Rattle.congee.specs.declared.protocol.sweep.Rung.{Rung}
 use Rattle.congee.specs.declared.protocol.sweep.Stage.{Stage}
 use Rattle.congee.specs.declared.protocol.sweep.Stage.TheVariants as stage
 use Rattle.congee.specs.declared.protocol.sweep.Sweep.{Sweep as Scan}
-use Rattle.congee.specs.declared.protocol.turn.Turn.{Turn}
+use Rattle.congee.specs.declared.protocol.turn.NextPhase.{NextPhase}
 use Rattle.congee.specs.declared.protocol.machine.Machine.{Machine}
 use Rattle.congee.specs.declared.protocol.machine.Move.{Move}
 use Rattle.congee.specs.declared.protocol.machine.Outcome.{Outcome}
@@ -66,7 +66,7 @@ module _ {C : Type 0} (order : List ℕ) (number : C → ℕ) where
   abbrev pub Named : C → ℕ → Type 0
   Named c n = slice_get order n ≡ Some (number c)
 
-  pub record SeatAlike (s : Seat C) (u : Seat ℕ) : Type 0 where
+  pub record SeatAlike (s : Stamp C) (u : Stamp ℕ) : Type 0 where
     pub node : Named s.node u.node
     pub version : u.version ≡ s.version
 
@@ -89,9 +89,9 @@ module _ {C : Type 0} (order : List ℕ) (number : C → ℕ) where
   AboveAlike None o = o ≡ None
   AboveAlike (Some u) o = (w : Over ℕ) × (o ≡ Some w) × OverAlike u w
 
-  abbrev pub SeatedAlike : Option (Seat C) → Option (Seat ℕ) → Type 0
+  abbrev pub SeatedAlike : Option (Stamp C) → Option (Stamp ℕ) → Type 0
   SeatedAlike None o = o ≡ None
-  SeatedAlike (Some s) o = (u : Seat ℕ) × (o ≡ Some u) × SeatAlike s u
+  SeatedAlike (Some s) o = (u : Stamp ℕ) × (o ≡ Some u) × SeatAlike s u
 
   abbrev pub MadeAlike : Option C → Option ℕ → Type 0
   MadeAlike None o = o ≡ None
@@ -134,7 +134,7 @@ module _ {C : Type 0} (order : List ℕ) (number : C → ℕ) where
     pub change : DoubleAlike two.change u.change
 
   abbrev pub PlanAlike : Plan C → Plan ℕ → Type 0
-  PlanAlike (Here check one) x = (o : Option (Seat ℕ)) × (u : One ℕ) × (x ≡ Here o u) × SeatedAlike check o × OneAlike one u
+  PlanAlike (Here check one) x = (o : Option (Stamp ℕ)) × (u : One ℕ) × (x ≡ Here o u) × SeatedAlike check o × OneAlike one u
   PlanAlike (Above two) x = (u : Two ℕ) × (x ≡ Above u) × TwoAlike two u
 
   pub record RungAlike (r : Rung C) (q : Rung ℕ) : Type 0 where
@@ -167,7 +167,7 @@ module _ {C : Type 0} (order : List ℕ) (number : C → ℕ) where
 
     module _ (h : ℕ → Node V) where
       -- the node's lock word is still the one that was taken
-      abbrev pub IsTaken : Seat C → Type 0
+      abbrev pub IsTaken : Stamp C → Type 0
       IsTaken s = is_taken (h (number s.node)) s.version ≡ true
 
       abbrev pub StageAlike : Stage C V → Stage ℕ V → Type 0
@@ -191,21 +191,21 @@ module _ {C : Type 0} (order : List ℕ) (number : C → ℕ) where
       abbrev pub PhaseAlike : Phase C V → Phase ℕ V → Type 0
       PhaseAlike New x = x ≡ New
       PhaseAlike (Version above c) x = (o : Option (Over ℕ)) × (n : ℕ) × (x ≡ Version o n) × AboveAlike above o × Named c n
-      PhaseAlike (Read above at) x = (o : Option (Over ℕ)) × (u : Seat ℕ) × (x ≡ Read o u) × AboveAlike above o × SeatAlike at u
+      PhaseAlike (Read above at) x = (o : Option (Over ℕ)) × (u : Stamp ℕ) × (x ≡ Read o u) × AboveAlike above o × SeatAlike at u
       PhaseAlike (Check s c) x = (u : Site ℕ) × (d : Child ℕ V) × (x ≡ Check u d) × SiteAlike s u × (IsTaken s.at → SeesAlike s c u d)
       PhaseAlike (CheckUncopied at) x = (u : Site ℕ) × (d : Child ℕ V) × (x ≡ Check u d) × SeatAlike at u.at
-      PhaseAlike (CheckMiss p at common byte) x = (q : Parent ℕ) × (u : Seat ℕ) × (x ≡ CheckMiss q u common byte) × ParentAlike p q × SeatAlike at u
-      PhaseAlike (CheckDown p at c) x = (u : Seat ℕ) × (w : Over ℕ) × (n : ℕ) × (x ≡ CheckDown u w n) × SeatAlike p u × OverAlike at w × Named c n
-      PhaseAlike (CheckOld p s v) x = (q : Seat ℕ) × (u : Site ℕ) × (x ≡ CheckOld q u v) × SeatAlike p q × ReadAlike s u
+      PhaseAlike (CheckMiss p at common byte) x = (q : Parent ℕ) × (u : Stamp ℕ) × (x ≡ CheckMiss q u common byte) × ParentAlike p q × SeatAlike at u
+      PhaseAlike (CheckDown p at c) x = (u : Stamp ℕ) × (w : Over ℕ) × (n : ℕ) × (x ≡ CheckDown u w n) × SeatAlike p u × OverAlike at w × Named c n
+      PhaseAlike (CheckOld p s v) x = (q : Stamp ℕ) × (u : Site ℕ) × (x ≡ CheckOld q u v) × SeatAlike p q × ReadAlike s u
       PhaseAlike (MakeLeaf s) x = (u : Site ℕ) × (x ≡ MakeLeaf u) × ReadAlike s u × (u.full ≡ s.full)
       PhaseAlike (MakeGreater s p leaf) x = (u : Site ℕ) × (q : Parent ℕ) × (o : Option ℕ) × (x ≡ MakeGreater u q o) × ReadAlike s u × ParentAlike p q × MadeAlike leaf o
-      PhaseAlike (MakeTop p at common byte) x = (q : Parent ℕ) × (u : Seat ℕ) × (x ≡ MakeTop q u common byte) × ParentAlike p q × SeatAlike at u
-      PhaseAlike (MakeBeside p at common byte top) x = (q : Parent ℕ) × (u : Seat ℕ) × (n : ℕ) × (x ≡ MakeBeside q u common byte n) × ParentAlike p q × SeatAlike at u × Named top n
+      PhaseAlike (MakeTop p at common byte) x = (q : Parent ℕ) × (u : Stamp ℕ) × (x ≡ MakeTop q u common byte) × ParentAlike p q × SeatAlike at u
+      PhaseAlike (MakeBeside p at common byte top) x = (q : Parent ℕ) × (u : Stamp ℕ) × (n : ℕ) × (x ≡ MakeBeside q u common byte n) × ParentAlike p q × SeatAlike at u × Named top n
       PhaseAlike (MakeLesser s p g r) x = (u : Site ℕ) × (q : Parent ℕ) × (o : Option (Parent ℕ)) × (x ≡ MakeLesser u q o r) × ReadAlike s u × ParentAlike p q × TopAlike g o
       PhaseAlike (AskOld s v) x = (u : Site ℕ) × (x ≡ AskOld u v) × ReadAlike s u
       PhaseAlike (AskNew plan) x = (y : Plan ℕ) × (x ≡ AskNew y) × PlanAlike plan y
-      PhaseAlike (Confirm at r) x = (u : Seat ℕ) × (x ≡ Confirm u r) × SeatAlike at u
-      PhaseAlike (CheckAbove p one r) x = (q : Seat ℕ) × (u : One ℕ) × (x ≡ CheckAbove q u r) × SeatAlike p q × OneAlike one u
+      PhaseAlike (Confirm at r) x = (u : Stamp ℕ) × (x ≡ Confirm u r) × SeatAlike at u
+      PhaseAlike (CheckAbove p one r) x = (q : Stamp ℕ) × (u : One ℕ) × (x ≡ CheckAbove q u r) × SeatAlike p q × OneAlike one u
       PhaseAlike (UpgradeOne one r) x = (u : One ℕ) × (x ≡ UpgradeOne u r) × OneAlike one u
       PhaseAlike (ChangeOne one r) x = (u : One ℕ) × (x ≡ ChangeOne u r) × OneAlike one u
       PhaseAlike (UpgradeTop g two r) x = (q : Parent ℕ) × (u : Two ℕ) × (x ≡ UpgradeTop q u r) × ParentAlike g q × TwoAlike two u
@@ -221,7 +221,7 @@ module _ {C : Type 0} (order : List ℕ) (number : C → ℕ) where
       PhaseAlike Ended x = x ≡ Ended
 
       -- a step's report, and the phase after it
-      pub record TurnAlike (t : Turn C V) (u : Turn ℕ V) : Type 0 where
+      pub record TurnAlike (t : NextPhase C V) (u : NextPhase ℕ V) : Type 0 where
         pub report : u.report ≡ t.report
         pub phase : PhaseAlike t.phase u.phase
 
@@ -242,7 +242,7 @@ Longer order order' = (new : List ℕ) × (order' ≡ order ++ new)
 
 -- a step of a call on a store went as that by numbers: it reports the same, and leaves call and nodes the same; a node that it
 -- made has the next number
-pub record WentAlike {C V : Type 0} (order : List ℕ) (number : C → ℕ) (h : ℕ → Node V) (given : Option V) (t : Turn C V) (w : Went V) : Type 0 where
+pub record WentAlike {C V : Type 0} (order : List ℕ) (number : C → ℕ) (h : ℕ → Node V) (given : Option V) (t : NextPhase C V) (w : Went V) : Type 0 where
   pub now : List ℕ
   pub longer : Longer order now
   pub ordered : Ordered now h

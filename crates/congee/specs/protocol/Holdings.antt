@@ -11,7 +11,7 @@ use Rattle.congee.specs.declared.protocol.phase.Phase.{Phase}
 use Rattle.congee.specs.declared.protocol.phase.Phase.TheVariants.{MakeGreater, MakeBeside, AskNew, CheckAbove, UpgradeOne, ChangeOne, UpgradeTop, UpgradeAbove, UpgradeBelow, ChangeTwo, Obsolete, Retire, UnlockBelow, Unlock, Unwind}
 use Rattle.congee.specs.declared.protocol.machine.Machine.{Machine}
 use Rattle.congee.specs.Heap.{Node}
-use Rattle.congee.specs.Ledger.{Note, Unmade, Held, Linked, Gone, is_spent}
+use Rattle.congee.specs.Notes.{Note, Unmade, Held, Linked, Gone, is_spent}
 
 -- the node, where there is one
 abbrev pub IsMade : {C : Type 0} → (C → ℕ) → Option C → ℕ → Type 0

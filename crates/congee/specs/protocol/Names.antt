@@ -1,7 +1,7 @@
 -- The names of nodes that a call has between its steps, and where each of them comes from.
 use Rattle.std.specs.Prelude.{◌≡◌, ℕ, Bool, true, false, List, [], ◌∷◌, ◌++◌, Option, None, Some}
 use Rattle.std.specs.List.{All, Contains}
-use Rattle.congee.specs.declared.protocol.store.Seat.{Seat}
+use Rattle.congee.specs.declared.protocol.store.Stamp.{Stamp}
 use Rattle.congee.specs.declared.protocol.phase.Parent.{Parent}
 use Rattle.congee.specs.declared.protocol.phase.Above.{Above as Over}
 use Rattle.congee.specs.declared.protocol.phase.Site.{Site}
@@ -19,7 +19,7 @@ use Rattle.congee.specs.declared.protocol.machine.Machine.{Machine}
 use Rattle.congee.specs.Heap.{Node, Below}
 use Rattle.congee.specs.protocol.Handing.{InTree}
 use Rattle.congee.specs.Keys.{key_bytes}
-use Rattle.congee.specs.Ledger.{Note, Tree, LockWords}
+use Rattle.congee.specs.Notes.{Note, Tree, LockWords}
 use Rattle.congee.specs.protocol.Protocol.{Known}
 use Rattle.congee.specs.protocol.SweepKnown.{names_sweep}
 
@@ -32,7 +32,7 @@ abbrev pub names_over : {C : Type 0} → (C → ℕ) → Option (Over C) → Lis
 names_over number None = []
 names_over number (Some u) = number u.near.seat.node ∷ name_above number u.far
 
-abbrev pub name_seated : {C : Type 0} → (C → ℕ) → Option (Seat C) → List ℕ
+abbrev pub name_seated : {C : Type 0} → (C → ℕ) → Option (Stamp C) → List ℕ
 name_seated number None = []
 name_seated number (Some p) = number p.node ∷ []
 

@@ -14,7 +14,7 @@ use Rattle.congee.specs.declared.protocol.store.Reading.{Reading}
 use Rattle.congee.specs.declared.protocol.store.Reading.TheVariants.{Differs, Fits}
 use Rattle.congee.specs.declared.protocol.store.Refusal.TheVariants as refusal
 use Rattle.congee.specs.declared.protocol.store.Region.{Region}
-use Rattle.congee.specs.declared.protocol.store.Seat.{Seat}
+use Rattle.congee.specs.declared.protocol.store.Stamp.{Stamp}
 use Rattle.congee.specs.declared.protocol.store.Seen.{Seen}
 use Rattle.congee.specs.declared.protocol.store.Upgrade.{Upgrade}
 use Rattle.congee.specs.declared.protocol.store.Upgrade.TheVariants.{Locked, Failed, Exhausted}
@@ -37,8 +37,8 @@ use Rattle.congee.specs.declared.protocol.sweep.Rung.{Rung}
 use Rattle.congee.specs.declared.protocol.sweep.Stage.{Stage}
 use Rattle.congee.specs.declared.protocol.sweep.Stage.TheVariants as stage
 use Rattle.congee.specs.declared.protocol.sweep.Sweep.{Sweep as Scan}
-use Rattle.congee.specs.declared.protocol.sweep.Told.TheVariants as told
-use Rattle.congee.specs.declared.protocol.turn.Turn.{Turn}
+use Rattle.congee.specs.declared.protocol.sweep.ScanReport.TheVariants as told
+use Rattle.congee.specs.declared.protocol.turn.NextPhase.{NextPhase}
 use Rattle.congee.specs.declared.protocol.machine.Machine.{Machine}
 use Rattle.congee.specs.declared.protocol.machine.Noise.{Noise}
 use Rattle.congee.specs.Heap.{Node, Hung, Nothing, Below, Holds, fits, child_for, version_of, is_taken}
@@ -191,22 +191,22 @@ swung root seen h s stage.Full = over s (told.Done s.count)
 swung root seen h s stage.Over = over s told.Running
 
 -- what a call does that stands at a value
-abbrev pub asked : {V : Type 0} → Site ℕ → V → Turn ℕ V
+abbrev pub asked : {V : Type 0} → Site ℕ → V → NextPhase ℕ V
 asked s v = asking (AskOld s v) (Some v)
 
-abbrev pub at_old : {V : Type 0} → (V → V → Bool) → Kind V → Option V → Site ℕ → V → Turn ℕ V
+abbrev pub at_old : {V : Type 0} → (V → V → Bool) → Kind V → Option V → Site ℕ → V → NextPhase ℕ V
 at_old same Insert new s v = replaced s (is_same same v new) (reply.Insert (Some v))
 at_old same _ new s v = asked s v
 
-abbrev pub added : {V : Type 0} → (V → V → Bool) → Kind V → Option V → Site ℕ → Option (Over ℕ) → V → Turn ℕ V
+abbrev pub added : {V : Type 0} → (V → V → Bool) → Kind V → Option V → Site ℕ → Option (Over ℕ) → V → NextPhase ℕ V
 added same kind new s None v = at_old same kind new s v
 added same kind new s (Some u) v = quiet (CheckOld u.near.seat s v)
 
-abbrev pub exchanged : {V : Type 0} → (V → V → Bool) → Option V → Site ℕ → V → Turn ℕ V
+abbrev pub exchanged : {V : Type 0} → (V → V → Bool) → Option V → Site ℕ → V → NextPhase ℕ V
 exchanged same None s v = emptied s (reply.Exchange (Ok None))
 exchanged same (Some w) s v = replaced s (same v w) (reply.Exchange (Ok (Some w)))
 
-abbrev pub present : {V : Type 0} → (V → V → Bool) → Kind V → Option V → Site ℕ → V → Turn ℕ V
+abbrev pub present : {V : Type 0} → (V → V → Bool) → Kind V → Option V → Site ℕ → V → NextPhase ℕ V
 present same Get new s v = answered (reply.Get (Some v))
 present same Insert new s v = added same Insert new s s.above v
 present same Remove new s v = emptied s (reply.Remove (Some v))
@@ -215,20 +215,20 @@ present same ComputeInsert new s v = added same ComputeInsert new s s.above v
 present same (Exchange old) new s v = cond (same v old) (exchanged same new s v) (quiet (Confirm s.at (reply.Exchange (Err (Some v)))))
 
 -- after a check that succeeded
-abbrev pub checked : {V : Type 0} → (V → V → Bool) → Kind V → Option V → Site ℕ → Child ℕ V → Turn ℕ V
+abbrev pub checked : {V : Type 0} → (V → V → Bool) → Kind V → Option V → Site ℕ → Child ℕ V → NextPhase ℕ V
 checked same kind new s child.Blank = absent kind s
 checked same kind new s (child.Node c) = down (adds kind) s s.above c
 checked same kind new s (child.Value v) = present same kind new s v
 
 -- the call's value, and what it does, after its closure's answer about a value that stands, and about an absent key
-abbrev pub given_old : {V : Type 0} → (V → V → Bool) → Kind V → Site ℕ → V → Option (Option V) → Option V → Option V × Turn ℕ V
+abbrev pub given_old : {V : Type 0} → (V → V → Bool) → Kind V → Site ℕ → V → Option (Option V) → Option V → Option V × NextPhase ℕ V
 given_old same kind s v None new = (new, asked s v)
 given_old same ComputeInsert s v (Some None) new = (new, asked s v)
 given_old same ComputeInsert s v (Some (Some x)) new = (Some x, replaced s (same v x) (reply.ComputeInsert (Some v)))
 given_old same _ s v (Some None) new = (None, emptied s (reply.ComputePresent (Some (v, None))))
 given_old same _ s v (Some (Some x)) new = (Some x, replaced s (same v x) (reply.ComputePresent (Some (v, Some x))))
 
-abbrev pub given_new : {V : Type 0} → Plan ℕ → Option (Option V) → Option V → Option V × Turn ℕ V
+abbrev pub given_new : {V : Type 0} → Plan ℕ → Option (Option V) → Option V → Option V × NextPhase ℕ V
 given_new plan (Some (Some x)) new = (Some x, started plan (reply.ComputeInsert None))
 given_new plan _ new = (new, asking (AskNew plan) None)
 
@@ -273,19 +273,19 @@ change_two key new two (Split top leaf common byte) h =
 -- what a step leaves: the call's value, its next phase with what the step reports, the nodes, and how many were made
 pub record Went (V : Type 0) : Type 0 where
   pub given : Option V
-  pub turn : Turn ℕ V
+  pub turn : NextPhase ℕ V
   pub heap : ℕ → Node V
   pub made : ℕ
 
-abbrev pub went : {V : Type 0} → Option V → Turn ℕ V → (ℕ → Node V) → ℕ → Went V
+abbrev pub went : {V : Type 0} → Option V → NextPhase ℕ V → (ℕ → Node V) → ℕ → Went V
 went new t h k = record { given = new; turn = t; heap = h; made = k }
 
 -- a check, and what follows where it succeeds
-abbrev pub passes : {V : Type 0} → (ℕ → Node V) → Seat ℕ → ℕ → Turn ℕ V → Turn ℕ V
+abbrev pub passes : {V : Type 0} → (ℕ → Node V) → Stamp ℕ → ℕ → NextPhase ℕ V → NextPhase ℕ V
 passes h at root t = cond (is_taken (h at.node) at.version) t (again root)
 
 -- a node is made under the next number
-abbrev pub making : {V : Type 0} → NodeType → List ℕ → ℕ → Option V → (ℕ → Node V) → ℕ → (ℕ → Turn ℕ V) → Went V
+abbrev pub making : {V : Type 0} → NodeType → List ℕ → ℕ → Option V → (ℕ → Node V) → ℕ → (ℕ → NextPhase ℕ V) → Went V
 making form key size new h k t = went new (t k) (put h k (new_node form (take size key))) (suc k)
 
 -- the one that takes the place of the leaf, or of the node above

@@ -24,7 +24,7 @@ use Rattle.congee.specs.protocol.SweepSteps.{new_sweep}
 use Rattle.congee.specs.protocol.SweepKnown.{HasRange, Tracks}
 use Rattle.congee.specs.protocol.Steps.{Stepped}
 use Rattle.congee.specs.Keys.{IsMapOf}
-use Rattle.congee.specs.Ledger.{Note, Tree, LockWords}
+use Rattle.congee.specs.Notes.{Note, Tree, LockWords}
 use Rattle.congee.specs.protocol.Protocol.{IsCall, HasGift, Asking, Known}
 use Rattle.congee.specs.protocol.Holdings.{Holdings, Rests, Apart}
 use Rattle.congee.specs.protocol.Handing.{Untouched, Handing, Unlinking, StepHands, StepTakes}

@@ -4,7 +4,7 @@ use Rattle.judge.specs.declared.journal.Call.{Call}
 use Rattle.judge.specs.declared.journal.Call.TheVariants as call
 use Rattle.judge.specs.declared.journal.Reply.{Reply}
 use Rattle.judge.specs.Answer.{leaves, reply_on}
-use Rattle.congee.specs.declared.protocol.store.Seat.{Seat}
+use Rattle.congee.specs.declared.protocol.store.Stamp.{Stamp}
 use Rattle.congee.specs.declared.protocol.store.Refusal.{Refusal}
 use Rattle.congee.specs.declared.protocol.store.Refusal.TheVariants as refusal
 use Rattle.congee.specs.declared.protocol.phase.Kind.{Kind}
@@ -26,8 +26,8 @@ use Rattle.congee.specs.Heap.{Node, Hung, Nothing, Below, Holds, fits, child_for
 use Rattle.congee.specs.protocol.Events.{hung, places, Parts}
 use Rattle.congee.specs.protocol.Steps.{adds, shrinks}
 use Rattle.congee.specs.protocol.SweepKnown.{SweepKnown}
-pub use Rattle.congee.specs.protocol.Seats.{Seated, Fresh}
-use Rattle.congee.specs.Ledger.{Note, Unmade, Held, Linked, Gone, is_published, is_spent, BeginsKey, Tree, LockWords}
+pub use Rattle.congee.specs.protocol.Stamps.{Seated, Fresh}
+use Rattle.congee.specs.Notes.{Note, Unmade, Held, Linked, Gone, is_published, is_spent, BeginsKey, Tree, LockWords}
 use Rattle.congee.specs.declared.forms.prefix.TheConstants.{MAX_PREFIX_LEN}
 
 -- node n was read in the node above, at the byte
@@ -289,7 +289,7 @@ abbrev pub IsFailure : Option Refusal → Type 0
 IsFailure None = Unit {0}
 IsFailure (Some e) = e ≡ refusal.Exhausted
 
-abbrev pub SeatedIf : {C V : Type 0} → (C → ℕ) → (ℕ → Note) → (ℕ → Node V) → Option (Seat C) → Type 0
+abbrev pub SeatedIf : {C V : Type 0} → (C → ℕ) → (ℕ → Note) → (ℕ → Node V) → Option (Stamp C) → Type 0
 SeatedIf number a h None = Unit {0}
 SeatedIf number a h (Some p) = Seated a h (number p.node) p.version
 
@@ -301,7 +301,7 @@ abbrev pub MadeLeafFor : {C V : Type 0} → (C → ℕ) → ℕ → (ℕ → Not
 MadeLeafFor number i a h key s None = s.depth ≡ MAX_PREFIX_LEN
 MadeLeafFor number i a h key s (Some leaf) = (s.depth < MAX_PREFIX_LEN) × Made i a h key (number leaf) MAX_PREFIX_LEN 0
 
-pub record Confirmed {C V : Type 0} (number : C → ℕ) (a : ℕ → Note) (h : ℕ → Node V) (key : List ℕ) (at : Seat C) (v : V) : Type 0 where
+pub record Confirmed {C V : Type 0} (number : C → ℕ) (a : ℕ → Note) (h : ℕ → Node V) (key : List ℕ) (at : Stamp C) (v : V) : Type 0 where
   pub fitted : fits (h (number at.node)).prefix key ≡ true
   pub fresh : Fresh a h (number at.node) at.version (λ m. child_for m key ≡ Holds v)
 

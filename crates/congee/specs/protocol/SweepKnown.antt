@@ -7,11 +7,11 @@ use Rattle.congee.specs.declared.protocol.sweep.Rung.{Rung}
 use Rattle.congee.specs.declared.protocol.sweep.Stage.{Stage}
 use Rattle.congee.specs.declared.protocol.sweep.Stage.TheVariants as stage
 use Rattle.congee.specs.declared.protocol.sweep.Sweep.{Sweep}
-use Rattle.congee.specs.declared.protocol.sweep.Told.{Told}
-use Rattle.congee.specs.declared.protocol.sweep.Told.TheVariants as told
+use Rattle.congee.specs.declared.protocol.sweep.ScanReport.{ScanReport}
+use Rattle.congee.specs.declared.protocol.sweep.ScanReport.TheVariants as told
 use Rattle.congee.specs.Heap.{Node}
-use Rattle.congee.specs.Ledger.{Note, is_published}
-use Rattle.congee.specs.protocol.Seats.{Seated, Fresh}
+use Rattle.congee.specs.Notes.{Note, is_published}
+use Rattle.congee.specs.protocol.Stamps.{Seated, Fresh}
 use Rattle.congee.specs.protocol.Regions.{span, IsRegion, start_at}
 use Rattle.congee.specs.protocol.Sweeps.{Lacked, IsScan, Swept, written}
 use Rattle.congee.specs.protocol.SweepEvents.{IsAny, LeastTruly}
@@ -125,14 +125,14 @@ abbrev pub Tracks : {C V : Type 0} → Sweep C V → List (FinMap nat_cmp V) →
 Tracks s states places = TracksAt s states places s.stage
 
 -- what the caller has after a step
-abbrev pub placed : {V : Type 0} → List (ℕ × V) → Told V → List (ℕ × V)
+abbrev pub placed : {V : Type 0} → List (ℕ × V) → ScanReport V → List (ℕ × V)
 placed places told.Running = places
 placed places (told.Found place k v) = written places place (k, v)
 placed places (told.Done count) = places
 placed places (told.Refused e) = places
 
 -- a scan that is done has told what it promises, and has ended
-abbrev pub Tells : {C V : Type 0} → Sweep C V → List (FinMap nat_cmp V) → List (ℕ × V) → Stage C V → Told V → Type 0
+abbrev pub Tells : {C V : Type 0} → Sweep C V → List (FinMap nat_cmp V) → List (ℕ × V) → Stage C V → ScanReport V → Type 0
 Tells s states places x told.Running = Unit {0}
 Tells s states places x (told.Found place k v) = place ≤ length places
 Tells s states places x (told.Done count) = (count ≤ length places) × IsScan s.start (suc s.last) s.size states (take count places) × (x ≡ stage.Over)

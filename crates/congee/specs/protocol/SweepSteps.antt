@@ -9,8 +9,8 @@ use Rattle.congee.specs.declared.protocol.sweep.Path.{Path}
 use Rattle.congee.specs.declared.protocol.sweep.Stage.{Stage}
 use Rattle.congee.specs.declared.protocol.sweep.Stage.TheVariants as stage
 use Rattle.congee.specs.declared.protocol.sweep.Sweep.{Sweep}
-use Rattle.congee.specs.declared.protocol.sweep.Told.{Told}
-use Rattle.congee.specs.declared.protocol.sweep.Told.TheVariants as told
+use Rattle.congee.specs.declared.protocol.sweep.ScanReport.{ScanReport}
+use Rattle.congee.specs.declared.protocol.sweep.ScanReport.TheVariants as told
 use Rattle.congee.specs.Heap.{Node, Stands, version_of, is_taken}
 use Rattle.congee.specs.protocol.Regions.{IsRegion}
 use Rattle.congee.specs.protocol.SweepEvents.{LeastGives}
@@ -81,12 +81,12 @@ new_sweep root start last size = record {
 
 -- what a step leaves
 abbrev pub Swung : Type 0 → Type 0 → Type 0
-Swung C V = Sweep C V × Told V
+Swung C V = Sweep C V × ScanReport V
 
 abbrev pub goes : {C V : Type 0} → Sweep C V → Path C → Stage C V → Swung C V
 goes s above x = (sweep_at s s.count above x, told.Running)
 
-abbrev pub over : {C V : Type 0} → Sweep C V → Told V → Swung C V
+abbrev pub over : {C V : Type 0} → Sweep C V → ScanReport V → Swung C V
 over s t = (sweep_at s s.count s.above stage.Over, t)
 
 abbrev pub anew : {C V : Type 0} → C → Sweep C V → Swung C V
@@ -135,7 +135,7 @@ SweptAt number always root s (stage.Check r x) h u = IsFollowedIf (is_taken (h (
 SweptAt number always root s stage.Full h u = u ≡ over s (told.Done s.count)
 SweptAt number always root s stage.Over h u = u ≡ over s told.Running
 
-abbrev pub SweepStepped : {C V : Type 0} → (C → ℕ) → Bool → C → Sweep C V → (ℕ → Node V) → Sweep C V → Told V → Type 0
+abbrev pub SweepStepped : {C V : Type 0} → (C → ℕ) → Bool → C → Sweep C V → (ℕ → Node V) → Sweep C V → ScanReport V → Type 0
 SweepStepped number always root s h s' t = SweptAt number always root s s.stage h (s', t)
 
 -- what the step wants

@@ -17,7 +17,7 @@ use crate::forms::prefix::MAX_PREFIX_LEN;
 use crate::keys::KEY_BYTES;
 use crate::protocol::machine::{Machine, Move, Outcome};
 use crate::protocol::phase::{Double, One, Parent, Phase, Single, Site, Two, taken};
-use crate::protocol::store::{NodeName, Refusal, Seat, Store, Upgrade};
+use crate::protocol::store::{NodeName, Refusal, Stamp, Store, Upgrade};
 use crate::protocol::turn::value_child;
 use judge::{Payload, Reply};
 
@@ -252,7 +252,7 @@ impl<C: NodeName, P: Payload> Machine<C, P> {
         &mut self,
         store: &mut S,
         above: Parent<C>,
-        at: Seat<C>,
+        at: Stamp<C>,
         common: usize,
         byte: u8,
     ) -> Move<P>
@@ -279,7 +279,7 @@ impl<C: NodeName, P: Payload> Machine<C, P> {
         &mut self,
         store: &mut S,
         above: Parent<C>,
-        at: Seat<C>,
+        at: Stamp<C>,
         common: usize,
         byte: u8,
         top: C,
@@ -354,7 +354,7 @@ impl<C: NodeName, P: Payload> Machine<C, P> {
     fn check_above<S: Store<C, P>>(
         &mut self,
         store: &mut S,
-        above: Seat<C>,
+        above: Stamp<C>,
         one: One<C>,
         reply: Reply<P>,
     ) -> Move<P>
@@ -368,7 +368,7 @@ impl<C: NodeName, P: Payload> Machine<C, P> {
         if store.check(above) {
             self.phase.quiet(Phase::UpgradeOne { one, reply })
         } else {
-            give_up_one(store, one.change, reply);
+            give_back_one(store, one.change, reply);
             self.phase.again(self.root)
         }
     }
@@ -393,7 +393,7 @@ impl<C: NodeName, P: Payload> Machine<C, P> {
             Upgrade::Failed => None,
             Upgrade::Exhausted => Some(Refusal::Exhausted),
         };
-        give_up_one(store, one.change, reply);
+        give_back_one(store, one.change, reply);
         self.phase.unwound(self.root, refusal)
     }
 
@@ -424,7 +424,7 @@ impl<C: NodeName, P: Payload> Machine<C, P> {
             Upgrade::Failed => None,
             Upgrade::Exhausted => Some(Refusal::Exhausted),
         };
-        give_up_two(store, two.change, reply);
+        give_back_two(store, two.change, reply);
         self.phase.unwound(self.root, refusal)
     }
 
@@ -448,7 +448,7 @@ impl<C: NodeName, P: Payload> Machine<C, P> {
             Upgrade::Failed => None,
             Upgrade::Exhausted => Some(Refusal::Exhausted),
         };
-        give_up_two(store, two.change, reply);
+        give_back_two(store, two.change, reply);
         let top = two.top;
         self.phase.given_up(self.root, top, refusal)
     }
@@ -475,7 +475,7 @@ impl<C: NodeName, P: Payload> Machine<C, P> {
             Upgrade::Failed => None,
             Upgrade::Exhausted => Some(Refusal::Exhausted),
         };
-        give_up_two(store, two.change, reply);
+        give_back_two(store, two.change, reply);
         self.phase.quiet(Phase::Unwind {
             node,
             next,
@@ -691,7 +691,7 @@ fn put_fork<C: NodeName, P: Payload, S: Store<C, P>>(
 }
 
 /// Gives up the change of one node: the node that was made for it goes back, and the reply is dropped.
-fn give_up_one<C: NodeName, P: Payload, S: Store<C, P>>(
+fn give_back_one<C: NodeName, P: Payload, S: Store<C, P>>(
     store: &mut S,
     change: Single<C>,
     reply: Reply<P>,
@@ -709,7 +709,7 @@ fn give_up_one<C: NodeName, P: Payload, S: Store<C, P>>(
 }
 
 /// Gives up the change of the node above: the nodes that were made for it go back, and the reply is dropped.
-fn give_up_two<C: NodeName, P: Payload, S: Store<C, P>>(
+fn give_back_two<C: NodeName, P: Payload, S: Store<C, P>>(
     store: &mut S,
     change: Double<C>,
     reply: Reply<P>,

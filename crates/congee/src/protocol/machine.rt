@@ -14,7 +14,7 @@ ghost use Rattle.congee.specs.protocol.Bounds.{Within};
 use crate::forms::child::Child;
 use crate::protocol::op::Op;
 use crate::protocol::phase::{Above, Kind, Parent, Phase, Plan, Site, taken};
-use crate::protocol::store::{NodeName, Refusal, Seat, Seen, Store};
+use crate::protocol::store::{NodeName, Refusal, Seen, Stamp, Store};
 use judge::{Payload, Reply};
 use std::mem;
 
@@ -223,7 +223,7 @@ impl<C: NodeName, P: Payload> Machine<C, P> {
     }
 
     /// Checks the node whose value couldn't be copied.
-    fn check_uncopied<S: Store<C, P>>(&mut self, store: &S, at: Seat<C>) -> Move<P>
+    fn check_uncopied<S: Store<C, P>>(&mut self, store: &S, at: Stamp<C>) -> Move<P>
         requires { Stands (S.heap store.now (C.number at.node)) }
         ensures phase_alone { self.new ≡ record self.old { phase = self.new.phase } }
         ensures checked { IsIf (is_taken (S.heap store.now (C.number at.node)) at.version) self.old.root (λ u. u ≡ refused refusal.Count) (turn_of self.new.phase result) }
@@ -236,7 +236,7 @@ impl<C: NodeName, P: Payload> Machine<C, P> {
     }
 
     /// Checks the node once more, where the call leaves the value as it is.
-    fn confirm<S: Store<C, P>>(&mut self, store: &S, seat: Seat<C>, reply: Reply<P>) -> Move<P>
+    fn confirm<S: Store<C, P>>(&mut self, store: &S, seat: Stamp<C>, reply: Reply<P>) -> Move<P>
         requires { Stands (S.heap store.now (C.number seat.node)) }
         ensures phase_alone { self.new ≡ record self.old { phase = self.new.phase } }
         ensures checked { IsIf (is_taken (S.heap store.now (C.number seat.node)) seat.version) self.old.root (λ u. u ≡ answered reply) (turn_of self.new.phase result) }
@@ -266,7 +266,7 @@ impl<C: NodeName, P: Payload> Machine<C, P> {
         &mut self,
         store: &S,
         above: Parent<C>,
-        at: Seat<C>,
+        at: Stamp<C>,
         common: usize,
         byte: u8,
     ) -> Move<P>
@@ -285,7 +285,7 @@ impl<C: NodeName, P: Payload> Machine<C, P> {
     fn check_down<S: Store<C, P>>(
         &mut self,
         store: &S,
-        above: Seat<C>,
+        above: Stamp<C>,
         at: Above<C>,
         node: C,
     ) -> Move<P>
@@ -305,7 +305,7 @@ impl<C: NodeName, P: Payload> Machine<C, P> {
     fn check_old<S: Store<C, P>>(
         &mut self,
         store: &S,
-        above: Seat<C>,
+        above: Stamp<C>,
         site: Site<C>,
         old: P,
     ) -> Move<P>

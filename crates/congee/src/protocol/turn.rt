@@ -13,14 +13,14 @@ use crate::protocol::machine::{Move, Outcome};
 use crate::protocol::phase::{
     Above, Double, Kind, Parent, Phase, Plan, Single, Site, Two, near_of,
 };
-use crate::protocol::store::{NodeName, Reading, Refusal, Seat};
-use crate::protocol::sweep::Told;
+use crate::protocol::store::{NodeName, Reading, Refusal, Stamp};
+use crate::protocol::sweep::ScanReport;
 use judge::{Payload, Reply};
 
 /// What a step leaves: the call's next step, and what is reported. Contracts speak of both as one; a step changes the
 /// phase where it lies, and gives its report.
 #[derive(Drop)]
-pub struct Turn<C: NodeName, P> {
+pub struct NextPhase<C: NodeName, P> {
     /// The next step.
     pub phase: Phase<C, P>,
     /// What the step did, as it is told to the caller.
@@ -109,16 +109,16 @@ impl<C: NodeName, P: Payload> Phase<C, P> {
     }
 }
 
-impl<P> Told<P> {
+impl<P> ScanReport<P> {
     /// The report of a scan's step.
     pub(crate) fn report(self) -> Move<P>
         ensures { result ≡ record { decided = false; skipped = false; outcome = outcome_of self } }
     {
         let outcome = match self {
-            Told::Running => Outcome::Running,
-            Told::Found { place, key, value } => Outcome::Found { place, key, value },
-            Told::Done { count } => Outcome::Scanned { count },
-            Told::Refused(refusal) => Outcome::Refused(refusal),
+            ScanReport::Running => Outcome::Running,
+            ScanReport::Found { place, key, value } => Outcome::Found { place, key, value },
+            ScanReport::Done { count } => Outcome::Scanned { count },
+            ScanReport::Refused(refusal) => Outcome::Refused(refusal),
         };
         Move {
             decided: false,
@@ -214,7 +214,7 @@ impl<C: NodeName, P: Payload> Phase<C, P> {
             None => self.again(root),
             Some(version) => self.quiet(Phase::Read {
                 above,
-                at: Seat { node, version },
+                at: Stamp { node, version },
             }),
         }
     }
@@ -224,7 +224,7 @@ impl<C: NodeName, P: Payload> Phase<C, P> {
         &mut self,
         root: C,
         above: Option<Above<C>>,
-        at: Seat<C>,
+        at: Stamp<C>,
         reading: Reading<C, P>,
     ) -> Move<P>
         ensures { turn_of self.new result ≡ after_read root above at reading }
@@ -307,7 +307,7 @@ impl<C: NodeName, P: Payload> Phase<C, P> {
         &mut self,
         kind: &Kind<P>,
         above: Parent<C>,
-        at: Seat<C>,
+        at: Stamp<C>,
         change: Double<C>,
     ) -> Move<P>
         ensures { turn_of self.new result ≡ ready kind.now (plan.Above (record { top = None; above = above; at = at; change = change })) }
@@ -561,7 +561,7 @@ impl<C: NodeName, P: Payload> Phase<C, P> {
         &mut self,
         kind: &Kind<P>,
         above: Parent<C>,
-        at: Seat<C>,
+        at: Stamp<C>,
         common: usize,
         byte: u8,
     ) -> Move<P>

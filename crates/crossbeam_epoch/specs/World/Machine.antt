@@ -1,6 +1,6 @@
 -- The collector's state as contracts see it, and what each atomic step makes of it.
 use Rattle.std.specs.Prelude.{ℕ, ◌+◌, ◌==◌, nat_lt, nat_le, Bool, true, false, List, [], ◌∷◌, ◌++◌, length, Option, Some, None, is_some, if◌then◌else◌, slice_set, slice_index_or, remove, not, ◌-◌, ◌&&◌, drop, replicate}
-use Rattle.crossbeam_epoch.specs.declared.bag.Entry.{Entry}
+use Rattle.crossbeam_epoch.specs.declared.bag.Deferral.{Deferral}
 use Rattle.crossbeam_epoch.specs.declared.bag.Work.{Work}
 use Rattle.crossbeam_epoch.specs.declared.bag.Work.TheVariants.{Blank, Remove, Run}
 use Rattle.crossbeam_epoch.specs.declared.limits.Limits.{Limits}
@@ -81,7 +81,7 @@ abbrev pub repinned : {J : Type 0} → ℕ → Participant J → Participant J
 repinned seen p = record p { word = Some seen; phase = Idle }
 
 -- whether so many places of a bag are free
-abbrev pub has_free : {J : Type 0} → List (Entry J) → ℕ → Bool
+abbrev pub has_free : {J : Type 0} → List (Deferral J) → ℕ → Bool
 has_free bag n = nat_le (length bag + n) bag_places
 
 -- a securing looks at the bag
@@ -149,7 +149,7 @@ abbrev pub after_call : ℕ → ℕ → ℕ → ℕ → Phase
 after_call rest answered bags seal = if nat_lt 0 rest then Call answered bags seal else if nat_lt bags most_bags then Take answered bags else Idle
 
 -- no job
-abbrev pub no_entry : {J : Type 0} → Entry J
+abbrev pub no_entry : {J : Type 0} → Deferral J
 no_entry = record { ticket = 0; work = Blank }
 
 -- the cell whose removal a job is

@@ -151,7 +151,7 @@ IsNow names [] s = ⊥
 IsNow names (m ∷ h) s = (m.roots ≡ s.roots) × ((n : Name) → m.live n ≡ is_some (value_at s.store n)) × ((n : Name) → m.links n ≡ links_of names s.store n)
 
 -- the moments led to this state
-pub record Tells {T J : Type 0} (names : T → List Name) (h : List Moment) (s : State T J) : Type 0 where
+pub record HasMoments {T J : Type 0} (names : T → List Name) (h : List Moment) (s : State T J) : Type 0 where
   pub fits : Fits (marks_of h) s
   pub now : IsNow names h s
   pub ends : DestructionsTold h
@@ -160,11 +160,11 @@ pub record Tells {T J : Type 0} (names : T → List Name) (h : List Moment) (s :
 
 -- whatever moments led to a state lead, by this act, to the next
 abbrev pub NextMoment : {T J : Type 0} → (T → List Name) → Act → State T J → State T J → Type 0
-NextMoment names act s s' = (h : List Moment) → Tells names h s → Tells names (moment names act s' ∷ h) s'
+NextMoment names act s s' = (h : List Moment) → HasMoments names h s → HasMoments names (moment names act s' ∷ h) s'
 
 -- where a pointer leads every stretch may look
 abbrev pub InSight : {T J : Type 0} → (T → List Name) → State T J → Ptr → Type 0
-InSight names s ptr = (h : List Moment) (p : ℕ) (n : Name) → Tells names h s → ptr.name ≡ Some n → Visible h p n
+InSight names s ptr = (h : List Moment) (p : ℕ) (n : Name) → HasMoments names h s → ptr.name ≡ Some n → Visible h p n
 
 -- the act of a step: the mark that it adds
 abbrev pub newest_act : List Mark → Act

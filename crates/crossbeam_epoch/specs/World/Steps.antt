@@ -1,6 +1,6 @@
 -- The machine: what each step answers and leaves.
 use Rattle.std.specs.Prelude.{◌≡◌, ℕ, ◌+◌, ◌==◌, nat_le, nat_lt, ◌&&◌, Bool, true, false, not, List, [], ◌∷◌, ◌-◌, ◌^◌, length, Option, Some, None, is_none, is_some, if◌then◌else◌, slice_index_or, MatchOption}
-use Rattle.crossbeam_epoch.specs.declared.bag.Entry.{Entry}
+use Rattle.crossbeam_epoch.specs.declared.bag.Deferral.{Deferral}
 use Rattle.crossbeam_epoch.specs.declared.names.Name.{Name}
 use Rattle.crossbeam_epoch.specs.declared.world.participant.Participant.{Participant}
 use Rattle.crossbeam_epoch.specs.declared.world.participant.Phase.{Phase}
@@ -124,11 +124,11 @@ after s who event Running = moved s who event
 after s who event Done = moved s who event
 
 -- a job's ticket, and the cell that it destroys
-abbrev pub called_entry : {T J : Type 0} → Store T → Entry J → ℕ × Option Name
+abbrev pub called_entry : {T J : Type 0} → Store T → Deferral J → ℕ × Option Name
 called_entry st e = (e.ticket, destroys st e.work)
 
 -- the job that a step calls
-abbrev pub called_by : {T J : Type 0} → Store T → Phase → List (Entry J) → Option (ℕ × Option Name)
+abbrev pub called_by : {T J : Type 0} → Store T → Phase → List (Deferral J) → Option (ℕ × Option Name)
 called_by st (P.Call answered bags seal) hand = if length hand == 0 then None else Some (called_entry st (slice_index_or hand 0 no_entry))
 called_by st _ hand = None
 

@@ -3,7 +3,7 @@ use Rattle.std.specs.Prelude.{◌≡◌, ◌≢◌, ◌⊎◌, ℕ, ◌+◌, ◌
 use Rattle.std.specs.Int.{div_ceil}
 use Rattle.std.specs.List.{Contains}
 use Rattle.crossbeam_epoch.specs.Limits.{bag_places, most_bags}
-use Rattle.crossbeam_epoch.specs.declared.bag.Entry.{Entry as Job}
+use Rattle.crossbeam_epoch.specs.declared.bag.Deferral.{Deferral as Job}
 use Rattle.crossbeam_epoch.specs.declared.bag.Work.TheVariants.{Remove}
 use Rattle.congee.specs.declared.protocol.machine.Noise.{Noise}
 use Rattle.congee.specs.Heap.{Stands}

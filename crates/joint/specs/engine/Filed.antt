@@ -1,6 +1,6 @@
 -- The removals that wait in the collector's bags.
 use Rattle.std.specs.Prelude.{◌≡◌, ℕ, is_some, if◌then◌else◌}
-use Rattle.crossbeam_epoch.specs.declared.bag.Entry.{Entry}
+use Rattle.crossbeam_epoch.specs.declared.bag.Deferral.{Deferral}
 use Rattle.crossbeam_epoch.specs.declared.names.Name.{Name}
 use Rattle.crossbeam_epoch.specs.World.Fits.{weight}
 use Rattle.crossbeam_epoch.specs.World.Machine.{name_of}
@@ -10,11 +10,11 @@ use Rattle.joint.specs.nodes.Nodes.{Nodes, nodes}
 use Rattle.joint.specs.Names.{number}
 
 -- whether a job is the removal of this name, as a number
-abbrev pub removes : {J : Type 0} → Name → Entry J → ℕ
+abbrev pub removes : {J : Type 0} → Name → Deferral J → ℕ
 removes n e = counts_name (name_of e.work) n
 
 -- whether it is no removal
-abbrev pub others : {J : Type 0} → Entry J → ℕ
+abbrev pub others : {J : Type 0} → Deferral J → ℕ
 others e = if is_some (name_of e.work) then 0 else 1
 
 -- no seal is past the epoch and no empty bag is queued; the removal of each node that waits for its destruction stands in

@@ -3,7 +3,7 @@ use Rattle.std.specs.Prelude.{◌≡◌, ◌≢◌, ℕ, ◌<◌, ◌≤◌, len
 use Rattle.std.specs.List.{Contains}
 use Rattle.std.proofs.Math.ListN.{set}
 use Rattle.crossbeam_epoch.specs.Limits.{bag_places}
-use Rattle.crossbeam_epoch.specs.declared.bag.Entry.{Entry}
+use Rattle.crossbeam_epoch.specs.declared.bag.Deferral.{Deferral}
 use Rattle.crossbeam_epoch.specs.declared.bag.Work.{Work}
 use Rattle.crossbeam_epoch.specs.declared.limits.Limits.{Limits}
 use Rattle.crossbeam_epoch.specs.declared.names.Name.{Name}
@@ -18,7 +18,7 @@ use Rattle.crossbeam_epoch.specs.World.History.{Mark, AreCalledLater, WasDeferre
 use Rattle.crossbeam_epoch.specs.World.Machine.{State, place, deferred, opened, registered, with_roots, with_store}
 use Rattle.crossbeam_epoch.specs.World.Progress.{Orderly, Moves, Begins, GoesOn, IsOn, KeepsCalls as Holds}
 use Rattle.crossbeam_epoch.specs.World.Sealing.{IsSealing}
-use Rattle.crossbeam_epoch.specs.World.Reach.{Act, Moment, with_act, marks_of, step_act, changes_pin, IsBy, IsDestruction, InReach, IsIn, WasIn, WasLive, Visible, EntersLive, DestructionsTold, IsCareful, IsNow, Tells, links_of}
+use Rattle.crossbeam_epoch.specs.World.Reach.{Act, Moment, with_act, marks_of, step_act, changes_pin, IsBy, IsDestruction, InReach, IsIn, WasIn, WasLive, Visible, EntersLive, DestructionsTold, IsCareful, IsNow, HasMoments, links_of}
 use Rattle.crossbeam_epoch.specs.World.Steps.{IsReport, after}
 use Rattle.crossbeam_epoch.specs.World.Store.{Store, Sets, value_at, was_given, emptied}
 use Rattle.congee.specs.declared.forms.base_node.NodeType.{NodeType}
@@ -42,7 +42,7 @@ use Rattle.congee.specs.Heap.{Node}
 use Rattle.congee.specs.protocol.Holdings.{Holdings, MadeBy}
 use Rattle.congee.specs.Keys.{key_bytes}
 use Rattle.congee.specs.protocol.Leaving.{StepLeaves}
-use Rattle.congee.specs.Ledger.{Note, Held, Linked, Tree}
+use Rattle.congee.specs.Notes.{Note, Held, Linked, Tree}
 use Rattle.congee.specs.protocol.Opening.{FreshRoot}
 use Rattle.congee.specs.protocol.Play.{first_phase, IsNew, IsIdle, ProtocolAt, Settled, begun}
 use Rattle.congee.specs.protocol.PlainSteps.{Mark as Unnamed, plain_step}
@@ -52,7 +52,7 @@ use Rattle.congee.specs.protocol.Steps.{Stepped}
 -- of a collector whose cells hold these names
 pub record CellLaws {T : Type 0} (J : Type 0) (names : T → List Name) : Type 0 where
   -- what a stretch saw in reach stands
-  pub stands : (h : List Moment) (s : State T J) (p : ℕ) (n : Name) → Tells names h s → IsCareful h → is_some (began (marks_of h) p) ≡ true → Visible h p n → is_some (value_at s.store n) ≡ true
+  pub stands : (h : List Moment) (s : State T J) (p : ℕ) (n : Name) → HasMoments names h s → IsCareful h → is_some (began (marks_of h) p) ≡ true → Visible h p n → is_some (value_at s.store n) ≡ true
   -- what a step marks
   pub step_by : (s : State T J) (who : ℕ) (event : Event) (r : Report) → IsBy who (step_act s who event r)
   pub turns_apart : (who p : ℕ) (act : Act) → IsBy who act → p ≢ who → changes_pin act p ≡ false
@@ -75,7 +75,7 @@ pub record CellLaws {T : Type 0} (J : Type 0) (names : T → List Name) : Type 0
   pub deferred_orderly : (s : State T J) (who : ℕ) (work : Work J) → who < length s.table → length (place s who).bag < bag_places → Orderly s → Holds s (deferred s who work) (λ f. f (record { ticket = s.next; work = work }))
   pub registered_orderly : (s : State T J) (n : ℕ) → n < length s.table → Orderly s → Orderly (registered s n)
   pub moves : (s : State T J) (who : ℕ) (event : Event) (r : Report) → Orderly s → IsReport s who event r → Moves s who r.called (after s who event r.outcome)
-  pub opened_jobs : (limits : Limits) (roots : ℕ) (f : Entry J → ℕ) → weight f (opened {T = T} limits roots) ≡ 0
+  pub opened_jobs : (limits : Limits) (roots : ℕ) (f : Deferral J → ℕ) → weight f (opened {T = T} limits roots) ≡ 0
   pub registered_jobs : (s : State T J) (n : ℕ) → n < length s.table → Orderly s → Holds s (registered s n) (λ f. 0)
   -- no empty bag is queued, and no seal is past the epoch
   pub seals_opened : (limits : Limits) (roots : ℕ) → IsSealing {T = T} {J = J} (opened limits roots)

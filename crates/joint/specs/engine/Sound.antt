@@ -9,7 +9,7 @@ use Rattle.crossbeam_epoch.specs.World.History.{WasDeferred}
 use Rattle.crossbeam_epoch.specs.World.Machine.{State, place}
 use Rattle.crossbeam_epoch.specs.World.Store.{value_at}
 use Rattle.crossbeam_epoch.specs.World.Progress.{Orderly}
-use Rattle.crossbeam_epoch.specs.World.Reach.{Moment, marks_of, WasIn, Visible, IsCareful, Tells}
+use Rattle.crossbeam_epoch.specs.World.Reach.{Moment, marks_of, WasIn, Visible, IsCareful, HasMoments}
 use Rattle.congee.specs.declared.protocol.machine.Machine.{Machine}
 use Rattle.congee.specs.declared.protocol.phase.Kind.{Kind}
 use Rattle.congee.specs.declared.protocol.phase.Kind.TheVariants.{Get}
@@ -56,7 +56,7 @@ pub record Sound {T J C V : Type 0} (tnames : T → List Name) (view : Bool → 
   pub orderly : Orderly s
   pub rooted : Rooted s.roots top
   pub settled : Settled num same always (heap_of view s.store) ms
-  pub tells : Tells tnames past s
+  pub tells : HasMoments tnames past s
   -- the collector's user keeps what its promise on reach asks
   pub careful : IsCareful past
   -- a removal is deferred only of a node that was handed over, and was in reach before

@@ -6,7 +6,7 @@ use Rattle.judge.specs.Answer.{Pairs}
 use Rattle.congee.specs.owned.Ranges.{in_range}
 use Rattle.congee.specs.Heap.{Node, value_at, Stands}
 use Rattle.congee.specs.Keys.{key_bytes}
-use Rattle.congee.specs.Ledger.{Note, Tree, Linked}
+use Rattle.congee.specs.Notes.{Note, Tree, Linked}
 use Rattle.congee.specs.protocol.Regions.{IsRegion, span}
 
 -- the drainer took each of these pairs, one after the other

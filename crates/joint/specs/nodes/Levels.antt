@@ -4,7 +4,7 @@ use Rattle.congee.specs.declared.forms.base_node.NodeType.{NodeType}
 use Rattle.congee.specs.declared.forms.base_node.NodeType.TheVariants.{N4, N16, N48, N256}
 use Rattle.congee.specs.declared.keys.TheConstants.{KEY_BYTES}
 use Rattle.congee.specs.Heap.{Node}
-use Rattle.congee.specs.Ledger.{Linked}
+use Rattle.congee.specs.Notes.{Linked}
 use Rattle.congee.specs.owned.Levels.{under_bytes}
 use Rattle.congee.specs.owned.Stats.{Shape}
 use Rattle.joint.specs.nodes.Survey.{IsTree}

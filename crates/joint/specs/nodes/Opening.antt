@@ -7,7 +7,7 @@ use Rattle.crossbeam_epoch.specs.World.Machine.{State, opened, with_store, with_
 use Rattle.crossbeam_epoch.specs.World.Store.{opened_store}
 use Rattle.congee.specs.declared.forms.base_node.NodeType.TheVariants.{N256}
 use Rattle.crossbeam_epoch.specs.World.Progress.{IsResting}
-use Rattle.crossbeam_epoch.specs.World.Reach.{Quiet, moment, Tells}
+use Rattle.crossbeam_epoch.specs.World.Reach.{Quiet, moment, HasMoments}
 use Rattle.congee.specs.Heap.{Node}
 use Rattle.congee.specs.protocol.Bounds.{Within}
 use Rattle.congee.specs.protocol.Opening.{FreshRoot}
@@ -44,7 +44,7 @@ pub record IsOpened {V : Type 0} (limits : Limits) (charge limit : ℕ) (s : Nod
   pub rooted : Rooted s.collector.roots top
   pub resting : IsResting s.collector
   pub clock : s.collector ≡ with_roots (with_store (opened limits.epoch 1) s.collector.store) top_roots
-  pub told : Tells slot_names (moment slot_names Quiet s.collector ∷ []) s.collector
+  pub told : HasMoments slot_names (moment slot_names Quiet s.collector ∷ []) s.collector
   pub base : s.base ≡ charge
   pub fits : charge + 2104 ≤ limit
   pub charged : s.charge ≡ charge + 2104
@@ -75,7 +75,7 @@ IsUnshared limits places parts charge limit e = (0 < parts) × IsUnjournaled lim
 pub record IsPlanted {V : Type 0} (limits : EpochLimits) (c : State (Slot V) (Unit {0})) (k : Counts) : Type 0 where
   pub clock : c ≡ with_roots (with_store (opened limits 1) c.store) top_roots
   pub root : (s : Slot V) × (Fills (opened_store {T = Slot V} limits.cells limits.turn_max) top s c.store × IsNewSlot s N256 [])
-  pub told : Tells slot_names (moment slot_names Quiet c ∷ []) c
+  pub told : HasMoments slot_names (moment slot_names Quiet c ∷ []) c
   pub resting : IsResting c
   pub cell_marks : k.cell_marks.items ≡ record { form = N256; waits = false } ∷ []
   pub one : k.standing ≡ 1

@@ -4,7 +4,7 @@ use Rattle.std.specs.FinMap.{entries, get}
 use Rattle.judge.specs.Answer.{Pairs}
 use Rattle.congee.specs.Heap.{Node, Stands, value_at}
 use Rattle.congee.specs.Keys.{IsMapOf, key_bytes}
-use Rattle.congee.specs.Ledger.{Note, Tree, Linked}
+use Rattle.congee.specs.Notes.{Note, Tree, Linked}
 use Rattle.congee.specs.protocol.Regions.{IsRegion, span}
 use Rattle.congee.specs.declared.protocol.store.Region.{Region}
 

@@ -6,7 +6,7 @@ ghost use Rattle.crossbeam_epoch.specs.Limits.{bag_places};
 ghost use Rattle.crossbeam_epoch.specs.declared.bag.Work.{Work};
 ghost use Rattle.crossbeam_epoch.specs.World.Machine.{place, registered, after_deferral};
 ghost use Rattle.crossbeam_epoch.specs.World.Progress.{Moves};
-ghost use Rattle.crossbeam_epoch.specs.World.Reach.{Moment, Quiet, Marked, moment, step_act, Tells};
+ghost use Rattle.crossbeam_epoch.specs.World.Reach.{Moment, Quiet, Marked, moment, step_act, HasMoments};
 ghost use Rattle.crossbeam_epoch.specs.World.History.{Deferred};
 ghost use Rattle.crossbeam_epoch.specs.World.Steps.{IsReport, after, destroy_fault};
 ghost use Rattle.joint.specs.nodes.Nodes.{IsCharged, IsBeside, with_collector, gone_by};
@@ -24,7 +24,7 @@ impl<P: Payload + Small, A: Allocator> Nodes<P, A> {
         ensures state { MatchResult result (λ n. self.new ≡ with_collector self.old (registered self.old.collector n)) (λ e. (e ≡ Fault.TableFull) × (self.new ≡ self.old)) }
         ensures free { IfOk result (λ n. (n < length self.old.collector.table) × ((place self.old.collector n).registered ≡ false)) }
         ensures lowest { (q : ℕ) → q < unwrap_or (result_ok result) (length self.old.collector.table) → (place self.old.collector q).registered ≡ true }
-        ensures told { (h : List Moment) → Tells slot_names h self.old.collector → Tells slot_names (moment slot_names Quiet self.new.collector ∷ h) self.new.collector }
+        ensures told { (h : List Moment) → HasMoments slot_names h self.old.collector → HasMoments slot_names (moment slot_names Quiet self.new.collector ∷ h) self.new.collector }
     {
         World::<Slot<P>, ()>::order();
         self.collector.register()
@@ -57,7 +57,7 @@ impl<P: Payload + Small, A: Allocator> Nodes<P, A> {
         ensures report { IsReport self.old.collector who event result }
         ensures state { self.new.collector ≡ after self.old.collector who event result.outcome }
         ensures moves { Moves self.old.collector who result.called self.new.collector }
-        ensures told { (h : List Moment) → Tells slot_names h self.old.collector → Tells slot_names (moment slot_names (step_act self.old.collector who event result) self.new.collector ∷ h) self.new.collector }
+        ensures told { (h : List Moment) → HasMoments slot_names h self.old.collector → HasMoments slot_names (moment slot_names (step_act self.old.collector who event result) self.new.collector ∷ h) self.new.collector }
         ensures beside { IsBeside self.old self.new }
         ensures charged { IsCharged self.new }
     {
@@ -80,7 +80,7 @@ impl<P: Payload + Small, A: Allocator> Nodes<P, A> {
         ensures state { OnOk result (self.new ≡ with_collector self.old (after_deferral self.old.collector who (Work.Remove node.name))) }
         ensures back { OnErr result (self.new ≡ self.old) }
         ensures fault { MatchResult result (λ t. destroy_fault self.old.collector who node.name ≡ None) (λ e. MatchOption (destroy_fault self.old.collector who node.name) ((e ≡ Fault.Memory) × (length (place self.old.collector who).bag ≡ bag_places) × (self.old.collector.room ≡ 0)) (λ f. e ≡ f)) }
-        ensures told { (h : List Moment) → Tells slot_names h self.old.collector → MatchResult result (λ t. Tells slot_names (moment slot_names (Marked (Deferred t (Some node.name))) self.new.collector ∷ h) self.new.collector) (λ e. Tells slot_names (moment slot_names Quiet self.new.collector ∷ h) self.new.collector) }
+        ensures told { (h : List Moment) → HasMoments slot_names h self.old.collector → MatchResult result (λ t. HasMoments slot_names (moment slot_names (Marked (Deferred t (Some node.name))) self.new.collector ∷ h) self.new.collector) (λ e. HasMoments slot_names (moment slot_names Quiet self.new.collector ∷ h) self.new.collector) }
     {
         self.collector.defer_destroy(who, node.name)
     }

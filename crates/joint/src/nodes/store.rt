@@ -11,7 +11,7 @@ ghost use Rattle.joint.specs.nodes.View.{id_number};
 use crate::id::Id;
 use crate::nodes::slot::LockWord;
 use crate::nodes::{Nodes, cells, reading};
-use congee::protocol::{Least, Reading, Region, Seat, Upgrade};
+use congee::protocol::{Least, Reading, Region, Stamp, Upgrade};
 use congee::{Allocator, Child, KEY_BYTES, NodeType, Payload, Refusal, Seen, Small, Store};
 
 impl<P: Payload + Small, A: Allocator> Store<Id, P> for Nodes<P, A> {
@@ -36,7 +36,12 @@ impl<P: Payload + Small, A: Allocator> Store<Id, P> for Nodes<P, A> {
         }
     }
 
-    fn read(&self, at: Seat<Id>, key: &[u8; KEY_BYTES], seen: Option<Seen<Id, P>>) -> Reading<Id, P>
+    fn read(
+        &self,
+        at: Stamp<Id>,
+        key: &[u8; KEY_BYTES],
+        seen: Option<Seen<Id, P>>,
+    ) -> Reading<Id, P>
         requires { Stands (nodes self.now (id_number at.node)) }
         ensures gives { ReadGives id_number P.always_copies (nodes self.now (id_number at.node)) at.version key.now result }
         ensures sees { ReadSees (nodes self.now (id_number at.node)) at.version seen result }
@@ -49,7 +54,7 @@ impl<P: Payload + Small, A: Allocator> Store<Id, P> for Nodes<P, A> {
         Region::of(self.slot(node).node().prefix())
     }
 
-    fn least(&self, at: Seat<Id>, from: u16, last: u8, seen: Option<Seen<Id, P>>) -> Least<Id, P>
+    fn least(&self, at: Stamp<Id>, from: u16, last: u8, seen: Option<Seen<Id, P>>) -> Least<Id, P>
         requires { Stands (nodes self.now (id_number at.node)) }
         ensures gives { LeastGives id_number P.always_copies (nodes self.now (id_number at.node)) at.version from last result }
         ensures sees { LeastSees (nodes self.now (id_number at.node)) at.version seen result }
@@ -58,14 +63,14 @@ impl<P: Payload + Small, A: Allocator> Store<Id, P> for Nodes<P, A> {
         reading::least(slot.node(), slot.word, at.version, from, last, seen)
     }
 
-    fn check(&self, at: Seat<Id>) -> bool
+    fn check(&self, at: Stamp<Id>) -> bool
         requires { Stands (nodes self.now (id_number at.node)) }
         ensures { result ≡ is_taken (nodes self.now (id_number at.node)) at.version }
     {
         self.slot(at.node).word.is_at(at.version)
     }
 
-    fn upgrade(&mut self, at: Seat<Id>, fail: bool) -> Upgrade
+    fn upgrade(&mut self, at: Stamp<Id>, fail: bool) -> Upgrade
         requires { Stands (nodes self.old (id_number at.node)) }
         ensures limit { self.new.version_max ≡ self.old.version_max }
         ensures rest { frame self.new ≡ frame self.old }

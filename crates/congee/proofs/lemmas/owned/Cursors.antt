@@ -10,7 +10,7 @@ use Rattle.slab.specs.Slab.{get, ContainsKey}
 use Rattle.congee.specs.Heap.{Hung, Below, Nothing, Holds, fits, child_for, value_at}
 use Rattle.congee.specs.Keys.{key_bytes}
 use Rattle.congee.specs.owned.Arena.{Nodes, hung_in, heap_of, ledger_of, IsTree, OnWay}
-use Rattle.congee.specs.Ledger.{IsChild}
+use Rattle.congee.specs.Notes.{IsChild}
 use Rattle.congee.specs.forms.Bytes.{IsFirst}
 use Rattle.congee.specs.owned.Changes.{DiffersAt}
 use Rattle.congee.specs.owned.Cursor.{HangsBelow, IsDescent, IsCursor, HasAhead, IsAhead, IsAt, steps_left}

@@ -4,7 +4,7 @@ use Rattle.std.specs.Prelude.{Some}
 use Rattle.std.specs.FinMap as map
 use Rattle.slab.specs.Slab.{get}
 use Rattle.congee.specs.Heap.{fits}
-use Rattle.congee.specs.Ledger.{IsChild}
+use Rattle.congee.specs.Notes.{IsChild}
 use Rattle.congee.specs.forms.Forms.{children_of, prefix_of}
 use Rattle.congee.specs.owned.Arena.{IsTree, Nodes, hung_in, heap_of, ledger_of, node_of}
 use Rattle.congee.specs.owned.Entries.{first_byte}

@@ -10,7 +10,7 @@ use Rattle.std.specs.FinMap as map
 use borrow.Author.Tests.{ltb-true}
 use Rattle.slab.specs.Slab.{get, ContainsKey}
 use Rattle.congee.specs.Heap.{Hung, Nothing, Below, Holds}
-use Rattle.congee.specs.Ledger.{IsChild}
+use Rattle.congee.specs.Notes.{IsChild}
 use Rattle.congee.specs.forms.Forms.{Becomes, capacity_of, children_of, form_of, next_form, prefix_of}
 use Rattle.congee.specs.owned.Arena.{Nodes, hung_in, node_of, heap_of, ledger_of, IsTree}
 use Rattle.congee.specs.owned.Full.{AllFilled, HasEnough, NodesFilled, OthersFilled, fewest, lacks, lacks_all, lacking_of}

@@ -4,7 +4,7 @@ use Rattle.std.specs.Prelude.{Option, None, Some}
 use Rattle.std.specs.Option.{option_map}
 use Rattle.std.specs.FinMap as map
 use Rattle.congee.specs.Heap.{Hung, Nothing, Below, Holds, Node, fits, child_for}
-use Rattle.congee.specs.Ledger.{Linked, Note, IsChild, HasParent, Tree}
+use Rattle.congee.specs.Notes.{Linked, Note, IsChild, HasParent, Tree}
 use Rattle.congee.specs.Keys.{key_bytes}
 use Rattle.congee.specs.owned.Arena.{Nodes, heap_of, node_of, IsTree, OnWay, Hangs}
 use Rattle.congee.specs.owned.Going.{Going, at_leaf, goes_down, goes_at, goes_of, going_by, going_from}

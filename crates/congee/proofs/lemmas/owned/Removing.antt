@@ -8,7 +8,7 @@ use Rattle.std.specs.FinMap as map
 use Rattle.std.proofs.lemmas.Bool.Decides.{eqb_tells, nat_tests}
 use Rattle.slab.specs.Slab.{get, ContainsKey, Updates}
 use Rattle.congee.specs.Heap.{Node as Seen}
-use Rattle.congee.specs.Ledger.{IsChild, Linked}
+use Rattle.congee.specs.Notes.{IsChild, Linked}
 use Rattle.congee.specs.forms.Forms.{Becomes, capacity_of, children_of, form_of, prefix_of, size_of}
 use Rattle.congee.specs.owned.Arena.{Nodes, hung_in, node_of, heap_of, ledger_of, IsTree, OnWay, Hangs}
 use Rattle.congee.specs.owned.Changes.{MapChange}

@@ -3,7 +3,7 @@ use Rattle.std.proofs.Common.{◌≡◌, ◌≢◌, ℕ, ◌==◌, ◌+◌, inl,
 use Rattle.std.specs.Prelude.{Option, None, Some, is_some}
 use Rattle.slab.specs.Slab.{get}
 use Rattle.congee.specs.Heap.{Below, value_at}
-use Rattle.congee.specs.Ledger.{Linked, Gone, IsChild}
+use Rattle.congee.specs.Notes.{Linked, Gone, IsChild}
 use Rattle.congee.specs.forms.Forms.{form_of, size_of}
 use Rattle.congee.specs.owned.Arena.{Nodes, hung_in, node_of, heap_of, ledger_of, IsFilled, IsTree}
 use Rattle.congee.specs.owned.Changes.{Differs, MapChange}

@@ -6,7 +6,7 @@ use Rattle.std.proofs.lemmas.Bool.{cases_lt}
 use Rattle.std.specs.FinMap as map
 use Rattle.slab.specs.Slab.{get, ContainsKey}
 use Rattle.congee.specs.Heap.{Hung, Nothing, Below, Holds}
-use Rattle.congee.specs.Ledger.{IsChild, HasParent}
+use Rattle.congee.specs.Notes.{IsChild, HasParent}
 use Rattle.congee.specs.forms.Forms.{form_of, children_of, size_of}
 use Rattle.congee.specs.owned.Arena.{Nodes, hung_in, node_of, heap_of, ledger_of, IsTree}
 use Rattle.congee.specs.owned.Levels.{under_byte, under_bytes, with_node, nodes_from, nodes_of}

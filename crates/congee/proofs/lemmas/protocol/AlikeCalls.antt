@@ -12,7 +12,7 @@ use Rattle.congee.specs.declared.protocol.machine.Machine.{Machine}
 use Rattle.congee.specs.declared.protocol.machine.Move.{Move}
 use Rattle.congee.specs.Heap.{Node}
 use Rattle.congee.specs.Keys.{key_bytes}
-use Rattle.congee.specs.Ledger.{Note}
+use Rattle.congee.specs.Notes.{Note}
 use Rattle.congee.specs.protocol.Alike.{Ordered, HeapAlike, Named, PhaseAlike, CallAlike, IsUnrefused, WentAlike, MovedAlike}
 use Rattle.congee.specs.protocol.PlainSteps.{Mark, plain_step}
 use Rattle.congee.specs.protocol.Play.{EachKnown, Protocol, ProtocolAt, begun, first_phase}

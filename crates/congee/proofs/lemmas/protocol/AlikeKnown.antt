@@ -4,7 +4,7 @@ use Rattle.std.proofs.Common.{◌≡◌, ◌≢◌, ℕ, ◌<◌, Bool, true, fa
 use Rattle.std.specs.Prelude.{Option, Some, slice_get}
 use Rattle.std.specs.List.{All}
 use Rattle.std.proofs.lemmas.List.Elements.{All-contains}
-use Rattle.congee.specs.declared.protocol.store.Seat.{Seat}
+use Rattle.congee.specs.declared.protocol.store.Stamp.{Stamp}
 use Rattle.congee.specs.declared.protocol.phase.Kind.{Kind}
 use Rattle.congee.specs.declared.protocol.phase.Double.{Double}
 use Rattle.congee.specs.declared.protocol.phase.Double.TheVariants.{Unlink, Grow, GrowLink, Split, Shrink, Collapse, ShrinkAbove}
@@ -16,13 +16,13 @@ use Rattle.congee.specs.declared.protocol.sweep.Sweep.{Sweep as Scan}
 use Rattle.congee.specs.declared.protocol.machine.Machine.{Machine}
 use Rattle.congee.specs.Heap.{Node, Stands, is_taken}
 use Rattle.congee.specs.Keys.{key_bytes}
-use Rattle.congee.specs.Ledger.{Note, Linked, Tree, IsChild}
+use Rattle.congee.specs.Notes.{Note, Linked, Tree, IsChild}
 use Rattle.congee.specs.protocol.Alike.{Ordered, NodeAlike, HeapAlike, CallAlike, Longer}
 use Rattle.congee.specs.protocol.Destroys.{Destroys}
 use Rattle.congee.specs.protocol.Events.{HoldsValues, HoldsNodes}
 use Rattle.congee.specs.protocol.Names.{names, names_site}
 use Rattle.congee.specs.protocol.Protocol.{Known, PlacedTwo, TwoLocked, Rely, Effect}
-use Rattle.congee.specs.protocol.Seats.{Seated}
+use Rattle.congee.specs.protocol.Stamps.{Seated}
 use Rattle.congee.specs.protocol.SweepKnown.{SweepKnownAt, names_sweep_at}
 use Rattle.congee.proofs.lemmas.protocol.AlikeChanges.{HoldsFor, HoldsRight}
 use Rattle.congee.proofs.lemmas.protocol.AlikeHeaps.{later_place}
@@ -85,7 +85,7 @@ module _ {C V : Type 0} (number : C → ℕ) (same : V → V → Bool) (always :
 
 module _ {C V : Type 0} (order order' : List ℕ) (number : C → ℕ) (f : (n c : ℕ) → slice_get order n ≡ Some c → slice_get order' n ≡ Some c) (h h' : ℕ → Node V) where
   -- a word that was taken and still stands
-  still_seated : (j : ℕ) (a a' : ℕ → Note) → Rely (λ _. Unit {0}) j a h a' h' → (s : Seat C) → Seated a h (number s.node) s.version → Still order order' number f h h' s
+  still_seated : (j : ℕ) (a a' : ℕ → Note) → Rely (λ _. Unit {0}) j a h a' h' → (s : Stamp C) → Seated a h (number s.node) s.version → Still order order' number f h h' s
   still_seated j a a' r s x t =
       let e : h' (number s.node) ≡ h (number s.node) = r.word (number s.node) s.version tt x.published x.up t in
       ap (λ z. is_taken z s.version) (sym e) ∙ t
@@ -132,7 +132,7 @@ module _ {C V : Type 0} (order order' : List ℕ) (number : C → ℕ) (f : (n c
   still_known same always j a a' k key kind given r Ended x = tt
 
   -- a node that is as it was
-  still_same : (s : Seat C) → h' (number s.node) ≡ h (number s.node) → Still order order' number f h h' s
+  still_same : (s : Stamp C) → h' (number s.node) ≡ h (number s.node) → Still order order' number f h h' s
   still_same s e t = ap (λ z. is_taken z s.version) (sym e) ∙ t
 
   spared_stage : (s : Scan C V) (x : Stage C V) → All (λ n. h' n ≡ h n) (names_sweep_at number s x) → StillAt order order' number f h h' x

@@ -11,7 +11,7 @@ use Rattle.congee.specs.declared.protocol.store.Least.TheVariants as least
 use Rattle.congee.specs.declared.protocol.store.Reading.{Reading}
 use Rattle.congee.specs.declared.protocol.store.Reading.TheVariants.{Differs, Fits, Uncopied}
 use Rattle.congee.specs.declared.protocol.store.Region.{Region}
-use Rattle.congee.specs.declared.protocol.store.Seat.{Seat}
+use Rattle.congee.specs.declared.protocol.store.Stamp.{Stamp}
 use Rattle.congee.specs.declared.protocol.store.Seen.{Seen}
 use Rattle.congee.specs.declared.protocol.phase.Above.{Above as Over}
 use Rattle.congee.specs.declared.protocol.phase.Site.{Site}
@@ -73,7 +73,7 @@ module _ {C V : Type 0} (order : List ℕ) (number : C → ℕ) where
 
   -- what a read finds
   module _ (h g : ℕ → Node V) (root : C) (m : ℕ) (r : Named order number root m) (key : List ℕ) (len : length key ≡ 8) (always : Bool) (above : Option (Over C)) (o : Option (Over ℕ)) (ab : AboveAlike order number above o)
-      (at : Seat C) (a : Seat ℕ) (st : SeatAlike order number at a) (e : NodeAlike order (h (number at.node)) (g a.node)) (seen : Option (Seen Mark V)) where
+      (at : Stamp C) (a : Stamp ℕ) (st : SeatAlike order number at a) (e : NodeAlike order (h (number at.node)) (g a.node)) (seen : Option (Seen Mark V)) where
     abbrev x : Node V
     x = h (number at.node)
 

@@ -16,7 +16,7 @@ use Rattle.congee.specs.declared.protocol.phase.Phase.TheVariants.{New, Version,
 use Rattle.congee.specs.declared.protocol.machine.Machine.{Machine}
 use Rattle.congee.specs.Heap.{Node, walk}
 use Rattle.congee.specs.Keys.{key_bytes}
-use Rattle.congee.specs.Ledger.{Note, Status, Unmade, Held, Linked, Gone, Destroyed, is_published, is_spent, IsChild, HasParent, Tree, WordAt, LockWords}
+use Rattle.congee.specs.Notes.{Note, Status, Unmade, Held, Linked, Gone, Destroyed, is_published, is_spent, IsChild, HasParent, Tree, WordAt, LockWords}
 use Rattle.congee.specs.protocol.Protocol.{Rely}
 use Rattle.congee.specs.protocol.Answers.{SameMap}
 use Rattle.congee.specs.protocol.Holdings.{IsTop, LockedBy, MadeForOne, MadeForTwo, MadeForPlan, IsMade, MadeBy, Holdings}

@@ -3,7 +3,7 @@ use Rattle.std.proofs.Common.{◌≡◌, ◌≢◌, ℕ, suc, ◌<◌, ◌≤◌
 use Rattle.congee.specs.declared.forms.base_node.NodeType.{NodeType}
 use Rattle.congee.specs.declared.forms.base_node.NodeType.TheVariants.{N4, N16, N48, N256}
 use Rattle.congee.specs.Heap.{Node, Hung, Nothing, Below, Holds}
-use Rattle.congee.specs.Ledger.{Note, Linked, IsChild, Tree}
+use Rattle.congee.specs.Notes.{Note, Linked, IsChild, Tree}
 use Rattle.congee.specs.protocol.Events.{places, weight, kept, ChangeGives, TakeOverGives}
 use Rattle.congee.specs.protocol.Handing.{Leads}
 use Rattle.congee.specs.protocol.Filled.{least_in, FilledAs, IsFilled, AllFilled}

@@ -9,7 +9,7 @@ use Rattle.congee.specs.declared.protocol.phase.Double.{Double}
 use Rattle.congee.specs.declared.protocol.phase.Double.TheVariants.{Unlink, Grow, GrowLink, Split, Shrink, Collapse, ShrinkAbove}
 use Rattle.congee.specs.declared.protocol.phase.Two.{Two}
 use Rattle.congee.specs.Heap.{Node, Hung, Nothing, Below, Holds, child_for}
-use Rattle.congee.specs.Ledger.{Note, Linked, is_published, Tree, LockWords}
+use Rattle.congee.specs.Notes.{Note, Linked, is_published, Tree, LockWords}
 use Rattle.congee.specs.protocol.Events.{weight, ChangeGives, TakeOverGives}
 use Rattle.congee.specs.protocol.Steps.{PutsLesser, Collapses, Lessens, ChangedOne, ChangedTwo}
 use Rattle.congee.specs.protocol.Protocol.{Made, MadeOne, Holding, OneLocked, FitsOne, Adding, PlacedTwo, WantedTwo, MadeTwo, FitsTwo, AboveLocked, TopLocked}

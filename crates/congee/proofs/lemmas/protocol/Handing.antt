@@ -8,7 +8,7 @@ use Rattle.std.proofs.lemmas.Option.{slice_get_within, get_or_from_slice_get}
 use Rattle.std.specs.Prelude.{Option, None, Some, Result, Ok, Err, slice_get}
 use Rattle.judge.specs.declared.journal.Reply.{Reply}
 use Rattle.congee.specs.declared.forms.base_node.NodeType.{NodeType}
-use Rattle.congee.specs.declared.protocol.store.Seat.{Seat}
+use Rattle.congee.specs.declared.protocol.store.Stamp.{Stamp}
 use Rattle.congee.specs.declared.protocol.store.Refusal.{Refusal}
 use Rattle.congee.specs.declared.protocol.store.Upgrade.{Upgrade}
 use Rattle.congee.specs.declared.protocol.store.Upgrade.TheVariants.{Locked, Failed, Exhausted}
@@ -23,14 +23,14 @@ use Rattle.congee.specs.declared.protocol.phase.Double.TheVariants.{Unlink, Grow
 use Rattle.congee.specs.declared.protocol.phase.Two.{Two}
 use Rattle.congee.specs.declared.protocol.phase.Phase.{Phase}
 use Rattle.congee.specs.declared.protocol.phase.Phase.TheVariants.{New, Version, Read, Check, CheckUncopied, CheckMiss, CheckDown, CheckOld, MakeLeaf, MakeGreater, MakeTop, MakeBeside, MakeLesser, AskOld, AskNew, Confirm, CheckAbove, UpgradeOne, ChangeOne, UpgradeTop, UpgradeAbove, UpgradeBelow, ChangeTwo, Obsolete, Retire, UnlockBelow, Unlock, Unwind, Sweep, Ended}
-use Rattle.congee.specs.declared.protocol.turn.Turn.{Turn}
+use Rattle.congee.specs.declared.protocol.turn.NextPhase.{NextPhase}
 use Rattle.congee.specs.declared.protocol.machine.Machine.{Machine}
 use Rattle.congee.specs.declared.protocol.run.Step.{Step}
 use Rattle.congee.specs.Heap.{Node, Hung, Stands, is_taken}
 use Rattle.congee.specs.protocol.Events.{SameBut, upgrade_gives, NewNode, ChangeGives, TakeOverGives, BackGives}
 use Rattle.congee.specs.protocol.Steps.{BackOne, BackTwo, BackLeaf, MadeLeaf, MadeGreater, MadeTop, MadeBeside, MadeLesser, UpgradedOne, UpgradedTop, UpgradedAbove, UpgradedBelow, PutsLesser, Collapses, Lessens, after_retire, ChangedOne, ChangedTwo, PhaseStepped}
 use Rattle.congee.specs.Keys.{key_bytes}
-use Rattle.congee.specs.Ledger.{Note, Linked, Gone, is_published, Tree, LockWords}
+use Rattle.congee.specs.Notes.{Note, Linked, Gone, is_published, Tree, LockWords}
 use Rattle.congee.specs.protocol.Protocol.{TopLocked, Made, MadeOne, MadeTwo, MadeLeafFor, Known}
 use Rattle.congee.specs.protocol.Holdings.{TakenBy}
 use Rattle.congee.specs.protocol.Handing.{is_waiting, Leads, IsOut, HandsNothing, HandsNode, HandsAt, Hands, IsLeaving, Leaving, Untouched, Handing, StepHands}
@@ -212,23 +212,23 @@ module _ {C V : Type 0} (number : C → ℕ) (i : ℕ) (a : ℕ → Note) (h : �
       spares_then h g.2 h' s3 (spares_change g.2 h' (number two.above.seat.node) _ _ (still_idle h g.2 (number two.above.seat.node) s3 e) g.6)
 
   -- nodes are made
-  leaf_made : (kind : Kind V) (s : Site C) (r : Result C Refusal) (turn : Turn C V) → MadeLeaf number kind s h key r h' turn → SparesWaiting h h'
+  leaf_made : (kind : Kind V) (s : Site C) (r : Result C Refusal) (turn : NextPhase C V) → MadeLeaf number kind s h key r h' turn → SparesWaiting h h'
   leaf_made kind s (Ok leaf) turn g = spares_new h h' _ _ _ _ g.0
   leaf_made kind s (Err e) turn g = spares_same h h' g.0
 
-  greater_made : (kind : Kind V) (s : Site C) (p : Parent C) (leaf : Option C) (r : Result C Refusal) (turn : Turn C V) → MadeLeafFor number i a h key s leaf → MadeGreater number kind s p leaf h key r h' turn → SparesWaiting h h'
+  greater_made : (kind : Kind V) (s : Site C) (p : Parent C) (leaf : Option C) (r : Result C Refusal) (turn : NextPhase C V) → MadeLeafFor number i a h key s leaf → MadeGreater number kind s p leaf h key r h' turn → SparesWaiting h h'
   greater_made kind s p leaf (Ok c) turn m g = spares_new h h' _ _ _ _ g.0
   greater_made kind s p leaf (Err e) turn m g = back_leaf leaf s m g.0
 
-  top_made : (p : Parent C) (at : Seat C) (common byte : ℕ) (r : Result C Refusal) (turn : Turn C V) → MadeTop number p at common byte h key r h' turn → SparesWaiting h h'
+  top_made : (p : Parent C) (at : Stamp C) (common byte : ℕ) (r : Result C Refusal) (turn : NextPhase C V) → MadeTop number p at common byte h key r h' turn → SparesWaiting h h'
   top_made p at common byte (Ok top) turn g = spares_new h h' _ _ _ _ g.0
   top_made p at common byte (Err e) turn g = spares_same h h' g.0
 
-  beside_made : (kind : Kind V) (p : Parent C) (at : Seat C) (common byte : ℕ) (top : C) (r : Result C Refusal) (turn : Turn C V) → Made i a h key (number top) common 1 → MadeBeside number kind p at common byte top h key r h' turn → SparesWaiting h h'
+  beside_made : (kind : Kind V) (p : Parent C) (at : Stamp C) (common byte : ℕ) (top : C) (r : Result C Refusal) (turn : NextPhase C V) → Made i a h key (number top) common 1 → MadeBeside number kind p at common byte top h key r h' turn → SparesWaiting h h'
   beside_made kind p at common byte top (Ok leaf) turn m g = spares_new h h' _ _ _ _ g.0
   beside_made kind p at common byte top (Err e) turn m g = spares_back h h' (number top) (idle_made (number top) common 1 m) g.0
 
-  lesser_made : (s : Site C) (p : Parent C) (top : Option (Parent C)) (r : Reply V) (x : Result C Refusal) (turn : Turn C V) → MadeLesser number s p top r h key x h' turn → SparesWaiting h h'
+  lesser_made : (s : Site C) (p : Parent C) (top : Option (Parent C)) (r : Reply V) (x : Result C Refusal) (turn : NextPhase C V) → MadeLesser number s p top r h key x h' turn → SparesWaiting h h'
   lesser_made s p None r (Ok c) turn g = spares_new h h' _ _ _ _ g.0
   lesser_made s p None r (Err e) turn g = spares_same h h' g.0
   lesser_made s p (Some top) r (Ok c) turn g = spares_new h h' _ _ _ _ g.0
@@ -239,25 +239,25 @@ module _ {C V : Type 0} (number : C → ℕ) (i : ℕ) (a : ℕ → Note) (h : �
   locked_spares most n v fail w p e g =
       let q : is_waiting (h n) ≡ false = linked_idle a h n w (taken_linked a h w n v p (locked_taken most (h n) v fail e)) in spares_but h h' n _ q q g
 
-  one_upgraded : (root : C) (one : One C) (r : Reply V) (most : ℕ) (fail : Bool) (u : Upgrade) (turn : Turn C V) → LockWords a h → is_published (a (number one.at.node)).status ≡ true → MadeOne number i a h key one.change
+  one_upgraded : (root : C) (one : One C) (r : Reply V) (most : ℕ) (fail : Bool) (u : Upgrade) (turn : NextPhase C V) → LockWords a h → is_published (a (number one.at.node)).status ≡ true → MadeOne number i a h key one.change
       → u ≡ upgrade_gives most (h (number one.at.node)) one.at.version fail → UpgradedOne number root one r h u h' turn → SparesWaiting h h'
   one_upgraded root one r most fail Locked turn w p m e g = locked_spares most (number one.at.node) one.at.version fail w p e g.0
   one_upgraded root one r most fail Failed turn w p m e g = back_one one.change m g.0
   one_upgraded root one r most fail Exhausted turn w p m e g = back_one one.change m g.0
 
-  top_upgraded : (root : C) (top : Parent C) (two : Two C) (r : Reply V) (size q most : ℕ) (fail : Bool) (u : Upgrade) (turn : Turn C V) → LockWords a h → is_published (a (number top.seat.node)).status ≡ true → MadeTwo number i a h key two.above two.change size q
+  top_upgraded : (root : C) (top : Parent C) (two : Two C) (r : Reply V) (size q most : ℕ) (fail : Bool) (u : Upgrade) (turn : NextPhase C V) → LockWords a h → is_published (a (number top.seat.node)).status ≡ true → MadeTwo number i a h key two.above two.change size q
       → u ≡ upgrade_gives most (h (number top.seat.node)) top.seat.version fail → UpgradedTop number root top two r h u h' turn → SparesWaiting h h'
   top_upgraded root top two r size q most fail Locked turn w p m e g = locked_spares most (number top.seat.node) top.seat.version fail w p e g.0
   top_upgraded root top two r size q most fail Failed turn w p m e g = back_two two.above two.change size q m g.0
   top_upgraded root top two r size q most fail Exhausted turn w p m e g = back_two two.above two.change size q m g.0
 
-  above_upgraded : (root : C) (two : Two C) (r : Reply V) (size q most : ℕ) (fail : Bool) (u : Upgrade) (turn : Turn C V) → LockWords a h → is_published (a (number two.above.seat.node)).status ≡ true → MadeTwo number i a h key two.above two.change size q
+  above_upgraded : (root : C) (two : Two C) (r : Reply V) (size q most : ℕ) (fail : Bool) (u : Upgrade) (turn : NextPhase C V) → LockWords a h → is_published (a (number two.above.seat.node)).status ≡ true → MadeTwo number i a h key two.above two.change size q
       → u ≡ upgrade_gives most (h (number two.above.seat.node)) two.above.seat.version fail → UpgradedAbove number root two r h u h' turn → SparesWaiting h h'
   above_upgraded root two r size q most fail Locked turn w p m e g = locked_spares most (number two.above.seat.node) two.above.seat.version fail w p e g.0
   above_upgraded root two r size q most fail Failed turn w p m e g = back_two two.above two.change size q m g.0
   above_upgraded root two r size q most fail Exhausted turn w p m e g = back_two two.above two.change size q m g.0
 
-  both_upgraded : (two : Two C) (r : Reply V) (size q most : ℕ) (fail : Bool) (u : Upgrade) (turn : Turn C V) → LockWords a h → is_published (a (number two.at.node)).status ≡ true → MadeTwo number i a h key two.above two.change size q
+  both_upgraded : (two : Two C) (r : Reply V) (size q most : ℕ) (fail : Bool) (u : Upgrade) (turn : NextPhase C V) → LockWords a h → is_published (a (number two.at.node)).status ≡ true → MadeTwo number i a h key two.above two.change size q
       → u ≡ upgrade_gives most (h (number two.at.node)) two.at.version fail → UpgradedBelow number two r h u h' turn → SparesWaiting h h'
   both_upgraded two r size q most fail Locked turn w p m e g = locked_spares most (number two.at.node) two.at.version fail w p e g.0
   both_upgraded two r size q most fail Failed turn w p m e g = back_two two.above two.change size q m g.0
@@ -284,7 +284,7 @@ module _ {C V : Type 0} (number : C → ℕ) (same : V → V → Bool) (always :
   top_idle (Some top) n o = linked_idle a h (number top.seat.node) w o.holding.linked
 
   -- every step
-  pub step_hands : (most : ℕ) (why : NodeType → Refusal → Type 0) (root : C) (kind : Kind V) (fail : Bool) (answer : Option (Option V)) (given : Option V) (s : Phase C V) (given' : Option V) (turn : Turn C V)
+  pub step_hands : (most : ℕ) (why : NodeType → Refusal → Type 0) (root : C) (kind : Kind V) (fail : Bool) (answer : Option (Option V)) (given : Option V) (s : Phase C V) (given' : Option V) (turn : NextPhase C V)
       → Known number same always i a h k (key_bytes k) kind given s → PhaseStepped number same always most why root (key_bytes k) kind fail answer given s h given' turn h'
       → SparesWaiting h h' ⊎ ((n : ℕ) × Gives number h s n h' turn.phase)
   step_hands most why root kind fail answer given New given' turn x g = inl (spares_same h h' g.0)
@@ -326,7 +326,7 @@ module _ {C V : Type 0} (number : C → ℕ) (same : V → V → Bool) (always :
     record {
       taken = inl refl;
       was = was next;
-      is = λ c l. let P : Turn C V → Type 0 = λ z. IsLeaving z.phase (suc c) in subst P (sym g.2) (is next c l);
+      is = λ c l. let P : NextPhase C V → Type 0 = λ z. IsLeaving z.phase (suc c) in subst P (sym g.2) (is next c l);
       marked = x.2;
       out = unlinked_out a h (number n) t (λ l. let z : Linked ≡ Gone = sym l ∙ x.0.gone in cc);
       before = unretired_idle (h (number n)) x.0.unretired;
@@ -349,12 +349,12 @@ module _ {C V : Type 0} (number : C → ℕ) (same : V → V → Bool) (always :
   step_hands most why root kind fail answer given Ended given' turn x g = inl (spares_same h h' g.0)
 
   -- a call that is leaving goes on to leave
-  pub leaves_on : (most : ℕ) (why : NodeType → Refusal → Type 0) (root : C) (kind : Kind V) (fail : Bool) (answer : Option (Option V)) (given : Option V) (s : Phase C V) (given' : Option V) (turn : Turn C V)
+  pub leaves_on : (most : ℕ) (why : NodeType → Refusal → Type 0) (root : C) (kind : Kind V) (fail : Bool) (answer : Option (Option V)) (given : Option V) (s : Phase C V) (given' : Option V) (turn : NextPhase C V)
       → PhaseStepped number same always most why root (key_bytes k) kind fail answer given s h given' turn h' → (c : ℕ) → IsLeaving s c → IsLeaving turn.phase c
-  leaves_on most why root kind fail answer given (Obsolete n None p r) given' turn g c l = let P : Turn C V → Type 0 = λ z. IsLeaving z.phase c in subst P (sym g.2) l
-  leaves_on most why root kind fail answer given (Retire n None p r) given' turn g c l = let P : Turn C V → Type 0 = λ z. IsLeaving z.phase c in subst P (sym g.2) tt
-  leaves_on most why root kind fail answer given (Unlock n r) given' turn g c l = let P : Turn C V → Type 0 = λ z. IsLeaving z.phase c in subst P (sym g.2) tt
-  leaves_on most why root kind fail answer given Ended given' turn g c l = let P : Turn C V → Type 0 = λ z. IsLeaving z.phase c in subst P (sym g.2) tt
+  leaves_on most why root kind fail answer given (Obsolete n None p r) given' turn g c l = let P : NextPhase C V → Type 0 = λ z. IsLeaving z.phase c in subst P (sym g.2) l
+  leaves_on most why root kind fail answer given (Retire n None p r) given' turn g c l = let P : NextPhase C V → Type 0 = λ z. IsLeaving z.phase c in subst P (sym g.2) tt
+  leaves_on most why root kind fail answer given (Unlock n r) given' turn g c l = let P : NextPhase C V → Type 0 = λ z. IsLeaving z.phase c in subst P (sym g.2) tt
+  leaves_on most why root kind fail answer given Ended given' turn g c l = let P : NextPhase C V → Type 0 = λ z. IsLeaving z.phase c in subst P (sym g.2) tt
   leaves_on most why root kind fail answer given _ given' turn g c l = absurd l
 
 -- what the calls have handed over, or taken out, with these of one call

@@ -5,7 +5,7 @@ use Rattle.congee.specs.declared.protocol.machine.Machine.{Machine}
 use Rattle.congee.specs.declared.protocol.machine.Move.{Move}
 use Rattle.congee.specs.Heap.{Node}
 use Rattle.congee.specs.Keys.{key_bytes}
-use Rattle.congee.specs.Ledger.{Note, Linked, Gone, is_published}
+use Rattle.congee.specs.Notes.{Note, Linked, Gone, is_published}
 use Rattle.congee.specs.protocol.Holdings.{LockedBy, Holdings}
 use Rattle.congee.specs.protocol.Steps.{MayStep, Stepped}
 use Rattle.congee.specs.protocol.Answers.{Keeps}

@@ -11,7 +11,7 @@ use Rattle.congee.specs.Heap.{Node, is_taken}
 use Rattle.congee.specs.Keys.{key_bytes}
 use Rattle.congee.specs.protocol.Events.{NewNode, BackGives, places}
 use Rattle.congee.specs.protocol.Steps.{BackOne, BackTwo}
-use Rattle.congee.specs.Ledger.{Note, Held, Back, is_published, Tree, LockWords}
+use Rattle.congee.specs.Notes.{Note, Held, Back, is_published, Tree, LockWords}
 use Rattle.congee.specs.protocol.Protocol.{Rely, Made, MadeOne, MadeTwo, Fares}
 use Rattle.congee.proofs.lemmas.Tree.{same_or_not}
 use Rattle.congee.proofs.lemmas.protocol.Touch.{fares_same, fares_back, noted_same, noted_other, as_it_was, effect}

@@ -3,7 +3,7 @@ use Rattle.std.proofs.Common.{◌≡◌, ℕ, suc, Bool, true, List, [], ◌∷�
 use Rattle.std.specs.Prelude.{Option, None, Some}
 use Rattle.std.specs.List.{Contains}
 use Rattle.std.proofs.lemmas.List.Elements.{All-from_recursion, All-contains}
-use Rattle.congee.specs.declared.protocol.store.Seat.{Seat}
+use Rattle.congee.specs.declared.protocol.store.Stamp.{Stamp}
 use Rattle.congee.specs.declared.protocol.phase.Kind.{Kind}
 use Rattle.congee.specs.declared.protocol.phase.Parent.{Parent}
 use Rattle.congee.specs.declared.protocol.phase.Above.{Above as Over}
@@ -25,7 +25,7 @@ use Rattle.congee.specs.declared.protocol.sweep.Sweep.{Sweep as Scan}
 use Rattle.congee.specs.protocol.SweepSteps.{rungs_of}
 use Rattle.congee.specs.protocol.SweepKnown.{RungsKnown, SweepKnownAt, names_rungs, names_sweep_at, names_sweep}
 use Rattle.congee.specs.Heap.{Node, Hung, Below, child_for}
-use Rattle.congee.specs.Ledger.{Note, Linked, is_published, Tree}
+use Rattle.congee.specs.Notes.{Note, Linked, is_published, Tree}
 use Rattle.congee.specs.protocol.Protocol.{Known, Knows, TopLocked, AlsoOut, AlsoHolding, IsFar, IsAbove, IsLesser, SeatedIf, PlanKnown}
 use Rattle.congee.specs.protocol.Holdings.{IsTop, LockedBy, MadeBy, MadeForOne, MadeForTwo, MadeForPlan, IsMade}
 use Rattle.congee.specs.protocol.Names.{name_above, names_over, name_seated, name_made, names_for_one, names_for_two, names_site, names_one, names_two, names_plan, names}
@@ -72,7 +72,7 @@ module _ {C V : Type 0} (number : C → ℕ) (same : V → V → Bool) (always :
   site_in : (s : Site C) (x : Hung V) → Knows number a h key s x → Each In (names_site number s)
   site_in s x k = (k.fresh.seated.published, above_in s.above (number s.at.node) k.above)
 
-  seated_in : (p : Option (Seat C)) → SeatedIf number a h p → Each In (name_seated number p)
+  seated_in : (p : Option (Stamp C)) → SeatedIf number a h p → Each In (name_seated number p)
   seated_in None x = tt
   seated_in (Some p) x = (x.published, tt)
 

@@ -6,7 +6,7 @@ use Rattle.std.specs.Ordering.{nat_cmp}
 use Rattle.congee.specs.declared.protocol.machine.Machine.{Machine}
 use Rattle.congee.specs.Heap.{Node, Hung, Nothing, Below, Holds, Stands, fits, of_child, walk, value_at}
 use Rattle.congee.specs.Keys.{key_bytes, IsMapOf}
-use Rattle.congee.specs.Ledger.{Note, Unmade, Held, Linked, Gone, is_published, is_spent, Tree, LockWords}
+use Rattle.congee.specs.Notes.{Note, Unmade, Held, Linked, Gone, is_published, is_spent, Tree, LockWords}
 use Rattle.congee.specs.protocol.Opening.{RootAlone, FreshRoot}
 use Rattle.congee.specs.protocol.Holdings.{Rests}
 use Rattle.congee.specs.protocol.Play.{IsNew, Begins}

@@ -16,12 +16,12 @@ use Rattle.congee.specs.declared.protocol.phase.Plan.{Plan}
 use Rattle.congee.specs.declared.protocol.phase.Plan.TheVariants.{Here, Above}
 use Rattle.congee.specs.declared.protocol.phase.Phase.{Phase}
 use Rattle.congee.specs.declared.protocol.phase.Phase.TheVariants.{New, Version, Read, Check, CheckUncopied, CheckMiss, CheckDown, CheckOld, MakeLeaf, MakeGreater, MakeTop, MakeBeside, MakeLesser, AskOld, AskNew, Confirm, CheckAbove, UpgradeOne, ChangeOne, UpgradeTop, UpgradeAbove, UpgradeBelow, ChangeTwo, Obsolete, Retire, UnlockBelow, Unlock, Unwind, Sweep, Ended}
-use Rattle.congee.specs.declared.protocol.turn.Turn.{Turn}
+use Rattle.congee.specs.declared.protocol.turn.NextPhase.{NextPhase}
 use Rattle.congee.specs.declared.protocol.machine.Machine.{Machine}
 use Rattle.congee.specs.Heap.{Node}
 use Rattle.congee.specs.protocol.Steps.{after_retire, PhaseStepped}
 use Rattle.congee.specs.Keys.{key_bytes}
-use Rattle.congee.specs.Ledger.{Note, Unmade, Held, Linked, Gone, Tree, LockWords}
+use Rattle.congee.specs.Notes.{Note, Unmade, Held, Linked, Gone, Tree, LockWords}
 use Rattle.congee.specs.protocol.Protocol.{TopLocked, AlsoOut, AlsoHolding, Made, MadeOne, MadeTwo, MadeLeafFor, PlanKnown, Fares, Known}
 use Rattle.congee.specs.protocol.Holdings.{IsTop, LockedBy, MadeForOne, MadeForTwo, MadeForPlan, IsMade, MadeBy, TakenBy, Holdings}
 use Rattle.congee.proofs.lemmas.Tree.{same_or_not}
@@ -224,7 +224,7 @@ module _ {C V : Type 0} (number : C → ℕ) (same : V → V → Bool) (always :
   next_out (Some c) p r l = inl l
 
   -- it is marked, and then handed over
-  pub taken_on : (most : ℕ) (why : NodeType → Refusal → Type 0) (root : C) (fail : Bool) (answer : Option (Option V)) (s : Phase C V) (given' : Option V) (turn : Turn C V) (h' : ℕ → Node V) → PhaseStepped number same always most why root (key_bytes k) kind fail answer given s h given' turn h'
+  pub taken_on : (most : ℕ) (why : NodeType → Refusal → Type 0) (root : C) (fail : Bool) (answer : Option (Option V)) (s : Phase C V) (given' : Option V) (turn : NextPhase C V) (h' : ℕ → Node V) → PhaseStepped number same always most why root (key_bytes k) kind fail answer given s h given' turn h'
       → TakenBy number s n → ((h' n).retired ≡ true) ⊎ TakenBy number turn.phase n
   taken_on most why root fail answer New given' turn h' g l = absurd l
   taken_on most why root fail answer (Version p n0) given' turn h' g l = absurd l
@@ -249,9 +249,9 @@ module _ {C V : Type 0} (number : C → ℕ) (same : V → V → Bool) (always :
   taken_on most why root fail answer (UpgradeAbove two r) given' turn h' g l = absurd l
   taken_on most why root fail answer (UpgradeBelow two r) given' turn h' g l = absurd l
   taken_on most why root fail answer (ChangeTwo two r) given' turn h' g l = absurd l
-  taken_on most why root fail answer (Obsolete m next p r) given' turn h' g l = let P : Turn C V → Type 0 = λ y. TakenBy number y.phase n in inr (subst P (sym g.2) l)
+  taken_on most why root fail answer (Obsolete m next p r) given' turn h' g l = let P : NextPhase C V → Type 0 = λ y. TakenBy number y.phase n in inr (subst P (sym g.2) l)
   taken_on most why root fail answer (Retire m next p r) given' turn h' g (inl l) = let P : ℕ → Type 0 = λ y. (h' y).retired ≡ true in inl (subst P (sym l) (rw g.1.after refl))
-  taken_on most why root fail answer (Retire m next p r) given' turn h' g (inr l) = let P : Turn C V → Type 0 = λ y. TakenBy number y.phase n in inr (subst P (sym g.2) (next_out next p r l))
+  taken_on most why root fail answer (Retire m next p r) given' turn h' g (inr l) = let P : NextPhase C V → Type 0 = λ y. TakenBy number y.phase n in inr (subst P (sym g.2) (next_out next p r l))
   taken_on most why root fail answer (UnlockBelow m p r) given' turn h' g l = absurd l
   taken_on most why root fail answer (Unlock m r) given' turn h' g l = absurd l
   taken_on most why root fail answer (Unwind m next e) given' turn h' g l = absurd l

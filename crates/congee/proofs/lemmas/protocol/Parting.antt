@@ -3,7 +3,7 @@ use Rattle.std.proofs.Common.{◌≡◌, ◌≢◌, ℕ, suc, ◌<◌, ◌≤◌
 use Rattle.std.specs.Prelude.{None, Some}
 use Rattle.congee.specs.Heap.{Node, Below, Holds, fits, child_for, value_at}
 use Rattle.congee.specs.protocol.Events.{ChangeGives, Parts}
-use Rattle.congee.specs.Ledger.{Note, Held, Linked, is_published, IsChild, Tree, LockWords}
+use Rattle.congee.specs.Notes.{Note, Held, Linked, is_published, IsChild, Tree, LockWords}
 use Rattle.congee.specs.protocol.Protocol.{Made, Holding}
 use Rattle.congee.proofs.lemmas.Fits.{both_true, both, fits_byte}
 use Rattle.congee.proofs.lemmas.Tree.{same_or_not}

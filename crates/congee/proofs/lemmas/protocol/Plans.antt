@@ -18,11 +18,11 @@ use Rattle.congee.specs.declared.protocol.phase.Double.TheVariants.{Unlink, Grow
 use Rattle.congee.specs.declared.protocol.phase.Plan.{Plan}
 use Rattle.congee.specs.declared.protocol.phase.Plan.TheVariants.{Here, Above}
 use Rattle.congee.specs.declared.protocol.phase.Phase.TheVariants.{UpgradeOne, UpgradeAbove}
-use Rattle.congee.specs.declared.protocol.turn.Turn.{Turn}
+use Rattle.congee.specs.declared.protocol.turn.NextPhase.{NextPhase}
 use Rattle.congee.specs.Heap.{Node, Nothing, Holds, is_taken}
 use Rattle.congee.specs.protocol.Steps.{quiet, shrinks, set_at, both, last_out, adds, absent_reply, seat_above, started, ready, plan_here, unless_full, missing, absent, IsAsked, replaced, taken_out, emptied}
 use Rattle.congee.specs.Keys.{key_bytes}
-use Rattle.congee.specs.Ledger.{Note, Tree, LockWords}
+use Rattle.congee.specs.Notes.{Note, Tree, LockWords}
 use Rattle.congee.specs.protocol.Protocol.{Fresh, ChildOf, IsFar, IsAbove, IsAlone, HasTop, Sees, Knows, WantedOne, MadeOne, IsLeafAt, FitsOne, OneKnown, FitsTwo, HasGift, Asking, Adding, SeatedIf, PlanKnown, MadeLeafFor, Settles, Known}
 use Rattle.congee.specs.protocol.Answers.{AnswersIf}
 use Rattle.congee.proofs.lemmas.Fits.{equal, same_test, both_true}
@@ -64,7 +64,7 @@ settle_compute same k v = record { call = call.ComputeInsert k v; is_call = refl
 
 module _ {C V : Type 0} (number : C → ℕ) (same : V → V → Bool) (always : Bool) (i : ℕ) (a : ℕ → Note) (h : ℕ → Node V) (k : ℕ) (t : Tree a h) (w : LockWords a h) where
   -- a turn that doesn't decide
-  known_only : (kind : Kind V) (given given' : Option V) (turn : Turn C V) → turn.report.decided ≡ false → Known number same always i a h k (key_bytes k) kind given' turn.phase → Sound number same always i k kind given h given' turn a h
+  known_only : (kind : Kind V) (given given' : Option V) (turn : NextPhase C V) → turn.report.decided ≡ false → Known number same always i a h k (key_bytes k) kind given' turn.phase → Sound number same always i k kind given h given' turn a h
   known_only kind given given' turn e m = record { known = m; answer = by_decided turn.report.decided e }
     where
       by_decided : (b : Bool) → b ≡ false → AnswersIf b same k kind given h turn h
@@ -115,7 +115,7 @@ module _ {C V : Type 0} (number : C → ℕ) (same : V → V → Bool) (always :
       (λ q. let y : Sees (key_bytes k) s Nothing (h (number s.at.node)) = m.fresh.holds q in sym (y.full refl) ∙ ef) size one)
 
   missing_sound : (kind : Kind V) (given : Option V) (s : Site C) → adds kind ≡ true → s.count < 256 → HasGift kind given → Knows number a h (key_bytes k) s Nothing → Sound number same always i k kind given h given (missing kind s) a h
-  missing_sound kind given s e few g m = by_test (λ (x : Turn C V). Sound number same always i k kind given h given x a h) (s.depth == 7) _ _
+  missing_sound kind given s e few g m = by_test (λ (x : NextPhase C V). Sound number same always i k kind given h given x a h) (s.depth == 7) _ _
       (λ q. let z : s.depth ≡ 7 = equal s.depth 7 q in unless_full_sound kind given s None Set s.full s.above refl refl e few g m z z tt)
       (λ q. record { known = (g, m, less s.depth m.short (λ z. let y : s.depth == 7 ≡ true = same_test s.depth 7 z in cc), e, few); answer = λ x _. refl })
     where
@@ -124,7 +124,7 @@ module _ {C V : Type 0} (number : C → ℕ) (same : V → V → Bool) (always :
 
   pub absent_sound : (kind : Kind V) (given : Option V) (s : Site C) → HasGift kind given → Knows number a h (key_bytes k) s Nothing → is_taken (h (number s.at.node)) s.at.version ≡ true
       → Sound number same always i k kind given h given (absent kind s) a h
-  absent_sound kind given s g m q = by_test (λ (x : Turn C V). Sound number same always i k kind given h given x a h) (adds kind) _ _
+  absent_sound kind given s g m q = by_test (λ (x : NextPhase C V). Sound number same always i k kind given h given x a h) (adds kind) _ _
       (λ e. missing_sound kind given s e (let y : Sees (key_bytes k) s Nothing (h (number s.at.node)) = m.fresh.holds q in omega (arith, y.room refl, y.count)) g m)
       (λ e. answers_now number same always i a h k kind given t w (absent_reply kind) None (settle_absent same k kind given e)
       (stands_at number same always i a h k kind given t w (number s.at.node) s.at.version Nothing (Sees (key_bytes k) s Nothing) m.fresh (λ z. z.child) m.fitted q))
@@ -143,7 +143,7 @@ module _ {C V : Type 0} (number : C → ℕ) (same : V → V → Bool) (always :
   -- another value is put there, or the same one confirmed
   pub replaced_sound : (kind : Kind V) (given : Option V) (x : V) (s : Site C) (v : V) (r : Reply V) → ((p q : V) → same p q ≡ true → p ≡ q) → HasGift kind (Some x) → Knows number a h (key_bytes k) s (Holds v) → s.depth ≡ 7
       → Settles same k kind (Some x) (Some v) r (Some x) → Sound number same always i k kind given h (Some x) (replaced s (same v x) r) a h
-  replaced_sound kind given x s v r law g m d z = by_test (λ (y : Turn C V). Sound number same always i k kind given h (Some x) y a h) (same v x) _ _
+  replaced_sound kind given x s v r law g m d z = by_test (λ (y : NextPhase C V). Sound number same always i k kind given h (Some x) y a h) (same v x) _ _
       (λ q. record {
         known = (
           g,
@@ -178,7 +178,7 @@ module _ {C V : Type 0} (number : C → ℕ) (same : V → V → Bool) (always :
   last_sound : (kind : Kind V) (given : Option V) (s : Site C) (v : V) (r : Reply V) (p : Parent C) (f : Option (Parent C)) → ChildOf number a h (key_bytes k) p (number s.at.node) → IsFar number a h (key_bytes k) f (number p.seat.node) → s.count ≡ 1
       → HasGift kind None → Knows number a h (key_bytes k) s (Holds v) → s.depth ≡ 7 → Settles same k kind None (Some v) r None → Sound number same always i k kind given h None (last_out s p f r) a h
   last_sound kind given s v r p None c f one g m d z = leaf_out kind given s v r p c one g m d z
-  last_sound kind given s v r p (Some top) c f one g m d z = by_test (λ (x : Turn C V). Sound number same always i k kind given h None x a h) (p.count == 2) _ _
+  last_sound kind given s v r p (Some top) c f one g m d z = by_test (λ (x : NextPhase C V). Sound number same always i k kind given h None x a h) (p.count == 2) _ _
       (λ q. record {
         known = (
           g,
@@ -189,7 +189,7 @@ module _ {C V : Type 0} (number : C → ℕ) (same : V → V → Bool) (always :
         );
         answer = λ y _. refl;
       })
-      (λ _. by_test (λ (x : Turn C V). Sound number same always i k kind given h None x a h) (ltb 2 p.count && shrinks p.form p.count) _ _
+      (λ _. by_test (λ (x : NextPhase C V). Sound number same always i k kind given h None x a h) (ltb 2 p.count && shrinks p.form p.count) _ _
       (λ q. let b : (ltb 2 p.count ≡ true) × (shrinks p.form p.count ≡ true) = both_true (ltb 2 p.count) (shrinks p.form p.count) q in
       record { known = (g, (v, m, z), d, refl, c, (f, one, more p.count b.0, b.1)); answer = λ y _. refl })
       (λ _. leaf_out kind given s v r p c one g m d z))
@@ -201,9 +201,9 @@ module _ {C V : Type 0} (number : C → ℕ) (same : V → V → Bool) (always :
   taken_sound : (kind : Kind V) (given : Option V) (s : Site C) (v : V) (r : Reply V) (p : Option (Over C)) → IsAbove number a h (key_bytes k) p (number s.at.node) → HasGift kind None → Knows number a h (key_bytes k) s (Holds v) → s.depth ≡ 7
       → Settles same k kind None (Some v) r None → Sound number same always i k kind given h None (taken_out s p r) a h
   taken_sound kind given s v r None ab g m d z = set_out kind given s v r g m d z
-  taken_sound kind given s v r (Some u) ab g m d z = by_test (λ (x : Turn C V). Sound number same always i k kind given h None x a h) (s.count == 1) _ _
+  taken_sound kind given s v r (Some u) ab g m d z = by_test (λ (x : NextPhase C V). Sound number same always i k kind given h None x a h) (s.count == 1) _ _
       (λ q. last_sound kind given s v r u.near u.far ab.0 ab.1 (equal s.count 1 q) g m d z)
-      (λ _. by_test (λ (x : Turn C V). Sound number same always i k kind given h None x a h) (shrinks s.form s.count) _ _
+      (λ _. by_test (λ (x : NextPhase C V). Sound number same always i k kind given h None x a h) (shrinks s.form s.count) _ _
       (λ q. record { known = (g, (v, m, z), d, refl, ab.0, q); answer = λ y _. refl })
       (λ _. set_out kind given s v r g m d z))
 
@@ -211,10 +211,10 @@ module _ {C V : Type 0} (number : C → ℕ) (same : V → V → Bool) (always :
       → Settles same k kind None (Some v) r None → Sound number same always i k kind given h None (emptied s r) a h
   emptied_sound kind given s v r g m d z = taken_sound kind given s v r s.above m.above g m d z
 
-  pub turn_at : (kind : Kind V) (given given' : Option V) (x y : Turn C V) → y ≡ x → Sound number same always i k kind given h given' x a h → Sound number same always i k kind given h given' y a h
-  turn_at kind given given' x y e s = let P : Turn C V → Type 0 = λ z. Sound number same always i k kind given h given' z a h in subst P (sym e) s
+  pub turn_at : (kind : Kind V) (given given' : Option V) (x y : NextPhase C V) → y ≡ x → Sound number same always i k kind given h given' x a h → Sound number same always i k kind given h given' y a h
+  turn_at kind given given' x y e s = let P : NextPhase C V → Type 0 = λ z. Sound number same always i k kind given h given' z a h in subst P (sym e) s
 
-  pub asked_sound : (kind : Kind V) (given : Option V) (s : Site C) (v : V) (turn : Turn C V) → IsAsked always s v turn → HasGift kind given → Asking kind → Knows number a h (key_bytes k) s (Holds v) → s.depth ≡ 7
+  pub asked_sound : (kind : Kind V) (given : Option V) (s : Site C) (v : V) (turn : NextPhase C V) → IsAsked always s v turn → HasGift kind given → Asking kind → Knows number a h (key_bytes k) s (Holds v) → s.depth ≡ 7
       → Sound number same always i k kind given h given turn a h
   asked_sound kind given s v turn (inl e) g ask m d = turn_at kind given given _ turn e (record { known = (g, m, ask, d); answer = λ y _. refl })
   asked_sound kind given s v turn (inr e) g ask m d = turn_at kind given given _ turn e.1 (record { known = tt; answer = λ y _. refl })

@@ -2,7 +2,7 @@
 use Rattle.std.proofs.Common.{◌≡◌, ◌≢◌, ℕ, ◌==◌, ◌&&◌, inl, inr, true, false, cond, List, length, get_or, refl, sym, ◌∙◌, ap, subst, arith}
 use Rattle.std.specs.Prelude.{None, Some}
 use Rattle.congee.specs.Heap.{Node, Nothing, Below, fits, child_for, value_at}
-use Rattle.congee.specs.Ledger.{Note, Linked, Gone, is_published, IsChild, Tree, LockWords}
+use Rattle.congee.specs.Notes.{Note, Linked, Gone, is_published, IsChild, Tree, LockWords}
 use Rattle.congee.specs.protocol.Protocol.{Made, Holding, TakenOut}
 use Rattle.congee.proofs.lemmas.Fits.{both_true, both, equal, same_test}
 use Rattle.congee.proofs.lemmas.Tree.{same_or_not}

@@ -10,7 +10,7 @@ use Rattle.congee.specs.protocol.Bounds.{Bounded, Within}
 use Rattle.congee.specs.protocol.Destroys.{Destroys}
 use Rattle.congee.specs.Heap.{Node, Stands}
 use Rattle.congee.specs.Keys.{key_bytes}
-use Rattle.congee.specs.Ledger.{Note}
+use Rattle.congee.specs.Notes.{Note}
 use Rattle.congee.specs.protocol.Holdings.{LockedBy, MadeBy, TakenBy, Holdings}
 use Rattle.congee.specs.protocol.Opening.{FreshRoot}
 use Rattle.congee.specs.protocol.Play.{IsNew, IsIdle, EachKnown, Settled}

@@ -13,11 +13,11 @@ use Rattle.congee.specs.declared.protocol.sweep.Rung.{Rung}
 use Rattle.congee.specs.declared.protocol.sweep.Stage.{Stage}
 use Rattle.congee.specs.declared.protocol.sweep.Stage.TheVariants as stage
 use Rattle.congee.specs.declared.protocol.sweep.Sweep.{Sweep}
-use Rattle.congee.specs.declared.protocol.sweep.Told.{Told}
-use Rattle.congee.specs.declared.protocol.sweep.Told.TheVariants as told
+use Rattle.congee.specs.declared.protocol.sweep.ScanReport.{ScanReport}
+use Rattle.congee.specs.declared.protocol.sweep.ScanReport.TheVariants as told
 use Rattle.congee.specs.Heap.{Node, version_of, is_taken, is_free}
 use Rattle.congee.specs.Keys.{IsMapOf}
-use Rattle.congee.specs.Ledger.{Note, Linked, is_published, Tree, LockWords}
+use Rattle.congee.specs.Notes.{Note, Linked, is_published, Tree, LockWords}
 use Rattle.congee.specs.protocol.Regions.{span, IsRegion, start_at}
 use Rattle.congee.specs.protocol.Sweeps.{Lacked, IsScan, Swept, written}
 use Rattle.congee.specs.protocol.SweepEvents.{LeastTruly, IsAny}
@@ -309,7 +309,7 @@ module _ {C V : Type 0} (number : C → ℕ) (always : Bool) (a : ℕ → Note) 
       )
 
   -- a scan that begins anew is on the same range, with the same places
-  tells_anew : (s : Sweep C V) (x : Stage C V) (o : Told V) → Tells (anew root s).0 (m ∷ states) places x o → Tells s (m ∷ states) places x o
+  tells_anew : (s : Sweep C V) (x : Stage C V) (o : ScanReport V) → Tells (anew root s).0 (m ∷ states) places x o → Tells s (m ∷ states) places x o
   tells_anew s x told.Running e = e
   tells_anew s x (told.Found place k v) e = e
   tells_anew s x (told.Done count) e = e

@@ -9,7 +9,7 @@ use Rattle.congee.specs.declared.protocol.store.Region.{Region}
 use Rattle.congee.specs.declared.protocol.sweep.Rung.{Rung}
 use Rattle.congee.specs.declared.protocol.sweep.Path.{Path}
 use Rattle.congee.specs.Heap.{Node}
-use Rattle.congee.specs.Ledger.{Note}
+use Rattle.congee.specs.Notes.{Note}
 use Rattle.congee.specs.protocol.SweepSteps.{slots, put_rung, rungs_of, pushed, popped, cleared, last_of}
 use Rattle.congee.specs.protocol.SweepKnown.{RungKnown, RungsKnown, Gap, LeadsOn, IsWay}
 use Rattle.congee.proofs.lemmas.Fits.{other_test}

@@ -2,7 +2,7 @@
 use Rattle.std.proofs.Common.{◌≡◌, ◌≢◌, ℕ, zero, suc, ◌≤◌, ◌==◌, not, Bool, true, false, cond, List, refl, sym, ◌∙◌, ap, subst, inl, inr, arith}
 use Rattle.std.specs.Prelude.{Option, None, Some}
 use Rattle.congee.specs.Heap.{Node, walk, is_taken, is_free}
-use Rattle.congee.specs.Ledger.{Note, Status, Unmade, Held, Linked, Gone, Back, Destroyed, is_published, is_spent, IsChild, HasParent, Tree, WordAt, LockWords}
+use Rattle.congee.specs.Notes.{Note, Status, Unmade, Held, Linked, Gone, Back, Destroyed, is_published, is_spent, IsChild, HasParent, Tree, WordAt, LockWords}
 use Rattle.congee.specs.protocol.Protocol.{Fares, Effect}
 use Rattle.congee.proofs.lemmas.Fits.{both_true, same_test, other_test}
 use Rattle.congee.proofs.lemmas.Tree.{same_or_not, step_same}

@@ -12,13 +12,13 @@ use Rattle.congee.specs.declared.protocol.phase.Parent.{Parent}
 use Rattle.congee.specs.declared.protocol.phase.Phase.TheVariants as phase
 use Rattle.congee.specs.declared.protocol.phase.Phase.{Phase}
 use Rattle.congee.specs.declared.protocol.phase.Phase.TheVariants.{ChangeOne, UpgradeAbove, UpgradeBelow, ChangeTwo, Obsolete, Retire, UnlockBelow, Unlock, Unwind}
-use Rattle.congee.specs.declared.protocol.turn.Turn.{Turn}
+use Rattle.congee.specs.declared.protocol.turn.NextPhase.{NextPhase}
 use Rattle.congee.specs.declared.protocol.machine.Machine.{Machine}
 use Rattle.congee.specs.declared.protocol.run.Step.{Step}
 use Rattle.congee.specs.Heap.{Node, Below, Stands}
 use Rattle.congee.specs.protocol.Steps.{after_retire, PhaseStepped}
 use Rattle.congee.specs.Keys.{key_bytes}
-use Rattle.congee.specs.Ledger.{Note, Status, Unmade, Held, Linked, Gone, Back, Destroyed, is_published, is_spent, IsChild, HasParent, Tree, LockWords}
+use Rattle.congee.specs.Notes.{Note, Status, Unmade, Held, Linked, Gone, Back, Destroyed, is_published, is_spent, IsChild, HasParent, Tree, LockWords}
 use Rattle.congee.specs.protocol.Protocol.{Fares, TopLocked, AlsoOut, AlsoHolding, TakenOut, Known}
 use Rattle.congee.specs.protocol.Holdings.{IsMade, IsTop, LockedBy, MadeBy, TakenBy, Holdings}
 use Rattle.congee.specs.protocol.Handing.{is_waiting, Leads, InTree, AreOneOrTwo, HandsAt, IsLeaving, Leaving, TakesAt, Leaves, Due, Accounted, Unlinking, StepHands, StepTakes}
@@ -187,7 +187,7 @@ module _ {C V : Type 0} (number : C → ℕ) (same : V → V → Bool) (always :
     (pub_kept : (n : ℕ) → is_published (a n).status ≡ true → is_published (a' n).status ≡ true) (w' : LockWords a' h')
     (own_was : (n : ℕ) → (a n).owner ≡ Some i → LockedBy number m.phase n) (own_is : (n : ℕ) → (a' n).owner ≡ Some i → LockedBy number m'.phase n)
     (x : Known number same always i a h m.key (key_bytes m.key) m.kind m.given m.phase) (x' : Known number same always i a' h' m.key (key_bytes m.key) m.kind m'.given m'.phase)
-    (root : C) (fail : Bool) (answer : Option (Option V)) (d : Turn C V) (dm : d.phase ≡ m'.phase)
+    (root : C) (fail : Bool) (answer : Option (Option V)) (d : NextPhase C V) (dm : d.phase ≡ m'.phase)
     (g : PhaseStepped number same always most why root (key_bytes m.key) m.kind fail answer m.given m.phase h m'.given d h')
     (leaves : (c : ℕ) → IsLeaving m.phase c → IsLeaving m'.phase c) (hands : StepHands number h ms i h' (set ms i m')) where
   -- what the call has taken out after the step was taken out before, or in the tree
@@ -244,8 +244,8 @@ module _ {C V : Type 0} (number : C → ℕ) (same : V → V → Bool) (always :
     next_was (Some b) m p r (inr v) = absurd v
 
     by_phase : (s : Phase C V) → TakenBy number s n → PhaseStepped number same always most why root (key_bytes m.key) m.kind fail answer m.given s h m'.given d h' → TakenBy number d.phase c → TakenBy number s c
-    by_phase (Obsolete b next p r) y g v = let P : Turn C V → Type 0 = λ u. TakenBy number u.phase c in subst P g.2 v
-    by_phase (Retire b next p r) y g v = let P : Turn C V → Type 0 = λ u. TakenBy number u.phase c in next_was next b p r (subst P g.2 v)
+    by_phase (Obsolete b next p r) y g v = let P : NextPhase C V → Type 0 = λ u. TakenBy number u.phase c in subst P g.2 v
+    by_phase (Retire b next p r) y g v = let P : NextPhase C V → Type 0 = λ u. TakenBy number u.phase c in next_was next b p r (subst P g.2 v)
     by_phase _ y g v = absurd y
 
   -- one that is leaving, with none in its hands, takes out none
@@ -254,8 +254,8 @@ module _ {C V : Type 0} (number : C → ℕ) (same : V → V → Bool) (always :
     by_phase : (s : Phase C V) → IsLeaving s k → ((c : ℕ) → TakenBy number s c → ⊥) → PhaseStepped number same always most why root (key_bytes m.key) m.kind fail answer m.given s h m'.given d h' → TakenBy number d.phase n → ⊥
     by_phase (Obsolete b next p r) v empty g u = empty (number b) (inl refl)
     by_phase (Retire b next p r) v empty g u = empty (number b) (inl refl)
-    by_phase (Unlock b r) v empty g u = let P : Turn C V → Type 0 = λ y. TakenBy number y.phase n in subst P g.2 u
-    by_phase phase.Ended v empty g u = let P : Turn C V → Type 0 = λ y. TakenBy number y.phase n in subst P g.2 u
+    by_phase (Unlock b r) v empty g u = let P : NextPhase C V → Type 0 = λ y. TakenBy number y.phase n in subst P g.2 u
+    by_phase phase.Ended v empty g u = let P : NextPhase C V → Type 0 = λ y. TakenBy number y.phase n in subst P g.2 u
     by_phase _ v empty g u = v
 
   module _ (by took : ℕ → List ℕ) (l : Leaving by ms) (u : Due number by took ms) where

@@ -16,7 +16,7 @@ use Rattle.congee.specs.Heap.{Node, Hung, Nothing, Below, Holds, Stands, child_f
 use Rattle.congee.specs.protocol.Events.{MayChange, HoldsNodes, HoldsAlike, Parts}
 use Rattle.congee.specs.protocol.Steps.{value_hung, MayBackOne, MayBackTwo, MayBackLeaf, Changeable, Blank, MayTop, MayChangeOne, MayChangeTwo, MayStep}
 use Rattle.congee.specs.Keys.{key_bytes}
-use Rattle.congee.specs.Ledger.{Note, Linked, is_published, IsChild, Tree, LockWords}
+use Rattle.congee.specs.Notes.{Note, Linked, is_published, IsChild, Tree, LockWords}
 use Rattle.congee.specs.protocol.Protocol.{Made, Holding, MadeOne, MadeTwo, MadeLeafFor, FitsOne, FitsTwo, OneLocked, TwoLocked, TopLocked, HasTop, WantedTwo, PlacedTwo, Known}
 use Rattle.congee.proofs.lemmas.Fits.{equal, same_test}
 use Rattle.congee.proofs.lemmas.Graft.{on_test}

@@ -4,7 +4,7 @@ use Rattle.std.specs.Prelude.{None, Some}
 use Rattle.congee.specs.declared.forms.base_node.NodeType.{NodeType}
 use Rattle.congee.specs.Heap.{Node, Stands, walk, value_at, is_taken}
 use Rattle.congee.specs.protocol.Events.{SameBut, NewNode, BackGives, ObsoleteGives, RetireGives, UnlockGives}
-use Rattle.congee.specs.Ledger.{Note, Unmade, Held, Linked, Gone, Back, is_published, IsChild, HasParent, Tree, WordAt, LockWords}
+use Rattle.congee.specs.Notes.{Note, Unmade, Held, Linked, Gone, Back, is_published, IsChild, HasParent, Tree, WordAt, LockWords}
 use Rattle.congee.specs.protocol.Protocol.{Seated, Made, Holding, TakenOut, Fares, Effect}
 use Rattle.congee.proofs.lemmas.Fits.{both_true, equal}
 use Rattle.congee.proofs.lemmas.Tree.{step_same}

@@ -5,10 +5,10 @@ use Rattle.std.specs.Bool.{MatchBool}
 use Rattle.std.proofs.lemmas.Bool.{true≢false, eq-eqb, lt-ltb, ltb-true}
 use Rattle.std.proofs.lemmas.Bool.Decides.{nat_tests}
 use Rattle.std.proofs.lemmas.List.{nil_from_length}
-use Rattle.crossbeam_epoch.specs.declared.face.guard.Seat.{Seat}
+use Rattle.crossbeam_epoch.specs.declared.face.guard.Row.{Row}
 use Rattle.crossbeam_epoch.specs.declared.face.queue.Queued.{Queued}
 use Rattle.crossbeam_epoch.specs.declared.face.seats.View.{View}
-use Rattle.crossbeam_epoch.specs.declared.bag.Entry.{Entry}
+use Rattle.crossbeam_epoch.specs.declared.bag.Deferral.{Deferral}
 use Rattle.crossbeam_epoch.specs.Face.Handle.{owns, with_room, SealsUnder}
 use Rattle.crossbeam_epoch.specs.Face.Participant.{IsPinned}
 use Rattle.crossbeam_epoch.specs.Limits.{bag_places}
@@ -29,9 +29,9 @@ guarded n p a e s d v is = go (nat_lt 0 n) refl
     go false h = let i = rw h at is in rw h (ap (λ (w : View). w.at) i, ap (λ (w : View). w.pin) i)
 
 -- a handle owns a guard of its place, with one guard out or more
-pub owns_own : (n : ℕ) (mine guard : Seat) → guard ≡ mine → owns (n + 1) mine guard ≡ true
+pub owns_own : (n : ℕ) (mine guard : Row) → guard ≡ mine → owns (n + 1) mine guard ≡ true
 owns_own n mine guard is = let out = out_is (n + 1) (omega arith) in
-    rw (out, ap (λ (x : Seat). x.collector) is, ap (λ (x : Seat). x.place) is, eq-eqb mine.collector mine.collector refl, eq-eqb mine.place mine.place refl) refl
+    rw (out, ap (λ (x : Row). x.collector) is, ap (λ (x : Row). x.place) is, eq-eqb mine.collector mine.collector refl, eq-eqb mine.place mine.place refl) refl
 
 -- a scan changes nothing but what was seen and passed
 pub scanned_with : (n p a e s d x q : ℕ) (v w : View) → v ≡ with_guards n p a e s d → w ≡ record v { seen = x; passed = q } → w ≡ with_guards n p a e w.seen w.passed
@@ -96,18 +96,18 @@ pub some_job : (n : ℕ) (b : Bool) → b ≡ nat_eq n 0 → b ≡ false → 0 <
 some_job n b is none = let h : nat_eq n 0 ≡ false = sym is ∙ none in grind (arith, nat_tests, h)
 
 -- an empty bag holds none
-pub no_job : {J : Type 0} (bag : List (Entry J)) (b : Bool) → b ≡ nat_eq (length bag) 0 → b ≡ true → bag ≡ []
+pub no_job : {J : Type 0} (bag : List (Deferral J)) (b : Bool) → b ≡ nat_eq (length bag) 0 → b ≡ true → bag ≡ []
 no_job bag b is none = let h : nat_eq (length bag) 0 ≡ true = sym is ∙ none in nil_from_length bag (grind (arith, nat_tests, h))
 
 -- a bag that isn't full has a free place, and no other bag is made for it
-pub has_room : {J : Type 0} (bag : List (Entry J)) (b : Bool) → b ≡ nat_eq (length bag) bag_places → length bag ≤ bag_places → b ≡ false → (bag ≡ with_room bag) × (nat_le bag_places (length bag) ≡ false)
+pub has_room : {J : Type 0} (bag : List (Deferral J)) (b : Bool) → b ≡ nat_eq (length bag) bag_places → length bag ≤ bag_places → b ≡ false → (bag ≡ with_room bag) × (nat_le bag_places (length bag) ≡ false)
 has_room bag b is fits free =
     let h : nat_eq (length bag) bag_places ≡ false = sym is ∙ free in
     let x : nat_lt (length bag) bag_places ≡ true = grind (arith, nat_tests, h, fits) in
     let y : nat_le bag_places (length bag) ≡ false = grind (arith, nat_tests, h, fits) in
     (rw x refl, y)
 
-pub has_no_room : {J : Type 0} (bag : List (Entry J)) (b : Bool) → b ≡ nat_eq (length bag) bag_places → b ≡ true → (bag_places ≤ length bag) × ([] ≡ with_room bag)
+pub has_no_room : {J : Type 0} (bag : List (Deferral J)) (b : Bool) → b ≡ nat_eq (length bag) bag_places → b ≡ true → (bag_places ≤ length bag) × ([] ≡ with_room bag)
 has_no_room bag b is full =
     let h : nat_eq (length bag) bag_places ≡ true = sym is ∙ full in
     let low : bag_places ≤ length bag = grind (arith, nat_tests, h) in
@@ -129,12 +129,12 @@ pub other_guard : (b : Bool) (A B : Type 0) → b ≡ false → B → MatchBool 
 other_guard b A B other x = rw other x
 
 -- a guard of a handle is still its own where the handle has the seat and the number of guards that it had
-pub still_own : (n m : ℕ) (mine was guard : Seat) → n ≡ m → mine ≡ was → owns m was guard ≡ true → owns n mine guard ≡ false → ⊥
-still_own n m mine was guard same place own other = true≢false (sym own ∙ sym (ap (λ (k : ℕ). owns k was guard) same) ∙ sym (ap (λ (x : Seat). owns n x guard) place) ∙ other)
+pub still_own : (n m : ℕ) (mine was guard : Row) → n ≡ m → mine ≡ was → owns m was guard ≡ true → owns n mine guard ≡ false → ⊥
+still_own n m mine was guard same place own other = true≢false (sym own ∙ sym (ap (λ (k : ℕ). owns k was guard) same) ∙ sym (ap (λ (x : Row). owns n x guard) place) ∙ other)
 
 -- the bag that has a free place has one
-pub with_place : {J : Type 0} (b w : List (Entry J)) → w ≡ with_room b → length w < bag_places
-with_place {J} b w is = subst (λ (x : List (Entry J)). length x < bag_places) (sym is) (go (nat_lt (length b) bag_places) refl)
+pub with_place : {J : Type 0} (b w : List (Deferral J)) → w ≡ with_room b → length w < bag_places
+with_place {J} b w is = subst (λ (x : List (Deferral J)). length x < bag_places) (sym is) (go (nat_lt (length b) bag_places) refl)
   where
     go : (c : Bool) → nat_lt (length b) bag_places ≡ c → length (with_room b) < bag_places
     go true h = rw h (ltb-true (length b) bag_places h)

@@ -5,7 +5,7 @@ use Rattle.std.specs.List.{sum_by}
 use Rattle.std.proofs.lemmas.Bool.{cases_lt}
 use Rattle.std.proofs.lemmas.Bool.Decides.{nat_tests}
 use Rattle.std.proofs.lemmas.List.{set-get_or, get_or_past, set_past, length-replicate, get_or-replicate, take_more, length-take-le}
-use Rattle.crossbeam_epoch.specs.declared.bag.Entry.{Entry}
+use Rattle.crossbeam_epoch.specs.declared.bag.Deferral.{Deferral}
 use Rattle.crossbeam_epoch.specs.declared.bag.Work.{Work}
 use Rattle.crossbeam_epoch.specs.declared.limits.Limits.{Limits}
 use Rattle.crossbeam_epoch.specs.declared.names.Name.{Name}
@@ -60,12 +60,12 @@ no_destroy_fault true x e = e
 no_destroy_fault false x e = absurd (cc e)
 
 module _ {J : Type 0} where
-  no_items : (xs : List (Entry J)) → (length xs == 0) ≡ true → xs ≡ []
+  no_items : (xs : List (Deferral J)) → (length xs == 0) ≡ true → xs ≡ []
   no_items [] e = refl
   no_items (x ∷ xs) e = absurd (grind (arith, nat_tests))
 
   -- a call that may find no memory has no job in hand
-  empty_hand : (event : Event) (phase : Phase) (hand : List (Entry J)) → needs_memory event phase ≡ true → HandFits phase hand → hand ≡ []
+  empty_hand : (event : Event) (phase : Phase) (hand : List (Deferral J)) → needs_memory event phase ≡ true → HandFits phase hand → hand ≡ []
   empty_hand (Begin op) phase hand e fits = absurd (cc e)
   empty_hand Go (Queue seal) hand e fits = fits
   empty_hand Go (ReleaseQueue seal) hand e fits = fits
@@ -109,7 +109,7 @@ module _ {J : Type 0} where
   pub blank_at : (n q : ℕ) → get_or (replicate n (blank {J = J})) q blank ≡ blank
   blank_at n q = elim (cases_lt q n) [ inl lt ↦ get_or-replicate n q blank blank lt | inr ge ↦ get_or_past (replicate n blank) q blank (rw length-replicate ge) ]
 
-  pub blanks_weigh_none : (w : Entry J → ℕ) (n : ℕ) → sum_by (at_place w) (replicate n blank) ≡ 0
+  pub blanks_weigh_none : (w : Deferral J → ℕ) (n : ℕ) → sum_by (at_place w) (replicate n blank) ≡ 0
   blanks_weigh_none w zero = refl
   blanks_weigh_none w (suc n) = blanks_weigh_none w n
 

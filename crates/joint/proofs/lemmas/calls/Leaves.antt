@@ -10,11 +10,11 @@ use Rattle.congee.specs.declared.protocol.machine.Move.{Move}
 use Rattle.congee.specs.declared.protocol.phase.Phase.{Phase}
 use Rattle.congee.specs.declared.protocol.phase.Phase.TheVariants.{Obsolete, Retire}
 use Rattle.congee.specs.declared.protocol.run.Step.{Step as Turn}
-use Rattle.congee.specs.declared.protocol.turn.Turn.{Turn as Said}
+use Rattle.congee.specs.declared.protocol.turn.NextPhase.{NextPhase as Said}
 use Rattle.judge.specs.declared.journal.Reply.{Reply}
 use Rattle.congee.specs.Heap.{Node, Below}
 use Rattle.congee.specs.Keys.{key_bytes}
-use Rattle.congee.specs.Ledger.{Note, Linked, Gone, is_published}
+use Rattle.congee.specs.Notes.{Note, Linked, Gone, is_published}
 use Rattle.congee.specs.protocol.Answers.{Keeps}
 use Rattle.congee.specs.protocol.Events.{SameBut}
 use Rattle.congee.specs.protocol.Handing.{Leads, InTree, IsOut, is_waiting, AreOneOrTwo, Due, Leaving, HandsAt, TakesAt, TakesNodes}

@@ -20,7 +20,7 @@ use Rattle.congee.specs.declared.forms.base_node.NodeType.{NodeType}
 use Rattle.congee.specs.declared.protocol.op.Op.{Op as Point}
 use Rattle.congee.specs.declared.protocol.op.Op.TheVariants as point
 use Rattle.congee.specs.declared.protocol.store.Refusal.{Refusal as Cause}
-use Rattle.congee.specs.declared.protocol.turn.Turn.{Turn as Said}
+use Rattle.congee.specs.declared.protocol.turn.NextPhase.{NextPhase as Said}
 use Rattle.congee.specs.protocol.Steps.{PhaseStepped, after_retire}
 use Rattle.congee.specs.Keys.{key_bytes}
 use Rattle.congee.specs.declared.protocol.phase.Kind.{Kind}

@@ -18,10 +18,10 @@ use Rattle.congee.specs.declared.protocol.phase.Phase.{Phase}
 use Rattle.congee.specs.declared.protocol.phase.Phase.TheVariants.{Obsolete, Retire, UnlockBelow, Unlock}
 use Rattle.congee.specs.declared.protocol.run.Step.{Step as Turn}
 use Rattle.congee.specs.declared.protocol.store.Refusal.{Refusal as Cause}
-use Rattle.congee.specs.declared.protocol.turn.Turn.{Turn as Said}
+use Rattle.congee.specs.declared.protocol.turn.NextPhase.{NextPhase as Said}
 use Rattle.congee.specs.Heap.{Node}
 use Rattle.congee.specs.Keys.{key_bytes}
-use Rattle.congee.specs.Ledger.{Linked}
+use Rattle.congee.specs.Notes.{Linked}
 use Rattle.congee.specs.protocol.Destroys.{Destroys}
 use Rattle.congee.specs.protocol.Handing.{InTree, is_waiting}
 use Rattle.congee.specs.protocol.Holdings.{TakenBy}

@@ -33,8 +33,8 @@ use Rattle.congee.specs.declared.protocol.store.Reading.{Reading}
 use Rattle.congee.specs.declared.protocol.store.Reading.TheVariants.{Differs, Fits, Uncopied}
 use Rattle.congee.specs.declared.protocol.store.Refusal.{Refusal as Cause}
 use Rattle.congee.specs.declared.protocol.store.Refusal.TheVariants as cause
-use Rattle.congee.specs.declared.protocol.store.Seat.{Seat}
-use Rattle.congee.specs.declared.protocol.turn.Turn.{Turn}
+use Rattle.congee.specs.declared.protocol.store.Stamp.{Stamp}
+use Rattle.congee.specs.declared.protocol.turn.NextPhase.{NextPhase}
 use Rattle.congee.specs.Heap.{Node}
 use Rattle.congee.specs.Keys.{key_bytes}
 use Rattle.congee.specs.protocol.Causes.{Causes, IsCause}
@@ -98,13 +98,13 @@ version_reads V r above n (Some v) = tt
 
 -- a reading call stays one, and is refused as Count alone
 module _ {V : Type 0} where
-  at_again : (r : Id) (t : Turn Id V) → t ≡ again r → Reads t.phase
-  at_again r t e = let P : Turn Id V → Type 0 = λ y. Reads y.phase in subst P (sym e) tt
+  at_again : (r : Id) (t : NextPhase Id V) → t ≡ again r → Reads t.phase
+  at_again r t e = let P : NextPhase Id V → Type 0 = λ y. Reads y.phase in subst P (sym e) tt
 
-  at_answer : (r : Reply V) (t : Turn Id V) → t ≡ answered r → Reads t.phase
-  at_answer r t e = let P : Turn Id V → Type 0 = λ y. Reads y.phase in subst P (sym e) tt
+  at_answer : (r : Reply V) (t : NextPhase Id V) → t ≡ answered r → Reads t.phase
+  at_answer r t e = let P : NextPhase Id V → Type 0 = λ y. Reads y.phase in subst P (sym e) tt
 
-  read_reads : (r : Id) (above : Option (Over Id)) (at : Seat Id) (x : Reading Id V) → Reads {V = V} (after_read r above at x).phase
+  read_reads : (r : Id) (above : Option (Over Id)) (at : Stamp Id) (x : Reading Id V) → Reads {V = V} (after_read r above at x).phase
   read_reads r None at (Differs common byte) = tt
   read_reads r (Some p) at (Differs common byte) = tt
   read_reads r None at (Fits depth form s) = tt
@@ -112,25 +112,25 @@ module _ {V : Type 0} where
   read_reads r None at Uncopied = tt
   read_reads r (Some p) at Uncopied = tt
 
-  checked_reads : (same : V → V → Bool) (always : Bool) (new : Option V) (s : Site Id) (c : Child Id V) (t : Turn Id V) → IsChecked always same kind.Get new s c t → Reads t.phase
-  checked_reads same always new s child.Blank t x = let P : Turn Id V → Type 0 = λ y. Reads y.phase in subst P (sym x) tt
-  checked_reads same always new s (child.Node c) t x = let P : Turn Id V → Type 0 = λ y. Reads y.phase in subst P (sym x) tt
-  checked_reads same always new s (child.Value v) t x = let P : Turn Id V → Type 0 = λ y. Reads y.phase in subst P (sym x) tt
+  checked_reads : (same : V → V → Bool) (always : Bool) (new : Option V) (s : Site Id) (c : Child Id V) (t : NextPhase Id V) → IsChecked always same kind.Get new s c t → Reads t.phase
+  checked_reads same always new s child.Blank t x = let P : NextPhase Id V → Type 0 = λ y. Reads y.phase in subst P (sym x) tt
+  checked_reads same always new s (child.Node c) t x = let P : NextPhase Id V → Type 0 = λ y. Reads y.phase in subst P (sym x) tt
+  checked_reads same always new s (child.Value v) t x = let P : NextPhase Id V → Type 0 = λ y. Reads y.phase in subst P (sym x) tt
 
-  if_reads : (b : Bool) (r : Id) (Then : Turn Id V → Type 0) (t : Turn Id V) → (Then t → Reads t.phase) → IsIf b r Then t → Reads t.phase
+  if_reads : (b : Bool) (r : Id) (Then : NextPhase Id V → Type 0) (t : NextPhase Id V) → (Then t → Reads t.phase) → IsIf b r Then t → Reads t.phase
   if_reads true r Then t f x = f (x.0 refl)
   if_reads false r Then t f x = at_again r t (x.1 refl)
 
-  phase_reads : (same : V → V → Bool) (always : Bool) (most : ℕ) (why : NodeType → Cause → Type 0) (r : Id) (key : List ℕ) (fail : Bool) (answer : Option (Option V)) (new : Option V) (p : Phase Id V) (h : ℕ → Node V) (new' : Option V) (t : Turn Id V) (h' : ℕ → Node V)
+  phase_reads : (same : V → V → Bool) (always : Bool) (most : ℕ) (why : NodeType → Cause → Type 0) (r : Id) (key : List ℕ) (fail : Bool) (answer : Option (Option V)) (new : Option V) (p : Phase Id V) (h : ℕ → Node V) (new' : Option V) (t : NextPhase Id V) (h' : ℕ → Node V)
       → Reads p → PhaseStepped id_number same always most why r key kind.Get fail answer new p h new' t h' → Reads t.phase
-  phase_reads same always most why r key fail answer new New h new' t h' u x = let P : Turn Id V → Type 0 = λ y. Reads y.phase in subst P (sym x.2) (version_reads V r None r _)
-  phase_reads same always most why r key fail answer new (Version above n) h new' t h' u x = let P : Turn Id V → Type 0 = λ y. Reads y.phase in subst P (sym x.2) (version_reads V r above n _)
-  phase_reads same always most why r key fail answer new (Read above at) h new' t h' u x = let P : Turn Id V → Type 0 = λ y. Reads y.phase in subst P (sym x.2.2) (read_reads r above at x.2.0)
+  phase_reads same always most why r key fail answer new New h new' t h' u x = let P : NextPhase Id V → Type 0 = λ y. Reads y.phase in subst P (sym x.2) (version_reads V r None r _)
+  phase_reads same always most why r key fail answer new (Version above n) h new' t h' u x = let P : NextPhase Id V → Type 0 = λ y. Reads y.phase in subst P (sym x.2) (version_reads V r above n _)
+  phase_reads same always most why r key fail answer new (Read above at) h new' t h' u x = let P : NextPhase Id V → Type 0 = λ y. Reads y.phase in subst P (sym x.2.2) (read_reads r above at x.2.0)
   phase_reads same always most why r key fail answer new (Check s c) h new' t h' u x = if_reads _ r (IsChecked {C = Id} {V = V} always same kind.Get new s c) t (checked_reads same always new s c t) x.2
-  phase_reads same always most why r key fail answer new (CheckUncopied at) h new' t h' u x = if_reads _ r (λ (y : Turn Id V). y ≡ refused cause.Count) t (λ e. let P : Turn Id V → Type 0 = λ y. Reads y.phase in subst P (sym e) tt) x.2
-  phase_reads same always most why r key fail answer new (CheckMiss p at common byte) h new' t h' u x = if_reads _ r (λ (y : Turn Id V). y ≡ after_miss kind.Get p at common byte) t (λ e. let P : Turn Id V → Type 0 = λ y. Reads y.phase in subst P (sym e) tt) x.2
-  phase_reads same always most why r key fail answer new (Sweep s) h new' t h' u x = let P : Turn Id V → Type 0 = λ y. Reads y.phase in subst P (sym x.2.3) tt
-  phase_reads same always most why r key fail answer new Ended h new' t h' u x = let P : Turn Id V → Type 0 = λ y. Reads y.phase in subst P (sym x.2) tt
+  phase_reads same always most why r key fail answer new (CheckUncopied at) h new' t h' u x = if_reads _ r (λ (y : NextPhase Id V). y ≡ refused cause.Count) t (λ e. let P : NextPhase Id V → Type 0 = λ y. Reads y.phase in subst P (sym e) tt) x.2
+  phase_reads same always most why r key fail answer new (CheckMiss p at common byte) h new' t h' u x = if_reads _ r (λ (y : NextPhase Id V). y ≡ after_miss kind.Get p at common byte) t (λ e. let P : NextPhase Id V → Type 0 = λ y. Reads y.phase in subst P (sym e) tt) x.2
+  phase_reads same always most why r key fail answer new (Sweep s) h new' t h' u x = let P : NextPhase Id V → Type 0 = λ y. Reads y.phase in subst P (sym x.2.3) tt
+  phase_reads same always most why r key fail answer new Ended h new' t h' u x = let P : NextPhase Id V → Type 0 = λ y. Reads y.phase in subst P (sym x.2) tt
   phase_reads same always most why r key fail answer new _ h new' t h' u x = absurd u
 
   cause_count : (always : Bool) (most : ℕ) (why : NodeType → Cause → Type 0) (p : Phase Id V) (e : Cause) → Reads p → Causes why most always p e → e ≡ cause.Count

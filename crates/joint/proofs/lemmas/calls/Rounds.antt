@@ -8,7 +8,7 @@ use Rattle.std.proofs.lemmas.Bool.{cases_lt}
 use Rattle.std.proofs.lemmas.List.{set-set}
 use Rattle.std.proofs.lemmas.List.Sums.{sum_by-cons}
 use Rattle.std.proofs.lemmas.Option.{slice_get_within}
-use Rattle.crossbeam_epoch.specs.declared.bag.Entry.{Entry}
+use Rattle.crossbeam_epoch.specs.declared.bag.Deferral.{Deferral}
 use Rattle.crossbeam_epoch.specs.declared.bag.Sealed.{Sealed}
 use Rattle.crossbeam_epoch.specs.declared.bag.Work.{Work}
 use Rattle.crossbeam_epoch.specs.declared.bag.Work.TheVariants.{Blank, Remove, Run}
@@ -27,7 +27,7 @@ use Rattle.crossbeam_epoch.specs.World.Calls.{IsCall, IsGoing}
 use Rattle.crossbeam_epoch.specs.World.Fits.{at_place, in_bag, job_count, weight}
 use Rattle.crossbeam_epoch.specs.World.Machine.{State, blank, place, name_of}
 use Rattle.crossbeam_epoch.specs.World.Progress.{Orderly}
-use Rattle.crossbeam_epoch.specs.World.Reach.{Moment, Tells}
+use Rattle.crossbeam_epoch.specs.World.Reach.{Moment, HasMoments}
 use Rattle.crossbeam_epoch.specs.World.Rounds as collector
 use Rattle.crossbeam_epoch.specs.World.Sealing.{IsSealing, bit, is_name, counts_name}
 use Rattle.crossbeam_epoch.specs.World.Steps.{IsReport, after}
@@ -83,8 +83,8 @@ pub record RoundLaws {T : Type 0} (J : Type 0) (names : T → List Name) : Type 
   pub more : (s now new : State T J) (who : ℕ) (op : Turning) (n : ℕ) (newest : Option Collection) (event : Turn) (r : Collection) → IsGoing s who op n newest event now → IsReport now who event r → new ≡ after now who event r.outcome → r.outcome ≡ turned.Running → IsGoing s who op (n + 1) (Some r) turn.Go new
   pub ends : (s now new : State T J) (who : ℕ) (op : Turning) (n most : ℕ) (newest : Option Collection) (event : Turn) (r : Collection) → n < most → IsGoing s who op n newest event now → IsReport now who event r → new ≡ after now who event r.outcome → (r.outcome ≡ turned.Running → ⊥)
       → (reports : List Collection) × IsCall s who op most reports (Some r) new
-  pub bags : (h : List Moment) (s s' : State T J) (who : ℕ) → Tells names h s → Orderly s → IsSealing s → collector.IsQuiet s → (r : collector.IsRound s who s') → length r.flushed.queue ≤ job_count s
-  pub empties : (h : List Moment) (s s1 s' : State T J) (who n : ℕ) → Tells names h s → Orderly s → IsSealing s → s.limits.expiry ≡ 2 → collector.IsQuiet s → (r : collector.IsRound s who s1) → collector.AreRounds s1 who n s'
+  pub bags : (h : List Moment) (s s' : State T J) (who : ℕ) → HasMoments names h s → Orderly s → IsSealing s → collector.IsQuiet s → (r : collector.IsRound s who s') → length r.flushed.queue ≤ job_count s
+  pub empties : (h : List Moment) (s s1 s' : State T J) (who n : ℕ) → HasMoments names h s → Orderly s → IsSealing s → s.limits.expiry ≡ 2 → collector.IsQuiet s → (r : collector.IsRound s who s1) → collector.AreRounds s1 who n s'
       → 1 + div_ceil (length r.flushed.queue) 8 ≤ n → collector.IsEmptied s who s'
 
 -- a call that isn't refused
@@ -328,7 +328,7 @@ retired_waits x r s = let m : x.made ≡ true = s.made in let k : x.destroyed �
 module _ {V : Type 0} (same : V → V → Bool) (always : Bool) (calls : CallLaws {C = Id} {V = V} id_number same always) (laws : RoundLaws {T = Slot V} (Unit {0}) slot_names) where
   -- where a removal stands that is in no queued bag and in no hand
   in_other_bag : (s s' : World V) (who : ℕ) → Holds same always s' → collector.IsEmptied s.forest.collector who s'.forest.collector → (n : Name) → 1 ≤ weight (removes n) s'.forest.collector
-      → (q : ℕ) × (q ≢ who) × ((place_of s' q).registered ≡ true) × ((e : Entry (Unit {0})) × Contains (place_of s' q).bag e × (e.work ≡ Remove n))
+      → (q : ℕ) × (q ≢ who) × ((place_of s' q).registered ≡ true) × ((e : Deferral (Unit {0})) × Contains (place_of s' q).bag e × (e.work ≡ Remove n))
   in_other_bag s s' who h x n some =
       let c = s'.forest.collector in
       let none = no_jobs (in_bag (removes n)) c.queue x.queue in

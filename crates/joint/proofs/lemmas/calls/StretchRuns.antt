@@ -29,7 +29,7 @@ use Rattle.congee.specs.declared.protocol.phase.Phase.{Phase}
 use Rattle.congee.specs.declared.protocol.phase.Phase.TheVariants.{Retire}
 use Rattle.congee.specs.declared.protocol.run.Step.{Step as Turn}
 use Rattle.congee.specs.Heap.{Stands}
-use Rattle.congee.specs.Ledger.{Held, Linked, is_published}
+use Rattle.congee.specs.Notes.{Held, Linked, is_published}
 use Rattle.congee.specs.protocol.Answers.{Keeps}
 use Rattle.congee.specs.protocol.Names.{names}
 use Rattle.std.specs.List.{Contains}

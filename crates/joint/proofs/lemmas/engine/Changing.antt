@@ -11,7 +11,7 @@ use Rattle.judge.specs.declared.journal.Reply.TheVariants as reply
 use Rattle.judge.specs.Answer.{Pairs, leaves, reply_on, set_at}
 use Rattle.judge.proofs.Maps.{get-set_at_here, get-set_at_apart}
 use Rattle.congee.specs.declared.protocol.phase.Kind.{Kind}
-use Rattle.congee.specs.declared.protocol.turn.Turn.{Turn}
+use Rattle.congee.specs.declared.protocol.turn.NextPhase.{NextPhase}
 use Rattle.congee.specs.Heap.{Node}
 use Rattle.congee.specs.Keys.{IsMapOf}
 use Rattle.congee.specs.protocol.Answers.{AnswersIf, Decides, told}
@@ -104,7 +104,7 @@ module _ {V : Type 0} (same : V → V → Bool) (k : ℕ) (kind : Kind V) (given
       }
 
   -- a step changes the number by what its reply tells, where it decides
-  pub answered : (t : Turn Id V) (b : Bool) → AnswersIf b same k kind given h t h' → Counts m (if b then effect_by (told t) else Same) h'
+  pub answered : (t : NextPhase Id V) (b : Bool) → AnswersIf b same k kind given h t h' → Counts m (if b then effect_by (told t) else Same) h'
   answered t true x =
       let P : Option (Reply V) → Type 0 = λ o. Counts m (effect_by o) h' in
       subst P (sym x.1) (decided x.0 x.2)

@@ -10,13 +10,13 @@ use Rattle.crossbeam_epoch.specs.declared.world.participant.Participant.{Partici
 use Rattle.crossbeam_epoch.specs.World.Machine.{State, place}
 use Rattle.crossbeam_epoch.specs.World.History.{began, WasDeferred}
 use Rattle.crossbeam_epoch.specs.World.Progress.{Moves, Empties, EmptiesAt}
-use Rattle.crossbeam_epoch.specs.World.Reach.{Act, GivenBack, Moment, marks_of, InReach, IsIn, IsBy, WasIn, Visible, IsCareful, links_of, links_in, moment, Tells}
+use Rattle.crossbeam_epoch.specs.World.Reach.{Act, GivenBack, Moment, marks_of, InReach, IsIn, IsBy, WasIn, Visible, IsCareful, links_of, links_in, moment, HasMoments}
 use Rattle.crossbeam_epoch.specs.World.Store.{Store, Sets, value_at, was_given, emptied}
 use Rattle.congee.specs.declared.protocol.machine.Machine.{Machine}
 use Rattle.congee.specs.declared.protocol.phase.Phase.TheVariants.{Ended}
 use Rattle.congee.specs.Heap.{Node, Stands}
 use Rattle.congee.specs.protocol.Handing.{InTree}
-use Rattle.congee.specs.Ledger.{Note, Linked}
+use Rattle.congee.specs.Notes.{Note, Linked}
 use Rattle.congee.specs.protocol.Names.{names}
 use Rattle.congee.specs.protocol.Answers.{SameMap}
 use Rattle.congee.specs.protocol.Play.{Settled}
@@ -40,7 +40,7 @@ is_none_false v e = ap is_some e
 
 module _ {T J C V : Type 0} (tnames : T → List Name) (view : Bool → Option T → Node V) (ok : IsView tnames view) (num : C → ℕ) (same : V → V → Bool) (always : Bool) (cells : CellLaws J tnames) (calls : CallLaws {C = C} num same always) (top : Name)
     (past : List Moment) (s : State T J) (ms : List (Machine C V)) (sound : Sound tnames view num same always top past s ms)
-    (who : ℕ) (a : Act) (s' : State T J) (by : IsBy who a) (told : Tells tnames (moment tnames a s' ∷ past) s')
+    (who : ℕ) (a : Act) (s' : State T J) (by : IsBy who a) (told : HasMoments tnames (moment tnames a s' ∷ past) s')
     (job : Option (ℕ × Option Name)) (moves : Moves s who job s')
     (rests : (m : Machine C V) → slice_get ms who ≡ Some m → m.phase ≡ Ended) where
   abbrev now : Moment

@@ -28,10 +28,10 @@ use Rattle.congee.specs.declared.protocol.store.Reading.{Reading}
 use Rattle.congee.specs.declared.protocol.store.Reading.TheVariants.{Differs, Fits, Uncopied}
 use Rattle.congee.specs.declared.protocol.store.Refusal.{Refusal}
 use Rattle.congee.specs.declared.protocol.store.Refusal.TheVariants as refusal
-use Rattle.congee.specs.declared.protocol.store.Seat.{Seat}
+use Rattle.congee.specs.declared.protocol.store.Stamp.{Stamp}
 use Rattle.congee.specs.declared.protocol.store.Upgrade.{Upgrade}
 use Rattle.congee.specs.declared.protocol.store.Upgrade.TheVariants.{Locked, Failed, Exhausted}
-use Rattle.congee.specs.declared.protocol.turn.Turn.{Turn}
+use Rattle.congee.specs.declared.protocol.turn.NextPhase.{NextPhase}
 use Rattle.congee.specs.Heap.{Node, is_taken}
 use Rattle.congee.specs.protocol.Steps.{quiet, again, answered, refused, adds, asks_new, absent_reply, after_version, after_read, down, started, ready, unless_full, missing, absent, CopyFailed, IsAsked, replaced, last_out, taken_out, shrinks, IsAtOld, IsAdded, IsExchanged, IsCompared, IsPresent, IsChecked, IsIf, after_miss, IsGiven, IsGivenNew, MadeLeaf, MadeGreater, MadeTop, MadeBeside, MadeLesser, IsCheckedAbove, UpgradedOne, UpgradedTop, UpgradedAbove, UpgradedBelow, after_change, after_top, after_retire, after_unwind, given_up, unwound, PhaseStepped, Stepped}
 use Rattle.joint.specs.declared.id.Id.{Id}
@@ -53,7 +53,7 @@ goes (Scanned count) = false
 goes (Refused cause) = false
 
 -- what a step leaves has ended where its report says so, and is no scan
-abbrev Tells : {V : Type 0} → Turn Id V → Type 0
+abbrev Tells : {V : Type 0} → NextPhase Id V → Type 0
 Tells t = (is_over t.phase ≡ not (goes t.report.outcome)) × IsOnKey t.phase
 
 version : (V : Type 0) (root : Id) (above : Option (Over Id)) (n : Id) (o : Option ℕ) → Tells (after_version {V = V} root above n o)
@@ -78,21 +78,21 @@ going_back V root None e = unwinding V root e
 going_back V root (Some n) e = (refl, tt)
 
 module _ {V : Type 0} where
-  by : (t u : Turn Id V) → t ≡ u → Tells u → Tells t
-  by t u e x = let P : Turn Id V → Type 0 = λ y. Tells y in subst P (sym e) x
+  by : (t u : NextPhase Id V) → t ≡ u → Tells u → Tells t
+  by t u e x = let P : NextPhase Id V → Type 0 = λ y. Tells y in subst P (sym e) x
 
-  by_cond : (b : Bool) (t u : Turn Id V) → Tells t → Tells u → Tells (cond b t u)
+  by_cond : (b : Bool) (t u : NextPhase Id V) → Tells t → Tells u → Tells (cond b t u)
   by_cond true t u x y = x
   by_cond false t u x y = y
 
-  by_if : (b : Bool) (root : Id) (Then : Turn Id V → Type 0) (t : Turn Id V) → (Then t → Tells t) → IsIf b root Then t → Tells t
+  by_if : (b : Bool) (root : Id) (Then : NextPhase Id V → Type 0) (t : NextPhase Id V) → (Then t → Tells t) → IsIf b root Then t → Tells t
   by_if true root Then t f x = f (x.0 refl)
   by_if false root Then t f x = by t (again root) (x.1 refl) (refl, tt)
 
-  by_same : (b : Bool) (root : Id) (v t : Turn Id V) → Tells v → IsIf b root (λ u. u ≡ v) t → Tells t
+  by_same : (b : Bool) (root : Id) (v t : NextPhase Id V) → Tells v → IsIf b root (λ u. u ≡ v) t → Tells t
   by_same b root v t h x = by_if b root (λ u. u ≡ v) t (λ e. by t v e h) x
 
-  reading : (root : Id) (above : Option (Over Id)) (at : Seat Id) (r : Reading Id V) → Tells (after_read root above at r)
+  reading : (root : Id) (above : Option (Over Id)) (at : Stamp Id) (r : Reading Id V) → Tells (after_read root above at r)
   reading root None at (Differs common byte) = (refl, tt)
   reading root (Some p) at (Differs common byte) = (refl, tt)
   reading root above at (Fits depth form s) = (refl, tt)
@@ -114,10 +114,10 @@ module _ {V : Type 0} where
   lacking : (kind : Kind V) (s : Site Id) → Tells (absent kind s)
   lacking kind s = by_cond (adds kind) (missing kind s) (answered (absent_reply kind)) (by_cond (s.depth == 7) (unless_full kind s s.full s.above None Set) (quiet (MakeLeaf s)) (filling kind s s.full s.above None Set) (refl, tt)) (refl, tt)
 
-  uncopied : (always : Bool) (t : Turn Id V) → CopyFailed always t → Tells t
+  uncopied : (always : Bool) (t : NextPhase Id V) → CopyFailed always t → Tells t
   uncopied always t x = by t _ x.1 (refl, tt)
 
-  asked : (always : Bool) (s : Site Id) (v : V) (t : Turn Id V) → IsAsked always s v t → Tells t
+  asked : (always : Bool) (s : Site Id) (v : V) (t : NextPhase Id V) → IsAsked always s v t → Tells t
   asked always s v t (inl e) = by t _ e (refl, tt)
   asked always s v t (inr f) = uncopied always t f
 
@@ -132,24 +132,24 @@ module _ {V : Type 0} where
   taking s None r = (refl, tt)
   taking s (Some u) r = by_cond (s.count == 1) _ _ (last_taking s u.near u.far r) (by_cond (shrinks s.form s.count) _ _ (refl, tt) (refl, tt))
 
-  at_old : (always : Bool) (same : V → V → Bool) (kind : Kind V) (new : Option V) (s : Site Id) (v : V) (t : Turn Id V) → IsAtOld always same kind new s v t → Tells t
+  at_old : (always : Bool) (same : V → V → Bool) (kind : Kind V) (new : Option V) (s : Site Id) (v : V) (t : NextPhase Id V) → IsAtOld always same kind new s v t → Tells t
   at_old always same Insert new s v t x = by t _ x (replacing s _ _)
   at_old always same _ new s v t x = asked always s v t x
 
-  adding : (always : Bool) (same : V → V → Bool) (kind : Kind V) (new : Option V) (s : Site Id) (above : Option (Over Id)) (v : V) (t : Turn Id V) → IsAdded always same kind new s above v t → Tells t
+  adding : (always : Bool) (same : V → V → Bool) (kind : Kind V) (new : Option V) (s : Site Id) (above : Option (Over Id)) (v : V) (t : NextPhase Id V) → IsAdded always same kind new s above v t → Tells t
   adding always same kind new s None v t x = at_old always same kind new s v t x
   adding always same kind new s (Some p) v t x = by t _ x (refl, tt)
 
-  exchanging : (always : Bool) (same : V → V → Bool) (new : Option V) (s : Site Id) (v : V) (t : Turn Id V) → IsExchanged always same new s v t → Tells t
+  exchanging : (always : Bool) (same : V → V → Bool) (new : Option V) (s : Site Id) (v : V) (t : NextPhase Id V) → IsExchanged always same new s v t → Tells t
   exchanging always same None s v t x = by t _ x (taking s _ _)
   exchanging always same (Some w) s v t (inl x) = by t _ x (replacing s _ _)
   exchanging always same (Some w) s v t (inr f) = uncopied always t f
 
-  comparing : (found always : Bool) (same : V → V → Bool) (new : Option V) (s : Site Id) (v : V) (t : Turn Id V) → IsCompared found always same new s v t → Tells t
+  comparing : (found always : Bool) (same : V → V → Bool) (new : Option V) (s : Site Id) (v : V) (t : NextPhase Id V) → IsCompared found always same new s v t → Tells t
   comparing true always same new s v t x = exchanging always same new s v t (x.0 refl)
   comparing false always same new s v t x = by t _ (x.1 refl) (refl, tt)
 
-  present : (always : Bool) (same : V → V → Bool) (kind : Kind V) (new : Option V) (s : Site Id) (v : V) (t : Turn Id V) → IsPresent always same kind new s v t → Tells t
+  present : (always : Bool) (same : V → V → Bool) (kind : Kind V) (new : Option V) (s : Site Id) (v : V) (t : NextPhase Id V) → IsPresent always same kind new s v t → Tells t
   present always same Get new s v t x = by t _ x (refl, tt)
   present always same Insert new s v t x = adding always same Insert new s s.above v t x
   present always same Remove new s v t x = by t _ x (taking s _ _)
@@ -157,12 +157,12 @@ module _ {V : Type 0} where
   present always same ComputeInsert new s v t x = adding always same ComputeInsert new s s.above v t x
   present always same (Exchange old) new s v t x = comparing (same v old) always same new s v t x
 
-  checked : (always : Bool) (same : V → V → Bool) (kind : Kind V) (new : Option V) (s : Site Id) (c : Child Id V) (t : Turn Id V) → IsChecked always same kind new s c t → Tells t
+  checked : (always : Bool) (same : V → V → Bool) (kind : Kind V) (new : Option V) (s : Site Id) (c : Child Id V) (t : NextPhase Id V) → IsChecked always same kind new s c t → Tells t
   checked always same kind new s child.Blank t x = by t _ x (lacking kind s)
   checked always same kind new s (child.Node c) t x = by t _ x (going_down V (adds kind) s s.above c)
   checked always same kind new s (child.Value v) t x = present always same kind new s v t x
 
-  given : (always : Bool) (same : V → V → Bool) (kind : Kind V) (s : Site Id) (v : V) (answer : Option (Option V)) (new new' : Option V) (t : Turn Id V) → IsGiven always same kind s v answer new new' t → Tells t
+  given : (always : Bool) (same : V → V → Bool) (kind : Kind V) (s : Site Id) (v : V) (answer : Option (Option V)) (new new' : Option V) (t : NextPhase Id V) → IsGiven always same kind s v answer new new' t → Tells t
   given always same kind s v None new new' t x = asked always s v t x.1
   given always same ComputeInsert s v (Some None) new new' t x = asked always s v t x.1
   given always same ComputeInsert s v (Some (Some w)) new new' t x = by t _ x.1 (replacing s _ _)
@@ -170,12 +170,12 @@ module _ {V : Type 0} where
   given always same _ s v (Some (Some w)) new new' t (e, inl x) = by t _ x (replacing s _ _)
   given always same _ s v (Some (Some w)) new new' t (e, inr f) = uncopied always t f
 
-  given_new : (plan : Plan Id) (answer : Option (Option V)) (new new' : Option V) (t : Turn Id V) → IsGivenNew plan answer new new' t → Tells t
+  given_new : (plan : Plan Id) (answer : Option (Option V)) (new new' : Option V) (t : NextPhase Id V) → IsGivenNew plan answer new new' t → Tells t
   given_new plan (Some (Some x)) new new' t y = by t _ y.1 (starting plan _)
   given_new plan (Some None) new new' t y = by t _ y.1 (refl, tt)
   given_new plan None new new' t y = by t _ y.1 (refl, tt)
 
-  module _ (number : Id → ℕ) (h h' : ℕ → Node V) (key : List ℕ) (t : Turn Id V) where
+  module _ (number : Id → ℕ) (h h' : ℕ → Node V) (key : List ℕ) (t : NextPhase Id V) where
     leaf : (kind : Kind V) (s : Site Id) (r : Result Id Refusal) → MadeLeaf number kind s h key r h' t → Tells t
     leaf kind s (Ok c) x = by t _ x.1 (filling kind s _ _ _ _)
     leaf kind s (Err e) x = by t _ x.1 (refl, tt)
@@ -184,15 +184,15 @@ module _ {V : Type 0} where
     greater kind s p made (Ok c) x = by t _ x.1 (readying kind _)
     greater kind s p made (Err e) x = by t _ x.1 (refl, tt)
 
-    top : (p : Parent Id) (at : Seat Id) (common byte : ℕ) (r : Result Id Refusal) → MadeTop number p at common byte h key r h' t → Tells t
+    top : (p : Parent Id) (at : Stamp Id) (common byte : ℕ) (r : Result Id Refusal) → MadeTop number p at common byte h key r h' t → Tells t
     top p at common byte (Ok c) x = by t _ x.1 (refl, tt)
     top p at common byte (Err e) x = by t _ x.1 (refl, tt)
 
-    beside : (kind : Kind V) (p : Parent Id) (at : Seat Id) (common byte : ℕ) (above : Id) (r : Result Id Refusal) → MadeBeside number kind p at common byte above h key r h' t → Tells t
+    beside : (kind : Kind V) (p : Parent Id) (at : Stamp Id) (common byte : ℕ) (above : Id) (r : Result Id Refusal) → MadeBeside number kind p at common byte above h key r h' t → Tells t
     beside kind p at common byte above (Ok c) x = by t _ x.1 (readying kind _)
     beside kind p at common byte above (Err e) x = by t _ x.1 (refl, tt)
 
-    checked_above : (root : Id) (p : Seat Id) (one : One Id) (r : Reply V) (b : Bool) → is_taken (h (number p.node)) p.version ≡ b → IsCheckedAbove number root p one r h h' t → Tells t
+    checked_above : (root : Id) (p : Stamp Id) (one : One Id) (r : Reply V) (b : Bool) → is_taken (h (number p.node)) p.version ≡ b → IsCheckedAbove number root p one r h h' t → Tells t
     checked_above root p one r true e x = by t _ (x.goes_on e).1 (refl, tt)
     checked_above root p one r false e x = by t _ (x.goes_back e).1 (refl, tt)
 
@@ -239,7 +239,7 @@ module _ {V : Type 0} where
   changed two r (GrowLink c leaf byte) = (refl, tt)
   changed two r (Split top leaf common byte) = (refl, tt)
 
-module _ {V : Type 0} (number : Id → ℕ) (same : V → V → Bool) (always : Bool) (most : ℕ) (why : NodeType → Refusal → Type 0) (root : Id) (key : List ℕ) (kind : Kind V) (fail : Bool) (answer : Option (Option V)) (new new' : Option V) (h h' : ℕ → Node V) (t : Turn Id V) where
+module _ {V : Type 0} (number : Id → ℕ) (same : V → V → Bool) (always : Bool) (most : ℕ) (why : NodeType → Refusal → Type 0) (root : Id) (key : List ℕ) (kind : Kind V) (fail : Bool) (answer : Option (Option V)) (new new' : Option V) (h h' : ℕ → Node V) (t : NextPhase Id V) where
   tells : (s : Phase Id V) → IsUnderWay s → IsOnKey s → PhaseStepped number same always most why root key kind fail answer new s h new' t h' → Tells t
   tells New u k x = by t _ x.2 (version V root None root _)
   tells (Version above n) u k x = by t _ x.2 (version V root above n _)

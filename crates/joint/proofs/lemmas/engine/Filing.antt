@@ -4,7 +4,7 @@ use Rattle.std.specs.Prelude.{Option, None, Some, is_some, not, slice_get, slice
 use Rattle.std.specs.List.{Contains}
 use Rattle.std.proofs.lemmas.Bool.{cases_eq}
 use Rattle.std.proofs.lemmas.Bool.Decides.{nat_tests}
-use Rattle.crossbeam_epoch.specs.declared.bag.Entry.{Entry}
+use Rattle.crossbeam_epoch.specs.declared.bag.Deferral.{Deferral}
 use Rattle.crossbeam_epoch.specs.declared.bag.Work.{Work}
 use Rattle.crossbeam_epoch.specs.declared.bag.Work.TheVariants.{Blank, Remove, Run}
 use Rattle.crossbeam_epoch.specs.declared.names.Name.{Name}
@@ -144,7 +144,7 @@ module _ {V : Type 0} (cells : CellLaws {T = Slot V} (Unit {0}) slot_names) wher
   by_called s s' None n j is = j.2 (removes n) ∙ is ∙ ap (λ (x : Store (Slot V)). bit (is_waiting (heap x (number n)))) (sym j.0)
   by_called s s' (Some c) n j is = by_work n (weight (removes n) s) s.store s'.store j.0.work j.2 is (weight (removes n) s') (j.4 (removes n))
 
-  fewer : (s s' : State (Slot V) (Unit {0})) (c : Option (ℕ × Option Name)) (f : Entry (Unit {0}) → ℕ) → JobsAfter s c s' → weight f s ≡ 0 → weight f s' ≡ 0
+  fewer : (s s' : State (Slot V) (Unit {0})) (c : Option (ℕ × Option Name)) (f : Deferral (Unit {0}) → ℕ) → JobsAfter s c s' → weight f s ≡ 0 → weight f s' ≡ 0
   fewer s s' None f j none = j.2 f ∙ none
   fewer s s' (Some c) f j none = let e = j.4 f in omega (arith, e, none)
 
@@ -216,7 +216,7 @@ module _ {V : Type 0} (cells : CellLaws {T = Slot V} (Unit {0}) slot_names) wher
         → s2 ≡ with_collector s' (deferred s'.collector step.who (Remove node.name)) → IsFiled s → IsFiled s2
     filed_handed node some clock safe owes s2 is f =
         let c' = s'.collector in
-        let entry : Entry (Unit {0}) = record { ticket = c'.next; work = Remove node.name } in
+        let entry : Deferral (Unit {0}) = record { ticket = c'.next; work = Remove node.name } in
         let inside = held_place c'.table step.who owes.registered in
         let keeps = cells.deferred_orderly c' step.who (Remove node.name) inside owes.room owes.safe.sound.sound.orderly in
         let between : IsSealing c' = subst (λ (x : State (Slot V) (Unit {0})). IsSealing x) (sym clock) (cells.seals_stored s.collector c'.store s.collector.roots f.sealing) in
@@ -231,7 +231,7 @@ module _ {V : Type 0} (cells : CellLaws {T = Slot V} (Unit {0}) slot_names) wher
           only = (let more = keeps.jobs others in let old : weight others c' ≡ 0 = ap (weight others) clock ∙ f.only in omega (arith, more, old));
         })
       where
-        sealing_more : (c : State (Slot V) (Unit {0})) (who : ℕ) (entry : Entry (Unit {0})) → who < length c.table → (place c who).phase ≡ stage.Idle → IsSealing c
+        sealing_more : (c : State (Slot V) (Unit {0})) (who : ℕ) (entry : Deferral (Unit {0})) → who < length c.table → (place c who).phase ≡ stage.Idle → IsSealing c
             → IsSealing (record c { table = slice_set c.table who (record (place c who) { bag = (place c who).bag ++ entry ∷ [] }); next = c.next + 1; waiting = c.waiting + 1 })
         sealing_more c who entry inside idle i =
             let p = record (place c who) { bag = (place c who).bag ++ entry ∷ [] } in

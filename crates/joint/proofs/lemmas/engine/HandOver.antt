@@ -12,7 +12,7 @@ use Rattle.crossbeam_epoch.specs.declared.world.participant.Participant.{Partici
 use Rattle.crossbeam_epoch.specs.declared.world.participant.Phase.{Phase as Stage}
 use Rattle.crossbeam_epoch.specs.World.History.{Deferred, WasDeferred}
 use Rattle.crossbeam_epoch.specs.World.Machine.{State, blank, place, deferred, deferred_anew, after_deferral}
-use Rattle.crossbeam_epoch.specs.World.Reach.{Marked, Moment, marks_of, moment, Tells}
+use Rattle.crossbeam_epoch.specs.World.Reach.{Marked, Moment, marks_of, moment, HasMoments}
 use Rattle.crossbeam_epoch.specs.World.Steps.{when, quiet_fault, or_count, defer_fault, destroy_fault}
 use Rattle.congee.specs.declared.protocol.machine.Machine.{Machine}
 use Rattle.joint.specs.declared.id.Id.{Id}
@@ -136,10 +136,10 @@ module _ {V : Type 0} (same : V → V → Bool) (always : Bool) (cells : CellLaw
   ]
 
   pub handed_safe : (t : ℕ) (s' : Nodes V) → s' ≡ with_collector s (after_deferral c who work) → t ≡ c.next
-      → ((h : List Moment) → Tells slot_names h c → Tells slot_names (moment slot_names (Marked (Deferred t (Some node.name))) s'.collector ∷ h) s'.collector) → IsSafe same always s' ms
+      → ((h : List Moment) → HasMoments slot_names h c → HasMoments slot_names (moment slot_names (Marked (Deferred t (Some node.name))) s'.collector ∷ h) s'.collector) → IsSafe same always s' ms
   handed_safe t s' e ticket told =
       let at : s' ≡ with_collector s next = e ∙ ap (with_collector s) into_place in
-      let P : Nodes V → Type 0 = λ x. Tells slot_names (moment slot_names (Marked (Deferred t (Some node.name))) x.collector ∷ past) x.collector in
+      let P : Nodes V → Type 0 = λ x. HasMoments slot_names (moment slot_names (Marked (Deferred t (Some node.name))) x.collector ∷ past) x.collector in
       let Q : Nodes V → Type 0 = λ x. IsSafe same always x ms in
       subst Q (sym at) (record {
         sound = record {

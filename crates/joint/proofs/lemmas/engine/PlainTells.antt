@@ -5,7 +5,7 @@ use Rattle.std.specs.FinMap.{len}
 use Rattle.judge.specs.Answer.{Pairs}
 use Rattle.congee.specs.Heap.{Node, Hung, Nothing, Below, Holds, fits, child_for, of_child, walk, value_at}
 use Rattle.congee.specs.Keys.{IsMapOf, key_bytes}
-use Rattle.congee.specs.Ledger.{Note, Linked, Tree, LockWords, is_published}
+use Rattle.congee.specs.Notes.{Note, Linked, Tree, LockWords, is_published}
 use Rattle.congee.specs.owned.Levels.{under_byte, under_bytes}
 use Rattle.congee.specs.owned.Stats.{Shape, IsTally}
 use Rattle.congee.specs.protocol.Alike.{HungAlike, NodeAlike, HeapAlike}

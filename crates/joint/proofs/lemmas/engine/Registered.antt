@@ -7,10 +7,10 @@ use Rattle.crossbeam_epoch.specs.declared.names.Name.{Name}
 use Rattle.crossbeam_epoch.specs.declared.world.participant.Participant.{Participant}
 use Rattle.crossbeam_epoch.specs.World.History.{WasDeferred}
 use Rattle.crossbeam_epoch.specs.World.Machine.{State, blank, place, registered}
-use Rattle.crossbeam_epoch.specs.World.Reach.{Act, Quiet, Marked, GivenBack, Moment, marks_of, moment, Tells}
+use Rattle.crossbeam_epoch.specs.World.Reach.{Act, Quiet, Marked, GivenBack, Moment, marks_of, moment, HasMoments}
 use Rattle.congee.specs.declared.protocol.machine.Machine.{Machine}
 use Rattle.congee.specs.protocol.Handing.{InTree}
-use Rattle.congee.specs.Ledger.{Linked}
+use Rattle.congee.specs.Notes.{Linked}
 use Rattle.joint.specs.declared.engine.in_flight.InFlight.{InFlight}
 use Rattle.joint.specs.declared.engine.in_flight.InFlight.TheVariants.{Idle, Collecting, Reserving, Securing, Walking}
 use Rattle.joint.specs.declared.id.Id.{Id}
@@ -35,7 +35,7 @@ is_gift (GivenBack n) = Unit {0}
 
 module _ {V : Type 0} (same : V → V → Bool) (always : Bool) (cells : CellLaws {T = Slot V} (Unit {0}) slot_names) (calls : CallLaws {C = Id} {V = V} id_number same always)
     (s : Nodes V) (ms : List (Machine Id V)) (ks : List (InFlight V)) (intact : IsIntact same always s ms ks) (n : ℕ) (inside : n < length s.collector.table) (free : (place s.collector n).registered ≡ false)
-    (told : (h : List Moment) → Tells slot_names h s.collector → Tells slot_names (moment slot_names Quiet (registered s.collector n) ∷ h) (registered s.collector n)) where
+    (told : (h : List Moment) → HasMoments slot_names h s.collector → HasMoments slot_names (moment slot_names Quiet (registered s.collector n) ∷ h) (registered s.collector n)) where
   abbrev c : State (Slot V) (Unit {0})
   c = s.collector
 
@@ -132,7 +132,7 @@ module _ {V : Type 0} (same : V → V → Bool) (always : Bool) (cells : CellLaw
 -- the same of the state that is left
 pub taken_at : {V : Type 0} (same : V → V → Bool) (always : Bool) → CellLaws {T = Slot V} (Unit {0}) slot_names → CallLaws {C = Id} {V = V} id_number same always → (s s' : Nodes V) (ms : List (Machine Id V)) (ks : List (InFlight V)) → IsIntact same always s ms ks → (n : ℕ)
     → n < length s.collector.table → (place s.collector n).registered ≡ false → s' ≡ with_collector s (registered s.collector n)
-    → ((h : List Moment) → Tells slot_names h s.collector → Tells slot_names (moment slot_names Quiet s'.collector ∷ h) s'.collector) → IsIntact same always s' ms ks
+    → ((h : List Moment) → HasMoments slot_names h s.collector → HasMoments slot_names (moment slot_names Quiet s'.collector ∷ h) s'.collector) → IsIntact same always s' ms ks
 taken_at {V} same always cells calls s s' ms ks intact n inside free e told =
     let P : Nodes V → Type 0 = λ x. IsIntact same always x ms ks in
-    subst P (sym e) (taken same always cells calls s ms ks intact n inside free (λ h t. let Q : Nodes V → Type 0 = λ x. Tells slot_names (moment slot_names Quiet x.collector ∷ h) x.collector in subst Q e (told h t)))
+    subst P (sym e) (taken same always cells calls s ms ks intact n inside free (λ h t. let Q : Nodes V → Type 0 = λ x. HasMoments slot_names (moment slot_names Quiet x.collector ∷ h) x.collector in subst Q e (told h t)))

@@ -22,8 +22,8 @@ use Rattle.congee.specs.declared.protocol.sweep.Rung.{Rung}
 use Rattle.congee.specs.declared.protocol.sweep.Stage.{Stage}
 use Rattle.congee.specs.declared.protocol.sweep.Stage.TheVariants as stage
 use Rattle.congee.specs.declared.protocol.sweep.Sweep.{Sweep as Scan}
-use Rattle.congee.specs.declared.protocol.sweep.Told.{Told}
-use Rattle.congee.specs.declared.protocol.sweep.Told.TheVariants as told
+use Rattle.congee.specs.declared.protocol.sweep.ScanReport.{ScanReport}
+use Rattle.congee.specs.declared.protocol.sweep.ScanReport.TheVariants as told
 use Rattle.congee.specs.declared.forms.base_node.NodeType.{NodeType}
 use Rattle.congee.specs.Heap.{Node, version_of, is_taken}
 use Rattle.congee.specs.Keys.{key_bytes}
@@ -148,7 +148,7 @@ cleared_long {V} ms who = at (slice_get ms who)
     at (Some m) = by (is_done m.phase)
 
 -- a scan has told its end exactly where it is past
-abbrev pub is_end : {V : Type 0} → Told V → Bool
+abbrev pub is_end : {V : Type 0} → ScanReport V → Bool
 is_end told.Running = false
 is_end (told.Found place k v) = false
 is_end (told.Done count) = true
@@ -226,7 +226,7 @@ module _ {V : Type 0} where
   point_over now s f p o (inr (t, q, inr (inr x))) = absurd (let Q : Flight V → Type 0 = λ y. IsOfPoint y in subst Q x.2 o)
 
   -- a scan that told its end
-  scan_over : (start end size : ℕ) (states : List (Pairs V)) (places : List (ℕ × V)) (o : Told V) (f : Flight V) → is_end o ≡ true → ScanTells start end size states places (outcome_of o) f → f ≡ Over
+  scan_over : (start end size : ℕ) (states : List (Pairs V)) (places : List (ℕ × V)) (o : ScanReport V) (f : Flight V) → is_end o ≡ true → ScanTells start end size states places (outcome_of o) f → f ≡ Over
   scan_over start end size states places told.Running f e x = absurd (cc e)
   scan_over start end size states places (told.Found a b c) f e x = absurd (cc e)
   scan_over start end size states places (told.Done count) f e x = x.2
@@ -246,7 +246,7 @@ module _ {V : Type 0} where
 
 module _ {V : Type 0} (same : V → V → Bool) (always : Bool) (most : ℕ) (why : NodeType → Refusal → Type 0) (m now : Machine Id V) (h h' : ℕ → Node V) (fail : Bool) (answer : Option (Option V)) (d : Move V) (stepped : Stepped id_number same always most why m h fail answer now h' d) where
   -- a scan took the step
-  told_end : (s0 : Scan Id V) → m.phase ≡ Sweep s0 → is_done m.phase ≡ false → is_done now.phase ≡ true → (o : Told V) × (d.outcome ≡ outcome_of o) × (is_end o ≡ true)
+  told_end : (s0 : Scan Id V) → m.phase ≡ Sweep s0 → is_done m.phase ≡ false → is_done now.phase ≡ true → (o : ScanReport V) × (d.outcome ≡ outcome_of o) × (is_end o ≡ true)
   told_end s0 p n e =
       let P : Phase Id V → Type 0 = λ y. PhaseStepped id_number same always most why m.root (key_bytes m.key) m.kind fail answer m.given y h now.given (record { phase = now.phase; report = d }) h' in
       let x = subst P p stepped.step in
@@ -255,7 +255,7 @@ module _ {V : Type 0} (same : V → V → Bool) (always : Bool) (most : ℕ) (wh
       (x.2.1, ap (λ y. y.report.outcome) x.2.3, sym t ∙ ap is_done (sym q) ∙ e)
 
   -- its call has ended in its worker's place exactly where the step reports so
-  end_continues : (o : Told V) → is_end o ≡ not (continues (outcome_of o))
+  end_continues : (o : ScanReport V) → is_end o ≡ not (continues (outcome_of o))
   end_continues told.Running = refl
   end_continues (told.Found a b c) = refl
   end_continues (told.Done count) = refl

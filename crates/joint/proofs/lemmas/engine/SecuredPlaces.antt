@@ -11,7 +11,7 @@ use Rattle.congee.specs.declared.protocol.store.Reading.{Reading}
 use Rattle.congee.specs.declared.protocol.store.Reading.TheVariants.{Differs, Fits, Uncopied}
 use Rattle.congee.specs.declared.protocol.store.Refusal.{Refusal}
 use Rattle.congee.specs.declared.protocol.store.Refusal.TheVariants as refusal
-use Rattle.congee.specs.declared.protocol.store.Seat.{Seat}
+use Rattle.congee.specs.declared.protocol.store.Stamp.{Stamp}
 use Rattle.congee.specs.declared.protocol.store.Upgrade.{Upgrade}
 use Rattle.congee.specs.declared.protocol.store.Upgrade.TheVariants.{Locked, Failed, Exhausted}
 use Rattle.congee.specs.declared.protocol.phase.Kind.{Kind}
@@ -28,9 +28,9 @@ use Rattle.congee.specs.declared.protocol.phase.Plan.{Plan}
 use Rattle.congee.specs.declared.protocol.phase.Plan.TheVariants.{Here, Above}
 use Rattle.congee.specs.declared.protocol.phase.Phase.{Phase}
 use Rattle.congee.specs.declared.protocol.phase.Phase.TheVariants.{New, Version, Read, Check, CheckUncopied, CheckMiss, CheckDown, CheckOld, MakeLeaf, MakeGreater, MakeTop, MakeBeside, MakeLesser, AskOld, AskNew, Confirm, CheckAbove, UpgradeOne, ChangeOne, UpgradeTop, UpgradeAbove, UpgradeBelow, ChangeTwo, Obsolete, Retire, UnlockBelow, Unlock, Unwind, Sweep, Ended}
-use Rattle.congee.specs.declared.protocol.turn.Turn.{Turn}
+use Rattle.congee.specs.declared.protocol.turn.NextPhase.{NextPhase}
 use Rattle.congee.specs.Heap.{Node, is_taken}
-use Rattle.congee.specs.Ledger.{Note}
+use Rattle.congee.specs.Notes.{Note}
 use Rattle.congee.specs.protocol.Protocol.{Known, FitsTwo, Settles}
 use Rattle.congee.specs.protocol.Steps.{PhaseStepped, quiet, again, answered, refused, adds, asks_new, absent_reply, after_version, after_read, down, started, ready, plan_here, unless_full, missing, absent, CopyFailed, IsAsked, replaced, last_out, taken_out, shrinks, is_same, IsAtOld, IsAdded, IsExchanged, IsCompared, IsPresent, IsChecked, IsIf, after_miss, IsGiven, IsGivenNew, MadeLeaf, MadeGreater, MadeTop, MadeBeside, MadeLesser, UpgradedOne, UpgradedTop, UpgradedAbove, UpgradedBelow, unwound, given_up, after_retire, after_unwind}
 use Rattle.joint.specs.engine.Sound.{most_left, IsSecured}
@@ -42,21 +42,21 @@ OwesNone (Retire n next p r) = ⊥
 OwesNone _ = Unit {0}
 
 module _ {C V : Type 0} where
-  abbrev Light : Turn C V → Type 0
+  abbrev Light : NextPhase C V → Type 0
   Light t = OwesNone t.phase
 
-  at : (t u : Turn C V) → t ≡ u → Light u → Light t
+  at : (t u : NextPhase C V) → t ≡ u → Light u → Light t
   at t u e l = subst Light (sym e) l
 
-  cond_light : (b : Bool) (t u : Turn C V) → Light t → Light u → Light (cond b t u)
+  cond_light : (b : Bool) (t u : NextPhase C V) → Light t → Light u → Light (cond b t u)
   cond_light true t u x y = x
   cond_light false t u x y = y
 
-  version_light : (root : C) (above : Option (Over C)) (n : C) (v : Option ℕ) (t : Turn C V) → t ≡ after_version root above n v → Light t
+  version_light : (root : C) (above : Option (Over C)) (n : C) (v : Option ℕ) (t : NextPhase C V) → t ≡ after_version root above n v → Light t
   version_light root above n None t e = at t _ e tt
   version_light root above n (Some v) t e = at t _ e tt
 
-  read_light : (root : C) (above : Option (Over C)) (s : Seat C) (r : Reading C V) → Light (after_read root above s r)
+  read_light : (root : C) (above : Option (Over C)) (s : Stamp C) (r : Reading C V) → Light (after_read root above s r)
   read_light root None s (Differs common byte) = tt
   read_light root (Some u) s (Differs common byte) = tt
   read_light root None s (Fits depth form x) = tt
@@ -64,7 +64,7 @@ module _ {C V : Type 0} where
   read_light root None s Uncopied = tt
   read_light root (Some u) s Uncopied = tt
 
-  down_light : (b : Bool) (s : Site C) (above : Option (Over C)) (c : C) (t : Turn C V) → t ≡ down b s above c → Light t
+  down_light : (b : Bool) (s : Site C) (above : Option (Over C)) (c : C) (t : NextPhase C V) → t ≡ down b s above c → Light t
   down_light false s above c t e = at t _ e tt
   down_light true s None c t e = at t _ e tt
   down_light true s (Some p) c t e = at t _ e tt
@@ -88,10 +88,10 @@ module _ {C V : Type 0} where
   absent_light : (kind : Kind V) (s : Site C) → Light (absent kind s)
   absent_light kind s = cond_light (adds kind) _ _ (missing_light kind s) tt
 
-  uncounted_light : (always : Bool) (t : Turn C V) → CopyFailed always t → Light t
+  uncounted_light : (always : Bool) (t : NextPhase C V) → CopyFailed always t → Light t
   uncounted_light always t u = at t (refused _) u.1 tt
 
-  asked_light : (always : Bool) (s : Site C) (v : V) (t : Turn C V) → IsAsked always s v t → Light t
+  asked_light : (always : Bool) (s : Site C) (v : V) (t : NextPhase C V) → IsAsked always s v t → Light t
   asked_light always s v t (inl e) = at t _ e tt
   asked_light always s v t (inr u) = uncounted_light always t u
 
@@ -106,7 +106,7 @@ module _ {C V : Type 0} where
   taken_light s None r = tt
   taken_light s (Some u) r = cond_light (s.count == 1) _ _ (last_light s u.near u.far r) (cond_light (shrinks s.form s.count) _ _ tt tt)
 
-  old_light : (always : Bool) (same : V → V → Bool) (kind : Kind V) (new : Option V) (s : Site C) (v : V) (t : Turn C V) → IsAtOld always same kind new s v t → Light t
+  old_light : (always : Bool) (same : V → V → Bool) (kind : Kind V) (new : Option V) (s : Site C) (v : V) (t : NextPhase C V) → IsAtOld always same kind new s v t → Light t
   old_light always same Insert new s v t g = at t _ g (replaced_light s (is_same same v new) _)
   old_light always same Get new s v t g = asked_light always s v t g
   old_light always same Remove new s v t g = asked_light always s v t g
@@ -114,20 +114,20 @@ module _ {C V : Type 0} where
   old_light always same ComputeInsert new s v t g = asked_light always s v t g
   old_light always same (Exchange old) new s v t g = asked_light always s v t g
 
-  added_light : (always : Bool) (same : V → V → Bool) (kind : Kind V) (new : Option V) (s : Site C) (above : Option (Over C)) (v : V) (t : Turn C V) → IsAdded always same kind new s above v t → Light t
+  added_light : (always : Bool) (same : V → V → Bool) (kind : Kind V) (new : Option V) (s : Site C) (above : Option (Over C)) (v : V) (t : NextPhase C V) → IsAdded always same kind new s above v t → Light t
   added_light always same kind new s None v t g = old_light always same kind new s v t g
   added_light always same kind new s (Some p) v t g = at t _ g tt
 
-  exchanged_light : (always : Bool) (same : V → V → Bool) (new : Option V) (s : Site C) (v : V) (t : Turn C V) → IsExchanged always same new s v t → Light t
+  exchanged_light : (always : Bool) (same : V → V → Bool) (new : Option V) (s : Site C) (v : V) (t : NextPhase C V) → IsExchanged always same new s v t → Light t
   exchanged_light always same None s v t g = at t _ g (taken_light s s.above _)
   exchanged_light always same (Some w) s v t (inl e) = at t _ e (replaced_light s (same v w) _)
   exchanged_light always same (Some w) s v t (inr u) = uncounted_light always t u
 
-  compared_light : (found always : Bool) (same : V → V → Bool) (new : Option V) (s : Site C) (v : V) (t : Turn C V) → IsCompared found always same new s v t → Light t
+  compared_light : (found always : Bool) (same : V → V → Bool) (new : Option V) (s : Site C) (v : V) (t : NextPhase C V) → IsCompared found always same new s v t → Light t
   compared_light true always same new s v t g = exchanged_light always same new s v t (g.0 refl)
   compared_light false always same new s v t g = at t _ (g.1 refl) tt
 
-  present_light : (always : Bool) (same : V → V → Bool) (kind : Kind V) (new : Option V) (s : Site C) (v : V) (t : Turn C V) → IsPresent always same kind new s v t → Light t
+  present_light : (always : Bool) (same : V → V → Bool) (kind : Kind V) (new : Option V) (s : Site C) (v : V) (t : NextPhase C V) → IsPresent always same kind new s v t → Light t
   present_light always same Get new s v t g = at t _ g tt
   present_light always same Insert new s v t g = added_light always same Insert new s s.above v t g
   present_light always same Remove new s v t g = at t _ g (taken_light s s.above _)
@@ -135,27 +135,27 @@ module _ {C V : Type 0} where
   present_light always same ComputeInsert new s v t g = added_light always same ComputeInsert new s s.above v t g
   present_light always same (Exchange old) new s v t g = compared_light (same v old) always same new s v t g
 
-  checked_light : (always : Bool) (same : V → V → Bool) (kind : Kind V) (new : Option V) (s : Site C) (c : Child C V) (t : Turn C V) → IsChecked always same kind new s c t → Light t
+  checked_light : (always : Bool) (same : V → V → Bool) (kind : Kind V) (new : Option V) (s : Site C) (c : Child C V) (t : NextPhase C V) → IsChecked always same kind new s c t → Light t
   checked_light always same kind new s child.Blank t g = at t _ g (absent_light kind s)
   checked_light always same kind new s (child.Node c) t g = down_light (adds kind) s s.above c t g
   checked_light always same kind new s (child.Value v) t g = present_light always same kind new s v t g
 
-  if_light : (taken : Bool) (root : C) (Then : Turn C V → Type 0) (t : Turn C V) → ((u : Turn C V) → Then u → Light u) → IsIf taken root Then t → Light t
+  if_light : (taken : Bool) (root : C) (Then : NextPhase C V → Type 0) (t : NextPhase C V) → ((u : NextPhase C V) → Then u → Light u) → IsIf taken root Then t → Light t
   if_light true root Then t f g = f t (g.0 refl)
   if_light false root Then t f g = at t _ (g.1 refl) tt
 
-  if_this : (taken : Bool) (root : C) (u t : Turn C V) → Light u → IsIf taken root (λ x. x ≡ u) t → Light t
+  if_this : (taken : Bool) (root : C) (u t : NextPhase C V) → Light u → IsIf taken root (λ x. x ≡ u) t → Light t
   if_this true root u t l g = at t u (g.0 refl) l
   if_this false root u t l g = at t _ (g.1 refl) tt
 
-  miss_light : (kind : Kind V) (p : Parent C) (s : Seat C) (common byte : ℕ) → Light (after_miss kind p s common byte)
+  miss_light : (kind : Kind V) (p : Parent C) (s : Stamp C) (common byte : ℕ) → Light (after_miss kind p s common byte)
   miss_light kind p s common byte = cond_light (adds kind) (quiet (MakeTop p s common byte)) (answered (absent_reply kind)) tt tt
 
-  either_light : (always : Bool) (s : Site C) (b : Bool) (r : Reply V) (t : Turn C V) → (t ≡ replaced s b r) ⊎ CopyFailed always t → Light t
+  either_light : (always : Bool) (s : Site C) (b : Bool) (r : Reply V) (t : NextPhase C V) → (t ≡ replaced s b r) ⊎ CopyFailed always t → Light t
   either_light always s b r t (inl e) = at t _ e (replaced_light s b r)
   either_light always s b r t (inr u) = uncounted_light always t u
 
-  given_light : (always : Bool) (same : V → V → Bool) (kind : Kind V) (s : Site C) (v : V) (answer : Option (Option V)) (new new' : Option V) (t : Turn C V) → IsGiven always same kind s v answer new new' t → Light t
+  given_light : (always : Bool) (same : V → V → Bool) (kind : Kind V) (s : Site C) (v : V) (answer : Option (Option V)) (new new' : Option V) (t : NextPhase C V) → IsGiven always same kind s v answer new new' t → Light t
   given_light always same kind s v None new new' t g = asked_light always s v t g.1
   given_light always same ComputeInsert s v (Some None) new new' t g = asked_light always s v t g.1
   given_light always same ComputeInsert s v (Some (Some x)) new new' t g = at t _ g.1 (replaced_light s (same v x) _)
@@ -170,66 +170,66 @@ module _ {C V : Type 0} where
   given_light always same ComputePresent s v (Some (Some x)) new new' t g = either_light always s (same v x) _ t g.1
   given_light always same (Exchange old) s v (Some (Some x)) new new' t g = either_light always s (same v x) _ t g.1
 
-  new_light : (plan : Plan C) (answer : Option (Option V)) (new new' : Option V) (t : Turn C V) → IsGivenNew plan answer new new' t → Light t
+  new_light : (plan : Plan C) (answer : Option (Option V)) (new new' : Option V) (t : NextPhase C V) → IsGivenNew plan answer new new' t → Light t
   new_light plan (Some (Some x)) new new' t g = at t _ g.1 (started_light plan _)
   new_light plan (Some None) new new' t g = at t _ g.1 tt
   new_light plan None new new' t g = at t _ g.1 tt
 
-  unwound_light : (root : C) (e : Option Refusal) (t : Turn C V) → t ≡ unwound root e → Light t
+  unwound_light : (root : C) (e : Option Refusal) (t : NextPhase C V) → t ≡ unwound root e → Light t
   unwound_light root None t q = at t _ q tt
   unwound_light root (Some e) t q = at t _ q tt
 
-  up_light : (root : C) (top : Option (Parent C)) (e : Option Refusal) (t : Turn C V) → t ≡ given_up root top e → Light t
+  up_light : (root : C) (top : Option (Parent C)) (e : Option Refusal) (t : NextPhase C V) → t ≡ given_up root top e → Light t
   up_light root None e t q = unwound_light root e t q
   up_light root (Some g) e t q = at t _ q tt
 
-  unwind_light : (root : C) (next : Option C) (e : Option Refusal) (t : Turn C V) → t ≡ after_unwind root next e → Light t
+  unwind_light : (root : C) (next : Option C) (e : Option Refusal) (t : NextPhase C V) → t ≡ after_unwind root next e → Light t
   unwind_light root None e t q = unwound_light root e t q
   unwind_light root (Some n) e t q = at t _ q tt
 
-  leaf_light : (number : C → ℕ) (kind : Kind V) (s : Site C) (h : ℕ → Node V) (key : List ℕ) (r : Result C Refusal) (h' : ℕ → Node V) (t : Turn C V) → MadeLeaf number kind s h key r h' t → Light t
+  leaf_light : (number : C → ℕ) (kind : Kind V) (s : Site C) (h : ℕ → Node V) (key : List ℕ) (r : Result C Refusal) (h' : ℕ → Node V) (t : NextPhase C V) → MadeLeaf number kind s h key r h' t → Light t
   leaf_light number kind s h key (Ok leaf) h' t g = at t _ g.1 (full_light kind s s.full s.above _ _)
   leaf_light number kind s h key (Err e) h' t g = at t _ g.1 tt
 
-  greater_light : (number : C → ℕ) (kind : Kind V) (s : Site C) (p : Parent C) (leaf : Option C) (h : ℕ → Node V) (key : List ℕ) (r : Result C Refusal) (h' : ℕ → Node V) (t : Turn C V) → MadeGreater number kind s p leaf h key r h' t → Light t
+  greater_light : (number : C → ℕ) (kind : Kind V) (s : Site C) (p : Parent C) (leaf : Option C) (h : ℕ → Node V) (key : List ℕ) (r : Result C Refusal) (h' : ℕ → Node V) (t : NextPhase C V) → MadeGreater number kind s p leaf h key r h' t → Light t
   greater_light number kind s p leaf h key (Ok c) h' t g = at t _ g.1 (ready_light kind _)
   greater_light number kind s p leaf h key (Err e) h' t g = at t _ g.1 tt
 
-  top_light : (number : C → ℕ) (p : Parent C) (s : Seat C) (common byte : ℕ) (h : ℕ → Node V) (key : List ℕ) (r : Result C Refusal) (h' : ℕ → Node V) (t : Turn C V) → MadeTop number p s common byte h key r h' t → Light t
+  top_light : (number : C → ℕ) (p : Parent C) (s : Stamp C) (common byte : ℕ) (h : ℕ → Node V) (key : List ℕ) (r : Result C Refusal) (h' : ℕ → Node V) (t : NextPhase C V) → MadeTop number p s common byte h key r h' t → Light t
   top_light number p s common byte h key (Ok top) h' t g = at t _ g.1 tt
   top_light number p s common byte h key (Err e) h' t g = at t _ g.1 tt
 
-  beside_light : (number : C → ℕ) (kind : Kind V) (p : Parent C) (s : Seat C) (common byte : ℕ) (top : C) (h : ℕ → Node V) (key : List ℕ) (r : Result C Refusal) (h' : ℕ → Node V) (t : Turn C V) → MadeBeside number kind p s common byte top h key r h' t → Light t
+  beside_light : (number : C → ℕ) (kind : Kind V) (p : Parent C) (s : Stamp C) (common byte : ℕ) (top : C) (h : ℕ → Node V) (key : List ℕ) (r : Result C Refusal) (h' : ℕ → Node V) (t : NextPhase C V) → MadeBeside number kind p s common byte top h key r h' t → Light t
   beside_light number kind p s common byte top h key (Ok leaf) h' t g = at t _ g.1 (ready_light kind _)
   beside_light number kind p s common byte top h key (Err e) h' t g = at t _ g.1 tt
 
-  lesser_light : (number : C → ℕ) (s : Site C) (p : Parent C) (top : Option (Parent C)) (r : Reply V) (h : ℕ → Node V) (key : List ℕ) (x : Result C Refusal) (h' : ℕ → Node V) (t : Turn C V) → MadeLesser number s p top r h key x h' t → Light t
+  lesser_light : (number : C → ℕ) (s : Site C) (p : Parent C) (top : Option (Parent C)) (r : Reply V) (h : ℕ → Node V) (key : List ℕ) (x : Result C Refusal) (h' : ℕ → Node V) (t : NextPhase C V) → MadeLesser number s p top r h key x h' t → Light t
   lesser_light number s p None r h key (Ok c) h' t g = at t _ g.1 tt
   lesser_light number s p None r h key (Err e) h' t g = at t _ g.1 tt
   lesser_light number s p (Some q) r h key (Ok c) h' t g = at t _ g.1 tt
   lesser_light number s p (Some q) r h key (Err e) h' t g = at t _ g.1 tt
 
-  one_light : (number : C → ℕ) (root : C) (one : One C) (r : Reply V) (h : ℕ → Node V) (u : Upgrade) (h' : ℕ → Node V) (t : Turn C V) → UpgradedOne number root one r h u h' t → Light t
+  one_light : (number : C → ℕ) (root : C) (one : One C) (r : Reply V) (h : ℕ → Node V) (u : Upgrade) (h' : ℕ → Node V) (t : NextPhase C V) → UpgradedOne number root one r h u h' t → Light t
   one_light number root one r h Locked h' t g = at t _ g.1 tt
   one_light number root one r h Failed h' t g = at t _ g.1 tt
   one_light number root one r h Exhausted h' t g = at t _ g.1 tt
 
-  first_light : (number : C → ℕ) (root : C) (top : Parent C) (two : Two C) (r : Reply V) (h : ℕ → Node V) (u : Upgrade) (h' : ℕ → Node V) (t : Turn C V) → UpgradedTop number root top two r h u h' t → Light t
+  first_light : (number : C → ℕ) (root : C) (top : Parent C) (two : Two C) (r : Reply V) (h : ℕ → Node V) (u : Upgrade) (h' : ℕ → Node V) (t : NextPhase C V) → UpgradedTop number root top two r h u h' t → Light t
   first_light number root top two r h Locked h' t g = at t _ g.1 tt
   first_light number root top two r h Failed h' t g = at t _ g.1 tt
   first_light number root top two r h Exhausted h' t g = at t _ g.1 tt
 
-  above_light : (number : C → ℕ) (root : C) (two : Two C) (r : Reply V) (h : ℕ → Node V) (u : Upgrade) (h' : ℕ → Node V) (t : Turn C V) → UpgradedAbove number root two r h u h' t → Light t
+  above_light : (number : C → ℕ) (root : C) (two : Two C) (r : Reply V) (h : ℕ → Node V) (u : Upgrade) (h' : ℕ → Node V) (t : NextPhase C V) → UpgradedAbove number root two r h u h' t → Light t
   above_light number root two r h Locked h' t g = at t _ g.1 tt
   above_light number root two r h Failed h' t g = up_light root two.top _ t g.1
   above_light number root two r h Exhausted h' t g = up_light root two.top _ t g.1
 
-  both_light : (number : C → ℕ) (two : Two C) (r : Reply V) (h : ℕ → Node V) (u : Upgrade) (h' : ℕ → Node V) (t : Turn C V) → UpgradedBelow number two r h u h' t → Light t
+  both_light : (number : C → ℕ) (two : Two C) (r : Reply V) (h : ℕ → Node V) (u : Upgrade) (h' : ℕ → Node V) (t : NextPhase C V) → UpgradedBelow number two r h u h' t → Light t
   both_light number two r h Locked h' t g = at t _ g.1 tt
   both_light number two r h Failed h' t g = at t _ g.1 tt
   both_light number two r h Exhausted h' t g = at t _ g.1 tt
 
-  by_check : (b : Bool) (t u w : Turn C V) → (b ≡ true → t ≡ u) → (b ≡ false → t ≡ w) → Light u → Light w → Light t
+  by_check : (b : Bool) (t u w : NextPhase C V) → (b ≡ true → t ≡ u) → (b ≡ false → t ≡ w) → Light u → Light w → Light t
   by_check true t u w f g x y = at t u (f refl) x
   by_check false t u w f g x y = at t w (g refl) y
 
@@ -240,7 +240,7 @@ module _ {C V : Type 0} where
   Unlinks (Retire n next p r) = Unit {0}
   Unlinks _ = ⊥
 
-  module _ (number : C → ℕ) (same : V → V → Bool) (always : Bool) (most : ℕ) (why : NodeType → Refusal → Type 0) (root : C) (key : List ℕ) (kind : Kind V) (fail : Bool) (answer : Option (Option V)) (new new' : Option V) (h h' : ℕ → Node V) (t : Turn C V) where
+  module _ (number : C → ℕ) (same : V → V → Bool) (always : Bool) (most : ℕ) (why : NodeType → Refusal → Type 0) (root : C) (key : List ℕ) (kind : Kind V) (fail : Bool) (answer : Option (Option V)) (new new' : Option V) (h h' : ℕ → Node V) (t : NextPhase C V) where
     -- a step from any other phase leaves the call owing nothing
     pub step_light : (s : Phase C V) → (Unlinks s → ⊥) → PhaseStepped number same always most why root key kind fail answer new s h new' t h' → Light t
     step_light New never g = version_light root None root _ t g.2
@@ -353,12 +353,12 @@ module _ {C V : Type 0} where
   marked_left kind n None p r = refl
   marked_left kind n (Some m) p r = refl
 
-  handed_left : (kind : Kind V) (n : C) (next : Option C) (p : C) (r : Reply V) (t : Turn C V) → t ≡ after_retire next p r → suc (most_left kind t.phase) ≡ most_left kind (Retire n next p r)
-  handed_left kind n None p r t e = let P : Turn C V → Type 0 = λ u. suc (most_left kind u.phase) ≡ 1 in subst P (sym e) refl
-  handed_left kind n (Some m) p r t e = let P : Turn C V → Type 0 = λ u. suc (most_left kind u.phase) ≡ 2 in subst P (sym e) refl
+  handed_left : (kind : Kind V) (n : C) (next : Option C) (p : C) (r : Reply V) (t : NextPhase C V) → t ≡ after_retire next p r → suc (most_left kind t.phase) ≡ most_left kind (Retire n next p r)
+  handed_left kind n None p r t e = let P : NextPhase C V → Type 0 = λ u. suc (most_left kind u.phase) ≡ 1 in subst P (sym e) refl
+  handed_left kind n (Some m) p r t e = let P : NextPhase C V → Type 0 = λ u. suc (most_left kind u.phase) ≡ 2 in subst P (sym e) refl
 
   -- so with the node in the bag the places that are left are enough
-  pub handed_secured : (kind : Kind V) (n : C) (next : Option C) (p : C) (r : Reply V) (t : Turn C V) (jobs : ℕ) → t ≡ after_retire next p r → IsSecured kind (Retire n next p r) jobs → IsSecured kind t.phase (suc jobs)
+  pub handed_secured : (kind : Kind V) (n : C) (next : Option C) (p : C) (r : Reply V) (t : NextPhase C V) (jobs : ℕ) → t ≡ after_retire next p r → IsSecured kind (Retire n next p r) jobs → IsSecured kind t.phase (suc jobs)
   handed_secured kind n next p r t jobs e x =
       let y : jobs + most_left kind (Retire n next p r) ≤ 64 = x in
       let z : suc (most_left kind t.phase) ≡ most_left kind (Retire n next p r) = handed_left kind n next p r t e in
@@ -370,8 +370,8 @@ module _ {C V : Type 0} where
   retiring_room kind n None p r jobs x = let y : jobs + 1 ≤ 64 = x in omega (arith, y)
   retiring_room kind n (Some m) p r jobs x = let y : jobs + 2 ≤ 64 = x in omega (arith, y)
 
-  module _ (number : C → ℕ) (same : V → V → Bool) (always : Bool) (most : ℕ) (why : NodeType → Refusal → Type 0) (root : C) (k : ℕ) (key : List ℕ) (kind : Kind V) (fail : Bool) (answer : Option (Option V)) (new new' : Option V) (i : ℕ) (a : ℕ → Note) (h h' : ℕ → Node V) (t : Turn C V) where
-    none_by : (s : Phase C V) → most_left kind s ≡ 0 → (u : Turn C V) → t ≡ u → most_left kind u.phase ≡ 0 → most_left kind t.phase ≤ most_left kind s
+  module _ (number : C → ℕ) (same : V → V → Bool) (always : Bool) (most : ℕ) (why : NodeType → Refusal → Type 0) (root : C) (k : ℕ) (key : List ℕ) (kind : Kind V) (fail : Bool) (answer : Option (Option V)) (new new' : Option V) (i : ℕ) (a : ℕ → Note) (h h' : ℕ → Node V) (t : NextPhase C V) where
+    none_by : (s : Phase C V) → most_left kind s ≡ 0 → (u : NextPhase C V) → t ≡ u → most_left kind u.phase ≡ 0 → most_left kind t.phase ≤ most_left kind s
     none_by s z u e y = let n : most_left kind t.phase ≡ 0 = ap (λ w. most_left kind w.phase) e ∙ y in omega (arith, n)
 
     late_step : (s : Phase C V) → IsLate s → PhaseStepped number same always most why root key kind fail answer new s h new' t h' → most_left kind t.phase ≤ most_left kind s

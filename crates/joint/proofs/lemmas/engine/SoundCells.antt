@@ -10,12 +10,12 @@ use Rattle.crossbeam_epoch.specs.World.History.{Mark, began, WasDeferred}
 use Rattle.crossbeam_epoch.specs.World.Store.{Store, value_at, was_given}
 use Rattle.crossbeam_epoch.specs.World.Progress.{Orderly}
 use Rattle.crossbeam_epoch.specs.World.Fits.{Fits}
-use Rattle.crossbeam_epoch.specs.World.Reach.{Act, Quiet, Marked, GivenBack, Moment, marks_of, IsIn, WasIn, Visible, IsCareful, moment, Tells}
+use Rattle.crossbeam_epoch.specs.World.Reach.{Act, Quiet, Marked, GivenBack, Moment, marks_of, IsIn, WasIn, Visible, IsCareful, moment, HasMoments}
 use Rattle.congee.specs.declared.protocol.machine.Machine.{Machine}
 use Rattle.congee.specs.declared.protocol.machine.Move.{Move}
 use Rattle.congee.specs.Heap.{Node, Below, Stands}
 use Rattle.congee.specs.protocol.Handing.{InTree, Untouched, is_waiting}
-use Rattle.congee.specs.Ledger.{Status, Note, Linked, Gone, Held, Unmade, Back, Destroyed, is_published, LockWords}
+use Rattle.congee.specs.Notes.{Status, Note, Linked, Gone, Held, Unmade, Back, Destroyed, is_published, LockWords}
 use Rattle.congee.specs.protocol.Holdings.{MadeBy}
 use Rattle.congee.specs.protocol.Names.{names, Comes, Had, Top, New_made, Hangs}
 use Rattle.congee.specs.protocol.Answers.{Keeps}
@@ -167,7 +167,7 @@ module _ {T J C V : Type 0} (tnames : T → List Name) (view : Bool → Option T
       by_view false (Some x) f e = f refl
       by_view false None f e = absurd (let z : (view false None).made ≡ false = ok.unmade in cc)
 
-  pub tells : Tells tnames (now ∷ past') s'
+  pub tells : HasMoments tnames (now ∷ past') s'
   tells = record {
     fits = (let P : List Mark → Type 0 = λ x. Fits x s' in subst P (sym (same_marks tnames s past back)) (cells.fits_stored (marks_of past) s st' sound.tells.fits));
     now = (refl, λ n. refl, λ n. refl);

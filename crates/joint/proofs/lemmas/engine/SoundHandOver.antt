@@ -8,11 +8,11 @@ use Rattle.crossbeam_epoch.specs.World.Machine.{State, place}
 use Rattle.crossbeam_epoch.specs.World.History.{Deferred, WasDeferred}
 use Rattle.crossbeam_epoch.specs.World.Store.{Store, value_at}
 use Rattle.crossbeam_epoch.specs.World.Progress.{Orderly}
-use Rattle.crossbeam_epoch.specs.World.Reach.{Act, Quiet, Marked, GivenBack, Moment, marks_of, InReach, IsIn, WasIn, links_of, moment, Tells}
+use Rattle.crossbeam_epoch.specs.World.Reach.{Act, Quiet, Marked, GivenBack, Moment, marks_of, InReach, IsIn, WasIn, links_of, moment, HasMoments}
 use Rattle.congee.specs.declared.protocol.machine.Machine.{Machine}
 use Rattle.congee.specs.Heap.{Node}
 use Rattle.congee.specs.protocol.Handing.{InTree}
-use Rattle.congee.specs.Ledger.{Linked}
+use Rattle.congee.specs.Notes.{Linked}
 use Rattle.congee.specs.protocol.Play.{Settled}
 use Rattle.joint.specs.Names.{number}
 use Rattle.joint.specs.nodes.Heap.{IsView, heap_of}
@@ -34,7 +34,7 @@ is_mark (GivenBack n) = ⊥
 module _ {T J C V : Type 0} (tnames : T → List Name) (view : Bool → Option T → Node V) (ok : IsView tnames view) (num : C → ℕ) (same : V → V → Bool) (always : Bool) (cells : CellLaws J tnames) (calls : CallLaws {C = C} num same always) (top : Name)
     (past : List Moment) (s : State T J) (ms : List (Machine C V)) (sound : Sound tnames view num same always top past s ms)
     (n : Name) (retired : (heap_of view s.store (number n)).retired ≡ true) (was : WasIn past n)
-    (t : ℕ) (s' : State T J) (told : Tells tnames (moment tnames (Marked (Deferred t (Some n))) s' ∷ past) s') (orderly : Orderly s') (roots : s'.roots ≡ s.roots) (store : s'.store ≡ s.store) (ticket : t ≡ s.next) (next : s'.next ≡ s.next + 1) (fresh : (u : ℕ) → WasDeferred (marks_of past) u n → ⊥)
+    (t : ℕ) (s' : State T J) (told : HasMoments tnames (moment tnames (Marked (Deferred t (Some n))) s' ∷ past) s') (orderly : Orderly s') (roots : s'.roots ≡ s.roots) (store : s'.store ≡ s.store) (ticket : t ≡ s.next) (next : s'.next ≡ s.next + 1) (fresh : (u : ℕ) → WasDeferred (marks_of past) u n → ⊥)
     (guards : (i : ℕ) (m : Machine C V) → slice_get ms i ≡ Some m → Guards (place s' i) m) where
   abbrev now : Moment
   now = moment tnames (Marked (Deferred t (Some n))) s'

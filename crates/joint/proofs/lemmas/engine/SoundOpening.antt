@@ -12,7 +12,7 @@ use Rattle.congee.specs.declared.protocol.phase.Phase.TheVariants.{Ended}
 use Rattle.congee.specs.declared.protocol.machine.Machine.{Machine}
 use Rattle.congee.specs.Heap.{Node}
 use Rattle.congee.specs.protocol.Handing.{InTree}
-use Rattle.congee.specs.Ledger.{Linked}
+use Rattle.congee.specs.Notes.{Linked}
 use Rattle.congee.specs.protocol.Holdings.{MadeBy}
 use Rattle.congee.specs.protocol.Play.{Settled}
 use Rattle.joint.specs.Names.{number}

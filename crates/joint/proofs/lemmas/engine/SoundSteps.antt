@@ -21,7 +21,7 @@ use Rattle.congee.specs.declared.protocol.machine.Machine.{Machine}
 use Rattle.congee.specs.declared.protocol.machine.Move.{Move}
 use Rattle.congee.specs.protocol.Handing.{Untouched}
 use Rattle.congee.specs.protocol.Leaving.{StepLeaves}
-use Rattle.congee.specs.Ledger.{Note}
+use Rattle.congee.specs.Notes.{Note}
 use Rattle.congee.specs.protocol.Holdings.{MadeForOne, MadeForTwo, MadeForPlan, IsMade, MadeBy, Holdings}
 use Rattle.congee.specs.protocol.Steps.{Stepped}
 use Rattle.congee.specs.protocol.Answers.{Keeps, KeepsProtocol}

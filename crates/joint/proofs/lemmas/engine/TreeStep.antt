@@ -20,7 +20,7 @@ use Rattle.congee.specs.protocol.Events.{RetireGives}
 use Rattle.congee.specs.Heap.{Stands}
 use Rattle.congee.specs.Keys.{key_bytes}
 use Rattle.congee.specs.protocol.Holdings.{MadeBy}
-use Rattle.congee.specs.Ledger.{is_published}
+use Rattle.congee.specs.Notes.{is_published}
 use Rattle.congee.specs.protocol.Names.{name_made, names}
 use Rattle.congee.specs.protocol.Play.{EachKnown, Protocol, IsMoved, StepPlays, Settled}
 use Rattle.congee.specs.protocol.Protocol.{Known, TakenOut}

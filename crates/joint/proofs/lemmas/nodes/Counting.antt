@@ -12,7 +12,7 @@ use Rattle.congee.specs.declared.owned.stats.NodeStats.{NodeStats}
 use Rattle.congee.specs.forms.Bytes.{IsFirst}
 use Rattle.congee.specs.forms.Forms.{form_of, capacity_of, children_of}
 use Rattle.congee.specs.Heap.{Node}
-use Rattle.congee.specs.Ledger.{Note, Tree, Linked}
+use Rattle.congee.specs.Notes.{Note, Tree, Linked}
 use Rattle.congee.specs.owned.Levels.{under_byte, under_bytes}
 use Rattle.congee.specs.owned.Stats.{capped, no_nodes, info_at, Counts, Shape, IsTally}
 use Rattle.congee.proofs.lemmas.owned.Surveys.{bytes_same, none_more, one_more}

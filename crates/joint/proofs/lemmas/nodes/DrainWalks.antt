@@ -13,7 +13,7 @@ use Rattle.congee.specs.forms.Bytes.{IsFirst}
 use Rattle.congee.specs.forms.Forms.{children_of}
 use Rattle.congee.specs.Heap.{Node, Nothing, Below, Holds, Stands}
 use Rattle.congee.specs.Keys.{IsMapOf}
-use Rattle.congee.specs.Ledger.{Note, Tree, Linked}
+use Rattle.congee.specs.Notes.{Note, Tree, Linked}
 use Rattle.congee.specs.protocol.Events.{ChangeGives}
 use Rattle.congee.specs.protocol.Regions.{IsRegion, span, start_at}
 use Rattle.congee.specs.protocol.SweepKnown.{end_of}

@@ -9,7 +9,7 @@ use Rattle.congee.specs.forms.Bytes.{IsFirst}
 use Rattle.congee.specs.forms.Places.{AllKeys}
 use Rattle.congee.specs.Heap.{Node, Hung, Nothing, Below, Holds, Stands, fits, value_at}
 use Rattle.congee.specs.Keys.{key_bytes, IsMapOf}
-use Rattle.congee.specs.Ledger.{Note, Tree, Linked}
+use Rattle.congee.specs.Notes.{Note, Tree, Linked}
 use Rattle.congee.specs.declared.protocol.store.Region.{Region}
 use Rattle.congee.specs.owned.Ranges.{in_range}
 use Rattle.congee.specs.protocol.Regions.{IsRegion, span, start_at}

@@ -13,7 +13,7 @@ use Rattle.congee.specs.forms.Bytes.{IsFirst}
 use Rattle.congee.specs.forms.Forms.{children_of}
 use Rattle.congee.specs.Heap.{Node, Nothing, Below}
 use Rattle.congee.specs.Keys.{IsMapOf}
-use Rattle.congee.specs.Ledger.{Note, Tree}
+use Rattle.congee.specs.Notes.{Note, Tree}
 use Rattle.congee.specs.protocol.Regions.{IsRegion, span, start_at}
 use Rattle.congee.specs.protocol.Sweeps.{Lacked}
 use Rattle.congee.specs.protocol.SweepKnown.{end_of}

@@ -13,7 +13,7 @@ use Rattle.congee.specs.declared.protocol.phase.Single.{Single}
 use Rattle.congee.specs.declared.protocol.phase.Single.TheVariants.{Set, Link}
 use Rattle.congee.specs.declared.protocol.phase.Site.{Site}
 use Rattle.congee.specs.Heap.{Node}
-use Rattle.congee.specs.Ledger.{Note, Gone}
+use Rattle.congee.specs.Notes.{Note, Gone}
 use Rattle.congee.specs.protocol.Holdings.{MadeBy, MadeForOne, MadeForTwo, MadeForPlan, IsMade, TakenBy}
 use Rattle.congee.specs.protocol.Protocol.{Known, Made, MadeOne, MadeTwo, MadeLeafFor, PlanKnown, AlsoOut}
 

@@ -13,7 +13,7 @@ use Rattle.crossbeam_epoch.specs.World.Fits.{Fits, IsTable}
 use Rattle.crossbeam_epoch.specs.World.History.{Mark}
 use Rattle.crossbeam_epoch.specs.World.Machine.{State, opened, with_store, with_roots}
 use Rattle.crossbeam_epoch.specs.World.Progress.{IsResting}
-use Rattle.crossbeam_epoch.specs.World.Reach.{Quiet, moment, Tells}
+use Rattle.crossbeam_epoch.specs.World.Reach.{Quiet, moment, HasMoments}
 use Rattle.crossbeam_epoch.specs.World.Store.{Store, IsNext, fresh, cell_at, value_in, value_at, was_given, opened_store}
 use Rattle.congee.specs.declared.forms.base_node.NodeType.TheVariants.{N256}
 use Rattle.congee.specs.protocol.Bounds.{Within}
@@ -50,7 +50,7 @@ live_given {T} st n e = go (value_at st n) refl
     go (Some v) z = given st n v z
 
 module _ {P : Type 0} (limits : EpochLimits) (s0 c1 c2 : State (Slot P) (Unit {0})) (name : Name) (slot : Slot P)
-    (opens : s0 ≡ opened limits 1) (told0 : Tells slot_names (moment slot_names Quiet s0 ∷ []) s0)
+    (opens : s0 ≡ opened limits 1) (told0 : HasMoments slot_names (moment slot_names Quiet s0 ∷ []) s0)
     (beside : c1 ≡ with_store s0 c1.store) (fills : Fills s0.store name slot c1.store)
     (stored : c2 ≡ with_roots c1 (slice_set c1.roots 0 (record { name = Some name; tag = 0 })))
     (resting : IsResting (opened {T = Slot P} {J = Unit {0}} limits 1))
@@ -80,9 +80,9 @@ module _ {P : Type 0} (limits : EpochLimits) (s0 c1 c2 : State (Slot P) (Unit {0
       (subst (λ n. Fills (opened_store limits.cells limits.turn_max) n slot c1.store) is_top
       (subst (λ x. Fills x.store name slot c1.store) opens fills))
 
-  pub told_is : Tells slot_names (moment slot_names Quiet c2 ∷ []) c2
+  pub told_is : HasMoments slot_names (moment slot_names Quiet c2 ∷ []) c2
   told_is =
-      let told : Tells slot_names (moment slot_names Quiet o ∷ []) o = subst (λ x. Tells slot_names (moment slot_names Quiet x ∷ []) x) opens told0 in
+      let told : HasMoments slot_names (moment slot_names Quiet o ∷ []) o = subst (λ x. HasMoments slot_names (moment slot_names Quiet x ∷ []) x) opens told0 in
       let f : Fits [] (with_roots (with_store o c1.store) (pointer ∷ [])) = law_rooted [] (with_store o c1.store) (pointer ∷ []) (law_fits [] o c1.store told.fits) in
       record {
         fits = subst (Fits []) (sym came) f;

@@ -12,7 +12,7 @@ use Rattle.crossbeam_epoch.specs.World.Fits.{HandFits}
 use Rattle.crossbeam_epoch.specs.World.Machine.{State, place, blank, registered, deferred, deferred_anew, after_deferral}
 use Rattle.crossbeam_epoch.specs.World.Progress.{Orderly, KeepsCalls}
 use Rattle.crossbeam_epoch.specs.declared.names.Name.{Name}
-use Rattle.crossbeam_epoch.specs.World.Reach.{Act, Moment, moment, Tells, NextMoment}
+use Rattle.crossbeam_epoch.specs.World.Reach.{Act, Moment, moment, HasMoments, NextMoment}
 
 -- what holds of each place of a list, and of one that is written, holds of each place then
 each_set : {A : Type 0} (Q : A → Type 0) (xs : List A) (i : ℕ) (x d : A) → Q x → ((j : ℕ) → Q (get_or xs j d)) → (j : ℕ) → Q (get_or (slice_set xs i x) j d)
@@ -76,6 +76,6 @@ module _ {T J : Type 0} (s : State T J) (orderly : Orderly s) where
 
 -- a history that fits goes on by what was answered
 pub told_at : {T J R E : Type 0} (names : T → List Name) (act : R → Act) (none : Act) (s s' : State T J) (r : Result R E) → MatchResult r (λ t. NextMoment names (act t) s s') (λ e. NextMoment names none s s')
-    → (h : List Moment) → Tells names h s → MatchResult r (λ t. Tells names (moment names (act t) s' ∷ h) s') (λ e. Tells names (moment names none s' ∷ h) s')
+    → (h : List Moment) → HasMoments names h s → MatchResult r (λ t. HasMoments names (moment names (act t) s' ∷ h) s') (λ e. HasMoments names (moment names none s' ∷ h) s')
 told_at names act none s s' (Ok x) f h a = f h a
 told_at names act none s s' (Err e) f h a = f h a

@@ -6,7 +6,7 @@ use Rattle.std.proofs.lemmas.Bool.{cases_lt}
 use Rattle.std.proofs.lemmas.Bool.Decides.{nat_tests}
 use Rattle.std.proofs.lemmas.List.{length-append}
 use Rattle.std.proofs.lemmas.List.Sums.{get_or-le-sum_by, sum_by-cons, sum_by-le-sum_by}
-use Rattle.crossbeam_epoch.specs.declared.bag.Entry.{Entry}
+use Rattle.crossbeam_epoch.specs.declared.bag.Deferral.{Deferral}
 use Rattle.crossbeam_epoch.specs.declared.bag.Sealed.{Sealed}
 use Rattle.crossbeam_epoch.specs.declared.names.Name.{Name}
 use Rattle.crossbeam_epoch.specs.declared.world.participant.Participant.{Participant}
@@ -52,7 +52,7 @@ module _ {X : Type 0} where
   term_within f xs x m = let le = get_or-le-sum_by f xs m.0 x m.1 in subst (λ (y : X). f y ≤ sum_by f xs) m.2 le
 
 module _ {T J : Type 0} (c : State T J) where
-  weight_add : (f g : Entry J → ℕ) → weight (λ e. f e + g e) c ≡ weight f c + weight g c
+  weight_add : (f g : Deferral J → ℕ) → weight (λ e. f e + g e) c ≡ weight f c + weight g c
   weight_add f g =
       let places = sum_by_same (at_place (λ e. f e + g e)) (λ (p : Participant J). at_place f p + at_place g p) (λ p. omega (arith, sum_by_add f g p.bag, sum_by_add f g p.hand)) c.table in
       let bags = sum_by_same (in_bag (λ e. f e + g e)) (λ (b : Sealed J). in_bag f b + in_bag g b) (λ b. sum_by_add f g b.jobs) c.queue in
@@ -60,24 +60,24 @@ module _ {T J : Type 0} (c : State T J) where
 
   weight_none : weight (λ e. 0) c ≡ 0
   weight_none =
-      let places = sum_by_same (at_place (λ (e : Entry J). 0)) (λ (p : Participant J). 0) (λ p. omega (arith, sum_by_none p.bag, sum_by_none p.hand)) c.table in
-      let bags = sum_by_same (in_bag (λ (e : Entry J). 0)) (λ (b : Sealed J). 0) (λ b. sum_by_none b.jobs) c.queue in
+      let places = sum_by_same (at_place (λ (e : Deferral J). 0)) (λ (p : Participant J). 0) (λ p. omega (arith, sum_by_none p.bag, sum_by_none p.hand)) c.table in
+      let bags = sum_by_same (in_bag (λ (e : Deferral J). 0)) (λ (b : Sealed J). 0) (λ b. sum_by_none b.jobs) c.queue in
       omega (arith, places, bags, sum_by_none c.table, sum_by_none c.queue)
 
-  weight_le : (f g : Entry J → ℕ) → ((e : Entry J) → f e ≤ g e) → weight f c ≤ weight g c
+  weight_le : (f g : Deferral J → ℕ) → ((e : Deferral J) → f e ≤ g e) → weight f c ≤ weight g c
   weight_le f g le =
       let places = sum_by-le-sum_by (at_place f) (at_place g) c.table (λ p. (let x = sum_by-le-sum_by f g p.bag le in let y = sum_by-le-sum_by f g p.hand le in omega (arith, x, y))) in
       let bags = sum_by-le-sum_by (in_bag f) (in_bag g) c.queue (λ b. sum_by-le-sum_by f g b.jobs le) in
       omega (arith, places, bags)
 
-  weight_same : (f g : Entry J → ℕ) → ((e : Entry J) → f e ≡ g e) → weight f c ≡ weight g c
+  weight_same : (f g : Deferral J → ℕ) → ((e : Deferral J) → f e ≡ g e) → weight f c ≡ weight g c
   weight_same f g e =
       let places = sum_by_same (at_place f) (at_place g) (λ p. (let x = sum_by_same f g e p.bag in let y = sum_by_same f g e p.hand in omega (arith, x, y))) c.table in
       let bags = sum_by_same (in_bag f) (in_bag g) (λ b. sum_by_same f g e b.jobs) c.queue in
       omega (arith, places, bags)
 
   -- some job stands there
-  some_job : (f : Entry J → ℕ) → 1 ≤ weight f c → (e : Entry J) × (1 ≤ f e) × ((g : Entry J → ℕ) → g e ≤ weight g c)
+  some_job : (f : Deferral J → ℕ) → 1 ≤ weight f c → (e : Deferral J) × (1 ≤ f e) × ((g : Deferral J → ℕ) → g e ≤ weight g c)
   some_job f le = elim (cases_lt 0 (sum_by (at_place f) c.table)) [
     | inl lt ↦ (
         let p = some_term (at_place f) c.table (omega arith) in
@@ -95,7 +95,7 @@ module _ {T J : Type 0} (c : State T J) where
   ]
 
   -- how often a job is the removal of one of these nodes
-  abbrev cover : List ℕ → Entry J → ℕ
+  abbrev cover : List ℕ → Deferral J → ℕ
   cover ns e = sum_by (λ k. removes (named k) e) ns
 
   weight_cover : (ns : List ℕ) → weight (cover ns) c ≡ sum_by (λ k. weight (removes (named k)) c) ns
@@ -116,17 +116,17 @@ bit_true false n a b = absurd (omega (arith, a, b))
 
 -- each job is the removal of a node of the list, where the list has every node that waits
 module _ {V : Type 0} (s : Nodes V) (f : IsFiled s) (ns : List ℕ) (all : (n : ℕ) → is_waiting (nodes s n) ≡ true → Contains ns n) where
-  abbrev bare : Entry (Unit {0}) → ℕ
+  abbrev bare : Deferral (Unit {0}) → ℕ
   bare e = if nat_lt 0 (cover s.collector ns e) then 0 else 1
 
-  covered_or_bare : (e : Entry (Unit {0})) → one e ≤ cover s.collector ns e + bare e
+  covered_or_bare : (e : Deferral (Unit {0})) → one e ≤ cover s.collector ns e + bare e
   covered_or_bare e = by (nat_lt 0 (cover s.collector ns e)) refl
     where
       by : (b : Bool) → nat_lt 0 (cover s.collector ns e) ≡ b → 1 ≤ cover s.collector ns e + (if b then 0 else 1)
       by true lt = grind (arith, nat_tests)
       by false ge = omega arith
 
-  is_covered : (e : Entry (Unit {0})) (o : Option Name) → name_of e.work ≡ o → ((g : Entry (Unit {0}) → ℕ) → g e ≤ weight g s.collector) → 0 < cover s.collector ns e
+  is_covered : (e : Deferral (Unit {0})) (o : Option Name) → name_of e.work ≡ o → ((g : Deferral (Unit {0}) → ℕ) → g e ≤ weight g s.collector) → 0 < cover s.collector ns e
   is_covered e None is within = absurd (
       let here = within others in
       let none = f.only in
@@ -150,7 +150,7 @@ module _ {V : Type 0} (s : Nodes V) (f : IsFiled s) (ns : List ℕ) (all : (n : 
     | inr ge ↦ omega arith
   ]
     where
-      by : (e : Entry (Unit {0})) (b : Bool) → nat_lt 0 (cover s.collector ns e) ≡ b → 1 ≤ (if b then 0 else 1) → 0 < cover s.collector ns e → ⊥
+      by : (e : Deferral (Unit {0})) (b : Bool) → nat_lt 0 (cover s.collector ns e) ≡ b → 1 ≤ (if b then 0 else 1) → 0 < cover s.collector ns e → ⊥
       by e true lt le some = omega arith
       by e false ge le some = absurd (grind (arith, nat_tests))
 

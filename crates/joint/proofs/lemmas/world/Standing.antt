@@ -2,7 +2,7 @@
 use Rattle.std.proofs.Common.{ℕ, Bool, List, ap}
 use Rattle.congee.specs.declared.protocol.machine.Machine.{Machine}
 use Rattle.congee.specs.Heap.{Node}
-use Rattle.congee.specs.Ledger.{is_published}
+use Rattle.congee.specs.Notes.{is_published}
 use Rattle.congee.specs.protocol.Play.{Settled}
 use Rattle.joint.specs.declared.engine.in_flight.InFlight.{InFlight}
 use Rattle.joint.specs.declared.id.Id.{Id}

@@ -12,7 +12,7 @@ use Rattle.congee.specs.declared.protocol.phase.Phase.{Phase}
 use Rattle.congee.specs.declared.protocol.phase.Phase.TheVariants.{Obsolete, Retire}
 use Rattle.congee.specs.Heap.{Node, Stands}
 use Rattle.congee.specs.Keys.{key_bytes}
-use Rattle.congee.specs.Ledger.{Note, Status, Unmade, Held, Linked, Gone, Back, Destroyed, is_published, is_spent}
+use Rattle.congee.specs.Notes.{Note, Status, Unmade, Held, Linked, Gone, Back, Destroyed, is_published, is_spent}
 use Rattle.congee.specs.protocol.Handing.{is_waiting}
 use Rattle.congee.specs.protocol.Holdings.{Holdings, IsMade, MadeBy, TakenBy}
 use Rattle.congee.specs.protocol.Play.{EachKnown, ProtocolAt, Settled}

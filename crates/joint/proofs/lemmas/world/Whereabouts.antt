@@ -6,7 +6,7 @@ use Rattle.congee.specs.declared.protocol.machine.Machine.{Machine}
 use Rattle.congee.specs.protocol.Handing.{InTree}
 use Rattle.congee.specs.Heap.{Stands}
 use Rattle.congee.specs.protocol.Holdings.{Holdings, MadeBy}
-use Rattle.congee.specs.Ledger.{Note, Status, Unmade, Held, Linked, Gone, Back, Destroyed, is_published, is_spent}
+use Rattle.congee.specs.Notes.{Note, Status, Unmade, Held, Linked, Gone, Back, Destroyed, is_published, is_spent}
 use Rattle.congee.specs.protocol.Play.{EachKnown, ProtocolAt, Settled}
 use Rattle.joint.specs.declared.id.Id.{Id}
 use Rattle.joint.specs.nodes.Nodes.{nodes}

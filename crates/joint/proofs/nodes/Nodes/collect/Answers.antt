@@ -1,5 +1,5 @@
 use Rattle.std.proofs.Common.{arith, ◌∷◌, refl, ap, sym, ◌∙◌, subst}
-use Rattle.crossbeam_epoch.specs.World.Reach.{moment, Tells, step_act}
+use Rattle.crossbeam_epoch.specs.World.Reach.{moment, HasMoments, step_act}
 use Rattle.joint.specs.nodes.Slots.{slot_names}
 use Rattle.joint.proofs.lemmas.nodes.Accounts.{moved, kept_same, unchanged_by, emptied_by, is_inside, standing_some, waits_some, bytes_some, charge_some, charged_less, kept_emptied}
 use Rattle.joint.proofs.nodes.Nodes.collect.Goals as goal
@@ -53,7 +53,7 @@ returns-in-Some-clause-charged g c =
     charged_less _ _ c.self.invariant c.in-Some.name e.0 c.step-report.new.self.store e.1 (g.A.Allocator.charged_of c.deallocate.new.self) (omega (arith, c.deallocate.ensures.charged, c.take_off-size.ensures.size))
 
 pub returns-in-None-clause-told : goal.returns-in-None-clause-told
-returns-in-None-clause-told g c = λ h t. subst (λ s. Tells slot_names (moment slot_names (step_act s c.args.who c.args.event c.step-report.result) c.step-report.new.self ∷ h) c.step-report.new.self) (ap (λ x. x.collector) c.self.view_is) (c.step-report.ensures.told h (subst (λ s. Tells slot_names h s) (sym (ap (λ x. x.collector) c.self.view_is)) t))
+returns-in-None-clause-told g c = λ h t. subst (λ s. HasMoments slot_names (moment slot_names (step_act s c.args.who c.args.event c.step-report.result) c.step-report.new.self ∷ h) c.step-report.new.self) (ap (λ x. x.collector) c.self.view_is) (c.step-report.ensures.told h (subst (λ s. HasMoments slot_names h s) (sym (ap (λ x. x.collector) c.self.view_is)) t))
 
 pub returns-in-Some-clause-told : goal.returns-in-Some-clause-told
-returns-in-Some-clause-told g c = λ h t. subst (λ s. Tells slot_names (moment slot_names (step_act s c.args.who c.args.event c.step-report.result) c.step-report.new.self ∷ h) c.step-report.new.self) (ap (λ x. x.collector) c.self.view_is) (c.step-report.ensures.told h (subst (λ s. Tells slot_names h s) (sym (ap (λ x. x.collector) c.self.view_is)) t))
+returns-in-Some-clause-told g c = λ h t. subst (λ s. HasMoments slot_names (moment slot_names (step_act s c.args.who c.args.event c.step-report.result) c.step-report.new.self ∷ h) c.step-report.new.self) (ap (λ x. x.collector) c.self.view_is) (c.step-report.ensures.told h (subst (λ s. HasMoments slot_names h s) (sym (ap (λ x. x.collector) c.self.view_is)) t))

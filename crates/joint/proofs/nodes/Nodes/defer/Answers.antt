@@ -1,6 +1,6 @@
 use Rattle.std.proofs.Common.{◌≡◌, refl, ap, sym, subst}
 use Rattle.crossbeam_epoch.specs.World.History.{Deferred}
-use Rattle.crossbeam_epoch.specs.World.Reach.{Quiet, Marked, Tells}
+use Rattle.crossbeam_epoch.specs.World.Reach.{Quiet, Marked, HasMoments}
 use Rattle.joint.specs.nodes.Slots.{slot_names}
 use Rattle.std.specs.Prelude.{MatchResult, MatchOption, None, Some, length}
 use Rattle.crossbeam_epoch.specs.declared.fault.Fault.{Fault}
@@ -22,4 +22,4 @@ returns-clause-fault g c =
     (ap (λ x. x.collector) c.self.view_is) c.defer_destroy.ensures.fault
 
 pub returns-clause-told : goal.returns-clause-told
-returns-clause-told g c = λ h t. told_at slot_names (λ t. Marked (Deferred t (Some c.args.node.name))) Quiet c.self.inside.collector c.defer_destroy.new.self c.defer_destroy.result c.defer_destroy.ensures.told h (subst (λ s. Tells slot_names h s) (sym (ap (λ x. x.collector) c.self.view_is)) t)
+returns-clause-told g c = λ h t. told_at slot_names (λ t. Marked (Deferred t (Some c.args.node.name))) Quiet c.self.inside.collector c.defer_destroy.new.self c.defer_destroy.result c.defer_destroy.ensures.told h (subst (λ s. HasMoments slot_names h s) (sym (ap (λ x. x.collector) c.self.view_is)) t)

@@ -1,7 +1,7 @@
 use Rattle.std.proofs.Common.{◌≡◌, ◌∙◌, sym, ◌-◌, ◌≤◌, arith, true, false}
 use Rattle.trial.specs.Calling.{is_running}
 use Rattle.trial.proofs.Rounds.{call_ends, call_stays, call_goes}
-use Rattle.trial.proofs.index.Index.go_on.Goals as goal
+use Rattle.trial.proofs.open_tree.OpenTree.go_on.Goals as goal
 
 pub returns-then-not-is_running-clause-ok : goal.returns-then-not-is_running-clause-ok
 returns-then-not-is_running-clause-ok c =

@@ -21,7 +21,7 @@ const STEPS_MAX: u64 = 10_000;
 
 /// A tree with what stands behind its workers' calls.
 #[derive(Drop)]
-pub struct Index {
+pub struct OpenTree {
     pub world: World<u64, Limited>,
     /// By the worker's number.
     pub callers: Vec<Caller>,
@@ -61,14 +61,14 @@ fn is_running(outcome: &Outcome<u64>) -> bool
     )
 }
 
-impl Index {
+impl OpenTree {
     /// A tree none of whose workers has a call.
-    pub fn new(alloc: Global, world: World<u64, Limited>) -> Result<Index, AllocError>
+    pub fn new(alloc: Global, world: World<u64, Limited>) -> Result<OpenTree, AllocError>
         ensures { IfOk result (λ index. IsUncalled world index) }
     {
         let callers = no_callers(alloc)?;
         let scans = no_scans(alloc)?;
-        Ok(Index {
+        Ok(OpenTree {
             world,
             callers,
             scans,

@@ -2,7 +2,7 @@ use Rattle.std.proofs.Common.{◌≡◌, sym, ap, ◌∙◌}
 use Rattle.std.specs.Prelude.{Result, Ok, Err, OnOk, OnErr}
 use Rattle.congee.specs.forms.Forms.{prefix_of}
 use Rattle.congee.specs.declared.forms.base_node.Node.{Node}
-use Rattle.congee.proofs.owned.placed.Placed.shrink.Goals as goal
+use Rattle.congee.proofs.owned.slot_node.SlotNode.shrink.Goals as goal
 
 -- shrunk or not, the node keeps its prefix
 prefix_kept : {A E C P : Type 0} (r : Result A E) (old new : Node C P) → OnOk r (prefix_of new ≡ prefix_of old) → OnErr r (new ≡ old) → prefix_of old ≡ prefix_of new

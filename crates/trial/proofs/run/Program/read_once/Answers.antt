@@ -1,7 +1,7 @@
 use Rattle.std.proofs.Common.{◌≡◌, ℕ, List, arith, take, sym, subst}
 use Rattle.std.specs.Io.KnownBytes.{Consumes}
 use Rattle.trial.proofs.Ending.{reading_so, gave_nothing, if_some}
-use Rattle.trial.proofs.run.Program.turn.Goals as goal
+use Rattle.trial.proofs.run.Program.read_once.Goals as goal
 
 pub returns-in-Err-clause-ends : goal.returns-in-Err-clause-ends
 returns-in-Err-clause-ends g c = λ had held h. reading_so had _ _ held _ c.args.self.now c.in-Err.end c.in-Err.ensures.err.0 h c.in-Err.ensures.err.1

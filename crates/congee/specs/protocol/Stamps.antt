@@ -1,7 +1,7 @@
 -- Nodes of which a version was taken.
 use Rattle.std.specs.Prelude.{◌≡◌, ℕ, ◌≤◌, true}
 use Rattle.congee.specs.Heap.{Node, is_taken}
-use Rattle.congee.specs.Ledger.{Note, is_published}
+use Rattle.congee.specs.Notes.{Note, is_published}
 
 -- a node of which a version was taken
 pub record Seated {V : Type 0} (a : ℕ → Note) (h : ℕ → Node V) (n v : ℕ) : Type 0 where

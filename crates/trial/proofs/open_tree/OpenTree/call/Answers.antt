@@ -1,6 +1,6 @@
 use Rattle.trial.specs.Calling.{GoesOn, Calls}
 use Rattle.trial.proofs.Filling.{if_ok}
-use Rattle.trial.proofs.index.Index.call.Goals as goal
+use Rattle.trial.proofs.open_tree.OpenTree.call.Goals as goal
 
 pub returns-clause-ok : goal.returns-clause-ok
 returns-clause-ok c =

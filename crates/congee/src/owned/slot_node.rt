@@ -17,12 +17,12 @@ use std::marker::Model;
 
 /// A node, and a copy of its prefix. A greater form lies in a box, and the copy is read without it.
 #[derive(Drop)]
-pub(crate) struct Placed<P: Small> {
+pub(crate) struct SlotNode<P: Small> {
     prefix: Prefix,
     node: Node<usize, P>,
 }
 
-impl<P: Small> Model for Placed<P> {
+impl<P: Small> Model for SlotNode<P> {
     ghost use Rattle.std.specs.Prelude.{ℕ, ◌≡◌};
     ghost use Rattle.congee.specs.declared.forms.base_node.Node.{Node};
     ghost use Rattle.congee.specs.forms.Forms.{prefix_of};
@@ -37,12 +37,12 @@ impl<P: Small> Model for Placed<P> {
     ghost invariant = { λ p. p.prefix ≡ prefix_of p.node };
 }
 
-impl<P: Small> Placed<P> {
+impl<P: Small> SlotNode<P> {
     /// The node in its place.
     pub(crate) fn new(node: Node<usize, P>) -> Self
         ensures { result ≡ node }
     {
-        Placed {
+        SlotNode {
             prefix: Prefix::new(node.prefix()),
             node,
         }
