@@ -5,8 +5,7 @@ use Rattle.judge.specs.declared.journal.Entry.{Entry}
 use Rattle.judge.specs.declared.journal.Reply.{Reply}
 use Rattle.congee.specs.declared.protocol.op.Op.{Op as Point}
 use Rattle.joint.specs.declared.steps.Done.TheVariants as done
-use Rattle.joint.specs.declared.steps.Event.{Event}
-use Rattle.joint.specs.declared.steps.Event.TheVariants.{Begin, Go}
+use Rattle.joint.specs.declared.steps.Event.TheVariants.{Begin}
 use Rattle.joint.specs.declared.steps.Op.{Op}
 use Rattle.joint.specs.declared.steps.Outcome.{Outcome}
 use Rattle.joint.specs.declared.steps.Outcome.TheVariants.{Running, Asks, Done, Refused}
@@ -15,10 +14,7 @@ use Rattle.joint.specs.Reports.{target}
 use Rattle.joint.specs.world.MapSteps.{Line}
 use Rattle.joint.specs.world.World.{IsOnKey}
 use Rattle.joint.specs.engine.Engine.{is_in_flight}
-
-abbrev pub is_go : {V : Type 0} → Event V → Bool
-is_go (Go noise) = true
-is_go _ = false
+use Rattle.joint.specs.calls.Scans.{is_go}
 
 -- a further step of the worker's call
 abbrev pub is_further : {V : Type 0} → ℕ → Line V → Bool

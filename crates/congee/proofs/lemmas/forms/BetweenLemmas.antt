@@ -13,7 +13,7 @@ use Rattle.congee.proofs.lemmas.forms.Entries.{find}
 use Rattle.congee.proofs.lemmas.forms.EntryLemmas.{find_below}
 use Rattle.congee.proofs.lemmas.forms.MapLemmas.{find_std}
 
-is_true : (b : Bool) → T b → b ≡ true
+pub is_true : (b : Bool) → T b → b ≡ true
 is_true true t = refl
 is_true false t = absurd t
 
@@ -25,7 +25,7 @@ both_right : (a b : Bool) → a && b ≡ true → b ≡ true
 both_right true b e = e
 both_right false b e = absurd (cc e)
 
-less_of : (a b : ℕ) → is_lt (nat_cmp a b) ≡ true → a < b
+pub less_of : (a b : ℕ) → is_lt (nat_cmp a b) ≡ true → a < b
 less_of a b e = grind (arith, nat_tests, e)
 
 module _ {X : Type 0} where

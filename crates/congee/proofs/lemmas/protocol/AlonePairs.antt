@@ -2,7 +2,7 @@
 use Rattle.std.proofs.Common.{◌≡◌, ℕ, zero, suc, ◌<◌, ◌≤◌, ◌+◌, ◌*◌, ◌/◌, ◌^◌, ◌⊎◌, ◌&&◌, Bool, true, false, cond, T, List, [], ◌∷◌, length, get_or, refl, sym, ◌∙◌, ap, subst, inl, inr, arith}
 use Rattle.std.specs.Prelude.{Option, None, Some, ltb}
 use Rattle.std.specs.Int.{w64, from_be_bytes}
-use Rattle.std.specs.Ordering.{nat_cmp, eq_by_cmp, is_lt}
+use Rattle.std.specs.Ordering.{nat_cmp, eq_by_cmp}
 use Rattle.std.specs.FinMap.{FinMap, get, len, entries, entries_sorted, get-entries, len-entries}
 use Rattle.std.specs.FinMap.Entries.{below_all, is_sorted, find}
 use Rattle.std.proofs.Math.Nat.{mul-mod_left, mul-div_cancel}
@@ -24,6 +24,7 @@ use Rattle.congee.proofs.lemmas.protocol.AloneSweeps.{term_past}
 use Rattle.congee.proofs.lemmas.protocol.Regions.{span_pos, multiple_bounds, whole, start_mono}
 use Rattle.congee.proofs.lemmas.protocol.SweepBytes.{low_yes, low_no, region_top}
 use Rattle.congee.proofs.lemmas.protocol.SweepKept.{child_after, child_before, lacks_bytes, lacks_beside, has_value}
+use Rattle.congee.proofs.lemmas.forms.BetweenLemmas.{is_true, less_of}
 
 -- 1 where the number is at least `lo` and below `hi`
 abbrev inside : ℕ → ℕ → ℕ → ℕ
@@ -53,16 +54,9 @@ in_parts lo mid hi k a b = elim (cases_lt k mid) [
   ]
 ]
 
-is_true : (b : Bool) → T b → b ≡ true
-is_true true t = refl
-is_true false t = absurd t
-
 both : (a b : Bool) → T (a && b) → T a × T b
 both true b t = (tt, t)
 both false b t = absurd t
-
-less_of : (a b : ℕ) → is_lt (nat_cmp a b) ≡ true → a < b
-less_of a b e = grind (arith, nat_tests, e)
 
 tied : (a b : ℕ) → eq_by_cmp nat_cmp a b ≡ true → a ≡ b
 tied a b e = grind (arith, nat_tests, e)

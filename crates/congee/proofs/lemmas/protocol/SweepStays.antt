@@ -24,7 +24,7 @@ use Rattle.congee.proofs.lemmas.protocol.SweepBytes.{is_some, inside_last, first
 use Rattle.congee.proofs.lemmas.protocol.SweepWays.{pick_false, pick_true, path_pushed, path_empty, path_last, path_count, rungs_longer, rungs_shorter}
 use Rattle.congee.proofs.lemmas.protocol.SweepKept.{child_deeper}
 
-differ : (x y : ℕ) → (x == y) ≡ false → x ≢ y
+pub differ : (x y : ℕ) → (x == y) ≡ false → x ≢ y
 differ x y f e = let t : (x == y) ≡ true = same_test x y e in let z : true ≡ false = sym t ∙ f in absurd cc
 
 module _ {C V : Type 0} (number : C → ℕ) (always : Bool) (a : ℕ → Note) (h : ℕ → Node V) (t : Tree a h) (w : LockWords a h) (root : C) (z : number root ≡ 0) where

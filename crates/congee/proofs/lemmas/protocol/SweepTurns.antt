@@ -1,5 +1,5 @@
 -- A scan's step keeps what the scan knows, settles more keys, and at its end tells what the scan promises.
-use Rattle.std.proofs.Common.{◌≡◌, ◌≢◌, ℕ, suc, ◌<◌, ◌≤◌, ◌+◌, ◌*◌, ◌-◌, ◌^◌, ◌==◌, inl, inr, Bool, true, false, List, [], ◌∷◌, ◌++◌, length, take, refl, sym, ap, ◌∙◌, subst, arith}
+use Rattle.std.proofs.Common.{◌≡◌, ◌≢◌, ℕ, suc, ◌<◌, ◌≤◌, ◌+◌, ◌*◌, ◌-◌, ◌^◌, ◌==◌, inl, inr, Bool, true, List, [], ◌∷◌, ◌++◌, length, take, refl, sym, ap, ◌∙◌, subst, arith}
 use Rattle.std.specs.Prelude.{Option, None, Some}
 use Rattle.std.specs.Ordering.{nat_cmp}
 use Rattle.std.specs.FinMap.{FinMap}
@@ -23,7 +23,7 @@ use Rattle.congee.specs.protocol.Sweeps.{Lacked, IsScan, Swept, written}
 use Rattle.congee.specs.protocol.SweepEvents.{LeastTruly, IsAny}
 use Rattle.congee.specs.protocol.SweepSteps.{whole, is_outside, first_byte, last_byte, rungs_of, pushed, popped, moved, sweep_at, Swung, goes, over, anew, left_to, left, entered, filled, IsFollowed, begins, SweptAt}
 use Rattle.congee.specs.protocol.SweepKnown.{RungKnown, RungsKnown, WayKnown, SweepKnownAt, SweepKnown, end_of, start_of, Gap, IsWay, Under, Aimed, TracksAt, Tracks, placed, Tells, SameCall}
-use Rattle.congee.proofs.lemmas.Fits.{equal, same_test}
+use Rattle.congee.proofs.lemmas.Fits.{equal}
 use Rattle.congee.proofs.lemmas.Graft.{on_test}
 use Rattle.congee.proofs.lemmas.protocol.Touch.{taken_linked}
 use Rattle.congee.proofs.lemmas.protocol.Regions.{span_pos, whole as all_bytes, start_mono}
@@ -31,9 +31,7 @@ use Rattle.congee.proofs.lemmas.protocol.Sweeps.{sweep_none, sweep_later, sweep_
 use Rattle.congee.proofs.lemmas.protocol.SweepBytes.{is_some, last_within, outside, inside_last, first_small, first_before, first_aims}
 use Rattle.congee.proofs.lemmas.protocol.SweepWays.{pick_false, pick_true, path_pushed, path_empty, path_last, path_count, way_later, way_longer, way_shorter, rungs_longer, rungs_shorter}
 use Rattle.congee.proofs.lemmas.protocol.SweepKept.{lacks_bytes, lacks_rest, has_value, child_deeper, child_after, child_before, lacks_beside}
-
-differ : (x y : ℕ) → (x == y) ≡ false → x ≢ y
-differ x y f e = let t : (x == y) ≡ true = same_test x y e in let z : true ≡ false = sym t ∙ f in absurd cc
+use Rattle.congee.proofs.lemmas.protocol.SweepStays.{differ}
 
 module _ {C V : Type 0} (number : C → ℕ) (always : Bool) (a : ℕ → Note) (h : ℕ → Node V) (t : Tree a h) (w : LockWords a h) (m : FinMap nat_cmp V) (st : IsMapOf h m)
     (states : List (FinMap nat_cmp V)) (places : List (ℕ × V)) (root : C) (z : number root ≡ 0) where

@@ -32,7 +32,7 @@ use Rattle.crossbeam_epoch.specs.World.Steps.{outcome_at, begin_fault, event_fau
 use Rattle.crossbeam_epoch.proofs.lemmas.world.Reaches.{seen_stands}
 use Rattle.crossbeam_epoch.proofs.lemmas.world.Told.{marks_act}
 use Rattle.crossbeam_epoch.proofs.lemmas.world.Undated.{undated_began, undated_graceful, undated_calls, undated_deferrals, undated_later}
-use Rattle.crossbeam_epoch.proofs.lemmas.world.Runs.{in_table, known, begin_idle, refused_begin, off, blank_at}
+use Rattle.crossbeam_epoch.proofs.lemmas.world.Runs.{in_table, known, begin_idle, refused_begin, off, blank_at, word_none as is_none_now, not_some as not_some_now}
 
 past_more_by : (op : Op) (n : ℕ) → IsPastBy op n → IsPastBy op (n + 1)
 past_more_by O.Pin n p = omega arith
@@ -80,20 +80,12 @@ not_none : (w : Option ℕ) → is_none w ≡ false → is_some w ≡ true
 not_none None e = absurd (cc e)
 not_none (Some x) e = refl
 
-is_none_now : (w : Option ℕ) → is_none w ≡ true → w ≡ None
-is_none_now None e = refl
-is_none_now (Some x) e = absurd (cc e)
-
 none_out : (w : Option ℕ) (n : ℕ) → w ≡ None → is_some w ≡ nat_lt 0 n → n ≡ 0
 none_out None n e is = grind (arith, nat_tests)
 none_out (Some x) n e is = absurd (cc e)
 
 some_out : (w : Option ℕ) (n : ℕ) → is_some w ≡ true → is_some w ≡ nat_lt 0 n → 0 < n
 some_out w n e is = let out : nat_lt 0 n ≡ true = sym is ∙ e in grind (arith, nat_tests)
-
-not_some_now : (w : Option ℕ) → is_some w ≡ false → w ≡ None
-not_some_now None e = refl
-not_some_now (Some x) e = absurd (cc e)
 
 -- who has a word has begun a stretch
 bounds_some : (b w : Option ℕ) (epoch : ℕ) → Bounds b w epoch → is_some b ≡ is_some w

@@ -39,11 +39,11 @@ word_some : (w : Option ℕ) → is_none w ≡ false → (x : ℕ) × (w ≡ Som
 word_some None e = absurd (cc e)
 word_some (Some x) e = (x, refl)
 
-word_none : (w : Option ℕ) → is_none w ≡ true → w ≡ None
+pub word_none : (w : Option ℕ) → is_none w ≡ true → w ≡ None
 word_none None e = refl
 word_none (Some x) e = absurd (cc e)
 
-not_some : (w : Option ℕ) → is_some w ≡ false → w ≡ None
+pub not_some : (w : Option ℕ) → is_some w ≡ false → w ≡ None
 not_some None e = refl
 not_some (Some x) e = absurd (cc e)
 

@@ -3,8 +3,7 @@ use Rattle.std.proofs.Common.{◌≡◌, ◌⊎◌, ℕ, zero, suc, List, [], �
 use Rattle.std.specs.List.{Contains}
 use Rattle.std.proofs.lemmas.List.Elements.{Contains-push_cases}
 use Rattle.crossbeam_epoch.specs.declared.fault.Fault.{Fault}
-use Rattle.crossbeam_epoch.specs.declared.world.participant.Phase.{Phase}
-use Rattle.crossbeam_epoch.specs.declared.world.participant.Phase.TheVariants.{Idle, Look, Publish, RepinLook, RepinPublish, Seal, Queue, ReleaseSeal, ReleaseQueue, Secure, SecureSeal, SecureQueue, Load, Inspect, Advance, Take, Call}
+use Rattle.crossbeam_epoch.specs.declared.world.participant.Phase.TheVariants.{Idle}
 use Rattle.crossbeam_epoch.specs.declared.world.report.Event.{Event}
 use Rattle.crossbeam_epoch.specs.declared.world.report.Event.TheVariants.{Begin, Go}
 use Rattle.crossbeam_epoch.specs.declared.world.report.Op.{Op}
@@ -13,35 +12,17 @@ use Rattle.crossbeam_epoch.specs.declared.world.report.Outcome.TheVariants.{Runn
 use Rattle.crossbeam_epoch.specs.declared.world.report.Report.{Report}
 use Rattle.crossbeam_epoch.specs.declared.world.report.Step.{Step}
 use Rattle.crossbeam_epoch.specs.World.Machine.{State, place}
-use Rattle.crossbeam_epoch.specs.World.Steps.{fault, outcome_at, moved, after, IsOutcome, IsReport, state_after, AreReports}
+use Rattle.crossbeam_epoch.specs.World.Steps.{fault, moved, after, IsOutcome, IsReport, state_after, AreReports}
 use Rattle.crossbeam_epoch.specs.World.Calls.{call_steps}
 use Rattle.crossbeam_epoch.specs.World.Rounds.{Finishes}
 use Rattle.crossbeam_epoch.proofs.lemmas.world.Moves.{contains_tail}
+use Rattle.crossbeam_epoch.proofs.lemmas.world.Stages.{done_idle}
 
 -- a step that isn't refused
 abbrev pub Unrefused : Outcome → Type 0
 Unrefused Running = Unit {0}
 Unrefused Done = Unit {0}
 Unrefused (Refused f) = ⊥
-
-done_idle : (phase : Phase) → outcome_at phase ≡ Done → phase ≡ Idle
-done_idle Idle e = refl
-done_idle Look e = absurd (cc e)
-done_idle (Publish seen) e = absurd (cc e)
-done_idle RepinLook e = absurd (cc e)
-done_idle (RepinPublish seen) e = absurd (cc e)
-done_idle Seal e = absurd (cc e)
-done_idle (Queue seal) e = absurd (cc e)
-done_idle ReleaseSeal e = absurd (cc e)
-done_idle (ReleaseQueue seal) e = absurd (cc e)
-done_idle (Secure n) e = absurd (cc e)
-done_idle SecureSeal e = absurd (cc e)
-done_idle (SecureQueue seal) e = absurd (cc e)
-done_idle Load e = absurd (cc e)
-done_idle (Inspect seen at) e = absurd (cc e)
-done_idle (Advance seen) e = absurd (cc e)
-done_idle (Take answered bags) e = absurd (cc e)
-done_idle (Call answered bags seal) e = absurd (cc e)
 
 is_unrefused : (o : Outcome) → (o ≡ Running) ⊎ (o ≡ Done) → Unrefused o
 is_unrefused Running e = tt

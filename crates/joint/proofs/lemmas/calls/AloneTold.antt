@@ -6,7 +6,6 @@ use Rattle.judge.specs.declared.journal.Reply.{Reply}
 use Rattle.judge.specs.Answer.{Pairs}
 use Rattle.crossbeam_epoch.specs.declared.fault.Fault.{Fault}
 use Rattle.crossbeam_epoch.specs.declared.world.participant.Participant.{Participant}
-use Rattle.crossbeam_epoch.specs.declared.world.report.Outcome.{Outcome as Turned}
 use Rattle.crossbeam_epoch.specs.declared.world.report.Outcome.TheVariants as turned
 use Rattle.congee.specs.declared.protocol.machine.Machine.{Machine}
 use Rattle.congee.specs.declared.protocol.machine.Outcome.{Outcome as Moved}
@@ -37,7 +36,7 @@ use Rattle.joint.specs.calls.Alone.{OthersUnlocked, AreNext, AllEndAlone}
 use Rattle.joint.specs.nodes.Nodes.{nodes}
 use Rattle.joint.specs.engine.Intact.{IsAt, root}
 use Rattle.joint.specs.engine.Journaling.{asks_at, is_asking}
-use Rattle.joint.specs.Reports.{collected, target, told}
+use Rattle.joint.specs.Reports.{target, told}
 use Rattle.joint.specs.calls.Runs.{Taken, AreTaken}
 use Rattle.joint.specs.world.MapSteps.{EventMap, GoMap, PendingStep, BeginMap, BeginsOr, Line}
 use Rattle.joint.specs.engine.Flying.{Flights, IsInFlight, AreInFlight}
@@ -53,14 +52,8 @@ use Rattle.joint.proofs.lemmas.world.JournaledSteps.{mapped}
 use Rattle.joint.proofs.lemmas.world.JournalPlaces.{asks_here}
 use Rattle.joint.proofs.lemmas.world.Requested.{asks}
 use Rattle.joint.proofs.lemmas.engine.Telling.{survey_ends}
-use Rattle.joint.proofs.lemmas.calls.Wanted.{step_wants}
+use Rattle.joint.proofs.lemmas.calls.Wanted.{step_wants, of_collector}
 use Rattle.std.proofs.lemmas.Option.{slice_get_within}
-
--- nothing that is told of the collector is a question
-of_collector : (V : Type 0) (o : Turned) → is_question {V = V} (collected o) ≡ false
-of_collector V turned.Running = refl
-of_collector V turned.Done = refl
-of_collector V (turned.Refused f) = refl
 
 module _ {V : Type 0} where
   -- a call on one key is of what was begun

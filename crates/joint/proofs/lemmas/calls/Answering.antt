@@ -18,7 +18,8 @@ use Rattle.joint.specs.declared.steps.Outcome.{Outcome}
 use Rattle.joint.specs.declared.steps.Outcome.TheVariants.{Done, Refused}
 use Rattle.joint.specs.declared.steps.Target.{Target}
 use Rattle.joint.specs.declared.steps.Target.TheVariants as target
-use Rattle.joint.specs.calls.Answering.{is_go, Either, GoesOrAnswers, GoesOrRefused, Answers, TakesEffectAt, Decides, AllDecide}
+use Rattle.joint.specs.calls.Answering.{Either, GoesOrAnswers, GoesOrRefused, Answers, TakesEffectAt, Decides, AllDecide}
+use Rattle.joint.specs.calls.Scans.{is_go}
 use Rattle.joint.specs.engine.Intact.{root}
 use Rattle.joint.specs.Reports.{target, told}
 use Rattle.joint.specs.calls.Runs.{IsMapRun}

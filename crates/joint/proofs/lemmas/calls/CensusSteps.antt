@@ -62,7 +62,7 @@ use Rattle.joint.proofs.lemmas.engine.Changing.{Counts, answered}
 use Rattle.joint.proofs.lemmas.engine.Collecting.{inside_machines, there}
 use Rattle.joint.proofs.lemmas.nodes.Keyed.{len_few, some_key}
 use Rattle.joint.proofs.lemmas.nodes.MadeUnhanded.{IsTaken, taken_out}
-use Rattle.joint.proofs.lemmas.nodes.Totals.{size_bound}
+use Rattle.joint.proofs.lemmas.nodes.Totals.{size_bound, times}
 use Rattle.joint.proofs.lemmas.world.Waiting.{taken_is}
 use Rattle.joint.proofs.lemmas.engine.Walking.{final_is, now_here}
 
@@ -75,10 +75,6 @@ by_form N4 = refl
 by_form N16 = refl
 by_form N48 = refl
 by_form N256 = refl
-
--- sums over what there is
-times : (m n : ℕ) → m * suc n ≡ m * n + m
-times m n = omega arith
 
 weight_same : (f g : ℕ → ℕ) (ns : List ℕ) → ((n : ℕ) → Contains ns n → g n ≡ f n) → sum_by g ns ≡ sum_by f ns
 weight_same f g [] e = refl

@@ -76,13 +76,6 @@ view_made g (Some s) e = refl
 pub made_before : {V : Type 0} (s : Nodes V) (c : ℕ) → (nodes s c).retired ≡ true → (nodes s c).made ≡ true
 made_before s c e = view_made (was_given s.collector.store (named c)) (value_at s.collector.store (named c)) e
 
-set_other : {A : Type 0} (xs : List A) (i j : ℕ) (x : A) → j ≢ i → slice_get (set xs i x) j ≡ slice_get xs j
-set_other [] i j x n = refl
-set_other (y ∷ xs) zero zero x n = absurd (n refl)
-set_other (y ∷ xs) zero (suc j) x n = refl
-set_other (y ∷ xs) (suc i) zero x n = refl
-set_other (y ∷ xs) (suc i) (suc j) x n = set_other xs i j x (λ e. n (ap suc e))
-
 longer_at : (xs ys : List ℕ) (i c : ℕ) → slice_get xs i ≡ Some c → slice_get (xs ++ ys) i ≡ Some c
 longer_at [] ys i c e = absurd cc
 longer_at (x ∷ xs) ys zero c e = e

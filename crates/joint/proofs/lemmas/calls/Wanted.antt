@@ -47,7 +47,7 @@ use Rattle.joint.proofs.lemmas.calls.Runs.{fresh_flights}
 use Rattle.std.proofs.lemmas.Option.{slice_get_within}
 
 -- nothing that is told of the collector is a question
-of_collector : (V : Type 0) (o : Turned) → is_question {V = V} (collected o) ≡ false
+pub of_collector : (V : Type 0) (o : Turned) → is_question {V = V} (collected o) ≡ false
 of_collector V turned.Running = refl
 of_collector V turned.Done = refl
 of_collector V (turned.Refused f) = refl

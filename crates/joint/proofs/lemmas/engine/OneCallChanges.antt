@@ -24,19 +24,12 @@ use Rattle.joint.specs.engine.Journaling.{has_place, one_where, places_of}
 use Rattle.joint.specs.engine.Log.{counted}
 use Rattle.joint.specs.Reports.{target}
 use Rattle.joint.specs.engine.Engine.{World, EngineHolds, BeginsAt, BeginsOnTree, Does, EntersUnless, GoesAt, GoesOnReserving, Proceeds, Walks, finds_none}
-use Rattle.joint.proofs.lemmas.engine.ScanEnds.{cleared_is}
+use Rattle.joint.proofs.lemmas.engine.ScanEnds.{cleared_is, set_other}
 
 -- two lists that differ at one place at most
 pub record AtOne {A : Type 0} (xs ys : List A) (w : ℕ) : Type 0 where
   pub other : (i : ℕ) → i ≢ w → slice_get ys i ≡ slice_get xs i
   pub long : length ys ≡ length xs
-
-set_other : {A : Type 0} (xs : List A) (i j : ℕ) (x : A) → j ≢ i → slice_get (set xs i x) j ≡ slice_get xs j
-set_other [] i j x n = refl
-set_other (y ∷ xs) zero zero x n = absurd (n refl)
-set_other (y ∷ xs) zero (suc j) x n = refl
-set_other (y ∷ xs) (suc i) zero x n = refl
-set_other (y ∷ xs) (suc i) (suc j) x n = set_other xs i j x (λ e. n (ap suc e))
 
 pub one_same : {A : Type 0} (xs ys : List A) (w : ℕ) → ys ≡ xs → AtOne xs ys w
 one_same xs ys w e = record { other = λ i n. ap (λ zs. slice_get zs i) e; long = ap length e }

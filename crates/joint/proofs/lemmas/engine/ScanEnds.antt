@@ -43,7 +43,7 @@ use Rattle.joint.proofs.lemmas.engine.SoundBegins as begin
 use Rattle.joint.proofs.lemmas.engine.Collecting.{either, set_here}
 use Rattle.joint.proofs.lemmas.engine.Ending.{IsOnKey, goes as continues, ends}
 
-set_other : {A : Type 0} (xs : List A) (i j : ℕ) (x : A) → j ≢ i → slice_get (set xs i x) j ≡ slice_get xs j
+pub set_other : {A : Type 0} (xs : List A) (i j : ℕ) (x : A) → j ≢ i → slice_get (set xs i x) j ≡ slice_get xs j
 set_other [] i j x n = refl
 set_other (y ∷ xs) zero zero x n = absurd (n refl)
 set_other (y ∷ xs) zero (suc j) x n = refl

@@ -3,23 +3,17 @@ use Rattle.std.proofs.Common.{◌≡◌, ℕ, suc, ◌+◌, ◌^◌, ◌<◌, �
 use Rattle.std.specs.Prelude.{None, Some, IsSome, ◌↔◌}
 use Rattle.std.specs.FinMap.{entries, entries_sorted, get, get-entries, len, len-entries}
 use Rattle.std.specs.FinMap.Entries.{below_all, is_sorted, find}
-use Rattle.std.specs.Ordering.{nat_cmp, eq_by_cmp, is_lt}
+use Rattle.std.specs.Ordering.{nat_cmp, eq_by_cmp}
 use Rattle.std.proofs.lemmas.Bool.{cases_lt}
 use Rattle.std.proofs.lemmas.Bool.Decides.{nat_tests}
 use Rattle.std.proofs.lemmas.List.{length-map}
 use Rattle.judge.specs.Answer.{Pairs}
 use Rattle.joint.specs.nodes.Survey.{AllAbove, Ascend, Has, AreKeys, keys_of}
-
-is_true : (b : Bool) → T b → b ≡ true
-is_true true t = refl
-is_true false t = absurd t
+use Rattle.joint.proofs.lemmas.nodes.SlotViews.{is_true, less_of}
 
 both : (a b : Bool) → T (a && b) → T a × T b
 both true b t = (tt, t)
 both false b t = absurd t
-
-less_of : (a b : ℕ) → is_lt (nat_cmp a b) ≡ true → a < b
-less_of a b e = grind (arith, nat_tests, e)
 
 tied : (a b : ℕ) → eq_by_cmp nat_cmp a b ≡ true → b ≡ a
 tied a b e = grind (arith, nat_tests, e)

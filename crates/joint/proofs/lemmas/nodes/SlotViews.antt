@@ -24,19 +24,19 @@ use Rattle.joint.specs.nodes.Heap.{IsView}
 use Rattle.joint.specs.nodes.Slots.{and_name, names_in, names_of}
 use Rattle.joint.specs.nodes.View.{hung_at, child_in, view}
 
-is_true : (b : Bool) → T b → b ≡ true
+pub is_true : (b : Bool) → T b → b ≡ true
 is_true true t = refl
 is_true false t = absurd t
 
-both_left : (a b : Bool) → a && b ≡ true → a ≡ true
+pub both_left : (a b : Bool) → a && b ≡ true → a ≡ true
 both_left true b e = refl
 both_left false b e = e
 
-both_right : (a b : Bool) → a && b ≡ true → b ≡ true
+pub both_right : (a b : Bool) → a && b ≡ true → b ≡ true
 both_right true b e = e
 both_right false b e = absurd (cc e)
 
-less_of : (a b : ℕ) → is_lt (nat_cmp a b) ≡ true → a < b
+pub less_of : (a b : ℕ) → is_lt (nat_cmp a b) ≡ true → a < b
 less_of a b e = grind (arith, nat_tests, e)
 
 module _ {X : Type 0} where

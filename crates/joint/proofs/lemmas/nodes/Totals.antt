@@ -18,6 +18,7 @@ use Rattle.joint.specs.declared.nodes.slot.Slot.{Slot}
 use Rattle.joint.specs.nodes.Altering.{Empties}
 use Rattle.joint.specs.nodes.Nodes.{of_value, of_cell, total, size_in, size, waits, waiting_size, waiting, waiting_bytes}
 use Rattle.joint.proofs.lemmas.nodes.Altering.{cell_of, inside}
+use Rattle.joint.proofs.lemmas.nodes.SlotViews.{both_left, both_right}
 
 pub size_bound : (f : NodeType) → size_of f ≤ 2104
 size_bound N4 = omega arith
@@ -25,15 +26,7 @@ size_bound N16 = omega arith
 size_bound N48 = omega arith
 size_bound N256 = omega arith
 
-both_left : (a b : Bool) → a && b ≡ true → a ≡ true
-both_left true b e = refl
-both_left false b e = e
-
-both_right : (a b : Bool) → a && b ≡ true → b ≡ true
-both_right true b e = e
-both_right false b e = absurd (cc e)
-
-times : (m n : ℕ) → m * suc n ≡ m * n + m
+pub times : (m n : ℕ) → m * suc n ≡ m * n + m
 times m n = omega arith
 
 module _ {T : Type 0} where
