@@ -273,6 +273,8 @@ def docs():
                 crate = m[1]
             for m in re.finditer(r"`([\w./+-]+\.(?:rt|antt))(?:: \w+)?`", line):
                 name = m[1]
+                if "NAME" in name:
+                    continue
                 short = {"e": "crossbeam_epoch", "c": "congee", "t": "trial", "judge": "judge"}.get(name.split("/")[0])
                 if doc.name == "ARCHITECTURE.md" and short and (ROOT / short / "src" / name.split("/", 1)[1]).is_file():
                     continue
