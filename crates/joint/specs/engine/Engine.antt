@@ -5,10 +5,10 @@ use Rattle.crossbeam_epoch.specs.declared.fault.Fault.{Fault}
 use Rattle.crossbeam_epoch.specs.declared.fault.Fault.TheVariants as fault
 use Rattle.crossbeam_epoch.specs.declared.names.Name.{Name}
 use Rattle.crossbeam_epoch.specs.declared.world.participant.Participant.{Participant}
-use Rattle.crossbeam_epoch.specs.declared.world.report.Event.{Event as Turn}
-use Rattle.crossbeam_epoch.specs.declared.world.report.Event.TheVariants as collector
-use Rattle.crossbeam_epoch.specs.declared.world.report.Outcome.{Outcome as Turned}
-use Rattle.crossbeam_epoch.specs.declared.world.report.Outcome.TheVariants as turned
+use Rattle.crossbeam_epoch.specs.declared.world.report.Event.{Event as CollectorEvent}
+use Rattle.crossbeam_epoch.specs.declared.world.report.Event.TheVariants as collector_event
+use Rattle.crossbeam_epoch.specs.declared.world.report.Outcome.{Outcome as CollectorOutcome}
+use Rattle.crossbeam_epoch.specs.declared.world.report.Outcome.TheVariants as collector_outcome
 use Rattle.crossbeam_epoch.specs.declared.world.report.Report.{Report as Collection}
 use Rattle.crossbeam_epoch.specs.World.Machine.{place, registered}
 use Rattle.crossbeam_epoch.specs.World.Steps.{begin_fault, busy_fault, when}
@@ -154,7 +154,7 @@ pub record FindsNoPlace {V : Type 0} (s : World V) (r : Report V) (s' : World V)
   pub state : s' ≡ s
 
 -- a call on the collector begins, or goes on, until it ends
-pub record Collects {V : Type 0} (same : V → V → Bool) (always : Bool) (s : World V) (who : ℕ) (event : Turn) (call : InFlight V) (r : Report V) (s' : World V) : Type 0 where
+pub record Collects {V : Type 0} (same : V → V → Bool) (always : Bool) (s : World V) (who : ℕ) (event : CollectorEvent) (call : InFlight V) (r : Report V) (s' : World V) : Type 0 where
   pub turn : Collection
   pub step : Collected same always s.forest s.machines who event turn s'.forest
   pub machines : s'.machines ≡ s.machines
@@ -187,8 +187,8 @@ pub record Reserves {V : Type 0} (s : World V) (who : ℕ) (op : Point V) (r : R
   pub report : r ≡ quiet Tree Running
 
 -- it makes a place free for each node that it may hand over; after the last step of that it is in flight on the tree
-abbrev pub reserving : {V : Type 0} → Turned → Outcome V
-reserving turned.Done = Running
+abbrev pub reserving : {V : Type 0} → CollectorOutcome → Outcome V
+reserving collector_outcome.Done = Running
 reserving o = collected o
 
 pub record GoesOnReserving {V : Type 0} (same : V → V → Bool) (always : Bool) (s : World V) (who : ℕ) (r : Report V) (s' : World V) : Type 0 where
@@ -223,14 +223,14 @@ pub record Surveys {V : Type 0} (s : World V) (k : Survey) (r : Report V) (s' : 
   pub tells : TellsOf (nodes s.forest) k outcome
 
 abbrev pub BeginsAt : {V : Type 0} → (V → V → Bool) → Bool → World V → ℕ → Target V → Report V → World V → Type 0
-BeginsAt same always s who (target.Collector op) r s' = Collects same always s who (collector.Begin op) (Collecting op) r s'
+BeginsAt same always s who (target.Collector op) r s' = Collects same always s who (collector_event.Begin op) (Collecting op) r s'
 BeginsAt same always s who (target.Tree op) r s' = BeginsOnTree same always s who op r s'
 BeginsAt same always s who (target.Survey k) r s' = Surveys s k r s'
 
 abbrev pub GoesAt : {V : Type 0} → (V → V → Bool) → Bool → World V → ℕ → Option (InFlight V) → Noise Id V → Report V → World V → Type 0
 GoesAt same always s who None noise r s' = ⊥
 GoesAt same always s who (Some Idle) noise r s' = ⊥
-GoesAt same always s who (Some (Collecting op)) noise r s' = Collects same always s who collector.Go (Collecting op) r s'
+GoesAt same always s who (Some (Collecting op)) noise r s' = Collects same always s who collector_event.Go (Collecting op) r s'
 GoesAt same always s who (Some (Reserving op)) noise r s' = SecuresFirst same always s who r s'
 GoesAt same always s who (Some (Securing op)) noise r s' = GoesOnReserving same always s who r s'
 GoesAt same always s who (Some Walking) noise r s' = Walks same always s who noise r s'

@@ -9,7 +9,7 @@ use Rattle.crossbeam_epoch.specs.declared.limits.Limits.{Limits}
 use Rattle.crossbeam_epoch.specs.declared.names.Name.{Name}
 use Rattle.crossbeam_epoch.specs.declared.names.Ptr.{Ptr}
 use Rattle.crossbeam_epoch.specs.declared.world.report.Event.{Event}
-use Rattle.crossbeam_epoch.specs.declared.world.report.Event.TheVariants as event
+use Rattle.crossbeam_epoch.specs.declared.world.report.Event.TheVariants as collector_event
 use Rattle.crossbeam_epoch.specs.declared.world.participant.Phase.TheVariants as stage
 use Rattle.crossbeam_epoch.specs.declared.world.report.Op.{Op}
 use Rattle.crossbeam_epoch.specs.declared.world.report.Report.{Report}
@@ -123,8 +123,8 @@ FillingLaw {C} {V} number same always most why = (i : ℕ) (a : ℕ → Note) (h
 
 -- of a collector's calls, from their begin to their end
 pub record ProgressLaws (T J : Type 0) : Type 0 where
-  pub begins : (s : State T J) (who : ℕ) (op : Op) (r : Report) → (place s who).phase ≡ stage.Idle → IsReport s who (event.Begin op) r → Begins s who op r.outcome (after s who (event.Begin op) r.outcome)
-  pub goes_on : (s : State T J) (who : ℕ) (op : Op) (r : Report) → Orderly s → IsOn op (place s who) → IsReport s who event.Go r → GoesOn s who op r.outcome (after s who event.Go r.outcome)
+  pub begins : (s : State T J) (who : ℕ) (op : Op) (r : Report) → (place s who).phase ≡ stage.Idle → IsReport s who (collector_event.Begin op) r → Begins s who op r.outcome (after s who (collector_event.Begin op) r.outcome)
+  pub goes_on : (s : State T J) (who : ℕ) (op : Op) (r : Report) → Orderly s → IsOn op (place s who) → IsReport s who collector_event.Go r → GoesOn s who op r.outcome (after s who collector_event.Go r.outcome)
 
 -- of calls on a tree, and of the same calls by numbers, over a store with this limit of versions and these causes of refusals
 pub record NumberLaws {C V : Type 0} (number : C → ℕ) (same : V → V → Bool) (always : Bool) (most : ℕ) (why : NodeType → Refusal → Type 0) : Type 0 where

@@ -7,11 +7,11 @@ use Rattle.std.proofs.lemmas.Option.{slice_get_within}
 use Rattle.crossbeam_epoch.specs.declared.fault.Fault.{Fault}
 use Rattle.crossbeam_epoch.specs.declared.world.participant.Phase.{Phase as Collecting_phase}
 use Rattle.crossbeam_epoch.specs.declared.world.participant.Phase.TheVariants as stage
-use Rattle.crossbeam_epoch.specs.declared.world.report.Event.TheVariants as turning
-use Rattle.crossbeam_epoch.specs.declared.world.report.Op.{Op as Work}
-use Rattle.crossbeam_epoch.specs.declared.world.report.Op.TheVariants as work
-use Rattle.crossbeam_epoch.specs.declared.world.report.Outcome.{Outcome as Turned}
-use Rattle.crossbeam_epoch.specs.declared.world.report.Outcome.TheVariants as turned
+use Rattle.crossbeam_epoch.specs.declared.world.report.Event.TheVariants as collector_event
+use Rattle.crossbeam_epoch.specs.declared.world.report.Op.{Op as CollectorOp}
+use Rattle.crossbeam_epoch.specs.declared.world.report.Op.TheVariants as collector_op
+use Rattle.crossbeam_epoch.specs.declared.world.report.Outcome.{Outcome as CollectorOutcome}
+use Rattle.crossbeam_epoch.specs.declared.world.report.Outcome.TheVariants as collector_outcome
 use Rattle.crossbeam_epoch.specs.World.Machine.{State, place}
 use Rattle.crossbeam_epoch.specs.World.Progress.{Begins, GoesOn, comes_by, left_in, steps_left as turns_left, stage as stage_of}
 use Rattle.congee.specs.declared.protocol.machine.Machine.{Machine}
@@ -72,17 +72,17 @@ record Alone {V : Type 0} (s : World V) (who n : ℕ) : Type 0 where
   pub left : left_of s.forest who (slice_get s.calls who) (slice_get s.machines who) ≤ n
 
 -- an unpin ends as it begins
-unpin_never : (x : Collecting_phase) → comes_by (stage_of x) work.Unpin ≡ true → ⊥
+unpin_never : (x : Collecting_phase) → comes_by (stage_of x) collector_op.Unpin ≡ true → ⊥
 unpin_never stage.Idle e = cc e
 unpin_never _ e = cc e
 
-unpins : (V : Type 0) {T J : Type 0} (s s' : State T J) (w : ℕ) (o : Turned) → Begins s w work.Unpin o s' → is_in_flight {V = V} (collected o) ≡ true → ⊥
-unpins V s s' w turned.Running g on = unpin_never (place s' w).phase g.1.1
-unpins V s s' w turned.Done g on = cc on
-unpins V s s' w (turned.Refused f) g on = cc on
+unpins : (V : Type 0) {T J : Type 0} (s s' : State T J) (w : ℕ) (o : CollectorOutcome) → Begins s w collector_op.Unpin o s' → is_in_flight {V = V} (collected o) ≡ true → ⊥
+unpins V s s' w collector_outcome.Running g on = unpin_never (place s' w).phase g.1.1
+unpins V s s' w collector_outcome.Done g on = cc on
+unpins V s s' w (collector_outcome.Refused f) g on = cc on
 
 -- a securing takes three steps at most
-secures_in : (places hand : ℕ) (x : Collecting_phase) → comes_by (stage_of x) (work.Secure 2) ≡ true → (0 < left_in places x hand) × (left_in places x hand ≤ 3)
+secures_in : (places hand : ℕ) (x : Collecting_phase) → comes_by (stage_of x) (collector_op.Secure 2) ≡ true → (0 < left_in places x hand) × (left_in places x hand ≤ 3)
 secures_in places hand (stage.Secure n) e = (omega arith, omega arith)
 secures_in places hand stage.SecureSeal e = (omega arith, omega arith)
 secures_in places hand (stage.SecureQueue seal) e = (omega arith, omega arith)
@@ -141,11 +141,11 @@ module _ {V : Type 0} (same : V → V → Bool) (always : Bool) (laws : CallLaws
     )
 
     -- a call on the collector
-    collects_by : (o : Turned) (op : Work) (n : ℕ) → OthersUnlocked s' w → GoesOn s.forest.collector w op o s'.forest.collector → s'.calls ≡ set s.calls w (call_after o (Collecting op)) → w < length s.calls → is_in_flight {V = V} (collected o) ≡ true
+    collects_by : (o : CollectorOutcome) (op : CollectorOp) (n : ℕ) → OthersUnlocked s' w → GoesOn s.forest.collector w op o s'.forest.collector → s'.calls ≡ set s.calls w (call_after o (Collecting op)) → w < length s.calls → is_in_flight {V = V} (collected o) ≡ true
         → turns_left s.forest.collector w ≤ n → After n
-    collects_by turned.Running op n free g e l on le = after_by (Collecting op) (slice_get s'.machines w) n free (at_place s.calls s'.calls w (Collecting op) l e) refl tt (let x = g.1 in omega (arith, x, le))
-    collects_by turned.Done op n free g e l on le = absurd (cc on)
-    collects_by (turned.Refused f) op n free g e l on le = absurd (cc on)
+    collects_by collector_outcome.Running op n free g e l on le = after_by (Collecting op) (slice_get s'.machines w) n free (at_place s.calls s'.calls w (Collecting op) l e) refl tt (let x = g.1 in omega (arith, x, le))
+    collects_by collector_outcome.Done op n free g e l on le = absurd (cc on)
+    collects_by (collector_outcome.Refused f) op n free g e l on le = absurd (cc on)
 
     -- a step on the tree, with the call in flight after it
     walked_by : (b : Bool) (n : ℕ) (f : Machine Id V) → OthersUnlocked s' w → slice_get s'.calls w ≡ Some (if b then Idle else Walking) → is_busy (slice_get s'.calls w) ≡ true → slice_get s'.machines w ≡ Some f → IsUndisturbed id_number (nodes s'.forest) f.phase
@@ -167,24 +167,24 @@ module _ {V : Type 0} (same : V → V → Bool) (always : Bool) (laws : CallLaws
       bounds : (0 < turns_left b.forest.collector w) × (turns_left b.forest.collector w ≤ 3)
       bounds = secures_in (length b.forest.collector.table) (length (place b.forest.collector w).hand) (place b.forest.collector w).phase is_at.0.1
 
-      secures_by : (o : Turned) (n : ℕ) → GoesOn b.forest.collector w (work.Secure 2) o s'.forest.collector → s'.calls ≡ set b.calls w (secured_call o (slice_get b.calls w)) → s'.machines ≡ secured_machines o (slice_get b.calls w) b.machines w
+      secures_by : (o : CollectorOutcome) (n : ℕ) → GoesOn b.forest.collector w (collector_op.Secure 2) o s'.forest.collector → s'.calls ≡ set b.calls w (secured_call o (slice_get b.calls w)) → s'.machines ≡ secured_machines o (slice_get b.calls w) b.machines w
           → is_in_flight {V = V} (reserving o) ≡ true → turns_left b.forest.collector w + 43 ≤ n → After n
-      secures_by turned.Running n g ec em on le =
-          let calls = at_place b.calls s'.calls w (Securing p) inside (ec ∙ ap (λ k. set b.calls w (secured_call turned.Running k)) e) in
-          let same_ms : s'.machines ≡ b.machines = em ∙ ap (λ k. secured_machines turned.Running k b.machines w) e in
+      secures_by collector_outcome.Running n g ec em on le =
+          let calls = at_place b.calls s'.calls w (Securing p) inside (ec ∙ ap (λ k. set b.calls w (secured_call collector_outcome.Running k)) e) in
+          let same_ms : s'.machines ≡ b.machines = em ∙ ap (λ k. secured_machines collector_outcome.Running k b.machines w) e in
           after_by (Securing p) (slice_get s'.machines w) n (subst (λ ms. NoOtherLocks id_number w ms) (sym same_ms) free) calls refl tt (let x = g.1 in omega (arith, x, le))
-      secures_by turned.Done n g ec em on le =
-          let calls = at_place b.calls s'.calls w Walking inside (ec ∙ ap (λ k. set b.calls w (secured_call turned.Done k)) e) in
-          let set_ms : s'.machines ≡ set b.machines w (begun root p) = em ∙ ap (λ k. secured_machines turned.Done k b.machines w) e in
+      secures_by collector_outcome.Done n g ec em on le =
+          let calls = at_place b.calls s'.calls w Walking inside (ec ∙ ap (λ k. set b.calls w (secured_call collector_outcome.Done k)) e) in
+          let set_ms : s'.machines ≡ set b.machines w (begun root p) = em ∙ ap (λ k. secured_machines collector_outcome.Done k b.machines w) e in
           let at_ms = at_place b.machines s'.machines w (begun root p) (subst (λ i. w < i) (sym intact.machines) inside) set_ms in
           let forty = begun_left (nodes s'.forest) p is_at.3 in
           after_by Walking (Some (begun root p)) n (unlocked_set w b.machines s'.machines (begun root p) set_ms free) calls at_ms (begins (nodes s'.forest) p) (let x = bounds.0 in omega (arith, forty, x, le))
-      secures_by (turned.Refused f) n g ec em on le = absurd (cc on)
+      secures_by (collector_outcome.Refused f) n g ec em on le = absurd (cc on)
 
       secures : (r : Report V) (n : ℕ) → GoesOnReserving same always b w r s' → is_in_flight r.outcome ≡ true → turns_left b.forest.collector w + 43 ≤ n → After n
       secures r n x on le =
-          let P : State (Slot V) (Unit {0}) → Type 0 = λ y. GoesOn b.forest.collector w (work.Secure 2) x.turn.outcome y in
-          let g = subst P (sym x.step.collected.state) (turns.goes_on b.forest.collector w (work.Secure 2) x.turn intact.safe.sound.sound.orderly is_at.0 x.step.collected.report) in
+          let P : State (Slot V) (Unit {0}) → Type 0 = λ y. GoesOn b.forest.collector w (collector_op.Secure 2) x.turn.outcome y in
+          let g = subst P (sym x.step.collected.state) (turns.goes_on b.forest.collector w (collector_op.Secure 2) x.turn intact.safe.sound.sound.orderly is_at.0 x.step.collected.report) in
           secures_by x.turn.outcome n g x.step.call x.step.machine (sym (ap (λ y. is_in_flight y.outcome) x.report) ∙ on) le
 
     -- a step on the tree
@@ -240,8 +240,8 @@ module _ {V : Type 0} (same : V → V → Bool) (always : Bool) (laws : CallLaws
     abbrev Begun : ℕ → Type 0
     Begun most = (k : ℕ) × Alone s' w k × (k + 2 ≤ most)
 
-    begins_by : (o : Turned) (c : Work) → OthersUnlocked s' w → Begins s.forest.collector w c o s'.forest.collector → s'.calls ≡ set s.calls w (call_after o (Collecting c)) → w < length s.calls → is_in_flight {V = V} (collected o) ≡ true → Begun (length s.forest.collector.table + 530)
-    begins_by turned.Running c free g e l on = (
+    begins_by : (o : CollectorOutcome) (c : CollectorOp) → OthersUnlocked s' w → Begins s.forest.collector w c o s'.forest.collector → s'.calls ≡ set s.calls w (call_after o (Collecting c)) → w < length s.calls → is_in_flight {V = V} (collected o) ≡ true → Begun (length s.forest.collector.table + 530)
+    begins_by collector_outcome.Running c free g e l on = (
       length s.forest.collector.table + 526,
       record {
         unlocked = free;
@@ -250,8 +250,8 @@ module _ {V : Type 0} (same : V → V → Bool) (always : Bool) (laws : CallLaws
       },
       omega arith,
     )
-    begins_by turned.Done c free g e l on = absurd (cc on)
-    begins_by (turned.Refused f) c free g e l on = absurd (cc on)
+    begins_by collector_outcome.Done c free g e l on = absurd (cc on)
+    begins_by (collector_outcome.Refused f) c free g e l on = absurd (cc on)
 
     module _ (o : Op V) (none : misuse s w (Begin o) ≡ None) where
       within : w < length s.calls
@@ -268,7 +268,7 @@ module _ {V : Type 0} (same : V → V → Bool) (always : Bool) (laws : CallLaws
           idle_at (Some (Securing p)) x e = absurd (cc e)
           idle_at (Some Walking) x e = absurd (cc e)
 
-      turn_begins : (c : Work) (r : Report V) → OthersUnlocked s w → Collects same always s w (turning.Begin c) (Collecting c) r s' → is_in_flight r.outcome ≡ true → Begun (length s.forest.collector.table + 530)
+      turn_begins : (c : CollectorOp) (r : Report V) → OthersUnlocked s w → Collects same always s w (collector_event.Begin c) (Collecting c) r s' → is_in_flight r.outcome ≡ true → Begun (length s.forest.collector.table + 530)
       turn_begins c r free x on =
           let m : (m : Machine Id V) × (slice_get s.machines w ≡ Some m) = there s.machines w (subst (λ i. w < i) (sym holds.0.machines) within) in
           let at : IsAt Idle (place s.forest.collector w) m.0 = holds.0.each w Idle m.0 idle m.1 in
@@ -276,11 +276,11 @@ module _ {V : Type 0} (same : V → V → Bool) (always : Bool) (laws : CallLaws
           let g = subst P (sym x.step.state) (turns.begins s.forest.collector w c x.turn at.0 x.step.report) in
           begins_by x.turn.outcome c (subst (λ ms. NoOtherLocks id_number w ms) (sym x.machines) free) g x.calls within (sym (ap (λ y. is_in_flight y.outcome) x.report) ∙ on)
 
-      unpin_ends : (r : Report V) → Collects same always s w (turning.Begin work.Unpin) (Collecting work.Unpin) r s' → is_in_flight r.outcome ≡ true → ⊥
+      unpin_ends : (r : Report V) → Collects same always s w (collector_event.Begin collector_op.Unpin) (Collecting collector_op.Unpin) r s' → is_in_flight r.outcome ≡ true → ⊥
       unpin_ends r x on =
           let m : (m : Machine Id V) × (slice_get s.machines w ≡ Some m) = there s.machines w (subst (λ i. w < i) (sym holds.0.machines) within) in
           let at : IsAt Idle (place s.forest.collector w) m.0 = holds.0.each w Idle m.0 idle m.1 in
-          unpins V s.forest.collector _ w x.turn.outcome (turns.begins s.forest.collector w work.Unpin x.turn at.0 x.step.report) (sym (ap (λ y. is_in_flight y.outcome) x.report) ∙ on)
+          unpins V s.forest.collector _ w x.turn.outcome (turns.begins s.forest.collector w collector_op.Unpin x.turn at.0 x.step.report) (sym (ap (λ y. is_in_flight y.outcome) x.report) ∙ on)
 
       enters : (p : Point V) (r : Report V) (k most : ℕ) → OthersUnlocked s w → Enters s w p r s' → steps_left id_number (nodes s.forest) (first_phase root p) ≤ k → k + 2 ≤ most → Begun most
       enters p r k most free x le room = (
@@ -314,11 +314,11 @@ module _ {V : Type 0} (same : V → V → Bool) (always : Bool) (laws : CallLaws
           survey_on k y = false≢true (sym (survey_ends (nodes s.forest) k y.outcome y.tells) ∙ (sym (ap (λ z. is_in_flight z.outcome) y.report) ∙ on))
 
           of : (q : Op V) → BeginsAt same always s w (target q) r s' → Begun (steps_alone s q)
-          of op.Pin y = turn_begins work.Pin r free y on
+          of op.Pin y = turn_begins collector_op.Pin r free y on
           of op.Unpin y = absurd (unpin_ends r y on)
-          of op.Repin y = turn_begins work.Repin r free y on
-          of op.Flush y = turn_begins work.Flush r free y on
-          of op.Release y = turn_begins work.Release r free y on
+          of op.Repin y = turn_begins collector_op.Repin r free y on
+          of op.Flush y = turn_begins collector_op.Flush r free y on
+          of op.Release y = turn_begins collector_op.Release r free y on
           of (op.Get k) y = enters (point.Get k) r 43 60 free y (omega arith) (omega arith)
           of (op.Insert k v) y = reserves (point.Insert k v) r free y
           of (op.Remove k) y = reserves (point.Remove k) r free y

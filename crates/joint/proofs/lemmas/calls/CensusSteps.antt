@@ -13,8 +13,8 @@ use Rattle.std.proofs.lemmas.Option.{slice_get_within}
 use Rattle.judge.specs.declared.journal.Reply.{Reply}
 use Rattle.judge.specs.Answer.{Pairs}
 use Rattle.crossbeam_epoch.specs.declared.fault.Fault.{Fault}
-use Rattle.crossbeam_epoch.specs.declared.world.report.Outcome.{Outcome as Turned}
-use Rattle.crossbeam_epoch.specs.declared.world.report.Outcome.TheVariants as turned
+use Rattle.crossbeam_epoch.specs.declared.world.report.Outcome.{Outcome as CollectorOutcome}
+use Rattle.crossbeam_epoch.specs.declared.world.report.Outcome.TheVariants as collector_outcome
 use Rattle.crossbeam_epoch.specs.declared.world.report.Report.{Report as Collection}
 use Rattle.congee.specs.declared.forms.base_node.Node.{Node as Form}
 use Rattle.congee.specs.declared.forms.base_node.NodeType.{NodeType}
@@ -361,10 +361,10 @@ module _ {V : Type 0} (same : V → V → Bool) (always : Bool) where
           let R : List (Machine Id V) → Type 0 = λ y. AreCounted k s' y in
           subst R (sym (x.machine ∙ ap (λ o. secured_machines r.outcome o ms who) at)) (by r.outcome d)
         where
-          by : (o : Turned) → AreCounted k s' ms → AreCounted k s' (secured_machines o (Some (Securing op)) ms who)
-          by turned.Running d = d
-          by turned.Done d = counted_set k s' ms d who (begun root op) (λ m here. ended_none m ((intact.each who (Securing op) m at here).2)) (begun_none op)
-          by (turned.Refused f) d = d
+          by : (o : CollectorOutcome) → AreCounted k s' ms → AreCounted k s' (secured_machines o (Some (Securing op)) ms who)
+          by collector_outcome.Running d = d
+          by collector_outcome.Done d = counted_set k s' ms d who (begun root op) (λ m here. ended_none m ((intact.each who (Securing op) m at here).2)) (begun_none op)
+          by (collector_outcome.Refused f) d = d
 
   -- a worker takes a place
   pub counted_registered : (s s' : World V) (k : Census) → AreCounted k s.forest s.machines → (r : Report V) → Proceeds same always s 0 Register r s' → AreCounted k s'.forest s'.machines

@@ -4,8 +4,8 @@ use Rattle.std.proofs.Math.ListN.{set}
 use Rattle.std.specs.Prelude.{Option, None, Some, slice_get, if◌then◌else◌}
 use Rattle.std.proofs.lemmas.Option.{slice_get_within}
 use Rattle.crossbeam_epoch.specs.declared.fault.Fault.{Fault}
-use Rattle.crossbeam_epoch.specs.declared.world.report.Outcome.{Outcome as Turned}
-use Rattle.crossbeam_epoch.specs.declared.world.report.Outcome.TheVariants as turned
+use Rattle.crossbeam_epoch.specs.declared.world.report.Outcome.{Outcome as CollectorOutcome}
+use Rattle.crossbeam_epoch.specs.declared.world.report.Outcome.TheVariants as collector_outcome
 use Rattle.congee.specs.declared.protocol.machine.Machine.{Machine}
 use Rattle.congee.specs.declared.protocol.machine.Noise.{Noise}
 use Rattle.congee.specs.declared.protocol.op.Op.{Op as Point}
@@ -82,15 +82,15 @@ module _ {V : Type 0} (h : ℕ → Node V) where
     by true = tt
     by false = f
 
-  secured_filled : (o : Turned) (k : Option (InFlight V)) (ms : List (Machine Id V)) (w : ℕ) → Filled ms → Filled (secured_machines o k ms w)
-  secured_filled turned.Done (Some (Securing op)) ms w f = filled_at ms w (begun root op) f (fills_begun op)
-  secured_filled turned.Done (Some Idle) ms w f = f
-  secured_filled turned.Done (Some (Collecting op)) ms w f = f
-  secured_filled turned.Done (Some (Reserving op)) ms w f = f
-  secured_filled turned.Done (Some Walking) ms w f = f
-  secured_filled turned.Done None ms w f = f
-  secured_filled turned.Running k ms w f = f
-  secured_filled (turned.Refused e) k ms w f = f
+  secured_filled : (o : CollectorOutcome) (k : Option (InFlight V)) (ms : List (Machine Id V)) (w : ℕ) → Filled ms → Filled (secured_machines o k ms w)
+  secured_filled collector_outcome.Done (Some (Securing op)) ms w f = filled_at ms w (begun root op) f (fills_begun op)
+  secured_filled collector_outcome.Done (Some Idle) ms w f = f
+  secured_filled collector_outcome.Done (Some (Collecting op)) ms w f = f
+  secured_filled collector_outcome.Done (Some (Reserving op)) ms w f = f
+  secured_filled collector_outcome.Done (Some Walking) ms w f = f
+  secured_filled collector_outcome.Done None ms w f = f
+  secured_filled collector_outcome.Running k ms w f = f
+  secured_filled (collector_outcome.Refused e) k ms w f = f
 
 module _ {V : Type 0} (same : V → V → Bool) (always : Bool) (laws : CallLaws {C = Id} {V = V} id_number same always) (fills : FilledLaws {C = Id} {V = V} id_number same always)
     (filling : (f : Nodes V) → FillingLaw {C = Id} {V = V} id_number same always f.version_max (Refuses f)) where

@@ -9,7 +9,7 @@ use Rattle.congee.specs.declared.protocol.machine.Machine.{Machine}
 use Rattle.congee.specs.declared.protocol.machine.Move.{Move}
 use Rattle.congee.specs.declared.protocol.phase.Phase.{Phase}
 use Rattle.congee.specs.declared.protocol.phase.Phase.TheVariants.{Obsolete, Retire}
-use Rattle.congee.specs.declared.protocol.run.Step.{Step as Turn}
+use Rattle.congee.specs.declared.protocol.run.Step.{Step as TreeStep}
 use Rattle.congee.specs.declared.protocol.turn.NextPhase.{NextPhase as Said}
 use Rattle.judge.specs.declared.journal.Reply.{Reply}
 use Rattle.congee.specs.Heap.{Node, Below}
@@ -131,7 +131,7 @@ module _ {V : Type 0} where
     leads_same h h' a down keep path x.0 c (down n b x.0 l x.1) x.2,
   )
 
-module _ {V : Type 0} (same : V → V → Bool) (always : Bool) (laws : CallLaws {C = Id} {V = V} id_number same always) (f f' : Nodes V) (ms between : List (Machine Id V)) (step : Turn Id V) (d : Move V) (safe : IsSafe same always f ms)
+module _ {V : Type 0} (same : V → V → Bool) (always : Bool) (laws : CallLaws {C = Id} {V = V} id_number same always) (f f' : Nodes V) (ms between : List (Machine Id V)) (step : TreeStep Id V) (d : Move V) (safe : IsSafe same always f ms)
     (walked : Walked same always f ms step d f' between) (m : Machine Id V) (at : slice_get ms step.who ≡ Some m) where
   abbrev who : ℕ
   who = step.who

@@ -7,11 +7,11 @@ use Rattle.std.proofs.lemmas.Bool.{cases_Bool, eqb-true, eqb-false, false≢true
 use Rattle.judge.specs.declared.journal.Reply.{Reply}
 use Rattle.judge.specs.Answer.{Pairs}
 use Rattle.crossbeam_epoch.specs.declared.fault.Fault.{Fault}
-use Rattle.crossbeam_epoch.specs.declared.world.report.Event.{Event as Turning}
-use Rattle.crossbeam_epoch.specs.declared.world.report.Event.TheVariants as turning
-use Rattle.crossbeam_epoch.specs.declared.world.report.Op.{Op as Work}
-use Rattle.crossbeam_epoch.specs.declared.world.report.Outcome.{Outcome as Turned}
-use Rattle.crossbeam_epoch.specs.declared.world.report.Outcome.TheVariants as turned
+use Rattle.crossbeam_epoch.specs.declared.world.report.Event.{Event as CollectorEvent}
+use Rattle.crossbeam_epoch.specs.declared.world.report.Event.TheVariants as collector_event
+use Rattle.crossbeam_epoch.specs.declared.world.report.Op.{Op as CollectorOp}
+use Rattle.crossbeam_epoch.specs.declared.world.report.Outcome.{Outcome as CollectorOutcome}
+use Rattle.crossbeam_epoch.specs.declared.world.report.Outcome.TheVariants as collector_outcome
 use Rattle.congee.specs.declared.protocol.machine.Machine.{Machine}
 use Rattle.congee.specs.declared.protocol.machine.Noise.{Noise}
 use Rattle.congee.specs.declared.protocol.machine.Outcome.{Outcome as Moved}
@@ -154,10 +154,10 @@ module _ {V : Type 0} where
     by true = tt
     by false = x
 
-  past_collects : (o : Turned) (op : Work) (m : Option (Machine Id V)) → IsPast (Some (call_after o (Collecting op))) m
-  past_collects turned.Running op m = tt
-  past_collects turned.Done op m = tt
-  past_collects (turned.Refused f) op m = tt
+  past_collects : (o : CollectorOutcome) (op : CollectorOp) (m : Option (Machine Id V)) → IsPast (Some (call_after o (Collecting op))) m
+  past_collects collector_outcome.Running op m = tt
+  past_collects collector_outcome.Done op m = tt
+  past_collects (collector_outcome.Refused f) op m = tt
 
   past_reserves : (k : Option (InFlight V)) (m : Option (Machine Id V)) → IsPast k m → is_reserving k ≡ true → ⊥
   past_reserves (Some (Reserving p)) m u e = u
@@ -180,7 +180,7 @@ module _ {V : Type 0} (same : V → V → Bool) (always : Bool) (s s' : World V)
   placed : (k : InFlight V) → w < length s.calls → s'.calls ≡ set s.calls w k → slice_get s'.calls w ≡ Some k
   placed k l e = ap (λ xs. slice_get xs w) e ∙ set_at s.calls w k l
 
-  collects_past : (event : Turning) (op : Work) (r : Report V) → w < length s.calls → Collects same always s w event (Collecting op) r s' → After
+  collects_past : (event : CollectorEvent) (op : CollectorOp) (r : Report V) → w < length s.calls → Collects same always s w event (Collecting op) r s' → After
   collects_past event op r l x =
       let P : Option (InFlight V) → Type 0 = λ k. IsPast k (slice_get s'.machines w) in
       subst P (sym (placed (call_after x.turn.outcome (Collecting op)) l x.calls)) (past_collects x.turn.outcome op (slice_get s'.machines w))
@@ -204,7 +204,7 @@ module _ {V : Type 0} (same : V → V → Bool) (always : Bool) (s s' : World V)
     tree_past (point.Exchange k a b) r x off = absurd (enters_on r x.report off)
 
     begins_past : (t : Target V) (r : Report V) → BeginsAt same always s w t r s' → is_in_flight r.outcome ≡ false → After
-    begins_past (target.Collector c) r x off = collects_past (turning.Begin c) c r (begin_within same always s s' w holds op none) x
+    begins_past (target.Collector c) r x off = collects_past (collector_event.Begin c) c r (begin_within same always s s' w holds op none) x
     begins_past (target.Tree p) r x off = tree_past p r x off
     begins_past (target.Survey k) r x off = past_same (ap (λ z. z.calls) x.state) (ap (λ z. z.machines) x.state) u
 
@@ -224,7 +224,7 @@ module _ {V : Type 0} (same : V → V → Bool) (always : Bool) (s s' : World V)
           subst P (sym c) (subst Q (sym n) z)
 
   goes_past : (k : Option (InFlight V)) (o : Option (Machine Id V)) (noise : Noise Id V) (r : Report V) → slice_get s.calls w ≡ k → slice_get s.machines w ≡ o → IsPast k o → GoesAt same always s w k noise r s' → After
-  goes_past (Some (Collecting op)) o noise r e at u x = collects_past turning.Go op r (slice_get_within s.calls w (Collecting op) e) x
+  goes_past (Some (Collecting op)) o noise r e at u x = collects_past collector_event.Go op r (slice_get_within s.calls w (Collecting op) e) x
   goes_past (Some Walking) (Some m) noise r e at u x = walks_past noise r m e at u x
   goes_past (Some Walking) None noise r e at u x = absurd u
   goes_past (Some Idle) o noise r e at u x = absurd x

@@ -16,7 +16,7 @@ use Rattle.congee.specs.declared.protocol.op.Op.TheVariants as point
 use Rattle.congee.specs.declared.protocol.phase.Kind.{Kind}
 use Rattle.congee.specs.declared.protocol.phase.Phase.{Phase}
 use Rattle.congee.specs.declared.protocol.phase.Phase.TheVariants.{Obsolete, Retire, UnlockBelow, Unlock}
-use Rattle.congee.specs.declared.protocol.run.Step.{Step as Turn}
+use Rattle.congee.specs.declared.protocol.run.Step.{Step as TreeStep}
 use Rattle.congee.specs.declared.protocol.store.Refusal.{Refusal as Cause}
 use Rattle.congee.specs.declared.protocol.turn.NextPhase.{NextPhase as Said}
 use Rattle.congee.specs.Heap.{Node}
@@ -167,7 +167,7 @@ module _ {V : Type 0} (same : V → V → Bool) (always : Bool) (laws : CallLaws
 
     -- a call on the tree takes a step
     module _ (noise : Noise Id V) (is : event ≡ Go noise) (on : slice_get s.calls w ≡ Some Walking) (k : Walks same always s w noise r s') where
-      abbrev turn : Turn Id V
+      abbrev turn : TreeStep Id V
       turn = record { who = w; noise = noise }
 
       old : (m : Machine Id V) × (slice_get s.machines w ≡ Some m)

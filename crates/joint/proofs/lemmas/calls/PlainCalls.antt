@@ -6,11 +6,11 @@ use Rattle.std.proofs.lemmas.Bool.{cases_Bool, ne_eqb}
 use Rattle.joint.proofs.lemmas.world.Flights.{eqb_same}
 use Rattle.crossbeam_epoch.specs.declared.fault.Fault.{Fault}
 use Rattle.crossbeam_epoch.specs.declared.fault.Fault.TheVariants as fault
-use Rattle.crossbeam_epoch.specs.declared.world.report.Event.{Event as Turn}
-use Rattle.crossbeam_epoch.specs.declared.world.report.Event.TheVariants as collector
-use Rattle.crossbeam_epoch.specs.declared.world.report.Op.{Op as Work}
-use Rattle.crossbeam_epoch.specs.declared.world.report.Outcome.{Outcome as Turned}
-use Rattle.crossbeam_epoch.specs.declared.world.report.Outcome.TheVariants as turned
+use Rattle.crossbeam_epoch.specs.declared.world.report.Event.{Event as CollectorEvent}
+use Rattle.crossbeam_epoch.specs.declared.world.report.Event.TheVariants as collector_event
+use Rattle.crossbeam_epoch.specs.declared.world.report.Op.{Op as CollectorOp}
+use Rattle.crossbeam_epoch.specs.declared.world.report.Outcome.{Outcome as CollectorOutcome}
+use Rattle.crossbeam_epoch.specs.declared.world.report.Outcome.TheVariants as collector_outcome
 use Rattle.crossbeam_epoch.specs.declared.world.report.Report.{Report as Collection}
 use Rattle.crossbeam_epoch.specs.World.Store.{value_at, was_given}
 use Rattle.congee.specs.declared.forms.base_node.NodeType.{NodeType}
@@ -120,7 +120,7 @@ module _ {V : Type 0} (same : V → V → Bool) (always : Bool) where
     no_version form e = e
 
     -- a step of the collector
-    module _ (s' : World V) (event : Turn) (r : Collection) (c : Collected same always s.forest s.machines w event r s'.forest) (a : Agree s order p) where
+    module _ (s' : World V) (event : CollectorEvent) (r : Collection) (c : Collected same always s.forest s.machines w event r s'.forest) (a : Agree s order p) where
       spared : SparedAlike order id_number (nodes s.forest) s.machines (nodes s'.forest)
       spared = laws.spared order (nodes s.forest) (nodes s'.forest) s.machines c.destroys
 
@@ -131,12 +131,12 @@ module _ {V : Type 0} (same : V → V → Bool) (always : Bool) where
           → ((m : Machine Id V) → slice_get s'.machines w ≡ Some m → InPlain order (nodes s'.forest) k' m (p.calls w)) → Agree s' order p
       collected_agrees k' ec em here = exchanged s s' w order order p p k' ec (spared.order_is (made_before s.forest) a.ordered) a.root a.made (spared.nodes p.heap a.heap) here (λ i k m n ak am. others i k m ak (em i m n am))
 
-    pub idle_after : (o : Turned) (op : Work) (h : ℕ → Node V) (m : Machine Id V) (q : Machine ℕ V) → InPlain order h (call_after o (Collecting op)) m q
-    idle_after turned.Running op h m q = tt
-    idle_after turned.Done op h m q = tt
-    idle_after (turned.Refused f) op h m q = tt
+    pub idle_after : (o : CollectorOutcome) (op : CollectorOp) (h : ℕ → Node V) (m : Machine Id V) (q : Machine ℕ V) → InPlain order h (call_after o (Collecting op)) m q
+    idle_after collector_outcome.Running op h m q = tt
+    idle_after collector_outcome.Done op h m q = tt
+    idle_after (collector_outcome.Refused f) op h m q = tt
 
-    pub collects : (s' : World V) (event : Turn) (op : Work) (r : Report V) → Agree s order p → Collects same always s w event (Collecting op) r s' → Agree s' order p
+    pub collects : (s' : World V) (event : CollectorEvent) (op : CollectorOp) (r : Report V) → Agree s order p → Collects same always s w event (Collecting op) r s' → Agree s' order p
     collects s' event op r a k = collected_agrees s' event k.turn k.step a (call_after k.turn.outcome (Collecting op)) k.calls
         (λ i m n b. let P : List (Machine Id V) → Type 0 = λ ms. slice_get ms i ≡ Some m in subst P k.machines b) (λ m b. idle_after k.turn.outcome op (nodes s'.forest) m (p.calls w))
 
@@ -145,22 +145,22 @@ module _ {V : Type 0} (same : V → V → Bool) (always : Bool) where
       machine_here : (m : Machine Id V) → slice_get s.machines w ≡ Some m → p.calls w ≡ begun 0 op
       machine_here m b = a.calls w (Securing op) m here b
 
-      pub secures : (s' : World V) (r : Report V) (o : Turned) → IsUnrefused r.outcome → (x : GoesOnReserving same always s w r s') → x.turn.outcome ≡ o → ((m : Machine Id V) → slice_get s'.machines w ≡ Some m → (n : Machine Id V) × (slice_get s.machines w ≡ Some n)) → Agree s' order p
-      secures s' r turned.Running un x e there =
+      pub secures : (s' : World V) (r : Report V) (o : CollectorOutcome) → IsUnrefused r.outcome → (x : GoesOnReserving same always s w r s') → x.turn.outcome ≡ o → ((m : Machine Id V) → slice_get s'.machines w ≡ Some m → (n : Machine Id V) × (slice_get s.machines w ≡ Some n)) → Agree s' order p
+      secures s' r collector_outcome.Running un x e there =
           let P : Option (InFlight V) → Type 0 = λ k. s'.calls ≡ set s.calls w (secured_call x.turn.outcome k) in
-          let Q : Turned → Type 0 = λ z. s'.calls ≡ set s.calls w (secured_call z (Some (Securing op))) in
+          let Q : CollectorOutcome → Type 0 = λ z. s'.calls ≡ set s.calls w (secured_call z (Some (Securing op))) in
           let R : Option (InFlight V) → Type 0 = λ k. s'.machines ≡ secured_machines x.turn.outcome k s.machines w in
-          let S : Turned → Type 0 = λ z. s'.machines ≡ secured_machines z (Some (Securing op)) s.machines w in
+          let S : CollectorOutcome → Type 0 = λ z. s'.machines ≡ secured_machines z (Some (Securing op)) s.machines w in
           let em : s'.machines ≡ s.machines = subst S e (subst R here x.step.machine) in
-          collected_agrees s' collector.Go x.turn x.step.collected a (Securing op) (subst Q e (subst P here x.step.call))
+          collected_agrees s' collector_event.Go x.turn x.step.collected a (Securing op) (subst Q e (subst P here x.step.call))
           (λ i m n b. let T : List (Machine Id V) → Type 0 = λ ms. slice_get ms i ≡ Some m in subst T em b) (λ m b. machine_here (there m b).0 (there m b).1)
-      secures s' r turned.Done un x e there =
+      secures s' r collector_outcome.Done un x e there =
           let P : Option (InFlight V) → Type 0 = λ k. s'.calls ≡ set s.calls w (secured_call x.turn.outcome k) in
-          let Q : Turned → Type 0 = λ z. s'.calls ≡ set s.calls w (secured_call z (Some (Securing op))) in
+          let Q : CollectorOutcome → Type 0 = λ z. s'.calls ≡ set s.calls w (secured_call z (Some (Securing op))) in
           let R : Option (InFlight V) → Type 0 = λ k. s'.machines ≡ secured_machines x.turn.outcome k s.machines w in
-          let S : Turned → Type 0 = λ z. s'.machines ≡ secured_machines z (Some (Securing op)) s.machines w in
+          let S : CollectorOutcome → Type 0 = λ z. s'.machines ≡ secured_machines z (Some (Securing op)) s.machines w in
           let em : s'.machines ≡ set s.machines w (begun root op) = subst S e (subst R here x.step.machine) in
-          collected_agrees s' collector.Go x.turn x.step.collected a Walking (subst Q e (subst P here x.step.call))
+          collected_agrees s' collector_event.Go x.turn x.step.collected a Walking (subst Q e (subst P here x.step.call))
           (λ i m n b.
           let T : List (Machine Id V) → Type 0 = λ ms. slice_get ms i ≡ Some m in
           elim (either s.machines w i (begun root op) m (subst T em b)) [
@@ -175,7 +175,7 @@ module _ {V : Type 0} (same : V → V → Bool) (always : Bool) where
             | inl z ↦ subst U z.1 (subst W (sym (machine_here (there m b).0 (there m b).1)) (laws.begins order (nodes s'.forest) root 0 op a.root))
             | inr z ↦ absurd (z.0 refl)
           ])
-      secures s' r (turned.Refused f) un x e there =
+      secures s' r (collector_outcome.Refused f) un x e there =
           let z : r.outcome ≡ Refused (of_fault f) = ap (λ y. y.outcome) x.report ∙ ap reserving e in
           absurd (fault_apart f (un (of_fault f) z))
 

@@ -5,7 +5,7 @@ use Rattle.std.specs.Prelude.{Option, None, Some, slice_get}
 use Rattle.std.proofs.lemmas.List.{append-nil, append_assoc}
 use Rattle.std.proofs.lemmas.Option.{slice_get_cases, slice_get_within}
 use Rattle.crossbeam_epoch.specs.declared.fault.Fault.{Fault}
-use Rattle.crossbeam_epoch.specs.declared.world.report.Event.TheVariants as collector
+use Rattle.crossbeam_epoch.specs.declared.world.report.Event.TheVariants as collector_event
 use Rattle.crossbeam_epoch.specs.declared.world.report.Op.TheVariants.{Secure}
 use Rattle.congee.specs.declared.protocol.machine.Machine.{Machine}
 use Rattle.congee.specs.declared.protocol.machine.Noise.{Noise}
@@ -128,7 +128,7 @@ module _ {V : Type 0} (same : V → V → Bool) (always : Bool) (laws : (f : Nod
     target_at : (t : Target V) (r : Report V) → BeginsAt same always (engine_of s) w t r (engine_of s') → Goal (begin_of t r.kind) r
     target_at (target.Collector op) r x =
         let P : Report V → Type 0 = λ z. Goal (begin_of (target.Collector op) z.kind) z in
-        subst P (sym x.report) (collects same always (engine_of s) law order p w (engine_of s') (collector.Begin op) op r a x)
+        subst P (sym x.report) (collects same always (engine_of s) law order p w (engine_of s') (collector_event.Begin op) op r a x)
     target_at (target.Tree op) r x = let P : Kind → Type 0 = λ z. Goal (begin_of (target.Tree op) z) r in subst P (sym (begin_kind op r x)) (point_at op r x)
     target_at (target.Survey k) r x =
         let P : Report V → Type 0 = λ z. Goal (begin_of (target.Survey k) z.kind) z in
@@ -153,7 +153,7 @@ module _ {V : Type 0} (same : V → V → Bool) (always : Bool) (laws : (f : Nod
     call_at (Some Idle) noise r q un x = absurd x
     call_at (Some (Collecting op)) noise r q un x =
         let P : Report V → Type 0 = λ z. Goal (go_of noise z.kind) z in
-        subst P (sym x.report) (collects same always (engine_of s) law order p w (engine_of s') collector.Go op r a x)
+        subst P (sym x.report) (collects same always (engine_of s) law order p w (engine_of s') collector_event.Go op r a x)
     call_at (Some (Securing op)) noise r q un x =
         let P : Report V → Type 0 = λ z. Goal (go_of noise z.kind) z in
         subst P (sym x.report) (secures same always (engine_of s) law order p w op q a (engine_of s') r x.turn.outcome un.0 x refl (λ m b. machine_at (Securing op) q))
@@ -162,7 +162,7 @@ module _ {V : Type 0} (same : V → V → Bool) (always : Bool) (laws : (f : Nod
         let calls : x.between.calls ≡ set s.calls w (Securing op) = x.begins.call ∙ ap (λ (k : Option (InFlight V)). set s.calls w (securing_of k)) q in
         let here : slice_get x.between.calls w ≡ Some (Securing op) = ap (λ (ks : List (InFlight V)). slice_get ks w) calls ∙ set_here s.calls w (Securing op) (Reserving op) q in
         let T : List (Machine Id V) → Type 0 = λ ms. (n : Machine Id V) × (slice_get ms w ≡ Some n) in
-        let middle : Agree x.between order p = collected_agrees same always (engine_of s) law order p w x.between (collector.Begin (Secure 2)) x.begins.turn x.begins.collected a (Securing op) calls
+        let middle : Agree x.between order p = collected_agrees same always (engine_of s) law order p w x.between (collector_event.Begin (Secure 2)) x.begins.turn x.begins.collected a (Securing op) calls
         (λ i m n b. let R : List (Machine Id V) → Type 0 = λ ms. slice_get ms i ≡ Some m in subst R x.begins.machine b)
         (λ m b. let R : List (Machine Id V) → Type 0 = λ ms. slice_get ms w ≡ Some m in whole_agrees.calls w (Reserving op) m q (subst R x.begins.machine b)) in
         subst P (sym x.goes.report) (secures same always x.between (laws x.between.forest) order p w op here middle (engine_of s') r x.goes.turn.outcome un.0 x.goes refl (λ m b. subst T (sym x.begins.machine) (machine_at (Reserving op) q)))

@@ -6,10 +6,10 @@ use Rattle.std.proofs.lemmas.Bool.{cases_Bool, eqb-true, eqb-false, false≢true
 use Rattle.std.proofs.lemmas.Option.{slice_get_within}
 use Rattle.crossbeam_epoch.specs.declared.fault.Fault.{Fault}
 use Rattle.crossbeam_epoch.specs.declared.fault.Fault.TheVariants as fault
-use Rattle.crossbeam_epoch.specs.declared.world.report.Event.TheVariants as turning
-use Rattle.crossbeam_epoch.specs.declared.world.report.Op.TheVariants as work
-use Rattle.crossbeam_epoch.specs.declared.world.report.Outcome.{Outcome as Turned}
-use Rattle.crossbeam_epoch.specs.declared.world.report.Outcome.TheVariants as turned
+use Rattle.crossbeam_epoch.specs.declared.world.report.Event.TheVariants as collector_event
+use Rattle.crossbeam_epoch.specs.declared.world.report.Op.TheVariants as collector_op
+use Rattle.crossbeam_epoch.specs.declared.world.report.Outcome.{Outcome as CollectorOutcome}
+use Rattle.crossbeam_epoch.specs.declared.world.report.Outcome.TheVariants as collector_outcome
 use Rattle.crossbeam_epoch.specs.World.Machine.{State, place}
 use Rattle.crossbeam_epoch.specs.World.Progress.{Begins, GoesOn, refusal}
 use Rattle.crossbeam_epoch.specs.World.Steps.{begin_fault}
@@ -85,7 +85,7 @@ Reads _ = ⊥
 
 -- the worker has a reading call in flight
 abbrev pub IsReader : {V : Type 0} → Option (InFlight V) → Option (Machine Id V) → Type 0
-IsReader (Some (Collecting work.Pin)) m = Unit {0}
+IsReader (Some (Collecting collector_op.Pin)) m = Unit {0}
 IsReader (Some Walking) (Some m) = (m.kind ≡ kind.Get) × Reads m.phase
 IsReader _ m = ⊥
 
@@ -162,25 +162,25 @@ module _ {V : Type 0} where
     by false = x
 
   -- what a collector tells of a pin
-  not_refused : (o : Turned) (e : Refusal) → ((f : Fault) → o ≡ turned.Refused f → ⊥) → collected {V = V} o ≡ Refused e → ⊥
-  not_refused turned.Running e n q = cc q
-  not_refused turned.Done e n q = cc q
-  not_refused (turned.Refused f) e n q = n f refl
+  not_refused : (o : CollectorOutcome) (e : Refusal) → ((f : Fault) → o ≡ collector_outcome.Refused f → ⊥) → collected {V = V} o ≡ Refused e → ⊥
+  not_refused collector_outcome.Running e n q = cc q
+  not_refused collector_outcome.Done e n q = cc q
+  not_refused (collector_outcome.Refused f) e n q = n f refl
 
-  pin_on : (o : Turned) → is_busy {V = V} (Some (call_after o (Collecting work.Pin))) ≡ true → (m : Option (Machine Id V)) → IsReader (Some (call_after o (Collecting work.Pin))) m
-  pin_on turned.Running e m = tt
-  pin_on turned.Done e m = absurd (false≢true e)
-  pin_on (turned.Refused f) e m = absurd (false≢true e)
+  pin_on : (o : CollectorOutcome) → is_busy {V = V} (Some (call_after o (Collecting collector_op.Pin))) ≡ true → (m : Option (Machine Id V)) → IsReader (Some (call_after o (Collecting collector_op.Pin))) m
+  pin_on collector_outcome.Running e m = tt
+  pin_on collector_outcome.Done e m = absurd (false≢true e)
+  pin_on (collector_outcome.Refused f) e m = absurd (false≢true e)
 
-goes_refused : {T J : Type 0} (c c' : State T J) (w : ℕ) (o : Turned) (f : Fault) → GoesOn c w work.Pin o c' → o ≡ turned.Refused f → ⊥
-goes_refused c c' w (turned.Refused g) f x q = false≢true x.1
-goes_refused c c' w turned.Running f x q = cc q
-goes_refused c c' w turned.Done f x q = cc q
+goes_refused : {T J : Type 0} (c c' : State T J) (w : ℕ) (o : CollectorOutcome) (f : Fault) → GoesOn c w collector_op.Pin o c' → o ≡ collector_outcome.Refused f → ⊥
+goes_refused c c' w (collector_outcome.Refused g) f x q = false≢true x.1
+goes_refused c c' w collector_outcome.Running f x q = cc q
+goes_refused c c' w collector_outcome.Done f x q = cc q
 
-begins_refused : {T J : Type 0} (c c' : State T J) (w : ℕ) (o : Turned) (f : Fault) → refusal c w work.Pin ≡ None → Begins c w work.Pin o c' → o ≡ turned.Refused f → ⊥
-begins_refused c c' w (turned.Refused g) f n x q = let z : None ≡ Some g = sym n ∙ x.0 in cc
-begins_refused c c' w turned.Running f n x q = cc q
-begins_refused c c' w turned.Done f n x q = cc q
+begins_refused : {T J : Type 0} (c c' : State T J) (w : ℕ) (o : CollectorOutcome) (f : Fault) → refusal c w collector_op.Pin ≡ None → Begins c w collector_op.Pin o c' → o ≡ collector_outcome.Refused f → ⊥
+begins_refused c c' w (collector_outcome.Refused g) f n x q = let z : None ≡ Some g = sym n ∙ x.0 in cc
+begins_refused c c' w collector_outcome.Running f n x q = cc q
+begins_refused c c' w collector_outcome.Done f n x q = cc q
 
 unready_is : (b busy : Bool) (f : Fault) (u : Option Fault) → (if b then (if busy then Some f else u) else Some fault.Unknown) ≡ None → (if b then u else Some fault.Unknown) ≡ None
 unready_is true true f u e = absurd (cc e)
@@ -200,11 +200,11 @@ module _ {V : Type 0} (same : V → V → Bool) (always : Bool) (turns : Progres
     placed : (k : InFlight V) → w < length s.calls → s'.calls ≡ set s.calls w k → slice_get s'.calls w ≡ Some k
     placed k l e = ap (λ xs. slice_get xs w) e ∙ set_at s.calls w k l
 
-    pins : (event : _) (r : Report V) → w < length s.calls → ((f : Fault) (x : Collects same always s w event (Collecting work.Pin) r s') → x.turn.outcome ≡ turned.Refused f → ⊥) → Collects same always s w event (Collecting work.Pin) r s' → Goes r
+    pins : (event : _) (r : Report V) → w < length s.calls → ((f : Fault) (x : Collects same always s w event (Collecting collector_op.Pin) r s') → x.turn.outcome ≡ collector_outcome.Refused f → ⊥) → Collects same always s w event (Collecting collector_op.Pin) r s' → Goes r
     pins event r l n x = (
       (λ e q. absurd (not_refused {V = V} x.turn.outcome e (λ f. n f x) (sym (ap (λ y. y.outcome) x.report) ∙ q))),
       (λ b.
-          let at : slice_get s'.calls w ≡ Some (call_after x.turn.outcome (Collecting work.Pin)) = placed _ l x.calls in
+          let at : slice_get s'.calls w ≡ Some (call_after x.turn.outcome (Collecting collector_op.Pin)) = placed _ l x.calls in
           let P : Option (InFlight V) → Type 0 = λ k. IsReader k (slice_get s'.machines w) in
           subst P (sym at) (pin_on x.turn.outcome (sym (ap is_busy at) ∙ b) (slice_get s'.machines w))),
     )
@@ -212,11 +212,11 @@ module _ {V : Type 0} (same : V → V → Bool) (always : Bool) (turns : Progres
     machine_at : (k : InFlight V) → slice_get s.calls w ≡ Some k → (m : Machine Id V) × (slice_get s.machines w ≡ Some m)
     machine_at k e = there s.machines w (within_machines (slice_get_within s.calls w k e))
 
-    pin_goes : (noise : Noise Id V) (r : Report V) → slice_get s.calls w ≡ Some (Collecting work.Pin) → Collects same always s w turning.Go (Collecting work.Pin) r s' → Goes r
+    pin_goes : (noise : Noise Id V) (r : Report V) → slice_get s.calls w ≡ Some (Collecting collector_op.Pin) → Collects same always s w collector_event.Go (Collecting collector_op.Pin) r s' → Goes r
     pin_goes noise r e x =
         let m : (m : Machine Id V) × (slice_get s.machines w ≡ Some m) = machine_at _ e in
-        let at : IsAt (Collecting work.Pin) (place s.forest.collector w) m.0 = holds.0.each w (Collecting work.Pin) m.0 e m.1 in
-        pins turning.Go r (slice_get_within s.calls w _ e) (λ f y q. goes_refused s.forest.collector _ w y.turn.outcome f (turns.goes_on s.forest.collector w work.Pin y.turn holds.0.safe.sound.sound.orderly at.0 y.step.report) q) x
+        let at : IsAt (Collecting collector_op.Pin) (place s.forest.collector w) m.0 = holds.0.each w (Collecting collector_op.Pin) m.0 e m.1 in
+        pins collector_event.Go r (slice_get_within s.calls w _ e) (λ f y q. goes_refused s.forest.collector _ w y.turn.outcome f (turns.goes_on s.forest.collector w collector_op.Pin y.turn holds.0.safe.sound.sound.orderly at.0 y.step.report) q) x
 
     walks : (noise : Noise Id V) (r : Report V) (m : Machine Id V) → slice_get s.calls w ≡ Some Walking → slice_get s.machines w ≡ Some m → (m.kind ≡ kind.Get) × Reads m.phase → Walks same always s w noise r s' → Goes r
     walks noise r m e at u x =
@@ -237,7 +237,7 @@ module _ {V : Type 0} (same : V → V → Bool) (always : Bool) (turns : Progres
             subst P (sym c) (subst Q (sym n) z)
 
     goes : (k : Option (InFlight V)) (o : Option (Machine Id V)) (noise : Noise Id V) (r : Report V) → slice_get s.calls w ≡ k → slice_get s.machines w ≡ o → IsReader k o → GoesAt same always s w k noise r s' → Goes r
-    goes (Some (Collecting work.Pin)) o noise r e at u x = pin_goes noise r e x
+    goes (Some (Collecting collector_op.Pin)) o noise r e at u x = pin_goes noise r e x
     goes (Some Walking) (Some m) noise r e at u x = walks noise r m e at u x
     goes (Some Walking) None noise r e at u x = absurd u
     goes None o noise r e at u x = absurd x
@@ -299,16 +299,16 @@ module _ {V : Type 0} (same : V → V → Bool) (always : Bool) (turns : Progres
     reader_begins op.Pin r n q x =
         let m : (m : Machine Id V) × (slice_get s.machines w ≡ Some m) = machine_at Idle (idle op.Pin n) in
         let at : IsAt Idle (place s.forest.collector w) m.0 = holds.0.each w Idle m.0 (idle op.Pin n) m.1 in
-        let f : refusal s.forest.collector w work.Pin ≡ None = unready_is (place_of s w).registered (is_busy (slice_get s.calls w)) _ (begin_fault work.Pin (place_of s w)) n in
-        let g = pins (turning.Begin work.Pin) r (within op.Pin n) (λ e y z. begins_refused s.forest.collector _ w y.turn.outcome e f (turns.begins s.forest.collector w work.Pin y.turn at.0 y.step.report) z) x in (
-          (λ e z. not_refused {V = V} x.turn.outcome e (λ b y. begins_refused s.forest.collector _ w x.turn.outcome b f (turns.begins s.forest.collector w work.Pin x.turn at.0 x.step.report) y) (sym (ap (λ y. y.outcome) x.report) ∙ z)),
+        let f : refusal s.forest.collector w collector_op.Pin ≡ None = unready_is (place_of s w).registered (is_busy (slice_get s.calls w)) _ (begin_fault collector_op.Pin (place_of s w)) n in
+        let g = pins (collector_event.Begin collector_op.Pin) r (within op.Pin n) (λ e y z. begins_refused s.forest.collector _ w y.turn.outcome e f (turns.begins s.forest.collector w collector_op.Pin y.turn at.0 y.step.report) z) x in (
+          (λ e z. not_refused {V = V} x.turn.outcome e (λ b y. begins_refused s.forest.collector _ w x.turn.outcome b f (turns.begins s.forest.collector w collector_op.Pin x.turn at.0 x.step.report) y) (sym (ap (λ y. y.outcome) x.report) ∙ z)),
           (λ b. g.1 (busy_after x.turn.outcome (placed _ (within op.Pin n) x.calls) (sym (ap (λ y. is_in_flight y.outcome) x.report) ∙ b))),
         )
       where
-        busy_after : (o : Turned) → slice_get s'.calls w ≡ Some (call_after o (Collecting work.Pin)) → is_in_flight {V = V} (collected o) ≡ true → is_busy (slice_get s'.calls w) ≡ true
-        busy_after turned.Running e b = ap is_busy e
-        busy_after turned.Done e b = absurd (false≢true b)
-        busy_after (turned.Refused f) e b = absurd (false≢true b)
+        busy_after : (o : CollectorOutcome) → slice_get s'.calls w ≡ Some (call_after o (Collecting collector_op.Pin)) → is_in_flight {V = V} (collected o) ≡ true → is_busy (slice_get s'.calls w) ≡ true
+        busy_after collector_outcome.Running e b = ap is_busy e
+        busy_after collector_outcome.Done e b = absurd (false≢true b)
+        busy_after (collector_outcome.Refused f) e b = absurd (false≢true b)
     reader_begins (op.Get k) r n q x = enters (op.Get k) n (point.Get k) r refl tt x
     reader_begins (op.Range start end size) r n q x = scan_begins (op.Range start end size) n (point.Range start end size) r (finds_none {V = V} (point.Range start end size)) refl tt x
     reader_begins (op.RangeInclusive start last size) r n q x = scan_begins (op.RangeInclusive start last size) n (point.RangeInclusive start last size) r (finds_none {V = V} (point.RangeInclusive start last size)) refl tt x
@@ -329,7 +329,7 @@ module _ {V : Type 0} (same : V → V → Bool) (always : Bool) (turns : Progres
   unchanged s s' i e u = subst (λ (y : World V). ReaderAt y i) (sym e) u
 
   reader_busy : (k : Option (InFlight V)) (m : Option (Machine Id V)) → IsReader k m → is_busy k ≡ true
-  reader_busy (Some (Collecting work.Pin)) m u = refl
+  reader_busy (Some (Collecting collector_op.Pin)) m u = refl
   reader_busy (Some Walking) (Some m) u = refl
   reader_busy (Some Walking) None u = absurd u
   reader_busy (Some Idle) m u = absurd u

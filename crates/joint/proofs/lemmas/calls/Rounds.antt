@@ -16,12 +16,12 @@ use Rattle.crossbeam_epoch.specs.declared.fault.Fault.{Fault}
 use Rattle.crossbeam_epoch.specs.declared.fault.Fault.TheVariants as fault
 use Rattle.crossbeam_epoch.specs.declared.names.Name.{Name}
 use Rattle.crossbeam_epoch.specs.declared.world.participant.Participant.{Participant}
-use Rattle.crossbeam_epoch.specs.declared.world.report.Event.{Event as Turn}
-use Rattle.crossbeam_epoch.specs.declared.world.report.Event.TheVariants as turn
-use Rattle.crossbeam_epoch.specs.declared.world.report.Op.{Op as Turning}
-use Rattle.crossbeam_epoch.specs.declared.world.report.Op.TheVariants as op
-use Rattle.crossbeam_epoch.specs.declared.world.report.Outcome.{Outcome as Turned}
-use Rattle.crossbeam_epoch.specs.declared.world.report.Outcome.TheVariants as turned
+use Rattle.crossbeam_epoch.specs.declared.world.report.Event.{Event as CollectorEvent}
+use Rattle.crossbeam_epoch.specs.declared.world.report.Event.TheVariants as collector_event
+use Rattle.crossbeam_epoch.specs.declared.world.report.Op.{Op as CollectorOp}
+use Rattle.crossbeam_epoch.specs.declared.world.report.Op.TheVariants as collector_op
+use Rattle.crossbeam_epoch.specs.declared.world.report.Outcome.{Outcome as CollectorOutcome}
+use Rattle.crossbeam_epoch.specs.declared.world.report.Outcome.TheVariants as collector_outcome
 use Rattle.crossbeam_epoch.specs.declared.world.report.Report.{Report as Collection}
 use Rattle.crossbeam_epoch.specs.World.Calls.{IsCall, IsGoing}
 use Rattle.crossbeam_epoch.specs.World.Fits.{at_place, in_bag, job_count, weight}
@@ -79,9 +79,9 @@ use Rattle.joint.proofs.lemmas.world.Whereabouts.{somewhere}
 
 -- what the collector's laws say of whole calls and of rounds
 pub record RoundLaws {T : Type 0} (J : Type 0) (names : T → List Name) : Type 0 where
-  pub begins : (s : State T J) (who : ℕ) (op : Turning) → IsGoing s who op 0 None (turn.Begin op) s
-  pub more : (s now new : State T J) (who : ℕ) (op : Turning) (n : ℕ) (newest : Option Collection) (event : Turn) (r : Collection) → IsGoing s who op n newest event now → IsReport now who event r → new ≡ after now who event r.outcome → r.outcome ≡ turned.Running → IsGoing s who op (n + 1) (Some r) turn.Go new
-  pub ends : (s now new : State T J) (who : ℕ) (op : Turning) (n most : ℕ) (newest : Option Collection) (event : Turn) (r : Collection) → n < most → IsGoing s who op n newest event now → IsReport now who event r → new ≡ after now who event r.outcome → (r.outcome ≡ turned.Running → ⊥)
+  pub begins : (s : State T J) (who : ℕ) (op : CollectorOp) → IsGoing s who op 0 None (collector_event.Begin op) s
+  pub more : (s now new : State T J) (who : ℕ) (op : CollectorOp) (n : ℕ) (newest : Option Collection) (event : CollectorEvent) (r : Collection) → IsGoing s who op n newest event now → IsReport now who event r → new ≡ after now who event r.outcome → r.outcome ≡ collector_outcome.Running → IsGoing s who op (n + 1) (Some r) collector_event.Go new
+  pub ends : (s now new : State T J) (who : ℕ) (op : CollectorOp) (n most : ℕ) (newest : Option Collection) (event : CollectorEvent) (r : Collection) → n < most → IsGoing s who op n newest event now → IsReport now who event r → new ≡ after now who event r.outcome → (r.outcome ≡ collector_outcome.Running → ⊥)
       → (reports : List Collection) × IsCall s who op most reports (Some r) new
   pub bags : (h : List Moment) (s s' : State T J) (who : ℕ) → HasMoments names h s → Orderly s → IsSealing s → collector.IsQuiet s → (r : collector.IsRound s who s') → length r.flushed.queue ≤ job_count s
   pub empties : (h : List Moment) (s s1 s' : State T J) (who n : ℕ) → HasMoments names h s → Orderly s → IsSealing s → s.limits.expiry ≡ 2 → collector.IsQuiet s → (r : collector.IsRound s who s1) → collector.AreRounds s1 who n s'
@@ -95,15 +95,15 @@ not_refused : {V : Type 0} (o : Outcome V) → Unrefused o → (e : _) → o ≡
 not_refused o (inl r) e q = absurd (cc (r, q))
 not_refused o (inr r) e q = absurd (cc (r, q))
 
-was_running : {V : Type 0} (o : Turned) → collected {V = V} o ≡ Running → o ≡ turned.Running
-was_running turned.Running e = refl
-was_running turned.Done e = absurd (cc e)
-was_running (turned.Refused f) e = absurd (cc e)
+was_running : {V : Type 0} (o : CollectorOutcome) → collected {V = V} o ≡ Running → o ≡ collector_outcome.Running
+was_running collector_outcome.Running e = refl
+was_running collector_outcome.Done e = absurd (cc e)
+was_running (collector_outcome.Refused f) e = absurd (cc e)
 
-was_done : {V : Type 0} (o : Turned) → collected {V = V} o ≡ Done done.Unit → o ≡ turned.Done
-was_done turned.Done e = refl
-was_done turned.Running e = absurd (cc e)
-was_done (turned.Refused f) e = absurd (cc e)
+was_done : {V : Type 0} (o : CollectorOutcome) → collected {V = V} o ≡ Done done.Unit → o ≡ collector_outcome.Done
+was_done collector_outcome.Done e = refl
+was_done collector_outcome.Running e = absurd (cc e)
+was_done (collector_outcome.Refused f) e = absurd (cc e)
 
 by_end : {V : Type 0} (who : ℕ) (o : Outcome V) (ts : List (Taken V)) → GoesToEnd who o ts → Unrefused o
 by_end who o [] e = inr e
@@ -128,7 +128,7 @@ module _ {V : Type 0} (same : V → V → Bool) (always : Bool) where
   still_holds s (t ∷ a) h x = still_holds t.after a x.0.holds x.1
 
   -- a step of a call on the collector
-  pub record CallStep (s : World V) (who : ℕ) (event : Turn) (k : InFlight V) (o : Outcome V) (s' : World V) : Type 0 where
+  pub record CallStep (s : World V) (who : ℕ) (event : CollectorEvent) (k : InFlight V) (o : Outcome V) (s' : World V) : Type 0 where
     pub turn : Collection
     pub step : Collected same always s.forest s.machines who event turn s'.forest
     pub machines : s'.machines ≡ s.machines
@@ -140,11 +140,11 @@ module _ {V : Type 0} (same : V → V → Bool) (always : Bool) where
   by_misuse s s' who event None told d u = (refl, d)
   by_misuse s s' who event (Some f) told d u = absurd (not_refused told.outcome u (of_fault f) (ap (λ (r : Report V). r.outcome) d.0))
 
-  as_step : (s s' : World V) (who : ℕ) (event : Turn) (k : InFlight V) (told : Report V) (o : Outcome V) → told.outcome ≡ o → who < length s.calls → Collects same always (engine_of s) who event k told (engine_of s') → CallStep s who event k o s'
+  as_step : (s s' : World V) (who : ℕ) (event : CollectorEvent) (k : InFlight V) (told : Report V) (o : Outcome V) → told.outcome ≡ o → who < length s.calls → Collects same always (engine_of s) who event k told (engine_of s') → CallStep s who event k o s'
   as_step s s' who event k told o e inside c = record { turn = c.turn; step = c.step; machines = c.machines; calls = c.calls; outcome = sym e ∙ ap (λ (r : Report V). r.outcome) c.report; inside = inside }
 
-  begins : (s : World V) (t : Taken V) (who : ℕ) (o : Op V) (x : Turning) → Holds same always s → target o ≡ target.Collector x → IsStep same always s t.step t.report t.after → t.step ≡ record { worker = who; event = Begin o } → Unrefused t.report.outcome
-      → CallStep s who (turn.Begin x) (Collecting x) t.report.outcome t.after
+  begins : (s : World V) (t : Taken V) (who : ℕ) (o : Op V) (x : CollectorOp) → Holds same always s → target o ≡ target.Collector x → IsStep same always s t.step t.report t.after → t.step ≡ record { worker = who; event = Begin o } → Unrefused t.report.outcome
+      → CallStep s who (collector_event.Begin x) (Collecting x) t.report.outcome t.after
   begins s t who o x h e is at u =
       let P : Step V → Type 0 = λ y. IsStep same always s y t.report t.after in
       let tk : TakesStep same always s (record { worker = who; event = Begin o }) t.report t.after = (subst P at is).does in
@@ -154,10 +154,10 @@ module _ {V : Type 0} (same : V → V → Bool) (always : Bool) where
       let reg : (place_of s who).registered ≡ true = of_registered (place_of s who).registered (if is_busy (slice_get s.calls who) then Some (interruption (target o)) else unready (target o) (place_of s who)) d.0 in
       let inside : who < length s.calls = subst (λ (n : ℕ). who < n) h.0.table (held_place s.forest.collector.table who reg) in
       let R : Target V → Type 0 = λ y. BeginsAt same always (engine_of s) who y tk.told (engine_of t.after) in
-      as_step s t.after who (turn.Begin x) (Collecting x) tk.told t.report.outcome out inside (subst R e d.1)
+      as_step s t.after who (collector_event.Begin x) (Collecting x) tk.told t.report.outcome out inside (subst R e d.1)
 
-  goes : (s : World V) (t : Taken V) (who : ℕ) (noise : Noise Id V) (x : Turning) → who < length s.calls → slice_get s.calls who ≡ Some (Collecting x) → IsStep same always s t.step t.report t.after → t.step ≡ record { worker = who; event = Go noise } → Unrefused t.report.outcome
-      → CallStep s who turn.Go (Collecting x) t.report.outcome t.after
+  goes : (s : World V) (t : Taken V) (who : ℕ) (noise : Noise Id V) (x : CollectorOp) → who < length s.calls → slice_get s.calls who ≡ Some (Collecting x) → IsStep same always s t.step t.report t.after → t.step ≡ record { worker = who; event = Go noise } → Unrefused t.report.outcome
+      → CallStep s who collector_event.Go (Collecting x) t.report.outcome t.after
   goes s t who noise x inside on is at u =
       let P : Step V → Type 0 = λ y. IsStep same always s y t.report t.after in
       let D : Option (InFlight V) → Type 0 = λ k. StepsUnless same always (is_reserving k && is_full s.log) s (record { worker = who; event = Go noise }) t.report t.after in
@@ -166,10 +166,10 @@ module _ {V : Type 0} (same : V → V → Bool) (always : Bool) where
       let Q : Outcome V → Type 0 = λ y. Unrefused y in
       let d = by_misuse (engine_of s) (engine_of t.after) who (Go noise) (misuse (engine_of s) who (Go noise)) tk.told tk.engine.does (subst Q (sym out) u) in
       let R : Option (InFlight V) → Type 0 = λ k. GoesAt same always (engine_of s) who k noise tk.told (engine_of t.after) in
-      as_step s t.after who turn.Go (Collecting x) tk.told t.report.outcome out inside (subst R on d.1)
+      as_step s t.after who collector_event.Go (Collecting x) tk.told t.report.outcome out inside (subst R on d.1)
 
   -- what a whole call leaves
-  pub record Finished (s : World V) (who : ℕ) (x : Turning) (s' : World V) : Type 0 where
+  pub record Finished (s : World V) (who : ℕ) (x : CollectorOp) (s' : World V) : Type 0 where
     pub ends : collector.Finishes s.forest.collector who x s'.forest.collector
     pub machines : s'.machines ≡ s.machines
     pub calls : s'.calls ≡ slice_set s.calls who Idle
@@ -177,35 +177,35 @@ module _ {V : Type 0} (same : V → V → Bool) (always : Bool) where
 
   module _ (laws : RoundLaws {T = Slot V} (Unit {0}) slot_names) where
     -- from one step of it on
-    to_end : (c0 : State (Slot V) (Unit {0})) (who : ℕ) (x : Turning) (ts : List (Taken V)) (s now : World V) (n : ℕ) (newest : Option Collection) (event : Turn) (o : Outcome V) → IsGoing c0 who x n newest event s.forest.collector → CallStep s who event (Collecting x) o now
+    to_end : (c0 : State (Slot V) (Unit {0})) (who : ℕ) (x : CollectorOp) (ts : List (Taken V)) (s now : World V) (n : ℕ) (newest : Option Collection) (event : CollectorEvent) (o : Outcome V) → IsGoing c0 who x n newest event s.forest.collector → CallStep s who event (Collecting x) o now
         → AreTaken same always now ts → GoesToEnd who o ts
         → collector.Finishes c0 who x (after_all now ts).forest.collector × ((after_all now ts).machines ≡ s.machines) × ((after_all now ts).calls ≡ slice_set s.calls who Idle)
     to_end c0 who x [] s now n newest event o g c are end =
-        let over : c.turn.outcome ≡ turned.Done = was_done {V = V} c.turn.outcome (sym c.outcome ∙ end) in
+        let over : c.turn.outcome ≡ collector_outcome.Done = was_done {V = V} c.turn.outcome (sym c.outcome ∙ end) in
         let ended = laws.ends c0 s.forest.collector now.forest.collector who x n (suc n) newest event c.turn (omega arith) g c.step.report c.step.state (λ r. absurd (cc (over, r))) in (
           record { most = suc n; reports = ended.0; newest = c.turn; call = ended.1; done = over },
           c.machines,
-          c.calls ∙ ap (λ (y : Turned). slice_set s.calls who (call_after y (Collecting x))) over,
+          c.calls ∙ ap (λ (y : CollectorOutcome). slice_set s.calls who (call_after y (Collecting x))) over,
         )
     to_end c0 who x (t ∷ ts) s now n newest event o g c are end =
-        let on : c.turn.outcome ≡ turned.Running = was_running {V = V} c.turn.outcome (sym c.outcome ∙ end.0) in
-        let calls : now.calls ≡ slice_set s.calls who (Collecting x) = c.calls ∙ ap (λ (y : Turned). slice_set s.calls who (call_after y (Collecting x))) on in
+        let on : c.turn.outcome ≡ collector_outcome.Running = was_running {V = V} c.turn.outcome (sym c.outcome ∙ end.0) in
+        let calls : now.calls ≡ slice_set s.calls who (Collecting x) = c.calls ∙ ap (λ (y : CollectorOutcome). slice_set s.calls who (call_after y (Collecting x))) on in
         let old = there s.calls who c.inside in
         let here : slice_get now.calls who ≡ Some (Collecting x) = ap (λ (ks : List (InFlight V)). slice_get ks who) calls ∙ set_here s.calls who (Collecting x) old.0 old.1 in
         let inside : who < length now.calls = slice_get_within now.calls who (Collecting x) here in
         let next = goes now t who end.1.0 x inside here are.0 end.1.1 (by_end who t.report.outcome ts end.2) in
         let more = laws.more c0 s.forest.collector now.forest.collector who x n newest event c.turn g c.step.report c.step.state on in
-        let r = to_end c0 who x ts now t.after (n + 1) (Some c.turn) turn.Go t.report.outcome more next are.1 end.2 in (
+        let r = to_end c0 who x ts now t.after (n + 1) (Some c.turn) collector_event.Go t.report.outcome more next are.1 end.2 in (
           r.0,
           r.1 ∙ c.machines,
           r.2 ∙ ap (λ (ks : List (InFlight V)). slice_set ks who Idle) calls ∙ set-set s.calls who (Collecting x) Idle,
         )
 
-    whole_call : (s : World V) (who : ℕ) (o : Op V) (x : Turning) (ts : List (Taken V)) → Holds same always s → target o ≡ target.Collector x → AreTaken same always s ts → IsWhole who o ts → Finished s who x (after_all s ts)
+    whole_call : (s : World V) (who : ℕ) (o : Op V) (x : CollectorOp) (ts : List (Taken V)) → Holds same always s → target o ≡ target.Collector x → AreTaken same always s ts → IsWhole who o ts → Finished s who x (after_all s ts)
     whole_call s who o x [] h e are w = absurd w
     whole_call s who o x (t ∷ ts) h e are w =
         let c = begins s t who o x h e are.0 w.0 (by_end who t.report.outcome ts w.1) in
-        let r = to_end s.forest.collector who x ts s t.after 0 None (turn.Begin x) t.report.outcome (laws.begins s.forest.collector who x) c are.1 w.1 in
+        let r = to_end s.forest.collector who x ts s t.after 0 None (collector_event.Begin x) t.report.outcome (laws.begins s.forest.collector who x) c are.1 w.1 in
         record { ends = r.0; machines = r.1; calls = r.2; inside = c.inside }
 
     -- a whole round
@@ -222,14 +222,14 @@ module _ {V : Type 0} (same : V → V → Bool) (always : Bool) where
         let a = split s r.pin (r.flush ++ r.unpin) are in
         let s1 = after_all s r.pin in
         let h1 = still_holds s r.pin h a.0 in
-        let x1 = whole_call s who Pin op.Pin r.pin h refl a.0 is.pins in
+        let x1 = whole_call s who Pin collector_op.Pin r.pin h refl a.0 is.pins in
         let b = split s1 r.flush r.unpin a.1 in
         let s2 = after_all s1 r.flush in
         let h2 = still_holds s1 r.flush h1 b.0 in
-        let x2 = whole_call s1 who Flush op.Flush r.flush h1 refl b.0 is.flushes in
+        let x2 = whole_call s1 who Flush collector_op.Flush r.flush h1 refl b.0 is.flushes in
         let s3 = after_all s2 r.unpin in
         let h3 = still_holds s2 r.unpin h2 b.1 in
-        let x3 = whole_call s2 who Unpin op.Unpin r.unpin h2 refl b.1 is.unpins in
+        let x3 = whole_call s2 who Unpin collector_op.Unpin r.unpin h2 refl b.1 is.unpins in
         let to2 : after_all s (r.pin ++ r.flush) ≡ s2 = after_both s r.pin r.flush in
         let to3 : after_all s (r.pin ++ (r.flush ++ r.unpin)) ≡ s3 = after_both s r.pin (r.flush ++ r.unpin) ∙ after_both s1 r.flush r.unpin in
         let P : World V → Type 0 = λ y. Rounded s who y (after_all s (r.pin ++ (r.flush ++ r.unpin))) in

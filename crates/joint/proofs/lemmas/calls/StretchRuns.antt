@@ -8,11 +8,11 @@ use Rattle.crossbeam_epoch.specs.declared.fault.Fault.{Fault}
 use Rattle.crossbeam_epoch.specs.declared.names.Name.{Name}
 use Rattle.crossbeam_epoch.specs.declared.world.participant.Phase.{Phase as Stand}
 use Rattle.crossbeam_epoch.specs.declared.world.participant.Phase.TheVariants as stage
-use Rattle.crossbeam_epoch.specs.declared.world.report.Event.{Event as Turning}
-use Rattle.crossbeam_epoch.specs.declared.world.report.Event.TheVariants as turning
-use Rattle.crossbeam_epoch.specs.declared.world.report.Op.TheVariants as work
-use Rattle.crossbeam_epoch.specs.declared.world.report.Outcome.{Outcome as Turned}
-use Rattle.crossbeam_epoch.specs.declared.world.report.Outcome.TheVariants as turned
+use Rattle.crossbeam_epoch.specs.declared.world.report.Event.{Event as CollectorEvent}
+use Rattle.crossbeam_epoch.specs.declared.world.report.Event.TheVariants as collector_event
+use Rattle.crossbeam_epoch.specs.declared.world.report.Op.TheVariants as collector_op
+use Rattle.crossbeam_epoch.specs.declared.world.report.Outcome.{Outcome as CollectorOutcome}
+use Rattle.crossbeam_epoch.specs.declared.world.report.Outcome.TheVariants as collector_outcome
 use Rattle.crossbeam_epoch.specs.declared.world.report.Report.{Report as Collection}
 use Rattle.crossbeam_epoch.specs.World.Fits.{Bounds}
 use Rattle.crossbeam_epoch.specs.World.History.{Mark, Deferred, began}
@@ -27,7 +27,7 @@ use Rattle.congee.specs.declared.protocol.op.Op.{Op as Point}
 use Rattle.congee.specs.declared.protocol.op.Op.TheVariants as point
 use Rattle.congee.specs.declared.protocol.phase.Phase.{Phase}
 use Rattle.congee.specs.declared.protocol.phase.Phase.TheVariants.{Retire}
-use Rattle.congee.specs.declared.protocol.run.Step.{Step as Turn}
+use Rattle.congee.specs.declared.protocol.run.Step.{Step as TreeStep}
 use Rattle.congee.specs.Heap.{Stands}
 use Rattle.congee.specs.Notes.{Held, Linked, is_published}
 use Rattle.congee.specs.protocol.Answers.{Keeps}
@@ -71,7 +71,7 @@ use Rattle.joint.proofs.lemmas.calls.Stretches.{IsBlocked, sees_blocks, stored, 
 use Rattle.joint.proofs.lemmas.nodes.Views.{ties}
 
 -- a securing doesn't publish
-secure_calm : (s : Stand) → comes_by (stage_of s) (work.Secure 2) ≡ true → publishes s ≡ false
+secure_calm : (s : Stand) → comes_by (stage_of s) (collector_op.Secure 2) ≡ true → publishes s ≡ false
 secure_calm (stage.Publish seen) e = absurd (false≢true e)
 secure_calm (stage.RepinPublish seen) e = absurd (false≢true e)
 secure_calm _ e = refl
@@ -111,7 +111,7 @@ module _ {V : Type 0} (same : V → V → Bool) (always : Bool) (laws : CallLaws
   On f = At f.collector × Stands (nodes f n)
 
   -- a step of the collector
-  collected : (f f' : Nodes V) (ms : List (Machine Id V)) (who : ℕ) (event : Turning) (r : Collection) → (who ≡ p → turns event (place f.collector who) ≡ false) → Collected same always f ms who event r f' → On f → On f'
+  collected : (f f' : Nodes V) (ms : List (Machine Id V)) (who : ℕ) (event : CollectorEvent) (r : Collection) → (who ≡ p → turns event (place f.collector who) ≡ false) → Collected same always f ms who event r f' → On f → On f'
   collected f f' ms who event r calm c o =
       let P : State (Slot V) (Unit {0}) → Type 0 = λ y. IsBlocked p it (marks f.collector who event r o.0.0) y in (
         (marks f.collector who event r o.0.0, subst P (sym c.state) (turned p it o.0.0 f.collector who event r c.report calm o.0.1)),
@@ -156,18 +156,18 @@ module _ {V : Type 0} (same : V → V → Bool) (always : Bool) (laws : CallLaws
     reserves : (o : Point V) (r : Report V) → Reserves s w o r s' → Lasts s → Lasts s'
     reserves o r x l = same_forest (ap (λ y. y.forest) x.state) (still (ap (λ y. y.machines) x.state)) l
 
-    collects : (event : Turning) (k : InFlight V) (r : Report V) → (w ≡ p → turns event (place_of s w) ≡ false) → Collects same always s w event k r s' → Lasts s → Lasts s'
+    collects : (event : CollectorEvent) (k : InFlight V) (r : Report V) → (w ≡ p → turns event (place_of s w) ≡ false) → Collects same always s w event k r s' → Lasts s → Lasts s'
     collects event k r calm x l = lasts (collected s.forest s'.forest s.machines w event x.turn calm x.step l.on) (still x.machines) l
 
-    secured_unheld : (o : Turned) (k : Option (InFlight V)) (ms : List (Machine Id V)) → s.machines ≡ ms → s'.machines ≡ secured_machines o k ms w → Unheld
-    secured_unheld turned.Done (Some (Securing c)) ms e e' = instead ms (begun root c) (begun_unmade c n) e e'
-    secured_unheld turned.Done (Some Idle) ms e e' = still (e' ∙ sym e)
-    secured_unheld turned.Done (Some (Collecting c)) ms e e' = still (e' ∙ sym e)
-    secured_unheld turned.Done (Some (Reserving c)) ms e e' = still (e' ∙ sym e)
-    secured_unheld turned.Done (Some Walking) ms e e' = still (e' ∙ sym e)
-    secured_unheld turned.Done None ms e e' = still (e' ∙ sym e)
-    secured_unheld turned.Running k ms e e' = still (e' ∙ sym e)
-    secured_unheld (turned.Refused f) k ms e e' = still (e' ∙ sym e)
+    secured_unheld : (o : CollectorOutcome) (k : Option (InFlight V)) (ms : List (Machine Id V)) → s.machines ≡ ms → s'.machines ≡ secured_machines o k ms w → Unheld
+    secured_unheld collector_outcome.Done (Some (Securing c)) ms e e' = instead ms (begun root c) (begun_unmade c n) e e'
+    secured_unheld collector_outcome.Done (Some Idle) ms e e' = still (e' ∙ sym e)
+    secured_unheld collector_outcome.Done (Some (Collecting c)) ms e e' = still (e' ∙ sym e)
+    secured_unheld collector_outcome.Done (Some (Reserving c)) ms e e' = still (e' ∙ sym e)
+    secured_unheld collector_outcome.Done (Some Walking) ms e e' = still (e' ∙ sym e)
+    secured_unheld collector_outcome.Done None ms e e' = still (e' ∙ sym e)
+    secured_unheld collector_outcome.Running k ms e e' = still (e' ∙ sym e)
+    secured_unheld (collector_outcome.Refused f) k ms e e' = still (e' ∙ sym e)
 
     machine_at : (k : InFlight V) → slice_get s.calls w ≡ Some k → (m : Machine Id V) × (slice_get s.machines w ≡ Some m)
     machine_at k e = there s.machines w (subst (λ i. w < i) (sym holds.0.machines) (slice_get_within s.calls w k e))
@@ -176,12 +176,12 @@ module _ {V : Type 0} (same : V → V → Bool) (always : Bool) (laws : CallLaws
     securing c r e x l =
         let m : (m : Machine Id V) × (slice_get s.machines w ≡ Some m) = machine_at (Securing c) e in
         let at : IsAt (Securing c) (place_of s w) m.0 = holds.0.each w (Securing c) m.0 e m.1 in
-        lasts (collected s.forest s'.forest s.machines w turning.Go x.turn (λ z. secure_calm (place_of s w).phase at.0.1) x.step.collected l.on)
+        lasts (collected s.forest s'.forest s.machines w collector_event.Go x.turn (λ z. secure_calm (place_of s w).phase at.0.1) x.step.collected l.on)
         (secured_unheld x.turn.outcome (slice_get s.calls w) s.machines refl x.step.machine) l
 
     -- a call on the tree takes a step
     module _ (noise : Noise Id V) (r : Report V) (on : slice_get s.calls w ≡ Some Walking) (k : Walks same always s w noise r s') where
-      abbrev turn : Turn Id V
+      abbrev turn : TreeStep Id V
       turn = record { who = w; noise = noise }
 
       old : (m : Machine Id V) × (slice_get s.machines w ≡ Some m)
@@ -257,11 +257,11 @@ module _ {V : Type 0} (same : V → V → Bool) (always : Bool) (laws : CallLaws
     begins_tree (point.Exchange k a b) r x l = reserves (point.Exchange k a b) r x l
 
     begins : (o : Op V) (r : Report V) → (w ≡ p → turns_stretch {V = V} (Begin o) (place_of s w) ≡ false) → Does same always s w (Begin o) None r s' → Lasts s → Lasts s'
-    begins op.Pin r calm x l = collects (turning.Begin work.Pin) (Collecting work.Pin) r (λ z. refl) x l
-    begins op.Unpin r calm x l = collects (turning.Begin work.Unpin) (Collecting work.Unpin) r calm x l
-    begins op.Repin r calm x l = collects (turning.Begin work.Repin) (Collecting work.Repin) r (λ z. refl) x l
-    begins op.Flush r calm x l = collects (turning.Begin work.Flush) (Collecting work.Flush) r (λ z. refl) x l
-    begins op.Release r calm x l = collects (turning.Begin work.Release) (Collecting work.Release) r (λ z. refl) x l
+    begins op.Pin r calm x l = collects (collector_event.Begin collector_op.Pin) (Collecting collector_op.Pin) r (λ z. refl) x l
+    begins op.Unpin r calm x l = collects (collector_event.Begin collector_op.Unpin) (Collecting collector_op.Unpin) r calm x l
+    begins op.Repin r calm x l = collects (collector_event.Begin collector_op.Repin) (Collecting collector_op.Repin) r (λ z. refl) x l
+    begins op.Flush r calm x l = collects (collector_event.Begin collector_op.Flush) (Collecting collector_op.Flush) r (λ z. refl) x l
+    begins op.Release r calm x l = collects (collector_event.Begin collector_op.Release) (Collecting collector_op.Release) r (λ z. refl) x l
     begins (op.Get k) r calm x l = begins_tree (point.Get k) r x l
     begins (op.Insert k v) r calm x l = begins_tree (point.Insert k v) r x l
     begins (op.Remove k) r calm x l = begins_tree (point.Remove k) r x l
@@ -277,7 +277,7 @@ module _ {V : Type 0} (same : V → V → Bool) (always : Bool) (laws : CallLaws
   -- a writing call begins to make its place free
   begins_securing : (s b : World V) (w : ℕ) → BeginsSecuring same always s.forest s.machines s.calls w b.forest b.machines b.calls → Lasts s → Lasts b
   begins_securing s b w x l = record {
-    on = collected s.forest b.forest s.machines w (turning.Begin (work.Secure 2)) x.turn (λ z. refl) x.collected l.on;
+    on = collected s.forest b.forest s.machines w (collector_event.Begin (collector_op.Secure 2)) x.turn (λ z. refl) x.collected l.on;
     unheld = λ j y. l.unheld j (y.0, sym (ap (λ ms. slice_get ms j) x.machine) ∙ y.1, y.2);
   }
 
@@ -285,7 +285,7 @@ module _ {V : Type 0} (same : V → V → Bool) (always : Bool) (laws : CallLaws
     goes : (k : Option (InFlight V)) (noise : Noise Id V) (r : Report V) → slice_get s.calls w ≡ k → (w ≡ p → publishes (place_of s w).phase ≡ false) → GoesAt same always s w k noise r s' → Lasts s → Lasts s'
     goes None noise r e calm x l = absurd x
     goes (Some Idle) noise r e calm x l = absurd x
-    goes (Some (Collecting c)) noise r e calm x l = collects s s' w holds turning.Go (Collecting c) r calm x l
+    goes (Some (Collecting c)) noise r e calm x l = collects s s' w holds collector_event.Go (Collecting c) r calm x l
     goes (Some (Reserving c)) noise r e calm x l =
         securing x.between s' w (x.begins.intact, x.begins.collected.charged) c r (next_here same always s.forest s.machines s.calls w x.between.forest x.between.machines x.between.calls x.begins c e) x.goes (begins_securing s x.between w x.begins l)
     goes (Some (Securing c)) noise r e calm x l = securing s s' w holds c r e x l

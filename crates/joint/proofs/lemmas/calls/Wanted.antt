@@ -5,8 +5,8 @@ use Rattle.std.proofs.lemmas.Bool.{cases_Bool, eqb-true, eqb-false, false≢true
 use Rattle.judge.specs.declared.journal.Reply.{Reply}
 use Rattle.judge.specs.Answer.{Pairs}
 use Rattle.crossbeam_epoch.specs.declared.fault.Fault.{Fault}
-use Rattle.crossbeam_epoch.specs.declared.world.report.Outcome.{Outcome as Turned}
-use Rattle.crossbeam_epoch.specs.declared.world.report.Outcome.TheVariants as turned
+use Rattle.crossbeam_epoch.specs.declared.world.report.Outcome.{Outcome as CollectorOutcome}
+use Rattle.crossbeam_epoch.specs.declared.world.report.Outcome.TheVariants as collector_outcome
 use Rattle.congee.specs.declared.protocol.machine.Machine.{Machine}
 use Rattle.congee.specs.declared.protocol.machine.Noise.{Noise}
 use Rattle.congee.specs.declared.protocol.machine.Outcome.{Outcome as Moved}
@@ -47,15 +47,15 @@ use Rattle.joint.proofs.lemmas.calls.Runs.{fresh_flights}
 use Rattle.std.proofs.lemmas.Option.{slice_get_within}
 
 -- nothing that is told of the collector is a question
-pub of_collector : (V : Type 0) (o : Turned) → is_question {V = V} (collected o) ≡ false
-of_collector V turned.Running = refl
-of_collector V turned.Done = refl
-of_collector V (turned.Refused f) = refl
+pub of_collector : (V : Type 0) (o : CollectorOutcome) → is_question {V = V} (collected o) ≡ false
+of_collector V collector_outcome.Running = refl
+of_collector V collector_outcome.Done = refl
+of_collector V (collector_outcome.Refused f) = refl
 
-of_reserving : (V : Type 0) (o : Turned) → is_question {V = V} (reserving o) ≡ false
-of_reserving V turned.Running = refl
-of_reserving V turned.Done = refl
-of_reserving V (turned.Refused f) = refl
+of_reserving : (V : Type 0) (o : CollectorOutcome) → is_question {V = V} (reserving o) ≡ false
+of_reserving V collector_outcome.Running = refl
+of_reserving V collector_outcome.Done = refl
+of_reserving V (collector_outcome.Refused f) = refl
 
 module _ {V : Type 0} where
   -- a step of a call tells what the call wants after it

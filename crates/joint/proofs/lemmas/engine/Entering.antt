@@ -6,9 +6,9 @@ use Rattle.std.proofs.lemmas.Bool.{false≢true}
 use Rattle.std.proofs.lemmas.Option.{slice_get_within, slice_get_cases}
 use Rattle.crossbeam_epoch.specs.declared.fault.Fault.{Fault}
 use Rattle.crossbeam_epoch.specs.declared.fault.Fault.TheVariants as fault
-use Rattle.crossbeam_epoch.specs.declared.world.report.Op.{Op as Work}
-use Rattle.crossbeam_epoch.specs.declared.world.report.Outcome.{Outcome as Turned}
-use Rattle.crossbeam_epoch.specs.declared.world.report.Outcome.TheVariants as turned
+use Rattle.crossbeam_epoch.specs.declared.world.report.Op.{Op as CollectorOp}
+use Rattle.crossbeam_epoch.specs.declared.world.report.Outcome.{Outcome as CollectorOutcome}
+use Rattle.crossbeam_epoch.specs.declared.world.report.Outcome.TheVariants as collector_outcome
 use Rattle.congee.specs.declared.protocol.machine.Machine.{Machine}
 use Rattle.congee.specs.declared.protocol.machine.Noise.{Noise}
 use Rattle.congee.specs.declared.protocol.op.Op.{Op as Point}
@@ -39,10 +39,10 @@ module _ {V : Type 0} where
   idle_place (Some (Securing op)) o e = absurd (cc e)
   idle_place (Some Walking) o e = absurd (cc e)
 
-  collecting_place : (o : Turned) (op : Work) (m : Option (Machine Id V)) → has_place (Some (call_after o (Collecting op))) m ≡ false
-  collecting_place turned.Running op m = refl
-  collecting_place turned.Done op m = refl
-  collecting_place (turned.Refused f) op m = refl
+  collecting_place : (o : CollectorOutcome) (op : CollectorOp) (m : Option (Machine Id V)) → has_place (Some (call_after o (Collecting op))) m ≡ false
+  collecting_place collector_outcome.Running op m = refl
+  collecting_place collector_outcome.Done op m = refl
+  collecting_place (collector_outcome.Refused f) op m = refl
 
   -- the call in a place that was set, if the place is there
   at_place : (ks ks' : List (InFlight V)) (w : ℕ) (k : InFlight V) → w < length ks → ks' ≡ set ks w k → slice_get ks' w ≡ Some k

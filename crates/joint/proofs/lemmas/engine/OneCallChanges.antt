@@ -5,8 +5,8 @@ use Rattle.std.specs.Prelude.{Option, None, Some, slice_get}
 use Rattle.std.proofs.lemmas.List.{length-set}
 use Rattle.std.proofs.lemmas.Option.{slice_get_within, slice_get_cases}
 use Rattle.crossbeam_epoch.specs.declared.fault.Fault.{Fault}
-use Rattle.crossbeam_epoch.specs.declared.world.report.Outcome.{Outcome as Turned}
-use Rattle.crossbeam_epoch.specs.declared.world.report.Outcome.TheVariants as turned
+use Rattle.crossbeam_epoch.specs.declared.world.report.Outcome.{Outcome as CollectorOutcome}
+use Rattle.crossbeam_epoch.specs.declared.world.report.Outcome.TheVariants as collector_outcome
 use Rattle.congee.specs.declared.protocol.machine.Machine.{Machine}
 use Rattle.congee.specs.declared.protocol.machine.Noise.{Noise}
 use Rattle.congee.specs.declared.protocol.op.Op.{Op as Point}
@@ -45,15 +45,15 @@ pub record Apart {V : Type 0} (s s' : World V) (w : ℕ) : Type 0 where
   pub machines : AtOne s.machines s'.machines w
 
 module _ {V : Type 0} where
-  secured_one : (o : Turned) (k : Option (InFlight V)) (ms : List (Machine Id V)) (w : ℕ) → AtOne ms (secured_machines o k ms w) w
-  secured_one turned.Done (Some (Securing op)) ms w = one_set ms _ w _ refl
-  secured_one turned.Done (Some Idle) ms w = one_same ms ms w refl
-  secured_one turned.Done (Some (Collecting op)) ms w = one_same ms ms w refl
-  secured_one turned.Done (Some (Reserving op)) ms w = one_same ms ms w refl
-  secured_one turned.Done (Some Walking) ms w = one_same ms ms w refl
-  secured_one turned.Done None ms w = one_same ms ms w refl
-  secured_one turned.Running k ms w = one_same ms ms w refl
-  secured_one (turned.Refused f) k ms w = one_same ms ms w refl
+  secured_one : (o : CollectorOutcome) (k : Option (InFlight V)) (ms : List (Machine Id V)) (w : ℕ) → AtOne ms (secured_machines o k ms w) w
+  secured_one collector_outcome.Done (Some (Securing op)) ms w = one_set ms _ w _ refl
+  secured_one collector_outcome.Done (Some Idle) ms w = one_same ms ms w refl
+  secured_one collector_outcome.Done (Some (Collecting op)) ms w = one_same ms ms w refl
+  secured_one collector_outcome.Done (Some (Reserving op)) ms w = one_same ms ms w refl
+  secured_one collector_outcome.Done (Some Walking) ms w = one_same ms ms w refl
+  secured_one collector_outcome.Done None ms w = one_same ms ms w refl
+  secured_one collector_outcome.Running k ms w = one_same ms ms w refl
+  secured_one (collector_outcome.Refused f) k ms w = one_same ms ms w refl
 
 module _ {V : Type 0} (same : V → V → Bool) (always : Bool) (s s' : World V) (w : ℕ) (holds : EngineHolds same always s) where
   unchanged : s' ≡ s → Apart s s' w

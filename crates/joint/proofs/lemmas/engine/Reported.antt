@@ -5,9 +5,9 @@ use Rattle.std.specs.Prelude.{Option, None, Some, not, slice_get, if◌then◌el
 use Rattle.std.proofs.lemmas.Option.{slice_get_within}
 use Rattle.crossbeam_epoch.specs.declared.fault.Fault.{Fault}
 use Rattle.crossbeam_epoch.specs.declared.fault.Fault.TheVariants as fault
-use Rattle.crossbeam_epoch.specs.declared.world.report.Event.{Event as Turn}
-use Rattle.crossbeam_epoch.specs.declared.world.report.Outcome.{Outcome as Turned}
-use Rattle.crossbeam_epoch.specs.declared.world.report.Outcome.TheVariants as turned
+use Rattle.crossbeam_epoch.specs.declared.world.report.Event.{Event as CollectorEvent}
+use Rattle.crossbeam_epoch.specs.declared.world.report.Outcome.{Outcome as CollectorOutcome}
+use Rattle.crossbeam_epoch.specs.declared.world.report.Outcome.TheVariants as collector_outcome
 use Rattle.congee.specs.declared.protocol.machine.Noise.{Noise}
 use Rattle.congee.specs.declared.protocol.machine.Outcome.{Outcome as Moved}
 use Rattle.congee.specs.declared.protocol.machine.Outcome.TheVariants as moved
@@ -52,21 +52,21 @@ module _ {V : Type 0} where
   told_goes (moved.Refused cause) = refl
 
   -- a call of the collector's goes on, or there is none
-  after_turn : (k : InFlight V) → is_busy (Some k) ≡ true → (o : Turned) → is_busy (Some (call_after o k)) ≡ is_in_flight {V = V} (collected o)
-  after_turn k b turned.Running = b
-  after_turn k b turned.Done = refl
-  after_turn k b (turned.Refused f) = refl
+  after_turn : (k : InFlight V) → is_busy (Some k) ≡ true → (o : CollectorOutcome) → is_busy (Some (call_after o k)) ≡ is_in_flight {V = V} (collected o)
+  after_turn k b collector_outcome.Running = b
+  after_turn k b collector_outcome.Done = refl
+  after_turn k b (collector_outcome.Refused f) = refl
 
-  after_securing : (op : Point V) (o : Turned) → is_busy (Some (secured_call o (Some (Securing op)))) ≡ is_in_flight {V = V} (reserving o)
-  after_securing op turned.Running = refl
-  after_securing op turned.Done = refl
-  after_securing op (turned.Refused f) = refl
+  after_securing : (op : Point V) (o : CollectorOutcome) → is_busy (Some (secured_call o (Some (Securing op)))) ≡ is_in_flight {V = V} (reserving o)
+  after_securing op collector_outcome.Running = refl
+  after_securing op collector_outcome.Done = refl
+  after_securing op (collector_outcome.Refused f) = refl
 
   -- the call in a place that was set
   at_place : (calls calls' : List (InFlight V)) (w : ℕ) (k : InFlight V) → w < length calls → calls' ≡ set calls w k → slice_get calls' w ≡ Some k
   at_place calls calls' w k l e = let x : (y : InFlight V) × (slice_get calls w ≡ Some y) = there calls w l in ap (λ xs. slice_get xs w) e ∙ set_here calls w k x.0 x.1
 
-  securing_goes : (calls calls' : List (InFlight V)) (w : ℕ) (op : Point V) (o : Turned) → slice_get calls w ≡ Some (Securing op) → calls' ≡ set calls w (secured_call o (slice_get calls w)) → is_busy (slice_get calls' w) ≡ is_in_flight {V = V} (reserving o)
+  securing_goes : (calls calls' : List (InFlight V)) (w : ℕ) (op : Point V) (o : CollectorOutcome) → slice_get calls w ≡ Some (Securing op) → calls' ≡ set calls w (secured_call o (slice_get calls w)) → is_busy (slice_get calls' w) ≡ is_in_flight {V = V} (reserving o)
   securing_goes calls calls' w op o e c =
       ap is_busy (at_place calls calls' w (secured_call o (slice_get calls w)) (slice_get_within calls w (Securing op) e) c) ∙ ap (λ k. is_busy (Some (secured_call o k))) e ∙ after_securing op o
 
@@ -95,7 +95,7 @@ module _ {V : Type 0} (same : V → V → Bool) (always : Bool) (laws : CallLaws
   put : (r : Report V) (k : InFlight V) → w < length s.calls → s'.calls ≡ set s.calls w k → is_busy (Some k) ≡ is_in_flight r.outcome → Tells r
   put r k l e b = ap is_busy (at_place s.calls s'.calls w k l e) ∙ b
 
-  collects : (event : Turn) (k : InFlight V) (r : Report V) → is_busy (Some k) ≡ true → w < length s.calls → Collects same always s w event k r s' → Tells r
+  collects : (event : CollectorEvent) (k : InFlight V) (r : Report V) → is_busy (Some k) ≡ true → w < length s.calls → Collects same always s w event k r s' → Tells r
   collects event k r b l x = put r (call_after x.turn.outcome k) l x.calls (after_turn k b x.turn.outcome ∙ sym (ap (λ y. is_in_flight y.outcome) x.report))
 
   securing : (op : Point V) (r : Report V) (b : World V) → slice_get b.calls w ≡ Some (Securing op) → GoesOnReserving same always b w r s' → Tells r

@@ -4,10 +4,10 @@ use Rattle.std.proofs.Math.ListN.{set}
 use Rattle.std.specs.Prelude.{◌&&◌, Option, None, Some, is_none, is_some, length, option_map, slice_get, if◌then◌else◌}
 use Rattle.crossbeam_epoch.specs.declared.fault.Fault.{Fault}
 use Rattle.crossbeam_epoch.specs.declared.fault.Fault.TheVariants as fault
-use Rattle.crossbeam_epoch.specs.declared.world.report.Event.TheVariants as event
-use Rattle.crossbeam_epoch.specs.declared.world.report.Op.{Op as Turn}
-use Rattle.crossbeam_epoch.specs.declared.world.report.Outcome.{Outcome as Turned}
-use Rattle.crossbeam_epoch.specs.declared.world.report.Outcome.TheVariants as turned
+use Rattle.crossbeam_epoch.specs.declared.world.report.Event.TheVariants as collector_event
+use Rattle.crossbeam_epoch.specs.declared.world.report.Op.{Op as CollectorOp}
+use Rattle.crossbeam_epoch.specs.declared.world.report.Outcome.{Outcome as CollectorOutcome}
+use Rattle.crossbeam_epoch.specs.declared.world.report.Outcome.TheVariants as collector_outcome
 use Rattle.crossbeam_epoch.specs.declared.world.report.Report.{Report as Collection}
 use Rattle.crossbeam_epoch.specs.World.Machine.{State, place}
 use Rattle.crossbeam_epoch.specs.World.Progress.{Begins, refusal}
@@ -163,7 +163,7 @@ module _ {V : Type 0} (same : V → V → Bool) (always : Bool) (w : World V) (w
         ap (λ y. record { forest = y; machines = w'.machines; calls = w'.calls; log = w'.log }) ef ∙ ap (λ y. record { forest = w.forest; machines = y; calls = w'.calls; log = w'.log }) em ∙ ap (λ y. record { forest = w.forest; machines = w.machines; calls = y; log = w'.log }) ec ∙ ap (λ y. record { forest = w.forest; machines = w.machines; calls = set w.calls who (Reserving op); log = y }) el in
         on_tree op r w' p (reserve op r w' e (record { state = state; report = q }))
 
-    module _ (laws : ProgressLaws (Slot V) (Unit {0})) (intact : IsIntact same always w.forest w.machines w.calls) (op : Turn) (x : Collection) (w' : World V) (did : Collected same always w.forest w.machines who (event.Begin op) x w'.forest) where
+    module _ (laws : ProgressLaws (Slot V) (Unit {0})) (intact : IsIntact same always w.forest w.machines w.calls) (op : CollectorOp) (x : Collection) (w' : World V) (did : Collected same always w.forest w.machines who (collector_event.Begin op) x w'.forest) where
       begins : Begins c who op x.outcome w'.forest.collector
       begins =
           let m : (m : Machine Id V) × (slice_get w.machines who ≡ Some m) = there w.machines who (inside_machines same always w.forest w.machines w.calls intact who Idle idle) in
@@ -189,12 +189,12 @@ module _ {V : Type 0} (same : V → V → Bool) (always : Bool) (w : World V) (w
         goes : refusal c who op ≡ None → Begun same always w who (Collector op) r w'
         goes e = proceeds (Collector op) r w' (fault_is ∙ e) (record { turn = x; step = did; machines = ms; calls = calls; report = q })
 
-        by_outcome : (o : Turned) → x.outcome ≡ o → Begins c who op o w'.forest.collector → Begun same always w who (Collector op) r w'
-        by_outcome turned.Running e b = goes b.0
-        by_outcome turned.Done e b = goes b.0
-        by_outcome (turned.Refused f) e b =
+        by_outcome : (o : CollectorOutcome) → x.outcome ≡ o → Begins c who op o w'.forest.collector → Begun same always w who (Collector op) r w'
+        by_outcome collector_outcome.Running e b = goes b.0
+        by_outcome collector_outcome.Done e b = goes b.0
+        by_outcome (collector_outcome.Refused f) e b =
             let back : w'.calls ≡ w.calls = calls ∙ ap (λ o. set w.calls who (call_after o (Collecting op))) e ∙ set_again w.calls who Idle idle in
-            let none : x.called ≡ None = did.report.job ∙ ap (λ o. called_in c who (event.Begin op) o) e in
+            let none : x.called ≡ None = did.report.job ∙ ap (λ o. called_in c who (collector_event.Begin op) o) e in
             let told : collection {V = V} x (collected x.outcome) ≡ quiet kind.Collection (outcome.Refused (of_fault f)) =
             ap (λ o. collection {V = V} x (collected o)) e ∙ ap (λ o. collection {V = V} (record { called = o; outcome = x.outcome }) (outcome.Refused (of_fault f))) none in
             let is : w' ≡ w = ap (λ y. record { forest = y; machines = w'.machines; calls = w'.calls; log = w'.log }) (same_forest charged b.1) ∙ ap (λ y. record { forest = w.forest; machines = y; calls = w'.calls; log = w'.log }) ms ∙ ap (λ y. record { forest = w.forest; machines = w.machines; calls = y; log = w'.log }) back ∙ ap (λ y. record { forest = w.forest; machines = w.machines; calls = w.calls; log = y }) log in
@@ -234,7 +234,7 @@ is_idle (Some (Securing op)) e = absurd (cc e)
 is_idle (Some Walking) e = absurd (cc e)
 is_idle None e = absurd (cc e)
 
-pub is_collecting : {V : Type 0} (o : Option (InFlight V)) (op : Turn) → Some (about.Collecting op) ≡ option_map stage_of o → o ≡ Some (Collecting op)
+pub is_collecting : {V : Type 0} (o : Option (InFlight V)) (op : CollectorOp) → Some (about.Collecting op) ≡ option_map stage_of o → o ≡ Some (Collecting op)
 is_collecting (Some (Collecting y)) op e = ap (λ z. Some (Collecting z)) (let q : y ≡ op = cc in q)
 is_collecting (Some Idle) op e = absurd (cc e)
 is_collecting (Some (Reserving y)) op e = absurd (cc e)

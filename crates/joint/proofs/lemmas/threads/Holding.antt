@@ -6,12 +6,12 @@ use Rattle.crossbeam_epoch.specs.declared.fault.Fault.TheVariants as fault
 use Rattle.crossbeam_epoch.specs.declared.world.participant.Participant.{Participant}
 use Rattle.crossbeam_epoch.specs.declared.world.participant.Phase.{Phase}
 use Rattle.crossbeam_epoch.specs.declared.world.participant.Phase.TheVariants as phase
-use Rattle.crossbeam_epoch.specs.declared.world.report.Event.{Event as Turn}
-use Rattle.crossbeam_epoch.specs.declared.world.report.Event.TheVariants as turn
-use Rattle.crossbeam_epoch.specs.declared.world.report.Op.{Op as Collecting}
-use Rattle.crossbeam_epoch.specs.declared.world.report.Op.TheVariants as collecting
-use Rattle.crossbeam_epoch.specs.declared.world.report.Outcome.{Outcome as Turned}
-use Rattle.crossbeam_epoch.specs.declared.world.report.Outcome.TheVariants as turned
+use Rattle.crossbeam_epoch.specs.declared.world.report.Event.{Event as CollectorEvent}
+use Rattle.crossbeam_epoch.specs.declared.world.report.Event.TheVariants as collector_event
+use Rattle.crossbeam_epoch.specs.declared.world.report.Op.{Op as CollectorOp}
+use Rattle.crossbeam_epoch.specs.declared.world.report.Op.TheVariants as collector_op
+use Rattle.crossbeam_epoch.specs.declared.world.report.Outcome.{Outcome as CollectorOutcome}
+use Rattle.crossbeam_epoch.specs.declared.world.report.Outcome.TheVariants as collector_outcome
 use Rattle.crossbeam_epoch.specs.World.Machine.{State, place}
 use Rattle.crossbeam_epoch.specs.World.Steps as collector
 use Rattle.congee.specs.declared.protocol.machine.Noise.{Noise}
@@ -59,24 +59,24 @@ own_if true x y a b = a
 own_if false x y a b = b
 
 module _ {J : Type 0} (p : Participant J) where
-  begin_own : (op : Collecting) → Own (collector.begin_fault op p)
-  begin_own collecting.Pin = own_when _ fault.Count (tt {0})
-  begin_own collecting.Unpin = own_when (is_none p.word) fault.Unpinned (tt {0})
-  begin_own collecting.Repin = own_when (is_none p.word) fault.Unpinned (tt {0})
-  begin_own collecting.Flush = own_when (is_none p.word) fault.Unpinned (tt {0})
-  begin_own collecting.Release = own_when (is_some p.word) fault.GuardOut (tt {0})
-  begin_own (collecting.Secure n) = own_if (is_none p.word) (Some fault.Unpinned) _ (tt {0}) (own_when _ fault.Limits (tt {0}))
+  begin_own : (op : CollectorOp) → Own (collector.begin_fault op p)
+  begin_own collector_op.Pin = own_when _ fault.Count (tt {0})
+  begin_own collector_op.Unpin = own_when (is_none p.word) fault.Unpinned (tt {0})
+  begin_own collector_op.Repin = own_when (is_none p.word) fault.Unpinned (tt {0})
+  begin_own collector_op.Flush = own_when (is_none p.word) fault.Unpinned (tt {0})
+  begin_own collector_op.Release = own_when (is_some p.word) fault.GuardOut (tt {0})
+  begin_own (collector_op.Secure n) = own_if (is_none p.word) (Some fault.Unpinned) _ (tt {0}) (own_when _ fault.Limits (tt {0}))
 
-  busy_own : (op : Collecting) → Own (Some (collector.busy_fault op))
-  busy_own collecting.Pin = tt {0}
-  busy_own (collecting.Secure n) = tt {0}
+  busy_own : (op : CollectorOp) → Own (Some (collector.busy_fault op))
+  busy_own collector_op.Pin = tt {0}
+  busy_own (collector_op.Secure n) = tt {0}
   busy_own _ = tt {0}
 
-  event_own : (event : Turn) (ph : Phase) → Own (collector.event_fault event ph p)
-  event_own (turn.Begin op) phase.Idle = begin_own op
-  event_own (turn.Begin op) _ = busy_own op
-  event_own turn.Go phase.Idle = tt {0}
-  event_own turn.Go _ = tt {0}
+  event_own : (event : CollectorEvent) (ph : Phase) → Own (collector.event_fault event ph p)
+  event_own (collector_event.Begin op) phase.Idle = begin_own op
+  event_own (collector_event.Begin op) _ = busy_own op
+  event_own collector_event.Go phase.Idle = tt {0}
+  event_own collector_event.Go _ = tt {0}
 
   unready_own : {V : Type 0} (t : Target V) → Own (unready t p)
   unready_own (target.Collector op) = begin_own op
@@ -90,7 +90,7 @@ module _ {J : Type 0} (p : Participant J) where
   interruption_own (target.Tree op) = tt {0}
   interruption_own (target.Survey k) = tt {0}
 
-fault_own : {T J : Type 0} (s : State T J) (who : ℕ) (event : Turn) → Own (collector.fault s who event)
+fault_own : {T J : Type 0} (s : State T J) (who : ℕ) (event : CollectorEvent) → Own (collector.fault s who event)
 fault_own s who event = own_if (place s who).registered _ (Some fault.Unknown) (event_own (place s who) event (place s who).phase) (tt {0})
 
 misuse_own : {V : Type 0} (s : World V) (who : ℕ) (event : Event V) → Own (misuse s who event)
@@ -105,17 +105,17 @@ module _ (V : Type 0) where
   fault_tells fault.Foreign o = absurd o
   fault_tells _ o = tt {0}
 
-  collected_tells : {T J : Type 0} (s : State T J) (who : ℕ) (event : Turn) (x : Option Fault) (o : Turned) → Own x → collector.IsOutcome s who event x o → IsToldInCall {V = V} (collected o)
+  collected_tells : {T J : Type 0} (s : State T J) (who : ℕ) (event : CollectorEvent) (x : Option Fault) (o : CollectorOutcome) → Own x → collector.IsOutcome s who event x o → IsToldInCall {V = V} (collected o)
   collected_tells s who event (Some f) o own is = subst (λ o. IsToldInCall {V = V} (collected o)) (sym is) (fault_tells f own)
-  collected_tells s who event None turned.Running own is = tt {0}
-  collected_tells s who event None turned.Done own is = tt {0}
-  collected_tells s who event None (turned.Refused fault.Memory) own is = tt {0}
-  collected_tells s who event None (turned.Refused _) own is = absurd is
+  collected_tells s who event None collector_outcome.Running own is = tt {0}
+  collected_tells s who event None collector_outcome.Done own is = tt {0}
+  collected_tells s who event None (collector_outcome.Refused fault.Memory) own is = tt {0}
+  collected_tells s who event None (collector_outcome.Refused _) own is = absurd is
 
-  reserving_tells : (o : Turned) → IsToldInCall {V = V} (collected o) → IsToldInCall {V = V} (reserving o)
-  reserving_tells turned.Running t = t
-  reserving_tells turned.Done t = tt {0}
-  reserving_tells (turned.Refused f) t = t
+  reserving_tells : (o : CollectorOutcome) → IsToldInCall {V = V} (collected o) → IsToldInCall {V = V} (reserving o)
+  reserving_tells collector_outcome.Running t = t
+  reserving_tells collector_outcome.Done t = tt {0}
+  reserving_tells (collector_outcome.Refused f) t = t
 
 module _ {V : Type 0} where
   moved_tells : (o : Moved V) → IsToldInCall (told o)
@@ -140,7 +140,7 @@ module _ {V : Type 0} (same : V → V → Bool) (always : Bool) (s s' : World V)
   so : (r : Report V) (o : Outcome V) → r.outcome ≡ o → IsToldInCall o → Tells r
   so r o is t = subst IsToldInCall (sym is) t
 
-  collects : (b : World V) (event : Turn) (k : InFlight V) (r : Report V) → Collects same always b who event k r s' → Tells r
+  collects : (b : World V) (event : CollectorEvent) (k : InFlight V) (r : Report V) → Collects same always b who event k r s' → Tells r
   collects b event k r x =
       so r (collected x.turn.outcome) (ap (λ r. r.outcome) x.report)
       (collected_tells V b.forest.collector who event _ x.turn.outcome (fault_own b.forest.collector who event) x.step.report.outcome)
@@ -160,20 +160,20 @@ module _ {V : Type 0} (same : V → V → Bool) (always : Bool) (s s' : World V)
   begins_tree (point.Exchange k old new) r x = so r Running (ap (λ r. r.outcome) x.report) (tt {0})
 
   begins : (t : Target V) (r : Report V) → BeginsAt same always s who t r s' → Tells r
-  begins (target.Collector op) r x = collects s (turn.Begin op) (call.Collecting op) r x
+  begins (target.Collector op) r x = collects s (collector_event.Begin op) (call.Collecting op) r x
   begins (target.Tree op) r x = begins_tree op r x
   begins (target.Survey k) r x = so r x.outcome (ap (λ r. r.outcome) x.report) (survey_tells _ k x.outcome x.tells)
 
   goes : (k : Option (InFlight V)) (noise : Noise Id V) (r : Report V) → GoesAt same always s who k noise r s' → Tells r
   goes None noise r x = absurd x
   goes (Some call.Idle) noise r x = absurd x
-  goes (Some (call.Collecting op)) noise r x = collects s turn.Go (call.Collecting op) r x
+  goes (Some (call.Collecting op)) noise r x = collects s collector_event.Go (call.Collecting op) r x
   goes (Some (call.Reserving op)) noise r x =
       so r (reserving x.goes.turn.outcome) (ap (λ r. r.outcome) x.goes.report)
-      (reserving_tells V x.goes.turn.outcome (collected_tells V x.between.forest.collector who turn.Go _ x.goes.turn.outcome (fault_own x.between.forest.collector who turn.Go) x.goes.step.collected.report.outcome))
+      (reserving_tells V x.goes.turn.outcome (collected_tells V x.between.forest.collector who collector_event.Go _ x.goes.turn.outcome (fault_own x.between.forest.collector who collector_event.Go) x.goes.step.collected.report.outcome))
   goes (Some (call.Securing op)) noise r x =
       so r (reserving x.turn.outcome) (ap (λ r. r.outcome) x.report)
-      (reserving_tells V x.turn.outcome (collected_tells V s.forest.collector who turn.Go _ x.turn.outcome (fault_own s.forest.collector who turn.Go) x.step.collected.report.outcome))
+      (reserving_tells V x.turn.outcome (collected_tells V s.forest.collector who collector_event.Go _ x.turn.outcome (fault_own s.forest.collector who collector_event.Go) x.step.collected.report.outcome))
   goes (Some call.Walking) noise r x = so r (told x.move.outcome) (ap (λ r. r.outcome) x.report) (moved_tells x.move.outcome)
 
   proceeds : (event : Event V) (r : Report V) → IsOfCall event → Proceeds same always s who event r s' → Tells r

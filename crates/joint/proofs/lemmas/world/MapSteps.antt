@@ -12,12 +12,12 @@ use Rattle.crossbeam_epoch.specs.declared.fault.Fault.TheVariants as fault
 use Rattle.crossbeam_epoch.specs.declared.world.participant.Participant.{Participant}
 use Rattle.crossbeam_epoch.specs.declared.world.participant.Phase.{Phase as Stage}
 use Rattle.crossbeam_epoch.specs.declared.world.participant.Phase.TheVariants as stage
-use Rattle.crossbeam_epoch.specs.declared.world.report.Event.{Event as Turn}
-use Rattle.crossbeam_epoch.specs.declared.world.report.Event.TheVariants as collector
-use Rattle.crossbeam_epoch.specs.declared.world.report.Op.{Op as Work}
+use Rattle.crossbeam_epoch.specs.declared.world.report.Event.{Event as CollectorEvent}
+use Rattle.crossbeam_epoch.specs.declared.world.report.Event.TheVariants as collector_event
+use Rattle.crossbeam_epoch.specs.declared.world.report.Op.{Op as CollectorOp}
 use Rattle.crossbeam_epoch.specs.declared.world.report.Op.TheVariants.{Secure}
-use Rattle.crossbeam_epoch.specs.declared.world.report.Outcome.{Outcome as Turned}
-use Rattle.crossbeam_epoch.specs.declared.world.report.Outcome.TheVariants as turned
+use Rattle.crossbeam_epoch.specs.declared.world.report.Outcome.{Outcome as CollectorOutcome}
+use Rattle.crossbeam_epoch.specs.declared.world.report.Outcome.TheVariants as collector_outcome
 use Rattle.crossbeam_epoch.specs.declared.world.report.Report.{Report as Collection}
 use Rattle.crossbeam_epoch.specs.World.Machine.{State, place, blank}
 use Rattle.crossbeam_epoch.specs.World.Progress.{IsOn, stage as stage_of, comes_by}
@@ -86,18 +86,18 @@ scan_of_none start end size m none = record {
 }
 
 -- a step that goes on with making places free is refused for want of memory alone
-go_free : {J : Type 0} (phase : Stage) (p : Participant J) → comes_by (stage_of phase) (Secure 2) ≡ true → event_fault collector.Go phase p ≡ None
+go_free : {J : Type 0} (phase : Stage) (p : Participant J) → comes_by (stage_of phase) (Secure 2) ≡ true → event_fault collector_event.Go phase p ≡ None
 go_free stage.Idle p e = absurd cc
 go_free _ p e = refl
 
-only_memory : {T J : Type 0} (c : State T J) (who : ℕ) (f : Fault) → IsOutcome c who collector.Go None (turned.Refused f) → f ≡ fault.Memory
+only_memory : {T J : Type 0} (c : State T J) (who : ℕ) (f : Fault) → IsOutcome c who collector_event.Go None (collector_outcome.Refused f) → f ≡ fault.Memory
 only_memory c who fault.Memory x = refl
 only_memory c who _ x = absurd x
 
-pub wants_memory : {T J : Type 0} (c : State T J) (who : ℕ) (f : Fault) → IsOn (Secure 2) (place c who) → IsOutcome c who collector.Go (fault_of c who collector.Go) (turned.Refused f) → f ≡ fault.Memory
+pub wants_memory : {T J : Type 0} (c : State T J) (who : ℕ) (f : Fault) → IsOn (Secure 2) (place c who) → IsOutcome c who collector_event.Go (fault_of c who collector_event.Go) (collector_outcome.Refused f) → f ≡ fault.Memory
 wants_memory c who f on x =
-    let P : Bool → Type 0 = λ b. IsOutcome c who collector.Go (if b then event_fault collector.Go (place c who).phase (place c who) else Some fault.Unknown) (turned.Refused f) in
-    let Q : Option Fault → Type 0 = λ o. IsOutcome c who collector.Go o (turned.Refused f) in
+    let P : Bool → Type 0 = λ b. IsOutcome c who collector_event.Go (if b then event_fault collector_event.Go (place c who).phase (place c who) else Some fault.Unknown) (collector_outcome.Refused f) in
+    let Q : Option Fault → Type 0 = λ o. IsOutcome c who collector_event.Go o (collector_outcome.Refused f) in
     only_memory c who f (subst Q (go_free (place c who).phase (place c who) on.1) (subst P on.0 x))
 
 is_ended : {V : Type 0} (p : Phase Id V) → is_over p ≡ true → p ≡ Ended
@@ -105,10 +105,10 @@ is_ended Ended e = refl
 is_ended _ e = absurd cc
 
 -- what is left of a call on the collector is watched as nothing
-collecting_over : {V : Type 0} (o : Turned) (op : Work) (x : Machine Id V) (f : Flight V) → f ≡ Over → IsInFlight (call_after o (Collecting op)) x f
-collecting_over turned.Running op x f e = e
-collecting_over turned.Done op x f e = e
-collecting_over (turned.Refused g) op x f e = e
+collecting_over : {V : Type 0} (o : CollectorOutcome) (op : CollectorOp) (x : Machine Id V) (f : Flight V) → f ≡ Over → IsInFlight (call_after o (Collecting op)) x f
+collecting_over collector_outcome.Running op x f e = e
+collecting_over collector_outcome.Done op x f e = e
+collecting_over (collector_outcome.Refused g) op x f e = e
 
 module _ {V : Type 0} (same : V → V → Bool) (always : Bool) (s s' : World V) (w : ℕ) (holds : EngineHolds same always s) (fs : Flights V) (m : Pairs V) (st : IsMapOf (nodes s.forest) m) (fl : AreInFlight s fs) where
   -- the line of a step with this report, and what comes of it
@@ -189,7 +189,7 @@ module _ {V : Type 0} (same : V → V → Bool) (always : Bool) (s s' : World V)
   }
 
   -- a call on the collector
-  collects : (event : Event V) (turn : Turn) (op : Work) (r : Report V) (map : Line V → Flights V → Type 0) → fs w ≡ Over → w < length s.calls → Collects same always s w turn (Collecting op) r s'
+  collects : (event : Event V) (turn : CollectorEvent) (op : CollectorOp) (r : Report V) (map : Line V → Flights V → Type 0) → fs w ≡ Over → w < length s.calls → Collects same always s w turn (Collecting op) r s'
       → (r.decided ≡ false → map (line event r None m) fs) → Result event r map
   collects event turn op r map f l k x = record {
     entry = None;
@@ -284,7 +284,7 @@ module _ {V : Type 0} (same : V → V → Bool) (always : Bool) (s s' : World V)
   begins_tree event (point.Exchange k old new) r f l x = reserves event (point.Exchange k old new) r f l x
 
   begins : (event : Event V) (t : Target V) (r : Report V) → fs w ≡ Over → w < length s.calls → BeginsAt same always s w t r s' → Result event r (λ l f'. BeginMap fs m t l f')
-  begins event (target.Collector op) r f l x = collects event (collector.Begin op) op r (λ y f'. BeginMap fs m (target.Collector op) y f') f l x (λ d. stays event r m d)
+  begins event (target.Collector op) r f l x = collects event (collector_event.Begin op) op r (λ y f'. BeginMap fs m (target.Collector op) y f') f l x (λ d. stays event r m d)
   begins event (target.Tree op) r f l x = begins_tree event op r f l x
   begins event (target.Survey k) r f l x =
       unchanged event r (λ y f'. BeginMap fs m (target.Survey k) y f') x.state (record {
@@ -329,9 +329,9 @@ module _ {V : Type 0} (same : V → V → Bool) (always : Bool) (s s' : World V)
     same_machines : s'.machines ≡ s.machines → (i : ℕ) (x : Machine Id V) → i ≢ w → slice_get s'.machines i ≡ Some x → slice_get s.machines i ≡ Some x
     same_machines q i x n b = let P : List (Machine Id V) → Type 0 = λ ms. slice_get ms i ≡ Some x in subst P q b
 
-    reserving_case : (turn : Collection) (o : Turned) → s'.calls ≡ slice_set s.calls w (secured_call o (Some (Securing op))) → s'.machines ≡ secured_machines o (Some (Securing op)) s.machines w
-        → ((f : Fault) → o ≡ turned.Refused f → f ≡ fault.Memory) → SameMap (nodes s.forest) (nodes s'.forest) → Went (collection turn (reserving o))
-    reserving_case turn turned.Running ec em only map = record {
+    reserving_case : (turn : Collection) (o : CollectorOutcome) → s'.calls ≡ slice_set s.calls w (secured_call o (Some (Securing op))) → s'.machines ≡ secured_machines o (Some (Securing op)) s.machines w
+        → ((f : Fault) → o ≡ collector_outcome.Refused f → f ≡ fault.Memory) → SameMap (nodes s.forest) (nodes s'.forest) → Went (collection turn (reserving o))
+    reserving_case turn collector_outcome.Running ec em only map = record {
       entry = None;
       pairs = m;
       flights = with_flight fs w waiting;
@@ -346,7 +346,7 @@ module _ {V : Type 0} (same : V → V → Bool) (always : Bool) (s s' : World V)
       in_flight = set_in_flight (with_flight fs w waiting) (Securing op) len ec (same_machines em)
           (λ y b. flight_here fs w waiting ∙ sym (pending op writing)) (λ i n. flight_apart fs w i waiting n);
     }
-    reserving_case turn turned.Done ec em only map = record {
+    reserving_case turn collector_outcome.Done ec em only map = record {
       entry = None;
       pairs = m;
       flights = with_flight fs w waiting;
@@ -375,7 +375,7 @@ module _ {V : Type 0} (same : V → V → Bool) (always : Bool) (s s' : World V)
           ]))
           (λ i n. flight_apart fs w i waiting n);
     }
-    reserving_case turn (turned.Refused f) ec em only map = record {
+    reserving_case turn (collector_outcome.Refused f) ec em only map = record {
       entry = None;
       pairs = m;
       flights = with_flight fs w Over;
@@ -397,7 +397,7 @@ module _ {V : Type 0} (same : V → V → Bool) (always : Bool) (s s' : World V)
     reserving_from b x at e en em ec r k =
         let P : Option (InFlight V) → Type 0 = λ c. s'.calls ≡ slice_set b.calls w (secured_call k.turn.outcome c) in
         let Q : Option (InFlight V) → Type 0 = λ c. s'.machines ≡ secured_machines k.turn.outcome c b.machines w in
-        let R : Turned → Type 0 = λ o. IsOutcome b.forest.collector w collector.Go (fault_of b.forest.collector w collector.Go) o in
+        let R : CollectorOutcome → Type 0 = λ o. IsOutcome b.forest.collector w collector_event.Go (fault_of b.forest.collector w collector_event.Go) o in
         let S : (ℕ → Node V) → Type 0 = λ h. SameMap h (nodes s'.forest) in
         subst Went (sym k.report) (reserving_case k.turn k.turn.outcome (subst P e k.step.call ∙ ec _) (subst Q e k.step.machine ∙ ap (λ ms. secured_machines k.turn.outcome (Some (Securing op)) ms w) em)
         (λ f q. wants_memory b.forest.collector w f at.0 (subst R q k.step.collected.report.outcome)) (subst S en k.step.collected.map))
@@ -601,7 +601,7 @@ module _ {V : Type 0} (same : V → V → Bool) (always : Bool) (s s' : World V)
   go_case noise r (Some (Collecting op)) true e be x =
       let o : fs w ≡ Over = fl.each w (Collecting op) (machine_at (Collecting op) e).0 e (machine_at (Collecting op) e).1 in
       let P : Option (InFlight V) → Type 0 = λ c. GoesAt same always s w c noise r s' in
-      collects (Go noise) collector.Go op r (λ l f'. GoMap same fs (fs w) m noise.answer l f') o (inside be) (subst P e x) (over_go noise r o)
+      collects (Go noise) collector_event.Go op r (λ l f'. GoMap same fs (fs w) m noise.answer l f') o (inside be) (subst P e x) (over_go noise r o)
   go_case noise r (Some (Reserving op)) false e be x = absurd (let q : false ≡ true = sym be ∙ reserving_registered op e in false≢true q)
   go_case noise r (Some (Reserving op)) true e be x =
       let P : Option (InFlight V) → Type 0 = λ c. GoesAt same always s w c noise r s' in
