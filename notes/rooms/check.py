@@ -289,7 +289,7 @@ def docs():
                 if any((ROOT / c / name).is_file() for c in CRATES) or any(str(p).endswith("/" + name) for p in names.get(Path(name).name, [])):
                     continue
                 say(f"{doc}:{i}: no file {name}")
-            if doc.name == "PROOF.md":
+            if doc.name in ("PROOF.md", "ARCHITECTURE.md"):
                 for m in re.finditer(r"`((?:\w+/)*)([A-Z]\w*): (\w+)`", line):
                     at = [p for p in lemma_files.get(m[2], []) if str(p.parent).endswith(m[1].rstrip("/")) or not m[1]]
                     if not at:
