@@ -51,14 +51,14 @@ pair_call_sound key.Insert a b c h i e = found_so (IsCall (Key key.Insert ∷ Nu
 pair_call_sound key.OrInsert a b c h i e = found_so (IsCall (Key key.OrInsert ∷ Number a ∷ Number b ∷ [])) (call.OrInsert a b) c (refl, (h, i)) e
 pair_call_sound _ a b c h i e = absurd (cc)
 
-pub at_most : (n m : ℕ) → nat_le n m ≡ true → n ≤ m
-at_most n m h = grind (arith, nat_tests)
+pub at_most_of_test : (n m : ℕ) → nat_le n m ≡ true → n ≤ m
+at_most_of_test n m h = grind (arith, nat_tests)
 
 scan_sound : (k : Keyword) (a b n : ℕ) (scan c : Call) → (n ≤ 10000 → IsCall (Key k ∷ Number a ∷ Number b ∷ Number n ∷ []) scan) → (if nat_le n 10000 then Some scan else None) ≡ Some c
     → IsCall (Key k ∷ Number a ∷ Number b ∷ Number n ∷ []) c
 scan_sound k a b n scan c is e =
     let parts = passed (nat_le n 10000) scan c e in
-    subst (IsCall (Key k ∷ Number a ∷ Number b ∷ Number n ∷ [])) parts.1 (is (at_most n 10000 parts.0))
+    subst (IsCall (Key k ∷ Number a ∷ Number b ∷ Number n ∷ [])) parts.1 (is (at_most_of_test n 10000 parts.0))
 
 triple_call_sound : (k : Keyword) (a b d : ℕ) (c : Call) → a < 2 ^ 64 → b < 2 ^ 64 → d < 2 ^ 64 → triple_call_of k a b d ≡ Some c
     → IsCall (Key k ∷ Number a ∷ Number b ∷ Number d ∷ []) c

@@ -7,9 +7,9 @@ pub both_true : (a b : Bool) → a && b ≡ true → (a ≡ true) × (b ≡ true
 both_true true b h = (refl, h)
 both_true false b h = (h, absurd (cc))
 
-pub both : (a b : Bool) → a ≡ true → b ≡ true → a && b ≡ true
-both true b p q = q
-both false b p q = p
+pub and_true : (a b : Bool) → a ≡ true → b ≡ true → a && b ≡ true
+and_true true b p q = q
+and_true false b p q = p
 
 pub equal : (x y : ℕ) → x == y ≡ true → x ≡ y
 equal x y h = grind (arith, nat_tests)
@@ -22,7 +22,7 @@ fits_trans (x ∷ p) (y ∷ q) (z ∷ key) a b =
     let a' : (x == y ≡ true) × (fits p q ≡ true) = both_true _ _ a in
     let b' : (y == z ≡ true) × (fits q key ≡ true) = both_true _ _ b in
     let e : x ≡ y = equal x y a'.0 in
-    both _ _ (let P : ℕ → Type 0 = λ n. n == z ≡ true in subst P (sym e) b'.0) (fits_trans p q key a'.1 b'.1)
+    and_true _ _ (let P : ℕ → Type 0 = λ n. n == z ≡ true in subst P (sym e) b'.0) (fits_trans p q key a'.1 b'.1)
 
 pub fits_byte : (q key : List ℕ) (i : ℕ) → fits q key ≡ true → i < length q → get_or key i 0 ≡ get_or q i 0
 fits_byte [] key i a b = absurd (omega arith)

@@ -72,9 +72,9 @@ same_bytes a b (suc d) l h j k =
     ]
 
 -- the first byte in which two numbers differ tells which is less
-pub less : (a b d : ℕ) → a < 2 ^ 64 → b < 2 ^ 64 → d < 8 → ((j : ℕ) → j < d → get_or (key_bytes a) j 0 ≡ get_or (key_bytes b) j 0)
+pub less_at_first_byte : (a b d : ℕ) → a < 2 ^ 64 → b < 2 ^ 64 → d < 8 → ((j : ℕ) → j < d → get_or (key_bytes a) j 0 ≡ get_or (key_bytes b) j 0)
     → get_or (key_bytes a) d 0 < get_or (key_bytes b) d 0 → a < b
-less a b d la lb l h k = elim (cases_lt a b) [
+less_at_first_byte a b d la lb l h k = elim (cases_lt a b) [
   | inl lt ↦ lt
   | inr ge ↦ (
       let up : top b (d + 1) ≤ top a (d + 1) = shr_mono (8 * (8 - (d + 1))) ge in

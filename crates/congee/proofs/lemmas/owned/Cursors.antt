@@ -25,7 +25,7 @@ use Rattle.congee.proofs.lemmas.Fits.{fits_byte, fits_trans, same_key}
 use Rattle.congee.proofs.lemmas.Graft.{on_test}
 use Rattle.congee.proofs.lemmas.Keys.{key_length}
 use Rattle.congee.proofs.lemmas.Link.{Leaf}
-use Rattle.congee.proofs.lemmas.Orders.{less, byte_small}
+use Rattle.congee.proofs.lemmas.Orders.{less_at_first_byte, byte_small}
 use Rattle.congee.proofs.lemmas.owned.Joins.{leaf_of}
 use Rattle.congee.proofs.lemmas.owned.Tables.{pairs_stand}
 use Rattle.congee.proofs.lemmas.owned.Ways.{linked_of, stands_of, short_prefix, below_stands, root_reached}
@@ -218,7 +218,7 @@ module _ {P : Type 0} (s : Nodes P) (t : IsTree s) where
       → get_or (key_bytes k) (length (heap_of s n).prefix) 0 < get_or (key_bytes q) (length (heap_of s n).prefix) 0 → k < q
   less_at n k q c lk lq fk fq l =
       let b = short_prefix s t n c in
-      less k q (length (heap_of s n).prefix) lk lq (omega (arith, b))
+      less_at_first_byte k q (length (heap_of s n).prefix) lk lq (omega (arith, b))
       (λ j lt. fits_byte (heap_of s n).prefix (key_bytes k) j fk lt ∙ sym (fits_byte (heap_of s n).prefix (key_bytes q) j fq lt)) l
 
   pub byte_from : (n k q : ℕ) → ContainsKey s n → k ≤ q → q < 2 ^ 64 → fits (heap_of s n).prefix (key_bytes k) ≡ true → fits (heap_of s n).prefix (key_bytes q) ≡ true
@@ -536,7 +536,7 @@ module _ {P : Type 0} (s : Nodes P) (t : IsTree s) where
       let g = fits_child q at below h d.way.stands f (turns_same at key q (Below below) same e) in
       let short = short_prefix s t below (below_stands s t at below (key_bytes key) d.way.stands e) in
       let there = fits_byte (heap_of s below).prefix (key_bytes q) common g parts.within in
-      let l = less key q common lk (small q h) (omega (arith, short, parts.within))
+      let l = less_at_first_byte key q common lk (small q h) (omega (arith, short, parts.within))
       (λ j lt. parts.same j lt ∙ sym (fits_byte (heap_of s below).prefix (key_bytes q) j g (omega (arith, lt, parts.within)))) (omega (arith, le, parts.apart, there)) in
       omega (arith, l))
 
@@ -553,7 +553,7 @@ module _ {P : Type 0} (s : Nodes P) (t : IsTree s) where
             let g = fits_child q at below h d.way.stands f (turns_same at key q (Below below) (omega (arith, up, ge)) e) in
             let short = short_prefix s t below (below_stands s t at below (key_bytes key) d.way.stands e) in
             let there = fits_byte (heap_of s below).prefix (key_bytes q) common g parts.within in
-            let n = less q key common (small q h) lk (omega (arith, short, parts.within))
+            let n = less_at_first_byte q key common (small q h) lk (omega (arith, short, parts.within))
             (λ j lt. fits_byte (heap_of s below).prefix (key_bytes q) j g (omega (arith, lt, parts.within)) ∙ sym (parts.same j lt)) (omega (arith, lt, there)) in
             absurd (omega (arith, n, l)))
       ])

@@ -256,8 +256,8 @@ module _ {P : Type 0} where
   ]
 
   -- a name under which this node stands
-  pub here : (s : Nodes P) (Q : Form ℕ P → Type 0) (n at : ℕ) (x y : Form ℕ P) → n ≡ at → get s n ≡ Some x → get s at ≡ Some y → Q y → Q x
-  here s Q n at x y q e is h =
+  pub holds_of_same : (s : Nodes P) (Q : Form ℕ P → Type 0) (n at : ℕ) (x y : Form ℕ P) → n ≡ at → get s n ≡ Some x → get s at ≡ Some y → Q y → Q x
+  holds_of_same s Q n at x y q e is h =
       let i : Some y ≡ Some x = sym is ∙ (ap (λ k. get s k) (sym q) ∙ e) in
       let j : y ≡ x = cc in
       subst Q j h
@@ -265,7 +265,7 @@ module _ {P : Type 0} where
   -- one node is another one, which has enough, and the others are as before
   pub filled_but : (s s' : Nodes P) (at : ℕ) (y : Form ℕ P) → OthersFilled s at → (at ≢ 0 → HasEnough y) → get s' at ≡ Some y → ((m : ℕ) → m ≢ at → get s' m ≡ get s m) → NodesFilled s'
   filled_but s s' at y h full is others n x ne e = elim (same_or_not n at) [
-    | inl q ↦ here s' HasEnough n at x y q e is (full (λ z. ne (q ∙ z)))
+    | inl q ↦ holds_of_same s' HasEnough n at x y q e is (full (λ z. ne (q ∙ z)))
     | inr apart ↦ h n x ne apart (sym (others n apart) ∙ e)
   ]
 

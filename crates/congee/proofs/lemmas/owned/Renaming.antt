@@ -19,7 +19,7 @@ use Rattle.congee.proofs.lemmas.Rename.{Moves, in_place, move_tree, move_map}
 use Rattle.congee.proofs.lemmas.Tree.{same_or_not}
 use Rattle.congee.proofs.lemmas.owned.Edits.{wide_after}
 use Rattle.congee.proofs.lemmas.owned.Filled.{filled_at, filled_with, filled_none}
-use Rattle.congee.proofs.lemmas.owned.Fulls.{changed_enough, filled_then, here}
+use Rattle.congee.proofs.lemmas.owned.Fulls.{changed_enough, filled_then, holds_of_same}
 use Rattle.congee.proofs.lemmas.owned.Moves.{differs_insert, stands_at}
 use Rattle.congee.proofs.lemmas.owned.Sizes.{bytes_named}
 use Rattle.congee.proofs.lemmas.owned.Totals.{total_same, total_update}
@@ -158,7 +158,7 @@ module _ {P : Type 0} (s s' : Nodes P) (p b n m : ℕ) (t : IsTree s) (k : Renam
     | inr nm ↦ elim (same_or_not x n) [
       | inl q ↦ absurd (let z : None ≡ Some y = sym k.left ∙ (ap (λ w. get s' w) (sym q) ∙ e) in cc)
       | inr nn ↦ elim (same_or_not x p) [
-        | inl q ↦ inr (here s' HasEnough x p y k.new q e k.now (changed_enough k.old k.new b (Sub m) (Sub n) k.child k.becomes (h p k.old (λ z. ne (q ∙ z)) k.was)))
+        | inl q ↦ inr (holds_of_same s' HasEnough x p y k.new q e k.now (changed_enough k.old k.new b (Sub m) (Sub n) k.child k.becomes (h p k.old (λ z. ne (q ∙ z)) k.was)))
         | inr np ↦ inl (x, ne, sym (k.others x np nn nm) ∙ e)
       ]
     ]

@@ -24,7 +24,7 @@ use Rattle.congee.proofs.lemmas.protocol.AloneSweeps.{term_past}
 use Rattle.congee.proofs.lemmas.protocol.Regions.{span_pos, multiple_bounds, whole, start_mono}
 use Rattle.congee.proofs.lemmas.protocol.SweepBytes.{low_yes, low_no, region_top}
 use Rattle.congee.proofs.lemmas.protocol.SweepKept.{child_after, child_before, lacks_bytes, lacks_beside, has_value}
-use Rattle.congee.proofs.lemmas.forms.BetweenLemmas.{is_true, less_of}
+use Rattle.congee.proofs.lemmas.forms.BetweenLemmas.{true_of_T, less_of_cmp}
 
 -- 1 where the number is at least `lo` and below `hi`
 abbrev inside : ℕ → ℕ → ℕ → ℕ
@@ -114,7 +114,7 @@ module _ {V : Type 0} where
   above j lo hi [] l t = refl
   above j lo hi (e ∷ es) l t =
       let b = both _ _ t in
-      let q = less_of j e.0 (is_true _ b.0) in
+      let q = less_of_cmp j e.0 (true_of_T _ b.0) in
       let s = above j lo hi es l b.1 in
       let i = in_high lo hi e.0 (omega (arith, l, q)) in
       omega (arith, s, i)

@@ -41,7 +41,7 @@ use Rattle.congee.specs.protocol.Protocol.{ChildOf, IsFar, IsAbove, IsLesser, Kn
 use Rattle.congee.specs.protocol.Steps.{skipping, shrinks, set_at, both as both_of, last_out, near_of, node_of, given_up, after_top, after_retire, again, answered, refused, CopyFailed, adds, asks_new, absent_reply, greater, seat_above, after_version, after_read, down, started, ready, plan_here, unless_full, absent, IsAsked, replaced, taken_out, is_same, IsAtOld, IsAdded, IsExchanged, IsPresent, IsChecked, after_miss, IsGiven, IsGivenNew, MadeLeaf, MadeGreater, MadeTop, MadeBeside, MadeLesser, UpgradedOne, UpgradedTop, UpgradedAbove, UpgradedBelow, after_change, PhaseStepped}
 use Rattle.congee.specs.protocol.Alone.{IsPoint, seats_if, seats_top, seats_over, seats_site, seats_plan, AreTaken, IsUndisturbed, IsAnswer, HasAnswer, steps_down, steps_next, steps_left}
 use Rattle.congee.specs.protocol.Trace.{goes_on, is_asked}
-use Rattle.congee.proofs.lemmas.Fits.{both, same_test}
+use Rattle.congee.proofs.lemmas.Fits.{and_true, same_test}
 use Rattle.congee.proofs.lemmas.Graft.{on_test}
 use Rattle.congee.proofs.lemmas.protocol.Touch.{by_test, taken_linked}
 use Rattle.congee.proofs.lemmas.protocol.SweepWays.{pick_true}
@@ -51,7 +51,7 @@ pub version_free : {V : Type 0} (n : Node V) → is_free n ≡ true → version_
 version_free n f = pick_true (is_free n) (Some n.version) None f
 
 pub taken_now : {V : Type 0} (n : Node V) → is_free n ≡ true → is_taken n n.version ≡ true
-taken_now n f = both (n.version == n.version) (is_free n) (same_test n.version n.version refl) f
+taken_now n f = and_true (n.version == n.version) (is_free n) (same_test n.version n.version refl) f
 
 -- the lock of a node that is as it was taken is had, but at the greatest version
 gives : {V : Type 0} (most : ℕ) (n : Node V) (v : ℕ) → is_taken n v ≡ true → upgrade_gives most n v false ≢ Failed

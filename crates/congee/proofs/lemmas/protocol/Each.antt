@@ -6,9 +6,9 @@ module _ (K : ℕ → Type 0) where
   abbrev pub Each : List ℕ → Type 0
   Each = AllByRecursion K
 
-  pub both : (xs ys : List ℕ) → Each xs → Each ys → Each (xs ++ ys)
-  both [] ys e f = f
-  both (x ∷ xs) ys e f = (e.0, both xs ys e.1 f)
+  pub each_append : (xs ys : List ℕ) → Each xs → Each ys → Each (xs ++ ys)
+  each_append [] ys e f = f
+  each_append (x ∷ xs) ys e f = (e.0, each_append xs ys e.1 f)
 
   pub left : (xs ys : List ℕ) → Each (xs ++ ys) → Each xs
   left [] ys e = tt

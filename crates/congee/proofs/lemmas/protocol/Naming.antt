@@ -29,7 +29,7 @@ use Rattle.congee.specs.Notes.{Note, Linked, is_published, Tree}
 use Rattle.congee.specs.protocol.Protocol.{Known, Knows, TopLocked, AlsoOut, AlsoHolding, IsFar, IsAbove, IsLesser, SeatedIf, PlanKnown}
 use Rattle.congee.specs.protocol.Holdings.{IsTop, LockedBy, MadeBy, MadeForOne, MadeForTwo, MadeForPlan, IsMade}
 use Rattle.congee.specs.protocol.Names.{name_above, names_over, name_seated, name_made, names_for_one, names_for_two, names_site, names_one, names_two, names_plan, names}
-use Rattle.congee.proofs.lemmas.protocol.Each.{Each, both}
+use Rattle.congee.proofs.lemmas.protocol.Each.{Each, each_append}
 
 each_weaker : (K L : ℕ → Type 0) → ((n : ℕ) → K n → L n) → (xs : List ℕ) → Each K xs → Each L xs
 each_weaker K L f [] e = tt
@@ -96,10 +96,10 @@ module _ {C V : Type 0} (number : C → ℕ) (same : V → V → Bool) (always :
   one_in one at = (inl at, for_one one.change)
 
   two_in : (two : Two C) → Each In (name_above number two.top) → In (number two.above.seat.node) → In (number two.at.node) → Each (Or (MadeForTwo number two.change)) (names_two number two)
-  two_in two top p at = (inl p, (inl at, both (Or (MadeForTwo number two.change)) (name_above number two.top) (names_for_two number two.change) (up _ (name_above number two.top) top) (for_two two.change)))
+  two_in two top p at = (inl p, (inl at, each_append (Or (MadeForTwo number two.change)) (name_above number two.top) (names_for_two number two.change) (up _ (name_above number two.top) top) (for_two two.change)))
 
   plan_in : (plan : Plan C) → PlanKnown number i a h key plan → Each (Or (MadeForPlan number plan)) (names_plan number plan)
-  plan_in (Here check one) x = both (Or (MadeForOne number one.change)) (name_seated number check) (names_one number one) (up _ (name_seated number check) (seated_in check x.0)) (one_in one x.1.fresh.seated.published)
+  plan_in (Here check one) x = each_append (Or (MadeForOne number one.change)) (name_seated number check) (names_one number one) (up _ (name_seated number check) (seated_in check x.0)) (one_in one x.1.fresh.seated.published)
   plan_in (Above two) x = two_in two (top_in two.top _ x.0.1.top) x.0.1.above.fresh.seated.published x.0.1.fresh.seated.published
 
   made_in : (leaf : Option C) → Each (Or (IsMade number leaf)) (name_made number leaf)
@@ -132,10 +132,10 @@ module _ {C V : Type 0} (number : C → ℕ) (same : V → V → Bool) (always :
     names_known kind given (CheckDown p at c) x = (inl x.1.published, (inl x.3, up _ (names_over number (Some at)) (above_in (Some at) (number c) x.2)))
     names_known kind given (CheckOld p s v) x = (inl x.1.published, up _ (names_site number s) (site_in s _ x.2))
     names_known kind given (MakeLeaf s) x = up _ (names_site number s) (site_in s _ x.1)
-    names_known kind given (MakeGreater s p leaf) x = (inl x.2.fresh.seated.published, both (Or (IsMade number leaf)) (name_made number leaf) (names_site number s) (made_in leaf) (up _ (names_site number s) (site_in s _ x.1)))
+    names_known kind given (MakeGreater s p leaf) x = (inl x.2.fresh.seated.published, each_append (Or (IsMade number leaf)) (name_made number leaf) (names_site number s) (made_in leaf) (up _ (names_site number s) (site_in s _ x.1)))
     names_known kind given (MakeTop p at common byte) x = (inl x.1.fresh.seated.published, (inl x.2.published, tt))
     names_known kind given (MakeBeside p at common byte top) x = (inl x.1.fresh.seated.published, (inl x.2.published, (inr refl, tt)))
-    names_known kind given (MakeLesser s p g r) x = (inl x.4.fresh.seated.published, both (Or (λ _. ⊥)) (name_above number g) (names_site number s) (up _ (name_above number g) (lesser_in s p g x.5)) (up _ (names_site number s) (site_in s _ x.1.1)))
+    names_known kind given (MakeLesser s p g r) x = (inl x.4.fresh.seated.published, each_append (Or (λ _. ⊥)) (name_above number g) (names_site number s) (up _ (name_above number g) (lesser_in s p g x.5)) (up _ (names_site number s) (site_in s _ x.1.1)))
     names_known kind given (AskOld s v) x = up _ (names_site number s) (site_in s _ x.1)
     names_known kind given (AskNew plan) x = plan_in plan x.0
     names_known kind given (Confirm at r) x = (inl x.1.1.fresh.seated.published, tt)

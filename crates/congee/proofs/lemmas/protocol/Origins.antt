@@ -41,7 +41,7 @@ use Rattle.congee.specs.Keys.{key_bytes}
 use Rattle.congee.specs.Notes.{Note, Linked, LockWords}
 use Rattle.congee.specs.protocol.Protocol.{Knows, Known}
 use Rattle.congee.specs.protocol.Names.{name_above, names_over, name_seated, name_made, names_for_one, names_for_two, names_site, names_one, names_two, names_plan, names, Comes, Had, Top, New_made, Hangs, KeepsOrigin}
-use Rattle.congee.proofs.lemmas.protocol.Each.{Each, both, left, right}
+use Rattle.congee.proofs.lemmas.protocol.Each.{Each, each_append, left, right}
 use Rattle.congee.proofs.lemmas.Graft.{on_test}
 use Rattle.congee.proofs.lemmas.protocol.Touch.{by_test, taken_linked}
 use Rattle.congee.proofs.lemmas.protocol.SweepNames.{sweep_names}
@@ -89,11 +89,11 @@ module _ {C : Type 0} (V : Type 0) (number : C → ℕ) (K : ℕ → Type 0) whe
   of_ready kind plan e = by_test Leaves (asks_new kind) _ _ (λ _. e) (λ _. of_started plan (absent_reply kind) e)
 
   of_here : (kind : Kind V) (s : Site C) (change : Single C) → Each K (names_site number s) → Each K (names_for_one number change) → Leaves (ready kind (plan_here s change))
-  of_here kind s change e f = of_ready kind (plan_here s change) (both K (name_seated number (seat_above s.above)) _ (seated s.above e.1) (e.0, f))
+  of_here kind s change e f = of_ready kind (plan_here s change) (each_append K (name_seated number (seat_above s.above)) _ (seated s.above e.1) (e.0, f))
 
   of_unless_full : (kind : Kind V) (s : Site C) (full : Bool) (p : Option (Over C)) (leaf : Option C) (change : Single C) → Each K (names_site number s) → Each K (names_over number p) → Each K (name_made number leaf)
       → Each K (names_for_one number change) → Leaves (unless_full kind s full p leaf change)
-  of_unless_full kind s true (Some p) leaf change e f l m = (f.0, both K (name_made number leaf) (names_site number s) l e)
+  of_unless_full kind s true (Some p) leaf change e f l m = (f.0, each_append K (name_made number leaf) (names_site number s) l e)
   of_unless_full kind s true None leaf change e f l m = of_here kind s change e m
   of_unless_full kind s false p leaf change e f l m = of_here kind s change e m
 

@@ -5,7 +5,7 @@ use Rattle.congee.specs.Heap.{Node, Below, Holds, fits, child_for, value_at}
 use Rattle.congee.specs.protocol.Events.{ChangeGives, Parts}
 use Rattle.congee.specs.Notes.{Note, Held, Linked, is_published, IsChild, Tree, LockWords}
 use Rattle.congee.specs.protocol.Protocol.{Made, Holding}
-use Rattle.congee.proofs.lemmas.Fits.{both_true, both, fits_byte}
+use Rattle.congee.proofs.lemmas.Fits.{both_true, and_true, fits_byte}
 use Rattle.congee.proofs.lemmas.Tree.{same_or_not}
 use Rattle.congee.proofs.lemmas.Graft.{on_test}
 use Rattle.congee.proofs.lemmas.Split.{Splits, split_tree, split_map}
@@ -20,7 +20,7 @@ fits_alike (x ∷ p) (y ∷ q) [] f l e = absurd cc
 fits_alike (x ∷ p) (y ∷ q) (z ∷ key) f l e =
     let f' : (x == z ≡ true) × (fits p key ≡ true) = both_true _ _ f in
     let yz : y ≡ z = e 0 (omega arith) in
-    both _ _ (let P : ℕ → Type 0 = λ w. x == w ≡ true in subst P (sym yz) f'.0) (fits_alike p q key f'.1 (omega arith) (λ i s. e (suc i) (omega arith)))
+    and_true _ _ (let P : ℕ → Type 0 = λ w. x == w ≡ true in subst P (sym yz) f'.0) (fits_alike p q key f'.1 (omega arith) (λ i s. e (suc i) (omega arith)))
 
 -- a prefix that parts from the key isn't its beginning
 pub parts_differ : (p key : List ℕ) (common : ℕ) → Parts p key common → fits p key ≡ false

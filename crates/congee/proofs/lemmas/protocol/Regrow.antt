@@ -4,7 +4,7 @@ use Rattle.std.specs.Prelude.{None, Some}
 use Rattle.congee.specs.Heap.{Node, Nothing, Below, fits, child_for, value_at}
 use Rattle.congee.specs.Notes.{Note, Linked, Gone, is_published, IsChild, Tree, LockWords}
 use Rattle.congee.specs.protocol.Protocol.{Made, Holding, TakenOut}
-use Rattle.congee.proofs.lemmas.Fits.{both_true, both, equal, same_test}
+use Rattle.congee.proofs.lemmas.Fits.{both_true, and_true, equal, same_test}
 use Rattle.congee.proofs.lemmas.Tree.{same_or_not}
 use Rattle.congee.proofs.lemmas.Graft.{on_test}
 use Rattle.congee.proofs.lemmas.protocol.Grow.{Grows, Extra, grow_tree, grow_map}
@@ -56,7 +56,7 @@ module _ (a : ℕ → Note) (i p m c d : ℕ) where
 
   pub regrown_moved : (x : ℕ) → x ≢ c → x ≢ d → x ≢ m → is_published (a x).status ≡ true → (a x).parent ≡ m → (regrown a i p m c d x).parent ≡ c
   regrown_moved x nc nd nm pu e = rw (regrown_rest x nc nd nm) (by_test (λ (n : Note). n.parent ≡ c) (is_published (a x).status && ((a x).parent == m)) _ _
-      (λ _. refl) (λ q. absurd (let z : is_published (a x).status && ((a x).parent == m) ≡ true = both _ _ pu (same_test (a x).parent m e) in cc)))
+      (λ _. refl) (λ q. absurd (let z : is_published (a x).status && ((a x).parent == m) ≡ true = and_true _ _ pu (same_test (a x).parent m e) in cc)))
 
   pub regrown_hidden : (x : ℕ) → x ≢ c → x ≢ d → x ≢ m → is_published (a x).status ≡ false → regrown a i p m c d x ≡ a x
   regrown_hidden x nc nd nm pu = rw (regrown_rest x nc nd nm) (by_test (λ (n : Note). n ≡ a x) (is_published (a x).status && ((a x).parent == m)) _ _

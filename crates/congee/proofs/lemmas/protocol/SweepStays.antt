@@ -24,8 +24,8 @@ use Rattle.congee.proofs.lemmas.protocol.SweepBytes.{is_some, inside_last, first
 use Rattle.congee.proofs.lemmas.protocol.SweepWays.{pick_false, pick_true, path_pushed, path_empty, path_last, path_count, rungs_longer, rungs_shorter}
 use Rattle.congee.proofs.lemmas.protocol.SweepKept.{child_deeper}
 
-pub differ : (x y : ℕ) → (x == y) ≡ false → x ≢ y
-differ x y f e = let t : (x == y) ≡ true = same_test x y e in let z : true ≡ false = sym t ∙ f in absurd cc
+pub differ_of_test : (x y : ℕ) → (x == y) ≡ false → x ≢ y
+differ_of_test x y f e = let t : (x == y) ≡ true = same_test x y e in let z : true ≡ false = sym t ∙ f in absurd cc
 
 module _ {C V : Type 0} (number : C → ℕ) (always : Bool) (a : ℕ → Note) (h : ℕ → Node V) (t : Tree a h) (w : LockWords a h) (root : C) (z : number root ≡ 0) where
   abbrev Stays : Swung C V → Type 0
@@ -118,7 +118,7 @@ module _ {C V : Type 0} (number : C → ℕ) (always : Bool) (a : ℕ → Note) 
         record {
           range = k.range;
           bound = k.bound;
-          room = (let ne : s.count + 1 ≢ s.size = differ (s.count + 1) s.size free in let r = k.room in elim (cases_lt (s.count + 1) s.size) [ inl x ↦ x | inr x ↦ absurd (ne (omega (arith, x, r))) ]);
+          room = (let ne : s.count + 1 ≢ s.size = differ_of_test (s.count + 1) s.size free in let r = k.room in elim (cases_lt (s.count + 1) s.size) [ inl x ↦ x | inr x ↦ absurd (ne (omega (arith, x, r))) ]);
           fits = k.fits;
           rungs = k.rungs;
         },

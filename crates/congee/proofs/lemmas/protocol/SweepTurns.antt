@@ -31,7 +31,7 @@ use Rattle.congee.proofs.lemmas.protocol.Sweeps.{sweep_none, sweep_later, sweep_
 use Rattle.congee.proofs.lemmas.protocol.SweepBytes.{is_some, last_within, outside, inside_last, first_small, first_before, first_aims}
 use Rattle.congee.proofs.lemmas.protocol.SweepWays.{pick_false, pick_true, path_pushed, path_empty, path_last, path_count, way_later, way_longer, way_shorter, rungs_longer, rungs_shorter}
 use Rattle.congee.proofs.lemmas.protocol.SweepKept.{lacks_bytes, lacks_rest, has_value, child_deeper, child_after, child_before, lacks_beside}
-use Rattle.congee.proofs.lemmas.protocol.SweepStays.{differ}
+use Rattle.congee.proofs.lemmas.protocol.SweepStays.{differ_of_test}
 
 module _ {C V : Type 0} (number : C → ℕ) (always : Bool) (a : ℕ → Note) (h : ℕ → Node V) (t : Tree a h) (w : LockWords a h) (m : FinMap nat_cmp V) (st : IsMapOf h m)
     (states : List (FinMap nat_cmp V)) (places : List (ℕ × V)) (root : C) (z : number root ≡ 0) where
@@ -267,7 +267,7 @@ module _ {C V : Type 0} (number : C → ℕ) (always : Bool) (a : ℕ → Note) 
           record {
             range = k.range;
             bound = k.bound;
-            room = (let ne : s.count + 1 ≢ s.size = differ (s.count + 1) s.size free in let r = k.room in let d = cases_lt (s.count + 1) s.size in elim d [ inl x ↦ x | inr x ↦ absurd (ne (omega (arith, x, r))) ]);
+            room = (let ne : s.count + 1 ≢ s.size = differ_of_test (s.count + 1) s.size free in let r = k.room in let d = cases_lt (s.count + 1) s.size in elim d [ inl x ↦ x | inr x ↦ absurd (ne (omega (arith, x, r))) ]);
             fits = k.fits;
             rungs = k.rungs;
           },

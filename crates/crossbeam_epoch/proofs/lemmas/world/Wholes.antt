@@ -31,14 +31,14 @@ is_unrefused (Refused f) (inl e) = absurd (cc e)
 is_unrefused (Refused f) (inr e) = absurd (cc e)
 
 -- the steps of a call after its first
-abbrev pub goes : ℕ → ℕ → List Step
-goes who n = replicate n (record { who = who; event = Go })
+abbrev pub go_steps : ℕ → ℕ → List Step
+go_steps who n = replicate n (record { who = who; event = Go })
 
-goes_push : (who n : ℕ) → goes who n ++ (record { who = who; event = Go }) ∷ [] ≡ goes who (suc n)
+goes_push : (who n : ℕ) → go_steps who n ++ (record { who = who; event = Go }) ∷ [] ≡ go_steps who (suc n)
 goes_push who zero = refl
 goes_push who (suc n) = ap (λ (xs : List Step). (record { who = who; event = Go }) ∷ xs) (goes_push who n)
 
-pub from_front : (who : ℕ) (op : Op) (n : ℕ) → call_steps who op (suc n) ≡ (record { who = who; event = Begin op }) ∷ goes who n
+pub from_front : (who : ℕ) (op : Op) (n : ℕ) → call_steps who op (suc n) ≡ (record { who = who; event = Begin op }) ∷ go_steps who n
 from_front who op zero = refl
 from_front who op (suc n) =
     ap (λ (xs : List Step). xs ++ (record { who = who; event = Go }) ∷ []) (from_front who op n)
@@ -79,8 +79,8 @@ module _ {T J : Type 0} where
 
   -- by the steps after the first
   through : (Inv : State T J → Type 0) (who : ℕ) → ((now : State T J) (r : Report) → Inv now → IsReport now who Go r → Unrefused r.outcome → Inv (after now who Go r.outcome))
-      → (now : State T J) (o : Outcome) (rs : List Report) → Inv now → (o ≡ Done → (place now who).phase ≡ Idle) → AreReports now (goes who (length rs)) rs → ((r : Report) → Contains rs r → Unrefused r.outcome)
-      → Inv (state_after now (goes who (length rs)) rs) × (newest_of o rs ≡ Done → (place (state_after now (goes who (length rs)) rs) who).phase ≡ Idle)
+      → (now : State T J) (o : Outcome) (rs : List Report) → Inv now → (o ≡ Done → (place now who).phase ≡ Idle) → AreReports now (go_steps who (length rs)) rs → ((r : Report) → Contains rs r → Unrefused r.outcome)
+      → Inv (state_after now (go_steps who (length rs)) rs) × (newest_of o rs ≡ Done → (place (state_after now (go_steps who (length rs)) rs) who).phase ≡ Idle)
   through Inv who next now o [] i idle are all = (i, idle)
   through Inv who next now o (r ∷ rs) i idle are all =
       through Inv who next (after now who Go r.outcome) r.outcome rs (next now r i are.0 (all r (0, omega arith, refl))) (ends_idle now who Go r are.0) are.1 (λ x m. all x (contains_tail r rs x m))

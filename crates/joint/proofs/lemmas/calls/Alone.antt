@@ -45,7 +45,7 @@ use Rattle.joint.specs.engine.Sound.{IsUnderWay}
 use Rattle.joint.specs.nodes.View.{id_number}
 use Rattle.joint.specs.world.World.{Holds, IsStep, StepsUnless, finds_journal_full}
 use Rattle.joint.specs.engine.Engine.{World, EngineHolds, BeginsAt, Collects, Does, EntersUnless, Enters, GoesAt, GoesOnReserving, Reserves, Surveys, Walks, engine_of, finds_none, is_busy, is_in_flight, misuse, reserving}
-use Rattle.joint.proofs.lemmas.engine.Collecting.{either, there, inside_machines, set_here}
+use Rattle.joint.proofs.lemmas.engine.Collecting.{either, get_inside, inside_machines, set_here}
 use Rattle.joint.proofs.lemmas.engine.Entering.{begin_within, begin_idle}
 use Rattle.joint.proofs.lemmas.engine.Reported.{may_go}
 use Rattle.joint.proofs.lemmas.engine.Reserving.{next_here}
@@ -89,7 +89,7 @@ secures_in places hand (stage.SecureQueue seal) e = (omega arith, omega arith)
 secures_in places hand _ e = absurd (cc e)
 
 at_place : {A : Type 0} (xs ys : List A) (w : ℕ) (x : A) → w < length xs → ys ≡ set xs w x → slice_get ys w ≡ Some x
-at_place {A} xs ys w x l e = let y : (y : A) × (slice_get xs w ≡ Some y) = there xs w l in ap (λ zs. slice_get zs w) e ∙ set_here xs w x y.0 y.1
+at_place {A} xs ys w x l e = let y : (y : A) × (slice_get xs w ≡ Some y) = get_inside xs w l in ap (λ zs. slice_get zs w) e ∙ set_here xs w x y.0 y.1
 
 module _ {V : Type 0} where
   -- a writing call begins on its key
@@ -159,7 +159,7 @@ module _ {V : Type 0} (same : V → V → Bool) (always : Bool) (laws : CallLaws
       inside = slice_get_within b.calls w (Securing p) e
 
       machine : (m : Machine Id V) × (slice_get b.machines w ≡ Some m)
-      machine = there b.machines w (subst (λ i. w < i) (sym intact.machines) inside)
+      machine = get_inside b.machines w (subst (λ i. w < i) (sym intact.machines) inside)
 
       is_at : IsAt (Securing p) (place b.forest.collector w) machine.0
       is_at = intact.each w (Securing p) machine.0 e machine.1
@@ -191,7 +191,7 @@ module _ {V : Type 0} (same : V → V → Bool) (always : Bool) (laws : CallLaws
     walks : (noise : Noise Id V) (r : Report V) (n : ℕ) → slice_get s.calls w ≡ Some Walking → noise.fail ≡ false → ((m : Machine Id V) → slice_get s.machines w ≡ Some m → HasAnswer m.kind m.phase noise.answer) → OthersUnlocked s w
         → ((m : Machine Id V) → slice_get s.machines w ≡ Some m → IsUndisturbed id_number (nodes s.forest) m.phase × (steps_left id_number (nodes s.forest) m.phase ≤ n)) → Walks same always s w noise r s' → is_busy (slice_get s'.calls w) ≡ true → After n
     walks noise r n e unfailed answers free sure x busy =
-        let m : (m : Machine Id V) × (slice_get s.machines w ≡ Some m) = there s.machines w (inside_machines same always s.forest s.machines s.calls holds.0 w Walking e) in
+        let m : (m : Machine Id V) × (slice_get s.machines w ≡ Some m) = get_inside s.machines w (inside_machines same always s.forest s.machines s.calls holds.0 w Walking e) in
         let at : IsAt Walking (place s.forest.collector w) m.0 = holds.0.each w Walking m.0 e m.1 in
         let moved = x.step.walked.plays.moved m.0 m.1 in
         let settled : Settled id_number same always (nodes s.forest) s.machines = holds.0.safe.sound.sound.settled in
@@ -210,7 +210,7 @@ module _ {V : Type 0} (same : V → V → Bool) (always : Bool) (laws : CallLaws
     goes (Some Idle) noise r n e unfailed answers al x on busy = absurd x
     goes (Some (Collecting c)) noise r n e unfailed answers al x on busy =
         let l = slice_get_within s.calls w (Collecting c) e in
-        let m : (m : Machine Id V) × (slice_get s.machines w ≡ Some m) = there s.machines w (subst (λ i. w < i) (sym holds.0.machines) l) in
+        let m : (m : Machine Id V) × (slice_get s.machines w ≡ Some m) = get_inside s.machines w (subst (λ i. w < i) (sym holds.0.machines) l) in
         let at : IsAt (Collecting c) (place s.forest.collector w) m.0 = holds.0.each w (Collecting c) m.0 e m.1 in
         let P : State (Slot V) (Unit {0}) → Type 0 = λ y. GoesOn s.forest.collector w c x.turn.outcome y in
         let g = subst P (sym x.step.state) (turns.goes_on s.forest.collector w c x.turn holds.0.safe.sound.sound.orderly at.0 x.step.report) in
@@ -258,7 +258,7 @@ module _ {V : Type 0} (same : V → V → Bool) (always : Bool) (laws : CallLaws
       within = begin_within same always s s' w holds o none
 
       idle : slice_get s.calls w ≡ Some Idle
-      idle = idle_at (slice_get s.calls w) (there s.calls w within) (begin_idle same always s s' w holds o none)
+      idle = idle_at (slice_get s.calls w) (get_inside s.calls w within) (begin_idle same always s s' w holds o none)
         where
           idle_at : (k : Option (InFlight V)) → (x : InFlight V) × (k ≡ Some x) → is_busy k ≡ false → k ≡ Some Idle
           idle_at None x e = absurd (let q : None ≡ Some x.0 = x.1 in cc)
@@ -270,7 +270,7 @@ module _ {V : Type 0} (same : V → V → Bool) (always : Bool) (laws : CallLaws
 
       turn_begins : (c : CollectorOp) (r : Report V) → OthersUnlocked s w → Collects same always s w (collector_event.Begin c) (Collecting c) r s' → is_in_flight r.outcome ≡ true → Begun (length s.forest.collector.table + 530)
       turn_begins c r free x on =
-          let m : (m : Machine Id V) × (slice_get s.machines w ≡ Some m) = there s.machines w (subst (λ i. w < i) (sym holds.0.machines) within) in
+          let m : (m : Machine Id V) × (slice_get s.machines w ≡ Some m) = get_inside s.machines w (subst (λ i. w < i) (sym holds.0.machines) within) in
           let at : IsAt Idle (place s.forest.collector w) m.0 = holds.0.each w Idle m.0 idle m.1 in
           let P : State (Slot V) (Unit {0}) → Type 0 = λ y. Begins s.forest.collector w c x.turn.outcome y in
           let g = subst P (sym x.step.state) (turns.begins s.forest.collector w c x.turn at.0 x.step.report) in
@@ -278,7 +278,7 @@ module _ {V : Type 0} (same : V → V → Bool) (always : Bool) (laws : CallLaws
 
       unpin_ends : (r : Report V) → Collects same always s w (collector_event.Begin collector_op.Unpin) (Collecting collector_op.Unpin) r s' → is_in_flight r.outcome ≡ true → ⊥
       unpin_ends r x on =
-          let m : (m : Machine Id V) × (slice_get s.machines w ≡ Some m) = there s.machines w (subst (λ i. w < i) (sym holds.0.machines) within) in
+          let m : (m : Machine Id V) × (slice_get s.machines w ≡ Some m) = get_inside s.machines w (subst (λ i. w < i) (sym holds.0.machines) within) in
           let at : IsAt Idle (place s.forest.collector w) m.0 = holds.0.each w Idle m.0 idle m.1 in
           unpins V s.forest.collector _ w x.turn.outcome (turns.begins s.forest.collector w collector_op.Unpin x.turn at.0 x.step.report) (sym (ap (λ y. is_in_flight y.outcome) x.report) ∙ on)
 

@@ -33,7 +33,7 @@ use Rattle.joint.specs.world.World.{Holds, IsStep}
 use Rattle.joint.specs.engine.Engine.{World, is_in_flight}
 use Rattle.joint.proofs.lemmas.world.Flights.{flight_here}
 use Rattle.joint.proofs.lemmas.world.JournaledSteps.{Mapped, mapped}
-use Rattle.joint.proofs.lemmas.calls.KeyCalls.{as_before, begin_of, gone, once_more, stays}
+use Rattle.joint.proofs.lemmas.calls.KeyCalls.{as_before, begin_of, gone, once_more, stays_keeps_all}
 
 module _ {V : Type 0} (m : Pairs V) where
   -- the maps that stood at its steps are all the one
@@ -201,7 +201,7 @@ module _ {V : Type 0} (same : V → V → Bool) (always : Bool) (fs : Flights V)
         let Q : ℕ → Type 0 = λ n. HasScanned {V = V} start end size n m [] in
         let R : Option (ℕ × ℕ × ℕ) → Type 0 = λ a. EndsEmpty a count fs m l y.flights in
         let none : FindsNone start end size count fs m l y.flights = subst R ranged z in
-        subst P (sym is) (subst Q (sym none.none) (record { filled = omega arith; scan = none.scan }), stays fs m l y.flights s' none.stays y.stand y.in_flight)
+        subst P (sym is) (subst Q (sym none.none) (record { filled = omega arith; scan = none.scan }), stays_keeps_all fs m l y.flights s' none.stays y.stand y.in_flight)
     at_once done.Unit is z = absurd z
     at_once (done.Reply a) is z = absurd z
     at_once (done.Keys keys) is z = absurd z
@@ -209,7 +209,7 @@ module _ {V : Type 0} (same : V → V → Bool) (always : Bool) (fs : Flights V)
     at_once (done.Stats stats) is z = absurd z
 
     begun_so : (o : Outcome V) → r.outcome ≡ o → BeginsOr fs m asked o l y.flights → Sweeps [] r.outcome s'
-    begun_so (Refused a) is z = let P : Outcome V → Type 0 = λ o. Sweeps [] o s' in subst P (sym is) (stays fs m l y.flights s' z y.stand y.in_flight)
+    begun_so (Refused a) is z = let P : Outcome V → Type 0 = λ o. Sweeps [] o s' in subst P (sym is) (stays_keeps_all fs m l y.flights s' z y.stand y.in_flight)
     begun_so (Done d) is z = at_once d is z
     begun_so Running is z = in_flight z
     begun_so (Asks found) is z = in_flight z

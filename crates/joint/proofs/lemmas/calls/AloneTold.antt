@@ -44,7 +44,7 @@ use Rattle.joint.specs.nodes.View.{id_number}
 use Rattle.joint.specs.calls.Wanted.{is_question, wants_if, IsReply, RepliesTo, AreNextTold, AllEndAloneTold, OthersIdle}
 use Rattle.joint.specs.world.World.{Holds, IsStep}
 use Rattle.joint.specs.engine.Engine.{World, BeginsAt, BeginsOnTree, Does, EntersUnless, engine_of, finds_none, is_in_flight, misuse, place_of}
-use Rattle.joint.proofs.lemmas.engine.Collecting.{there}
+use Rattle.joint.proofs.lemmas.engine.Collecting.{get_inside}
 use Rattle.joint.proofs.lemmas.calls.Ends.{rests}
 use Rattle.joint.proofs.lemmas.engine.Entering.{begin_free}
 use Rattle.joint.proofs.lemmas.world.Flights.{flight_here, eqb_same}
@@ -228,7 +228,7 @@ module _ {V : Type 0} (same : V → V → Bool) (always : Bool) where
     where
       follows : (m : Machine Id V) → slice_get s.machines w ≡ Some m → is_asking m.phase ≡ true → Follows m (fs w)
       follows m at e =
-          let c = there s.calls w (subst (λ i. w < i) h.0.machines (slice_get_within s.machines w m at)) in
+          let c = get_inside s.calls w (subst (λ i. w < i) h.0.machines (slice_get_within s.machines w m at)) in
           flying c.0 (place_of s w) m (fs w) e (h.0.each w c.0 m c.1 at) (fl.each w c.0 m c.1 at)
 
   taken_front : (s : World V) (n : ℕ) (ts : List (Taken V)) → AreTaken same always s ts → AreTaken same always s (take n ts)

@@ -71,15 +71,15 @@ module _ {V : Type 0} (same : V → V → Bool) (always : Bool) where
     step_beside event None r x = proceeds event r x
     step_beside event (Some f) r x = alike s.forest s'.forest (ap (λ y. y.forest) x.1)
 
-  pub whole_step : (s : World V) (step : Step V) (r : Report V) (s' : World V) (b : Bool) → StepsUnless same always b s step r s' → IsBeside s.forest s'.forest
-  whole_step s step r s' true x = alike s.forest s'.forest (ap (λ y. y.forest) x.state)
-  whole_step s step r s' false x = step_beside (engine_of s) (engine_of s') step.worker step.event (misuse (engine_of s) step.worker step.event) x.told x.engine.does
+  pub steps_unless_beside : (s : World V) (step : Step V) (r : Report V) (s' : World V) (b : Bool) → StepsUnless same always b s step r s' → IsBeside s.forest s'.forest
+  steps_unless_beside s step r s' true x = alike s.forest s'.forest (ap (λ y. y.forest) x.state)
+  steps_unless_beside s step r s' false x = step_beside (engine_of s) (engine_of s') step.worker step.event (misuse (engine_of s) step.worker step.event) x.told x.engine.does
 
   taken_beside : (s : World V) (taken : List (Taken V)) → AreTaken same always s taken → IsBeside s.forest (after_all s taken).forest
   taken_beside s [] x = itself s.forest
   taken_beside s (t ∷ ts) x =
       further s.forest t.after.forest (after_all t.after ts).forest
-      (whole_step s t.step t.report t.after (finds_journal_full s t.step.worker t.step.event) x.0.does)
+      (steps_unless_beside s t.step t.report t.after (finds_journal_full s t.step.worker t.step.event) x.0.does)
       (taken_beside t.after ts x.1)
 
   pub run_beside : (s s' : World V) (steps : List (Step V)) (reports : List (Report V)) → IsRun same always s steps reports s' → IsBeside s.forest s'.forest

@@ -59,10 +59,10 @@ use Rattle.joint.specs.nodes.View.{capacity_in, id_number, view}
 use Rattle.joint.specs.engine.Engine.{World, BeginsAt, BeginsOnTree, EntersUnless, Proceeds, begin_misuse, finds_none, is_busy, place_of}
 use Rattle.joint.proofs.lemmas.calls.WorldSteps.{one_map}
 use Rattle.joint.proofs.lemmas.engine.Changing.{Counts, answered}
-use Rattle.joint.proofs.lemmas.engine.Collecting.{inside_machines, there}
+use Rattle.joint.proofs.lemmas.engine.Collecting.{inside_machines, get_inside}
 use Rattle.joint.proofs.lemmas.nodes.Keyed.{len_few, some_key}
 use Rattle.joint.proofs.lemmas.nodes.MadeUnhanded.{IsTaken, taken_out}
-use Rattle.joint.proofs.lemmas.nodes.Totals.{size_bound, times}
+use Rattle.joint.proofs.lemmas.nodes.Totals.{size_bound, times_suc}
 use Rattle.joint.proofs.lemmas.world.Waiting.{taken_is}
 use Rattle.joint.proofs.lemmas.engine.Walking.{final_is, now_here}
 
@@ -147,7 +147,7 @@ module _ {X : Type 0} where
       let a = sum_by-cons f x xs in
       let r = sum_few f b h xs in
       let l = h x in
-      let t : b * length (x ∷ xs) ≡ b * length xs + b = times b (length xs) in
+      let t : b * length (x ∷ xs) ≡ b * length xs + b = times_suc b (length xs) in
       omega (arith, a, r, l, t)
 
 -- sums over what was taken out are sums over the calls
@@ -377,7 +377,7 @@ module _ {V : Type 0} (same : V → V → Bool) (always : Bool) where
     over None e b m at = absurd (
         let l : who < length s.machines = slice_get_within s.machines who m at in
         let z : who < length s.calls = (let q = intact.machines in omega (arith, l, q)) in
-        let t = there s.calls who z in
+        let t = get_inside s.calls who z in
         let q : Some t.0 ≡ None = sym t.1 ∙ e in cc)
     over (Some Idle) e b m at = ended_none m (intact.each who Idle m e at).1
     over (Some (Collecting op)) e b m at = absurd (cc b)
@@ -425,7 +425,7 @@ module _ {V : Type 0} (same : V → V → Bool) (always : Bool) where
   module _ (laws : CallLaws {C = Id} {V = V} id_number same always) (s : Nodes V) (ms : List (Machine Id V)) (calls : List (InFlight V)) (intact : IsIntact same always s ms calls) (step : Step Id V) (on : slice_get calls step.who ≡ Some Walking)
       (k : Census) (c : AreCounted k s ms) (b : Taken) (b_nodes : b.nodes ≡ length (taken_at (slice_get ms step.who))) (b_bytes : b.bytes ≡ sum_by (bytes_of s) (taken_at (slice_get ms step.who))) where
     abbrev old : (x : Machine Id V) × (slice_get ms step.who ≡ Some x)
-    old = there ms step.who (inside_machines same always s ms calls intact step.who Walking on)
+    old = get_inside ms step.who (inside_machines same always s ms calls intact step.who Walking on)
 
     nodes_before : b.nodes ≡ count old.0
     nodes_before = b_nodes ∙ ap (λ o. length (taken_at o)) old.1

@@ -31,7 +31,7 @@ use Rattle.joint.specs.nodes.View.{id_number}
 use Rattle.joint.specs.world.World.{Holds, IsStep, StepsUnless, finds_journal_full, answered_request, requests_after}
 use Rattle.joint.specs.engine.Engine.{World, IsOfCall, Does, engine_of, is_busy, is_in_flight, misuse, place_of}
 use Rattle.joint.proofs.lemmas.engine.OneCallChanges.{Apart, one_set, step_apart}
-use Rattle.joint.proofs.lemmas.engine.Collecting.{there}
+use Rattle.joint.proofs.lemmas.engine.Collecting.{get_inside}
 use Rattle.joint.proofs.lemmas.engine.Entering.{begin_idle}
 use Rattle.joint.proofs.lemmas.engine.Reported.{may_go}
 use Rattle.joint.proofs.lemmas.engine.Reserving.{reserving_call}
@@ -52,7 +52,7 @@ module _ {V : Type 0} (same : V → V → Bool) (always : Bool) where
   pub rests : (s : World V) (w : ℕ) → Holds same always s → is_busy (slice_get s.calls w) ≡ false → (m : Machine Id V) → slice_get s.machines w ≡ Some m → m.phase ≡ Ended
   rests s w h e m at =
       let l : w < length s.calls = subst (λ n. w < n) h.0.machines (slice_get_within s.machines w m at) in
-      let k = there s.calls w l in
+      let k = get_inside s.calls w l in
       ended_by k.0 (place_of s w) m (sym (ap is_busy k.1) ∙ e) (h.0.each w k.0 m k.1 at)
 
   pub between : (s : World V) (w : ℕ) → Holds same always s → is_busy (slice_get s.calls w) ≡ false → IsBetween s w

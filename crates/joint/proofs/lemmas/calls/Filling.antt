@@ -34,7 +34,7 @@ use Rattle.joint.specs.calls.Runs.{Taken, AreTaken, after_all}
 use Rattle.joint.specs.nodes.View.{id_number}
 use Rattle.joint.specs.engine.Engine.{World, EngineHolds, BeginsAt, BeginsOnTree, Does, EntersUnless, GoesAt, GoesOnReserving, Walks, engine_of, finds_none, misuse}
 use Rattle.joint.proofs.lemmas.engine.OneCallChanges.{one_set}
-use Rattle.joint.proofs.lemmas.engine.Collecting.{either, there}
+use Rattle.joint.proofs.lemmas.engine.Collecting.{either, get_inside}
 use Rattle.joint.proofs.lemmas.world.Flights.{set_at}
 use Rattle.joint.proofs.lemmas.calls.Leaves as leaves
 use Rattle.joint.proofs.lemmas.engine.ScanEnds.{cleared_is}
@@ -147,7 +147,7 @@ module _ {V : Type 0} (same : V → V → Bool) (always : Bool) (laws : CallLaws
     -- a call on the tree takes a step
     walks : (noise : Noise Id V) (r : Report V) → slice_get s.calls w ≡ Some Walking → Walks same always s w noise r s' → r.skipped ≡ false → StaysFilled s'
     walks noise r on k none =
-        let old : (m : Machine Id V) × (slice_get s.machines w ≡ Some m) = there s.machines w (subst (λ n. w < n) (sym holds.0.machines) (slice_get_within s.calls w Walking on)) in
+        let old : (m : Machine Id V) × (slice_get s.machines w ≡ Some m) = get_inside s.machines w (subst (λ n. w < n) (sym holds.0.machines) (slice_get_within s.calls w Walking on)) in
         let moved = k.step.walked.plays.moved old.0 old.1 in
         let keeps = leaves.keeps same always laws s.forest s'.forest s.machines k.step.between (record { who = w; noise = noise }) k.move holds.0.safe k.step.walked old.0 old.1 in
         let skip : k.move.skipped ≡ false = sym (ap (λ y. y.skipped) k.report) ∙ none in
@@ -187,7 +187,7 @@ module _ {V : Type 0} (same : V → V → Bool) (always : Bool) (laws : CallLaws
     tree = (fills.opens (nodes s.forest) [] new.opened.2.fresh (λ i m e. absurd (cc e))).tree;
     calls = λ i m e. (
         let l : i < length s.calls = subst (λ n. i < n) h.0.machines (slice_get_within s.machines i m e) in
-        let k = there s.calls i l in
+        let k = get_inside s.calls i l in
         let P : InFlight V → Type 0 = λ c. slice_get s.calls i ≡ Some c in
         let at = h.0.each i Idle m (subst P (new.fresh.idle i k.0 k.1) k.1) e in
         let Q : Phase Id V → Type 0 = λ p. Fills id_number (nodes s.forest) m.given p in

@@ -209,8 +209,8 @@ abbrev pub gone : {V : Type 0} → ℕ → Noise Id V → Step V
 gone w noise = record { worker = w; event = Go noise }
 
 -- a step in which no call on the tree goes on
-pub stays : {V : Type 0} (fs : Flights V) (m : Pairs V) (l : Line V) (fs' : Flights V) (s : World V) → Stays fs m l fs' → IsMapOf (nodes s.forest) l.pairs → AreInFlight s fs' → KeepsAll fs m s
-stays {V} fs m l fs' s x st fl =
+pub stays_keeps_all : {V : Type 0} (fs : Flights V) (m : Pairs V) (l : Line V) (fs' : Flights V) (s : World V) → Stays fs m l fs' → IsMapOf (nodes s.forest) l.pairs → AreInFlight s fs' → KeepsAll fs m s
+stays_keeps_all {V} fs m l fs' s x st fl =
     let P : Pairs V → Type 0 = λ n. IsMapOf (nodes s.forest) n in
     let Q : Flights V → Type 0 = λ n. AreInFlight s n in
     (subst P x.same_pairs st, subst Q x.same_flights fl)

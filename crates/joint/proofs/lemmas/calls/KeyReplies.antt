@@ -19,7 +19,7 @@ use Rattle.joint.specs.calls.MapCalls.{CallPlays, IsDoneWith, IsOnMap, KeepsAll,
 use Rattle.joint.specs.Reports.{reply_in}
 use Rattle.joint.specs.engine.Flying.{Flights}
 use Rattle.joint.specs.engine.Engine.{World}
-use Rattle.joint.proofs.lemmas.nodes.NodesInvariant.{same_some}
+use Rattle.joint.proofs.lemmas.nodes.NodesInvariant.{some_injective}
 
 module _ {V : Type 0} (same : V → V → Bool) (fs : Flights V) (m : Pairs V) (s : World V) (r : Reply V) where
   -- the map answers this call so, and its pairs stand
@@ -29,7 +29,7 @@ module _ {V : Type 0} (same : V → V → Bool) (fs : Flights V) (m : Pairs V) (
   done_plays : (p : Point V) (c : Entered V) (d : Answer V) → ((x : Entered V) → IsOnMap m None p x → x ≡ c) → reply_in (Done d) ≡ Some r → IsDoneWith same fs m None p d s → Plays c
   done_plays p c (done.Reply q) only e x =
       let is = only x.0.call x.0.on_map in
-      let told : q ≡ r = same_some q r e in (
+      let told : q ≡ r = some_injective q r e in (
         sym told ∙ sym x.0.answers ∙ ap (λ y. (answer same m y).0) is,
         (subst (λ y. IsMapOf (nodes s.forest) (answer same m y).1) is x.0.stand, x.1),
       )
@@ -49,10 +49,10 @@ module _ {V : Type 0} (same : V → V → Bool) (fs : Flights V) (m : Pairs V) (
 
   told_plays : (who : ℕ) (o : Op V) (c e : Entered V) (told : Option (Report V)) → asked_of o ≡ Some e → e ≡ c → reply_of told ≡ Some r → CallPlays same fs m who o told s → Plays c
   told_plays who o c e None a q x p = absurd (cc x)
-  told_plays who (op.Get k) c e (Some t) a q x p = key_plays who (point.Get k) c t.outcome (λ y on. on ∙ same_some _ _ a ∙ q) x p
-  told_plays who (op.Insert k v) c e (Some t) a q x p = key_plays who (point.Insert k v) c t.outcome (λ y on. on ∙ same_some _ _ a ∙ q) x p
-  told_plays who (op.Remove k) c e (Some t) a q x p = key_plays who (point.Remove k) c t.outcome (λ y on. on ∙ same_some _ _ a ∙ q) x p
-  told_plays who (op.Exchange k old new) c e (Some t) a q x p = key_plays who (point.Exchange k old new) c t.outcome (λ y on. on ∙ same_some _ _ a ∙ q) x p
+  told_plays who (op.Get k) c e (Some t) a q x p = key_plays who (point.Get k) c t.outcome (λ y on. on ∙ some_injective _ _ a ∙ q) x p
+  told_plays who (op.Insert k v) c e (Some t) a q x p = key_plays who (point.Insert k v) c t.outcome (λ y on. on ∙ some_injective _ _ a ∙ q) x p
+  told_plays who (op.Remove k) c e (Some t) a q x p = key_plays who (point.Remove k) c t.outcome (λ y on. on ∙ some_injective _ _ a ∙ q) x p
+  told_plays who (op.Exchange k old new) c e (Some t) a q x p = key_plays who (point.Exchange k old new) c t.outcome (λ y on. on ∙ some_injective _ _ a ∙ q) x p
   told_plays who (op.ComputePresent k) c e (Some t) a q x p = absurd (cc a)
   told_plays who (op.ComputeInsert k) c e (Some t) a q x p = absurd (cc a)
   told_plays who (op.Range start end size) c e (Some t) a q x p = absurd (cc a)

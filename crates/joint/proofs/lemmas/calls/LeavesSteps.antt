@@ -46,7 +46,7 @@ use Rattle.joint.specs.nodes.View.{id_number}
 use Rattle.joint.specs.world.Whereabouts.{IsTakenBy}
 use Rattle.joint.specs.engine.Engine.{World, EngineHolds, BeginsAt, BeginsOnTree, Does, EntersUnless, GoesAt, Walks, finds_none, is_busy, misuse, place_of}
 use Rattle.joint.proofs.lemmas.engine.OneCallChanges.{Apart, one_set, step_apart}
-use Rattle.joint.proofs.lemmas.engine.Collecting.{there}
+use Rattle.joint.proofs.lemmas.engine.Collecting.{get_inside}
 use Rattle.joint.proofs.lemmas.engine.Entering.{begin_idle}
 use Rattle.joint.proofs.lemmas.world.Flights.{set_at}
 use Rattle.joint.proofs.lemmas.calls.Leaves as leaves
@@ -102,7 +102,7 @@ module _ {V : Type 0} (same : V → V → Bool) (always : Bool) where
     pub walking_of : (i n : ℕ) → IsTakenBy s i n → slice_get s.calls i ≡ Some Walking
     walking_of i n x =
         let l : i < length s.calls = subst (λ k. i < k) holds.0.machines (slice_get_within s.machines i x.0 x.1) in
-        let k = there s.calls i l in
+        let k = get_inside s.calls i l in
         k.1 ∙ ap Some (taken_walks k.0 (place_of s i) x.0 n (holds.0.each i k.0 x.0 k.1 x.1) x.2)
 
   -- a call that has taken effect takes no node out any more
@@ -171,7 +171,7 @@ module _ {V : Type 0} (same : V → V → Bool) (always : Bool) (laws : CallLaws
       turn = record { who = w; noise = noise }
 
       old : (m : Machine Id V) × (slice_get s.machines w ≡ Some m)
-      old = there s.machines w (subst (λ n. w < n) (sym holds.0.machines) (slice_get_within s.calls w Walking on))
+      old = get_inside s.machines w (subst (λ n. w < n) (sym holds.0.machines) (slice_get_within s.calls w Walking on))
 
       abbrev f : Nodes V
       f = s.forest

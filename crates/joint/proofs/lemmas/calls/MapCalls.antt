@@ -34,7 +34,7 @@ use Rattle.joint.specs.world.World.{Holds, IsStep}
 use Rattle.joint.specs.engine.Engine.{World, engine_of, is_in_flight}
 use Rattle.joint.proofs.lemmas.engine.Entering.{begin_free}
 use Rattle.joint.proofs.lemmas.world.JournaledSteps.{Mapped, mapped}
-use Rattle.joint.proofs.lemmas.calls.KeyCalls.{begin_of, gone, key_plays, stays}
+use Rattle.joint.proofs.lemmas.calls.KeyCalls.{begin_of, gone, key_plays, stays_keeps_all}
 use Rattle.joint.proofs.lemmas.calls.AloneScans.{Sweeps, scan_plays, sweeps}
 
 module _ {V : Type 0} (m : Pairs V) where
@@ -65,7 +65,7 @@ module _ {V : Type 0} (same : V → V → Bool) (always : Bool) (fs : Flights V)
       let y : Mapped same always s (gone w noise) r s' fs m = mapped same always s (gone w noise) s' fs m h x.holds b.0 b.1 r x in
       let l : Line V = record { step = gone w noise; report = r; entry = y.entry; pairs = y.pairs } in
       let P : Flight V → Type 0 = λ z. GoMap same fs z m noise.answer l y.flights in
-      stays fs m l y.flights s' (subst P free y.map) y.stand y.in_flight
+      stays_keeps_all fs m l y.flights s' (subst P free y.map) y.stand y.in_flight
 
   quiet_steps : (more : List (Taken V)) (said : Outcome V) (s : World V) → fs w ≡ Over → Holds same always s → KeepsAll fs m s → AreTaken same always s more → AllGoOn w said more → KeepsAll fs m (after_all s more)
   quiet_steps [] said s free h b x g = b
@@ -78,7 +78,7 @@ module _ {V : Type 0} (same : V → V → Bool) (always : Bool) (fs : Flights V)
       let y : Mapped same always s (begin_of w op) r s' fs m = mapped same always s (begin_of w op) s' fs m h x.holds b.0 b.1 r x in
       let l : Line V = record { step = begin_of w op; report = r; entry = y.entry; pairs = y.pairs } in
       let P : Target V → Type 0 = λ z. BeginMap fs m z l y.flights in
-      stays fs m l y.flights s' (subst P e y.map) y.stand y.in_flight
+      stays_keeps_all fs m l y.flights s' (subst P e y.map) y.stand y.in_flight
 
   quiet_call : (op : Op V) (t : _) (s : World V) (first : Taken V) (more : List (Taken V)) → target op ≡ target.Collector t → Holds same always s → KeepsAll fs m s → IsStep same always s (begin_of w op) first.report first.after
       → AreTaken same always first.after more → AllGoOn w first.report.outcome more → KeepsAll fs m (after_all first.after more)
@@ -93,7 +93,7 @@ module _ {V : Type 0} (same : V → V → Bool) (always : Bool) (fs : Flights V)
       let l : Line V = record { step = begin_of w op; report = r; entry = y.entry; pairs = y.pairs } in
       let P : Target V → Type 0 = λ z. BeginMap fs m z l y.flights in
       let z : BeginMap fs m (target.Survey k) l y.flights = subst P e y.map in
-      (z.tells, stays fs m l y.flights s' z.stays y.stand y.in_flight)
+      (z.tells, stays_keeps_all fs m l y.flights s' z.stays y.stand y.in_flight)
 
   survey_call : (op : Op V) (k : Survey) (s : World V) (first : Taken V) (more : List (Taken V)) → target op ≡ target.Survey k → Holds same always s → KeepsAll fs m s → IsStep same always s (begin_of w op) first.report first.after
       → AllGoOn w first.report.outcome more → MapTells m k (told_after first.report.outcome more) × KeepsAll fs m (after_all first.after more)
@@ -180,7 +180,7 @@ module _ {V : Type 0} (same : V → V → Bool) (always : Bool) where
   register_keeps s who r s' fs m h x st fl =
       let step : Step V = record { worker = who; event = Register } in
       let y : Mapped same always s step r s' fs m = mapped same always s step s' fs m h x.holds st fl r x in
-      stays fs m (record { step = step; report = r; entry = y.entry; pairs = y.pairs }) y.flights s' y.map y.stand y.in_flight
+      stays_keeps_all fs m (record { step = step; report = r; entry = y.entry; pairs = y.pairs }) y.flights s' y.map y.stand y.in_flight
 
   -- what a scan that is done has told
   scanned_so : (s : World V) (first : Taken V) (more : List (Taken V)) (fs : Flights V) (m : Pairs V) (who : ℕ) (op : Op V) (asked : Point V) (start end size count : ℕ) → target op ≡ target.Tree asked → point_range asked ≡ Some (start, end, size)

@@ -39,7 +39,7 @@ use Rattle.joint.specs.calls.Runs.{Taken, AreTaken, IsRun, after_all}
 use Rattle.joint.specs.nodes.View.{id_number}
 use Rattle.joint.specs.world.World.{Holds, IsStep, StepsUnless, finds_journal_full}
 use Rattle.joint.specs.engine.Engine.{World, engine_of, misuse, quiet, finds_none, EntersUnless, Reserves, BeginsOnTree, BeginsAt, GoesAt, Proceeds, Does}
-use Rattle.joint.proofs.lemmas.calls.Beside.{whole_step}
+use Rattle.joint.proofs.lemmas.calls.Beside.{steps_unless_beside}
 use Rattle.joint.proofs.lemmas.engine.Collecting.{set_here}
 use Rattle.joint.proofs.lemmas.calls.PlainCalls.{fault_apart, collects, collected_agrees, secures, enters, reserves, moved_alike, walked_agrees}
 use Rattle.joint.proofs.lemmas.engine.PlainTells.{map_here, tells_alike}
@@ -237,7 +237,7 @@ module _ {V : Type 0} (same : V → V → Bool) (always : Bool) (laws : (f : Nod
   all_follow top s (t ∷ ts) order p e holds x un a =
       let P : ℕ → Type 0 = λ m. FollowsStep same m (tree_step t.step t.report) t.after t.report order p in
       let one : FollowsStep same top (tree_step t.step t.report) t.after t.report order p = subst P e (step_follows s t.after t.step t.report order p holds x.0 un.0 a) in
-      let beside : IsBeside s.forest t.after.forest = whole_step same always s t.step t.report t.after (finds_journal_full s t.step.worker t.step.event) x.0.does in
+      let beside : IsBeside s.forest t.after.forest = steps_unless_beside same always s t.step t.report t.after (finds_journal_full s t.step.worker t.step.event) x.0.does in
       let f = put_first top (tree_step t.step t.report) t.after (after_all t.after ts) t.report order p (map (λ t. t.step) ts) (map (λ t. t.report) ts) one
       (λ order' p' a'. all_follow top t.after ts order' p' (beside.versions ∙ e) x.0.holds x.1 un.1 a') in
       record { told = f.0; now = f.1.0; longer = f.1.1; agree = f.1.2 }

@@ -65,7 +65,7 @@ use Rattle.joint.specs.nodes.View.{id_number}
 use Rattle.joint.specs.world.World.{Holds, IsStep, StepsUnless, finds_journal_full}
 use Rattle.joint.specs.engine.Engine.{World, EngineHolds, IsOfCall, Collects, Does, EntersUnless, Enters, GoesAt, Walks, engine_of, finds_none, is_busy, is_in_flight, misuse, place_of}
 use Rattle.joint.proofs.lemmas.engine.OneCallChanges.{Apart, one_set, step_apart}
-use Rattle.joint.proofs.lemmas.engine.Collecting.{there}
+use Rattle.joint.proofs.lemmas.engine.Collecting.{get_inside}
 use Rattle.joint.proofs.lemmas.calls.Ends.{and_left}
 use Rattle.joint.proofs.lemmas.engine.Entering.{begin_idle, begin_within}
 use Rattle.joint.proofs.lemmas.world.Flights.{set_at}
@@ -210,7 +210,7 @@ module _ {V : Type 0} (same : V → V → Bool) (always : Bool) (turns : Progres
     )
 
     machine_at : (k : InFlight V) → slice_get s.calls w ≡ Some k → (m : Machine Id V) × (slice_get s.machines w ≡ Some m)
-    machine_at k e = there s.machines w (within_machines (slice_get_within s.calls w k e))
+    machine_at k e = get_inside s.machines w (within_machines (slice_get_within s.calls w k e))
 
     pin_goes : (noise : Noise Id V) (r : Report V) → slice_get s.calls w ≡ Some (Collecting collector_op.Pin) → Collects same always s w collector_event.Go (Collecting collector_op.Pin) r s' → Goes r
     pin_goes noise r e x =
@@ -259,7 +259,7 @@ module _ {V : Type 0} (same : V → V → Bool) (always : Bool) (turns : Progres
       within = begin_within same always s s' w holds o none
 
       idle : slice_get s.calls w ≡ Some Idle
-      idle = idle_at (slice_get s.calls w) (there s.calls w within) (begin_idle same always s s' w holds o none)
+      idle = idle_at (slice_get s.calls w) (get_inside s.calls w within) (begin_idle same always s s' w holds o none)
         where
           idle_at : (k : Option (InFlight V)) → (x : InFlight V) × (k ≡ Some x) → is_busy k ≡ false → k ≡ Some Idle
           idle_at None x e = absurd (let q : None ≡ Some x.0 = x.1 in cc)

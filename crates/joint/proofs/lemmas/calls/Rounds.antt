@@ -72,7 +72,7 @@ use Rattle.joint.specs.world.Whereabouts.{IsInTree, IsSomewhere}
 use Rattle.joint.specs.world.World.{Holds, IsStep, TakesStep, StepsUnless}
 use Rattle.joint.specs.engine.Engine.{World, engine_of, place_of, is_busy, interruption, unready, misuse, Proceeds, Does, GoesAt, BeginsAt, Collects}
 use Rattle.joint.proofs.lemmas.world.Bags.{jobs_waiting}
-use Rattle.joint.proofs.lemmas.engine.Collecting.{set_here, there}
+use Rattle.joint.proofs.lemmas.engine.Collecting.{set_here, get_inside}
 use Rattle.joint.proofs.lemmas.engine.Filing.{is_name_same}
 use Rattle.joint.proofs.lemmas.engine.HandOver.{held_place}
 use Rattle.joint.proofs.lemmas.world.Whereabouts.{somewhere}
@@ -190,7 +190,7 @@ module _ {V : Type 0} (same : V → V → Bool) (always : Bool) where
     to_end c0 who x (t ∷ ts) s now n newest event o g c are end =
         let on : c.turn.outcome ≡ collector_outcome.Running = was_running {V = V} c.turn.outcome (sym c.outcome ∙ end.0) in
         let calls : now.calls ≡ slice_set s.calls who (Collecting x) = c.calls ∙ ap (λ (y : CollectorOutcome). slice_set s.calls who (call_after y (Collecting x))) on in
-        let old = there s.calls who c.inside in
+        let old = get_inside s.calls who c.inside in
         let here : slice_get now.calls who ≡ Some (Collecting x) = ap (λ (ks : List (InFlight V)). slice_get ks who) calls ∙ set_here s.calls who (Collecting x) old.0 old.1 in
         let inside : who < length now.calls = slice_get_within now.calls who (Collecting x) here in
         let next = goes now t who end.1.0 x inside here are.0 end.1.1 (by_end who t.report.outcome ts end.2) in
@@ -281,14 +281,14 @@ module _ {V : Type 0} (same : V → V → Bool) (always : Bool) where
 
       all_ended : (i : ℕ) (m : Machine Id V) → slice_get s.machines i ≡ Some m → m.phase ≡ Ended
       all_ended i m here =
-          let k = there s.calls i (subst (λ (n : ℕ). i < n) h.0.machines (slice_get_within s.machines i m here)) in
+          let k = get_inside s.calls i (subst (λ (n : ℕ). i < n) h.0.machines (slice_get_within s.machines i m here)) in
           idle_at i m here k.0 k.1 (place_of s i).registered refl
 
       collector_quiet : collector.IsQuiet s.forest.collector
       collector_quiet = record {
         idle = λ i reg.
             let at = q.idle i reg in
-            let m = there s.machines i (subst (λ (n : ℕ). i < n) (sym h.0.machines) (slice_get_within s.calls i Idle at)) in
+            let m = get_inside s.machines i (subst (λ (n : ℕ). i < n) (sym h.0.machines) (slice_get_within s.calls i Idle at)) in
             (h.0.each i Idle m.0 at m.1).0;
         unpinned = q.unpinned;
         far = q.far;

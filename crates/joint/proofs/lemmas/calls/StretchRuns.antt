@@ -59,7 +59,7 @@ use Rattle.joint.specs.calls.Stretches.{EndsStretch, HasChecked, SeesNode, Stand
 use Rattle.joint.specs.nodes.View.{view, id_number}
 use Rattle.joint.specs.world.World.{Holds, StepsUnless, finds_journal_full}
 use Rattle.joint.specs.engine.Engine.{World, EngineHolds, IsHeldBy, BeginsOnTree, Collects, Does, EntersUnless, Enters, GoesAt, GoesOnReserving, Reserves, Walks, engine_of, finds_none, misuse, place_of}
-use Rattle.joint.proofs.lemmas.engine.Collecting.{either, there}
+use Rattle.joint.proofs.lemmas.engine.Collecting.{either, get_inside}
 use Rattle.joint.proofs.lemmas.engine.HandOver.{held_place}
 use Rattle.joint.proofs.lemmas.calls.Leaves as leaves
 use Rattle.joint.proofs.lemmas.nodes.Paths.{in_reach}
@@ -170,7 +170,7 @@ module _ {V : Type 0} (same : V → V → Bool) (always : Bool) (laws : CallLaws
     secured_unheld (collector_outcome.Refused f) k ms e e' = still (e' ∙ sym e)
 
     machine_at : (k : InFlight V) → slice_get s.calls w ≡ Some k → (m : Machine Id V) × (slice_get s.machines w ≡ Some m)
-    machine_at k e = there s.machines w (subst (λ i. w < i) (sym holds.0.machines) (slice_get_within s.calls w k e))
+    machine_at k e = get_inside s.machines w (subst (λ i. w < i) (sym holds.0.machines) (slice_get_within s.calls w k e))
 
     securing : (c : Point V) (r : Report V) → slice_get s.calls w ≡ Some (Securing c) → GoesOnReserving same always s w r s' → Lasts s → Lasts s'
     securing c r e x l =

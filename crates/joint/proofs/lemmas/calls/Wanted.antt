@@ -38,7 +38,7 @@ use Rattle.joint.specs.engine.Flying.{Flights, AreInFlight, no_flights, with_fli
 use Rattle.joint.specs.engine.Sound.{IsUnderWay}
 use Rattle.joint.specs.calls.Wanted.{is_question, wants_if, wants_after}
 use Rattle.joint.specs.world.World.{Holds, IsStep, StepsUnless, finds_journal_full}
-use Rattle.joint.proofs.lemmas.engine.Collecting.{there}
+use Rattle.joint.proofs.lemmas.engine.Collecting.{get_inside}
 use Rattle.joint.proofs.lemmas.world.Flights.{ends_stays, flight_here, flight_apart}
 use Rattle.joint.proofs.lemmas.world.JournaledSteps.{mapped}
 use Rattle.joint.proofs.lemmas.world.JournalPlaces.{asks_here, begun_asks}
@@ -164,7 +164,7 @@ module _ {V : Type 0} (same : V → V → Bool) (always : Bool) where
   module _ (s s' : World V) (w : ℕ) (holds : EngineHolds same always s) (fs : Flights V) (fl : AreInFlight s fs) (over : fs w ≡ Over) where
     none_walks : slice_get s.calls w ≡ Some Walking → ⊥
     none_walks e =
-        let x : (y : Machine Id V) × (slice_get s.machines w ≡ Some y) = there s.machines w (subst (λ n. w < n) (sym holds.0.machines) (slice_get_within s.calls w Walking e)) in
+        let x : (y : Machine Id V) × (slice_get s.machines w ≡ Some y) = get_inside s.machines w (subst (λ n. w < n) (sym holds.0.machines) (slice_get_within s.calls w Walking e)) in
         let at : IsAt Walking (place_of s w) x.0 = holds.0.each w Walking x.0 e x.1 in
         watched x.0 at.0 at.1 (subst (λ (f : Flight V). Follows x.0 f) over (fl.each w Walking x.0 e x.1))
 

@@ -34,7 +34,7 @@ use Rattle.joint.specs.world.World.{Holds, IsLogged, IsStep, StepsUnless, entry_
 use Rattle.joint.proofs.lemmas.world.Effects.{begin_undecided}
 use Rattle.joint.proofs.lemmas.engine.Entering.{begin_even, register_even}
 use Rattle.joint.proofs.lemmas.world.JournalFull.{given_up, gives_up_flight, gives_up_logged}
-use Rattle.joint.proofs.lemmas.world.Logged.{result, steps}
+use Rattle.joint.proofs.lemmas.world.Logged.{event_maps, steps}
 use Rattle.joint.proofs.lemmas.engine.Recounting.{has_room_is}
 use Rattle.joint.proofs.lemmas.calls.Runs.{standing_empty, fresh_flights}
 use Rattle.joint.proofs.lemmas.engine.UnkeptReports.{unkept}
@@ -71,7 +71,7 @@ module _ {V : Type 0} (same : V → V → Bool) (always : Bool) where
   pub register_step : (s s' : World V) (worker : ℕ) (told : Report V) → Holds same always s → IsEngineStep same always (engine_of s) (record { worker = worker; event = Register }) told (engine_of s') → s'.log ≡ s.log
       → IsStep same always s (record { worker = worker; event = Register }) told s'
   register_step s s' worker told h e l =
-      let d = (result same always s s' (record { worker = worker; event = Register }) told h e h.2.flights h.2.pairs h.2.stand h.2.in_flight h.2.asked).step.undecided in
+      let d = (event_maps same always s s' (record { worker = worker; event = Register }) told h e h.2.flights h.2.pairs h.2.stand h.2.in_flight h.2.asked).step.undecided in
       still s s' (record { worker = worker; event = Register }) told h e d refl (register_even same always (engine_of s) (engine_of s') worker (h.0, h.1) told e.does)
       (ap (λ (y : Log V). y.entries) l) (ap (λ (y : Log V). y.places) l) (ap (λ (y : Log V). y.reserved) l) (λ a. ap (λ (y : Log V). y.requests) l) (ap (λ (y : Log V). length y.requests) l)
 
@@ -80,7 +80,7 @@ module _ {V : Type 0} (same : V → V → Bool) (always : Bool) where
       → (always ≡ true → q ≡ asked op) → s'.log ≡ with_request s.log worker (is_in_flight told.outcome) q → IsStep same always s (record { worker = worker; event = Begin op }) told s'
   begin_step s s' worker op q told h e i l =
       let step : Step V = record { worker = worker; event = Begin op } in
-      let x = result same always s s' step told h e h.2.flights h.2.pairs h.2.stand h.2.in_flight h.2.asked in
+      let x = event_maps same always s s' step told h e h.2.flights h.2.pairs h.2.stand h.2.in_flight h.2.asked in
       let d : told.decided ≡ false = begin_undecided same always s s' worker (h.0, h.1) e.holds h.2.flights x.flights h.2.pairs (record { each = h.2.in_flight.each; beyond = h.2.in_flight.beyond }) x.in_flight h.2.long
       (record { step = step; report = told; entry = x.entry; pairs = x.pairs }) refl (target op) told.outcome refl x.step in
       let on : Bool = is_in_flight told.outcome in

@@ -27,7 +27,7 @@ use Rattle.joint.specs.engine.Laws.{CellLaws, CallLaws}
 use Rattle.joint.specs.engine.Sound.{Guards, Sound}
 use Rattle.joint.proofs.lemmas.engine.NamesInStretch.{deferred_on, pinned_stretch, ended_guards, no_names}
 use Rattle.joint.specs.NameLemmas.{number_named, same_name}
-use Rattle.joint.proofs.lemmas.nodes.Views.{ties, here, stands_at}
+use Rattle.joint.proofs.lemmas.nodes.Views.{ties, heap_of_number, stands_at}
 use Rattle.joint.proofs.lemmas.nodes.Paths.{in_tree}
 use Rattle.joint.proofs.lemmas.engine.ReachMoments.{Reaches, was_in}
 
@@ -172,7 +172,7 @@ module _ {T J C V : Type 0} (tnames : T → List Name) (view : Bool → Option T
       let g : was_given s.store n ≡ true = sound.tells.given n (cells.was_live past s n sound.tells.now live) in
       let q : node_at view s'.store n ≡ view true None = ap (λ b. view b (value_at s'.store n)) (given n ∙ g) ∙ ap (λ v. view true v) gone in
       record {
-        handed = ap (λ x. x.retired) (sym (here tnames view ok s.store n)) ∙ r;
+        handed = ap (λ x. x.retired) (sym (heap_of_number tnames view ok s.store n)) ∙ r;
         stood = (stands_at tnames view ok (was_given s.store n) (value_at s.store n) live).kept;
         destroyed = ap (λ x. x.destroyed) q ∙ ok.lost;
         made = ap (λ x. x.made) q ∙ ok.used;
@@ -197,7 +197,7 @@ module _ {T J C V : Type 0} (tnames : T → List Name) (view : Bool → Option T
 
   still_retired : (t : ℕ) (n : Name) → WasDeferred (marks_of past) t n → is_some (value_at s'.store n) ≡ true → (heap_of view s'.store (number n)).retired ≡ true
   still_retired t n d live = elim (fate n) [
-    | inl e ↦ ap (λ x. x.retired) (here tnames view ok s'.store n ∙ as_it_was n e ∙ sym (here tnames view ok s.store n)) ∙ sound.deferred t n d (ap is_some (sym e) ∙ live)
+    | inl e ↦ ap (λ x. x.retired) (heap_of_number tnames view ok s'.store n ∙ as_it_was n e ∙ sym (heap_of_number tnames view ok s.store n)) ∙ sound.deferred t n d (ap is_some (sym e) ∙ live)
     | inr gone ↦ absurd (let f : is_some (value_at s'.store n) ≡ false = is_none_false (value_at s'.store n) gone.1 in cc)
   ]
 

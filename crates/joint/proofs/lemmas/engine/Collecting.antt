@@ -41,10 +41,10 @@ either (z ∷ xs) (suc i) (suc j) x y e = elim (either xs i j x y e) [
   | inr p ↦ inr ((λ q. p.0 (omega arith)), p.1)
 ]
 
-pub there : {A : Type 0} (xs : List A) (i : ℕ) → i < length xs → (x : A) × (slice_get xs i ≡ Some x)
-there [] i l = absurd (omega (arith, l))
-there (x ∷ xs) zero l = (x, refl)
-there (x ∷ xs) (suc i) l = there xs i (omega (arith, l))
+pub get_inside : {A : Type 0} (xs : List A) (i : ℕ) → i < length xs → (x : A) × (slice_get xs i ≡ Some x)
+get_inside [] i l = absurd (omega (arith, l))
+get_inside (x ∷ xs) zero l = (x, refl)
+get_inside (x ∷ xs) (suc i) l = get_inside xs i (omega (arith, l))
 
 -- the machine under other names
 pub intact_at : {V : Type 0} (same : V → V → Bool) (always : Bool) (s s' : Nodes V) (ms ms' : List (Machine Id V)) (calls calls' : List (InFlight V)) → s' ≡ s → ms' ≡ ms → calls' ≡ calls → IsIntact same always s ms calls → IsIntact same always s' ms' calls'
@@ -184,7 +184,7 @@ module _ {V : Type 0} (same : V → V → Bool) (always : Bool) (s : Nodes V) (m
 
     pub free_may : r.outcome ≡ Done → MayStart s'.collector who op
     free_may e =
-        let w : (m : Machine Id V) × (slice_get ms who ≡ Some m) = there ms who (inside_machines same always s ms calls intact who (Securing op) at) in
+        let w : (m : Machine Id V) × (slice_get ms who ≡ Some m) = get_inside ms who (inside_machines same always s ms calls intact who (Securing op) at) in
         let x : IsAt (Securing op) (place s.collector who) w.0 = intact.each who (Securing op) w.0 at w.1 in
         let g : GoesOn s.collector who (Secure 2) Done s'.collector = fits Done e w.0 w.1 in
         let l : length (place s'.collector who).bag + 2 ≤ 64 = g.1.2 g.0 (omega arith) in

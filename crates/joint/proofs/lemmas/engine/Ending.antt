@@ -44,17 +44,17 @@ IsOnKey (Sweep s) = ⊥
 IsOnKey _ = Unit {0}
 
 -- whether the call goes on after such a report
-abbrev pub goes : {V : Type 0} → Outcome V → Bool
-goes Running = true
-goes (Asks found) = true
-goes (Found place key value) = true
-goes (Done reply) = false
-goes (Scanned count) = false
-goes (Refused cause) = false
+abbrev pub goes_on_after : {V : Type 0} → Outcome V → Bool
+goes_on_after Running = true
+goes_on_after (Asks found) = true
+goes_on_after (Found place key value) = true
+goes_on_after (Done reply) = false
+goes_on_after (Scanned count) = false
+goes_on_after (Refused cause) = false
 
 -- what a step leaves has ended where its report says so, and is no scan
 abbrev Tells : {V : Type 0} → NextPhase Id V → Type 0
-Tells t = (is_over t.phase ≡ not (goes t.report.outcome)) × IsOnKey t.phase
+Tells t = (is_over t.phase ≡ not (goes_on_after t.report.outcome)) × IsOnKey t.phase
 
 version : (V : Type 0) (root : Id) (above : Option (Over Id)) (n : Id) (o : Option ℕ) → Tells (after_version {V = V} root above n o)
 version V root above n None = (refl, tt)
@@ -274,5 +274,5 @@ module _ {V : Type 0} (number : Id → ℕ) (same : V → V → Bool) (always : 
 
 -- a step of a call on a key ends it exactly where it reports its end, and leaves no scan
 pub ends : {V : Type 0} (number : Id → ℕ) (same : V → V → Bool) (always : Bool) (most : ℕ) (why : NodeType → Refusal → Type 0) (m m' : Machine Id V) (h h' : ℕ → Node V) (fail : Bool) (answer : Option (Option V)) (d : Move V)
-    → IsUnderWay m.phase → IsOnKey m.phase → Stepped number same always most why m h fail answer m' h' d → (is_over m'.phase ≡ not (goes d.outcome)) × IsOnKey m'.phase
+    → IsUnderWay m.phase → IsOnKey m.phase → Stepped number same always most why m h fail answer m' h' d → (is_over m'.phase ≡ not (goes_on_after d.outcome)) × IsOnKey m'.phase
 ends number same always most why m m' h h' fail answer d u k x = tells number same always most why m.root _ m.kind fail answer m.given m'.given h h' (record { phase = m'.phase; report = d }) m.phase u k x.step

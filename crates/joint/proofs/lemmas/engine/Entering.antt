@@ -27,7 +27,7 @@ use Rattle.joint.specs.engine.Journaling.{has_place}
 use Rattle.joint.specs.Reports.{target}
 use Rattle.joint.specs.engine.Flying.{Flights, AreInFlight}
 use Rattle.joint.specs.engine.Engine.{World, EngineHolds, BeginsAt, BeginsOnTree, Does, EntersUnless, GoesAt, finds_none, is_busy, is_in_flight, misuse, place_of}
-use Rattle.joint.proofs.lemmas.engine.Collecting.{set_here, there}
+use Rattle.joint.proofs.lemmas.engine.Collecting.{set_here, get_inside}
 use Rattle.joint.proofs.lemmas.engine.HandOver.{held_place}
 
 module _ {V : Type 0} where
@@ -46,10 +46,10 @@ module _ {V : Type 0} where
 
   -- the call in a place that was set, if the place is there
   at_place : (ks ks' : List (InFlight V)) (w : ℕ) (k : InFlight V) → w < length ks → ks' ≡ set ks w k → slice_get ks' w ≡ Some k
-  at_place ks ks' w k l e = let x : (y : InFlight V) × (slice_get ks w ≡ Some y) = there ks w l in ap (λ xs. slice_get xs w) e ∙ set_here ks w k x.0 x.1
+  at_place ks ks' w k l e = let x : (y : InFlight V) × (slice_get ks w ≡ Some y) = get_inside ks w l in ap (λ xs. slice_get xs w) e ∙ set_here ks w k x.0 x.1
 
   machine_place : (ms ms' : List (Machine Id V)) (w : ℕ) (m : Machine Id V) → w < length ms → ms' ≡ set ms w m → slice_get ms' w ≡ Some m
-  machine_place ms ms' w m l e = let x : (y : Machine Id V) × (slice_get ms w ≡ Some y) = there ms w l in ap (λ xs. slice_get xs w) e ∙ set_here ms w m x.0 x.1
+  machine_place ms ms' w m l e = let x : (y : Machine Id V) × (slice_get ms w ≡ Some y) = get_inside ms w l in ap (λ xs. slice_get xs w) e ∙ set_here ms w m x.0 x.1
 
 module _ {V : Type 0} (same : V → V → Bool) (always : Bool) (s s' : World V) (w : ℕ) (holds : EngineHolds same always s) where
   abbrev before : Bool
@@ -127,7 +127,7 @@ module _ {V : Type 0} (same : V → V → Bool) (always : Bool) (s s' : World V)
     | inr x ↦ fl.beyond w x.0
   ]
   free_flight fs fl (Some Idle) e b =
-      let x = there s.machines w (subst (λ n. w < n) (sym holds.0.machines) (slice_get_within s.calls w Idle e)) in fl.each w Idle x.0 e x.1
+      let x = get_inside s.machines w (subst (λ n. w < n) (sym holds.0.machines) (slice_get_within s.calls w Idle e)) in fl.each w Idle x.0 e x.1
   free_flight fs fl (Some (Collecting op)) e b = absurd (cc b)
   free_flight fs fl (Some (Reserving op)) e b = absurd (cc b)
   free_flight fs fl (Some (Securing op)) e b = absurd (cc b)

@@ -38,5 +38,5 @@ module _ {V : Type 0} (same : V → V → Bool) (always : Bool) (laws : CallLaws
       let P : Target V → Type 0 = λ x. Begun same always w step.worker x r w' in
       by_event (Begin op) e (does_begin same always w step.worker op (misuse w step.worker (Begin op)) r w' (subst P q b))
 
-  pub goes : (noise : Noise Id V) → step.event ≡ Go noise → Does same always w step.worker (Go noise) (misuse w step.worker (Go noise)) r w' → IsEngineStep same always w step r w'
-  goes noise e d = by_event (Go noise) e d
+  pub go_is_step : (noise : Noise Id V) → step.event ≡ Go noise → Does same always w step.worker (Go noise) (misuse w step.worker (Go noise)) r w' → IsEngineStep same always w step r w'
+  go_is_step noise e d = by_event (Go noise) e d

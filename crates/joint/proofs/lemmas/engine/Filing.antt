@@ -46,7 +46,7 @@ use Rattle.joint.proofs.lemmas.engine.HandOver.{held_place}
 use Rattle.joint.proofs.lemmas.nodes.MadeUnhanded.{taken_out}
 use Rattle.joint.proofs.lemmas.engine.Retiring.{retiring_some}
 use Rattle.joint.proofs.lemmas.nodes.SlotViews.{slot_view}
-use Rattle.joint.proofs.lemmas.nodes.Views.{here, ties}
+use Rattle.joint.proofs.lemmas.nodes.Views.{heap_of_number, ties}
 
 -- what waits for its destruction stands
 waits_stands : {V : Type 0} (x : Node V) → is_waiting x ≡ true → Stands x
@@ -98,10 +98,10 @@ removes_apart J m n t apart = let e = not_true (is_name m n) (λ q. apart (is_na
 -- a node is read off its name's value
 same_node : {V : Type 0} (st st' : Store (Slot V)) (n : Name) → value_at st' n ≡ value_at st n → was_given st' n ≡ was_given st n → heap st' (number n) ≡ heap st (number n)
 same_node {V} st st' n v g =
-    here slot_names view slot_view st' n ∙ ap (λ (x : Option (Slot V)). view (was_given st' n) x) v ∙ ap (λ (b : Bool). view b (value_at st n)) g ∙ sym (here slot_names view slot_view st n)
+    heap_of_number slot_names view slot_view st' n ∙ ap (λ (x : Option (Slot V)). view (was_given st' n) x) v ∙ ap (λ (b : Bool). view b (value_at st n)) g ∙ sym (heap_of_number slot_names view slot_view st n)
 
 gone_node : {V : Type 0} (st : Store (Slot V)) (n : Name) → value_at st n ≡ None → is_waiting (heap st (number n)) ≡ false
-gone_node {V} st n v = ap is_waiting (here slot_names view slot_view st n ∙ ap (λ (x : Option (Slot V)). view (was_given st n) x) v)
+gone_node {V} st n v = ap is_waiting (heap_of_number slot_names view slot_view st n ∙ ap (λ (x : Option (Slot V)). view (was_given st n) x) v)
 
 module _ {V : Type 0} (cells : CellLaws {T = Slot V} (Unit {0}) slot_names) where
   live_of : (st : Store (Slot V)) (n : Name) → is_waiting (heap st (number n)) ≡ true → is_some (value_at st n) ≡ true

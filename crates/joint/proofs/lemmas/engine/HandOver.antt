@@ -28,7 +28,7 @@ use Rattle.joint.specs.nodes.View.{view, id_number}
 use Rattle.joint.proofs.lemmas.engine.SoundHandOver.{handed}
 use Rattle.joint.proofs.lemmas.engine.ReachMoments.{entered_live}
 use Rattle.joint.proofs.lemmas.nodes.SlotViews.{slot_view}
-use Rattle.joint.proofs.lemmas.nodes.Tickets.{at_most}
+use Rattle.joint.proofs.lemmas.nodes.Tickets.{at_most_by_relation}
 use Rattle.joint.proofs.lemmas.nodes.Views.{ties}
 
 pub held_place : {J : Type 0} (table : List (Participant J)) (who : ℕ) → (slice_index_or table who blank).registered ≡ true → who < length table
@@ -77,7 +77,7 @@ module _ {V : Type 0} (same : V → V → Bool) (always : Bool) (cells : CellLaw
   one t u k lt lu (inr d) (inr e) = d.0 ∙ sym e.0
 
   counted : c.next + 1 ≤ 2 ^ 64 - 1
-  counted = at_most (2 ^ 64 - 1) (c.next + 1) Has has bound one
+  counted = at_most_by_relation (2 ^ 64 - 1) (c.next + 1) Has has bound one
 
   no_count : (c.next == 2 ^ 64 - 1) ≡ false
   no_count = ne_eqb c.next (2 ^ 64 - 1) (λ e. let z : c.next + 1 ≤ 2 ^ 64 - 1 = counted in omega (arith, e, z))

@@ -27,8 +27,8 @@ use Rattle.joint.specs.engine.Laws.{CallLaws}
 use Rattle.joint.specs.Reports.{target, told, collected}
 use Rattle.joint.specs.nodes.View.{id_number}
 use Rattle.joint.specs.engine.Engine.{World, EngineHolds, Does, Proceeds, BeginsAt, BeginsOnTree, EntersUnless, finds_none, GoesAt, Collects, Walks, GoesOnReserving, SecuresFirst, IsOfCall, is_busy, is_in_flight, misuse, place_of, reserving}
-use Rattle.joint.proofs.lemmas.engine.Collecting.{set_here, there}
-use Rattle.joint.proofs.lemmas.engine.Ending.{goes}
+use Rattle.joint.proofs.lemmas.engine.Collecting.{set_here, get_inside}
+use Rattle.joint.proofs.lemmas.engine.Ending.{goes_on_after}
 use Rattle.joint.proofs.lemmas.engine.HandOver.{held_place}
 use Rattle.joint.proofs.lemmas.engine.Reserving.{next_here}
 use Rattle.joint.proofs.lemmas.engine.Telling.{survey_ends}
@@ -43,7 +43,7 @@ after_walk V true = refl
 after_walk V false = refl
 
 module _ {V : Type 0} where
-  pub told_goes : (o : Moved V) → is_in_flight (told o) ≡ goes o
+  pub told_goes : (o : Moved V) → is_in_flight (told o) ≡ goes_on_after o
   told_goes moved.Running = refl
   told_goes (moved.Asks found) = refl
   told_goes (moved.Found place key value) = refl
@@ -64,7 +64,7 @@ module _ {V : Type 0} where
 
   -- the call in a place that was set
   at_place : (calls calls' : List (InFlight V)) (w : ℕ) (k : InFlight V) → w < length calls → calls' ≡ set calls w k → slice_get calls' w ≡ Some k
-  at_place calls calls' w k l e = let x : (y : InFlight V) × (slice_get calls w ≡ Some y) = there calls w l in ap (λ xs. slice_get xs w) e ∙ set_here calls w k x.0 x.1
+  at_place calls calls' w k l e = let x : (y : InFlight V) × (slice_get calls w ≡ Some y) = get_inside calls w l in ap (λ xs. slice_get xs w) e ∙ set_here calls w k x.0 x.1
 
   securing_goes : (calls calls' : List (InFlight V)) (w : ℕ) (op : Point V) (o : CollectorOutcome) → slice_get calls w ≡ Some (Securing op) → calls' ≡ set calls w (secured_call o (slice_get calls w)) → is_busy (slice_get calls' w) ≡ is_in_flight {V = V} (reserving o)
   securing_goes calls calls' w op o e c =
@@ -75,11 +75,11 @@ module _ {V : Type 0} (same : V → V → Bool) (always : Bool) (s : World V) (w
   busy_registered : (k : Option (InFlight V)) → slice_get s.calls w ≡ k → is_busy k ≡ true → (place_of s w).registered ≡ true
   busy_registered None e b = absurd (cc b)
   busy_registered (Some Idle) e b = absurd (cc b)
-  busy_registered (Some (Collecting op)) e b = (let x = there s.machines w (subst (λ n. w < n) (sym holds.0.machines) (slice_get_within s.calls w (Collecting op) e)) in (holds.0.each w (Collecting op) x.0 e x.1).0.0)
-  busy_registered (Some (Reserving op)) e b = (let x = there s.machines w (subst (λ n. w < n) (sym holds.0.machines) (slice_get_within s.calls w (Reserving op) e)) in (holds.0.each w (Reserving op) x.0 e x.1).0)
-  busy_registered (Some (Securing op)) e b = (let x = there s.machines w (subst (λ n. w < n) (sym holds.0.machines) (slice_get_within s.calls w (Securing op) e)) in (holds.0.each w (Securing op) x.0 e x.1).0.0)
+  busy_registered (Some (Collecting op)) e b = (let x = get_inside s.machines w (subst (λ n. w < n) (sym holds.0.machines) (slice_get_within s.calls w (Collecting op) e)) in (holds.0.each w (Collecting op) x.0 e x.1).0.0)
+  busy_registered (Some (Reserving op)) e b = (let x = get_inside s.machines w (subst (λ n. w < n) (sym holds.0.machines) (slice_get_within s.calls w (Reserving op) e)) in (holds.0.each w (Reserving op) x.0 e x.1).0)
+  busy_registered (Some (Securing op)) e b = (let x = get_inside s.machines w (subst (λ n. w < n) (sym holds.0.machines) (slice_get_within s.calls w (Securing op) e)) in (holds.0.each w (Securing op) x.0 e x.1).0.0)
   busy_registered (Some Walking) e b = (
-      let x = there s.machines w (subst (λ n. w < n) (sym holds.0.machines) (slice_get_within s.calls w Walking e)) in
+      let x = get_inside s.machines w (subst (λ n. w < n) (sym holds.0.machines) (slice_get_within s.calls w Walking e)) in
       (holds.0.safe.sound.sound.guarded w x.0 x.1).registered (holds.0.each w Walking x.0 e x.1).0)
 
   pub may_go : (noise : Noise Id V) → is_busy (slice_get s.calls w) ≡ true → misuse s w (Go noise) ≡ None
@@ -109,7 +109,7 @@ module _ {V : Type 0} (same : V → V → Bool) (always : Bool) (laws : CallLaws
       let here : slice_get s'.machines w ≡ Some _ = walking.now_here same always laws s.forest s.machines s.calls holds.0 _ e x.move s'.forest s'.machines x.step in
       let ends = walking.told same always laws s.forest s.machines s.calls holds.0 _ e x.move s'.forest s'.machines x.step in
       put r (if over_at (slice_get s'.machines w) then Idle else Walking) l x.calls
-      (after_walk V (over_at (slice_get s'.machines w)) ∙ ap (λ m. not (over_at m)) here ∙ ap not ends ∙ twice (goes x.move.outcome) ∙ sym (told_goes x.move.outcome) ∙ sym (ap (λ y. is_in_flight y.outcome) x.report))
+      (after_walk V (over_at (slice_get s'.machines w)) ∙ ap (λ m. not (over_at m)) here ∙ ap not ends ∙ twice (goes_on_after x.move.outcome) ∙ sym (told_goes x.move.outcome) ∙ sym (ap (λ y. is_in_flight y.outcome) x.report))
 
   -- a scan begins, or is done at once
   scan_begins : (none : Bool) (op : Point V) (r : Report V) → is_busy (slice_get s.calls w) ≡ false → w < length s.calls → EntersUnless none s w op r s' → Tells r

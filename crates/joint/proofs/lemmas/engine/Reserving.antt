@@ -28,7 +28,7 @@ use Rattle.joint.specs.engine.Intact.{IsAt, IsIntact, BeginsSecuring, is_reservi
 use Rattle.joint.specs.engine.Laws.{ProgressLaws}
 use Rattle.joint.specs.engine.Safety.{Rests, Collected}
 use Rattle.joint.specs.nodes.View.{heap}
-use Rattle.joint.proofs.lemmas.engine.Collecting.{either, there, set_here, intact_at, inside, inside_machines, after_step}
+use Rattle.joint.proofs.lemmas.engine.Collecting.{either, get_inside, set_here, intact_at, inside, inside_machines, after_step}
 use Rattle.joint.proofs.lemmas.engine.HandOver.{held_place}
 
 pub reserving_call : {V : Type 0} (x : Option (InFlight V)) → is_reserving x ≡ true → (op : Op V) × (x ≡ Some (Reserving op))
@@ -105,7 +105,7 @@ module _ {V : Type 0} (same : V → V → Bool) (always : Bool) (s : Nodes V) (m
     c = s.collector
 
     here : (m : Machine Id V) × (slice_get ms who ≡ Some m)
-    here = there ms who (inside_machines same always s ms calls intact who (Reserving op) on)
+    here = get_inside ms who (inside_machines same always s ms calls intact who (Reserving op) on)
 
     now : IsAt (Reserving op) (place c who) here.0
     now = intact.each who (Reserving op) here.0 on here.1

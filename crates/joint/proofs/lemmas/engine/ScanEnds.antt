@@ -41,7 +41,7 @@ use Rattle.joint.specs.engine.Sound.{IsUnderWay, most_left}
 use Rattle.joint.specs.nodes.View.{view, id_number}
 use Rattle.joint.proofs.lemmas.engine.SoundBegins as begin
 use Rattle.joint.proofs.lemmas.engine.Collecting.{either, set_here}
-use Rattle.joint.proofs.lemmas.engine.Ending.{IsOnKey, goes as continues, ends}
+use Rattle.joint.proofs.lemmas.engine.Ending.{IsOnKey, goes_on_after as continues, ends}
 
 pub set_other : {A : Type 0} (xs : List A) (i j : ℕ) (x : A) → j ≢ i → slice_get (set xs i x) j ≡ slice_get xs j
 set_other [] i j x n = refl

@@ -26,7 +26,7 @@ use Rattle.joint.specs.nodes.Heap.{IsView, heap_of}
 use Rattle.joint.specs.nodes.Ties.{Ties}
 use Rattle.joint.specs.engine.Laws.{CellLaws, CallLaws}
 use Rattle.joint.specs.engine.Sound.{Guards, Sound}
-use Rattle.joint.proofs.lemmas.nodes.Views.{ties, here}
+use Rattle.joint.proofs.lemmas.nodes.Views.{ties, heap_of_number}
 use Rattle.joint.proofs.lemmas.nodes.Paths.{in_tree, in_reach}
 use Rattle.joint.proofs.lemmas.engine.ReachMoments.{Reaches, was_in, entered_live}
 use Rattle.joint.proofs.lemmas.engine.GivenBack.{backs, same_marks, still_in, still_seen, newest_in, careful_backs, ends_next, ends_backs, lived_first, lived_apart, given_backs}
@@ -160,7 +160,7 @@ module _ {T J C V : Type 0} (tnames : T → List Name) (view : Bool → Option T
   used_then : (n : Name) → was_given s.store n ≡ true → was_given st' n ≡ true
   used_then n g =
       let u : (h' (number n)).made ≡ true = more.used (number n) (tied.given n g) in
-      by_view (was_given st' n) (value_at st' n) (cells.live_given st' n) (sym (ap (λ x. x.made) (here tnames view ok st' n)) ∙ u)
+      by_view (was_given st' n) (value_at st' n) (cells.live_given st' n) (sym (ap (λ x. x.made) (heap_of_number tnames view ok st' n)) ∙ u)
     where
       by_view : (b : Bool) (v : Option T) → (is_some v ≡ true → b ≡ true) → (view b v).made ≡ true → b ≡ true
       by_view true v f e = refl

@@ -26,7 +26,7 @@ use Rattle.joint.specs.nodes.Slots.{slot_names}
 use Rattle.joint.specs.engine.Sound.{IsUnderWay, IsSecured, Guards}
 use Rattle.joint.specs.nodes.View.{view, id_number}
 use Rattle.joint.proofs.lemmas.engine.SoundBegins as begin
-use Rattle.joint.proofs.lemmas.engine.Collecting.{either, there}
+use Rattle.joint.proofs.lemmas.engine.Collecting.{either, get_inside}
 
 -- a call that has not begun has no names, has made nothing, is under way, and needs places only if it writes
 pub record Begins {V : Type 0} (kind : Kind V) (phase : Phase Id V) : Type 0 where
@@ -49,7 +49,7 @@ first (Exchange k old new) = record { names_none = refl; no_made = λ k x. x; un
 module _ {V : Type 0} (same : V → V → Bool) (always : Bool) (laws : CallLaws {C = Id} {V = V} id_number same always) (s : Nodes V) (ms : List (Machine Id V)) (calls : List (InFlight V)) (intact : IsIntact same always s ms calls) (who : ℕ)
     (idle : slice_get calls who ≡ Some Idle) (op : Op V) (may : MayStart s.collector who op) (m : Machine Id V) (is : m ≡ begun root op) (new : IsNew m) where
   old : (x : Machine Id V) × (slice_get ms who ≡ Some x)
-  old = there ms who (subst (λ (k : ℕ). who < k) (sym intact.machines) (slice_get_within calls who Idle idle))
+  old = get_inside ms who (subst (λ (k : ℕ). who < k) (sym intact.machines) (slice_get_within calls who Idle idle))
 
   begins : Begins m.kind m.phase
   begins = let P : Machine Id V → Type 0 = λ x. Begins x.kind x.phase in subst P (sym is) (first op)

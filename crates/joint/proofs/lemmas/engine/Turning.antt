@@ -40,7 +40,7 @@ use Rattle.joint.specs.engine.Safety.{Collected}
 use Rattle.joint.specs.Refusals.{of_fault}
 use Rattle.joint.specs.Reports.{collected}
 use Rattle.joint.specs.engine.Engine.{World, is_busy, unready, interruption, kind_of, quiet, collection, misuse, finds_none, BeginsAt, BeginsOnTree, GoesAt, Does, Enters, EntersUnless, Reserves, Surveys, begin_misuse}
-use Rattle.joint.proofs.lemmas.engine.Collecting.{there, inside_machines}
+use Rattle.joint.proofs.lemmas.engine.Collecting.{get_inside, inside_machines}
 
 -- what stands there, written once more, changes nothing
 pub set_again : {A : Type 0} (xs : List A) (i : ℕ) (x : A) → slice_get xs i ≡ Some x → set xs i x ≡ xs
@@ -59,7 +59,7 @@ idle_call (Some (Collecting op)) n calls l e b = absurd (cc b)
 idle_call (Some (Reserving op)) n calls l e b = absurd (cc b)
 idle_call (Some (Securing op)) n calls l e b = absurd (cc b)
 idle_call (Some Walking) n calls l e b = absurd (cc b)
-idle_call None n calls l e b = absurd (let x : (k : InFlight _) × (slice_get calls n ≡ Some k) = there calls n l in let z : None ≡ Some x.0 = e ∙ x.1 in cc)
+idle_call None n calls l e b = absurd (let x : (k : InFlight _) × (slice_get calls n ≡ Some k) = get_inside calls n l in let z : None ≡ Some x.0 = e ∙ x.1 in cc)
 
 module _ {V : Type 0} (same : V → V → Bool) (always : Bool) (w : World V) (who : ℕ) where
   abbrev c : State (Slot V) (Unit {0})
@@ -166,7 +166,7 @@ module _ {V : Type 0} (same : V → V → Bool) (always : Bool) (w : World V) (w
     module _ (laws : ProgressLaws (Slot V) (Unit {0})) (intact : IsIntact same always w.forest w.machines w.calls) (op : CollectorOp) (x : Collection) (w' : World V) (did : Collected same always w.forest w.machines who (collector_event.Begin op) x w'.forest) where
       begins : Begins c who op x.outcome w'.forest.collector
       begins =
-          let m : (m : Machine Id V) × (slice_get w.machines who ≡ Some m) = there w.machines who (inside_machines same always w.forest w.machines w.calls intact who Idle idle) in
+          let m : (m : Machine Id V) × (slice_get w.machines who ≡ Some m) = get_inside w.machines who (inside_machines same always w.forest w.machines w.calls intact who Idle idle) in
           let P : State (Slot V) (Unit {0}) → Type 0 = λ y. Begins c who op x.outcome y in
           subst P (sym did.state) (laws.begins c who op x (intact.each who Idle m.0 idle m.1).0 did.report)
 

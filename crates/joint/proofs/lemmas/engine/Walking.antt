@@ -23,8 +23,8 @@ use Rattle.joint.specs.engine.Laws.{CallLaws}
 use Rattle.joint.specs.engine.Safety.{IsSafe, Runs, retiring_at, after_walk, Walked}
 use Rattle.joint.specs.engine.Sound.{IsUnderWay}
 use Rattle.joint.specs.nodes.View.{id_number}
-use Rattle.joint.proofs.lemmas.engine.Ending.{goes}
-use Rattle.joint.proofs.lemmas.engine.Collecting.{either, there, inside_machines, set_here}
+use Rattle.joint.proofs.lemmas.engine.Ending.{goes_on_after}
+use Rattle.joint.proofs.lemmas.engine.Collecting.{either, get_inside, inside_machines, set_here}
 use Rattle.joint.proofs.lemmas.engine.HandOver.{held_place}
 use Rattle.joint.proofs.lemmas.engine.ScanEnds.{not_done, cleared_safe, cleared_is, now_between, told_final}
 
@@ -39,7 +39,7 @@ not_over _ e = tt
 -- a worker whose call is on the tree is registered
 pub registered : {V : Type 0} (same : V → V → Bool) (always : Bool) (s : Nodes V) (ms : List (Machine Id V)) (calls : List (InFlight V)) → IsIntact same always s ms calls → (who : ℕ) → slice_get calls who ≡ Some Walking → (place s.collector who).registered ≡ true
 registered same always s ms calls intact who on =
-    let x = there ms who (inside_machines same always s ms calls intact who Walking on) in
+    let x = get_inside ms who (inside_machines same always s ms calls intact who Walking on) in
     (intact.safe.sound.sound.guarded who x.0 x.1).registered (intact.each who Walking x.0 on x.1).0
 
 -- a deferral leaves other places, and the phase of its own
@@ -69,7 +69,7 @@ rests m = by (is_done m.phase) refl where
 module _ {V : Type 0} (same : V → V → Bool) (always : Bool) (laws : CallLaws {C = Id} {V = V} id_number same always) (s : Nodes V) (ms : List (Machine Id V)) (calls : List (InFlight V)) (intact : IsIntact same always s ms calls) (step : Step Id V)
     (on : slice_get calls step.who ≡ Some Walking) where
   abbrev old : (x : Machine Id V) × (slice_get ms step.who ≡ Some x)
-  old = there ms step.who (inside_machines same always s ms calls intact step.who Walking on)
+  old = get_inside ms step.who (inside_machines same always s ms calls intact step.who Walking on)
 
   abbrev pub runs : Runs ms step.who
   runs = (old.0, old.1, (intact.each step.who Walking old.0 on old.1).0)
@@ -119,12 +119,12 @@ module _ {V : Type 0} (same : V → V → Bool) (always : Bool) (laws : CallLaws
     now_here = ap (λ xs. slice_get xs step.who) final_is ∙ set_here ms step.who final old.0 old.1
 
     -- it has ended exactly where it reports so
-    pub told : is_over final.phase ≡ not (goes d.outcome)
+    pub told : is_over final.phase ≡ not (goes_on_after d.outcome)
     told =
         let k : IsAt Walking (place s.collector step.who) old.0 = intact.each step.who Walking old.0 on old.1 in
         told_final same always s.version_max (Refuses s) old.0 moved.now (nodes s) (nodes s') step.noise.fail step.noise.answer d moved.step k.0 k.1
 
-    pub over_now : over_at (slice_get ms' step.who) ≡ not (goes d.outcome)
+    pub over_now : over_at (slice_get ms' step.who) ≡ not (goes_on_after d.outcome)
     over_now = ap over_at now_here ∙ told
 
     abbrev next : InFlight V
@@ -164,7 +164,7 @@ module _ {V : Type 0} (same : V → V → Bool) (always : Bool) (laws : CallLaws
     }
 
   -- a call that goes on has nothing to clear
-  pub uncleared : (d : Move V) (s' : Nodes V) (between : List (Machine Id V)) → Walked same always s ms step d s' between → goes d.outcome ≡ true → between ≡ cleared between step.who
+  pub uncleared : (d : Move V) (s' : Nodes V) (between : List (Machine Id V)) → Walked same always s ms step d s' between → goes_on_after d.outcome ≡ true → between ≡ cleared between step.who
   uncleared d s' between w g =
       let on_walked : WalkedOn same always s ms step d s' (cleared between step.who) = record { between = between; walked = w; machines = refl } in
       let now : Machine Id V = (moved d s' (cleared between step.who) on_walked).now in

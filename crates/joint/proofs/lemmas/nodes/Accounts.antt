@@ -28,7 +28,7 @@ use Rattle.joint.specs.nodes.Solid.{IsWhole}
 use Rattle.joint.specs.nodes.CellMarks.{no_mark, mark_at, with_mark}
 use Rattle.joint.specs.nodes.View.{heap, view, node_of}
 use Rattle.joint.proofs.lemmas.nodes.Altering.{cell_of, inside, same_or}
-use Rattle.joint.proofs.lemmas.nodes.NodesInvariant.{same_some, node_here, node_is}
+use Rattle.joint.proofs.lemmas.nodes.NodesInvariant.{some_injective, node_here, node_is}
 use Rattle.joint.proofs.lemmas.nodes.Totals.{counted, emptied_empties, is_open, IsOpen, placed_here, placed_apart, placed_total, placed_long, total_bound, waiting_few, bytes_few}
 
 -- two names of one cell that stand are one
@@ -265,12 +265,12 @@ module _ {P : Type 0} (F F' : Nodes P) (k : Counts) (kept : IsKept k F) (orderly
           count_is = omega (arith, count, e1, w1, kept.count_is);
           bytes_is = omega (arith, bytes, e2, w2, kept.bytes_is);
           whole = λ m x e. elim (same_or m n) [
-            | inl q ↦ (let z : s ≡ x = same_some s x (sym fills.sets.value ∙ ap (value_at st') (sym q) ∙ e) in subst (λ (y : Slot P). IsWhole y.node) z whole)
+            | inl q ↦ (let z : s ≡ x = some_injective s x (sym fills.sets.value ∙ ap (value_at st') (sym q) ∙ e) in subst (λ (y : Slot P). IsWhole y.node) z whole)
             | inr ne ↦ kept.whole m x (sym (fills.sets.others m ne) ∙ e)
           ];
           tallied = λ m x e. elim (same_or m n) [
             | inl q ↦ (
-                let z : s ≡ x = same_some s x (sym fills.sets.value ∙ ap (value_at st') (sym q) ∙ e) in
+                let z : s ≡ x = some_injective s x (sym fills.sets.value ∙ ap (value_at st') (sym q) ∙ e) in
                 let new : IsTally s new_tally = record { size_is = sz; waits_is = free } in
                 subst (λ (y : Slot P). IsTally y (mark_at k'.cell_marks.items m.cell)) z (subst (IsTally s) (sym (ap (λ (y : Name). mark_at k'.cell_marks.items y.cell) q ∙ tally_here)) new))
             | inr ne ↦ (
@@ -318,12 +318,12 @@ module _ {P : Type 0} (F F' : Nodes P) (k : Counts) (kept : IsKept k F) (orderly
           count_is = omega (arith, count, e1, w1, w2, kept.count_is);
           bytes_is = omega (arith, bytes, e2, w3, w4, kept.bytes_is, U.size_is);
           whole = λ m x e. elim (same_or m n) [
-            | inl q ↦ (let z : s' ≡ x = same_some s' x (sym alters.sets.value ∙ ap (value_at F'.collector.store) (sym q) ∙ e) in subst (λ (y : Slot P). IsWhole y.node) z (kept.whole n s alters.was))
+            | inl q ↦ (let z : s' ≡ x = some_injective s' x (sym alters.sets.value ∙ ap (value_at F'.collector.store) (sym q) ∙ e) in subst (λ (y : Slot P). IsWhole y.node) z (kept.whole n s alters.was))
             | inr ne ↦ kept.whole m x (sym (alters.sets.others m ne) ∙ e)
           ];
           tallied = λ m x e. elim (same_or m n) [
             | inl q ↦ (
-                let z : s' ≡ x = same_some s' x (sym alters.sets.value ∙ ap (value_at F'.collector.store) (sym q) ∙ e) in
+                let z : s' ≡ x = some_injective s' x (sym alters.sets.value ∙ ap (value_at F'.collector.store) (sym q) ∙ e) in
                 let new : IsTally s' marked = record { size_is = U.size_is; waits_is = mark } in
                 let is : mark_at k'.cell_marks.items m.cell ≡ marked = ap (λ (y : Name). mark_at k'.cell_marks.items y.cell) q ∙ ap (λ ts. mark_at ts n.cell) cell_marks ∙ get_or-set_same k.cell_marks.items n.cell marked no_mark at in
                 subst (λ (y : Slot P). IsTally y (mark_at k'.cell_marks.items m.cell)) z (subst (IsTally s') (sym is) new))

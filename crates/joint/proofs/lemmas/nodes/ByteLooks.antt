@@ -70,9 +70,9 @@ module _ {X : Type 0} where
       sym other ∙ ap (λ n. map.get n b) none ∙ map.get-empty nat_cmp b
 
 module _ {P : Type 0} where
-  pub there : (o : Option (Child Id P)) → hung_at o ≢ Nothing → IsSome o
-  there None ne = absurd (ne refl)
-  there (Some x) ne = refl
+  pub is_some_of_hung : (o : Option (Child Id P)) → hung_at o ≢ Nothing → IsSome o
+  is_some_of_hung None ne = absurd (ne refl)
+  is_some_of_hung (Some x) ne = refl
 
   pub not_there : (o : Option (Child Id P)) → (o ≡ Some Blank → ⊥) → hung_at o ≡ Nothing → o ≡ None
   not_there None solid e = refl
@@ -85,6 +85,6 @@ module _ {P : Type 0} where
     child = look.child ∙ ap (child_at n) (sym at);
     count = look.count;
     full = λ e. look.full ∙ rw look.count refl;
-    alone = λ one ne k d. rw (alone (children_of n) b one (there (map.get (children_of n) b) (λ z. ne (look.child ∙ z))) k (λ z. d (z ∙ sym at)));
+    alone = λ one ne k d. rw (alone (children_of n) b one (is_some_of_hung (map.get (children_of n) b) (λ z. ne (look.child ∙ z))) k (λ z. d (z ∙ sym at)));
     room = λ e. lacking (children_of n) b Blank look.bytes look.small (not_there (map.get (children_of n) b) (solid b) (sym look.child ∙ e));
   }

@@ -22,7 +22,7 @@ use Rattle.joint.specs.nodes.Solid.{IsWhole}
 use Rattle.joint.specs.nodes.CellMarks.{mark_at}
 use Rattle.joint.specs.nodes.View.{heap, view, hung_at, count_in, child_in, node_of}
 use Rattle.joint.proofs.lemmas.nodes.Altering.{same_or}
-use Rattle.joint.proofs.lemmas.nodes.NodesInvariant.{same_some, node_is, node_in, orderly_stored, same_frame}
+use Rattle.joint.proofs.lemmas.nodes.NodesInvariant.{some_injective, node_is, node_in, orderly_stored, same_frame}
 
 -- an empty node has no children
 bare_view : {P : Type 0} (g : Bool) (v : Option (Slot P)) → (view g v).count ≡ 0 → (b : ℕ) → (view g v).children b ≡ Nothing
@@ -98,16 +98,16 @@ module _ {P : Type 0} (F : Nodes P) (c' : State (Slot P) (Unit {0})) (beside : c
         count_is = omega (arith, e1, w1, w2, kept.count_is);
         bytes_is = omega (arith, e2, z1, z2, kept.bytes_is);
         whole = λ x s e. elim (same_or x m) [
-          | inl y ↦ (let z : a' ≡ s = same_some a' s (sym ex.is_old ∙ ap (value_at c'.store) (sym y) ∙ e) in subst (λ (t : Slot P). IsWhole t.node) z hands.whole_old)
+          | inl y ↦ (let z : a' ≡ s = some_injective a' s (sym ex.is_old ∙ ap (value_at c'.store) (sym y) ∙ e) in subst (λ (t : Slot P). IsWhole t.node) z hands.whole_old)
           | inr nm ↦ elim (same_or x n) [
-            | inl y ↦ (let z : b' ≡ s = same_some b' s (sym ex.is ∙ ap (value_at c'.store) (sym y) ∙ e) in subst (λ (t : Slot P). IsWhole t.node) z hands.whole)
+            | inl y ↦ (let z : b' ≡ s = some_injective b' s (sym ex.is ∙ ap (value_at c'.store) (sym y) ∙ e) in subst (λ (t : Slot P). IsWhole t.node) z hands.whole)
             | inr nn ↦ kept.whole x s (sym (ex.others x nm nn) ∙ e)
           ]
         ];
         tallied = λ x s e. elim (same_or x m) [
-          | inl y ↦ (let z : a' ≡ s = same_some a' s (sym ex.is_old ∙ ap (value_at c'.store) (sym y) ∙ e) in subst (λ (t : Slot P). IsTally t (mark_at k.cell_marks.items x.cell)) z (subst (λ (t : Name). IsTally a' (mark_at k.cell_marks.items t.cell)) (sym y) p'))
+          | inl y ↦ (let z : a' ≡ s = some_injective a' s (sym ex.is_old ∙ ap (value_at c'.store) (sym y) ∙ e) in subst (λ (t : Slot P). IsTally t (mark_at k.cell_marks.items x.cell)) z (subst (λ (t : Name). IsTally a' (mark_at k.cell_marks.items t.cell)) (sym y) p'))
           | inr nm ↦ elim (same_or x n) [
-            | inl y ↦ (let z : b' ≡ s = same_some b' s (sym ex.is ∙ ap (value_at c'.store) (sym y) ∙ e) in subst (λ (t : Slot P). IsTally t (mark_at k.cell_marks.items x.cell)) z (subst (λ (t : Name). IsTally b' (mark_at k.cell_marks.items t.cell)) (sym y) q'))
+            | inl y ↦ (let z : b' ≡ s = some_injective b' s (sym ex.is ∙ ap (value_at c'.store) (sym y) ∙ e) in subst (λ (t : Slot P). IsTally t (mark_at k.cell_marks.items x.cell)) z (subst (λ (t : Name). IsTally b' (mark_at k.cell_marks.items t.cell)) (sym y) q'))
             | inr nn ↦ kept.tallied x s (sym (ex.others x nm nn) ∙ e)
           ]
         ];

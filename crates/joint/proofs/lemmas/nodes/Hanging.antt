@@ -22,7 +22,7 @@ use Rattle.joint.specs.declared.nodes.slot.LockWord.{LockWord}
 use Rattle.joint.specs.nodes.Altering.{Hangs, IsNewSlot, Pulls}
 use Rattle.joint.specs.nodes.Solid.{IsSolid, IsWhole, hang}
 use Rattle.joint.specs.nodes.View.{id_number, hung_at, child_at, child_in, shape, node_of}
-use Rattle.joint.proofs.lemmas.nodes.ByteLooks.{there}
+use Rattle.joint.proofs.lemmas.nodes.ByteLooks.{is_some_of_hung}
 
 -- some lock word
 abbrev pub no_word : LockWord
@@ -48,7 +48,7 @@ module _ {X : Type 0} (m : map.FinMap nat_cmp X) (b : ℕ) where
 
 module _ {P : Type 0} where
   pub present : (n : Form Id P) (b : ℕ) (x : Child Id P) → x ≡ Blank → MayChange (shape n no_word) b (hung id_number x) → IsSome (map.get (children_of n) b)
-  present n b x e may = let z : MayChange (shape n no_word) b Nothing = subst (λ y. MayChange (shape n no_word) b (hung id_number y)) e may in there (map.get (children_of n) b) z
+  present n b x e may = let z : MayChange (shape n no_word) b Nothing = subst (λ y. MayChange (shape n no_word) b (hung id_number y)) e may in is_some_of_hung (map.get (children_of n) b) z
 
   pub full_is : (n : Form Id P) → (map.len (children_of n) == capacity_of (form_of n)) ≡ false → is_full_of n ≡ false
   full_is (form.N4 n) e = e
@@ -118,7 +118,7 @@ module _ {P : Type 0} where
     hang_count (Value v) solid some = put_count (Value v) (map.get m b) refl (solid b)
 
   some_blank : (n : Form Id P) (w : LockWord) (b : ℕ) (x : Child Id P) → MayChange (shape n w) b (hung id_number x) → x ≡ Blank → IsSome (map.get (children_of n) b)
-  some_blank n w b x may e = let z : MayChange (shape n w) b Nothing = subst (λ y. MayChange (shape n w) b (hung id_number y)) e may in there (map.get (children_of n) b) z
+  some_blank n w b x may e = let z : MayChange (shape n w) b Nothing = subst (λ y. MayChange (shape n w) b (hung id_number y)) e may in is_some_of_hung (map.get (children_of n) b) z
 
   abbrev slot_with : Slot P → Option (Box (Form Id P) Global) → Slot P
   slot_with s o = record s { node = o }
@@ -158,8 +158,8 @@ module _ {P : Type 0} where
 
   pub pulls_slot : (s : Slot P) (n : Box (Form Id P) Global) (n' : Form Id P) (b : ℕ) (v : P) → s.node ≡ Some n → IsWhole s.node → map.get (children_of n.value) b ≡ Some (Value v)
       → Becomes n.value n' (map.remove (children_of n.value) b) → Pulls s b v (record { node = Some (with_value n n'); word = s.word })
-  pulls_slot s n n' b v e whole there becomes =
-      let was : (node_of s).children b ≡ Holds v = ap (λ o. child_in o b) e ∙ ap hung_at there in
+  pulls_slot s n n' b v e whole is_some_of_hung becomes =
+      let was : (node_of s).children b ≡ Holds v = ap (λ o. child_in o b) e ∙ ap hung_at is_some_of_hung in
       record { was = was; hangs = hangs_slot s n n' b Blank e (solid_in s n e whole) (λ none. let z : Holds v ≡ Nothing = sym was ∙ none in cc) becomes }
 
   pub empty_solid : IsSolid {P = P} map.empty

@@ -9,7 +9,7 @@ use Rattle.std.proofs.lemmas.Bool.Decides.{nat_tests}
 use Rattle.std.proofs.lemmas.List.{length-map}
 use Rattle.judge.specs.Answer.{Pairs}
 use Rattle.joint.specs.nodes.Survey.{AllAbove, Ascend, Has, AreKeys, keys_of}
-use Rattle.joint.proofs.lemmas.nodes.SlotViews.{is_true, less_of}
+use Rattle.joint.proofs.lemmas.nodes.SlotViews.{true_of_T, less_of_cmp}
 
 both : (a b : Bool) → T (a && b) → T a × T b
 both true b t = (tt, t)
@@ -24,7 +24,7 @@ untied a b e is = grind (arith, nat_tests, e, is)
 module _ {V : Type 0} where
   above_of : (k : ℕ) (es : List (ℕ × V)) → T (below_all nat_cmp k es) → AllAbove k (map (λ e. e.0) es)
   above_of k [] t = tt
-  above_of k (e ∷ es) t = let b = both _ _ t in (less_of k e.0 (is_true _ b.0), above_of k es b.1)
+  above_of k (e ∷ es) t = let b = both _ _ t in (less_of_cmp k e.0 (true_of_T _ b.0), above_of k es b.1)
 
   ascends : (es : List (ℕ × V)) → T (is_sorted nat_cmp es) → Ascend (map (λ e. e.0) es)
   ascends [] t = tt

@@ -26,8 +26,8 @@ from : {A : Type 0} → A → Option A → A
 from d None = d
 from d (Some y) = y
 
-pub same_some : {A : Type 0} (x y : A) → Some x ≡ Some y → x ≡ y
-same_some x y e = cc
+pub some_injective : {A : Type 0} (x y : A) → Some x ≡ Some y → x ≡ y
+some_injective x y e = cc
 
 module _ {P : Type 0} (st : Store (Slot P)) (n : Name) where
   pub node_here : heap st (number n) ≡ view (was_given st n) (value_at st n)
@@ -90,12 +90,12 @@ module _ {P : Type 0} (F : Nodes P) (c' : State (Slot P) (Unit {0})) (beside : c
           count_is = (let p = kept.count_is in omega (arith, p, e1, w1));
           bytes_is = (let p = kept.bytes_is in omega (arith, p, e2, w2));
           whole = λ m x e. elim (same_or m n) [
-            | inl q ↦ (let z : s' ≡ x = same_some s' x (sym alters.sets.value ∙ ap (value_at c'.store) (sym q) ∙ e) in subst (λ (y : Slot P). IsWhole y.node) z whole)
+            | inl q ↦ (let z : s' ≡ x = some_injective s' x (sym alters.sets.value ∙ ap (value_at c'.store) (sym q) ∙ e) in subst (λ (y : Slot P). IsWhole y.node) z whole)
             | inr ne ↦ kept.whole m x (sym (alters.sets.others m ne) ∙ e)
           ];
           tallied = λ m x e. elim (same_or m n) [
             | inl q ↦ (
-                let z : s' ≡ x = same_some s' x (sym alters.sets.value ∙ ap (value_at c'.store) (sym q) ∙ e) in
+                let z : s' ≡ x = some_injective s' x (sym alters.sets.value ∙ ap (value_at c'.store) (sym q) ∙ e) in
                 let T : IsTally s (mark_at k.cell_marks.items n.cell) = kept.tallied n s alters.was in
                 let U : IsTally s' (mark_at k.cell_marks.items n.cell) = record { size_is = sz ∙ T.size_is; waits_is = mark ∙ T.waits_is } in
                 subst (λ (y : Slot P). IsTally y (mark_at k.cell_marks.items m.cell)) z (subst (λ (y : Name). IsTally s' (mark_at k.cell_marks.items y.cell)) (sym q) U))

@@ -33,7 +33,7 @@ use Rattle.joint.specs.nodes.Solid.{IsWhole}
 use Rattle.joint.specs.nodes.CellMarks.{mark_at, with_mark}
 use Rattle.joint.specs.nodes.View.{view, node_of}
 use Rattle.joint.proofs.lemmas.nodes.Altering.{cell_of, given}
-use Rattle.joint.proofs.lemmas.nodes.NodesInvariant.{same_some}
+use Rattle.joint.proofs.lemmas.nodes.NodesInvariant.{some_injective}
 
 next_top : {T : Type 0} (most last : ℕ) (n : Name) → IsNext (opened_store {T = T} most last) n → n ≡ top
 next_top {T} most last n next =
@@ -130,7 +130,7 @@ module _ {P : Type 0} (limits : Limits) (F : Nodes P) (k : Counts) (planted : Is
   store_is = fills.state
 
   in_one : (i : ℕ) (x : Slot P) → (cell_at one i).value ≡ Some x → (i ≡ 0) × (s ≡ x)
-  in_one zero x e = (refl, same_some s x e)
+  in_one zero x e = (refl, some_injective s x e)
   in_one (suc i) x e = (let f : get_or {A = Cell (Slot P)} [] i fresh ≡ fresh = get_or_past [] i fresh (omega arith) in let z : None ≡ Some x = sym (ap (λ y. y.value) f) ∙ e in absurd (cc z))
 
   of_one : (n : Name) (x : Slot P) → value_at st n ≡ Some x → (n.cell ≡ 0) × (s ≡ x)

@@ -24,9 +24,9 @@ use Rattle.joint.specs.nodes.Heap.{IsView}
 use Rattle.joint.specs.nodes.Slots.{and_name, names_in, names_of}
 use Rattle.joint.specs.nodes.View.{hung_at, child_in, view}
 
-pub is_true : (b : Bool) → T b → b ≡ true
-is_true true t = refl
-is_true false t = absurd t
+pub true_of_T : (b : Bool) → T b → b ≡ true
+true_of_T true t = refl
+true_of_T false t = absurd t
 
 pub both_left : (a b : Bool) → a && b ≡ true → a ≡ true
 both_left true b e = refl
@@ -36,20 +36,20 @@ pub both_right : (a b : Bool) → a && b ≡ true → b ≡ true
 both_right true b e = e
 both_right false b e = absurd (cc e)
 
-pub less_of : (a b : ℕ) → is_lt (nat_cmp a b) ≡ true → a < b
-less_of a b e = grind (arith, nat_tests, e)
+pub less_of_cmp : (a b : ℕ) → is_lt (nat_cmp a b) ≡ true → a < b
+less_of_cmp a b e = grind (arith, nat_tests, e)
 
 module _ {X : Type 0} where
   below_of : (k : ℕ) (es : List (ℕ × X)) → below_all nat_cmp k es ≡ true → AllKeys (λ j. k < j) es
   below_of k [] e = tt
-  below_of k ((j, x) ∷ r) e = (less_of k j (both_left _ _ e), below_of k r (both_right _ _ e))
+  below_of k ((j, x) ∷ r) e = (less_of_cmp k j (both_left _ _ e), below_of k r (both_right _ _ e))
 
   rises_true : (es : List (ℕ × X)) → map.is_sorted nat_cmp es ≡ true → Rises es
   rises_true [] e = tt
   rises_true ((k, x) ∷ r) e = (below_of k r (both_left _ _ e), rises_true r (both_right _ _ e))
 
   pub rises_entries : (m : map.FinMap nat_cmp X) → Rises (map.entries m)
-  rises_entries m = rises_true (map.entries m) (is_true _ (map.entries_sorted m))
+  rises_entries m = rises_true (map.entries m) (true_of_T _ (map.entries_sorted m))
 
   found_past : (k b : ℕ) (x : X) (es : List (ℕ × X)) → AllKeys (λ j. k < j) es → find b es ≡ Some x → b ≢ k
   found_past k b x [] a f = absurd (cc f)

@@ -21,16 +21,16 @@ module _ (R : ℕ → ℕ → Type 0) where
   ]
 
 -- a relation under which each of the first n numbers has one below N, and no two the same
-pub at_most : (N n : ℕ) (R : ℕ → ℕ → Type 0) → ((t : ℕ) → t < n → (k : ℕ) × R t k) → ((t k : ℕ) → t < n → R t k → k < N) → ((t u k : ℕ) → t < n → u < n → R t k → R u k → t ≡ u) → n ≤ N
-at_most N zero R total bound one = omega arith
-at_most zero (suc m) R total bound one =
+pub at_most_by_relation : (N n : ℕ) (R : ℕ → ℕ → Type 0) → ((t : ℕ) → t < n → (k : ℕ) × R t k) → ((t k : ℕ) → t < n → R t k → k < N) → ((t u k : ℕ) → t < n → u < n → R t k → R u k → t ≡ u) → n ≤ N
+at_most_by_relation N zero R total bound one = omega arith
+at_most_by_relation zero (suc m) R total bound one =
     let x : (k : ℕ) × R m k = total m (omega arith) in
     let bad : x.0 < 0 = bound m x.0 (omega arith) x.1 in
     absurd (omega (arith, bad))
-at_most (suc N) (suc m) R total bound one =
+at_most_by_relation (suc N) (suc m) R total bound one =
     let x : (k : ℕ) × R m k = total m (omega arith) in
     let l : x.0 < suc N = bound m x.0 (omega arith) x.1 in
-    let r : m ≤ N = at_most N m (Less R x.0) (λ t lt. less_total R x.0 t (total t (omega (arith, lt))) (λ e. let P : ℕ → Type 0 = λ k. R t k in let y : R t x.0 = subst P e (total t (omega (arith, lt))).1 in let q : t ≡ m = one t m x.0 (omega (arith, lt)) (omega arith) y x.1 in omega (arith, q, lt)))
+    let r : m ≤ N = at_most_by_relation N m (Less R x.0) (λ t lt. less_total R x.0 t (total t (omega (arith, lt))) (λ e. let P : ℕ → Type 0 = λ k. R t k in let y : R t x.0 = subst P e (total t (omega (arith, lt))).1 in let q : t ≡ m = one t m x.0 (omega (arith, lt)) (omega arith) y x.1 in omega (arith, q, lt)))
     (λ t j lt y. elim y [
       | inl a ↦ (let p : j < x.0 = a.0 in omega (arith, p, l))
       | inr b ↦ (let p : j + 1 < suc N = bound t (j + 1) (omega (arith, lt)) b.1 in omega (arith, p))

@@ -26,8 +26,8 @@ size_bound N16 = omega arith
 size_bound N48 = omega arith
 size_bound N256 = omega arith
 
-pub times : (m n : ℕ) → m * suc n ≡ m * n + m
-times m n = omega arith
+pub times_suc : (m n : ℕ) → m * suc n ≡ m * n + m
+times_suc m n = omega arith
 
 module _ {T : Type 0} where
   bound_in : (f : T → ℕ) (most : ℕ) → ((v : T) → f v ≤ most) → (o : Option T) → of_value f o ≤ most
@@ -41,7 +41,7 @@ module _ {T : Type 0} where
       let a = total_bound f most h cs in
       let b : of_cell f c ≤ most = bound_in f most h c.value in
       let e = sum_by-cons (of_cell f) c cs in
-      let t : most * length (c ∷ cs) ≡ most * length cs + most = times most (length cs) in
+      let t : most * length (c ∷ cs) ≡ most * length cs + most = times_suc most (length cs) in
       omega (arith, a, b, e, t))
 
   -- a value that stands is counted

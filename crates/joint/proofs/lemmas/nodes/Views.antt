@@ -34,16 +34,16 @@ module _ {T V : Type 0} (names : T → List Name) (view : Bool → Option T → 
   hangs_at g None b k e = absurd (let z = ok.bare g b in cc)
   hangs_at g (Some v) b k e = ok.hangs g v b k e
 
-  pub here : (st : Store T) (n : Name) → heap_of view st (number n) ≡ node_at view st n
-  here st n = ap (node_at view st) (named_number n)
+  pub heap_of_number : (st : Store T) (n : Name) → heap_of view st (number n) ≡ node_at view st n
+  heap_of_number st n = ap (node_at view st) (named_number n)
 
   pub ties : (st : Store T) → Ties names st (heap_of view st)
   ties st =
       let At : (Node V → Type 0) → (n : Name) → node_at view st n ≡ node_at view st n → Type 0 = λ P n _. P (heap_of view st (number n)) in
       record {
-        live = λ n s. live_at (was_given st n) (value_at st n) (subst Stands (here st n) s);
-        stands = λ n e. subst Stands (sym (here st n)) (stands_at (was_given st n) (value_at st n) e);
-        given = λ n e. ap (λ x. x.made) (here st n) ∙ given_at (was_given st n) (value_at st n) e;
-        links = λ n c x. let l : (b : ℕ) × ((node_at view st n).children b ≡ Below (number c)) = links_at (was_given st n) (value_at st n) c x in (l.0, ap (λ y. y.children l.0) (here st n) ∙ l.1);
-        hangs = λ n b k e. hangs_at (was_given st n) (value_at st n) b k (ap (λ y. y.children b) (sym (here st n)) ∙ e);
+        live = λ n s. live_at (was_given st n) (value_at st n) (subst Stands (heap_of_number st n) s);
+        stands = λ n e. subst Stands (sym (heap_of_number st n)) (stands_at (was_given st n) (value_at st n) e);
+        given = λ n e. ap (λ x. x.made) (heap_of_number st n) ∙ given_at (was_given st n) (value_at st n) e;
+        links = λ n c x. let l : (b : ℕ) × ((node_at view st n).children b ≡ Below (number c)) = links_at (was_given st n) (value_at st n) c x in (l.0, ap (λ y. y.children l.0) (heap_of_number st n) ∙ l.1);
+        hangs = λ n b k e. hangs_at (was_given st n) (value_at st n) b k (ap (λ y. y.children b) (sym (heap_of_number st n)) ∙ e);
       }

@@ -25,8 +25,8 @@ use Rattle.joint.specs.world.World.{FindsJournalFull, Holds, IsStep, StepsUnless
 use Rattle.joint.specs.engine.Engine.{World}
 use Rattle.joint.specs.threads.Writing.{Appended, IsEntryOf, IsInFlight, MayStep}
 use Rattle.joint.proofs.lemmas.world.Effects.{begin_undecided, effect}
-use Rattle.joint.proofs.lemmas.nodes.NodesInvariant.{same_some}
-use Rattle.joint.proofs.lemmas.world.Logged.{result}
+use Rattle.joint.proofs.lemmas.nodes.NodesInvariant.{some_injective}
+use Rattle.joint.proofs.lemmas.world.Logged.{event_maps}
 
 -- what is kept is the entry of a step that decides
 kept_decides : (d room : Bool) (o : Option (Entry ℕ)) (e : Entry ℕ) → kept_if d room o ≡ Some e → (d ≡ true) × (o ≡ Some e)
@@ -38,7 +38,7 @@ kept_decides false room o e q = absurd (cc q)
 called_by : (who : ℕ) (q : Request ℕ) (r : Reply ℕ) (o : Option (Entered ℕ)) (e : Entry ℕ) → o ≡ call_of q.op q.answer r → with_call who r o ≡ Some e → HasAnswer q.op q.answer e.reply → IsEntryOf who q.op q.answer e
 called_by who q r None e c x a = absurd (cc x)
 called_by who q r (Some k) e c x a =
-    let same : record { worker = who; call = k; reply = r } ≡ e = same_some _ _ x in
+    let same : record { worker = who; call = k; reply = r } ≡ e = some_injective _ _ x in
     record { worker = sym (ap (λ (y : Entry ℕ). y.worker) same); call = ap (call_of q.op q.answer) (sym (ap (λ (y : Entry ℕ). y.reply) same)) ∙ (sym c ∙ ap (λ (y : Entry ℕ). Some y.call) same); answered = a }
 
 entry_called : (who : ℕ) (q : Request ℕ) (o : Option (Reply ℕ)) (e : Entry ℕ) → entry_of who (Some q) o ≡ Some e → HasAnswer q.op q.answer e.reply → IsEntryOf who q.op q.answer e
@@ -59,24 +59,24 @@ hears_op (Some (Some a)) q = refl
 -- only a look-up has an entry that doesn't write
 insert_writes : (k : ℕ) (o : Option ℕ) (c : Entered ℕ) → on_insert k o ≡ Some c → looks_up c ≡ false
 insert_writes k None c q = absurd (cc q)
-insert_writes k (Some v) c q = ap looks_up (sym (same_some _ _ q))
+insert_writes k (Some v) c q = ap looks_up (sym (some_injective _ _ q))
 
 present_writes : (k : ℕ) (a : Option (Option ℕ)) (r : Reply ℕ) (c : Entered ℕ) → on_present k a r ≡ Some c → looks_up c ≡ false
-present_writes k a (reply.ComputePresent None) c q = ap looks_up (sym (same_some _ _ q))
-present_writes k a (reply.ComputePresent (Some x)) c q = ap looks_up (sym (same_some _ _ q))
-present_writes k a (reply.Get x) c q = ap looks_up (sym (same_some _ _ q))
-present_writes k a (reply.Insert x) c q = ap looks_up (sym (same_some _ _ q))
-present_writes k a (reply.Remove x) c q = ap looks_up (sym (same_some _ _ q))
-present_writes k a (reply.ComputeInsert x) c q = ap looks_up (sym (same_some _ _ q))
-present_writes k a (reply.Exchange x) c q = ap looks_up (sym (same_some _ _ q))
+present_writes k a (reply.ComputePresent None) c q = ap looks_up (sym (some_injective _ _ q))
+present_writes k a (reply.ComputePresent (Some x)) c q = ap looks_up (sym (some_injective _ _ q))
+present_writes k a (reply.Get x) c q = ap looks_up (sym (some_injective _ _ q))
+present_writes k a (reply.Insert x) c q = ap looks_up (sym (some_injective _ _ q))
+present_writes k a (reply.Remove x) c q = ap looks_up (sym (some_injective _ _ q))
+present_writes k a (reply.ComputeInsert x) c q = ap looks_up (sym (some_injective _ _ q))
+present_writes k a (reply.Exchange x) c q = ap looks_up (sym (some_injective _ _ q))
 
 pub entry_changes : (o : Op ℕ) (a : Option (Option ℕ)) (r : Reply ℕ) (c : Entered ℕ) → call_of o a r ≡ Some c → looks_up c ≡ not (changes o)
-entry_changes (op.Get k) a r c q = ap looks_up (sym (same_some _ _ q))
-entry_changes (op.Insert k v) a r c q = ap looks_up (sym (same_some _ _ q))
-entry_changes (op.Remove k) a r c q = ap looks_up (sym (same_some _ _ q))
+entry_changes (op.Get k) a r c q = ap looks_up (sym (some_injective _ _ q))
+entry_changes (op.Insert k v) a r c q = ap looks_up (sym (some_injective _ _ q))
+entry_changes (op.Remove k) a r c q = ap looks_up (sym (some_injective _ _ q))
 entry_changes (op.ComputePresent k) a r c q = present_writes k a r c q
 entry_changes (op.ComputeInsert k) a r c q = insert_writes k _ c q
-entry_changes (op.Exchange k old new) a r c q = ap looks_up (sym (same_some _ _ q))
+entry_changes (op.Exchange k old new) a r c q = ap looks_up (sym (some_injective _ _ q))
 entry_changes op.Pin a r c q = absurd (cc q)
 entry_changes op.Unpin a r c q = absurd (cc q)
 entry_changes op.Repin a r c q = absurd (cc q)
@@ -108,7 +108,7 @@ module _ (s s' : World ℕ) (who : ℕ) (h : Holds nat_eq true s) where
   begin_still o r x =
       let step : Step ℕ = record { worker = who; event = Begin o } in
       let t : TakesStep nat_eq true s step r s' = x.does in
-      let on = result nat_eq true s s' step t.told h t.engine h.2.flights h.2.pairs h.2.stand h.2.in_flight h.2.asked in
+      let on = event_maps nat_eq true s s' step t.told h t.engine h.2.flights h.2.pairs h.2.stand h.2.in_flight h.2.asked in
       undecided_still (Begin o) r t (
       begin_undecided nat_eq true s s' who (h.0, h.1) t.engine.holds h.2.flights on.flights h.2.pairs (record { each = h.2.in_flight.each; beyond = h.2.in_flight.beyond }) on.in_flight h.2.long
       (record { step = step; report = t.told; entry = on.entry; pairs = on.pairs }) refl (target o) t.told.outcome refl on.step)
@@ -138,10 +138,10 @@ module _ (s s' : World ℕ) (who : ℕ) (h : Holds nat_eq true s) where
     keeps : (t : TakesStep nat_eq true s go r s') (e : Entry ℕ) → kept_at s who (Go noise) t.told s' ≡ Some e → Keeps e
     keeps t e q =
         let k = kept_decides _ _ _ e q in
-        let on = result nat_eq true s s' go t.told h t.engine h.2.flights h.2.pairs h.2.stand h.2.in_flight h.2.asked in
+        let on = event_maps nat_eq true s s' go t.told h t.engine h.2.flights h.2.pairs h.2.stand h.2.in_flight h.2.asked in
         let x = effect nat_eq true s s' who (h.0, h.1) t.engine.holds h.2.flights on.flights h.2.pairs (record { each = h.2.in_flight.each; beyond = h.2.in_flight.beyond }) on.in_flight h.2.long
         (record { step = go; report = t.told; entry = on.entry; pairs = on.pairs }) refl (Go noise) k.0 t.engine.does on.step in
-        let same : x.entry ≡ e = same_some _ _ (sym (x.noted (h.2.asked refl)) ∙ k.1) in
+        let same : x.entry ≡ e = some_injective _ _ (sym (x.noted (h.2.asked refl)) ∙ k.1) in
         subst Keeps same (record { answered = x.answered (h.2.asked refl) hearing heard; had = x.had })
 
     taken : TakesStep nat_eq true s go r s' → Appends
@@ -199,7 +199,7 @@ appended_at xs ys o q = ap (λ l. slice_get l (length xs)) q ∙ at xs o where
 -- what a worker has in flight, as it is told
 pub flight_is : (o : Option (Request ℕ)) (c : Op ℕ) (given : Option (Option ℕ)) → (option_map {U = Op ℕ × Option (Option ℕ)} (λ (q : Request ℕ). (q.op, q.answer)) o ≡ Some (c, given) → o ≡ Some (record { op = c; answer = given }))
 flight_is None c given q = absurd (cc q)
-flight_is (Some r) c given q = let same : (r.op, r.answer) ≡ (c, given) = same_some _ _ q in ap (λ (y : Op ℕ × Option (Option ℕ)). Some (record { op = y.0; answer = y.1 })) same
+flight_is (Some r) c given q = let same : (r.op, r.answer) ≡ (c, given) = some_injective _ _ q in ap (λ (y : Op ℕ × Option (Option ℕ)). Some (record { op = y.0; answer = y.1 })) same
 
 pub flight_tells : (o : Option (Request ℕ)) (c : Op ℕ) (given : Option (Option ℕ)) → o ≡ Some (record { op = c; answer = given }) → option_map {U = Op ℕ × Option (Option ℕ)} (λ (q : Request ℕ). (q.op, q.answer)) o ≡ Some (c, given)
 flight_tells o c given q = ap (option_map {U = Op ℕ × Option (Option ℕ)} (λ (q : Request ℕ). (q.op, q.answer))) q

@@ -18,7 +18,7 @@ use Rattle.joint.specs.engine.Journaling.{call_of, on_insert, on_present}
 use Rattle.joint.specs.threads.Shares.{ShareView}
 use Rattle.joint.specs.threads.Threads.{End, Serves, computed, either_words, exchanged, inserted, removed, replaced, words}
 use Rattle.joint.specs.threads.Writing.{Counts}
-use Rattle.joint.proofs.lemmas.nodes.NodesInvariant.{same_some}
+use Rattle.joint.proofs.lemmas.nodes.NodesInvariant.{some_injective}
 
 -- a call by the index's own tokens, and another
 pub served : {B : Type 0} (b : Bool) (does : Result B Refusal → Type 0) (r : Result B Refusal) → b ≡ true → does r → Serves b does r
@@ -53,23 +53,23 @@ module _ (watched : Entry ℕ → Bool) (who : ℕ) (ts : List (Turn ℕ)) (s s'
   pub insert_refused : (k v : ℕ) (end : End ℕ) → Counts watched who (op.Insert k v) ts s s' end → IfErr (inserted end) Same
   insert_refused k v (Err e) c = c
   insert_refused k v (Ok (done.Reply r)) c =
-      by_reply (op.Insert k v) inserted (λ x. x ≡ call.Insert k v) (λ a r x q. sym (same_some _ _ q)) (λ x q found. subst (λ y. IfErr (inserted (Ok (done.Reply (reply_on nat_eq y found)))) Same) (sym q) (tt {0})) r c
+      by_reply (op.Insert k v) inserted (λ x. x ≡ call.Insert k v) (λ a r x q. sym (some_injective _ _ q)) (λ x q found. subst (λ y. IfErr (inserted (Ok (done.Reply (reply_on nat_eq y found)))) Same) (sym q) (tt {0})) r c
   insert_refused k v (Ok _) c = absurd c
 
   pub remove_refused : (k : ℕ) (end : End ℕ) → Counts watched who (op.Remove k) ts s s' end → IfErr (removed end) Same
   remove_refused k (Err e) c = c
   remove_refused k (Ok (done.Reply r)) c =
-      by_reply (op.Remove k) removed (λ x. x ≡ call.Remove k) (λ a r x q. sym (same_some _ _ q)) (λ x q found. subst (λ y. IfErr (removed (Ok (done.Reply (reply_on nat_eq y found)))) Same) (sym q) (tt {0})) r c
+      by_reply (op.Remove k) removed (λ x. x ≡ call.Remove k) (λ a r x q. sym (some_injective _ _ q)) (λ x q found. subst (λ y. IfErr (removed (Ok (done.Reply (reply_on nat_eq y found)))) Same) (sym q) (tt {0})) r c
   remove_refused k (Ok _) c = absurd c
 
   present_call : (k : ℕ) (a : Option (Option ℕ)) (r : Reply ℕ) (c : Entered ℕ) → on_present k a r ≡ Some c → (x : Option ℕ) × (c ≡ call.ComputePresent k x)
-  present_call k a (reply.ComputePresent None) c q = (_, sym (same_some _ _ q))
-  present_call k a (reply.ComputePresent (Some p)) c q = (_, sym (same_some _ _ q))
-  present_call k a (reply.Get v) c q = (_, sym (same_some _ _ q))
-  present_call k a (reply.Insert v) c q = (_, sym (same_some _ _ q))
-  present_call k a (reply.Remove v) c q = (_, sym (same_some _ _ q))
-  present_call k a (reply.ComputeInsert v) c q = (_, sym (same_some _ _ q))
-  present_call k a (reply.Exchange v) c q = (_, sym (same_some _ _ q))
+  present_call k a (reply.ComputePresent None) c q = (_, sym (some_injective _ _ q))
+  present_call k a (reply.ComputePresent (Some p)) c q = (_, sym (some_injective _ _ q))
+  present_call k a (reply.Get v) c q = (_, sym (some_injective _ _ q))
+  present_call k a (reply.Insert v) c q = (_, sym (some_injective _ _ q))
+  present_call k a (reply.Remove v) c q = (_, sym (some_injective _ _ q))
+  present_call k a (reply.ComputeInsert v) c q = (_, sym (some_injective _ _ q))
+  present_call k a (reply.Exchange v) c q = (_, sym (some_injective _ _ q))
 
   present_fits : (x found : Option ℕ) → IfErr (computed (Ok (done.Reply (present_reply x found)))) Same
   present_fits x None = tt {0}
@@ -84,7 +84,7 @@ module _ (watched : Entry ℕ → Bool) (who : ℕ) (ts : List (Turn ℕ)) (s s'
 
   insert_call : (k : ℕ) (a : Option ℕ) (c : Entered ℕ) → on_insert k a ≡ Some c → (x : ℕ) × (c ≡ call.ComputeInsert k x)
   insert_call k None c q = absurd (cc q)
-  insert_call k (Some v) c q = (v, sym (same_some _ _ q))
+  insert_call k (Some v) c q = (v, sym (some_injective _ _ q))
 
   pub replace_refused : (k : ℕ) (end : End ℕ) → Counts watched who (op.ComputeInsert k) ts s s' end → IfErr (replaced end) Same
   replace_refused k (Err e) c = c
@@ -104,5 +104,5 @@ module _ (watched : Entry ℕ → Bool) (who : ℕ) (ts : List (Turn ℕ)) (s s'
   pub exchange_refused : (k old : ℕ) (new : Option ℕ) (end : End ℕ) → Counts watched who (op.Exchange k old new) ts s s' end → IfErr (exchanged end) Same
   exchange_refused k old new (Err e) c = c
   exchange_refused k old new (Ok (done.Reply r)) c =
-      by_reply (op.Exchange k old new) exchanged (λ x. x ≡ call.Exchange k old new) (λ a r x q. sym (same_some _ _ q)) (λ x q found. subst (λ y. IfErr (exchanged (Ok (done.Reply (reply_on nat_eq y found)))) Same) (sym q) (exchange_fits old new found)) r c
+      by_reply (op.Exchange k old new) exchanged (λ x. x ≡ call.Exchange k old new) (λ a r x q. sym (some_injective _ _ q)) (λ x q found. subst (λ y. IfErr (exchanged (Ok (done.Reply (reply_on nat_eq y found)))) Same) (sym q) (exchange_fits old new found)) r c
   exchange_refused k old new (Ok _) c = absurd c

@@ -36,7 +36,7 @@ use Rattle.joint.proofs.lemmas.world.Asking.{pending_next}
 use Rattle.joint.proofs.lemmas.engine.Entering.{first_undecided}
 use Rattle.joint.proofs.lemmas.world.Flights.{ends_stays, flight_here}
 use Rattle.joint.proofs.lemmas.world.JournalPlaces.{concluded_writes, place_here, place_writes, reply_here}
-use Rattle.joint.proofs.lemmas.nodes.NodesInvariant.{same_some}
+use Rattle.joint.proofs.lemmas.nodes.NodesInvariant.{some_injective}
 use Rattle.joint.proofs.lemmas.world.Requested.{request_answered, request_call, writes_on}
 
 module _ {V : Type 0} where
@@ -112,7 +112,7 @@ module _ {V : Type 0} (same : V → V → Bool) (always : Bool) (s s' : World V)
         (ap (call_of h.request.op h.request.answer) (sym replies) ∙ request_call h.request same k kd (heard kd q noise.answer v) (get m k) t.entry.call h.of t.call) (t.worker ∙ we) refl refl;
     answered = λ each asked is.
         let h = pending_next same always s s' w holds fs m fl long each noise k kd v q e in
-        let same_request : h.request ≡ asked = same_some _ _ (sym h.is ∙ is) in
+        let same_request : h.request ≡ asked = some_injective _ _ (sym h.is ∙ is) in
         let replies = replies_of noise k kd v q f' t in
         subst (λ r. HasAnswer asked.op asked.answer r) replies
         (subst (λ (y : Request V). HasAnswer y.op y.answer (reply_on same t.entry.call (get m k))) same_request

@@ -26,7 +26,7 @@ use Rattle.joint.specs.world.World.{Holds, IsLogged}
 use Rattle.joint.specs.engine.Engine.{World, engine_of, is_busy, is_in_flight, quiet}
 use Rattle.joint.proofs.lemmas.engine.OneCallChanges.{Apart, one_same, one_set, places_counted}
 use Rattle.joint.proofs.lemmas.world.Asking.{asked_set}
-use Rattle.joint.proofs.lemmas.engine.Collecting.{set_here, there}
+use Rattle.joint.proofs.lemmas.engine.Collecting.{set_here, get_inside}
 use Rattle.joint.proofs.lemmas.world.Flights.{flight_here, flight_apart, pending}
 use Rattle.joint.proofs.lemmas.world.MapSteps.{set_in_flight}
 use Rattle.joint.proofs.lemmas.world.JournalPlaces.{reserving_none}
@@ -53,7 +53,7 @@ module _ {V : Type 0} (same : V → V → Bool) (always : Bool) (s : World V) (w
   pub refused_map : (fs : Flights V) (m : Pairs V) → AreInFlight s fs → (noise : Noise Id V) (rep : Report V) → rep ≡ quiet OfCollector (Refused JournalFull)
       → GoMap same fs (fs w) m noise.answer (record { step = record { worker = w; event = Go noise }; report = rep; entry = None; pairs = m }) (with_flight fs w Over)
   refused_map fs m fl noise rep q =
-      let x = there s.machines w (subst (λ n. w < n) (sym h.0.machines) within) in
+      let x = get_inside s.machines w (subst (λ n. w < n) (sym h.0.machines) within) in
       let writing : writes call.0 ≡ true = (h.0.each w (Reserving call.0) x.0 call.1 x.1).4 in
       let waits : fs w ≡ Pending (parts call.0).0 (parts call.0).1 (parts call.0).2 Unasked = fl.each w (Reserving call.0) x.0 call.1 x.1 ∙ pending call.0 writing in
       let P : Flight V → Type 0 = λ f. GoMap same fs f m noise.answer (record { step = record { worker = w; event = Go noise }; report = rep; entry = None; pairs = m }) (with_flight fs w Over) in

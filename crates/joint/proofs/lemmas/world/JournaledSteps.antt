@@ -26,7 +26,7 @@ use Rattle.joint.specs.engine.Flying.{Flights, IsInFlight, AreInFlight, with_fli
 use Rattle.joint.specs.world.World.{Holds, FindsJournalFull, IsAsked, IsStep, StepsUnless, TakesStep, finds_journal_full, kept_at}
 use Rattle.joint.specs.engine.Engine.{World}
 use Rattle.joint.proofs.lemmas.world.JournalFull.{refused_flights, refused_map}
-use Rattle.joint.proofs.lemmas.world.Logged.{result, kept_line, writes_kept}
+use Rattle.joint.proofs.lemmas.world.Logged.{event_maps, kept_line, writes_kept}
 use Rattle.joint.proofs.lemmas.world.KeptMarks.{event_map}
 
 -- what a worker asked for agrees with its call however it is watched
@@ -82,7 +82,7 @@ module _ {V : Type 0} (same : V → V → Bool) (always : Bool) where
     takes : (r : Report V) → TakesStep same always s step r s' → Mapped s step r s' fs m
     takes r x =
         let each = asked_any s fs h fl in
-        let a = result same always s s' step x.told h x.engine fs m st fl each in
+        let a = event_maps same always s s' step x.told h x.engine fs m st fl each in
         let k = kept_at s step.worker step.event x.told s' in
         let line = kept_line same always s s' step x.told h x.engine fs m st fl each in
         let P : Report V → Type 0 = λ y. EventMap same fs m step.event (record { step = step; report = y; entry = a.entry; pairs = a.pairs }) a.flights in

@@ -99,17 +99,17 @@ module _ {V : Type 0} (same : V → V → Bool) (always : Bool) (s s' : World V)
     abbrev fl : AreInFlight (engine_of s) fs
     fl = record { each = flown.each; beyond = flown.beyond }
 
-    pub result : Result same always (engine_of s) (engine_of s') w holds fs m st fl step.event told (λ l f'. EventMap same fs m step.event l f')
-    result = on_map same always (engine_of s) (engine_of s') w holds fs m st fl step.event told e.does
+    pub event_maps : Result same always (engine_of s) (engine_of s') w holds fs m st fl step.event told (λ l f'. EventMap same fs m step.event l f')
+    event_maps = on_map same always (engine_of s) (engine_of s') w holds fs m st fl step.event told e.does
 
     abbrev line : Line V
-    line = record { step = record { worker = w; event = step.event }; report = told; entry = result.entry; pairs = result.pairs }
+    line = record { step = record { worker = w; event = step.event }; report = told; entry = event_maps.entry; pairs = event_maps.pairs }
 
-    took : told.decided ≡ true → Effect same always s s' w holds e.holds fs result.flights m fl result.in_flight h.2.long line refl step.event
-    took d = effect same always s s' w holds e.holds fs result.flights m fl result.in_flight h.2.long line refl step.event d e.does result.step
+    took : told.decided ≡ true → Effect same always s s' w holds e.holds fs event_maps.flights m fl event_maps.in_flight h.2.long line refl step.event
+    took d = effect same always s s' w holds e.holds fs event_maps.flights m fl event_maps.in_flight h.2.long line refl step.event d e.does event_maps.step
 
-    left : told.decided ≡ false → Leaves same always s s' w holds e.holds fs result.flights m fl result.in_flight h.2.long line refl
-    left d = leaves same always s s' w holds e.holds fs result.flights m fl result.in_flight h.2.long line refl step.event d result.step
+    left : told.decided ≡ false → Leaves same always s s' w holds e.holds fs event_maps.flights m fl event_maps.in_flight h.2.long line refl
+    left d = leaves same always s s' w holds e.holds fs event_maps.flights m fl event_maps.in_flight h.2.long line refl step.event d event_maps.step
 
     kept_not : told.decided ≡ false → kept ≡ None
     kept_not d = ap (λ b. kept_if b room (entry_at s w step.event told s')) d
@@ -122,7 +122,7 @@ module _ {V : Type 0} (same : V → V → Bool) (always : Bool) (s s' : World V)
 
     -- the journal keeps the entry of the step as the map sees it
     abbrev Same : Option (Entry V) → Type 0
-    Same o = o ≡ (if is_some o then result.entry else None)
+    Same o = o ≡ (if is_some o then event_maps.entry else None)
 
     pub kept_line : Same kept
     kept_line = elim (cases_Bool told.decided) [
@@ -138,7 +138,7 @@ module _ {V : Type 0} (same : V → V → Bool) (always : Bool) (s s' : World V)
       writes_room d p l = room_for s s' w h.0.machines apart ((took d).had ∙ ap not l) (took d).has h.2.room (h.2.reserved p) (reserved p)
 
       -- of each writing call
-      pub writes_kept : 0 < s.log.places → (x : Entry V) → result.entry ≡ Some x → looks_up x.call ≡ false → is_some kept ≡ true
+      pub writes_kept : 0 < s.log.places → (x : Entry V) → event_maps.entry ≡ Some x → looks_up x.call ≡ false → is_some kept ≡ true
       writes_kept p x q l = elim (cases_Bool told.decided) [
         | inl d ↦ (
             let i : x ≡ (took d).entry = let z : Some x ≡ Some (took d).entry = sym q ∙ (took d).is_entry in cc in
@@ -153,19 +153,19 @@ module _ {V : Type 0} (same : V → V → Bool) (always : Bool) (s s' : World V)
       fits_none : (n : Pairs V) → n ≡ m → Legal same empty s.log.entries m → Fits None n
       fits_none n q l = subst (λ es. Legal same empty es n) (sym (append-nil s.log.entries)) (subst (Legal same empty s.log.entries) (sym q) l)
 
-      looked : (d : told.decided ≡ true) → 0 < s.log.places → room ≡ false → result.pairs ≡ m
+      looked : (d : told.decided ≡ true) → 0 < s.log.places → room ≡ false → event_maps.pairs ≡ m
       looked d p r = elim (cases_Bool (looks_up (took d).entry.call)) [
-        | inl l ↦ looked_same same m result.pairs (took d).entry (took d).entry.call refl l (took d).answers
+        | inl l ↦ looked_same same m event_maps.pairs (took d).entry (took d).entry.call refl l (took d).answers
         | inr l ↦ absurd (false≢true (sym r ∙ writes_room d p l))
       ]
 
-      pub legal_on : 0 < s.log.places → Legal same empty s.log.entries m → Fits kept result.pairs
+      pub legal_on : 0 < s.log.places → Legal same empty s.log.entries m → Fits kept event_maps.pairs
       legal_on p l = elim (cases_Bool told.decided) [
         | inl d ↦ elim (cases_Bool room) [
-          | inl r ↦ subst (λ o. Fits o result.pairs) (sym (kept_is d r)) (Legal-push same empty m result.pairs s.log.entries (took d).entry l (took d).answers)
-          | inr r ↦ subst (λ o. Fits o result.pairs) (sym (kept_full r)) (fits_none result.pairs (looked d p r) l)
+          | inl r ↦ subst (λ o. Fits o event_maps.pairs) (sym (kept_is d r)) (Legal-push same empty m event_maps.pairs s.log.entries (took d).entry l (took d).answers)
+          | inr r ↦ subst (λ o. Fits o event_maps.pairs) (sym (kept_full r)) (fits_none event_maps.pairs (looked d p r) l)
         ]
-        | inr d ↦ subst (λ o. Fits o result.pairs) (sym (kept_not d)) (fits_none result.pairs (left d).same_pairs l)
+        | inr d ↦ subst (λ o. Fits o event_maps.pairs) (sym (kept_not d)) (fits_none event_maps.pairs (left d).same_pairs l)
       ]
 
     -- only the first step of a writing call reserves a place
@@ -194,7 +194,7 @@ module _ {V : Type 0} (same : V → V → Bool) (always : Bool) (s s' : World V)
   here = h.2
 
   abbrev now : Result same always (engine_of s) (engine_of s') w holds here.flights here.pairs here.stand (fl here.flights here.pairs here.stand here.in_flight here.asked) step.event told (λ l f'. EventMap same here.flights here.pairs step.event l f')
-  now = result here.flights here.pairs here.stand here.in_flight here.asked
+  now = event_maps here.flights here.pairs here.stand here.in_flight here.asked
 
   pub raises : finds_journal_full s w step.event ≡ false → before ≡ false → after ≡ true → is_full s.log ≡ false
   raises g b a = raises_by here.flights here.pairs here.stand here.in_flight here.asked step.event now g b a (even_or_go step.event e.does)
