@@ -291,6 +291,8 @@ def docs():
                 say(f"{doc}:{i}: no file {name}")
             if doc.name in ("PROOF.md", "ARCHITECTURE.md"):
                 for m in re.finditer(r"`((?:\w+/)*)([A-Z]\w*): (\w+)`", line):
+                    if m[2] == "File":
+                        continue
                     at = [p for p in lemma_files.get(m[2], []) if str(p.parent).endswith(m[1].rstrip("/")) or not m[1]]
                     if not at:
                         say(f"{doc}:{i}: no file of lemmas {m[1]}{m[2]}")

@@ -478,7 +478,7 @@ def rename_fn(crate, module, old, new):
         note(f"fn {crate} {module} {old}: isn't there")
         return False
     fns = [p for p in paths(crate, suffixes=(".rt",)) if re.search(rf"\bfn {old}\b", read(p))]
-    starts = re.findall(rf"^( *)(?:pub(?:\([a-z]+\))? )?(?:const )?fn {old}\b[^{{;]*?(\bself\b)?[,)]", read(home), re.M)
+    starts = re.findall(rf"^( *)(?:pub(?:\([a-z]+\))? )?(?:const )?fn {old}\b(?:<[^(]*>)?\([^{{;]*?(\bself\b)?[,)]", read(home), re.M)
     method, free = any(s for _, s in starts), any(not s for _, s in starts)
     before = r"(?<!\w)(?<!fn )" if method and free else r"(?<=\.)" if method else r"(?<![\w.])(?<!fn )"
     call = re.compile(rf"{before}{old}(?=(?:::<[^>]*>+)?\()")
