@@ -28,7 +28,7 @@ use Rattle.trial.specs.declared.caller.Caller.{Caller}
 use Rattle.trial.specs.declared.caller.Closure.{Closure}
 use Rattle.trial.specs.declared.open_tree.OpenTree.{OpenTree}
 use Rattle.trial.specs.declared.reply.Reply.{Reply}
-use Rattle.trial.specs.Callers.{answer_of, fresh, noise_of, heard, caller_at}
+use Rattle.trial.specs.Callers.{answer_of, fresh, noise_of, after_step, caller_at}
 use Rattle.trial.specs.Calling.{is_running, Begins, Goes, GoesOn, stays, ends, goes, Calls}
 use Rattle.trial.specs.MapReplies.{IsAnswer}
 use Rattle.trial.specs.Places.{places_at, filled}
@@ -54,12 +54,12 @@ Behind closure stands c = Answers closure stands c.answer × ((c.closure ≡ clo
 behind_nothing : (closure : Option Closure) (stands : Outcome ℕ) → Behind closure stands (fresh None)
 behind_nothing closure stands = (tt, inr refl)
 
-behind_answered : (closure own : Option Closure) (found : Option ℕ) → (own ≡ closure) ⊎ (own ≡ None) → Behind closure (outcome.Asks found) (heard (record { closure = own; answer = None }) (outcome.Asks found))
+behind_answered : (closure own : Option Closure) (found : Option ℕ) → (own ≡ closure) ⊎ (own ≡ None) → Behind closure (outcome.Asks found) (after_step (record { closure = own; answer = None }) (outcome.Asks found))
 behind_answered closure None found k = (tt, inr refl)
 behind_answered closure (Some f) found (inl e) = ((f, sym e, refl), inl e)
 behind_answered closure (Some f) found (inr e) = absurd (cc e)
 
-behind_heard : (closure : Option Closure) (stands next : Outcome ℕ) (c : Caller) → Behind closure stands c → Behind closure next (heard c next)
+behind_heard : (closure : Option Closure) (stands next : Outcome ℕ) (c : Caller) → Behind closure stands c → Behind closure next (after_step c next)
 behind_heard closure stands outcome.Running c b = (tt, b.1)
 behind_heard closure stands (outcome.Asks found) c b = behind_answered closure c.closure found b.1
 behind_heard closure stands (outcome.Found place key value) c b = (tt, b.1)

@@ -29,9 +29,9 @@ answered None found = fresh None
 answered (Some f) found = record { closure = Some f; answer = Some (answer_of f found) }
 
 -- after a step that ended so: where it asked, the answer stands ready
-abbrev pub heard : Caller → Outcome ℕ → Caller
-heard c (Asks found) = answered c.closure found
-heard c _ = fresh c.closure
+abbrev pub after_step : Caller → Outcome ℕ → Caller
+after_step c (Asks found) = answered c.closure found
+after_step c _ = fresh c.closure
 
 -- one that was never begun has no closure
 abbrev pub caller_or : Option Caller → Caller

@@ -10,7 +10,7 @@ use Rattle.joint.specs.world.World.{IsStep}
 use Rattle.joint.specs.engine.Engine.{World}
 use Rattle.trial.specs.declared.caller.Closure.{Closure}
 use Rattle.trial.specs.declared.open_tree.OpenTree.{OpenTree}
-use Rattle.trial.specs.Callers.{fresh, noise_of, heard, caller_at}
+use Rattle.trial.specs.Callers.{fresh, noise_of, after_step, caller_at}
 use Rattle.trial.specs.Places.{filled}
 
 -- a tree none of whose workers has a call
@@ -44,7 +44,7 @@ Begins old who op closure told new = Steps old who (Begin op) told new
 -- in its place
 abbrev pub Goes : OpenTree → ℕ → Bool → Outcome ℕ → OpenTree → Type 0
 Goes old who fail told new = Steps old who (Go (noise_of (caller_at old.callers.items who) fail)) told new
-    × (new.callers.items ≡ slice_set old.callers.items who (heard (caller_at old.callers.items who) told)) × (new.scans.items ≡ filled old.scans.items who told)
+    × (new.callers.items ≡ slice_set old.callers.items who (after_step (caller_at old.callers.items who) told)) × (new.scans.items ≡ filled old.scans.items who told)
 
 -- further steps of a call that stands so, none of which fails: so many are left, and fewer are taken where the call ends
 pub data GoesOn (who : ℕ) : ℕ → OpenTree → Outcome ℕ → Outcome ℕ → OpenTree → Type 0 where

@@ -1,6 +1,6 @@
 //! A tree with what stands behind its workers' calls, which go on from line to line.
 ghost use Rattle.std.specs.Prelude.{◌≡◌, ◌<◌, [], None, OnOk, IfOk, IfErr, slice_set, length, replicate};
-ghost use Rattle.trial.specs.Callers.{caller_at, fresh, heard};
+ghost use Rattle.trial.specs.Callers.{caller_at, fresh, after_step};
 ghost use Rattle.trial.specs.Calling.{IsUncalled, Registers, Begins, Goes, GoesOn, Calls, is_running};
 ghost use Rattle.trial.specs.Places.{places_at, filled};
 ghost use Rattle.trial.specs.declared.end.End.TheVariants as End;
@@ -97,13 +97,13 @@ impl OpenTree {
     }
 
     /// What stands behind a worker's call hears how a step of it ended.
-    fn hear(&mut self, worker: u32, outcome: &Outcome<u64>)
-        ensures callers { self.new.callers.items ≡ slice_set self.old.callers.items worker (heard (caller_at self.old.callers.items worker) outcome.now) }
+    fn caller_steps(&mut self, worker: u32, outcome: &Outcome<u64>)
+        ensures callers { self.new.callers.items ≡ slice_set self.old.callers.items worker (after_step (caller_at self.old.callers.items worker) outcome.now) }
         ensures world { self.new.world ≡ self.old.world }
         ensures scans { self.new.scans ≡ self.old.scans }
     {
         if (worker as usize) < self.callers.len() {
-            self.callers[worker as usize].hear(outcome);
+            self.callers[worker as usize].caller_steps(outcome);
         }
     }
 
@@ -119,7 +119,7 @@ impl OpenTree {
     }
 
     /// Fills the place that a step of a worker's scan told a pair for, if it told one.
-    fn hear_scan(&mut self, worker: u32, outcome: &Outcome<u64>) -> Result<(), AllocError>
+    fn scan_steps(&mut self, worker: u32, outcome: &Outcome<u64>) -> Result<(), AllocError>
         ensures ok { OnOk result (self.new.scans.items ≡ filled self.old.scans.items worker outcome.now) }
         ensures world { self.new.world ≡ self.old.world }
         ensures callers { self.new.callers ≡ self.old.callers }
@@ -184,8 +184,8 @@ impl OpenTree {
             event: Event::Go(caller.noise(fail)),
         };
         let outcome = self.world.step(step).outcome;
-        self.hear(worker, &outcome);
-        self.hear_scan(worker, &outcome)?;
+        self.caller_steps(worker, &outcome);
+        self.scan_steps(worker, &outcome)?;
         Ok(outcome)
     }
 

@@ -180,7 +180,7 @@ impl Program {
         ensures { Ran AreAnswered (R.remaining reader.old) (R.remaining reader.new) (W.contents writer.old) (W.contents writer.new) result }
     {
         loop {
-            if let Some(end) = self.turn(reader, writer, chunk) {
+            if let Some(end) = self.read_once(reader, writer, chunk) {
                 return self.finish(writer, end);
             }
             if let Err(failed) = self.flush(writer) {

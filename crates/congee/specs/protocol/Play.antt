@@ -101,12 +101,12 @@ abbrev pub without : {V : Type 0} → Kind V → Option V → Option V
 without ComputeInsert v = v
 without _ v = None
 
-abbrev pub heard : {V : Type 0} → Kind V → Question V → Option (Option V) → Option V → Option V
-heard kind Unasked answer v = v
-heard kind (Replied o) answer v = v
-heard kind (Asked o) None v = v
-heard kind (Asked o) (Some None) v = without kind v
-heard kind (Asked o) (Some (Some x)) v = Some x
+abbrev pub value_answered : {V : Type 0} → Kind V → Question V → Option (Option V) → Option V → Option V
+value_answered kind Unasked answer v = v
+value_answered kind (Replied o) answer v = v
+value_answered kind (Asked o) None v = v
+value_answered kind (Asked o) (Some None) v = without kind v
+value_answered kind (Asked o) (Some (Some x)) v = Some x
 
 -- and what the call has of its closure then
 abbrev pub after_none : {V : Type 0} → Kind V → Option V → Question V
@@ -170,7 +170,7 @@ ScanTells start end size states places (Done r) f = ⊥
 
 -- one step of one call, on the map
 abbrev pub Watched : {V : Type 0} → (V → V → Bool) → Flight V → Pairs V → Option (Option V) → Move V → Flight V → Pairs V → Type 0
-Watched same (Pending k kind v q) m told d f' m' = PendingMoves same k kind (heard kind q told v) (resolved kind q told) m d.decided d.outcome f' m'
+Watched same (Pending k kind v q) m told d f' m' = PendingMoves same k kind (value_answered kind q told v) (resolved kind q told) m d.decided d.outcome f' m'
 Watched same (Decided r) m told d f' m' = (d.decided ≡ false) × Concludes r d.outcome f' × (m' ≡ m)
 Watched same Over m told d f' m' = (d ≡ record { decided = false; skipped = false; outcome = Running }) × (f' ≡ Over) × (m' ≡ m)
 Watched same (Unbegun start end size) m told d f' m' = (d.decided ≡ false) × ScanTells start end size (m ∷ []) [] d.outcome f' × (m' ≡ m)

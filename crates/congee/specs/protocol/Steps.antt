@@ -43,8 +43,8 @@ use Rattle.congee.specs.Keys.{key_bytes}
 use Rattle.congee.specs.declared.forms.prefix.TheConstants.{MAX_PREFIX_LEN}
 
 -- the next step and the report, as one
-abbrev pub turn_of : {C V : Type 0} → Phase C V → Move V → NextPhase C V
-turn_of s d = record { phase = s; report = d }
+abbrev pub next_phase_of : {C V : Type 0} → Phase C V → Move V → NextPhase C V
+next_phase_of s d = record { phase = s; report = d }
 
 -- what a step leaves: it goes on, begins anew, answers in this step, ends with an answer given before, is refused,
 -- takes effect and goes on, or asks

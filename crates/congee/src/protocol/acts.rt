@@ -2,7 +2,7 @@
 ghost use Rattle.std.specs.Prelude.{◌≡◌, ◌≢◌, ◌<◌, ◌≤◌, Bool, Option, None, Result, IfErr};
 ghost use Rattle.congee.specs.Heap.{Nothing, Below, Stands};
 ghost use Rattle.congee.specs.Keys.{key_bytes};
-ghost use Rattle.congee.specs.protocol.Steps.{turn_of, form_above, decided, after_change, Acts, MayLock, IsReleasing, IsUnlocking, BackOne, BackTwo, MadeLeaf, MadeGreater, MadeTop, MadeBeside, MadeLesser, lesser_form, UpgradedOne, UpgradedTop, UpgradedAbove, UpgradedBelow, Collapses, PutsLesser, Lessens, MayLessen, MayTop, ChangedOne, ChangedTwo, IsCheckedAbove, MayStep, MayBackOne, MayBackTwo, MayBackLeaf, MayChangeOne, MayChangeTwo, Changeable, Blank, PutsGreater, PutsFork, PhaseStepped};
+ghost use Rattle.congee.specs.protocol.Steps.{next_phase_of, form_above, decided, after_change, Acts, MayLock, IsReleasing, IsUnlocking, BackOne, BackTwo, MadeLeaf, MadeGreater, MadeTop, MadeBeside, MadeLesser, lesser_form, UpgradedOne, UpgradedTop, UpgradedAbove, UpgradedBelow, Collapses, PutsLesser, Lessens, MayLessen, MayTop, ChangedOne, ChangedTwo, IsCheckedAbove, MayStep, MayBackOne, MayBackTwo, MayBackLeaf, MayChangeOne, MayChangeTwo, Changeable, Blank, PutsGreater, PutsFork, PhaseStepped};
 ghost use Rattle.congee.specs.protocol.Events.{hung, upgrade_gives, HoldsAlike};
 ghost use Rattle.congee.specs.declared.protocol.store.Upgrade.{Upgrade};
 ghost use Rattle.congee.specs.declared.protocol.store.Refusal.{Refusal};
@@ -32,7 +32,7 @@ impl<C: NodeName, P: Payload> Machine<C, P> {
         ensures kind { self.new.kind ≡ self.old.kind }
         ensures limit { S.version_max store.new ≡ S.version_max store.old }
         ensures rest { S.rest store.new ≡ S.rest store.old }
-        ensures step { (answer : Option (Option P)) → PhaseStepped C.number P.same_as P.always_copies (S.version_max store.old) (S.refuses store.old) self.old.root (key_bytes self.old.key) self.old.kind fail answer self.old.given self.old.phase (S.heap store.old) self.new.given (turn_of self.new.phase result) (S.heap store.new) }
+        ensures step { (answer : Option (Option P)) → PhaseStepped C.number P.same_as P.always_copies (S.version_max store.old) (S.refuses store.old) self.old.root (key_bytes self.old.key) self.old.kind fail answer self.old.given self.old.phase (S.heap store.old) self.new.given (next_phase_of self.new.phase result) (S.heap store.new) }
     {
         match &mut self.phase {
             Phase::MakeLeaf { site } => {
@@ -86,7 +86,7 @@ impl<C: NodeName, P: Payload> Machine<C, P> {
         ensures kind { self.new.kind ≡ self.old.kind }
         ensures limit { S.version_max store.new ≡ S.version_max store.old }
         ensures rest { S.rest store.new ≡ S.rest store.old }
-        ensures step { (answer : Option (Option P)) → PhaseStepped C.number P.same_as P.always_copies (S.version_max store.old) (S.refuses store.old) self.old.root (key_bytes self.old.key) self.old.kind fail answer self.old.given self.old.phase (S.heap store.old) self.new.given (turn_of self.new.phase result) (S.heap store.new) }
+        ensures step { (answer : Option (Option P)) → PhaseStepped C.number P.same_as P.always_copies (S.version_max store.old) (S.refuses store.old) self.old.root (key_bytes self.old.key) self.old.kind fail answer self.old.given self.old.phase (S.heap store.old) self.new.given (next_phase_of self.new.phase result) (S.heap store.new) }
     {
         match &mut self.phase {
             Phase::CheckAbove { above, one, reply } => {
@@ -130,7 +130,7 @@ impl<C: NodeName, P: Payload> Machine<C, P> {
         ensures phase_alone { self.new ≡ record self.old { phase = self.new.phase } }
         ensures limit { S.version_max store.new ≡ S.version_max store.old }
         ensures rest { S.rest store.new ≡ S.rest store.old }
-        ensures step { (fail : Bool) (answer : Option (Option P)) → PhaseStepped C.number P.same_as P.always_copies (S.version_max store.old) (S.refuses store.old) self.old.root (key_bytes self.old.key) self.old.kind fail answer self.old.given self.old.phase (S.heap store.old) self.new.given (turn_of self.new.phase result) (S.heap store.new) }
+        ensures step { (fail : Bool) (answer : Option (Option P)) → PhaseStepped C.number P.same_as P.always_copies (S.version_max store.old) (S.refuses store.old) self.old.root (key_bytes self.old.key) self.old.kind fail answer self.old.given self.old.phase (S.heap store.old) self.new.given (next_phase_of self.new.phase result) (S.heap store.new) }
     {
         match &mut self.phase {
             Phase::Obsolete {
@@ -171,7 +171,7 @@ impl<C: NodeName, P: Payload> Machine<C, P> {
         ensures phase_alone { self.new ≡ record self.old { phase = self.new.phase } }
         ensures limit { S.version_max store.new ≡ S.version_max store.old }
         ensures rest { S.rest store.new ≡ S.rest store.old }
-        ensures step { (fail : Bool) (answer : Option (Option P)) → PhaseStepped C.number P.same_as P.always_copies (S.version_max store.old) (S.refuses store.old) self.old.root (key_bytes self.old.key) self.old.kind fail answer self.old.given self.old.phase (S.heap store.old) self.new.given (turn_of self.new.phase result) (S.heap store.new) }
+        ensures step { (fail : Bool) (answer : Option (Option P)) → PhaseStepped C.number P.same_as P.always_copies (S.version_max store.old) (S.refuses store.old) self.old.root (key_bytes self.old.key) self.old.kind fail answer self.old.given self.old.phase (S.heap store.old) self.new.given (next_phase_of self.new.phase result) (S.heap store.new) }
     {
         match &mut self.phase {
             Phase::UnlockBelow { node, above, reply } => {
@@ -207,7 +207,7 @@ impl<C: NodeName, P: Payload> Machine<C, P> {
         ensures phase_alone { self.new ≡ record self.old { phase = self.new.phase } }
         ensures limit { S.version_max store.new ≡ S.version_max store.old }
         ensures rest { S.rest store.new ≡ S.rest store.old }
-        ensures made { ((r : Result C Refusal) × MadeLeaf C.number self.old.kind site (S.heap store.old) (key_bytes self.old.key) r (S.heap store.new) (turn_of self.new.phase result) × IfErr r (S.refuses store.old base.N4)) }
+        ensures made { ((r : Result C Refusal) × MadeLeaf C.number self.old.kind site (S.heap store.old) (key_bytes self.old.key) r (S.heap store.new) (next_phase_of self.new.phase result) × IfErr r (S.refuses store.old base.N4)) }
     {
         match store.make(NodeType::N4, &self.key.to_be_bytes(), MAX_PREFIX_LEN) {
             Err(refusal) => self.phase.refused(refusal),
@@ -230,7 +230,7 @@ impl<C: NodeName, P: Payload> Machine<C, P> {
         ensures phase_alone { self.new ≡ record self.old { phase = self.new.phase } }
         ensures limit { S.version_max store.new ≡ S.version_max store.old }
         ensures rest { S.rest store.new ≡ S.rest store.old }
-        ensures made { ((r : Result C Refusal) × MadeGreater C.number self.old.kind site above leaf (S.heap store.old) (key_bytes self.old.key) r (S.heap store.new) (turn_of self.new.phase result) × IfErr r (S.refuses store.old (form_above site.count))) }
+        ensures made { ((r : Result C Refusal) × MadeGreater C.number self.old.kind site above leaf (S.heap store.old) (key_bytes self.old.key) r (S.heap store.new) (next_phase_of self.new.phase result) × IfErr r (S.refuses store.old (form_above site.count))) }
     {
         let form = NodeType::above(site.count);
         match store.make(form, &self.key.to_be_bytes(), site.depth) {
@@ -260,7 +260,7 @@ impl<C: NodeName, P: Payload> Machine<C, P> {
         ensures phase_alone { self.new ≡ record self.old { phase = self.new.phase } }
         ensures limit { S.version_max store.new ≡ S.version_max store.old }
         ensures rest { S.rest store.new ≡ S.rest store.old }
-        ensures made { ((r : Result C Refusal) × MadeTop C.number above at common byte (S.heap store.old) (key_bytes self.old.key) r (S.heap store.new) (turn_of self.new.phase result) × IfErr r (S.refuses store.old base.N4)) }
+        ensures made { ((r : Result C Refusal) × MadeTop C.number above at common byte (S.heap store.old) (key_bytes self.old.key) r (S.heap store.new) (next_phase_of self.new.phase result) × IfErr r (S.refuses store.old base.N4)) }
     {
         match store.make(NodeType::N4, &self.key.to_be_bytes(), common) {
             Err(refusal) => self.phase.refused(refusal),
@@ -288,7 +288,7 @@ impl<C: NodeName, P: Payload> Machine<C, P> {
         ensures phase_alone { self.new ≡ record self.old { phase = self.new.phase } }
         ensures limit { S.version_max store.new ≡ S.version_max store.old }
         ensures rest { S.rest store.new ≡ S.rest store.old }
-        ensures made { ((r : Result C Refusal) × MadeBeside C.number self.old.kind above at common byte top (S.heap store.old) (key_bytes self.old.key) r (S.heap store.new) (turn_of self.new.phase result) × IfErr r (S.refuses store.old base.N4)) }
+        ensures made { ((r : Result C Refusal) × MadeBeside C.number self.old.kind above at common byte top (S.heap store.old) (key_bytes self.old.key) r (S.heap store.new) (next_phase_of self.new.phase result) × IfErr r (S.refuses store.old base.N4)) }
     {
         match store.make(NodeType::N4, &self.key.to_be_bytes(), MAX_PREFIX_LEN) {
             Err(refusal) => {
@@ -322,7 +322,7 @@ impl<C: NodeName, P: Payload> Machine<C, P> {
         ensures phase_alone { self.new ≡ record self.old { phase = self.new.phase } }
         ensures limit { S.version_max store.new ≡ S.version_max store.old }
         ensures rest { S.rest store.new ≡ S.rest store.old }
-        ensures made { ((x : Result C Refusal) × MadeLesser C.number site above top reply (S.heap store.old) (key_bytes self.old.key) x (S.heap store.new) (turn_of self.new.phase result) × IfErr x (S.refuses store.old (lesser_form site above top))) }
+        ensures made { ((x : Result C Refusal) × MadeLesser C.number site above top reply (S.heap store.old) (key_bytes self.old.key) x (S.heap store.new) (next_phase_of self.new.phase result) × IfErr x (S.refuses store.old (lesser_form site above top))) }
     {
         let key = self.key.to_be_bytes();
         match top {
@@ -363,7 +363,7 @@ impl<C: NodeName, P: Payload> Machine<C, P> {
         ensures phase_alone { self.new ≡ record self.old { phase = self.new.phase } }
         ensures limit { S.version_max store.new ≡ S.version_max store.old }
         ensures rest { S.rest store.new ≡ S.rest store.old }
-        ensures checked { IsCheckedAbove C.number self.old.root above one reply (S.heap store.old) (S.heap store.new) (turn_of self.new.phase result) }
+        ensures checked { IsCheckedAbove C.number self.old.root above one reply (S.heap store.old) (S.heap store.new) (next_phase_of self.new.phase result) }
     {
         if store.check(above) {
             self.phase.quiet(Phase::UpgradeOne { one, reply })
@@ -386,7 +386,7 @@ impl<C: NodeName, P: Payload> Machine<C, P> {
         ensures phase_alone { self.new ≡ record self.old { phase = self.new.phase } }
         ensures limit { S.version_max store.new ≡ S.version_max store.old }
         ensures rest { S.rest store.new ≡ S.rest store.old }
-        ensures upgraded { ((u : Upgrade) × (u ≡ upgrade_gives (S.version_max store.old) (S.heap store.old (C.number one.at.node)) one.at.version fail) × UpgradedOne C.number self.old.root one reply (S.heap store.old) u (S.heap store.new) (turn_of self.new.phase result)) }
+        ensures upgraded { ((u : Upgrade) × (u ≡ upgrade_gives (S.version_max store.old) (S.heap store.old (C.number one.at.node)) one.at.version fail) × UpgradedOne C.number self.old.root one reply (S.heap store.old) u (S.heap store.new) (next_phase_of self.new.phase result)) }
     {
         let refusal = match store.upgrade(one.at, fail) {
             Upgrade::Locked => return self.phase.quiet(Phase::ChangeOne { one, reply }),
@@ -411,7 +411,7 @@ impl<C: NodeName, P: Payload> Machine<C, P> {
         ensures phase_alone { self.new ≡ record self.old { phase = self.new.phase } }
         ensures limit { S.version_max store.new ≡ S.version_max store.old }
         ensures rest { S.rest store.new ≡ S.rest store.old }
-        ensures upgraded { ((u : Upgrade) × (u ≡ upgrade_gives (S.version_max store.old) (S.heap store.old (C.number top.seat.node)) top.seat.version fail) × UpgradedTop C.number self.old.root top two reply (S.heap store.old) u (S.heap store.new) (turn_of self.new.phase result)) }
+        ensures upgraded { ((u : Upgrade) × (u ≡ upgrade_gives (S.version_max store.old) (S.heap store.old (C.number top.seat.node)) top.seat.version fail) × UpgradedTop C.number self.old.root top two reply (S.heap store.old) u (S.heap store.new) (next_phase_of self.new.phase result)) }
     {
         let refusal = match store.upgrade(top.seat, fail) {
             Upgrade::Locked => {
@@ -441,7 +441,7 @@ impl<C: NodeName, P: Payload> Machine<C, P> {
         ensures phase_alone { self.new ≡ record self.old { phase = self.new.phase } }
         ensures limit { S.version_max store.new ≡ S.version_max store.old }
         ensures rest { S.rest store.new ≡ S.rest store.old }
-        ensures upgraded { ((u : Upgrade) × (u ≡ upgrade_gives (S.version_max store.old) (S.heap store.old (C.number two.above.seat.node)) two.above.seat.version fail) × UpgradedAbove C.number self.old.root two reply (S.heap store.old) u (S.heap store.new) (turn_of self.new.phase result)) }
+        ensures upgraded { ((u : Upgrade) × (u ≡ upgrade_gives (S.version_max store.old) (S.heap store.old (C.number two.above.seat.node)) two.above.seat.version fail) × UpgradedAbove C.number self.old.root two reply (S.heap store.old) u (S.heap store.new) (next_phase_of self.new.phase result)) }
     {
         let refusal = match store.upgrade(two.seat_above(), fail) {
             Upgrade::Locked => return self.phase.quiet(Phase::UpgradeBelow { two, reply }),
@@ -466,7 +466,7 @@ impl<C: NodeName, P: Payload> Machine<C, P> {
         ensures phase_alone { self.new ≡ record self.old { phase = self.new.phase } }
         ensures limit { S.version_max store.new ≡ S.version_max store.old }
         ensures rest { S.rest store.new ≡ S.rest store.old }
-        ensures upgraded { ((u : Upgrade) × (u ≡ upgrade_gives (S.version_max store.old) (S.heap store.old (C.number two.at.node)) two.at.version fail) × UpgradedBelow C.number two reply (S.heap store.old) u (S.heap store.new) (turn_of self.new.phase result)) }
+        ensures upgraded { ((u : Upgrade) × (u ≡ upgrade_gives (S.version_max store.old) (S.heap store.old (C.number two.at.node)) two.at.version fail) × UpgradedBelow C.number two reply (S.heap store.old) u (S.heap store.new) (next_phase_of self.new.phase result)) }
     {
         let node = two.parent();
         let next = two.top_node();
@@ -493,7 +493,7 @@ impl<C: NodeName, P: Payload> Machine<C, P> {
         ensures limit { S.version_max store.new ≡ S.version_max store.old }
         ensures rest { S.rest store.new ≡ S.rest store.old }
         ensures changed { ChangedOne C.number (key_bytes self.old.key) self.old.given one one.change (S.heap store.old) (S.heap store.new) }
-        ensures turn { turn_of self.new.phase result ≡ decided (phase.Unlock one.at.node reply) }
+        ensures turn { next_phase_of self.new.phase result ≡ decided (phase.Unlock one.at.node reply) }
     {
         let value = value_child(self.given.take());
         let One { at, byte, change } = one;
@@ -518,7 +518,7 @@ impl<C: NodeName, P: Payload> Machine<C, P> {
         ensures limit { S.version_max store.new ≡ S.version_max store.old }
         ensures rest { S.rest store.new ≡ S.rest store.old }
         ensures changed { ChangedTwo C.number (key_bytes self.old.key) self.old.given two two.change (S.heap store.old) (S.heap store.new) }
-        ensures turn { turn_of self.new.phase result ≡ after_change two reply two.change }
+        ensures turn { next_phase_of self.new.phase result ≡ after_change two reply two.change }
     {
         put_two(store, two, &self.key.to_be_bytes(), self.given.take());
         self.phase.after_change(two, reply)

@@ -6,7 +6,7 @@ ghost use Rattle.congee.specs.protocol.Names.{KeepsOrigin};
 ghost use Rattle.congee.specs.protocol.Play.{begun, flight, range_of, IsNew, IsOfRange, Begins};
 ghost use Rattle.congee.specs.protocol.Opening.{RootAlone};
 ghost use Rattle.congee.specs.Keys.{key_bytes};
-ghost use Rattle.congee.specs.protocol.Steps.{turn_of, quiet, answered, refused, after_miss, IsIf, IsChecked, IsAtOld, IsGiven, IsGivenNew, MayStep, PhaseStepped, Stepped, HasValue, Settles};
+ghost use Rattle.congee.specs.protocol.Steps.{next_phase_of, quiet, answered, refused, after_miss, IsIf, IsChecked, IsAtOld, IsGiven, IsGivenNew, MayStep, PhaseStepped, Stepped, HasValue, Settles};
 ghost use Rattle.congee.specs.declared.protocol.store.Refusal.TheVariants as refusal;
 ghost use Rattle.congee.specs.declared.protocol.phase.Phase.TheVariants as phase;
 ghost use Rattle.congee.specs.protocol.Bounds.{Within};
@@ -117,7 +117,7 @@ impl<C: NodeName, P: Payload> Machine<C, P> {
         ensures keeps { KeepsProtocol C.number P.same_as P.always_copies self.old (S.heap store.old) self.new (S.heap store.new) result }
         ensures origin { KeepsOrigin C.number P.same_as P.always_copies self.old (S.heap store.old) self.new (S.heap store.new) }
     {
-        let report = self.turn(store, &mut noise);
+        let report = self.step_phase(store, &mut noise);
         // What isn't wanted any more is handed to `drop`: in place it would be a step for each variant, which the checker
         // goes through at each branch.
         drop(noise);
@@ -126,7 +126,7 @@ impl<C: NodeName, P: Payload> Machine<C, P> {
 
     /// The step of a phase: of one on the call's way down, of a scan, or of a later one. The phase is changed where it lies,
     /// and a scan in it too.
-    fn turn<S: Store<C, P>>(&mut self, store: &mut S, noise: &mut Noise<C, P>) -> Move<P>
+    fn step_phase<S: Store<C, P>>(&mut self, store: &mut S, noise: &mut Noise<C, P>) -> Move<P>
         requires may { MayStep C.number self.old.root (key_bytes self.old.key) self.old.given self.old.phase (S.heap store.old) }
         requires within { Within (S.version_max store.old) (S.heap store.old) }
         ensures root { self.new.root ≡ self.old.root }
@@ -134,7 +134,7 @@ impl<C: NodeName, P: Payload> Machine<C, P> {
         ensures kind { self.new.kind ≡ self.old.kind }
         ensures limit { S.version_max store.new ≡ S.version_max store.old }
         ensures rest { S.rest store.new ≡ S.rest store.old }
-        ensures step { PhaseStepped C.number P.same_as P.always_copies (S.version_max store.old) (S.refuses store.old) self.old.root (key_bytes self.old.key) self.old.kind noise.old.fail noise.old.answer self.old.given self.old.phase (S.heap store.old) self.new.given (turn_of self.new.phase result) (S.heap store.new) }
+        ensures step { PhaseStepped C.number P.same_as P.always_copies (S.version_max store.old) (S.refuses store.old) self.old.root (key_bytes self.old.key) self.old.kind noise.old.fail noise.old.answer self.old.given self.old.phase (S.heap store.old) self.new.given (next_phase_of self.new.phase result) (S.heap store.new) }
     {
         let root = self.root;
         match &mut self.phase {
@@ -176,7 +176,7 @@ impl<C: NodeName, P: Payload> Machine<C, P> {
         ensures kind { self.new.kind ≡ self.old.kind }
         ensures limit { S.version_max store.new ≡ S.version_max store.old }
         ensures rest { S.rest store.new ≡ S.rest store.old }
-        ensures step { PhaseStepped C.number P.same_as P.always_copies (S.version_max store.old) (S.refuses store.old) self.old.root (key_bytes self.old.key) self.old.kind noise.old.fail noise.old.answer self.old.given self.old.phase (S.heap store.old) self.new.given (turn_of self.new.phase result) (S.heap store.new) }
+        ensures step { PhaseStepped C.number P.same_as P.always_copies (S.version_max store.old) (S.refuses store.old) self.old.root (key_bytes self.old.key) self.old.kind noise.old.fail noise.old.answer self.old.given self.old.phase (S.heap store.old) self.new.given (next_phase_of self.new.phase result) (S.heap store.new) }
     {
         match &mut self.phase {
             Phase::CheckUncopied { at } => {
@@ -213,7 +213,7 @@ impl<C: NodeName, P: Payload> Machine<C, P> {
         ensures root { self.new.root ≡ self.old.root }
         ensures key { self.new.key ≡ self.old.key }
         ensures kind { self.new.kind ≡ self.old.kind }
-        ensures step { PhaseStepped C.number P.same_as P.always_copies (S.version_max store.now) (S.refuses store.now) self.old.root (key_bytes self.old.key) self.old.kind noise.old.fail noise.old.answer self.old.given self.old.phase (S.heap store.now) self.new.given (turn_of self.new.phase result) (S.heap store.now) }
+        ensures step { PhaseStepped C.number P.same_as P.always_copies (S.version_max store.now) (S.refuses store.now) self.old.root (key_bytes self.old.key) self.old.kind noise.old.fail noise.old.answer self.old.given self.old.phase (S.heap store.now) self.new.given (next_phase_of self.new.phase result) (S.heap store.now) }
     {
         match mem::replace(&mut self.phase, Phase::Ended) {
             Phase::CheckOld { above, site, old } => self.check_old(store, above, site, old),
@@ -226,7 +226,7 @@ impl<C: NodeName, P: Payload> Machine<C, P> {
     fn check_uncopied<S: Store<C, P>>(&mut self, store: &S, at: Stamp<C>) -> Move<P>
         requires { Stands (S.heap store.now (C.number at.node)) }
         ensures phase_alone { self.new ≡ record self.old { phase = self.new.phase } }
-        ensures checked { IsIf (is_taken (S.heap store.now (C.number at.node)) at.version) self.old.root (λ u. u ≡ refused refusal.Count) (turn_of self.new.phase result) }
+        ensures checked { IsIf (is_taken (S.heap store.now (C.number at.node)) at.version) self.old.root (λ u. u ≡ refused refusal.Count) (next_phase_of self.new.phase result) }
     {
         if store.check(at) {
             self.phase.refused(Refusal::Count)
@@ -239,7 +239,7 @@ impl<C: NodeName, P: Payload> Machine<C, P> {
     fn confirm<S: Store<C, P>>(&mut self, store: &S, seat: Stamp<C>, reply: Reply<P>) -> Move<P>
         requires { Stands (S.heap store.now (C.number seat.node)) }
         ensures phase_alone { self.new ≡ record self.old { phase = self.new.phase } }
-        ensures checked { IsIf (is_taken (S.heap store.now (C.number seat.node)) seat.version) self.old.root (λ u. u ≡ answered reply) (turn_of self.new.phase result) }
+        ensures checked { IsIf (is_taken (S.heap store.now (C.number seat.node)) seat.version) self.old.root (λ u. u ≡ answered reply) (next_phase_of self.new.phase result) }
     {
         if store.check(seat) {
             self.phase.answered(reply)
@@ -252,7 +252,7 @@ impl<C: NodeName, P: Payload> Machine<C, P> {
     fn check<S: Store<C, P>>(&mut self, store: &S, site: Site<C>, child: Child<C, P>) -> Move<P>
         requires { Stands (S.heap store.now (C.number site.at.node)) }
         ensures phase_alone { self.new ≡ record self.old { phase = self.new.phase } }
-        ensures checked { IsIf (is_taken (S.heap store.now (C.number site.at.node)) site.at.version) self.old.root (IsChecked P.always_copies P.same_as self.old.kind self.old.given site child) (turn_of self.new.phase result) }
+        ensures checked { IsIf (is_taken (S.heap store.now (C.number site.at.node)) site.at.version) self.old.root (IsChecked P.always_copies P.same_as self.old.kind self.old.given site child) (next_phase_of self.new.phase result) }
     {
         if store.check(site.at) {
             self.phase.checked(&self.kind, &self.given, site, child)
@@ -272,7 +272,7 @@ impl<C: NodeName, P: Payload> Machine<C, P> {
     ) -> Move<P>
         requires { Stands (S.heap store.now (C.number above.seat.node)) }
         ensures phase_alone { self.new ≡ record self.old { phase = self.new.phase } }
-        ensures checked { IsIf (is_taken (S.heap store.now (C.number above.seat.node)) above.seat.version) self.old.root (λ u. u ≡ after_miss self.old.kind above at common byte) (turn_of self.new.phase result) }
+        ensures checked { IsIf (is_taken (S.heap store.now (C.number above.seat.node)) above.seat.version) self.old.root (λ u. u ≡ after_miss self.old.kind above at common byte) (next_phase_of self.new.phase result) }
     {
         if store.check(above.seat) {
             self.phase.after_miss(&self.kind, above, at, common, byte)
@@ -291,7 +291,7 @@ impl<C: NodeName, P: Payload> Machine<C, P> {
     ) -> Move<P>
         requires { Stands (S.heap store.now (C.number above.node)) }
         ensures phase_alone { self.new ≡ record self.old { phase = self.new.phase } }
-        ensures checked { IsIf (is_taken (S.heap store.now (C.number above.node)) above.version) self.old.root (λ u. u ≡ quiet (phase.Version (Some at) node)) (turn_of self.new.phase result) }
+        ensures checked { IsIf (is_taken (S.heap store.now (C.number above.node)) above.version) self.old.root (λ u. u ≡ quiet (phase.Version (Some at) node)) (next_phase_of self.new.phase result) }
     {
         if store.check(above) {
             let above = Some(at);
@@ -311,7 +311,7 @@ impl<C: NodeName, P: Payload> Machine<C, P> {
     ) -> Move<P>
         requires { Stands (S.heap store.now (C.number above.node)) }
         ensures phase_alone { self.new ≡ record self.old { phase = self.new.phase } }
-        ensures checked { IsIf (is_taken (S.heap store.now (C.number above.node)) above.version) self.old.root (IsAtOld P.always_copies P.same_as self.old.kind self.old.given site old) (turn_of self.new.phase result) }
+        ensures checked { IsIf (is_taken (S.heap store.now (C.number above.node)) above.version) self.old.root (IsAtOld P.always_copies P.same_as self.old.kind self.old.given site old) (next_phase_of self.new.phase result) }
     {
         if store.check(above) {
             self.phase.at_old(&self.kind, &self.given, site, old)
@@ -325,7 +325,7 @@ impl<C: NodeName, P: Payload> Machine<C, P> {
         ensures root { self.new.root ≡ self.old.root }
         ensures key { self.new.key ≡ self.old.key }
         ensures kind { self.new.kind ≡ self.old.kind }
-        ensures given { IsGiven P.always_copies P.same_as self.old.kind site old answer self.old.given self.new.given (turn_of self.new.phase result) }
+        ensures given { IsGiven P.always_copies P.same_as self.old.kind site old answer self.old.given self.new.given (next_phase_of self.new.phase result) }
     {
         match (&self.kind, answer) {
             (_, None) => self.phase.asked(site, old),
@@ -363,7 +363,7 @@ impl<C: NodeName, P: Payload> Machine<C, P> {
         ensures root { self.new.root ≡ self.old.root }
         ensures key { self.new.key ≡ self.old.key }
         ensures kind { self.new.kind ≡ self.old.kind }
-        ensures given { IsGivenNew plan answer self.old.given self.new.given (turn_of self.new.phase result) }
+        ensures given { IsGivenNew plan answer self.old.given self.new.given (next_phase_of self.new.phase result) }
     {
         match answer {
             Some(Some(value)) => {

@@ -3,7 +3,7 @@ use Rattle.std.specs.Prelude.{Option, ◌≡◌, false, None, ℕ, [], ◌∷◌
 use Rattle.judge.specs.declared.journal.Entry.{Entry}
 use Rattle.judge.specs.Answer.{Pairs}
 use Rattle.congee.specs.declared.protocol.op.Op.{Op as Point}
-use Rattle.congee.specs.protocol.Play.{Over, begun, flight, range_of, Flight, Question, Undecided, Heeds, Concludes, ScanTells, Pending, Decided, Unbegun, Scanning, heard, resolved}
+use Rattle.congee.specs.protocol.Play.{Over, begun, flight, range_of, Flight, Question, Undecided, Heeds, Concludes, ScanTells, Pending, Decided, Unbegun, Scanning, value_answered, resolved}
 use Rattle.congee.specs.protocol.Sweeps.{IsScan}
 use Rattle.congee.specs.declared.protocol.machine.Outcome.{Outcome as Moved}
 use Rattle.congee.specs.declared.protocol.phase.Kind.{Kind}
@@ -135,7 +135,7 @@ pub record Scans {V : Type 0} (start end size : ℕ) (states : List (Pairs V)) (
   pub same_pairs : l.pairs ≡ m
 
 abbrev pub FlightStep : {V : Type 0} → (V → V → Bool) → Flight V → Pairs V → Option (Option V) → Line V → Flight V → Type 0
-FlightStep same (Pending k kind v q) m answer l f' = PendingStep same k kind (heard kind q answer v) (resolved kind q answer) m l.report.decided l f'
+FlightStep same (Pending k kind v q) m answer l f' = PendingStep same k kind (value_answered kind q answer v) (resolved kind q answer) m l.report.decided l f'
 FlightStep same (Decided r) m answer l f' = Finishes r m l f'
 FlightStep same Over m answer l f' = ⊥
 FlightStep same (Unbegun start end size) m answer l f' = Scans start end size (m ∷ []) [] m l f'

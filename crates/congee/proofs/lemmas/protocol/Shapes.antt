@@ -34,7 +34,7 @@ use Rattle.congee.specs.Heap.{Node}
 use Rattle.congee.specs.protocol.Steps.{skipping, shrinks, set_at, both, last_out, after_top, given_up, after_unwind, quiet, again, answered, refused, decided, asking, adds, asks_new, absent_reply, after_version, after_read, down, started, ready, plan_here, unless_full, missing, absent, CopyFailed, IsAsked, replaced, taken_out, emptied, is_same, IsAtOld, IsAdded, IsExchanged, IsPresent, IsChecked, after_miss, IsGiven, IsGivenNew, MadeLeaf, MadeGreater, MadeTop, MadeBeside, MadeLesser, UpgradedOne, UpgradedTop, UpgradedAbove, UpgradedBelow, after_change}
 use Rattle.congee.specs.protocol.Protocol.{Asking}
 use Rattle.congee.specs.protocol.Answers.{reply_in}
-use Rattle.congee.specs.protocol.Play.{Question, Unasked, Asked, Replied, Pending, Decided, heard, resolved, Carries, heeding, flight_in}
+use Rattle.congee.specs.protocol.Play.{Question, Unasked, Asked, Replied, Pending, Decided, value_answered, resolved, Carries, heeding, flight_in}
 use Rattle.congee.proofs.lemmas.Graft.{on_test}
 use Rattle.congee.proofs.lemmas.protocol.Touch.{by_test}
 
@@ -297,7 +297,7 @@ change_shape k kind v v' two r (Split top leaf common byte) t x = Takes _ r x re
 
 -- the closure's answer
 pub given_shape : {C V : Type 0} (always : Bool) (same : V → V → Bool) (k : ℕ) (kind : Kind V) (s : Site C) (old : V) (told : Option (Option V)) (v v' : Option V) (t : NextPhase C V)
-    → Asking kind → IsGiven always same kind s old told v v' t → StepShape k kind v (heard kind (Asked (Some old)) told v) v' (resolved kind (Asked (Some old)) told) t
+    → Asking kind → IsGiven always same kind s old told v v' t → StepShape k kind v (value_answered kind (Asked (Some old)) told v) v' (resolved kind (Asked (Some old)) told) t
 given_shape always same k kind s old None v v' t w x = asks k v v v' x.0 (Asked (Some old)) kind always s old t w x.1
 given_shape always same k ComputeInsert s old (Some None) v v' t w x = asks k v v v' x.0 (Asked (Some old)) ComputeInsert always s old t tt x.1
 given_shape always same k ComputeInsert s old (Some (Some y)) v v' t w x = to k v (Some y) v' x.0 (Replied (Some old)) ComputeInsert _ t x.1 (replaces k v (Some y) v' x.0 (Replied (Some old)) ComputeInsert s (same old y) _ refl)
@@ -308,10 +308,10 @@ given_shape always same k Insert s old (Some o) v v' t w x = absurd w
 given_shape always same k Remove s old (Some o) v v' t w x = absurd w
 given_shape always same k (Exchange y) s old (Some o) v v' t w x = absurd w
 
-given_new_shape : {C V : Type 0} (k : ℕ) (plan : Plan C) (told : Option (Option V)) (v v' : Option V) (t : NextPhase C V) → IsGivenNew plan told v v' t → StepShape k ComputeInsert v (heard ComputeInsert (Asked None) told v) v' (resolved ComputeInsert (Asked None) told) t
+given_new_shape : {C V : Type 0} (k : ℕ) (plan : Plan C) (told : Option (Option V)) (v v' : Option V) (t : NextPhase C V) → IsGivenNew plan told v v' t → StepShape k ComputeInsert v (value_answered ComputeInsert (Asked None) told v) v' (resolved ComputeInsert (Asked None) told) t
 given_new_shape k plan None v v' t x = to k v v v' x.0 (Asked None) ComputeInsert _ t x.1 (wonders k v v v' x.0 (Asked None) ComputeInsert (AskNew plan) None tt refl)
 given_new_shape k plan (Some None) v v' t x = to k v v v' x.0 (Asked None) ComputeInsert _ t x.1 (wonders k v v v' x.0 (Asked None) ComputeInsert (AskNew plan) None tt refl)
 given_new_shape k plan (Some (Some y)) v v' t x = to k v (Some y) v' x.0 (Replied None) ComputeInsert _ t x.1 (starts k v (Some y) v' x.0 (Replied None) ComputeInsert plan _ refl)
 
-pub given_new_shape_at : {C V : Type 0} (k : ℕ) (kind : Kind V) (plan : Plan C) (told : Option (Option V)) (v v' : Option V) (t : NextPhase C V) → kind ≡ ComputeInsert → IsGivenNew plan told v v' t → StepShape k kind v (heard kind (Asked None) told v) v' (resolved kind (Asked None) told) t
-given_new_shape_at {C} {V} k kind plan told v v' t e x = let P : Kind V → Type 0 = λ y. StepShape k y v (heard y (Asked None) told v) v' (resolved y (Asked None) told) t in subst P (sym e) (given_new_shape k plan told v v' t x)
+pub given_new_shape_at : {C V : Type 0} (k : ℕ) (kind : Kind V) (plan : Plan C) (told : Option (Option V)) (v v' : Option V) (t : NextPhase C V) → kind ≡ ComputeInsert → IsGivenNew plan told v v' t → StepShape k kind v (value_answered kind (Asked None) told v) v' (resolved kind (Asked None) told) t
+given_new_shape_at {C} {V} k kind plan told v v' t e x = let P : Kind V → Type 0 = λ y. StepShape k y v (value_answered y (Asked None) told v) v' (resolved y (Asked None) told) t in subst P (sym e) (given_new_shape k plan told v v' t x)

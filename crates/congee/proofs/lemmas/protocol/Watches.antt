@@ -21,7 +21,7 @@ use Rattle.congee.specs.Keys.{key_bytes, IsMapOf}
 use Rattle.congee.specs.Notes.{Note}
 use Rattle.congee.specs.protocol.Protocol.{IsCall, Known}
 use Rattle.congee.specs.protocol.Answers.{Decides, StepAnswers, reply_in}
-use Rattle.congee.specs.protocol.Play.{Question, Unasked, Asked, Replied, Flight, Pending, Decided, Over, heard, resolved, Heeds, Watched, PendingMoves, heeding, flight_in, IsOfPoint}
+use Rattle.congee.specs.protocol.Play.{Question, Unasked, Asked, Replied, Flight, Pending, Decided, Over, value_answered, resolved, Heeds, Watched, PendingMoves, heeding, flight_in, IsOfPoint}
 use Rattle.congee.proofs.lemmas.Graft.{on_test}
 use Rattle.congee.proofs.lemmas.Keys.{standing_same, standing_changed}
 use Rattle.congee.proofs.lemmas.protocol.Shapes.{Ripe, ripe_at_work, StepShape, GoesOn, Skips, Wonders, Stops, Replies, Takes, go, goes_to_work, back, at, answers, checks, reads, versions, if_taken, misses_at, halts, leaf_made, greater_made, top_made, beside_made, lesser_made, one_upgraded, top_upgraded, above_upgraded, both_upgraded, unwinds, at_old, change_shape, given_shape, given_new_shape_at}
@@ -160,8 +160,8 @@ module _ {C V : Type 0} (number : C → ℕ) (same : V → V → Bool) (always :
   by_shape : StepAnswers same k kind v h t h' → StepShape k kind v v v' Unasked t → Next (Pending k kind v Unasked)
   by_shape n x = from_shape same k kind v v v' Unasked h h' m p st t x n
 
-  by_answer : (o : Option V) → StepAnswers same k kind v h t h' → StepShape k kind v (heard kind (Asked o) told v) v' (resolved kind (Asked o) told) t → Next (Pending k kind v (Asked o))
-  by_answer o n x = from_shape same k kind v (heard kind (Asked o) told v) v' (resolved kind (Asked o) told) h h' m p st t x n
+  by_answer : (o : Option V) → StepAnswers same k kind v h t h' → StepShape k kind v (value_answered kind (Asked o) told v) v' (resolved kind (Asked o) told) t → Next (Pending k kind v (Asked o))
+  by_answer o n x = from_shape same k kind v (value_answered kind (Asked o) told v) v' (resolved kind (Asked o) told) h h' m p st t x n
 
   -- a call at work on its value, with its closure's answer or without a closure
   by_state : (q : Question V) → Closed q → StepAnswers same k kind v h t h' → StepShape k kind v v v' q t → Next (Pending k kind v q)

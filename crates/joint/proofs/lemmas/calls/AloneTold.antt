@@ -18,7 +18,7 @@ use Rattle.congee.specs.declared.protocol.phase.Phase.{Phase}
 use Rattle.congee.specs.declared.protocol.phase.Phase.TheVariants.{AskOld, AskNew}
 use Rattle.congee.specs.protocol.Alone.{HasAnswer, IsAnswer}
 use Rattle.congee.specs.protocol.Holdings.{LockedBy}
-use Rattle.congee.specs.protocol.Play.{Flight, Pending, Decided, Over, Unbegun, Scanning, Question, Undecided, Concludes, ScanTells, Follows, begun, parts, flight, flight_in, heard, resolved}
+use Rattle.congee.specs.protocol.Play.{Flight, Pending, Decided, Over, Unbegun, Scanning, Question, Undecided, Concludes, ScanTells, Follows, begun, parts, flight, flight_in, value_answered, resolved}
 use Rattle.joint.specs.declared.engine.in_flight.InFlight.{InFlight}
 use Rattle.joint.specs.declared.engine.in_flight.InFlight.TheVariants.{Idle, Collecting, Reserving, Securing, Walking}
 use Rattle.joint.specs.declared.id.Id.{Id}
@@ -96,7 +96,7 @@ module _ {V : Type 0} where
   go_kind : (o : Op V) (same : V → V → Bool) (fs : Flights V) (f : Flight V) (m : Pairs V) (answer : Option (Option V)) (l : Line V) (fs' : Flights V) → fs l.step.worker ≡ f → Kinded o f → GoMap same fs f m answer l fs' → Kinded o (fs' l.step.worker)
   go_kind o same fs Over m answer l fs' e x y = kinded o (fs' l.step.worker) Over (ap (λ (z : Flights V). z l.step.worker) y.same_flights ∙ e) tt
   go_kind o same fs (Pending k kd v q) m answer l fs' e x y =
-      kinded o (fs' l.step.worker) y.next (ap (λ (z : Flights V). z l.step.worker) y.advances ∙ flight_here fs l.step.worker y.next) (pending_kind o same k kd (heard kd q answer v) (resolved kd q answer) m l.report.decided l y.next x y.step)
+      kinded o (fs' l.step.worker) y.next (ap (λ (z : Flights V). z l.step.worker) y.advances ∙ flight_here fs l.step.worker y.next) (pending_kind o same k kd (value_answered kd q answer v) (resolved kd q answer) m l.report.decided l y.next x y.step)
   go_kind o same fs (Decided r) m answer l fs' e x y =
       kinded o (fs' l.step.worker) y.next (ap (λ (z : Flights V). z l.step.worker) y.advances ∙ flight_here fs l.step.worker y.next) (concluded_kind o r y.step.outcome y.next y.step.concludes)
   go_kind o same fs (Unbegun start end size) m answer l fs' e x y =

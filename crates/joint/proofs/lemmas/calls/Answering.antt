@@ -10,7 +10,7 @@ use Rattle.congee.specs.declared.protocol.machine.Outcome.TheVariants as moved
 use Rattle.congee.specs.declared.protocol.op.Op.{Op as Point}
 use Rattle.congee.specs.declared.protocol.op.Op.TheVariants as point
 use Rattle.congee.specs.declared.protocol.phase.Kind.{Kind}
-use Rattle.congee.specs.protocol.Play.{Flight, Pending, Decided, Over, Unbegun, Scanning, Question, Unasked, Undecided, Concludes, heard, resolved, begun, flight, parts}
+use Rattle.congee.specs.protocol.Play.{Flight, Pending, Decided, Over, Unbegun, Scanning, Question, Unasked, Undecided, Concludes, value_answered, resolved, begun, flight, parts}
 use Rattle.joint.specs.declared.id.Id.{Id}
 use Rattle.joint.specs.declared.steps.Event.{Event}
 use Rattle.joint.specs.declared.steps.Event.TheVariants.{Register, Begin, Go}
@@ -117,7 +117,7 @@ module _ {V : Type 0} (same : V → V → Bool) where
       (λ b.
       let g = goes_at fs m l.step.event l x.0 w (Pending k kd v u) e b x.1 in
       let y = g.1.1 in
-      pending_on k kd (heard kd u g.1.0.answer v) (resolved kd u g.1.0.answer) w m l ls y.next l.report.decided g.0
+      pending_on k kd (value_answered kd u g.1.0.answer v) (resolved kd u g.1.0.answer) w m l ls y.next l.report.decided g.0
       (λ a z q. decides w k kd a z x.0 l.pairs ls fs' (next_here fs x.0 w l.step.worker y.next g.0 y.advances ∙ q) x.2)
       (λ r q. answers w r x.0 l.pairs ls fs' (next_here fs x.0 w l.step.worker y.next g.0 y.advances ∙ q) x.2)
       y.step)

@@ -15,7 +15,7 @@ use Rattle.congee.specs.declared.protocol.op.Op.TheVariants as point
 use Rattle.congee.specs.declared.protocol.phase.Kind.{Kind as Does}
 use Rattle.congee.specs.declared.protocol.phase.Kind.TheVariants as does
 use Rattle.congee.specs.Keys.{IsMapOf}
-use Rattle.congee.specs.protocol.Play.{Flight, Pending, Decided, Over, Question, Unasked, Asked, Replied, begun, parts, range_of, flight, heard, resolved, Carries, Undecided, Heeds, Concludes}
+use Rattle.congee.specs.protocol.Play.{Flight, Pending, Decided, Over, Question, Unasked, Asked, Replied, begun, parts, range_of, flight, value_answered, resolved, Carries, Undecided, Heeds, Concludes}
 use Rattle.congee.specs.protocol.Protocol.{IsCall, Asking}
 use Rattle.joint.specs.declared.id.Id.{Id}
 use Rattle.joint.specs.declared.steps.Done.{Done as Answer}
@@ -90,7 +90,7 @@ Ready kind given last v (Asked o) = Asking kind
 Ready kind given last v (Replied o) = Asking kind × (last ≡ Some (o, v))
 
 module _ {V : Type 0} where
-  answer_taken : (kind : Does V) (given v o x : Option V) (last : Answered V) → Asking kind → Ready kind given (Some (o, x)) (heard kind (Asked o) (Some x) v) (resolved kind (Asked o) (Some x))
+  answer_taken : (kind : Does V) (given v o x : Option V) (last : Answered V) → Asking kind → Ready kind given (Some (o, x)) (value_answered kind (Asked o) (Some x) v) (resolved kind (Asked o) (Some x))
   answer_taken does.ComputePresent given v o None last a = (tt, refl)
   answer_taken does.ComputePresent given v o (Some x) last a = (tt, refl)
   answer_taken does.ComputeInsert given v o None last a = tt
@@ -101,11 +101,11 @@ module _ {V : Type 0} where
   answer_taken (does.Exchange old) given v o x last a = absurd a
 
   ready : (kind : Does V) (given v : Option V) (q : Question V) (last : Answered V) (said : Outcome V) (a : Option (Option V)) → Tied kind given last said v q
-      → Ready kind given (answered_by a said last) (heard kind q a v) (resolved kind q a)
+      → Ready kind given (answered_by a said last) (value_answered kind q a v) (resolved kind q a)
   ready kind given v Unasked last said a t = t
   ready kind given v (Asked o) last said None t = t.0
   ready kind given v (Asked o) last said (Some x) t =
-      let P : Outcome V → Type 0 = λ y. Ready kind given (answered_by (Some x) y last) (heard kind (Asked o) (Some x) v) (resolved kind (Asked o) (Some x)) in
+      let P : Outcome V → Type 0 = λ y. Ready kind given (answered_by (Some x) y last) (value_answered kind (Asked o) (Some x) v) (resolved kind (Asked o) (Some x)) in
       subst P (sym t.1) (answer_taken kind given v o x last t.0)
   ready kind given v (Replied o) last said None t = (t.0, t.2)
   ready kind given v (Replied o) last said (Some x) t =
@@ -317,7 +317,7 @@ module _ {V : Type 0} (same : V → V → Bool) (always : Bool) (fs : Flights V)
       let P : Flight V → Type 0 = λ z. GoMap same (with_flight fs w f) z m noise.answer l y.flights in
       let a : Advances same (with_flight fs w f) f m noise.answer l y.flights = subst P (flight_here fs w f) y.map in
       let fl : AreInFlight s' (with_flight fs w a.next) = once_more s' fs w f a.next (subst (λ (z : Flights V). AreInFlight s' z) a.advances y.in_flight) in
-      pending (heard (parts p).1 b.question noise.answer b.value) (resolved (parts p).1 b.question noise.answer) r.decided l a.next (answered_by noise.answer said last) s' b.free
+      pending (value_answered (parts p).1 b.question noise.answer b.value) (resolved (parts p).1 b.question noise.answer) r.decided l a.next (answered_by noise.answer said last) s' b.free
       (ready (parts p).1 (parts p).2 b.value b.question last said noise.answer b.tied) a.step fl y.stand
 
   from_decided : (noise : Noise Id V) (last : Answered V) (s : World V) (r : Report V) (s' : World V) → Holds same always s → IsDecided same fs m w last p s → IsStep same always s (gone w noise) r s'

@@ -13,7 +13,7 @@ use Rattle.congee.specs.declared.protocol.phase.Kind.{Kind}
 use Rattle.congee.specs.Heap.{Node, Hung, fits, child_for, of_child, walk, value_at}
 use Rattle.congee.specs.Keys.{IsMapOf, key_bytes}
 use Rattle.congee.specs.protocol.Opening.{RootAlone}
-use Rattle.congee.specs.protocol.Play.{Flight, Pending, Decided, Over, Unbegun, Scanning, Question, heard, resolved}
+use Rattle.congee.specs.protocol.Play.{Flight, Pending, Decided, Over, Unbegun, Scanning, Question, value_answered, resolved}
 use Rattle.joint.specs.declared.engine.in_flight.InFlight.{InFlight}
 use Rattle.joint.specs.declared.steps.Event.{Event}
 use Rattle.joint.specs.declared.steps.Event.TheVariants.{Register, Begin, Go}
@@ -123,7 +123,7 @@ module _ {V : Type 0} (same : V → V → Bool) (always : Bool) where
   pending_entered k kind v q m true l f' x = inr (x.entry, x.is_entry, x.answers)
 
   go_entered : (fs : Flights V) (f : Flight V) (m : Pairs V) (answer : Option (Option V)) (l : Line V) (fs' : Flights V) → GoMap same fs f m answer l fs' → Entered m l
-  go_entered fs (Pending k kind v q) m answer l fs' x = pending_entered k kind (heard kind q answer v) (resolved kind q answer) m l.report.decided l x.next x.step
+  go_entered fs (Pending k kind v q) m answer l fs' x = pending_entered k kind (value_answered kind q answer v) (resolved kind q answer) m l.report.decided l x.next x.step
   go_entered fs (Decided r) m answer l fs' x = inl (x.step.no_entry, x.step.same_pairs)
   go_entered fs Over m answer l fs' x = stays_entered fs m l fs' x
   go_entered fs (Unbegun start end size) m answer l fs' x = inl (x.step.no_entry, x.step.same_pairs)

@@ -28,7 +28,7 @@ use Rattle.congee.specs.declared.forms.base_node.NodeType.{NodeType}
 use Rattle.congee.specs.Heap.{Node, version_of, is_taken}
 use Rattle.congee.specs.Keys.{key_bytes}
 use Rattle.congee.specs.protocol.Holdings.{LockedBy, MadeBy, TakenBy}
-use Rattle.congee.specs.protocol.Play.{Flight, Pending, Decided, Over, Unbegun, Scanning, Question, EachKnown, Settled, Follows, IsOfPoint, Watched, PendingMoves, Undecided, Concludes, ScanTells, flight, heard, resolved}
+use Rattle.congee.specs.protocol.Play.{Flight, Pending, Decided, Over, Unbegun, Scanning, Question, EachKnown, Settled, Follows, IsOfPoint, Watched, PendingMoves, Undecided, Concludes, ScanTells, flight, value_answered, resolved}
 use Rattle.congee.specs.protocol.Steps.{Stepped, PhaseStepped, outcome_of}
 use Rattle.congee.specs.protocol.SweepSteps.{whole, Swung, SweptAt, over, anew, left, left_to, last_of, filled, entered, begins, IsFollowed, is_outside}
 use Rattle.joint.specs.declared.id.Id.{Id}
@@ -307,7 +307,7 @@ module _ {V : Type 0} (same : V → V → Bool) (always : Bool) (most : ℕ) (wh
     done_over w e = by_flight f refl before w
       where
         by_flight : (g : Flight V) → f ≡ g → Follows m g → Watched same g pairs told_answer d f' pairs' → f' ≡ Over
-        by_flight (Pending k kind v q) is b x = points (moves_point same k kind (heard kind q told_answer v) (resolved kind q told_answer) pairs pairs' d.decided d.outcome f' x) e
+        by_flight (Pending k kind v q) is b x = points (moves_point same k kind (value_answered kind q told_answer v) (resolved kind q told_answer) pairs pairs' d.decided d.outcome f' x) e
         by_flight (Decided r) is b x = points (concluded_point r d.outcome f' x.1) e
         by_flight Over is b x = x.1
         by_flight (Unbegun start end size) is b x = scans start end size (pairs ∷ []) [] (λ o. let P : Flight V → Type 0 = λ y. IsOfPoint y in subst P is o) before e x.1

@@ -10,7 +10,7 @@ use Rattle.congee.specs.declared.protocol.machine.Outcome.{Outcome as Moved}
 use Rattle.congee.specs.declared.protocol.machine.Outcome.TheVariants as moved
 use Rattle.congee.specs.declared.protocol.op.Op.{Op as Point}
 use Rattle.congee.specs.declared.protocol.phase.Kind.{Kind}
-use Rattle.congee.specs.protocol.Play.{Flight, Pending, Decided, Over, Unbegun, Scanning, Question, heard, resolved, Undecided, Concludes, ScanTells, begun, flight}
+use Rattle.congee.specs.protocol.Play.{Flight, Pending, Decided, Over, Unbegun, Scanning, Question, value_answered, resolved, Undecided, Concludes, ScanTells, begun, flight}
 use Rattle.joint.specs.declared.id.Id.{Id}
 use Rattle.joint.specs.declared.engine.request.Request.{Request}
 use Rattle.joint.specs.declared.steps.Event.{Event}
@@ -30,7 +30,7 @@ use Rattle.joint.specs.engine.Flying.{Flights, AreInFlight, with_flight}
 use Rattle.joint.specs.world.World.{IsAsked, requests_after}
 use Rattle.joint.specs.engine.Engine.{World, EngineHolds, Does, is_in_flight, misuse, engine_of}
 use Rattle.joint.proofs.lemmas.world.Flights.{ends_stays, flight_here, flight_apart}
-use Rattle.joint.proofs.lemmas.world.Requested.{Heard, asks, is_asked, heard_is, undecided_asked, begins_asked}
+use Rattle.joint.proofs.lemmas.world.Requested.{TakesAnswer, asks, is_asked, heard_is, undecided_asked, begins_asked}
 use Rattle.joint.proofs.lemmas.world.JournalPlaces.{asks_here}
 use Rattle.joint.proofs.lemmas.engine.Entering.{begin_free}
 
@@ -136,21 +136,21 @@ module _ {V : Type 0} (same : V → V → Bool) (always : Bool) (s s' : World V)
     past_or_in : (n i : ℕ) → (n ≤ i) ⊎ (i < n)
     past_or_in n i = grind arith
 
-  pub pending_next : (noise : Noise Id V) (k : ℕ) (kd : Kind V) (v : Option V) (q : Question V) → fs w ≡ Pending k kd v q → Heard (answered_if (asks_at (slice_get s.machines w)) noise.answer (request_at qs w)) k kd (heard kd q noise.answer v) (resolved kd q noise.answer)
+  pub pending_next : (noise : Noise Id V) (k : ℕ) (kd : Kind V) (v : Option V) (q : Question V) → fs w ≡ Pending k kd v q → TakesAnswer (answered_if (asks_at (slice_get s.machines w)) noise.answer (request_at qs w)) k kd (value_answered kd q noise.answer v) (resolved kd q noise.answer)
   pending_next noise k kd v q e =
       let a : IsAsked (request_at qs w) (Pending k kd v q) = subst (λ (x : Flight V). IsAsked (request_at qs w) x) e (each w) in
       let b : asks_at (slice_get s.machines w) ≡ is_asked q = asks_here same always (engine_of s) w holds fs fl ∙ ap asks e in
-      let P : Bool → Type 0 = λ z. Heard (answered_if z noise.answer (request_at qs w)) k kd (heard kd q noise.answer v) (resolved kd q noise.answer) in
-      let Q : Option (Request V) → Type 0 = λ o. Heard (answered_if (is_asked q) noise.answer o) k kd (heard kd q noise.answer v) (resolved kd q noise.answer) in
+      let P : Bool → Type 0 = λ z. TakesAnswer (answered_if z noise.answer (request_at qs w)) k kd (value_answered kd q noise.answer v) (resolved kd q noise.answer) in
+      let Q : Option (Request V) → Type 0 = λ o. TakesAnswer (answered_if (is_asked q) noise.answer o) k kd (value_answered kd q noise.answer v) (resolved kd q noise.answer) in
       subst P (sym b) (subst Q (sym a.1) (heard_is a.0 k kd v q noise.answer a.2 a.3))
 
   pending_case : (noise : Noise Id V) (k : ℕ) (kd : Kind V) (v : Option V) (q : Question V) (l : Line V) (d : Bool) (f' : Flight V) (on : Bool) → fs w ≡ Pending k kd v q → is_in_flight l.report.outcome ≡ on
-      → PendingStep same k kd (heard kd q noise.answer v) (resolved kd q noise.answer) m d l f' → IsAsked (request_at (slice_set qs w (next noise on)) w) f'
+      → PendingStep same k kd (value_answered kd q noise.answer v) (resolved kd q noise.answer) m d l f' → IsAsked (request_at (slice_set qs w (next noise on)) w) f'
   pending_case noise k kd v q l false f' true e o (inl x) =
       let n : w < length qs = within (Pending k kd v q) e (λ z. cc) in
-      subst (λ (y : Option (Request V)). IsAsked y f') (sym (request_here qs w (next noise true) n)) (undecided_asked (next noise true) k kd (heard kd q noise.answer v) (resolved kd q noise.answer) x.outcome f' (pending_next noise k kd v q e) x.undecided)
+      subst (λ (y : Option (Request V)). IsAsked y f') (sym (request_here qs w (next noise true) n)) (undecided_asked (next noise true) k kd (value_answered kd q noise.answer v) (resolved kd q noise.answer) x.outcome f' (pending_next noise k kd v q e) x.undecided)
   pending_case noise k kd v q l false f' false e o (inl x) =
-      subst (λ (y : Flight V). IsAsked (request_at (slice_set qs w (next noise false)) w) y) (sym (undecided_ends k kd (heard kd q noise.answer v) (resolved kd q noise.answer) x.outcome f' (sym (ap is_in_flight x.told_so) ∙ o) x.undecided)) tt
+      subst (λ (y : Flight V). IsAsked (request_at (slice_set qs w (next noise false)) w) y) (sym (undecided_ends k kd (value_answered kd q noise.answer v) (resolved kd q noise.answer) x.outcome f' (sym (ap is_in_flight x.told_so) ∙ o) x.undecided)) tt
   pending_case noise k kd v q l false f' on e o (inr x) = subst (λ (y : Flight V). IsAsked (request_at (slice_set qs w (next noise on)) w) y) (sym x.over) tt
   pending_case noise k kd v q l true f' on e o x = concluded_asked _ x.entry.reply x.outcome f' x.concludes
 

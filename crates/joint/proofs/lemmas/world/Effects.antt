@@ -13,7 +13,7 @@ use Rattle.congee.specs.declared.protocol.machine.Outcome.{Outcome as Moved}
 use Rattle.congee.specs.declared.protocol.machine.Outcome.TheVariants as moved
 use Rattle.congee.specs.declared.protocol.phase.Kind.{Kind}
 use Rattle.congee.specs.declared.protocol.phase.Kind.TheVariants as kind
-use Rattle.congee.specs.protocol.Play.{Flight, Pending, Decided, Over, Unbegun, Scanning, Question, heard, resolved, Concludes}
+use Rattle.congee.specs.protocol.Play.{Flight, Pending, Decided, Over, Unbegun, Scanning, Question, value_answered, resolved, Concludes}
 use Rattle.congee.specs.protocol.Protocol.{IsCall}
 use Rattle.joint.specs.declared.id.Id.{Id}
 use Rattle.joint.specs.declared.engine.request.Request.{Request}
@@ -96,11 +96,11 @@ module _ {V : Type 0} (same : V → V → Bool) (always : Bool) (s s' : World V)
   reply_told r (moved.Scanned count) f' t e c = absurd c
 
   -- the map's reply at the call's key is the entry's
-  replies_of : (noise : Noise Id V) (k : ℕ) (kd : Kind V) (v : Option V) (q : Question V) (f' : Flight V) (t : TakesEffect same k kd (heard kd q noise.answer v) (resolved kd q noise.answer) m l f') → reply_on same t.entry.call (get m k) ≡ t.entry.reply
-  replies_of noise k kd v q f' t = ap (λ x. reply_on same t.entry.call (get m x)) (sym (call_key k kd (heard kd q noise.answer v) (get m k) t.entry.call t.call)) ∙ ap (λ z. z.0) t.answers
+  replies_of : (noise : Noise Id V) (k : ℕ) (kd : Kind V) (v : Option V) (q : Question V) (f' : Flight V) (t : TakesEffect same k kd (value_answered kd q noise.answer v) (resolved kd q noise.answer) m l f') → reply_on same t.entry.call (get m k) ≡ t.entry.reply
+  replies_of noise k kd v q f' t = ap (λ x. reply_on same t.entry.call (get m x)) (sym (call_key k kd (value_answered kd q noise.answer v) (get m k) t.entry.call t.call)) ∙ ap (λ z. z.0) t.answers
 
   effect_of : (noise : Noise Id V) (k : ℕ) (kd : Kind V) (v : Option V) (q : Question V) (f' : Flight V) → fs w ≡ Pending k kd v q → fs' w ≡ f' → is_reserving (slice_get s.calls w) ≡ false
-      → TakesEffect same k kd (heard kd q noise.answer v) (resolved kd q noise.answer) m l f' → Effect (Go noise)
+      → TakesEffect same k kd (value_answered kd q noise.answer v) (resolved kd q noise.answer) m l f' → Effect (Go noise)
   effect_of noise k kd v q f' e e' n t = record {
     entry = t.entry;
     is_entry = t.is_entry;
@@ -109,15 +109,15 @@ module _ {V : Type 0} (same : V → V → Bool) (always : Bool) (s s' : World V)
         let h = pending_next same always s s' w holds fs m fl long each noise k kd v q e in
         let replies = replies_of noise k kd v q f' t in
         entry_is w _ h.request _ t.entry.reply t.entry.call t.entry h.is (reply_told t.entry.reply t.outcome f' t.told_so e' t.concludes)
-        (ap (call_of h.request.op h.request.answer) (sym replies) ∙ request_call h.request same k kd (heard kd q noise.answer v) (get m k) t.entry.call h.of t.call) (t.worker ∙ we) refl refl;
+        (ap (call_of h.request.op h.request.answer) (sym replies) ∙ request_call h.request same k kd (value_answered kd q noise.answer v) (get m k) t.entry.call h.of t.call) (t.worker ∙ we) refl refl;
     answered = λ each asked is.
         let h = pending_next same always s s' w holds fs m fl long each noise k kd v q e in
         let same_request : h.request ≡ asked = some_injective _ _ (sym h.is ∙ is) in
         let replies = replies_of noise k kd v q f' t in
         subst (λ r. HasAnswer asked.op asked.answer r) replies
         (subst (λ (y : Request V). HasAnswer y.op y.answer (reply_on same t.entry.call (get m k))) same_request
-        (request_answered h.request same k kd (heard kd q noise.answer v) (get m k) t.entry.call (resolved kd q noise.answer) h.of t.call t.heeds h.question));
-    had = place_here same always (engine_of s) w holds fs fl n ∙ ap writes_on e ∙ call_looks k kd (heard kd q noise.answer v) (get m k) t.entry.call t.call;
+        (request_answered h.request same k kd (value_answered kd q noise.answer v) (get m k) t.entry.call (resolved kd q noise.answer) h.of t.call t.heeds h.question));
+    had = place_here same always (engine_of s) w holds fs fl n ∙ ap writes_on e ∙ call_looks k kd (value_answered kd q noise.answer v) (get m k) t.entry.call t.call;
     has = place_writes same always (engine_of s') w holds' fs' fl' (ap writes_on e' ∙ concluded_writes t.entry.reply t.outcome f' t.concludes);
   }
 
@@ -125,7 +125,7 @@ module _ {V : Type 0} (same : V → V → Bool) (always : Bool) (s s' : World V)
   advanced f' e = ap (λ (g : Flights V). g w) (e ∙ ap (λ j. with_flight fs j f') we) ∙ flight_here fs w f'
 
   pending_effect : (noise : Noise Id V) (k : ℕ) (kd : Kind V) (v : Option V) (q : Question V) (f' : Flight V) (d : Bool) → d ≡ true → fs w ≡ Pending k kd v q → fs' w ≡ f' → is_reserving (slice_get s.calls w) ≡ false
-      → PendingStep same k kd (heard kd q noise.answer v) (resolved kd q noise.answer) m d l f' → Effect (Go noise)
+      → PendingStep same k kd (value_answered kd q noise.answer v) (resolved kd q noise.answer) m d l f' → Effect (Go noise)
   pending_effect noise k kd v q f' true d e e' n t = effect_of noise k kd v q f' e e' n t
   pending_effect noise k kd v q f' false d e e' n t = absurd (false≢true d)
 
@@ -173,7 +173,7 @@ module _ {V : Type 0} (same : V → V → Bool) (always : Bool) (s s' : World V)
   pending_leaves k kd v q f' true d x = absurd (false≢true (sym d))
 
   go_leaves : (answer : Option (Option V)) (f : Flight V) → l.report.decided ≡ false → GoMap same fs f m answer l fs' → Leaves
-  go_leaves answer (Pending k kd v q) d x = pending_leaves k kd (heard kd q answer v) (resolved kd q answer) x.next l.report.decided d x.step
+  go_leaves answer (Pending k kd v q) d x = pending_leaves k kd (value_answered kd q answer v) (resolved kd q answer) x.next l.report.decided d x.step
   go_leaves answer (Decided r) d x = record { no_entry = x.step.no_entry; same_pairs = x.step.same_pairs }
   go_leaves answer Over d x = of_stays x
   go_leaves answer (Unbegun start end size) d x = record { no_entry = x.step.no_entry; same_pairs = x.step.same_pairs }

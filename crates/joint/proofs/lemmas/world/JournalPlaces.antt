@@ -13,7 +13,7 @@ use Rattle.congee.specs.declared.protocol.op.Op.{Op as Point}
 use Rattle.congee.specs.declared.protocol.op.Op.TheVariants as point
 use Rattle.congee.specs.declared.protocol.phase.Kind.{Kind}
 use Rattle.congee.specs.declared.protocol.sweep.Sweep.{Sweep as Scan}
-use Rattle.congee.specs.protocol.Play.{Flight, Pending, Decided, Over, Unbegun, Scanning, Question, heard, resolved, Undecided, Concludes, ScanTells, ScanFollows, Follows, begun, flight}
+use Rattle.congee.specs.protocol.Play.{Flight, Pending, Decided, Over, Unbegun, Scanning, Question, value_answered, resolved, Undecided, Concludes, ScanTells, ScanFollows, Follows, begun, flight}
 use Rattle.joint.specs.declared.engine.in_flight.InFlight.{InFlight}
 use Rattle.joint.specs.declared.engine.in_flight.InFlight.TheVariants.{Idle, Collecting, Reserving, Securing, Walking}
 use Rattle.joint.specs.declared.id.Id.{Id}
@@ -200,7 +200,7 @@ module _ {V : Type 0} where
 
     pub go_writes : (fs : Flights V) (f : Flight V) (m : Pairs V) (answer : Option (Option V)) (l : Line V) (fs' : Flights V) → fs l.step.worker ≡ f → GoMap same fs f m answer l fs' → writes_on f ≡ false → writes_on (fs' l.step.worker) ≡ false
     go_writes fs (Pending k kd v q) m answer l fs' e x n =
-        advanced_writes fs fs' l.step.worker x.next x.advances (pending_writes k kd (heard kd q answer v) (resolved kd q answer) m l.report.decided l x.next x.step n)
+        advanced_writes fs fs' l.step.worker x.next x.advances (pending_writes k kd (value_answered kd q answer v) (resolved kd q answer) m l.report.decided l x.next x.step n)
     go_writes fs (Decided r) m answer l fs' e x n = advanced_writes fs fs' l.step.worker x.next x.advances (concluded_writes r x.step.outcome x.next x.step.concludes)
     go_writes fs Over m answer l fs' e x n = ap (λ (g : Flights V). writes_on (g l.step.worker)) x.same_flights ∙ ap writes_on e
     go_writes fs (Unbegun start end size) m answer l fs' e x n = advanced_writes fs fs' l.step.worker x.next x.advances (scan_writes start end size (m ∷ []) [] x.step.outcome x.next x.step.tells)

@@ -4,7 +4,7 @@ use Rattle.std.specs.Prelude.{Option, None, Some}
 use Rattle.judge.specs.Answer.{Pairs}
 use Rattle.congee.specs.declared.protocol.op.Op.{Op as Point}
 use Rattle.congee.specs.declared.protocol.phase.Kind.{Kind}
-use Rattle.congee.specs.protocol.Play.{Flight, Pending, Decided, Over, Unbegun, Scanning, Question, range_of, heard, resolved}
+use Rattle.congee.specs.protocol.Play.{Flight, Pending, Decided, Over, Unbegun, Scanning, Question, range_of, value_answered, resolved}
 use Rattle.joint.specs.declared.steps.Done.{Done as Answer}
 use Rattle.joint.specs.declared.steps.Done.TheVariants as done
 use Rattle.joint.specs.declared.steps.Event.{Event}
@@ -59,7 +59,7 @@ module _ {V : Type 0} (b : Bool) where
     pending k kind v q m true l f' x = record { entry = x.entry; is_entry = x.is_entry; worker = x.worker; call = x.call; heeds = x.heeds; answers = x.answers; outcome = x.outcome; told_so = x.told_so; concludes = x.concludes }
 
     go_map : (fs : Flights V) (f : Flight V) (m : Pairs V) (answer : Option (Option V)) (l : Line V) (fs' : Flights V) → GoMap same fs f m answer l fs' → GoMap same fs f m answer (rekept l) fs'
-    go_map fs (Pending k kind v q) m answer l fs' x = record { next = x.next; step = pending k kind (heard kind q answer v) (resolved kind q answer) m l.report.decided l x.next x.step; advances = x.advances }
+    go_map fs (Pending k kind v q) m answer l fs' x = record { next = x.next; step = pending k kind (value_answered kind q answer v) (resolved kind q answer) m l.report.decided l x.next x.step; advances = x.advances }
     go_map fs (Decided r) m answer l fs' x =
         record { next = x.next; step = record { undecided = x.step.undecided; outcome = x.step.outcome; told_so = x.step.told_so; concludes = x.step.concludes; no_entry = x.step.no_entry; same_pairs = x.step.same_pairs }; advances = x.advances }
     go_map fs Over m answer l fs' x = stays fs m l fs' x

@@ -36,7 +36,7 @@ use Rattle.congee.specs.protocol.Answers.{SameMap}
 use Rattle.congee.specs.protocol.Sweeps.{IsScan}
 use Rattle.congee.specs.Heap.{Node}
 use Rattle.congee.specs.Keys.{IsMapOf, key_bytes}
-use Rattle.congee.specs.protocol.Play.{Flight, Pending, Decided, Over, Unbegun, Scanning, Question, Unasked, heard, resolved, begun, parts, flight, Follows, Following, Watched, WatchedAt, PendingMoves}
+use Rattle.congee.specs.protocol.Play.{Flight, Pending, Decided, Over, Unbegun, Scanning, Question, Unasked, value_answered, resolved, begun, parts, flight, Follows, Following, Watched, WatchedAt, PendingMoves}
 use Rattle.joint.specs.declared.engine.in_flight.InFlight.{InFlight}
 use Rattle.joint.specs.declared.engine.in_flight.InFlight.TheVariants.{Idle, Collecting, Reserving, Securing, Walking}
 use Rattle.joint.specs.declared.id.Id.{Id}
@@ -462,7 +462,7 @@ module _ {V : Type 0} (same : V → V → Bool) (always : Bool) (s s' : World V)
 
     flown : (f : Flight V) (r : Report V) (f' : Flight V) (m' : Pairs V) → r.decided ≡ d.decided → r.outcome ≡ told d.outcome → fs w ≡ f → Watched same f m noise.answer d f' m' → Flown f r f' m'
     flown (Pending k kd v q) r f' m' c t is x =
-        let v' : Option V = heard kd q noise.answer v in
+        let v' : Option V = value_answered kd q noise.answer v in
         let q' : Question V = resolved kd q noise.answer in
         let y : (z : Option (Entry V)) × PendingStep same k kd v' q' m d.decided (told_line r z m') f' = pending_step k kd v' q' d.decided r f' m' t x in
         let P : Bool → Type 0 = λ b. PendingStep same k kd v' q' m b (told_line r y.0 m') f' in

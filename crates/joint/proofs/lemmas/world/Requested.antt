@@ -14,7 +14,7 @@ use Rattle.congee.specs.declared.protocol.phase.Kind.{Kind}
 use Rattle.congee.specs.declared.protocol.phase.Kind.TheVariants as kind
 use Rattle.congee.specs.declared.protocol.phase.Phase.{Phase}
 use Rattle.congee.specs.declared.protocol.phase.Phase.TheVariants as phase
-use Rattle.congee.specs.protocol.Play.{Flight, Pending, Decided, Question, Unasked, Asked, Replied, Heeds, heard, resolved, after_none, Carries, Undecided, parts, flight_in, heeding, begun, flight}
+use Rattle.congee.specs.protocol.Play.{Flight, Pending, Decided, Question, Unasked, Asked, Replied, Heeds, value_answered, resolved, after_none, Carries, Undecided, parts, flight_in, heeding, begun, flight}
 use Rattle.congee.specs.protocol.Protocol.{Asking, IsCall}
 use Rattle.joint.specs.declared.id.Id.{Id}
 use Rattle.joint.specs.declared.engine.request.Request.{Request}
@@ -76,14 +76,14 @@ module _ {V : Type 0} where
 
   -- a request that is heard is of the same call with the value that it has then
   hear_none : (op : Op V) (answer : Option (Option V)) (kd : Kind V) (v : Option V) (p : Point V) → target op ≡ Tree p → (parts p).1 ≡ kd → Asking kd → value_of op answer ≡ v
-      → value_of op (with_answer (Some None) (record { op = op; answer = answer })).answer ≡ (heard kd (Asked None) (Some None) v)
+      → value_of op (with_answer (Some None) (record { op = op; answer = answer })).answer ≡ (value_answered kd (Asked None) (Some None) v)
   hear_none (ComputePresent k) answer kd v p t e a q =
       let i : point.ComputePresent k ≡ p = cc in
-      let P : Kind V → Type 0 = λ x. None ≡ heard x (Asked None) (Some None) v in
+      let P : Kind V → Type 0 = λ x. None ≡ value_answered x (Asked None) (Some None) v in
       subst P (ap (λ (y : Point V). (parts y).1) i ∙ e) refl
   hear_none (ComputeInsert k) answer kd v p t e a q =
       let i : point.ComputeInsert k ≡ p = cc in
-      let P : Kind V → Type 0 = λ x. value_of (ComputeInsert k) answer ≡ heard x (Asked None) (Some None) v in
+      let P : Kind V → Type 0 = λ x. value_of (ComputeInsert k) answer ≡ value_answered x (Asked None) (Some None) v in
       subst P (ap (λ (y : Point V). (parts y).1) i ∙ e) q
   hear_none (Get k) answer kd v p t e a q = absurd (let i : point.Get k ≡ p = cc in subst (λ (x : Kind V). Asking x) (sym (ap (λ (y : Point V). (parts y).1) i ∙ e)) a)
   hear_none (Insert k w) answer kd v p t e a q = absurd (let i : point.Insert k w ≡ p = cc in subst (λ (x : Kind V). Asking x) (sym (ap (λ (y : Point V). (parts y).1) i ∙ e)) a)
@@ -124,14 +124,14 @@ module _ {V : Type 0} where
   none_settles _ answer kd found p t e a = absurd (cc t)
 
   -- what the step of a call hears
-  pub record Heard (o : Option (Request V)) (k : ℕ) (kd : Kind V) (v : Option V) (u : Question V) : Type 0 where
+  pub record TakesAnswer (o : Option (Request V)) (k : ℕ) (kd : Kind V) (v : Option V) (u : Question V) : Type 0 where
     pub request : Request V
     pub is : o ≡ Some request
     pub of : IsRequestOf request k kd v
     pub question : IsQuestionOf kd u request.answer
 
   pub heard_is : (q : Request V) (k : ℕ) (kd : Kind V) (v : Option V) (u : Question V) (answer : Option (Option V)) → IsRequestOf q k kd v → IsQuestionOf kd u q.answer
-      → Heard (answered_if (is_asked u) answer (Some q)) k kd (heard kd u answer v) (resolved kd u answer)
+      → TakesAnswer (answered_if (is_asked u) answer (Some q)) k kd (value_answered kd u answer v) (resolved kd u answer)
   heard_is q k kd v Unasked answer r a = record { request = q; is = refl; of = r; question = a }
   heard_is q k kd v (Replied o) answer r a = record { request = q; is = refl; of = r; question = a }
   heard_is q k kd v (Asked o) None r a = record { request = q; is = refl; of = r; question = a }
@@ -241,12 +241,12 @@ module _ {V : Type 0} where
   begins_asked op (point.Exchange k old new) t = begins_as op (point.Exchange k old new) t tt
 
   -- a step that doesn't decide leaves the request of a call that stays in flight as it was heard
-  carried : (o : Option (Request V)) (k : ℕ) (kd : Kind V) (v : Option V) (q q' : Question V) → Heard o k kd v q → Carries q q' → IsAsked o (Pending k kd v q')
+  carried : (o : Option (Request V)) (k : ℕ) (kd : Kind V) (v : Option V) (q q' : Question V) → TakesAnswer o k kd v q → Carries q q' → IsAsked o (Pending k kd v q')
   carried o k kd v q Unasked h c = (h.request, h.is, h.of, tt)
   carried o k kd v q (Replied x) h c = (h.request, h.is, h.of, subst (λ u. IsQuestionOf kd u h.request.answer) c h.question)
   carried o k kd v q (Asked x) h c = absurd c
 
-  pub undecided_asked : (o : Option (Request V)) (k : ℕ) (kd : Kind V) (v : Option V) (q : Question V) (m : Moved V) (f' : Flight V) → Heard o k kd v q → Undecided k kd v q m f' → IsAsked o f'
+  pub undecided_asked : (o : Option (Request V)) (k : ℕ) (kd : Kind V) (v : Option V) (q : Question V) (m : Moved V) (f' : Flight V) → TakesAnswer o k kd v q → Undecided k kd v q m f' → IsAsked o f'
   undecided_asked o k kd v q moved.Running f' h u = subst (λ (x : Flight V). IsAsked o x) (sym u.2) (carried o k kd v q u.0 h u.1)
   undecided_asked o k kd v q (moved.Asks x) f' h u = subst (λ (y : Flight V). IsAsked o y) (sym u.1) (h.request, h.is, h.of, u.0)
   undecided_asked o k kd v q (moved.Done r) f' h u = absurd u
