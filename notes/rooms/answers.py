@@ -1,7 +1,8 @@
 #!/usr/bin/env python3
 """Whether what an answer cites of its function stands there: each call or binding behind `c.`, and the first word of each goal.
 
-A proof folder's last part is the function, looked for in the module that the folder's first parts name (project's root).
+A proof folder's last part is the function; all functions of that name in the crate are read (project's root). Names that macros and
+patterns give are printed too, so compare with what it prints of a tree that was proved: answers.py FOLDER.
 """
 
 import re
@@ -26,17 +27,16 @@ for crate in sorted(p for p in ROOT.iterdir() if (p / "src").is_dir()):
                 break
         if file is None and len(parts) <= 2:
             file = next((f for f in (crate / "src/lib.rt", crate / "src/main.rt") if f.is_file()), None)
-        if file is None:
-            continue
-        lines = file.read_text(encoding="utf-8").split("\n")
         words = set()
-        for i, l in enumerate(lines):
-            m = re.match(rf"^(\s*).*\bfn {re.escape(name)}\b", l)
-            if m:
-                j = i
-                while j < len(lines) and not (j > i and lines[j] in (m[1] + "}", m[1] + "{}")):
-                    words |= set(re.findall(r"\w+", lines[j]))
-                    j += 1
+        for source in [file, *sorted((crate / "src").rglob("*.rt"))]:
+            lines = source.read_text(encoding="utf-8").split("\n") if source else []
+            for i, l in enumerate(lines):
+                m = re.match(rf"^(\s*).*\bfn {re.escape(name)}\b", l)
+                if m:
+                    j = i
+                    while j < len(lines) and not (j > i and lines[j] in (m[1] + "}", m[1] + "{}")):
+                        words |= set(re.findall(r"\w+", lines[j]))
+                        j += 1
         if not words:
             continue
         bad = set()
