@@ -38,6 +38,7 @@ collector::the_first_bag_of_a_block_alone_asks_for_memory
 failures::a_call_that_finds_no_memory_changes_nothing
 failures::a_script_goes_on_or_ends_where_memory_is_refused
 histories::a_history_wants_memory
+wants::a_removal_goes_on_without_a_lesser_leaf
 wants::a_run_goes_on_where_it_stopped
 wants::an_owned_leaf_grows
 wants::calls_for_threads_find_memory_then

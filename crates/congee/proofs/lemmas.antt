@@ -1,9 +1,13 @@
+pub mod Collapse
 pub mod Fits
 pub mod Graft
 pub mod Keys
+pub mod Lessen
+pub mod Lift
 pub mod Link
 pub mod Orders
 pub mod Rename
+pub mod Shrink
 pub mod Split
 pub mod Tree
 pub mod Unlink

@@ -1,7 +1,7 @@
 -- What is true of the tree and stands in no node: which nodes are in the tree, below which node each hangs,
 -- who made it and who holds its lock.
-use Rattle.std.specs.Prelude.{◌≡◌, ◌≢◌, ℕ, ◌<◌, ◌≤◌, Bool, true, false, List, [], length, slice_index, Option, None}
-use Rattle.congee.specs.Heap.{Node, Below, Holds, Stands, fits, is_free}
+use Rattle.std.specs.Prelude.{◌≡◌, ◌≢◌, ℕ, ◌==◌, cond, ◌<◌, ◌≤◌, Bool, true, false, List, [], length, slice_index, Option, None}
+use Rattle.congee.specs.Heap.{Node, Nothing, Below, Holds, Stands, fits, child_for, is_free}
 use Rattle.congee.specs.Keys.{key_bytes}
 use Rattle.congee.specs.declared.forms.prefix.TheConstants.{MAX_PREFIX_LEN}
 
@@ -82,3 +82,95 @@ pub record WordAt {V : Type 0} (x : Note) (n : Node V) : Type 0 where
 pub record LockWords {V : Type 0} (a : ℕ → Note) (h : ℕ → Node V) : Type 0 where
   pub each : (n : ℕ) → WordAt (a n) (h n)
   pub wide : (h 0).capacity ≡ 256
+
+-- node m hangs at byte b of node n and has one child, o at byte q; o comes in its place, and m leaves the tree
+pub record Lifts {V : Type 0} (a : ℕ → Note) (h : ℕ → Node V) (a' : ℕ → Note) (h' : ℕ → Node V) (n b m q o : ℕ) : Type 0 where
+  pub linked : (a n).status ≡ Linked
+  pub hung : (h n).children b ≡ Below m
+  pub only : (h m).children q ≡ Below o
+  pub alone : (c : ℕ) → c ≢ q → (h m).children c ≡ Nothing
+  pub prefix : (h' n).prefix ≡ (h n).prefix
+  pub prefix_low : (h' m).prefix ≡ (h m).prefix
+  pub child : (h' n).children b ≡ Below o
+  pub beside : (c : ℕ) → c ≢ b → (h' n).children c ≡ (h n).children c
+  pub left : (a' m).status ≢ Linked
+  pub stays : (x : ℕ) → x ≢ m → (a' x).status ≡ (a x).status
+  pub parent : (a' o).parent ≡ n
+  pub parents : (x : ℕ) → (a x).status ≡ Linked → x ≢ m → x ≢ o → (a' x).parent ≡ (a x).parent
+  pub nodes : (x : ℕ) → x ≢ n → x ≢ m → h' x ≡ h x
+
+-- leaf n with the key's value alone hangs in node p, which has one other child, o at byte q; p hangs at byte c of node g; o
+-- comes in its place
+pub record Collapses {V : Type 0} (a : ℕ → Note) (h : ℕ → Node V) (a' : ℕ → Note) (h' : ℕ → Node V) (g c p n q o : ℕ) (key : List ℕ) (v : V) : Type 0 where
+  pub linked : (a g).status ≡ Linked
+  pub hung : (h g).children c ≡ Below p
+  pub fitted : fits (h p).prefix key ≡ true
+  pub low : child_for (h p) key ≡ Below n
+  pub fitted_leaf : fits (h n).prefix key ≡ true
+  pub seven : length (h n).prefix ≡ MAX_PREFIX_LEN
+  pub value : child_for (h n) key ≡ Holds v
+  pub empty : (x : ℕ) → x ≢ slice_index key (length (h n).prefix) → (h n).children x ≡ Nothing
+  pub other : (h p).children q ≡ Below o
+  pub apart : q ≢ slice_index key (length (h p).prefix)
+  pub alone : (x : ℕ) → x ≢ slice_index key (length (h p).prefix) → x ≢ q → (h p).children x ≡ Nothing
+  pub prefix : (h' g).prefix ≡ (h g).prefix
+  pub prefix_low : (h' p).prefix ≡ (h p).prefix
+  pub child : (h' g).children c ≡ Below o
+  pub beside : (x : ℕ) → x ≢ c → (h' g).children x ≡ (h g).children x
+  pub left : (a' p).status ≢ Linked
+  pub left_low : (a' n).status ≡ Gone
+  pub stays : (x : ℕ) → x ≢ p → x ≢ n → (a' x).status ≡ (a x).status
+  pub parent : (a' o).parent ≡ g
+  pub parents : (x : ℕ) → (a x).status ≡ Linked → x ≢ p → x ≢ n → x ≢ o → (a' x).parent ≡ (a x).parent
+  pub nodes : (x : ℕ) → x ≢ g → x ≢ p → h' x ≡ h x
+
+-- the node x in the place of p
+abbrev pub in_place_of : ℕ → ℕ → ℕ → ℕ
+in_place_of p d x = cond (x == p) d x
+
+-- leaf n with the key's value alone hangs in node p, which hangs at byte c of node g; node d with the other children of p comes
+-- in its place
+pub record Lessens {V : Type 0} (a : ℕ → Note) (h : ℕ → Node V) (a' : ℕ → Note) (h' : ℕ → Node V) (g c p n d : ℕ) (key : List ℕ) (v : V) : Type 0 where
+  pub linked : (a g).status ≡ Linked
+  pub hung : (h g).children c ≡ Below p
+  pub fitted : fits (h p).prefix key ≡ true
+  pub low : child_for (h p) key ≡ Below n
+  pub fitted_leaf : fits (h n).prefix key ≡ true
+  pub seven : length (h n).prefix ≡ MAX_PREFIX_LEN
+  pub value : child_for (h n) key ≡ Holds v
+  pub empty : (x : ℕ) → x ≢ slice_index key (length (h n).prefix) → (h n).children x ≡ Nothing
+  pub unlinked : (a d).status ≢ Linked
+  pub prefix : (h' g).prefix ≡ (h g).prefix
+  pub child : (h' g).children c ≡ Below d
+  pub beside : (x : ℕ) → x ≢ c → (h' g).children x ≡ (h g).children x
+  pub same_prefix : (h' d).prefix ≡ (h p).prefix
+  pub gap : (h' d).children (slice_index key (length (h p).prefix)) ≡ Nothing
+  pub copied : (x : ℕ) → x ≢ slice_index key (length (h p).prefix) → (h' d).children x ≡ (h p).children x
+  pub joined : (a' d).status ≡ Linked
+  pub left : (a' p).status ≢ Linked
+  pub left_low : (a' n).status ≡ Gone
+  pub stays : (x : ℕ) → x ≢ p → x ≢ n → x ≢ d → (a' x).status ≡ (a x).status
+  pub parent : (a' d).parent ≡ g
+  pub parents : (x : ℕ) → (a x).status ≡ Linked → x ≢ p → x ≢ n → (a' x).parent ≡ in_place_of p d (a x).parent
+  pub nodes : (x : ℕ) → x ≢ g → x ≢ p → x ≢ d → h' x ≡ h x
+
+-- leaf n with the key's value hangs at byte c of node p; leaf d with its other values comes in its place
+pub record Shrinks {V : Type 0} (a : ℕ → Note) (h : ℕ → Node V) (a' : ℕ → Note) (h' : ℕ → Node V) (p c n d : ℕ) (key : List ℕ) (v : V) : Type 0 where
+  pub linked : (a p).status ≡ Linked
+  pub hung : (h p).children c ≡ Below n
+  pub fitted : fits (h n).prefix key ≡ true
+  pub seven : length (h n).prefix ≡ MAX_PREFIX_LEN
+  pub value : child_for (h n) key ≡ Holds v
+  pub unlinked : (a d).status ≢ Linked
+  pub prefix : (h' p).prefix ≡ (h p).prefix
+  pub child : (h' p).children c ≡ Below d
+  pub beside : (x : ℕ) → x ≢ c → (h' p).children x ≡ (h p).children x
+  pub same_prefix : (h' d).prefix ≡ (h n).prefix
+  pub gap : (h' d).children (slice_index key (length (h n).prefix)) ≡ Nothing
+  pub copied : (x : ℕ) → x ≢ slice_index key (length (h n).prefix) → (h' d).children x ≡ (h n).children x
+  pub joined : (a' d).status ≡ Linked
+  pub left : (a' n).status ≢ Linked
+  pub stays : (x : ℕ) → x ≢ n → x ≢ d → (a' x).status ≡ (a x).status
+  pub parent : (a' d).parent ≡ p
+  pub parents : (x : ℕ) → (a x).status ≡ Linked → x ≢ n → (a' x).parent ≡ in_place_of n d (a x).parent
+  pub nodes : (x : ℕ) → x ≢ p → x ≢ n → x ≢ d → h' x ≡ h x

@@ -24,3 +24,4 @@ pub mod Leaving
 pub mod Seeing
 pub mod Alone
 pub mod Trace
+pub mod Filled

@@ -2,15 +2,15 @@
 pub mod base_node;
 pub mod child;
 mod index;
-mod indexed;
-mod masked;
+pub(crate) mod indexed;
+pub(crate) mod masked;
 pub mod node16;
 pub mod node256;
 pub mod node4;
 pub mod node48;
 pub(crate) mod prefix;
 mod room;
-mod sorted;
+pub(crate) mod sorted;
 
 pub use base_node::{Node, NodeIter, NodeType};
 pub use child::{Child, Small};

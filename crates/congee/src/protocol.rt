@@ -3,8 +3,8 @@
 //! A lock word has a version, a lock and a mark. A call takes a node's version, reads the node, and checks that the
 //! word is still the one taken; what was read is true at that check, and the call follows it, takes effect, or makes
 //! what it needs. Before it changes a node it locks it, by one exchange from the version that it took; letting go
-//! raises the version. Where a check or an exchange fails, what was made goes back, a lock that is held is let go in
-//! the next step, and the call begins anew at the root. Two locks are taken from the upper node down.
+//! raises the version. Where a check or an exchange fails, what was made goes back, each lock that is held is let go in
+//! a step of its own, and the call begins anew at the root. Locks are taken from the upper node down.
 //!
 //! A `machine` is one call. Its `phase` is the next step, which each step changes where it lies; `acts` has the steps that
 //! make, lock or change nodes, and `turn` says where the store's answer leads. The ways on:
@@ -17,8 +17,10 @@
 //! | no child, no room: growth | `MakeLeaf` below an inner node, `MakeGreater`, `AskNew`, `UpgradeAbove`, `UpgradeBelow`, `ChangeTwo`, `Obsolete`, `Retire`, `Unlock` |
 //! | a value, and keeps it | `CheckOld` for an insertion, `AskOld`, `Confirm` |
 //! | a value, and puts another or none | `CheckOld`, `AskOld`, `UpgradeOne`, `ChangeOne`, `Unlock` |
+//! | a value, and takes it from a leaf that few are left in | `AskOld`, `MakeLesser`, `UpgradeAbove`, `UpgradeBelow`, `ChangeTwo`, `Obsolete`, `Retire`, `Unlock` |
 //! | the leaf's last value, and takes it | `AskOld`, `UpgradeAbove`, `UpgradeBelow`, `ChangeTwo`, `Obsolete`, `Retire`, `Unlock` |
-//! | the lower lock not free | `Unwind`, then anew, or refused |
+//! | the same below a node that one child is left in, or few | `AskOld`, for few `MakeLesser`, `UpgradeTop`, `UpgradeAbove`, `UpgradeBelow`, `ChangeTwo`, `Obsolete` and `Retire` of both, `Unlock` |
+//! | a lower lock not free | `Unwind` at each lock that is held, then anew, or refused |
 //!
 //! Only a call with a closure asks. A scan is one phase, `Sweep`, with stages of its own in `sweep`.
 mod acts;
@@ -35,7 +37,7 @@ mod turn;
 
 pub use machine::{Machine, Move, Noise, Outcome};
 pub use op::Op;
-pub use phase::{Double, Kind, One, Parent, Phase, Plan, Single, Site, Two};
+pub use phase::{Above, Double, Kind, One, Parent, Phase, Plan, Single, Site, Two};
 pub use plain::PlainStore;
 pub use plain_node::PlainNode;
 pub use run::{Played, Step, play, step_of};

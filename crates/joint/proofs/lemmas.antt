@@ -37,6 +37,7 @@ pub mod Events
 pub mod Exchanging
 pub mod Few
 pub mod Filing
+pub mod Filling
 pub mod Flights
 pub mod Found
 pub mod Fresh
@@ -64,6 +65,7 @@ pub mod MapSteps
 pub mod Mapped
 pub mod NameLists
 pub mod Opened
+pub mod Others
 pub mod Paths
 pub mod Placed
 pub mod PlainAgain

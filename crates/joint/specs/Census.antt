@@ -1,7 +1,7 @@
 -- What is counted of a tree beside its nodes: the pairs that stand in it, and the nodes that calls have taken out of it.
-use Rattle.std.specs.Prelude.{◌≡◌, ℕ, Bool, List, Option, None, Some, Ok, Err, length, option_map, if◌then◌else◌}
+use Rattle.std.specs.Prelude.{◌≡◌, ℕ, Bool, List, [], Option, None, Some, Ok, Err, length, if◌then◌else◌}
 use Rattle.std.specs.FinMap.{len}
-use Rattle.std.specs.List.{filter_map, sum_by}
+use Rattle.std.specs.List.{flat_map, sum_by}
 use Rattle.judge.specs.declared.journal.Reply.{Reply}
 use Rattle.judge.specs.declared.journal.Reply.TheVariants as reply
 use Rattle.judge.specs.Answer.{Pairs}
@@ -21,8 +21,8 @@ pub record AreCounted {V : Type 0} (k : Census) (s : Forest V) (ms : List (Machi
   pub pairs : Pairs V
   pub stand : IsMapOf (nodes s) pairs
   pub count : k.pairs ≡ len pairs
-  pub taken : k.taken ≡ length (filter_map taken_by ms)
-  pub bytes : k.taken_bytes ≡ sum_by (bytes_of s) (filter_map taken_by ms)
+  pub taken : k.taken.nodes ≡ length (flat_map taken_by ms)
+  pub bytes : k.taken.bytes ≡ sum_by (bytes_of s) (flat_map taken_by ms)
 
 -- what a call that answers so makes of the number of pairs
 abbrev pub effect : {V : Type 0} → Reply V → Change
@@ -66,7 +66,7 @@ reply_after (Some m) = reply_in m.phase
 abbrev pub effect_of : {V : Type 0} → Bool → Outcome V → Option (Machine Id V) → Change
 effect_of decided o m = if decided then effect_by (told_or (reply_after m) o) else Same
 
--- what is charged for the node that a call has taken out
-abbrev pub size_taken : {V : Type 0} → Forest V → Option (Machine Id V) → Option ℕ
-size_taken s None = None
-size_taken s (Some m) = option_map (bytes_of s) (taken_by m)
+-- the nodes that a call has taken out and not yet handed over, where there is a call
+abbrev pub taken_at : {V : Type 0} → Option (Machine Id V) → List ℕ
+taken_at None = []
+taken_at (Some m) = taken_by m

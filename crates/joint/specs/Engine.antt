@@ -113,9 +113,9 @@ kind_at Register = OfCollector
 kind_at (Begin op) = kind_of (target op)
 kind_at (Go noise) = OfCollector
 
--- the report of a step that neither decides nor destroys
+-- the report of a step that decides, skips and destroys nothing
 abbrev pub quiet : {V : Type 0} → Kind → Outcome V → Report V
-quiet kind outcome = record { kind = kind; decided = false; kept = false; destroyed = 0; outcome = outcome }
+quiet kind outcome = record { kind = kind; decided = false; kept = false; skipped = false; destroyed = 0; outcome = outcome }
 
 abbrev pub one_if : {A : Type 0} → Option A → ℕ
 one_if None = 0
@@ -128,7 +128,7 @@ destroyed_by (Some job) = one_if job.1
 
 -- the report of a step of the collector, from what the collector tells
 abbrev pub collection : {V : Type 0} → Collection → Outcome V → Report V
-collection c outcome = record { kind = OfCollector; decided = false; kept = false; destroyed = destroyed_by c.called; outcome = outcome }
+collection c outcome = record { kind = OfCollector; decided = false; kept = false; skipped = false; destroyed = destroyed_by c.called; outcome = outcome }
 
 -- the nodes that stand
 abbrev pub standing : {V : Type 0} → Forest V → ℕ
@@ -136,7 +136,7 @@ standing s = total (λ slot. 1) s.collector.store
 
 -- the report of a step of a call on the tree; no step both makes and destroys nodes
 abbrev pub walk : {V : Type 0} → Forest V → Move V → Forest V → Report V
-walk s d s' = record { kind = Tree; decided = d.decided; kept = false; destroyed = standing s - standing s'; outcome = told d.outcome }
+walk s d s' = record { kind = Tree; decided = d.decided; kept = false; skipped = d.skipped; destroyed = standing s - standing s'; outcome = told d.outcome }
 
 -- a worker takes the lowest free place, where there is one
 pub record Registers {V : Type 0} (s : Whole V) (n : ℕ) (r : Report V) (s' : Whole V) : Type 0 where
@@ -185,7 +185,7 @@ pub record Reserves {V : Type 0} (s : Whole V) (who : ℕ) (op : Point V) (r : R
   pub state : s' ≡ record s { calls = slice_set s.calls who (Reserving op) }
   pub report : r ≡ quiet Tree Running
 
--- it makes a place free for the node that it may hand over; after the last step of that it is in flight on the tree
+-- it makes a place free for each node that it may hand over; after the last step of that it is in flight on the tree
 abbrev pub reserving : {V : Type 0} → Turned → Outcome V
 reserving turned.Done = Running
 reserving o = collected o
@@ -195,7 +195,7 @@ pub record GoesOnReserving {V : Type 0} (same : V → V → Bool) (always : Bool
   pub step : Secured same always s.forest s.machines s.calls who turn s'.forest s'.machines s'.calls
   pub report : r ≡ collection turn (reserving turn.outcome)
 
--- its first step begins to make the place free, and goes on with that at once
+-- its first step begins to make the places free, and goes on with that at once
 pub record SecuresFirst {V : Type 0} (same : V → V → Bool) (always : Bool) (s : Whole V) (who : ℕ) (r : Report V) (s' : Whole V) : Type 0 where
   pub between : Whole V
   pub begins : BeginsSecuring same always s.forest s.machines s.calls who between.forest between.machines between.calls

@@ -28,7 +28,7 @@ use Rattle.joint.specs.Forest.{Forest}
 use Rattle.joint.specs.Machines.{IsSafe, Collected, Walked}
 use Rattle.joint.specs.Sound.{IsUnderWay, IsSecured}
 
--- whether a call may hand a node over
+-- whether a call may hand nodes over
 abbrev pub writes : {V : Type 0} → Op V → Bool
 writes (point.Get k) = false
 writes (point.Range start end size) = false
@@ -49,7 +49,7 @@ abbrev pub IsAt : {V J : Type 0} → Call V → Participant J → Machine Id V �
 IsAt Idle p m = (p.phase ≡ stage.Idle) × (m.phase ≡ Ended)
 IsAt (Collecting op) p m = IsOn op p × (m.phase ≡ Ended)
 IsAt (Reserving op) p m = (p.registered ≡ true) × (is_some p.word ≡ true) × (p.phase ≡ stage.Idle) × (m.phase ≡ Ended) × (writes op ≡ true)
-IsAt (Securing op) p m = IsOn (Secure 1) p × (is_some p.word ≡ true) × (m.phase ≡ Ended) × (writes op ≡ true)
+IsAt (Securing op) p m = IsOn (Secure 2) p × (is_some p.word ≡ true) × (m.phase ≡ Ended) × (writes op ≡ true)
 IsAt Walking p m = IsUnderWay m.phase × (is_done m.phase ≡ false)
 
 pub record IsIntact {V : Type 0} (same : V → V → Bool) (always : Bool) (s : Forest V) (ms : List (Machine Id V)) (calls : List (Call V)) : Type 0 where
@@ -102,21 +102,21 @@ abbrev pub is_reserving : {V : Type 0} → Option (Call V) → Bool
 is_reserving (Some (Reserving op)) = true
 is_reserving _ = false
 
--- the call in flight once it begins to make its place free
+-- the call in flight once it begins to make its places free
 abbrev pub securing_of : {V : Type 0} → Option (Call V) → Call V
 securing_of (Some (Reserving op)) = Securing op
 securing_of _ = Idle
 
--- a writing call begins to make its place free, which runs on
+-- a writing call begins to make its places free, which runs on
 pub record BeginsSecuring {V : Type 0} (same : V → V → Bool) (always : Bool) (s : Forest V) (ms : List (Machine Id V)) (calls : List (Call V)) (who : ℕ) (s' : Forest V) (ms' : List (Machine Id V)) (calls' : List (Call V)) : Type 0 where
   pub intact : IsIntact same always s' ms' calls'
   pub turn : Report
-  pub collected : Collected same always s ms who (Begin (Secure 1)) turn s'
+  pub collected : Collected same always s ms who (Begin (Secure 2)) turn s'
   pub running : turn.outcome ≡ Running
   pub call : calls' ≡ slice_set calls who (securing_of (slice_get calls who))
   pub machine : ms' ≡ ms
 
--- a writing call makes its place free
+-- a writing call makes its places free
 abbrev pub IsSecuring : {V : Type 0} → Option (Call V) → Type 0
 IsSecuring (Some (Securing op)) = Unit {0}
 IsSecuring _ = ⊥
@@ -141,7 +141,7 @@ abbrev pub over_at : {V : Type 0} → Option (Machine Id V) → Bool
 over_at None = false
 over_at (Some m) = is_over m.phase
 
--- a step of a writing call that makes its place free, after the last of which the call on the tree begins
+-- a step of a writing call that makes its places free, after the last of which the call on the tree begins
 pub record Secured {V : Type 0} (same : V → V → Bool) (always : Bool) (s : Forest V) (ms : List (Machine Id V)) (calls : List (Call V)) (who : ℕ) (r : Report) (s' : Forest V) (ms' : List (Machine Id V)) (calls' : List (Call V)) : Type 0 where
   pub intact : IsIntact same always s' ms' calls'
   pub collected : Collected same always s ms who Go r s'

@@ -32,8 +32,8 @@ asks_at (Some m) = is_asking m.phase
 
 -- whether a call on one key has yet to take effect
 abbrev pub is_pending : {V : Type 0} → Phase Id V → Bool
-is_pending (Obsolete n p r) = false
-is_pending (Retire n p r) = false
+is_pending (Obsolete n next p r) = false
+is_pending (Retire n next p r) = false
 is_pending (UnlockBelow n p r) = false
 is_pending (Unlock n r) = false
 is_pending (Sweep s) = false
@@ -69,8 +69,8 @@ places_of (k ∷ ks) (m ∷ ms) = one_where (has_place (Some k) (Some m)) + plac
 
 -- the reply that a call tells in the end, from the step on in which it took effect
 abbrev pub reply_in : {V : Type 0} → Phase Id V → Option (Reply V)
-reply_in (Obsolete n p r) = Some r
-reply_in (Retire n p r) = Some r
+reply_in (Obsolete n next p r) = Some r
+reply_in (Retire n next p r) = Some r
 reply_in (UnlockBelow n p r) = Some r
 reply_in (Unlock n r) = Some r
 reply_in _ = None

@@ -36,6 +36,7 @@ use Rattle.congee.specs.protocol.Alone.{NoOtherLocks, IsUndisturbed, HasAnswer, 
 use Rattle.congee.specs.protocol.Answers.{Keeps}
 use Rattle.congee.specs.protocol.Bounds.{Within}
 use Rattle.congee.specs.protocol.Destroys.{Destroys, Spares}
+use Rattle.congee.specs.protocol.Filled.{KeepsFilled}
 use Rattle.congee.specs.protocol.Handing.{Leads, InTree}
 use Rattle.congee.specs.Heap.{Node}
 use Rattle.congee.specs.protocol.Holdings.{Holdings, MadeBy}
@@ -109,6 +110,17 @@ AloneLaw {C} {V} number same always most why = (i : ℕ) (a : ℕ → Note) (h h
 abbrev pub WholeLaw : {C : Type 0} → (V : Type 0) → (C → ℕ) → Type 0
 WholeLaw {C} V number = (a : ℕ → Note) (h : ℕ → Node V) (root : C) (o : Point V) → Tree a h → steps_left number h (first_phase root o) ≤ steps_whole h o
 
+-- of nodes that are filled
+pub record FilledLaws {C V : Type 0} (number : C → ℕ) (same : V → V → Bool) (always : Bool) : Type 0 where
+  pub opens : (h : ℕ → Node V) (ms : List (Machine C V)) → FreshRoot h → ((i : ℕ) (m : Machine C V) → slice_get ms i ≡ Some m → IsIdle number m) → KeepsFilled number h ms
+  pub spared : (a : ℕ → Note) (h h' : ℕ → Node V) (ms : List (Machine C V)) → ProtocolAt number same always a h ms → Holdings number a h ms → Destroys number h ms h' → KeepsFilled number h ms → KeepsFilled number h' ms
+
+-- and of one step, which has the nodes that it wants
+abbrev pub FillingLaw : {C V : Type 0} → (C → ℕ) → (V → V → Bool) → Bool → ℕ → (NodeType → Refusal → Type 0) → Type 0
+FillingLaw {C} {V} number same always most why = (i : ℕ) (a : ℕ → Note) (h h' : ℕ → Node V) (ms : List (Machine C V)) (m m' : Machine C V) (d : Move V) (fail : Bool) (answer : Option (Option V))
+    → ProtocolAt number same always a h ms → slice_get ms i ≡ Some m → Keeps number same always i a m h m' h' d → Stepped number same always most why m h fail answer m' h' d → d.skipped ≡ false
+    → KeepsFilled number h ms → KeepsFilled number h' (set ms i m')
+
 -- of a collector's calls, from their begin to their end
 pub record ProgressLaws (T J : Type 0) : Type 0 where
   pub begins : (s : State T J) (who : ℕ) (op : Op) (r : Report) → (place s who).phase ≡ stage.Idle → IsReport s who (event.Begin op) r → Begins s who op r.outcome (after s who (event.Begin op) r.outcome)
@@ -117,7 +129,7 @@ pub record ProgressLaws (T J : Type 0) : Type 0 where
 -- of calls on a tree, and of the same calls by numbers, over a store with this limit of versions and these causes of refusals
 pub record NumberLaws {C V : Type 0} (number : C → ℕ) (same : V → V → Bool) (always : Bool) (most : ℕ) (why : NodeType → Refusal → Type 0) : Type 0 where
   pub steps : (seen : Option (Seen Unnamed V)) (i : ℕ) (a : ℕ → Note) (h g h' : ℕ → Node V) (ms : List (Machine C V)) (m m' : Machine C V) (d : Move V) (fail : Bool) (answer : Option (Option V)) (order : List ℕ) (q : Machine ℕ V) (k : ℕ)
-      → ((form : NodeType) → why form Exhausted → ⊥) → ProtocolAt number same always a h ms → slice_get ms i ≡ Some m → Stepped number same always most why m h fail answer m' h' d → IsUnrefused d.outcome → Ordered order h → HeapAlike order h g → k ≡ length order → CallAlike order number h m q
+      → ((form : NodeType) → why form Exhausted → ⊥) → ProtocolAt number same always a h ms → slice_get ms i ≡ Some m → Stepped number same always most why m h fail answer m' h' d → IsUnrefused d.outcome → d.skipped ≡ false → Ordered order h → HeapAlike order h g → k ≡ length order → CallAlike order number h m q
       → MovedAlike order number h' m' d q (plain_step same most q (record { fail = fail; seen = seen; answer = answer }) g k)
   pub others : (i j : ℕ) (a : ℕ → Note) (h h' : ℕ → Node V) (ms : List (Machine C V)) (m m' other : Machine C V) (d : Move V) (order order' : List ℕ) (q : Machine ℕ V)
       → ProtocolAt number same always a h ms → slice_get ms j ≡ Some other → j ≢ i → Keeps number same always i a m h m' h' d → Longer order order' → CallAlike order number h other q → CallAlike order' number h' other q

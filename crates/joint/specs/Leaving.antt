@@ -1,5 +1,6 @@
--- How nodes leave the tree in a run: each by the call that took it out, which hands it over once; and whose the locks are.
-use Rattle.std.specs.Prelude.{◌≡◌, ◌≢◌, ◌<◌, ◌⊎◌, ℕ, true, false, List, [], ◌∷◌, is_some, length}
+-- How nodes leave the tree in a run: each by the call that took it out, two at most, which hands it over once; and whose the
+-- locks are.
+use Rattle.std.specs.Prelude.{◌≡◌, ◌≢◌, ◌<◌, ◌⊎◌, ℕ, true, false, List, [], ◌∷◌, Option, Some, is_some, length}
 use Rattle.crossbeam_epoch.specs.Limits.{bag_places}
 use Rattle.crossbeam_epoch.specs.declared.bag.Work.TheVariants.{Remove}
 use Rattle.crossbeam_epoch.specs.declared.names.Name.{Name}
@@ -16,13 +17,15 @@ use Rattle.joint.specs.Runs.{Taken}
 use Rattle.joint.specs.Whereabouts.{IsWaiting, IsDestroyed, IsTakenBy}
 use Rattle.joint.specs.Whole.{Whole, is_in_flight}
 
--- a worker's step takes the node out of the tree, and no other one: its call had taken out none, and has this one then
+-- a worker's step takes the node out of the tree, and with it one other at most: its call had taken out none, and has this
+-- one then
 pub record TakesOut {V : Type 0} (s s' : Whole V) (who n : ℕ) : Type 0 where
   pub was : InTree (nodes s.forest) n
   pub out : IsOut (nodes s'.forest) n
   pub none : (m : ℕ) → IsTakenBy s who m → ⊥
   pub taken : IsTakenBy s' who n
-  pub others : (m : ℕ) → m ≢ n → InTree (nodes s.forest) m → InTree (nodes s'.forest) m
+  pub with_it : Option ℕ
+  pub others : (m : ℕ) → m ≢ n → InTree (nodes s.forest) m → InTree (nodes s'.forest) m ⊎ (with_it ≡ Some m)
 
 -- a worker's step hands over a node that stands out of the tree, marked and locked: one deferral of its destruction, under
 -- the worker's guard, into a free place of the worker's bag, and nothing else of the collector changes but the cells
@@ -52,7 +55,7 @@ pub record StaysLeft {V : Type 0} (s s' : Whole V) (n : ℕ) : Type 0 where
 pub record LeavesRightly {V : Type 0} (s : Whole V) (t : Taken V) : Type 0 where
   -- a node stays in the tree, or the step's call takes it out as it takes effect
   pub leaves : (n : ℕ) → InTree (nodes s.forest) n → InTree (nodes t.after.forest) n ⊎ (TakesOut s t.after t.step.worker n × (t.report.decided ≡ true))
-  -- a call has the node that it took out until it hands it over
+  -- a call has each node that it took out until it hands it over
   pub owed : (i n : ℕ) → IsTakenBy s i n → IsTakenBy t.after i n ⊎ ((t.step.worker ≡ i) × HandsOver s.forest t.after.forest i n)
   -- no other is handed over
   pub handed : (n : ℕ) → is_waiting (nodes s.forest n) ≡ false → is_waiting (nodes t.after.forest n) ≡ true → IsTakenBy s t.step.worker n × HandsOver s.forest t.after.forest t.step.worker n
@@ -78,8 +81,8 @@ abbrev pub HandsNone : {V : Type 0} → ℕ → Whole V → List (Taken V) → T
 HandsNone n s [] = Unit {0}
 HandsNone n s (t ∷ ts) = (HandsOver s.forest t.after.forest t.step.worker n → ⊥) × HandsNone n t.after ts
 
--- a step and those after it: the node that it takes out of the tree is the only one of its call, and the one that it hands
--- over isn't handed over again
+-- a step and those after it: its call takes no node out of the tree at another step than the one at which it takes out one,
+-- or two, and the one that a step hands over isn't handed over again
 pub record LeavesOnce {V : Type 0} (s : Whole V) (t : Taken V) (ts : List (Taken V)) : Type 0 where
   pub step : LeavesRightly s t
   pub one : (n : ℕ) → TakesOut s t.after t.step.worker n → TakesNone t.step.worker t.after ts

@@ -11,6 +11,7 @@ pub mod Driving
 pub mod Ends
 pub mod Engine
 pub mod Filed
+pub mod Filling
 pub mod Flying
 pub mod Forest
 pub mod Heap

@@ -1,6 +1,6 @@
 -- The nodes that stand, and those of them that wait for their destruction, each listed once.
-use Rattle.std.specs.Prelude.{◌≢◌, ◌↔◌, ℕ, suc, ◌-◌, ◌&&◌, not, Bool, List, [], ◌∷◌, ◌++◌, Option, None, Some, option_map}
-use Rattle.std.specs.List.{AllPairs, Contains, filter, filter_map}
+use Rattle.std.specs.Prelude.{◌≢◌, ◌↔◌, ℕ, suc, ◌-◌, ◌&&◌, not, Bool, List, [], ◌∷◌, ◌++◌, map}
+use Rattle.std.specs.List.{AllPairs, Contains, filter, flat_map}
 use Rattle.crossbeam_epoch.specs.declared.world.cells.Cell.{Cell}
 use Rattle.crossbeam_epoch.specs.World.Store.{value_at}
 use Rattle.congee.specs.declared.protocol.machine.Machine.{Machine}
@@ -10,6 +10,7 @@ use Rattle.congee.specs.Heap.{Node}
 use Rattle.congee.specs.protocol.Handing.{is_waiting}
 use Rattle.joint.specs.declared.id.Id.{Id}
 use Rattle.joint.specs.Forest.{Forest, nodes, of_value, size}
+use Rattle.joint.specs.Journaling.{in_list}
 use Rattle.joint.specs.Names.{number, named}
 use Rattle.joint.specs.View.{id_number}
 use Rattle.joint.specs.Whole.{Whole}
@@ -43,18 +44,18 @@ standing_nodes s = nodes_that is_standing s
 abbrev pub handed_nodes : {V : Type 0} → Forest V → List ℕ
 handed_nodes s = nodes_that is_waiting s
 
--- the node that a call has taken out of the tree and not yet handed over
-abbrev pub taken : {V : Type 0} → Phase Id V → Option Id
-taken (Obsolete n p r) = Some n
-taken (Retire n p r) = Some n
-taken _ = None
+-- the nodes that a call has taken out of the tree and not yet handed over
+abbrev pub taken : {V : Type 0} → Phase Id V → List Id
+taken (Obsolete n next p r) = n ∷ in_list next
+taken (Retire n next p r) = n ∷ in_list next
+taken _ = []
 
-abbrev pub taken_by : {V : Type 0} → Machine Id V → Option ℕ
-taken_by m = option_map id_number (taken m.phase)
+abbrev pub taken_by : {V : Type 0} → Machine Id V → List ℕ
+taken_by m = map id_number (taken m.phase)
 
 -- the nodes that wait: those that were handed over, and those that calls have taken out and not yet handed over
 abbrev pub waiting_nodes : {V : Type 0} → Whole V → List ℕ
-waiting_nodes s = handed_nodes s.forest ++ filter_map taken_by s.machines
+waiting_nodes s = handed_nodes s.forest ++ flat_map taken_by s.machines
 
 -- what is charged for the node that stands under a number, in bytes
 abbrev pub bytes_of : {V : Type 0} → Forest V → ℕ → ℕ

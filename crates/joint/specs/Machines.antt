@@ -1,5 +1,5 @@
 -- The whole: the collector with the nodes in its cells, and the calls on the tree.
-use Rattle.std.specs.Prelude.{◌≡◌, ◌<◌, ℕ, Bool, true, List, Option, None, Some, is_some, length, slice_get}
+use Rattle.std.specs.Prelude.{◌≡◌, ◌<◌, ℕ, suc, Bool, true, List, Option, None, Some, is_some, length, slice_get}
 use Rattle.crossbeam_epoch.specs.Limits.{bag_places}
 use Rattle.crossbeam_epoch.specs.declared.bag.Work.TheVariants.{Remove}
 use Rattle.crossbeam_epoch.specs.declared.names.Name.{Name}
@@ -14,7 +14,7 @@ use Rattle.crossbeam_epoch.specs.World.Steps.{IsReport, after}
 use Rattle.crossbeam_epoch.specs.World.Store.{value_at}
 use Rattle.congee.specs.declared.protocol.machine.Machine.{Machine}
 use Rattle.congee.specs.declared.protocol.phase.Phase.{Phase}
-use Rattle.congee.specs.declared.protocol.phase.Phase.TheVariants.{Retire, Unlock, Ended}
+use Rattle.congee.specs.declared.protocol.phase.Phase.TheVariants.{Retire, Ended}
 use Rattle.congee.specs.declared.protocol.run.Step.{Step}
 use Rattle.congee.specs.declared.protocol.machine.Move.{Move}
 use Rattle.congee.specs.protocol.Answers.{SameMap}
@@ -26,7 +26,7 @@ use Rattle.joint.specs.Forest.{Forest, nodes, Refuses, IsBeside, IsCharged}
 use Rattle.congee.specs.protocol.Destroys.{Destroys}
 use Rattle.congee.specs.protocol.Play.{StepPlays}
 use Rattle.joint.specs.Slots.{names_of}
-use Rattle.joint.specs.Sound.{IsUnderWay, Sound}
+use Rattle.joint.specs.Sound.{IsUnderWay, IsSecured, Sound}
 use Rattle.joint.specs.View.{view, id_number}
 
 abbrev pub slot_names : {P : Type 0} → Slot P → List Name
@@ -53,20 +53,15 @@ Runs {V} ms who = (m : Machine Id V) × (slice_get ms who ≡ Some m) × IsUnder
 
 -- the node that the next step of a call hands over for its destruction
 abbrev pub retiring : {V : Type 0} → Phase Id V → Option Id
-retiring (Retire n p r) = Some n
+retiring (Retire n next p r) = Some n
 retiring _ = None
 
 abbrev pub retiring_at : {V : Type 0} → Option (Machine Id V) → Option Id
 retiring_at None = None
 retiring_at (Some m) = retiring m.phase
 
--- the call has only its last lock to let go
-abbrev pub LetsGo : {V : Type 0} → Phase Id V → Type 0
-LetsGo (Unlock n r) = Unit {0}
-LetsGo _ = ⊥
-
--- all is safe, and the worker has marked a node whose destruction is to be deferred into its secured place: it was in
--- reach, and its removal wasn't deferred before
+-- all is safe, and the worker has marked a node whose destruction is to be deferred into a place that it secured: it was
+-- in reach, and its removal wasn't deferred before; with it the places hold what the call may still hand over
 pub record Owes {V : Type 0} (same : V → V → Bool) (always : Bool) (s : Forest V) (ms : List (Machine Id V)) (who : ℕ) (node : Id) : Type 0 where
   pub safe : IsSafe same always s ms
   pub marked : (nodes s (id_number node)).retired ≡ true
@@ -77,7 +72,7 @@ pub record Owes {V : Type 0} (same : V → V → Bool) (always : Bool) (s : Fore
   pub pinned : is_some (place s.collector who).word ≡ true
   pub idle : (place s.collector who).phase ≡ Idle
   pub room : length (place s.collector who).bag < bag_places
-  pub leaves : (m : Machine Id V) → slice_get ms who ≡ Some m → LetsGo m.phase
+  pub secured : (m : Machine Id V) → slice_get ms who ≡ Some m → IsSecured m.kind m.phase (suc (length (place s.collector who).bag))
 
 -- all is safe, but for the deferral of the node that the step marked
 abbrev pub IsSafeOrOwes : {V : Type 0} → (V → V → Bool) → Bool → Option Id → Forest V → List (Machine Id V) → ℕ → Type 0
@@ -90,7 +85,7 @@ after_walk None s who = s
 after_walk (Some node) s who = deferred s who (Remove node.name)
 
 -- one step of a worker's call on the tree: it plays as the tree's protocol says, the node that it marks is deferred
--- into the worker's secured place, and nothing else of the collector changes but the cells
+-- into a place that the worker secured, and nothing else of the collector changes but the cells
 pub record Walked {V : Type 0} (same : V → V → Bool) (always : Bool) (s : Forest V) (ms : List (Machine Id V)) (step : Step Id V) (d : Move V) (s' : Forest V) (ms' : List (Machine Id V)) : Type 0 where
   pub safe : IsSafe same always s' ms'
   pub plays : StepPlays id_number same always s.version_max (Refuses s) (nodes s) ms step d (nodes s') ms'

@@ -159,11 +159,15 @@ module _ {V : Type 0} (same : V → V → Bool) (most : ℕ) where
 abbrev pub IsUnrefused : {V : Type 0} → Outcome V → Type 0
 IsUnrefused o = (e : Refusal) → o ≡ Refused e → e ≡ Exhausted
 
+-- nor went on without a node for want of memory, budget or cells
+abbrev pub IsUnhindered : {V : Type 0} → Report V → Type 0
+IsUnhindered r = IsUnrefused r.outcome × (r.skipped ≡ false)
+
 abbrev pub AreUnrefused : {V : Type 0} → List (Report V) → Type 0
 AreUnrefused [] = Unit {0}
-AreUnrefused (r ∷ rs) = IsUnrefused r.outcome × AreUnrefused rs
+AreUnrefused (r ∷ rs) = IsUnhindered r × AreUnrefused rs
 
--- a worker's call, and the same one by numbers: a writing call that still makes its place free hasn't begun on the tree
+-- a worker's call, and the same one by numbers: a writing call that still makes its places free hasn't begun on the tree
 abbrev pub InPlain : {V : Type 0} → List ℕ → (ℕ → Node V) → Call V → Machine Id V → Machine ℕ V → Type 0
 InPlain order h Idle m q = Unit {0}
 InPlain order h (Collecting op) m q = Unit {0}

@@ -1,5 +1,5 @@
 -- What holds of tree, calls and collector together between any two steps.
-use Rattle.std.specs.Prelude.{◌≡◌, ◌<◌, ℕ, Bool, true, List, Option, Some, is_some, length, slice_get, ◌⊎◌}
+use Rattle.std.specs.Prelude.{◌≡◌, ◌+◌, ◌<◌, ◌≤◌, ℕ, Bool, true, List, Option, None, Some, is_some, length, slice_get, ◌⊎◌}
 use Rattle.std.specs.List.{Contains}
 use Rattle.crossbeam_epoch.specs.Limits.{bag_places}
 use Rattle.crossbeam_epoch.specs.declared.names.Name.{Name}
@@ -28,16 +28,22 @@ abbrev pub IsUnderWay : {C V : Type 0} → Phase C V → Type 0
 IsUnderWay Ended = ⊥
 IsUnderWay _ = Unit {0}
 
--- a call that may still hand a node over has a place for it in its worker's bag, which holds so many jobs; a reading
--- call hands over none
+-- so many nodes a call may still hand over: two at most until it has changed the tree, then those that it has taken out;
+-- a reading call hands over none
+abbrev pub most_left : {C V : Type 0} → Kind V → Phase C V → ℕ
+most_left kind (UnlockBelow n p r) = 0
+most_left kind (Unlock n r) = 0
+most_left kind Ended = 0
+most_left kind (Obsolete n None p r) = 1
+most_left kind (Obsolete n (Some m) p r) = 2
+most_left kind (Retire n None p r) = 1
+most_left kind (Retire n (Some m) p r) = 2
+most_left Get _ = 0
+most_left _ _ = 2
+
+-- and has a place for each in its worker's bag, which holds so many jobs
 abbrev pub IsSecured : {C V : Type 0} → Kind V → Phase C V → ℕ → Type 0
-IsSecured kind (UnlockBelow n p r) jobs = Unit {0}
-IsSecured kind (Unlock n r) jobs = Unit {0}
-IsSecured kind Ended jobs = Unit {0}
-IsSecured kind (Obsolete n p r) jobs = jobs < bag_places
-IsSecured kind (Retire n p r) jobs = jobs < bag_places
-IsSecured Get _ jobs = Unit {0}
-IsSecured _ _ jobs = jobs < bag_places
+IsSecured kind s jobs = jobs + most_left kind s ≤ bag_places
 
 -- a call runs under a guard of its worker's, who has no call on the collector in flight
 pub record Guards {C V J : Type 0} (p : Participant J) (m : Machine C V) : Type 0 where

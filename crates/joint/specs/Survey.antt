@@ -1,5 +1,5 @@
 -- What stands in the tree at one moment.
-use Rattle.std.specs.Prelude.{◌≡◌, ℕ, ◌+◌, ◌<◌, ◌≤◌, ◌⊎◌, ◌↔◌, Bool, true, false, List, [], ◌∷◌, Option, None, Some, IsSome, map}
+use Rattle.std.specs.Prelude.{◌≡◌, ℕ, ◌+◌, ◌<◌, ◌≤◌, ◌⊎◌, ◌↔◌, Bool, true, false, List, [], ◌∷◌, None, IsSome, map}
 use Rattle.std.specs.FinMap.{entries, get}
 use Rattle.judge.specs.Answer.{Pairs}
 use Rattle.congee.specs.Heap.{Node, Stands, value_at}

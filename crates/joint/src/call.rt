@@ -11,7 +11,7 @@ pub enum Call<P> {
     Collecting(crossbeam_epoch::Op),
     /// A writing call that has taken no step.
     Reserving(Op<P>),
-    /// A writing call, while a place for a node that it may hand over is made free.
+    /// A writing call, while places for the nodes that it may hand over are made free.
     Securing(Op<P>),
     /// A call on the tree.
     Walking,

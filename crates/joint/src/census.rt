@@ -1,10 +1,9 @@
 //! What is counted of a tree beside its nodes: the pairs that stand in it, and the nodes that calls have taken out of it.
 
-ghost use Rattle.std.specs.Prelude.{◌≡◌, ◌+◌, ◌*◌, ◌^◌, ◌≤◌, unwrap_or, IfSome};
+ghost use Rattle.std.specs.Prelude.{◌≡◌, ◌+◌, ◌*◌, ◌^◌, ◌≤◌};
 ghost use Rattle.congee.specs.owned.Stats.{capped};
 ghost use Rattle.congee.specs.protocol.Answers.{reply_in, told_or};
 ghost use Rattle.joint.specs.Census.{effect, effect_by, fewer, more};
-ghost use Rattle.joint.specs.Whole.{one_if};
 
 use crate::id::Id;
 use congee::protocol::Phase;
@@ -22,26 +21,41 @@ pub enum Change {
     Same,
 }
 
+/// Nodes that calls have taken out of the tree and not yet handed over.
+#[derive(Clone, Copy, Drop)]
+pub struct Taken {
+    /// So many.
+    pub nodes: u64,
+    /// Their sizes, in bytes.
+    pub bytes: u64,
+}
+
+impl Taken {
+    /// None.
+    pub(crate) fn none() -> Taken
+        ensures { result ≡ record { nodes = 0; bytes = 0 } }
+    {
+        Taken { nodes: 0, bytes: 0 }
+    }
+}
+
 /// How many pairs stand, and how many nodes calls have taken out of the tree and not yet handed over.
 #[derive(Clone, Copy, Drop)]
 pub struct Census {
     /// Pairs. There may be one for each of the 2^64 keys.
     pub pairs: u128,
     /// Nodes that were taken out.
-    pub taken: u64,
-    /// Their sizes, in bytes.
-    pub taken_bytes: u64,
+    pub taken: Taken,
 }
 
 impl Census {
     /// No pair, and no node taken out.
     pub(crate) fn new() -> Census
-        ensures { result ≡ record { pairs = 0; taken = 0; taken_bytes = 0 } }
+        ensures { result ≡ record { pairs = 0; taken = record { nodes = 0; bytes = 0 } } }
     {
         Census {
             pairs: 0,
-            taken: 0,
-            taken_bytes: 0,
+            taken: Taken::none(),
         }
     }
 
@@ -56,26 +70,23 @@ impl Census {
         }
     }
 
-    /// A call had a node of the first size taken out before its step, and has one of the second after it, where it has one.
+    /// A call had the first taken out before its step, and has the second taken out after it.
     #[inline(always)]
-    pub(crate) fn recount(&mut self, before: Option<u64>, after: Option<u64>)
-        requires had { one_if before ≤ self.old.taken }
-        requires had_bytes { unwrap_or before 0 ≤ self.old.taken_bytes }
-        requires few { self.old.taken ≤ 256 }
-        requires small { self.old.taken_bytes ≤ 2104 * 256 }
-        requires size { IfSome after (λ n. n ≤ 2104) }
+    pub(crate) fn recount(&mut self, before: Taken, after: Taken)
+        requires had { before.nodes ≤ self.old.taken.nodes }
+        requires had_bytes { before.bytes ≤ self.old.taken.bytes }
+        requires few { self.old.taken.nodes ≤ 512 }
+        requires small { self.old.taken.bytes ≤ 2104 * 512 }
+        requires two { after.nodes ≤ 2 }
+        requires size { after.bytes ≤ 2104 * 2 }
         ensures pairs { self.new.pairs ≡ self.old.pairs }
-        ensures taken { self.new.taken + one_if before ≡ self.old.taken + one_if after }
-        ensures bytes { self.new.taken_bytes + unwrap_or before 0 ≡ self.old.taken_bytes + unwrap_or after 0 }
+        ensures nodes { self.new.taken.nodes + before.nodes ≡ self.old.taken.nodes + after.nodes }
+        ensures bytes { self.new.taken.bytes + before.bytes ≡ self.old.taken.bytes + after.bytes }
     {
-        if let Some(size) = before {
-            self.taken -= 1;
-            self.taken_bytes -= size;
-        }
-        if let Some(size) = after {
-            self.taken += 1;
-            self.taken_bytes += size;
-        }
+        self.taken = Taken {
+            nodes: self.taken.nodes - before.nodes + after.nodes,
+            bytes: self.taken.bytes - before.bytes + after.bytes,
+        };
     }
 
     /// A step made this of the number of pairs.
@@ -85,7 +96,6 @@ impl Census {
         requires there { fewer change ≤ self.old.pairs }
         ensures pairs { self.new.pairs + fewer change ≡ self.old.pairs + more change }
         ensures taken { self.new.taken ≡ self.old.taken }
-        ensures bytes { self.new.taken_bytes ≡ self.old.taken_bytes }
     {
         match change {
             Change::More => self.pairs += 1,

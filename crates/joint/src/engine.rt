@@ -233,7 +233,7 @@ impl<P: Payload + Small, A: Allocator> Engine<P, A> {
         self.nodes.collect(who, event)
     }
 
-    /// Defers the destruction of the node that a worker has just marked, into the place that it had secured.
+    /// Defers the destruction of the node that a worker has just marked, into a place that it had secured.
     fn hand_over(&mut self, who: usize, node: Id)
         requires { Owes P.same_as P.always_copies self.old.nodes self.old.machines.items who node }
         ensures safe { IsSafe P.same_as P.always_copies self.new.nodes self.new.machines.items }
@@ -394,7 +394,7 @@ impl<P: Payload + Small, A: Allocator> Engine<P, A> {
         self.set_call(who, Call::Idle);
     }
 
-    /// A writing call begins to make a place free for the node that it may hand over, in its first step.
+    /// A writing call begins to make places free for the nodes that it may hand over, in its first step.
     pub(crate) fn begin_securing(&mut self, who: usize)
         requires intact { IsIntact P.same_as P.always_copies self.old.nodes self.old.machines.items self.old.calls.items }
         requires on { is_reserving (slice_get self.old.calls.items who) ≡ true }
@@ -405,11 +405,11 @@ impl<P: Payload + Small, A: Allocator> Engine<P, A> {
         let Call::Reserving(op) = self.take_call(who) else {
             unreachable!()
         };
-        self.collect(who, Event::Begin(crossbeam_epoch::Op::Secure(1)));
+        self.collect(who, Event::Begin(crossbeam_epoch::Op::Secure(2)));
         self.set_call(who, Call::Securing(op));
     }
 
-    /// The next step of a writing call that makes its place free; after the last one the call on the tree begins.
+    /// The next step of a writing call that makes its places free; after the last one the call on the tree begins.
     pub(crate) fn go_securing(&mut self, who: usize) -> Report
         requires intact { IsIntact P.same_as P.always_copies self.old.nodes self.old.machines.items self.old.calls.items }
         requires on { IsSecuring (slice_get self.old.calls.items who) }

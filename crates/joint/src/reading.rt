@@ -97,14 +97,16 @@ pub(crate) fn read<P: Payload + Small>(
         };
     }
     let depth = prefix.len();
+    let form = node.node_type();
     if !word.is_at(version) {
         return Reading::Fits {
             depth,
+            form,
             seen: as_seen(key[depth], seen),
         };
     }
     match look(node, key[depth]) {
-        Some(seen) => Reading::Fits { depth, seen },
+        Some(seen) => Reading::Fits { depth, form, seen },
         None => Reading::Uncopied,
     }
 }

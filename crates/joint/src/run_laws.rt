@@ -5,12 +5,14 @@ ghost use Rattle.std.specs.FinMap.{empty};
 ghost use Rattle.judge.specs.Answer.{Pairs};
 ghost use Rattle.judge.specs.Journal.{Legal};
 ghost use Rattle.congee.specs.Keys.{IsMapOf};
+ghost use Rattle.congee.specs.protocol.Filled.{AllFilled};
 ghost use Rattle.joint.specs.declared.limits.Limits.{Limits};
 ghost use Rattle.joint.specs.declared.steps.Report.{Report as Told};
 ghost use Rattle.joint.specs.declared.steps.Step.{Step as Asked};
 ghost use Rattle.joint.specs.Alone.{OthersUnlocked};
 ghost use Rattle.joint.specs.Answering.{AllDecide};
 ghost use Rattle.joint.specs.Ends.{AllEndWell, IdleUnasked, IsBetween, ReadersRefused};
+ghost use Rattle.joint.specs.Filling.{NoneSkipped, StaysFilled};
 ghost use Rattle.joint.specs.Forest.{nodes};
 ghost use Rattle.joint.specs.Journaling.{asks_at};
 ghost use Rattle.joint.specs.Leaving.{AllLeaveOnce, LeftLocked, LocksApart, LocksHeld, MarkedLeft};
@@ -71,8 +73,8 @@ pub fn locks_apart<P: Payload + Small>()
     call_laws::<P>();
 }
 
-/// Each node that leaves the tree in a run leaves it by the step in which a call takes effect, one at most of each call; the
-/// call then hands it over once, by one deferral of its destruction, under its worker's guard and into the place that was
+/// Each node that leaves the tree in a run leaves it by the step in which a call takes effect, two at most of each call; the
+/// call then hands it over once, by one deferral of its destruction, under its worker's guard and into a place that was
 /// made free for it. Until it is destroyed it stays out of the tree, locked, with its child nodes.
 pub fn nodes_leave<P: Payload + Small, A: Allocator>()
     ensures run { (s : Whole P) (taken : List (Taken P)) → Holds P.same_as P.always_copies s → AreTaken P.same_as P.always_copies s taken → AllLeaveOnce s taken }
@@ -81,6 +83,17 @@ pub fn nodes_leave<P: Payload + Small, A: Allocator>()
 {
     call_laws::<P>();
     Machine::<Id, P>::leaves::<Nodes<P, A>>();
+}
+
+/// As long as no step goes on without a node that it wanted, each node of the tree but the root has a child, each that holds
+/// nodes two of them, and none is too small for its form.
+pub fn nodes_filled<P: Payload + Small, A: Allocator>()
+    ensures run { (s : Whole P) (taken : List (Taken P)) → Holds P.same_as P.always_copies s → AreTaken P.same_as P.always_copies s taken → NoneSkipped taken → StaysFilled s → StaysFilled (after_all s taken) }
+    ensures opened { (limits : Limits) (s : Whole P) → IsNew limits s → Holds P.same_as P.always_copies s → StaysFilled s }
+    ensures filled { (s : Whole P) → StaysFilled s → AllFilled (nodes s.forest) }
+{
+    call_laws::<P>();
+    Machine::<Id, P>::filled::<Nodes<P, A>>();
 }
 
 /// A call on one key is refused before it took effect, or takes effect in one of its steps; from then on it decides nothing

@@ -1,13 +1,13 @@
 //! What stands in a cell of the collector.
 
-ghost use Rattle.std.specs.Prelude.{◌≡◌, ◌<◌, ◌≤◌, ◌↔◌, ℕ, None, Some, true, false, length, slice_get, IfOk};
+ghost use Rattle.std.specs.Prelude.{◌≡◌, ◌≢◌, ◌<◌, ◌≤◌, ◌↔◌, ℕ, None, Some, true, false, length, slice_get, IfOk};
 ghost use Rattle.std.specs.FinMap.{entries};
 ghost use Rattle.congee.specs.declared.forms.prefix.TheConstants.{MAX_PREFIX_LEN};
 ghost use Rattle.congee.specs.declared.forms.child.Child.TheVariants as Hung;
 ghost use Rattle.congee.specs.forms.Forms.{children_of, prefix_of, form_of, capacity_of, is_full_of, Becomes};
 ghost use Rattle.joint.specs.Slots.{names_in};
-ghost use Rattle.congee.specs.protocol.Events.{hung, MayChange, TakesOver};
-ghost use Rattle.congee.specs.Heap.{Below, Holds};
+ghost use Rattle.congee.specs.protocol.Events.{hung, HoldsNodes, IsOther, MayChange, TakesOver};
+ghost use Rattle.congee.specs.Heap.{Below, Holds, Nothing};
 ghost use Rattle.std.specs.FinMap as map;
 ghost use Rattle.joint.specs.declared.slot.Word.{Word};
 ghost use Rattle.joint.specs.Altering.{Hangs, HandsOver, IsNewSlot, Pulls};
@@ -133,6 +133,28 @@ impl<P: Payload + Small> Slot<P> {
         }
     }
 
+    /// The node that hangs in its own beside the one at the byte, where there are two.
+    pub(crate) fn other(&self, byte: u8) -> Id
+        requires whole { IsWhole self.now.node }
+        requires nodes { HoldsNodes (node_of self.now) }
+        requires two { (node_of self.now).count ≡ 2 }
+        requires there { (node_of self.now).children byte ≢ Nothing }
+        ensures { IsOther (node_of self.now) byte (id_number result) }
+    {
+        let node = self.node();
+        prove!(node.len() == 2);
+        let Some((at, first)) = node.first_from(0) else {
+            unreachable!();
+        };
+        if at != byte {
+            return name_in(first);
+        }
+        let Some((_, next)) = node.first_from(byte as usize + 1) else {
+            unreachable!();
+        };
+        name_in(next)
+    }
+
     /// Gives its children to an empty slot: values are moved, and the names of nodes stay here too.
     pub(crate) fn hand_over(&mut self, greater: &mut Slot<P>)
         requires whole { IsWhole self.old.node }
@@ -153,7 +175,7 @@ impl<P: Payload + Small> Slot<P> {
 /// Gives a node's children to an empty one: values are moved, and the names of nodes stay in the first too.
 fn hand_over<P: Payload + Small>(node: &mut Node<Id, P>, greater: &mut Node<Id, P>)
     requires empty { children_of greater.old ≡ map.empty }
-    requires room { map.len (children_of node.old) < capacity_of (form_of greater.old) }
+    requires room { map.len (children_of node.old) ≤ capacity_of (form_of greater.old) }
     requires alike { AreAlike node.old }
     requires solid { IsSolid (children_of node.old) }
     ensures moved { Becomes greater.old greater.new (children_of node.old) }
@@ -184,7 +206,7 @@ fn holds_names<P: Payload + Small>(node: &Node<Id, P>) -> bool
 /// Copies the children of a node that holds nodes alone into an empty one.
 fn copy_names<P: Payload + Small>(node: &Node<Id, P>, greater: &mut Node<Id, P>)
     requires empty { children_of greater.old ≡ map.empty }
-    requires room { map.len (children_of node.now) < capacity_of (form_of greater.old) }
+    requires room { map.len (children_of node.now) ≤ capacity_of (form_of greater.old) }
     requires names { (k : ℕ) (v : P) → child_at node.now k ≡ Holds v → ⊥ }
     requires solid { IsSolid (children_of node.now) }
     ensures { Becomes greater.old greater.new (children_of node.now) }
@@ -255,6 +277,19 @@ impl<P: Payload + Small> Links for Slot<P> {
     }
 
     ghost fits = { Prim.search rules };
+}
+
+/// The node that a child is.
+fn name_in<P: Payload + Small>(child: &Child<Id, P>) -> Id
+    requires solid { child.now ≡ Hung.Blank → ⊥ }
+    requires name { (v : P) → child.now ≡ Hung.Value v → ⊥ }
+    ensures { child.now ≡ Hung.Node result }
+{
+    match child {
+        Child::Node(id) => *id,
+        Child::Value(_) => unreachable!(),
+        Child::Blank => unreachable!(),
+    }
 }
 
 /// The i-th name among the children of a node.

@@ -98,6 +98,9 @@ pub struct Report<P> {
     pub decided: bool,
     /// Whether the journal keeps that call.
     pub kept: bool,
+    /// Whether budget, cells or memory were missing for a node that would take the place of a greater one: the call goes on
+    /// without it.
+    pub skipped: bool,
     /// Nodes destroyed.
     pub destroyed: u64,
     /// How the worker's call stands.

@@ -133,6 +133,10 @@ impl<P: Payload + Small, A: Allocator> Store<Id, P> for Nodes<P, A> {
         self.hang(node, byte, child);
     }
 
+    fn other(&self, node: Id, byte: u8) -> Id {
+        self.slot(node).other(byte)
+    }
+
     fn take_over(&mut self, old: Id, node: Id) {
         if !old.is(node) {
             cells::hand_over(&mut self.collector, old.name, node.name);

@@ -291,9 +291,9 @@ impl<P: Payload + Small, A: Allocator> Engine<P, A> {
         ensures counted { AreCounted self.new.census self.new.nodes self.new.machines.items }
     {
         call_laws::<P>();
-        let before = self.size_taken(who);
+        let before = self.taken(who);
         let moved = self.go_walking(who, noise);
-        let after = self.size_taken(who);
+        let after = self.taken(who);
         let change = self.change_by(who, &moved);
         self.census.recount(before, after);
         self.census.count(change);
@@ -320,7 +320,7 @@ impl<P: Payload + Small, A: Allocator> Engine<P, A> {
     {
         match &self.calls[who] {
             Call::Idle => false,
-            // On the collector, on the tree, or before that making a place free.
+            // On the collector, on the tree, or before that making places free.
             _ => true,
         }
     }
@@ -340,7 +340,7 @@ impl<P: Payload + Small, A: Allocator> Engine<P, A> {
     }
 }
 
-/// A report of a step that decided and destroyed nothing.
+/// A report of a step that decided, skipped and destroyed nothing.
 fn report<P>(kind: Kind, outcome: Outcome<P>) -> Report<P>
     ensures { result ≡ quiet kind outcome }
 {
@@ -348,6 +348,7 @@ fn report<P>(kind: Kind, outcome: Outcome<P>) -> Report<P>
         kind,
         decided: false,
         kept: false,
+        skipped: false,
         destroyed: 0,
         outcome,
     }
@@ -379,12 +380,13 @@ fn collection<P>(report: crossbeam_epoch::Report, outcome: Outcome<P>) -> Report
         kind: Kind::Collection,
         decided: false,
         kept: false,
+        skipped: false,
         destroyed: destroyed_by(&report),
         outcome,
     }
 }
 
-/// How a call stands after a step that makes its place free: it goes on, or is refused.
+/// How a call stands after a step that makes its places free: it goes on, or is refused.
 fn reserving<P>(outcome: crossbeam_epoch::Outcome) -> Outcome<P>
     ensures { result ≡ reserving outcome }
 {
@@ -397,12 +399,13 @@ fn reserving<P>(outcome: crossbeam_epoch::Outcome) -> Outcome<P>
 /// The report of a step on the tree that gave so many nodes back.
 #[inline(always)]
 fn of_move<P>(moved: Move<P>, back: u64) -> Report<P>
-    ensures { result ≡ record { kind = Kind.Tree; decided = moved.decided; kept = false; destroyed = back; outcome = told moved.outcome } }
+    ensures { result ≡ record { kind = Kind.Tree; decided = moved.decided; kept = false; skipped = moved.skipped; destroyed = back; outcome = told moved.outcome } }
 {
     Report {
         kind: Kind::Tree,
         decided: moved.decided,
         kept: false,
+        skipped: moved.skipped,
         destroyed: back,
         outcome: Outcome::of_tree(moved.outcome),
     }
@@ -432,7 +435,7 @@ fn interruption<P>(target: &Target<P>) -> Fault
     }
 }
 
-/// Whether a call may hand a node over.
+/// Whether a call may hand nodes over.
 fn writes<P>(op: &congee::Op<P>) -> bool
     ensures { result ≡ writes op.now }
 {

@@ -1,12 +1,17 @@
 //! How many nodes wait for their destruction.
 
-ghost use Rattle.std.specs.Prelude.{◌≡◌, ◌<◌, length, slice_get};
+ghost use Rattle.std.specs.Prelude.{◌≡◌, ◌*◌, ◌<◌, ◌≤◌, ◌∷◌, IfSome, length, map, slice_get};
 ghost use Rattle.std.specs.List.{sum_by};
-ghost use Rattle.joint.specs.Census.{AreCounted, size_taken};
+ghost use Rattle.congee.specs.Heap.{Stands};
+ghost use Rattle.joint.specs.Census.{AreCounted, taken_at};
+ghost use Rattle.joint.specs.Forest.{nodes};
 ghost use Rattle.joint.specs.Intact.{IsIntact};
-ghost use Rattle.joint.specs.Listing.{bytes_of, taken, waiting_nodes};
+ghost use Rattle.joint.specs.Journaling.{in_list};
+ghost use Rattle.joint.specs.Listing.{bytes_of, waiting_nodes};
+ghost use Rattle.joint.specs.View.{id_number};
 ghost use Rattle.joint.specs.Whole.{whole};
 
+use crate::census::Taken;
 use crate::engine::Engine;
 use crate::id::Id;
 use congee::protocol::Phase;
@@ -19,7 +24,7 @@ impl<P: Payload + Small, A: Allocator> Engine<P, A> {
         requires counted { AreCounted self.now.census self.now.nodes self.now.machines.items }
         ensures { result ≡ length (waiting_nodes (whole self.now.nodes self.now.machines.items self.now.calls.items)) }
     {
-        self.nodes.handed() + self.census.taken
+        self.nodes.handed() + self.census.taken.nodes
     }
 
     /// Their sizes, in bytes.
@@ -28,32 +33,45 @@ impl<P: Payload + Small, A: Allocator> Engine<P, A> {
         requires counted { AreCounted self.now.census self.now.nodes self.now.machines.items }
         ensures { result ≡ sum_by (bytes_of self.now.nodes) (waiting_nodes (whole self.now.nodes self.now.machines.items self.now.calls.items)) }
     {
-        self.nodes.handed_bytes() + self.census.taken_bytes
+        self.nodes.handed_bytes() + self.census.taken.bytes
     }
 
-    /// What is charged for the node that a worker's call has taken out of the tree and not yet handed over, in bytes.
+    /// The nodes that a worker's call has taken out of the tree and not yet handed over.
     #[inline(always)]
-    pub(crate) fn size_taken(&self, who: usize) -> Option<u64>
+    pub(crate) fn taken(&self, who: usize) -> Taken
         requires intact { IsIntact P.same_as P.always_copies self.now.nodes self.now.machines.items self.now.calls.items }
         requires inside { who < length self.now.machines.items }
-        ensures { result ≡ size_taken self.now.nodes (slice_get self.now.machines.items who) }
+        ensures nodes { result.nodes ≡ length (taken_at (slice_get self.now.machines.items who)) }
+        ensures bytes { result.bytes ≡ sum_by (bytes_of self.now.nodes) (taken_at (slice_get self.now.machines.items who)) }
+        ensures few { result.nodes ≤ 2 }
+        ensures small { result.bytes ≤ 2104 * 2 }
     {
-        match taken(&self.machines[who].phase) {
-            Some(node) => Some(self.nodes.size_of(node)),
-            None => None,
+        match &self.machines[who].phase {
+            Phase::Obsolete { node, next, .. } => self.weighed(*node, *next),
+            Phase::Retire { node, next, .. } => self.weighed(*node, *next),
+            // In the other phases the call has taken none out, or has handed it over.
+            _ => Taken::none(),
         }
     }
-}
 
-/// The node that a call has taken out of the tree and not yet handed over.
-#[inline(always)]
-fn taken<P: Payload + Small>(phase: &Phase<Id, P>) -> Option<Id>
-    ensures { result ≡ taken phase.now }
-{
-    match phase {
-        Phase::Obsolete { node, .. } => Some(*node),
-        Phase::Retire { node, .. } => Some(*node),
-        // In the other phases the call has taken none out, or has handed it over.
-        _ => None,
+    /// One node that stands, and another one where there is one.
+    fn weighed(&self, node: Id, next: Option<Id>) -> Taken
+        requires stands { Stands (nodes self.now.nodes (id_number node)) }
+        requires stand { IfSome next (λ n. Stands (nodes self.now.nodes (id_number n))) }
+        ensures nodes { result.nodes ≡ length (node ∷ in_list next) }
+        ensures bytes { result.bytes ≡ sum_by (bytes_of self.now.nodes) (map id_number (node ∷ in_list next)) }
+        ensures small { result.bytes ≤ 2104 * 2 }
+    {
+        let size = self.nodes.size_of(node);
+        match next {
+            None => Taken {
+                nodes: 1,
+                bytes: size,
+            },
+            Some(next) => Taken {
+                nodes: 2,
+                bytes: size + self.nodes.size_of(next),
+            },
+        }
     }
 }

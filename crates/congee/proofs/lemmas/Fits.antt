@@ -52,3 +52,17 @@ same_test m n e = grind (arith, nat_tests)
 
 pub other_test : (m n : ℕ) → m ≢ n → m == n ≡ false
 other_test m n e = grind (arith, nat_tests)
+
+-- two beginnings of one key that are as long as each other
+pub fits_same : (p q key : List ℕ) → fits p key ≡ true → fits q key ≡ true → length p ≡ length q → p ≡ q
+fits_same [] [] key a b l = refl
+fits_same [] (y ∷ q) key a b l = absurd (omega (arith, l))
+fits_same (x ∷ p) [] key a b l = absurd (omega (arith, l))
+fits_same (x ∷ p) (y ∷ q) [] a b l = absurd cc
+fits_same (x ∷ p) (y ∷ q) (z ∷ key) a b l =
+    let a' : (x == z ≡ true) × (fits p key ≡ true) = both_true _ _ a in
+    let b' : (y == z ≡ true) × (fits q key ≡ true) = both_true _ _ b in
+    let e : x ≡ z = equal x z a'.0 in
+    let f : y ≡ z = equal y z b'.0 in
+    let g : p ≡ q = fits_same p q key a'.1 b'.1 (omega (arith, l)) in
+    cc

@@ -1,6 +1,6 @@
 -- Nodes under other names: the tree and its map stay.
-use Rattle.std.proofs.Common.{◌≡◌, ◌≢◌, ℕ, zero, suc, ◌≤◌, ◌==◌, inl, inr, true, false, cond, List, length, get_or, refl, sym, ◌∙◌, ap, subst, arith}
-use Rattle.std.specs.Prelude.{Option, None, Some}
+use Rattle.std.proofs.Common.{◌≡◌, ◌≢◌, ℕ, zero, suc, ◌≤◌, ◌==◌, inl, inr, cond, List, length, get_or, refl, sym, ◌∙◌, ap, subst, arith}
+use Rattle.std.specs.Prelude.{Option, None}
 use Rattle.congee.specs.Heap.{Node, Hung, Nothing, Below, Holds, fits, of_child, walk, value_at}
 use Rattle.congee.specs.Ledger.{Linked, Note, IsChild, HasParent, Tree}
 use Rattle.congee.proofs.lemmas.Fits.{same_test, other_test}
@@ -106,7 +106,8 @@ pub record Moves {V : Type 0} (a : ℕ → Note) (h : ℕ → Node V) (a' : ℕ 
   pub prefix : (h' p).prefix ≡ (h p).prefix
   pub child : (h' p).children b ≡ Below m
   pub beside : (c : ℕ) → c ≢ b → (h' p).children c ≡ (h p).children c
-  pub node : h' m ≡ h n
+  pub same_prefix : (h' m).prefix ≡ (h n).prefix
+  pub same_children : (c : ℕ) → (h' m).children c ≡ (h n).children c
   pub nodes : (x : ℕ) → x ≢ n → x ≢ m → x ≢ p → h' x ≡ h x
   pub joined : (a' m).status ≡ Linked
   pub left : (a' n).status ≢ Linked
@@ -152,7 +153,7 @@ module _ {V : Type 0} (a : ℕ → Note) (h : ℕ → Node V) (a' : ℕ → Note
   children_at : (x c : ℕ) → (a x).status ≡ Linked → (h' (in_place n m x)).children c ≡ named (in_place n m) ((h x).children c)
   children_at x c l = elim (same_or_not x n) [
     | inl e ↦ (let P : ℕ → Type 0 = λ y. (h' (in_place n m y)).children c ≡ named (in_place n m) ((h y).children c) in
-        subst P (sym e) (ap (λ y. (h' y).children c) put ∙ (ap (λ y. y.children c) k.node ∙ sym (unnamed n c hangs.linked (λ q. absurd (above_kept (sym q)))))))
+        subst P (sym e) (ap (λ y. (h' y).children c) put ∙ (k.same_children c ∙ sym (unnamed n c hangs.linked (λ q. absurd (above_kept (sym q)))))))
     | inr ne ↦ ap (λ y. (h' y).children c) (kept x ne) ∙ elim (same_or_not x p) [
       | inl e ↦ (let P : ℕ → Type 0 = λ y. (h' y).children c ≡ named (in_place n m) ((h y).children c) in subst P (sym e) (elim (same_or_not c b) [
         | inl q ↦ (let Q : ℕ → Type 0 = λ y. (h' p).children y ≡ named (in_place n m) ((h p).children y) in
@@ -165,7 +166,7 @@ module _ {V : Type 0} (a : ℕ → Note) (h : ℕ → Node V) (a' : ℕ → Note
 
   prefix_at : (x : ℕ) → (a x).status ≡ Linked → (h' (in_place n m x)).prefix ≡ (h x).prefix
   prefix_at x l = elim (same_or_not x n) [
-    | inl e ↦ (let P : ℕ → Type 0 = λ y. (h' (in_place n m y)).prefix ≡ (h y).prefix in subst P (sym e) (ap (λ y. (h' y).prefix) put ∙ ap (λ y. y.prefix) k.node))
+    | inl e ↦ (let P : ℕ → Type 0 = λ y. (h' (in_place n m y)).prefix ≡ (h y).prefix in subst P (sym e) (ap (λ y. (h' y).prefix) put ∙ k.same_prefix))
     | inr ne ↦ ap (λ y. (h' y).prefix) (kept x ne) ∙ elim (same_or_not x p) [
       | inl e ↦ (let P : ℕ → Type 0 = λ y. (h' y).prefix ≡ (h y).prefix in subst P (sym e) k.prefix)
       | inr np ↦ ap (λ y. y.prefix) (at_other x l ne np)

@@ -6,6 +6,7 @@ pub mod Rely
 pub mod Words
 pub mod Change
 pub mod Regrow
+pub mod Lessening
 pub mod Owners
 pub mod Parting
 pub mod Sound
@@ -64,3 +65,9 @@ pub mod AlikeChanges
 pub mod AlikeSteps
 pub mod AlikeKnown
 pub mod AlikeCalls
+pub mod Filling
+pub mod FillingChanges
+pub mod FillingSteps
+pub mod FillingKept
+pub mod FillingCalls
+pub mod FillingTraces

@@ -17,64 +17,64 @@ mod_le a (suc k) = omega arith
 up_le : (k e : ℕ) → k ≤ 65536 → up k e ≤ e + 65536
 up_le k e l = let m = mod_le (k - e % k) k in omega arith
 
-record FitsIn (τ : Ty) (n : ℕ) : Type 0 where
+pub record FitsIn (τ : Ty) (n : ℕ) : Type 0 where
   pub bytes : size τ ≤ n
   pub aligned : align τ ≤ 65536
 
-record Fields (τs : Tys) (n : ℕ) : Type 0 where
+pub record Fields (τs : Tys) (n : ℕ) : Type 0 where
   pub ends : (e : ℕ) → end_of e τs ≤ e + n
   pub aligned : aligns τs ≤ 65536
 
-record Cases (τss : Tyss) (n : ℕ) : Type 0 where
+pub record Cases (τss : Tyss) (n : ℕ) : Type 0 where
   pub ends : endss τss ≤ n
   pub aligned : alignss τss ≤ 65536
 
-no_fields : Fields tnil 0
+pub no_fields : Fields tnil 0
 no_fields = record { ends = λ e. omega arith; aligned = omega arith }
 
-field : {τ : Ty} {τs : Tys} {n m : ℕ} → FitsIn τ n → Fields τs m → Fields (tcons τ τs) (65536 + n + m)
+pub field : {τ : Ty} {τs : Tys} {n m : ℕ} → FitsIn τ n → Fields τs m → Fields (tcons τ τs) (65536 + n + m)
 field {τ} {τs} {n} {m} w f = record {
   ends = λ e. let u = up_le (align τ) e w.aligned in let r = f.ends (up (align τ) e + size τ) in omega (arith, w.bytes);
   aligned = max_le w.aligned f.aligned;
 }
 
-struct : {τs : Tys} {n : ℕ} → Fields τs n → FitsIn (ty_struct [] τs) (n + 65536)
+pub struct : {τs : Tys} {n : ℕ} → Fields τs n → FitsIn (ty_struct [] τs) (n + 65536)
 struct {τs} {n} f = record {
   bytes = let u = up_le (aligns τs) (end_of 0 τs) f.aligned in omega (arith, f.ends 0);
   aligned = f.aligned;
 }
 
-no_cases : Cases ttnil 1
+pub no_cases : Cases ttnil 1
 no_cases = record { ends = omega arith; aligned = omega arith }
 
-case : {τs : Tys} {τss : Tyss} {n m : ℕ} → Fields τs n → Cases τss m → Cases (ttcons τs τss) (1 + n + m)
+pub case : {τs : Tys} {τss : Tyss} {n m : ℕ} → Fields τs n → Cases τss m → Cases (ttcons τs τss) (1 + n + m)
 case {τs} {τss} {n} {m} f c = record {
   ends = max_le (omega (arith, f.ends 1)) (omega (arith, c.ends));
   aligned = max_le f.aligned c.aligned;
 }
 
-enum : {τss : Tyss} {n : ℕ} → Cases τss n → FitsIn (ty_enum [] τss) (n + 65536)
+pub enum : {τss : Tyss} {n : ℕ} → Cases τss n → FitsIn (ty_enum [] τss) (n + 65536)
 enum {τss} {n} c = record {
   bytes = let u = up_le (alignss τss) (endss τss) c.aligned in omega (arith, c.ends);
   aligned = c.aligned;
 }
 
-word : FitsIn (ty_int w64) 8
+pub word : FitsIn (ty_int w64) 8
 word = record { bytes = omega arith; aligned = omega arith }
 
-byte : FitsIn (ty_int w8) 1
+pub byte : FitsIn (ty_int w8) 1
 byte = record { bytes = omega arith; aligned = omega arith }
 
-count : FitsIn (ty_int w16) 2
+pub count : FitsIn (ty_int w16) 2
 count = record { bytes = omega arith; aligned = omega arith }
 
-pointer : FitsIn ty_ptr 8
+pub pointer : FitsIn ty_ptr 8
 pointer = record { bytes = omega arith; aligned = omega arith }
 
-unit : FitsIn ty_unit 0
+pub unit : FitsIn ty_unit 0
 unit = record { bytes = omega arith; aligned = omega arith }
 
-array : {τ : Ty} {n : ℕ} (k : ℕ) → FitsIn τ n → FitsIn (ty_array τ k) (k * n)
+pub array : {τ : Ty} {n : ℕ} (k : ℕ) → FitsIn τ n → FitsIn (ty_array τ k) (k * n)
 array {τ} {n} k w = record { bytes = le_mul k (size τ) n w.bytes; aligned = w.aligned }
   where
     le_mul : (k a b : ℕ) → a ≤ b → k * a ≤ k * b
@@ -85,7 +85,7 @@ array {τ} {n} k w = record { bytes = le_mul k (size τ) n w.bytes; aligned = w.
 abbrev child_ty : Ty → Ty → Ty
 child_ty τ σ = ty_enum [] (ttcons tnil (ttcons (tcons τ tnil) (ttcons (tcons σ tnil) ttnil)))
 
-abbrev array_vec_ty : Ty → ℕ → Ty
+abbrev pub array_vec_ty : Ty → ℕ → Ty
 array_vec_ty τ n = ty_struct [] (tcons (ty_struct [] (tcons (ty_array τ n) tnil)) (tcons (ty_int w64) (tcons ty_unit tnil)))
 
 abbrev prefix_ty : Ty
@@ -94,13 +94,13 @@ prefix_ty = ty_struct [] (tcons (ty_array (ty_int w8) 8) tnil)
 abbrev sorted_ty : ℕ → Ty → Ty → Ty
 sorted_ty n τ σ = ty_struct [] (tcons (array_vec_ty (ty_int w8) n) (tcons (array_vec_ty (child_ty τ σ) n) tnil))
 
-abbrev index_ty : Ty
+abbrev pub index_ty : Ty
 index_ty = ty_struct [] (tcons (ty_int w8) (tcons (ty_int w8) (tcons (ty_array (ty_int w8) 256) (tcons (ty_array (ty_int w8) 48) tnil))))
 
 abbrev indexed_ty : Ty → Ty → Ty
 indexed_ty τ σ = ty_struct [] (tcons index_ty (tcons (array_vec_ty (child_ty τ σ) 48) tnil))
 
-abbrev mask_ty : Ty
+abbrev pub mask_ty : Ty
 mask_ty = ty_struct [] (tcons (ty_array (ty_int w8) 32) tnil)
 
 abbrev masked_ty : Ty → Ty → Ty
@@ -114,7 +114,7 @@ node_ty τ = ty_struct [] (tcons prefix_ty (tcons τ tnil))
 abbrev any_node_ty : Ty → Ty → Ty
 any_node_ty τ σ = ty_enum [] (ttcons (tcons (node_ty (sorted_ty 4 τ σ)) tnil) (ttcons (tcons ty_ptr tnil) (ttcons (tcons ty_ptr tnil) (ttcons (tcons ty_ptr tnil) ttnil))))
 
-bytes_array : (n m : ℕ) → n + 655360 ≤ m → FitsIn (array_vec_ty (ty_int w8) n) m
+pub bytes_array : (n m : ℕ) → n + 655360 ≤ m → FitsIn (array_vec_ty (ty_int w8) n) m
 bytes_array n m l =
     let w = struct (field (struct (field (array n byte) no_fields)) (field word (field unit no_fields))) in
     record { bytes = omega (arith, w.bytes, l); aligned = w.aligned }

@@ -4,6 +4,8 @@ use Rattle.congee.specs.Heap.{value_at}
 use Rattle.congee.specs.owned.Arena.{IsTree, heap_of}
 use Rattle.congee.specs.owned.Changes.{MapChange}
 use Rattle.congee.specs.owned.Charge.{Balances, KeepsLimit}
+use Rattle.congee.specs.owned.Full.{NodesFilled, NoneSkipped}
+use Rattle.congee.specs.owned.Going.{Going, Went}
 use Rattle.congee.specs.owned.OwnedSteps.{SameNodes}
 use Rattle.congee.specs.owned.Sizes.{bytes_of}
 use Rattle.congee.specs.owned.Wanted.{InsertionFits, IsRefused, gain_of, size_by}
@@ -18,18 +20,21 @@ module _ {P A : Type 0} where
     pub balance : Balances charged old new
     pub same_limit : KeepsLimit limit old new
 
-  -- an edit within a leaf: no node comes or goes, and the budget isn't touched
+  -- an edit within a leaf: no node comes or goes, none has fewer children, and the budget isn't touched
   pub record Swaps (old new : Arena P A) (key : List ℕ) (before after : Option P) : Type 0 where
     pub tree : IsTree new.nodes
     pub change : MapChange old.nodes new.nodes key before after
     pub bytes : bytes_of new.nodes ≡ bytes_of old.nodes
+    pub filled : NodesFilled old.nodes → NodesFilled new.nodes
     pub allocator : new.allocator ≡ old.allocator
 
-  -- an insertion: the key has the value, and nodes of these sizes are made, which fitted; no node is where the key was present
+  -- an insertion: the key has the value, and nodes of these sizes are made, which fitted; no node is where the key was present.
+  -- Where the nodes had enough children they have
   pub record Adds (charged limit : A → ℕ) (old new : Arena P A) (key : List ℕ) (before : Option P) (value : P) (wants : Option (List ℕ)) : Type 0 where
     pub edits : Edits charged limit old new key before (Some value)
     pub fits : InsertionFits wants (charged old.allocator) (limit old.allocator)
     pub bytes : bytes_of new.nodes ≡ bytes_of old.nodes + gain_of wants
+    pub filled : NodesFilled old.nodes → NodesFilled new.nodes
 
   -- a refused insertion: the key is absent, one of these nodes wasn't made, the value comes back, and all is as before
   pub record Denies (charged limit : A → ℕ) (old new : Arena P A) (key : List ℕ) (value : P) (wants : Option (List ℕ)) (refusal : OOMError × P) : Type 0 where
@@ -40,10 +45,12 @@ module _ {P A : Type 0} where
     pub balance : Balances charged old new
     pub same_limit : KeepsLimit limit old new
 
-  -- an edit that makes no node: nodes of so many bytes go
-  pub record Frees (charged limit : A → ℕ) (old new : Arena P A) (key : List ℕ) (before after : Option P) (freed : ℕ) : Type 0 where
+  -- an edit that makes no node but a lesser one: these nodes go. Where the nodes had enough children they have, if none that was
+  -- wanted was skipped
+  pub record Frees (charged limit : A → ℕ) (old new : Arena P A) (key : List ℕ) (before after : Option P) (going : Option Going) : Type 0 where
     pub edits : Edits charged limit old new key before after
-    pub bytes : bytes_of new.nodes + freed ≡ bytes_of old.nodes
+    pub bytes : Went (charged old.allocator) (limit old.allocator) (bytes_of old.nodes) (bytes_of new.nodes) going
+    pub filled : NodesFilled old.nodes → NoneSkipped (bytes_of old.nodes) (bytes_of new.nodes) going → NodesFilled new.nodes
 
   -- the leaf at a name goes with its only value, the key's; the budget isn't touched yet
   pub record Drops (old new : Arena P A) (key : List ℕ) (at : ℕ) (value : P) : Type 0 where

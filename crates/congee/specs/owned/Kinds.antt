@@ -7,6 +7,7 @@ use Rattle.congee.specs.declared.forms.base_node.Node.{Node}
 use Rattle.congee.specs.declared.forms.base_node.NodeType.{NodeType}
 use Rattle.congee.specs.declared.forms.child.Child.{Child}
 use Rattle.congee.specs.declared.forms.child.Child.TheVariants.{Blank, Node as Sub, Value}
+use Rattle.congee.specs.declared.owned.lone.Lone.{Lone}
 use Rattle.congee.specs.declared.owned.slots.Slot.{Slot}
 use Rattle.congee.specs.declared.owned.slots.Slot.TheVariants.{Inner, Leaf}
 
@@ -24,63 +25,63 @@ module _ {P : Type 0} where
   IsValue (Some (Sub name)) = ⊥
   IsValue (Some (Value value)) = Unit {0}
 
-module _ {L P : Type 0} where
-  abbrev pub prefix_in : Slot L P → List ℕ
+module _ {P : Type 0} where
+  abbrev pub prefix_in : Slot P → List ℕ
   prefix_in (Inner n) = prefix_of n
   prefix_in (Leaf n) = prefix_of n
 
-  abbrev pub form_in : Slot L P → NodeType
+  abbrev pub form_in : Slot P → NodeType
   form_in (Inner n) = form_of n
   form_in (Leaf n) = form_of n
 
-  abbrev pub len_in : Slot L P → ℕ
+  abbrev pub len_in : Slot P → ℕ
   len_in (Inner n) = map.len (children_of n)
   len_in (Leaf n) = map.len (children_of n)
 
-  abbrev pub full_in : Slot L P → Bool
+  abbrev pub full_in : Slot P → Bool
   full_in (Inner n) = is_full_of n
   full_in (Leaf n) = is_full_of n
 
   -- what hangs in the node hangs at bytes
-  abbrev pub HasLowBytes : Slot L P → Type 0
+  abbrev pub HasLowBytes : Slot P → Type 0
   HasLowBytes (Inner n) = (b : ℕ) → IsSome (map.get (children_of n) b) → b < 256
   HasLowBytes (Leaf n) = (b : ℕ) → IsSome (map.get (children_of n) b) → b < 256
 
-  abbrev pub IsInner : Slot L P → Type 0
+  abbrev pub IsInner : Slot P → Type 0
   IsInner (Inner n) = Unit {0}
   IsInner (Leaf n) = ⊥
 
-  abbrev pub IsLeaf : Slot L P → Type 0
+  abbrev pub IsLeaf : Slot P → Type 0
   IsLeaf (Inner n) = ⊥
   IsLeaf (Leaf n) = Unit {0}
 
   -- what an inner node has under a byte, and what a leaf has
-  abbrev pub inner_get : Slot L P → ℕ → Option (Child ℕ L)
+  abbrev pub inner_get : Slot P → ℕ → Option (Child ℕ (Lone P))
   inner_get (Inner n) byte = map.get (children_of n) byte
   inner_get (Leaf n) byte = None
 
-  abbrev pub leaf_get : Slot L P → ℕ → Option (Child ℕ P)
+  abbrev pub leaf_get : Slot P → ℕ → Option (Child ℕ P)
   leaf_get (Inner n) byte = None
   leaf_get (Leaf n) byte = map.get (children_of n) byte
 
-  abbrev pub Cleared : Slot L P → Slot L P → Type 0
+  abbrev pub Cleared : Slot P → Slot P → Type 0
   Cleared (Inner n) (Inner m) = Becomes n m map.empty
   Cleared (Leaf n) (Leaf m) = Becomes n m map.empty
   Cleared (Inner n) (Leaf m) = ⊥
   Cleared (Leaf n) (Inner m) = ⊥
 
   -- the children alone change, as a function says
-  abbrev pub InnerBecomes : Slot L P → Slot L P → (map.FinMap nat_cmp (Child ℕ L) → map.FinMap nat_cmp (Child ℕ L)) → Type 0
+  abbrev pub InnerBecomes : Slot P → Slot P → (map.FinMap nat_cmp (Child ℕ (Lone P)) → map.FinMap nat_cmp (Child ℕ (Lone P))) → Type 0
   InnerBecomes (Inner n) (Inner m) f = Becomes n m (f (children_of n))
   InnerBecomes (Inner n) (Leaf m) f = ⊥
   InnerBecomes (Leaf n) m f = ⊥
 
-  abbrev pub LeafBecomes : Slot L P → Slot L P → (map.FinMap nat_cmp (Child ℕ P) → map.FinMap nat_cmp (Child ℕ P)) → Type 0
+  abbrev pub LeafBecomes : Slot P → Slot P → (map.FinMap nat_cmp (Child ℕ P) → map.FinMap nat_cmp (Child ℕ P)) → Type 0
   LeafBecomes (Leaf n) (Leaf m) f = Becomes n m (f (children_of n))
   LeafBecomes (Leaf n) (Inner m) f = ⊥
   LeafBecomes (Inner n) m f = ⊥
 
-  abbrev pub Grown : Slot L P → Slot L P → Type 0
+  abbrev pub Grown : Slot P → Slot P → Type 0
   Grown (Inner n) (Inner m) = IsGrown n m
   Grown (Leaf n) (Leaf m) = IsGrown n m
   Grown (Inner n) (Leaf m) = ⊥

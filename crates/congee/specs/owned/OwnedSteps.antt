@@ -1,9 +1,9 @@
 -- A change of one node.
-use Rattle.std.specs.Prelude.{◌≡◌, ◌≢◌, ℕ, ◌+◌, ◌<◌, ◌≤◌, false, List, length, Option, Some, None}
+use Rattle.std.specs.Prelude.{◌≡◌, ◌≢◌, ℕ, ◌+◌, ◌<◌, ◌≤◌, false, cond, List, length, Option, Some, None}
 use Rattle.std.specs.Ordering.{nat_cmp}
 use Rattle.std.specs.FinMap as map
 use Rattle.slab.specs.Slab.{Updates, get}
-use Rattle.congee.specs.forms.Forms.{Becomes, capacity_of, form_of, prefix_of, children_of, is_full_of}
+use Rattle.congee.specs.forms.Forms.{Becomes, capacity_of, form_of, prefix_of, children_of, is_full_of, next_form}
 use Rattle.congee.specs.Heap.{Holds, child_for}
 use Rattle.congee.specs.owned.Arena.{Nodes, heap_of}
 use Rattle.congee.specs.owned.Changes.{IsLeafOf}
@@ -34,11 +34,12 @@ pub record Makes {P : Type 0} (s s' : Nodes P) (name : ℕ) (prefix : List ℕ) 
 abbrev pub SameNodes : {P : Type 0} → Nodes P → Nodes P → Type 0
 SameNodes s s' = (name : ℕ) → get s' name ≡ get s name
 
--- node x gets room for one more child; one of 256 places keeps them
+-- node x gets room for one more child, in the next form if it is full; one of 256 places keeps them
 pub record MakesRoom {P : Type 0} (s s' : Nodes P) (at : ℕ) (x : Node ℕ P) : Type 0 where
   pub node : Node ℕ P
   pub prefixed : prefix_of node ≡ prefix_of x
   pub children : children_of node ≡ children_of x
+  pub form : form_of node ≡ cond (is_full_of x) (next_form (form_of x)) (form_of x)
   pub room : is_full_of node ≡ false
   pub wide : capacity_of (form_of x) ≡ 256 → capacity_of (form_of node) ≡ 256
   pub updates : Updates s s' at (Some node)

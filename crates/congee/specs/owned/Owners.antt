@@ -1,30 +1,35 @@
 -- What contracts see of a tree of owners.
-use Rattle.std.specs.Prelude.{◌≡◌, ℕ, ◌+◌, ◌-◌, ◌^◌, Bool, false, List, None, refl}
+use Rattle.std.specs.Prelude.{◌≡◌, ℕ, ◌+◌, ◌-◌, ◌^◌, Bool, false, List, Option, None, refl}
 use Rattle.std.specs.Ordering.{nat_cmp}
 use Rattle.std.specs.FinMap as map
 use Rattle.std.specs.Coded.{Coded, code_by, coded×, coded_ℕ, coded_list}
+use Rattle.congee.specs.owned.Full.{NoneSkipped}
+use Rattle.congee.specs.owned.Going.{Going, Went, going_code}
+use Rattle.congee.specs.owned.Stats.{Shape, shape_code}
 use Rattle.congee.specs.owned.Wanted.{InsertionFits, IsRefused, gain_of}
 use Rattle.congee.specs.declared.allocator.OOMError.{OOMError}
 use Rattle.judge.specs.Answer.{answer}
 use Rattle.judge.specs.declared.journal.Call.{Call}
 use Rattle.judge.specs.declared.journal.Reply.{Reply}
 
--- each key's number with the value that its owner shares, the sum of the sizes of the nodes in bytes, which is what is
--- charged, for each absent key the sizes of the nodes that its insertion makes, and each key that is alone in its leaf
--- with the leaf's size
+-- each key's number with the value that its owner shares, the nodes, the sum of their sizes in bytes, which is what is charged,
+-- how many children the nodes but the root lack, for each absent key the sizes of the nodes that its insertion makes, and what
+-- goes with each key's value where it is taken out
 pub record Owners (V : Type 0) : Type 0 where
   pub pairs : map.FinMap nat_cmp V
+  pub nodes : List Shape
   pub bytes : ℕ
+  pub lacking : ℕ
   pub wants : map.FinMap nat_cmp (List ℕ)
-  pub lone : map.FinMap nat_cmp ℕ
+  pub goes : map.FinMap nat_cmp Going
 
 abbrev pub owners_code : {V : Type 0} → Coded V → Coded (Owners V)
 owners_code {V} v =
     code_by
-    (map.FinMap nat_cmp V × (ℕ × (map.FinMap nat_cmp (List ℕ) × map.FinMap nat_cmp ℕ)))
-    (coded× (map.code coded_ℕ v) (coded× coded_ℕ (coded× (map.code coded_ℕ (coded_list coded_ℕ)) (map.code coded_ℕ coded_ℕ))))
-    (λ c. (c.pairs, (c.bytes, (c.wants, c.lone))))
-    (λ p. record { pairs = p.0; bytes = p.1.0; wants = p.1.1.0; lone = p.1.1.1 })
+    (map.FinMap nat_cmp V × (List Shape × (ℕ × (ℕ × (map.FinMap nat_cmp (List ℕ) × map.FinMap nat_cmp Going)))))
+    (coded× (map.code coded_ℕ v) (coded× (coded_list shape_code) (coded× coded_ℕ (coded× coded_ℕ (coded× (map.code coded_ℕ (coded_list coded_ℕ)) (map.code coded_ℕ going_code))))))
+    (λ c. (c.pairs, (c.nodes, (c.bytes, (c.lacking, (c.wants, c.goes))))))
+    (λ p. record { pairs = p.0; nodes = p.1.0; bytes = p.1.1.0; lacking = p.1.1.1.0; wants = p.1.1.1.1.0; goes = p.1.1.1.1.1 })
     (λ _. refl)
 
 -- no two owners are known to share equal values
@@ -36,12 +41,13 @@ abbrev pub OwnerAnswers : {V : Type 0} → Owners V → Owners V → Call V → 
 OwnerAnswers old new call reply = answer never_same old.pairs call ≡ (reply, new.pairs)
 
 module _ {V : Type 0} (old new : Owners V) where
-  -- an insertion: the call is the one on the map, the nodes that it makes fitted, and the sum of the nodes' sizes grows by
-  -- theirs
+  -- an insertion: the call is the one on the map, the nodes that it makes fitted, the sum of the nodes' sizes grows by theirs, and
+  -- no node lacks a child where none did
   pub record OwnerInserts (key : ℕ) (call : Call V) (reply : Reply V) : Type 0 where
     pub answers : OwnerAnswers old new call reply
     pub fits : InsertionFits (map.get old.wants key) old.bytes (2 ^ 64 - 1)
     pub bytes : new.bytes ≡ old.bytes + gain_of (map.get old.wants key)
+    pub filled : old.lacking ≡ 0 → new.lacking ≡ 0
 
   -- a refused insertion: the key is absent, one of the nodes that it makes wasn't made, and it leaves all as it was
   pub record OwnerRefuses (key : ℕ) (e : OOMError) : Type 0 where
@@ -49,7 +55,9 @@ module _ {V : Type 0} (old new : Owners V) where
     pub cause : IsRefused (map.get old.wants key) old.bytes (2 ^ 64 - 1) e
     pub unchanged : new ≡ old
 
-  -- a call that inserts no key: it is the one on the map, and nodes of so many bytes go
-  pub record OwnerModifies (freed : ℕ) (call : Call V) (reply : Reply V) : Type 0 where
+  -- a call that inserts no key: it is the one on the map, these nodes go, and no node lacks a child where none did, if the call
+  -- skipped no lesser node that it wanted
+  pub record OwnerModifies (going : Option Going) (call : Call V) (reply : Reply V) : Type 0 where
     pub answers : OwnerAnswers old new call reply
-    pub bytes : new.bytes + freed ≡ old.bytes
+    pub bytes : Went old.bytes (2 ^ 64 - 1) old.bytes new.bytes going
+    pub filled : old.lacking ≡ 0 → NoneSkipped old.bytes new.bytes going → new.lacking ≡ 0

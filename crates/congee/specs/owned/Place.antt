@@ -14,4 +14,5 @@ EndsAt s key n (Apart c) = (child_for (heap_of s n) key ≡ Below c) × (fits (h
 
 pub record Located {P : Type 0} (s : Nodes P) (key : List ℕ) (p : Place) : Type 0 where
   pub reached : Reached s key p.above p.at
+  pub higher : Reached s key p.top p.above
   pub ends : EndsAt s key p.at p.spot

@@ -5,6 +5,7 @@ use Rattle.slab.specs.Slab.{get}
 use Rattle.congee.specs.Heap.{value_at}
 use Rattle.congee.specs.forms.Forms.{Becomes, children_of}
 use Rattle.congee.specs.owned.Arena.{Nodes, IsTree, heap_of}
+use Rattle.congee.specs.owned.Full.{NodesFilled}
 use Rattle.congee.specs.owned.Sizes.{bytes_of}
 use Rattle.congee.specs.declared.forms.base_node.Node.{Node}
 use Rattle.congee.specs.declared.forms.child.Child.TheVariants.{Node as Sub}
@@ -24,8 +25,9 @@ pub record Renames {P : Type 0} (s s' : Nodes P) (above byte before after : ℕ)
   pub left : get s' before ≡ None
   pub others : (m : ℕ) → m ≢ above → m ≢ before → m ≢ after → get s' m ≡ get s m
 
--- names alone changed: the nodes are a tree with the same map, and take the same room
+-- names alone changed: the nodes are a tree with the same map, take the same room, and have enough children if they had
 pub record Renamed {P : Type 0} (s s' : Nodes P) : Type 0 where
   pub tree : IsTree s'
   pub values : (key : List ℕ) → value_at (heap_of s') key ≡ value_at (heap_of s) key
   pub bytes : bytes_of s' ≡ bytes_of s
+  pub filled : NodesFilled s → NodesFilled s'

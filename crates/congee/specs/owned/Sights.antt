@@ -6,6 +6,7 @@ use Rattle.congee.specs.Heap.{fits}
 use Rattle.congee.specs.Keys.{key_bytes}
 use Rattle.congee.specs.forms.Forms.{children_of, prefix_of}
 use Rattle.congee.specs.owned.Arena.{Nodes, heap_of}
+use Rattle.congee.specs.owned.Entries.{lone_seen}
 use Rattle.congee.specs.owned.Stores.{StandsWith}
 use Rattle.congee.specs.owned.Slots.{inline_name, inner_child, leaf_child, lone_node, with_children}
 use Rattle.congee.specs.declared.forms.base_node.Node.{Node}
@@ -33,7 +34,7 @@ module _ {P : Type 0} where
 
   -- what was read is the node under a name
   abbrev pub Sees : Nodes P → ℕ → Sight P → Type 0
-  Sees s at (Inline lone) = get s at ≡ Some (lone_node lone.now)
+  Sees s at (Inline lone) = get s at ≡ Some (lone_node (lone_seen lone))
   Sees s at (Inner slot n) = SeesInner s at slot n.now
   Sees s at (Leaf least n) = SeesLeaf s at least n.now
 

@@ -1,4 +1,4 @@
--- The nodes that an insertion makes, and the leaf that a removal takes.
+-- The nodes that an insertion makes.
 use Rattle.std.specs.Prelude.{◌≡◌, ℕ, zero, suc, ◌+◌, ◌-◌, ◌≤◌, ◌<◌, ◌==◌, ◌&&◌, ◌⊎◌, not, cond, List, [], ◌∷◌, ◌^◌, length, Option, None, Some}
 use Rattle.std.specs.Ordering.{nat_cmp}
 use Rattle.std.specs.FinMap.{FinMap, get}
@@ -47,15 +47,6 @@ gain (size ∷ sizes) = net size + gain sizes
 abbrev pub gain_of : Option (List ℕ) → ℕ
 gain_of None = 0
 gain_of (Some sizes) = gain sizes
-
-abbrev pub freed_of : Option ℕ → ℕ
-freed_of None = 0
-freed_of (Some size) = size
-
--- what a leaf gives back where an answer takes its only value out
-abbrev pub freed_by : {Y : Type 0} → Option Y → Option ℕ → ℕ
-freed_by None size = freed_of size
-freed_by (Some y) size = 0
 
 -- each of these nodes fits the limit where it is charged after those before it: one that takes the place of another is
 -- charged while that one still is
@@ -109,20 +100,6 @@ module _ {P : Type 0} where
   unfoldable pub wants_at : (ℕ → Node P) → List ℕ → Option (List ℕ)
   wants_at h key = descend (Some (size_of N4 ∷ size_of N4 ∷ [])) last_wants h KEY_BYTES 0 key
 
-  -- a leaf with one value
-  abbrev pub last_lone : Node P → Hung P → Option ℕ
-  last_lone n Nothing = None
-  last_lone n (Below c) = None
-  last_lone n (Holds v) = cond (n.count == 1) (Some (size_by n.capacity)) None
-
-  -- the size of the key's leaf, where the key is alone in it
-  unfoldable pub lone_at : (ℕ → Node P) → List ℕ → Option ℕ
-  lone_at h key = descend None last_lone h KEY_BYTES 0 key
-
   -- for each absent key of 64 bits the sizes of the nodes that its insertion makes
   unfoldable pub wants_of : Nodes P → FinMap nat_cmp (List ℕ)
   wants_of s = table (λ k. wants_at (heap_of s) (key_bytes k)) (2 ^ 64)
-
-  -- each key of 64 bits that is alone in its leaf, with the leaf's size
-  unfoldable pub lone_of : Nodes P → FinMap nat_cmp ℕ
-  lone_of s = table (λ k. lone_at (heap_of s) (key_bytes k)) (2 ^ 64)

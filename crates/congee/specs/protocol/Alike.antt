@@ -9,17 +9,18 @@ use Rattle.congee.specs.declared.protocol.store.Refusal.{Refusal}
 use Rattle.congee.specs.declared.protocol.store.Refusal.TheVariants as refusal
 use Rattle.congee.specs.declared.protocol.store.Seat.{Seat}
 use Rattle.congee.specs.declared.protocol.phase.Parent.{Parent}
+use Rattle.congee.specs.declared.protocol.phase.Above.{Above as Over}
 use Rattle.congee.specs.declared.protocol.phase.Site.{Site}
 use Rattle.congee.specs.declared.protocol.phase.Single.{Single}
 use Rattle.congee.specs.declared.protocol.phase.Single.TheVariants.{Set, Link}
 use Rattle.congee.specs.declared.protocol.phase.One.{One}
 use Rattle.congee.specs.declared.protocol.phase.Double.{Double}
-use Rattle.congee.specs.declared.protocol.phase.Double.TheVariants.{Unlink, Grow, GrowLink, Split}
+use Rattle.congee.specs.declared.protocol.phase.Double.TheVariants.{Unlink, Grow, GrowLink, Split, Shrink, Collapse, ShrinkAbove}
 use Rattle.congee.specs.declared.protocol.phase.Two.{Two}
 use Rattle.congee.specs.declared.protocol.phase.Plan.{Plan}
 use Rattle.congee.specs.declared.protocol.phase.Plan.TheVariants.{Here, Above}
 use Rattle.congee.specs.declared.protocol.phase.Phase.{Phase}
-use Rattle.congee.specs.declared.protocol.phase.Phase.TheVariants.{New, Version, Read, Check, CheckUncopied, CheckMiss, CheckDown, CheckOld, MakeLeaf, MakeGreater, MakeTop, MakeBeside, AskOld, AskNew, Confirm, CheckAbove, UpgradeOne, ChangeOne, UpgradeAbove, UpgradeBelow, ChangeTwo, Obsolete, Retire, UnlockBelow, Unlock, Unwind, Sweep, Ended}
+use Rattle.congee.specs.declared.protocol.phase.Phase.TheVariants.{New, Version, Read, Check, CheckUncopied, CheckMiss, CheckDown, CheckOld, MakeLeaf, MakeGreater, MakeTop, MakeBeside, MakeLesser, AskOld, AskNew, Confirm, CheckAbove, UpgradeOne, ChangeOne, UpgradeTop, UpgradeAbove, UpgradeBelow, ChangeTwo, Obsolete, Retire, UnlockBelow, Unlock, Unwind, Sweep, Ended}
 use Rattle.congee.specs.declared.protocol.sweep.Rung.{Rung}
 use Rattle.congee.specs.declared.protocol.sweep.Stage.{Stage}
 use Rattle.congee.specs.declared.protocol.sweep.Stage.TheVariants as stage
@@ -72,10 +73,21 @@ module _ {C : Type 0} (order : List ℕ) (number : C → ℕ) where
   pub record ParentAlike (p : Parent C) (q : Parent ℕ) : Type 0 where
     pub seat : SeatAlike p.seat q.seat
     pub byte : q.byte ≡ p.byte
+    pub depth : q.depth ≡ p.depth
+    pub count : q.count ≡ p.count
+    pub form : q.form ≡ p.form
 
-  abbrev pub AboveAlike : Option (Parent C) → Option (Parent ℕ) → Type 0
+  abbrev pub TopAlike : Option (Parent C) → Option (Parent ℕ) → Type 0
+  TopAlike None o = o ≡ None
+  TopAlike (Some p) o = (q : Parent ℕ) × (o ≡ Some q) × ParentAlike p q
+
+  pub record OverAlike (u : Over C) (w : Over ℕ) : Type 0 where
+    pub near : ParentAlike u.near w.near
+    pub far : TopAlike u.far w.far
+
+  abbrev pub AboveAlike : Option (Over C) → Option (Over ℕ) → Type 0
   AboveAlike None o = o ≡ None
-  AboveAlike (Some p) o = (q : Parent ℕ) × (o ≡ Some q) × ParentAlike p q
+  AboveAlike (Some u) o = (w : Over ℕ) × (o ≡ Some w) × OverAlike u w
 
   abbrev pub SeatedAlike : Option (Seat C) → Option (Seat ℕ) → Type 0
   SeatedAlike None o = o ≡ None
@@ -90,6 +102,7 @@ module _ {C : Type 0} (order : List ℕ) (number : C → ℕ) where
     pub at : SeatAlike s.at u.at
     pub depth : u.depth ≡ s.depth
     pub byte : u.byte ≡ s.byte
+    pub form : u.form ≡ s.form
 
   -- with what was read there
   pub record ReadAlike (s : Site C) (u : Site ℕ) : Type 0 where
@@ -110,8 +123,12 @@ module _ {C : Type 0} (order : List ℕ) (number : C → ℕ) where
   DoubleAlike (Grow c) x = (n : ℕ) × (x ≡ Grow n) × Named c n
   DoubleAlike (GrowLink c leaf byte) x = (n : ℕ) × (l : ℕ) × (x ≡ GrowLink n l byte) × Named c n × Named leaf l
   DoubleAlike (Split top leaf common byte) x = (n : ℕ) × (l : ℕ) × (x ≡ Split n l common byte) × Named top n × Named leaf l
+  DoubleAlike (Shrink c) x = (n : ℕ) × (x ≡ Shrink n) × Named c n
+  DoubleAlike Collapse x = x ≡ Collapse
+  DoubleAlike (ShrinkAbove c) x = (n : ℕ) × (x ≡ ShrinkAbove n) × Named c n
 
   pub record TwoAlike (two : Two C) (u : Two ℕ) : Type 0 where
+    pub top : TopAlike two.top u.top
     pub above : ParentAlike two.above u.above
     pub at : SeatAlike two.at u.at
     pub change : DoubleAlike two.change u.change
@@ -173,31 +190,33 @@ module _ {C : Type 0} (order : List ℕ) (number : C → ℕ) where
       -- where a call stands between two of its steps
       abbrev pub PhaseAlike : Phase C V → Phase ℕ V → Type 0
       PhaseAlike New x = x ≡ New
-      PhaseAlike (Version above c) x = (o : Option (Parent ℕ)) × (n : ℕ) × (x ≡ Version o n) × AboveAlike above o × Named c n
-      PhaseAlike (Read above at) x = (o : Option (Parent ℕ)) × (u : Seat ℕ) × (x ≡ Read o u) × AboveAlike above o × SeatAlike at u
+      PhaseAlike (Version above c) x = (o : Option (Over ℕ)) × (n : ℕ) × (x ≡ Version o n) × AboveAlike above o × Named c n
+      PhaseAlike (Read above at) x = (o : Option (Over ℕ)) × (u : Seat ℕ) × (x ≡ Read o u) × AboveAlike above o × SeatAlike at u
       PhaseAlike (Check s c) x = (u : Site ℕ) × (d : Child ℕ V) × (x ≡ Check u d) × SiteAlike s u × (IsTaken s.at → SeesAlike s c u d)
       PhaseAlike (CheckUncopied at) x = (u : Site ℕ) × (d : Child ℕ V) × (x ≡ Check u d) × SeatAlike at u.at
       PhaseAlike (CheckMiss p at common byte) x = (q : Parent ℕ) × (u : Seat ℕ) × (x ≡ CheckMiss q u common byte) × ParentAlike p q × SeatAlike at u
-      PhaseAlike (CheckDown p at c) x = (u : Seat ℕ) × (q : Parent ℕ) × (n : ℕ) × (x ≡ CheckDown u q n) × SeatAlike p u × ParentAlike at q × Named c n
+      PhaseAlike (CheckDown p at c) x = (u : Seat ℕ) × (w : Over ℕ) × (n : ℕ) × (x ≡ CheckDown u w n) × SeatAlike p u × OverAlike at w × Named c n
       PhaseAlike (CheckOld p s v) x = (q : Seat ℕ) × (u : Site ℕ) × (x ≡ CheckOld q u v) × SeatAlike p q × ReadAlike s u
       PhaseAlike (MakeLeaf s) x = (u : Site ℕ) × (x ≡ MakeLeaf u) × ReadAlike s u × (u.full ≡ s.full)
       PhaseAlike (MakeGreater s p leaf) x = (u : Site ℕ) × (q : Parent ℕ) × (o : Option ℕ) × (x ≡ MakeGreater u q o) × ReadAlike s u × ParentAlike p q × MadeAlike leaf o
       PhaseAlike (MakeTop p at common byte) x = (q : Parent ℕ) × (u : Seat ℕ) × (x ≡ MakeTop q u common byte) × ParentAlike p q × SeatAlike at u
       PhaseAlike (MakeBeside p at common byte top) x = (q : Parent ℕ) × (u : Seat ℕ) × (n : ℕ) × (x ≡ MakeBeside q u common byte n) × ParentAlike p q × SeatAlike at u × Named top n
+      PhaseAlike (MakeLesser s p g r) x = (u : Site ℕ) × (q : Parent ℕ) × (o : Option (Parent ℕ)) × (x ≡ MakeLesser u q o r) × ReadAlike s u × ParentAlike p q × TopAlike g o
       PhaseAlike (AskOld s v) x = (u : Site ℕ) × (x ≡ AskOld u v) × ReadAlike s u
       PhaseAlike (AskNew plan) x = (y : Plan ℕ) × (x ≡ AskNew y) × PlanAlike plan y
       PhaseAlike (Confirm at r) x = (u : Seat ℕ) × (x ≡ Confirm u r) × SeatAlike at u
       PhaseAlike (CheckAbove p one r) x = (q : Seat ℕ) × (u : One ℕ) × (x ≡ CheckAbove q u r) × SeatAlike p q × OneAlike one u
       PhaseAlike (UpgradeOne one r) x = (u : One ℕ) × (x ≡ UpgradeOne u r) × OneAlike one u
       PhaseAlike (ChangeOne one r) x = (u : One ℕ) × (x ≡ ChangeOne u r) × OneAlike one u
+      PhaseAlike (UpgradeTop g two r) x = (q : Parent ℕ) × (u : Two ℕ) × (x ≡ UpgradeTop q u r) × ParentAlike g q × TwoAlike two u
       PhaseAlike (UpgradeAbove two r) x = (u : Two ℕ) × (x ≡ UpgradeAbove u r) × TwoAlike two u
       PhaseAlike (UpgradeBelow two r) x = (u : Two ℕ) × (x ≡ UpgradeBelow u r) × TwoAlike two u
       PhaseAlike (ChangeTwo two r) x = (u : Two ℕ) × (x ≡ ChangeTwo u r) × TwoAlike two u
-      PhaseAlike (Obsolete c p r) x = (n : ℕ) × (q : ℕ) × (x ≡ Obsolete n q r) × Named c n × Named p q
-      PhaseAlike (Retire c p r) x = (n : ℕ) × (q : ℕ) × (x ≡ Retire n q r) × Named c n × Named p q
+      PhaseAlike (Obsolete c next p r) x = (n : ℕ) × (o : Option ℕ) × (q : ℕ) × (x ≡ Obsolete n o q r) × Named c n × MadeAlike next o × Named p q
+      PhaseAlike (Retire c next p r) x = (n : ℕ) × (o : Option ℕ) × (q : ℕ) × (x ≡ Retire n o q r) × Named c n × MadeAlike next o × Named p q
       PhaseAlike (UnlockBelow c p r) x = (n : ℕ) × (q : ℕ) × (x ≡ UnlockBelow n q r) × Named c n × Named p q
       PhaseAlike (Unlock c r) x = (n : ℕ) × (x ≡ Unlock n r) × Named c n
-      PhaseAlike (Unwind c e) x = (n : ℕ) × (x ≡ Unwind n e) × Named c n
+      PhaseAlike (Unwind c next e) x = (n : ℕ) × (o : Option ℕ) × (x ≡ Unwind n o e) × Named c n × MadeAlike next o
       PhaseAlike (Sweep s) x = (t : Scan ℕ V) × (x ≡ Sweep t) × ScanAlike s t
       PhaseAlike Ended x = x ≡ Ended
 

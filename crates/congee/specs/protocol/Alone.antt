@@ -7,11 +7,13 @@ use Rattle.congee.specs.declared.protocol.op.Op.{Op}
 use Rattle.congee.specs.declared.protocol.op.Op.TheVariants as op
 use Rattle.congee.specs.declared.protocol.phase.Kind.{Kind}
 use Rattle.congee.specs.declared.protocol.phase.Kind.TheVariants.{ComputeInsert}
+use Rattle.congee.specs.declared.protocol.phase.Parent.{Parent}
+use Rattle.congee.specs.declared.protocol.phase.Above.{Above as Over}
 use Rattle.congee.specs.declared.protocol.phase.Site.{Site}
 use Rattle.congee.specs.declared.protocol.phase.Plan.{Plan}
 use Rattle.congee.specs.declared.protocol.phase.Plan.TheVariants.{Here, Above}
 use Rattle.congee.specs.declared.protocol.phase.Phase.{Phase}
-use Rattle.congee.specs.declared.protocol.phase.Phase.TheVariants.{New, Version, Read, Check, CheckUncopied, CheckMiss, CheckDown, CheckOld, MakeLeaf, MakeGreater, MakeTop, MakeBeside, AskOld, AskNew, Confirm, CheckAbove, UpgradeOne, ChangeOne, UpgradeAbove, UpgradeBelow, ChangeTwo, Obsolete, Retire, UnlockBelow, Unlock, Unwind, Sweep, Ended}
+use Rattle.congee.specs.declared.protocol.phase.Phase.TheVariants.{New, Version, Read, Check, CheckUncopied, CheckMiss, CheckDown, CheckOld, MakeLeaf, MakeGreater, MakeTop, MakeBeside, MakeLesser, AskOld, AskNew, Confirm, CheckAbove, UpgradeOne, ChangeOne, UpgradeTop, UpgradeAbove, UpgradeBelow, ChangeTwo, Obsolete, Retire, UnlockBelow, Unlock, Unwind, Sweep, Ended}
 use Rattle.congee.specs.declared.protocol.machine.Machine.{Machine}
 use Rattle.congee.specs.declared.protocol.sweep.Rung.{Rung}
 use Rattle.congee.specs.declared.protocol.sweep.Stage.{Stage}
@@ -19,7 +21,6 @@ use Rattle.congee.specs.declared.protocol.sweep.Stage.TheVariants as stage
 use Rattle.congee.specs.declared.protocol.sweep.Sweep.{Sweep as Scan}
 use Rattle.congee.specs.Heap.{Node, Hung, Nothing, Below, Holds, is_free, is_taken}
 use Rattle.congee.specs.protocol.Holdings.{LockedBy}
-use Rattle.congee.specs.protocol.Steps.{seat_above}
 use Rattle.congee.specs.protocol.SweepSteps.{rungs_of}
 use Rattle.congee.specs.declared.keys.TheConstants.{KEY_BYTES}
 use Rattle.congee.specs.declared.forms.prefix.TheConstants.{MAX_PREFIX_LEN}
@@ -29,8 +30,16 @@ abbrev pub seats_if : {C : Type 0} → Option (Seat C) → List (Seat C)
 seats_if None = []
 seats_if (Some p) = p ∷ []
 
+abbrev pub seats_top : {C : Type 0} → Option (Parent C) → List (Seat C)
+seats_top None = []
+seats_top (Some p) = p.seat ∷ []
+
+abbrev pub seats_over : {C : Type 0} → Option (Over C) → List (Seat C)
+seats_over None = []
+seats_over (Some u) = u.near.seat ∷ seats_top u.far
+
 abbrev pub seats_site : {C : Type 0} → Site C → List (Seat C)
-seats_site s = s.at ∷ seats_if (seat_above s.above)
+seats_site s = s.at ∷ seats_over s.above
 
 abbrev pub seats_plan : {C : Type 0} → Plan C → List (Seat C)
 seats_plan (Here check one) = one.at ∷ seats_if check
@@ -50,31 +59,33 @@ seats_sweep s stage.Over = []
 
 abbrev pub seats : {C V : Type 0} → Phase C V → List (Seat C)
 seats New = []
-seats (Version above n) = seats_if (seat_above above)
-seats (Read above at) = at ∷ seats_if (seat_above above)
+seats (Version above n) = seats_over above
+seats (Read above at) = at ∷ seats_over above
 seats (Check s c) = seats_site s
 seats (CheckUncopied at) = at ∷ []
 seats (CheckMiss p at common byte) = p.seat ∷ at ∷ []
-seats (CheckDown p at c) = p ∷ at.seat ∷ []
+seats (CheckDown p at c) = p ∷ at.near.seat ∷ seats_top at.far
 seats (CheckOld p s v) = p ∷ seats_site s
 seats (MakeLeaf s) = seats_site s
 seats (MakeGreater s p leaf) = p.seat ∷ s.at ∷ []
 seats (MakeTop p at common byte) = p.seat ∷ at ∷ []
 seats (MakeBeside p at common byte top) = p.seat ∷ at ∷ []
+seats (MakeLesser s p g r) = p.seat ∷ s.at ∷ seats_top g
 seats (AskOld s v) = seats_site s
 seats (AskNew plan) = seats_plan plan
 seats (Confirm at r) = at ∷ []
 seats (CheckAbove p one r) = p ∷ one.at ∷ []
 seats (UpgradeOne one r) = one.at ∷ []
 seats (ChangeOne one r) = []
+seats (UpgradeTop g two r) = g.seat ∷ two.above.seat ∷ two.at ∷ []
 seats (UpgradeAbove two r) = two.above.seat ∷ two.at ∷ []
 seats (UpgradeBelow two r) = two.at ∷ []
 seats (ChangeTwo two r) = []
-seats (Obsolete n p r) = []
-seats (Retire n p r) = []
+seats (Obsolete n next p r) = []
+seats (Retire n next p r) = []
 seats (UnlockBelow n p r) = []
 seats (Unlock n r) = []
-seats (Unwind n e) = []
+seats (Unwind n next e) = []
 seats (Sweep s) = seats_sweep s s.stage
 seats Ended = []
 
@@ -89,7 +100,7 @@ IsFreeAt number h (stage.Enter n x) = is_free (h (number n)) ≡ true
 IsFreeAt number h _ = Unit {0}
 
 abbrev pub IsClear : {C V : Type 0} → (C → ℕ) → (ℕ → Node V) → Phase C V → Type 0
-IsClear number h (Unwind n None) = ⊥
+IsClear number h (Unwind n next None) = ⊥
 IsClear number h (Sweep s) = IsFreeAt number h s.stage
 IsClear number h _ = Unit {0}
 
@@ -133,6 +144,11 @@ sum_from g from (suc b) = sum_from g from b + cond (ltb b from) 0 (g b)
 -- a call on one key takes four steps at most at each node that it passes, and this many more from the last one on
 abbrev pub steps_down : ℕ → List ℕ → ℕ
 steps_down more prefix = more + 4 * (MAX_PREFIX_LEN - length prefix)
+
+-- the steps at a second node that was taken out, or is to be unlocked
+abbrev pub steps_next : {C : Type 0} → Option C → ℕ → ℕ
+steps_next None k = 0
+steps_next (Some c) k = k
 
 module _ {V : Type 0} where
   -- the nodes, and the pairs, at and below what hangs at a byte
@@ -197,32 +213,34 @@ module _ {V : Type 0} where
 
   -- the steps that a call takes at most from here on
   abbrev pub steps_left : {C : Type 0} → (C → ℕ) → (ℕ → Node V) → Phase C V → ℕ
-  steps_left number h New = steps_down 12 []
-  steps_left number h (Version above n) = steps_down 12 (h (number n)).prefix
-  steps_left number h (Read above at) = steps_down 11 (h (number at.node)).prefix
-  steps_left number h (Check s c) = steps_down 10 (h (number s.at.node)).prefix
+  steps_left number h New = steps_down 15 []
+  steps_left number h (Version above n) = steps_down 15 (h (number n)).prefix
+  steps_left number h (Read above at) = steps_down 14 (h (number at.node)).prefix
+  steps_left number h (Check s c) = steps_down 13 (h (number s.at.node)).prefix
   steps_left number h (CheckUncopied at) = 1
-  steps_left number h (CheckMiss p at common byte) = 10
-  steps_left number h (CheckDown p at c) = steps_down 13 (h (number c)).prefix
-  steps_left number h (CheckOld p s v) = 8
-  steps_left number h (MakeLeaf s) = 9
-  steps_left number h (MakeGreater s p leaf) = 8
-  steps_left number h (MakeTop p at common byte) = 9
-  steps_left number h (MakeBeside p at common byte top) = 8
-  steps_left number h (AskOld s v) = 7
-  steps_left number h (AskNew plan) = 7
+  steps_left number h (CheckMiss p at common byte) = 12
+  steps_left number h (CheckDown p at c) = steps_down 16 (h (number c)).prefix
+  steps_left number h (CheckOld p s v) = 12
+  steps_left number h (MakeLeaf s) = 11
+  steps_left number h (MakeGreater s p leaf) = 10
+  steps_left number h (MakeTop p at common byte) = 11
+  steps_left number h (MakeBeside p at common byte top) = 10
+  steps_left number h (MakeLesser s p g r) = 10
+  steps_left number h (AskOld s v) = 11
+  steps_left number h (AskNew plan) = 9
   steps_left number h (Confirm at r) = 1
   steps_left number h (CheckAbove p one r) = 4
   steps_left number h (UpgradeOne one r) = 3
   steps_left number h (ChangeOne one r) = 2
-  steps_left number h (UpgradeAbove two r) = 6
-  steps_left number h (UpgradeBelow two r) = 5
-  steps_left number h (ChangeTwo two r) = 4
-  steps_left number h (Obsolete n p r) = 3
-  steps_left number h (Retire n p r) = 2
+  steps_left number h (UpgradeTop g two r) = 9
+  steps_left number h (UpgradeAbove two r) = 8
+  steps_left number h (UpgradeBelow two r) = 7
+  steps_left number h (ChangeTwo two r) = 6
+  steps_left number h (Obsolete n next p r) = 3 + steps_next next 2
+  steps_left number h (Retire n next p r) = 2 + steps_next next 2
   steps_left number h (UnlockBelow n p r) = 2
   steps_left number h (Unlock n r) = 1
-  steps_left number h (Unwind n e) = 1
+  steps_left number h (Unwind n next e) = 1 + steps_next next 1
   steps_left number h (Sweep s) = steps_sweep number h s s.stage
   steps_left number h Ended = 0
 
@@ -230,7 +248,7 @@ module _ {V : Type 0} where
 abbrev pub steps_whole : {V : Type 0} → (ℕ → Node V) → Op V → ℕ
 steps_whole h (op.Range start end size) = 5 * tree_nodes h + 2 * tree_pairs h
 steps_whole h (op.RangeInclusive start last size) = 5 * tree_nodes h + 2 * tree_pairs h
-steps_whole h _ = 40
+steps_whole h _ = 43
 
 -- what a step of a call taken alone leaves: the call is undisturbed, and nearer to its end
 pub record StepsOn {C V : Type 0} (number : C → ℕ) (h : ℕ → Node V) (s : Phase C V) (h' : ℕ → Node V) (s' : Phase C V) : Type 0 where

@@ -30,8 +30,8 @@ pub record Decides {V : Type 0} (same : V → V → Bool) (k : ℕ) (kind : Kind
 
 -- the reply that a call which took effect will give
 abbrev pub reply_in : {C V : Type 0} → Phase C V → Option (Reply V)
-reply_in (Obsolete n p r) = Some r
-reply_in (Retire n p r) = Some r
+reply_in (Obsolete n next p r) = Some r
+reply_in (Retire n next p r) = Some r
 reply_in (UnlockBelow n p r) = Some r
 reply_in (Unlock n r) = Some r
 reply_in _ = None

@@ -35,9 +35,15 @@ pub record SeenTruly {C V : Type 0} (number : C → ℕ) (n : Node V) (key : Lis
   pub alone : n.count ≡ 1 → hung number s.child ≢ Nothing → (b : ℕ) → b ≢ slice_index key (length n.prefix) → n.children b ≡ Nothing
   pub room : hung number s.child ≡ Nothing → n.count < 256
 
+abbrev pub places : NodeType → ℕ
+places N4 = 4
+places N16 = 16
+places N48 = 48
+places N256 = 256
+
 abbrev pub ReadGives : {C V : Type 0} → (C → ℕ) → Bool → Node V → ℕ → List ℕ → Reading C V → Type 0
 ReadGives number always n v key (Differs common byte) = Parts n.prefix key common × (byte ≡ slice_index n.prefix common)
-ReadGives number always n v key (Fits depth s) = (fits n.prefix key ≡ true) × (depth ≡ length n.prefix) × (depth ≤ MAX_PREFIX_LEN) × (s.byte ≡ slice_index key depth)
+ReadGives number always n v key (Fits depth form s) = (fits n.prefix key ≡ true) × (depth ≡ length n.prefix) × (depth ≤ MAX_PREFIX_LEN) × (places form ≡ n.capacity) × (s.byte ≡ slice_index key depth)
     × (is_taken n v ≡ true → SeenTruly number n key s)
 ReadGives {C} {V} number always n v key Uncopied = (fits n.prefix key ≡ true) × (always ≡ false) × (is_taken n v ≡ true → (x : V) × (child_for n key ≡ Holds x))
 
@@ -58,12 +64,6 @@ Locks h n Exhausted h' = h' ≡ h
 pub record UpgradeGives {V : Type 0} (most : ℕ) (h : ℕ → Node V) (n v : ℕ) (fail : Bool) (r : Upgrade) (h' : ℕ → Node V) : Type 0 where
   pub answer : r ≡ upgrade_gives most (h n) v fail
   pub step : Locks h n r h'
-
-abbrev pub places : NodeType → ℕ
-places N4 = 4
-places N16 = 16
-places N48 = 48
-places N256 = 256
 
 -- a new node: free, empty, of the form, on the key's way, under a name that no node had
 pub record NewNode {V : Type 0} (h : ℕ → Node V) (n : ℕ) (form : NodeType) (key : List ℕ) (size : ℕ) (h' : ℕ → Node V) : Type 0 where
@@ -121,10 +121,18 @@ HoldsNodes {V} n = (b : ℕ) (v : V) → n.children b ≢ Holds v
 abbrev pub HoldsAlike : {V : Type 0} → Node V → Type 0
 HoldsAlike n = HoldsValues n ⊎ HoldsNodes n
 
--- an empty node with a place for each child of the old one, which are alike, and for one more
+-- the only child beside the one at a byte
+pub record IsOther {V : Type 0} (n : Node V) (b c : ℕ) : Type 0 where
+  pub at : ℕ
+  pub fits : at < 256
+  pub apart : at ≢ b
+  pub child : n.children at ≡ Below c
+  pub alone : (x : ℕ) → x ≢ b → x ≢ at → n.children x ≡ Nothing
+
+-- an empty node with a place for each child of the old one, which are alike
 pub record TakesOver {V : Type 0} (old node : Node V) : Type 0 where
   pub empty : node.count ≡ 0
-  pub room : old.count < node.capacity
+  pub room : old.count ≤ node.capacity
   pub alike : HoldsAlike old
 
 -- what is left of a child that went over into another node: the name of a node

@@ -1,27 +1,38 @@
 -- Which locks and nodes a call holds between its steps, and that nobody holds any other.
 use Rattle.std.specs.Prelude.{◌≡◌, ◌≢◌, ℕ, ◌⊎◌, true, false, List, [], Option, None, Some, slice_get}
+use Rattle.congee.specs.declared.protocol.phase.Parent.{Parent}
 use Rattle.congee.specs.declared.protocol.phase.Single.{Single}
 use Rattle.congee.specs.declared.protocol.phase.Single.TheVariants.{Set, Link}
 use Rattle.congee.specs.declared.protocol.phase.Double.{Double}
-use Rattle.congee.specs.declared.protocol.phase.Double.TheVariants.{Unlink, Grow, GrowLink, Split}
+use Rattle.congee.specs.declared.protocol.phase.Double.TheVariants.{Unlink, Grow, GrowLink, Split, Shrink, Collapse, ShrinkAbove}
 use Rattle.congee.specs.declared.protocol.phase.Plan.{Plan}
 use Rattle.congee.specs.declared.protocol.phase.Plan.TheVariants.{Here, Above}
 use Rattle.congee.specs.declared.protocol.phase.Phase.{Phase}
-use Rattle.congee.specs.declared.protocol.phase.Phase.TheVariants.{MakeGreater, MakeBeside, AskNew, CheckAbove, UpgradeOne, ChangeOne, UpgradeAbove, UpgradeBelow, ChangeTwo, Obsolete, Retire, UnlockBelow, Unlock, Unwind}
+use Rattle.congee.specs.declared.protocol.phase.Phase.TheVariants.{MakeGreater, MakeBeside, AskNew, CheckAbove, UpgradeOne, ChangeOne, UpgradeTop, UpgradeAbove, UpgradeBelow, ChangeTwo, Obsolete, Retire, UnlockBelow, Unlock, Unwind}
 use Rattle.congee.specs.declared.protocol.machine.Machine.{Machine}
 use Rattle.congee.specs.Heap.{Node}
 use Rattle.congee.specs.Ledger.{Note, Unmade, Held, Linked, Gone, is_spent}
 
+-- the node, where there is one
+abbrev pub IsMade : {C : Type 0} → (C → ℕ) → Option C → ℕ → Type 0
+IsMade number None n = ⊥
+IsMade number (Some c) n = n ≡ number c
+
+abbrev pub IsTop : {C : Type 0} → (C → ℕ) → Option (Parent C) → ℕ → Type 0
+IsTop number None n = ⊥
+IsTop number (Some p) n = n ≡ number p.seat.node
+
 -- the call holds the lock of node n
 abbrev pub LockedBy : {C V : Type 0} → (C → ℕ) → Phase C V → ℕ → Type 0
 LockedBy number (ChangeOne one r) n = n ≡ number one.at.node
-LockedBy number (UpgradeBelow two r) n = n ≡ number two.above.seat.node
-LockedBy number (ChangeTwo two r) n = (n ≡ number two.above.seat.node) ⊎ (n ≡ number two.at.node)
-LockedBy number (Obsolete m p r) n = (n ≡ number p) ⊎ (n ≡ number m)
-LockedBy number (Retire m p r) n = (n ≡ number p) ⊎ (n ≡ number m)
+LockedBy number (UpgradeAbove two r) n = IsTop number two.top n
+LockedBy number (UpgradeBelow two r) n = (n ≡ number two.above.seat.node) ⊎ IsTop number two.top n
+LockedBy number (ChangeTwo two r) n = ((n ≡ number two.above.seat.node) ⊎ (n ≡ number two.at.node)) ⊎ IsTop number two.top n
+LockedBy number (Obsolete m next p r) n = ((n ≡ number p) ⊎ (n ≡ number m)) ⊎ IsMade number next n
+LockedBy number (Retire m next p r) n = ((n ≡ number p) ⊎ (n ≡ number m)) ⊎ IsMade number next n
 LockedBy number (UnlockBelow m p r) n = (n ≡ number p) ⊎ (n ≡ number m)
 LockedBy number (Unlock m r) n = n ≡ number m
-LockedBy number (Unwind m e) n = n ≡ number m
+LockedBy number (Unwind m next e) n = (n ≡ number m) ⊎ IsMade number next n
 LockedBy number _ n = ⊥
 
 -- node n was made for the change
@@ -32,16 +43,15 @@ MadeForOne number (Link leaf) n = n ≡ number leaf
 abbrev pub MadeForTwo : {C : Type 0} → (C → ℕ) → Double C → ℕ → Type 0
 MadeForTwo number Unlink n = ⊥
 MadeForTwo number (Grow c) n = n ≡ number c
+MadeForTwo number (Shrink c) n = n ≡ number c
+MadeForTwo number Collapse n = ⊥
+MadeForTwo number (ShrinkAbove c) n = n ≡ number c
 MadeForTwo number (GrowLink c leaf byte) n = (n ≡ number c) ⊎ (n ≡ number leaf)
 MadeForTwo number (Split top leaf common byte) n = (n ≡ number top) ⊎ (n ≡ number leaf)
 
 abbrev pub MadeForPlan : {C : Type 0} → (C → ℕ) → Plan C → ℕ → Type 0
 MadeForPlan number (Here check one) n = MadeForOne number one.change n
 MadeForPlan number (Above two) n = MadeForTwo number two.change n
-
-abbrev pub IsMade : {C : Type 0} → (C → ℕ) → Option C → ℕ → Type 0
-IsMade number None n = ⊥
-IsMade number (Some c) n = n ≡ number c
 
 -- the call has made node n, and has neither hung it nor given it back
 abbrev pub MadeBy : {C V : Type 0} → (C → ℕ) → Phase C V → ℕ → Type 0
@@ -51,6 +61,7 @@ MadeBy number (AskNew plan) n = MadeForPlan number plan n
 MadeBy number (CheckAbove p one r) n = MadeForOne number one.change n
 MadeBy number (UpgradeOne one r) n = MadeForOne number one.change n
 MadeBy number (ChangeOne one r) n = MadeForOne number one.change n
+MadeBy number (UpgradeTop g two r) n = MadeForTwo number two.change n
 MadeBy number (UpgradeAbove two r) n = MadeForTwo number two.change n
 MadeBy number (UpgradeBelow two r) n = MadeForTwo number two.change n
 MadeBy number (ChangeTwo two r) n = MadeForTwo number two.change n
@@ -58,8 +69,8 @@ MadeBy number _ n = ⊥
 
 -- the call has taken node n out of the tree, and has not yet handed it over
 abbrev pub TakenBy : {C V : Type 0} → (C → ℕ) → Phase C V → ℕ → Type 0
-TakenBy number (Obsolete m p r) n = n ≡ number m
-TakenBy number (Retire m p r) n = n ≡ number m
+TakenBy number (Obsolete m next p r) n = (n ≡ number m) ⊎ IsMade number next n
+TakenBy number (Retire m next p r) n = (n ≡ number m) ⊎ IsMade number next n
 TakenBy number _ n = ⊥
 
 -- every lock in the tree, every made node that isn't in the tree and every node that left it and wasn't handed over

@@ -3,17 +3,18 @@ use Rattle.std.specs.Prelude.{◌≡◌, ℕ, Bool, true, false, List, [], ◌�
 use Rattle.std.specs.List.{All, Contains}
 use Rattle.congee.specs.declared.protocol.store.Seat.{Seat}
 use Rattle.congee.specs.declared.protocol.phase.Parent.{Parent}
+use Rattle.congee.specs.declared.protocol.phase.Above.{Above as Over}
 use Rattle.congee.specs.declared.protocol.phase.Site.{Site}
 use Rattle.congee.specs.declared.protocol.phase.Single.{Single}
 use Rattle.congee.specs.declared.protocol.phase.Single.TheVariants.{Set, Link}
 use Rattle.congee.specs.declared.protocol.phase.One.{One}
 use Rattle.congee.specs.declared.protocol.phase.Double.{Double}
-use Rattle.congee.specs.declared.protocol.phase.Double.TheVariants.{Unlink, Grow, GrowLink, Split}
+use Rattle.congee.specs.declared.protocol.phase.Double.TheVariants.{Unlink, Grow, GrowLink, Split, Shrink, Collapse, ShrinkAbove}
 use Rattle.congee.specs.declared.protocol.phase.Two.{Two}
 use Rattle.congee.specs.declared.protocol.phase.Plan.{Plan}
 use Rattle.congee.specs.declared.protocol.phase.Plan.TheVariants.{Here, Above}
 use Rattle.congee.specs.declared.protocol.phase.Phase.{Phase}
-use Rattle.congee.specs.declared.protocol.phase.Phase.TheVariants.{New, Version, Read, Check, CheckUncopied, CheckMiss, CheckDown, CheckOld, MakeLeaf, MakeGreater, MakeTop, MakeBeside, AskOld, AskNew, Confirm, CheckAbove, UpgradeOne, ChangeOne, UpgradeAbove, UpgradeBelow, ChangeTwo, Obsolete, Retire, UnlockBelow, Unlock, Unwind, Sweep, Ended}
+use Rattle.congee.specs.declared.protocol.phase.Phase.TheVariants.{New, Version, Read, Check, CheckUncopied, CheckMiss, CheckDown, CheckOld, MakeLeaf, MakeGreater, MakeTop, MakeBeside, MakeLesser, AskOld, AskNew, Confirm, CheckAbove, UpgradeOne, ChangeOne, UpgradeTop, UpgradeAbove, UpgradeBelow, ChangeTwo, Obsolete, Retire, UnlockBelow, Unlock, Unwind, Sweep, Ended}
 use Rattle.congee.specs.declared.protocol.machine.Machine.{Machine}
 use Rattle.congee.specs.Heap.{Node, Below}
 use Rattle.congee.specs.protocol.Handing.{InTree}
@@ -26,6 +27,10 @@ use Rattle.congee.specs.protocol.SweepKnown.{names_sweep}
 abbrev pub name_above : {C : Type 0} → (C → ℕ) → Option (Parent C) → List ℕ
 name_above number None = []
 name_above number (Some p) = number p.seat.node ∷ []
+
+abbrev pub names_over : {C : Type 0} → (C → ℕ) → Option (Over C) → List ℕ
+names_over number None = []
+names_over number (Some u) = number u.near.seat.node ∷ name_above number u.far
 
 abbrev pub name_seated : {C : Type 0} → (C → ℕ) → Option (Seat C) → List ℕ
 name_seated number None = []
@@ -43,18 +48,21 @@ names_for_one number (Link leaf) = number leaf ∷ []
 abbrev pub names_for_two : {C : Type 0} → (C → ℕ) → Double C → List ℕ
 names_for_two number Unlink = []
 names_for_two number (Grow c) = number c ∷ []
+names_for_two number (Shrink c) = number c ∷ []
+names_for_two number Collapse = []
+names_for_two number (ShrinkAbove c) = number c ∷ []
 names_for_two number (GrowLink c leaf byte) = number c ∷ number leaf ∷ []
 names_for_two number (Split top leaf common byte) = number top ∷ number leaf ∷ []
 
 -- a node as it was read, and a change
 abbrev pub names_site : {C : Type 0} → (C → ℕ) → Site C → List ℕ
-names_site number s = number s.at.node ∷ name_above number s.above
+names_site number s = number s.at.node ∷ names_over number s.above
 
 abbrev pub names_one : {C : Type 0} → (C → ℕ) → One C → List ℕ
 names_one number one = number one.at.node ∷ names_for_one number one.change
 
 abbrev pub names_two : {C : Type 0} → (C → ℕ) → Two C → List ℕ
-names_two number two = number two.above.seat.node ∷ number two.at.node ∷ names_for_two number two.change
+names_two number two = number two.above.seat.node ∷ number two.at.node ∷ name_above number two.top ++ names_for_two number two.change
 
 abbrev pub names_plan : {C : Type 0} → (C → ℕ) → Plan C → List ℕ
 names_plan number (Here check one) = name_seated number check ++ names_one number one
@@ -64,31 +72,33 @@ names_plan number (Above two) = names_two number two
 -- node isn't among them before the check that follows
 abbrev pub names : {C V : Type 0} → (C → ℕ) → Phase C V → List ℕ
 names number New = []
-names number (Version p c) = number c ∷ name_above number p
-names number (Read p at) = number at.node ∷ name_above number p
+names number (Version p c) = number c ∷ names_over number p
+names number (Read p at) = number at.node ∷ names_over number p
 names number (Check s c) = names_site number s
 names number (CheckUncopied at) = number at.node ∷ []
 names number (CheckMiss p at common byte) = number p.seat.node ∷ number at.node ∷ []
-names number (CheckDown p at c) = number p.node ∷ number at.seat.node ∷ number c ∷ []
+names number (CheckDown p at c) = number p.node ∷ number c ∷ names_over number (Some at)
 names number (CheckOld p s v) = number p.node ∷ names_site number s
 names number (MakeLeaf s) = names_site number s
 names number (MakeGreater s p leaf) = number p.seat.node ∷ name_made number leaf ++ names_site number s
 names number (MakeTop p at common byte) = number p.seat.node ∷ number at.node ∷ []
 names number (MakeBeside p at common byte top) = number p.seat.node ∷ number at.node ∷ number top ∷ []
+names number (MakeLesser s p g r) = number p.seat.node ∷ name_above number g ++ names_site number s
 names number (AskOld s v) = names_site number s
 names number (AskNew plan) = names_plan number plan
 names number (Confirm at r) = number at.node ∷ []
 names number (CheckAbove p one r) = number p.node ∷ names_one number one
 names number (UpgradeOne one r) = names_one number one
 names number (ChangeOne one r) = names_one number one
+names number (UpgradeTop g two r) = number g.seat.node ∷ names_two number two
 names number (UpgradeAbove two r) = names_two number two
 names number (UpgradeBelow two r) = names_two number two
 names number (ChangeTwo two r) = names_two number two
-names number (Obsolete n p r) = number n ∷ number p ∷ []
-names number (Retire n p r) = number n ∷ number p ∷ []
+names number (Obsolete n next p r) = number n ∷ number p ∷ name_made number next
+names number (Retire n next p r) = number n ∷ number p ∷ name_made number next
 names number (UnlockBelow n p r) = number n ∷ number p ∷ []
 names number (Unlock n r) = number n ∷ []
-names number (Unwind n e) = number n ∷ []
+names number (Unwind n next e) = number n ∷ name_made number next
 names number (Sweep s) = names_sweep number s
 names number Ended = []
 

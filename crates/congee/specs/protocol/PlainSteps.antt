@@ -5,7 +5,7 @@ use Rattle.std.specs.Prelude.{ℕ, zero, suc, ◌+◌, ◌*◌, ◌-◌, ◌==�
 use Rattle.judge.specs.declared.journal.Reply.{Reply}
 use Rattle.judge.specs.declared.journal.Reply.TheVariants as reply
 use Rattle.congee.specs.declared.forms.base_node.NodeType.{NodeType}
-use Rattle.congee.specs.declared.forms.base_node.NodeType.TheVariants.{N4}
+use Rattle.congee.specs.declared.forms.base_node.NodeType.TheVariants.{N4, N16, N48, N256}
 use Rattle.congee.specs.declared.forms.child.Child.{Child}
 use Rattle.congee.specs.declared.forms.child.Child.TheVariants as child
 use Rattle.congee.specs.declared.protocol.store.Least.{Least}
@@ -21,17 +21,18 @@ use Rattle.congee.specs.declared.protocol.store.Upgrade.TheVariants.{Locked, Fai
 use Rattle.congee.specs.declared.protocol.phase.Kind.{Kind}
 use Rattle.congee.specs.declared.protocol.phase.Kind.TheVariants.{Get, Insert, Remove, ComputePresent, ComputeInsert, Exchange}
 use Rattle.congee.specs.declared.protocol.phase.Parent.{Parent}
+use Rattle.congee.specs.declared.protocol.phase.Above.{Above as Over}
 use Rattle.congee.specs.declared.protocol.phase.Site.{Site}
 use Rattle.congee.specs.declared.protocol.phase.Single.{Single}
 use Rattle.congee.specs.declared.protocol.phase.Single.TheVariants.{Set, Link}
 use Rattle.congee.specs.declared.protocol.phase.One.{One}
 use Rattle.congee.specs.declared.protocol.phase.Double.{Double}
-use Rattle.congee.specs.declared.protocol.phase.Double.TheVariants.{Unlink, Grow, GrowLink, Split}
+use Rattle.congee.specs.declared.protocol.phase.Double.TheVariants.{Unlink, Grow, GrowLink, Split, Shrink, Collapse, ShrinkAbove}
 use Rattle.congee.specs.declared.protocol.phase.Two.{Two}
 use Rattle.congee.specs.declared.protocol.phase.Plan.{Plan}
 use Rattle.congee.specs.declared.protocol.phase.Plan.TheVariants.{Above}
 use Rattle.congee.specs.declared.protocol.phase.Phase.{Phase}
-use Rattle.congee.specs.declared.protocol.phase.Phase.TheVariants.{New, Version, Read, Check, CheckUncopied, CheckMiss, CheckDown, CheckOld, MakeLeaf, MakeGreater, MakeTop, MakeBeside, AskOld, AskNew, Confirm, CheckAbove, UpgradeOne, ChangeOne, UpgradeAbove, UpgradeBelow, ChangeTwo, Obsolete, Retire, UnlockBelow, Unlock, Unwind, Sweep, Ended}
+use Rattle.congee.specs.declared.protocol.phase.Phase.TheVariants.{New, Version, Read, Check, CheckUncopied, CheckMiss, CheckDown, CheckOld, MakeLeaf, MakeGreater, MakeTop, MakeBeside, MakeLesser, AskOld, AskNew, Confirm, CheckAbove, UpgradeOne, ChangeOne, UpgradeTop, UpgradeAbove, UpgradeBelow, ChangeTwo, Obsolete, Retire, UnlockBelow, Unlock, Unwind, Sweep, Ended}
 use Rattle.congee.specs.declared.protocol.sweep.Rung.{Rung}
 use Rattle.congee.specs.declared.protocol.sweep.Stage.{Stage}
 use Rattle.congee.specs.declared.protocol.sweep.Stage.TheVariants as stage
@@ -45,7 +46,7 @@ use Rattle.congee.specs.Keys.{key_bytes}
 use Rattle.congee.specs.protocol.Events.{upgrade_gives, places, weight}
 use Rattle.congee.specs.protocol.Regions.{span}
 use Rattle.congee.specs.protocol.Seeing.{least_seen}
-use Rattle.congee.specs.protocol.Steps.{quiet, again, answered, finished, refused, decided, asking, adds, form_above, after_version, after_read, down, started, ready, unless_full, absent, replaced, emptied, is_same, after_miss, greater, value_hung, after_change, unwound, swept}
+use Rattle.congee.specs.protocol.Steps.{quiet, again, answered, finished, refused, decided, asking, adds, form_above, form_below, node_of, both, after_version, after_read, down, started, ready, unless_full, absent, replaced, emptied, is_same, after_miss, greater, value_hung, after_change, after_retire, after_unwind, given_up, swept}
 use Rattle.congee.specs.protocol.SweepSteps.{last_byte, pushed, moved, Swung, goes, over, anew, left, entered, filled, begins}
 use Rattle.congee.specs.declared.forms.prefix.TheConstants.{MAX_PREFIX_LEN}
 
@@ -127,9 +128,13 @@ abbrev pub told_of : {V : Type 0} → ℕ → Option (Seen Mark V) → Seen ℕ 
 told_of byte None = record { child = child.Blank; byte = byte; full = false; count = 0 }
 told_of byte (Some x) = record { child = unmarked x.child; byte = byte; full = x.full; count = x.count }
 
+-- the form of a node by its places
+abbrev pub form_of : ℕ → NodeType
+form_of n = cond (n == 4) N4 (cond (n == 16) N16 (cond (n == 48) N48 N256))
+
 abbrev pub reading : {V : Type 0} → Node V → ℕ → List ℕ → Option (Seen Mark V) → Reading ℕ V
 reading n v key seen = cond (fits n.prefix key)
-    (Fits (length n.prefix) (cond (is_taken n v) (looks n key) (told_of (slice_index key (length n.prefix)) seen)))
+    (Fits (length n.prefix) (form_of n.capacity) (cond (is_taken n v) (looks n key) (told_of (slice_index key (length n.prefix)) seen)))
     (Differs (common n.prefix key) (slice_index n.prefix (common n.prefix key)))
 
 -- the child of the least byte from one on, of so many bytes
@@ -148,6 +153,19 @@ least_told (Some x) = least_seen x.byte (unmarked x.child)
 
 abbrev pub least_of : {V : Type 0} → Node V → ℕ → ℕ → ℕ → Option (Seen Mark V) → Least ℕ V
 least_of n v from last seen = cond (is_taken n v) (least_from n (last + 1 - from) from) (least_told seen)
+
+-- the node that hangs at another byte than this one, of so many bytes from one on
+abbrev pub name_or : {V : Type 0} → Hung V → ℕ → ℕ
+name_or Nothing c = c
+name_or (Below d) c = d
+name_or (Holds v) c = c
+
+abbrev pub other_from : {V : Type 0} → Node V → ℕ → ℕ → ℕ → ℕ
+other_from n b zero from = 0
+other_from n b (suc f) from = cond (from == b) (other_from n b f (from + 1)) (name_or (n.children from) (other_from n b f (from + 1)))
+
+abbrev pub other_of : {V : Type 0} → Node V → ℕ → ℕ
+other_of n b = other_from n b 256 0
 
 -- the keys that begin with a prefix
 abbrev pub front : ℕ → List ℕ → ℕ
@@ -180,9 +198,9 @@ abbrev pub at_old : {V : Type 0} → (V → V → Bool) → Kind V → Option V 
 at_old same Insert new s v = replaced s (is_same same v new) (reply.Insert (Some v))
 at_old same _ new s v = asked s v
 
-abbrev pub added : {V : Type 0} → (V → V → Bool) → Kind V → Option V → Site ℕ → Option (Parent ℕ) → V → Turn ℕ V
+abbrev pub added : {V : Type 0} → (V → V → Bool) → Kind V → Option V → Site ℕ → Option (Over ℕ) → V → Turn ℕ V
 added same kind new s None v = at_old same kind new s v
-added same kind new s (Some p) v = quiet (CheckOld p.seat s v)
+added same kind new s (Some u) v = quiet (CheckOld u.near.seat s v)
 
 abbrev pub exchanged : {V : Type 0} → (V → V → Bool) → Option V → Site ℕ → V → Turn ℕ V
 exchanged same None s v = emptied s (reply.Exchange (Ok None))
@@ -224,14 +242,27 @@ back_two Unlink h = h
 back_two (Grow c) h = back h c
 back_two (GrowLink c leaf byte) h = back (back h leaf) c
 back_two (Split top leaf common byte) h = back (back h leaf) top
+back_two (Shrink c) h = back h c
+back_two Collapse h = h
+back_two (ShrinkAbove c) h = back h c
 
 -- a change of one node, and of the node above; a node that comes into reach is filled before
 abbrev pub change_one : {V : Type 0} → List ℕ → Option V → One ℕ → Single ℕ → (ℕ → Node V) → ℕ → Node V
 change_one key new one Set h = hang h one.at.node one.byte (value_hung new)
 change_one key new one (Link leaf) h = hang (hang h leaf (slice_index key MAX_PREFIX_LEN) (value_hung new)) one.at.node one.byte (Below leaf)
 
+-- the change of the node above both
+abbrev pub change_top : {V : Type 0} → Two ℕ → Double ℕ → Option (Parent ℕ) → (ℕ → Node V) → ℕ → Node V
+change_top two Collapse (Some g) h = hang h g.seat.node g.byte (Below (other_of (h two.above.seat.node) two.above.byte))
+change_top two (ShrinkAbove c) (Some g) h = hang (hang (copy h two.above.seat.node c) c two.above.byte Nothing) g.seat.node g.byte (Below c)
+change_top two _ top h = h
+
 abbrev pub change_two : {V : Type 0} → List ℕ → Option V → Two ℕ → Double ℕ → (ℕ → Node V) → ℕ → Node V
 change_two key new two Unlink h = hang h two.above.seat.node two.above.byte Nothing
+change_two key new two (Shrink c) h =
+    hang (hang (clear (copy h two.at.node c) two.at.node) c (slice_index key MAX_PREFIX_LEN) Nothing) two.above.seat.node two.above.byte (Below c)
+change_two key new two Collapse h = change_top two Collapse two.top h
+change_two key new two (ShrinkAbove c) h = change_top two (ShrinkAbove c) two.top h
 change_two key new two (Grow c) h =
     hang (hang (clear (copy h two.at.node c) two.at.node) c (slice_index key MAX_PREFIX_LEN) (value_hung new)) two.above.seat.node two.above.byte (Below c)
 change_two key new two (GrowLink c leaf byte) h =
@@ -257,21 +288,31 @@ passes h at root t = cond (is_taken (h at.node) at.version) t (again root)
 abbrev pub making : {V : Type 0} → NodeType → List ℕ → ℕ → Option V → (ℕ → Node V) → ℕ → (ℕ → Turn ℕ V) → Went V
 making form key size new h k t = went new (t k) (put h k (new_node form (take size key))) (suc k)
 
+-- the one that takes the place of the leaf, or of the node above
+abbrev pub made_lesser : {V : Type 0} → List ℕ → Option V → (ℕ → Node V) → ℕ → Site ℕ → Parent ℕ → Option (Parent ℕ) → Reply V → Went V
+made_lesser key new h k s p None r = making (form_below s.form) key s.depth new h k (λ c. quiet (UpgradeAbove (both p s (Shrink c)) r))
+made_lesser key new h k s p (Some g) r = making (form_below p.form) key p.depth new h k (λ c. quiet (UpgradeTop g (both p s (ShrinkAbove c)) r))
+
 -- an exchange of a lock word, and what follows
 abbrev pub upgraded_one : {V : Type 0} → ℕ → Option V → (ℕ → Node V) → ℕ → One ℕ → Reply V → Upgrade → Went V
 upgraded_one root new h k one r Locked = went new (quiet (ChangeOne one r)) (lock h one.at.node) k
 upgraded_one root new h k one r Failed = went new (again root) (back_one one.change h) k
 upgraded_one root new h k one r Exhausted = went new (refused refusal.Exhausted) (back_one one.change h) k
 
+abbrev pub upgraded_top : {V : Type 0} → ℕ → Option V → (ℕ → Node V) → ℕ → Parent ℕ → Two ℕ → Reply V → Upgrade → Went V
+upgraded_top root new h k g two r Locked = went new (quiet (UpgradeAbove (record two { top = Some g }) r)) (lock h g.seat.node) k
+upgraded_top root new h k g two r Failed = went new (again root) (back_two two.change h) k
+upgraded_top root new h k g two r Exhausted = went new (refused refusal.Exhausted) (back_two two.change h) k
+
 abbrev pub upgraded_above : {V : Type 0} → ℕ → Option V → (ℕ → Node V) → ℕ → Two ℕ → Reply V → Upgrade → Went V
 upgraded_above root new h k two r Locked = went new (quiet (UpgradeBelow two r)) (lock h two.above.seat.node) k
-upgraded_above root new h k two r Failed = went new (again root) (back_two two.change h) k
-upgraded_above root new h k two r Exhausted = went new (refused refusal.Exhausted) (back_two two.change h) k
+upgraded_above root new h k two r Failed = went new (given_up root two.top None) (back_two two.change h) k
+upgraded_above root new h k two r Exhausted = went new (given_up root two.top (Some refusal.Exhausted)) (back_two two.change h) k
 
 abbrev pub upgraded_below : {V : Type 0} → Option V → (ℕ → Node V) → ℕ → Two ℕ → Reply V → Upgrade → Went V
 upgraded_below new h k two r Locked = went new (quiet (ChangeTwo two r)) (lock h two.at.node) k
-upgraded_below new h k two r Failed = went new (quiet (Unwind two.above.seat.node None)) (back_two two.change h) k
-upgraded_below new h k two r Exhausted = went new (quiet (Unwind two.above.seat.node (Some refusal.Exhausted))) (back_two two.change h) k
+upgraded_below new h k two r Failed = went new (quiet (Unwind two.above.seat.node (node_of two.top) None)) (back_two two.change h) k
+upgraded_below new h k two r Exhausted = went new (quiet (Unwind two.above.seat.node (node_of two.top) (Some refusal.Exhausted))) (back_two two.change h) k
 
 -- the check before one node is changed: the node made goes back where it fails
 abbrev pub passed_above : {V : Type 0} → Bool → ℕ → Option V → (ℕ → Node V) → ℕ → One ℕ → Reply V → Went V
@@ -289,23 +330,25 @@ phase_step same most root key kind fail seen answer new (CheckMiss p at common b
 phase_step same most root key kind fail seen answer new (CheckDown p at c) h k = went new (passes h p root (quiet (Version (Some at) c))) h k
 phase_step same most root key kind fail seen answer new (CheckOld p s v) h k = went new (passes h p root (at_old same kind new s v)) h k
 phase_step same most root key kind fail seen answer new (MakeLeaf s) h k = making N4 key MAX_PREFIX_LEN new h k (λ leaf. unless_full kind s s.full s.above (Some leaf) (Link leaf))
-phase_step same most root key kind fail seen answer new (MakeGreater s p leaf) h k = making (form_above s.count) key s.depth new h k (λ c. ready kind (Above (record { above = p; at = s.at; change = greater s leaf c })))
+phase_step same most root key kind fail seen answer new (MakeGreater s p leaf) h k = making (form_above s.count) key s.depth new h k (λ c. ready kind (Above (both p s (greater s leaf c))))
 phase_step same most root key kind fail seen answer new (MakeTop p at common byte) h k = making N4 key common new h k (λ top. quiet (MakeBeside p at common byte top))
-phase_step same most root key kind fail seen answer new (MakeBeside p at common byte top) h k = making N4 key MAX_PREFIX_LEN new h k (λ leaf. ready kind (Above (record { above = p; at = at; change = Split top leaf common byte })))
+phase_step same most root key kind fail seen answer new (MakeBeside p at common byte top) h k = making N4 key MAX_PREFIX_LEN new h k (λ leaf. ready kind (Above (record { top = None; above = p; at = at; change = Split top leaf common byte })))
+phase_step same most root key kind fail seen answer new (MakeLesser s p g r) h k = made_lesser key new h k s p g r
 phase_step same most root key kind fail seen answer new (AskOld s v) h k = went (given_old same kind s v answer new).0 (given_old same kind s v answer new).1 h k
 phase_step same most root key kind fail seen answer new (AskNew plan) h k = went (given_new plan answer new).0 (given_new plan answer new).1 h k
 phase_step same most root key kind fail seen answer new (Confirm at r) h k = went new (passes h at root (answered r)) h k
 phase_step same most root key kind fail seen answer new (CheckAbove p one r) h k = passed_above (is_taken (h p.node) p.version) root new h k one r
 phase_step same most root key kind fail seen answer new (UpgradeOne one r) h k = upgraded_one root new h k one r (upgrade_gives most (h one.at.node) one.at.version fail)
 phase_step same most root key kind fail seen answer new (ChangeOne one r) h k = went None (decided (Unlock one.at.node r)) (change_one key new one one.change h) k
+phase_step same most root key kind fail seen answer new (UpgradeTop g two r) h k = upgraded_top root new h k g two r (upgrade_gives most (h g.seat.node) g.seat.version fail)
 phase_step same most root key kind fail seen answer new (UpgradeAbove two r) h k = upgraded_above root new h k two r (upgrade_gives most (h two.above.seat.node) two.above.seat.version fail)
 phase_step same most root key kind fail seen answer new (UpgradeBelow two r) h k = upgraded_below new h k two r (upgrade_gives most (h two.at.node) two.at.version fail)
 phase_step same most root key kind fail seen answer new (ChangeTwo two r) h k = went None (after_change two r two.change) (change_two key new two two.change h) k
-phase_step same most root key kind fail seen answer new (Obsolete n p r) h k = went new (quiet (Retire n p r)) (mark h n) k
-phase_step same most root key kind fail seen answer new (Retire n p r) h k = went new (quiet (Unlock p r)) (hand h n) k
+phase_step same most root key kind fail seen answer new (Obsolete n next p r) h k = went new (quiet (Retire n next p r)) (mark h n) k
+phase_step same most root key kind fail seen answer new (Retire n next p r) h k = went new (after_retire next p r) (hand h n) k
 phase_step same most root key kind fail seen answer new (UnlockBelow n p r) h k = went new (quiet (Unlock p r)) (free h n) k
 phase_step same most root key kind fail seen answer new (Unlock n r) h k = went new (finished r) (free h n) k
-phase_step same most root key kind fail seen answer new (Unwind n e) h k = went new (unwound root e) (free h n) k
+phase_step same most root key kind fail seen answer new (Unwind n next e) h k = went new (after_unwind root next e) (free h n) k
 phase_step same most root key kind fail seen answer new (Sweep s) h k = went new (swept (swung root seen h s s.stage).0 (swung root seen h s s.stage).1) h k
 phase_step same most root key kind fail seen answer new Ended h k = went new (quiet Ended) h k
 

@@ -10,7 +10,7 @@ use Rattle.congee.specs.declared.protocol.op.Op.TheVariants as op
 use Rattle.congee.specs.declared.protocol.phase.Kind.{Kind}
 use Rattle.congee.specs.declared.protocol.phase.Kind.TheVariants.{Get, Insert, Remove, ComputePresent, ComputeInsert, Exchange}
 use Rattle.congee.specs.declared.protocol.phase.Phase.{Phase}
-use Rattle.congee.specs.declared.protocol.phase.Phase.TheVariants.{New, AskOld, AskNew, Confirm, CheckAbove, UpgradeOne, ChangeOne, UpgradeAbove, UpgradeBelow, ChangeTwo, Obsolete, Retire, UnlockBelow, Unlock, Sweep, Ended}
+use Rattle.congee.specs.declared.protocol.phase.Phase.TheVariants.{New, AskOld, AskNew, Confirm, CheckAbove, UpgradeOne, ChangeOne, MakeLesser, UpgradeTop, UpgradeAbove, UpgradeBelow, ChangeTwo, Obsolete, Retire, UnlockBelow, Unlock, Sweep, Ended}
 use Rattle.congee.specs.declared.protocol.machine.Outcome.{Outcome}
 use Rattle.congee.specs.declared.protocol.machine.Outcome.TheVariants.{Running, Asks, Found, Done, Scanned, Refused}
 use Rattle.congee.specs.declared.protocol.machine.Move.{Move}
@@ -172,13 +172,13 @@ ScanTells start end size states places (Done r) f = ⊥
 abbrev pub Watched : {V : Type 0} → (V → V → Bool) → Flight V → Pairs V → Option (Option V) → Move V → Flight V → Pairs V → Type 0
 Watched same (Pending k kind v q) m told d f' m' = PendingMoves same k kind (heard kind q told v) (resolved kind q told) m d.decided d.outcome f' m'
 Watched same (Decided r) m told d f' m' = (d.decided ≡ false) × Concludes r d.outcome f' × (m' ≡ m)
-Watched same Over m told d f' m' = (d ≡ record { decided = false; outcome = Running }) × (f' ≡ Over) × (m' ≡ m)
+Watched same Over m told d f' m' = (d ≡ record { decided = false; skipped = false; outcome = Running }) × (f' ≡ Over) × (m' ≡ m)
 Watched same (Unbegun start end size) m told d f' m' = (d.decided ≡ false) × ScanTells start end size (m ∷ []) [] d.outcome f' × (m' ≡ m)
 Watched same (Scanning start end size states places) m told d f' m' = (d.decided ≡ false) × ScanTells start end size (m ∷ states) places d.outcome f' × (m' ≡ m)
 
 -- one step of the calls: of one that is there, or none
 abbrev pub WatchedAt : {C V : Type 0} → (V → V → Bool) → List (Flight V) → Pairs V → Option (Flight V) → Step C V → Move V → List (Flight V) → Pairs V → Type 0
-WatchedAt same fs m None s d fs' m' = (d ≡ record { decided = false; outcome = Running }) × (fs' ≡ fs) × (m' ≡ m)
+WatchedAt same fs m None s d fs' m' = (d ≡ record { decided = false; skipped = false; outcome = Running }) × (fs' ≡ fs) × (m' ≡ m)
 WatchedAt {C} {V} same fs m (Some f) s d fs' m' = (f' : Flight V) × Watched same f m s.noise.answer d f' m' × (fs' ≡ set fs s.who f')
 
 -- how a machine is watched: one with a closure that confirms or changes a value has its answer
@@ -194,11 +194,13 @@ flight_in k kind v (Confirm at r) = Pending k kind v (heeding r)
 flight_in k kind v (CheckAbove p one r) = Pending k kind v (heeding r)
 flight_in k kind v (UpgradeOne one r) = Pending k kind v (heeding r)
 flight_in k kind v (ChangeOne one r) = Pending k kind v (heeding r)
+flight_in k kind v (MakeLesser s p g r) = Pending k kind v (heeding r)
+flight_in k kind v (UpgradeTop g two r) = Pending k kind v (heeding r)
 flight_in k kind v (UpgradeAbove two r) = Pending k kind v (heeding r)
 flight_in k kind v (UpgradeBelow two r) = Pending k kind v (heeding r)
 flight_in k kind v (ChangeTwo two r) = Pending k kind v (heeding r)
-flight_in k kind v (Obsolete n p r) = Decided r
-flight_in k kind v (Retire n p r) = Decided r
+flight_in k kind v (Obsolete n next p r) = Decided r
+flight_in k kind v (Retire n next p r) = Decided r
 flight_in k kind v (UnlockBelow n p r) = Decided r
 flight_in k kind v (Unlock n r) = Decided r
 flight_in k kind v (Sweep s) = Unbegun s.start (suc s.last) s.size
@@ -275,7 +277,7 @@ pub record Begins {C V : Type 0} (number : C → ℕ) (h : ℕ → Node V) (ms :
 -- each step is the next one of its call, on what the store answers and what came to it from outside; it refuses for its
 -- cause alone
 abbrev pub NextAt : {C V : Type 0} → (C → ℕ) → (V → V → Bool) → Bool → ℕ → (NodeType → Refusal → Type 0) → (ℕ → Node V) → List (Machine C V) → Option (Machine C V) → Step C V → Move V → (ℕ → Node V) → List (Machine C V) → Type 0
-NextAt number same always most why h ms None s d h' ms' = (d ≡ record { decided = false; outcome = Running }) × (h' ≡ h) × (ms' ≡ ms)
+NextAt number same always most why h ms None s d h' ms' = (d ≡ record { decided = false; skipped = false; outcome = Running }) × (h' ≡ h) × (ms' ≡ ms)
 NextAt {C} {V} number same always most why h ms (Some m) s d h' ms' = (m' : Machine C V) × Stepped number same always most why m h s.noise.fail s.noise.answer m' h' d
     × IsCause why most always m.phase d.outcome × (ms' ≡ set ms s.who m')
 
@@ -302,7 +304,7 @@ pub record Plays {C V : Type 0} (number : C → ℕ) (same : V → V → Bool) (
   pub run : PlaysMap number same always most why h ms steps moves h' ms'
   pub from_root : RootAlone h → FromRoot number same always most why h ms steps moves h' ms'
   pub apart : Apart number h' ms'
-  pub by : ℕ → Option ℕ
+  pub by : ℕ → List ℕ
   pub handing : Handing by h steps h' ms'
   pub unlinking : (a : ℕ → Note) → Tree a h → LockWords a h → Rests {V = V} number a h → Unlinking number by h steps h' ms'
   pub unlinking_fresh : FreshRoot h → Unlinking number by h steps h' ms'

@@ -1,5 +1,5 @@
 -- What a call knows of the tree between its steps, as long as others may step.
-use Rattle.std.specs.Prelude.{◌≡◌, ◌≢◌, ℕ, ◌==◌, ◌<◌, ◌≤◌, ◌⊎◌, Bool, true, false, List, length, slice_index, Option, None, Some}
+use Rattle.std.specs.Prelude.{suc, ◌≡◌, ◌≢◌, ℕ, ◌==◌, ◌<◌, ◌≤◌, ◌⊎◌, Bool, true, false, List, length, slice_index, Option, None, Some}
 use Rattle.judge.specs.declared.journal.Call.{Call}
 use Rattle.judge.specs.declared.journal.Call.TheVariants as call
 use Rattle.judge.specs.declared.journal.Reply.{Reply}
@@ -10,20 +10,21 @@ use Rattle.congee.specs.declared.protocol.store.Refusal.TheVariants as refusal
 use Rattle.congee.specs.declared.protocol.phase.Kind.{Kind}
 use Rattle.congee.specs.declared.protocol.phase.Kind.TheVariants.{Get, Insert, Remove, ComputePresent, ComputeInsert, Exchange}
 use Rattle.congee.specs.declared.protocol.phase.Parent.{Parent}
+use Rattle.congee.specs.declared.protocol.phase.Above.{Above as Over}
 use Rattle.congee.specs.declared.protocol.phase.Site.{Site}
 use Rattle.congee.specs.declared.protocol.phase.Single.{Single}
 use Rattle.congee.specs.declared.protocol.phase.Single.TheVariants.{Set, Link}
 use Rattle.congee.specs.declared.protocol.phase.One.{One}
 use Rattle.congee.specs.declared.protocol.phase.Double.{Double}
-use Rattle.congee.specs.declared.protocol.phase.Double.TheVariants.{Unlink, Grow, GrowLink, Split}
+use Rattle.congee.specs.declared.protocol.phase.Double.TheVariants.{Unlink, Grow, GrowLink, Split, Shrink, Collapse, ShrinkAbove}
 use Rattle.congee.specs.declared.protocol.phase.Two.{Two}
 use Rattle.congee.specs.declared.protocol.phase.Plan.{Plan}
 use Rattle.congee.specs.declared.protocol.phase.Plan.TheVariants.{Here, Above}
 use Rattle.congee.specs.declared.protocol.phase.Phase.{Phase}
-use Rattle.congee.specs.declared.protocol.phase.Phase.TheVariants.{New, Version, Read, Check, CheckUncopied, CheckMiss, CheckDown, CheckOld, MakeLeaf, MakeGreater, MakeTop, MakeBeside, AskOld, AskNew, Confirm, CheckAbove, UpgradeOne, ChangeOne, UpgradeAbove, UpgradeBelow, ChangeTwo, Obsolete, Retire, UnlockBelow, Unlock, Unwind, Sweep, Ended}
+use Rattle.congee.specs.declared.protocol.phase.Phase.TheVariants.{New, Version, Read, Check, CheckUncopied, CheckMiss, CheckDown, CheckOld, MakeLeaf, MakeGreater, MakeTop, MakeBeside, MakeLesser, AskOld, AskNew, Confirm, CheckAbove, UpgradeOne, ChangeOne, UpgradeTop, UpgradeAbove, UpgradeBelow, ChangeTwo, Obsolete, Retire, UnlockBelow, Unlock, Unwind, Sweep, Ended}
 use Rattle.congee.specs.Heap.{Node, Hung, Nothing, Below, Holds, fits, child_for, is_taken}
-use Rattle.congee.specs.protocol.Events.{hung, Parts}
-use Rattle.congee.specs.protocol.Steps.{adds}
+use Rattle.congee.specs.protocol.Events.{hung, places, Parts}
+use Rattle.congee.specs.protocol.Steps.{adds, shrinks}
 use Rattle.congee.specs.protocol.SweepKnown.{SweepKnown}
 pub use Rattle.congee.specs.protocol.Seats.{Seated, Fresh}
 use Rattle.congee.specs.Ledger.{Note, Unmade, Held, Linked, Gone, is_published, is_spent, BeginsKey, Tree, LockWords}
@@ -33,12 +34,18 @@ use Rattle.congee.specs.declared.forms.prefix.TheConstants.{MAX_PREFIX_LEN}
 pub record ChildOf {C V : Type 0} (number : C → ℕ) (a : ℕ → Note) (h : ℕ → Node V) (key : List ℕ) (p : Parent C) (n : ℕ) : Type 0 where
   pub fitted : fits (h (number p.seat.node)).prefix key ≡ true
   pub byte : p.byte ≡ slice_index key (length (h (number p.seat.node)).prefix)
-  pub fresh : Fresh a h (number p.seat.node) p.seat.version (λ m. child_for m key ≡ Below n)
+  pub depth : p.depth ≡ length (h (number p.seat.node)).prefix
+  pub short : p.depth ≤ MAX_PREFIX_LEN
+  pub fresh : Fresh a h (number p.seat.node) p.seat.version (λ m. (child_for m key ≡ Below n) × (m.count ≡ p.count) × (m.capacity ≡ places p.form))
 
 -- nothing is above the root
-abbrev pub IsAbove : {C V : Type 0} → (C → ℕ) → (ℕ → Note) → (ℕ → Node V) → List ℕ → Option (Parent C) → ℕ → Type 0
+abbrev pub IsFar : {C V : Type 0} → (C → ℕ) → (ℕ → Note) → (ℕ → Node V) → List ℕ → Option (Parent C) → ℕ → Type 0
+IsFar number a h key None n = n ≡ 0
+IsFar number a h key (Some p) n = ChildOf number a h key p n
+
+abbrev pub IsAbove : {C V : Type 0} → (C → ℕ) → (ℕ → Note) → (ℕ → Node V) → List ℕ → Option (Over C) → ℕ → Type 0
 IsAbove number a h key None n = n ≡ 0
-IsAbove number a h key (Some p) n = ChildOf number a h key p n
+IsAbove number a h key (Some u) n = ChildOf number a h key u.near n × IsFar number a h key u.far (number u.near.seat.node)
 
 -- what a read saw is true of the node
 pub record Sees {C V : Type 0} (key : List ℕ) (s : Site C) (x : Hung V) (n : Node V) : Type 0 where
@@ -47,6 +54,7 @@ pub record Sees {C V : Type 0} (key : List ℕ) (s : Site C) (x : Hung V) (n : N
   pub full : x ≡ Nothing → s.full ≡ (n.count == n.capacity)
   pub alone : n.count ≡ 1 → x ≢ Nothing → (b : ℕ) → b ≢ slice_index key (length n.prefix) → n.children b ≡ Nothing
   pub room : x ≡ Nothing → n.count < 256
+  pub form : n.capacity ≡ places s.form
 
 -- the node at hand, with what hangs at the key's byte there
 pub record Knows {C V : Type 0} (number : C → ℕ) (a : ℕ → Note) (h : ℕ → Node V) (key : List ℕ) (s : Site C) (x : Hung V) : Type 0 where
@@ -128,38 +136,53 @@ pub record OneLocked {C V : Type 0} (number : C → ℕ) (i : ℕ) (a : ℕ → 
 -- the change of the node above, likewise
 abbrev pub PlacedTwo : {C : Type 0} → List ℕ → Double C → List ℕ → Type 0
 PlacedTwo key Unlink p = (fits p key ≡ true) × (length p ≡ MAX_PREFIX_LEN)
+PlacedTwo key (Shrink c) p = (fits p key ≡ true) × (length p ≡ MAX_PREFIX_LEN)
+PlacedTwo key Collapse p = (fits p key ≡ true) × (length p ≡ MAX_PREFIX_LEN)
+PlacedTwo key (ShrinkAbove c) p = (fits p key ≡ true) × (length p ≡ MAX_PREFIX_LEN)
 PlacedTwo key (Grow c) p = (fits p key ≡ true) × (length p ≡ MAX_PREFIX_LEN)
 PlacedTwo key (GrowLink c leaf byte) p = (fits p key ≡ true) × (length p < MAX_PREFIX_LEN) × (byte ≡ slice_index key (length p))
 PlacedTwo key (Split top leaf common byte) p = Parts p key common × (byte ≡ slice_index p common)
 
+-- a leaf with the value alone
+abbrev pub IsAlone : {V : Type 0} → List ℕ → Option V → Node V → Type 0
+IsAlone key None n = ⊥
+IsAlone key (Some v) n = (child_for n key ≡ Holds v) × ((b : ℕ) → b ≢ slice_index key (length n.prefix) → n.children b ≡ Nothing)
+
 -- what the node at hand holds: the value that goes with it, or nothing, and how many children
 abbrev pub WantedTwo : {C V : Type 0} → List ℕ → Double C → Option V → ℕ → Node V → Type 0
-WantedTwo key Unlink None q n = ⊥
-WantedTwo key Unlink (Some v) q n = (child_for n key ≡ Holds v) × ((b : ℕ) → b ≢ slice_index key (length n.prefix) → n.children b ≡ Nothing)
+WantedTwo key Unlink found q n = IsAlone key found n
+WantedTwo key Collapse found q n = IsAlone key found n
+WantedTwo key (ShrinkAbove c) found q n = IsAlone key found n
+WantedTwo key (Shrink c) None q n = ⊥
+WantedTwo key (Shrink c) (Some v) q n = (child_for n key ≡ Holds v) × (n.count ≤ suc q)
 WantedTwo key (Grow c) found q n = (child_for n key ≡ Nothing) × (n.count ≡ q)
 WantedTwo key (GrowLink c leaf byte) found q n = (child_for n key ≡ Nothing) × (n.count ≡ q)
 WantedTwo key (Split top leaf common byte) found q n = Unit {0}
 
-abbrev pub MadeTwo : {C V : Type 0} → (C → ℕ) → ℕ → (ℕ → Note) → (ℕ → Node V) → List ℕ → Double C → ℕ → ℕ → Type 0
-MadeTwo number i a h key Unlink size q = Unit {0}
-MadeTwo number i a h key (Grow c) size q = Made i a h key (number c) size q
-MadeTwo number i a h key (GrowLink c leaf byte) size q = Made i a h key (number c) size q × Made i a h key (number leaf) MAX_PREFIX_LEN 0 × (number c ≢ number leaf)
-MadeTwo number i a h key (Split top leaf common byte) size q = Made i a h key (number top) common 1 × Made i a h key (number leaf) MAX_PREFIX_LEN 0 × (number top ≢ number leaf)
+abbrev pub MadeTwo : {C V : Type 0} → (C → ℕ) → ℕ → (ℕ → Note) → (ℕ → Node V) → List ℕ → Parent C → Double C → ℕ → ℕ → Type 0
+MadeTwo number i a h key p Unlink size q = Unit {0}
+MadeTwo number i a h key p Collapse size q = p.count ≡ 2
+MadeTwo number i a h key p (Shrink c) size q = Made i a h key (number c) size q
+MadeTwo number i a h key p (ShrinkAbove c) size q = Made i a h key (number c) p.depth q × (p.count ≤ suc q)
+MadeTwo number i a h key p (Grow c) size q = Made i a h key (number c) size q
+MadeTwo number i a h key p (GrowLink c leaf byte) size q = Made i a h key (number c) size q × Made i a h key (number leaf) MAX_PREFIX_LEN 0 × (number c ≢ number leaf)
+MadeTwo number i a h key p (Split top leaf common byte) size q = Made i a h key (number top) common 1 × Made i a h key (number leaf) MAX_PREFIX_LEN 0 × (number top ≢ number leaf)
+
+-- a value was found, and none is put
+abbrev pub Goes : {V : Type 0} → Option V → Option V → Type 0
+Goes None given = ⊥
+Goes (Some v) None = Unit {0}
+Goes (Some v) (Some w) = ⊥
 
 -- an unlinking has found a value and puts none; the other changes have found none and put one
 abbrev pub FitsTwo : {C V : Type 0} → Double C → Option V → Option V → Type 0
-FitsTwo Unlink None given = ⊥
-FitsTwo Unlink (Some v) None = Unit {0}
-FitsTwo Unlink (Some v) (Some w) = ⊥
+FitsTwo Unlink found given = Goes found given
+FitsTwo (Shrink c) found given = Goes found given
+FitsTwo Collapse found given = Goes found given
+FitsTwo (ShrinkAbove c) found given = Goes found given
 FitsTwo _ None None = ⊥
 FitsTwo _ None (Some w) = Unit {0}
 FitsTwo _ (Some v) given = ⊥
-
-pub record TwoKnown {C V : Type 0} (number : C → ℕ) (i : ℕ) (a : ℕ → Note) (h : ℕ → Node V) (key : List ℕ) (two : Two C) (found : Option V) (q : ℕ) : Type 0 where
-  pub above : ChildOf number a h key two.above (number two.at.node)
-  pub placed : PlacedTwo key two.change (h (number two.at.node)).prefix
-  pub fresh : Fresh a h (number two.at.node) two.at.version (WantedTwo key two.change found q)
-  pub made : MadeTwo number i a h key two.change (length (h (number two.at.node)).prefix) q
 
 -- the node above is locked, and holds the node at hand
 pub record AboveLocked {C V : Type 0} (number : C → ℕ) (i : ℕ) (a : ℕ → Note) (h : ℕ → Node V) (key : List ℕ) (p : Parent C) (n : ℕ) : Type 0 where
@@ -167,19 +190,44 @@ pub record AboveLocked {C V : Type 0} (number : C → ℕ) (i : ℕ) (a : ℕ �
   pub fitted : fits (h (number p.seat.node)).prefix key ≡ true
   pub byte : p.byte ≡ slice_index key (length (h (number p.seat.node)).prefix)
   pub child : child_for (h (number p.seat.node)) key ≡ Below n
+  pub depth : p.depth ≡ length (h (number p.seat.node)).prefix
+  pub count : (h (number p.seat.node)).count ≡ p.count
+  pub form : (h (number p.seat.node)).capacity ≡ places p.form
+
+-- the node above both is locked, where there is one, and holds the node above
+abbrev pub TopLocked : {C V : Type 0} → (C → ℕ) → ℕ → (ℕ → Note) → (ℕ → Node V) → List ℕ → Option (Parent C) → ℕ → Type 0
+TopLocked number i a h key None n = Unit {0}
+TopLocked number i a h key (Some g) n = AboveLocked number i a h key g n
+
+-- a change of the node above both has it, and no other
+abbrev pub HasTop : {C : Type 0} → Double C → Option (Parent C) → Type 0
+HasTop Collapse (Some g) = Unit {0}
+HasTop (ShrinkAbove c) (Some g) = Unit {0}
+HasTop Collapse None = ⊥
+HasTop (ShrinkAbove c) None = ⊥
+HasTop _ top = top ≡ None
+
+pub record TwoKnown {C V : Type 0} (number : C → ℕ) (i : ℕ) (a : ℕ → Note) (h : ℕ → Node V) (key : List ℕ) (two : Two C) (found : Option V) (q : ℕ) : Type 0 where
+  pub top : TopLocked number i a h key two.top (number two.above.seat.node)
+  pub above : ChildOf number a h key two.above (number two.at.node)
+  pub placed : PlacedTwo key two.change (h (number two.at.node)).prefix
+  pub fresh : Fresh a h (number two.at.node) two.at.version (WantedTwo key two.change found q)
+  pub made : MadeTwo number i a h key two.above two.change (length (h (number two.at.node)).prefix) q
 
 pub record HalfLocked {C V : Type 0} (number : C → ℕ) (i : ℕ) (a : ℕ → Note) (h : ℕ → Node V) (key : List ℕ) (two : Two C) (found : Option V) (q : ℕ) : Type 0 where
+  pub top : TopLocked number i a h key two.top (number two.above.seat.node)
   pub above : AboveLocked number i a h key two.above (number two.at.node)
   pub placed : PlacedTwo key two.change (h (number two.at.node)).prefix
   pub fresh : Fresh a h (number two.at.node) two.at.version (WantedTwo key two.change found q)
-  pub made : MadeTwo number i a h key two.change (length (h (number two.at.node)).prefix) q
+  pub made : MadeTwo number i a h key two.above two.change (length (h (number two.at.node)).prefix) q
 
 pub record TwoLocked {C V : Type 0} (number : C → ℕ) (i : ℕ) (a : ℕ → Note) (h : ℕ → Node V) (key : List ℕ) (two : Two C) (found : Option V) (q : ℕ) : Type 0 where
+  pub top : TopLocked number i a h key two.top (number two.above.seat.node)
   pub above : AboveLocked number i a h key two.above (number two.at.node)
   pub owner : (a (number two.at.node)).owner ≡ Some i
   pub placed : PlacedTwo key two.change (h (number two.at.node)).prefix
   pub wanted : WantedTwo key two.change found q (h (number two.at.node))
-  pub made : MadeTwo number i a h key two.change (length (h (number two.at.node)).prefix) q
+  pub made : MadeTwo number i a h key two.above two.change (length (h (number two.at.node)).prefix) q
 
 -- a node that the call took out, still locked by it, and the node above
 pub record TakenOut {V : Type 0} (i : ℕ) (a : ℕ → Note) (h : ℕ → Node V) (p n : ℕ) : Type 0 where
@@ -187,6 +235,15 @@ pub record TakenOut {V : Type 0} (i : ℕ) (a : ℕ → Note) (h : ℕ → Node 
   pub owner : (a n).owner ≡ Some i
   pub gone : (a n).status ≡ Gone
   pub unretired : (h n).retired ≡ false
+
+-- another one that it took out, likewise
+abbrev pub AlsoOut : {C V : Type 0} → (C → ℕ) → ℕ → (ℕ → Note) → (ℕ → Node V) → ℕ → Option C → Type 0
+AlsoOut number i a h n None = Unit {0}
+AlsoOut number i a h n (Some c) = ((a (number c)).owner ≡ Some i) × ((a (number c)).status ≡ Gone) × ((h (number c)).retired ≡ false) × (number c ≢ n)
+
+abbrev pub AlsoHolding : {C : Type 0} → (C → ℕ) → ℕ → (ℕ → Note) → ℕ → Option C → Type 0
+AlsoHolding number i a n None = Unit {0}
+AlsoHolding number i a n (Some c) = Holding i a (number c) × (number c ≢ n)
 
 -- the call that the map answers: the one that began, with the last answer of its closure; for a key found absent,
 -- a call on a present key alone has none
@@ -222,6 +279,9 @@ Asking _ = ⊥
 -- a plan that waits for the closure's answer
 abbrev pub Adding : {C : Type 0} → Double C → Type 0
 Adding Unlink = ⊥
+Adding (Shrink c) = ⊥
+Adding Collapse = ⊥
+Adding (ShrinkAbove c) = ⊥
 Adding _ = Unit {0}
 
 -- a lock was not had: its exchange failed, or no version is left for it
@@ -235,7 +295,7 @@ SeatedIf number a h (Some p) = Seated a h (number p.node) p.version
 
 abbrev pub PlanKnown : {C V : Type 0} → (C → ℕ) → ℕ → (ℕ → Note) → (ℕ → Node V) → List ℕ → Plan C → Type 0
 PlanKnown number i a h key (Here check one) = SeatedIf number a h check × OneKnown number i a h key one Nothing
-PlanKnown number i a h key (Above two) = ((q : ℕ) × TwoKnown number i a h key two None q) × Adding two.change
+PlanKnown number i a h key (Above two) = ((q : ℕ) × TwoKnown number i a h key two None q) × Adding two.change × (two.top ≡ None)
 
 abbrev pub MadeLeafFor : {C V : Type 0} → (C → ℕ) → ℕ → (ℕ → Note) → (ℕ → Node V) → List ℕ → Site C → Option C → Type 0
 MadeLeafFor number i a h key s None = s.depth ≡ MAX_PREFIX_LEN
@@ -244,6 +304,11 @@ MadeLeafFor number i a h key s (Some leaf) = (s.depth < MAX_PREFIX_LEN) × Made 
 pub record Confirmed {C V : Type 0} (number : C → ℕ) (a : ℕ → Note) (h : ℕ → Node V) (key : List ℕ) (at : Seat C) (v : V) : Type 0 where
   pub fitted : fits (h (number at.node)).prefix key ≡ true
   pub fresh : Fresh a h (number at.node) at.version (λ m. child_for m key ≡ Holds v)
+
+-- what gives way to a lesser node: the leaf, which has others, or the node above, which isn't the root
+abbrev pub IsLesser : {C V : Type 0} → (C → ℕ) → (ℕ → Note) → (ℕ → Node V) → List ℕ → Site C → Parent C → Option (Parent C) → Type 0
+IsLesser number a h key s p None = shrinks s.form s.count ≡ true
+IsLesser number a h key s p (Some g) = ChildOf number a h key g (number p.seat.node) × (s.count ≡ 1) × (2 < p.count) × (shrinks p.form p.count ≡ true)
 
 -- what call i knows in each phase
 abbrev pub Known : {C V : Type 0} → (C → ℕ) → (V → V → Bool) → Bool → ℕ → (ℕ → Note) → (ℕ → Node V) → ℕ → List ℕ → Kind V → Option V → Phase C V → Type 0
@@ -254,28 +319,32 @@ Known number same always i a h k key kind given (Check s c) = HasGift kind given
 Known number same always i a h k key kind given (CheckUncopied at) = HasGift kind given × Seated a h (number at.node) at.version × (always ≡ false)
 Known number same always i a h k key kind given (CheckMiss p at common byte) = HasGift kind given × ChildOf number a h key p (number at.node) × Seated a h (number at.node) at.version
     × Parts (h (number at.node)).prefix key common × (byte ≡ slice_index (h (number at.node)).prefix common)
-Known number same always i a h k key kind given (CheckDown p at c) = HasGift kind given × Seated a h (number p.node) p.version × ChildOf number a h key at (number c) × (is_published (a (number c)).status ≡ true)
+Known number same always i a h k key kind given (CheckDown p at c) = HasGift kind given × Seated a h (number p.node) p.version × IsAbove number a h key (Some at) (number c) × (is_published (a (number c)).status ≡ true)
 Known number same always i a h k key kind given (CheckOld p s v) = HasGift kind given × Seated a h (number p.node) p.version × Knows number a h key s (Holds v) × (adds kind ≡ true) × (s.depth ≡ MAX_PREFIX_LEN)
 Known number same always i a h k key kind given (MakeLeaf s) = HasGift kind given × Knows number a h key s Nothing × (s.depth < MAX_PREFIX_LEN) × (adds kind ≡ true) × (s.count < 256)
-Known number same always i a h k key kind given (MakeGreater s p leaf) = HasGift kind given × Knows number a h key s Nothing × (s.above ≡ Some p) × MadeLeafFor number i a h key s leaf × (adds kind ≡ true) × (s.count < 256)
+Known number same always i a h k key kind given (MakeGreater s p leaf) = HasGift kind given × Knows number a h key s Nothing × ChildOf number a h key p (number s.at.node) × MadeLeafFor number i a h key s leaf × (adds kind ≡ true) × (s.count < 256)
 Known number same always i a h k key kind given (MakeTop p at common byte) = HasGift kind given × ChildOf number a h key p (number at.node) × Seated a h (number at.node) at.version
     × Parts (h (number at.node)).prefix key common × (byte ≡ slice_index (h (number at.node)).prefix common) × (adds kind ≡ true)
 Known number same always i a h k key kind given (MakeBeside p at common byte top) = HasGift kind given × ChildOf number a h key p (number at.node) × Seated a h (number at.node) at.version
     × Parts (h (number at.node)).prefix key common × (byte ≡ slice_index (h (number at.node)).prefix common) × (adds kind ≡ true) × Made i a h key (number top) common 1
+Known {C} {V} number same always i a h k key kind given (MakeLesser s p g r) = HasGift kind given × ((v : V) × Knows number a h key s (Holds v) × Settles same k kind given (Some v) r None) × (s.depth ≡ MAX_PREFIX_LEN) × (given ≡ None)
+    × ChildOf number a h key p (number s.at.node) × IsLesser number a h key s p g
 Known number same always i a h k key kind given (AskOld s v) = HasGift kind given × Knows number a h key s (Holds v) × Asking kind × (s.depth ≡ MAX_PREFIX_LEN)
 Known number same always i a h k key kind given (AskNew plan) = PlanKnown number i a h key plan × (kind ≡ ComputeInsert)
 Known {C} {V} number same always i a h k key kind given (Confirm at r) = HasGift kind given × ((v : V) × Confirmed number a h key at v × Settles same k kind given (Some v) r (Some v))
 Known number same always i a h k key kind given (CheckAbove p one r) = HasGift kind given × Seated a h (number p.node) p.version × OneKnown number i a h key one Nothing × FitsOne one.change Nothing given × Settles same k kind given None r given
 Known {C} {V} number same always i a h k key kind given (UpgradeOne one r) = HasGift kind given × ((x : Hung V) × OneKnown number i a h key one x × FitsOne one.change x given × Settles same k kind given (value_in x) r given)
 Known {C} {V} number same always i a h k key kind given (ChangeOne one r) = (x : Hung V) × OneLocked number i a h key one x × FitsOne one.change x given × Settles same k kind given (value_in x) r given
-Known {C} {V} number same always i a h k key kind given (UpgradeAbove two r) = HasGift kind given × ((found : Option V) × (q : ℕ) × TwoKnown number i a h key two found q × FitsTwo two.change found given × Settles same k kind given found r given)
-Known {C} {V} number same always i a h k key kind given (UpgradeBelow two r) = HasGift kind given × ((found : Option V) × (q : ℕ) × HalfLocked number i a h key two found q × FitsTwo two.change found given × Settles same k kind given found r given)
-Known {C} {V} number same always i a h k key kind given (ChangeTwo two r) = (found : Option V) × (q : ℕ) × TwoLocked number i a h key two found q × FitsTwo two.change found given × Settles same k kind given found r given
-Known number same always i a h k key kind given (Obsolete n p r) = TakenOut i a h (number p) (number n)
-Known number same always i a h k key kind given (Retire n p r) = TakenOut i a h (number p) (number n) × ((h (number n)).obsolete ≡ true)
+Known {C} {V} number same always i a h k key kind given (UpgradeTop g two r) = HasGift kind given × ((found : Option V) × (q : ℕ) × TwoKnown number i a h key two found q × FitsTwo two.change found given × Settles same k kind given found r given)
+    × ChildOf number a h key g (number two.above.seat.node) × HasTop two.change (Some g) × (two.top ≡ None)
+Known {C} {V} number same always i a h k key kind given (UpgradeAbove two r) = HasGift kind given × ((found : Option V) × (q : ℕ) × TwoKnown number i a h key two found q × HasTop two.change two.top × FitsTwo two.change found given × Settles same k kind given found r given)
+Known {C} {V} number same always i a h k key kind given (UpgradeBelow two r) = HasGift kind given × ((found : Option V) × (q : ℕ) × HalfLocked number i a h key two found q × HasTop two.change two.top × FitsTwo two.change found given × Settles same k kind given found r given)
+Known {C} {V} number same always i a h k key kind given (ChangeTwo two r) = (found : Option V) × (q : ℕ) × TwoLocked number i a h key two found q × HasTop two.change two.top × FitsTwo two.change found given × Settles same k kind given found r given
+Known number same always i a h k key kind given (Obsolete n next p r) = TakenOut i a h (number p) (number n) × AlsoOut number i a h (number n) next
+Known number same always i a h k key kind given (Retire n next p r) = TakenOut i a h (number p) (number n) × AlsoOut number i a h (number n) next × ((h (number n)).obsolete ≡ true)
 Known number same always i a h k key kind given (UnlockBelow n p r) = Holding i a (number n) × Holding i a (number p) × (number n ≢ number p)
 Known number same always i a h k key kind given (Unlock n r) = Holding i a (number n)
-Known number same always i a h k key kind given (Unwind n e) = HasGift kind given × Holding i a (number n) × IsFailure e
+Known number same always i a h k key kind given (Unwind n next e) = HasGift kind given × Holding i a (number n) × AlsoHolding number i a (number n) next × IsFailure e
 Known number same always i a h k key kind given (Sweep s) = SweepKnown number always a h s
 Known number same always i a h k key kind given Ended = Unit {0}
 

@@ -17,7 +17,7 @@ IsSeen (Some x) s = (s.child ≡ x.child) × (s.full ≡ x.full) × (s.count ≡
 -- a copy fails only of a value that stands
 abbrev pub ReadSees : {C V : Type 0} → Node V → ℕ → Option (Seen C V) → Reading C V → Type 0
 ReadSees n v seen (Differs common byte) = Unit {0}
-ReadSees n v seen (Fits depth s) = is_taken n v ≡ false → IsSeen seen s
+ReadSees n v seen (Fits depth form s) = is_taken n v ≡ false → IsSeen seen s
 ReadSees n v seen Uncopied = is_taken n v ≡ true
 
 -- the same of the least child: what was to be seen at its byte

@@ -1,5 +1,5 @@
 -- One step of a call on what the store answers: the next phase, and what the step reports.
-use Rattle.std.specs.Prelude.{ltb, ◌≡◌, ◌≢◌, ℕ, ◌==◌, ◌<◌, ◌≤◌, ◌⊎◌, Bool, true, false, List, slice_index, Option, None, Some, Result, Ok, Err, IfErr, cond}
+use Rattle.std.specs.Prelude.{ltb, leb, ◌&&◌, ◌≡◌, ◌≢◌, ℕ, ◌==◌, ◌<◌, ◌≤◌, ◌⊎◌, Bool, true, false, List, slice_index, Option, None, Some, Result, Ok, Err, IfErr, cond}
 use Rattle.judge.specs.declared.journal.Reply.{Reply}
 use Rattle.judge.specs.declared.journal.Reply.TheVariants as reply
 use Rattle.congee.specs.declared.forms.base_node.NodeType.{NodeType}
@@ -16,17 +16,18 @@ use Rattle.congee.specs.declared.protocol.store.Refusal.TheVariants as refusal
 use Rattle.congee.specs.declared.protocol.phase.Kind.{Kind}
 use Rattle.congee.specs.declared.protocol.phase.Kind.TheVariants.{Get, Insert, Remove, ComputePresent, ComputeInsert, Exchange}
 use Rattle.congee.specs.declared.protocol.phase.Parent.{Parent}
+use Rattle.congee.specs.declared.protocol.phase.Above.{Above as Over}
 use Rattle.congee.specs.declared.protocol.phase.Site.{Site}
 use Rattle.congee.specs.declared.protocol.phase.Single.{Single}
 use Rattle.congee.specs.declared.protocol.phase.Single.TheVariants.{Set, Link}
 use Rattle.congee.specs.declared.protocol.phase.One.{One}
 use Rattle.congee.specs.declared.protocol.phase.Double.{Double}
-use Rattle.congee.specs.declared.protocol.phase.Double.TheVariants.{Unlink, Grow, GrowLink, Split}
+use Rattle.congee.specs.declared.protocol.phase.Double.TheVariants.{Unlink, Grow, GrowLink, Split, Shrink, Collapse, ShrinkAbove}
 use Rattle.congee.specs.declared.protocol.phase.Two.{Two}
 use Rattle.congee.specs.declared.protocol.phase.Plan.{Plan}
 use Rattle.congee.specs.declared.protocol.phase.Plan.TheVariants.{Here, Above}
 use Rattle.congee.specs.declared.protocol.phase.Phase.{Phase}
-use Rattle.congee.specs.declared.protocol.phase.Phase.TheVariants.{New, Version, Read, Check, CheckUncopied, CheckMiss, CheckDown, CheckOld, MakeLeaf, MakeGreater, MakeTop, MakeBeside, AskOld, AskNew, Confirm, CheckAbove, UpgradeOne, ChangeOne, UpgradeAbove, UpgradeBelow, ChangeTwo, Obsolete, Retire, UnlockBelow, Unlock, Unwind, Sweep, Ended}
+use Rattle.congee.specs.declared.protocol.phase.Phase.TheVariants.{New, Version, Read, Check, CheckUncopied, CheckMiss, CheckDown, CheckOld, MakeLeaf, MakeGreater, MakeTop, MakeBeside, MakeLesser, AskOld, AskNew, Confirm, CheckAbove, UpgradeOne, ChangeOne, UpgradeTop, UpgradeAbove, UpgradeBelow, ChangeTwo, Obsolete, Retire, UnlockBelow, Unlock, Unwind, Sweep, Ended}
 use Rattle.congee.specs.declared.protocol.machine.Outcome.{Outcome}
 use Rattle.congee.specs.declared.protocol.machine.Outcome.TheVariants.{Running, Asks, Found, Done, Scanned, Refused}
 use Rattle.congee.specs.declared.protocol.sweep.Sweep.{Sweep as Scan}
@@ -37,7 +38,7 @@ use Rattle.congee.specs.declared.protocol.machine.Move.{Move}
 use Rattle.congee.specs.declared.protocol.turn.Turn.{Turn}
 use Rattle.congee.specs.declared.protocol.machine.Machine.{Machine}
 use Rattle.congee.specs.Heap.{Node, Hung, Nothing, Below, Holds, Stands, version_of, is_taken}
-use Rattle.congee.specs.protocol.Events.{ReadGives, SameBut, upgrade_gives, MakeGives, MayChange, ChangeGives, TakeOverGives, BackGives, ObsoleteGives, RetireGives, UnlockGives, HoldsAlike}
+use Rattle.congee.specs.protocol.Events.{ReadGives, SameBut, upgrade_gives, MakeGives, MayChange, ChangeGives, TakeOverGives, BackGives, ObsoleteGives, RetireGives, UnlockGives, HoldsAlike, HoldsNodes, IsOther}
 use Rattle.congee.specs.Keys.{key_bytes}
 use Rattle.congee.specs.declared.forms.prefix.TheConstants.{MAX_PREFIX_LEN}
 
@@ -48,25 +49,29 @@ turn_of s d = record { phase = s; report = d }
 -- what a step leaves: it goes on, begins anew, answers in this step, ends with an answer given before, is refused,
 -- takes effect and goes on, or asks
 abbrev pub quiet : {C V : Type 0} → Phase C V → Turn C V
-quiet s = record { phase = s; report = record { decided = false; outcome = Running } }
+quiet s = record { phase = s; report = record { decided = false; skipped = false; outcome = Running } }
 
 abbrev pub again : {C V : Type 0} → C → Turn C V
 again root = quiet (Version None root)
 
 abbrev pub answered : {C V : Type 0} → Reply V → Turn C V
-answered r = record { phase = Ended; report = record { decided = true; outcome = Done r } }
+answered r = record { phase = Ended; report = record { decided = true; skipped = false; outcome = Done r } }
 
 abbrev pub finished : {C V : Type 0} → Reply V → Turn C V
-finished r = record { phase = Ended; report = record { decided = false; outcome = Done r } }
+finished r = record { phase = Ended; report = record { decided = false; skipped = false; outcome = Done r } }
 
 abbrev pub refused : {C V : Type 0} → Refusal → Turn C V
-refused e = record { phase = Ended; report = record { decided = false; outcome = Refused e } }
+refused e = record { phase = Ended; report = record { decided = false; skipped = false; outcome = Refused e } }
 
 abbrev pub decided : {C V : Type 0} → Phase C V → Turn C V
-decided s = record { phase = s; report = record { decided = true; outcome = Running } }
+decided s = record { phase = s; report = record { decided = true; skipped = false; outcome = Running } }
 
 abbrev pub asking : {C V : Type 0} → Phase C V → Option V → Turn C V
-asking s o = record { phase = s; report = record { decided = false; outcome = Asks o } }
+asking s o = record { phase = s; report = record { decided = false; skipped = false; outcome = Asks o } }
+
+-- a node that it wanted wasn't made, and it goes on without it
+abbrev pub skipping : {C V : Type 0} → Phase C V → Turn C V
+skipping s = record { phase = s; report = record { decided = false; skipped = true; outcome = Running } }
 
 -- whether the call puts a value at an absent key
 abbrev pub adds : {V : Type 0} → Kind V → Bool
@@ -99,25 +104,54 @@ absent_reply (Exchange old) = reply.Exchange (Err None)
 abbrev pub form_above : ℕ → NodeType
 form_above n = cond (ltb n 4) N4 (cond (ltb n 16) N16 (cond (ltb n 48) N48 N256))
 
-abbrev pub seat_above : {C : Type 0} → Option (Parent C) → Option (Seat C)
-seat_above None = None
-seat_above (Some p) = Some p.seat
+-- the form below
+abbrev pub form_below : NodeType → NodeType
+form_below N4 = N4
+form_below N16 = N4
+form_below N48 = N16
+form_below N256 = N48
 
-abbrev pub after_version : {C V : Type 0} → C → Option (Parent C) → C → Option ℕ → Turn C V
+-- whether a node of the form with so many children gives way to a lesser one as it loses one
+abbrev pub shrinks : NodeType → ℕ → Bool
+shrinks N4 n = false
+shrinks N16 n = leb n 4
+shrinks N48 n = leb n 13
+shrinks N256 n = leb n 41
+
+abbrev pub near_of : {C : Type 0} → Option (Over C) → Option (Parent C)
+near_of None = None
+near_of (Some u) = Some u.near
+
+abbrev pub node_of : {C : Type 0} → Option (Parent C) → Option C
+node_of None = None
+node_of (Some p) = Some p.seat.node
+
+-- the node at hand, as the one above the next
+abbrev pub here_of : {C : Type 0} → Site C → Parent C
+here_of s = record { seat = s.at; byte = s.byte; depth = s.depth; count = s.count; form = s.form }
+
+abbrev pub seat_above : {C : Type 0} → Option (Over C) → Option (Seat C)
+seat_above None = None
+seat_above (Some u) = Some u.near.seat
+
+abbrev pub after_version : {C V : Type 0} → C → Option (Over C) → C → Option ℕ → Turn C V
 after_version root above n None = again root
 after_version root above n (Some v) = quiet (Read above (record { node = n; version = v }))
 
-abbrev pub after_read : {C V : Type 0} → C → Option (Parent C) → Seat C → Reading C V → Turn C V
+abbrev pub after_read : {C V : Type 0} → C → Option (Over C) → Seat C → Reading C V → Turn C V
 after_read root None at (Differs common byte) = again root
-after_read root (Some p) at (Differs common byte) = quiet (CheckMiss p at common byte)
-after_read root above at (Fits depth s) = quiet (Check (record { above = above; at = at; depth = depth; byte = s.byte; count = s.count; full = s.full }) s.child)
+after_read root (Some u) at (Differs common byte) = quiet (CheckMiss u.near at common byte)
+after_read root above at (Fits depth form s) = quiet (Check (record { above = above; at = at; depth = depth; byte = s.byte; count = s.count; full = s.full; form = form }) s.child)
 after_read root above at Uncopied = quiet (CheckUncopied at)
 
 -- a child is followed; an insertion first checks the node above
-abbrev pub down : {C V : Type 0} → Bool → Site C → Option (Parent C) → C → Turn C V
-down false s above c = quiet (Version (Some (record { seat = s.at; byte = s.byte })) c)
-down true s None c = quiet (Version (Some (record { seat = s.at; byte = s.byte })) c)
-down true s (Some p) c = quiet (CheckDown p.seat (record { seat = s.at; byte = s.byte }) c)
+abbrev pub below : {C : Type 0} → Site C → Over C
+below s = record { near = here_of s; far = near_of s.above }
+
+abbrev pub down : {C V : Type 0} → Bool → Site C → Option (Over C) → C → Turn C V
+down false s above c = quiet (Version (Some (below s)) c)
+down true s None c = quiet (Version (Some (below s)) c)
+down true s (Some u) c = quiet (CheckDown u.near.seat (below s) c)
 
 -- the nodes are made: what was planned begins, after the closure's answer where one is wanted
 abbrev pub started : {C V : Type 0} → Plan C → Reply V → Turn C V
@@ -132,8 +166,8 @@ abbrev pub plan_here : {C : Type 0} → Site C → Single C → Plan C
 plan_here s change = Here (seat_above s.above) (record { at = s.at; byte = s.byte; change = change })
 
 -- a full node gives way to a greater one; the root is never full
-abbrev pub unless_full : {C V : Type 0} → Kind V → Site C → Bool → Option (Parent C) → Option C → Single C → Turn C V
-unless_full kind s true (Some p) leaf change = quiet (MakeGreater s p leaf)
+abbrev pub unless_full : {C V : Type 0} → Kind V → Site C → Bool → Option (Over C) → Option C → Single C → Turn C V
+unless_full kind s true (Some u) leaf change = quiet (MakeGreater s u.near leaf)
 unless_full kind s true None leaf change = ready kind (plan_here s change)
 unless_full kind s false above leaf change = ready kind (plan_here s change)
 
@@ -156,14 +190,27 @@ IsAsked always s v t = (t ≡ asking (AskOld s v) (Some v)) ⊎ CopyFailed alway
 abbrev pub replaced : {C V : Type 0} → Site C → Bool → Reply V → Turn C V
 replaced s same r = cond same (quiet (Confirm s.at r)) (quiet (UpgradeOne (record { at = s.at; byte = s.byte; change = Set }) r))
 
+-- what the value's going puts into the leaf, and into the node above
+abbrev pub set_at : {C : Type 0} → Site C → One C
+set_at s = record { at = s.at; byte = s.byte; change = Set }
+
+abbrev pub both : {C : Type 0} → Parent C → Site C → Double C → Two C
+both p s x = record { top = None; above = p; at = s.at; change = x }
+
+-- the leaf goes with its last value: and with it the node above where that has one child left, but not the root
+abbrev pub last_out : {C V : Type 0} → Site C → Parent C → Option (Parent C) → Reply V → Turn C V
+last_out s p None r = quiet (UpgradeAbove (both p s Unlink) r)
+last_out s p (Some g) r = cond (p.count == 2) (quiet (UpgradeTop g (both p s Collapse) r))
+    (cond (ltb 2 p.count && shrinks p.form p.count) (quiet (MakeLesser s p (Some g) r)) (quiet (UpgradeAbove (both p s Unlink) r)))
+
 -- the value goes, and with its last value the leaf
-abbrev pub taken_out : {C V : Type 0} → Site C → Bool → Option (Parent C) → Reply V → Turn C V
-taken_out s true (Some p) r = quiet (UpgradeAbove (record { above = p; at = s.at; change = Unlink }) r)
-taken_out s true None r = quiet (UpgradeOne (record { at = s.at; byte = s.byte; change = Set }) r)
-taken_out s false above r = quiet (UpgradeOne (record { at = s.at; byte = s.byte; change = Set }) r)
+abbrev pub taken_out : {C V : Type 0} → Site C → Option (Over C) → Reply V → Turn C V
+taken_out s None r = quiet (UpgradeOne (set_at s) r)
+taken_out s (Some u) r = cond (s.count == 1) (last_out s u.near u.far r)
+    (cond (shrinks s.form s.count) (quiet (MakeLesser s u.near None r)) (quiet (UpgradeOne (set_at s) r)))
 
 abbrev pub emptied : {C V : Type 0} → Site C → Reply V → Turn C V
-emptied s r = taken_out s (s.count == 1) s.above r
+emptied s r = taken_out s s.above r
 
 -- whether the value that stands is the new one
 abbrev pub is_same : {V : Type 0} → (V → V → Bool) → V → Option V → Bool
@@ -175,9 +222,9 @@ abbrev pub IsAtOld : {C V : Type 0} → Bool → (V → V → Bool) → Kind V �
 IsAtOld always same Insert new s v t = t ≡ replaced s (is_same same v new) (reply.Insert (Some v))
 IsAtOld always same _ new s v t = IsAsked always s v t
 
-abbrev pub IsAdded : {C V : Type 0} → Bool → (V → V → Bool) → Kind V → Option V → Site C → Option (Parent C) → V → Turn C V → Type 0
+abbrev pub IsAdded : {C V : Type 0} → Bool → (V → V → Bool) → Kind V → Option V → Site C → Option (Over C) → V → Turn C V → Type 0
 IsAdded always same kind new s None v t = IsAtOld always same kind new s v t
-IsAdded always same kind new s (Some p) v t = t ≡ quiet (CheckOld p.seat s v)
+IsAdded always same kind new s (Some u) v t = t ≡ quiet (CheckOld u.near.seat s v)
 
 -- an exchange found the old value, and has a copy of the new one for its reply
 abbrev pub IsExchanged : {C V : Type 0} → Bool → (V → V → Bool) → Option V → Site C → V → Turn C V → Type 0
@@ -230,6 +277,9 @@ BackOne number h (Link leaf) h' = BackGives h (number leaf) h'
 abbrev pub BackTwo : {C V : Type 0} → (C → ℕ) → (ℕ → Node V) → Double C → (ℕ → Node V) → Type 0
 BackTwo number h Unlink h' = h' ≡ h
 BackTwo number h (Grow c) h' = BackGives h (number c) h'
+BackTwo number h (Shrink c) h' = BackGives h (number c) h'
+BackTwo number h Collapse h' = h' ≡ h
+BackTwo number h (ShrinkAbove c) h' = BackGives h (number c) h'
 BackTwo {C} {V} number h (GrowLink c leaf byte) h' = (h1 : ℕ → Node V) × BackGives h (number leaf) h1 × BackGives h1 (number c) h'
 BackTwo {C} {V} number h (Split top leaf common byte) h' = (h1 : ℕ → Node V) × BackGives h (number leaf) h1 × BackGives h1 (number top) h'
 
@@ -248,7 +298,7 @@ greater s (Some leaf) c = GrowLink c leaf s.byte
 
 abbrev pub MadeGreater : {C V : Type 0} → (C → ℕ) → Kind V → Site C → Parent C → Option C → (ℕ → Node V) → List ℕ → Result C Refusal → (ℕ → Node V) → Turn C V → Type 0
 MadeGreater number kind s p leaf h key (Ok c) h' t = MakeGives number h (form_above s.count) key s.depth (Ok c) h'
-    × (t ≡ ready kind (Above (record { above = p; at = s.at; change = greater s leaf c })))
+    × (t ≡ ready kind (Above (both p s (greater s leaf c))))
 MadeGreater number kind s p leaf h key (Err e) h' t = BackLeaf number h leaf h' × (t ≡ refused e)
 
 abbrev pub MadeTop : {C V : Type 0} → (C → ℕ) → Parent C → Seat C → ℕ → ℕ → (ℕ → Node V) → List ℕ → Result C Refusal → (ℕ → Node V) → Turn C V → Type 0
@@ -257,8 +307,19 @@ MadeTop number p at common byte h key (Err e) h' t = (h' ≡ h) × (t ≡ refuse
 
 abbrev pub MadeBeside : {C V : Type 0} → (C → ℕ) → Kind V → Parent C → Seat C → ℕ → ℕ → C → (ℕ → Node V) → List ℕ → Result C Refusal → (ℕ → Node V) → Turn C V → Type 0
 MadeBeside number kind p at common byte top h key (Ok leaf) h' t = MakeGives number h N4 key MAX_PREFIX_LEN (Ok leaf) h'
-    × (t ≡ ready kind (Above (record { above = p; at = at; change = Split top leaf common byte })))
+    × (t ≡ ready kind (Above (record { top = None; above = p; at = at; change = Split top leaf common byte })))
 MadeBeside number kind p at common byte top h key (Err e) h' t = BackGives h (number top) h' × (t ≡ refused e)
+
+-- a lesser node was made, or not: then the call goes on without it
+abbrev pub lesser_form : {C : Type 0} → Site C → Parent C → Option (Parent C) → NodeType
+lesser_form s p None = form_below s.form
+lesser_form s p (Some g) = form_below p.form
+
+abbrev pub MadeLesser : {C V : Type 0} → (C → ℕ) → Site C → Parent C → Option (Parent C) → Reply V → (ℕ → Node V) → List ℕ → Result C Refusal → (ℕ → Node V) → Turn C V → Type 0
+MadeLesser number s p None r h key (Ok c) h' t = MakeGives number h (form_below s.form) key s.depth (Ok c) h' × (t ≡ quiet (UpgradeAbove (both p s (Shrink c)) r))
+MadeLesser number s p None r h key (Err e) h' t = (h' ≡ h) × (t ≡ skipping (UpgradeOne (set_at s) r))
+MadeLesser number s p (Some g) r h key (Ok c) h' t = MakeGives number h (form_below p.form) key p.depth (Ok c) h' × (t ≡ quiet (UpgradeTop g (both p s (ShrinkAbove c)) r))
+MadeLesser number s p (Some g) r h key (Err e) h' t = (h' ≡ h) × (t ≡ skipping (UpgradeAbove (both p s Unlink) r))
 
 -- the check before one node is changed: the node made goes back where it fails
 pub record IsCheckedAbove {C V : Type 0} (number : C → ℕ) (root : C) (p : Seat C) (one : One C) (r : Reply V) (h h' : ℕ → Node V) (t : Turn C V) : Type 0 where
@@ -271,15 +332,29 @@ UpgradedOne number root one r h Locked h' t = SameBut h (number one.at.node) (re
 UpgradedOne number root one r h Failed h' t = BackOne number h one.change h' × (t ≡ again root)
 UpgradedOne number root one r h Exhausted h' t = BackOne number h one.change h' × (t ≡ refused refusal.Exhausted)
 
+abbrev pub unwound : {C V : Type 0} → C → Option Refusal → Turn C V
+unwound root None = again root
+unwound root (Some e) = refused e
+
+-- an attempt is given up with this node locked, or none
+abbrev pub given_up : {C V : Type 0} → C → Option (Parent C) → Option Refusal → Turn C V
+given_up root None e = unwound root e
+given_up root (Some g) e = quiet (Unwind g.seat.node None e)
+
+abbrev pub UpgradedTop : {C V : Type 0} → (C → ℕ) → C → Parent C → Two C → Reply V → (ℕ → Node V) → Upgrade → (ℕ → Node V) → Turn C V → Type 0
+UpgradedTop number root g two r h Locked h' t = SameBut h (number g.seat.node) (record (h (number g.seat.node)) { locked = true }) h' × (t ≡ quiet (UpgradeAbove (record two { top = Some g }) r))
+UpgradedTop number root g two r h Failed h' t = BackTwo number h two.change h' × (t ≡ again root)
+UpgradedTop number root g two r h Exhausted h' t = BackTwo number h two.change h' × (t ≡ refused refusal.Exhausted)
+
 abbrev pub UpgradedAbove : {C V : Type 0} → (C → ℕ) → C → Two C → Reply V → (ℕ → Node V) → Upgrade → (ℕ → Node V) → Turn C V → Type 0
 UpgradedAbove number root two r h Locked h' t = SameBut h (number two.above.seat.node) (record (h (number two.above.seat.node)) { locked = true }) h' × (t ≡ quiet (UpgradeBelow two r))
-UpgradedAbove number root two r h Failed h' t = BackTwo number h two.change h' × (t ≡ again root)
-UpgradedAbove number root two r h Exhausted h' t = BackTwo number h two.change h' × (t ≡ refused refusal.Exhausted)
+UpgradedAbove number root two r h Failed h' t = BackTwo number h two.change h' × (t ≡ given_up root two.top None)
+UpgradedAbove number root two r h Exhausted h' t = BackTwo number h two.change h' × (t ≡ given_up root two.top (Some refusal.Exhausted))
 
 abbrev pub UpgradedBelow : {C V : Type 0} → (C → ℕ) → Two C → Reply V → (ℕ → Node V) → Upgrade → (ℕ → Node V) → Turn C V → Type 0
 UpgradedBelow number two r h Locked h' t = SameBut h (number two.at.node) (record (h (number two.at.node)) { locked = true }) h' × (t ≡ quiet (ChangeTwo two r))
-UpgradedBelow number two r h Failed h' t = BackTwo number h two.change h' × (t ≡ quiet (Unwind two.above.seat.node None))
-UpgradedBelow number two r h Exhausted h' t = BackTwo number h two.change h' × (t ≡ quiet (Unwind two.above.seat.node (Some refusal.Exhausted)))
+UpgradedBelow number two r h Failed h' t = BackTwo number h two.change h' × (t ≡ quiet (Unwind two.above.seat.node (node_of two.top) None))
+UpgradedBelow number two r h Exhausted h' t = BackTwo number h two.change h' × (t ≡ quiet (Unwind two.above.seat.node (node_of two.top) (Some refusal.Exhausted)))
 
 -- the value that the call puts there
 abbrev pub value_hung : {V : Type 0} → Option V → Hung V
@@ -302,8 +377,25 @@ abbrev pub PutsFork : {C V : Type 0} → (C → ℕ) → Two C → C → ℕ →
 PutsFork {C} {V} number two top byte new_byte leaf h h' = (h1 : ℕ → Node V) × (h2 : ℕ → Node V) × ChangeGives h (number top) byte (Below (number two.at.node)) h1
     × ChangeGives h1 (number top) new_byte (Below (number leaf)) h2 × ChangeGives h2 (number two.above.seat.node) two.above.byte (Below (number top)) h'
 
+-- a lesser node with the children of m but for the one at byte b comes in the place of m, at byte `up` of p
+abbrev pub PutsLesser : {V : Type 0} → (ℕ → Node V) → (m c b p up : ℕ) → (ℕ → Node V) → Type 0
+PutsLesser {V} h m c b p up h' = (h1 : ℕ → Node V) × (h2 : ℕ → Node V) × TakeOverGives h m c h1 × ChangeGives h1 c b Nothing h2 × ChangeGives h2 p up (Below c) h'
+
+-- the other child of the node above comes in its place
+abbrev pub Collapses : {C V : Type 0} → (C → ℕ) → Two C → Option (Parent C) → (ℕ → Node V) → (ℕ → Node V) → Type 0
+Collapses number two None h h' = ⊥
+Collapses number two (Some g) h h' = (o : ℕ) × IsOther (h (number two.above.seat.node)) two.above.byte o × ChangeGives h (number g.seat.node) g.byte (Below o) h'
+
+-- a lesser one does
+abbrev pub Lessens : {C V : Type 0} → (C → ℕ) → Two C → C → Option (Parent C) → (ℕ → Node V) → (ℕ → Node V) → Type 0
+Lessens number two c None h h' = ⊥
+Lessens number two c (Some g) h h' = PutsLesser h (number two.above.seat.node) (number c) two.above.byte (number g.seat.node) g.byte h'
+
 abbrev pub ChangedTwo : {C V : Type 0} → (C → ℕ) → List ℕ → Option V → Two C → Double C → (ℕ → Node V) → (ℕ → Node V) → Type 0
 ChangedTwo number key new two Unlink h h' = ChangeGives h (number two.above.seat.node) two.above.byte Nothing h'
+ChangedTwo number key new two (Shrink c) h h' = PutsLesser h (number two.at.node) (number c) (slice_index key MAX_PREFIX_LEN) (number two.above.seat.node) two.above.byte h'
+ChangedTwo number key new two Collapse h h' = Collapses number two two.top h h'
+ChangedTwo number key new two (ShrinkAbove c) h h' = Lessens number two c two.top h h'
 ChangedTwo {C} {V} number key new two (Grow c) h h' = (h1 : ℕ → Node V) × (h2 : ℕ → Node V) × TakeOverGives h (number two.at.node) (number c) h1
     × ChangeGives h1 (number c) (slice_index key MAX_PREFIX_LEN) (value_hung new) h2 × ChangeGives h2 (number two.above.seat.node) two.above.byte (Below (number c)) h'
 ChangedTwo {C} {V} number key new two (GrowLink c leaf byte) h h' = (h1 : ℕ → Node V) × (h2 : ℕ → Node V) × (h3 : ℕ → Node V)
@@ -313,15 +405,27 @@ ChangedTwo {C} {V} number key new two (Split top leaf common byte) h h' = (h1 : 
     × ChangeGives h (number leaf) (slice_index key MAX_PREFIX_LEN) (value_hung new) h1 × ChangeGives h1 (number top) byte (Below (number two.at.node)) h2
     × ChangeGives h2 (number top) (slice_index key common) (Below (number leaf)) h3 × ChangeGives h3 (number two.above.seat.node) two.above.byte (Below (number top)) h'
 
-abbrev pub after_change : {C V : Type 0} → Two C → Reply V → Double C → Turn C V
-after_change two r Unlink = decided (Obsolete two.at.node two.above.seat.node r)
-after_change two r (Grow c) = decided (Obsolete two.at.node two.above.seat.node r)
-after_change two r (GrowLink c leaf byte) = decided (Obsolete two.at.node two.above.seat.node r)
-after_change two r (Split top leaf common byte) = decided (UnlockBelow two.at.node two.above.seat.node r)
+-- what goes then, from below, and the lock that is let go last
+abbrev pub after_top : {C V : Type 0} → Two C → Reply V → Option (Parent C) → Turn C V
+after_top two r None = decided (Unlock two.above.seat.node r)
+after_top two r (Some g) = decided (Obsolete two.at.node (Some two.above.seat.node) g.seat.node r)
 
-abbrev pub unwound : {C V : Type 0} → C → Option Refusal → Turn C V
-unwound root None = again root
-unwound root (Some e) = refused e
+abbrev pub after_change : {C V : Type 0} → Two C → Reply V → Double C → Turn C V
+after_change two r (Split top leaf common byte) = decided (UnlockBelow two.at.node two.above.seat.node r)
+after_change two r Collapse = after_top two r two.top
+after_change two r (ShrinkAbove c) = after_top two r two.top
+after_change two r Unlink = decided (Obsolete two.at.node None two.above.seat.node r)
+after_change two r (Grow c) = decided (Obsolete two.at.node None two.above.seat.node r)
+after_change two r (GrowLink c leaf byte) = decided (Obsolete two.at.node None two.above.seat.node r)
+after_change two r (Shrink c) = decided (Obsolete two.at.node None two.above.seat.node r)
+
+abbrev pub after_retire : {C V : Type 0} → Option C → C → Reply V → Turn C V
+after_retire None last r = quiet (Unlock last r)
+after_retire (Some n) last r = quiet (Obsolete n None last r)
+
+abbrev pub after_unwind : {C V : Type 0} → C → Option C → Option Refusal → Turn C V
+after_unwind root None e = unwound root e
+after_unwind root (Some n) e = quiet (Unwind n None e)
 
 -- what a scan's step tells, as a report
 abbrev pub outcome_of : {V : Type 0} → Told V → Outcome V
@@ -331,7 +435,7 @@ outcome_of (told.Done count) = Scanned count
 outcome_of (told.Refused e) = Refused e
 
 abbrev pub swept : {C V : Type 0} → Scan C V → Told V → Turn C V
-swept s o = record { phase = Sweep s; report = record { decided = false; outcome = outcome_of o } }
+swept s o = record { phase = Sweep s; report = record { decided = false; skipped = false; outcome = outcome_of o } }
 
 -- the step of a call in a phase: on the nodes, the closure's answer and the failing of an exchange, it gives the
 -- call's new value, what it leaves, and the nodes after it
@@ -361,6 +465,8 @@ PhaseStepped {C} {V} number same always most why root key kind fail answer new (
     (new' ≡ new) × ((r : Result C Refusal) × MadeTop number p at common byte h key r h' t × IfErr r (why N4))
 PhaseStepped {C} {V} number same always most why root key kind fail answer new (MakeBeside p at common byte top) h new' t h' =
     (new' ≡ new) × ((r : Result C Refusal) × MadeBeside number kind p at common byte top h key r h' t × IfErr r (why N4))
+PhaseStepped {C} {V} number same always most why root key kind fail answer new (MakeLesser s p g r) h new' t h' =
+    (new' ≡ new) × ((x : Result C Refusal) × MadeLesser number s p g r h key x h' t × IfErr x (why (lesser_form s p g)))
 PhaseStepped number same always most why root key kind fail answer new (AskOld s v) h new' t h' =
     (h' ≡ h) × IsGiven always same kind s v answer new new' t
 PhaseStepped number same always most why root key kind fail answer new (AskNew plan) h new' t h' =
@@ -373,22 +479,24 @@ PhaseStepped number same always most why root key kind fail answer new (UpgradeO
     (new' ≡ new) × ((u : Upgrade) × (u ≡ upgrade_gives most (h (number one.at.node)) one.at.version fail) × UpgradedOne number root one r h u h' t)
 PhaseStepped number same always most why root key kind fail answer new (ChangeOne one r) h new' t h' =
     (new' ≡ None) × ChangedOne number key new one one.change h h' × (t ≡ decided (Unlock one.at.node r))
+PhaseStepped number same always most why root key kind fail answer new (UpgradeTop g two r) h new' t h' =
+    (new' ≡ new) × ((u : Upgrade) × (u ≡ upgrade_gives most (h (number g.seat.node)) g.seat.version fail) × UpgradedTop number root g two r h u h' t)
 PhaseStepped number same always most why root key kind fail answer new (UpgradeAbove two r) h new' t h' =
     (new' ≡ new) × ((u : Upgrade) × (u ≡ upgrade_gives most (h (number two.above.seat.node)) two.above.seat.version fail) × UpgradedAbove number root two r h u h' t)
 PhaseStepped number same always most why root key kind fail answer new (UpgradeBelow two r) h new' t h' =
     (new' ≡ new) × ((u : Upgrade) × (u ≡ upgrade_gives most (h (number two.at.node)) two.at.version fail) × UpgradedBelow number two r h u h' t)
 PhaseStepped number same always most why root key kind fail answer new (ChangeTwo two r) h new' t h' =
     (new' ≡ None) × ChangedTwo number key new two two.change h h' × (t ≡ after_change two r two.change)
-PhaseStepped number same always most why root key kind fail answer new (Obsolete n p r) h new' t h' =
-    (new' ≡ new) × ObsoleteGives h (number n) h' × (t ≡ quiet (Retire n p r))
-PhaseStepped number same always most why root key kind fail answer new (Retire n p r) h new' t h' =
-    (new' ≡ new) × RetireGives h (number n) h' × (t ≡ quiet (Unlock p r))
+PhaseStepped number same always most why root key kind fail answer new (Obsolete n next p r) h new' t h' =
+    (new' ≡ new) × ObsoleteGives h (number n) h' × (t ≡ quiet (Retire n next p r))
+PhaseStepped number same always most why root key kind fail answer new (Retire n next p r) h new' t h' =
+    (new' ≡ new) × RetireGives h (number n) h' × (t ≡ after_retire next p r)
 PhaseStepped number same always most why root key kind fail answer new (UnlockBelow n p r) h new' t h' =
     (new' ≡ new) × UnlockGives h (number n) h' × (t ≡ quiet (Unlock p r))
 PhaseStepped number same always most why root key kind fail answer new (Unlock n r) h new' t h' =
     (new' ≡ new) × UnlockGives h (number n) h' × (t ≡ finished r)
-PhaseStepped number same always most why root key kind fail answer new (Unwind n e) h new' t h' =
-    (new' ≡ new) × UnlockGives h (number n) h' × (t ≡ unwound root e)
+PhaseStepped number same always most why root key kind fail answer new (Unwind n next e) h new' t h' =
+    (new' ≡ new) × UnlockGives h (number n) h' × (t ≡ after_unwind root next e)
 PhaseStepped {C} {V} number same always most why root key kind fail answer new (Sweep s) h new' t h' =
     (h' ≡ h) × (new' ≡ new) × ((s' : Scan C V) × (o : Told V) × SweepStepped number always root s h s' o × (t ≡ swept s' o))
 PhaseStepped number same always most why root key kind fail answer new Ended h new' t h' =
@@ -402,15 +510,19 @@ pub record Stepped {C V : Type 0} (number : C → ℕ) (same : V → V → Bool)
   pub kind : m'.kind ≡ m.kind
   pub step : PhaseStepped number same always most why m.root (key_bytes m.key) m.kind fail answer m.given m.phase h m'.given (record { phase = m'.phase; report = d }) h'
 
--- a phase in which a call marks, hands over or unlocks a node, or has ended
+-- a phase in which a call unlocks a node, or has ended
+abbrev pub IsUnlocking : {C V : Type 0} → Phase C V → Type 0
+IsUnlocking (UnlockBelow n p r) = Unit {0}
+IsUnlocking (Unlock n r) = Unit {0}
+IsUnlocking (Unwind n next e) = Unit {0}
+IsUnlocking Ended = Unit {0}
+IsUnlocking _ = ⊥
+
+-- one in which it marks or hands over a node, or one of these
 abbrev pub IsReleasing : {C V : Type 0} → Phase C V → Type 0
-IsReleasing (Obsolete n p r) = Unit {0}
-IsReleasing (Retire n p r) = Unit {0}
-IsReleasing (UnlockBelow n p r) = Unit {0}
-IsReleasing (Unlock n r) = Unit {0}
-IsReleasing (Unwind n e) = Unit {0}
-IsReleasing Ended = Unit {0}
-IsReleasing _ = ⊥
+IsReleasing (Obsolete n next p r) = Unit {0}
+IsReleasing (Retire n next p r) = Unit {0}
+IsReleasing s = IsUnlocking s
 
 -- one that has the value that stands
 abbrev pub HasValue : {C V : Type 0} → Phase C V → Type 0
@@ -423,6 +535,7 @@ abbrev pub MayLock : {C V : Type 0} → Phase C V → Type 0
 MayLock (CheckAbove p one r) = Unit {0}
 MayLock (UpgradeOne one r) = Unit {0}
 MayLock (ChangeOne one r) = Unit {0}
+MayLock (UpgradeTop g two r) = Unit {0}
 MayLock (UpgradeAbove two r) = Unit {0}
 MayLock (UpgradeBelow two r) = Unit {0}
 MayLock (ChangeTwo two r) = Unit {0}
@@ -434,6 +547,7 @@ Acts (MakeLeaf s) = Unit {0}
 Acts (MakeGreater s p leaf) = Unit {0}
 Acts (MakeTop p at common byte) = Unit {0}
 Acts (MakeBeside p at common byte top) = Unit {0}
+Acts (MakeLesser s p g r) = Unit {0}
 Acts s = MayLock s
 
 -- one in which it checks once more or takes an answer, or one of these
@@ -453,6 +567,9 @@ MayBackOne number h (Link leaf) = Stands (h (number leaf))
 
 abbrev pub MayBackTwo : {C V : Type 0} → (C → ℕ) → (ℕ → Node V) → Double C → Type 0
 MayBackTwo number h Unlink = Unit {0}
+MayBackTwo number h (Shrink c) = Stands (h (number c))
+MayBackTwo number h Collapse = Unit {0}
+MayBackTwo number h (ShrinkAbove c) = Stands (h (number c))
 MayBackTwo number h (Grow c) = Stands (h (number c))
 MayBackTwo number h (GrowLink c leaf byte) = Stands (h (number leaf)) × Stands (h (number c)) × (number c ≢ number leaf)
 MayBackTwo number h (Split top leaf common byte) = Stands (h (number leaf)) × Stands (h (number top)) × (number top ≢ number leaf)
@@ -479,9 +596,39 @@ MayChangeOne number new one Set h = Changeable (h (number one.at.node)) one.byte
 MayChangeOne number None one (Link leaf) h = ⊥
 MayChangeOne number (Some v) one (Link leaf) h = Changeable (h (number one.at.node)) one.byte (Below (number leaf)) × Blank (h (number leaf)) 0 × (number one.at.node ≢ number leaf)
 
+-- what the change by a lesser node wants
+pub record MayLessen {V : Type 0} (h : ℕ → Node V) (m c b p up : ℕ) : Type 0 where
+  pub above : Changeable (h p) up (Below c)
+  pub stands : Stands (h m)
+  pub alike : HoldsAlike (h m)
+  pub there : (h m).children b ≢ Nothing
+  pub blank : Blank (h c) 0
+  pub room : (h m).count ≤ (h c).capacity
+  pub above_apart : p ≢ c
+  pub old_apart : m ≢ c
+  pub apart : p ≢ m
+
+-- and the one by the other child of the node above
+pub record MayCollapse {V : Type 0} (h : ℕ → Node V) (p up g b : ℕ) : Type 0 where
+  pub stands_top : Stands (h g)
+  pub locked : (h g).locked ≡ true
+  pub hung : (h g).children b ≢ Nothing
+  pub stands : Stands (h p)
+  pub nodes : HoldsNodes (h p)
+  pub two : (h p).count ≡ 2
+  pub there : (h p).children up ≢ Nothing
+
+abbrev pub MayTop : {C V : Type 0} → (C → ℕ) → Two C → Double C → Option (Parent C) → (ℕ → Node V) → Type 0
+MayTop number two Collapse (Some g) h = MayCollapse h (number two.above.seat.node) two.above.byte (number g.seat.node) g.byte
+MayTop number two (ShrinkAbove c) (Some g) h = MayLessen h (number two.above.seat.node) (number c) two.above.byte (number g.seat.node) g.byte
+MayTop number two _ top h = ⊥
+
 -- what the change of the node above wants
 abbrev pub MayChangeTwo : {C V : Type 0} → (C → ℕ) → List ℕ → Option V → Two C → Double C → (ℕ → Node V) → Type 0
 MayChangeTwo number key new two Unlink h = Changeable (h (number two.above.seat.node)) two.above.byte Nothing
+MayChangeTwo number key new two (Shrink c) h = MayLessen h (number two.at.node) (number c) (slice_index key MAX_PREFIX_LEN) (number two.above.seat.node) two.above.byte
+MayChangeTwo number key new two Collapse h = MayTop number two Collapse two.top h
+MayChangeTwo number key new two (ShrinkAbove c) h = MayTop number two (ShrinkAbove c) two.top h
 MayChangeTwo number key None two _ h = ⊥
 MayChangeTwo number key (Some v) two (Grow c) h = Changeable (h (number two.above.seat.node)) two.above.byte (Below (number c))
     × Stands (h (number two.at.node)) × Blank (h (number c)) (h (number two.at.node)).count
@@ -508,18 +655,20 @@ MayStep number root key new (CheckOld p s v) h = Stands (h (number p.node))
 MayStep number root key new (MakeGreater s p leaf) h = (s.depth ≤ MAX_PREFIX_LEN) × MayBackLeaf number h leaf
 MayStep number root key new (MakeTop p at common byte) h = common < MAX_PREFIX_LEN
 MayStep number root key new (MakeBeside p at common byte top) h = Stands (h (number top))
+MayStep number root key new (MakeLesser s p g r) h = (s.depth ≤ MAX_PREFIX_LEN) × (p.depth ≤ MAX_PREFIX_LEN)
 MayStep number root key new (Confirm at r) h = Stands (h (number at.node))
 MayStep number root key new (CheckAbove p one r) h = Stands (h (number p.node)) × MayBackOne number h one.change
 MayStep number root key new (UpgradeOne one r) h = Stands (h (number one.at.node)) × MayBackOne number h one.change
 MayStep number root key new (ChangeOne one r) h = MayChangeOne number new one one.change h
+MayStep number root key new (UpgradeTop g two r) h = Stands (h (number g.seat.node)) × MayBackTwo number h two.change
 MayStep number root key new (UpgradeAbove two r) h = Stands (h (number two.above.seat.node)) × MayBackTwo number h two.change
 MayStep number root key new (UpgradeBelow two r) h = Stands (h (number two.at.node)) × MayBackTwo number h two.change
 MayStep number root key new (ChangeTwo two r) h = MayChangeTwo number key new two two.change h
-MayStep number root key new (Obsolete n p r) h = Stands (h (number n)) × ((h (number n)).locked ≡ true)
-MayStep number root key new (Retire n p r) h = Stands (h (number n)) × ((h (number n)).obsolete ≡ true) × ((h (number n)).retired ≡ false)
+MayStep number root key new (Obsolete n next p r) h = Stands (h (number n)) × ((h (number n)).locked ≡ true)
+MayStep number root key new (Retire n next p r) h = Stands (h (number n)) × ((h (number n)).obsolete ≡ true) × ((h (number n)).retired ≡ false)
 MayStep number root key new (UnlockBelow n p r) h = Stands (h (number n)) × ((h (number n)).locked ≡ true)
 MayStep number root key new (Unlock n r) h = Stands (h (number n)) × ((h (number n)).locked ≡ true)
-MayStep number root key new (Unwind n e) h = Stands (h (number n)) × ((h (number n)).locked ≡ true)
+MayStep number root key new (Unwind n next e) h = Stands (h (number n)) × ((h (number n)).locked ≡ true)
 MayStep number root key new New h = Stands (h (number root))
 MayStep number root key new (MakeLeaf s) h = Unit {0}
 MayStep number root key new (AskOld s v) h = Unit {0}

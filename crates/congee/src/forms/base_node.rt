@@ -7,6 +7,7 @@ ghost use Rattle.congee.specs.forms.Bytes.{IsFirst, between};
 ghost use Rattle.congee.specs.Heap.{fits};
 ghost use Rattle.congee.specs.forms.Forms.{capacity_of, size_of, next_form, form_of, prefix_of, children_of, is_full_of, Becomes};
 ghost use Rattle.congee.specs.forms.Scan.{rest};
+ghost use Rattle.congee.specs.protocol.Steps.{form_below};
 
 use crate::forms::child::{Child, Small};
 use crate::forms::indexed::Indexed;
@@ -97,6 +98,7 @@ impl<C: Small, P: Small> Node<C, P> {
         ensures form { IfOk result (λ n. form_of n ≡ form) }
         ensures prefix { IfOk result (λ n. prefix_of n ≡ prefix.now) }
         ensures children { IfOk result (λ n. children_of n ≡ map.empty) }
+        ensures memory { OnErr result (form ≢ T4) }
     {
         let prefix = Prefix::new(prefix);
         Ok(match form {
@@ -356,6 +358,24 @@ impl<C: Small, P: Small> Node<C, P> {
         prove!(self.len() <= form.capacity());
         self.move_to(&mut greater);
         *self = greater;
+        Ok(())
+    }
+
+    /// Becomes a node of the form below, where the children fit, with the same prefix and children.
+    ///
+    /// Memory is asked for first, but for the least form: where it is refused, the node stays as it was.
+    pub(crate) fn shrink(&mut self, alloc: Global) -> Result<(), AllocError>
+        requires room { map.len (children_of self.old) ≤ capacity_of (form_below (form_of self.old)) }
+        ensures form { OnOk result (form_of self.new ≡ form_below (form_of self.old)) }
+        ensures prefix { OnOk result (prefix_of self.new ≡ prefix_of self.old) }
+        ensures children { OnOk result (children_of self.new ≡ children_of self.old) }
+        ensures refused { OnErr result (self.new ≡ self.old) }
+        ensures memory { OnErr result (form_below (form_of self.old) ≢ T4) }
+    {
+        let form = self.node_type().below();
+        let mut lesser = Node::new(alloc, form, self.prefix())?;
+        self.move_to(&mut lesser);
+        *self = lesser;
         Ok(())
     }
 }

@@ -53,6 +53,7 @@ impl Prefix {
     }
 
     /// Its bytes.
+    #[inline(always)]
     pub(crate) fn as_slice(&self) -> &[u8]
         ensures bytes { result.now ≡ self.now }
         ensures fits { length result.now ≤ MAX_PREFIX_LEN }

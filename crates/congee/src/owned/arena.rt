@@ -15,18 +15,13 @@ use std::alloc::Global;
 pub trait Stored: Small {
     ghost use Rattle.std.specs.Mem.{FitsInMemory};
     ghost use Rattle.std.specs.Prelude.{ℕ};
-    ghost use denote.Param.{layout};
-    ghost use Rattle.congee.specs.forms.Room.{IsSmall};
-    ghost use Rattle.congee.specs.contracts.owned.lone.Lone.{the_row as lone_row};
     ghost use Rattle.congee.specs.contracts.owned.slots.Slot.{the_row as slot_row};
     ghost use Rattle.congee.specs.contracts.forms.base_node.Node.{the_row as node_row};
     ghost use Rattle.std.specs.Borrow.{usize as word};
 
-    ghost lone_small: { IsSmall (layout (lone_row Self.row)) };
-
     ghost leaf_fits: { FitsInMemory (node_row word Self.row) };
 
-    ghost fits: { FitsInMemory (slot_row (lone_row Self.row) Self.row) };
+    ghost fits: { FitsInMemory (slot_row Self.row) };
 }
 
 /// The nodes of a tree by their names, the root's is 0, and the budget that they are charged to.
@@ -46,26 +41,31 @@ impl<P: Stored, A: Allocator> Arena<P, A> {
         requires { IsTree self.now.nodes }
         ensures { Located self.now.nodes key.now result }
     {
+        let mut top = Name::root();
         let mut above = Name::root();
         let mut at = Name::root();
         loop {
             match self.nodes.look(at, key) {
                 Way::Free => return Place {
+                    top,
                     above,
                     at,
                     spot: Spot::Free,
                 },
                 Way::Held(_) => return Place {
+                    top,
                     above,
                     at,
                     spot: Spot::Held,
                 },
                 Way::Apart(below) => return Place {
+                    top,
                     above,
                     at,
                     spot: Spot::Apart(below),
                 },
                 Way::Below(below) => {
+                    top = above;
                     above = at;
                     at = below;
                 }
@@ -133,8 +133,6 @@ impl<P: Stored, A: Allocator> Arena<P, A> {
 
 impl Stored for u64 {
     ghost use Rattle.std.proofs.Common.{rules};
-
-    ghost lone_small = { Prim.search rules };
 
     ghost leaf_fits = { Prim.search rules };
 

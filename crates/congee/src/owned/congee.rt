@@ -9,11 +9,13 @@ ghost use Rattle.congee.specs.declared.forms.base_node.NodeType.TheVariants.{N25
 ghost use Rattle.congee.specs.owned.Nearest.{IsLeast, IsGreatest, pair_by};
 ghost use Rattle.congee.specs.owned.Content.{Inserts, IsBare, KeepsCharge, ChangesNothing, Refuses, Modifies};
 ghost use Rattle.congee.specs.owned.Drained.{Drained};
+ghost use Rattle.congee.specs.owned.Full.{AllFilled};
 ghost use Rattle.congee.specs.owned.OwnedSteps.{IsRefusal};
 ghost use Rattle.congee.specs.owned.Ranges.{by_bytes, in_range, keys_by};
+ghost use Rattle.congee.specs.owned.Runs.{StaysFilled};
 ghost use Rattle.congee.specs.owned.Stats.{HasValue, IsTally, capped};
 ghost use Rattle.congee.specs.owned.Weights.{sizes_of};
-ghost use Rattle.congee.specs.owned.Wanted.{freed_of, freed_by};
+ghost use Rattle.congee.specs.owned.Going.{going_by};
 ghost use Rattle.judge.specs.declared.journal.Call.TheVariants as call;
 ghost use Rattle.judge.specs.declared.journal.Reply.TheVariants as reply;
 
@@ -47,12 +49,14 @@ impl<K, V, A: Allocator, D> Model for Congee<K, V, A, D> {
     ghost coded = { content_code coded_ℕ A.code D.code };
 
     ghost use Rattle.congee.specs.owned.Arena.{IsTree};
+    ghost use Rattle.congee.specs.owned.Full.{lacking_of};
     ghost use Rattle.congee.specs.owned.Levels.{nodes_of};
     ghost use Rattle.congee.specs.owned.Sizes.{bytes_of};
     ghost use Rattle.congee.specs.owned.Table.{pairs_of};
-    ghost use Rattle.congee.specs.owned.Wanted.{wants_of, lone_of};
+    ghost use Rattle.congee.specs.owned.Going.{goes_of};
+    ghost use Rattle.congee.specs.owned.Wanted.{wants_of};
 
-    ghost view = { λ t. record { pairs = pairs_of t.arena.nodes; nodes = nodes_of t.arena.nodes; bytes = bytes_of t.arena.nodes; base = A.charged_of t.arena.allocator - bytes_of t.arena.nodes; wants = wants_of t.arena.nodes; lone = lone_of t.arena.nodes; allocator = t.arena.allocator; drainer = t.drainer } };
+    ghost view = { λ t. record { pairs = pairs_of t.arena.nodes; nodes = nodes_of t.arena.nodes; bytes = bytes_of t.arena.nodes; lacking = lacking_of t.arena.nodes; base = A.charged_of t.arena.allocator - bytes_of t.arena.nodes; wants = wants_of t.arena.nodes; goes = goes_of t.arena.nodes; allocator = t.arena.allocator; drainer = t.drainer } };
 
     ghost invariant = { λ t. IsTree t.arena.nodes × (bytes_of t.arena.nodes ≤ A.charged_of t.arena.allocator) };
 }
@@ -126,7 +130,7 @@ impl<K: Word64, V: Word64, A: Allocator, D: Drop> Congee<K, V, A, D> {
         requires { F.IsAlwaysCallable f }
         ensures asked { IfSome result (λ r. (after : F) × F.step f r.0 r.1 after) }
         ensures present { IfSome result (λ r. Modifies nat_eq A.charged_of A.limit_of self.old self.new
-            (freed_by r.1 (map.get self.old.lone (K.word key.now)))
+            (going_by r.1 (map.get self.old.goes (K.word key.now)))
             (call.ComputePresent (K.word key.now) r.1) (reply.ComputePresent (Some (r.0, r.1)))) }
         ensures absent { IfNone result (ChangesNothing nat_eq A.charged_of A.limit_of self.old self.new
             (call.ComputePresent (K.word key.now) None) (reply.ComputePresent None)) }
@@ -137,7 +141,7 @@ impl<K: Word64, V: Word64, A: Allocator, D: Drop> Congee<K, V, A, D> {
             return None;
         };
         let new = f(old);
-        self.arena.settle(&bytes, new);
+        self.arena.settle(self.alloc, &bytes, new);
         Some((old, new))
     }
 
@@ -173,7 +177,7 @@ impl<K: Word64, V: Word64, A: Allocator, D: Drop> Congee<K, V, A, D> {
         new: Option<V>,
     ) -> Result<Option<V>, Option<V>>
         ensures ok { IfOk result (λ r. (word : Option ℕ) × (word ≡ option_map V.word new) × (r ≡ new)
-            × Modifies nat_eq A.charged_of A.limit_of self.old self.new (freed_by new (map.get self.old.lone (K.word key.now)))
+            × Modifies nat_eq A.charged_of A.limit_of self.old self.new (going_by new (map.get self.old.goes (K.word key.now)))
             (call.Exchange (K.word key.now) (V.word old.now) word) (reply.Exchange (Ok word))) }
         ensures other { IfErr result (λ r. (found : Option ℕ) × (r ≡ option_map V.of_word found)
             × ChangesNothing nat_eq A.charged_of A.limit_of self.old self.new
@@ -187,7 +191,7 @@ impl<K: Word64, V: Word64, A: Allocator, D: Drop> Congee<K, V, A, D> {
             return Err(word_of(found));
         }
         let word = number_of(&new);
-        self.arena.settle(&bytes, word);
+        self.arena.settle(self.alloc, &bytes, word);
         Ok(new)
     }
 
@@ -215,15 +219,16 @@ impl<K: Word64, V: Word64, A: Allocator, D: Drop> Congee<K, V, A, D> {
         }
     }
 
-    /// Takes a key's value out.
+    /// Takes a key's value out. A node that it leaves small gives place to a lesser one. Where budget or memory has no room for that
+    /// one, it is skipped, and the node stays.
     pub fn remove(&mut self, key: &K) -> Option<V>
         ensures removes { (before : Option ℕ) × (result ≡ option_map V.of_word before)
-            × Modifies nat_eq A.charged_of A.limit_of self.old self.new (freed_of (map.get self.old.lone (K.word key.now)))
+            × Modifies nat_eq A.charged_of A.limit_of self.old self.new (map.get self.old.goes (K.word key.now))
             (call.Remove (K.word key.now)) (reply.Remove before) }
         ensures base { self.new.base ≡ self.old.base }
     {
         let bytes = bytes_of_key(key);
-        word_of(self.arena.remove(&bytes))
+        word_of(self.arena.remove(self.alloc, &bytes))
     }
 
     /// Takes every pair out, and every node but the root, whose bytes alone stay charged. The places that the nodes had
@@ -368,6 +373,15 @@ impl<K: Word64, V: Word64, A: Allocator, D: Drop> Congee<K, V, A, D> {
         ensures { All HasValue self.now.nodes }
     {
         self.arena.leaves_hold();
+    }
+
+    /// Where no node but the root lacks a child, each has two nodes below it at least, or one value, and isn't too small for its
+    /// form. It is so after any calls on a new tree of which none goes on without a lesser node that it wants.
+    pub fn nodes_filled(&self)
+        ensures filled { self.now.lacking ≡ 0 → AllFilled self.now.nodes }
+        ensures run { StaysFilled nat_eq A.charged_of A.limit_of self.now }
+    {
+        self.arena.nodes_filled();
     }
 
     /// The bytes that the allocator has charged: those that it had charged before the tree was opened, and the nodes' sizes.

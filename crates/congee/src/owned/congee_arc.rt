@@ -7,7 +7,11 @@ ghost use Rattle.std.specs.FinMap as map;
 ghost use Rattle.congee.specs.forms.Forms.{size_of};
 ghost use Rattle.congee.specs.declared.forms.base_node.NodeType.TheVariants.{N256};
 ghost use Rattle.congee.specs.owned.Owners.{OwnerAnswers, OwnerInserts, OwnerRefuses, OwnerModifies};
-ghost use Rattle.congee.specs.owned.Wanted.{WantsLeaf, freed_of, freed_by};
+ghost use Rattle.congee.specs.owned.Full.{AllFilled};
+ghost use Rattle.congee.specs.owned.Going.{going_by};
+ghost use Rattle.congee.specs.owned.Runs.{OwnersStayFilled};
+ghost use Rattle.congee.specs.owned.Stats.{root_alone};
+ghost use Rattle.congee.specs.owned.Wanted.{WantsLeaf};
 ghost use Rattle.congee.specs.owned.Ranges.{keys_by};
 ghost use Rattle.judge.specs.declared.journal.Call.TheVariants as call;
 ghost use Rattle.judge.specs.declared.journal.Reply.TheVariants as reply;
@@ -36,8 +40,6 @@ impl<V: Drop> Small for ArcPayload<V> {
 impl<V: Drop> Stored for ArcPayload<V> {
     ghost use Rattle.std.proofs.Common.{rules};
 
-    ghost lone_small = { Prim.search rules };
-
     ghost leaf_fits = { Prim.search rules };
 
     ghost fits = { Prim.search rules };
@@ -60,11 +62,14 @@ impl<K, V: Drop> Model for CongeeArc<K, V> {
     ghost coded = { owners_code V.code };
 
     ghost use Rattle.congee.specs.owned.Arena.{IsTree};
+    ghost use Rattle.congee.specs.owned.Full.{lacking_of};
+    ghost use Rattle.congee.specs.owned.Levels.{nodes_of};
     ghost use Rattle.congee.specs.owned.Sizes.{bytes_of};
     ghost use Rattle.congee.specs.owned.Table.{pairs_of};
-    ghost use Rattle.congee.specs.owned.Wanted.{wants_of, lone_of};
+    ghost use Rattle.congee.specs.owned.Going.{goes_of};
+    ghost use Rattle.congee.specs.owned.Wanted.{wants_of};
 
-    ghost view = { λ t. record { pairs = pairs_of t.arena.nodes; bytes = bytes_of t.arena.nodes; wants = wants_of t.arena.nodes; lone = lone_of t.arena.nodes } };
+    ghost view = { λ t. record { pairs = pairs_of t.arena.nodes; nodes = nodes_of t.arena.nodes; bytes = bytes_of t.arena.nodes; lacking = lacking_of t.arena.nodes; wants = wants_of t.arena.nodes; goes = goes_of t.arena.nodes } };
 
     ghost invariant = { λ t. IsTree t.arena.nodes × (bytes_of t.arena.nodes ≡ t.arena.allocator.charged) };
 }
@@ -98,6 +103,8 @@ impl<K: Word64, V: Drop> CongeeArc<K, V> {
     pub fn new(alloc: Global) -> Result<Self, OOMError>
         ensures empty { IfOk result (λ t. t.pairs ≡ map.empty) }
         ensures root { IfOk result (λ t. t.bytes ≡ size_of N256) }
+        ensures nodes { IfOk result (λ t. t.nodes ≡ root_alone) }
+        ensures filled { IfOk result (λ t. t.lacking ≡ 0) }
         ensures wants { IfOk result (λ t. WantsLeaf t.wants) }
         ensures refused { IfErr result (λ e. e ≡ OOMError.Memory) }
     {
@@ -156,13 +163,14 @@ impl<K: Word64, V: Drop> CongeeArc<K, V> {
         }
     }
 
-    /// Takes a key's value out.
+    /// Takes a key's value out. A node that it leaves small gives place to a lesser one. Where budget or memory has no room for that
+    /// one, it is skipped, and the node stays.
     pub fn remove(&mut self, key: K) -> Option<Arc<V, Global>>
-        ensures { OwnerModifies self.old self.new (freed_of (map.get self.old.lone (K.word key)))
+        ensures { OwnerModifies self.old self.new (map.get self.old.goes (K.word key))
             (call.Remove (K.word key)) (reply.Remove (option_map arc_value result)) }
     {
         let bytes = bytes_of_key(&key);
-        owner_of(self.arena.remove(&bytes))
+        owner_of(self.arena.remove(self.alloc, &bytes))
     }
 
     /// Puts the answer of `f` at a key that is present, or takes the key out where the answer is `None`.
@@ -176,7 +184,7 @@ impl<K: Word64, V: Drop> CongeeArc<K, V> {
         requires { F.IsAlwaysCallable f }
         ensures present { IfOk result (λ r. IfSome r (λ old. (given : _) × (new : _) × (after : F)
             × (arc_value given ≡ arc_value old) × F.step f given new after
-            × OwnerModifies self.old self.new (freed_by new (map.get self.old.lone (K.word key)))
+            × OwnerModifies self.old self.new (going_by new (map.get self.old.goes (K.word key)))
             (call.ComputePresent (K.word key) (option_map arc_value new))
             (reply.ComputePresent (Some (arc_value old, option_map arc_value new))))) }
         ensures absent { IfOk result (λ r. IfNone r (OwnerAnswers self.old self.new
@@ -190,7 +198,16 @@ impl<K: Word64, V: Drop> CongeeArc<K, V> {
             None => return Ok(None),
         };
         let new = payload_of(f(given));
-        Ok(owner_of(self.arena.settle(&bytes, new)))
+        Ok(owner_of(self.arena.settle(self.alloc, &bytes, new)))
+    }
+
+    /// Where no node but the root lacks a child, each has two nodes below it at least, or one value, and isn't too small for its
+    /// form. It is so after any calls on a new tree of which none goes on without a lesser node that it wants.
+    pub fn nodes_filled(&self)
+        ensures filled { self.now.lacking ≡ 0 → AllFilled self.now.nodes }
+        ensures run { OwnersStayFilled self.now }
+    {
+        self.arena.nodes_filled();
     }
 
     /// Drops each value that stands.

@@ -1,4 +1,4 @@
-//! The changes at the end of a key's way: a value comes in, gives place to another, or goes.
+//! The changes at the end of a key's way where a value comes in or gives place to another.
 ghost use Rattle.std.specs.Prelude.{◌≡◌, ◌≢◌, ◌+◌, ℕ, [], ◌∷◌, length, slice_index, ◌<◌, ◌≤◌, Some, None, false, IfErr, OnOk};
 ghost use Rattle.std.specs.FinMap as map;
 ghost use Rattle.slab.specs.Slab.{get, ContainsKey, HasRoomFor};
@@ -7,21 +7,23 @@ ghost use Rattle.congee.specs.forms.Forms.{children_of, size_of};
 ghost use Rattle.congee.specs.owned.Arena.{IsTree, OnWay, Hangs, Reached, heap_of};
 ghost use Rattle.congee.specs.owned.Charge.{Covers};
 ghost use Rattle.congee.specs.owned.Sizes.{bytes_of};
-ghost use Rattle.congee.specs.owned.Changes.{DiffersAt, MapChange};
+ghost use Rattle.congee.specs.owned.Changes.{MapChange};
 ghost use Rattle.congee.specs.owned.Edits.{Adds, Denies, Drops, Frees, Swaps};
+ghost use Rattle.congee.specs.owned.Full.{NodesFilled};
 ghost use Rattle.congee.specs.owned.Naming.{HasOwnSlot};
 ghost use Rattle.congee.specs.owned.OwnedSteps.{Hosts, IsHeld};
 ghost use Rattle.congee.specs.owned.Renames.{Renamed};
-ghost use Rattle.congee.specs.owned.Wanted.{room_for, free_wants, size_by};
+ghost use Rattle.congee.specs.owned.Wanted.{room_for, free_wants};
 ghost use Rattle.congee.specs.declared.forms.base_node.Node.{Node as Form};
 ghost use Rattle.congee.specs.declared.forms.base_node.NodeType.TheVariants.{N4};
+ghost use Rattle.congee.specs.declared.forms.prefix.TheConstants.{MAX_PREFIX_LEN};
 
 use crate::allocator::{Allocator, OOMError};
 use crate::forms::base_node::NodeType;
-use crate::forms::prefix::MAX_PREFIX_LEN;
 use crate::keys::KEY_BYTES;
 use crate::owned::arena::{Arena, Stored};
 use crate::owned::names::Name;
+use crate::owned::parting::Parting;
 use std::alloc::Global;
 
 /// A node that was hung over another, and the byte under which that one hangs in it.
@@ -31,27 +33,14 @@ struct Fork {
     other: u8,
 }
 
-/// The first place where a key and a prefix that it lacks differ.
-pub(crate) fn first_apart(key: &[u8; KEY_BYTES], prefix: &[u8]) -> usize
-    requires short { length prefix.now ≤ MAX_PREFIX_LEN }
-    requires differs { fits prefix.now key.now ≡ false }
-    ensures { DiffersAt key.now prefix.now result }
-{
-    let mut common = 0;
-    while key[common] == prefix[common] {
-        common += 1;
-    }
-    common
-}
-
 impl<P: Stored, A: Allocator> Arena<P, A> {
     /// The key's byte at a node.
     #[inline(always)]
-    fn byte_at(&self, at: Name, key: &[u8; KEY_BYTES]) -> u8
+    pub(crate) fn byte_at(&self, at: Name, key: &[u8; KEY_BYTES]) -> u8
         requires { ContainsKey self.now.nodes at }
         ensures { result ≡ slice_index key.now (length (heap_of self.now.nodes at).prefix) }
     {
-        key[self.nodes.prefix(at).len()]
+        key[self.nodes.prefix_len(at)]
     }
 
     /// Puts another value in the place of the key's.
@@ -178,26 +167,9 @@ impl<P: Stored, A: Allocator> Arena<P, A> {
         }
     }
 
-    /// Takes a value out of a leaf that has others.
-    #[inline(always)]
-    pub(crate) fn take_value(&mut self, above: Name, at: Name, key: &[u8; KEY_BYTES]) -> P
-        requires own { HasOwnSlot at }
-        requires tree { IsTree self.old.nodes }
-        requires way { OnWay self.old.nodes key.now at }
-        requires held { IsHeld self.old.nodes key.now at }
-        requires hangs { Hangs self.old.nodes key.now above at }
-        requires others { (x : Form ℕ P) → get self.old.nodes at ≡ Some x → map.len (children_of x) ≢ 1 }
-        ensures { Swaps self.old self.new key.now (Some result) None }
-    {
-        let byte = self.byte_at(at, key);
-        let value = self.nodes.take_value(at, byte);
-        self.tuck(above, at, key);
-        value
-    }
-
     /// Puts a leaf of the least form with one value into its parent's place.
     #[inline(always)]
-    fn tuck(&mut self, above: Name, at: Name, key: &[u8; KEY_BYTES])
+    pub(crate) fn tuck(&mut self, above: Name, at: Name, key: &[u8; KEY_BYTES])
         requires own { HasOwnSlot at }
         requires tree { IsTree self.old.nodes }
         requires hangs { Hangs self.old.nodes key.now above at }
@@ -223,15 +195,14 @@ impl<P: Stored, A: Allocator> Arena<P, A> {
         ensures tree { IsTree self.new.nodes }
         ensures change { MapChange self.old.nodes self.new.nodes key.now None (Some value) }
         ensures bytes { bytes_of self.new.nodes ≡ bytes_of self.old.nodes + size_of N4 + size_of N4 }
+        ensures filled { NodesFilled self.old.nodes → NodesFilled self.new.nodes }
         ensures hosts { Hosts self.new.nodes result.over result.other below }
         ensures same { get self.new.nodes below ≡ get self.old.nodes below }
         ensures allocator { self.new.allocator ≡ self.old.allocator }
     {
-        let prefix = self.nodes.prefix(below);
-        let common = first_apart(key, prefix);
-        let other = prefix[common];
-        let over = self.nodes.make(&key[..common]);
-        self.nodes.hang_leaf(over, key[common], key, value);
+        let Parting { place, other } = self.nodes.parting(below, key);
+        let over = self.nodes.make(&key[..place]);
+        self.nodes.hang_leaf(over, key[place], key, value);
         self.nodes.hang_node(over, other, below);
         let up = self.byte_at(at, key);
         self.nodes.swap_node(at, up, over);
@@ -249,6 +220,7 @@ impl<P: Stored, A: Allocator> Arena<P, A> {
         ensures tree { IsTree self.new.nodes }
         ensures change { MapChange self.old.nodes self.new.nodes key.now None (Some value) }
         ensures bytes { bytes_of self.new.nodes ≡ bytes_of self.old.nodes + size_of N4 + size_of N4 }
+        ensures filled { NodesFilled self.old.nodes → NodesFilled self.new.nodes }
         ensures allocator { self.new.allocator ≡ self.old.allocator }
     {
         if below.is_inline() {
@@ -289,45 +261,5 @@ impl<P: Stored, A: Allocator> Arena<P, A> {
         }
         self.host(at, below, key, value);
         Ok(())
-    }
-
-    /// Takes a leaf's only value out, and the leaf with it.
-    #[inline(always)]
-    pub(crate) fn drop_leaf(&mut self, above: Name, at: Name, key: &[u8; KEY_BYTES]) -> P
-        requires tree { IsTree self.old.nodes }
-        requires way { OnWay self.old.nodes key.now at }
-        requires held { IsHeld self.old.nodes key.now at }
-        requires hangs { Hangs self.old.nodes key.now above at }
-        requires last { (x : Form ℕ P) → get self.old.nodes at ≡ Some x → map.len (children_of x) ≡ 1 }
-        requires covered { Covers A.charged_of self.old }
-        ensures { Frees A.charged_of A.limit_of self.old self.new
-            key.now (Some result) None (size_by (heap_of self.old.nodes at).capacity) }
-    {
-        let size = self.nodes.node_type(at).size();
-        let value = self.drop_alone(above, at, key);
-        self.allocator.deallocate(size);
-        value
-    }
-
-    /// A leaf with one value goes, from its parent's place or with its slot.
-    #[inline(always)]
-    fn drop_alone(&mut self, above: Name, at: Name, key: &[u8; KEY_BYTES]) -> P
-        requires tree { IsTree self.old.nodes }
-        requires way { OnWay self.old.nodes key.now at }
-        requires held { IsHeld self.old.nodes key.now at }
-        requires hangs { Hangs self.old.nodes key.now above at }
-        requires last { (x : Form ℕ P) → get self.old.nodes at ≡ Some x → map.len (children_of x) ≡ 1 }
-        ensures { Drops self.old self.new key.now at result }
-    {
-        if at.is_inline() {
-            let up = self.byte_at(above, key);
-            return self.nodes.unhang_leaf(above, up);
-        }
-        let byte = self.byte_at(at, key);
-        let value = self.nodes.take_value(at, byte);
-        let up = self.byte_at(above, key);
-        self.nodes.unhang_node(above, up);
-        self.nodes.remove(at);
-        value
     }
 }

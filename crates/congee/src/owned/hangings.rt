@@ -1,8 +1,9 @@
 //! What hangs in a node: it comes in, gives place to another, goes, or takes another name.
-ghost use Rattle.std.specs.Prelude.{◌≡◌, ◌<◌, ℕ, length, Some, None, false};
+ghost use Rattle.std.specs.Prelude.{◌≡◌, ◌+◌, ◌<◌, ℕ, length, slice_index, Some, None, false};
 ghost use Rattle.std.specs.FinMap as map;
 ghost use Rattle.slab.specs.Slab.{get, ContainsKey, HasRoomFor};
-ghost use Rattle.congee.specs.forms.Forms.{children_of, is_full_of, prefix_of};
+ghost use Rattle.congee.specs.owned.Entries.{first_byte};
+ghost use Rattle.congee.specs.forms.Forms.{children_of, form_of, is_full_of, prefix_of, size_of};
 ghost use Rattle.congee.specs.declared.keys.TheConstants.{KEY_BYTES};
 ghost use Rattle.congee.specs.declared.forms.prefix.TheConstants.{MAX_PREFIX_LEN};
 
@@ -19,6 +20,8 @@ use crate::owned::slots::Slot;
 
 impl<P: Stored> Nodes<P> {
     ghost use Rattle.congee.specs.owned.Kinds.{IsValue};
+    ghost use Rattle.congee.specs.owned.Lifting.{HasOneNode, MayLift, MovesUp};
+    ghost use Rattle.congee.specs.owned.Sizes.{bytes_of};
     ghost use Rattle.congee.specs.owned.Naming.{HasOwnSlot};
     ghost use Rattle.congee.specs.owned.OwnedSteps.{Makes, Sets};
     ghost use Rattle.congee.specs.owned.Renames.{Renames};
@@ -34,6 +37,7 @@ impl<P: Stored> Nodes<P> {
         requires absent { (x : Form ℕ P) → get self.old at ≡ Some x → map.get (children_of x) byte ≡ None }
         requires room { (x : Form ℕ P) → get self.old at ≡ Some x → is_full_of x ≡ false }
         requires spare { HasRoomFor self.old 1 }
+        requires begins { (x : Form ℕ P) → get self.old at ≡ Some x → slice_index key.now 0 ≡ first_byte (prefix_of x) byte }
         ensures hangs { (x : Form ℕ P) → get self.old at ≡ Some x → HangsLeaf self.old self.new at x byte key.now value }
     {
         prove!(self.inline < self.slab.capacity());
@@ -47,6 +51,7 @@ impl<P: Stored> Nodes<P> {
         requires inner { (x : Form ℕ P) → get self.old at ≡ Some x → length (prefix_of x) < MAX_PREFIX_LEN }
         requires present { (x : Form ℕ P) → get self.old at ≡ Some x → HasNode (map.get (children_of x) byte) }
         requires spare { HasRoomFor self.old 1 }
+        requires begins { (x : Form ℕ P) → get self.old at ≡ Some x → slice_index key.now 0 ≡ first_byte (prefix_of x) byte }
         ensures hangs { (x : Form ℕ P) → get self.old at ≡ Some x → HangsLeaf self.old self.new at x byte key.now value }
         ensures capacity { self.new.capacity ≡ self.old.capacity }
     {
@@ -148,7 +153,7 @@ impl<P: Stored> Nodes<P> {
         match at.byte {
             None => self.slab[at.slot].change_value(byte, value),
             Some(place) => {
-                let key = self.lone(at.slot, place).key;
+                let key = self.slab[at.slot].lone(place).key;
                 match self.slab[at.slot].change_child(place, Child::Value(Lone { key, value })) {
                     Child::Value(lone) => {
                         let Lone { key: _, value } = lone;
@@ -171,6 +176,54 @@ impl<P: Stored> Nodes<P> {
         ensures capacity { self.new.capacity ≡ self.old.capacity }
     {
         self.slab[at.slot].take_value(byte)
+    }
+
+    /// The only node that hangs in a node, and its byte.
+    fn only_child(&self, at: Name) -> (u8, Name)
+        requires stands { ContainsKey self.now at }
+        requires alone { (y : Form ℕ P) → get self.now at ≡ Some y → HasOneNode y }
+        ensures { (y : Form ℕ P) → get self.now at ≡ Some y → children_of y ≡ map.insert map.empty result.0 (Sub result.1) }
+    {
+        match self.first_from(at, 0) {
+            Some((byte, found)) => match found.node() {
+                Some(child) => (byte, child),
+                None => unreachable!(),
+            },
+            None => unreachable!(),
+        }
+    }
+
+    /// The only child of an inner node comes into the node's place in the one above, and the node goes.
+    pub(crate) fn lift(&mut self, above: Name, byte: u8, at: Name)
+        requires { MayLift self.old above byte at }
+        ensures lifts { (r : MayLift self.old above byte at) → MovesUp self.old self.new above byte at r }
+        ensures bytes { (r : MayLift self.old above byte at) → bytes_of self.new + size_of (form_of r.lower) ≡ bytes_of self.old }
+    {
+        let (below, child) = self.only_child(at);
+        self.raise(above, byte, at, below, child);
+    }
+
+    // The same with that child, under its byte.
+    fn raise(&mut self, above: Name, byte: u8, at: Name, below: u8, child: Name)
+        requires may { MayLift self.old above byte at }
+        requires only { (y : Form ℕ P) → get self.old at ≡ Some y → children_of y ≡ map.insert map.empty below (Sub child) }
+        ensures lifts { (r : MayLift self.old above byte at) → MovesUp self.old self.new above byte at r }
+        ensures bytes { (r : MayLift self.old above byte at) → bytes_of self.new + size_of (form_of r.lower) ≡ bytes_of self.old }
+    {
+        prove!(self.inline <= self.slab.capacity());
+        match child.byte {
+            None => {
+                self.unhang_node(at, below);
+                self.remove_bare(at);
+                self.swap_node(above, byte, child);
+            }
+            Some(place) => {
+                let key = self.lone(child.slot, place).key;
+                let value = self.unhang_leaf(at, below);
+                self.remove_bare(at);
+                self.swap_leaf(above, byte, &key, value);
+            }
+        }
     }
 
     /// Gives the leaf under a byte, which lies in its parent's place, a slot of its own, and tells its name there.
@@ -202,6 +255,7 @@ impl<P: Stored> Nodes<P> {
         requires own { HasOwnSlot leaf }
         requires below { ContainsKey self.old leaf }
         requires lone { (y : Form ℕ P) → get self.old leaf ≡ Some y → HasOne y }
+        requires begins { (x y : Form ℕ P) → get self.old at ≡ Some x → get self.old leaf ≡ Some y → slice_index (prefix_of y) 0 ≡ first_byte (prefix_of x) byte }
         ensures folds { Folds self.old self.new at byte leaf }
         ensures capacity { self.new.capacity ≡ self.old.capacity }
     {

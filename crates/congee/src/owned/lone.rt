@@ -5,10 +5,8 @@ ghost use Rattle.congee.specs.Keys.{key_bytes};
 ghost use Rattle.congee.specs.declared.keys.TheConstants.{KEY_BYTES};
 ghost use Rattle.congee.specs.declared.forms.prefix.TheConstants.{MAX_PREFIX_LEN};
 
-use crate::forms::child::Small;
 use crate::forms::prefix::MAX_PREFIX_LEN;
 use crate::keys::{KEY_BYTES, key_of_bytes};
-use crate::owned::arena::Stored;
 
 /// A leaf with one value, in the place of its parent that it hangs in.
 #[derive(Drop)]
@@ -17,10 +15,6 @@ pub(crate) struct Lone<P> {
     pub(crate) value: P,
     ghost whole: { length key ≡ KEY_BYTES },
     ghost last: { slice_index key MAX_PREFIX_LEN < 256 },
-}
-
-impl<P: Stored> Small for Lone<P> {
-    ghost small = { P.lone_small };
 }
 
 /// The key of a leaf's pair: the leaf's prefix, and the last byte.
@@ -47,14 +41,10 @@ pub(crate) fn key_of(prefix: &[u8], last: u8) -> u64
     key_of_bytes(&key_from(prefix, last))
 }
 
-impl<P> Lone<P> {
-    ghost use Rattle.congee.specs.Heap.{fits};
-
-    /// Whether the leaf's prefix is the beginning of the key.
-    #[inline(always)]
-    pub(crate) fn leads(&self, key: &[u8; KEY_BYTES]) -> bool
-        ensures { result ≡ fits (take MAX_PREFIX_LEN self.now.key) key.now }
-    {
-        self.key[..MAX_PREFIX_LEN] == key[..MAX_PREFIX_LEN]
-    }
+/// Whether two keys have the same leaf's prefix.
+#[inline(always)]
+pub(crate) fn leads(one: &[u8; KEY_BYTES], other: &[u8; KEY_BYTES]) -> bool
+    ensures { result ≡ fits (take MAX_PREFIX_LEN one.now) other.now }
+{
+    one[..MAX_PREFIX_LEN] == other[..MAX_PREFIX_LEN]
 }

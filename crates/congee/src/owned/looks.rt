@@ -10,7 +10,8 @@ use crate::forms::child::Child;
 use crate::forms::prefix::MAX_PREFIX_LEN;
 use crate::keys::{KEY_BYTES, key_of_bytes};
 use crate::owned::arena::Stored;
-use crate::owned::lone::{Lone, key_of};
+use crate::owned::entries::{Hung, Seen};
+use crate::owned::lone::{key_of, leads};
 use crate::owned::names::Name;
 use crate::owned::nodes::Nodes;
 use crate::owned::place::{Found, Way};
@@ -20,6 +21,7 @@ use crate::owned::slots::Slot;
 impl<P: Stored> Nodes<P> {
     ghost use Rattle.congee.specs.forms.Bytes.{IsFirst};
     ghost use Rattle.congee.specs.owned.Arena.{IsTree};
+    ghost use Rattle.congee.specs.owned.Entries.{lone_seen};
     ghost use Rattle.congee.specs.owned.Sights.{Sees};
     ghost use Rattle.congee.specs.owned.Slots.{lone_node};
     ghost use Rattle.congee.specs.owned.Stores.{LeafStands, child_now};
@@ -29,9 +31,9 @@ impl<P: Stored> Nodes<P> {
 
     /// The leaf with one value under a byte of an inner node.
     #[inline(always)]
-    pub(crate) fn lone(&self, slot: usize, byte: u8) -> &Lone<P>
+    pub(crate) fn lone(&self, slot: usize, byte: u8) -> Seen<'_, P>
         requires { ContainsKey self.now (257 * slot + (byte + 1)) }
-        ensures { get self.now (257 * slot + (byte + 1)) ≡ Some (lone_node result.now) }
+        ensures { get self.now (257 * slot + (byte + 1)) ≡ Some (lone_node (lone_seen result)) }
     {
         self.slab[slot].lone(byte)
     }
@@ -57,7 +59,7 @@ impl<P: Stored> Nodes<P> {
     {
         let lone = self.lone(slot, byte);
         if lone.key[MAX_PREFIX_LEN] == key[MAX_PREFIX_LEN] {
-            Way::Held(&lone.value)
+            Way::Held(lone.value)
         } else {
             Way::Free
         }
@@ -72,14 +74,14 @@ impl<P: Stored> Nodes<P> {
     {
         match &self.slab[slot] {
             Slot::Inner(n) => {
-                let byte = key[n.prefix().len()];
+                let byte = key[n.prefix_len()];
                 match n.get_child(byte) {
                     None => Way::Free,
-                    Some(Child::Blank) => unreachable!(),
-                    Some(Child::Node(below)) => self.turn(*below, key),
-                    Some(Child::Value(lone)) => {
+                    Some(Hung::Blank) => unreachable!(),
+                    Some(Hung::Node(below)) => self.turn(below, key),
+                    Some(Hung::Leaf(lone)) => {
                         let name = Name::inline(slot, byte);
-                        if lone.leads(key) {
+                        if leads(&lone.key, key) {
                             Way::Below(name)
                         } else {
                             Way::Apart(name)
@@ -87,7 +89,7 @@ impl<P: Stored> Nodes<P> {
                     }
                 }
             }
-            Slot::Leaf(n) => match n.get_child(key[n.prefix().len()]) {
+            Slot::Leaf(n) => match n.get_child(key[n.prefix_len()]) {
                 None => Way::Free,
                 Some(Child::Blank) => unreachable!(),
                 Some(Child::Node(below)) => self.turn(*below, key),
@@ -135,7 +137,7 @@ impl<P: Stored> Nodes<P> {
         let lone = self.lone(slot, byte);
         let last = lone.key[MAX_PREFIX_LEN];
         if from <= last as usize {
-            Some((last, Found::Value(&lone.value)))
+            Some((last, Found::Value(lone.value)))
         } else {
             None
         }
@@ -153,14 +155,11 @@ impl<P: Stored> Nodes<P> {
         match &self.slab[slot] {
             Slot::Inner(n) => match n.first_from(from) {
                 None => None,
-                Some((byte, Child::Blank)) => Some((byte, Found::Blank)),
-                Some((byte, Child::Node(below))) => Some((byte, Found::Node(Name::of(*below)))),
-                Some((byte, Child::Value(lone))) => {
+                Some((byte, Hung::Blank)) => Some((byte, Found::Blank)),
+                Some((byte, Hung::Node(below))) => Some((byte, Found::Node(Name::of(below)))),
+                Some((byte, Hung::Leaf(lone))) => {
                     let name = Name::inline(slot, byte);
-                    Some((
-                        byte,
-                        Found::Leaf(name, key_of_bytes(&lone.key), &lone.value),
-                    ))
+                    Some((byte, Found::Leaf(name, key_of_bytes(&lone.key), lone.value)))
                 }
             },
             Slot::Leaf(n) => match n.first_from(from) {

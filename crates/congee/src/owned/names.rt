@@ -51,6 +51,14 @@ impl Name {
         Name::of(0)
     }
 
+    /// Whether it is the root's.
+    #[inline(always)]
+    pub(crate) fn is_root(&self) -> bool
+        ensures { IsTrue result ↔ (self.now ≡ 0) }
+    {
+        self.slot == 0 && self.byte.is_none()
+    }
+
     /// Whether it is a leaf in the place of its parent.
     #[inline(always)]
     pub(crate) fn is_inline(&self) -> bool

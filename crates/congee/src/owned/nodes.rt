@@ -1,17 +1,19 @@
 //! The storage of an owned tree: a slot for each node, but a leaf with one value lies in the place of its parent that it hangs in.
-ghost use Rattle.std.specs.Prelude.{◌≡◌, ◌*◌, ◌<◌, ◌≤◌, ◌^◌, ℕ, length, Some, None, false, true, IsSome, IfOk, OnOk, OnErr, IsTrue, ◌↔◌};
+ghost use Rattle.std.specs.Prelude.{◌≡◌, ◌≢◌, ◌*◌, ◌<◌, ◌≤◌, ◌^◌, ℕ, length, slice_index, Some, None, false, true, IsSome, IfOk, OnOk, OnErr, IsTrue, ◌↔◌};
 ghost use Rattle.std.specs.FinMap as map;
 ghost use Rattle.slab.specs.Slab.{get, ContainsKey, HasRoomFor, SameValues, Updates};
 ghost use Rattle.congee.specs.Heap.{fits};
-ghost use Rattle.congee.specs.forms.Forms.{children_of, form_of, is_full_of, prefix_of};
+ghost use Rattle.congee.specs.forms.Forms.{capacity_of, children_of, form_of, is_full_of, prefix_of};
+ghost use Rattle.congee.specs.protocol.Steps.{form_below};
 ghost use Rattle.congee.specs.declared.forms.prefix.TheConstants.{MAX_PREFIX_LEN};
 
-use crate::forms::base_node::{Node, NodeType};
+use crate::forms::base_node::NodeType;
 use crate::forms::prefix::MAX_PREFIX_LEN;
+use crate::keys::KEY_BYTES;
 use crate::owned::arena::Stored;
-use crate::owned::lone::Lone;
+use crate::owned::inner::Inner;
 use crate::owned::names::Name;
-use crate::owned::placed::Placed;
+use crate::owned::parting::Parting;
 use crate::owned::slots::Slot;
 use slab::Slab;
 use std::alloc::{AllocError, Global};
@@ -20,7 +22,7 @@ use std::marker::Model;
 /// The nodes of a tree by their names. The first node is the root, whose name is the default one.
 #[derive(Drop)]
 pub struct Nodes<P: Stored> {
-    pub(crate) slab: Slab<Slot<Lone<P>, P>>,
+    pub(crate) slab: Slab<Slot<P>>,
     // How many leaves lie in the places of their parents. The slab has room for each of them.
     pub(crate) inline: usize,
 }
@@ -44,21 +46,24 @@ impl<P: Stored> Model for Nodes<P> {
 }
 
 impl<P: Stored> Nodes<P> {
+    ghost use Rattle.congee.specs.owned.Changes.{DiffersAt};
     ghost use Rattle.congee.specs.owned.Naming.{HasOwnSlot};
     ghost use Rattle.congee.specs.owned.OwnedSteps.{Makes};
     ghost use Rattle.congee.specs.owned.Sizes.{bytes_of};
     ghost use Rattle.congee.specs.owned.Slots.{inner_child, with_children};
     ghost use Rattle.congee.specs.owned.Stores.{GrowsTo, IsAlone, LeavesRoot};
+    ghost use Rattle.congee.specs.owned.Lesser.{ShrinksTo};
     ghost use Rattle.congee.specs.declared.forms.base_node.Node.{Node as Form};
+    ghost use Rattle.congee.specs.declared.forms.base_node.NodeType.TheVariants.{N4};
 
     /// The root alone.
-    pub(crate) fn new(alloc: Global, root: Node<usize, Lone<P>>) -> Result<Self, AllocError>
+    pub(crate) fn new(alloc: Global, root: Inner<P>) -> Result<Self, AllocError>
         requires inner { length (prefix_of root) < MAX_PREFIX_LEN }
         requires empty { children_of root ≡ map.empty }
         ensures root { IfOk result (λ t. IsAlone t (with_children (inner_child 0) root)) }
     {
         let mut slab = Slab::new(alloc);
-        match slab.insert(Slot::Inner(Placed::new(root))) {
+        match slab.insert(Slot::Inner(root)) {
             Ok(_) => Ok(Nodes { slab, inline: 0 }),
             Err(_) => Err(AllocError),
         }
@@ -76,16 +81,41 @@ impl<P: Stored> Nodes<P> {
         }
     }
 
-    /// The first bytes of every key below a node.
+    /// How many bytes every key below a node begins with.
+    #[inline(always)]
+    pub(crate) fn prefix_len(&self, at: Name) -> usize
+        requires { ContainsKey self.now at }
+        ensures count { (x : Form ℕ P) → get self.now at ≡ Some x → result ≡ length (prefix_of x) }
+        ensures fits { result ≤ MAX_PREFIX_LEN }
+    {
+        match at.byte {
+            None => self.slab[at.slot].prefix_len(),
+            Some(_) => MAX_PREFIX_LEN,
+        }
+    }
+
+    /// The first bytes of every key below a node with a slot of its own.
     #[inline(always)]
     pub(crate) fn prefix(&self, at: Name) -> &[u8]
-        requires { ContainsKey self.now at }
+        requires own { HasOwnSlot at }
+        requires stands { ContainsKey self.now at }
         ensures bytes { (x : Form ℕ P) → get self.now at ≡ Some x → result.now ≡ prefix_of x }
         ensures fits { length result.now ≤ MAX_PREFIX_LEN }
     {
+        self.slab[at.slot].prefix()
+    }
+
+    /// The first place where a key and the prefix of a node differ, and the prefix's byte there.
+    pub(crate) fn parting(&self, at: Name, key: &[u8; KEY_BYTES]) -> Parting
+        requires stands { ContainsKey self.now at }
+        requires differs { (x : Form ℕ P) → get self.now at ≡ Some x → fits (prefix_of x) key.now ≡ false }
+        ensures place { (x : Form ℕ P) → get self.now at ≡ Some x → DiffersAt key.now (prefix_of x) result.place }
+        ensures other { (x : Form ℕ P) → get self.now at ≡ Some x → result.other ≡ slice_index (prefix_of x) result.place }
+        ensures within { result.place < MAX_PREFIX_LEN }
+    {
         match at.byte {
-            None => self.slab[at.slot].prefix(),
-            Some(byte) => &self.lone(at.slot, byte).key[..MAX_PREFIX_LEN],
+            None => Parting::of(key, self.slab[at.slot].prefix()),
+            Some(byte) => Parting::of(key, &self.lone(at.slot, byte).key[..MAX_PREFIX_LEN]),
         }
     }
 
@@ -95,7 +125,7 @@ impl<P: Stored> Nodes<P> {
         requires { ContainsKey self.now at }
         ensures { (x : Form ℕ P) → get self.now at ≡ Some x → IsTrue result ↔ (length (prefix_of x) ≡ MAX_PREFIX_LEN) }
     {
-        self.prefix(at).len() == MAX_PREFIX_LEN
+        self.prefix_len(at) == MAX_PREFIX_LEN
     }
 
     /// The form of a node.
@@ -144,9 +174,7 @@ impl<P: Stored> Nodes<P> {
         ensures own { HasOwnSlot result }
         ensures capacity { self.new.capacity ≡ self.old.capacity }
     {
-        let slot = self
-            .slab
-            .insert_reserved(Slot::Inner(Placed::least(prefix)));
+        let slot = self.slab.insert_reserved(Slot::Inner(Inner::least(prefix)));
         Name::of(slot)
     }
 
@@ -155,6 +183,17 @@ impl<P: Stored> Nodes<P> {
         requires own { HasOwnSlot at }
         requires stands { ContainsKey self.old at }
         requires leaf { (x : Form ℕ P) → get self.old at ≡ Some x → length (prefix_of x) ≡ MAX_PREFIX_LEN }
+        ensures gone { Updates self.old self.new at None }
+        ensures capacity { self.new.capacity ≡ self.old.capacity }
+    {
+        self.slab.remove(at.slot);
+    }
+
+    /// Drops an inner node without children, which hangs nowhere.
+    pub(crate) fn remove_bare(&mut self, at: Name)
+        requires stands { ContainsKey self.old at }
+        requires inner { (x : Form ℕ P) → get self.old at ≡ Some x → length (prefix_of x) < MAX_PREFIX_LEN }
+        requires bare { (x : Form ℕ P) → get self.old at ≡ Some x → children_of x ≡ map.empty }
         ensures gone { Updates self.old self.new at None }
         ensures capacity { self.new.capacity ≡ self.old.capacity }
     {
@@ -170,6 +209,19 @@ impl<P: Stored> Nodes<P> {
         ensures capacity { self.new.capacity ≡ self.old.capacity }
     {
         self.slab[at.slot].grow(alloc)
+    }
+
+    /// Gives a node the form below. Where memory is refused, which the least form doesn't want, it stays as it was.
+    pub(crate) fn shrink(&mut self, alloc: Global, at: Name) -> Result<(), AllocError>
+        requires stands { ContainsKey self.old at }
+        requires greater { (x : Form ℕ P) → get self.old at ≡ Some x → form_of x ≢ N4 }
+        requires room { (x : Form ℕ P) → get self.old at ≡ Some x → map.len (children_of x) ≤ capacity_of (form_below (form_of x)) }
+        ensures shrunk { OnOk result ((x : Form ℕ P) → get self.old at ≡ Some x → ShrinksTo self.old self.new at x) }
+        ensures refused { OnErr result (SameValues self.old self.new) }
+        ensures memory { OnErr result ((x : Form ℕ P) → get self.old at ≡ Some x → form_below (form_of x) ≢ N4) }
+        ensures capacity { self.new.capacity ≡ self.old.capacity }
+    {
+        self.slab[at.slot].shrink(alloc)
     }
 
     /// The sum of the sizes of all nodes, in bytes.

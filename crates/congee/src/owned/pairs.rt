@@ -5,18 +5,21 @@ ghost use Rattle.congee.specs.Heap.{value_at};
 ghost use Rattle.congee.specs.forms.Forms.{size_of};
 ghost use Rattle.congee.specs.declared.forms.base_node.NodeType.TheVariants.{N256};
 ghost use Rattle.congee.specs.owned.Arena.{IsTree, heap_of};
+ghost use Rattle.congee.specs.owned.Full.{lacking_of};
 ghost use Rattle.congee.specs.owned.Levels.{nodes_of};
 ghost use Rattle.congee.specs.owned.Charge.{Covers};
 ghost use Rattle.congee.specs.owned.Edits.{Adds, Denies, Frees};
+ghost use Rattle.congee.specs.owned.Going.{goes_at, going_by};
 ghost use Rattle.congee.specs.owned.Sizes.{bytes_of};
 ghost use Rattle.congee.specs.owned.Stats.{root_alone};
 ghost use Rattle.congee.specs.owned.OwnedSteps.{IsRefusal, settled};
-ghost use Rattle.congee.specs.owned.Wanted.{WantsLeaf, freed_of, freed_by, wants_at, wants_of, lone_at};
+ghost use Rattle.congee.specs.owned.Wanted.{WantsLeaf, wants_at, wants_of};
 
 use crate::allocator::{Allocator, OOMError};
-use crate::forms::base_node::{Node, NodeType};
+use crate::forms::base_node::NodeType;
 use crate::keys::KEY_BYTES;
 use crate::owned::arena::{Arena, Stored};
+use crate::owned::inner::Inner;
 use crate::owned::names::Name;
 use crate::owned::nodes::Nodes;
 use crate::owned::place::{Place, Spot, Way};
@@ -30,13 +33,14 @@ impl<P: Stored, A: Allocator> Arena<P, A> {
         ensures nodes { IfOk result (λ t. nodes_of t.nodes ≡ root_alone) }
         ensures wants { IfOk result (λ t. WantsLeaf (wants_of t.nodes)) }
         ensures bytes { IfOk result (λ t. bytes_of t.nodes ≡ size_of N256) }
+        ensures filled { IfOk result (λ t. lacking_of t.nodes ≡ 0) }
         ensures charged { IfOk result (λ t. A.charged_of t.allocator ≡ A.charged_of allocator + size_of N256) }
         ensures limit { IfOk result (λ t. A.limit_of t.allocator ≡ A.limit_of allocator) }
         ensures refused { IfErr result (λ e. IsRefusal (A.charged_of allocator) (size_of N256) (A.limit_of allocator) e) }
     {
         let mut allocator = allocator;
         allocator.allocate(NodeType::N256.size())?;
-        let Ok(root) = Node::new(alloc, NodeType::N256, &[]) else {
+        let Ok(root) = Inner::new(alloc, NodeType::N256, &[]) else {
             return Err(OOMError::Memory);
         };
         match Nodes::new(alloc, root) {
@@ -75,7 +79,12 @@ impl<P: Stored, A: Allocator> Arena<P, A> {
         ensures refused { IfErr result (Denies A.charged_of A.limit_of self.old self.new
             key.now value (wants_at (heap_of self.old.nodes) key.now)) }
     {
-        let Place { above, at, spot } = self.locate(key);
+        let Place {
+            above,
+            at,
+            spot,
+            ..
+        } = self.locate(key);
         match spot {
             Spot::Held => Ok(Some(self.replace(at, key, value))),
             Spot::Free => {
@@ -89,35 +98,35 @@ impl<P: Stored, A: Allocator> Arena<P, A> {
         }
     }
 
-    /// Takes a key's value out.
-    pub(crate) fn remove(&mut self, key: &[u8; KEY_BYTES]) -> Option<P>
+    /// Takes a key's value out, and what goes with it.
+    pub(crate) fn remove(&mut self, alloc: Global, key: &[u8; KEY_BYTES]) -> Option<P>
         requires tree { IsTree self.old.nodes }
         requires covered { Covers A.charged_of self.old }
         ensures { Frees A.charged_of A.limit_of self.old self.new
-            key.now result None (freed_of (lone_at (heap_of self.old.nodes) key.now)) }
+            key.now result None (goes_at (heap_of self.old.nodes) key.now) }
     {
         let place = self.locate(key);
         match place.spot {
-            Spot::Held => {
-                if self.nodes.len(place.at) == 1 {
-                    return Some(self.drop_leaf(place.above, place.at, key));
-                }
-                Some(self.take_value(place.above, place.at, key))
-            }
+            Spot::Held => Some(self.take(alloc, &place, key)),
             Spot::Free => None,
             Spot::Apart(_) => None,
         }
     }
 
     /// Where the key has a value, puts the new one in its place or takes it out, and gives the one before.
-    pub(crate) fn settle(&mut self, key: &[u8; KEY_BYTES], new: Option<P>) -> Option<P>
+    pub(crate) fn settle(
+        &mut self,
+        alloc: Global,
+        key: &[u8; KEY_BYTES],
+        new: Option<P>,
+    ) -> Option<P>
         requires tree { IsTree self.old.nodes }
         requires covered { Covers A.charged_of self.old }
         ensures { Frees A.charged_of A.limit_of self.old self.new
-            key.now result (settled result new) (freed_by new (lone_at (heap_of self.old.nodes) key.now)) }
+            key.now result (settled result new) (going_by new (goes_at (heap_of self.old.nodes) key.now)) }
     {
         let value = match new {
-            None => return self.remove(key),
+            None => return self.remove(alloc, key),
             Some(value) => value,
         };
         let place = self.locate(key);

@@ -55,9 +55,11 @@ pub(crate) enum Spot {
     Apart(Name),
 }
 
-/// The end of a key's way: the last node, the one above it, and what the last one has for the key.
+/// The end of a key's way: the last node, the one above it and the one above that, and what the last one has for the key.
+/// Above the root stands the root.
 #[derive(Drop)]
 pub(crate) struct Place {
+    pub top: Name,
     pub above: Name,
     pub at: Name,
     pub spot: Spot,

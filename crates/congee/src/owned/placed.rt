@@ -1,10 +1,12 @@
 //! A node as a slot keeps it: beside it stands a copy of its prefix.
-ghost use Rattle.std.specs.Prelude.{◌≡◌, ◌<◌, ◌≤◌, ℕ, length, false, None, Some, IsSome, MatchOption, OnOk, OnErr};
+ghost use Rattle.std.specs.Prelude.{◌≡◌, ◌≢◌, ◌<◌, ◌≤◌, ℕ, length, false, None, Some, IsSome, MatchOption, OnOk, OnErr};
 ghost use Rattle.std.specs.Option.{option_copied};
 ghost use Rattle.std.specs.FinMap as map;
 ghost use Rattle.congee.specs.Heap.{fits};
 ghost use Rattle.congee.specs.forms.Bytes.{IsFirst};
 ghost use Rattle.congee.specs.forms.Forms.{Becomes, capacity_of, children_of, form_of, is_full_of, next_form, prefix_of};
+ghost use Rattle.congee.specs.protocol.Steps.{form_below};
+ghost use Rattle.congee.specs.declared.forms.base_node.NodeType.TheVariants.{N4};
 
 use crate::forms::base_node::{Node, NodeType};
 use crate::forms::child::{Child, Small};
@@ -36,8 +38,6 @@ impl<P: Small> Model for Placed<P> {
 }
 
 impl<P: Small> Placed<P> {
-    ghost use Rattle.congee.specs.declared.forms.base_node.NodeType.TheVariants.{N4};
-
     /// The node in its place.
     pub(crate) fn new(node: Node<usize, P>) -> Self
         ensures { result ≡ node }
@@ -45,19 +45,6 @@ impl<P: Small> Placed<P> {
         Placed {
             prefix: Prefix::new(node.prefix()),
             node,
-        }
-    }
-
-    /// An empty node of the least form.
-    pub(crate) fn least(prefix: &[u8]) -> Self
-        requires fits { length prefix.now ≤ MAX_PREFIX_LEN }
-        ensures form { form_of result ≡ N4 }
-        ensures prefix { prefix_of result ≡ prefix.now }
-        ensures children { children_of result ≡ map.empty }
-    {
-        Placed {
-            prefix: Prefix::new(prefix),
-            node: Node::least(prefix),
         }
     }
 
@@ -76,6 +63,15 @@ impl<P: Small> Placed<P> {
         ensures fits { length result.now ≤ MAX_PREFIX_LEN }
     {
         self.prefix.as_slice()
+    }
+
+    /// How many bytes they are.
+    #[inline(always)]
+    pub(crate) fn prefix_len(&self) -> usize
+        ensures count { result ≡ length (prefix_of self.now) }
+        ensures fits { result ≤ MAX_PREFIX_LEN }
+    {
+        self.prefix.len()
     }
 
     /// Whether its prefix is the beginning of the key.
@@ -166,5 +162,18 @@ impl<P: Small> Placed<P> {
         ensures refused { OnErr result (self.new ≡ self.old) }
     {
         self.node.grow(alloc)
+    }
+
+    /// Becomes a node of the form below, where its children fit. Where memory is refused, which the least form doesn't want, the
+    /// node stays as it was.
+    pub(crate) fn shrink(&mut self, alloc: Global) -> Result<(), AllocError>
+        requires room { map.len (children_of self.old) ≤ capacity_of (form_below (form_of self.old)) }
+        ensures form { OnOk result (form_of self.new ≡ form_below (form_of self.old)) }
+        ensures prefix { OnOk result (prefix_of self.new ≡ prefix_of self.old) }
+        ensures children { OnOk result (children_of self.new ≡ children_of self.old) }
+        ensures refused { OnErr result (self.new ≡ self.old) }
+        ensures memory { OnErr result (form_below (form_of self.old) ≢ N4) }
+    {
+        self.node.shrink(alloc)
     }
 }

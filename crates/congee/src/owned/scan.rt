@@ -15,8 +15,8 @@ ghost use Rattle.slab.specs.Slab.{ContainsKey};
 use crate::allocator::Allocator;
 use crate::keys::{KEY_BYTES, bytes_of_key};
 use crate::owned::arena::{Arena, Stored};
-use crate::owned::edit::first_apart;
 use crate::owned::names::Name;
+use crate::owned::parting::Parting;
 use crate::owned::place::Way;
 use crate::owned::sight::{Next, Sight};
 use arrayvec::ArrayVec;
@@ -77,14 +77,13 @@ impl<P: Stored, A: Allocator> Arena<P, A> {
         let mut above = Cursor::new();
         let mut at = Name::root();
         loop {
-            let mut from = bytes[self.nodes.prefix(at).len()] as usize;
+            let mut from = bytes[self.nodes.prefix_len(at)] as usize;
             match self.nodes.look(at, &bytes) {
                 Way::Free => return self.enter(above, at, from),
                 Way::Held(_) => return self.enter(above, at, from),
                 Way::Apart(below) => {
-                    let prefix = self.nodes.prefix(below);
-                    let apart = first_apart(&bytes, prefix);
-                    if prefix[apart] < bytes[apart] {
+                    let Parting { place, other } = self.nodes.parting(below, &bytes);
+                    if other < bytes[place] {
                         from += 1;
                     }
                     return self.enter(above, at, from);

@@ -12,7 +12,8 @@ use crate::forms::child::Child;
 use crate::forms::prefix::MAX_PREFIX_LEN;
 use crate::keys::key_of_bytes;
 use crate::owned::arena::Stored;
-use crate::owned::lone::Lone;
+use crate::owned::entries::{Hung, Seen};
+use crate::owned::inner::Inner;
 use crate::owned::names::Name;
 use crate::owned::placed::Placed;
 
@@ -20,9 +21,9 @@ use crate::owned::placed::Placed;
 #[derive(Drop)]
 pub(crate) enum Sight<'a, P: Stored> {
     /// A leaf with one value, in the place of its parent.
-    Inline(&'a Lone<P>),
+    Inline(Seen<'a, P>),
     /// An inner node, and its slot.
-    Inner(usize, &'a Placed<Lone<P>>),
+    Inner(usize, &'a Inner<P>),
     /// A leaf with a slot of its own, and the least key that it may have.
     Leaf(u64, &'a Placed<P>),
 }
@@ -51,21 +52,21 @@ impl<'a, P: Stored> Sight<'a, P> {
         ensures key { (s : Nodes P) (at : ℕ) → Sees s at self.now → IfSome result (λ r. HasKey s at r.0 r.1) }
     {
         match *self {
-            Sight::Inline(lone) => {
+            Sight::Inline(ref lone) => {
                 let last = lone.key[MAX_PREFIX_LEN];
                 if from <= last as usize {
-                    Some((last, Next::Value(key_of_bytes(&lone.key), &lone.value)))
+                    Some((last, Next::Value(key_of_bytes(&lone.key), lone.value)))
                 } else {
                     None
                 }
             }
             Sight::Inner(slot, n) => match n.first_from(from) {
                 None => None,
-                Some((byte, Child::Blank)) => Some((byte, Next::Blank)),
-                Some((byte, Child::Node(below))) => Some((byte, Next::Node(Name::of(*below)))),
-                Some((byte, Child::Value(lone))) => {
+                Some((byte, Hung::Blank)) => Some((byte, Next::Blank)),
+                Some((byte, Hung::Node(below))) => Some((byte, Next::Node(Name::of(below)))),
+                Some((byte, Hung::Leaf(lone))) => {
                     let name = Name::inline(slot, byte);
-                    Some((byte, Next::Leaf(name, key_of_bytes(&lone.key), &lone.value)))
+                    Some((byte, Next::Leaf(name, key_of_bytes(&lone.key), lone.value)))
                 }
             },
             Sight::Leaf(least, n) => match n.first_from(from) {

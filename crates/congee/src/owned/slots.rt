@@ -1,5 +1,5 @@
 //! The nodes with slots of their own, inner ones and leaves.
-ghost use Rattle.std.specs.Prelude.{◌≡◌, ◌≤◌, length, Some, None, false, IsSome, OnOk, OnErr};
+ghost use Rattle.std.specs.Prelude.{◌≡◌, ◌≢◌, ◌≤◌, length, slice_index, Some, None, false, IsSome, OnOk, OnErr};
 ghost use Rattle.std.specs.FinMap as map;
 ghost use Rattle.congee.specs.Heap.{fits};
 ghost use Rattle.congee.specs.declared.keys.TheConstants.{KEY_BYTES};
@@ -8,20 +8,27 @@ ghost use Rattle.congee.specs.declared.forms.prefix.TheConstants.{MAX_PREFIX_LEN
 use crate::forms::base_node::NodeType;
 use crate::forms::child::{Child, Small};
 use crate::keys::KEY_BYTES;
+use crate::owned::entries::{Hung, Seen};
+use crate::owned::inner::Inner;
+use crate::owned::lone::Lone;
 use crate::owned::placed::Placed;
 use std::alloc::{AllocError, Global};
 
 /// A node with a slot of its own. A child of an inner node is a node by its slot, or a leaf with one value.
 #[derive(Drop)]
-pub(crate) enum Slot<L: Small, P: Small> {
-    Inner(Placed<L>),
+pub(crate) enum Slot<P: Small> {
+    Inner(Inner<P>),
     Leaf(Placed<P>),
 }
 
-impl<L: Small, P: Small> Slot<L, P> {
+impl<P: Small> Slot<P> {
     ghost use Rattle.congee.specs.Heap.{fits};
     ghost use Rattle.congee.specs.forms.Forms.{capacity_of};
     ghost use Rattle.congee.specs.declared.forms.child.Child.TheVariants.{Value};
+    ghost use Rattle.congee.specs.protocol.Steps.{form_below};
+    ghost use Rattle.congee.specs.declared.forms.base_node.NodeType.TheVariants.{N4};
+    ghost use Rattle.congee.specs.owned.Lesser.{Shrunk};
+    ghost use Rattle.congee.specs.owned.Entries.{Begins, first_byte, lone_seen};
     ghost use Rattle.congee.specs.owned.Kinds.{prefix_in, form_in, len_in, full_in, HasLowBytes, IsInner, IsLeaf, inner_get, leaf_get, IsValue, Cleared, InnerBecomes, LeafBecomes, Grown};
 
     #[inline(always)]
@@ -32,6 +39,17 @@ impl<L: Small, P: Small> Slot<L, P> {
         match self {
             Slot::Inner(n) => n.prefix(),
             Slot::Leaf(n) => n.prefix(),
+        }
+    }
+
+    #[inline(always)]
+    pub(crate) fn prefix_len(&self) -> usize
+        ensures count { result ≡ length (prefix_in self.now) }
+        ensures fits { result ≤ MAX_PREFIX_LEN }
+    {
+        match self {
+            Slot::Inner(n) => n.prefix_len(),
+            Slot::Leaf(n) => n.prefix_len(),
         }
     }
 
@@ -87,17 +105,31 @@ impl<L: Small, P: Small> Slot<L, P> {
         }
     }
 
-    /// A value of an inner node.
+    /// Becomes the form below. Where memory is refused, it stays as it was.
+    pub(crate) fn shrink(&mut self, alloc: Global) -> Result<(), AllocError>
+        requires room { len_in self.old ≤ capacity_of (form_below (form_in self.old)) }
+        ensures shrunk { OnOk result (Shrunk self.old self.new) }
+        ensures refused { OnErr result (self.new ≡ self.old) }
+        ensures memory { OnErr result (form_below (form_in self.old) ≢ N4) }
+    {
+        match self {
+            Slot::Inner(n) => n.shrink(alloc),
+            Slot::Leaf(n) => n.shrink(alloc),
+        }
+    }
+
+    /// The leaf with one value under a byte of an inner node.
     #[inline(always)]
-    pub(crate) fn lone(&self, byte: u8) -> &L
+    pub(crate) fn lone(&self, byte: u8) -> Seen<'_, P>
         requires present { IsValue (inner_get self.now byte) }
-        ensures { inner_get self.now byte ≡ Some (Value result.now) }
+        ensures leaf { inner_get self.now byte ≡ Some (Value (lone_seen result)) }
+        ensures begins { slice_index result.key 0 ≡ first_byte (prefix_in self.now) byte }
     {
         match self {
             Slot::Inner(n) => match n.get_child(byte) {
-                Some(Child::Value(lone)) => lone,
-                Some(Child::Node(_)) => unreachable!(),
-                Some(Child::Blank) => unreachable!(),
+                Some(Hung::Leaf(leaf)) => leaf,
+                Some(Hung::Node(_)) => unreachable!(),
+                Some(Hung::Blank) => unreachable!(),
                 None => unreachable!(),
             },
             Slot::Leaf(_) => unreachable!(),
@@ -150,10 +182,11 @@ impl<L: Small, P: Small> Slot<L, P> {
     }
 
     #[inline(always)]
-    pub(crate) fn put_child(&mut self, byte: u8, child: Child<usize, L>)
+    pub(crate) fn put_child(&mut self, byte: u8, child: Child<usize, Lone<P>>)
         requires inner { IsInner self.old }
         requires absent { inner_get self.old byte ≡ None }
         requires room { full_in self.old ≡ false }
+        requires begins { Begins (first_byte (prefix_in self.old) byte) child }
         ensures { InnerBecomes self.old self.new (λ m. map.insert m byte child) }
     {
         match self {
@@ -163,8 +196,13 @@ impl<L: Small, P: Small> Slot<L, P> {
     }
 
     #[inline(always)]
-    pub(crate) fn change_child(&mut self, byte: u8, child: Child<usize, L>) -> Child<usize, L>
+    pub(crate) fn change_child(
+        &mut self,
+        byte: u8,
+        child: Child<usize, Lone<P>>,
+    ) -> Child<usize, Lone<P>>
         requires present { IsSome (inner_get self.old byte) }
+        requires begins { Begins (first_byte (prefix_in self.old) byte) child }
         ensures was { inner_get self.old byte ≡ Some result }
         ensures now { InnerBecomes self.old self.new (λ m. map.insert m byte child) }
     {
@@ -175,7 +213,7 @@ impl<L: Small, P: Small> Slot<L, P> {
     }
 
     #[inline(always)]
-    pub(crate) fn take_child(&mut self, byte: u8) -> Child<usize, L>
+    pub(crate) fn take_child(&mut self, byte: u8) -> Child<usize, Lone<P>>
         requires present { IsSome (inner_get self.old byte) }
         ensures was { inner_get self.old byte ≡ Some result }
         ensures now { InnerBecomes self.old self.new (λ m. map.remove m byte) }

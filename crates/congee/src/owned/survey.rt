@@ -4,6 +4,7 @@ ghost use Rattle.std.specs.FinMap as map;
 ghost use Rattle.std.specs.List.{All};
 ghost use Rattle.slab.specs.Slab.{get, ContainsKey};
 ghost use Rattle.congee.specs.owned.Arena.{IsTree, heap_of};
+ghost use Rattle.congee.specs.owned.Full.{AllFilled, lacking_of};
 ghost use Rattle.congee.specs.owned.Levels.{nodes_from, nodes_of};
 ghost use Rattle.congee.specs.owned.Stats.{HasValue, IsTally, Shape, capped};
 ghost use Rattle.congee.specs.owned.Sizes.{bytes_of};
@@ -45,6 +46,12 @@ impl<P: Stored, A: Allocator> Arena<P, A> {
     pub(crate) fn leaves_hold(&self)
         requires { IsTree self.now.nodes }
         ensures { All HasValue (nodes_of self.now.nodes) }
+    {}
+
+    /// Where no node but the root lacks a child, each has as many as it should.
+    pub(crate) fn nodes_filled(&self)
+        requires { IsTree self.now.nodes }
+        ensures { lacking_of self.now.nodes ≡ 0 → AllFilled (nodes_of self.now.nodes) }
     {}
 
     /// The number of pairs; one past `u64::MAX` stays there.

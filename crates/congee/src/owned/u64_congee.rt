@@ -6,11 +6,13 @@ ghost use Rattle.std.specs.FinMap as map;
 ghost use Rattle.congee.specs.forms.Forms.{size_of};
 ghost use Rattle.congee.specs.declared.forms.base_node.NodeType.TheVariants.{N256};
 ghost use Rattle.congee.specs.owned.Content.{Inserts, IsBare, KeepsCharge, ChangesNothing, Refuses, Modifies};
+ghost use Rattle.congee.specs.owned.Full.{AllFilled};
 ghost use Rattle.congee.specs.owned.Nearest.{IsLeast, IsGreatest, pair_by};
 ghost use Rattle.congee.specs.owned.OwnedSteps.{IsRefusal};
 ghost use Rattle.congee.specs.owned.Ranges.{by_bytes, in_range, keys_by};
+ghost use Rattle.congee.specs.owned.Runs.{StaysFilled};
 ghost use Rattle.congee.specs.owned.Stats.{HasValue, IsTally, capped};
-ghost use Rattle.congee.specs.owned.Wanted.{freed_of, freed_by};
+ghost use Rattle.congee.specs.owned.Going.{going_by};
 ghost use Rattle.congee.specs.owned.Weights.{sizes_of};
 ghost use Rattle.judge.specs.declared.journal.Call.TheVariants as call;
 ghost use Rattle.judge.specs.declared.journal.Reply.TheVariants as reply;
@@ -62,10 +64,11 @@ impl<V: Word64, A: Allocator> U64Congee<V, A> {
         self.tree.insert(key, value)
     }
 
-    /// Takes a key's value out.
+    /// Takes a key's value out. A node that it leaves small gives place to a lesser one. Where budget or memory has no room for that
+    /// one, it is skipped, and the node stays.
     pub fn remove(&mut self, key: u64) -> Option<V>
         ensures removes { (before : Option ℕ) × (result ≡ option_map V.of_word before)
-            × Modifies nat_eq A.charged_of A.limit_of self.old.tree self.new.tree (freed_of (map.get self.old.tree.lone key))
+            × Modifies nat_eq A.charged_of A.limit_of self.old.tree self.new.tree (map.get self.old.tree.goes key)
             (call.Remove key) (reply.Remove before) }
         ensures base { self.new.tree.base ≡ self.old.tree.base }
     {
@@ -82,7 +85,7 @@ impl<V: Word64, A: Allocator> U64Congee<V, A> {
         requires { F.IsAlwaysCallable f }
         ensures asked { IfSome result (λ r. (after : F) × F.step f r.0 r.1 after) }
         ensures present { IfSome result (λ r. Modifies nat_eq A.charged_of A.limit_of self.old.tree self.new.tree
-            (freed_by r.1 (map.get self.old.tree.lone key))
+            (going_by r.1 (map.get self.old.tree.goes key))
             (call.ComputePresent key r.1) (reply.ComputePresent (Some (r.0, r.1)))) }
         ensures absent { IfNone result (ChangesNothing nat_eq A.charged_of A.limit_of self.old.tree self.new.tree
             (call.ComputePresent key None) (reply.ComputePresent None)) }
@@ -192,6 +195,15 @@ impl<V: Word64, A: Allocator> U64Congee<V, A> {
         ensures { All HasValue self.now.tree.nodes }
     {
         self.tree.leaves_hold();
+    }
+
+    /// Where no node but the root lacks a child, each has two nodes below it at least, or one value, and isn't too small for its
+    /// form. It is so after any calls on a new tree of which none goes on without a lesser node that it wants.
+    pub fn nodes_filled(&self)
+        ensures filled { self.now.tree.lacking ≡ 0 → AllFilled self.now.tree.nodes }
+        ensures run { StaysFilled nat_eq A.charged_of A.limit_of self.now.tree }
+    {
+        self.tree.nodes_filled();
     }
 
     /// The bytes that the allocator has charged: those that it had charged before the tree was opened, and the nodes' sizes.

@@ -2,11 +2,12 @@
 ghost use Rattle.std.specs.Prelude.{◌≡◌, ◌≢◌, ◌<◌, ◌≤◌, Bool, Option, None, Result, IfErr};
 ghost use Rattle.congee.specs.Heap.{Nothing, Below, Stands};
 ghost use Rattle.congee.specs.Keys.{key_bytes};
-ghost use Rattle.congee.specs.protocol.Steps.{turn_of, form_above, decided, after_change, Acts, MayLock, IsReleasing, BackOne, BackTwo, MadeLeaf, MadeGreater, MadeTop, MadeBeside, UpgradedOne, UpgradedAbove, UpgradedBelow, ChangedOne, ChangedTwo, IsCheckedAbove, MayStep, MayBackOne, MayBackTwo, MayBackLeaf, MayChangeOne, MayChangeTwo, Changeable, Blank, PutsGreater, PutsFork, PhaseStepped};
+ghost use Rattle.congee.specs.protocol.Steps.{turn_of, form_above, decided, after_change, Acts, MayLock, IsReleasing, IsUnlocking, BackOne, BackTwo, MadeLeaf, MadeGreater, MadeTop, MadeBeside, MadeLesser, lesser_form, UpgradedOne, UpgradedTop, UpgradedAbove, UpgradedBelow, Collapses, PutsLesser, Lessens, MayLessen, MayTop, ChangedOne, ChangedTwo, IsCheckedAbove, MayStep, MayBackOne, MayBackTwo, MayBackLeaf, MayChangeOne, MayChangeTwo, Changeable, Blank, PutsGreater, PutsFork, PhaseStepped};
 ghost use Rattle.congee.specs.protocol.Events.{hung, upgrade_gives, HoldsAlike};
 ghost use Rattle.congee.specs.declared.protocol.store.Upgrade.{Upgrade};
 ghost use Rattle.congee.specs.declared.protocol.store.Refusal.{Refusal};
 ghost use Rattle.congee.specs.declared.protocol.phase.Phase.TheVariants as phase;
+ghost use Rattle.congee.specs.declared.protocol.phase.Double.TheVariants as double;
 ghost use Rattle.congee.specs.declared.forms.base_node.NodeType.TheVariants as base;
 ghost use Rattle.congee.specs.protocol.Bounds.{Within};
 
@@ -61,6 +62,15 @@ impl<C: NodeName, P: Payload> Machine<C, P> {
                 let (above, at, common, byte, top) = (*above, *at, *common, *byte, *top);
                 self.make_beside(store, above, at, common, byte, top)
             }
+            Phase::MakeLesser {
+                site,
+                above,
+                top,
+                reply,
+            } => {
+                let (site, above, top, reply) = (*site, *above, *top, taken(reply));
+                self.make_lesser(store, site, above, top, reply)
+            }
             // The phases that lock or change nodes, and the later ones: each has its arm there.
             _ => self.lock(store, fail),
         }
@@ -91,6 +101,10 @@ impl<C: NodeName, P: Payload> Machine<C, P> {
                 let (one, reply) = (*one, taken(reply));
                 self.change_one(store, one, reply)
             }
+            Phase::UpgradeTop { top, two, reply } => {
+                let (top, two, reply) = (*top, *two, taken(reply));
+                self.upgrade_top(store, top, two, reply, fail)
+            }
             Phase::UpgradeAbove { two, reply } => {
                 let (two, reply) = (*two, taken(reply));
                 self.upgrade_above(store, two, reply, fail)
@@ -108,7 +122,7 @@ impl<C: NodeName, P: Payload> Machine<C, P> {
         }
     }
 
-    /// The step of a phase that marks, hands over or unlocks a node, or of a call that has ended.
+    /// The step of a phase that marks or hands over a node, or of a later one.
     fn leave<S: Store<C, P>>(&mut self, store: &mut S) -> Move<P>
         requires may { MayStep C.number self.old.root (key_bytes self.old.key) self.old.given self.old.phase (S.heap store.old) }
         requires leaves { IsReleasing self.old.phase }
@@ -119,16 +133,47 @@ impl<C: NodeName, P: Payload> Machine<C, P> {
         ensures step { (fail : Bool) (answer : Option (Option P)) → PhaseStepped C.number P.same_as P.always_copies (S.version_max store.old) (S.refuses store.old) self.old.root (key_bytes self.old.key) self.old.kind fail answer self.old.given self.old.phase (S.heap store.old) self.new.given (turn_of self.new.phase result) (S.heap store.new) }
     {
         match &mut self.phase {
-            Phase::Obsolete { node, above, reply } => {
-                let (node, above, reply) = (*node, *above, taken(reply));
+            Phase::Obsolete {
+                node,
+                next,
+                above,
+                reply,
+            } => {
+                let (node, next, above, reply) = (*node, *next, *above, taken(reply));
                 store.obsolete(node);
-                self.phase.quiet(Phase::Retire { node, above, reply })
+                self.phase.quiet(Phase::Retire {
+                    node,
+                    next,
+                    above,
+                    reply,
+                })
             }
-            Phase::Retire { node, above, reply } => {
-                let (node, above, reply) = (*node, *above, taken(reply));
+            Phase::Retire {
+                node,
+                next,
+                above,
+                reply,
+            } => {
+                let (node, next, above, reply) = (*node, *next, *above, taken(reply));
                 store.retire(node);
-                self.phase.quiet(Phase::Unlock { node: above, reply })
+                self.phase.after_retire(next, above, reply)
             }
+            // The phases that unlock a node, and the last one: each has its arm there.
+            _ => self.release(store),
+        }
+    }
+
+    /// The step of a phase that unlocks a node, or of a call that has ended.
+    fn release<S: Store<C, P>>(&mut self, store: &mut S) -> Move<P>
+        requires may { MayStep C.number self.old.root (key_bytes self.old.key) self.old.given self.old.phase (S.heap store.old) }
+        requires unlocks { IsUnlocking self.old.phase }
+        requires within { Within (S.version_max store.old) (S.heap store.old) }
+        ensures phase_alone { self.new ≡ record self.old { phase = self.new.phase } }
+        ensures limit { S.version_max store.new ≡ S.version_max store.old }
+        ensures rest { S.rest store.new ≡ S.rest store.old }
+        ensures step { (fail : Bool) (answer : Option (Option P)) → PhaseStepped C.number P.same_as P.always_copies (S.version_max store.old) (S.refuses store.old) self.old.root (key_bytes self.old.key) self.old.kind fail answer self.old.given self.old.phase (S.heap store.old) self.new.given (turn_of self.new.phase result) (S.heap store.new) }
+    {
+        match &mut self.phase {
             Phase::UnlockBelow { node, above, reply } => {
                 let (node, above, reply) = (*node, *above, taken(reply));
                 store.unlock(node);
@@ -139,14 +184,19 @@ impl<C: NodeName, P: Payload> Machine<C, P> {
                 store.unlock(node);
                 self.phase.finished(reply)
             }
-            Phase::Unwind { node, refusal } => {
-                let (node, refusal) = (*node, *refusal);
+            Phase::Unwind {
+                node,
+                next,
+                refusal,
+            } => {
+                let (node, next, refusal) = (*node, *next, *refusal);
                 store.unlock(node);
-                self.phase.unwound(self.root, refusal)
+                self.phase.after_unwind(self.root, next, refusal)
             }
             // A call that has ended stays so; what is no phase after a change doesn't come here.
             _ => Move {
                 decided: false,
+                skipped: false,
                 outcome: Outcome::Running,
             },
         }
@@ -257,6 +307,49 @@ impl<C: NodeName, P: Payload> Machine<C, P> {
         }
     }
 
+    /// Makes the lesser node that takes the place of the leaf, or of the node above. Where it can't be made, the call goes on
+    /// without it.
+    fn make_lesser<S: Store<C, P>>(
+        &mut self,
+        store: &mut S,
+        site: Site<C>,
+        above: Parent<C>,
+        top: Option<Parent<C>>,
+        reply: Reply<P>,
+    ) -> Move<P>
+        requires depth { site.depth ≤ MAX_PREFIX_LEN }
+        requires depth_above { above.depth ≤ MAX_PREFIX_LEN }
+        ensures phase_alone { self.new ≡ record self.old { phase = self.new.phase } }
+        ensures limit { S.version_max store.new ≡ S.version_max store.old }
+        ensures rest { S.rest store.new ≡ S.rest store.old }
+        ensures made { ((x : Result C Refusal) × MadeLesser C.number site above top reply (S.heap store.old) (key_bytes self.old.key) x (S.heap store.new) (turn_of self.new.phase result) × IfErr x (S.refuses store.old (lesser_form site above top))) }
+    {
+        let key = self.key.to_be_bytes();
+        match top {
+            None => match store.make(site.form.below(), &key, site.depth) {
+                Err(_) => self.phase.skipping(Phase::UpgradeOne {
+                    one: site.one(Single::Set),
+                    reply,
+                }),
+                Ok(node) => self.phase.quiet(Phase::UpgradeAbove {
+                    two: site.both(above, Double::Shrink { node }),
+                    reply,
+                }),
+            },
+            Some(top) => match store.make(above.form.below(), &key, above.depth) {
+                Err(_) => self.phase.skipping(Phase::UpgradeAbove {
+                    two: site.both(above, Double::Unlink),
+                    reply,
+                }),
+                Ok(node) => self.phase.quiet(Phase::UpgradeTop {
+                    top,
+                    two: site.both(above, Double::ShrinkAbove { node }),
+                    reply,
+                }),
+            },
+        }
+    }
+
     /// Checks the node above before one node is changed.
     fn check_above<S: Store<C, P>>(
         &mut self,
@@ -304,7 +397,38 @@ impl<C: NodeName, P: Payload> Machine<C, P> {
         self.phase.unwound(self.root, refusal)
     }
 
-    /// Locks the node above, the first of two.
+    /// Locks the node above both, the first of three.
+    fn upgrade_top<S: Store<C, P>>(
+        &mut self,
+        store: &mut S,
+        top: Parent<C>,
+        two: Two<C>,
+        reply: Reply<P>,
+        fail: bool,
+    ) -> Move<P>
+        requires stands { Stands (S.heap store.old (C.number top.seat.node)) }
+        requires made { MayBackTwo C.number (S.heap store.old) two.change }
+        ensures phase_alone { self.new ≡ record self.old { phase = self.new.phase } }
+        ensures limit { S.version_max store.new ≡ S.version_max store.old }
+        ensures rest { S.rest store.new ≡ S.rest store.old }
+        ensures upgraded { ((u : Upgrade) × (u ≡ upgrade_gives (S.version_max store.old) (S.heap store.old (C.number top.seat.node)) top.seat.version fail) × UpgradedTop C.number self.old.root top two reply (S.heap store.old) u (S.heap store.new) (turn_of self.new.phase result)) }
+    {
+        let refusal = match store.upgrade(top.seat, fail) {
+            Upgrade::Locked => {
+                let two = Two {
+                    top: Some(top),
+                    ..two
+                };
+                return self.phase.quiet(Phase::UpgradeAbove { two, reply });
+            }
+            Upgrade::Failed => None,
+            Upgrade::Exhausted => Some(Refusal::Exhausted),
+        };
+        give_up_two(store, two.change, reply);
+        self.phase.unwound(self.root, refusal)
+    }
+
+    /// Locks the node above: the first of two, or the second of three.
     fn upgrade_above<S: Store<C, P>>(
         &mut self,
         store: &mut S,
@@ -325,10 +449,11 @@ impl<C: NodeName, P: Payload> Machine<C, P> {
             Upgrade::Exhausted => Some(Refusal::Exhausted),
         };
         give_up_two(store, two.change, reply);
-        self.phase.unwound(self.root, refusal)
+        let top = two.top;
+        self.phase.given_up(self.root, top, refusal)
     }
 
-    /// Locks the node at hand, where the node above is locked.
+    /// Locks the node at hand, the last one, where those above are locked.
     fn upgrade_below<S: Store<C, P>>(
         &mut self,
         store: &mut S,
@@ -344,13 +469,18 @@ impl<C: NodeName, P: Payload> Machine<C, P> {
         ensures upgraded { ((u : Upgrade) × (u ≡ upgrade_gives (S.version_max store.old) (S.heap store.old (C.number two.at.node)) two.at.version fail) × UpgradedBelow C.number two reply (S.heap store.old) u (S.heap store.new) (turn_of self.new.phase result)) }
     {
         let node = two.parent();
+        let next = two.top_node();
         let refusal = match store.upgrade(two.at, fail) {
             Upgrade::Locked => return self.phase.quiet(Phase::ChangeTwo { two, reply }),
             Upgrade::Failed => None,
             Upgrade::Exhausted => Some(Refusal::Exhausted),
         };
         give_up_two(store, two.change, reply);
-        self.phase.quiet(Phase::Unwind { node, refusal })
+        self.phase.quiet(Phase::Unwind {
+            node,
+            next,
+            refusal,
+        })
     }
 
     /// Changes the one locked node, a new leaf being filled before: the call takes effect.
@@ -378,7 +508,7 @@ impl<C: NodeName, P: Payload> Machine<C, P> {
         self.phase.decided(Phase::Unlock { node, reply })
     }
 
-    /// Changes the node above, with both locked: the call takes effect.
+    /// Changes the node above, or the one above both, with all of them locked: the call takes effect.
     fn change_two<S: Store<C, P>>(&mut self, store: &mut S, two: Two<C>, reply: Reply<P>) -> Move<P>
         requires { MayChangeTwo C.number (key_bytes self.old.key) self.old.given two two.change (S.heap store.old) }
         ensures root { self.new.root ≡ self.old.root }
@@ -395,7 +525,7 @@ impl<C: NodeName, P: Payload> Machine<C, P> {
     }
 }
 
-/// Changes the node above, and before it the new nodes.
+/// Changes the node above, or the one above both, and before it the new nodes.
 fn put_two<C: NodeName, P: Payload, S: Store<C, P>>(
     store: &mut S,
     two: Two<C>,
@@ -411,6 +541,9 @@ fn put_two<C: NodeName, P: Payload, S: Store<C, P>>(
     let change = two.change;
     match change {
         Double::Unlink => store.change(two.parent(), two.above.byte, Child::Blank),
+        Double::Shrink { node: lesser } => shrink(store, two, lesser, key[MAX_PREFIX_LEN]),
+        Double::Collapse => lift(store, two),
+        Double::ShrinkAbove { node: lesser } => lessen(store, two, lesser),
         Double::Grow { node: greater } => put_greater(
             store,
             two,
@@ -435,6 +568,74 @@ fn put_two<C: NodeName, P: Payload, S: Store<C, P>>(
             store.fill(leaf, key[MAX_PREFIX_LEN], value);
             put_fork(store, two, top, byte, key[common], leaf);
         }
+    }
+}
+
+/// Puts a lesser node, without the child at the byte, in the place of another one, which hangs in a locked node.
+fn put_lesser<C: NodeName, P: Payload, S: Store<C, P>>(
+    store: &mut S,
+    old: C,
+    lesser: C,
+    byte: u8,
+    above: C,
+    up: u8,
+)
+    requires { MayLessen (S.heap store.old) (C.number old) (C.number lesser) byte (C.number above) up }
+    ensures limit { S.version_max store.new ≡ S.version_max store.old }
+    ensures rest { S.rest store.new ≡ S.rest store.old }
+    ensures put { PutsLesser (S.heap store.old) (C.number old) (C.number lesser) byte (C.number above) up (S.heap store.new) }
+{
+    store.take_over(old, lesser);
+    store.fill(lesser, byte, Child::Blank);
+    store.change(above, up, Child::Node(lesser));
+}
+
+/// Puts a lesser leaf, without the value at the byte, in the place of the one at hand.
+fn shrink<C: NodeName, P: Payload, S: Store<C, P>>(store: &mut S, two: Two<C>, lesser: C, byte: u8)
+    requires { MayLessen (S.heap store.old) (C.number two.at.node) (C.number lesser) byte (C.number two.above.seat.node) two.above.byte }
+    ensures limit { S.version_max store.new ≡ S.version_max store.old }
+    ensures rest { S.rest store.new ≡ S.rest store.old }
+    ensures put { PutsLesser (S.heap store.old) (C.number two.at.node) (C.number lesser) byte (C.number two.above.seat.node) two.above.byte (S.heap store.new) }
+{
+    let Two { above, at, .. } = two;
+    put_lesser(store, at.node, lesser, byte, above.seat.node, above.byte);
+}
+
+/// Puts the other child of the node above in its place, in the node above both.
+fn lift<C: NodeName, P: Payload, S: Store<C, P>>(store: &mut S, two: Two<C>)
+    requires { MayTop C.number two double.Collapse two.top (S.heap store.old) }
+    ensures limit { S.version_max store.new ≡ S.version_max store.old }
+    ensures rest { S.rest store.new ≡ S.rest store.old }
+    ensures put { Collapses C.number two two.top (S.heap store.old) (S.heap store.new) }
+{
+    let Two { top, above, .. } = two;
+    match top {
+        None => unreachable!(),
+        Some(top) => {
+            let other = store.other(above.seat.node, above.byte);
+            store.change(top.seat.node, top.byte, Child::Node(other));
+        }
+    }
+}
+
+/// Puts a lesser node, without the leaf, in the place of the node above, in the node above both.
+fn lessen<C: NodeName, P: Payload, S: Store<C, P>>(store: &mut S, two: Two<C>, lesser: C)
+    requires { MayTop C.number two (double.ShrinkAbove lesser) two.top (S.heap store.old) }
+    ensures limit { S.version_max store.new ≡ S.version_max store.old }
+    ensures rest { S.rest store.new ≡ S.rest store.old }
+    ensures put { Lessens C.number two lesser two.top (S.heap store.old) (S.heap store.new) }
+{
+    let Two { top, above, .. } = two;
+    match top {
+        None => unreachable!(),
+        Some(top) => put_lesser(
+            store,
+            above.seat.node,
+            lesser,
+            above.byte,
+            top.seat.node,
+            top.byte,
+        ),
     }
 }
 
@@ -521,6 +722,9 @@ fn give_up_two<C: NodeName, P: Payload, S: Store<C, P>>(
     drop(reply);
     match change {
         Double::Unlink => {}
+        Double::Shrink { node } => store.give_back(node),
+        Double::Collapse => {}
+        Double::ShrinkAbove { node } => store.give_back(node),
         Double::Grow { node } => store.give_back(node),
         Double::GrowLink { node, leaf, .. } => {
             store.give_back(leaf);

@@ -18,12 +18,13 @@ ghost use Rattle.congee.specs.protocol.Answers.{Keeps};
 ghost use Rattle.congee.specs.protocol.Bounds.{Within};
 ghost use Rattle.congee.specs.protocol.Destroys.{Destroys, Spares};
 ghost use Rattle.congee.specs.protocol.Events.{HoldsAlike};
+ghost use Rattle.congee.specs.protocol.Filled.{KeepsFilled};
 ghost use Rattle.congee.specs.protocol.Handing.{Leads, InTree};
-ghost use Rattle.congee.specs.Heap.{Node};
+ghost use Rattle.congee.specs.Heap.{Node, value_at};
 ghost use Rattle.congee.specs.protocol.Holdings.{MadeBy, Holdings};
 ghost use Rattle.congee.specs.Keys.{key_bytes, IsMapOf};
 ghost use Rattle.congee.specs.protocol.Leaving.{StepLeaves};
-ghost use Rattle.congee.specs.Ledger.{Note, Held, Linked, Tree, LockWords};
+ghost use Rattle.congee.specs.Ledger.{Note, Held, Linked, Tree, LockWords, Lifts, Collapses, Lessens, Shrinks};
 ghost use Rattle.congee.specs.protocol.Opening.{FreshRoot};
 ghost use Rattle.congee.specs.protocol.PlainSteps.{Mark, plain_step};
 ghost use Rattle.congee.specs.protocol.Play.{begun, first_phase, IsNew, IsIdle, Protocol, ProtocolAt, Settled};
@@ -88,6 +89,39 @@ impl<C: NodeName + Drop, P: Payload> Machine<C, P> {
         ensures { (a : ℕ → Note) (h : ℕ → Node P) (m : Pairs P) → Tree a h → LockWords a h → IsMapOf h m → tree_pairs h ≡ len m }
     {}
 
+    /// A node with one child gives its place to it: the tree stands, and each key finds what it found.
+    pub fn lifted()
+        ensures tree { (a : ℕ → Note) (h : ℕ → Node P) (a' : ℕ → Note) (h' : ℕ → Node P) (n b m q o : ℕ) → Tree a h → Lifts a h a' h' n b m q o → Tree a' h' }
+        ensures map { (a : ℕ → Note) (h : ℕ → Node P) (a' : ℕ → Note) (h' : ℕ → Node P) (n b m q o : ℕ) → Tree a h → Lifts a h a' h' n b m q o → (key : List ℕ) → length key ≡ 8 → value_at h' key ≡ value_at h key }
+    {}
+
+    /// A leaf goes with its one value, and the node above gives its place to its other child.
+    pub fn collapsed()
+        ensures tree { (a : ℕ → Note) (h : ℕ → Node P) (a' : ℕ → Note) (h' : ℕ → Node P) (g c p n q o : ℕ) (key : List ℕ) (v : P) → Tree a h → Collapses a h a' h' g c p n q o key v → Tree a' h' }
+        ensures map { (a : ℕ → Note) (h : ℕ → Node P) (a' : ℕ → Note) (h' : ℕ → Node P) (g c p n q o : ℕ) (key : List ℕ) (v : P) → Tree a h → Collapses a h a' h' g c p n q o key v → length key ≡ 8 → (value_at h key ≡ Some v) × (value_at h' key ≡ None) × ((x : List ℕ) → length x ≡ 8 → x ≢ key → value_at h' x ≡ value_at h x) }
+    {}
+
+    /// A leaf goes with its one value, and a lesser node comes in the place of the one above.
+    pub fn lessened()
+        ensures tree { (a : ℕ → Note) (h : ℕ → Node P) (a' : ℕ → Note) (h' : ℕ → Node P) (g c p n d : ℕ) (key : List ℕ) (v : P) → Tree a h → Lessens a h a' h' g c p n d key v → Tree a' h' }
+        ensures map { (a : ℕ → Note) (h : ℕ → Node P) (a' : ℕ → Note) (h' : ℕ → Node P) (g c p n d : ℕ) (key : List ℕ) (v : P) → Tree a h → Lessens a h a' h' g c p n d key v → length key ≡ 8 → (value_at h key ≡ Some v) × (value_at h' key ≡ None) × ((x : List ℕ) → length x ≡ 8 → x ≢ key → value_at h' x ≡ value_at h x) }
+    {}
+
+    /// A value goes, and a lesser leaf comes in the place of its leaf.
+    pub fn shrunk()
+        ensures tree { (a : ℕ → Note) (h : ℕ → Node P) (a' : ℕ → Note) (h' : ℕ → Node P) (p c n d : ℕ) (key : List ℕ) (v : P) → Tree a h → Shrinks a h a' h' p c n d key v → Tree a' h' }
+        ensures map { (a : ℕ → Note) (h : ℕ → Node P) (a' : ℕ → Note) (h' : ℕ → Node P) (p c n d : ℕ) (key : List ℕ) (v : P) → Tree a h → Shrinks a h a' h' p c n d key v → length key ≡ 8 → (value_at h key ≡ Some v) × (value_at h' key ≡ None) × ((x : List ℕ) → length x ≡ 8 → x ≢ key → value_at h' x ≡ value_at h x) }
+    {}
+
+    /// Each node of the tree but the root has a child, each that holds nodes two of them, and none is too small for its form:
+    /// so it is where a root stands alone, and stays over each step but those that go on without a node that they wanted.
+    pub fn filled<S: Store<C, P>>()
+        ensures opens { (h : ℕ → Node P) (ms : List (Call C P)) → FreshRoot h → ((i : ℕ) (m : Call C P) → slice_get ms i ≡ Some m → IsIdle C.number m) → KeepsFilled C.number h ms }
+        ensures begins { (h : ℕ → Node P) (ms : List (Call C P)) (i : ℕ) (new : Call C P) → KeepsFilled C.number h ms → IsNew new → KeepsFilled C.number h (set ms i new) }
+        ensures steps { (s : S) (i : ℕ) (a : ℕ → Note) (h h' : ℕ → Node P) (ms : List (Call C P)) (m m' : Call C P) (d : Move P) (fail : Bool) (answer : Option (Option P)) → ProtocolAt C.number P.same_as P.always_copies a h ms → slice_get ms i ≡ Some m → Keeps C.number P.same_as P.always_copies i a m h m' h' d → Stepped C.number P.same_as P.always_copies (S.version_max s) (S.refuses s) m h fail answer m' h' d → d.skipped ≡ false → KeepsFilled C.number h ms → KeepsFilled C.number h' (set ms i m') }
+        ensures spared { (a : ℕ → Note) (h h' : ℕ → Node P) (ms : List (Call C P)) → ProtocolAt C.number P.same_as P.always_copies a h ms → Holdings C.number a h ms → Destroys C.number h ms h' → KeepsFilled C.number h ms → KeepsFilled C.number h' ms }
+    {}
+
     /// The calls after one of them was exchanged.
     pub fn exchanged()
         ensures either { (ms : List (Call C P)) (i j : ℕ) (x y : Call C P) → slice_get (set ms i x) j ≡ Some y → ((j ≡ i) × (x ≡ y)) ⊎ ((j ≢ i) × (slice_get ms j ≡ Some y)) }
@@ -98,7 +132,7 @@ impl<C: NodeName + Drop, P: Payload> Machine<C, P> {
     /// unrefused one of its own; one of another call, and a destruction of nodes that no call names, leave it the same call;
     /// and it is so as it begins.
     pub fn numbered<S: Store<C, P>>()
-        ensures steps { (s : S) (seen : Option (Seen Mark P)) (i : ℕ) (a : ℕ → Note) (h g h' : ℕ → Node P) (ms : List (Call C P)) (m m' : Call C P) (d : Move P) (fail : Bool) (answer : Option (Option P)) (order : List ℕ) (q : Call ℕ P) (k : ℕ) → ((form : NodeType) → S.refuses s form Exhausted → ⊥) → ProtocolAt C.number P.same_as P.always_copies a h ms → slice_get ms i ≡ Some m → Stepped C.number P.same_as P.always_copies (S.version_max s) (S.refuses s) m h fail answer m' h' d → IsUnrefused d.outcome → Ordered order h → HeapAlike order h g → k ≡ length order → CallAlike order C.number h m q → MovedAlike order C.number h' m' d q (plain_step P.same_as (S.version_max s) q (record { fail = fail; seen = seen; answer = answer }) g k) }
+        ensures steps { (s : S) (seen : Option (Seen Mark P)) (i : ℕ) (a : ℕ → Note) (h g h' : ℕ → Node P) (ms : List (Call C P)) (m m' : Call C P) (d : Move P) (fail : Bool) (answer : Option (Option P)) (order : List ℕ) (q : Call ℕ P) (k : ℕ) → ((form : NodeType) → S.refuses s form Exhausted → ⊥) → ProtocolAt C.number P.same_as P.always_copies a h ms → slice_get ms i ≡ Some m → Stepped C.number P.same_as P.always_copies (S.version_max s) (S.refuses s) m h fail answer m' h' d → IsUnrefused d.outcome → d.skipped ≡ false → Ordered order h → HeapAlike order h g → k ≡ length order → CallAlike order C.number h m q → MovedAlike order C.number h' m' d q (plain_step P.same_as (S.version_max s) q (record { fail = fail; seen = seen; answer = answer }) g k) }
         ensures others { (i j : ℕ) (a : ℕ → Note) (h h' : ℕ → Node P) (ms : List (Call C P)) (m m' other : Call C P) (d : Move P) (order order' : List ℕ) (q : Call ℕ P) → ProtocolAt C.number P.same_as P.always_copies a h ms → slice_get ms j ≡ Some other → j ≢ i → Keeps C.number P.same_as P.always_copies i a m h m' h' d → Longer order order' → CallAlike order C.number h other q → CallAlike order' C.number h' other q }
         ensures spared { (order : List ℕ) (h h' : ℕ → Node P) (ms : List (Call C P)) → Destroys C.number h ms h' → SparedAlike order C.number h ms h' }
         ensures begins { (order : List ℕ) (h : ℕ → Node P) (root : C) (n : ℕ) (op : Op P) → slice_get order n ≡ Some (C.number root) → CallAlike order C.number h (begun root op) (begun n op) }

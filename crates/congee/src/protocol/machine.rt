@@ -13,7 +13,7 @@ ghost use Rattle.congee.specs.protocol.Bounds.{Within};
 
 use crate::forms::child::Child;
 use crate::protocol::op::Op;
-use crate::protocol::phase::{Kind, Parent, Phase, Plan, Site, taken};
+use crate::protocol::phase::{Above, Kind, Parent, Phase, Plan, Site, taken};
 use crate::protocol::store::{NodeName, Refusal, Seat, Seen, Store};
 use judge::{Payload, Reply};
 use std::mem;
@@ -40,6 +40,8 @@ pub enum Outcome<P> {
 pub struct Move<P> {
     /// Whether the call took effect in this step.
     pub decided: bool,
+    /// Whether a lesser node wasn't made in this step, and the call goes on without it.
+    pub skipped: bool,
     /// How the call stands after it.
     pub outcome: Outcome<P>,
 }
@@ -284,7 +286,7 @@ impl<C: NodeName, P: Payload> Machine<C, P> {
         &mut self,
         store: &S,
         above: Seat<C>,
-        at: Parent<C>,
+        at: Above<C>,
         node: C,
     ) -> Move<P>
         requires { Stands (S.heap store.now (C.number above.node)) }

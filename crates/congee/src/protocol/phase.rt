@@ -1,8 +1,9 @@
 //! Where a call stands between two of its steps.
 
 ghost use Rattle.std.specs.Prelude.{◌≡◌};
-ghost use Rattle.congee.specs.protocol.Steps.{plan_here, greater};
+ghost use Rattle.congee.specs.protocol.Steps.{plan_here, greater, here_of, near_of, set_at, both, node_of};
 
+use crate::forms::base_node::NodeType;
 use crate::forms::child::Child;
 use crate::protocol::store::{NodeName, Refusal, Seat};
 use crate::protocol::sweep::Sweep;
@@ -26,20 +27,35 @@ pub enum Kind<P> {
     Exchange { old: P },
 }
 
-/// The node above the one at hand, and the byte at which that hangs in it.
+/// A node above the one at hand as it was read, and the byte at which the next one on the way hangs in it.
 #[derive(Clone, Copy)]
 pub struct Parent<C: NodeName> {
     /// The node above.
     pub seat: Seat<C>,
     /// The byte.
     pub byte: u8,
+    /// The length of its prefix, in bytes.
+    pub depth: usize,
+    /// How many children it has.
+    pub count: u16,
+    /// Its form.
+    pub form: NodeType,
+}
+
+/// The nodes above the one at hand: the next one, and the one above that, which only the root has not.
+#[derive(Clone, Copy)]
+pub struct Above<C: NodeName> {
+    /// The node above.
+    pub near: Parent<C>,
+    /// The node above that one.
+    pub far: Option<Parent<C>>,
 }
 
 /// The node at hand as it was read, on the way of the call's key; nothing is above the root.
 #[derive(Clone, Copy)]
 pub struct Site<C: NodeName> {
-    /// The node above.
-    pub above: Option<Parent<C>>,
+    /// The nodes above.
+    pub above: Option<Above<C>>,
     /// The node.
     pub at: Seat<C>,
     /// The length of its prefix, in bytes.
@@ -50,6 +66,8 @@ pub struct Site<C: NodeName> {
     pub count: u16,
     /// Whether it has no place for one more.
     pub full: bool,
+    /// Its form.
+    pub form: NodeType,
 }
 
 /// What the change of one locked node puts at the key's byte there.
@@ -95,11 +113,23 @@ pub enum Double<C: NodeName> {
         common: usize,
         byte: u8,
     },
+    /// A lesser leaf, without the value.
+    Shrink {
+        node: C,
+    },
+    /// The node above has one other child, which comes in its place: the leaf and the node above go.
+    Collapse,
+    /// A lesser node comes in the place of the node above, without the leaf: both go.
+    ShrinkAbove {
+        node: C,
+    },
 }
 
-/// A change of the node above.
+/// A change of the node above, or of the one above that.
 #[derive(Clone, Copy)]
 pub struct Two<C: NodeName> {
+    /// The node above both, where the call has locked it.
+    pub top: Option<Parent<C>>,
     /// The node above.
     pub above: Parent<C>,
     /// The node at hand.
@@ -124,12 +154,12 @@ pub enum Phase<C: NodeName, P> {
     New,
     /// Takes the version of the root or of a child.
     Version {
-        above: Option<Parent<C>>,
+        above: Option<Above<C>>,
         node: C,
     },
     /// Reads the node.
     Read {
-        above: Option<Parent<C>>,
+        above: Option<Above<C>>,
         at: Seat<C>,
     },
     /// Checks the node after the read.
@@ -151,7 +181,7 @@ pub enum Phase<C: NodeName, P> {
     /// An insertion's check of the node above, before it follows a child.
     CheckDown {
         above: Seat<C>,
-        at: Parent<C>,
+        at: Above<C>,
         node: C,
     },
     /// An insertion's check of the node above, at a value.
@@ -185,6 +215,13 @@ pub enum Phase<C: NodeName, P> {
         byte: u8,
         top: C,
     },
+    /// Makes the lesser node that takes the place of the leaf, or of the node above it, which hangs in `top`.
+    MakeLesser {
+        site: Site<C>,
+        above: Parent<C>,
+        top: Option<Parent<C>>,
+        reply: Reply<P>,
+    },
     /// Takes the closure's answer for a value that stands.
     AskOld {
         site: Site<C>,
@@ -215,6 +252,12 @@ pub enum Phase<C: NodeName, P> {
         one: One<C>,
         reply: Reply<P>,
     },
+    /// Locks the node above both, the first of three.
+    UpgradeTop {
+        top: Parent<C>,
+        two: Two<C>,
+        reply: Reply<P>,
+    },
     /// Locks the node above.
     UpgradeAbove {
         two: Two<C>,
@@ -233,12 +276,14 @@ pub enum Phase<C: NodeName, P> {
     /// Marks the node that was taken out.
     Obsolete {
         node: C,
+        next: Option<C>,
         above: C,
         reply: Reply<P>,
     },
     /// Hands it over for destruction.
     Retire {
         node: C,
+        next: Option<C>,
         above: C,
         reply: Reply<P>,
     },
@@ -256,6 +301,7 @@ pub enum Phase<C: NodeName, P> {
     /// Unlocks the node above after the node at hand couldn't be locked; then begins anew, or is refused.
     Unwind {
         node: C,
+        next: Option<C>,
         refusal: Option<Refusal>,
     },
     /// A scan's step.
@@ -285,11 +331,36 @@ impl<C: NodeName> Site<C> {
         let above = self.above;
         let check = match above {
             None => None,
-            Some(above) => Some(above.seat),
+            Some(above) => Some(above.near.seat),
         };
         Plan::Here {
             check,
             one: self.one(change),
+        }
+    }
+
+    /// The node, as the one above the next.
+    pub(crate) fn here(self) -> Parent<C>
+        ensures { result ≡ here_of self }
+    {
+        Parent {
+            seat: self.at,
+            byte: self.byte,
+            depth: self.depth,
+            count: self.count,
+            form: self.form,
+        }
+    }
+
+    /// A change of the node above.
+    pub(crate) fn both(self, above: Parent<C>, change: Double<C>) -> Two<C>
+        ensures { result ≡ both above self change }
+    {
+        Two {
+            top: None,
+            above,
+            at: self.at,
+            change,
         }
     }
 
@@ -316,6 +387,17 @@ impl<C: NodeName> Two<C> {
         self.above.seat.node
     }
 
+    /// The locked node above both.
+    pub(crate) fn top_node(&self) -> Option<C>
+        ensures { result ≡ node_of self.now.top }
+    {
+        let top = self.top;
+        match top {
+            None => None,
+            Some(top) => Some(top.seat.node),
+        }
+    }
+
     /// The node above, and its version.
     pub(crate) fn seat_above(&self) -> Seat<C>
         ensures { result ≡ self.now.above.seat }
@@ -329,4 +411,14 @@ pub(crate) fn taken<P>(reply: &mut Reply<P>) -> Reply<P>
     ensures { result ≡ reply.old }
 {
     mem::replace(reply, Reply::Get(None))
+}
+
+/// The next node of some.
+pub(crate) fn near_of<C: NodeName>(above: Option<Above<C>>) -> Option<Parent<C>>
+    ensures { result ≡ near_of above }
+{
+    match above {
+        None => None,
+        Some(above) => Some(above.near),
+    }
 }

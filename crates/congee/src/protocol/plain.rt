@@ -187,6 +187,10 @@ impl Store<usize, u64> for PlainStore {
         self.nodes[node].children[byte as usize] = child;
     }
 
+    fn other(&self, node: usize, byte: u8) -> usize {
+        self.nodes[node].other(byte)
+    }
+
     fn take_over(&mut self, old: usize, node: usize) {
         if old < node {
             let (front, back) = self.nodes.split_at_mut(node);

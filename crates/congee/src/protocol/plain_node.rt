@@ -1,7 +1,7 @@
 //! One node of a plain list.
 ghost use Rattle.std.specs.Prelude.{◌≡◌, ◌≢◌, ℕ, ◌+◌, ◌-◌, ◌^◌, ◌<◌, ◌≤◌, Bool, true, false, List, length, take, IfOk, MatchOption};
 ghost use Rattle.congee.specs.Heap.{fits, Nothing};
-ghost use Rattle.congee.specs.protocol.Events.{Parts, hung, kept, ReadGives};
+ghost use Rattle.congee.specs.protocol.Events.{Parts, hung, kept, HoldsNodes, IsOther, ReadGives};
 ghost use Rattle.congee.specs.declared.forms.prefix.TheConstants.{MAX_PREFIX_LEN};
 ghost use Rattle.congee.specs.protocol.Plain.{is_there, count_of, child_at, NamesStay};
 
@@ -202,7 +202,11 @@ impl PlainNode {
             None => {
                 let depth = self.prefix.len();
                 let seen = self.look(version, key[depth], seen);
-                Reading::Fits { depth, seen }
+                Reading::Fits {
+                    depth,
+                    form: self.form,
+                    seen,
+                }
             }
         }
     }
@@ -251,6 +255,26 @@ impl PlainNode {
             }
         }
         Least::Nothing
+    }
+
+    /// The node that hangs beside the one at the byte, where there are two.
+    pub(crate) fn other(&self, byte: u8) -> usize
+        requires nodes { HoldsNodes (plain_node_of (Some self.now)) }
+        requires two { count_of self.now.children.items ≡ 2 }
+        requires there { child_at self.now.children.items byte ≢ Nothing }
+        ensures { IsOther (plain_node_of (Some self.now)) byte result }
+    {
+        for place in 0..256u16 {
+            let at = place as u8;
+            if at == byte {
+                continue;
+            }
+            if let Child::Node(node) = self.child(at) {
+                return node;
+            }
+        }
+        // Not reached: there are two.
+        0
     }
 
     /// Gives the children to another node. The names of nodes stay here too.

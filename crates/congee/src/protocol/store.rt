@@ -1,7 +1,7 @@
 //! The nodes of a shared tree, as one call's steps reach them.
 ghost use Rattle.std.specs.Prelude.{◌≡◌, ◌≢◌, ℕ, ◌+◌, ◌<◌, ◌≤◌, Bool, true, false};
-ghost use Rattle.congee.specs.Heap.{Node, Stands, version_of, is_taken};
-ghost use Rattle.congee.specs.protocol.Events.{hung, ReadGives, UpgradeGives, MayChange, ChangeGives, MakeGives, TakesOver, TakeOverGives, BackGives, ObsoleteGives, RetireGives, UnlockGives};
+ghost use Rattle.congee.specs.Heap.{Node, Nothing, Stands, version_of, is_taken};
+ghost use Rattle.congee.specs.protocol.Events.{hung, HoldsNodes, IsOther, ReadGives, UpgradeGives, MayChange, ChangeGives, MakeGives, TakesOver, TakeOverGives, BackGives, ObsoleteGives, RetireGives, UnlockGives};
 ghost use Rattle.congee.specs.protocol.Regions.{IsRegion};
 ghost use Rattle.congee.specs.protocol.SweepEvents.{LeastGives};
 ghost use Rattle.congee.specs.protocol.Seeing.{ReadSees, LeastSees};
@@ -48,9 +48,16 @@ pub struct Seen<C, P> {
 #[derive(Drop)]
 pub enum Reading<C, P> {
     /// The node's prefix and the key differ after so many bytes; the byte is the prefix's there.
-    Differs { common: usize, byte: u8 },
+    Differs {
+        common: usize,
+        byte: u8,
+    },
     /// The node's prefix, of so many bytes, is the beginning of the key.
-    Fits { depth: usize, seen: Seen<C, P> },
+    Fits {
+        depth: usize,
+        form: NodeType,
+        seen: Seen<C, P>,
+    },
     /// The prefix fits, and the value at the key's byte could not be copied.
     Uncopied,
 }
@@ -187,6 +194,14 @@ pub trait Store<C: NodeName, P: Payload> {
         ensures limit { version_max self.new ≡ version_max self.old }
         ensures rest { rest self.new ≡ rest self.old }
         ensures gives { ChangeGives (heap self.old) (C.number node) byte (hung C.number child) (heap self.new) };
+
+    /// The child beside the one at the byte, of a locked node that holds two nodes.
+    fn other(&self, node: C, byte: u8) -> C
+        requires stands { Stands (heap self.now (C.number node)) }
+        requires nodes { HoldsNodes (heap self.now (C.number node)) }
+        requires two { (heap self.now (C.number node)).count ≡ 2 }
+        requires there { (heap self.now (C.number node)).children byte ≢ Nothing }
+        ensures { IsOther (heap self.now (C.number node)) byte (C.number result) };
 
     /// Gives an empty node that isn't in reach yet the children of another one, which holds values alone or nodes
     /// alone. Values are moved; the names of nodes stay in the old node too.

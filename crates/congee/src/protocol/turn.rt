@@ -1,14 +1,18 @@
 //! What a step leaves, and where the answers of the store lead.
 ghost use Rattle.std.specs.Prelude.{◌≡◌, ℕ, ◌<◌, ◌⊎◌, Bool, true, false, Option, None, Some};
-ghost use Rattle.congee.specs.protocol.Steps.{turn_of, quiet, again, answered, finished, refused, decided, asking, adds, asks_new, absent_reply, form_above, after_version, after_read, down, started, ready, plan_here, unless_full, missing, absent, IsAsked, replaced, emptied, is_same, IsAtOld, IsAdded, IsExchanged, IsPresent, IsChecked, after_miss, after_change, greater, unwound, outcome_of, value_hung};
+ghost use Rattle.congee.specs.protocol.Steps.{turn_of, quiet, again, answered, finished, refused, decided, asking, adds, asks_new, absent_reply, form_above, after_version, after_read, down, started, ready, plan_here, unless_full, missing, absent, IsAsked, replaced, emptied, is_same, IsAtOld, IsAdded, IsExchanged, IsPresent, IsChecked, after_miss, after_change, after_top, after_retire, after_unwind, given_up, greater, last_out, node_of, shrinks, form_below, skipping, set_at, both, unwound, outcome_of, value_hung};
 ghost use Rattle.congee.specs.protocol.Events.{hung};
+ghost use Rattle.congee.specs.declared.protocol.phase.Phase.TheVariants as phase;
+ghost use Rattle.congee.specs.declared.protocol.phase.Double.TheVariants as double;
 ghost use Rattle.congee.specs.declared.protocol.phase.Plan.TheVariants as plan;
 
 use crate::forms::base_node::NodeType;
 use crate::forms::child::Child;
 use crate::forms::prefix::MAX_PREFIX_LEN;
 use crate::protocol::machine::{Move, Outcome};
-use crate::protocol::phase::{Double, Kind, Parent, Phase, Plan, Single, Site, Two};
+use crate::protocol::phase::{
+    Above, Double, Kind, Parent, Phase, Plan, Single, Site, Two, near_of,
+};
 use crate::protocol::store::{NodeName, Reading, Refusal, Seat};
 use crate::protocol::sweep::Told;
 use judge::{Payload, Reply};
@@ -28,10 +32,14 @@ impl<C: NodeName, P: Payload> Phase<C, P> {
     /// to it: a phase is then made where it is to lie, and not copied there.
     #[inline(always)]
     fn leave(&mut self, next: Self, decided: bool, outcome: Outcome<P>) -> Move<P>
-        ensures { turn_of self.new result ≡ record { phase = next; report = record { decided = decided; outcome = outcome } } }
+        ensures { turn_of self.new result ≡ record { phase = next; report = record { decided = decided; skipped = false; outcome = outcome } } }
     {
         *self = next;
-        Move { decided, outcome }
+        Move {
+            decided,
+            skipped: false,
+            outcome,
+        }
     }
 
     /// The call goes on.
@@ -81,6 +89,17 @@ impl<C: NodeName, P: Payload> Phase<C, P> {
         self.leave(next, true, Outcome::Running)
     }
 
+    /// The call goes on without a node that wasn't made.
+    pub(crate) fn skipping(&mut self, next: Self) -> Move<P>
+        ensures { turn_of self.new result ≡ skipping next }
+    {
+        let report = self.leave(next, false, Outcome::Running);
+        Move {
+            skipped: true,
+            ..report
+        }
+    }
+
     /// The closure is asked, for this value or for an absent key.
     #[inline(always)]
     pub(crate) fn asking(&mut self, next: Self, value: Option<P>) -> Move<P>
@@ -93,7 +112,7 @@ impl<C: NodeName, P: Payload> Phase<C, P> {
 impl<P> Told<P> {
     /// The report of a scan's step.
     pub(crate) fn report(self) -> Move<P>
-        ensures { result ≡ record { decided = false; outcome = outcome_of self } }
+        ensures { result ≡ record { decided = false; skipped = false; outcome = outcome_of self } }
     {
         let outcome = match self {
             Told::Running => Outcome::Running,
@@ -103,6 +122,7 @@ impl<P> Told<P> {
         };
         Move {
             decided: false,
+            skipped: false,
             outcome,
         }
     }
@@ -153,6 +173,30 @@ impl NodeType {
             NodeType::N256
         }
     }
+
+    /// The form below.
+    pub(crate) fn below(self) -> Self
+        ensures { result ≡ form_below self }
+    {
+        match self {
+            NodeType::N4 => NodeType::N4,
+            NodeType::N16 => NodeType::N4,
+            NodeType::N48 => NodeType::N16,
+            NodeType::N256 => NodeType::N48,
+        }
+    }
+
+    /// Whether a node of the form with so many children gives way to a lesser one as it loses one.
+    pub(crate) fn shrinks(self, count: u16) -> bool
+        ensures { result ≡ shrinks self count }
+    {
+        match self {
+            NodeType::N4 => false,
+            NodeType::N16 => count <= 4,
+            NodeType::N48 => count <= 13,
+            NodeType::N256 => count <= 41,
+        }
+    }
 }
 
 impl<C: NodeName, P: Payload> Phase<C, P> {
@@ -160,7 +204,7 @@ impl<C: NodeName, P: Payload> Phase<C, P> {
     pub(crate) fn after_version(
         &mut self,
         root: C,
-        above: Option<Parent<C>>,
+        above: Option<Above<C>>,
         node: C,
         version: Option<u64>,
     ) -> Move<P>
@@ -179,7 +223,7 @@ impl<C: NodeName, P: Payload> Phase<C, P> {
     pub(crate) fn after_read(
         &mut self,
         root: C,
-        above: Option<Parent<C>>,
+        above: Option<Above<C>>,
         at: Seat<C>,
         reading: Reading<C, P>,
     ) -> Move<P>
@@ -189,13 +233,13 @@ impl<C: NodeName, P: Payload> Phase<C, P> {
             Reading::Differs { common, byte } => match above {
                 None => self.again(root),
                 Some(above) => self.quiet(Phase::CheckMiss {
-                    above,
+                    above: above.near,
                     at,
                     common,
                     byte,
                 }),
             },
-            Reading::Fits { depth, seen } => self.quiet(Phase::Check {
+            Reading::Fits { depth, form, seen } => self.quiet(Phase::Check {
                 site: Site {
                     above,
                     at,
@@ -203,6 +247,7 @@ impl<C: NodeName, P: Payload> Phase<C, P> {
                     byte: seen.byte,
                     count: seen.count,
                     full: seen.full,
+                    form,
                 },
                 child: seen.child,
             }),
@@ -214,13 +259,14 @@ impl<C: NodeName, P: Payload> Phase<C, P> {
     fn down(&mut self, adds: bool, site: Site<C>, node: C) -> Move<P>
         ensures { turn_of self.new result ≡ down adds site site.above node }
     {
-        let here = Parent {
-            seat: site.at,
-            byte: site.byte,
+        let above = site.above;
+        let here = Above {
+            near: site.here(),
+            far: near_of(above),
         };
-        match (adds, site.above) {
+        match (adds, above) {
             (true, Some(above)) => self.quiet(Phase::CheckDown {
-                above: above.seat,
+                above: above.near.seat,
                 at: here,
                 node,
             }),
@@ -264,12 +310,17 @@ impl<C: NodeName, P: Payload> Phase<C, P> {
         at: Seat<C>,
         change: Double<C>,
     ) -> Move<P>
-        ensures { turn_of self.new result ≡ ready kind.now (plan.Above (record { above = above; at = at; change = change })) }
+        ensures { turn_of self.new result ≡ ready kind.now (plan.Above (record { top = None; above = above; at = at; change = change })) }
     {
         self.ready(
             kind,
             Plan::Above {
-                two: Two { above, at, change },
+                two: Two {
+                    top: None,
+                    above,
+                    at,
+                    change,
+                },
             },
         )
     }
@@ -285,7 +336,11 @@ impl<C: NodeName, P: Payload> Phase<C, P> {
         ensures { turn_of self.new result ≡ unless_full kind.now site site.full site.above leaf change }
     {
         match (site.full, site.above) {
-            (true, Some(above)) => self.quiet(Phase::MakeGreater { site, above, leaf }),
+            (true, Some(above)) => self.quiet(Phase::MakeGreater {
+                site,
+                above: above.near,
+                leaf,
+            }),
             (true, None) | (false, _) => self.ready(kind, site.plan(change)),
         }
     }
@@ -327,23 +382,80 @@ impl<C: NodeName, P: Payload> Phase<C, P> {
         }
     }
 
-    /// The value goes, and with its last value the leaf.
+    /// The value is taken out of the leaf.
+    fn set_out(&mut self, site: Site<C>, reply: Reply<P>) -> Move<P>
+        ensures { turn_of self.new result ≡ quiet (phase.UpgradeOne (set_at site) reply) }
+    {
+        self.quiet(Phase::UpgradeOne {
+            one: site.one(Single::Set),
+            reply,
+        })
+    }
+
+    /// The leaf is taken out of the node above.
+    fn leaf_out(&mut self, site: Site<C>, above: Parent<C>, reply: Reply<P>) -> Move<P>
+        ensures { turn_of self.new result ≡ quiet (phase.UpgradeAbove (both above site double.Unlink) reply) }
+    {
+        self.quiet(Phase::UpgradeAbove {
+            two: site.both(above, Double::Unlink),
+            reply,
+        })
+    }
+
+    /// The leaf goes with its last value, and with it the node above where one child is left there.
+    fn last_out(
+        &mut self,
+        site: Site<C>,
+        above: Parent<C>,
+        top: Option<Parent<C>>,
+        reply: Reply<P>,
+    ) -> Move<P>
+        ensures { turn_of self.new result ≡ last_out site above top reply }
+    {
+        match top {
+            None => self.leaf_out(site, above, reply),
+            Some(top) => {
+                if above.count == 2 {
+                    self.quiet(Phase::UpgradeTop {
+                        top,
+                        two: site.both(above, Double::Collapse),
+                        reply,
+                    })
+                } else if above.count > 2 && above.form.shrinks(above.count) {
+                    self.quiet(Phase::MakeLesser {
+                        site,
+                        above,
+                        top: Some(top),
+                        reply,
+                    })
+                } else {
+                    self.leaf_out(site, above, reply)
+                }
+            }
+        }
+    }
+
+    /// The value goes: with its last value the leaf goes, and one that came down to few gives way to a lesser leaf.
     pub(crate) fn emptied(&mut self, site: Site<C>, reply: Reply<P>) -> Move<P>
         ensures { turn_of self.new result ≡ emptied site reply }
     {
-        match (site.count == 1, site.above) {
-            (true, Some(above)) => self.quiet(Phase::UpgradeAbove {
-                two: Two {
-                    above,
-                    at: site.at,
-                    change: Double::Unlink,
-                },
-                reply,
-            }),
-            (true, None) | (false, _) => self.quiet(Phase::UpgradeOne {
-                one: site.one(Single::Set),
-                reply,
-            }),
+        let above = site.above;
+        match above {
+            None => self.set_out(site, reply),
+            Some(above) => {
+                if site.count == 1 {
+                    self.last_out(site, above.near, above.far, reply)
+                } else if site.form.shrinks(site.count) {
+                    self.quiet(Phase::MakeLesser {
+                        site,
+                        above: above.near,
+                        top: None,
+                        reply,
+                    })
+                } else {
+                    self.set_out(site, reply)
+                }
+            }
         }
     }
 
@@ -381,7 +493,7 @@ impl<C: NodeName, P: Payload> Phase<C, P> {
         match above {
             None => self.at_old(kind, new, site, old),
             Some(above) => self.quiet(Phase::CheckOld {
-                above: above.seat,
+                above: above.near.seat,
                 site,
                 old,
             }),
@@ -476,9 +588,85 @@ impl<C: NodeName, P: Payload> Phase<C, P> {
         let node = at.node;
         match change {
             Double::Split { .. } => self.decided(Phase::UnlockBelow { node, above, reply }),
-            Double::Unlink | Double::Grow { .. } | Double::GrowLink { .. } => {
-                self.decided(Phase::Obsolete { node, above, reply })
-            }
+            Double::Collapse | Double::ShrinkAbove { .. } => self.after_top(two, reply),
+            // Otherwise the node at hand went.
+            _ => self.decided(Phase::Obsolete {
+                node,
+                next: None,
+                above,
+                reply,
+            }),
+        }
+    }
+
+    /// The node above both was changed: the node at hand and the node above go.
+    fn after_top(&mut self, two: Two<C>, reply: Reply<P>) -> Move<P>
+        ensures { turn_of self.new result ≡ after_top two reply two.top }
+    {
+        let above = two.parent();
+        let Two { top, at, .. } = two;
+        let node = at.node;
+        match top {
+            None => self.decided(Phase::Unlock { node: above, reply }),
+            Some(top) => self.decided(Phase::Obsolete {
+                node,
+                next: Some(above),
+                above: top.seat.node,
+                reply,
+            }),
+        }
+    }
+
+    /// A node was handed over: the next one is marked, or the last lock is let go.
+    pub(crate) fn after_retire(&mut self, next: Option<C>, above: C, reply: Reply<P>) -> Move<P>
+        ensures { turn_of self.new result ≡ after_retire next above reply }
+    {
+        match next {
+            None => self.quiet(Phase::Unlock { node: above, reply }),
+            Some(node) => self.quiet(Phase::Obsolete {
+                node,
+                next: None,
+                above,
+                reply,
+            }),
+        }
+    }
+
+    /// A node was unlocked after an attempt was given up: the next one is, or the call begins anew or is refused.
+    pub(crate) fn after_unwind(
+        &mut self,
+        root: C,
+        next: Option<C>,
+        refusal: Option<Refusal>,
+    ) -> Move<P>
+        ensures { turn_of self.new result ≡ after_unwind root next refusal }
+    {
+        match next {
+            None => self.unwound(root, refusal),
+            Some(node) => self.quiet(Phase::Unwind {
+                node,
+                next: None,
+                refusal,
+            }),
+        }
+    }
+
+    /// An attempt is given up, with this node locked, or none.
+    pub(crate) fn given_up(
+        &mut self,
+        root: C,
+        top: Option<Parent<C>>,
+        refusal: Option<Refusal>,
+    ) -> Move<P>
+        ensures { turn_of self.new result ≡ given_up root top refusal }
+    {
+        match top {
+            None => self.unwound(root, refusal),
+            Some(top) => self.quiet(Phase::Unwind {
+                node: top.seat.node,
+                next: None,
+                refusal,
+            }),
         }
     }
 

@@ -1,13 +1,13 @@
 //! Deferrals.
 
-ghost use Rattle.std.specs.Prelude.{◌≡◌, ◌<◌, List, ◌∷◌, length, IfOk, OnOk, OnErr, IfErr, MatchResult, None, Some, ◌^◌, ◌-◌, ◌==◌, ◌&&◌, not, true, false};
+ghost use Rattle.std.specs.Prelude.{◌≡◌, ◌<◌, List, ◌∷◌, length, IfOk, OnOk, OnErr, IfErr, MatchResult, None, Some, ◌^◌, ◌-◌, ◌==◌, ◌&&◌, not, true, false, if◌then◌else◌};
 ghost use Rattle.crossbeam_epoch.specs.World.Machine.{place, deferred, deferred_anew, after_deferral, name_of};
 ghost use Rattle.crossbeam_epoch.specs.World.Steps.{defer_fault, destroy_fault, quiet_fault, IsDeferralFault};
 ghost use Rattle.crossbeam_epoch.specs.World.History.{Deferred};
 ghost use Rattle.crossbeam_epoch.specs.World.Reach.{Quiet, Marked, NextMoment};
 ghost use Rattle.crossbeam_epoch.specs.Limits.{bag_places};
 
-use crate::bag::{Entry, Sealed, Work};
+use crate::bag::{BAG, Entry, Sealed, Work};
 use crate::fault::Fault;
 use crate::names::{Links, Name, Pointable};
 use crate::task::Task;
@@ -65,6 +65,17 @@ impl<T: Links + Pointable + Drop, J: Task> World<T, J> {
         ensures { result ≡ ((place self.now who).registered && not (length (place self.now who).bag == bag_places)) }
     {
         self.is_registered(who) && !self.participants[who].bag.is_full()
+    }
+
+    /// The free places of a participant's bag, so many of its next deferrals need no memory; 0 where there is no such participant.
+    pub fn places(&self, who: usize) -> usize
+        ensures { result ≡ (if (place self.now who).registered then bag_places - length (place self.now who).bag else 0) }
+    {
+        if self.is_registered(who) {
+            BAG - self.participants[who].bag.len()
+        } else {
+            0
+        }
     }
 
     /// Puts a job into a participant's bag; a full bag is sealed and queued first, which may find no memory.

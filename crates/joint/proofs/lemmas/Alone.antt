@@ -54,8 +54,8 @@ use Rattle.joint.proofs.lemmas.Walking as walking
 -- the steps that a worker's call takes at most from here on
 abbrev left_of : {V : Type 0} → Forest V → ℕ → Option (Call V) → Option (Machine Id V) → ℕ
 left_of f who (Some (Collecting op)) m = turns_left f.collector who
-left_of f who (Some (Reserving op)) m = 43
-left_of f who (Some (Securing op)) m = turns_left f.collector who + 40
+left_of f who (Some (Reserving op)) m = 46
+left_of f who (Some (Securing op)) m = turns_left f.collector who + 43
 left_of f who (Some Walking) (Some m) = steps_left id_number (nodes f) m.phase
 left_of f who _ _ = 0
 
@@ -81,7 +81,7 @@ unpins V s s' w turned.Done g on = cc on
 unpins V s s' w (turned.Refused f) g on = cc on
 
 -- a securing takes three steps at most
-secures_in : (places hand : ℕ) (x : Collecting_phase) → comes_by (stage_of x) (work.Secure 1) ≡ true → (0 < left_in places x hand) × (left_in places x hand ≤ 3)
+secures_in : (places hand : ℕ) (x : Collecting_phase) → comes_by (stage_of x) (work.Secure 2) ≡ true → (0 < left_in places x hand) × (left_in places x hand ≤ 3)
 secures_in places hand (stage.Secure n) e = (omega arith, omega arith)
 secures_in places hand stage.SecureSeal e = (omega arith, omega arith)
 secures_in places hand (stage.SecureQueue seal) e = (omega arith, omega arith)
@@ -92,7 +92,7 @@ at_place {A} xs ys w x l e = let y : (y : A) × (slice_get xs w ≡ Some y) = th
 
 module _ {V : Type 0} where
   -- a writing call begins on its key
-  begun_left : (h : ℕ → Node V) (p : Point V) → writes p ≡ true → steps_left id_number h (first_phase root p) ≡ 40
+  begun_left : (h : ℕ → Node V) (p : Point V) → writes p ≡ true → steps_left id_number h (first_phase root p) ≡ 43
   begun_left h (point.Get k) e = absurd (cc e)
   begun_left h (point.Insert k v) e = refl
   begun_left h (point.Remove k) e = refl
@@ -166,8 +166,8 @@ module _ {V : Type 0} (same : V → V → Bool) (always : Bool) (laws : CallLaws
       bounds : (0 < turns_left b.forest.collector w) × (turns_left b.forest.collector w ≤ 3)
       bounds = secures_in (length b.forest.collector.table) (length (place b.forest.collector w).hand) (place b.forest.collector w).phase is_at.0.1
 
-      secures_by : (o : Turned) (n : ℕ) → GoesOn b.forest.collector w (work.Secure 1) o s'.forest.collector → s'.calls ≡ set b.calls w (secured_call o (slice_get b.calls w)) → s'.machines ≡ secured_machines o (slice_get b.calls w) b.machines w
-          → is_in_flight {V = V} (reserving o) ≡ true → turns_left b.forest.collector w + 40 ≤ n → After n
+      secures_by : (o : Turned) (n : ℕ) → GoesOn b.forest.collector w (work.Secure 2) o s'.forest.collector → s'.calls ≡ set b.calls w (secured_call o (slice_get b.calls w)) → s'.machines ≡ secured_machines o (slice_get b.calls w) b.machines w
+          → is_in_flight {V = V} (reserving o) ≡ true → turns_left b.forest.collector w + 43 ≤ n → After n
       secures_by turned.Running n g ec em on le =
           let calls = at_place b.calls s'.calls w (Securing p) inside (ec ∙ ap (λ k. set b.calls w (secured_call turned.Running k)) e) in
           let same_ms : s'.machines ≡ b.machines = em ∙ ap (λ k. secured_machines turned.Running k b.machines w) e in
@@ -180,10 +180,10 @@ module _ {V : Type 0} (same : V → V → Bool) (always : Bool) (laws : CallLaws
           after_by Walking (Some (begun root p)) n (unlocked_set w b.machines s'.machines (begun root p) set_ms free) calls at_ms (begins (nodes s'.forest) p) (let x = bounds.0 in omega (arith, forty, x, le))
       secures_by (turned.Refused f) n g ec em on le = absurd (cc on)
 
-      secures : (r : Report V) (n : ℕ) → GoesOnReserving same always b w r s' → is_in_flight r.outcome ≡ true → turns_left b.forest.collector w + 40 ≤ n → After n
+      secures : (r : Report V) (n : ℕ) → GoesOnReserving same always b w r s' → is_in_flight r.outcome ≡ true → turns_left b.forest.collector w + 43 ≤ n → After n
       secures r n x on le =
-          let P : State (Slot V) (Unit {0}) → Type 0 = λ y. GoesOn b.forest.collector w (work.Secure 1) x.turn.outcome y in
-          let g = subst P (sym x.step.collected.state) (turns.goes_on b.forest.collector w (work.Secure 1) x.turn intact.safe.sound.sound.orderly is_at.0 x.step.collected.report) in
+          let P : State (Slot V) (Unit {0}) → Type 0 = λ y. GoesOn b.forest.collector w (work.Secure 2) x.turn.outcome y in
+          let g = subst P (sym x.step.collected.state) (turns.goes_on b.forest.collector w (work.Secure 2) x.turn intact.safe.sound.sound.orderly is_at.0 x.step.collected.report) in
           secures_by x.turn.outcome n g x.step.call x.step.machine (sym (ap (λ y. is_in_flight y.outcome) x.report) ∙ on) le
 
     -- a step on the tree
@@ -218,12 +218,12 @@ module _ {V : Type 0} (same : V → V → Bool) (always : Bool) (laws : CallLaws
     goes (Some (Reserving p)) noise r n e unfailed answers al x on busy =
         let b = x.between in
         let at = next_here same always s.forest s.machines s.calls w b.forest b.machines b.calls x.begins p e in
-        let left : left_of s.forest w (slice_get s.calls w) (slice_get s.machines w) ≡ 43 = ap (λ y. left_of s.forest w y (slice_get s.machines w)) e in
+        let left : left_of s.forest w (slice_get s.calls w) (slice_get s.machines w) ≡ 46 = ap (λ y. left_of s.forest w y (slice_get s.machines w)) e in
         let free = subst (λ ms. NoOtherLocks id_number w ms) (sym x.begins.machine) al.unlocked in
         let three = (bounds b x.begins.intact p at free).1 in
         secures b x.begins.intact p at free r n x.goes on (let y = al.left in omega (arith, left, y, three))
     goes (Some (Securing p)) noise r n e unfailed answers al x on busy =
-        let left : left_of s.forest w (slice_get s.calls w) (slice_get s.machines w) ≡ turns_left s.forest.collector w + 40 = ap (λ y. left_of s.forest w y (slice_get s.machines w)) e in
+        let left : left_of s.forest w (slice_get s.calls w) (slice_get s.machines w) ≡ turns_left s.forest.collector w + 43 = ap (λ y. left_of s.forest w y (slice_get s.machines w)) e in
         secures s holds.0 p e al.unlocked r n x on (let y = al.left in omega (arith, left, y))
     goes (Some Walking) noise r n e unfailed answers al x on busy =
         walks noise r n e unfailed answers al.unlocked (λ m at.
@@ -293,8 +293,8 @@ module _ {V : Type 0} (same : V → V → Bool) (always : Bool) (laws : CallLaws
 
       reserves : (p : Point V) (r : Report V) → OthersUnlocked s w → Reserves s w p r s' → Begun 60
       reserves p r free x = (
-        43,
-        with_one 43 (after_by (Reserving p) (slice_get s'.machines w) 44 (subst (λ ms. NoOtherLocks id_number w ms) (sym (ap (λ y. y.machines) x.state)) free) (at_place s.calls s'.calls w (Reserving p) within (ap (λ y. y.calls) x.state)) refl tt (omega arith)),
+        46,
+        with_one 46 (after_by (Reserving p) (slice_get s'.machines w) 47 (subst (λ ms. NoOtherLocks id_number w ms) (sym (ap (λ y. y.machines) x.state)) free) (at_place s.calls s'.calls w (Reserving p) within (ap (λ y. y.calls) x.state)) refl tt (omega arith)),
         omega arith,
       )
 
@@ -318,7 +318,7 @@ module _ {V : Type 0} (same : V → V → Bool) (always : Bool) (laws : CallLaws
           of op.Repin y = turn_begins work.Repin r free y on
           of op.Flush y = turn_begins work.Flush r free y on
           of op.Release y = turn_begins work.Release r free y on
-          of (op.Get k) y = enters (point.Get k) r 40 60 free y (omega arith) (omega arith)
+          of (op.Get k) y = enters (point.Get k) r 43 60 free y (omega arith) (omega arith)
           of (op.Insert k v) y = reserves (point.Insert k v) r free y
           of (op.Remove k) y = reserves (point.Remove k) r free y
           of (op.ComputePresent k) y = reserves (point.ComputePresent k) r free y

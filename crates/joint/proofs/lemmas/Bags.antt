@@ -1,7 +1,7 @@
 -- No more jobs stand in the collector's bags than nodes wait for their destruction.
 use Rattle.std.proofs.Common.{◌≡◌, ◌+◌, ◌<◌, ◌≤◌, ℕ, arith, Bool, true, false, List, [], ◌∷◌, length, refl, ◌∙◌, ap, subst, inl, inr}
 use Rattle.std.specs.Prelude.{Option, None, Some, is_some, nat_lt, if◌then◌else◌}
-use Rattle.std.specs.List.{Contains, filter_map, sum_by}
+use Rattle.std.specs.List.{Contains, flat_map, sum_by}
 use Rattle.std.proofs.lemmas.Bool.{cases_lt}
 use Rattle.std.proofs.lemmas.Bool.Decides.{nat_tests}
 use Rattle.std.proofs.lemmas.List.{length-append}
@@ -165,5 +165,5 @@ module _ {V : Type 0} (s : Forest V) (f : IsFiled s) (ns : List ℕ) (all : (n :
 pub jobs_waiting : {V : Type 0} (s : Whole V) → IsFiled s.forest → job_count s.forest.collector ≤ length (waiting_nodes s)
 jobs_waiting {V} s f =
     let few = jobs_few s.forest f (handed_nodes s.forest) (λ n w. listed is_waiting (λ v. v.word.retired) (none_waits V) some_waits s.forest n w) in
-    let more = length-append (handed_nodes s.forest) (filter_map taken_by s.machines) in
+    let more = length-append (handed_nodes s.forest) (flat_map taken_by s.machines) in
     omega (arith, few, more)

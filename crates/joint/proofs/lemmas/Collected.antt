@@ -145,7 +145,7 @@ module _ {T J C V : Type 0} (tnames : T → List Name) (view : Bool → Option T
 
   guarded_on : (i : ℕ) (m : Machine C V) → slice_get ms i ≡ Some m → Guards (place s' i) m
   guarded_on i m at = elim (cases_eq i who) [
-    | inl e ↦ (let P : ℕ → Type 0 = λ j. slice_get ms j ≡ Some m in ended_guards (place s' i) m (rests m (subst P e at)))
+    | inl e ↦ (let P : ℕ → Type 0 = λ j. slice_get ms j ≡ Some m in ended_guards (place s' i) m (moves.orderly.bags i) (rests m (subst P e at)))
     | inr ne ↦ (let P : Participant J → Type 0 = λ p. Guards p m in subst P (sym (moves.others i ne)) (sound.guarded i m at))
   ]
 

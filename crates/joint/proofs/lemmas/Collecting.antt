@@ -115,7 +115,7 @@ set_here [] i x y e = absurd cc
 set_here (z ∷ xs) zero x y e = refl
 set_here (z ∷ xs) (suc i) x y e = set_here xs i x y e
 
--- a writing call that makes its place free
+-- a writing call that makes its places free
 pub securing_call : {V : Type 0} (x : Option (Call V)) → IsSecuring x → (op : Point V) × (x ≡ Some (Securing op))
 securing_call (Some (Securing op)) s = (op, refl)
 securing_call (Some Idle) s = absurd s
@@ -134,14 +134,14 @@ module _ {V : Type 0} (same : V → V → Bool) (always : Bool) (s : Forest V) (
   securing_inside q = let k : (op : Point V) × (slice_get calls who ≡ Some (Securing op)) = securing_call (slice_get calls who) q in inside same always s ms calls intact who (Securing k.0) k.1
 
   module _ (laws : ProgressLaws (Slot V) (Unit {0})) (op : Point V) (at : slice_get calls who ≡ Some (Securing op)) (r : Report) (s' : Forest V) (c : Collected same always s ms who Go r s') where
-    goes : (m : Machine Id V) → slice_get ms who ≡ Some m → GoesOn s.collector who (Secure 1) r.outcome s'.collector
+    goes : (m : Machine Id V) → slice_get ms who ≡ Some m → GoesOn s.collector who (Secure 2) r.outcome s'.collector
     goes m here =
         let x : IsAt (Securing op) (place s.collector who) m = intact.each who (Securing op) m at here in
-        let P : State (Slot V) (Unit {0}) → Type 0 = λ y. GoesOn s.collector who (Secure 1) r.outcome y in
-        subst P (sym c.state) (laws.goes_on s.collector who (Secure 1) r intact.safe.sound.sound.orderly x.0 c.report)
+        let P : State (Slot V) (Unit {0}) → Type 0 = λ y. GoesOn s.collector who (Secure 2) r.outcome y in
+        subst P (sym c.state) (laws.goes_on s.collector who (Secure 2) r intact.safe.sound.sound.orderly x.0 c.report)
 
-    fits : (o : Outcome) → r.outcome ≡ o → (m : Machine Id V) → slice_get ms who ≡ Some m → GoesOn s.collector who (Secure 1) o s'.collector
-    fits o e m here = let P : Outcome → Type 0 = λ y. GoesOn s.collector who (Secure 1) y s'.collector in subst P e (goes m here)
+    fits : (o : Outcome) → r.outcome ≡ o → (m : Machine Id V) → slice_get ms who ≡ Some m → GoesOn s.collector who (Secure 2) o s'.collector
+    fits o e m here = let P : Outcome → Type 0 = λ y. GoesOn s.collector who (Secure 2) y s'.collector in subst P e (goes m here)
 
     -- it goes on
     pub secures_on : r.outcome ≡ Running → (ms' : List (Machine Id V)) (calls' : List (Call V)) → ms' ≡ ms → calls' ≡ set (set calls who Idle) who (Securing op) → Secured same always s ms calls who r s' ms' calls'
@@ -149,7 +149,7 @@ module _ {V : Type 0} (same : V → V → Bool) (always : Bool) (s : Forest V) (
         let q : calls' ≡ set calls who (Securing op) = ec ∙ set-set calls who Idle (Securing op) in
         let i : IsIntact same always s' ms (set calls who (Securing op)) = after_step same always s ms calls intact who Go r s' (Securing op) c (λ m here.
         let x : IsAt (Securing op) (place s.collector who) m = intact.each who (Securing op) m at here in
-        let g : GoesOn s.collector who (Secure 1) Running s'.collector = fits Running e m here in
+        let g : GoesOn s.collector who (Secure 2) Running s'.collector = fits Running e m here in
         (g.0, ap is_some g.2.0 ∙ x.1, x.2, x.3)) in
         record {
           intact = intact_at same always s' s' ms ms' (set calls who (Securing op)) calls' refl em q i;
@@ -163,7 +163,7 @@ module _ {V : Type 0} (same : V → V → Bool) (always : Bool) (s : Forest V) (
     refused_then f e ms' calls' em ec =
         let i : IsIntact same always s' ms (set calls who Idle) = after_step same always s ms calls intact who Go r s' Idle c (λ m here.
         let x : IsAt (Securing op) (place s.collector who) m = intact.each who (Securing op) m at here in
-        let g : GoesOn s.collector who (Secure 1) (Refused f) s'.collector = fits (Refused f) e m here in
+        let g : GoesOn s.collector who (Secure 2) (Refused f) s'.collector = fits (Refused f) e m here in
         (g.2, x.2)) in
         record {
           intact = intact_at same always s' s' ms ms' (set calls who Idle) calls' refl em ec i;
@@ -172,11 +172,11 @@ module _ {V : Type 0} (same : V → V → Bool) (always : Bool) (s : Forest V) (
           machine = em ∙ sym (ap (λ o. secured_machines o (slice_get calls who) ms who) e);
         }
 
-    -- the place is free
+    -- the places are free
     pub free_intact : r.outcome ≡ Done → IsIntact same always s' ms (set calls who Idle)
     free_intact e = after_step same always s ms calls intact who Go r s' Idle c (λ m here.
         let x : IsAt (Securing op) (place s.collector who) m = intact.each who (Securing op) m at here in
-        let g : GoesOn s.collector who (Secure 1) Done s'.collector = fits Done e m here in
+        let g : GoesOn s.collector who (Secure 2) Done s'.collector = fits Done e m here in
         (g.0, x.2))
 
     pub free_idle : slice_get (set calls who Idle) who ≡ Some Idle
@@ -186,9 +186,9 @@ module _ {V : Type 0} (same : V → V → Bool) (always : Bool) (s : Forest V) (
     free_may e =
         let w : (m : Machine Id V) × (slice_get ms who ≡ Some m) = there ms who (inside_machines same always s ms calls intact who (Securing op) at) in
         let x : IsAt (Securing op) (place s.collector who) w.0 = intact.each who (Securing op) w.0 at w.1 in
-        let g : GoesOn s.collector who (Secure 1) Done s'.collector = fits Done e w.0 w.1 in
-        let l : length (place s'.collector who).bag + 1 ≤ 64 = g.1.2 g.0 (omega arith) in
-        record { registered = g.1.1 ∙ x.0.0; pinned = ap is_some g.1.0 ∙ x.1; room = with_room {C = Id} (parts op).1 New (length (place s'.collector who).bag) (omega (arith, l)) }
+        let g : GoesOn s.collector who (Secure 2) Done s'.collector = fits Done e w.0 w.1 in
+        let l : length (place s'.collector who).bag + 2 ≤ 64 = g.1.2 g.0 (omega arith) in
+        record { registered = g.1.1 ∙ x.0.0; pinned = ap is_some g.1.0 ∙ x.1; room = with_room {C = Id} (parts op).1 New (length (place s'.collector who).bag) l }
 
     pub started_then : r.outcome ≡ Done → (s2 : Forest V) (ms' : List (Machine Id V)) (calls' : List (Call V)) → s2 ≡ s' → ms' ≡ set ms who (first_machine root op) → calls' ≡ set (set calls who Idle) who Walking → IsIntact same always s2 ms' calls' → Secured same always s ms calls who r s2 ms' calls'
     started_then e s2 ms' calls' es em ec i = record {

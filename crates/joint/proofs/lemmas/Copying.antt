@@ -67,15 +67,19 @@ module _ {P : Type 0} where
     above = λ k l. ap (λ m. map.get m k) e ∙ map.get-empty nat_cmp k;
   }
 
-  pub copy_room : (n first now : Form Id P) (from : ℕ) → IsCopying n first now from → map.len (children_of n) < capacity_of (form_of first) → is_full_of now ≡ false
-  copy_room n first now from copying room =
-      let part : Sub_map (children_of now) (children_of n) = λ k s. elim (cases_lt k from) [
-        | inl l ↦ subst IsSome (copying.below k l) s
-        | inr g ↦ (let z = copying.above k g in absurd (cc (s, z)))
+  pub copy_room : (n first now : Form Id P) (from byte : ℕ) (x : Child Id P) → IsCopying n first now from → IsFirst (children_of n) from byte x → map.len (children_of n) ≤ capacity_of (form_of first) → is_full_of now ≡ false
+  copy_room n first now from byte x copying one room =
+      let part : Sub_map (children_of now) (map.remove (children_of n) byte) = λ k s. elim (cases_eq k byte) [
+        | inl q ↦ (let z : map.get (children_of now) k ≡ None = ap (map.get (children_of now)) q ∙ copying.above byte one.past in absurd (cc (s, z)))
+        | inr ne ↦ subst IsSome (sym (taken_beside (children_of n) byte k ne)) (elim (cases_lt k from) [
+          | inl l ↦ subst IsSome (copying.below k l) s
+          | inr g ↦ (let z = copying.above k g in absurd (cc (s, z)))
+        ])
       ] in
-      let l = sub_len (map.len (children_of now)) (children_of now) (children_of n) refl part in
+      let l = sub_len (map.len (children_of now)) (children_of now) (map.remove (children_of n) byte) refl part in
+      let b = len_less (children_of n) byte (subst IsSome (sym one.here) refl) in
       let c : capacity_of (form_of now) ≡ capacity_of (form_of first) = ap capacity_of copying.form in
-      full_is now (ne_eqb (map.len (children_of now)) (capacity_of (form_of now)) (λ e. omega (arith, e, l, c, room)))
+      full_is now (ne_eqb (map.len (children_of now)) (capacity_of (form_of now)) (λ e. omega (arith, e, l, b, c, room)))
 
   pub copy_goes : (n first now next : Form Id P) (from byte : ℕ) (x y : Child Id P) → IsCopying n first now from → IsFirst (children_of n) from byte x → x ≡ y → Becomes now next (map.insert (children_of now) byte y) → IsCopying n first next (byte + 1)
   copy_goes n first now next from byte x y copying one e becomes = record {
@@ -170,8 +174,8 @@ module _ {P : Type 0} where
   pub empty_in : (s : Slot P) (n : Box (Form Id P) Global) → s.node ≡ Some n → (node_of s).count ≡ 0 → children_of n.value ≡ map.empty
   empty_in s n e none = map.empty_of_len (children_of n.value) (subst (λ o. (node_of (slot_with s o)).count ≡ 0) e none)
 
-  pub room_in : (a b : Slot P) (n m : Box (Form Id P) Global) → a.node ≡ Some n → b.node ≡ Some m → (node_of a).count < (node_of b).capacity → map.len (children_of n.value) < capacity_of (form_of m.value)
-  room_in a b n m e f room = subst (λ o. map.len (children_of n.value) < (node_of (slot_with b o)).capacity) f (subst (λ o. (node_of (slot_with a o)).count < (node_of b).capacity) e room)
+  pub room_in : (a b : Slot P) (n m : Box (Form Id P) Global) → a.node ≡ Some n → b.node ≡ Some m → (node_of a).count ≤ (node_of b).capacity → map.len (children_of n.value) ≤ capacity_of (form_of m.value)
+  room_in a b n m e f room = subst (λ o. map.len (children_of n.value) ≤ (node_of (slot_with b o)).capacity) f (subst (λ o. (node_of (slot_with a o)).count ≤ (node_of b).capacity) e room)
 
   pub alike_in : (a : Slot P) (n : Box (Form Id P) Global) → a.node ≡ Some n → HoldsAlike (node_of a) → AreAlike n.value
   alike_in a n e alike = subst (λ o. HoldsAlike (node_of (slot_with a o))) e alike

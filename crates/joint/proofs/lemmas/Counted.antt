@@ -1,13 +1,14 @@
 -- The counts that are kept beside the machine, over its steps.
 use Rattle.std.proofs.Common.{◌≡◌, ◌≢◌, ℕ, zero, suc, ◌+◌, ◌*◌, ◌^◌, ◌==◌, ◌<◌, ◌≤◌, arith, Bool, true, false, cond, List, [], ◌∷◌, length, refl, sym, ◌∙◌, ap, subst, inl, inr}
 use Rattle.std.proofs.Math.ListN.{set}
-use Rattle.std.specs.Prelude.{Option, None, Some, IfSome, Box, nat_eq, option_map, unwrap_or, replicate, slice_get, if◌then◌else◌}
+use Rattle.std.specs.Prelude.{Option, None, Some, Box, map, nat_eq, replicate, slice_get, if◌then◌else◌}
 use Rattle.std.specs.FinMap.{empty, get, len, empty_of_len, get-empty, len-empty}
 use Rattle.std.specs.Ordering.{nat_cmp}
-use Rattle.std.specs.List.{Contains, cons_option, filter_map, sum_by}
+use Rattle.std.specs.List.{Contains, flat_map, sum_by}
 use Rattle.std.proofs.lemmas.Bool.{eqb-true}
 use Rattle.std.proofs.lemmas.List.Elements.{All-contains}
-use Rattle.std.proofs.lemmas.List.Sums.{sum_by-cons}
+use Rattle.std.proofs.lemmas.List.Concat.{length-flat_map}
+use Rattle.std.proofs.lemmas.List.Sums.{sum_by-append, sum_by-cons}
 use Rattle.std.proofs.lemmas.Option.{slice_get_within}
 use Rattle.judge.specs.declared.journal.Reply.{Reply}
 use Rattle.judge.specs.Answer.{Pairs}
@@ -30,7 +31,8 @@ use Rattle.congee.specs.Heap.{Node}
 use Rattle.congee.specs.Keys.{IsMapOf, key_bytes}
 use Rattle.congee.specs.protocol.Answers.{Keeps, SameMap, reply_in, told_or}
 use Rattle.congee.specs.protocol.Destroys.{Destroys}
-use Rattle.congee.specs.protocol.Names.{names}
+use Rattle.congee.specs.protocol.Holdings.{TakenBy}
+use Rattle.congee.specs.protocol.Names.{name_made, names}
 use Rattle.congee.specs.protocol.Play.{EachKnown, IsMoved, Settled, begun}
 use Rattle.congee.proofs.lemmas.Keys.{standing_same}
 use Rattle.joint.specs.declared.call.Call.{Call}
@@ -38,6 +40,7 @@ use Rattle.joint.specs.declared.call.Call.TheVariants.{Idle, Collecting, Reservi
 use Rattle.joint.specs.declared.census.Census.{Census}
 use Rattle.joint.specs.declared.census.Change.{Change}
 use Rattle.joint.specs.declared.census.Change.TheVariants.{More, Fewer, Same}
+use Rattle.joint.specs.declared.census.Taken.{Taken}
 use Rattle.joint.specs.declared.id.Id.{Id}
 use Rattle.joint.specs.declared.slot.Slot.{Slot}
 use Rattle.joint.specs.declared.steps.Event.TheVariants.{Register}
@@ -45,7 +48,7 @@ use Rattle.joint.specs.declared.steps.Report.{Report}
 use Rattle.joint.specs.declared.steps.Target.{Target}
 use Rattle.joint.specs.declared.steps.Target.TheVariants as target
 use Rattle.joint.specs.Beginning.{BeginsUnless, Begun}
-use Rattle.joint.specs.Census.{AreCounted, effect_by, effect_of, fewer, more, reply_after, size_taken}
+use Rattle.joint.specs.Census.{AreCounted, effect_by, effect_of, fewer, more, reply_after, taken_at}
 use Rattle.joint.specs.Forest.{Forest, nodes, of_value, size, size_in, Refuses}
 use Rattle.joint.specs.Intact.{IsIntact, Secured, WalkedOn, is_done, rested, resting, root, secured_machines}
 use Rattle.joint.specs.Laws.{CallLaws}
@@ -53,7 +56,7 @@ use Rattle.joint.specs.Levels.{form_with}
 use Rattle.joint.specs.Listing.{bytes_of, taken, taken_by}
 use Rattle.joint.specs.Survey.{IsEmptiness}
 use Rattle.joint.specs.View.{capacity_in, id_number, view}
-use Rattle.joint.specs.Whole.{Whole, BeginsAt, BeginsOnTree, EntersUnless, Proceeds, begin_misuse, finds_none, is_busy, one_if, place_of}
+use Rattle.joint.specs.Whole.{Whole, BeginsAt, BeginsOnTree, EntersUnless, Proceeds, begin_misuse, finds_none, is_busy, place_of}
 use Rattle.joint.proofs.lemmas.Advanced.{one_map}
 use Rattle.joint.proofs.lemmas.Changing.{Counts, answered}
 use Rattle.joint.proofs.lemmas.Collecting.{inside_machines, there}
@@ -77,25 +80,31 @@ by_form N256 = refl
 times : (m n : ℕ) → m * suc n ≡ m * n + m
 times m n = omega arith
 
-cons_weight : (f : ℕ → ℕ) (o : Option ℕ) (zs : List ℕ) → sum_by f (cons_option o zs) ≡ unwrap_or (option_map f o) 0 + sum_by f zs
-cons_weight f None zs = omega arith
-cons_weight f (Some n) zs = sum_by-cons f n zs
+weight_same : (f g : ℕ → ℕ) (ns : List ℕ) → ((n : ℕ) → Contains ns n → g n ≡ f n) → sum_by g ns ≡ sum_by f ns
+weight_same f g [] e = refl
+weight_same f g (n ∷ ns) e =
+    let a = sum_by-cons f n ns in
+    let b = sum_by-cons g n ns in
+    let h = e n (0, (let l : 0 < suc (length ns) = omega arith in l), refl) in
+    let r = weight_same f g ns (λ m c. e m (suc c.0, (let l : c.0 < length ns = c.1 in omega (arith, l)), c.2)) in
+    omega (arith, a, b, h, r)
 
-cons_length : (o : Option ℕ) (zs : List ℕ) → length (cons_option o zs) ≡ unwrap_or (option_map (λ (n : ℕ). 1) o) 0 + length zs
-cons_length None zs = omega arith
-cons_length (Some n) zs = omega arith
-
-few_at : (f : ℕ → ℕ) (b : ℕ) → ((n : ℕ) → f n ≤ b) → (o : Option ℕ) → unwrap_or (option_map f o) 0 ≤ b
-few_at f b h None = omega arith
-few_at f b h (Some n) = h n
-
-weight_same : (f g : ℕ → ℕ) (o : Option ℕ) → ((n : ℕ) → o ≡ Some n → g n ≡ f n) → unwrap_or (option_map g o) 0 ≡ unwrap_or (option_map f o) 0
-weight_same f g None e = refl
-weight_same f g (Some n) e = e n refl
-
-one_is : (f : ℕ → ℕ) (o : Option ℕ) → one_if (option_map f o) ≡ unwrap_or (option_map (λ (n : ℕ). 1) o) 0
-one_is f None = refl
-one_is f (Some n) = refl
+-- a sum of so many, each so great at most
+few_each : (f : ℕ → ℕ) (b : ℕ) → ((n : ℕ) → f n ≤ b) → (ns : List ℕ) → length ns ≤ 2 → sum_by f ns ≤ b * 2
+few_each f b h [] l = omega arith
+few_each f b h (m ∷ []) l =
+    let a = sum_by-cons f m [] in
+    let x = h m in
+    let t : b * 2 ≡ b + b = omega arith in
+    omega (arith, a, x, t)
+few_each f b h (m ∷ n ∷ []) l =
+    let a = sum_by-cons f m (n ∷ []) in
+    let d = sum_by-cons f n [] in
+    let x = h m in
+    let y = h n in
+    let t : b * 2 ≡ b + b = omega arith in
+    omega (arith, a, d, x, y, t)
+few_each f b h (m ∷ n ∷ o ∷ ns) l = absurd (omega (arith, l))
 
 -- sums over lists that differ in one place at most
 module _ {X : Type 0} where
@@ -148,23 +157,29 @@ module _ {X : Type 0} where
 -- sums over what was taken out are sums over the calls
 module _ {V : Type 0} where
   abbrev weigh : (ℕ → ℕ) → Machine Id V → ℕ
-  weigh f m = unwrap_or (option_map f (taken_by m)) 0
+  weigh f m = sum_by f (taken_by m)
 
-  weighed : (f : ℕ → ℕ) (ms : List (Machine Id V)) → sum_by f (filter_map taken_by ms) ≡ sum_by (weigh f) ms
+  abbrev count : Machine Id V → ℕ
+  count m = length (taken_by m)
+
+  weighed : (f : ℕ → ℕ) (ms : List (Machine Id V)) → sum_by f (flat_map taken_by ms) ≡ sum_by (weigh f) ms
   weighed f [] = refl
   weighed f (m ∷ ms) =
-      let a = cons_weight f (taken_by m) (filter_map taken_by ms) in
+      let a = sum_by-append f (taken_by m) (flat_map taken_by ms) in
       let b = sum_by-cons (weigh f) m ms in
       let r = weighed f ms in
       omega (arith, a, b, r)
 
-  numbered : (ms : List (Machine Id V)) → length (filter_map taken_by ms) ≡ sum_by (weigh (λ n. 1)) ms
-  numbered [] = refl
-  numbered (m ∷ ms) =
-      let a = cons_length (taken_by m) (filter_map taken_by ms) in
-      let b = sum_by-cons (weigh (λ n. 1)) m ms in
-      let r = numbered ms in
-      omega (arith, a, b, r)
+  numbered : (ms : List (Machine Id V)) → length (flat_map taken_by ms) ≡ sum_by count ms
+  numbered ms = length-flat_map taken_by ms
+
+  -- two at most
+  two_taken : (p : Phase Id V) → length (map id_number (taken p)) ≤ 2
+  two_taken (Obsolete m None q r) = omega arith
+  two_taken (Obsolete m (Some c) q r) = omega arith
+  two_taken (Retire m None q r) = omega arith
+  two_taken (Retire m (Some c) q r) = omega arith
+  two_taken _ = omega arith
 
   -- what is charged for a node that stays as it is stays
   size_few : {A : Type 0} (o : Option (Box (Form Id V) A)) → size_in o ≤ 2104
@@ -193,12 +208,19 @@ module _ {V : Type 0} where
   bytes_same s s' n e = bytes_seen s' n ∙ ap (λ (x : Node V). by_places x.capacity) e ∙ sym (bytes_seen s n)
 
   -- a call names what it has taken out
-  taken_named : (p : Phase Id V) (n : ℕ) → option_map id_number (taken p) ≡ Some n → Contains (names id_number p) n
-  taken_named (Obsolete m q r) n e = (0, omega arith, (let z : id_number m ≡ n = cc in z))
-  taken_named (Retire m q r) n e = (0, omega arith, (let z : id_number m ≡ n = cc in z))
-  taken_named _ n e = absurd (cc e)
+  named_of : (p : Phase Id V) (n : ℕ) → TakenBy id_number p n → Contains (names id_number p) n
+  named_of (Obsolete m next q r) n (inl e) = (0, (let l : 0 < suc (suc (length (name_made id_number next))) = omega arith in l), sym e)
+  named_of (Obsolete m None q r) n (inr e) = absurd e
+  named_of (Obsolete m (Some c) q r) n (inr e) = (2, (let l : 2 < 3 = omega arith in l), sym e)
+  named_of (Retire m next q r) n (inl e) = (0, (let l : 0 < suc (suc (length (name_made id_number next))) = omega arith in l), sym e)
+  named_of (Retire m None q r) n (inr e) = absurd e
+  named_of (Retire m (Some c) q r) n (inr e) = (2, (let l : 2 < 3 = omega arith in l), sym e)
+  named_of _ n e = absurd e
 
-  begun_none : (op : Point V) → taken_by (begun root op) ≡ None
+  taken_named : (p : Phase Id V) (n : ℕ) → Contains (map id_number (taken p)) n → Contains (names id_number p) n
+  taken_named p n c = named_of p n (taken_is p n c)
+
+  begun_none : (op : Point V) → taken_by (begun root op) ≡ []
   begun_none (point.Get k) = refl
   begun_none (point.Insert k v) = refl
   begun_none (point.Remove k) = refl
@@ -208,21 +230,21 @@ module _ {V : Type 0} where
   begun_none (point.Range start end size) = refl
   begun_none (point.RangeInclusive start last size) = refl
 
-  ended_none : (m : Machine Id V) → m.phase ≡ Ended → taken_by m ≡ None
-  ended_none m e = ap (λ p. option_map id_number (taken p)) e
+  ended_none : (m : Machine Id V) → m.phase ≡ Ended → taken_by m ≡ []
+  ended_none m e = ap (λ p. map id_number (taken p)) e
 
-  resting_none : (n : ℕ) (ms : List (Machine Id V)) → ms ≡ replicate n resting → filter_map taken_by ms ≡ []
-  resting_none zero ms e = ap (filter_map taken_by) e
-  resting_none (suc n) ms e = ap (filter_map taken_by) e ∙ resting_none n (replicate n resting) refl
+  resting_none : (n : ℕ) (ms : List (Machine Id V)) → ms ≡ replicate n resting → flat_map taken_by ms ≡ []
+  resting_none zero ms e = ap (flat_map taken_by) e
+  resting_none (suc n) ms e = ap (flat_map taken_by) e ∙ resting_none n (replicate n resting) refl
 
   -- a root alone has no pair, and nothing is taken out
-  pub counted_first : (s : Forest V) (n : ℕ) → IsMapOf (nodes s) empty → (k : Census) → k ≡ record { pairs = 0; taken = 0; taken_bytes = 0 } → AreCounted k s (replicate n resting)
+  pub counted_first : (s : Forest V) (n : ℕ) → IsMapOf (nodes s) empty → (k : Census) → k ≡ record { pairs = 0; taken = record { nodes = 0; bytes = 0 } } → AreCounted k s (replicate n resting)
   counted_first s n st k e = record {
     pairs = empty;
     stand = st;
     count = ap (λ (x : Census). x.pairs) e ∙ sym (len-empty nat_cmp V);
-    taken = ap (λ (x : Census). x.taken) e ∙ sym (ap length (resting_none n (replicate n resting) refl));
-    bytes = ap (λ (x : Census). x.taken_bytes) e ∙ sym (ap (sum_by (bytes_of s)) (resting_none n (replicate n resting) refl));
+    taken = ap (λ (x : Census). x.taken.nodes) e ∙ sym (ap length (resting_none n (replicate n resting) refl));
+    bytes = ap (λ (x : Census). x.taken.bytes) e ∙ sym (ap (sum_by (bytes_of s)) (resting_none n (replicate n resting) refl));
   }
 
   pub counted_at : (k k' : Census) (s s' : Forest V) (ms ms' : List (Machine Id V)) → k' ≡ k → s' ≡ s → ms' ≡ ms → AreCounted k s ms → AreCounted k' s' ms'
@@ -249,20 +271,20 @@ module _ {V : Type 0} (k : Census) (s : Forest V) (ms : List (Machine Id V)) (c 
   pub pairs_few : k.pairs ≤ 2 ^ 64
   pairs_few = let l = len_few c.pairs c.stand.none_beyond in omega (arith, l, c.count)
 
-  pub taken_few : length ms ≤ 256 → k.taken ≤ 256
+  pub taken_few : length ms ≤ 256 → k.taken.nodes ≤ 512
   taken_few l =
       let a = numbered ms in
-      let b = sum_few (weigh (λ n. 1)) 1 (λ m. few_at (λ n. 1) 1 (λ n. omega arith) (taken_by m)) ms in
+      let b = sum_few count 2 (λ m. two_taken m.phase) ms in
       omega (arith, l, a, b, c.taken)
 
-  pub bytes_small : length ms ≤ 256 → k.taken_bytes ≤ 2104 * 256
+  pub bytes_small : length ms ≤ 256 → k.taken.bytes ≤ 2104 * 512
   bytes_small l =
       let a = weighed (bytes_of s) ms in
-      let b = sum_few (weigh (bytes_of s)) 2104 (λ m. few_at (bytes_of s) 2104 (bytes_few s) (taken_by m)) ms in
+      let b = sum_few (weigh (bytes_of s)) (2104 * 2) (λ m. few_each (bytes_of s) 2104 (bytes_few s) (taken_by m) (two_taken m.phase)) ms in
       omega (arith, l, a, b, c.bytes)
 
   -- the nodes change, but for those that were taken out
-  counted_on : (s' : Forest V) → SameMap (nodes s) (nodes s') → ((j : ℕ) (m : Machine Id V) (n : ℕ) → slice_get ms j ≡ Some m → taken_by m ≡ Some n → nodes s' n ≡ nodes s n) → AreCounted k s' ms
+  counted_on : (s' : Forest V) → SameMap (nodes s) (nodes s') → ((j : ℕ) (m : Machine Id V) (n : ℕ) → slice_get ms j ≡ Some m → Contains (taken_by m) n → nodes s' n ≡ nodes s n) → AreCounted k s' ms
   counted_on s' same kept =
       let a = weighed (bytes_of s) ms in
       let b = weighed (bytes_of s') ms in
@@ -284,11 +306,8 @@ module _ {V : Type 0} (k : Census) (s : Forest V) (ms : List (Machine Id V)) (c 
       All-contains P (names id_number m.phase) n (d.named j m at) (taken_named m.phase n t))
 
   -- a call that has taken nothing out comes in place of another
-  pub counted_set : (i : ℕ) (y : Machine Id V) → ((x : Machine Id V) → slice_get ms i ≡ Some x → taken_by x ≡ None) → taken_by y ≡ None → AreCounted k s (set ms i y)
+  pub counted_set : (i : ℕ) (y : Machine Id V) → ((x : Machine Id V) → slice_get ms i ≡ Some x → taken_by x ≡ []) → taken_by y ≡ [] → AreCounted k s (set ms i y)
   counted_set i y old none = by (slice_get ms i) refl where
-    weightless : (f : ℕ → ℕ) (o : Option ℕ) → o ≡ None → unwrap_or (option_map f o) 0 ≡ 0
-    weightless f o e = ap (λ (x : Option ℕ). unwrap_or (option_map f x) 0) e
-
     by : (o : Option (Machine Id V)) → slice_get ms i ≡ o → AreCounted k s (set ms i y)
     by None e = let R : List (Machine Id V) → Type 0 = λ x. AreCounted k s x in subst R (sym (set_none ms i e)) c
       where
@@ -297,17 +316,17 @@ module _ {V : Type 0} (k : Census) (s : Forest V) (ms : List (Machine Id V)) (c 
         set_none (x ∷ xs) zero q = absurd (cc q)
         set_none (x ∷ xs) (suc j) q = ap (λ zs. x ∷ zs) (set_none xs j q)
     by (Some x) e =
-        let t : taken_by x ≡ None = old x e in
+        let t : taken_by x ≡ [] = old x e in
         let a = numbered ms in
         let b = numbered (set ms i y) in
-        let d = sum_set (weigh (λ n. 1)) (weigh (λ n. 1)) ms i x y e (λ j z n q. refl) in
+        let d = sum_set count count ms i x y e (λ j z n q. refl) in
         let p = weighed (bytes_of s) ms in
         let q = weighed (bytes_of s) (set ms i y) in
         let r = sum_set (weigh (bytes_of s)) (weigh (bytes_of s)) ms i x y e (λ j z n q. refl) in
-        let x1 : weigh (λ n. 1) x ≡ 0 = weightless (λ n. 1) (taken_by x) t in
-        let y1 : weigh (λ n. 1) y ≡ 0 = weightless (λ n. 1) (taken_by y) none in
-        let x2 : weigh (bytes_of s) x ≡ 0 = weightless (bytes_of s) (taken_by x) t in
-        let y2 : weigh (bytes_of s) y ≡ 0 = weightless (bytes_of s) (taken_by y) none in
+        let x1 : count x ≡ 0 = ap length t in
+        let y1 : count y ≡ 0 = ap length none in
+        let x2 : weigh (bytes_of s) x ≡ 0 = ap (sum_by (bytes_of s)) t in
+        let y2 : weigh (bytes_of s) y ≡ 0 = ap (sum_by (bytes_of s)) none in
         record {
           pairs = c.pairs;
           stand = c.stand;
@@ -339,7 +358,7 @@ module _ {V : Type 0} (same : V → V → Bool) (always : Bool) where
     few_machines = let e = intact.machines in let l = intact.few in omega (arith, e, l)
 
     module _ (k : Census) (c : AreCounted k s ms) where
-      -- the next step of a call that makes its place free
+      -- the next step of a call that makes its places free
       pub counted_secured : (who : ℕ) (op : Point V) → slice_get calls who ≡ Some (Securing op) → (r : Collection) (s' : Forest V) (ms' : List (Machine Id V)) (calls' : List (Call V)) → Secured same always s ms calls who r s' ms' calls' → AreCounted k s' ms'
       counted_secured who op at r s' ms' calls' x =
           let d : AreCounted k s' ms = counted_collected k s ms c s' x.collected.map x.collected.destroys in
@@ -358,7 +377,7 @@ module _ {V : Type 0} (same : V → V → Bool) (always : Bool) where
 
   -- a begin of a worker
   module _ (s s' : Whole V) (who : ℕ) (intact : IsIntact same always s.forest s.machines s.calls) (k : Census) (c : AreCounted k s.forest s.machines) where
-    over : (k : Option (Call V)) → slice_get s.calls who ≡ k → is_busy k ≡ false → (m : Machine Id V) → slice_get s.machines who ≡ Some m → taken_by m ≡ None
+    over : (k : Option (Call V)) → slice_get s.calls who ≡ k → is_busy k ≡ false → (m : Machine Id V) → slice_get s.machines who ≡ Some m → taken_by m ≡ []
     over None e b m at = absurd (
         let l : who < length s.machines = slice_get_within s.machines who m at in
         let z : who < length s.calls = (let q = intact.machines in omega (arith, l, q)) in
@@ -408,34 +427,31 @@ module _ {V : Type 0} (same : V → V → Bool) (always : Bool) where
 
   -- a step of a call on the tree
   module _ (laws : CallLaws {C = Id} {V = V} id_number same always) (s : Forest V) (ms : List (Machine Id V)) (calls : List (Call V)) (intact : IsIntact same always s ms calls) (step : Step Id V) (on : slice_get calls step.who ≡ Some Walking)
-      (k : Census) (c : AreCounted k s ms) (b : Option ℕ) (b_is : b ≡ size_taken s (slice_get ms step.who)) where
+      (k : Census) (c : AreCounted k s ms) (b : Taken) (b_nodes : b.nodes ≡ length (taken_at (slice_get ms step.who))) (b_bytes : b.bytes ≡ sum_by (bytes_of s) (taken_at (slice_get ms step.who))) where
     abbrev old : (x : Machine Id V) × (slice_get ms step.who ≡ Some x)
     old = there ms step.who (inside_machines same always s ms calls intact step.who Walking on)
 
-    before : b ≡ option_map (bytes_of s) (taken_by old.0)
-    before = b_is ∙ ap (size_taken s) old.1
+    nodes_before : b.nodes ≡ count old.0
+    nodes_before = b_nodes ∙ ap (λ o. length (taken_at o)) old.1
 
-    one_before : one_if b ≡ weigh (λ n. 1) old.0
-    one_before = ap one_if before ∙ one_is (bytes_of s) (taken_by old.0)
+    bytes_before : b.bytes ≡ weigh (bytes_of s) old.0
+    bytes_before = b_bytes ∙ ap (λ o. sum_by (bytes_of s) (taken_at o)) old.1
 
-    bytes_before : unwrap_or b 0 ≡ weigh (bytes_of s) old.0
-    bytes_before = ap (λ (o : Option ℕ). unwrap_or o 0) before
-
-    pub had : one_if b ≤ k.taken
+    pub had : b.nodes ≤ k.taken.nodes
     had =
         let a = numbered ms in
-        let t = term_in (weigh (λ n. 1)) ms step.who old.0 old.1 in
-        let e = one_before in
+        let t = term_in count ms step.who old.0 old.1 in
+        let e = nodes_before in
         omega (arith, a, t, e, c.taken)
 
-    pub had_bytes : unwrap_or b 0 ≤ k.taken_bytes
+    pub had_bytes : b.bytes ≤ k.taken.bytes
     had_bytes =
         let a = weighed (bytes_of s) ms in
         let t = term_in (weigh (bytes_of s)) ms step.who old.0 old.1 in
         let e = bytes_before in
         omega (arith, a, t, e, c.bytes)
 
-    module _ (d : Move V) (s' : Forest V) (ms' : List (Machine Id V)) (w : WalkedOn same always s ms step d s' ms') (a : Option ℕ) (a_is : a ≡ size_taken s' (slice_get ms' step.who)) where
+    module _ (d : Move V) (s' : Forest V) (ms' : List (Machine Id V)) (w : WalkedOn same always s ms step d s' ms') (a : Taken) (a_nodes : a.nodes ≡ length (taken_at (slice_get ms' step.who))) (a_bytes : a.bytes ≡ sum_by (bytes_of s') (taken_at (slice_get ms' step.who))) where
       abbrev moved : IsMoved id_number same always s.version_max (Refuses s) (nodes s) ms old.0 step d (nodes s') w.between
       moved = w.walked.plays.moved old.0 old.1
 
@@ -458,19 +474,16 @@ module _ {V : Type 0} (same : V → V → Bool) (always : Bool) where
       keeps = moved.keeps step.who settled.0 known.root settled.1.tree settled.1.words known.known
 
       -- the nodes that other calls have taken out stay as they are
-      others : (j : ℕ) (m : Machine Id V) → j ≢ step.who → slice_get ms j ≡ Some m → (n : ℕ) → taken_by m ≡ Some n → nodes s' n ≡ nodes s n
+      others : (j : ℕ) (m : Machine Id V) → j ≢ step.who → slice_get ms j ≡ Some m → (n : ℕ) → Contains (taken_by m) n → nodes s' n ≡ nodes s n
       others j m apart at n e =
           let x : IsTaken id_number same always j settled.0 (nodes s) (key_bytes m.key) n = taken_out id_number same always j settled.0 (nodes s) (key_bytes m.key) n m.key m.kind m.given m.phase (settled.1.each j m at).known (taken_is m.phase n e) in
           ((keeps.effect.others j apart).mine n x.owner).0
 
-      after : a ≡ option_map (bytes_of s') (taken_by final)
-      after = a_is ∙ ap (size_taken s') here
+      nodes_after : a.nodes ≡ count final
+      nodes_after = a_nodes ∙ ap (λ o. length (taken_at o)) here
 
-      pub size_after : IfSome a (λ n. n ≤ 2104)
-      size_after = let P : Option ℕ → Type 0 = λ o. IfSome o (λ n. n ≤ 2104) in subst P (sym after) (by (taken_by final)) where
-        by : (o : Option ℕ) → IfSome (option_map (bytes_of s') o) (λ n. n ≤ 2104)
-        by None = tt
-        by (Some n) = bytes_few s' n
+      bytes_after : a.bytes ≡ weigh (bytes_of s') final
+      bytes_after = a_bytes ∙ ap (λ o. sum_by (bytes_of s') (taken_at o)) here
 
       abbrev change : Change
       change = effect_of d.decided d.outcome (slice_get ms' step.who)
@@ -493,21 +506,23 @@ module _ {V : Type 0} (same : V → V → Bool) (always : Bool) where
             let q : fewer x ≡ fewer change = ap fewer e in
             omega (arith, l, q, same_pairs, c.count)
 
-        pub counted_walk : k1.taken + one_if b ≡ k.taken + one_if a → k1.taken_bytes + unwrap_or b 0 ≡ k.taken_bytes + unwrap_or a 0
-            → (x : Change) → x ≡ change → (k2 : Census) → k2.pairs + fewer x ≡ k1.pairs + more x → k2.taken ≡ k1.taken → k2.taken_bytes ≡ k1.taken_bytes → AreCounted k2 s' ms'
-        counted_walk et eb x ex k2 ep et2 eb2 =
+        pub counted_walk : k1.taken.nodes + b.nodes ≡ k.taken.nodes + a.nodes → k1.taken.bytes + b.bytes ≡ k.taken.bytes + a.bytes
+            → (x : Change) → x ≡ change → (k2 : Census) → k2.pairs + fewer x ≡ k1.pairs + more x → k2.taken ≡ k1.taken → AreCounted k2 s' ms'
+        counted_walk et eb x ex k2 ep et2 =
             let n0 = numbered ms in
             let n1 = numbered (set ms step.who final) in
-            let n2 = sum_set (weigh (λ n. 1)) (weigh (λ n. 1)) ms step.who old.0 final old.1 (λ j z ne q. refl) in
-            let n3 : length (filter_map taken_by ms') ≡ length (filter_map taken_by (set ms step.who final)) = ap (λ xs. length (filter_map taken_by xs)) all in
-            let n4 = one_before in
-            let n5 : one_if a ≡ weigh (λ n. 1) final = ap one_if after ∙ one_is (bytes_of s') (taken_by final) in
+            let n2 = sum_set count count ms step.who old.0 final old.1 (λ j z ne q. refl) in
+            let n3 : length (flat_map taken_by ms') ≡ length (flat_map taken_by (set ms step.who final)) = ap (λ xs. length (flat_map taken_by xs)) all in
+            let n4 = nodes_before in
+            let n5 = nodes_after in
+            let n6 : k2.taken.nodes ≡ k1.taken.nodes = ap (λ t. t.nodes) et2 in
             let w0 = weighed (bytes_of s) ms in
             let w1 = weighed (bytes_of s') (set ms step.who final) in
             let w2 = sum_set (weigh (bytes_of s)) (weigh (bytes_of s')) ms step.who old.0 final old.1 (λ j z ne q. weight_same (bytes_of s) (bytes_of s') (taken_by z) (λ n t. bytes_same s s' n (others j z ne q n t))) in
-            let w3 : sum_by (bytes_of s') (filter_map taken_by ms') ≡ sum_by (bytes_of s') (filter_map taken_by (set ms step.who final)) = ap (λ xs. sum_by (bytes_of s') (filter_map taken_by xs)) all in
+            let w3 : sum_by (bytes_of s') (flat_map taken_by ms') ≡ sum_by (bytes_of s') (flat_map taken_by (set ms step.who final)) = ap (λ xs. sum_by (bytes_of s') (flat_map taken_by xs)) all in
             let w4 = bytes_before in
-            let w5 : unwrap_or a 0 ≡ weigh (bytes_of s') final = ap (λ (o : Option ℕ). unwrap_or o 0) after in
+            let w5 = bytes_after in
+            let w6 : k2.taken.bytes ≡ k1.taken.bytes = ap (λ t. t.bytes) et2 in
             let p0 = pairs_after.count in
             let p1 : more x ≡ more change = ap more ex in
             let p2 : fewer x ≡ fewer change = ap fewer ex in
@@ -515,6 +530,6 @@ module _ {V : Type 0} (same : V → V → Bool) (always : Bool) where
               pairs = pairs_after.pairs;
               stand = pairs_after.stand;
               count = omega (arith, p0, p1, p2, ep, same_pairs, c.count);
-              taken = omega (arith, n0, n1, n2, n3, n4, n5, et, et2, c.taken);
-              bytes = omega (arith, w0, w1, w2, w3, w4, w5, eb, eb2, c.bytes);
+              taken = omega (arith, n0, n1, n2, n3, n4, n5, n6, et, c.taken);
+              bytes = omega (arith, w0, w1, w2, w3, w4, w5, w6, eb, c.bytes);
             }

@@ -1,5 +1,5 @@
 -- A drainer takes the pairs at and below a node.
-use Rattle.std.proofs.Common.{◌≡◌, ℕ, ◌+◌, ◌^◌, ◌<◌, ◌≤◌, ◌%◌, ◌⊎◌, arith, length, refl, sym, ◌∙◌, ap, subst, inl, inr}
+use Rattle.std.proofs.Common.{◌≡◌, ℕ, ◌+◌, ◌^◌, ◌<◌, ◌≤◌, ◌%◌, arith, length, refl, sym, ◌∙◌, ap, subst, inl, inr}
 use Rattle.std.specs.Prelude.{Option, None, Some}
 use Rattle.std.specs.FinMap as map
 use Rattle.std.proofs.Math.Nat.{mod-eq_of_lt}
@@ -24,7 +24,7 @@ use Rattle.joint.specs.declared.id.Id.{Id}
 use Rattle.joint.specs.declared.slot.Word.{Word}
 use Rattle.joint.specs.Closing.{Drained, Takes, TakesBelow}
 use Rattle.joint.specs.Levels.{IsNodeIn}
-use Rattle.joint.specs.Survey.{IsTree, NoneStand}
+use Rattle.joint.specs.Survey.{IsTree}
 use Rattle.joint.specs.View.{id_number, hung_at, shape}
 use Rattle.joint.proofs.lemmas.Draining.{same_prefix, stands_still, still_tree, takes_value, takes_none, takes_begin, takes_more, takes_all}
 use Rattle.joint.proofs.lemmas.Surveying.{none_bytes, none_beside}

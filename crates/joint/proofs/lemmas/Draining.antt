@@ -1,5 +1,5 @@
 -- A value goes out of its leaf, and a drainer takes the pairs of a tree one after the other.
-use Rattle.std.proofs.Common.{◌≡◌, ◌≢◌, ℕ, ◌<◌, ◌≤◌, ◌+◌, ◌*◌, ◌^◌, ◌⊎◌, Bool, true, false, cond, List, [], ◌∷◌, length, get_or, refl, sym, ◌∙◌, ap, subst, inl, inr, arith}
+use Rattle.std.proofs.Common.{◌≡◌, ◌≢◌, ℕ, ◌<◌, ◌≤◌, ◌+◌, ◌*◌, ◌^◌, ◌⊎◌, true, List, [], ◌∷◌, length, get_or, refl, sym, ◌∙◌, ap, subst, inl, inr, arith}
 use Rattle.std.specs.Prelude.{None, Some}
 use Rattle.std.specs.FinMap as map
 use Rattle.std.proofs.lemmas.Bool.{cases_lt}
@@ -7,7 +7,7 @@ use Rattle.std.proofs.lemmas.Bool.Decides.{nat_tests}
 use Rattle.judge.specs.Answer.{Pairs}
 use Rattle.congee.specs.forms.Bytes.{IsFirst}
 use Rattle.congee.specs.forms.Places.{AllKeys}
-use Rattle.congee.specs.Heap.{Node, Hung, Nothing, Below, Holds, Stands, fits, child_for, value_at}
+use Rattle.congee.specs.Heap.{Node, Hung, Nothing, Below, Holds, Stands, fits, value_at}
 use Rattle.congee.specs.Keys.{key_bytes, IsMapOf}
 use Rattle.congee.specs.Ledger.{Note, Tree, Linked}
 use Rattle.congee.specs.declared.protocol.store.Region.{Region}
@@ -24,7 +24,7 @@ use Rattle.congee.proofs.lemmas.protocol.SweepBytes.{region_top}
 use Rattle.congee.proofs.lemmas.owned.RangeLemmas.{range_none, range_first, range_all}
 use Rattle.joint.specs.Closing.{AgreesFrom, Drained, Takes, pairs_from}
 use Rattle.joint.specs.Levels.{IsNodeIn}
-use Rattle.joint.specs.Survey.{IsTree, NoneStand}
+use Rattle.joint.specs.Survey.{NoneStand}
 
 -- a value goes out of the node where it hung
 module _ {V : Type 0} (h : ℕ → Node V) (n b : ℕ) (value : V) (h' : ℕ → Node V) (k : ChangeGives h n b Nothing h') (was : (h n).children b ≡ Holds value) where

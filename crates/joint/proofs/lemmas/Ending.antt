@@ -1,6 +1,6 @@
 -- A step of a call on a key reports the call's end exactly where it ends the call.
 use Rattle.std.proofs.Common.{◌≡◌, ℕ, ◌==◌, Bool, true, false, cond, List, refl, sym, subst, inl, inr}
-use Rattle.std.specs.Prelude.{not, Option, None, Some, Result, Ok, Err}
+use Rattle.std.specs.Prelude.{not, ltb, ◌&&◌, Option, None, Some, Result, Ok, Err}
 use Rattle.judge.specs.declared.journal.Reply.{Reply}
 use Rattle.congee.specs.declared.forms.base_node.NodeType.{NodeType}
 use Rattle.congee.specs.declared.forms.child.Child.{Child}
@@ -10,13 +10,14 @@ use Rattle.congee.specs.declared.protocol.machine.Move.{Move}
 use Rattle.congee.specs.declared.protocol.machine.Outcome.{Outcome}
 use Rattle.congee.specs.declared.protocol.machine.Outcome.TheVariants.{Running, Asks, Found, Done, Scanned, Refused}
 use Rattle.congee.specs.declared.protocol.phase.Double.{Double}
-use Rattle.congee.specs.declared.protocol.phase.Double.TheVariants.{Unlink, Grow, GrowLink, Split}
+use Rattle.congee.specs.declared.protocol.phase.Double.TheVariants.{Unlink, Grow, GrowLink, Split, Shrink, Collapse, ShrinkAbove}
 use Rattle.congee.specs.declared.protocol.phase.Kind.{Kind}
 use Rattle.congee.specs.declared.protocol.phase.Kind.TheVariants.{Get, Insert, Remove, ComputePresent, ComputeInsert, Exchange}
 use Rattle.congee.specs.declared.protocol.phase.One.{One}
+use Rattle.congee.specs.declared.protocol.phase.Above.{Above as Over}
 use Rattle.congee.specs.declared.protocol.phase.Parent.{Parent}
 use Rattle.congee.specs.declared.protocol.phase.Phase.{Phase}
-use Rattle.congee.specs.declared.protocol.phase.Phase.TheVariants.{New, Version, Read, Check, CheckUncopied, CheckMiss, CheckDown, CheckOld, MakeLeaf, MakeGreater, MakeTop, MakeBeside, AskOld, AskNew, Confirm, CheckAbove, UpgradeOne, ChangeOne, UpgradeAbove, UpgradeBelow, ChangeTwo, Obsolete, Retire, UnlockBelow, Unlock, Unwind, Sweep, Ended}
+use Rattle.congee.specs.declared.protocol.phase.Phase.TheVariants.{New, Version, Read, Check, CheckUncopied, CheckMiss, CheckDown, CheckOld, MakeLeaf, MakeGreater, MakeTop, MakeBeside, MakeLesser, AskOld, AskNew, Confirm, CheckAbove, UpgradeOne, ChangeOne, UpgradeTop, UpgradeAbove, UpgradeBelow, ChangeTwo, Obsolete, Retire, UnlockBelow, Unlock, Unwind, Sweep, Ended}
 use Rattle.congee.specs.declared.protocol.phase.Plan.{Plan}
 use Rattle.congee.specs.declared.protocol.phase.Plan.TheVariants.{Here, Above}
 use Rattle.congee.specs.declared.protocol.phase.Single.{Single}
@@ -32,7 +33,7 @@ use Rattle.congee.specs.declared.protocol.store.Upgrade.{Upgrade}
 use Rattle.congee.specs.declared.protocol.store.Upgrade.TheVariants.{Locked, Failed, Exhausted}
 use Rattle.congee.specs.declared.protocol.turn.Turn.{Turn}
 use Rattle.congee.specs.Heap.{Node, is_taken}
-use Rattle.congee.specs.protocol.Steps.{quiet, again, answered, refused, adds, asks_new, absent_reply, after_version, after_read, down, started, ready, unless_full, missing, absent, CopyFailed, IsAsked, replaced, taken_out, IsAtOld, IsAdded, IsExchanged, IsCompared, IsPresent, IsChecked, IsIf, after_miss, IsGiven, IsGivenNew, MadeLeaf, MadeGreater, MadeTop, MadeBeside, IsCheckedAbove, UpgradedOne, UpgradedAbove, UpgradedBelow, after_change, unwound, PhaseStepped, Stepped}
+use Rattle.congee.specs.protocol.Steps.{quiet, again, answered, refused, adds, asks_new, absent_reply, after_version, after_read, down, started, ready, unless_full, missing, absent, CopyFailed, IsAsked, replaced, last_out, taken_out, shrinks, IsAtOld, IsAdded, IsExchanged, IsCompared, IsPresent, IsChecked, IsIf, after_miss, IsGiven, IsGivenNew, MadeLeaf, MadeGreater, MadeTop, MadeBeside, MadeLesser, IsCheckedAbove, UpgradedOne, UpgradedTop, UpgradedAbove, UpgradedBelow, after_change, after_top, after_retire, after_unwind, given_up, unwound, PhaseStepped, Stepped}
 use Rattle.joint.specs.declared.id.Id.{Id}
 use Rattle.joint.specs.Intact.{is_over}
 use Rattle.joint.specs.Sound.{IsUnderWay}
@@ -55,11 +56,11 @@ goes (Refused cause) = false
 abbrev Tells : {V : Type 0} → Turn Id V → Type 0
 Tells t = (is_over t.phase ≡ not (goes t.report.outcome)) × IsOnKey t.phase
 
-version : (V : Type 0) (root : Id) (above : Option (Parent Id)) (n : Id) (o : Option ℕ) → Tells (after_version {V = V} root above n o)
+version : (V : Type 0) (root : Id) (above : Option (Over Id)) (n : Id) (o : Option ℕ) → Tells (after_version {V = V} root above n o)
 version V root above n None = (refl, tt)
 version V root above n (Some v) = (refl, tt)
 
-going_down : (V : Type 0) (b : Bool) (s : Site Id) (above : Option (Parent Id)) (c : Id) → Tells (down {V = V} b s above c)
+going_down : (V : Type 0) (b : Bool) (s : Site Id) (above : Option (Over Id)) (c : Id) → Tells (down {V = V} b s above c)
 going_down V false s above c = (refl, tt)
 going_down V true s None c = (refl, tt)
 going_down V true s (Some p) c = (refl, tt)
@@ -67,6 +68,14 @@ going_down V true s (Some p) c = (refl, tt)
 unwinding : (V : Type 0) (root : Id) (e : Option Refusal) → Tells (unwound {V = V} root e)
 unwinding V root None = (refl, tt)
 unwinding V root (Some e) = (refl, tt)
+
+giving_up : (V : Type 0) (root : Id) (top : Option (Parent Id)) (e : Option Refusal) → Tells (given_up {V = V} root top e)
+giving_up V root None e = unwinding V root e
+giving_up V root (Some g) e = (refl, tt)
+
+going_back : (V : Type 0) (root : Id) (next : Option Id) (e : Option Refusal) → Tells (after_unwind {V = V} root next e)
+going_back V root None e = unwinding V root e
+going_back V root (Some n) e = (refl, tt)
 
 module _ {V : Type 0} where
   by : (t u : Turn Id V) → t ≡ u → Tells u → Tells t
@@ -83,10 +92,10 @@ module _ {V : Type 0} where
   by_same : (b : Bool) (root : Id) (v t : Turn Id V) → Tells v → IsIf b root (λ u. u ≡ v) t → Tells t
   by_same b root v t h x = by_if b root (λ u. u ≡ v) t (λ e. by t v e h) x
 
-  reading : (root : Id) (above : Option (Parent Id)) (at : Seat Id) (r : Reading Id V) → Tells (after_read root above at r)
+  reading : (root : Id) (above : Option (Over Id)) (at : Seat Id) (r : Reading Id V) → Tells (after_read root above at r)
   reading root None at (Differs common byte) = (refl, tt)
   reading root (Some p) at (Differs common byte) = (refl, tt)
-  reading root above at (Fits depth s) = (refl, tt)
+  reading root above at (Fits depth form s) = (refl, tt)
   reading root above at Uncopied = (refl, tt)
 
   starting : (plan : Plan Id) (r : Reply V) → Tells (started plan r)
@@ -97,7 +106,7 @@ module _ {V : Type 0} where
   readying : (kind : Kind V) (plan : Plan Id) → Tells (ready kind plan)
   readying kind plan = by_cond (asks_new kind) _ _ (refl, tt) (starting plan (absent_reply kind))
 
-  filling : (kind : Kind V) (s : Site Id) (full : Bool) (above : Option (Parent Id)) (leaf : Option Id) (change : Single Id) → Tells (unless_full kind s full above leaf change)
+  filling : (kind : Kind V) (s : Site Id) (full : Bool) (above : Option (Over Id)) (leaf : Option Id) (change : Single Id) → Tells (unless_full kind s full above leaf change)
   filling kind s true (Some p) leaf change = (refl, tt)
   filling kind s true None leaf change = readying kind _
   filling kind s false above leaf change = readying kind _
@@ -115,21 +124,24 @@ module _ {V : Type 0} where
   replacing : (s : Site Id) (b : Bool) (r : Reply V) → Tells (replaced s b r)
   replacing s b r = by_cond b _ _ (refl, tt) (refl, tt)
 
-  taking : (s : Site Id) (last : Bool) (above : Option (Parent Id)) (r : Reply V) → Tells (taken_out s last above r)
-  taking s true (Some p) r = (refl, tt)
-  taking s true None r = (refl, tt)
-  taking s false above r = (refl, tt)
+  last_taking : (s : Site Id) (p : Parent Id) (top : Option (Parent Id)) (r : Reply V) → Tells (last_out s p top r)
+  last_taking s p None r = (refl, tt)
+  last_taking s p (Some g) r = by_cond (p.count == 2) _ _ (refl, tt) (by_cond (ltb 2 p.count && shrinks p.form p.count) _ _ (refl, tt) (refl, tt))
+
+  taking : (s : Site Id) (above : Option (Over Id)) (r : Reply V) → Tells (taken_out s above r)
+  taking s None r = (refl, tt)
+  taking s (Some u) r = by_cond (s.count == 1) _ _ (last_taking s u.near u.far r) (by_cond (shrinks s.form s.count) _ _ (refl, tt) (refl, tt))
 
   at_old : (always : Bool) (same : V → V → Bool) (kind : Kind V) (new : Option V) (s : Site Id) (v : V) (t : Turn Id V) → IsAtOld always same kind new s v t → Tells t
   at_old always same Insert new s v t x = by t _ x (replacing s _ _)
   at_old always same _ new s v t x = asked always s v t x
 
-  adding : (always : Bool) (same : V → V → Bool) (kind : Kind V) (new : Option V) (s : Site Id) (above : Option (Parent Id)) (v : V) (t : Turn Id V) → IsAdded always same kind new s above v t → Tells t
+  adding : (always : Bool) (same : V → V → Bool) (kind : Kind V) (new : Option V) (s : Site Id) (above : Option (Over Id)) (v : V) (t : Turn Id V) → IsAdded always same kind new s above v t → Tells t
   adding always same kind new s None v t x = at_old always same kind new s v t x
   adding always same kind new s (Some p) v t x = by t _ x (refl, tt)
 
   exchanging : (always : Bool) (same : V → V → Bool) (new : Option V) (s : Site Id) (v : V) (t : Turn Id V) → IsExchanged always same new s v t → Tells t
-  exchanging always same None s v t x = by t _ x (taking s _ _ _)
+  exchanging always same None s v t x = by t _ x (taking s _ _)
   exchanging always same (Some w) s v t (inl x) = by t _ x (replacing s _ _)
   exchanging always same (Some w) s v t (inr f) = uncopied always t f
 
@@ -140,7 +152,7 @@ module _ {V : Type 0} where
   present : (always : Bool) (same : V → V → Bool) (kind : Kind V) (new : Option V) (s : Site Id) (v : V) (t : Turn Id V) → IsPresent always same kind new s v t → Tells t
   present always same Get new s v t x = by t _ x (refl, tt)
   present always same Insert new s v t x = adding always same Insert new s s.above v t x
-  present always same Remove new s v t x = by t _ x (taking s _ _ _)
+  present always same Remove new s v t x = by t _ x (taking s _ _)
   present always same ComputePresent new s v t x = asked always s v t x
   present always same ComputeInsert new s v t x = adding always same ComputeInsert new s s.above v t x
   present always same (Exchange old) new s v t x = comparing (same v old) always same new s v t x
@@ -154,7 +166,7 @@ module _ {V : Type 0} where
   given always same kind s v None new new' t x = asked always s v t x.1
   given always same ComputeInsert s v (Some None) new new' t x = asked always s v t x.1
   given always same ComputeInsert s v (Some (Some w)) new new' t x = by t _ x.1 (replacing s _ _)
-  given always same _ s v (Some None) new new' t x = by t _ x.1 (taking s _ _ _)
+  given always same _ s v (Some None) new new' t x = by t _ x.1 (taking s _ _)
   given always same _ s v (Some (Some w)) new new' t (e, inl x) = by t _ x (replacing s _ _)
   given always same _ s v (Some (Some w)) new new' t (e, inr f) = uncopied always t f
 
@@ -191,16 +203,38 @@ module _ {V : Type 0} where
 
     upgraded_above : (root : Id) (two : Two Id) (r : Reply V) (u : Upgrade) → UpgradedAbove number root two r h u h' t → Tells t
     upgraded_above root two r Locked x = by t _ x.1 (refl, tt)
-    upgraded_above root two r Failed x = by t _ x.1 (refl, tt)
-    upgraded_above root two r Exhausted x = by t _ x.1 (refl, tt)
+    upgraded_above root two r Failed x = by t _ x.1 (giving_up V root two.top _)
+    upgraded_above root two r Exhausted x = by t _ x.1 (giving_up V root two.top _)
+
+    upgraded_top : (root : Id) (first : Parent Id) (two : Two Id) (r : Reply V) (u : Upgrade) → UpgradedTop number root first two r h u h' t → Tells t
+    upgraded_top root first two r Locked x = by t _ x.1 (refl, tt)
+    upgraded_top root first two r Failed x = by t _ x.1 (refl, tt)
+    upgraded_top root first two r Exhausted x = by t _ x.1 (refl, tt)
+
+    lesser : (s : Site Id) (p : Parent Id) (first : Option (Parent Id)) (r : Reply V) (made : Result Id Refusal) → MadeLesser number s p first r h key made h' t → Tells t
+    lesser s p None r (Ok c) x = by t _ x.1 (refl, tt)
+    lesser s p None r (Err e) x = by t _ x.1 (refl, tt)
+    lesser s p (Some g) r (Ok c) x = by t _ x.1 (refl, tt)
+    lesser s p (Some g) r (Err e) x = by t _ x.1 (refl, tt)
 
     upgraded_below : (two : Two Id) (r : Reply V) (u : Upgrade) → UpgradedBelow number two r h u h' t → Tells t
     upgraded_below two r Locked x = by t _ x.1 (refl, tt)
     upgraded_below two r Failed x = by t _ x.1 (refl, tt)
     upgraded_below two r Exhausted x = by t _ x.1 (refl, tt)
 
+  topped : (two : Two Id) (r : Reply V) (top : Option (Parent Id)) → Tells (after_top two r top)
+  topped two r None = (refl, tt)
+  topped two r (Some g) = (refl, tt)
+
+  handed : (next : Option Id) (last : Id) (r : Reply V) → Tells (after_retire next last r)
+  handed None last r = (refl, tt)
+  handed (Some n) last r = (refl, tt)
+
   changed : (two : Two Id) (r : Reply V) (change : Double Id) → Tells (after_change two r change)
   changed two r Unlink = (refl, tt)
+  changed two r (Shrink c) = (refl, tt)
+  changed two r Collapse = topped two r two.top
+  changed two r (ShrinkAbove c) = topped two r two.top
   changed two r (Grow c) = (refl, tt)
   changed two r (GrowLink c leaf byte) = (refl, tt)
   changed two r (Split top leaf common byte) = (refl, tt)
@@ -219,20 +253,22 @@ module _ {V : Type 0} (number : Id → ℕ) (same : V → V → Bool) (always : 
   tells (MakeGreater s p made) u k x = greater number h h' key t kind s p made x.1.0 x.1.1
   tells (MakeTop p at common byte) u k x = top number h h' key t p at common byte x.1.0 x.1.1
   tells (MakeBeside p at common byte above) u k x = beside number h h' key t kind p at common byte above x.1.0 x.1.1
+  tells (MakeLesser s p first r) u k x = lesser number h h' key t s p first r x.1.0 x.1.1
   tells (AskOld s v) u k x = given always same kind s v answer new new' t x.1
   tells (AskNew plan) u k x = given_new plan answer new new' t x.1
   tells (Confirm at r) u k x = by_same _ root (answered r) t (refl, tt) x.2
   tells (CheckAbove p one r) u k x = checked_above number h h' key t root p one r _ refl x.1
   tells (UpgradeOne one r) u k x = upgraded_one number h h' key t root one r x.1.0 x.1.2
   tells (ChangeOne one r) u k x = by t _ x.2 (refl, tt)
+  tells (UpgradeTop first two r) u k x = upgraded_top number h h' key t root first two r x.1.0 x.1.2
   tells (UpgradeAbove two r) u k x = upgraded_above number h h' key t root two r x.1.0 x.1.2
   tells (UpgradeBelow two r) u k x = upgraded_below number h h' key t two r x.1.0 x.1.2
   tells (ChangeTwo two r) u k x = by t _ x.2 (changed two r two.change)
-  tells (Obsolete n p r) u k x = by t _ x.2 (refl, tt)
-  tells (Retire n p r) u k x = by t _ x.2 (refl, tt)
+  tells (Obsolete n next p r) u k x = by t _ x.2 (refl, tt)
+  tells (Retire n next p r) u k x = by t _ x.2 (handed next p r)
   tells (UnlockBelow n p r) u k x = by t _ x.2 (refl, tt)
   tells (Unlock n r) u k x = by t _ x.2 (refl, tt)
-  tells (Unwind n e) u k x = by t _ x.2 (unwinding V root e)
+  tells (Unwind n next e) u k x = by t _ x.2 (going_back V root next e)
   tells (Sweep s) u k x = absurd k
   tells Ended u k x = absurd u
 

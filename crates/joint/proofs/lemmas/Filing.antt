@@ -1,6 +1,7 @@
 -- The removals that wait in the collector's bags, after each kind of step.
 use Rattle.std.proofs.Common.{◌≡◌, ◌≢◌, ◌⊎◌, ◌+◌, ◌<◌, ◌≤◌, ◌&&◌, ℕ, arith, Bool, true, false, List, [], ◌∷◌, ◌++◌, length, refl, sym, ◌∙◌, ap, subst, inl, inr, get_or-set_same, get_or-set_other}
 use Rattle.std.specs.Prelude.{Option, None, Some, is_some, not, slice_get, slice_set}
+use Rattle.std.specs.List.{Contains}
 use Rattle.std.proofs.lemmas.Bool.{cases_eq}
 use Rattle.std.proofs.lemmas.Bool.Decides.{nat_tests}
 use Rattle.crossbeam_epoch.specs.declared.bag.Entry.{Entry}
@@ -24,7 +25,7 @@ use Rattle.congee.specs.declared.protocol.phase.Phase.TheVariants.{Obsolete, Ret
 use Rattle.congee.specs.declared.protocol.run.Step.{Step}
 use Rattle.congee.specs.Heap.{Node, Stands}
 use Rattle.congee.specs.Keys.{key_bytes}
-use Rattle.congee.specs.protocol.Events.{ObsoleteGives}
+use Rattle.congee.specs.protocol.Events.{ObsoleteGives, RetireGives}
 use Rattle.congee.specs.protocol.Handing.{is_waiting, HandsNode}
 use Rattle.congee.specs.protocol.Holdings.{TakenBy}
 use Rattle.congee.specs.protocol.Play.{StepPlays, IsMoved}
@@ -158,28 +159,39 @@ module _ {V : Type 0} (cells : CellLaws {T = Slot V} (Unit {0}) slot_names) wher
 
   -- a node that a step of a call makes wait
   module _ (same : V → V → Bool) (always : Bool) (s s' : Forest V) (ms ms' : List (Machine Id V)) (step : Step Id V) (d : Move V) (plays : StepPlays id_number same always s.version_max (Refuses s) (nodes s) ms step d (nodes s') ms') where
-    handed : (k : ℕ) (m : Machine Id V) (by : ℕ → Option ℕ) → slice_get ms step.who ≡ Some m → HandsNode (λ (i : ℕ). None) (nodes s) step.who k by (nodes s') → (x : Phase Id V) → m.phase ≡ x → TakenBy id_number x k
+    handed : (k : ℕ) (m : Machine Id V) (by : ℕ → List ℕ) → slice_get ms step.who ≡ Some m → HandsNode (λ (i : ℕ). []) (nodes s) step.who k by (nodes s') → (x : Phase Id V) → m.phase ≡ x → TakenBy id_number x k
         → (node : Id) × (retiring_at (slice_get ms step.who) ≡ Some node) × (k ≡ id_number node)
-    handed k m by at hands (Retire node p r) is e = (node, ap retiring_at at ∙ ap retiring is, e)
-    handed k m by at hands (Obsolete node p r) is e =
+    handed k m by at hands (Retire node next p r) is (inl e) = (node, ap retiring_at at ∙ ap retiring is, e)
+    handed k m by at hands (Retire node next p r) is (inr e) =
+        let moved : IsMoved id_number same always s.version_max (Refuses s) (nodes s) ms m step d (nodes s') ms' = plays.moved m at in
+        let P : Phase Id V → Type 0 = λ y. PhaseStepped id_number same always s.version_max (Refuses s) m.root (key_bytes m.key) m.kind step.noise.fail step.noise.answer m.given y (nodes s) moved.now.given (record { phase = moved.now.phase; report = d }) (nodes s') in
+        let gives : RetireGives (nodes s) (id_number node) (nodes s') = (subst P is moved.step.step).1 in
+        elim (cases_eq k (id_number node)) [
+          | inl q ↦ (node, ap retiring_at at ∙ ap retiring is, q)
+          | inr ne ↦ absurd (let b = hands.before in let a = hands.after in let q : is_waiting (nodes s' k) ≡ is_waiting (nodes s k) = ap is_waiting (gives.others k ne) in cc (b, a, q))
+        ]
+    handed k m by at hands (Obsolete node next p r) is e =
         let moved : IsMoved id_number same always s.version_max (Refuses s) (nodes s) ms m step d (nodes s') ms' = plays.moved m at in
         let P : Phase Id V → Type 0 = λ y. PhaseStepped id_number same always s.version_max (Refuses s) m.root (key_bytes m.key) m.kind step.noise.fail step.noise.answer m.given y (nodes s) moved.now.given (record { phase = moved.now.phase; report = d }) (nodes s') in
         let gives : ObsoleteGives (nodes s) (id_number node) (nodes s') = (subst P is moved.step.step).1 in
-        let before : is_waiting (nodes s (id_number node)) ≡ false = ap (λ (j : ℕ). is_waiting (nodes s j)) (sym e) ∙ hands.before in
-        let after : is_waiting (nodes s' (id_number node)) ≡ true = ap (λ (j : ℕ). is_waiting (nodes s' j)) (sym e) ∙ hands.after in
-        let q : is_waiting (nodes s' (id_number node)) ≡ is_waiting (nodes s (id_number node)) = ap is_waiting gives.after in
+        let before : is_waiting (nodes s k) ≡ false = hands.before in
+        let after : is_waiting (nodes s' k) ≡ true = hands.after in
+        let q : is_waiting (nodes s' k) ≡ is_waiting (nodes s k) = elim (cases_eq k (id_number node)) [
+          | inl is_node ↦ ap (λ (j : ℕ). is_waiting (nodes s' j)) is_node ∙ ap is_waiting gives.after ∙ ap (λ (j : ℕ). is_waiting (nodes s j)) (sym is_node)
+          | inr ne ↦ ap is_waiting (gives.others k ne)
+        ] in
         absurd (cc (before, after, q))
     handed k m by at hands _ is e = absurd e
 
     waits_before : (k : ℕ) → is_waiting (nodes s' k) ≡ true → (is_waiting (nodes s k) ≡ true) ⊎ ((node : Id) × (retiring_at (slice_get ms step.who) ≡ Some node) × (k ≡ id_number node))
     waits_before k w =
-        let x = plays.hands (λ (i : ℕ). None) (λ i n e. absurd (cc e)) in
+        let x = plays.hands (λ (i : ℕ). []) (λ i ne. absurd (ne refl)) in
         elim x.1 [
           | inl none ↦ inl (sym (none.nodes k) ∙ w)
           | inr one ↦ elim (cases_eq k one.0) [
             | inr ne ↦ inl (sym (one.1.nodes k ne) ∙ w)
-            | inl is ↦ elim (x.3 step.who one.0 one.1.now) [
-              | inl never ↦ absurd (cc never)
+            | inl is ↦ elim (x.3 step.who one.0 (subst (λ (ns : List ℕ). Contains ns one.0) (sym one.1.now) (0, (let l : 0 < 1 = omega arith in l), refl))) [
+              | inl never ↦ absurd (let bad : never.0 < 0 = never.1 in omega (arith, bad))
               | inr t ↦ (let h = handed one.0 t.0 x.0 t.1 one.1 t.0.phase refl t.2 in inr (h.0, h.1, is ∙ h.2))
             ]
           ]
@@ -252,7 +264,7 @@ module _ {V : Type 0} (cells : CellLaws {T = Slot V} (Unit {0}) slot_names) wher
                     let settled = safe.sound.sound.settled in
                     let known = settled.1.each step.who m at in
                     let Q : Phase Id V → Type 0 = λ y. TakenBy id_number y (id_number node) in
-                    (taken_out id_number same always step.who settled.0 (nodes s) (key_bytes m.key) (id_number node) m.key m.kind m.given m.phase known.known (subst Q (sym k.2) refl)).unretired
+                    (taken_out id_number same always step.who settled.0 (nodes s) (key_bytes m.key) (id_number node) m.key m.kind m.given m.phase known.known (subst Q (sym k.3) (inl refl))).unretired
 
         by_node : (n : Name) (b : Bool) → is_name node.name n ≡ b → (before after : ℕ) → after ≡ before + removes {J = Unit {0}} n (record { ticket = s'.collector.next; work = Remove node.name }) → before ≡ bit (is_waiting (nodes s (number n))) → after ≡ bit (is_waiting (nodes s' (number n)))
         by_node n true itself before later more old =

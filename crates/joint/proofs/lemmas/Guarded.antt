@@ -1,5 +1,5 @@
 -- A call that names a node is under way, and its worker's stretch lasts.
-use Rattle.std.proofs.Common.{◌≡◌, ◌<◌, arith, ℕ, true, List, [], refl, sym, subst, inr}
+use Rattle.std.proofs.Common.{◌≡◌, ◌+◌, ◌<◌, ◌≤◌, arith, ℕ, true, List, [], refl, sym, subst, inr}
 use Rattle.std.specs.Prelude.{Option, None, Some, is_some, length}
 use Rattle.std.specs.List.{Contains}
 use Rattle.crossbeam_epoch.specs.declared.world.participant.Participant.{Participant}
@@ -50,12 +50,12 @@ in_stretch h s i f e = stretched (began h i) (place s i).word s.epoch (f.places 
 pub pinned_stretch : {T J C V : Type 0} (num : C → ℕ) (h : List Mark) (s : State T J) (i : ℕ) (m : Machine C V) (k : ℕ) → Fits h s → Guards (place s i) m → Contains (names num m.phase) k → is_some (began h i) ≡ true
 pinned_stretch num h s i m k f g c = in_stretch h s i f (g.pinned (under_way num m k c))
 
-pub ended_guards : {C V J : Type 0} (p : Participant J) (m : Machine C V) → m.phase ≡ Ended → Guards p m
-ended_guards {C} {V} p m e =
+pub ended_guards : {C V J : Type 0} (p : Participant J) (m : Machine C V) → length p.bag ≤ 64 → m.phase ≡ Ended → Guards p m
+ended_guards {C} {V} p m fits e =
     let no : IsUnderWay m.phase → ⊥ = λ w. (let P : Phase C V → Type 0 = λ x. IsUnderWay x in subst P e w) in
     record {
       registered = λ w. absurd (no w);
       pinned = λ w. absurd (no w);
       idle = λ w. absurd (no w);
-      secured = (let P : Phase C V → Type 0 = λ x. IsSecured m.kind x (length p.bag) in subst P (sym e) tt);
+      secured = (let P : Phase C V → Type 0 = λ x. IsSecured m.kind x (length p.bag) in subst P (sym e) (let n : length p.bag + 0 ≤ 64 = omega (arith, fits) in n));
     }

@@ -1,8 +1,8 @@
 -- The deferral of a node that a call has just marked finds its place, and leaves all safe.
-use Rattle.std.proofs.Common.{◌≡◌, ◌≢◌, ◌+◌, ◌-◌, ◌^◌, ◌<◌, ◌≤◌, ◌==◌, arith, ℕ, Bool, true, false, List, [], ◌∷◌, ◌++◌, refl, sym, ◌∙◌, ap, subst, inl, inr, ◌⊎◌}
+use Rattle.std.proofs.Common.{◌≡◌, ◌≢◌, ◌+◌, ◌-◌, ◌^◌, ◌<◌, ◌≤◌, ◌==◌, arith, ℕ, suc, Bool, true, false, List, [], ◌∷◌, ◌++◌, refl, sym, ◌∙◌, ap, subst, inl, inr, ◌⊎◌}
 use Rattle.std.specs.Prelude.{Option, None, Some, is_none, is_some, length, slice_get, slice_index_or, if◌then◌else◌, MatchOption}
 use Rattle.std.proofs.lemmas.Bool.{cases_eq, cases_lt, ne_eqb}
-use Rattle.std.proofs.lemmas.List.{get_or_past, get_or-set_same, get_or-set_other}
+use Rattle.std.proofs.lemmas.List.{get_or_past, get_or-set_same, get_or-set_other, length-append}
 use Rattle.crossbeam_epoch.specs.declared.bag.Work.{Work}
 use Rattle.crossbeam_epoch.specs.declared.bag.Work.TheVariants.{Remove}
 use Rattle.crossbeam_epoch.specs.declared.fault.Fault.{Fault}
@@ -15,14 +15,11 @@ use Rattle.crossbeam_epoch.specs.World.Machine.{State, blank, place, deferred, d
 use Rattle.crossbeam_epoch.specs.World.Reach.{Marked, Moment, marks_of, moment, Tells}
 use Rattle.crossbeam_epoch.specs.World.Steps.{when, quiet_fault, or_count, defer_fault, destroy_fault}
 use Rattle.congee.specs.declared.protocol.machine.Machine.{Machine}
-use Rattle.congee.specs.declared.protocol.phase.Kind.{Kind}
-use Rattle.congee.specs.declared.protocol.phase.Phase.{Phase}
-use Rattle.congee.specs.declared.protocol.phase.Phase.TheVariants.{Unlock}
 use Rattle.joint.specs.declared.id.Id.{Id}
 use Rattle.joint.specs.declared.slot.Slot.{Slot}
 use Rattle.joint.specs.Forest.{Forest, nodes, with_collector}
 use Rattle.joint.specs.Laws.{CellLaws, CallLaws}
-use Rattle.joint.specs.Machines.{slot_names, IsSafe, LetsGo, Owes}
+use Rattle.joint.specs.Machines.{slot_names, IsSafe, Owes}
 use Rattle.joint.specs.Names.{number, named}
 use Rattle.joint.specs.NameLemmas.{named_number, number_named}
 use Rattle.joint.specs.Sound.{IsSecured, Guards}
@@ -121,21 +118,18 @@ module _ {V : Type 0} (same : V → V → Bool) (always : Bool) (cells : CellLaw
   place_apart : (i : ℕ) → i ≢ who → place next i ≡ place c i
   place_apart i ne = get_or-set_other c.table who i put blank ne
 
-  let_go : (kind : Kind V) (x : Phase Id V) (jobs : ℕ) → LetsGo x → IsSecured kind x jobs
-  let_go kind (Unlock n r) jobs l = tt
-  let_go kind _ jobs l = absurd l
-
   guards : (i : ℕ) (m : Machine Id V) → slice_get ms i ≡ Some m → Guards (place next i) m
   guards i m at = elim (cases_eq i who) [
     | inl e ↦ (
         let g : Guards (place c i) m = owes.safe.sound.sound.guarded i m at in
         let q : place next i ≡ put = ap (place next) e ∙ place_here in
-        let l : LetsGo m.phase = owes.leaves m (subst (λ (j : ℕ). slice_get ms j ≡ Some m) e at) in
+        let l = length-append (place c who).bag (record { ticket = c.next; work = work } ∷ []) in
+        let n : length (place next i).bag ≡ suc (length (place c who).bag) = ap (λ x. length x.bag) q ∙ (let k : length put.bag ≡ suc (length (place c who).bag) = omega (arith, l) in k) in
         record {
           registered = λ _. ap (λ x. x.registered) q ∙ owes.registered;
           pinned = λ _. ap (λ x. is_some x.word) q ∙ owes.pinned;
           idle = λ _. ap (λ x. x.phase) q ∙ owes.idle;
-          secured = let_go m.kind m.phase (length (place next i).bag) l;
+          secured = subst (λ (j : ℕ). IsSecured m.kind m.phase j) (sym n) (owes.secured m (subst (λ (j : ℕ). slice_get ms j ≡ Some m) e at));
         })
     | inr ne ↦ subst (λ (p : Participant (Unit {0})). Guards p m) (sym (place_apart i ne)) (owes.safe.sound.sound.guarded i m at)
   ]

@@ -21,7 +21,7 @@ use Rattle.congee.specs.declared.protocol.op.Op.{Op as Point}
 use Rattle.congee.specs.declared.protocol.op.Op.TheVariants as point
 use Rattle.congee.specs.declared.protocol.store.Refusal.{Refusal as Cause}
 use Rattle.congee.specs.declared.protocol.turn.Turn.{Turn as Said}
-use Rattle.congee.specs.protocol.Steps.{PhaseStepped}
+use Rattle.congee.specs.protocol.Steps.{PhaseStepped, after_retire}
 use Rattle.congee.specs.Keys.{key_bytes}
 use Rattle.congee.specs.declared.protocol.phase.Kind.{Kind}
 use Rattle.congee.specs.declared.protocol.phase.Phase.{Phase}
@@ -67,8 +67,8 @@ use Rattle.joint.proofs.lemmas.Whereabouts.{somewhere}
 module _ {V : Type 0} where
   -- a call that has a node taken out has taken effect
   decided_in : (k : ℕ) (kind : Kind V) (v : Option V) (p : Phase Id V) (n : ℕ) → TakenBy id_number p n → (r : Reply V) × (flight_in k kind v p ≡ Decided r)
-  decided_in k kind v (Obsolete m q r) n x = (r, refl)
-  decided_in k kind v (Retire m q r) n x = (r, refl)
+  decided_in k kind v (Obsolete m next q r) n x = (r, refl)
+  decided_in k kind v (Retire m next q r) n x = (r, refl)
   decided_in k kind v _ n x = absurd x
 
   taken_decided : (m : Machine Id V) (f : Flight V) (n : ℕ) → TakenBy id_number m.phase n → Follows m f → (r : Reply V) × (f ≡ Decided r)
@@ -115,8 +115,8 @@ module _ {V : Type 0} where
 
 -- the phases of a call that takes no node out any more
 abbrev Past : {V : Type 0} → Phase Id V → Type 0
-Past (Obsolete c q r) = Unit {0}
-Past (Retire c q r) = Unit {0}
+Past (Obsolete c next q r) = Unit {0}
+Past (Retire c next q r) = Unit {0}
 Past (Unlock c r) = Unit {0}
 Past Ended = Unit {0}
 Past _ = ⊥
@@ -130,14 +130,18 @@ IsPast _ m = ⊥
 
 module _ {V : Type 0} where
   taken_past : (p : Phase Id V) (n : ℕ) → TakenBy id_number p n → Past p
-  taken_past (Obsolete c q r) n x = tt
-  taken_past (Retire c q r) n x = tt
+  taken_past (Obsolete c next q r) n x = tt
+  taken_past (Retire c next q r) n x = tt
   taken_past _ n x = absurd x
+
+  past_next : (next : Option Id) (q : Id) (r : Reply V) → Past (after_retire next q r).phase
+  past_next None q r = tt
+  past_next (Some k) q r = tt
 
   past_phase : (same : V → V → Bool) (always : Bool) (most : ℕ) (why : NodeType → Cause → Type 0) (root : Id) (key : List ℕ) (kind : Kind V) (fail : Bool) (answer : Option (Option V)) (given given' : Option V) (p : Phase Id V) (h h' : ℕ → Node V) (t : Said Id V)
       → Past p → PhaseStepped id_number same always most why root key kind fail answer given p h given' t h' → Past t.phase
-  past_phase same always most why root key kind fail answer given given' (Obsolete c q r) h h' t u x = let P : Said Id V → Type 0 = λ z. Past z.phase in subst P (sym x.2) tt
-  past_phase same always most why root key kind fail answer given given' (Retire c q r) h h' t u x = let P : Said Id V → Type 0 = λ z. Past z.phase in subst P (sym x.2) tt
+  past_phase same always most why root key kind fail answer given given' (Obsolete c next q r) h h' t u x = let P : Said Id V → Type 0 = λ z. Past z.phase in subst P (sym x.2) tt
+  past_phase same always most why root key kind fail answer given given' (Retire c next q r) h h' t u x = let P : Said Id V → Type 0 = λ z. Past z.phase in subst P (sym x.2) (past_next next q r)
   past_phase same always most why root key kind fail answer given given' (Unlock c r) h h' t u x = let P : Said Id V → Type 0 = λ z. Past z.phase in subst P (sym x.2) tt
   past_phase same always most why root key kind fail answer given given' Ended h h' t u x = let P : Said Id V → Type 0 = λ z. Past z.phase in subst P (sym x.2) tt
   past_phase same always most why root key kind fail answer given given' _ h h' t u x = absurd u
@@ -316,7 +320,7 @@ module _ {V : Type 0} (same : V → V → Bool) (always : Bool) (laws : CallLaws
     rightly = record {
       leaves = λ n i. elim (parts.leaves n i) [
         | inl y ↦ inl y
-        | inr y ↦ inr (record { was = y.0.was; out = y.0.out; none = y.0.none; taken = y.0.taken; others = y.0.others }, decides n y.0.taken y.1)
+        | inr y ↦ inr (record { was = y.0.was; out = y.0.out; none = y.0.none; taken = y.0.taken; with_it = y.0.with_it; others = y.0.others }, decides n y.0.taken y.1)
       ];
       owed = parts.owed;
       handed = parts.handed;
@@ -373,8 +377,8 @@ module _ {V : Type 0} (same : V → V → Bool) (always : Bool) (laws : CallLaws
             subst Q g.at (subst P g.walking p)
 
         by : TakesOut (engine_of s) (engine_of t.after) w n → (g : IsTaking (engine_of s) w t.step.event) (q : Phase Id V) → g.old.phase ≡ q → Past q → ⊥
-        by y g (Obsolete c a r) e u = y.none (id_number c) (g.old, g.at, (let P : Phase Id V → Type 0 = λ z. TakenBy id_number z (id_number c) in subst P (sym e) refl))
-        by y g (Retire c a r) e u = y.none (id_number c) (g.old, g.at, (let P : Phase Id V → Type 0 = λ z. TakenBy id_number z (id_number c) in subst P (sym e) refl))
+        by y g (Obsolete c next a r) e u = y.none (id_number c) (g.old, g.at, (let P : Phase Id V → Type 0 = λ z. TakenBy id_number z (id_number c) in subst P (sym e) (inl refl)))
+        by y g (Retire c next a r) e u = y.none (id_number c) (g.old, g.at, (let P : Phase Id V → Type 0 = λ z. TakenBy id_number z (id_number c) in subst P (sym e) (inl refl)))
         by y g (Unlock c r) e u = g.pending r (ap (flight_in g.old.key g.old.kind g.old.given) e)
         by y g Ended e u = let P : Phase Id V → Type 0 = λ z. IsUnderWay z in subst P e (h.0.each w Walking g.old g.walking g.at).0
         by y g _ e u = u

@@ -50,7 +50,7 @@ use Rattle.joint.proofs.lemmas.Collecting.{there}
 use Rattle.joint.proofs.lemmas.Entering.{begin_idle}
 use Rattle.joint.proofs.lemmas.Flights.{set_at}
 use Rattle.joint.proofs.lemmas.Leaves as leaves
-use Rattle.joint.proofs.lemmas.Leaves.{Owes, Marks, Hands, leads_same, taken_stays}
+use Rattle.joint.proofs.lemmas.Leaves.{Owes, Marks, Hands, Waits, leads_same, taken_stays}
 use Rattle.joint.proofs.lemmas.Left.{taken_owed, waits_is}
 use Rattle.joint.proofs.lemmas.Reserving.{same_nodes}
 use Rattle.joint.proofs.lemmas.Resting.{cleared_is}
@@ -108,8 +108,8 @@ module _ {V : Type 0} (same : V → V → Bool) (always : Bool) where
   -- a call that has taken effect takes no node out any more
   pub reply_taken : (most : ℕ) (why : NodeType → Cause → Type 0) (root : Id) (k : ℕ) (kind : Kind V) (fail : Bool) (answer : Option (Option V)) (given given' : Option V) (p : Phase Id V) (h h' : ℕ → Node V) (t : Said Id V) (r : Reply V) (n : ℕ)
       → flight_in k kind given p ≡ Decided r → PhaseStepped id_number same always most why root (key_bytes k) kind fail answer given p h given' t h' → TakenBy id_number t.phase n → (c : ℕ) × TakenBy id_number p c
-  reply_taken most why root k kind fail answer given given' (Obsolete c q u) h h' t r n e x y = (id_number c, refl)
-  reply_taken most why root k kind fail answer given given' (Retire c q u) h h' t r n e x y = (id_number c, refl)
+  reply_taken most why root k kind fail answer given given' (Obsolete c next q u) h h' t r n e x y = (id_number c, inl refl)
+  reply_taken most why root k kind fail answer given given' (Retire c next q u) h h' t r n e x y = (id_number c, inl refl)
   reply_taken most why root k kind fail answer given given' (UnlockBelow c q u) h h' t r n e x y = absurd (let P : Said Id V → Type 0 = λ z. TakenBy id_number z.phase n in subst P x.2 y)
   reply_taken most why root k kind fail answer given given' (Unlock c u) h h' t r n e x y = absurd (let P : Said Id V → Type 0 = λ z. TakenBy id_number z.phase n in subst P x.2 y)
   reply_taken most why root k kind fail answer given given' _ h h' t r n e x y = absurd (cc e)
@@ -199,7 +199,8 @@ module _ {V : Type 0} (same : V → V → Bool) (always : Bool) (laws : CallLaws
       owed_on n x = by (owes n x) where
         by : Owes (nodes s.forest) (nodes s'.forest) old.0.phase moved.now.phase n → IsTakenBy s' w n ⊎ ((w ≡ w) × HandsOver s.forest s'.forest w n)
         by (Marks y b) = inl (rested moved.now, now, taken_stays moved.now n y)
-        by (Hands c q u e is b) = inr (refl, leaves.hands_over same always laws s.forest s'.forest s.machines k.step.between turn k.move holds.0.safe k.step.walked old.0 old.1 n c q u x e is b)
+        by (Hands c next q u e is b) = inr (refl, leaves.hands_over same always laws s.forest s'.forest s.machines k.step.between turn k.move holds.0.safe k.step.walked old.0 old.1 n c next q u x e is b)
+        by (Waits y b) = inl (rested moved.now, now, taken_stays moved.now n y)
 
       walks_owed : (i n : ℕ) → IsTakenBy s i n → IsTakenBy s' i n ⊎ ((w ≡ i) × HandsOver s.forest s'.forest i n)
       walks_owed i n x = elim (cases_Bool (i == w)) [
@@ -217,7 +218,8 @@ module _ {V : Type 0} (same : V → V → Bool) (always : Bool) (laws : CallLaws
           ((old.0, old.1, x), by x (owes n x))
         where
           by : TakenBy id_number old.0.phase n → Owes (nodes s.forest) (nodes s'.forest) old.0.phase moved.now.phase n → HandsOver s.forest s'.forest w n
-          by x (Hands c q u e is y) = leaves.hands_over same always laws s.forest s'.forest s.machines k.step.between turn k.move holds.0.safe k.step.walked old.0 old.1 n c q u x e is y
+          by x (Hands c next q u e is y) = leaves.hands_over same always laws s.forest s'.forest s.machines k.step.between turn k.move holds.0.safe k.step.walked old.0 old.1 n c next q u x e is y
+          by x (Waits y z) = absurd (false≢true (sym b ∙ sym (ap is_waiting z) ∙ a))
           by x (Marks y z) =
               let o = leaves.owed same always laws s.forest s'.forest s.machines k.step.between turn k.move holds.0.safe k.step.walked old.0 old.1 n x in
               absurd (false≢true (sym (ap (λ v. v.retired) z.after ∙ o.unretired) ∙ (waits_is (nodes s'.forest n) a).0))
@@ -234,7 +236,8 @@ module _ {V : Type 0} (same : V → V → Bool) (always : Bool) (laws : CallLaws
         where
           by : Owes (nodes s.forest) (nodes s'.forest) old.0.phase moved.now.phase n → SameLeft (nodes s.forest n) (nodes s'.forest n)
           by (Marks y z) = record { locked = ap (λ v. v.locked) z.after; marked = λ o. ap (λ v. v.obsolete) z.after; children = λ b. ap (λ v. v.children b) z.after; made = ap (λ v. v.made) z.after; kept = ap (λ v. v.destroyed) z.after }
-          by (Hands c q u e is z) = record { locked = ap (λ v. v.locked) z.after; marked = λ o. ap (λ v. v.obsolete) z.after ∙ o; children = λ b. ap (λ v. v.children b) z.after; made = ap (λ v. v.made) z.after; kept = ap (λ v. v.destroyed) z.after }
+          by (Waits y z) = same_left (nodes s.forest n) (nodes s'.forest n) z
+          by (Hands c next q u e is z) = record { locked = ap (λ v. v.locked) z.after; marked = λ o. ap (λ v. v.obsolete) z.after ∙ o; children = λ b. ap (λ v. v.children b) z.after; made = ap (λ v. v.made) z.after; kept = ap (λ v. v.destroyed) z.after }
 
       walks_leaves : (n : ℕ) → InTree (nodes s.forest) n → InTree (nodes s'.forest) n ⊎ (TakesOut s s' w n × IsTaking s w event)
       walks_leaves n i = elim (leaves.tree same always laws s.forest s'.forest s.machines k.step.between turn k.move holds.0.safe k.step.walked old.0 old.1 n i) [
@@ -245,6 +248,7 @@ module _ {V : Type 0} (same : V → V → Bool) (always : Bool) (laws : CallLaws
             out = x.out;
             none = λ m y. x.none m (old_is w m refl y);
             taken = (rested moved.now, now, taken_stays moved.now n x.taken);
+            with_it = x.with_it;
             others = x.others;
           },
           record {
@@ -262,9 +266,9 @@ module _ {V : Type 0} (same : V → V → Bool) (always : Bool) (laws : CallLaws
 
       -- it defers a destruction where it hands a node over alone
       walks_defers : (q : Phase Id V) → old.0.phase ≡ q → (s'.forest.collector.next ≡ s.forest.collector.next) ⊎ ((n : ℕ) × IsTakenBy s w n × HandsOver s.forest s'.forest w n)
-      walks_defers (Retire c q u) e =
+      walks_defers (Retire c next q u) e =
           let P : Phase Id V → Type 0 = λ y. TakenBy id_number y (id_number c) in
-          inr (id_number c, (old.0, old.1, subst P (sym e) refl), leaves.retires same always laws s.forest s'.forest s.machines k.step.between turn k.move holds.0.safe k.step.walked old.0 old.1 c q u e)
+          inr (id_number c, (old.0, old.1, subst P (sym e) (inl refl)), leaves.retires same always laws s.forest s'.forest s.machines k.step.between turn k.move holds.0.safe k.step.walked old.0 old.1 c next q u e)
       walks_defers _ e = inl (ap (λ c. c.next) (k.step.walked.clock ∙ ap (λ o. after_walk o (with_store s.forest.collector s'.forest.collector.store) w) (ap retiring_at old.1 ∙ ap retiring e)))
 
       left : StepLeaves id_number w settled.0 (leaves.keeps same always laws s.forest s'.forest s.machines k.step.between turn k.move holds.0.safe k.step.walked old.0 old.1).notes (nodes s.forest) (nodes s'.forest) old.0 moved.now

@@ -4,10 +4,11 @@ use Rattle.std.specs.Prelude.{Option, None, Some, slice_get, ◌&&◌, not}
 use Rattle.std.proofs.lemmas.Bool.{cases_Bool, false≢true}
 use Rattle.congee.specs.declared.protocol.machine.Machine.{Machine}
 use Rattle.congee.specs.declared.protocol.phase.Double.{Double}
-use Rattle.congee.specs.declared.protocol.phase.Double.TheVariants.{Unlink, Grow, GrowLink, Split}
+use Rattle.congee.specs.declared.protocol.phase.Double.TheVariants.{Unlink, Grow, GrowLink, Split, Shrink, Collapse, ShrinkAbove}
 use Rattle.congee.specs.declared.protocol.phase.Kind.{Kind}
+use Rattle.congee.specs.declared.protocol.phase.Parent.{Parent}
 use Rattle.congee.specs.declared.protocol.phase.Phase.{Phase}
-use Rattle.congee.specs.declared.protocol.phase.Phase.TheVariants.{MakeGreater, MakeBeside, AskNew, CheckAbove, UpgradeOne, ChangeOne, UpgradeAbove, UpgradeBelow, ChangeTwo, Obsolete, Retire}
+use Rattle.congee.specs.declared.protocol.phase.Phase.TheVariants.{MakeGreater, MakeBeside, AskNew, CheckAbove, UpgradeOne, ChangeOne, UpgradeTop, UpgradeAbove, UpgradeBelow, ChangeTwo, Obsolete, Retire}
 use Rattle.congee.specs.declared.protocol.phase.Plan.{Plan}
 use Rattle.congee.specs.declared.protocol.phase.Plan.TheVariants.{Here, Above}
 use Rattle.congee.specs.declared.protocol.phase.Single.{Single}
@@ -19,7 +20,7 @@ use Rattle.congee.specs.Ledger.{Note, Gone, Linked, is_published}
 use Rattle.congee.specs.protocol.Handing.{InTree, is_waiting}
 use Rattle.congee.specs.protocol.Holdings.{LockedBy, MadeBy, MadeForOne, MadeForTwo, MadeForPlan, IsMade, TakenBy}
 use Rattle.congee.specs.protocol.Play.{EachKnown, Settled}
-use Rattle.congee.specs.protocol.Protocol.{Known, Made, MadeOne, MadeTwo, MadeLeafFor, PlanKnown, TakenOut}
+use Rattle.congee.specs.protocol.Protocol.{Known, Made, MadeOne, MadeTwo, MadeLeafFor, PlanKnown, TakenOut, AlsoOut}
 use Rattle.congee.proofs.lemmas.protocol.Owners.{locks_owned}
 use Rattle.joint.specs.declared.id.Id.{Id}
 use Rattle.joint.specs.Ends.{HoldsLock}
@@ -50,17 +51,20 @@ module _ {V : Type 0} (same : V → V → Bool) (always : Bool) (i : ℕ) (a : �
   one_blank Set m x = absurd x
   one_blank (Link leaf) m x = blank_at (id_number leaf) 7 0 m x
 
-  two_blank : (change : Double Id) (size q : ℕ) → MadeTwo id_number i a h (key_bytes k) change size q → MadeForTwo id_number change n → IsBlank (h n)
-  two_blank Unlink size q m x = absurd x
-  two_blank (Grow c) size q m x = blank_at (id_number c) size q m x
-  two_blank (GrowLink c leaf byte) size q m (inl x) = blank_at (id_number c) size q m.0 x
-  two_blank (GrowLink c leaf byte) size q m (inr x) = blank_at (id_number leaf) 7 0 m.1 x
-  two_blank (Split top leaf common byte) size q m (inl x) = blank_at (id_number top) common 1 m.0 x
-  two_blank (Split top leaf common byte) size q m (inr x) = blank_at (id_number leaf) 7 0 m.1 x
+  two_blank : (p : Parent Id) (change : Double Id) (size q : ℕ) → MadeTwo id_number i a h (key_bytes k) p change size q → MadeForTwo id_number change n → IsBlank (h n)
+  two_blank p Unlink size q m x = absurd x
+  two_blank p (Shrink c) size q m x = blank_at (id_number c) size q m x
+  two_blank p Collapse size q m x = absurd x
+  two_blank p (ShrinkAbove c) size q m x = blank_at (id_number c) p.depth q m.0 x
+  two_blank p (Grow c) size q m x = blank_at (id_number c) size q m x
+  two_blank p (GrowLink c leaf byte) size q m (inl x) = blank_at (id_number c) size q m.0 x
+  two_blank p (GrowLink c leaf byte) size q m (inr x) = blank_at (id_number leaf) 7 0 m.1 x
+  two_blank p (Split top leaf common byte) size q m (inl x) = blank_at (id_number top) common 1 m.0 x
+  two_blank p (Split top leaf common byte) size q m (inr x) = blank_at (id_number leaf) 7 0 m.1 x
 
   plan_blank : (plan : Plan Id) → PlanKnown id_number i a h (key_bytes k) plan → MadeForPlan id_number plan n → IsBlank (h n)
   plan_blank (Here check one) m x = one_blank one.change m.1.made x
-  plan_blank (Above two) m x = two_blank two.change _ _ m.0.1.made x
+  plan_blank (Above two) m x = two_blank two.above two.change _ _ m.0.1.made x
 
   leaf_blank : (leaf : Option Id) (s : Site Id) → MadeLeafFor id_number i a h (key_bytes k) s leaf → IsMade id_number leaf n → IsBlank (h n)
   leaf_blank None s m x = absurd x
@@ -73,22 +77,31 @@ module _ {V : Type 0} (same : V → V → Bool) (always : Bool) (i : ℕ) (a : �
   made_blank (CheckAbove p one r) x l = one_blank one.change x.2.made l
   made_blank (UpgradeOne one r) x l = one_blank one.change x.1.1.made l
   made_blank (ChangeOne one r) x l = one_blank one.change x.1.made l
-  made_blank (UpgradeAbove two r) x l = two_blank two.change _ _ x.1.2.made l
-  made_blank (UpgradeBelow two r) x l = two_blank two.change _ _ x.1.2.made l
-  made_blank (ChangeTwo two r) x l = two_blank two.change _ _ x.2.made l
+  made_blank (UpgradeTop g two r) x l = two_blank two.above two.change _ _ x.1.2.made l
+  made_blank (UpgradeAbove two r) x l = two_blank two.above two.change _ _ x.1.2.made l
+  made_blank (UpgradeBelow two r) x l = two_blank two.above two.change _ _ x.1.2.made l
+  made_blank (ChangeTwo two r) x l = two_blank two.above two.change _ _ x.2.made l
   made_blank _ x l = absurd l
 
   owed_at : (p m : ℕ) → n ≡ m → TakenOut i a h p m → IsOwed i (a n) (h n)
   owed_at p m q x = let P : ℕ → Type 0 = λ y. IsOwed i (a y) (h y) in subst P (sym q) (record { gone = x.gone; owner = x.owner; unretired = x.unretired })
 
+  next_owed : (next : Option Id) (m : ℕ) → IsMade id_number next n → AlsoOut id_number i a h m next → IsOwed i (a n) (h n)
+  next_owed None m q x = absurd q
+  next_owed (Some c) m q x = let P : ℕ → Type 0 = λ y. IsOwed i (a y) (h y) in subst P (sym q) (record { gone = x.1; owner = x.0; unretired = x.2 })
+
   pub taken_owed : (p : Phase Id V) → Known id_number same always i a h k (key_bytes k) kind given p → TakenBy id_number p n → IsOwed i (a n) (h n)
-  taken_owed (Obsolete m p r) x y = owed_at (id_number p) (id_number m) y x
-  taken_owed (Retire m p r) x y = owed_at (id_number p) (id_number m) y x.0
+  taken_owed (Obsolete m next p r) x (inl y) = owed_at (id_number p) (id_number m) y x.0
+  taken_owed (Obsolete m next p r) x (inr y) = next_owed next (id_number m) y x.1
+  taken_owed (Retire m next p r) x (inl y) = owed_at (id_number p) (id_number m) y x.0
+  taken_owed (Retire m next p r) x (inr y) = next_owed next (id_number m) y x.1
   taken_owed _ x y = absurd y
 
   pub taken_locked : (p : Phase Id V) → TakenBy id_number p n → LockedBy id_number p n
-  taken_locked (Obsolete m p r) y = inr y
-  taken_locked (Retire m p r) y = inr y
+  taken_locked (Obsolete m next p r) (inl y) = inl (inr y)
+  taken_locked (Obsolete m next p r) (inr y) = inr y
+  taken_locked (Retire m next p r) (inl y) = inl (inr y)
+  taken_locked (Retire m next p r) (inr y) = inr y
   taken_locked _ y = absurd y
 
 pub waits_is : {V : Type 0} (n : Node V) → is_waiting n ≡ true → (n.retired ≡ true) × Stands n

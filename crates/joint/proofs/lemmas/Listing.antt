@@ -1,9 +1,9 @@
 -- The nodes that pass a test are listed once each, and sums over them are sums over the cells.
-use Rattle.std.proofs.Common.{◌≡◌, ◌≢◌, ℕ, zero, suc, ◌+◌, ◌-◌, ◌==◌, ◌<◌, ◌≤◌, Bool, true, false, cond, List, [], ◌∷◌, ◌++◌, length, get_or, refl, sym, ◌∙◌, ap, subst, arith}
+use Rattle.std.proofs.Common.{◌≡◌, ◌≢◌, ℕ, zero, suc, ◌+◌, ◌-◌, ◌==◌, ◌<◌, ◌≤◌, Bool, true, false, cond, List, [], ◌∷◌, ◌++◌, length, get_or, refl, sym, ◌∙◌, ap, subst, arith, inl, inr}
 use Rattle.std.specs.Prelude.{Option, None, Some, slice_get}
-use Rattle.std.specs.List.{All, AllPairs, Contains, filter, filter_map, cons_option, sum_by}
+use Rattle.std.specs.List.{All, AllPairs, Contains, filter, flat_map, sum_by}
 use Rattle.std.proofs.lemmas.Bool.Decides.{nat_tests}
-use Rattle.std.proofs.lemmas.List.Elements.{All-append, All-contains, Contains-get_or, filter_passes}
+use Rattle.std.proofs.lemmas.List.Elements.{All-append, All-contains, Contains-append_cases, Contains-append_left, Contains-append_right, Contains-get_or, filter_passes}
 use Rattle.std.proofs.lemmas.List.Kept.{AllPairs-cons, AllPairs-filter}
 use Rattle.std.proofs.lemmas.List.Sums.{sum_by-cons}
 use Rattle.crossbeam_epoch.specs.declared.world.cells.Cell.{Cell}
@@ -49,53 +49,41 @@ module _ {X : Type 0} where
       AllPairs-cons R x (xs ++ ys) (All-append (R x) xs ys before after)
       (pairs_append R xs ys (λ i j d l m. a (suc i) (suc j) d (omega (arith, l)) (let z : suc j < suc (length xs) = omega (arith, m) in z)) b (λ y z m n. c y z (contains_more x y xs m) n))
 
--- what a function gives of the elements, where it gives something
-module _ {X Y : Type 0} (h : X → Option Y) where
-  in_option : (o : Option Y) (ys : List Y) (y : Y) → Contains ys y → Contains (cons_option o ys) y
-  in_option None ys y c = c
-  in_option (Some z) ys y c = contains_more z y ys c
-
-  pub gives : (xs : List X) (i : ℕ) (x : X) (y : Y) → slice_get xs i ≡ Some x → h x ≡ Some y → Contains (filter_map h xs) y
-  gives [] zero x y at e = absurd (cc at)
-  gives [] (suc i) x y at e = absurd (cc at)
-  gives (z ∷ zs) zero x y at e =
+-- what a function gives of the elements, some of each
+module _ {X Y : Type 0} (h : X → List Y) where
+  pub gives : (xs : List X) (i : ℕ) (x : X) (y : Y) → slice_get xs i ≡ Some x → Contains (h x) y → Contains (flat_map h xs) y
+  gives [] zero x y at c = absurd (cc at)
+  gives [] (suc i) x y at c = absurd (cc at)
+  gives (z ∷ zs) zero x y at c =
       let q : z ≡ x = cc in
-      let o : h z ≡ Some y = ap h q ∙ e in
-      subst (λ (b : Option Y). Contains (cons_option b (filter_map h zs)) y) (sym o) (0, (let l : 0 < suc (length (filter_map h zs)) = omega arith in l), refl)
-  gives (z ∷ zs) (suc i) x y at e = in_option (h z) (filter_map h zs) y (gives zs i x y at e)
+      Contains-append_left (h z) (flat_map h zs) y (subst (λ w. Contains (h w) y) (sym q) c)
+  gives (z ∷ zs) (suc i) x y at c = Contains-append_right (h z) (flat_map h zs) y (gives zs i x y at c)
 
   abbrev Given : List X → Y → Type 0
-  Given xs y = (i : ℕ) × (x : X) × (slice_get xs i ≡ Some x) × (h x ≡ Some y)
+  Given xs y = (i : ℕ) × (x : X) × (slice_get xs i ≡ Some x) × Contains (h x) y
 
-  from_option : (z : X) (zs : List X) (o : Option Y) → h z ≡ o → (k : ℕ) (y : Y) → k < length (cons_option o (filter_map h zs)) → get_or (cons_option o (filter_map h zs)) k y ≡ y
-      → ((j : ℕ) → j < length (filter_map h zs) → get_or (filter_map h zs) j y ≡ y → Given zs y) → Given (z ∷ zs) y
-  from_option z zs None q k y l e rest = let w : Given zs y = rest k l e in (suc w.0, w.1, w.2, w.3)
-  from_option z zs (Some v) q zero y l e rest = (0, z, refl, q ∙ ap Some e)
-  from_option z zs (Some v) q (suc k) y l e rest =
-      let w : Given zs y = rest k (let m : suc k < suc (length (filter_map h zs)) = l in omega (arith, m)) e in (suc w.0, w.1, w.2, w.3)
+  pub given : (xs : List X) (y : Y) → Contains (flat_map h xs) y → Given xs y
+  given [] y c = absurd (let bad : c.0 < 0 = c.1 in omega (arith, bad))
+  given (z ∷ zs) y c = elim (Contains-append_cases (h z) (flat_map h zs) y c) [
+    | inl x ↦ (0, z, refl, x)
+    | inr x ↦ (let w : Given zs y = given zs y x in (suc w.0, w.1, w.2, w.3))
+  ]
 
-  given_at : (xs : List X) (k : ℕ) (y : Y) → k < length (filter_map h xs) → get_or (filter_map h xs) k y ≡ y → Given xs y
-  given_at [] k y l e = absurd (let z : k < 0 = l in omega (arith, z))
-  given_at (z ∷ zs) k y l e = from_option z zs (h z) refl k y l e (λ j m f. given_at zs j y m f)
-
-  pub given : (xs : List X) (y : Y) → Contains (filter_map h xs) y → Given xs y
-  given xs y c = given_at xs c.0 y c.1 c.2
-
+  -- no two elements give the same
   abbrev pub GivesOnce : List X → Type 0
-  GivesOnce xs = (i j : ℕ) (x x' : X) (y : Y) → slice_get xs i ≡ Some x → slice_get xs j ≡ Some x' → h x ≡ Some y → h x' ≡ Some y → i ≡ j
+  GivesOnce xs = (i j : ℕ) (x x' : X) (y : Y) → slice_get xs i ≡ Some x → slice_get xs j ≡ Some x' → Contains (h x) y → Contains (h x') y → i ≡ j
 
-  once_option : (z : X) (zs : List X) → GivesOnce (z ∷ zs) → (o : Option Y) → h z ≡ o → AllPairs (λ m n. m ≢ n) (filter_map h zs) → AllPairs (λ m n. m ≢ n) (cons_option o (filter_map h zs))
-  once_option z zs u None q r = r
-  once_option z zs u (Some v) q r =
-      let apart : All (λ n. v ≢ n) (filter_map h zs) = λ k d l e. (
-      let c : Contains (filter_map h zs) (get_or (filter_map h zs) k d) = Contains-get_or (filter_map h zs) k d l in
-      let w : Given zs (get_or (filter_map h zs) k d) = given zs (get_or (filter_map h zs) k d) c in
-      let bad : 0 ≡ suc w.0 = u 0 (suc w.0) z w.1 v refl w.2 q (w.3 ∙ ap Some (sym e)) in omega (arith, bad)) in
-      AllPairs-cons (λ m n. m ≢ n) v (filter_map h zs) apart r
+  -- and none gives anything twice
+  abbrev pub EachOnce : List X → Type 0
+  EachOnce xs = (i : ℕ) (x : X) → slice_get xs i ≡ Some x → AllPairs (λ m n. m ≢ n) (h x)
 
-  pub once : (xs : List X) → GivesOnce xs → AllPairs (λ m n. m ≢ n) (filter_map h xs)
-  once [] u = λ i j d l m. absurd (let z : j < 0 = m in omega (arith, z))
-  once (z ∷ zs) u = once_option z zs u (h z) refl (once zs (λ i j x x' y a b p q. (let e : suc i ≡ suc j = u (suc i) (suc j) x x' y a b p q in omega (arith, e))))
+  pub once : (xs : List X) → GivesOnce xs → EachOnce xs → AllPairs (λ m n. m ≢ n) (flat_map h xs)
+  once [] u v = λ i j d l m. absurd (let z : j < 0 = m in omega (arith, z))
+  once (z ∷ zs) u v = pairs_append (λ m n. m ≢ n) (h z) (flat_map h zs) (v 0 z refl)
+      (once zs (λ i j x x' y a b p q. (let e : suc i ≡ suc j = u (suc i) (suc j) x x' y a b p q in omega (arith, e))) (λ i x a. v (suc i) x a))
+      (λ m n p q e.
+      let w : Given zs n = given zs n q in
+      let bad : 0 ≡ suc w.0 = u 0 (suc w.0) z w.1 n refl w.2 (subst (λ k. Contains (h z) k) e p) w.3 in omega (arith, bad))
 
 sum_cond : (g : ℕ → ℕ) (b : Bool) (x : ℕ) (xs : List ℕ) → sum_by g (cond b (x ∷ xs) xs) ≡ cond b (g x) 0 + sum_by g xs
 sum_cond g true x xs = sum_by-cons g x xs

@@ -84,8 +84,8 @@ scan_of_none start end size m none = record {
   complete = λ k a b x. inr (sym (none (omega (arith, a, b))), tt);
 }
 
--- a step that goes on with making a place free is refused for want of memory alone
-go_free : {J : Type 0} (phase : Stage) (p : Participant J) → comes_by (stage_of phase) (Secure 1) ≡ true → event_fault collector.Go phase p ≡ None
+-- a step that goes on with making places free is refused for want of memory alone
+go_free : {J : Type 0} (phase : Stage) (p : Participant J) → comes_by (stage_of phase) (Secure 2) ≡ true → event_fault collector.Go phase p ≡ None
 go_free stage.Idle p e = absurd cc
 go_free _ p e = refl
 
@@ -93,7 +93,7 @@ only_memory : {T J : Type 0} (c : State T J) (who : ℕ) (f : Fault) → IsOutco
 only_memory c who fault.Memory x = refl
 only_memory c who _ x = absurd x
 
-pub wants_memory : {T J : Type 0} (c : State T J) (who : ℕ) (f : Fault) → IsOn (Secure 1) (place c who) → IsOutcome c who collector.Go (fault_of c who collector.Go) (turned.Refused f) → f ≡ fault.Memory
+pub wants_memory : {T J : Type 0} (c : State T J) (who : ℕ) (f : Fault) → IsOn (Secure 2) (place c who) → IsOutcome c who collector.Go (fault_of c who collector.Go) (turned.Refused f) → f ≡ fault.Memory
 wants_memory c who f on x =
     let P : Bool → Type 0 = λ b. IsOutcome c who collector.Go (if b then event_fault collector.Go (place c who).phase (place c who) else Some fault.Unknown) (turned.Refused f) in
     let Q : Option Fault → Type 0 = λ o. IsOutcome c who collector.Go o (turned.Refused f) in
@@ -201,7 +201,7 @@ module _ {V : Type 0} (same : V → V → Bool) (always : Bool) (s s' : Whole V)
         (λ y b. collecting_over k.turn.outcome op y (fs w) f) (λ i n. refl);
   }
 
-  -- a call begins on the tree, or its worker first makes a place free
+  -- a call begins on the tree, or its worker first makes places free
   abbrev starts : Point V → Flights V
   starts op = with_flight fs w (flight (begun root op))
 
@@ -314,7 +314,7 @@ module _ {V : Type 0} (same : V → V → Bool) (always : Bool) (s s' : Whole V)
         by_flight (Unbegun start end size) n x = record { next = f'; step = x; advances = refl }
         by_flight (Scanning start end size states places) n x = record { next = f'; step = x; advances = refl }
 
-  -- a writing call that makes its place free goes on with that, begins on the tree, or is refused
+  -- a writing call that makes its places free goes on with that, begins on the tree, or is refused
   module _ (op : Point V) (noise : Noise Id V) (writing : writes op ≡ true) (watched : fs w ≡ flight (begun root op)) (len : w < length s.calls) where
     abbrev waiting : Flight V
     waiting = Pending (parts op).0 (parts op).1 (parts op).2 Unasked

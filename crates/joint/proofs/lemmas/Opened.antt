@@ -64,5 +64,5 @@ module _ {T J C V : Type 0} (tnames : T → List Name) (view : Bool → Option T
     once = λ t u n w x. absurd w;
     unseen = λ i m n at made w. (let P : Phase C V → Type 0 = λ ph. MadeBy num ph (number n) in subst P (over i m at) made);
     seen = λ i m n at c. absurd (no_names num m (number n) (over i m at) c);
-    guarded = λ i m at. ended_guards (place s i) m (over i m at);
+    guarded = λ i m at. ended_guards (place s i) m (orderly.bags i) (over i m at);
   }

@@ -19,7 +19,7 @@ use Rattle.joint.specs.declared.steps.Step.{Step}
 use Rattle.joint.specs.declared.steps.Survey.{Survey}
 use Rattle.joint.specs.declared.steps.Survey.TheVariants as survey
 use Rattle.joint.specs.Levels.{nodes_of}
-use Rattle.joint.specs.Plain.{TreeEvent, Starts, Tells, Goes, TreeStep, tree_step, projection, start_told, plain_went, step_after, EventTells, AreTold, IsUnrefused, AreUnrefused, SameAnswer, AreSame, answers, with_first}
+use Rattle.joint.specs.Plain.{TreeEvent, Starts, Tells, Goes, TreeStep, tree_step, projection, start_told, plain_went, step_after, EventTells, AreTold, IsUnrefused, IsUnhindered, AreUnrefused, SameAnswer, AreSame, answers, with_first}
 use Rattle.joint.specs.Survey.{IsEmptiness}
 use Rattle.joint.specs.Surveys.{TellsOf, TellsKeys, TellsEmpty, TellsStats}
 
@@ -87,10 +87,10 @@ module _ {V : Type 0} (same : V → V → Bool) (most : ℕ) where
   told_again p [] (a ∷ rs) qs x y u v = absurd x
   told_again p (t ∷ ts) [] qs x y u v = absurd x
   told_again p (t ∷ ts) (a ∷ rs) [] x y u v = absurd y
-  told_again p (t ∷ ts) (a ∷ rs) (b ∷ qs) x y u v = (step_again p t.worker t.event a b x.0 y.0 u.0 v.0, told_again (step_after same most p t) ts rs qs x.1 y.1 u.1 v.1)
+  told_again p (t ∷ ts) (a ∷ rs) (b ∷ qs) x y u v = (step_again p t.worker t.event a b x.0 y.0 u.0.0 v.0.0, told_again (step_after same most p t) ts rs qs x.1 y.1 u.1 v.1)
 
   -- the answers of a run that refuses nothing
-  first_unrefused : (o : Option (TreeStep V)) (r : Report V) (rs : List (Report V)) → IsUnrefused r.outcome → AreUnrefused rs → AreUnrefused (with_first o r rs)
+  first_unrefused : (o : Option (TreeStep V)) (r : Report V) (rs : List (Report V)) → IsUnhindered r → AreUnrefused rs → AreUnrefused (with_first o r rs)
   first_unrefused None r rs u v = v
   first_unrefused (Some t) r rs u v = (u, v)
 

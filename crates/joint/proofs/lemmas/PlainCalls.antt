@@ -36,7 +36,7 @@ use Rattle.joint.specs.Forest.{Forest, nodes, Refuses}
 use Rattle.joint.specs.Intact.{call_after, secured_call, secured_machines, is_done, is_over, over_at, resting, rested, root}
 use Rattle.joint.specs.Laws.{NumberLaws}
 use Rattle.joint.specs.Machines.{IsSafe, Collected, Walked}
-use Rattle.joint.specs.Plain.{unnamed, unnamed_seen, IsUnrefused, InPlain, Agree}
+use Rattle.joint.specs.Plain.{unnamed, unnamed_seen, IsUnrefused, IsUnhindered, InPlain, Agree}
 use Rattle.joint.specs.Refusals.{of_tree, of_fault}
 use Rattle.joint.specs.Reports.{told}
 use Rattle.joint.specs.View.{view, id_number}
@@ -147,7 +147,7 @@ module _ {V : Type 0} (same : V → V → Bool) (always : Bool) where
     collects s' event op r a k = collected_agrees s' event k.turn k.step a (call_after k.turn.outcome (Collecting op)) k.calls
         (λ i m n b. let P : List (Machine Id V) → Type 0 = λ ms. slice_get ms i ≡ Some m in subst P k.machines b) (λ m b. idle_after k.turn.outcome op (nodes s'.forest) m (p.calls w))
 
-    -- a writing call makes its place free
+    -- a writing call makes its places free
     module _ (op : Point V) (here : slice_get s.calls w ≡ Some (Securing op)) (a : Agree s order p) where
       machine_here : (m : Machine Id V) → slice_get s.machines w ≡ Some m → p.calls w ≡ begun 0 op
       machine_here m b = a.calls w (Securing op) m here b
@@ -221,7 +221,7 @@ module _ {V : Type 0} (same : V → V → Bool) (always : Bool) where
 
     -- a call goes on
     module _ (s' : Whole V) (noise : Noise Id V) (r : Report V) (m : Machine Id V) (hk : slice_get s.calls w ≡ Some Walking) (hm : slice_get s.machines w ≡ Some m) (safe : IsSafe same always s.forest s.machines)
-        (a : Agree s order p) (x : Walks same always s w noise r s') (un : IsUnrefused r.outcome) where
+        (a : Agree s order p) (x : Walks same always s w noise r s') (un : IsUnhindered r) where
       abbrev q : Machine ℕ V
       q = p.calls w
 
@@ -241,13 +241,16 @@ module _ {V : Type 0} (same : V → V → Bool) (always : Bool) where
       keeps = moves.keeps w safe.sound.sound.settled.0 known.root protocol.tree protocol.words known.known
 
       unrefused : (e : Cause) → x.move.outcome ≡ moved.Refused e → e ≡ cause.Exhausted
-      unrefused e z = cause_is e (un (of_tree e) (ap (λ y. y.outcome) x.report ∙ ap told z))
+      unrefused e z = cause_is e (un.0 (of_tree e) (ap (λ y. y.outcome) x.report ∙ ap told z))
+
+      unskipped : x.move.skipped ≡ false
+      unskipped = sym (ap (λ y. y.skipped) x.report) ∙ un.1
 
       abbrev went : Went V
       went = plain_step same s.forest.version_max q (unnamed noise) p.heap p.made
 
       pub moved_alike : MovedAlike order id_number (nodes s'.forest) moves.now x.move q went
-      moved_alike = laws.steps (unnamed_seen noise.seen) w safe.sound.sound.settled.0 (nodes s.forest) p.heap (nodes s'.forest) s.machines m moves.now x.move noise.fail noise.answer order q p.made no_version protocol hm moves.step unrefused a.ordered a.heap a.made
+      moved_alike = laws.steps (unnamed_seen noise.seen) w safe.sound.sound.settled.0 (nodes s.forest) p.heap (nodes s'.forest) s.machines m moves.now x.move noise.fail noise.answer order q p.made no_version protocol hm moves.step unrefused unskipped a.ordered a.heap a.made
           (a.calls w Walking m hk hm)
 
       abbrev p' : Plain V

@@ -32,7 +32,7 @@ use Rattle.joint.specs.declared.steps.Target.TheVariants as target
 use Rattle.joint.specs.Forest.{Forest, nodes, Refuses, IsBeside}
 use Rattle.joint.specs.Intact.{securing_of}
 use Rattle.joint.specs.Laws.{NumberLaws}
-use Rattle.joint.specs.Plain.{TreeStep, Starts, begin_at, step_at, tree_step, started, start_told, step_after, plain_after, AreTold, projection, answers, with_some, with_first, IsUnrefused, AreUnrefused, Agree, FollowsStep, FollowsRun}
+use Rattle.joint.specs.Plain.{TreeStep, Starts, begin_at, step_at, tree_step, started, start_told, step_after, plain_after, AreTold, projection, answers, with_some, with_first, IsUnhindered, AreUnrefused, Agree, FollowsStep, FollowsRun}
 use Rattle.joint.specs.Refusals.{of_fault}
 use Rattle.joint.specs.Reports.{target, told}
 use Rattle.joint.specs.Runs.{Taken, AreTaken, IsRun, after_all}
@@ -147,7 +147,7 @@ module _ {V : Type 0} (same : V → V → Bool) (always : Bool) (laws : (f : For
     abbrev go_of : Noise Id V → Kind → Option (TreeStep V)
     go_of noise k = step_at w (Go noise) k
 
-    call_at : (k : Option (Call V)) (noise : Noise Id V) (r : Report V) → slice_get s.calls w ≡ k → IsUnrefused r.outcome → GoesAt same always (engine_of s) w k noise r (engine_of s') → Goal (go_of noise r.kind) r
+    call_at : (k : Option (Call V)) (noise : Noise Id V) (r : Report V) → slice_get s.calls w ≡ k → IsUnhindered r → GoesAt same always (engine_of s) w k noise r (engine_of s') → Goal (go_of noise r.kind) r
     call_at None noise r q un x = absurd x
     call_at (Some Idle) noise r q un x = absurd x
     call_at (Some (Collecting op)) noise r q un x =
@@ -155,16 +155,16 @@ module _ {V : Type 0} (same : V → V → Bool) (always : Bool) (laws : (f : For
         subst P (sym x.report) (collects same always (engine_of s) law order p w (engine_of s') collector.Go op r a x)
     call_at (Some (Securing op)) noise r q un x =
         let P : Report V → Type 0 = λ z. Goal (go_of noise z.kind) z in
-        subst P (sym x.report) (secures same always (engine_of s) law order p w op q a (engine_of s') r x.turn.outcome un x refl (λ m b. machine_at (Securing op) q))
+        subst P (sym x.report) (secures same always (engine_of s) law order p w op q a (engine_of s') r x.turn.outcome un.0 x refl (λ m b. machine_at (Securing op) q))
     call_at (Some (Reserving op)) noise r q un x =
         let P : Report V → Type 0 = λ z. Goal (go_of noise z.kind) z in
         let calls : x.between.calls ≡ set s.calls w (Securing op) = x.begins.call ∙ ap (λ (k : Option (Call V)). set s.calls w (securing_of k)) q in
         let here : slice_get x.between.calls w ≡ Some (Securing op) = ap (λ (ks : List (Call V)). slice_get ks w) calls ∙ set_here s.calls w (Securing op) (Reserving op) q in
         let T : List (Machine Id V) → Type 0 = λ ms. (n : Machine Id V) × (slice_get ms w ≡ Some n) in
-        let middle : Agree x.between order p = collected_agrees same always (engine_of s) law order p w x.between (collector.Begin (Secure 1)) x.begins.turn x.begins.collected a (Securing op) calls
+        let middle : Agree x.between order p = collected_agrees same always (engine_of s) law order p w x.between (collector.Begin (Secure 2)) x.begins.turn x.begins.collected a (Securing op) calls
         (λ i m n b. let R : List (Machine Id V) → Type 0 = λ ms. slice_get ms i ≡ Some m in subst R x.begins.machine b)
         (λ m b. let R : List (Machine Id V) → Type 0 = λ ms. slice_get ms w ≡ Some m in whole_agrees.calls w (Reserving op) m q (subst R x.begins.machine b)) in
-        subst P (sym x.goes.report) (secures same always x.between (laws x.between.forest) order p w op here middle (engine_of s') r x.goes.turn.outcome un x.goes refl (λ m b. subst T (sym x.begins.machine) (machine_at (Reserving op) q)))
+        subst P (sym x.goes.report) (secures same always x.between (laws x.between.forest) order p w op here middle (engine_of s') r x.goes.turn.outcome un.0 x.goes refl (λ m b. subst T (sym x.begins.machine) (machine_at (Reserving op) q)))
     call_at (Some Walking) noise r q un x =
         let m = machine_at Walking q in
         let P : Report V → Type 0 = λ z. Goal (go_of noise z.kind) z in
@@ -179,20 +179,20 @@ module _ {V : Type 0} (same : V → V → Bool) (always : Bool) (laws : (f : For
     same_begin op kind.Collection = refl
     same_begin op kind.Tree = refl
 
-    proceeds_at : (event : Event V) (r : Report V) → IsUnrefused r.outcome → Proceeds same always (engine_of s) w event r (engine_of s') → Goal (step_at w event r.kind) r
+    proceeds_at : (event : Event V) (r : Report V) → IsUnhindered r → Proceeds same always (engine_of s) w event r (engine_of s') → Goal (step_at w event r.kind) r
     proceeds_at Register r un (inl x) =
         let P : Report V → Type 0 = λ z. Goal (step_at w Register z.kind) z in
         let R : Whole V → Type 0 = λ z. Agree z order p in
         subst P (sym x.1.report) (subst R (sym x.1.state) (record { ordered = a.ordered; root = a.root; made = a.made; heap = a.heap; calls = a.calls }))
     proceeds_at Register r un (inr x) =
-        let z : TableFull ≡ Exhausted = un TableFull (ap (λ y. y.outcome) x.report) in
+        let z : TableFull ≡ Exhausted = un.0 TableFull (ap (λ y. y.outcome) x.report) in
         absurd cc
     proceeds_at (Begin op) r un x = let P : Option (TreeStep V) → Type 0 = λ o. Goal o r in subst P (same_begin op r.kind) (target_at (target op) r x)
     proceeds_at (Go noise) r un x = call_at (slice_get s.calls w) noise r refl un x
 
-    does_at : (event : Event V) (o : Option Fault) (r : Report V) → IsUnrefused r.outcome → Does same always (engine_of s) w event o r (engine_of s') → Goal (step_at w event r.kind) r
+    does_at : (event : Event V) (o : Option Fault) (r : Report V) → IsUnhindered r → Does same always (engine_of s) w event o r (engine_of s') → Goal (step_at w event r.kind) r
     does_at event None r un x = proceeds_at event r un x
-    does_at event (Some f) r un x = absurd (fault_apart f (un (of_fault f) (ap (λ y. y.outcome) x.0)))
+    does_at event (Some f) r un x = absurd (fault_apart f (un.0 (of_fault f) (ap (λ y. y.outcome) x.0)))
 
     whole_again : (n : List ℕ) (q : Plain V) → Agree (engine_of s') n q → Agree s' n q
     whole_again n q x = record { ordered = x.ordered; root = x.root; made = x.made; heap = x.heap; calls = x.calls }
@@ -205,17 +205,17 @@ module _ {V : Type 0} (same : V → V → Bool) (always : Bool) (laws : (f : For
     kept_too None r k x = x
     kept_too (Some t) r k x = x
 
-    pub unless_at : (event : Event V) (b : Bool) (r : Report V) → IsUnrefused r.outcome → StepsUnless same always b s (record { worker = w; event = event }) r s' → FollowsStep same most (step_at w event r.kind) s' r order p
+    pub unless_at : (event : Event V) (b : Bool) (r : Report V) → IsUnhindered r → StepsUnless same always b s (record { worker = w; event = event }) r s' → FollowsStep same most (step_at w event r.kind) s' r order p
     unless_at event true r un x =
-        let z : JournalFull ≡ Exhausted = un JournalFull (ap (λ y. y.outcome) x.report) in
+        let z : JournalFull ≡ Exhausted = un.0 JournalFull (ap (λ y. y.outcome) x.report) in
         absurd cc
     unless_at event false r un x =
         let P : Report V → Type 0 = λ z. FollowsStep same most (step_at w event z.kind) s' z order p in
-        let Q : Report V → Type 0 = λ z. IsUnrefused z.outcome in
+        let Q : Report V → Type 0 = λ z. IsUnhindered z in
         subst P (sym x.report) (kept_too (step_at w event x.told.kind) x.told _ (again (step_at w event x.told.kind) x.told (does_at event (misuse (engine_of s) w event) x.told (subst Q x.report un) x.engine.does)))
 
   -- a step of the machine
-  pub step_follows : (s s' : Whole V) (step : Step V) (r : Report V) (order : List ℕ) (p : Plain V) → Holds same always s → IsStep same always s step r s' → IsUnrefused r.outcome → Agree s order p
+  pub step_follows : (s s' : Whole V) (step : Step V) (r : Report V) (order : List ℕ) (p : Plain V) → Holds same always s → IsStep same always s step r s' → IsUnhindered r → Agree s order p
       → FollowsStep same s.forest.version_max (tree_step step r) s' r order p
   step_follows s s' step r order p holds x un a = unless_at s s' step.worker order p holds a step.event (gives_up s step.worker step.event) r un x.does
 

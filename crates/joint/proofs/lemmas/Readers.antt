@@ -25,7 +25,7 @@ use Rattle.congee.specs.declared.protocol.op.Op.{Op as Point}
 use Rattle.congee.specs.declared.protocol.op.Op.TheVariants as point
 use Rattle.congee.specs.declared.protocol.phase.Kind.{Kind}
 use Rattle.congee.specs.declared.protocol.phase.Kind.TheVariants as kind
-use Rattle.congee.specs.declared.protocol.phase.Parent.{Parent}
+use Rattle.congee.specs.declared.protocol.phase.Above.{Above as Over}
 use Rattle.congee.specs.declared.protocol.phase.Phase.{Phase}
 use Rattle.congee.specs.declared.protocol.phase.Phase.TheVariants.{New, Version, Read, Check, CheckUncopied, CheckMiss, Sweep, Ended}
 use Rattle.congee.specs.declared.protocol.phase.Site.{Site}
@@ -91,7 +91,7 @@ IsReader _ m = ⊥
 abbrev pub ReaderAt : {V : Type 0} → Whole V → ℕ → Type 0
 ReaderAt s w = IsReader (slice_get s.calls w) (slice_get s.machines w)
 
-version_reads : (V : Type 0) (r : Id) (above : Option (Parent Id)) (n : Id) (v : Option ℕ) → Reads {V = V} (after_version r above n v).phase
+version_reads : (V : Type 0) (r : Id) (above : Option (Over Id)) (n : Id) (v : Option ℕ) → Reads {V = V} (after_version r above n v).phase
 version_reads V r above n None = tt
 version_reads V r above n (Some v) = tt
 
@@ -103,11 +103,11 @@ module _ {V : Type 0} where
   at_answer : (r : Reply V) (t : Turn Id V) → t ≡ answered r → Reads t.phase
   at_answer r t e = let P : Turn Id V → Type 0 = λ y. Reads y.phase in subst P (sym e) tt
 
-  read_reads : (r : Id) (above : Option (Parent Id)) (at : Seat Id) (x : Reading Id V) → Reads {V = V} (after_read r above at x).phase
+  read_reads : (r : Id) (above : Option (Over Id)) (at : Seat Id) (x : Reading Id V) → Reads {V = V} (after_read r above at x).phase
   read_reads r None at (Differs common byte) = tt
   read_reads r (Some p) at (Differs common byte) = tt
-  read_reads r None at (Fits depth s) = tt
-  read_reads r (Some p) at (Fits depth s) = tt
+  read_reads r None at (Fits depth form s) = tt
+  read_reads r (Some p) at (Fits depth form s) = tt
   read_reads r None at Uncopied = tt
   read_reads r (Some p) at Uncopied = tt
 

@@ -59,6 +59,8 @@ module _ {V : Type 0} where
   phase_asks k kind v (phase.CheckAbove p one r) = heeds_none r
   phase_asks k kind v (phase.UpgradeOne one r) = heeds_none r
   phase_asks k kind v (phase.ChangeOne one r) = heeds_none r
+  phase_asks k kind v (phase.MakeLesser s p g r) = heeds_none r
+  phase_asks k kind v (phase.UpgradeTop g two r) = heeds_none r
   phase_asks k kind v (phase.UpgradeAbove two r) = heeds_none r
   phase_asks k kind v (phase.UpgradeBelow two r) = heeds_none r
   phase_asks k kind v (phase.ChangeTwo two r) = heeds_none r

@@ -1,4 +1,4 @@
--- A writing call begins, may be ended before its first step, and in that begins to make a place free.
+-- A writing call begins, may be ended before its first step, and in that begins to make places free.
 use Rattle.std.proofs.Common.{◌≡◌, ◌<◌, ℕ, Bool, true, List, refl, sym, ◌∙◌, ap, subst, inl, inr}
 use Rattle.std.proofs.Math.ListN.{set}
 use Rattle.std.specs.Prelude.{Option, None, Some, is_none, is_some, length, option_map, slice_get, if◌then◌else◌}
@@ -52,7 +52,7 @@ module _ {V : Type 0} (same : V → V → Bool) (always : Bool) (s : Forest V) (
   -- no job was called
   pub same_nodes : nodes s' ≡ nodes s
   same_nodes =
-      let none : b.turn.called ≡ None = b.collected.report.job ∙ ap (called_in s.collector who (Begin (Secure 1))) b.running in
+      let none : b.turn.called ≡ None = b.collected.report.job ∙ ap (called_in s.collector who (Begin (Secure 2))) b.running in
       let P : Option (ℕ × Option Name) → Type 0 = λ o. Empties s.collector.store o s'.collector.store in
       ap heap (subst P none b.collected.moves.cells)
 
@@ -100,7 +100,7 @@ module _ {V : Type 0} (same : V → V → Bool) (always : Bool) (s : Forest V) (
     abandoned = exchanged Idle (λ m here. ((at m here).2, (at m here).3))
 
   -- a securing begins, and runs on
-  module _ (laws : ProgressLaws (Slot V) (Unit {0})) (op : Op V) (on : slice_get calls who ≡ Some (Reserving op)) (r : Report) (s' : Forest V) (did : Collected same always s ms who (Begin (Secure 1)) r s') where
+  module _ (laws : ProgressLaws (Slot V) (Unit {0})) (op : Op V) (on : slice_get calls who ≡ Some (Reserving op)) (r : Report) (s' : Forest V) (did : Collected same always s ms who (Begin (Secure 2)) r s') where
     abbrev c : State (Slot V) (Unit {0})
     c = s.collector
 
@@ -110,28 +110,28 @@ module _ {V : Type 0} (same : V → V → Bool) (always : Bool) (s : Forest V) (
     now : IsAt (Reserving op) (place c who) here.0
     now = intact.each who (Reserving op) here.0 on here.1
 
-    begins : Begins c who (Secure 1) r.outcome s'.collector
-    begins = let P : State (Slot V) (Unit {0}) → Type 0 = λ y. Begins c who (Secure 1) r.outcome y in subst P (sym did.state) (laws.begins c who (Secure 1) r now.2 did.report)
+    begins : Begins c who (Secure 2) r.outcome s'.collector
+    begins = let P : State (Slot V) (Unit {0}) → Type 0 = λ y. Begins c who (Secure 2) r.outcome y in subst P (sym did.state) (laws.begins c who (Secure 2) r now.2 did.report)
 
     abbrev put : Participant (Unit {0})
-    put = begun_at (Secure 1) (place c who)
+    put = begun_at (Secure 2) (place c who)
 
     free : (o : Option ℕ) → is_some o ≡ true → (if is_none o then Some Unpinned else None) ≡ None
     free None q = absurd (cc q)
     free (Some y) q = refl
 
-    no_fault : refusal c who (Secure 1) ≡ None
-    no_fault = ap (λ b. if b then begin_fault (Secure 1) (place c who) else Some Unknown) now.0 ∙ free (place c who).word now.1
+    no_fault : refusal c who (Secure 2) ≡ None
+    no_fault = ap (λ b. if b then begin_fault (Secure 2) (place c who) else Some Unknown) now.0 ∙ free (place c who).word now.1
 
     not_done : r.outcome ≡ Done → (place s'.collector who).phase ≡ stage.Idle → ⊥
     not_done e idle =
         let inside : who < length c.table = held_place c.table who now.0 in
-        let at : s'.collector ≡ with_place c who put = did.state ∙ ap (after c who (Begin (Secure 1))) e in
+        let at : s'.collector ≡ with_place c who put = did.state ∙ ap (after c who (Begin (Secure 2))) e in
         let q : place s'.collector who ≡ put = ap (λ y. place y who) at ∙ get_or-set_same c.table who put blank inside in
-        let z : stage.Idle ≡ stage.Secure 1 = sym idle ∙ ap (λ y. y.phase) q in
+        let z : stage.Idle ≡ stage.Secure 2 = sym idle ∙ ap (λ y. y.phase) q in
         cc
 
-    runs_by : (o : Outcome) → r.outcome ≡ o → Begins c who (Secure 1) o s'.collector → r.outcome ≡ Running
+    runs_by : (o : Outcome) → r.outcome ≡ o → Begins c who (Secure 2) o s'.collector → r.outcome ≡ Running
     runs_by Running e b = e
     runs_by Done e b = absurd (not_done e b.1)
     runs_by (Refused f) e b = absurd (let z : Some f ≡ None = sym b.0 ∙ no_fault in cc)
@@ -139,19 +139,19 @@ module _ {V : Type 0} (same : V → V → Bool) (always : Bool) (s : Forest V) (
     runs : r.outcome ≡ Running
     runs = runs_by r.outcome refl begins
 
-    begun : Begins c who (Secure 1) Running s'.collector
-    begun = let P : Outcome → Type 0 = λ o. Begins c who (Secure 1) o s'.collector in subst P runs begins
+    begun : Begins c who (Secure 2) Running s'.collector
+    begun = let P : Outcome → Type 0 = λ o. Begins c who (Secure 2) o s'.collector in subst P runs begins
 
     pub begins_securing : (s2 : Forest V) (ms' : List (Machine Id V)) (calls' : List (Call V)) → s2 ≡ s' → ms' ≡ ms → calls' ≡ set (set calls who Idle) who (Securing op) → BeginsSecuring same always s ms calls who s2 ms' calls'
     begins_securing s2 ms' calls' es em ec =
         let q : calls' ≡ set calls who (Securing op) = ec ∙ set-set calls who Idle (Securing op) in
-        let i : IsIntact same always s' ms (set calls who (Securing op)) = after_step same always s ms calls intact who (Begin (Secure 1)) r s' (Securing op) did (λ m at.
+        let i : IsIntact same always s' ms (set calls who (Securing op)) = after_step same always s ms calls intact who (Begin (Secure 2)) r s' (Securing op) did (λ m at.
         let x : IsAt (Reserving op) (place c who) m = intact.each who (Reserving op) m on at in
         (begun.1, ap is_some begun.3.0 ∙ x.1, x.3, x.4)) in
         record {
           intact = intact_at same always s' s2 ms ms' (set calls who (Securing op)) calls' es em q i;
           turn = r;
-          collected = subst (λ (y : Forest V). Collected same always s ms who (Begin (Secure 1)) r y) (sym es) did;
+          collected = subst (λ (y : Forest V). Collected same always s ms who (Begin (Secure 2)) r y) (sym es) did;
           running = runs;
           call = q ∙ sym (ap (λ k. set calls who (securing_of k)) on);
           machine = em;

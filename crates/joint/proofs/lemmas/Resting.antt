@@ -1,5 +1,5 @@
 -- A scan that is done leaves its worker's place: it holds nothing, and it is watched no longer.
-use Rattle.std.proofs.Common.{◌≡◌, ◌≢◌, ◌⊎◌, ℕ, zero, suc, arith, Bool, true, false, cond, List, [], ◌∷◌, refl, sym, ◌∙◌, ap, subst, inl, inr, length}
+use Rattle.std.proofs.Common.{◌≡◌, ◌≢◌, ◌⊎◌, ◌+◌, ◌≤◌, ℕ, zero, suc, arith, Bool, true, false, cond, List, [], ◌∷◌, refl, sym, ◌∙◌, ap, subst, inl, inr, length}
 use Rattle.std.proofs.Math.ListN.{set}
 use Rattle.std.specs.Prelude.{◌==◌, not, Option, None, Some, slice_get, slice_set, if◌then◌else◌}
 use Rattle.std.proofs.lemmas.Bool.{cases_Bool, cases_eq}
@@ -36,7 +36,7 @@ use Rattle.joint.specs.Forest.{Forest}
 use Rattle.joint.specs.Heap.{heap_of}
 use Rattle.joint.specs.Intact.{is_past, is_done, is_over, resting, rested, cleared, cleared_at}
 use Rattle.joint.specs.Machines.{IsSafe, slot_names}
-use Rattle.joint.specs.Sound.{IsUnderWay}
+use Rattle.joint.specs.Sound.{IsUnderWay, most_left}
 use Rattle.joint.specs.View.{view, id_number}
 use Rattle.joint.proofs.lemmas.Begun as begin
 use Rattle.joint.proofs.lemmas.Collecting.{either, set_here}
@@ -102,15 +102,18 @@ module _ {V : Type 0} (same : V → V → Bool) (always : Bool) (s : Forest V) (
     )
 
     rests : IsSafe same always s ms → IsSafe same always s (set ms who resting)
-    rests safe = record {
-      sound = record {
-        top = safe.sound.top;
-        past = safe.sound.past;
-        sound = begin.begun slot_names view id_number same always either safe.sound.top safe.sound.past s.collector ms safe.sound.sound who resting (settled (heap_of view s.collector.store) safe.sound.sound.settled) refl (λ k x. x)
-            (record { registered = λ u. absurd u; pinned = λ u. absurd u; idle = λ u. absurd u; secured = tt });
-      };
-      within = safe.within;
-    }
+    rests safe =
+        let x : length (place s.collector who).bag + most_left m.kind m.phase ≤ 64 = (safe.sound.sound.guarded who m here).secured in
+        let room : length (place s.collector who).bag + 0 ≤ 64 = omega (arith, x) in
+        record {
+          sound = record {
+            top = safe.sound.top;
+            past = safe.sound.past;
+            sound = begin.begun slot_names view id_number same always either safe.sound.top safe.sound.past s.collector ms safe.sound.sound who resting (settled (heap_of view s.collector.store) safe.sound.sound.settled) refl (λ k x. x)
+                (record { registered = λ u. absurd u; pinned = λ u. absurd u; idle = λ u. absurd u; secured = room });
+          };
+          within = safe.within;
+        }
 
   pub cleared_safe : IsSafe same always s ms → IsSafe same always s (cleared ms who)
   cleared_safe safe =

@@ -1,6 +1,6 @@
--- A call that may still hand a node over keeps its place in the bag from step to step, and a reading call needs none.
-use Rattle.std.proofs.Common.{◌≡◌, ◌<◌, ℕ, ◌==◌, Bool, true, false, List, refl, sym, subst, inl, inr, ◌⊎◌}
-use Rattle.std.specs.Prelude.{Option, None, Some, Result, Ok, Err, cond}
+-- A call that may still hand nodes over keeps a place in the bag for each from step to step, and a reading call needs none.
+use Rattle.std.proofs.Common.{◌≡◌, ◌+◌, ◌≤◌, ℕ, suc, ◌==◌, Bool, true, false, List, refl, sym, ap, ◌∙◌, subst, inl, inr, ◌⊎◌, arith}
+use Rattle.std.specs.Prelude.{Option, None, Some, Result, Ok, Err, cond, ltb, ◌&&◌}
 use Rattle.judge.specs.declared.journal.Call.{Call}
 use Rattle.judge.specs.declared.journal.Reply.{Reply}
 use Rattle.judge.specs.Answer.{leaves}
@@ -17,27 +17,28 @@ use Rattle.congee.specs.declared.protocol.store.Upgrade.TheVariants.{Locked, Fai
 use Rattle.congee.specs.declared.protocol.phase.Kind.{Kind}
 use Rattle.congee.specs.declared.protocol.phase.Kind.TheVariants.{Get, Insert, Remove, ComputePresent, ComputeInsert, Exchange}
 use Rattle.congee.specs.declared.protocol.phase.Parent.{Parent}
+use Rattle.congee.specs.declared.protocol.phase.Above.{Above as Over}
 use Rattle.congee.specs.declared.protocol.phase.Site.{Site}
 use Rattle.congee.specs.declared.protocol.phase.One.{One}
 use Rattle.congee.specs.declared.protocol.phase.Single.{Single}
 use Rattle.congee.specs.declared.protocol.phase.Double.{Double}
-use Rattle.congee.specs.declared.protocol.phase.Double.TheVariants.{Unlink, Grow, GrowLink, Split}
+use Rattle.congee.specs.declared.protocol.phase.Double.TheVariants.{Unlink, Grow, GrowLink, Split, Shrink, Collapse, ShrinkAbove}
 use Rattle.congee.specs.declared.protocol.phase.Two.{Two}
 use Rattle.congee.specs.declared.protocol.phase.Plan.{Plan}
 use Rattle.congee.specs.declared.protocol.phase.Plan.TheVariants.{Here, Above}
 use Rattle.congee.specs.declared.protocol.phase.Phase.{Phase}
-use Rattle.congee.specs.declared.protocol.phase.Phase.TheVariants.{New, Version, Read, Check, CheckUncopied, CheckMiss, CheckDown, CheckOld, MakeLeaf, MakeGreater, MakeTop, MakeBeside, AskOld, AskNew, Confirm, CheckAbove, UpgradeOne, ChangeOne, UpgradeAbove, UpgradeBelow, ChangeTwo, Obsolete, Retire, UnlockBelow, Unlock, Unwind, Sweep, Ended}
+use Rattle.congee.specs.declared.protocol.phase.Phase.TheVariants.{New, Version, Read, Check, CheckUncopied, CheckMiss, CheckDown, CheckOld, MakeLeaf, MakeGreater, MakeTop, MakeBeside, MakeLesser, AskOld, AskNew, Confirm, CheckAbove, UpgradeOne, ChangeOne, UpgradeTop, UpgradeAbove, UpgradeBelow, ChangeTwo, Obsolete, Retire, UnlockBelow, Unlock, Unwind, Sweep, Ended}
 use Rattle.congee.specs.declared.protocol.turn.Turn.{Turn}
 use Rattle.congee.specs.Heap.{Node, is_taken}
 use Rattle.congee.specs.Ledger.{Note}
 use Rattle.congee.specs.protocol.Protocol.{Known, FitsTwo, Settles}
-use Rattle.congee.specs.protocol.Steps.{PhaseStepped, quiet, again, answered, refused, adds, asks_new, absent_reply, after_version, after_read, down, started, ready, plan_here, unless_full, missing, absent, CopyFailed, IsAsked, replaced, taken_out, is_same, IsAtOld, IsAdded, IsExchanged, IsCompared, IsPresent, IsChecked, IsIf, after_miss, IsGiven, IsGivenNew, MadeLeaf, MadeGreater, MadeTop, MadeBeside, UpgradedOne, UpgradedAbove, UpgradedBelow, unwound}
-use Rattle.joint.specs.Sound.{IsSecured}
+use Rattle.congee.specs.protocol.Steps.{PhaseStepped, quiet, again, answered, refused, adds, asks_new, absent_reply, after_version, after_read, down, started, ready, plan_here, unless_full, missing, absent, CopyFailed, IsAsked, replaced, last_out, taken_out, shrinks, is_same, IsAtOld, IsAdded, IsExchanged, IsCompared, IsPresent, IsChecked, IsIf, after_miss, IsGiven, IsGivenNew, MadeLeaf, MadeGreater, MadeTop, MadeBeside, MadeLesser, UpgradedOne, UpgradedTop, UpgradedAbove, UpgradedBelow, unwound, given_up, after_retire, after_unwind}
+use Rattle.joint.specs.Sound.{most_left, IsSecured}
 
 -- the call has not taken a node out of the tree that it has yet to hand over
 abbrev pub OwesNone : {C V : Type 0} → Phase C V → Type 0
-OwesNone (Obsolete n p r) = ⊥
-OwesNone (Retire n p r) = ⊥
+OwesNone (Obsolete n next p r) = ⊥
+OwesNone (Retire n next p r) = ⊥
 OwesNone _ = Unit {0}
 
 module _ {C V : Type 0} where
@@ -51,19 +52,19 @@ module _ {C V : Type 0} where
   cond_light true t u x y = x
   cond_light false t u x y = y
 
-  version_light : (root : C) (above : Option (Parent C)) (n : C) (v : Option ℕ) (t : Turn C V) → t ≡ after_version root above n v → Light t
+  version_light : (root : C) (above : Option (Over C)) (n : C) (v : Option ℕ) (t : Turn C V) → t ≡ after_version root above n v → Light t
   version_light root above n None t e = at t _ e tt
   version_light root above n (Some v) t e = at t _ e tt
 
-  read_light : (root : C) (above : Option (Parent C)) (s : Seat C) (r : Reading C V) → Light (after_read root above s r)
+  read_light : (root : C) (above : Option (Over C)) (s : Seat C) (r : Reading C V) → Light (after_read root above s r)
   read_light root None s (Differs common byte) = tt
-  read_light root (Some p) s (Differs common byte) = tt
-  read_light root None s (Fits depth x) = tt
-  read_light root (Some p) s (Fits depth x) = tt
+  read_light root (Some u) s (Differs common byte) = tt
+  read_light root None s (Fits depth form x) = tt
+  read_light root (Some u) s (Fits depth form x) = tt
   read_light root None s Uncopied = tt
-  read_light root (Some p) s Uncopied = tt
+  read_light root (Some u) s Uncopied = tt
 
-  down_light : (b : Bool) (s : Site C) (above : Option (Parent C)) (c : C) (t : Turn C V) → t ≡ down b s above c → Light t
+  down_light : (b : Bool) (s : Site C) (above : Option (Over C)) (c : C) (t : Turn C V) → t ≡ down b s above c → Light t
   down_light false s above c t e = at t _ e tt
   down_light true s None c t e = at t _ e tt
   down_light true s (Some p) c t e = at t _ e tt
@@ -76,7 +77,7 @@ module _ {C V : Type 0} where
   ready_light : (kind : Kind V) (plan : Plan C) → Light (ready kind plan)
   ready_light kind plan = cond_light (asks_new kind) _ _ tt (started_light plan (absent_reply kind))
 
-  full_light : (kind : Kind V) (s : Site C) (full : Bool) (above : Option (Parent C)) (leaf : Option C) (change : Single C) → Light (unless_full kind s full above leaf change)
+  full_light : (kind : Kind V) (s : Site C) (full : Bool) (above : Option (Over C)) (leaf : Option C) (change : Single C) → Light (unless_full kind s full above leaf change)
   full_light kind s true (Some p) leaf change = tt
   full_light kind s true None leaf change = ready_light kind (plan_here s change)
   full_light kind s false above leaf change = ready_light kind (plan_here s change)
@@ -97,10 +98,13 @@ module _ {C V : Type 0} where
   replaced_light : (s : Site C) (b : Bool) (r : Reply V) → Light (replaced s b r)
   replaced_light s b r = cond_light b _ _ tt tt
 
-  taken_light : (s : Site C) (b : Bool) (above : Option (Parent C)) (r : Reply V) → Light (taken_out s b above r)
-  taken_light s true (Some p) r = tt
-  taken_light s true None r = tt
-  taken_light s false above r = tt
+  last_light : (s : Site C) (p : Parent C) (top : Option (Parent C)) (r : Reply V) → Light (last_out s p top r)
+  last_light s p None r = tt
+  last_light s p (Some g) r = cond_light (p.count == 2) _ _ tt (cond_light (ltb 2 p.count && shrinks p.form p.count) _ _ tt tt)
+
+  taken_light : (s : Site C) (above : Option (Over C)) (r : Reply V) → Light (taken_out s above r)
+  taken_light s None r = tt
+  taken_light s (Some u) r = cond_light (s.count == 1) _ _ (last_light s u.near u.far r) (cond_light (shrinks s.form s.count) _ _ tt tt)
 
   old_light : (always : Bool) (same : V → V → Bool) (kind : Kind V) (new : Option V) (s : Site C) (v : V) (t : Turn C V) → IsAtOld always same kind new s v t → Light t
   old_light always same Insert new s v t g = at t _ g (replaced_light s (is_same same v new) _)
@@ -110,12 +114,12 @@ module _ {C V : Type 0} where
   old_light always same ComputeInsert new s v t g = asked_light always s v t g
   old_light always same (Exchange old) new s v t g = asked_light always s v t g
 
-  added_light : (always : Bool) (same : V → V → Bool) (kind : Kind V) (new : Option V) (s : Site C) (above : Option (Parent C)) (v : V) (t : Turn C V) → IsAdded always same kind new s above v t → Light t
+  added_light : (always : Bool) (same : V → V → Bool) (kind : Kind V) (new : Option V) (s : Site C) (above : Option (Over C)) (v : V) (t : Turn C V) → IsAdded always same kind new s above v t → Light t
   added_light always same kind new s None v t g = old_light always same kind new s v t g
   added_light always same kind new s (Some p) v t g = at t _ g tt
 
   exchanged_light : (always : Bool) (same : V → V → Bool) (new : Option V) (s : Site C) (v : V) (t : Turn C V) → IsExchanged always same new s v t → Light t
-  exchanged_light always same None s v t g = at t _ g (taken_light s (s.count == 1) s.above _)
+  exchanged_light always same None s v t g = at t _ g (taken_light s s.above _)
   exchanged_light always same (Some w) s v t (inl e) = at t _ e (replaced_light s (same v w) _)
   exchanged_light always same (Some w) s v t (inr u) = uncounted_light always t u
 
@@ -126,7 +130,7 @@ module _ {C V : Type 0} where
   present_light : (always : Bool) (same : V → V → Bool) (kind : Kind V) (new : Option V) (s : Site C) (v : V) (t : Turn C V) → IsPresent always same kind new s v t → Light t
   present_light always same Get new s v t g = at t _ g tt
   present_light always same Insert new s v t g = added_light always same Insert new s s.above v t g
-  present_light always same Remove new s v t g = at t _ g (taken_light s (s.count == 1) s.above _)
+  present_light always same Remove new s v t g = at t _ g (taken_light s s.above _)
   present_light always same ComputePresent new s v t g = asked_light always s v t g
   present_light always same ComputeInsert new s v t g = added_light always same ComputeInsert new s s.above v t g
   present_light always same (Exchange old) new s v t g = compared_light (same v old) always same new s v t g
@@ -155,11 +159,11 @@ module _ {C V : Type 0} where
   given_light always same kind s v None new new' t g = asked_light always s v t g.1
   given_light always same ComputeInsert s v (Some None) new new' t g = asked_light always s v t g.1
   given_light always same ComputeInsert s v (Some (Some x)) new new' t g = at t _ g.1 (replaced_light s (same v x) _)
-  given_light always same Get s v (Some None) new new' t g = at t _ g.1 (taken_light s (s.count == 1) s.above _)
-  given_light always same Insert s v (Some None) new new' t g = at t _ g.1 (taken_light s (s.count == 1) s.above _)
-  given_light always same Remove s v (Some None) new new' t g = at t _ g.1 (taken_light s (s.count == 1) s.above _)
-  given_light always same ComputePresent s v (Some None) new new' t g = at t _ g.1 (taken_light s (s.count == 1) s.above _)
-  given_light always same (Exchange old) s v (Some None) new new' t g = at t _ g.1 (taken_light s (s.count == 1) s.above _)
+  given_light always same Get s v (Some None) new new' t g = at t _ g.1 (taken_light s s.above _)
+  given_light always same Insert s v (Some None) new new' t g = at t _ g.1 (taken_light s s.above _)
+  given_light always same Remove s v (Some None) new new' t g = at t _ g.1 (taken_light s s.above _)
+  given_light always same ComputePresent s v (Some None) new new' t g = at t _ g.1 (taken_light s s.above _)
+  given_light always same (Exchange old) s v (Some None) new new' t g = at t _ g.1 (taken_light s s.above _)
   given_light always same Get s v (Some (Some x)) new new' t g = either_light always s (same v x) _ t g.1
   given_light always same Insert s v (Some (Some x)) new new' t g = either_light always s (same v x) _ t g.1
   given_light always same Remove s v (Some (Some x)) new new' t g = either_light always s (same v x) _ t g.1
@@ -174,6 +178,14 @@ module _ {C V : Type 0} where
   unwound_light : (root : C) (e : Option Refusal) (t : Turn C V) → t ≡ unwound root e → Light t
   unwound_light root None t q = at t _ q tt
   unwound_light root (Some e) t q = at t _ q tt
+
+  up_light : (root : C) (top : Option (Parent C)) (e : Option Refusal) (t : Turn C V) → t ≡ given_up root top e → Light t
+  up_light root None e t q = unwound_light root e t q
+  up_light root (Some g) e t q = at t _ q tt
+
+  unwind_light : (root : C) (next : Option C) (e : Option Refusal) (t : Turn C V) → t ≡ after_unwind root next e → Light t
+  unwind_light root None e t q = unwound_light root e t q
+  unwind_light root (Some n) e t q = at t _ q tt
 
   leaf_light : (number : C → ℕ) (kind : Kind V) (s : Site C) (h : ℕ → Node V) (key : List ℕ) (r : Result C Refusal) (h' : ℕ → Node V) (t : Turn C V) → MadeLeaf number kind s h key r h' t → Light t
   leaf_light number kind s h key (Ok leaf) h' t g = at t _ g.1 (full_light kind s s.full s.above _ _)
@@ -191,15 +203,26 @@ module _ {C V : Type 0} where
   beside_light number kind p s common byte top h key (Ok leaf) h' t g = at t _ g.1 (ready_light kind _)
   beside_light number kind p s common byte top h key (Err e) h' t g = at t _ g.1 tt
 
+  lesser_light : (number : C → ℕ) (s : Site C) (p : Parent C) (top : Option (Parent C)) (r : Reply V) (h : ℕ → Node V) (key : List ℕ) (x : Result C Refusal) (h' : ℕ → Node V) (t : Turn C V) → MadeLesser number s p top r h key x h' t → Light t
+  lesser_light number s p None r h key (Ok c) h' t g = at t _ g.1 tt
+  lesser_light number s p None r h key (Err e) h' t g = at t _ g.1 tt
+  lesser_light number s p (Some q) r h key (Ok c) h' t g = at t _ g.1 tt
+  lesser_light number s p (Some q) r h key (Err e) h' t g = at t _ g.1 tt
+
   one_light : (number : C → ℕ) (root : C) (one : One C) (r : Reply V) (h : ℕ → Node V) (u : Upgrade) (h' : ℕ → Node V) (t : Turn C V) → UpgradedOne number root one r h u h' t → Light t
   one_light number root one r h Locked h' t g = at t _ g.1 tt
   one_light number root one r h Failed h' t g = at t _ g.1 tt
   one_light number root one r h Exhausted h' t g = at t _ g.1 tt
 
+  first_light : (number : C → ℕ) (root : C) (top : Parent C) (two : Two C) (r : Reply V) (h : ℕ → Node V) (u : Upgrade) (h' : ℕ → Node V) (t : Turn C V) → UpgradedTop number root top two r h u h' t → Light t
+  first_light number root top two r h Locked h' t g = at t _ g.1 tt
+  first_light number root top two r h Failed h' t g = at t _ g.1 tt
+  first_light number root top two r h Exhausted h' t g = at t _ g.1 tt
+
   above_light : (number : C → ℕ) (root : C) (two : Two C) (r : Reply V) (h : ℕ → Node V) (u : Upgrade) (h' : ℕ → Node V) (t : Turn C V) → UpgradedAbove number root two r h u h' t → Light t
   above_light number root two r h Locked h' t g = at t _ g.1 tt
-  above_light number root two r h Failed h' t g = at t _ g.1 tt
-  above_light number root two r h Exhausted h' t g = at t _ g.1 tt
+  above_light number root two r h Failed h' t g = up_light root two.top _ t g.1
+  above_light number root two r h Exhausted h' t g = up_light root two.top _ t g.1
 
   both_light : (number : C → ℕ) (two : Two C) (r : Reply V) (h : ℕ → Node V) (u : Upgrade) (h' : ℕ → Node V) (t : Turn C V) → UpgradedBelow number two r h u h' t → Light t
   both_light number two r h Locked h' t g = at t _ g.1 tt
@@ -213,7 +236,8 @@ module _ {C V : Type 0} where
   -- a phase after which a call may owe a node
   abbrev Unlinks : Phase C V → Type 0
   Unlinks (ChangeTwo two r) = Unit {0}
-  Unlinks (Obsolete n p r) = Unit {0}
+  Unlinks (Obsolete n next p r) = Unit {0}
+  Unlinks (Retire n next p r) = Unit {0}
   Unlinks _ = ⊥
 
   module _ (number : C → ℕ) (same : V → V → Bool) (always : Bool) (most : ℕ) (why : NodeType → Refusal → Type 0) (root : C) (key : List ℕ) (kind : Kind V) (fail : Bool) (answer : Option (Option V)) (new new' : Option V) (h h' : ℕ → Node V) (t : Turn C V) where
@@ -231,20 +255,22 @@ module _ {C V : Type 0} where
     step_light (MakeGreater s p leaf) never g = greater_light number kind s p leaf h key g.1.0 h' t g.1.1
     step_light (MakeTop p s common byte) never g = top_light number p s common byte h key g.1.0 h' t g.1.1
     step_light (MakeBeside p s common byte top) never g = beside_light number kind p s common byte top h key g.1.0 h' t g.1.1
+    step_light (MakeLesser s p top r) never g = lesser_light number s p top r h key g.1.0 h' t g.1.1
     step_light (AskOld s v) never g = given_light always same kind s v answer new new' t g.1
     step_light (AskNew plan) never g = new_light plan answer new new' t g.1
     step_light (Confirm s r) never g = if_this (is_taken (h (number s.node)) s.version) root (answered r) t tt g.2
     step_light (CheckAbove p one r) never g = by_check (is_taken (h (number p.node)) p.version) t (quiet (UpgradeOne one r)) (again root) (λ e. (g.1.goes_on e).1) (λ e. (g.1.goes_back e).1) tt tt
     step_light (UpgradeOne one r) never g = one_light number root one r h g.1.0 h' t g.1.2
     step_light (ChangeOne one r) never g = at t _ g.2 tt
+    step_light (UpgradeTop top two r) never g = first_light number root top two r h g.1.0 h' t g.1.2
     step_light (UpgradeAbove two r) never g = above_light number root two r h g.1.0 h' t g.1.2
     step_light (UpgradeBelow two r) never g = both_light number two r h g.1.0 h' t g.1.2
     step_light (ChangeTwo two r) never g = absurd (never tt)
-    step_light (Obsolete n p r) never g = absurd (never tt)
-    step_light (Retire n p r) never g = at t _ g.2 tt
+    step_light (Obsolete n next p r) never g = absurd (never tt)
+    step_light (Retire n next p r) never g = absurd (never tt)
     step_light (UnlockBelow n p r) never g = at t _ g.2 tt
     step_light (Unlock n r) never g = at t _ g.2 tt
-    step_light (Unwind n e) never g = unwound_light root e t g.2
+    step_light (Unwind n next e) never g = unwind_light root next e t g.2
     step_light (Sweep s) never g = at t _ g.2.3 tt
     step_light Ended never g = at t _ g.2 tt
 
@@ -252,6 +278,12 @@ module _ {C V : Type 0} where
 fits_both : {C V : Type 0} (change : Double C) (found : Option V) → FitsTwo change found found → ⊥
 fits_both Unlink None f = f
 fits_both Unlink (Some v) f = f
+fits_both (Shrink c) None f = f
+fits_both (Shrink c) (Some v) f = f
+fits_both Collapse None f = f
+fits_both Collapse (Some v) f = f
+fits_both (ShrinkAbove c) None f = f
+fits_both (ShrinkAbove c) (Some v) f = f
 fits_both (Grow c) None f = f
 fits_both (Grow c) (Some v) f = f
 fits_both (GrowLink c leaf byte) None f = f
@@ -270,63 +302,119 @@ IsLate (Unlock n r) = Unit {0}
 IsLate Ended = Unit {0}
 IsLate _ = ⊥
 
+abbrev IsOwing : {C V : Type 0} → Phase C V → Type 0
+IsOwing (Obsolete n next p r) = Unit {0}
+IsOwing (Retire n next p r) = Unit {0}
+IsOwing _ = ⊥
+
 module _ {C V : Type 0} where
-  stance : (kind : Kind V) (s : Phase C V) (jobs : ℕ) → IsSecured kind s jobs → IsLate s ⊎ ((jobs < 64) ⊎ ((kind ≡ Get) × OwesNone s))
-  stance kind (UnlockBelow n p r) jobs x = inl tt
-  stance kind (Unlock n r) jobs x = inl tt
-  stance kind Ended jobs x = inl tt
-  stance kind (Obsolete n p r) jobs x = inr (inl x)
-  stance kind (Retire n p r) jobs x = inr (inl x)
-  stance Get _ jobs x = inr (inr (refl, tt))
-  stance Insert _ jobs x = inr (inl x)
-  stance Remove _ jobs x = inr (inl x)
-  stance ComputePresent _ jobs x = inr (inl x)
-  stance ComputeInsert _ jobs x = inr (inl x)
-  stance (Exchange old) _ jobs x = inr (inl x)
+  stance : (kind : Kind V) (s : Phase C V) → (IsLate s ⊎ IsOwing s) ⊎ ((most_left kind s ≡ 2) ⊎ ((kind ≡ Get) × OwesNone s))
+  stance kind (UnlockBelow n p r) = inl (inl tt)
+  stance kind (Unlock n r) = inl (inl tt)
+  stance kind Ended = inl (inl tt)
+  stance kind (Obsolete n next p r) = inl (inr tt)
+  stance kind (Retire n next p r) = inl (inr tt)
+  stance Get _ = inr (inr (refl, tt))
+  stance Insert _ = inr (inl refl)
+  stance Remove _ = inr (inl refl)
+  stance ComputePresent _ = inr (inl refl)
+  stance ComputeInsert _ = inr (inl refl)
+  stance (Exchange old) _ = inr (inl refl)
 
-  pub with_room : (kind : Kind V) (s : Phase C V) (jobs : ℕ) → jobs < 64 → IsSecured kind s jobs
-  with_room kind (UnlockBelow n p r) jobs x = tt
-  with_room kind (Unlock n r) jobs x = tt
-  with_room kind Ended jobs x = tt
-  with_room kind (Obsolete n p r) jobs x = x
-  with_room kind (Retire n p r) jobs x = x
-  with_room Get _ jobs x = tt
-  with_room Insert _ jobs x = x
-  with_room Remove _ jobs x = x
-  with_room ComputePresent _ jobs x = x
-  with_room ComputeInsert _ jobs x = x
-  with_room (Exchange old) _ jobs x = x
+  -- two at most
+  two_left : (kind : Kind V) (s : Phase C V) → most_left kind s ≤ 2
+  two_left kind (UnlockBelow n p r) = omega arith
+  two_left kind (Unlock n r) = omega arith
+  two_left kind Ended = omega arith
+  two_left kind (Obsolete n None p r) = omega arith
+  two_left kind (Obsolete n (Some m) p r) = omega arith
+  two_left kind (Retire n None p r) = omega arith
+  two_left kind (Retire n (Some m) p r) = omega arith
+  two_left Get _ = omega arith
+  two_left Insert _ = omega arith
+  two_left Remove _ = omega arith
+  two_left ComputePresent _ = omega arith
+  two_left ComputeInsert _ = omega arith
+  two_left (Exchange old) _ = omega arith
 
-  reading : (s : Phase C V) (jobs : ℕ) → OwesNone s → IsSecured Get s jobs
-  reading (UnlockBelow n p r) jobs x = tt
-  reading (Unlock n r) jobs x = tt
-  reading Ended jobs x = tt
-  reading (Obsolete n p r) jobs x = absurd x
-  reading (Retire n p r) jobs x = absurd x
-  reading _ jobs x = tt
+  pub with_room : (kind : Kind V) (s : Phase C V) (jobs : ℕ) → jobs + 2 ≤ 64 → IsSecured kind s jobs
+  with_room kind s jobs x = let n : most_left kind s ≤ 2 = two_left kind s in let y : jobs + most_left kind s ≤ 64 = omega (arith, x, n) in y
 
-  module _ (number : C → ℕ) (same : V → V → Bool) (always : Bool) (most : ℕ) (why : NodeType → Refusal → Type 0) (root : C) (k : ℕ) (key : List ℕ) (kind : Kind V) (fail : Bool) (answer : Option (Option V)) (new new' : Option V) (i : ℕ) (a : ℕ → Note) (h h' : ℕ → Node V) (t : Turn C V) (jobs : ℕ) where
-    late_step : (s : Phase C V) → IsLate s → PhaseStepped number same always most why root key kind fail answer new s h new' t h' → IsSecured kind t.phase jobs
-    late_step (UnlockBelow n p r) l g = let P : Turn C V → Type 0 = λ u. IsSecured kind u.phase jobs in subst P (sym g.2) tt
-    late_step (Unlock n r) l g = let P : Turn C V → Type 0 = λ u. IsSecured kind u.phase jobs in subst P (sym g.2) tt
-    late_step Ended l g = let P : Turn C V → Type 0 = λ u. IsSecured kind u.phase jobs in subst P (sym g.2) tt
+  reading : (s : Phase C V) → OwesNone s → most_left Get s ≡ 0
+  reading (UnlockBelow n p r) x = refl
+  reading (Unlock n r) x = refl
+  reading Ended x = refl
+  reading (Obsolete n next p r) x = absurd x
+  reading (Retire n next p r) x = absurd x
+  reading _ x = refl
+
+  -- as many are left after the mark, and one fewer once the node is handed over
+  marked_left : (kind : Kind V) (n : C) (next : Option C) (p : C) (r : Reply V) → most_left kind (Retire n next p r) ≡ most_left kind (Obsolete n next p r)
+  marked_left kind n None p r = refl
+  marked_left kind n (Some m) p r = refl
+
+  handed_left : (kind : Kind V) (n : C) (next : Option C) (p : C) (r : Reply V) (t : Turn C V) → t ≡ after_retire next p r → suc (most_left kind t.phase) ≡ most_left kind (Retire n next p r)
+  handed_left kind n None p r t e = let P : Turn C V → Type 0 = λ u. suc (most_left kind u.phase) ≡ 1 in subst P (sym e) refl
+  handed_left kind n (Some m) p r t e = let P : Turn C V → Type 0 = λ u. suc (most_left kind u.phase) ≡ 2 in subst P (sym e) refl
+
+  -- so with the node in the bag the places that are left are enough
+  pub handed_secured : (kind : Kind V) (n : C) (next : Option C) (p : C) (r : Reply V) (t : Turn C V) (jobs : ℕ) → t ≡ after_retire next p r → IsSecured kind (Retire n next p r) jobs → IsSecured kind t.phase (suc jobs)
+  handed_secured kind n next p r t jobs e x =
+      let y : jobs + most_left kind (Retire n next p r) ≤ 64 = x in
+      let z : suc (most_left kind t.phase) ≡ most_left kind (Retire n next p r) = handed_left kind n next p r t e in
+      let w : suc jobs + most_left kind t.phase ≤ 64 = omega (arith, y, z) in
+      w
+
+  -- and there was one for it
+  pub retiring_room : (kind : Kind V) (n : C) (next : Option C) (p : C) (r : Reply V) (jobs : ℕ) → IsSecured kind (Retire n next p r) jobs → suc jobs ≤ 64
+  retiring_room kind n None p r jobs x = let y : jobs + 1 ≤ 64 = x in omega (arith, y)
+  retiring_room kind n (Some m) p r jobs x = let y : jobs + 2 ≤ 64 = x in omega (arith, y)
+
+  module _ (number : C → ℕ) (same : V → V → Bool) (always : Bool) (most : ℕ) (why : NodeType → Refusal → Type 0) (root : C) (k : ℕ) (key : List ℕ) (kind : Kind V) (fail : Bool) (answer : Option (Option V)) (new new' : Option V) (i : ℕ) (a : ℕ → Note) (h h' : ℕ → Node V) (t : Turn C V) where
+    none_by : (s : Phase C V) → most_left kind s ≡ 0 → (u : Turn C V) → t ≡ u → most_left kind u.phase ≡ 0 → most_left kind t.phase ≤ most_left kind s
+    none_by s z u e y = let n : most_left kind t.phase ≡ 0 = ap (λ w. most_left kind w.phase) e ∙ y in omega (arith, n)
+
+    late_step : (s : Phase C V) → IsLate s → PhaseStepped number same always most why root key kind fail answer new s h new' t h' → most_left kind t.phase ≤ most_left kind s
+    late_step (UnlockBelow n p r) l g = none_by (UnlockBelow n p r) refl _ g.2 refl
+    late_step (Unlock n r) l g = none_by (Unlock n r) refl _ g.2 refl
+    late_step Ended l g = none_by Ended refl _ g.2 refl
     late_step _ l g = absurd l
+
+    owing_step : (s : Phase C V) → IsOwing s → PhaseStepped number same always most why root key kind fail answer new s h new' t h' → most_left kind t.phase ≤ most_left kind s
+    owing_step (Obsolete n next p r) l g =
+        let e : most_left kind t.phase ≡ most_left kind (Obsolete n next p r) = ap (λ w. most_left kind w.phase) g.2 ∙ marked_left kind n next p r in
+        omega (arith, e)
+    owing_step (Retire n next p r) l g =
+        let e : suc (most_left kind t.phase) ≡ most_left kind (Retire n next p r) = handed_left kind n next p r t g.2 in
+        omega (arith, e)
+    owing_step _ l g = absurd l
 
     -- a reading call that owes none isn't about to
     reads_on : (s : Phase C V) → OwesNone s → Known number same always i a h k key Get new s → Unlinks s → ⊥
     reads_on (ChangeTwo two r) o known u =
-        let e : known.0 ≡ new = left_found same k new known.0 r known.4 in
+        let e : known.0 ≡ new = left_found same k new known.0 r known.5 in
         let P : Option V → Type 0 = λ x. FitsTwo two.change known.0 x in
-        fits_both two.change known.0 (subst P (sym e) known.3)
-    reads_on (Obsolete n p r) o known u = o
+        fits_both two.change known.0 (subst P (sym e) known.4)
+    reads_on (Obsolete n next p r) o known u = o
+    reads_on (Retire n next p r) o known u = o
     reads_on _ o known u = u
 
-    pub secured_step : (s : Phase C V) → IsSecured kind s jobs → Known number same always i a h k key kind new s → PhaseStepped number same always most why root key kind fail answer new s h new' t h' → IsSecured kind t.phase jobs
-    secured_step s x known g = elim (stance kind s jobs x) [
-      | inl late ↦ late_step s late g
-      | inr (inl room) ↦ with_room kind t.phase jobs room
+    -- no step leaves a call with more to hand over
+    falls : (s : Phase C V) → Known number same always i a h k key kind new s → PhaseStepped number same always most why root key kind fail answer new s h new' t h' → most_left kind t.phase ≤ most_left kind s
+    falls s known g = elim (stance kind s) [
+      | inl (inl late) ↦ late_step s late g
+      | inl (inr owing) ↦ owing_step s owing g
+      | inr (inl two) ↦ (let n : most_left kind t.phase ≤ 2 = two_left kind t.phase in omega (arith, n, two))
       | inr (inr r) ↦ (
           let P : Kind V → Type 0 = λ y. Known number same always i a h k key y new s in
-          let Q : Kind V → Type 0 = λ y. IsSecured y t.phase jobs in
-          subst Q (sym r.0) (reading t.phase jobs (step_light number same always most why root key kind fail answer new new' h h' t s (reads_on s r.1 (subst P r.0 known)) g)))
+          let Q : Kind V → Type 0 = λ y. most_left y t.phase ≡ 0 in
+          let z : most_left kind t.phase ≡ 0 = subst Q (sym r.0) (reading t.phase (step_light number same always most why root key kind fail answer new new' h h' t s (reads_on s r.1 (subst P r.0 known)) g)) in
+          omega (arith, z))
     ]
+
+    pub secured_step : (s : Phase C V) (jobs : ℕ) → IsSecured kind s jobs → Known number same always i a h k key kind new s → PhaseStepped number same always most why root key kind fail answer new s h new' t h' → IsSecured kind t.phase jobs
+    secured_step s jobs x known g =
+        let y : jobs + most_left kind s ≤ 64 = x in
+        let f : most_left kind t.phase ≤ most_left kind s = falls s known g in
+        let z : jobs + most_left kind t.phase ≤ 64 = omega (arith, y, f) in
+        z

@@ -8,9 +8,11 @@ use Rattle.std.proofs.lemmas.Bool.{cases_eq, ne_eqb}
 use Rattle.congee.specs.declared.forms.child.Child.{Child}
 use Rattle.congee.specs.declared.forms.child.Child.TheVariants.{Blank, Node as Sub, Value}
 use Rattle.congee.specs.declared.forms.base_node.Node.{Node as Form}
+use Rattle.congee.specs.declared.forms.base_node.NodeType.{NodeType}
+use Rattle.congee.specs.declared.forms.base_node.NodeType.TheVariants.{N4, N16, N48, N256}
 use Rattle.congee.specs.declared.protocol.store.Seen.{Seen}
-use Rattle.congee.specs.protocol.Events.{SeenTruly}
-use Rattle.congee.specs.forms.Forms.{children_of, prefix_of}
+use Rattle.congee.specs.protocol.Events.{SeenTruly, places}
+use Rattle.congee.specs.forms.Forms.{capacity_of, children_of, prefix_of}
 use Rattle.congee.specs.Heap.{Nothing}
 use Rattle.congee.specs.forms.Places.{AllKeys, Rises}
 use Rattle.congee.proofs.lemmas.forms.BetweenLemmas.{get_find, all_found}
@@ -20,6 +22,13 @@ use Rattle.joint.specs.declared.slot.Word.{Word}
 use Rattle.joint.specs.Solid.{IsSolid, IsLook}
 use Rattle.joint.specs.View.{id_number, hung_at, child_at, shape}
 use Rattle.joint.proofs.lemmas.SlotViews.{rises_entries}
+
+-- the places of a form
+pub places_of : (form : NodeType) → places form ≡ capacity_of form
+places_of N4 = refl
+places_of N16 = refl
+places_of N48 = refl
+places_of N256 = refl
 
 module _ {X : Type 0} where
   -- rising keys from one bound to another are no more than the numbers there

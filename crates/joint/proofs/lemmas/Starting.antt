@@ -1,4 +1,4 @@
--- A call on the tree begins in the place of a worker without a call in flight, who is pinned and has secured its place.
+-- A call on the tree begins in the place of a worker without a call in flight, who is pinned and has secured its places.
 use Rattle.std.proofs.Common.{◌≡◌, ◌<◌, ℕ, Bool, false, List, [], refl, sym, ◌∙◌, ap, subst, inl, inr}
 use Rattle.std.proofs.Math.ListN.{set}
 use Rattle.std.specs.Prelude.{Some, length, slice_get}
@@ -28,7 +28,7 @@ use Rattle.joint.specs.View.{view, id_number}
 use Rattle.joint.proofs.lemmas.Begun as begin
 use Rattle.joint.proofs.lemmas.Collecting.{either, there}
 
--- a call that has not begun has no names, has made nothing, is under way, and needs a place only if it writes
+-- a call that has not begun has no names, has made nothing, is under way, and needs places only if it writes
 pub record Begins {V : Type 0} (kind : Kind V) (phase : Phase Id V) : Type 0 where
   pub names_none : names id_number phase ≡ []
   pub no_made : (k : ℕ) → MadeBy id_number phase k → ⊥
@@ -37,8 +37,8 @@ pub record Begins {V : Type 0} (kind : Kind V) (phase : Phase Id V) : Type 0 whe
   pub secured : (jobs : ℕ) → IsSecured {C = Id} kind New jobs → IsSecured kind phase jobs
 
 first : {V : Type 0} (op : Op V) → Begins (parts op).1 (first_phase root op)
-first (Range start end size) = record { names_none = refl; no_made = λ k x. x; under_way = tt; not_done = refl; secured = λ jobs x. tt }
-first (RangeInclusive start last size) = record { names_none = refl; no_made = λ k x. x; under_way = tt; not_done = refl; secured = λ jobs x. tt }
+first (Range start end size) = record { names_none = refl; no_made = λ k x. x; under_way = tt; not_done = refl; secured = λ jobs x. x }
+first (RangeInclusive start last size) = record { names_none = refl; no_made = λ k x. x; under_way = tt; not_done = refl; secured = λ jobs x. x }
 first (Get k) = record { names_none = refl; no_made = λ k x. x; under_way = tt; not_done = refl; secured = λ jobs x. x }
 first (Insert k v) = record { names_none = refl; no_made = λ k x. x; under_way = tt; not_done = refl; secured = λ jobs x. x }
 first (Remove k) = record { names_none = refl; no_made = λ k x. x; under_way = tt; not_done = refl; secured = λ jobs x. x }

@@ -63,12 +63,13 @@ use Rattle.joint.proofs.lemmas.Leaves as leaves
 use Rattle.joint.proofs.lemmas.Paths.{in_reach}
 use Rattle.joint.proofs.lemmas.Reserving.{next_here}
 use Rattle.joint.proofs.lemmas.Resting.{cleared_is}
+use Rattle.joint.proofs.lemmas.Secured.{retiring_room}
 use Rattle.joint.proofs.lemmas.SlotViews.{slot_view}
 use Rattle.joint.proofs.lemmas.Stretches.{IsBlocked, sees_blocks, stored, joined, deferring, turned, live_on, turns}
 use Rattle.joint.proofs.lemmas.Views.{ties}
 
 -- a securing doesn't publish
-secure_calm : (s : Stand) → comes_by (stage_of s) (work.Secure 1) ≡ true → publishes s ≡ false
+secure_calm : (s : Stand) → comes_by (stage_of s) (work.Secure 2) ≡ true → publishes s ≡ false
 secure_calm (stage.Publish seen) e = absurd (false≢true e)
 secure_calm (stage.RepinPublish seen) e = absurd (false≢true e)
 secure_calm _ e = refl
@@ -227,7 +228,7 @@ module _ {V : Type 0} (same : V → V → Bool) (always : Bool) (laws : CallLaws
             (h, subst P (sym (k.step.walked.clock ∙ ap (λ o. after_walk o mid w) e)) (stored p it h s.forest.collector mid refl b))
 
         by : (q : Phase Id V) → old.0.phase ≡ q → At s'.forest.collector
-        by (Retire c q u) e =
+        by (Retire c next q u) e =
             let g : Guards (place s.forest.collector w) old.0 = holds.0.safe.sound.sound.guarded w old.0 old.1 in
             let P : Phase Id V → Type 0 = λ z. IsUnderWay z in
             let Q : Phase Id V → Type 0 = λ z. IsSecured old.0.kind z (length (place s.forest.collector w).bag) in
@@ -236,7 +237,7 @@ module _ {V : Type 0} (same : V → V → Bool) (always : Bool) (laws : CallLaws
             let is : retiring_at (slice_get s.machines w) ≡ Some c = ap retiring_at old.1 ∙ ap retiring e in (
               Deferred s.forest.collector.next (Some c.name) ∷ h,
               subst R (sym (k.step.walked.clock ∙ ap (λ o. after_walk o mid w) is))
-                  (deferring p it h mid w c.name (held_place s.forest.collector.table w (g.registered under)) (g.idle under) (subst Q e g.secured) (stored p it h s.forest.collector mid refl b)),
+                  (deferring p it h mid w c.name (held_place s.forest.collector.table w (g.registered under)) (g.idle under) (retiring_room old.0.kind c next q u (length (place s.forest.collector w).bag) (subst Q e g.secured)) (stored p it h s.forest.collector mid refl b)),
             )
         by _ e = quiet (ap retiring_at old.1 ∙ ap retiring e)
 
@@ -274,7 +275,7 @@ module _ {V : Type 0} (same : V → V → Bool) (always : Bool) (laws : CallLaws
   -- a writing call begins to make its place free
   begins_securing : (s b : Whole V) (w : ℕ) → BeginsSecuring same always s.forest s.machines s.calls w b.forest b.machines b.calls → Lasts s → Lasts b
   begins_securing s b w x l = record {
-    on = collected s.forest b.forest s.machines w (turning.Begin (work.Secure 1)) x.turn (λ z. refl) x.collected l.on;
+    on = collected s.forest b.forest s.machines w (turning.Begin (work.Secure 2)) x.turn (λ z. refl) x.collected l.on;
     unheld = λ j y. l.unheld j (y.0, sym (ap (λ ms. slice_get ms j) x.machine) ∙ y.1, y.2);
   }
 

@@ -1,5 +1,5 @@
 -- A step of a call on the tree leaves all safe, but for the deferral of a node that it marks.
-use Rattle.std.proofs.Common.{◌≡◌, ◌<◌, ℕ, Bool, true, false, List, refl, sym, ◌∙◌, ap, subst, inl, inr, arith}
+use Rattle.std.proofs.Common.{◌≡◌, ◌<◌, ℕ, suc, Bool, true, false, List, refl, sym, ◌∙◌, ap, subst, inl, inr, arith}
 use Rattle.std.proofs.Math.ListN.{set}
 use Rattle.std.specs.Prelude.{Option, None, Some, is_some, length, slice_get}
 use Rattle.std.proofs.lemmas.List.{length-set}
@@ -14,26 +14,26 @@ use Rattle.congee.specs.declared.protocol.machine.Machine.{Machine}
 use Rattle.congee.specs.declared.protocol.machine.Move.{Move}
 use Rattle.congee.specs.declared.protocol.phase.Kind.{Kind}
 use Rattle.congee.specs.declared.protocol.phase.Phase.{Phase}
-use Rattle.congee.specs.declared.protocol.phase.Phase.TheVariants.{Retire, Unlock}
+use Rattle.congee.specs.declared.protocol.phase.Phase.TheVariants.{Retire}
 use Rattle.congee.specs.protocol.Bounds.{Within}
 use Rattle.congee.specs.protocol.Events.{RetireGives}
 use Rattle.congee.specs.Heap.{Stands}
 use Rattle.congee.specs.Keys.{key_bytes}
 use Rattle.congee.specs.protocol.Holdings.{MadeBy}
 use Rattle.congee.specs.Ledger.{is_published}
-use Rattle.congee.specs.protocol.Names.{names}
+use Rattle.congee.specs.protocol.Names.{name_made, names}
 use Rattle.congee.specs.protocol.Play.{EachKnown, Protocol, IsMoved, StepPlays, Settled}
 use Rattle.congee.specs.protocol.Protocol.{Known, TakenOut}
-use Rattle.congee.specs.protocol.Steps.{PhaseStepped}
+use Rattle.congee.specs.protocol.Steps.{PhaseStepped, after_retire}
 use Rattle.joint.specs.declared.id.Id.{Id}
 use Rattle.joint.specs.declared.slot.Slot.{Slot}
 use Rattle.joint.specs.Forest.{Forest, nodes, frame, Refuses}
 use Rattle.joint.specs.Laws.{CellLaws, CallLaws, LeavesLaw}
-use Rattle.joint.specs.Machines.{slot_names, IsSound, IsSafe, Runs, retiring, retiring_at, LetsGo, Owes, IsSafeOrOwes}
+use Rattle.joint.specs.Machines.{slot_names, IsSound, IsSafe, Runs, retiring, retiring_at, Owes, IsSafeOrOwes}
 use Rattle.joint.specs.Sound.{IsSecured, Guards}
 use Rattle.joint.specs.View.{view, heap, id_number}
 use Rattle.joint.proofs.lemmas.Retiring.{retiring_some}
-use Rattle.joint.proofs.lemmas.Secured.{secured_step}
+use Rattle.joint.proofs.lemmas.Secured.{handed_secured, retiring_room, secured_step}
 use Rattle.joint.proofs.lemmas.SlotViews.{slot_view}
 use Rattle.joint.proofs.lemmas.Views.{ties}
 use Rattle.joint.proofs.lemmas.Went.{Went, went}
@@ -68,7 +68,7 @@ module _ {V : Type 0} (same : V → V → Bool) (always : Bool) (cells : CellLaw
   secured =
       let P : Kind V → Type 0 = λ k. IsSecured k moved.now.phase (length (place s.collector step.who).bag) in
       subst P (sym moved.step.kind) (secured_step id_number same always s.version_max (Refuses s) m.root m.key (key_bytes m.key) m.kind step.noise.fail step.noise.answer m.given moved.now.given step.who safe.sound.sound.settled.0 (nodes s) (nodes s')
-      (record { phase = moved.now.phase; report = d }) (length (place s.collector step.who).bag) m.phase guards.secured known.known moved.step.step)
+      (record { phase = moved.now.phase; report = d }) m.phase (length (place s.collector step.who).bag) guards.secured known.known moved.step.step)
 
   all : Went same always safe.sound.past s'.collector ms'
   all =
@@ -84,7 +84,7 @@ module _ {V : Type 0} (same : V → V → Bool) (always : Bool) (cells : CellLaw
   now_safe = record { sound = all.sound; within = within }
 
   -- what a call owes that marked its node
-  module _ (n p : Id) (r : Reply V) (at : m.phase ≡ Retire n p r) where
+  module _ (n : Id) (next : Option Id) (p : Id) (r : Reply V) (at : m.phase ≡ Retire n next p r) where
     taken : TakenOut step.who safe.sound.sound.settled.0 (nodes s) (id_number p) (id_number n)
     taken =
         let P : Phase Id V → Type 0 = λ x. Known id_number same always step.who safe.sound.sound.settled.0 (nodes s) m.key (key_bytes m.key) m.kind m.given x in
@@ -95,10 +95,10 @@ module _ {V : Type 0} (same : V → V → Bool) (always : Bool) (cells : CellLaw
         let P : Phase Id V → Type 0 = λ x. PhaseStepped id_number same always s.version_max (Refuses s) m.root (key_bytes m.key) m.kind step.noise.fail step.noise.answer m.given x (nodes s) moved.now.given (record { phase = moved.now.phase; report = d }) (nodes s') in
         (subst P at moved.step.step).1
 
-    unlocks : moved.now.phase ≡ Unlock p r
-    unlocks =
+    goes_on : record { phase = moved.now.phase; report = d } ≡ after_retire next p r
+    goes_on =
         let P : Phase Id V → Type 0 = λ x. PhaseStepped id_number same always s.version_max (Refuses s) m.root (key_bytes m.key) m.kind step.noise.fail step.noise.answer m.given x (nodes s) moved.now.given (record { phase = moved.now.phase; report = d }) (nodes s') in
-        ap (λ x. x.phase) (subst P at moved.step.step).2
+        (subst P at moved.step.step).2
 
     stood : Stands (nodes s (id_number n))
     stood = (safe.sound.sound.settled.1.words.each (id_number n)).stands (ap is_published taken.gone)
@@ -110,7 +110,7 @@ module _ {V : Type 0} (same : V → V → Bool) (always : Bool) (cells : CellLaw
     was =
         let P : Phase Id V → Type 0 = λ x. Contains (names id_number x) (id_number n) in
         let Q : Phase Id V → Type 0 = λ x. MadeBy id_number x (id_number n) → ⊥ in
-        let has : Contains (names id_number m.phase) (id_number n) = subst P (sym at) (0, omega arith, refl) in
+        let has : Contains (names id_number m.phase) (id_number n) = subst P (sym at) (0, (let l : 0 < suc (suc (length (name_made id_number next))) = omega arith in l), refl) in
         elim (safe.sound.sound.seen step.who m n.name run.1 has) [
           | inl made ↦ absurd (subst Q (sym at) (λ z. z) made)
           | inr v ↦ cells.visible_was safe.sound.past step.who n.name v
@@ -123,20 +123,25 @@ module _ {V : Type 0} (same : V → V → Bool) (always : Bool) (cells : CellLaw
         let u : (nodes s (id_number n)).retired ≡ false = taken.unretired in
         cc
 
+    places : IsSecured m.kind (Retire n next p r) (length (place s.collector step.who).bag)
+    places = let P : Phase Id V → Type 0 = λ x. IsSecured m.kind x (length (place s.collector step.who).bag) in subst P at guards.secured
+
     room : length (place s.collector step.who).bag < 64
-    room = let P : Phase Id V → Type 0 = λ x. IsSecured m.kind x (length (place s.collector step.who).bag) in subst P at guards.secured
+    room = retiring_room m.kind n next p r (length (place s.collector step.who).bag) places
 
     same_place : place s'.collector step.who ≡ place s.collector step.who
     same_place = ap (λ x. place x step.who) clock
 
-    lets_go : (x : Machine Id V) → slice_get ms' step.who ≡ Some x → LetsGo x.phase
-    lets_go x got =
+    secured_then : (x : Machine Id V) → slice_get ms' step.who ≡ Some x → IsSecured x.kind x.phase (suc (length (place s'.collector step.who).bag))
+    secured_then x got =
         let P : List (Machine Id V) → Type 0 = λ y. slice_get y step.who ≡ Some x in
         elim (calls.either ms step.who step.who moved.now x (subst P moved.calls got)) [
           | inl e ↦ (
-              let Q : Machine Id V → Type 0 = λ y. LetsGo y.phase in
-              let R : Phase Id V → Type 0 = λ y. LetsGo y in
-              subst Q e.1 (subst R (sym unlocks) tt))
+              let jobs = length (place s.collector step.who).bag in
+              let Q : Machine Id V → Type 0 = λ y. IsSecured y.kind y.phase (suc (length (place s'.collector step.who).bag)) in
+              let R : ℕ → Type 0 = λ j. IsSecured moved.now.kind moved.now.phase (suc j) in
+              let K : Kind V → Type 0 = λ k. IsSecured k moved.now.phase (suc jobs) in
+              subst Q e.1 (subst R (ap (λ x. length x.bag) (sym same_place)) (subst K (sym moved.step.kind) (handed_secured m.kind n next p r (record { phase = moved.now.phase; report = d }) jobs goes_on places))))
           | inr apart ↦ absurd (apart.0 refl)
         ]
 
@@ -151,14 +156,14 @@ module _ {V : Type 0} (same : V → V → Bool) (always : Bool) (cells : CellLaw
       pinned = ap (λ x. is_some x.word) same_place ∙ guards.pinned run.2;
       idle = ap (λ x. x.phase) same_place ∙ guards.idle run.2;
       room = (let P : ℕ → Type 0 = λ k. k < 64 in subst P (ap (λ x. length x.bag) (sym same_place)) room);
-      leaves = lets_go;
+      secured = secured_then;
     }
 
   by_phase : (x : Option Id) → retiring m.phase ≡ x → IsSafeOrOwes same always x s' ms' step.who
   by_phase None e = now_safe
   by_phase (Some n) e =
-      let k : (p : Id) × (r : Reply V) × (m.phase ≡ Retire n p r) = retiring_some m.phase n e in
-      owes n k.0 k.1 k.2
+      let k : (next : Option Id) × (p : Id) × (r : Reply V) × (m.phase ≡ Retire n next p r) = retiring_some m.phase n e in
+      owes n k.0 k.1 k.2 k.3
 
   pub stepped_safe : IsSafeOrOwes same always (retiring_at (slice_get ms step.who)) s' ms' step.who
   stepped_safe =

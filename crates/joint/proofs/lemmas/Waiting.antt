@@ -1,18 +1,22 @@
 -- The nodes that wait are those that were handed over and those that a call has taken out, each listed once.
 use Rattle.std.proofs.Common.{◌≡◌, ◌≢◌, ℕ, ◌+◌, ◌&&◌, not, Bool, true, false, List, length, arith, refl, sym, ◌∙◌, ap, inl, inr}
-use Rattle.std.specs.Prelude.{Option, None, Some, is_some, option_map, slice_get}
-use Rattle.std.specs.List.{Contains, filter_map, sum_by}
+use Rattle.std.specs.Prelude.{Option, None, Some, IfSome, is_some, slice_get, ◌<◌, zero, suc, [], ◌∷◌, ◌⊎◌, map}
+use Rattle.std.specs.List.{All, AllPairs, Contains, flat_map, sum_by}
 use Rattle.std.proofs.lemmas.Bool.{false≢true}
+use Rattle.std.proofs.lemmas.List.Kept.{AllPairs-cons}
 use Rattle.std.proofs.lemmas.List.Elements.{Contains-append_cases, Contains-append_left, Contains-append_right}
+use Rattle.judge.specs.declared.journal.Reply.{Reply}
 use Rattle.congee.specs.declared.protocol.machine.Machine.{Machine}
+use Rattle.congee.specs.declared.protocol.phase.Kind.{Kind}
 use Rattle.congee.specs.declared.protocol.phase.Phase.{Phase}
 use Rattle.congee.specs.declared.protocol.phase.Phase.TheVariants.{Obsolete, Retire}
-use Rattle.congee.specs.Heap.{Stands}
+use Rattle.congee.specs.Heap.{Node, Stands}
 use Rattle.congee.specs.Keys.{key_bytes}
 use Rattle.congee.specs.Ledger.{Note, Status, Unmade, Held, Linked, Gone, Back, Destroyed, is_published, is_spent}
 use Rattle.congee.specs.protocol.Handing.{is_waiting}
-use Rattle.congee.specs.protocol.Holdings.{Holdings, MadeBy, TakenBy}
+use Rattle.congee.specs.protocol.Holdings.{Holdings, IsMade, MadeBy, TakenBy}
 use Rattle.congee.specs.protocol.Play.{EachKnown, ProtocolAt, Settled}
+use Rattle.congee.specs.protocol.Protocol.{AlsoOut, Known}
 use Rattle.joint.specs.declared.id.Id.{Id}
 use Rattle.joint.specs.declared.slot.Slot.{Slot}
 use Rattle.crossbeam_epoch.specs.declared.names.Name.{Name}
@@ -24,6 +28,7 @@ use Rattle.joint.specs.Intact.{IsIntact}
 use Rattle.joint.specs.Names.{number}
 use Rattle.joint.specs.Tallies.{tally_at}
 use Rattle.joint.specs.Forest.{Forest, nodes, sizes, IsKept}
+use Rattle.joint.specs.Journaling.{in_list}
 use Rattle.joint.specs.Laws.{CallLaws}
 use Rattle.joint.specs.Listing.{IsListOf, bytes_of, is_standing, standing_nodes, handed_nodes, taken, taken_by, waiting_nodes}
 use Rattle.joint.specs.View.{view, id_number}
@@ -107,29 +112,66 @@ joined true true true a b c = absurd (cc c)
 joined true false d a b c = absurd (cc b)
 joined false m d a b c = absurd (cc a)
 
-same_number : (x y : ℕ) → Some x ≡ Some y → y ≡ x
-same_number x y e = cc
+-- a node, and another one where there is one, as a list
+listed_out : (m : Id) (next : Option Id) (n : ℕ) → Contains (map id_number (m ∷ in_list next)) n → (n ≡ id_number m) ⊎ IsMade id_number next n
+listed_out m None n (zero, l, e) = inl (sym e)
+listed_out m None n (suc k, l, e) = absurd (let z : suc k < 1 = l in omega (arith, z))
+listed_out m (Some c) n (zero, l, e) = inl (sym e)
+listed_out m (Some c) n (suc zero, l, e) = inr (sym e)
+listed_out m (Some c) n (suc (suc k), l, e) = absurd (let z : suc (suc k) < 2 = l in omega (arith, z))
+
+out_listed : (m : Id) (next : Option Id) (n : ℕ) → (n ≡ id_number m) ⊎ IsMade id_number next n → Contains (map id_number (m ∷ in_list next)) n
+out_listed m next n (inl e) = (0, (let l : 0 < suc (length (map id_number (in_list next))) = omega arith in l), sym e)
+out_listed m None n (inr e) = absurd e
+out_listed m (Some c) n (inr e) = (1, (let l : 1 < 2 = omega arith in l), sym e)
 
 -- what a call has taken out is what its phase tells
-pub taken_is : {V : Type 0} (x : Phase Id V) (n : ℕ) → option_map id_number (taken x) ≡ Some n → TakenBy id_number x n
-taken_is (Obsolete m p r) n e = same_number (id_number m) n e
-taken_is (Retire m p r) n e = same_number (id_number m) n e
-taken_is _ n e = absurd (cc e)
+pub taken_is : {V : Type 0} (x : Phase Id V) (n : ℕ) → Contains (map id_number (taken x)) n → TakenBy id_number x n
+taken_is (Obsolete m next p r) n c = listed_out m next n c
+taken_is (Retire m next p r) n c = listed_out m next n c
+taken_is _ n c = absurd (let z : c.0 < 0 = c.1 in omega (arith, z))
 
-is_taken : {V : Type 0} (x : Phase Id V) (n : ℕ) → TakenBy id_number x n → option_map id_number (taken x) ≡ Some n
-is_taken (Obsolete m p r) n e = ap Some (sym e)
-is_taken (Retire m p r) n e = ap Some (sym e)
-is_taken _ n e = absurd e
+pub is_taken : {V : Type 0} (x : Phase Id V) (n : ℕ) → TakenBy id_number x n → Contains (map id_number (taken x)) n
+is_taken (Obsolete m next p r) n t = out_listed m next n t
+is_taken (Retire m next p r) n t = out_listed m next n t
+is_taken _ n t = absurd t
+
+-- each once
+lone : (x : ℕ) → AllPairs (λ m n. m ≢ n) (x ∷ [])
+lone x i j d l m = absurd (let z : j < 1 = m in omega (arith, l, z))
+
+beside : (x y : ℕ) → (y ≢ x) → All (λ n. x ≢ n) (y ∷ [])
+beside x y ne zero d l e = ne (sym e)
+beside x y ne (suc k) d l e = absurd (let z : suc k < 1 = l in omega (arith, z))
+
+out_once : {V : Type 0} (i : ℕ) (a : ℕ → Note) (h : ℕ → Node V) (m : Id) (next : Option Id) → AlsoOut id_number i a h (id_number m) next → AllPairs (λ m n. m ≢ n) (map id_number (m ∷ in_list next))
+out_once i a h m None x = lone (id_number m)
+out_once i a h m (Some c) x = AllPairs-cons (λ m n. m ≢ n) (id_number m) (id_number c ∷ []) (beside (id_number m) (id_number c) x.3) (lone (id_number c))
+
+phase_once : {V : Type 0} (same : V → V → Bool) (always : Bool) (i : ℕ) (a : ℕ → Note) (h : ℕ → Node V) (k : ℕ) (kind : Kind V) (given : Option V) (x : Phase Id V) → Known id_number same always i a h k (key_bytes k) kind given x → AllPairs (λ m n. m ≢ n) (map id_number (taken x))
+phase_once same always i a h k kind given (Obsolete m next p r) x = out_once i a h m next x.1
+phase_once same always i a h k kind given (Retire m next p r) x = out_once i a h m next x.1
+phase_once same always i a h k kind given _ x = λ i j d l m. absurd (let z : j < 0 = m in omega (arith, z))
 
 module _ {V : Type 0} (same : V → V → Bool) (always : Bool) (s : Forest V) (ms : List (Machine Id V)) (calls : List (Call V)) (intact : IsIntact same always s ms calls) where
   -- what a call has taken out stands
-  pub taken_stands : (i : ℕ) (m : Machine Id V) (n : Id) → slice_get ms i ≡ Some m → taken m.phase ≡ Some n → Stands (nodes s (id_number n))
-  taken_stands i m n at e =
+  pub taken_stands : (i : ℕ) (m : Machine Id V) (n : ℕ) → slice_get ms i ≡ Some m → TakenBy id_number m.phase n → Stands (nodes s n)
+  taken_stands i m n at t =
       let settled : Settled id_number same always (nodes s) ms = intact.safe.sound.sound.settled in
       let k : EachKnown id_number same always settled.0 (nodes s) i m = settled.1.each i m at in
-      let t : TakenBy id_number m.phase (id_number n) = taken_is m.phase (id_number n) (ap (option_map id_number) e) in
-      let x : IsTaken id_number same always i settled.0 (nodes s) (key_bytes m.key) (id_number n) = taken_out id_number same always i settled.0 (nodes s) (key_bytes m.key) (id_number n) m.key m.kind m.given m.phase k.known t in
-      (settled.1.words.each (id_number n)).stands (ap is_published x.gone)
+      let x : IsTaken id_number same always i settled.0 (nodes s) (key_bytes m.key) n = taken_out id_number same always i settled.0 (nodes s) (key_bytes m.key) n m.key m.kind m.given m.phase k.known t in
+      (settled.1.words.each n).stands (ap is_published x.gone)
+
+  -- and so does another one beside it
+  pub both_stand : (i : ℕ) (m : Machine Id V) (n : Id) (next : Option Id) → slice_get ms i ≡ Some m → ((k : ℕ) → (k ≡ id_number n) ⊎ IsMade id_number next k → TakenBy id_number m.phase k) → Stands (nodes s (id_number n)) × IfSome next (λ c. Stands (nodes s (id_number c)))
+  both_stand i m n None at t = (taken_stands i m (id_number n) at (t (id_number n) (inl refl)), tt)
+  both_stand i m n (Some c) at t = (taken_stands i m (id_number n) at (t (id_number n) (inl refl)), taken_stands i m (id_number c) at (t (id_number c) (inr refl)))
+
+-- a call in another phase has taken out none
+pub none_taken : {V : Type 0} (p : Phase Id V) → ((n : Id) (next : Option Id) (q : Id) (r : Reply V) → p ≡ Obsolete n next q r → ⊥) → ((n : Id) (next : Option Id) (q : Id) (r : Reply V) → p ≡ Retire n next q r → ⊥) → taken p ≡ []
+none_taken (Obsolete n next q r) f g = absurd (f n next q r refl)
+none_taken (Retire n next q r) f g = absurd (g n next q r refl)
+none_taken _ f g = refl
 
 module _ {V : Type 0} (same : V → V → Bool) (always : Bool) (laws : CallLaws {C = Id} {V = V} id_number same always) (s : Whole V) (holds : Holds same always s) where
   abbrev settled : Settled id_number same always (nodes s.forest) s.machines
@@ -173,31 +215,32 @@ module _ {V : Type 0} (same : V → V → Bool) (always : Bool) (laws : CallLaws
       let st : Stands (nodes s.forest n) = (protocol.words.each n).stands (ap is_published x.gone) in
       gone_waits same always laws s holds n st.made x.gone st
 
-  by_machine : (n : ℕ) → Contains (filter_map taken_by s.machines) n → (i : ℕ) × IsTakenBy s i n
+  by_machine : (n : ℕ) → Contains (flat_map taken_by s.machines) n → (i : ℕ) × IsTakenBy s i n
   by_machine n c =
       let w = given taken_by s.machines n c in
       (w.0, (w.1, w.2, taken_is w.1.phase n w.3))
 
   pub waiting_listed : IsListOf (IsWaiting s) (waiting_nodes s)
   waiting_listed = record {
-    once = pairs_append (λ m n. m ≢ n) (handed_nodes s.forest) (filter_map taken_by s.machines) (nodes_once is_waiting (λ v. v.word.retired) (none_waits V) some_waits s.forest)
+    once = pairs_append (λ m n. m ≢ n) (handed_nodes s.forest) (flat_map taken_by s.machines) (nodes_once is_waiting (λ v. v.word.retired) (none_waits V) some_waits s.forest)
         (once taken_by s.machines (λ i j m k n a b p q.
         let x = out_of n i (m, a, taken_is m.phase n p) in
         let y = out_of n j (k, b, taken_is k.phase n q) in
-        let e : Some i ≡ Some j = sym x.owner ∙ y.owner in cc))
+        let e : Some i ≡ Some j = sym x.owner ∙ y.owner in cc)
+        (λ i m a. phase_once same always i notes (nodes s.forest) m.key m.kind m.given m.phase (known i m a).known))
         (λ x y m n e.
         let r = parts_of (nodes s.forest x).retired (nodes s.forest x).made (nodes s.forest x).destroyed (unlisted is_waiting (λ v. v.word.retired) (none_waits V) some_waits s.forest x m) in
         let t : (i : ℕ) × IsTakenBy s i y = by_machine y n in
         let free : (nodes s.forest y).retired ≡ false = (out_of y t.0 t.1).unretired in
         let q : false ≡ true = sym free ∙ ap (λ k. (nodes s.forest k).retired) (sym e) ∙ r.0 in false≢true q);
     those = λ n. (
-      λ c. elim (Contains-append_cases (handed_nodes s.forest) (filter_map taken_by s.machines) n c) [
+      λ c. elim (Contains-append_cases (handed_nodes s.forest) (flat_map taken_by s.machines) n c) [
         | inl x ↦ handed_waits n (unlisted is_waiting (λ v. v.word.retired) (none_waits V) some_waits s.forest n x)
         | inr x ↦ (let t : (i : ℕ) × IsTakenBy s i n = by_machine n x in taken_waits n t.0 t.1)
       ],
       λ w. elim ((somewhere same always laws s holds n w.stands.made).handed w) [
-        | inl r ↦ Contains-append_left (handed_nodes s.forest) (filter_map taken_by s.machines) n (listed is_waiting (λ v. v.word.retired) (none_waits V) some_waits s.forest n (joined _ _ _ r w.stands.made w.stands.kept))
-        | inr t ↦ Contains-append_right (handed_nodes s.forest) (filter_map taken_by s.machines) n (gives taken_by s.machines t.0 t.1.0 n t.1.1 (is_taken t.1.0.phase n t.1.2))
+        | inl r ↦ Contains-append_left (handed_nodes s.forest) (flat_map taken_by s.machines) n (listed is_waiting (λ v. v.word.retired) (none_waits V) some_waits s.forest n (joined _ _ _ r w.stands.made w.stands.kept))
+        | inr t ↦ Contains-append_right (handed_nodes s.forest) (flat_map taken_by s.machines) n (gives taken_by s.machines t.0 t.1.0 n t.1.1 (is_taken t.1.0.phase n t.1.2))
       ],
     );
   }

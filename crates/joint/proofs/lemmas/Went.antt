@@ -12,11 +12,11 @@ use Rattle.congee.specs.declared.protocol.store.Refusal.{Refusal}
 use Rattle.congee.specs.declared.protocol.phase.Single.{Single}
 use Rattle.congee.specs.declared.protocol.phase.Single.TheVariants.{Set, Link}
 use Rattle.congee.specs.declared.protocol.phase.Double.{Double}
-use Rattle.congee.specs.declared.protocol.phase.Double.TheVariants.{Unlink, Grow, GrowLink, Split}
+use Rattle.congee.specs.declared.protocol.phase.Double.TheVariants.{Unlink, Grow, GrowLink, Split, Shrink, Collapse, ShrinkAbove}
 use Rattle.congee.specs.declared.protocol.phase.Plan.{Plan}
 use Rattle.congee.specs.declared.protocol.phase.Plan.TheVariants.{Here, Above}
 use Rattle.congee.specs.declared.protocol.phase.Phase.{Phase}
-use Rattle.congee.specs.declared.protocol.phase.Phase.TheVariants.{MakeGreater, MakeBeside, AskNew, CheckAbove, UpgradeOne, ChangeOne, UpgradeAbove, UpgradeBelow, ChangeTwo}
+use Rattle.congee.specs.declared.protocol.phase.Phase.TheVariants.{MakeGreater, MakeBeside, AskNew, CheckAbove, UpgradeOne, ChangeOne, UpgradeTop, UpgradeAbove, UpgradeBelow, ChangeTwo}
 use Rattle.congee.specs.declared.protocol.machine.Machine.{Machine}
 use Rattle.congee.specs.declared.protocol.machine.Move.{Move}
 use Rattle.congee.specs.protocol.Handing.{Untouched}
@@ -49,6 +49,9 @@ made_one (Link leaf) = leaf ∷ []
 
 abbrev made_two : Double Id → List Id
 made_two Unlink = []
+made_two (Shrink c) = c ∷ []
+made_two Collapse = []
+made_two (ShrinkAbove c) = c ∷ []
 made_two (Grow c) = c ∷ []
 made_two (GrowLink c leaf byte) = c ∷ leaf ∷ []
 made_two (Split top leaf common byte) = top ∷ leaf ∷ []
@@ -68,6 +71,7 @@ mades (AskNew plan) = made_plan plan
 mades (CheckAbove p one r) = made_one one.change
 mades (UpgradeOne one r) = made_one one.change
 mades (ChangeOne one r) = made_one one.change
+mades (UpgradeTop g two r) = made_two two.change
 mades (UpgradeAbove two r) = made_two two.change
 mades (UpgradeBelow two r) = made_two two.change
 mades (ChangeTwo two r) = made_two two.change
@@ -83,6 +87,9 @@ in_one (Link leaf) n x = inl x
 
 in_two : (change : Double Id) (n : ℕ) → MadeForTwo id_number change n → In (made_two change) n
 in_two Unlink n x = absurd x
+in_two (Shrink c) n x = inl x
+in_two Collapse n x = absurd x
+in_two (ShrinkAbove c) n x = inl x
 in_two (Grow c) n x = inl x
 in_two (GrowLink c leaf byte) n (inl x) = inl x
 in_two (GrowLink c leaf byte) n (inr x) = inr (inl x)
@@ -104,6 +111,7 @@ in_made (AskNew plan) n x = in_plan plan n x
 in_made (CheckAbove p one r) n x = in_one one.change n x
 in_made (UpgradeOne one r) n x = in_one one.change n x
 in_made (ChangeOne one r) n x = in_one one.change n x
+in_made (UpgradeTop g two r) n x = in_two two.change n x
 in_made (UpgradeAbove two r) n x = in_two two.change n x
 in_made (UpgradeBelow two r) n x = in_two two.change n x
 in_made (ChangeTwo two r) n x = in_two two.change n x
@@ -116,6 +124,11 @@ of_one (Link leaf) n (inr x) = absurd x
 
 of_two : (change : Double Id) (n : ℕ) → In (made_two change) n → MadeForTwo id_number change n
 of_two Unlink n x = x
+of_two (Shrink c) n (inl x) = x
+of_two (Shrink c) n (inr x) = absurd x
+of_two Collapse n x = x
+of_two (ShrinkAbove c) n (inl x) = x
+of_two (ShrinkAbove c) n (inr x) = absurd x
 of_two (Grow c) n (inl x) = x
 of_two (Grow c) n (inr x) = absurd x
 of_two (GrowLink c leaf byte) n (inl x) = inl x
@@ -142,6 +155,7 @@ of_made (AskNew plan) n x = of_plan plan n x
 of_made (CheckAbove p one r) n x = of_one one.change n x
 of_made (UpgradeOne one r) n x = of_one one.change n x
 of_made (ChangeOne one r) n x = of_one one.change n x
+of_made (UpgradeTop g two r) n x = of_two two.change n x
 of_made (UpgradeAbove two r) n x = of_two two.change n x
 of_made (UpgradeBelow two r) n x = of_two two.change n x
 of_made (ChangeTwo two r) n x = of_two two.change n x

@@ -279,6 +279,7 @@ pub(crate) fn stopped(outcome: Outcome<u64>) -> Report<u64>
         kind: Kind::Collection,
         decided: false,
         kept: false,
+        skipped: false,
         destroyed: 0,
         outcome,
     }

@@ -34,13 +34,13 @@ const POINT_CALLS: [&str; 12] = [
     // Two nodes part the ways.
     "35: insert 65792 1",
     "29: remove 0",
-    // A leaf goes.
-    "32: remove 256",
+    // A leaf goes, and the node above.
+    "35: remove 256",
     "30: present 0 2",
-    "33: present 256",
+    "36: present 256",
     "40: orinsert 4 4",
     "29: cas 0 1 2",
-    "32: cas 256 1",
+    "35: cas 256 1",
 ];
 
 /// 60 are enough.
@@ -57,8 +57,8 @@ fn calls_on_a_key_are_short(rt: HostRuntime) -> Result<(), Fail> {
             "{text}"
         );
     }
-    // A full bag is sealed and queued first.
-    let mut index = eight_levels(rt.alloc(), 64)?;
+    // A bag with one place left is sealed and queued first.
+    let mut index = eight_levels(rt.alloc(), 63)?;
     let most = steps(&mut index, 0, Op::ComputeInsert(4), Some(Some(4)));
     assert_eq!(rt; most, 42);
     Ok(())

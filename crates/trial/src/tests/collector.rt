@@ -95,8 +95,9 @@ const WORKED: [&str; 10] = [
      waiting = 641; rounds 0 1 = Done; waiting = 129; rounds 0 1 = Done; waiting = 0",
     // A flush by its name seals the bag and collects; a repin by its name follows the epoch.
     "whole calls by their names: 1 1000 9 99 2; register = Ok(0); World::flush 0 = Refused(Unpinned); World::repin 0 = Refused(Unpinned); \
-     defer_unchecked 0 = Err((Unpinned, ())); has_place 0 = true; has_place 1 = false; pin 0 = Done; epoch = 1; World::repin 0 = Done; \
-     defer_unchecked 0 = Ok(0); defer 0 63 = Ok(()); has_place 0 = false; World::flush 0 = Done; has_place 0 = true; epoch = 2; \
+     defer_unchecked 0 = Err((Unpinned, ())); has_place 0 = true; has_place 1 = false; places 0 = 64; places 1 = 0; places 9 = 0; pin 0 = Done; epoch = 1; World::repin 0 = Done; \
+     defer_unchecked 0 = Ok(0); places 0 = 63; defer 0 63 = Ok(()); has_place 0 = false; places 0 = 0; World::flush 0 = Done; \
+     has_place 0 = true; places 0 = 64; epoch = 2; \
      waiting = 64; World::repin 0 = Done; World::flush 0 = Done; epoch = 3; waiting = 0",
     // The cell has two turns.
     "cells are used again under the next turn: 1 1 1 99 2; register = Ok(0); place 1 = Ok(Name { cell: 0, turn: 0 }); \
@@ -157,6 +158,7 @@ impl Asked for Jobs {
             ("defer", [who, count]) => told(alloc, &defers(self, *who as usize, *count)),
             ("defer_unchecked", [who]) => told(alloc, &self.defer_unchecked(*who as usize, ())),
             ("has_place", [who]) => told(alloc, &self.has_place(*who as usize)),
+            ("places", [who]) => told(alloc, &self.places(*who as usize)),
             _ => of_cells(alloc, self, word, numbers),
         }
     }

@@ -58,6 +58,7 @@ impl Turns<u64> for Told {
             kind: Kind::Tree,
             decided: false,
             kept: false,
+            skipped: false,
             destroyed: 0,
             outcome: outcome(self.turns),
         };

@@ -9,15 +9,15 @@ use std::alloc::Global;
 use std::io::{self, ErrorKind, Read, Write};
 use std::test::Fail;
 
-/// A leaf grows, its way parts from another's, and that one goes, while a second worker's calls are in flight.
+/// A leaf grows, its way parts from another's, and that one goes with the node above both, while a second worker's calls are in flight.
 const SCRIPT: &[u8] =
     b"new 2 1000\nreg\nreg\n0 pin\n1 pin\n0 insert 1 1\n0 insert 2 2\n0 insert 3 3\n0 insert 4 4\n\
     1 begin get 1\n1 go 2\n0 insert 5 5\n0 insert 256 6\n0 remove 256\nwaiting\ncharged\n1 go 100\n\
     1 begin present 5 add 7\n1 fail\n1 go 100\n0 unpin\n1 unpin\n0 round 3\n1 round 3\nwaiting\ncharged\n0 pin\n0 get 5\n0 range 0 9 9\n";
 
 const REPLIES: &[u8] = b"ok\nworker 0\nworker 1\nok\nok\nnone\nnone\nnone\nnone\n\
-    begun\nrunning\nnone\nnone\nsome 6\nwaiting 2 128\ncharged 2464\nsome 1\n\
-    begun\nrunning\npair 5 12\nok\nok\nok\nok\nwaiting 0 0\ncharged 2336\nok\nsome 12\n\
+    begun\nrunning\nnone\nnone\nsome 6\nwaiting 3 192\ncharged 2464\nsome 1\n\
+    begun\nrunning\npair 5 12\nok\nok\nok\nok\nwaiting 0 0\ncharged 2272\nok\nsome 12\n\
     range 5 1:1 2:2 3:3 4:4 5:12\n";
 
 /// Gives a script by seven bytes a read, fails once, and goes on after it.
@@ -205,7 +205,7 @@ fn a_script_goes_on_or_ends_where_memory_is_refused(rt: HostRuntime) -> Result<(
     Ok(())
 }
 
-/// Calls of one worker: a leaf grows twice, its way parts from others', and leaves go.
+/// Calls of one worker: a leaf grows, its way parts from others' twice, and these go with the nodes above.
 const CALLS: [(Call<u64>, Reply<u64>); 14] = [
     (Call::Insert(1, 1), Reply::Insert(None)),
     (Call::Insert(2, 2), Reply::Insert(None)),
@@ -263,13 +263,13 @@ fn a_call_that_finds_no_memory_changes_nothing(rt: HostRuntime) -> Result<(), Fa
     for (made, reply) in CALLS {
         assert!(rt; ends_with(&mut index, made, reply), "{made:?}");
     }
-    // The root, a leaf of 16 and the two nodes over it; a leaf of 4 grew, and two went with their last values.
-    assert_eq!(rt; state(&index), (2104 + 168 + 2 * 64 + 3 * 64, 3, 3 * 64));
+    // The root and a leaf of 16; a leaf of 4 grew, and two went with their last values, each with the node above.
+    assert_eq!(rt; state(&index), (2104 + 168 + 5 * 64, 5, 5 * 64));
     for _ in 0..3 {
         assert!(rt; is_flushed(&mut index));
         assert!(rt; is_done(&mut index, 0, Op::Unpin));
         assert!(rt; is_done(&mut index, 0, Op::Pin));
     }
-    assert_eq!(rt; state(&index), (2104 + 168 + 2 * 64, 0, 0));
+    assert_eq!(rt; state(&index), (2104 + 168, 0, 0));
     Ok(())
 }

@@ -125,14 +125,14 @@ fn writes_down<L: Ledger, R: Wait + Abort>(rt: &R, alloc: Global, blank: Blank) 
     let journal = tree.entries(rt)?;
     assert_eq!(rt; journal.len(), 7);
     assert_eq!(rt; check(alloc, &journal)?, Verdict::Legal);
-    // The root, the node over two leaves, and these, of which one went.
+    // The root and a leaf; another one went, and the node over both.
     let state = (tree.charged(rt), tree.waiting(rt), tree.waiting_bytes(rt));
-    assert_eq!(rt; state, (2296, 1, 64));
+    assert_eq!(rt; state, (2296, 2, 128));
     for _ in 0..3 {
         tree.round(rt, &mut worker)?;
     }
     let state = (tree.charged(rt), tree.waiting(rt), tree.waiting_bytes(rt));
-    assert_eq!(rt; state, (2232, 0, 0));
+    assert_eq!(rt; state, (2168, 0, 0));
     match tree.close(rt) {
         Ok(_) => Err("closed with a worker".into()),
         Err((refusal, tree)) => {

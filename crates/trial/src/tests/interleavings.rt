@@ -5,7 +5,7 @@ use super::machine::{
     END, Index, answer_of, are_rounds_done, begin, call, go, go_with, is_done, is_in_flight, noise,
     op_of, open,
 };
-use super::texts::{call_of, named, pairs, part};
+use super::texts::{call_of, named, numbers, pairs, part};
 use congee::Noise;
 use joint::{Done, Id, Op, Outcome, Refusal};
 use judge::{Call, Entry, Reply, Verdict, check};
@@ -16,22 +16,24 @@ use std::test::Fail;
 const COLLECTOR: u32 = 2;
 
 /// More steps than one of these calls takes that begins anew once.
-const LONG: u32 = 30;
+const LONG: u32 = 50;
 
 /// Two calls on a small tree.
 #[derive(Drop)]
 pub struct Case {
-    /// The pairs that are there before.
+    /// The pairs that are put there before, and the keys of those that are taken out again.
     pub pairs: Vec<(u64, u64)>,
+    pub gone: Vec<u64>,
     pub pair: (Call<u64>, Call<u64>),
     /// What the tree takes in the end, in bytes: where the first call took effect first, and where the second one did.
     pub charges: (u64, u64),
 }
 
-/// A case, as its pairs, its calls and its charges.
+/// A case, as its pairs, its calls, its charges, and the keys that are taken out before.
 pub fn case_of(alloc: Global, text: &str) -> Result<Case, Fail> {
     Ok(Case {
         pairs: pairs(alloc, part(text, 0))?,
+        gone: numbers(alloc, part(text, 5))?,
         pair: (
             call_of(alloc, part(text, 1))?,
             call_of(alloc, part(text, 2))?,
@@ -65,10 +67,39 @@ pub const LOOKS: [&str; 3] = [
 /// A removal while the tree changes its form.
 pub const REMOVALS: [&str; 5] = [
     "a removal and a growth: 1:1 2:2 3:3 4:4; remove 1; insert 5 5; 2168; 2272",
-    "a removal of a leaf and a split: 1:1; remove 1; insert 256 9; 2168; 2232",
+    "a removal of a leaf and a split: 1:1; remove 1; insert 256 9; 2168; 2168",
     "a removal of a leaf and an insertion into it: 1:1; remove 1; insert 2 9; 2168; 2168",
     "a removal of a leaf and an insertion of its key: 1:1; remove 1; insert 1 9; 2168; 2104",
     "two removals of a leaf: 1:1; remove 1; remove 1; 2104; 2104",
+];
+
+/// A removal that takes an inner node out, and one that makes a node smaller.
+pub const COLLAPSES: [&str; 11] = [
+    "two removals below one node: 1:1 256:2; remove 1; remove 256; 2104; 2104",
+    "a removal and an insertion into the node that goes: 1:1 256:2; remove 1; insert 512 9; 2296; 2296",
+    "a removal and an insertion into the leaf that stays: 1:1 256:2; remove 1; insert 257 9; 2168; 2168",
+    "a removal and an insertion into the leaf that goes: 1:1 256:2; remove 1; insert 2 9; 2296; 2296",
+    "a removal and an insertion of its key: 1:1 256:2; remove 1; insert 1 9; 2296; 2168",
+    "a removal and an insertion above the node that goes: 1:1 256:2; remove 1; insert 65536 9; 2296; 2296",
+    "a removal and an exchange of the value that comes up: 1:1 256:2; remove 1; cas 256 2 3; 2168; 2168",
+    "a removal and a look-up in the leaf that stays: 1:1 256:2; remove 1; get 256; 2168; 2168",
+    "a removal and a look-up in the leaf that goes: 1:1 256:2; remove 1; get 1; 2168; 2168",
+    "a node comes up, and an insertion into it: 1:1 65536:2 65792:3; remove 1; insert 66048 9; 2360; 2360",
+    "two nodes go, one above the other: 1:1 65536:2 65792:3; remove 1; remove 65536; 2168; 2168",
+];
+
+pub const SHRINKS: [&str; 11] = [
+    "two removals from a leaf that gives place: 1:1 2:2 3:3 4:4 5:5; remove 1; remove 2; 2168; 2168",
+    "a removal and an insertion into the leaf that gives place: 1:1 2:2 3:3 4:4 5:5; remove 2; insert 0 9; 2168; 2272; 1",
+    "a removal and another value in the leaf that gives place: 1:1 2:2 3:3 4:4 5:5; remove 2; insert 3 9; 2168; 2168; 1",
+    "a removal and a look-up in the leaf that gives place: 1:1 2:2 3:3 4:4 5:5; remove 2; get 3; 2168; 2168; 1",
+    "a removal and a split above the leaf that gives place: 1:1 2:2 3:3 4:4 5:5; remove 2; insert 256 9; 2296; 2296; 1",
+    "two removals below a node that gives place: 1:1 257:2 513:3 769:4 1025:5; remove 769; remove 513; 2296; 2296; 1025",
+    "two removals, of which the second makes a node give place: 1:1 257:2 513:3 769:4 1025:5; remove 769; remove 1025; 2360; 2360",
+    "a removal and an insertion below the node that gives place: 1:1 257:2 513:3 769:4 1025:5; remove 769; insert 1025 9; 2424; 2528; 1025",
+    "a removal and an insertion into a leaf below it: 1:1 257:2 513:3 769:4 1025:5; remove 769; insert 256 9; 2360; 2360; 1025",
+    "a removal and an insertion into the leaf that goes: 1:1 257:2 513:3 769:4 1025:5; remove 769; insert 768 9; 2424; 2528; 1025",
+    "a removal and a look-up below the node that gives place: 1:1 257:2 513:3 769:4 1025:5; remove 769; get 513; 2360; 2360; 1025",
 ];
 
 /// Calls that compare or ask.
@@ -93,7 +124,7 @@ fn is_look(call: Call<u64>) -> bool {
     matches!(call, Call::Get(_))
 }
 
-/// A call that has begun; one that writes has secured the place for a node that it may take out.
+/// A call that has begun; one that writes has secured places for the nodes that it may take out.
 pub fn begun(index: &mut Index, worker: u32, call: Call<u64>) -> Flight {
     let begun = begin(index, worker, op_of(call)).outcome;
     let outcome = if is_look(call) {
@@ -143,7 +174,7 @@ pub fn collect(index: &mut Index, first: &Flight, second: &Flight) {
 }
 
 /// A call goes on, with a collection after each step, to its end or until it has found a lock taken for long.
-fn go_on(index: &mut Index, flight: &mut Flight, other: &Flight, turn: u32) {
+pub fn go_on(index: &mut Index, flight: &mut Flight, other: &Flight, turn: u32) {
     for _ in 0..LONG {
         if !is_in_flight(&flight.outcome) {
             return;
@@ -160,6 +191,15 @@ pub fn prepared(alloc: Global, pairs: &[(u64, u64)]) -> Result<Index, Refusal> {
     is_done(&mut index, 1, Op::Pin);
     for (key, value) in pairs {
         call(&mut index, 1, Call::Insert(*key, *value));
+    }
+    Ok(index)
+}
+
+/// An index with what is put there and taken out before a case.
+pub fn prepared_for(alloc: Global, case: &Case) -> Result<Index, Refusal> {
+    let mut index = prepared(alloc, &case.pairs)?;
+    for key in case.gone.iter() {
+        call(&mut index, 1, Call::Remove(*key));
     }
     Ok(index)
 }
@@ -199,9 +239,14 @@ pub fn entry_of(flight: &Flight) -> Option<Entry<u64>> {
     }
 }
 
-/// What each of the keys 0 to 5 and 256 has in the end, as calls of a worker.
+/// The keys of these cases.
+const KEYS: [u64; 16] = [
+    0, 1, 2, 3, 4, 5, 256, 257, 512, 513, 768, 769, 1025, 65_536, 65_792, 66_048,
+];
+
+/// What each key has in the end, as calls of a worker.
 fn push_looks(index: &mut Index, journal: &mut Vec<Entry<u64>>) -> Result<(), Fail> {
-    for key in [0, 1, 2, 3, 4, 5, 256] {
+    for key in KEYS {
         if let Outcome::Done(Done::Reply(reply)) = call(index, 0, Call::Get(key)) {
             journal.push(entry(Call::Get(key), reply))?;
         }
@@ -218,6 +263,22 @@ pub fn journal_of(alloc: Global, pairs: &[(u64, u64)]) -> Result<Vec<Entry<u64>>
     Ok(journal)
 }
 
+/// The value that is put at a key.
+fn value_at(pairs: &[(u64, u64)], key: u64) -> Option<u64> {
+    let found = pairs.iter().find(|pair| pair.0 == key)?;
+    Some(found.1)
+}
+
+/// The journal of what is done before a case.
+fn journal_before(alloc: Global, case: &Case) -> Result<Vec<Entry<u64>>, Fail> {
+    let mut journal = journal_of(alloc, &case.pairs)?;
+    for key in case.gone.iter() {
+        let reply = Reply::Remove(value_at(&case.pairs, *key));
+        journal.push(entry(Call::Remove(*key), reply))?;
+    }
+    Ok(journal)
+}
+
 /// Whether the calls answer as one map does in the order in which they took effect.
 fn are_one_map(
     alloc: Global,
@@ -226,11 +287,11 @@ fn are_one_map(
     first: Entry<u64>,
     second: Entry<u64>,
 ) -> Result<bool, Fail> {
-    let mut journal = journal_of(alloc, &case.pairs)?;
+    let mut journal = journal_before(alloc, case)?;
     journal.push(first)?;
     journal.push(second)?;
+    let whole = journal.len().saturating_add(KEYS.len());
     push_looks(index, &mut journal)?;
-    let whole = case.pairs.len().saturating_add(9);
     Ok(journal.len() == whole && check(alloc, &journal)? == Verdict::Legal)
 }
 
@@ -267,7 +328,7 @@ pub fn end_right(
 
 /// Whether the calls of a case, with these turns, answer and are charged as one map.
 fn is_right(alloc: Global, case: &Case, turns: u64, count: u32) -> Result<bool, Fail> {
-    let mut index = prepared(alloc, &case.pairs)?;
+    let mut index = prepared_for(alloc, case)?;
     let (first, second) = fly(&mut index, case, turns, count);
     end_right(alloc, &mut index, case, &first, &second)
 }
@@ -275,22 +336,34 @@ fn is_right(alloc: Global, case: &Case, turns: u64, count: u32) -> Result<bool, 
 /// How many steps a call takes after its begin, and after securing, where no other one is there.
 pub fn length(alloc: Global, pairs: &[(u64, u64)], call: Call<u64>) -> Result<u32, Refusal> {
     let mut index = prepared(alloc, pairs)?;
-    let mut flight = begun(&mut index, 0, call);
+    Ok(steps_in(&mut index, call))
+}
+
+/// The same on this index.
+fn steps_in(index: &mut Index, call: Call<u64>) -> u32 {
+    let mut flight = begun(index, 0, call);
     let mut steps = 0u32;
     for _ in 0..END {
         if is_in_flight(&flight.outcome) {
-            advance(&mut index, &mut flight, 0);
+            advance(index, &mut flight, 0);
             steps = steps.saturating_add(1);
         }
     }
-    Ok(steps)
+    steps
+}
+
+/// How many steps the first call of a case takes alone, and the second.
+fn lengths(alloc: Global, case: &Case) -> Result<(u32, u32), Refusal> {
+    let first = steps_in(&mut prepared_for(alloc, case)?, case.pair.0);
+    let second = steps_in(&mut prepared_for(alloc, case)?, case.pair.1);
+    Ok((first, second))
 }
 
 /// How many orders of all steps of both calls were tried, if each was right.
 fn tried(alloc: Global, text: &str) -> Result<Option<u32>, Fail> {
     let case = case_of(alloc, text)?;
-    let second = length(alloc, &case.pairs, case.pair.1)?;
-    let count = length(alloc, &case.pairs, case.pair.0)?.saturating_add(second);
+    let (first, second) = lengths(alloc, &case)?;
+    let count = first.saturating_add(second);
     let mut tried = 0u32;
     for turns in 0..1u64.wrapping_shl(count) {
         if turns.count_ones() == second {
@@ -305,8 +378,7 @@ fn tried(alloc: Global, text: &str) -> Result<Option<u32>, Fail> {
 
 /// Whether each order is right in which one call is cut in two and the other one in two or three.
 fn are_right(alloc: Global, case: &Case) -> Result<bool, Fail> {
-    let first = length(alloc, &case.pairs, case.pair.0)?;
-    let second = length(alloc, &case.pairs, case.pair.1)?;
+    let (first, second) = lengths(alloc, case)?;
     for start in 0..=first {
         for middle in 0..=second {
             let turns = 1u64
@@ -347,13 +419,28 @@ fn short_calls_answer_as_one_map_in_every_order_of_their_steps(
 
 #[test]
 fn calls_beside_each_other_answer_as_one_map(rt: HostRuntime) -> Result<(), Fail> {
-    for cases in [
-        INSERTIONS.as_slice(),
-        LOOKS.as_slice(),
-        REMOVALS.as_slice(),
-        CLOSURES.as_slice(),
-    ] {
+    for cases in [INSERTIONS.as_slice(), LOOKS.as_slice()] {
         assert_eq!(rt; first_wrong(rt.alloc(), cases)?, None);
     }
+    Ok(())
+}
+
+#[test]
+fn removals_beside_a_call_answer_as_one_map(rt: HostRuntime) -> Result<(), Fail> {
+    for cases in [REMOVALS.as_slice(), CLOSURES.as_slice()] {
+        assert_eq!(rt; first_wrong(rt.alloc(), cases)?, None);
+    }
+    Ok(())
+}
+
+#[test]
+fn calls_beside_an_inner_node_that_goes(rt: HostRuntime) -> Result<(), Fail> {
+    assert_eq!(rt; first_wrong(rt.alloc(), &COLLAPSES)?, None);
+    Ok(())
+}
+
+#[test]
+fn calls_beside_a_node_that_gives_place_to_a_lesser_one(rt: HostRuntime) -> Result<(), Fail> {
+    assert_eq!(rt; first_wrong(rt.alloc(), &SHRINKS)?, None);
     Ok(())
 }

@@ -2,8 +2,8 @@
 //! answers that nobody asked for.
 
 use super::interleavings::{
-    Case, Flight, INSERTIONS, LOOKS, REMOVALS, advance, advance_with, begun, case_of, end_right,
-    prepared,
+    COLLAPSES, Case, Flight, INSERTIONS, LOOKS, REMOVALS, SHRINKS, advance, advance_with, begun,
+    case_of, end_right, prepared_for,
 };
 use super::machine::{
     END, Index, answer_of, begin, call, go, go_on, go_with, is_done, open, replied,
@@ -64,7 +64,7 @@ fn noise_of((sight, full, count): Lie, call: Call<u64>, fail: bool) -> Noise<Id,
 }
 
 /// More steps than one of these calls takes.
-const CUTS: u32 = 15;
+const CUTS: u32 = 20;
 
 /// Both calls: the first goes so many steps, then the second to its end, then the first, which is lied to, and of whose
 /// first steps each third fails.
@@ -92,7 +92,7 @@ fn fly(index: &mut Index, case: &Case, cut: u32, lie: Lie) -> (Flight, Flight) {
 fn are_right(alloc: Global, case: &Case) -> Result<bool, Fail> {
     for cut in 0..CUTS {
         for lie in LIES {
-            let mut index = prepared(alloc, &case.pairs)?;
+            let mut index = prepared_for(alloc, case)?;
             let (first, second) = fly(&mut index, case, cut, lie);
             if !end_right(alloc, &mut index, case, &first, &second)? {
                 return Ok(false);
@@ -122,6 +122,18 @@ fn calls_that_are_lied_to_answer_as_one_map(rt: HostRuntime) -> Result<(), Fail>
     for cases in [INSERTIONS.as_slice(), LOOKS.as_slice(), REMOVALS.as_slice()] {
         assert_eq!(rt; first_wrong(rt.alloc(), cases)?, None);
     }
+    Ok(())
+}
+
+#[test]
+fn what_is_lied_to_takes_an_inner_node_out(rt: HostRuntime) -> Result<(), Fail> {
+    assert_eq!(rt; first_wrong(rt.alloc(), &COLLAPSES)?, None);
+    Ok(())
+}
+
+#[test]
+fn what_is_lied_to_puts_a_lesser_node_there(rt: HostRuntime) -> Result<(), Fail> {
+    assert_eq!(rt; first_wrong(rt.alloc(), &SHRINKS)?, None);
     Ok(())
 }
 

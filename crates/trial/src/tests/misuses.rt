@@ -7,10 +7,12 @@ use joint::{Limits, Refusal, World};
 use std::alloc::Global;
 use std::test::Fail;
 
-/// Two workers, 1 to 4 in a full leaf, 2^56 in one of its own, and a node that waits in the bag of worker 0, which is pinned.
+/// Two workers, 1 to 4 in a full leaf, 2^49 in another one below the same node, 2^56 in one below the root, and a node that waits
+/// in the bag of worker 0, which is pinned.
 const PREPARED: &str =
     "new 2 1000 = ok; reg = worker 0; reg = worker 1; 0 pin = ok; 0 insert 1 1 = none; 0 insert 2 2 = none; 0 insert 3 3 = none; \
-    0 insert 4 4 = none; 0 insert 72057594037927936 7 = none; 0 insert 281474976710656 7 = none; 0 remove 281474976710656 = some 7";
+    0 insert 4 4 = none; 0 insert 72057594037927936 7 = none; 0 insert 562949953421312 7 = none; \
+    0 insert 281474976710656 7 = none; 0 remove 281474976710656 = some 7";
 
 /// What is refused while worker 0 is in mid-call, worker 1 has no pin and no call, and nobody else is registered.
 const MISUSES: &str =

@@ -11,8 +11,8 @@ const AMPLE: [&str; 15] = [
     "a value comes, changes and goes: insert 1 42 = Ok(None); get 1 = Some(42); insert 1 43 = Ok(Some(42)); remove 1 = Some(43); \
      get 1 = None; charged = 2104",
     "a leaf grows through every form: fill 1 50 = true; charged = 4208; get 49 = Some(49)",
-    "an emptied inner node stays: insert 1 1 = Ok(None); insert 256 2 = Ok(None); charged = 2296; remove 1 = Some(1); empty = false; \
-     remove 256 = Some(2); empty = true; keys = []; charged = 2168",
+    "a leaf that is left alone moves up: insert 1 1 = Ok(None); insert 256 2 = Ok(None); charged = 2296; remove 1 = Some(1); \
+     charged = 2168; empty = false; remove 256 = Some(2); empty = true; keys = []; charged = 2104",
     "closures answer: insert 1 42 = Ok(None); next_or 1 0 = Ok(Some(42)); next_or 2 2 = Ok(None); get 1 = Some(43); get 2 = Some(2); \
      next 1 = Some((43, Some(44))); next 3 = None; drop 1 = Some((44, None)); get 1 = None",
     "values are exchanged: insert 1 42 = Ok(None); exchange 1 42 43 = Ok(Some(43)); insert 1 41 = Ok(Some(43)); \

@@ -36,42 +36,42 @@ fn with_removed(alloc: Global, workers: u32, pinned: u32, each: u32) -> Result<I
     Ok(index)
 }
 
-/// What is called by whom, its steps, and the nodes that wait then. Nine bags of 64 nodes and one of 1 are left, and a
-/// collection takes eight.
+/// What is called by whom, its steps, and the nodes that wait then. A writing call wants two places, so a bag is queued with 63
+/// nodes: nine such and one of ten are left, and a collection takes eight.
 const OF_ONE: [(u32, Op<u64>, u32, u64); 9] = [
     (0, Op::Pin, 3, 577),
     (0, Op::Flush, 8, 577),
     (0, Op::Unpin, 1, 577),
     (0, Op::Pin, 3, 577),
-    (0, Op::Flush, 525, 65),
-    (0, Op::Unpin, 1, 65),
-    (0, Op::Pin, 3, 65),
-    (0, Op::Flush, 73, 0),
+    (0, Op::Flush, 517, 73),
+    (0, Op::Unpin, 1, 73),
+    (0, Op::Pin, 3, 73),
+    (0, Op::Flush, 81, 0),
     (0, Op::Unpin, 1, 0),
 ];
 
-/// Three workers have queued three bags each, and keep 8 nodes in their own, which another one's rounds don't reach. The first
+/// Three workers have queued three bags each, and keep 11 nodes in their own, which another one's rounds don't reach. The first
 /// pin of a fourth one collects.
 const OF_THREE: [(u32, Op<u64>, u32, u64); 20] = [
     (0, Op::Pin, 3, 600),
     (0, Op::Flush, 262, 600),
     (0, Op::Unpin, 1, 600),
-    (3, Op::Pin, 781, 88),
-    (3, Op::Repin, 3, 88),
-    (3, Op::Unpin, 1, 88),
-    (3, Op::Release, 1, 88),
-    (0, Op::Pin, 3, 88),
-    (0, Op::Flush, 334, 16),
-    (0, Op::Unpin, 1, 16),
-    (1, Op::Pin, 3, 16),
-    (1, Op::Flush, 262, 16),
-    (1, Op::Unpin, 1, 16),
-    (2, Op::Release, 3, 16),
-    (0, Op::Pin, 3, 16),
-    (0, Op::Flush, 269, 8),
-    (0, Op::Unpin, 1, 8),
-    (0, Op::Pin, 3, 8),
-    (0, Op::Flush, 269, 0),
+    (3, Op::Pin, 773, 96),
+    (3, Op::Repin, 3, 96),
+    (3, Op::Unpin, 1, 96),
+    (3, Op::Release, 1, 96),
+    (0, Op::Pin, 3, 96),
+    (0, Op::Flush, 336, 22),
+    (0, Op::Unpin, 1, 22),
+    (1, Op::Pin, 3, 22),
+    (1, Op::Flush, 262, 22),
+    (1, Op::Unpin, 1, 22),
+    (2, Op::Release, 3, 22),
+    (0, Op::Pin, 3, 22),
+    (0, Op::Flush, 272, 11),
+    (0, Op::Unpin, 1, 11),
+    (0, Op::Pin, 3, 11),
+    (0, Op::Flush, 272, 0),
     (0, Op::Unpin, 1, 0),
 ];
 

@@ -40,9 +40,12 @@ struct Case {
     /// How many of the call's steps come before the scan's. They lock and change no node of the tree, nor does a scan, so
     /// they do the same wherever they come.
     ahead: u32,
+    /// How many of its last steps come as one turn: they mark and hand over what nobody finds any more.
+    last: u32,
 }
 
-/// A case, as the numbers of its range, its call, the pairs before and after it, and the numbers of steps.
+/// A case, as the numbers of its range, its call, the pairs before and after it, the numbers of steps, and that of the last turn's
+/// where that has more than one.
 fn case_of(alloc: Global, text: &str) -> Result<Case, Fail> {
     let [start, end, size] = array::<3>(part(text, 0))?;
     let [scan, call, ahead] = array::<3>(part(text, 4))?;
@@ -57,6 +60,10 @@ fn case_of(alloc: Global, text: &str) -> Result<Case, Fail> {
         after: pairs(alloc, part(text, 3))?,
         steps: (u32::try_from(scan)?, u32::try_from(call)?),
         ahead: u32::try_from(ahead)?,
+        last: match part(text, 5) {
+            "" => 1,
+            last => last.parse::<u32>()?,
+        },
     })
 }
 
@@ -70,11 +77,13 @@ const VALUES: [&str; 5] = [
 ];
 
 /// A call that changes the tree's nodes, or takes a value out.
-const FORMS: [&str; 4] = [
+const FORMS: [&str; 6] = [
     "a growth: 0 9 1; insert 0 9; 1:1 2:2 3:3 4:4; 0:9 1:1 2:2 3:3 4:4; 7 13 7",
     "a split: 0 999 1; insert 1 9; 256:256; 1:9 256:256; 7 13 8",
     "a removal of one of several values: 0 9 1; remove 1; 1:1 2:2 3:3; 2:2 3:3; 7 9 4",
     "a removal of a leaf: 0 18446744073709551615 1; remove 1; 1:1 72057594037927936:7; 72057594037927936:7; 7 12 6",
+    "a removal of a leaf and the node above, before the scan's key: 256 999 1; remove 1; 1:1 256:256; 256:256; 10 18 9; 5",
+    "a removal of a leaf and the node above, with the scan's key: 0 999 1; remove 1; 1:1 256:256; 256:256; 10 18 9; 5",
 ];
 
 /// The same beside longer scans, from the step on at which the call may take its first lock.
@@ -85,7 +94,7 @@ const LONGER: [&str; 3] = [
 ];
 
 /// Scans of more than one leaf, which a change of each kind makes begin anew.
-const CHANGES: [&str; 6] = [
+const CHANGES: [&str; 7] = [
     "an insertion: 0 999 4; insert 2 9; 1:1 3:3 300:300; 1:1 2:9 3:3 300:300; 24 14 0",
     "a growth: 2 999 4; insert 5 9; 1:1 2:2 3:3 4:4 300:300; 1:1 2:2 3:3 4:4 5:9 300:300; 21 17 0",
     "a split: 1 18446744073709551615 4; insert 256 9; 1:1 2:2 72057594037927936:7; \
@@ -93,6 +102,7 @@ const CHANGES: [&str; 6] = [
     "a removal: 0 18446744073709551615 4; remove 2; 1:1 2:2 3:3 72057594037927936:7; \
      1:1 3:3 72057594037927936:7; 18 9 0",
     "a removal of a leaf: 0 999 4; remove 256; 1:1 256:256 513:513; 1:1 513:513; 29 15 0",
+    "a removal of a leaf and the node above: 0 999 4; remove 1; 1:1 256:256 257:257; 256:256 257:257; 24 18 0",
     "an exchange: 0 999 4; cas 2 2 9; 1:1 2:2 300:300; 1:1 2:9 300:300; 24 12 0",
 ];
 
@@ -255,7 +265,10 @@ fn fly(index: &mut Index, case: &Case, turns: u32, bits: u32) -> (Scan, Flight) 
     write_on(index, &mut write, case.ahead);
     let mut scan = Scan::begun(index, case.range);
     for turn in 0..bits {
-        if turns.wrapping_shr(turn) % 2 == 1 {
+        let left = turns.wrapping_shr(turn);
+        if left == 1 {
+            write_on(index, &mut write, case.last);
+        } else if left % 2 == 1 {
             advance(index, &mut write, 0);
         } else {
             scan.advance(index, write.effects > 0);
@@ -285,7 +298,10 @@ fn is_right(alloc: Global, case: &Case, turns: u32, bits: u32) -> Result<bool, F
 /// Whether both take as many steps as they should, and are right in every order of these.
 fn are_right_in_every_order(alloc: Global, case: &Case) -> Result<bool, Fail> {
     let (scan, write) = case.steps;
-    let rest = write.saturating_sub(case.ahead);
+    let rest = write
+        .saturating_sub(case.ahead)
+        .saturating_sub(case.last)
+        .saturating_add(1);
     let bits = scan.saturating_add(rest);
     for turns in 0..1u32.wrapping_shl(bits) {
         if turns.count_ones() == rest && !is_right(alloc, case, turns, bits)? {

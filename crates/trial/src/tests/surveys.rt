@@ -6,8 +6,8 @@ use std::test::Fail;
 
 const LOOKS: [&str; 4] = [
     "keys and emptiness are the map's: new 2 1000 = ok; reg = worker 0; 0 pin = ok; 0 insert 1 1 = none; 0 insert 256 2 = none; \
-     charged = charged 2296; 0 empty = false; 0 keys = keys 1 256; 0 remove 1 = some 1; 0 remove 256 = some 2; 0 empty = true; \
-     0 keys = keys; 0 unpin = ok; 0 round 3 = ok; charged = charged 2168",
+     charged = charged 2296; 0 empty = false; 0 keys = keys 1 256; 0 remove 1 = some 1; 0 remove 256 = some 2; waiting = waiting 3 192; \
+     0 empty = true; 0 keys = keys; 0 unpin = ok; 0 round 3 = ok; charged = charged 2104",
     "keys ascend with a pin and without: new 1 1000 = ok; reg = worker 0; 0 keys = keys; 0 pin = ok; 0 empty = true; \
      0 insert 18446744073709551615 1 = none; 0 insert 0 1 = none; 0 insert 72057594037927936 1 = none; 0 insert 1 1 = none; \
      0 keys = keys 0 1 72057594037927936 18446744073709551615; 0 unpin = ok; 0 keys = keys 0 1 72057594037927936 18446744073709551615",
@@ -40,7 +40,7 @@ const CLOSES: [&str; 4] = [
      close = refused NoTree; charged = refused NoTree; new 1 1 = ok; close = closed 0",
     "pairs are drained, and what waits goes: new 1 1000 = ok; reg = worker 0; 0 pin = ok; 0 insert 1 1 = none; 0 insert 2 2 = none; \
      0 insert 3 3 = none; 0 insert 4 4 = none; 0 insert 5 5 = none; 0 insert 18446744073709551615 6 = none; 0 insert 65536 7 = none; \
-     0 remove 65536 = some 7; 0 remove 3 = some 3; waiting = waiting 2 128; 0 unpin = ok; close = refused WorkersLeft 1; 0 release = ok; \
+     0 remove 65536 = some 7; 0 remove 3 = some 3; waiting = waiting 3 192; 0 unpin = ok; close = refused WorkersLeft 1; 0 release = ok; \
      close = drain 1 1\ndrain 2 2\ndrain 4 4\ndrain 5 5\ndrain 18446744073709551615 6\nclosed 0",
     "pairs are drained ascending: new 2 1000 = ok; reg = worker 0; 0 pin = ok; 0 insert 18446744073709551615 6 = none; \
      0 insert 256 4 = none; 0 insert 0 1 = none; 0 insert 4294967295 5 = none; 0 insert 255 3 = none; 0 insert 1 2 = none; 0 unpin = ok; \

@@ -31,10 +31,18 @@ const ONE_WORKER: [&str; 9] = [
 ];
 
 /// What a call left that took nodes out.
-const WAITING: [&str; 5] = [
+const WAITING: [&str; 7] = [
     "what a growth left is destroyed after three rounds: new 2 1000 = ok; reg = worker 0; 0 pin = ok; charged = charged 2104; \
      0 insert 1 1 = none; 0 insert 2 2 = none; 0 insert 3 3 = none; 0 insert 4 4 = none; 0 insert 5 5 = none; waiting = waiting 1 64; \
      charged = charged 2336; 0 unpin = ok; 0 round 3 = ok; waiting = waiting 0 0; 0 pin = ok; 0 get 3 = some 3",
+    "and what a shrink left: new 2 1000 = ok; reg = worker 0; 0 pin = ok; 0 insert 1 1 = none; 0 insert 2 2 = none; \
+     0 insert 3 3 = none; 0 insert 4 4 = none; 0 insert 5 5 = none; 0 unpin = ok; 0 round 3 = ok; charged = charged 2272; 0 pin = ok; \
+     0 remove 1 = some 1; waiting = waiting 0 0; 0 remove 2 = some 2; waiting = waiting 1 168; charged = charged 2336; 0 unpin = ok; \
+     0 round 3 = ok; charged = charged 2168; 0 pin = ok; 0 get 3 = some 3",
+    "a removal goes on where no lesser node can be charged: new 2 1000 limit 2336 = ok; reg = worker 0; 0 pin = ok; \
+     0 insert 1 1 = none; 0 insert 2 2 = none; 0 insert 3 3 = none; 0 insert 4 4 = none; 0 insert 5 5 = none; 0 remove 1 = some 1; \
+     0 remove 2 = some 2; charged = charged 2336; waiting = waiting 1 64; 0 unpin = ok; 0 round 3 = ok; charged = charged 2272; \
+     0 pin = ok; 0 remove 3 = some 3; 0 unpin = ok; 0 round 3 = ok; charged = charged 2168",
     "and so it is after a round before: new 2 1000 = ok; reg = worker 0; 0 round 1 = ok; 0 pin = ok; 0 insert 1 1 = none; \
      0 insert 2 2 = none; 0 insert 3 3 = none; 0 insert 4 4 = none; 0 insert 5 5 = none; waiting = waiting 1 64; 0 unpin = ok; \
      0 round 3 = ok; waiting = waiting 0 0; 0 pin = ok; 0 get 3 = some 3",

@@ -6,6 +6,7 @@ use Rattle.slab.specs.Slab.{get}
 use Rattle.congee.specs.Heap.{value_at}
 use Rattle.congee.specs.forms.Forms.{form_of, prefix_of, children_of, capacity_of, size_of}
 use Rattle.congee.specs.owned.Sizes.{bytes_of, bytes_at, bytes_in}
+use Rattle.congee.specs.owned.Full.{NodesFilled, lacking_of}
 use Rattle.congee.specs.owned.Levels.{nodes_of}
 use Rattle.congee.specs.owned.Stats.{root_alone}
 use Rattle.congee.specs.owned.Stores.{IsAlone, LeavesRoot}
@@ -14,6 +15,7 @@ use Rattle.congee.specs.owned.Arena.{Nodes, node_of, heap_of, IsTree}
 use Rattle.congee.specs.declared.forms.base_node.Node.{Node as Form}
 use Rattle.congee.specs.declared.forms.base_node.NodeType.{NodeType}
 use Rattle.congee.specs.declared.forms.base_node.NodeType.TheVariants.{N4, N16, N48, N256}
+use Rattle.congee.proofs.lemmas.owned.Fulls.{lacking_none}
 use Rattle.congee.proofs.lemmas.owned.Root.{root_tree, root_empty, root_bytes}
 use Rattle.congee.proofs.lemmas.owned.Sizes.{bytes_same}
 use Rattle.congee.proofs.lemmas.owned.Surveys.{root_nodes}
@@ -35,6 +37,7 @@ module _ {P : Type 0} where
     pub empty : (key : List ℕ) → value_at (heap_of s) key ≡ None
     pub nodes : nodes_of s ≡ root_alone
     pub bytes : bytes_of s ≡ 2104
+    pub lacking : lacking_of s ≡ 0
     pub wants : WantsLeaf (wants_of s)
 
   -- where nothing stands nothing takes room
@@ -42,6 +45,10 @@ module _ {P : Type 0} where
   no_bytes s none =
       let bare : Nodes P = record { slots = []; vacant_key = 0; capacity = 0 } in
       bytes_same bare s (λ n. none n)
+
+  -- nothing but the root stands
+  alone_filled : (s : Nodes P) (root : Form ℕ P) → IsAlone s root → NodesFilled s
+  alone_filled s root a n x ne e = absurd (let z : None ≡ Some x = sym (a.none n) ∙ (sym (a.puts.others n ne) ∙ e) in cc)
 
   pub root_left : (s : Nodes P) (root : Form ℕ P) → IsAlone s root → prefix_of root ≡ [] → children_of root ≡ map.empty → form_of root ≡ N256 → RootLeft s
   root_left s root a prefix children form =
@@ -51,6 +58,7 @@ module _ {P : Type 0} where
         empty = root_empty a.before s root a.none a.puts prefix children form;
         nodes = root_nodes s root tree a.puts.changed form children;
         bytes = root_bytes a.before s root a.none a.puts prefix children form (no_bytes a.before a.none);
+        lacking = lacking_none s (alone_filled s root a);
         wants = wants_leaf s root tree a.puts.changed form children;
       }
 

@@ -14,19 +14,23 @@ use Rattle.congee.specs.owned.Changes.{MapChange}
 use Rattle.congee.specs.owned.Charge.{Balances, Covers, KeepsLimit}
 use Rattle.congee.specs.owned.Content.{Content, KeepsCharge, Unchanged, Inserts, Modifies, ChangesNothing, Refuses}
 use Rattle.congee.specs.owned.Edits.{Adds, Denies, Frees}
+use Rattle.congee.specs.owned.Full.{NoneSkipped, lacking_of}
+use Rattle.congee.specs.owned.Going.{Going, Went, goes_at, goes_of, going_by}
 use Rattle.congee.specs.owned.Levels.{nodes_of}
 use Rattle.congee.specs.owned.Owned.{Answered}
 use Rattle.congee.specs.owned.OwnedSteps.{SameNodes, settled}
 use Rattle.congee.specs.owned.Sizes.{bytes_of}
 use Rattle.congee.specs.owned.Table.{pairs_of}
-use Rattle.congee.specs.owned.Wanted.{InsertionFits, IsRefused, gain_of, freed_of, freed_by, wants_at, wants_of, lone_at, lone_of}
+use Rattle.congee.specs.owned.Wanted.{InsertionFits, IsRefused, gain_of, wants_at, wants_of}
 use Rattle.congee.specs.declared.allocator.OOMError.{OOMError}
 use Rattle.congee.specs.declared.owned.arena.Arena.{Arena}
 use Rattle.congee.proofs.lemmas.owned.Answered.{answered_insert, answered_compute, answered_remove, answered_present, answered_absent, present_change, exchange_done, exchange_refused}
+use Rattle.congee.proofs.lemmas.owned.Fulls.{same_lacking, still_none}
 use Rattle.congee.proofs.lemmas.owned.Sizes.{bytes_same}
 use Rattle.congee.proofs.lemmas.owned.Surveys.{same_nodes}
 use Rattle.congee.proofs.lemmas.owned.Tables.{answer_pairs, get_pairs, same_pairs}
-use Rattle.congee.proofs.lemmas.owned.Wanting.{get_wants, get_lone, same_wants, same_lone}
+use Rattle.congee.proofs.lemmas.owned.Goings.{get_goes, same_goes}
+use Rattle.congee.proofs.lemmas.owned.Wanting.{get_wants, same_wants}
 use Rattle.congee.proofs.lemmas.owned.Ways.{same_tree}
 
 -- where the charge moves as the nodes' sizes do, what was charged before them stays
@@ -60,26 +64,35 @@ module _ {P A : Type 0} (same : P → P → Bool) (charged limit : A → ℕ) (o
   pub compute_told : (before : Option P) (v : P) (wants : Option (List ℕ)) → Adds charged limit old new key before v wants → Told (call.ComputeInsert k v) (reply.ComputeInsert before)
   compute_told before v wants a = told (call.ComputeInsert k v) (reply.ComputeInsert before) (answered_compute same old.nodes new.nodes k small before v (at_key before (Some v) a.edits.change))
 
-  pub remove_told : (before : Option P) (size : ℕ) → Frees charged limit old new key before None size → Told (call.Remove k) (reply.Remove before)
-  remove_told before size f = told (call.Remove k) (reply.Remove before) (answered_remove same old.nodes new.nodes k small before (at_key before None f.edits.change))
+  pub remove_told : (before : Option P) (going : Option Going) → Frees charged limit old new key before None going → Told (call.Remove k) (reply.Remove before)
+  remove_told before going f = told (call.Remove k) (reply.Remove before) (answered_remove same old.nodes new.nodes k small before (at_key before None f.edits.change))
 
   -- a change of a key that is present
-  pub present_at : (r : Option P) (v : P) (after : Option P) (size : ℕ) → Some v ≡ value_at (heap_of old.nodes) key → Frees charged limit old new key r (settled r after) size
+  pub present_at : (r : Option P) (v : P) (after : Option P) (going : Option Going) → Some v ≡ value_at (heap_of old.nodes) key → Frees charged limit old new key r (settled r after) going
       → MapChange old.nodes new.nodes (key_bytes k) (Some v) after
-  present_at r v after size found f = at_key (Some v) after (present_change old.nodes new.nodes key r v after f.edits.change found)
+  present_at r v after going found f = at_key (Some v) after (present_change old.nodes new.nodes key r v after f.edits.change found)
 
-  pub present_told : (r : Option P) (v : P) (after : Option P) (size : ℕ) → Some v ≡ value_at (heap_of old.nodes) key → Frees charged limit old new key r (settled r after) size
+  pub present_told : (r : Option P) (v : P) (after : Option P) (going : Option Going) → Some v ≡ value_at (heap_of old.nodes) key → Frees charged limit old new key r (settled r after) going
       → Told (call.ComputePresent k after) (reply.ComputePresent (Some (v, after)))
-  present_told r v after size found f =
-      told (call.ComputePresent k after) (reply.ComputePresent (Some (v, after))) (answered_present same old.nodes new.nodes k small v after (present_at r v after size found f))
+  present_told r v after going found f =
+      told (call.ComputePresent k after) (reply.ComputePresent (Some (v, after))) (answered_present same old.nodes new.nodes k small v after (present_at r v after going found f))
 
   -- the sizes of the nodes
   pub grown : (before : Option P) (v : P) → Adds charged limit old new key before v (wants_at (heap_of old.nodes) key) → bytes_of new.nodes ≡ bytes_of old.nodes + gain_of (map.get (wants_of old.nodes) k)
   grown before v a = a.bytes ∙ ap (λ z. bytes_of old.nodes + gain_of z) (ap (wants_at (heap_of old.nodes)) is ∙ sym (get_wants old.nodes k small))
 
-  pub freed : {Y : Type 0} (by : Option Y) (before after : Option P) → Frees charged limit old new key before after (freed_by by (lone_at (heap_of old.nodes) key))
-      → bytes_of new.nodes + freed_by by (map.get (lone_of old.nodes) k) ≡ bytes_of old.nodes
-  freed by before after f = ap (λ z. bytes_of new.nodes + freed_by by z) (get_lone old.nodes k small ∙ sym (ap (lone_at (heap_of old.nodes)) is)) ∙ f.bytes
+  -- and those that go
+  pub went : {Y : Type 0} (by : Option Y) (before after : Option P) → Frees charged limit old new key before after (going_by by (goes_at (heap_of old.nodes) key))
+      → Went (charged old.allocator) (limit old.allocator) (bytes_of old.nodes) (bytes_of new.nodes) (going_by by (map.get (goes_of old.nodes) k))
+  went by before after f =
+      subst (λ z. Went (charged old.allocator) (limit old.allocator) (bytes_of old.nodes) (bytes_of new.nodes) (going_by by z)) (ap (goes_at (heap_of old.nodes)) is ∙ sym (get_goes old.nodes k small)) f.bytes
+
+  -- and what is left then, if no lesser node was skipped
+  pub filled_still : {Y : Type 0} (by : Option Y) (before after : Option P) → Frees charged limit old new key before after (going_by by (goes_at (heap_of old.nodes) key))
+      → lacking_of old.nodes ≡ 0 → NoneSkipped (bytes_of old.nodes) (bytes_of new.nodes) (going_by by (map.get (goes_of old.nodes) k)) → lacking_of new.nodes ≡ 0
+  filled_still by before after f e n =
+      let none = subst (λ z. NoneSkipped (bytes_of old.nodes) (bytes_of new.nodes) (going_by by z)) (sym (ap (goes_at (heap_of old.nodes)) is ∙ sym (get_goes old.nodes k small))) n in
+      still_none old.nodes new.nodes (λ h. f.filled h none) e
 
 -- what is found at a key stands in the pairs
 pub found_at : {P A : Type 0} (t : Arena P A) (k : ℕ) → k < 2 ^ 64 → (key : List ℕ) → key ≡ key_bytes k → (o : Option P) → o ≡ value_at (heap_of t.nodes) key → o ≡ map.get (pairs_of t.nodes) k
@@ -99,7 +112,7 @@ refused_at t k small key is charged limit e r =
 
 -- an arena with its drainer, as contracts see it
 abbrev pub content : {A D : Type 0} → (A → ℕ) → D → Arena ℕ A → Content ℕ A D
-content charged d t = record { pairs = pairs_of t.nodes; nodes = nodes_of t.nodes; bytes = bytes_of t.nodes; base = charged t.allocator - bytes_of t.nodes; wants = wants_of t.nodes; lone = lone_of t.nodes; allocator = t.allocator; drainer = d }
+content charged d t = record { pairs = pairs_of t.nodes; nodes = nodes_of t.nodes; bytes = bytes_of t.nodes; lacking = lacking_of t.nodes; base = charged t.allocator - bytes_of t.nodes; wants = wants_of t.nodes; goes = goes_of t.nodes; allocator = t.allocator; drainer = d }
 
 module _ {A D : Type 0} (charged limit : A → ℕ) (d : D) (old new : Arena ℕ A) where
   keeps : Balances charged old new → KeepsLimit limit old new → KeepsCharge charged limit (content charged d old) (content charged d new)
@@ -110,8 +123,9 @@ module _ {A D : Type 0} (charged limit : A → ℕ) (d : D) (old new : Arena ℕ
     pairs = same_pairs old.nodes new.nodes same;
     nodes = same_nodes old.nodes new.nodes same;
     bytes = bytes_same old.nodes new.nodes same;
+    lacking = same_lacking old.nodes new.nodes same;
     wants = same_wants old.nodes new.nodes same;
-    lone = same_lone old.nodes new.nodes same;
+    goes = same_goes old.nodes new.nodes same;
   }
 
   module _ (k : ℕ) (small : k < 2 ^ 64) (key : List ℕ) (is : key ≡ key_bytes k) where
@@ -121,6 +135,7 @@ module _ {A D : Type 0} (charged limit : A → ℕ) (d : D) (old new : Arena ℕ
       answers = insert_told nat_eq charged limit old new k small key is before v _ a;
       fits = fitted_at old k small key is (charged old.allocator) (limit old.allocator) a.fits;
       bytes = grown nat_eq charged limit old new k small key is before v a;
+      filled = still_none old.nodes new.nodes a.filled;
       keeps = keeps a.edits.balance a.edits.same_limit;
     }
 
@@ -135,6 +150,7 @@ module _ {A D : Type 0} (charged limit : A → ℕ) (d : D) (old new : Arena ℕ
             answers = compute_told nat_eq charged limit old new k small key is found v _ b;
             fits = fitted_at old k small key is (charged old.allocator) (limit old.allocator) a.fits;
             bytes = grown nat_eq charged limit old new k small key is found v b;
+            filled = still_none old.nodes new.nodes a.filled;
             keeps = keeps a.edits.balance a.edits.same_limit;
           },
         )
@@ -148,30 +164,33 @@ module _ {A D : Type 0} (charged limit : A → ℕ) (d : D) (old new : Arena ℕ
       keeps = keeps r.balance r.same_limit;
     }
 
-    pub removes : (before : Option ℕ) → Frees charged limit old new key before None (freed_of (lone_at (heap_of old.nodes) key))
-        → Modifies nat_eq charged limit (content charged d old) (content charged d new) (freed_of (map.get (lone_of old.nodes) k)) (call.Remove k) (reply.Remove before)
+    pub removes : (before : Option ℕ) → Frees charged limit old new key before None (goes_at (heap_of old.nodes) key)
+        → Modifies nat_eq charged limit (content charged d old) (content charged d new) (map.get (goes_of old.nodes) k) (call.Remove k) (reply.Remove before)
     removes before f = record {
       answers = remove_told nat_eq charged limit old new k small key is before _ f;
-      bytes = freed nat_eq charged limit old new k small key is {Y = ℕ} None before None f;
+      bytes = went nat_eq charged limit old new k small key is {Y = ℕ} None before None f;
+      filled = filled_still nat_eq charged limit old new k small key is {Y = ℕ} None before None f;
       keeps = keeps f.edits.balance f.edits.same_limit;
     }
 
     pub settles : (r : Option ℕ) (v : ℕ) (after : Option ℕ) → Some v ≡ value_at (heap_of old.nodes) key
-        → Frees charged limit old new key r (settled r after) (freed_by after (lone_at (heap_of old.nodes) key))
-        → Modifies nat_eq charged limit (content charged d old) (content charged d new) (freed_by after (map.get (lone_of old.nodes) k)) (call.ComputePresent k after) (reply.ComputePresent (Some (v, after)))
+        → Frees charged limit old new key r (settled r after) (going_by after (goes_at (heap_of old.nodes) key))
+        → Modifies nat_eq charged limit (content charged d old) (content charged d new) (going_by after (map.get (goes_of old.nodes) k)) (call.ComputePresent k after) (reply.ComputePresent (Some (v, after)))
     settles r v after found f = record {
       answers = present_told nat_eq charged limit old new k small key is r v after _ found f;
-      bytes = freed nat_eq charged limit old new k small key is after r (settled r after) f;
+      bytes = went nat_eq charged limit old new k small key is after r (settled r after) f;
+      filled = filled_still nat_eq charged limit old new k small key is after r (settled r after) f;
       keeps = keeps f.edits.balance f.edits.same_limit;
     }
 
     pub exchanges : (r : Option ℕ) (v : ℕ) (after : Option ℕ) → Some v ≡ value_at (heap_of old.nodes) key
-        → Frees charged limit old new key r (settled r after) (freed_by after (lone_at (heap_of old.nodes) key))
-        → Modifies nat_eq charged limit (content charged d old) (content charged d new) (freed_by after (map.get (lone_of old.nodes) k)) (call.Exchange k v after) (reply.Exchange (Ok after))
+        → Frees charged limit old new key r (settled r after) (going_by after (goes_at (heap_of old.nodes) key))
+        → Modifies nat_eq charged limit (content charged d old) (content charged d new) (going_by after (map.get (goes_of old.nodes) k)) (call.Exchange k v after) (reply.Exchange (Ok after))
     exchanges r v after found f = record {
       answers = answer_pairs nat_eq old.nodes new.nodes (call.Exchange k v after) (reply.Exchange (Ok after))
           (exchange_done old.nodes new.nodes k small v after (present_at nat_eq charged limit old new k small key is r v after _ found f));
-      bytes = freed nat_eq charged limit old new k small key is after r (settled r after) f;
+      bytes = went nat_eq charged limit old new k small key is after r (settled r after) f;
+      filled = filled_still nat_eq charged limit old new k small key is after r (settled r after) f;
       keeps = keeps f.edits.balance f.edits.same_limit;
     }
 

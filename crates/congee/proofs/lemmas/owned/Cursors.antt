@@ -563,12 +563,12 @@ pub record IsByte {P : Type 0} (s : Nodes P) (at key b : ℕ) : Type 0 where
   pub byte : b ≡ get_or (key_bytes key) (length (heap_of s at).prefix) 0
   pub low : b < 256
 
--- the byte at a node, and what hangs there, as they are read with the key's bytes and the node's prefix
+-- the byte at a node, and what hangs there, as they are read with the key's bytes and the length of the node's prefix
 module _ {P : Type 0} (s : Nodes P) (at key : ℕ) (ks : List ℕ) (bytes : ks ≡ key_bytes key) where
-  pub byte_read : IsTree s → ContainsKey s at → (p : List ℕ) → p ≡ (heap_of s at).prefix → IsByte s at key (get_or ks (length p) 0)
-  byte_read t stands p prefix =
-      let byte : get_or ks (length p) 0 ≡ get_or (key_bytes key) (length (heap_of s at).prefix) 0 =
-      ap (λ y. get_or y (length p) 0) bytes ∙ ap (λ q. get_or (key_bytes key) (length q) 0) prefix in
+  pub byte_read : IsTree s → ContainsKey s at → (len : ℕ) → len ≡ length (heap_of s at).prefix → IsByte s at key (get_or ks len 0)
+  byte_read t stands len count =
+      let byte : get_or ks len 0 ≡ get_or (key_bytes key) (length (heap_of s at).prefix) 0 =
+      ap (λ y. get_or y len 0) bytes ∙ ap (λ k. get_or (key_bytes key) k 0) count in
       record { byte = byte; low = omega (arith, byte, byte_small key (length (heap_of s at).prefix) (omega (arith, short_prefix s t at stands))) }
 
   pub child_read : (x : Hung P) → child_for (heap_of s at) ks ≡ x → child_for (heap_of s at) (key_bytes key) ≡ x

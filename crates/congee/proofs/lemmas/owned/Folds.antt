@@ -8,6 +8,7 @@ use Rattle.slab.specs.Slab.{get, ContainsKey, HasRoomFor, Updates}
 use Rattle.congee.specs.forms.Bytes.{IsFirst}
 use Rattle.congee.specs.forms.Forms.{children_of, prefix_of}
 use Rattle.congee.specs.owned.Arena.{Nodes}
+use Rattle.congee.specs.owned.Entries.{first_byte}
 use Rattle.congee.specs.owned.Kinds.{IsValue}
 use Rattle.congee.specs.owned.Naming.{HasOwnSlot}
 use Rattle.congee.specs.owned.OwnedSteps.{Sets}
@@ -103,6 +104,11 @@ module _ {P : Type 0} (v : Nodes P) (at leaf : ℕ) (stands : ContainsKey v at) 
             let l2 = len_update v1 v2 leaf None gone in
             let d : counted (get v1 leaf) ≡ 1 = ap counted taken.updates.changed in
             omega (arith, l1, a, l2, d, room, c1, c2)
+
+        -- its key begins with the byte that led to it
+        pub fold_first : (b : ℕ) → ((x y : Node ℕ P) → get v at ≡ Some x → get v leaf ≡ Some y → get_or (prefix_of y) 0 0 ≡ first_byte (prefix_of x) b)
+            → (key p : List ℕ) → ((x : Node ℕ P) → get v leaf ≡ Some x → p ≡ prefix_of x) → get_or key 0 0 ≡ get_or p 0 0 → (x : Node ℕ P) → get v2 at ≡ Some x → get_or key 0 0 ≡ first_byte (prefix_of x) b
+        fold_first b begins key p prefix first x h = first ∙ (ap (λ q. get_or q 0 0) (prefix lies.0 lies.1) ∙ begins x lies.0 (sym kept ∙ h) lies.1)
 
         module _ (b : ℕ) (present : (y : Node ℕ P) → get v at ≡ Some y → map.get (children_of y) b ≡ Some (Sub leaf)) (own : HasOwnSlot leaf) where
           pub fold_present : (y : Node ℕ P) → get v2 at ≡ Some y → HasNode (map.get (children_of y) b)

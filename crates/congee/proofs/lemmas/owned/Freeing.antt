@@ -1,4 +1,4 @@
--- Edits that make no node, as insertions and as removals.
+-- Edits within a leaf, as insertions and as removals.
 use Rattle.std.proofs.Common.{◌≡◌, ℕ, List, refl, ap, arith}
 use Rattle.std.specs.Prelude.{Option, None, Some}
 use Rattle.congee.specs.Heap.{value_at}
@@ -15,15 +15,16 @@ module _ {P A : Type 0} (charged limit : A → ℕ) where
 
   -- a present key makes no node
   pub swap_adds : (old new : Arena P A) (key : List ℕ) (before : Option P) (value : P) → Swaps old new key before (Some value) → Adds charged limit old new key before value None
-  swap_adds old new key before value s = record { edits = swap_edits old new key before (Some value) s; fits = tt; bytes = omega (arith, s.bytes) }
+  swap_adds old new key before value s = record { edits = swap_edits old new key before (Some value) s; fits = tt; bytes = omega (arith, s.bytes); filled = s.filled }
 
-  -- a leaf with other values stays
-  pub swap_frees : (old new : Arena P A) (key : List ℕ) (before after : Option P) → Swaps old new key before after → Frees charged limit old new key before after 0
-  swap_frees old new key before after s = record { edits = swap_edits old new key before after s; bytes = omega (arith, s.bytes) }
+  -- where a value takes the place of another, no node goes
+  pub swap_frees : (old new : Arena P A) (key : List ℕ) (before after : Option P) → Swaps old new key before after → Frees charged limit old new key before after None
+  swap_frees old new key before after s = record { edits = swap_edits old new key before after s; bytes = s.bytes; filled = λ h _. s.filled h }
 
   -- an absent key leaves everything
-  pub none_frees : (t : Arena P A) (key : List ℕ) → IsTree t.nodes → value_at (heap_of t.nodes) key ≡ None → Frees charged limit t t key None None 0
+  pub none_frees : (t : Arena P A) (key : List ℕ) → IsTree t.nodes → value_at (heap_of t.nodes) key ≡ None → Frees charged limit t t key None None None
   none_frees t key tree absent = record {
     edits = record { tree = tree; change = none_change t.nodes key absent; balance = refl; same_limit = refl };
-    bytes = omega arith;
+    bytes = refl;
+    filled = λ h _. h;
   }

@@ -26,6 +26,7 @@ use Rattle.congee.specs.declared.forms.child.Child.TheVariants.{Blank, Node as S
 use Rattle.congee.proofs.lemmas.Fits.{same_test, other_test}
 use Rattle.congee.proofs.lemmas.Tree.{same_or_not}
 use Rattle.congee.proofs.lemmas.forms.Full.{full_at, full_is}
+use Rattle.congee.proofs.lemmas.owned.Fulls.{same_filled}
 use Rattle.congee.proofs.lemmas.owned.Joins.{add_leaf_done, drop_leaf_done, add_fork_done}
 use Rattle.congee.proofs.lemmas.owned.Moves.{node_at, one_node, apart_of, prefix_at, stands_at, differs_insert, differs_remove, insert_at, insert_beside, len_one, single, held_is, held_seven, Roomy, roomy_byte}
 use Rattle.congee.proofs.lemmas.owned.Renaming.{renamed}
@@ -152,6 +153,9 @@ module _ {P : Type 0} where
   roomy_inner s s' at r l x e =
       let p : length (prefix_of x) ≡ length (heap_of s at).prefix = ap length (ap prefix_of (one_node s' at x r.node e r.now) ∙ (r.prefix ∙ sym (prefix_at s at r.before r.was))) in
       omega (arith, p, l)
+
+  pub roomy_prefix : (s s' : Nodes P) (at : ℕ) → Roomy s s' at → (x : Form ℕ P) → get s' at ≡ Some x → prefix_of x ≡ (heap_of s at).prefix
+  roomy_prefix s s' at r x e = ap prefix_of (one_node s' at x r.node e r.now) ∙ (r.prefix ∙ sym (prefix_at s at r.before r.was))
 
   pub roomy_leaf : (s s' : Nodes P) (at : ℕ) → Roomy s s' at → length (heap_of s at).prefix ≡ 7 → (x : Form ℕ P) → get s' at ≡ Some x → length (prefix_of x) ≡ 7
   roomy_leaf s s' at r l x e = ap length (ap prefix_of (one_node s' at x r.node e r.now) ∙ (r.prefix ∙ sym (prefix_at s at r.before r.was))) ∙ l
@@ -460,7 +464,7 @@ module _ {P : Type 0} where
   hung_stands s t key above at h = below_stands s t above at key h.way.stands h.child
 
   pub not_renamed : (s : Nodes P) → IsTree s → Renamed s s
-  not_renamed s t = record { tree = t; values = λ k. refl; bytes = refl }
+  not_renamed s t = record { tree = t; values = λ k. refl; bytes = refl; filled = λ h. h }
 
   -- a node that was just made, and then got a leaf
   pub made_inner : (s s' : Nodes P) (n : ℕ) (p : List ℕ) → Makes s s' n p → length p < 7 → (x : Form ℕ P) → get s' n ≡ Some x → length (prefix_of x) < 7
@@ -502,7 +506,7 @@ module _ {P : Type 0} where
   pub same_renamed : (s s' : Nodes P) → SameNodes s s' → IsTree s → Renamed s s'
   same_renamed s s' e t =
       let h : heap_of s' ≡ heap_of s = λ i n. ap node_of (e n) i in
-      record { tree = same_tree s s' e t; values = λ k. ap (λ z. value_at z k) h; bytes = bytes_same s s' e }
+      record { tree = same_tree s s' e t; values = λ k. ap (λ z. value_at z k) h; bytes = bytes_same s s' e; filled = same_filled s s' e }
 
   pub same_way : (s s' : Nodes P) (key : List ℕ) (n : ℕ) → SameNodes s s' → OnWay s key n → OnWay s' key n
   same_way s s' key n e w = record { stands = same_stands s s' n e w.stands; fitted = ap (λ z. fits z.prefix key) (same_heap s s' n e) ∙ w.fitted }

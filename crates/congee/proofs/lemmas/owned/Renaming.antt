@@ -7,7 +7,8 @@ use Rattle.congee.specs.Ledger.{Linked, Gone, IsChild}
 use Rattle.congee.specs.forms.Forms.{form_of, size_of}
 use Rattle.congee.specs.owned.Arena.{Nodes, hung_in, node_of, heap_of, ledger_of, IsFilled, IsTree}
 use Rattle.congee.specs.owned.Changes.{Differs, MapChange}
-use Rattle.congee.specs.owned.Edits.{Edits, Swaps, Adds, Frees}
+use Rattle.congee.specs.owned.Edits.{Edits, Swaps, Adds}
+use Rattle.congee.specs.owned.Full.{HasEnough, NodesFilled}
 use Rattle.congee.specs.owned.Renames.{Renames, Renamed}
 use Rattle.congee.specs.owned.Sizes.{bytes_at, bytes_of}
 use Rattle.congee.specs.owned.Wanted.{InsertionFits, gain_of}
@@ -18,6 +19,7 @@ use Rattle.congee.proofs.lemmas.Rename.{Moves, in_place, move_tree, move_map}
 use Rattle.congee.proofs.lemmas.Tree.{same_or_not}
 use Rattle.congee.proofs.lemmas.owned.Edits.{wide_after}
 use Rattle.congee.proofs.lemmas.owned.Filled.{filled_at, filled_with, filled_none}
+use Rattle.congee.proofs.lemmas.owned.Fulls.{changed_enough, filled_then, here}
 use Rattle.congee.proofs.lemmas.owned.Moves.{differs_insert, stands_at}
 use Rattle.congee.proofs.lemmas.owned.Sizes.{bytes_named}
 use Rattle.congee.proofs.lemmas.owned.Totals.{total_same, total_update}
@@ -74,7 +76,8 @@ module _ {P : Type 0} (s s' : Nodes P) (p b n m : ℕ) (t : IsTree s) (k : Renam
     prefix = rw (hp, hq) differs.prefix;
     child = rw hq (ap hung_in differs.here);
     beside = λ c ne. rw (hp, hq) (ap hung_in (differs.beside c ne));
-    node = ap node_of (k.stands ∙ sym k.stood);
+    same_prefix = ap (λ o. (node_of o).prefix) (k.stands ∙ sym k.stood);
+    same_children = λ c. ap (λ o. (node_of o).children c) (k.stands ∙ sym k.stood);
     nodes = λ x nn nm np. ap node_of (k.others x np nn nm);
     joined = linked_of s' parent m (stands_at s' m k.node k.stands);
     left = left;
@@ -147,8 +150,22 @@ module _ {P : Type 0} (s s' : Nodes P) (p b n m : ℕ) (t : IsTree s) (k : Renam
       ]) in
       omega (arith, old, new, gone, come, at_n, had, at_m, none, all)
 
+module _ {P : Type 0} (s s' : Nodes P) (p b n m : ℕ) (t : IsTree s) (k : Renames s s' p b n m) where
+  -- the node under its new name has as many children, and so has the one above
+  renamed_filled : NodesFilled s → NodesFilled s'
+  renamed_filled h = filled_then s s' h (λ x y ne e. elim (same_or_not x m) [
+    | inl q ↦ inl (n, (λ z. root_apart s s' p b n m t k (sym z)), k.stood ∙ (sym k.stands ∙ (ap (λ w. get s' w) (sym q) ∙ e)))
+    | inr nm ↦ elim (same_or_not x n) [
+      | inl q ↦ absurd (let z : None ≡ Some y = sym k.left ∙ (ap (λ w. get s' w) (sym q) ∙ e) in cc)
+      | inr nn ↦ elim (same_or_not x p) [
+        | inl q ↦ inr (here s' HasEnough x p y k.new q e k.now (changed_enough k.old k.new b (Sub m) (Sub n) k.child k.becomes (h p k.old (λ z. ne (q ∙ z)) k.was)))
+        | inr np ↦ inl (x, ne, sym (k.others x np nn nm) ∙ e)
+      ]
+    ]
+  ])
+
 pub renamed : {P : Type 0} (s s' : Nodes P) (above byte before after : ℕ) → IsTree s → Renames s s' above byte before after → Renamed s s'
-renamed s s' p b n m t k = let r = renamed_is s s' p b n m t k in record { tree = r.0; values = r.1; bytes = renamed_bytes s s' p b n m t k }
+renamed s s' p b n m t k = let r = renamed_is s s' p b n m t k in record { tree = r.0; values = r.1; bytes = renamed_bytes s s' p b n m t k; filled = renamed_filled s s' p b n m t k }
 
 module _ {P : Type 0} where
   -- the map changes as it does beside a renaming
@@ -182,16 +199,15 @@ module _ {P A : Type 0} (charged limit : A → ℕ) (old mid new : Arena P A) (k
       edits = edits_renamed before (Some value) a.edits;
       fits = subst (λ t. InsertionFits wants (charged t) (limit t)) same a.fits;
       bytes = a.bytes ∙ ap (λ n. n + gain_of wants) r.bytes;
+      filled = λ h. a.filled (r.filled h);
     }
-
-    pub frees_renamed : (before after : Option P) (freed : ℕ) → Frees charged limit mid new key before after freed → Frees charged limit old new key before after freed
-    frees_renamed before after freed f = record { edits = edits_renamed before after f.edits; bytes = f.bytes ∙ r.bytes }
 
     pub swaps_renamed : (before after : Option P) → Swaps mid new key before after → Swaps old new key before after
     swaps_renamed before after w = record {
       tree = w.tree;
       change = change_renamed old.nodes mid.nodes new.nodes key before after r w.change;
       bytes = w.bytes ∙ r.bytes;
+      filled = λ h. w.filled (r.filled h);
       allocator = w.allocator ∙ same;
     }
 
@@ -206,15 +222,13 @@ module _ {P A : Type 0} (charged limit : A → ℕ) (old mid new : Arena P A) (k
     }
 
     pub renamed_adds : (before : Option P) (value : P) (wants : Option (List ℕ)) → Adds charged limit old mid key before value wants → Adds charged limit old new key before value wants
-    renamed_adds before value wants a = record { edits = renamed_edits before (Some value) a.edits; fits = a.fits; bytes = r.bytes ∙ a.bytes }
-
-    pub renamed_frees : (before after : Option P) (freed : ℕ) → Frees charged limit old mid key before after freed → Frees charged limit old new key before after freed
-    renamed_frees before after freed f = record { edits = renamed_edits before after f.edits; bytes = ap (λ n. n + freed) r.bytes ∙ f.bytes }
+    renamed_adds before value wants a = record { edits = renamed_edits before (Some value) a.edits; fits = a.fits; bytes = r.bytes ∙ a.bytes; filled = λ h. r.filled (a.filled h) }
 
     pub renamed_swaps : (before after : Option P) → Swaps old mid key before after → Swaps old new key before after
     renamed_swaps before after w = record {
       tree = r.tree;
       change = renamed_change old.nodes mid.nodes new.nodes key before after w.change r;
       bytes = r.bytes ∙ w.bytes;
+      filled = λ h. r.filled (w.filled h);
       allocator = same ∙ w.allocator;
     }

@@ -1,5 +1,5 @@
 -- A node that gets room for one more child.
-use Rattle.std.proofs.Common.{◌≡◌, ℕ, ◌+◌, ◌≤◌, true, false, List, [], ◌∷◌, refl, sym, ap, subst, ◌∙◌, arith, inl}
+use Rattle.std.proofs.Common.{◌≡◌, ℕ, ◌+◌, ◌≤◌, true, false, cond, List, [], ◌∷◌, refl, sym, ap, subst, ◌∙◌, arith, inl}
 use Rattle.std.specs.Prelude.{Bool, Some, Result, Ok, Err, OnOk, IfErr}
 use Rattle.std.specs.Result.{is_ok}
 use Rattle.slab.specs.Slab.{get, ContainsKey, HasRoomFor, SameValues}
@@ -26,7 +26,7 @@ same_keeps s s' e c n r = let l = len_same s s' e in omega (arith, l, c, r)
 module _ {P : Type 0} (s : Nodes P) (at : ℕ) (full : Bool) (stands : ContainsKey s at) (is : (x : Form ℕ P) → get s at ≡ Some x → full ≡ is_full_of x) where
   -- a node that isn't full
   pub roomy_now : full ≡ false → (x : Form ℕ P) → get s at ≡ Some x → MakesRoom s s at x
-  roomy_now f x e = record { node = x; prefixed = refl; children = refl; room = sym (is x e) ∙ f; wide = λ w. w; updates = record { changed = e; others = λ m ne. refl } }
+  roomy_now f x e = record { node = x; prefixed = refl; children = refl; form = sym (ap (λ b. cond b (next_form (form_of x)) (form_of x)) (sym (is x e) ∙ f)); room = sym (is x e) ∙ f; wide = λ w. w; updates = record { changed = e; others = λ m ne. refl } }
 
   pub roomy_wants : full ≡ false → room_for (heap_of s at) ≡ []
   roomy_wants f =
@@ -62,7 +62,7 @@ module _ {P : Type 0} (s : Nodes P) (at : ℕ) (full : Bool) (stands : ContainsK
       pub grown_now : (x : Form ℕ P) → get s at ≡ Some x → MakesRoom s s' at x
       grown_now x e =
           let k = grows x e in
-          record { node = k.node; prefixed = k.prefix; children = k.children; room = grown_room x k.node k.form k.children (sym (is x e) ∙ f); wide = grown_wide x k.node k.form; updates = k.updates }
+          record { node = k.node; prefixed = k.prefix; children = k.children; form = k.form ∙ sym (ap (λ b. cond b (next_form (form_of x)) (form_of x)) (sym (is x e) ∙ f)); room = grown_room x k.node k.form k.children (sym (is x e) ∙ f); wide = grown_wide x k.node k.form; updates = k.updates }
 
       pub grown_bytes : bytes_of s' + size_of form ≡ bytes_of s + size_of (next_form form)
       grown_bytes =

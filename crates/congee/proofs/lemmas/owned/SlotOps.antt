@@ -11,7 +11,8 @@ use Rattle.congee.specs.forms.Mapped.{mapped}
 use Rattle.congee.specs.Keys.{key_bytes}
 use Rattle.congee.specs.owned.Arena.{Nodes}
 use Rattle.congee.specs.owned.Changes.{IsLeafOf}
-use Rattle.congee.specs.owned.Kinds.{IsInner, InnerBecomes, full_in, inner_get}
+use Rattle.congee.specs.owned.Entries.{first_byte}
+use Rattle.congee.specs.owned.Kinds.{IsInner, InnerBecomes, full_in, inner_get, prefix_in}
 use Rattle.congee.specs.owned.Naming.{HasOwnSlot, IsByte, offset_of}
 use Rattle.congee.specs.owned.OwnedSteps.{Sets}
 use Rattle.congee.specs.owned.Slots.{inner_child, lone_node, with_children, in_slot, lone_in, nodes_in}
@@ -29,7 +30,7 @@ use Rattle.congee.proofs.lemmas.owned.Moves.{node_at, insert_at, insert_beside, 
 use Rattle.congee.proofs.lemmas.owned.SlotChanges.{AtInner, at_inner, inner_after, inner_slot, is_inner, inner_absent, inner_room, seen_after, lone_before, lone_after, others_after, stored_after}
 use Rattle.congee.proofs.lemmas.owned.SlotLens.{counted}
 use Rattle.congee.proofs.lemmas.owned.Stored.{lone_counts}
-use Rattle.congee.proofs.lemmas.owned.Slots.{get_inline, with_mapped, with_becomes}
+use Rattle.congee.proofs.lemmas.owned.Slots.{get_inline, with_mapped, with_becomes, with_prefix}
 
 module _ {P : Type 0} (i : ℕ) (n n' : Node ℕ (Lone P)) (y : Node ℕ P) (seen : with_children (inner_child i) n ≡ y) (b : ℕ) where
   children_seen : mapped (inner_child i) (children_of n) ≡ children_of y
@@ -96,7 +97,7 @@ lone_leaf lone key e = record {
 }
 
 -- a leaf that was found in its parent's place stands under its name
-pub inline_stands : {P : Type 0} (s : Slab (Slot (Lone P) P)) (v : Nodes P) (is : nodes_in s ≡ v) (i b key : ℕ) (x : Slot (Lone P) P) (n : Node ℕ (Lone P)) (lone : Lone P) → b < 256
+pub inline_stands : {P : Type 0} (s : Slab (Slot P)) (v : Nodes P) (is : nodes_in s ≡ v) (i b key : ℕ) (x : Slot P) (n : Node ℕ (Lone P)) (lone : Lone P) → b < 256
     → get s i ≡ Some x → x ≡ Inner n → map.get (children_of n) b ≡ Some (Value lone) → lone.key ≡ key_bytes key → StandsWith v (257 * i + (b + 1)) key lone.value
 inline_stands s v is i b key x n lone low e q h k = record {
   leaf = lone_node lone;
@@ -104,7 +105,7 @@ inline_stands s v is i b key x n lone low e q h k = record {
   has = lone_leaf lone (key_bytes key) k;
 }
 
-module _ {P : Type 0} (s : Slab (Slot (Lone P) P)) (v : Nodes P) (is : nodes_in s ≡ v) (at i b : ℕ) (y : Node ℕ P) (k : AtInner s v at i y) (low : b < 256) (n' : Node ℕ (Lone P)) where
+module _ {P : Type 0} (s : Slab (Slot P)) (v : Nodes P) (is : nodes_in s ≡ v) (at i b : ℕ) (y : Node ℕ P) (k : AtInner s v at i y) (low : b < 256) (n' : Node ℕ (Lone P)) where
   abbrev new : Nodes P
   new = nodes_in (with_value s i (Inner n'))
 
@@ -209,7 +210,7 @@ module _ {P : Type 0} (s : Slab (Slot (Lone P) P)) (v : Nodes P) (is : nodes_in 
     }
 
 -- so many more leaves may come into their parents' places
-pub spare_room : {P : Type 0} (s : Slab (Slot (Lone P) P)) (v : Nodes P) → nodes_in s ≡ v → (inline : ℕ) → IsStored s inline → (n : ℕ) → HasRoomFor v n → slab_len s + inline + n ≤ s.capacity
+pub spare_room : {P : Type 0} (s : Slab (Slot P)) (v : Nodes P) → nodes_in s ≡ v → (inline : ℕ) → IsStored s inline → (n : ℕ) → HasRoomFor v n → slab_len s + inline + n ≤ s.capacity
 unfolding nodes_in
 spare_room s v is inline st n r =
     let a : slab_len (nodes_in s) ≡ slab_len v = ap slab_len is in
@@ -217,11 +218,11 @@ spare_room s v is inline st n r =
     let k = st.counted in omega (arith, a, c, k, r)
 
 -- a change of one slot leaves the room
-pub same_room : {P : Type 0} (s : Slab (Slot (Lone P) P)) (v : Nodes P) → nodes_in s ≡ v → (i : ℕ) (x' : Slot (Lone P) P) → (nodes_in (with_value s i x')).capacity ≡ v.capacity
+pub same_room : {P : Type 0} (s : Slab (Slot P)) (v : Nodes P) → nodes_in s ≡ v → (i : ℕ) (x' : Slot P) → (nodes_in (with_value s i x')).capacity ≡ v.capacity
 unfolding nodes_in
 same_room s v is i x' = ap (λ w. w.capacity) is
 
-pub same_view_room : {P : Type 0} (s s' : Slab (Slot (Lone P) P)) (v : Nodes P) → nodes_in s ≡ v → s'.capacity ≡ s.capacity → (nodes_in s').capacity ≡ v.capacity
+pub same_view_room : {P : Type 0} (s s' : Slab (Slot P)) (v : Nodes P) → nodes_in s ≡ v → s'.capacity ≡ s.capacity → (nodes_in s').capacity ≡ v.capacity
 unfolding nodes_in
 same_view_room s s' v is e = e ∙ ap (λ w. w.capacity) is
 
@@ -231,7 +232,7 @@ own_slot at i None e l o = omega (arith, e)
 own_slot at i (Some b) e l o = absurd (omega (arith, e, l, o))
 
 -- what an operation on an inner node needs, and what it leaves
-module _ {P : Type 0} (s : Slab (Slot (Lone P) P)) (v : Nodes P) (is : nodes_in s ≡ v) (inline : ℕ) (st : IsStored s inline) (at i : ℕ) (byte : Option ℕ) (name : 257 * i + offset_of byte ≡ at) (fits : IsByte byte)
+module _ {P : Type 0} (s : Slab (Slot P)) (v : Nodes P) (is : nodes_in s ≡ v) (inline : ℕ) (st : IsStored s inline) (at i : ℕ) (byte : Option ℕ) (name : 257 * i + offset_of byte ≡ at) (fits : IsByte byte)
     (stands : ContainsKey v at) (inner : (y : Node ℕ P) → get v at ≡ Some y → length (prefix_of y) < 7) where
   at_node : (y : Node ℕ P) → get v at ≡ Some y → AtInner s v at i y
   at_node y h = at_inner s v is at i byte name fits st.kinds y h (inner y h)
@@ -242,16 +243,23 @@ module _ {P : Type 0} (s : Slab (Slot (Lone P) P)) (v : Nodes P) (is : nodes_in 
   pub has_slot : ContainsKey s i
   has_slot = rw (at_node there.0 there.1).stands refl
 
-  pub slot_inner : (x : Slot (Lone P) P) → get s i ≡ Some x → IsInner x
+  pub slot_inner : (x : Slot P) → get s i ≡ Some x → IsInner x
   slot_inner x e = is_inner s v at i there.0 (at_node there.0 there.1) x e
 
-  pub slot_absent : (x : Slot (Lone P) P) → get s i ≡ Some x → (b : ℕ) → ((y : Node ℕ P) → get v at ≡ Some y → map.get (children_of y) b ≡ None) → inner_get x b ≡ None
+  pub slot_absent : (x : Slot P) → get s i ≡ Some x → (b : ℕ) → ((y : Node ℕ P) → get v at ≡ Some y → map.get (children_of y) b ≡ None) → inner_get x b ≡ None
   slot_absent x e b h = inner_absent s v at i there.0 (at_node there.0 there.1) x e b (h there.0 there.1)
 
-  pub slot_room : (x : Slot (Lone P) P) → get s i ≡ Some x → ((y : Node ℕ P) → get v at ≡ Some y → is_full_of y ≡ false) → full_in x ≡ false
+  pub slot_room : (x : Slot P) → get s i ≡ Some x → ((y : Node ℕ P) → get v at ≡ Some y → is_full_of y ≡ false) → full_in x ≡ false
   slot_room x e h = inner_room s v at i there.0 (at_node there.0 there.1) x e (h there.0 there.1)
 
-  pub same_capacity : (x x' : Slot (Lone P) P) → (nodes_in (with_value s i x')).capacity ≡ v.capacity
+  -- the first byte of the keys under a byte
+  pub slot_first : (x : Slot P) → get s i ≡ Some x → (b first : ℕ) → ((y : Node ℕ P) → get v at ≡ Some y → first ≡ first_byte (prefix_of y) b) → first ≡ first_byte (prefix_in x) b
+  slot_first x e b first h =
+      let k = at_node there.0 there.1 in
+      let p : prefix_of there.0 ≡ prefix_in x = ap prefix_of (sym k.seen) ∙ (with_prefix (inner_child i) k.node ∙ ap prefix_in (sym (inner_slot s v at i there.0 k x e))) in
+      h there.0 there.1 ∙ ap (λ p. first_byte p b) p
+
+  pub same_capacity : (x x' : Slot P) → (nodes_in (with_value s i x')).capacity ≡ v.capacity
   unfolding nodes_in
   same_capacity x x' = ap (λ w. w.capacity) is
 
@@ -263,7 +271,7 @@ module _ {P : Type 0} (s : Slab (Slot (Lone P) P)) (v : Nodes P) (is : nodes_in 
       let seen = ap (λ w. get w (257 * i + (b + 1))) (sym is) ∙ (lone_before s i k.node k.node b k.stands low refl (λ r ne. refl) ∙ ap lone_in l.here) in
       rw seen refl
 
-  module _ (x x' : Slot (Lone P) P) (e : get s i ≡ Some x) (b : ℕ) (low : b < 256) where
+  module _ (x x' : Slot P) (e : get s i ≡ Some x) (b : ℕ) (low : b < 256) where
     kept : (y : Node ℕ P) → (k : AtInner s v at i y) → x ≡ Inner k.node
     kept y k = inner_slot s v at i y k x e
 

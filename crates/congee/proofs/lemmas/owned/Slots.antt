@@ -11,7 +11,6 @@ use Rattle.congee.specs.owned.Slots.{slot_name, inline_name, with_children, in_s
 use Rattle.congee.specs.declared.forms.base_node.Node.{Node}
 use Rattle.congee.specs.declared.forms.base_node.Node.TheVariants.{N4, N16, N48, N256}
 use Rattle.congee.specs.declared.forms.child.Child.{Child}
-use Rattle.congee.specs.declared.owned.lone.Lone.{Lone}
 use Rattle.congee.specs.declared.owned.slots.Slot.{Slot}
 use Rattle.congee.proofs.lemmas.forms.MappedLemmas.{len_mapped}
 
@@ -27,7 +26,7 @@ in_offset slot name e = omega (arith, e)
 pub low_offset : (name : ℕ) → name % 257 < 257
 low_offset name = omega arith
 
-module _ {P : Type 0} (s : Slab (Slot (Lone P) P)) where
+module _ {P : Type 0} (s : Slab (Slot P)) where
   -- every name has the node of its slot or place
   pub get_named : (name : ℕ) → get (nodes_in s) name ≡ node_named s.slots name
   unfolding nodes_in
@@ -52,7 +51,7 @@ module _ {P : Type 0} (s : Slab (Slot (Lone P) P)) where
 
 module _ {P : Type 0} where
   -- names of other slots
-  pub beside_slot : (s s' : Slab (Slot (Lone P) P)) (slot : ℕ) (o : Option (Slot (Lone P) P)) → Updates s s' slot o → (name : ℕ) → name / 257 ≢ slot
+  pub beside_slot : (s s' : Slab (Slot P)) (slot : ℕ) (o : Option (Slot P)) → Updates s s' slot o → (name : ℕ) → name / 257 ≢ slot
       → get (nodes_in s') name ≡ get (nodes_in s) name
   beside_slot s s' slot o u name ne =
       get_named s' name ∙ (ap (λ x. in_slot (name / 257) x (name % 257)) (u.others (name / 257) ne) ∙ sym (get_named s name))

@@ -1,5 +1,5 @@
 -- A node that stands under a name, and what is read of it.
-use Rattle.std.proofs.Common.{◌≡◌, ℕ, List, refl, sym, ◌∙◌}
+use Rattle.std.proofs.Common.{◌≡◌, ℕ, length, refl, sym, ap, ◌∙◌}
 use Rattle.std.specs.Prelude.{Option, Some, None, IsSome}
 use Rattle.slab.specs.Slab.{get, ContainsKey}
 use Rattle.congee.specs.forms.Forms.{prefix_of}
@@ -22,8 +22,8 @@ module _ {P : Type 0} where
       of None h = absurd (cc h)
       of (Some x) h = (x, refl)
 
-  -- its prefix, as it was read
-  pub prefix_read : (s : Nodes P) (n : ℕ) (p : List ℕ) → ContainsKey s n → ((x : Form ℕ P) → get s n ≡ Some x → p ≡ prefix_of x) → p ≡ (heap_of s n).prefix
-  prefix_read s n p h e =
+  -- the length of its prefix, as it was read
+  pub length_read : (s : Nodes P) (n len : ℕ) → ContainsKey s n → ((x : Form ℕ P) → get s n ≡ Some x → len ≡ length (prefix_of x)) → len ≡ length (heap_of s n).prefix
+  length_read s n len h e =
       let x = standing s n h in
-      e x.node x.is ∙ sym (prefix_is s n x.node x.is)
+      e x.node x.is ∙ ap length (sym (prefix_is s n x.node x.is))

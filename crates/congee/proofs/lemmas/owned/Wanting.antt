@@ -1,8 +1,7 @@
--- What an insertion makes and a removal takes, by the last node on the key's way.
+-- What an insertion makes, by the last node on the key's way.
 use Rattle.std.proofs.Common.{◌≡◌, ◌≢◌, ℕ, zero, suc, ◌+◌, ◌<◌, ◌≤◌, ◌^◌, inl, inr, Bool, true, false, cond, List, [], ◌∷◌, length, get_or, refl, sym, ap, subst, ◌∙◌, arith}
-use Rattle.std.specs.Prelude.{Option, None, Some, ◌==◌}
+use Rattle.std.specs.Prelude.{None, Some, ◌==◌}
 use Rattle.std.proofs.lemmas.Bool.Decides.{eqb_tells}
-use Rattle.std.specs.Option.{option_map}
 use Rattle.std.specs.FinMap as map
 use Rattle.slab.specs.Slab.{get, ContainsKey}
 use Rattle.congee.specs.Heap.{Hung, Nothing, Below, Holds, Node, fits, child_for}
@@ -18,7 +17,7 @@ use Rattle.congee.specs.declared.owned.place.Spot.TheVariants.{Held, Free, Apart
 use Rattle.congee.specs.declared.allocator.OOMError.{OOMError}
 use Rattle.congee.specs.owned.Sizes.{bytes_at}
 use Rattle.congee.specs.owned.Table.{table}
-use Rattle.congee.specs.owned.Wanted.{size_by, net, at_end, descend, room_for, free_wants, last_wants, wants_at, last_lone, lone_at, wants_of, lone_of, freed_of, freed_by, AllFit, IsRefusedOf, WantsLeaf}
+use Rattle.congee.specs.owned.Wanted.{size_by, net, at_end, descend, room_for, free_wants, last_wants, wants_at, wants_of, AllFit, IsRefusedOf, WantsLeaf}
 use Rattle.congee.specs.declared.forms.base_node.Node.{Node as Form}
 use Rattle.congee.specs.declared.forms.base_node.Node.TheVariants.{N4, N16, N48, N256}
 use Rattle.congee.specs.declared.forms.base_node.NodeType.TheVariants.{N256 as T256}
@@ -90,14 +89,6 @@ module _ {V X : Type 0} (apart : X) (last : Node V → Hung V → X) where
       → descend apart last (heap_of s) 8 0 key ≡ apart
   ends_apart s key n c t w e f = ends s key n (Below c) t w e ∙ rw f refl
 
-pub freed_absent : {Y : Type 0} (o : Option Y) (size : Option ℕ) → size ≡ None → freed_by o size ≡ 0
-freed_absent None size e = ap freed_of e
-freed_absent (Some y) size e = refl
-
-pub freed_map : {Y Z : Type 0} (f : Y → Z) (o : Option Y) (size : Option ℕ) → freed_by (option_map f o) size ≡ freed_by o size
-freed_map f None size = refl
-freed_map f (Some y) size = refl
-
 -- two least nodes that fitted one after the other
 pub both_fit : (c c' l l' : ℕ) → c' ≡ c + 64 → l' ≡ l → c + 64 ≤ l → c' + 64 ≤ l' → AllFit (64 ∷ 64 ∷ []) c l
 both_fit c c' l l' ec el f g = (f, (omega (arith, g, ec, el), tt))
@@ -122,20 +113,6 @@ module _ {P : Type 0} where
       → wants_at (heap_of s) key ≡ Some (64 ∷ 64 ∷ [])
   unfolding wants_at
   wants_apart s key n c t w e f = ends_apart (Some (64 ∷ 64 ∷ [])) last_wants s key n c t w e f
-
-  pub lone_free : (s : Nodes P) (key : List ℕ) (n : ℕ) → IsTree s → OnWay s key n → child_for (heap_of s n) key ≡ Nothing → lone_at (heap_of s) key ≡ None
-  unfolding lone_at
-  lone_free s key n t w e = ends None last_lone s key n Nothing t w e
-
-  pub lone_held : (s : Nodes P) (key : List ℕ) (n : ℕ) (v : P) → IsTree s → OnWay s key n → child_for (heap_of s n) key ≡ Holds v
-      → lone_at (heap_of s) key ≡ last_lone (heap_of s n) (Holds v)
-  unfolding lone_at
-  lone_held s key n v t w e = ends None last_lone s key n (Holds v) t w e
-
-  pub lone_apart : (s : Nodes P) (key : List ℕ) (n c : ℕ) → IsTree s → OnWay s key n → child_for (heap_of s n) key ≡ Below c → fits (heap_of s c).prefix key ≡ false
-      → lone_at (heap_of s) key ≡ None
-  unfolding lone_at
-  lone_apart s key n c t w e f = ends_apart None last_lone s key n c t w e f
 
   -- in a tree whose root has no children
   pub wants_leaf : (s : Nodes P) (root : Form ℕ P) → IsTree s → get s 0 ≡ Some root → form_of root ≡ T256 → children_of root ≡ map.empty → WantsLeaf (wants_of s)
@@ -234,49 +211,12 @@ module _ {P : Type 0} where
       let d : EndsAt s key p.at (Apart c) = subst E e l.ends in
       wants_apart s key p.at c t l.reached.way d.0 d.1
 
-  -- and of its removal
-  pub located_lone_free : (s : Nodes P) (key : List ℕ) (p : Place) → IsTree s → Located s key p → p.spot ≡ Free → lone_at (heap_of s) key ≡ None
-  located_lone_free s key p t l e =
-      let E : Spot → Type 0 = λ x. EndsAt s key p.at x in
-      lone_free s key p.at t l.reached.way (subst E e l.ends)
-
-  pub located_lone_apart : (s : Nodes P) (key : List ℕ) (p : Place) (c : ℕ) → IsTree s → Located s key p → p.spot ≡ Apart c → lone_at (heap_of s) key ≡ None
-  located_lone_apart s key p c t l e =
-      let E : Spot → Type 0 = λ x. EndsAt s key p.at x in
-      let d : EndsAt s key p.at (Apart c) = subst E e l.ends in
-      lone_apart s key p.at c t l.reached.way d.0 d.1
-
-  pub lone_one : (s : Nodes P) (key : List ℕ) (p : Place) (x : Form ℕ P) → IsTree s → Located s key p → p.spot ≡ Held → get s p.at ≡ Some x → map.len (children_of x) ≡ 1
-      → freed_of (lone_at (heap_of s) key) ≡ size_by (heap_of s p.at).capacity
-  lone_one s key p x t l e g one =
-      let h = located_held s key p t l e in
-      let n : (heap_of s p.at).count ≡ 1 = ap (λ o. (node_of o).count) g ∙ one in
-      ap freed_of (lone_held s key p.at h.value t l.reached.way h.holds ∙ ap (λ k. cond (k == 1) (Some (size_by (heap_of s p.at).capacity)) None) n)
-
-  pub lone_many : (s : Nodes P) (key : List ℕ) (p : Place) (x : Form ℕ P) → IsTree s → Located s key p → p.spot ≡ Held → get s p.at ≡ Some x → map.len (children_of x) ≢ 1
-      → freed_of (lone_at (heap_of s) key) ≡ 0
-  lone_many s key p x t l e g many =
-      let h = located_held s key p t l e in
-      let n : (heap_of s p.at).count ≡ map.len (children_of x) = ap (λ o. (node_of o).count) g in
-      let f : ((heap_of s p.at).count == 1) ≡ false = ap (λ k. k == 1) n ∙ elim (eqb_tells (map.len (children_of x)) 1) [ inl q ↦ absurd (many q.1) | inr q ↦ q.0 ] in
-      ap freed_of (lone_held s key p.at h.value t l.reached.way h.holds ∙ ap (λ b. cond b (Some (size_by (heap_of s p.at).capacity)) None) f)
-
   pub get_wants : (s : Nodes P) (k : ℕ) → k < 2 ^ 64 → map.get (wants_of s) k ≡ wants_at (heap_of s) (key_bytes k)
   unfolding wants_of
   get_wants s k small = table_below (λ k. wants_at (heap_of s) (key_bytes k)) (2 ^ 64) k small
-
-  pub get_lone : (s : Nodes P) (k : ℕ) → k < 2 ^ 64 → map.get (lone_of s) k ≡ lone_at (heap_of s) (key_bytes k)
-  unfolding lone_of
-  get_lone s k small = table_below (λ k. lone_at (heap_of s) (key_bytes k)) (2 ^ 64) k small
 
   pub same_wants : (s s' : Nodes P) → SameNodes s s' → wants_of s' ≡ wants_of s
   unfolding wants_of
   same_wants s s' e =
       let h : heap_of s' ≡ heap_of s = λ i n. ap node_of (e n) i in
       ap (λ g. table (λ k. wants_at g (key_bytes k)) (2 ^ 64)) h
-
-  pub same_lone : (s s' : Nodes P) → SameNodes s s' → lone_of s' ≡ lone_of s
-  unfolding lone_of
-  same_lone s s' e =
-      let h : heap_of s' ≡ heap_of s = λ i n. ap node_of (e n) i in
-      ap (λ g. table (λ k. lone_at g (key_bytes k)) (2 ^ 64)) h

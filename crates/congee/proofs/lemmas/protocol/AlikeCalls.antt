@@ -1,5 +1,5 @@
 -- A call among others, and the same call by numbers.
-use Rattle.std.proofs.Common.{◌≡◌, ℕ, ◌-◌, Bool, cond, List, length, refl, sym, ◌∙◌, ap, subst, arith}
+use Rattle.std.proofs.Common.{◌≡◌, ℕ, ◌-◌, Bool, false, cond, List, length, refl, sym, ◌∙◌, ap, subst, arith}
 use Rattle.std.specs.Prelude.{Option, Some, slice_get, ltb, leb}
 use Rattle.congee.specs.declared.forms.base_node.NodeType.{NodeType}
 use Rattle.congee.specs.declared.protocol.op.Op.{Op}
@@ -29,16 +29,16 @@ module _ {C V : Type 0} (number : C → ℕ) (same : V → V → Bool) (always :
   protocol_of a h ms p = record { notes = a; tree = p.tree; words = p.words; each = p.each }
 
   pub step_alike : (most : ℕ) (why : NodeType → Refusal → Type 0) → ((form : NodeType) → why form refusal.Exhausted → ⊥) → (seen : Option (Seen Mark V)) (i : ℕ) (a : ℕ → Note) (h g h' : ℕ → Node V) (ms : List (Machine C V)) (m m' : Machine C V) (d : Move V)
-      (fail : Bool) (answer : Option (Option V)) (order : List ℕ) (q : Machine ℕ V) (k : ℕ) → ProtocolAt number same always a h ms → slice_get ms i ≡ Some m → Stepped number same always most why m h fail answer m' h' d → IsUnrefused d.outcome
+      (fail : Bool) (answer : Option (Option V)) (order : List ℕ) (q : Machine ℕ V) (k : ℕ) → ProtocolAt number same always a h ms → slice_get ms i ≡ Some m → Stepped number same always most why m h fail answer m' h' d → IsUnrefused d.outcome → d.skipped ≡ false
       → Ordered order h → HeapAlike order h g → k ≡ length order → CallAlike order number h m q
       → MovedAlike order number h' m' d q (plain_step same most q (record { fail = fail; seen = seen; answer = answer }) g k)
-  step_alike most why never seen i a h g h' ms m m' d fail answer order q k p at s un o x e c =
+  step_alike most why never seen i a h g h' ms m m' d fail answer order q k p at s un sk o x e c =
       let known : EachKnown number same always a h i m = p.each i m at in
       let may = may_step number same always h ms i m (protocol_of a h ms p) at in
       let T : Machine ℕ V → Type 0 = λ z. WentAlike order number h' m'.given (record { phase = m'.phase; report = d }) (plain_step same most z (record { fail = fail; seen = seen; answer = answer }) g k) in
       let w : WentAlike order number h' m'.given (record { phase = m'.phase; report = d }) (plain_step same most (record { root = q.root; key = m.key; kind = m.kind; given = m.given; phase = q.phase }) (record { fail = fail; seen = seen; answer = answer }) g k) =
       phase_alike number same always most why never order h g o x k e m.root q.root c.root (key_bytes m.key) (key_length m.key) m.kind fail seen answer m.given m.phase q.phase h' m'.given (record { phase = m'.phase; report = d }) c.phase may
-      (holds_right number same always i a h m.key (key_bytes m.key) m.kind m.given p.tree m.phase known.known) un s.step in
+      (holds_right number same always i a h m.key (key_bytes m.key) m.kind m.given p.tree m.phase known.known) un sk s.step in
       let same_call : q ≡ record { root = q.root; key = m.key; kind = m.kind; given = m.given; phase = q.phase } =
       ap (λ z. record { root = q.root; key = z; kind = q.kind; given = q.given; phase = q.phase }) c.key
       ∙ ap (λ z. record { root = q.root; key = m.key; kind = z; given = q.given; phase = q.phase }) c.kind

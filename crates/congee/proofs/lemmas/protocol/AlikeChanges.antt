@@ -1,21 +1,23 @@
 -- The changes that a call makes of nodes on a store, and of the same nodes by their numbers.
-use Rattle.std.proofs.Common.{◌≡◌, ◌≢◌, ℕ, List, refl, sym, ◌∙◌, ap, subst, inl, inr}
-use Rattle.std.specs.Prelude.{Option, None, Some, slice_index}
+use Rattle.std.proofs.Common.{◌≡◌, ◌≢◌, ℕ, zero, suc, ◌+◌, ◌<◌, ◌≤◌, cond, arith, List, refl, sym, ◌∙◌, ap, subst, inl, inr}
+use Rattle.std.specs.Prelude.{Option, None, Some, slice_index, slice_get}
+use Rattle.congee.specs.declared.protocol.phase.Parent.{Parent}
 use Rattle.congee.specs.declared.protocol.phase.Single.{Single}
 use Rattle.congee.specs.declared.protocol.phase.Single.TheVariants.{Set, Link}
 use Rattle.congee.specs.declared.protocol.phase.One.{One}
 use Rattle.congee.specs.declared.protocol.phase.Double.{Double}
-use Rattle.congee.specs.declared.protocol.phase.Double.TheVariants.{Unlink, Grow, GrowLink, Split}
+use Rattle.congee.specs.declared.protocol.phase.Double.TheVariants.{Unlink, Grow, GrowLink, Split, Shrink, Collapse, ShrinkAbove}
 use Rattle.congee.specs.declared.protocol.phase.Two.{Two}
 use Rattle.congee.specs.declared.protocol.phase.Phase.{Phase}
 use Rattle.congee.specs.declared.protocol.phase.Phase.TheVariants.{ChangeTwo}
-use Rattle.congee.specs.Heap.{Node, Hung, Below, Stands}
-use Rattle.congee.specs.protocol.Alike.{Ordered, HungAlike, HeapAlike, Named, SeatAlike, SingleAlike, DoubleAlike, TwoAlike}
-use Rattle.congee.specs.protocol.Events.{ChangeGives, HoldsValues, HoldsNodes, TakeOverGives, BackGives}
-use Rattle.congee.specs.protocol.PlainSteps.{back, hang, copy, clear, back_one, back_two, change_one, change_two}
-use Rattle.congee.specs.protocol.Steps.{BackOne, BackTwo, value_hung, ChangedOne, ChangedTwo, MayBackOne, MayBackTwo, MayChangeOne, MayChangeTwo}
+use Rattle.congee.specs.Heap.{Node, Hung, Nothing, Below, Stands}
+use Rattle.congee.specs.protocol.Alike.{Ordered, HungAlike, NodeAlike, HeapAlike, Named, SeatAlike, TopAlike, SingleAlike, DoubleAlike, TwoAlike}
+use Rattle.congee.specs.protocol.Events.{IsOther, ChangeGives, HoldsValues, HoldsNodes, TakeOverGives, BackGives}
+use Rattle.congee.specs.protocol.PlainSteps.{name_or, other_from, other_of, change_top, back, hang, copy, clear, back_one, back_two, change_one, change_two}
+use Rattle.congee.specs.protocol.Steps.{PutsLesser, Collapses, Lessens, MayLessen, MayTop, BackOne, BackTwo, value_hung, ChangedOne, ChangedTwo, MayBackOne, MayBackTwo, MayChangeOne, MayChangeTwo}
 use Rattle.congee.specs.declared.forms.prefix.TheConstants.{MAX_PREFIX_LEN}
 use Rattle.congee.proofs.lemmas.Tree.{same_or_not}
+use Rattle.congee.proofs.lemmas.Fits.{same_test, other_test}
 use Rattle.congee.proofs.lemmas.protocol.AlikeHeaps.{Pair, pair_same, pair_then, ordered_still, pair_back, pair_hung, pair_copied, pair_cleared}
 
 stands_changed : {V : Type 0} (h : ℕ → Node V) (n b : ℕ) (v : Hung V) (h' : ℕ → Node V) (c : ℕ) → ChangeGives h n b v h' → Stands (h c) → Stands (h' c)
@@ -36,14 +38,16 @@ stands_over h m d h' c k s = elim (same_or_not c d) [
 stands_at : {V : Type 0} (a b : Node V) → a ≡ b → Stands b → Stands a
 stands_at {V} a b e s = let P : Node V → Type 0 = λ z. Stands z in subst P (sym e) s
 
--- what a node holds whose children a greater one takes over: a leaf holds values, an inner node nodes
-abbrev pub HoldsFor : {C V : Type 0} → Double C → Node V → Type 0
-HoldsFor (Grow c) n = HoldsValues n
-HoldsFor (GrowLink c leaf byte) n = HoldsNodes n
-HoldsFor _ n = Unit {0}
+-- what a node holds whose children another one takes over: a leaf holds values, an inner node nodes
+abbrev pub HoldsFor : {C V : Type 0} → Double C → Node V → Node V → Type 0
+HoldsFor (Grow c) n p = HoldsValues n
+HoldsFor (GrowLink c leaf byte) n p = HoldsNodes n
+HoldsFor (Shrink c) n p = HoldsValues n
+HoldsFor (ShrinkAbove c) n p = HoldsNodes p
+HoldsFor _ n p = Unit {0}
 
 abbrev pub HoldsRight : {C V : Type 0} → (C → ℕ) → (ℕ → Node V) → Phase C V → Type 0
-HoldsRight number h (ChangeTwo two r) = HoldsFor two.change (h (number two.at.node))
+HoldsRight number h (ChangeTwo two r) = HoldsFor two.change (h (number two.at.node)) (h (number two.above.seat.node))
 HoldsRight number h _ = Unit {0}
 
 module _ {C V : Type 0} (order : List ℕ) (number : C → ℕ) where
@@ -68,6 +72,9 @@ module _ {C V : Type 0} (order : List ℕ) (number : C → ℕ) where
 
     pub back_two_pair : (c : Double C) (y : Double ℕ) → DoubleAlike order number c y → MayBackTwo number h c → BackTwo number h c h' → Pair order h h' (back_two y g)
     back_two_pair Unlink y e may k = let P : Double ℕ → Type 0 = λ z. Pair order h h' (back_two z g) in subst P (sym e) (pair_same order h h' g k x)
+    back_two_pair (Shrink c) y e may k = let P : Double ℕ → Type 0 = λ z. Pair order h h' (back_two z g) in subst P (sym e.1) (pair_back order h g o x (number c) e.0 h' e.2 may k)
+    back_two_pair Collapse y e may k = let P : Double ℕ → Type 0 = λ z. Pair order h h' (back_two z g) in subst P (sym e) (pair_same order h h' g k x)
+    back_two_pair (ShrinkAbove c) y e may k = let P : Double ℕ → Type 0 = λ z. Pair order h h' (back_two z g) in subst P (sym e.1) (pair_back order h g o x (number c) e.0 h' e.2 may k)
     back_two_pair (Grow c) y e may k = let P : Double ℕ → Type 0 = λ z. Pair order h h' (back_two z g) in subst P (sym e.1) (pair_back order h g o x (number c) e.0 h' e.2 may k)
     back_two_pair (GrowLink c leaf byte) y e may k = let P : Double ℕ → Type 0 = λ z. Pair order h h' (back_two z g) in subst P (sym e.2) (both_back leaf c e.1 e.0 k.0 e.4 e.3 may.0 may.1 may.2 k.1 k.2)
     back_two_pair (Split top leaf common byte) y e may k = let P : Double ℕ → Type 0 = λ z. Pair order h h' (back_two z g) in subst P (sym e.2) (both_back leaf top e.1 e.0 k.0 e.4 e.3 may.0 may.1 may.2 k.1 k.2)
@@ -89,6 +96,29 @@ module _ {C V : Type 0} (order : List ℕ) (number : C → ℕ) where
         (λ o1 x1. pair_hung order k.0 (hang g e.0 (slice_index key MAX_PREFIX_LEN) (value_hung (Some v))) o1 x1 (number one.at.node) u.at.node one.byte (Below (number leaf)) (Below e.0) h' st.node
         (stands_changed h (number leaf) _ _ k.0 (number one.at.node) k.1 may.0.stands) (e.0, refl, e.2) k.2)))
 
+  -- the other child, by its number
+  other_is : (n : Node V) (b at c : ℕ) → at ≢ b → n.children at ≡ Below c → ((x : ℕ) → x ≢ b → x ≢ at → n.children x ≡ Nothing) → (f from : ℕ) → from ≤ at → at < from + f → other_from n b f from ≡ c
+  other_is n b at c ne e alone zero from l m = absurd (omega (arith, l, m))
+  other_is n b at c ne e alone (suc f) from l m = elim (same_or_not from b) [
+    | inl q ↦ ap (λ z. cond z (other_from n b f (from + 1)) (name_or (n.children from) (other_from n b f (from + 1)))) (same_test from b q) ∙ other_is n b at c ne e alone f (from + 1) (past q) (omega (arith, m))
+    | inr nb ↦ ap (λ z. cond z (other_from n b f (from + 1)) (name_or (n.children from) (other_from n b f (from + 1)))) (other_test from b nb) ∙ elim (same_or_not from at) [
+      | inl q ↦ (let P : ℕ → Type 0 = λ z. name_or (n.children z) (other_from n b f (from + 1)) ≡ c in subst P (sym q) (ap (λ z. name_or z (other_from n b f (from + 1))) e))
+      | inr na ↦ ap (λ z. name_or z (other_from n b f (from + 1))) (alone from nb na) ∙ other_is n b at c ne e alone f (from + 1) (omega (arith, l, na)) (omega (arith, m))
+    ]
+  ] where
+    past : from ≡ b → from + 1 ≤ at
+    past q = let z : from ≢ at = (λ r. ne (sym r ∙ q)) in omega (arith, l, z)
+
+  nothing_alike : (x y : Hung V) → HungAlike order x y → x ≡ Nothing → y ≡ Nothing
+  nothing_alike x y a e = let P : Hung V → Type 0 = λ z. HungAlike order z y in subst P e a
+
+  other_named : (n m : Node V) (b c : ℕ) → NodeAlike order n m → IsOther n b c → HungAlike {V = V} order (Below c) (Below (other_of m b))
+  other_named n m b c a is =
+      let P : Hung V → Type 0 = λ z. HungAlike order z (m.children is.at) in
+      let y : (d : ℕ) × (m.children is.at ≡ Below d) × (slice_get order d ≡ Some c) = subst P is.child (a.children is.at) in
+      let e : other_of m b ≡ y.0 = other_is m b is.at y.0 is.apart y.1 (λ z nb na. nothing_alike (n.children z) (m.children z) (a.children z) (is.alone z nb na)) 256 0 (omega arith) (omega (arith, is.fits)) in
+      (y.0, ap Below e, y.2)
+
   -- a change of the node above
   module _ (h g : ℕ → Node V) (o : Ordered order h) (x : HeapAlike order h g) (h' : ℕ → Node V) (key : List ℕ) (two : Two C) (u : Two ℕ) (e : TwoAlike order number two u) where
     abbrev p : ℕ
@@ -107,6 +137,41 @@ module _ {C V : Type 0} (order : List ℕ) (number : C → ℕ) where
     hung_above a b w z oa xa s l k =
         let Q : ℕ → Type 0 = λ y. Pair order a h' (hang b u.above.seat.node y z) in
         subst Q (sym e.above.byte) (pair_hung order a b oa xa p u.above.seat.node two.above.byte w z h' e.above.seat.node s l k)
+
+    -- a lesser node without one child comes in the place of another one
+    lesser_leaf : (m c b q up mn cn qn : ℕ) → slice_get order mn ≡ Some m → slice_get order cn ≡ Some c → slice_get order qn ≡ Some q → HoldsValues (h m) → MayLessen h m c b q up → PutsLesser h m c b q up h'
+        → Pair order h h' (hang (hang (clear (copy g mn cn) mn) cn b Nothing) qn up (Below cn))
+    lesser_leaf m c b q up mn cn qn em ec eq holds may k =
+        next h k.0 h' (clear (copy g mn cn) mn) _ o (pair_cleared order h g o x m c mn cn k.0 em ec may.stands may.blank.stands may.old_apart k.2 holds)
+        (λ o1 x1. next k.0 k.1 h' (hang (clear (copy g mn cn) mn) cn b Nothing) _ o1
+        (pair_hung order k.0 _ o1 x1 c cn b Nothing Nothing k.1 ec (stands_over h m c k.0 c k.2 may.blank.stands) refl k.3)
+        (λ o2 x2. pair_hung order k.1 _ o2 x2 q qn up (Below c) (Below cn) h' eq (stands_changed k.0 c _ _ k.1 q k.3 (stands_over h m c k.0 q k.2 may.above.stands)) (cn, refl, ec) k.4))
+
+    lesser_inner : (m c b q up mn cn qn : ℕ) → slice_get order mn ≡ Some m → slice_get order cn ≡ Some c → slice_get order qn ≡ Some q → HoldsNodes (h m) → MayLessen h m c b q up → PutsLesser h m c b q up h'
+        → Pair order h h' (hang (hang (copy g mn cn) cn b Nothing) qn up (Below cn))
+    lesser_inner m c b q up mn cn qn em ec eq holds may k =
+        next h k.0 h' (copy g mn cn) _ o (pair_copied order h g o x m c mn cn k.0 em ec may.stands may.blank.stands may.old_apart k.2 holds)
+        (λ o1 x1. next k.0 k.1 h' (hang (copy g mn cn) cn b Nothing) _ o1
+        (pair_hung order k.0 _ o1 x1 c cn b Nothing Nothing k.1 ec (stands_over h m c k.0 c k.2 may.blank.stands) refl k.3)
+        (λ o2 x2. pair_hung order k.1 _ o2 x2 q qn up (Below c) (Below cn) h' eq (stands_changed k.0 c _ _ k.1 q k.3 (stands_over h m c k.0 q k.2 may.above.stands)) (cn, refl, ec) k.4))
+
+    collapse_pair : (top : Option (Parent C)) (y : Option (Parent ℕ)) → TopAlike order number top y → MayTop number two Collapse top h → Collapses number two top h h' → Pair order h h' (change_top u Collapse y g)
+    collapse_pair None y a may k = absurd may
+    collapse_pair (Some top) y a may k =
+        let P : Option (Parent ℕ) → Type 0 = λ z. Pair order h h' (change_top u Collapse z g) in
+        let Q : ℕ → Type 0 = λ z. Pair order h h' (hang g a.0.seat.node z (Below (other_of (g u.above.seat.node) u.above.byte))) in
+        let S : ℕ → Type 0 = λ z. HungAlike {V = V} order (Below k.0) (Below (other_of (g u.above.seat.node) z)) in
+        let is : HungAlike {V = V} order (Below k.0) (Below (other_of (g u.above.seat.node) u.above.byte)) = subst S (sym e.above.byte) (other_named (h p) (g u.above.seat.node) two.above.byte k.0 (x u.above.seat.node p e.above.seat.node may.stands) k.1) in
+        subst P (sym a.1) (subst Q (sym a.2.byte) (pair_hung order h g o x (number top.seat.node) a.0.seat.node top.byte (Below k.0) (Below (other_of (g u.above.seat.node) u.above.byte)) h' a.2.seat.node may.stands_top is k.2))
+
+    lessen_pair : (c : C) (m : ℕ) → Named order number c m → HoldsNodes (h p) → (top : Option (Parent C)) (y : Option (Parent ℕ)) → TopAlike order number top y → MayTop number two (ShrinkAbove c) top h → Lessens number two c top h h'
+        → Pair order h h' (change_top u (ShrinkAbove m) y g)
+    lessen_pair c m at holds None y a may k = absurd may
+    lessen_pair c m at holds (Some top) y a may k =
+        let P : Option (Parent ℕ) → Type 0 = λ z. Pair order h h' (change_top u (ShrinkAbove m) z g) in
+        let Q : ℕ → Type 0 = λ z. Pair order h h' (hang (hang (copy g u.above.seat.node m) m u.above.byte Nothing) a.0.seat.node z (Below m)) in
+        let S : ℕ → Type 0 = λ z. Pair order h h' (hang (hang (copy g u.above.seat.node m) m z Nothing) a.0.seat.node top.byte (Below m)) in
+        subst P (sym a.1) (subst Q (sym a.2.byte) (subst S (sym e.above.byte) (lesser_inner p (number c) two.above.byte (number top.seat.node) top.byte u.above.seat.node m a.0.seat.node e.above.seat.node at a.2.seat.node holds may k)))
 
     grow_pair : (v : V) (c : C) (m : ℕ) → Named order number c m → HoldsValues (h n) → MayChangeTwo number key (Some v) two (Grow c) h → ChangedTwo number key (Some v) two (Grow c) h h' → Pair order h h' (change_two key (Some v) u (Grow m) g)
     grow_pair v c m at holds may k =
@@ -143,10 +208,18 @@ module _ {C V : Type 0} (order : List ℕ) (number : C → ℕ) where
         (λ o3 x3. hung_above k.2 _ (Below (number top)) (Below m) o3 x3
         (stands_changed k.1 (number top) _ _ k.2 p k.5 (stands_changed k.0 (number top) _ _ k.1 p k.4 (stands_changed h (number leaf) _ _ k.0 p k.3 may.0.stands))) (m, refl, at) k.6)))
 
-    pub change_two_pair : (new : Option V) (c : Double C) (y : Double ℕ) → DoubleAlike order number c y → HoldsFor c (h n) → MayChangeTwo number key new two c h → ChangedTwo number key new two c h h' → Pair order h h' (change_two key new u y g)
+    pub change_two_pair : (new : Option V) (c : Double C) (y : Double ℕ) → DoubleAlike order number c y → HoldsFor c (h n) (h p) → MayChangeTwo number key new two c h → ChangedTwo number key new two c h h' → Pair order h h' (change_two key new u y g)
     change_two_pair new Unlink y d holds may k =
         let P : Double ℕ → Type 0 = λ z. Pair order h h' (change_two key new u z g) in
         subst P (sym d) (hung_above h g _ _ o x may.stands refl k)
+    change_two_pair new (Shrink c) y d holds may k =
+        let P : Double ℕ → Type 0 = λ z. Pair order h h' (change_two key new u z g) in
+        let Q : ℕ → Type 0 = λ z. Pair order h h' (hang (hang (clear (copy g u.at.node d.0) u.at.node) d.0 last Nothing) u.above.seat.node z (Below d.0)) in
+        subst P (sym d.1) (subst Q (sym e.above.byte) (lesser_leaf n (number c) last p two.above.byte u.at.node d.0 u.above.seat.node e.at.node d.2 e.above.seat.node holds may k))
+    change_two_pair new Collapse y d holds may k =
+        let P : Double ℕ → Type 0 = λ z. Pair order h h' (change_two key new u z g) in subst P (sym d) (collapse_pair two.top u.top e.top may k)
+    change_two_pair new (ShrinkAbove c) y d holds may k =
+        let P : Double ℕ → Type 0 = λ z. Pair order h h' (change_two key new u z g) in subst P (sym d.1) (lessen_pair c d.0 d.2 holds two.top u.top e.top may k)
     change_two_pair None (Grow c) y d holds may k = absurd may
     change_two_pair None (GrowLink c leaf byte) y d holds may k = absurd may
     change_two_pair None (Split top leaf common byte) y d holds may k = absurd may

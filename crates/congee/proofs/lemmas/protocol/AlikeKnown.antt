@@ -7,9 +7,9 @@ use Rattle.std.proofs.lemmas.List.Elements.{All-contains}
 use Rattle.congee.specs.declared.protocol.store.Seat.{Seat}
 use Rattle.congee.specs.declared.protocol.phase.Kind.{Kind}
 use Rattle.congee.specs.declared.protocol.phase.Double.{Double}
-use Rattle.congee.specs.declared.protocol.phase.Double.TheVariants.{Unlink, Grow, GrowLink, Split}
+use Rattle.congee.specs.declared.protocol.phase.Double.TheVariants.{Unlink, Grow, GrowLink, Split, Shrink, Collapse, ShrinkAbove}
 use Rattle.congee.specs.declared.protocol.phase.Phase.{Phase}
-use Rattle.congee.specs.declared.protocol.phase.Phase.TheVariants.{New, Version, Read, Check, CheckUncopied, CheckMiss, CheckDown, CheckOld, MakeLeaf, MakeGreater, MakeTop, MakeBeside, AskOld, AskNew, Confirm, CheckAbove, UpgradeOne, ChangeOne, UpgradeAbove, UpgradeBelow, ChangeTwo, Obsolete, Retire, UnlockBelow, Unlock, Unwind, Sweep, Ended}
+use Rattle.congee.specs.declared.protocol.phase.Phase.TheVariants.{New, Version, Read, Check, CheckUncopied, CheckMiss, CheckDown, CheckOld, MakeLeaf, MakeGreater, MakeTop, MakeBeside, MakeLesser, AskOld, AskNew, Confirm, CheckAbove, UpgradeOne, ChangeOne, UpgradeTop, UpgradeAbove, UpgradeBelow, ChangeTwo, Obsolete, Retire, UnlockBelow, Unlock, Unwind, Sweep, Ended}
 use Rattle.congee.specs.declared.protocol.sweep.Stage.{Stage}
 use Rattle.congee.specs.declared.protocol.sweep.Stage.TheVariants as stage
 use Rattle.congee.specs.declared.protocol.sweep.Sweep.{Sweep as Scan}
@@ -40,16 +40,19 @@ inner_holds : {V : Type 0} (a : ℕ → Note) (h : ℕ → Node V) (n : ℕ) →
 inner_holds a h n t l e b v k = let z : length (h n).prefix ≡ 7 = t.leaves n b v l k in omega (arith, z, e)
 
 module _ {C V : Type 0} (number : C → ℕ) (same : V → V → Bool) (always : Bool) (i : ℕ) (a : ℕ → Note) (h : ℕ → Node V) (k : ℕ) (key : List ℕ) (kind : Kind V) (given : Option V) (t : Tree a h) where
-  holds_for : (c : Double C) (n : ℕ) → (a n).status ≡ Linked → PlacedTwo key c (h n).prefix → HoldsFor c (h n)
-  holds_for Unlink n l p = tt
-  holds_for (Grow c) n l p = leaf_holds a h n t l p.1
-  holds_for (GrowLink c leaf byte) n l p = inner_holds a h n t l p.1
-  holds_for (Split top leaf common byte) n l p = tt
+  holds_for : (c : Double C) (n p b : ℕ) → IsChild a h p b n → (a p).status ≡ Linked → PlacedTwo key c (h n).prefix → HoldsFor c (h n) (h p)
+  holds_for Unlink n p b d l z = tt
+  holds_for (Shrink c) n p b d l z = leaf_holds a h n t d.linked z.1
+  holds_for Collapse n p b d l z = tt
+  holds_for (ShrinkAbove c) n p b d l z = inner_holds a h p t l (let s = t.short n d.linked in let m : length (h p).prefix < length (h n).prefix = d.longer in omega (arith, s, m))
+  holds_for (Grow c) n p b d l z = leaf_holds a h n t d.linked z.1
+  holds_for (GrowLink c leaf byte) n p b d l z = inner_holds a h n t d.linked z.1
+  holds_for (Split top leaf common byte) n p b d l z = tt
 
   pub holds_right : (p : Phase C V) → Known number same always i a h k key kind given p → HoldsRight number h p
   holds_right (ChangeTwo two r) x =
       let e : TwoLocked number i a h key two x.0 x.1 = x.2 in
-      holds_for two.change (number two.at.node) (t.down (number two.above.seat.node) _ (number two.at.node) e.above.holding.linked e.above.child).linked e.placed
+      holds_for two.change (number two.at.node) (number two.above.seat.node) _ (t.down (number two.above.seat.node) _ (number two.at.node) e.above.holding.linked e.above.child) e.above.holding.linked e.placed
   holds_right New x = tt
   holds_right (Version above c) x = tt
   holds_right (Read above at) x = tt
@@ -62,19 +65,21 @@ module _ {C V : Type 0} (number : C → ℕ) (same : V → V → Bool) (always :
   holds_right (MakeGreater s p leaf) x = tt
   holds_right (MakeTop p at common byte) x = tt
   holds_right (MakeBeside p at common byte top) x = tt
+  holds_right (MakeLesser s p top r) x = tt
   holds_right (AskOld s v) x = tt
   holds_right (AskNew plan) x = tt
   holds_right (Confirm at r) x = tt
   holds_right (CheckAbove p one r) x = tt
   holds_right (UpgradeOne one r) x = tt
   holds_right (ChangeOne one r) x = tt
+  holds_right (UpgradeTop top two r) x = tt
   holds_right (UpgradeAbove two r) x = tt
   holds_right (UpgradeBelow two r) x = tt
-  holds_right (Obsolete c p r) x = tt
-  holds_right (Retire c p r) x = tt
+  holds_right (Obsolete c next p r) x = tt
+  holds_right (Retire c next p r) x = tt
   holds_right (UnlockBelow c p r) x = tt
   holds_right (Unlock c r) x = tt
-  holds_right (Unwind c e) x = tt
+  holds_right (Unwind c next e) x = tt
   holds_right (Sweep s) x = tt
   holds_right Ended x = tt
 
@@ -108,20 +113,22 @@ module _ {C V : Type 0} (order order' : List ℕ) (number : C → ℕ) (f : (n c
   still_known same always j a a' k key kind given r (MakeGreater s p leaf) x = tt
   still_known same always j a a' k key kind given r (MakeTop p at common byte) x = tt
   still_known same always j a a' k key kind given r (MakeBeside p at common byte top) x = tt
+  still_known same always j a a' k key kind given r (MakeLesser s p top y) x = tt
   still_known same always j a a' k key kind given r (AskOld s v) x = tt
   still_known same always j a a' k key kind given r (AskNew plan) x = tt
   still_known same always j a a' k key kind given r (Confirm at y) x = tt
   still_known same always j a a' k key kind given r (CheckAbove p one y) x = tt
   still_known same always j a a' k key kind given r (UpgradeOne one y) x = tt
   still_known same always j a a' k key kind given r (ChangeOne one y) x = tt
+  still_known same always j a a' k key kind given r (UpgradeTop top two y) x = tt
   still_known same always j a a' k key kind given r (UpgradeAbove two y) x = tt
   still_known same always j a a' k key kind given r (UpgradeBelow two y) x = tt
   still_known same always j a a' k key kind given r (ChangeTwo two y) x = tt
-  still_known same always j a a' k key kind given r (Obsolete c p y) x = tt
-  still_known same always j a a' k key kind given r (Retire c p y) x = tt
+  still_known same always j a a' k key kind given r (Obsolete c next p y) x = tt
+  still_known same always j a a' k key kind given r (Retire c next p y) x = tt
   still_known same always j a a' k key kind given r (UnlockBelow c p y) x = tt
   still_known same always j a a' k key kind given r (Unlock c y) x = tt
-  still_known same always j a a' k key kind given r (Unwind c e) x = tt
+  still_known same always j a a' k key kind given r (Unwind c next e) x = tt
   still_known same always j a a' k key kind given r Ended x = tt
 
   -- a node that is as it was
@@ -150,20 +157,22 @@ module _ {C V : Type 0} (order order' : List ℕ) (number : C → ℕ) (f : (n c
   spared_phase (MakeGreater s p leaf) x = tt
   spared_phase (MakeTop p at common byte) x = tt
   spared_phase (MakeBeside p at common byte top) x = tt
+  spared_phase (MakeLesser s p top y) x = tt
   spared_phase (AskOld s v) x = tt
   spared_phase (AskNew plan) x = tt
   spared_phase (Confirm at y) x = tt
   spared_phase (CheckAbove p one y) x = tt
   spared_phase (UpgradeOne one y) x = tt
   spared_phase (ChangeOne one y) x = tt
+  spared_phase (UpgradeTop top two y) x = tt
   spared_phase (UpgradeAbove two y) x = tt
   spared_phase (UpgradeBelow two y) x = tt
   spared_phase (ChangeTwo two y) x = tt
-  spared_phase (Obsolete c p y) x = tt
-  spared_phase (Retire c p y) x = tt
+  spared_phase (Obsolete c next p y) x = tt
+  spared_phase (Retire c next p y) x = tt
   spared_phase (UnlockBelow c p y) x = tt
   spared_phase (Unlock c y) x = tt
-  spared_phase (Unwind c e) x = tt
+  spared_phase (Unwind c next e) x = tt
   spared_phase Ended x = tt
 
 pub longer_place : (order order' : List ℕ) → Longer order order' → (n c : ℕ) → slice_get order n ≡ Some c → slice_get order' n ≡ Some c

@@ -7,17 +7,18 @@ use Rattle.congee.specs.declared.protocol.store.Least.{Least}
 use Rattle.congee.specs.declared.protocol.store.Least.TheVariants as least
 use Rattle.congee.specs.declared.protocol.store.Seat.{Seat}
 use Rattle.congee.specs.declared.protocol.phase.Parent.{Parent}
+use Rattle.congee.specs.declared.protocol.phase.Above.{Above as Over}
 use Rattle.congee.specs.declared.protocol.phase.Site.{Site}
 use Rattle.congee.specs.declared.protocol.phase.Single.{Single}
 use Rattle.congee.specs.declared.protocol.phase.Single.TheVariants.{Set, Link}
 use Rattle.congee.specs.declared.protocol.phase.One.{One}
 use Rattle.congee.specs.declared.protocol.phase.Double.{Double}
-use Rattle.congee.specs.declared.protocol.phase.Double.TheVariants.{Unlink, Grow, GrowLink, Split}
+use Rattle.congee.specs.declared.protocol.phase.Double.TheVariants.{Unlink, Grow, GrowLink, Split, Shrink, Collapse, ShrinkAbove}
 use Rattle.congee.specs.declared.protocol.phase.Two.{Two}
 use Rattle.congee.specs.declared.protocol.phase.Plan.{Plan}
 use Rattle.congee.specs.declared.protocol.phase.Plan.TheVariants.{Here, Above}
 use Rattle.congee.specs.declared.protocol.phase.Phase.{Phase}
-use Rattle.congee.specs.declared.protocol.phase.Phase.TheVariants.{New, Version, Read, Check, CheckUncopied, CheckMiss, CheckDown, CheckOld, MakeLeaf, MakeGreater, MakeTop, MakeBeside, AskOld, AskNew, Confirm, CheckAbove, UpgradeOne, ChangeOne, UpgradeAbove, UpgradeBelow, ChangeTwo, Obsolete, Retire, UnlockBelow, Unlock, Unwind, Sweep, Ended}
+use Rattle.congee.specs.declared.protocol.phase.Phase.TheVariants.{New, Version, Read, Check, CheckUncopied, CheckMiss, CheckDown, CheckOld, MakeLeaf, MakeGreater, MakeTop, MakeBeside, MakeLesser, AskOld, AskNew, Confirm, CheckAbove, UpgradeOne, ChangeOne, UpgradeTop, UpgradeAbove, UpgradeBelow, ChangeTwo, Obsolete, Retire, UnlockBelow, Unlock, Unwind, Sweep, Ended}
 use Rattle.congee.specs.declared.protocol.sweep.Rung.{Rung}
 use Rattle.congee.specs.declared.protocol.sweep.Stage.{Stage}
 use Rattle.congee.specs.declared.protocol.sweep.Stage.TheVariants as stage
@@ -25,7 +26,7 @@ use Rattle.congee.specs.declared.protocol.sweep.Sweep.{Sweep as Scan}
 use Rattle.congee.specs.declared.protocol.machine.Machine.{Machine}
 use Rattle.congee.specs.Heap.{Node}
 use Rattle.congee.specs.protocol.SweepSteps.{slots}
-use Rattle.congee.specs.protocol.Alike.{Named, SeatAlike, ParentAlike, AboveAlike, SeatedAlike, MadeAlike, SiteAlike, ReadAlike, SingleAlike, OneAlike, DoubleAlike, TwoAlike, PlanAlike, ChildAlike, SeesAlike, RungAlike, PlaceAlike, LeastAlike, IsTaken, StageAlike, ScanAlike, PhaseAlike, CallAlike}
+use Rattle.congee.specs.protocol.Alike.{Named, SeatAlike, ParentAlike, TopAlike, OverAlike, AboveAlike, SeatedAlike, MadeAlike, SiteAlike, ReadAlike, SingleAlike, OneAlike, DoubleAlike, TwoAlike, PlanAlike, ChildAlike, SeesAlike, RungAlike, PlaceAlike, LeastAlike, IsTaken, StageAlike, ScanAlike, PhaseAlike, CallAlike}
 
 module _ {C : Type 0} (order order' : List ℕ) (number : C → ℕ) (f : (n c : ℕ) → slice_get order n ≡ Some c → slice_get order' n ≡ Some c) where
   pub named_later : (c : C) (n : ℕ) → Named order number c n → Named order' number c n
@@ -35,11 +36,18 @@ module _ {C : Type 0} (order order' : List ℕ) (number : C → ℕ) (f : (n c :
   seat_later s u x = record { node = named_later s.node u.node x.node; version = x.version }
 
   pub parent_later : (p : Parent C) (q : Parent ℕ) → ParentAlike order number p q → ParentAlike order' number p q
-  parent_later p q x = record { seat = seat_later p.seat q.seat x.seat; byte = x.byte }
+  parent_later p q x = record { seat = seat_later p.seat q.seat x.seat; byte = x.byte; depth = x.depth; count = x.count; form = x.form }
 
-  pub above_later : (p : Option (Parent C)) (q : Option (Parent ℕ)) → AboveAlike order number p q → AboveAlike order' number p q
+  pub top_later : (p : Option (Parent C)) (q : Option (Parent ℕ)) → TopAlike order number p q → TopAlike order' number p q
+  top_later None q x = x
+  top_later (Some p) q x = (x.0, x.1, parent_later p x.0 x.2)
+
+  over_later : (u : Over C) (w : Over ℕ) → OverAlike order number u w → OverAlike order' number u w
+  over_later u w x = record { near = parent_later u.near w.near x.near; far = top_later u.far w.far x.far }
+
+  pub above_later : (p : Option (Over C)) (q : Option (Over ℕ)) → AboveAlike order number p q → AboveAlike order' number p q
   above_later None q x = x
-  above_later (Some p) q x = (x.0, x.1, parent_later p x.0 x.2)
+  above_later (Some p) q x = (x.0, x.1, over_later p x.0 x.2)
 
   pub seated_later : (p : Option (Seat C)) (q : Option (Seat ℕ)) → SeatedAlike order number p q → SeatedAlike order' number p q
   seated_later None q x = x
@@ -50,7 +58,7 @@ module _ {C : Type 0} (order order' : List ℕ) (number : C → ℕ) (f : (n c :
   made_later (Some c) q x = (x.0, x.1, named_later c x.0 x.2)
 
   pub site_later : (s : Site C) (u : Site ℕ) → SiteAlike order number s u → SiteAlike order' number s u
-  site_later s u x = record { above = above_later s.above u.above x.above; at = seat_later s.at u.at x.at; depth = x.depth; byte = x.byte }
+  site_later s u x = record { above = above_later s.above u.above x.above; at = seat_later s.at u.at x.at; depth = x.depth; byte = x.byte; form = x.form }
 
   pub read_later : (s : Site C) (u : Site ℕ) → ReadAlike order number s u → ReadAlike order' number s u
   read_later s u x = record { site = site_later s u x.site; count = x.count }
@@ -64,12 +72,15 @@ module _ {C : Type 0} (order order' : List ℕ) (number : C → ℕ) (f : (n c :
 
   double_later : (s : Double C) (u : Double ℕ) → DoubleAlike order number s u → DoubleAlike order' number s u
   double_later Unlink u x = x
+  double_later (Shrink c) u x = (x.0, x.1, named_later c x.0 x.2)
+  double_later Collapse u x = x
+  double_later (ShrinkAbove c) u x = (x.0, x.1, named_later c x.0 x.2)
   double_later (Grow c) u x = (x.0, x.1, named_later c x.0 x.2)
   double_later (GrowLink c leaf byte) u x = (x.0, x.1, x.2, named_later c x.0 x.3, named_later leaf x.1 x.4)
   double_later (Split top leaf common byte) u x = (x.0, x.1, x.2, named_later top x.0 x.3, named_later leaf x.1 x.4)
 
   pub two_later : (s : Two C) (u : Two ℕ) → TwoAlike order number s u → TwoAlike order' number s u
-  two_later s u x = record { above = parent_later s.above u.above x.above; at = seat_later s.at u.at x.at; change = double_later s.change u.change x.change }
+  two_later s u x = record { top = top_later s.top u.top x.top; above = parent_later s.above u.above x.above; at = seat_later s.at u.at x.at; change = double_later s.change u.change x.change }
 
   plan_later : (s : Plan C) (u : Plan ℕ) → PlanAlike order number s u → PlanAlike order' number s u
   plan_later (Here check one) u x = (x.0, x.1, x.2, seated_later check x.0 x.3, one_later one x.1 x.4)
@@ -137,26 +148,28 @@ module _ {C : Type 0} (order order' : List ℕ) (number : C → ℕ) (f : (n c :
       phase_later (Check s c) q k x = (x.0, x.1, x.2, site_later s x.0 x.3, λ t. sees_later s c x.0 x.1 (x.4 (k t)))
       phase_later (CheckUncopied at) q k x = (x.0, x.1, x.2, seat_later at x.0.at x.3)
       phase_later (CheckMiss p at common byte) q k x = (x.0, x.1, x.2, parent_later p x.0 x.3, seat_later at x.1 x.4)
-      phase_later (CheckDown p at c) q k x = (x.0, x.1, x.2, x.3, seat_later p x.0 x.4, parent_later at x.1 x.5, named_later c x.2 x.6)
+      phase_later (CheckDown p at c) q k x = (x.0, x.1, x.2, x.3, seat_later p x.0 x.4, over_later at x.1 x.5, named_later c x.2 x.6)
       phase_later (CheckOld p s v) q k x = (x.0, x.1, x.2, seat_later p x.0 x.3, read_later s x.1 x.4)
       phase_later (MakeLeaf s) q k x = (x.0, x.1, read_later s x.0 x.2, x.3)
       phase_later (MakeGreater s p leaf) q k x = (x.0, x.1, x.2, x.3, read_later s x.0 x.4, parent_later p x.1 x.5, made_later leaf x.2 x.6)
       phase_later (MakeTop p at common byte) q k x = (x.0, x.1, x.2, parent_later p x.0 x.3, seat_later at x.1 x.4)
       phase_later (MakeBeside p at common byte top) q k x = (x.0, x.1, x.2, x.3, parent_later p x.0 x.4, seat_later at x.1 x.5, named_later top x.2 x.6)
+      phase_later (MakeLesser s p top r) q k x = (x.0, x.1, x.2, x.3, read_later s x.0 x.4, parent_later p x.1 x.5, top_later top x.2 x.6)
       phase_later (AskOld s v) q k x = (x.0, x.1, read_later s x.0 x.2)
       phase_later (AskNew plan) q k x = (x.0, x.1, plan_later plan x.0 x.2)
       phase_later (Confirm at r) q k x = (x.0, x.1, seat_later at x.0 x.2)
       phase_later (CheckAbove p one r) q k x = (x.0, x.1, x.2, seat_later p x.0 x.3, one_later one x.1 x.4)
       phase_later (UpgradeOne one r) q k x = (x.0, x.1, one_later one x.0 x.2)
       phase_later (ChangeOne one r) q k x = (x.0, x.1, one_later one x.0 x.2)
+      phase_later (UpgradeTop top two r) q k x = (x.0, x.1, x.2, parent_later top x.0 x.3, two_later two x.1 x.4)
       phase_later (UpgradeAbove two r) q k x = (x.0, x.1, two_later two x.0 x.2)
       phase_later (UpgradeBelow two r) q k x = (x.0, x.1, two_later two x.0 x.2)
       phase_later (ChangeTwo two r) q k x = (x.0, x.1, two_later two x.0 x.2)
-      phase_later (Obsolete c p r) q k x = (x.0, x.1, x.2, named_later c x.0 x.3, named_later p x.1 x.4)
-      phase_later (Retire c p r) q k x = (x.0, x.1, x.2, named_later c x.0 x.3, named_later p x.1 x.4)
+      phase_later (Obsolete c next p r) q k x = (x.0, x.1, x.2, x.3, named_later c x.0 x.4, made_later next x.1 x.5, named_later p x.2 x.6)
+      phase_later (Retire c next p r) q k x = (x.0, x.1, x.2, x.3, named_later c x.0 x.4, made_later next x.1 x.5, named_later p x.2 x.6)
       phase_later (UnlockBelow c p r) q k x = (x.0, x.1, x.2, named_later c x.0 x.3, named_later p x.1 x.4)
       phase_later (Unlock c r) q k x = (x.0, x.1, named_later c x.0 x.2)
-      phase_later (Unwind c e) q k x = (x.0, x.1, named_later c x.0 x.2)
+      phase_later (Unwind c next e) q k x = (x.0, x.1, x.2, named_later c x.0 x.3, made_later next x.1 x.4)
       phase_later (Sweep s) q k x = (x.0, x.1, scan_later s x.0 k x.2)
       phase_later Ended q k x = x
 

@@ -2,6 +2,8 @@
 use Rattle.std.proofs.Common.{◌≡◌, ◌≢◌, ℕ, zero, suc, ◌+◌, ◌*◌, ◌-◌, ◌%◌, ◌^◌, ◌<◌, ◌≤◌, ◌==◌, Bool, true, false, cond, List, [], ◌∷◌, length, get_or, refl, sym, ◌∙◌, ap, subst, inl, inr, arith}
 use Rattle.std.specs.Prelude.{Option, None, Some, slice_get, slice_index}
 use Rattle.std.proofs.lemmas.Bool.{cases_Bool}
+use Rattle.congee.specs.declared.forms.base_node.NodeType.{NodeType}
+use Rattle.congee.specs.declared.forms.base_node.NodeType.TheVariants.{N4, N16, N48, N256}
 use Rattle.congee.specs.declared.forms.child.Child.{Child}
 use Rattle.congee.specs.declared.forms.child.Child.TheVariants as child
 use Rattle.congee.specs.declared.protocol.store.Least.{Least}
@@ -11,14 +13,14 @@ use Rattle.congee.specs.declared.protocol.store.Reading.TheVariants.{Differs, Fi
 use Rattle.congee.specs.declared.protocol.store.Region.{Region}
 use Rattle.congee.specs.declared.protocol.store.Seat.{Seat}
 use Rattle.congee.specs.declared.protocol.store.Seen.{Seen}
-use Rattle.congee.specs.declared.protocol.phase.Parent.{Parent}
+use Rattle.congee.specs.declared.protocol.phase.Above.{Above as Over}
 use Rattle.congee.specs.declared.protocol.phase.Site.{Site}
 use Rattle.congee.specs.declared.protocol.phase.Phase.TheVariants.{Check, CheckUncopied, CheckMiss}
 use Rattle.congee.specs.Heap.{Node, Hung, Nothing, Below, Holds, fits, child_for, is_taken, version_of}
 use Rattle.congee.specs.Keys.{key_bytes}
 use Rattle.congee.specs.protocol.Alike.{HungAlike, NodeAlike, Named, SeatAlike, AboveAlike, ChildAlike, SeesAlike, LeastAlike, TurnAlike}
-use Rattle.congee.specs.protocol.Events.{hung, Parts, SeenTruly, ReadGives}
-use Rattle.congee.specs.protocol.PlainSteps.{Mark, common, child_of, looks, told_of, reading, least_or, least_from, least_told, least_of, front, region_of}
+use Rattle.congee.specs.protocol.Events.{hung, places, Parts, SeenTruly, ReadGives}
+use Rattle.congee.specs.protocol.PlainSteps.{Mark, form_of, common, child_of, looks, told_of, reading, least_or, least_from, least_told, least_of, front, region_of}
 use Rattle.congee.specs.protocol.Regions.{span, IsRegion}
 use Rattle.congee.specs.protocol.Steps.{quiet, again, after_read}
 use Rattle.congee.specs.protocol.SweepEvents.{LeastTruly, LeastGives}
@@ -52,6 +54,13 @@ common_is (x ∷ p) (y ∷ key) (suc c) l k a d =
 parts_common : (p key : List ℕ) (c : ℕ) → length key ≡ 8 → Parts p key c → common p key ≡ c
 parts_common p key c len x = common_is p key c x.short (let s : c < 7 = x.seventh in omega (arith, s, len)) x.alike x.apart
 
+-- the form of a node with the places of a form
+form_back : (f : NodeType) → form_of (places f) ≡ f
+form_back N4 = refl
+form_back N16 = refl
+form_back N48 = refl
+form_back N256 = refl
+
 told_byte : {V : Type 0} (byte : ℕ) (seen : Option (Seen Mark V)) → (told_of byte seen).byte ≡ byte
 told_byte byte None = refl
 told_byte byte (Some x) = refl
@@ -63,7 +72,7 @@ module _ {C V : Type 0} (order : List ℕ) (number : C → ℕ) where
   child_alike (child.Value v) a b e x = let P : Hung V → Type 0 = λ z. HungAlike order z b in ap child_of (subst P (sym e) x)
 
   -- what a read finds
-  module _ (h g : ℕ → Node V) (root : C) (m : ℕ) (r : Named order number root m) (key : List ℕ) (len : length key ≡ 8) (always : Bool) (above : Option (Parent C)) (o : Option (Parent ℕ)) (ab : AboveAlike order number above o)
+  module _ (h g : ℕ → Node V) (root : C) (m : ℕ) (r : Named order number root m) (key : List ℕ) (len : length key ≡ 8) (always : Bool) (above : Option (Over C)) (o : Option (Over ℕ)) (ab : AboveAlike order number above o)
       (at : Seat C) (a : Seat ℕ) (st : SeatAlike order number at a) (e : NodeAlike order (h (number at.node)) (g a.node)) (seen : Option (Seen Mark V)) where
     abbrev x : Node V
     x = h (number at.node)
@@ -78,15 +87,15 @@ module _ {C V : Type 0} (order : List ℕ) (number : C → ℕ) where
     fork = Differs (common y.prefix key) (slice_index y.prefix (common y.prefix key))
 
     abbrev reads : Bool → Bool → Reading ℕ V
-    reads f b = cond f (Fits (length y.prefix) (finds b)) (Differs (common y.prefix key) (slice_index y.prefix (common y.prefix key)))
+    reads f b = cond f (Fits (length y.prefix) (form_of y.capacity) (finds b)) (Differs (common y.prefix key) (slice_index y.prefix (common y.prefix key)))
 
     same_byte : (b : Bool) → (finds b).byte ≡ slice_index key (length y.prefix)
     same_byte true = refl
     same_byte false = told_byte (slice_index key (length y.prefix)) seen
 
-    sees : (depth : ℕ) (s : Seen C V) (u : Site ℕ) (d : Child ℕ V) → u.count ≡ (finds (is_taken y a.version)).count → u.full ≡ (finds (is_taken y a.version)).full → d ≡ (finds (is_taken y a.version)).child
-        → is_taken x at.version ≡ true → SeenTruly number x key s → SeesAlike order number (record { above = above; at = at; depth = depth; byte = s.byte; count = s.count; full = s.full }) s.child u d
-    sees depth s u d ec ef ed t k =
+    sees : (depth : ℕ) (form : NodeType) (s : Seen C V) (u : Site ℕ) (d : Child ℕ V) → u.count ≡ (finds (is_taken y a.version)).count → u.full ≡ (finds (is_taken y a.version)).full → d ≡ (finds (is_taken y a.version)).child
+        → is_taken x at.version ≡ true → SeenTruly number x key s → SeesAlike order number (record { above = above; at = at; depth = depth; byte = s.byte; count = s.count; full = s.full; form = form }) s.child u d
+    sees depth form s u d ec ef ed t k =
         let ty : is_taken y a.version ≡ true = taken_alike order x y at.version a.version e st.version ∙ t in
         let P : Child ℕ V → Type 0 = λ z. ChildAlike order number s.child z in
         let Q : ℕ → Type 0 = λ z. HungAlike order (x.children (slice_index key z)) (y.children (slice_index key (length y.prefix))) in
@@ -97,16 +106,16 @@ module _ {C V : Type 0} (order : List ℕ) (number : C → ℕ) where
           full = λ z. ef ∙ ap (λ b. (finds b).full) ty ∙ ap (λ c. c == y.capacity) e.count ∙ ap (λ c. x.count == c) e.capacity ∙ sym (k.full (ap (hung number) z));
         }
 
-    differs : (up : Option (Parent C)) (q : Option (Parent ℕ)) → AboveAlike order number up q → (c b : ℕ) → c ≡ common y.prefix key → b ≡ slice_index y.prefix (common y.prefix key)
+    differs : (up : Option (Over C)) (q : Option (Over ℕ)) → AboveAlike order number up q → (c b : ℕ) → c ≡ common y.prefix key → b ≡ slice_index y.prefix (common y.prefix key)
         → TurnAlike order number h (after_read root up at (Differs c b)) (after_read m q a fork)
     differs None q z c b ec eb = alike_to order number h _ (again m) _ (ap (λ w. after_read m w a fork) z) (again_alike order number h root m r)
     differs (Some p) q z c b ec eb =
-        alike_to order number h _ (quiet (CheckMiss z.0 a c b)) _
-        (ap (λ w. after_read m w a fork) z.1 ∙ ap (λ w. quiet (CheckMiss z.0 a w (slice_index y.prefix (common y.prefix key)))) (sym ec) ∙ ap (λ w. quiet (CheckMiss z.0 a c w)) (sym eb))
-        (quiet_alike order number h (CheckMiss p at c b) (CheckMiss z.0 a c b) (z.0, a, refl, z.2, st))
+        alike_to order number h _ (quiet (CheckMiss z.0.near a c b)) _
+        (ap (λ w. after_read m w a fork) z.1 ∙ ap (λ w. quiet (CheckMiss z.0.near a w (slice_index y.prefix (common y.prefix key)))) (sym ec) ∙ ap (λ w. quiet (CheckMiss z.0.near a c w)) (sym eb))
+        (quiet_alike order number h (CheckMiss p.near at c b) (CheckMiss z.0.near a c b) (z.0.near, a, refl, z.2.near, st))
 
     abbrev site_of : ℕ → Seen ℕ V → Site ℕ
-    site_of depth s = record { above = o; at = a; depth = depth; byte = s.byte; count = s.count; full = s.full }
+    site_of depth s = record { above = o; at = a; depth = depth; byte = s.byte; count = s.count; full = s.full; form = form_of y.capacity }
 
     pub read_alike : (w : Reading C V) → ReadGives number always x at.version key w → TurnAlike order number h (after_read root above at w) (after_read m o a (reading y a.version key seen))
     read_alike (Differs c b) k =
@@ -114,11 +123,11 @@ module _ {C V : Type 0} (order : List ℕ) (number : C → ℕ) where
         let here : common y.prefix key ≡ c = ap (λ z. common z key) e.prefix ∙ parts_common x.prefix key c len k.0 in
         alike_to order number h _ (after_read m o a (reads false (is_taken y a.version))) _ (ap (λ f. after_read m o a (reads f (is_taken y a.version))) no)
         (differs above o ab c b (sym here) (k.1 ∙ ap (λ z. slice_index x.prefix z) (sym here) ∙ ap (λ z. slice_index z (common y.prefix key)) (sym e.prefix)))
-    read_alike (Fits depth s) k =
+    read_alike (Fits depth form s) k =
         let yes : fits y.prefix key ≡ true = ap (λ z. fits z key) e.prefix ∙ k.0 in
         let b : Bool = is_taken y a.version in
         alike_to order number h _ (after_read m o a (reads true (is_taken y a.version))) _ (ap (λ f. after_read m o a (reads f (is_taken y a.version))) yes)
-        (quiet_alike order number h (Check (record { above = above; at = at; depth = depth; byte = s.byte; count = s.count; full = s.full }) s.child) (Check (site_of (length y.prefix) (finds (is_taken y a.version))) (finds (is_taken y a.version)).child) (
+        (quiet_alike order number h (Check (record { above = above; at = at; depth = depth; byte = s.byte; count = s.count; full = s.full; form = form }) s.child) (Check (site_of (length y.prefix) (finds (is_taken y a.version))) (finds (is_taken y a.version)).child) (
           site_of (length y.prefix) (finds (is_taken y a.version)),
           (finds (is_taken y a.version)).child,
           refl,
@@ -126,9 +135,10 @@ module _ {C V : Type 0} (order : List ℕ) (number : C → ℕ) where
             above = ab;
             at = st;
             depth = ap length e.prefix ∙ sym k.1;
-            byte = same_byte (is_taken y a.version) ∙ ap (λ z. slice_index key (length z)) e.prefix ∙ ap (λ z. slice_index key z) (sym k.1) ∙ sym k.3;
+            byte = same_byte (is_taken y a.version) ∙ ap (λ z. slice_index key (length z)) e.prefix ∙ ap (λ z. slice_index key z) (sym k.1) ∙ sym k.4;
+            form = ap form_of (e.capacity ∙ sym k.3) ∙ form_back form;
           },
-          λ t. sees depth s (site_of (length y.prefix) (finds (is_taken y a.version))) (finds (is_taken y a.version)).child refl refl refl t (k.4 t),
+          λ t. sees depth form s (site_of (length y.prefix) (finds (is_taken y a.version))) (finds (is_taken y a.version)).child refl refl refl t (k.5 t),
         ))
     read_alike Uncopied k =
         let yes : fits y.prefix key ≡ true = ap (λ z. fits z key) e.prefix ∙ k.0 in

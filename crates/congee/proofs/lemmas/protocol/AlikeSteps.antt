@@ -17,24 +17,24 @@ use Rattle.congee.specs.declared.protocol.phase.Parent.{Parent}
 use Rattle.congee.specs.declared.protocol.phase.Site.{Site}
 use Rattle.congee.specs.declared.protocol.phase.Single.TheVariants.{Link}
 use Rattle.congee.specs.declared.protocol.phase.One.{One}
-use Rattle.congee.specs.declared.protocol.phase.Double.TheVariants.{Split}
+use Rattle.congee.specs.declared.protocol.phase.Double.TheVariants.{Unlink, Split, Shrink, ShrinkAbove}
 use Rattle.congee.specs.declared.protocol.phase.Two.{Two}
 use Rattle.congee.specs.declared.protocol.phase.Plan.TheVariants.{Above}
 use Rattle.congee.specs.declared.protocol.phase.Phase.{Phase}
-use Rattle.congee.specs.declared.protocol.phase.Phase.TheVariants.{New, Version, Read, Check, CheckUncopied, CheckMiss, CheckDown, CheckOld, MakeLeaf, MakeGreater, MakeTop, MakeBeside, AskOld, AskNew, Confirm, CheckAbove, UpgradeOne, ChangeOne, UpgradeAbove, UpgradeBelow, ChangeTwo, Obsolete, Retire, UnlockBelow, Unlock, Unwind, Sweep, Ended}
+use Rattle.congee.specs.declared.protocol.phase.Phase.TheVariants.{New, Version, Read, Check, CheckUncopied, CheckMiss, CheckDown, CheckOld, MakeLeaf, MakeGreater, MakeTop, MakeBeside, MakeLesser, AskOld, AskNew, Confirm, CheckAbove, UpgradeOne, ChangeOne, UpgradeTop, UpgradeAbove, UpgradeBelow, ChangeTwo, Obsolete, Retire, UnlockBelow, Unlock, Unwind, Sweep, Ended}
 use Rattle.congee.specs.declared.protocol.turn.Turn.{Turn}
 use Rattle.congee.specs.Heap.{Node, Stands, is_taken, version_of}
-use Rattle.congee.specs.protocol.Alike.{Ordered, NodeAlike, HeapAlike, Named, SeatAlike, ParentAlike, MadeAlike, ReadAlike, OneAlike, TwoAlike, PhaseAlike, TurnAlike, IsUnrefused, WentAlike}
+use Rattle.congee.specs.protocol.Alike.{Ordered, NodeAlike, HeapAlike, Named, SeatAlike, ParentAlike, TopAlike, MadeAlike, ReadAlike, OneAlike, TwoAlike, PhaseAlike, TurnAlike, IsUnrefused, WentAlike}
 use Rattle.congee.specs.protocol.Events.{upgrade_gives, NewNode}
-use Rattle.congee.specs.protocol.PlainSteps.{Mark, put, lock, new_node, reading, swung, checked, at_old, given_old, given_new, back_one, back_two, Went, went, passes, making, upgraded_one, upgraded_above, upgraded_below, passed_above, phase_step}
-use Rattle.congee.specs.protocol.Steps.{quiet, again, answered, refused, form_above, after_version, after_read, after_miss, ready, unless_full, IsIf, IsChecked, IsAtOld, MadeLeaf, greater, MadeGreater, MadeTop, MadeBeside, IsCheckedAbove, UpgradedOne, UpgradedAbove, UpgradedBelow, outcome_of, swept, PhaseStepped, MayBackOne, MayBackTwo, MayStep}
+use Rattle.congee.specs.protocol.PlainSteps.{Mark, made_lesser, upgraded_top, put, lock, new_node, reading, swung, checked, at_old, given_old, given_new, back_one, back_two, Went, went, passes, making, upgraded_one, upgraded_above, upgraded_below, passed_above, phase_step}
+use Rattle.congee.specs.protocol.Steps.{quiet, skipping, set_at, both, form_below, node_of, given_up, again, answered, refused, form_above, after_version, after_read, after_miss, ready, unless_full, IsIf, IsChecked, IsAtOld, MadeLeaf, greater, MadeGreater, MadeTop, MadeBeside, MadeLesser, IsCheckedAbove, UpgradedOne, UpgradedTop, UpgradedAbove, UpgradedBelow, outcome_of, swept, PhaseStepped, MayBackOne, MayBackTwo, MayStep}
 use Rattle.congee.specs.declared.forms.prefix.TheConstants.{MAX_PREFIX_LEN}
 use Rattle.congee.proofs.lemmas.protocol.AlikeChanges.{HoldsRight, back_one_pair, back_two_pair, change_one_pair, change_two_pair}
 use Rattle.congee.proofs.lemmas.protocol.AlikeHeaps.{Pair, pair_same, ordered_still, pair_locked, pair_freed, pair_marked, pair_handed, later_place, new_place, new_ordered, new_alike}
 use Rattle.congee.proofs.lemmas.protocol.AlikeLater.{named_later, seat_later, parent_later, made_later, read_later}
 use Rattle.congee.proofs.lemmas.protocol.AlikeReads.{taken_alike, version_same, read_alike}
 use Rattle.congee.proofs.lemmas.protocol.AlikeScans.{SwungAlike, swung_alike}
-use Rattle.congee.proofs.lemmas.protocol.AlikeTurns.{quiet_alike, answered_alike, refused_alike, finished_alike, decided_alike, alike_at, alike_to, again_alike, version_alike, checked_alike, miss_alike, old_alike, full_alike, greater_alike, ready_alike, GivenAlike, given_alike, change_alike, unwound_alike}
+use Rattle.congee.proofs.lemmas.protocol.AlikeTurns.{quiet_alike, answered_alike, refused_alike, finished_alike, decided_alike, alike_at, alike_to, again_alike, version_alike, checked_alike, miss_alike, old_alike, full_alike, greater_alike, ready_alike, GivenAlike, given_alike, change_alike, node_alike, retired_alike, left_alike, given_up_alike}
 use Rattle.congee.proofs.lemmas.protocol.AlikeTurns.{new_alike as answer_alike}
 
 length_one : (order : List ℕ) (c : ℕ) → length (order ++ c ∷ []) ≡ suc (length order)
@@ -125,22 +125,23 @@ module _ {C V : Type 0} (number : C → ℕ) (same : V → V → Bool) (always :
 
   greater_made : (s : Site C) (p : Parent C) (leaf : Option C) (u : Site ℕ) (q : Parent ℕ) (l : Option ℕ) (h' : ℕ → Node V) (new' : Option V) (t : Turn C V) (y : Result C Refusal) → ReadAlike order number s u → ParentAlike order number p q → MadeAlike order number leaf l
       → IsUnrefused t.report.outcome → new' ≡ new → MadeGreater number kind s p leaf h key y h' t → IfErr y (why (form_above s.count))
-      → Goal new' t h' (making (form_above u.count) key u.depth new g k (λ c. ready kind (Above (record { above = q; at = u.at; change = greater u l c }))))
+      → Goal new' t h' (making (form_above u.count) key u.depth new g k (λ c. ready kind (Above (both q u (greater u l c)))))
   greater_made s p leaf u q l h' new' t (Ok c) a b d un e i w =
-      let w' : ℕ → Turn ℕ V = λ z. ready kind (Above (record { above = q; at = u.at; change = greater u l z })) in
-      let P : ℕ → Type 0 = λ z. Goal new' t h' (making (form_above z) key u.depth new g k (λ c. ready kind (Above (record { above = q; at = u.at; change = greater u l c })))) in
-      let Q : ℕ → Type 0 = λ z. Goal new' t h' (making (form_above s.count) key z new g k (λ c. ready kind (Above (record { above = q; at = u.at; change = greater u l c })))) in
-      let f = later c (form_above s.count) s.depth h' new' t (λ c. ready kind (Above (record { above = q; at = u.at; change = greater u l c }))) i.0 e in
+      let w' : ℕ → Turn ℕ V = λ z. ready kind (Above (both q u (greater u l z))) in
+      let P : ℕ → Type 0 = λ z. Goal new' t h' (making (form_above z) key u.depth new g k (λ c. ready kind (Above (both q u (greater u l c))))) in
+      let Q : ℕ → Type 0 = λ z. Goal new' t h' (making (form_above s.count) key z new g k (λ c. ready kind (Above (both q u (greater u l c))))) in
+      let f = later c (form_above s.count) s.depth h' new' t (λ c. ready kind (Above (both q u (greater u l c)))) i.0 e in
       let site = read_later order (order ++ number c ∷ []) number f s u a in
-      subst P (sym a.count) (subst Q (sym a.site.depth) (makes c (form_above s.count) s.depth h' new' t (λ c. ready kind (Above (record { above = q; at = u.at; change = greater u l c }))) i.0 e
-      (alike_at (order ++ number c ∷ []) number h' t (ready kind (Above (record { above = p; at = s.at; change = greater s leaf c }))) _ i.1
-      (ready_alike (order ++ number c ∷ []) number h' kind (Above (record { above = p; at = s.at; change = greater s leaf c })) (Above (record { above = q; at = u.at; change = greater u l k })) (
-        record { above = q; at = u.at; change = greater u l k },
+      subst P (sym a.count) (subst Q (sym a.site.depth) (makes c (form_above s.count) s.depth h' new' t (λ c. ready kind (Above (both q u (greater u l c)))) i.0 e
+      (alike_at (order ++ number c ∷ []) number h' t (ready kind (Above (both p s (greater s leaf c)))) _ i.1
+      (ready_alike (order ++ number c ∷ []) number h' kind (Above (both p s (greater s leaf c))) (Above (both q u (greater u l k))) (
+        both q u (greater u l k),
         refl,
         record {
+          top = refl;
           above = parent_later order (order ++ number c ∷ []) number f p q b;
           at = site.site.at;
-          change = greater_alike (order ++ number c ∷ []) number h' s u leaf l c k site.site (made_later order (order ++ number c ∷ []) number f leaf l d) (named c (form_above s.count) s.depth h' new' t (λ c. ready kind (Above (record { above = q; at = u.at; change = greater u l c }))) i.0 e);
+          change = greater_alike (order ++ number c ∷ []) number h' s u leaf l c k site.site (made_later order (order ++ number c ∷ []) number f leaf l d) (named c (form_above s.count) s.depth h' new' t (λ c. ready kind (Above (both q u (greater u l c)))) i.0 e);
         },
       )))))
   greater_made s p leaf u q l h' new' t (Err z) a b d un e i w = absurd (unmade (form_above s.count) z t un i.1 w)
@@ -157,21 +158,70 @@ module _ {C V : Type 0} (number : C → ℕ) (same : V → V → Bool) (always :
 
   beside_made : (p : Parent C) (at : Seat C) (common byte : ℕ) (top : C) (q : Parent ℕ) (a : Seat ℕ) (n : ℕ) (h' : ℕ → Node V) (new' : Option V) (t : Turn C V) (y : Result C Refusal) → ParentAlike order number p q → SeatAlike order number at a → Named order number top n
       → IsUnrefused t.report.outcome → new' ≡ new → MadeBeside number kind p at common byte top h key y h' t → IfErr y (why N4)
-      → Goal new' t h' (making N4 key MAX_PREFIX_LEN new g k (λ leaf. ready kind (Above (record { above = q; at = a; change = Split n leaf common byte }))))
+      → Goal new' t h' (making N4 key MAX_PREFIX_LEN new g k (λ leaf. ready kind (Above (record { top = None; above = q; at = a; change = Split n leaf common byte }))))
   beside_made p at common byte top q a n h' new' t (Ok c) b d nm un e i w =
-      let f = later c N4 MAX_PREFIX_LEN h' new' t (λ leaf. ready kind (Above (record { above = q; at = a; change = Split n leaf common byte }))) i.0 e in
-      makes c N4 MAX_PREFIX_LEN h' new' t (λ leaf. ready kind (Above (record { above = q; at = a; change = Split n leaf common byte }))) i.0 e
-      (alike_at (order ++ number c ∷ []) number h' t (ready kind (Above (record { above = p; at = at; change = Split top c common byte }))) _ i.1
-      (ready_alike (order ++ number c ∷ []) number h' kind (Above (record { above = p; at = at; change = Split top c common byte })) (Above (record { above = q; at = a; change = Split n k common byte })) (
-        record { above = q; at = a; change = Split n k common byte },
+      let f = later c N4 MAX_PREFIX_LEN h' new' t (λ leaf. ready kind (Above (record { top = None; above = q; at = a; change = Split n leaf common byte }))) i.0 e in
+      makes c N4 MAX_PREFIX_LEN h' new' t (λ leaf. ready kind (Above (record { top = None; above = q; at = a; change = Split n leaf common byte }))) i.0 e
+      (alike_at (order ++ number c ∷ []) number h' t (ready kind (Above (record { top = None; above = p; at = at; change = Split top c common byte }))) _ i.1
+      (ready_alike (order ++ number c ∷ []) number h' kind (Above (record { top = None; above = p; at = at; change = Split top c common byte })) (Above (record { top = None; above = q; at = a; change = Split n k common byte })) (
+        record { top = None; above = q; at = a; change = Split n k common byte },
         refl,
         record {
+          top = refl;
           above = parent_later order (order ++ number c ∷ []) number f p q b;
           at = seat_later order (order ++ number c ∷ []) number f at a d;
-          change = (n, k, refl, named_later order (order ++ number c ∷ []) number f top n nm, named c N4 MAX_PREFIX_LEN h' new' t (λ leaf. ready kind (Above (record { above = q; at = a; change = Split n leaf common byte }))) i.0 e);
+          change = (n, k, refl, named_later order (order ++ number c ∷ []) number f top n nm, named c N4 MAX_PREFIX_LEN h' new' t (λ leaf. ready kind (Above (record { top = None; above = q; at = a; change = Split n leaf common byte }))) i.0 e);
         },
       )))
   beside_made p at common byte top q a n h' new' t (Err z) b d nm un e i w = absurd (unmade N4 z t un i.1 w)
+
+  -- one that wasn't made would have been told too
+  unskipped : (p : Phase C V) (t : Turn C V) → t.report.skipped ≡ false → t ≡ skipping p → ⊥
+  unskipped p t sk e = let z : true ≡ false = sym (ap (λ (w : Turn C V). w.report.skipped) e) ∙ sk in cc
+
+  lesser_made : (s : Site C) (p : Parent C) (top : Option (Parent C)) (u : Site ℕ) (q : Parent ℕ) (l : Option (Parent ℕ)) (y : Reply V) (h' : ℕ → Node V) (new' : Option V) (t : Turn C V) (z : Result C Refusal)
+      → ReadAlike order number s u → ParentAlike order number p q → TopAlike order number top l → t.report.skipped ≡ false → new' ≡ new → MadeLesser number s p top y h key z h' t → Goal new' t h' (made_lesser key new g k u q l y)
+  lesser_made s p None u q l y h' new' t (Err z) a b d sk e i = absurd (unskipped (UpgradeOne (set_at s) y) t sk i.1)
+  lesser_made s p (Some top) u q l y h' new' t (Err z) a b d sk e i = absurd (unskipped (UpgradeAbove (both p s Unlink) y) t sk i.1)
+  lesser_made s p None u q l y h' new' t (Ok c) a b d sk e i =
+      let w : ℕ → Turn ℕ V = λ n. quiet (UpgradeAbove (both q u (Shrink n)) y) in
+      let L : Option (Parent ℕ) → Type 0 = λ z. Goal new' t h' (made_lesser key new g k u q z y) in
+      let P : NodeType → Type 0 = λ z. Goal new' t h' (making (form_below z) key u.depth new g k (λ n. quiet (UpgradeAbove (both q u (Shrink n)) y))) in
+      let Q : ℕ → Type 0 = λ z. Goal new' t h' (making (form_below s.form) key z new g k (λ n. quiet (UpgradeAbove (both q u (Shrink n)) y))) in
+      let f = later c (form_below s.form) s.depth h' new' t (λ n. quiet (UpgradeAbove (both q u (Shrink n)) y)) i.0 e in
+      let site = read_later order (order ++ number c ∷ []) number f s u a in
+      subst L (sym d) (subst P (sym a.site.form) (subst Q (sym a.site.depth) (makes c (form_below s.form) s.depth h' new' t (λ n. quiet (UpgradeAbove (both q u (Shrink n)) y)) i.0 e
+      (alike_at (order ++ number c ∷ []) number h' t (quiet (UpgradeAbove (both p s (Shrink c)) y)) _ i.1
+      (quiet_alike (order ++ number c ∷ []) number h' (UpgradeAbove (both p s (Shrink c)) y) (UpgradeAbove (both q u (Shrink k)) y) (
+        both q u (Shrink k),
+        refl,
+        record {
+          top = refl;
+          above = parent_later order (order ++ number c ∷ []) number f p q b;
+          at = site.site.at;
+          change = (k, refl, named c (form_below s.form) s.depth h' new' t (λ n. quiet (UpgradeAbove (both q u (Shrink n)) y)) i.0 e);
+        },
+      ))))))
+  lesser_made s p (Some top) u q l y h' new' t (Ok c) a b d sk e i =
+      let L : Option (Parent ℕ) → Type 0 = λ z. Goal new' t h' (made_lesser key new g k u q z y) in
+      let P : NodeType → Type 0 = λ z. Goal new' t h' (making (form_below z) key q.depth new g k (λ n. quiet (UpgradeTop d.0 (both q u (ShrinkAbove n)) y))) in
+      let Q : ℕ → Type 0 = λ z. Goal new' t h' (making (form_below p.form) key z new g k (λ n. quiet (UpgradeTop d.0 (both q u (ShrinkAbove n)) y))) in
+      let f = later c (form_below p.form) p.depth h' new' t (λ n. quiet (UpgradeTop d.0 (both q u (ShrinkAbove n)) y)) i.0 e in
+      let site = read_later order (order ++ number c ∷ []) number f s u a in
+      subst L (sym d.1) (subst P (sym b.form) (subst Q (sym b.depth) (makes c (form_below p.form) p.depth h' new' t (λ n. quiet (UpgradeTop d.0 (both q u (ShrinkAbove n)) y)) i.0 e
+      (alike_at (order ++ number c ∷ []) number h' t (quiet (UpgradeTop top (both p s (ShrinkAbove c)) y)) _ i.1
+      (quiet_alike (order ++ number c ∷ []) number h' (UpgradeTop top (both p s (ShrinkAbove c)) y) (UpgradeTop d.0 (both q u (ShrinkAbove k)) y) (
+        d.0,
+        both q u (ShrinkAbove k),
+        refl,
+        parent_later order (order ++ number c ∷ []) number f top d.0 d.2,
+        record {
+          top = refl;
+          above = parent_later order (order ++ number c ∷ []) number f p q b;
+          at = site.site.at;
+          change = (k, refl, named c (form_below p.form) p.depth h' new' t (λ n. quiet (UpgradeTop d.0 (both q u (ShrinkAbove n)) y)) i.0 e);
+        },
+      ))))))
 
   -- an exchange of a lock word
   upgrade_same : (c : C) (n v w : ℕ) → Named order number c n → Stands (h (number c)) → w ≡ v → upgrade_gives most (g n) w fail ≡ upgrade_gives most (h (number c)) v fail
@@ -195,8 +245,20 @@ module _ {C V : Type 0} (number : C → ℕ) (same : V → V → Bool) (always :
       paired h' (lock g u.above.seat.node) new' new t (quiet (UpgradeBelow u y)) (pair_locked order h g o x (number two.above.seat.node) u.above.seat.node h' z.above.seat.node s i.0) e
       (alike_at order number h' t _ _ i.1 (quiet_alike order number h' (UpgradeBelow two y) (UpgradeBelow u y) (u, refl, z)))
   above_upgraded two u y h' new' t Failed z s may e i =
-      paired h' (back_two u.change g) new' new t (again m) (back_two_pair order number h g o x h' two.change u.change z.change may i.0) e (alike_at order number h' t _ _ i.1 (again_alike order number h' root m r))
+      paired h' (back_two u.change g) new' new t (given_up m u.top None) (back_two_pair order number h g o x h' two.change u.change z.change may i.0) e (alike_at order number h' t _ _ i.1 (given_up_alike order number h' root m two.top u.top None r z.top))
   above_upgraded two u y h' new' t Exhausted z s may e i =
+      paired h' (back_two u.change g) new' new t (given_up m u.top (Some refusal.Exhausted)) (back_two_pair order number h g o x h' two.change u.change z.change may i.0) e
+      (alike_at order number h' t _ _ i.1 (given_up_alike order number h' root m two.top u.top (Some refusal.Exhausted) r z.top))
+
+  top_upgraded : (top : Parent C) (q : Parent ℕ) (two : Two C) (u : Two ℕ) (y : Reply V) (h' : ℕ → Node V) (new' : Option V) (t : Turn C V) (a : Upgrade) → ParentAlike order number top q → TwoAlike order number two u → Stands (h (number top.seat.node)) → MayBackTwo number h two.change → new' ≡ new
+      → UpgradedTop number root top two y h a h' t → Goal new' t h' (upgraded_top m new g k q u y a)
+  top_upgraded top q two u y h' new' t Locked b z s may e i =
+      paired h' (lock g q.seat.node) new' new t (quiet (UpgradeAbove (record u { top = Some q }) y)) (pair_locked order h g o x (number top.seat.node) q.seat.node h' b.seat.node s i.0) e
+      (alike_at order number h' t _ _ i.1 (quiet_alike order number h' (UpgradeAbove (record two { top = Some top }) y) (UpgradeAbove (record u { top = Some q }) y)
+      (record u { top = Some q }, refl, record { top = (q, refl, b); above = z.above; at = z.at; change = z.change })))
+  top_upgraded top q two u y h' new' t Failed b z s may e i =
+      paired h' (back_two u.change g) new' new t (again m) (back_two_pair order number h g o x h' two.change u.change z.change may i.0) e (alike_at order number h' t _ _ i.1 (again_alike order number h' root m r))
+  top_upgraded top q two u y h' new' t Exhausted b z s may e i =
       paired h' (back_two u.change g) new' new t (refused refusal.Exhausted) (back_two_pair order number h g o x h' two.change u.change z.change may i.0) e (alike_at order number h' t _ _ i.1 (refused_alike order number h' refusal.Exhausted))
 
   below_upgraded : (two : Two C) (u : Two ℕ) (y : Reply V) (h' : ℕ → Node V) (new' : Option V) (t : Turn C V) (a : Upgrade) → TwoAlike order number two u → Stands (h (number two.at.node)) → MayBackTwo number h two.change → new' ≡ new
@@ -205,11 +267,13 @@ module _ {C V : Type 0} (number : C → ℕ) (same : V → V → Bool) (always :
       paired h' (lock g u.at.node) new' new t (quiet (ChangeTwo u y)) (pair_locked order h g o x (number two.at.node) u.at.node h' z.at.node s i.0) e
       (alike_at order number h' t _ _ i.1 (quiet_alike order number h' (ChangeTwo two y) (ChangeTwo u y) (u, refl, z)))
   below_upgraded two u y h' new' t Failed z s may e i =
-      paired h' (back_two u.change g) new' new t (quiet (Unwind u.above.seat.node None)) (back_two_pair order number h g o x h' two.change u.change z.change may i.0) e
-      (alike_at order number h' t _ _ i.1 (quiet_alike order number h' (Unwind two.above.seat.node None) (Unwind u.above.seat.node None) (u.above.seat.node, refl, z.above.seat.node)))
+      paired h' (back_two u.change g) new' new t (quiet (Unwind u.above.seat.node (node_of u.top) None)) (back_two_pair order number h g o x h' two.change u.change z.change may i.0) e
+      (alike_at order number h' t _ _ i.1 (quiet_alike order number h' (Unwind two.above.seat.node (node_of two.top) None) (Unwind u.above.seat.node (node_of u.top) None)
+      (u.above.seat.node, node_of u.top, refl, z.above.seat.node, node_alike order number h' two.top u.top z.top)))
   below_upgraded two u y h' new' t Exhausted z s may e i =
-      paired h' (back_two u.change g) new' new t (quiet (Unwind u.above.seat.node (Some refusal.Exhausted))) (back_two_pair order number h g o x h' two.change u.change z.change may i.0) e
-      (alike_at order number h' t _ _ i.1 (quiet_alike order number h' (Unwind two.above.seat.node (Some refusal.Exhausted)) (Unwind u.above.seat.node (Some refusal.Exhausted)) (u.above.seat.node, refl, z.above.seat.node)))
+      paired h' (back_two u.change g) new' new t (quiet (Unwind u.above.seat.node (node_of u.top) (Some refusal.Exhausted))) (back_two_pair order number h g o x h' two.change u.change z.change may i.0) e
+      (alike_at order number h' t _ _ i.1 (quiet_alike order number h' (Unwind two.above.seat.node (node_of two.top) (Some refusal.Exhausted)) (Unwind u.above.seat.node (node_of u.top) (Some refusal.Exhausted))
+      (u.above.seat.node, node_of u.top, refl, z.above.seat.node, node_alike order number h' two.top u.top z.top)))
 
   above_passed : (p : Seat C) (q : Seat ℕ) (one : One C) (u : One ℕ) (y : Reply V) (h' : ℕ → Node V) (new' : Option V) (t : Turn C V) → SeatAlike order number p q → OneAlike order number one u → Stands (h (number p.node)) → MayBackOne number h one.change → new' ≡ new
       → IsCheckedAbove number root p one y h h' t → Goal new' t h' (passed_above (is_taken (g q.node) q.version) m new g k u y)
@@ -225,108 +289,117 @@ module _ {C V : Type 0} (number : C → ℕ) (same : V → V → Bool) (always :
   steps q = phase_step same most m key kind fail seen answer new q g k
 
   -- the step of a phase
-  pub phase_alike : (p : Phase C V) (q : Phase ℕ V) (h' : ℕ → Node V) (new' : Option V) (t : Turn C V) → PhaseAlike order number h p q → MayStep number root key new p h → HoldsRight number h p → IsUnrefused t.report.outcome
+  pub phase_alike : (p : Phase C V) (q : Phase ℕ V) (h' : ℕ → Node V) (new' : Option V) (t : Turn C V) → PhaseAlike order number h p q → MayStep number root key new p h → HoldsRight number h p → IsUnrefused t.report.outcome → t.report.skipped ≡ false
       → PhaseStepped number same always most why root key kind fail answer new p h new' t h' → Goal new' t h' (steps q)
-  phase_alike New q h' new' t e may holds un i =
+  phase_alike New q h' new' t e may holds un sk i =
       let P : Phase ℕ V → Type 0 = λ z. Goal new' t h' (steps z) in
       subst P (sym e) (still h' new' new t _ i.0 i.1 (alike_at order number h' t _ _ i.2 (alike_to order number h' _ (after_version m None m (version_of (h (number root)))) _ (ap (after_version m None m) (version_same order (h (number root)) (g m) (node root m r may)))
       (version_alike order number h' root m None None root m (version_of (h (number root))) r refl r))))
-  phase_alike (Version above c) q h' new' t e may holds un i =
+  phase_alike (Version above c) q h' new' t e may holds un sk i =
       let P : Phase ℕ V → Type 0 = λ z. Goal new' t h' (steps z) in
       subst P (sym e.2) (still h' new' new t _ i.0 i.1 (alike_at order number h' t _ _ i.2 (alike_to order number h' _ (after_version m e.0 e.1 (version_of (h (number c)))) _ (ap (after_version m e.0 e.1) (version_same order (h (number c)) (g e.1) (node c e.1 e.4 may)))
       (version_alike order number h' root m above e.0 c e.1 (version_of (h (number c))) r e.3 e.4))))
-  phase_alike (Read above at) q h' new' t e may holds un i =
+  phase_alike (Read above at) q h' new' t e may holds un sk i =
       let P : Phase ℕ V → Type 0 = λ z. Goal new' t h' (steps z) in
       let Q : (ℕ → Node V) → Type 0 = λ z. TurnAlike order number z t (after_read m e.0 e.1 (reading (g e.1.node) e.1.version key seen)) in
       subst P (sym e.2) (still h' new' new t _ i.0 i.1 (subst Q (sym i.0) (alike_at order number h t _ _ i.2.2
       (read_alike order number h g root m r key len always above e.0 e.3 at e.1 e.4 (node at.node e.1.node e.4.node may) seen i.2.0 i.2.1))))
-  phase_alike (Check s c) q h' new' t e may holds un i =
+  phase_alike (Check s c) q h' new' t e may holds un sk i =
       let P : Phase ℕ V → Type 0 = λ z. Goal new' t h' (steps z) in
       subst P (sym e.2) (still h' new' new t _ i.0 i.1 (passed h' s.at e.0.at (IsChecked always same kind new s c) t (checked same kind new e.0 e.1) e.3.at may i.2 (λ y z. checked_alike order number h' always same kind new s c e.0 e.1 t e.3 (e.4 y) un z)))
-  phase_alike (CheckUncopied at) q h' new' t e may holds un i =
+  phase_alike (CheckUncopied at) q h' new' t e may holds un sk i =
       let P : Phase ℕ V → Type 0 = λ z. Goal new' t h' (steps z) in
       subst P (sym e.2) (still h' new' new t _ i.0 i.1 (passed h' at e.0.at (λ (w : Turn C V). w ≡ refused refusal.Count) t (checked same kind new e.0 e.1) e.3 may i.2 (λ y z. absurd (uncounted t un z))))
-  phase_alike (CheckMiss p at common byte) q h' new' t e may holds un i =
+  phase_alike (CheckMiss p at common byte) q h' new' t e may holds un sk i =
       let P : Phase ℕ V → Type 0 = λ z. Goal new' t h' (steps z) in
       subst P (sym e.2) (still h' new' new t _ i.0 i.1 (passed h' p.seat e.0.seat (λ (w : Turn C V). w ≡ after_miss kind p at common byte) t (after_miss kind e.0 e.1 common byte) e.3.seat may i.2 (λ y z. alike_at order number h' t _ _ z (miss_alike order number h' kind p e.0 at e.1 common byte e.3 e.4))))
-  phase_alike (CheckDown p at c) q h' new' t e may holds un i =
+  phase_alike (CheckDown p at c) q h' new' t e may holds un sk i =
       let P : Phase ℕ V → Type 0 = λ z. Goal new' t h' (steps z) in
       subst P (sym e.3) (still h' new' new t _ i.0 i.1 (passed h' p e.0 (λ (w : Turn C V). w ≡ quiet (Version (Some at) c)) t (quiet (Version (Some e.1) e.2)) e.4 may i.2
       (λ y z. alike_at order number h' t _ _ z (quiet_alike order number h' (Version (Some at) c) (Version (Some e.1) e.2) (Some e.1, e.2, refl, (e.1, refl, e.5), e.6)))))
-  phase_alike (CheckOld p s v) q h' new' t e may holds un i =
+  phase_alike (CheckOld p s v) q h' new' t e may holds un sk i =
       let P : Phase ℕ V → Type 0 = λ z. Goal new' t h' (steps z) in
       subst P (sym e.2) (still h' new' new t _ i.0 i.1 (passed h' p e.0 (IsAtOld always same kind new s v) t (at_old same kind new e.1 v) e.3 may i.2 (λ y z. old_alike order number h' always same kind new s e.1 v t e.4 un z)))
-  phase_alike (MakeLeaf s) q h' new' t e may holds un i =
+  phase_alike (MakeLeaf s) q h' new' t e may holds un sk i =
       let P : Phase ℕ V → Type 0 = λ z. Goal new' t h' (steps z) in
       subst P (sym e.1) (leaf_made s e.0 h' new' t i.1.0 e.2 e.3 un i.0 i.1.1 i.1.2)
-  phase_alike (MakeGreater s p leaf) q h' new' t e may holds un i =
+  phase_alike (MakeGreater s p leaf) q h' new' t e may holds un sk i =
       let P : Phase ℕ V → Type 0 = λ z. Goal new' t h' (steps z) in
       subst P (sym e.3) (greater_made s p leaf e.0 e.1 e.2 h' new' t i.1.0 e.4 e.5 e.6 un i.0 i.1.1 i.1.2)
-  phase_alike (MakeTop p at common byte) q h' new' t e may holds un i =
+  phase_alike (MakeTop p at common byte) q h' new' t e may holds un sk i =
       let P : Phase ℕ V → Type 0 = λ z. Goal new' t h' (steps z) in
       subst P (sym e.2) (top_made p at common byte e.0 e.1 h' new' t i.1.0 e.3 e.4 un i.0 i.1.1 i.1.2)
-  phase_alike (MakeBeside p at common byte top) q h' new' t e may holds un i =
+  phase_alike (MakeBeside p at common byte top) q h' new' t e may holds un sk i =
       let P : Phase ℕ V → Type 0 = λ z. Goal new' t h' (steps z) in
       subst P (sym e.3) (beside_made p at common byte top e.0 e.1 e.2 h' new' t i.1.0 e.4 e.5 e.6 un i.0 i.1.1 i.1.2)
-  phase_alike (AskOld s v) q h' new' t e may holds un i =
+  phase_alike (MakeLesser s p top y) q h' new' t e may holds un sk i =
+      let P : Phase ℕ V → Type 0 = λ z. Goal new' t h' (steps z) in
+      subst P (sym e.3) (lesser_made s p top e.0 e.1 e.2 y h' new' t i.1.0 e.4 e.5 e.6 sk i.0 i.1.1)
+  phase_alike (AskOld s v) q h' new' t e may holds un sk i =
       let P : Phase ℕ V → Type 0 = λ z. Goal new' t h' (steps z) in
       let a : GivenAlike order number h' new' t (given_old same kind e.0 v answer new) = given_alike order number h' always same kind s e.0 v answer new new' t e.2 un i.1 in
       subst P (sym e.1) (still h' new' _ t _ i.0 (sym a.given) a.turn)
-  phase_alike (AskNew plan) q h' new' t e may holds un i =
+  phase_alike (AskNew plan) q h' new' t e may holds un sk i =
       let P : Phase ℕ V → Type 0 = λ z. Goal new' t h' (steps z) in
       let a : GivenAlike order number h' new' t (given_new e.0 answer new) = answer_alike order number h' plan e.0 answer new new' t e.2 i.1 in
       subst P (sym e.1) (still h' new' _ t _ i.0 (sym a.given) a.turn)
-  phase_alike (Confirm at y) q h' new' t e may holds un i =
+  phase_alike (Confirm at y) q h' new' t e may holds un sk i =
       let P : Phase ℕ V → Type 0 = λ z. Goal new' t h' (steps z) in
       subst P (sym e.1) (still h' new' new t _ i.0 i.1 (passed h' at e.0 (λ (w : Turn C V). w ≡ answered y) t (answered y) e.2 may i.2 (λ w z. alike_at order number h' t _ _ z (answered_alike order number h' y))))
-  phase_alike (CheckAbove p one y) q h' new' t e may holds un i =
+  phase_alike (CheckAbove p one y) q h' new' t e may holds un sk i =
       let P : Phase ℕ V → Type 0 = λ z. Goal new' t h' (steps z) in
       subst P (sym e.2) (above_passed p e.0 one e.1 y h' new' t e.3 e.4 may.0 may.1 i.0 i.1)
-  phase_alike (UpgradeOne one y) q h' new' t e may holds un i =
+  phase_alike (UpgradeOne one y) q h' new' t e may holds un sk i =
       let P : Phase ℕ V → Type 0 = λ z. Goal new' t h' (steps z) in
       let Q : Upgrade → Type 0 = λ z. Goal new' t h' (upgraded_one m new g k e.0 y z) in
       subst P (sym e.1) (subst Q (i.1.1 ∙ sym (upgrade_same one.at.node e.0.at.node one.at.version e.0.at.version e.2.at.node may.0 e.2.at.version)) (one_upgraded one e.0 y h' new' t i.1.0 e.2 may.0 may.1 i.0 i.1.2))
-  phase_alike (ChangeOne one y) q h' new' t e may holds un i =
+  phase_alike (ChangeOne one y) q h' new' t e may holds un sk i =
       let P : Phase ℕ V → Type 0 = λ z. Goal new' t h' (steps z) in
       subst P (sym e.1) (paired h' _ new' None t _ (change_one_pair order number h g o x h' key new one e.0 e.2.at e.2.byte one.change e.0.change e.2.change may i.1) i.0
       (alike_at order number h' t _ _ i.2 (decided_alike order number h' (Unlock one.at.node y) (Unlock e.0.at.node y) (e.0.at.node, refl, e.2.at.node))))
-  phase_alike (UpgradeAbove two y) q h' new' t e may holds un i =
+  phase_alike (UpgradeTop top two y) q h' new' t e may holds un sk i =
+      let P : Phase ℕ V → Type 0 = λ z. Goal new' t h' (steps z) in
+      let Q : Upgrade → Type 0 = λ z. Goal new' t h' (upgraded_top m new g k e.0 e.1 y z) in
+      subst P (sym e.2) (subst Q (i.1.1 ∙ sym (upgrade_same top.seat.node e.0.seat.node top.seat.version e.0.seat.version e.3.seat.node may.0 e.3.seat.version))
+      (top_upgraded top e.0 two e.1 y h' new' t i.1.0 e.3 e.4 may.0 may.1 i.0 i.1.2))
+  phase_alike (UpgradeAbove two y) q h' new' t e may holds un sk i =
       let P : Phase ℕ V → Type 0 = λ z. Goal new' t h' (steps z) in
       let Q : Upgrade → Type 0 = λ z. Goal new' t h' (upgraded_above m new g k e.0 y z) in
       subst P (sym e.1) (subst Q (i.1.1 ∙ sym (upgrade_same two.above.seat.node e.0.above.seat.node two.above.seat.version e.0.above.seat.version e.2.above.seat.node may.0 e.2.above.seat.version))
       (above_upgraded two e.0 y h' new' t i.1.0 e.2 may.0 may.1 i.0 i.1.2))
-  phase_alike (UpgradeBelow two y) q h' new' t e may holds un i =
+  phase_alike (UpgradeBelow two y) q h' new' t e may holds un sk i =
       let P : Phase ℕ V → Type 0 = λ z. Goal new' t h' (steps z) in
       let Q : Upgrade → Type 0 = λ z. Goal new' t h' (upgraded_below new g k e.0 y z) in
       subst P (sym e.1) (subst Q (i.1.1 ∙ sym (upgrade_same two.at.node e.0.at.node two.at.version e.0.at.version e.2.at.node may.0 e.2.at.version)) (below_upgraded two e.0 y h' new' t i.1.0 e.2 may.0 may.1 i.0 i.1.2))
-  phase_alike (ChangeTwo two y) q h' new' t e may holds un i =
+  phase_alike (ChangeTwo two y) q h' new' t e may holds un sk i =
       let P : Phase ℕ V → Type 0 = λ z. Goal new' t h' (steps z) in
       subst P (sym e.1) (paired h' _ new' None t _ (change_two_pair order number h g o x h' key two e.0 e.2 new two.change e.0.change e.2.change holds may i.1) i.0
       (alike_at order number h' t _ _ i.2 (change_alike order number h' two e.0 y e.2 two.change e.0.change e.2.change)))
-  phase_alike (Obsolete c p y) q h' new' t e may holds un i =
+  phase_alike (Obsolete c next p y) q h' new' t e may holds un sk i =
       let P : Phase ℕ V → Type 0 = λ z. Goal new' t h' (steps z) in
-      subst P (sym e.2) (paired h' _ new' new t _ (pair_marked order h g o x (number c) e.0 h' e.3 may.0 i.1) i.0 (alike_at order number h' t _ _ i.2 (quiet_alike order number h' (Retire c p y) (Retire e.0 e.1 y) (e.0, e.1, refl, e.3, e.4))))
-  phase_alike (Retire c p y) q h' new' t e may holds un i =
+      subst P (sym e.3) (paired h' _ new' new t _ (pair_marked order h g o x (number c) e.0 h' e.4 may.0 i.1) i.0
+      (alike_at order number h' t _ _ i.2 (quiet_alike order number h' (Retire c next p y) (Retire e.0 e.1 e.2 y) (e.0, e.1, e.2, refl, e.4, e.5, e.6))))
+  phase_alike (Retire c next p y) q h' new' t e may holds un sk i =
       let P : Phase ℕ V → Type 0 = λ z. Goal new' t h' (steps z) in
-      subst P (sym e.2) (paired h' _ new' new t _ (pair_handed order h g o x (number c) e.0 h' e.3 may.0 i.1) i.0 (alike_at order number h' t _ _ i.2 (quiet_alike order number h' (Unlock p y) (Unlock e.1 y) (e.1, refl, e.4))))
-  phase_alike (UnlockBelow c p y) q h' new' t e may holds un i =
+      subst P (sym e.3) (paired h' _ new' new t _ (pair_handed order h g o x (number c) e.0 h' e.4 may.0 i.1) i.0 (alike_at order number h' t _ _ i.2 (retired_alike order number h' next e.1 p e.2 y e.5 e.6)))
+  phase_alike (UnlockBelow c p y) q h' new' t e may holds un sk i =
       let P : Phase ℕ V → Type 0 = λ z. Goal new' t h' (steps z) in
       subst P (sym e.2) (paired h' _ new' new t _ (pair_freed order h g o x (number c) e.0 h' e.3 may.0 i.1) i.0 (alike_at order number h' t _ _ i.2 (quiet_alike order number h' (Unlock p y) (Unlock e.1 y) (e.1, refl, e.4))))
-  phase_alike (Unlock c y) q h' new' t e may holds un i =
+  phase_alike (Unlock c y) q h' new' t e may holds un sk i =
       let P : Phase ℕ V → Type 0 = λ z. Goal new' t h' (steps z) in
       subst P (sym e.1) (paired h' _ new' new t _ (pair_freed order h g o x (number c) e.0 h' e.2 may.0 i.1) i.0 (alike_at order number h' t _ _ i.2 (finished_alike order number h' y)))
-  phase_alike (Unwind c z) q h' new' t e may holds un i =
+  phase_alike (Unwind c next z) q h' new' t e may holds un sk i =
       let P : Phase ℕ V → Type 0 = λ z. Goal new' t h' (steps z) in
-      subst P (sym e.1) (paired h' _ new' new t _ (pair_freed order h g o x (number c) e.0 h' e.2 may.0 i.1) i.0 (alike_at order number h' t _ _ i.2 (unwound_alike order number h' root m z r)))
-  phase_alike (Sweep s) q h' new' t e may holds un i =
+      subst P (sym e.2) (paired h' _ new' new t _ (pair_freed order h g o x (number c) e.0 h' e.3 may.0 i.1) i.0 (alike_at order number h' t _ _ i.2 (left_alike order number h' root m next e.1 z r e.4)))
+  phase_alike (Sweep s) q h' new' t e may holds un sk i =
       let P : Phase ℕ V → Type 0 = λ z. Goal new' t h' (steps z) in
       let Q : (ℕ → Node V) → Type 0 = λ z. TurnAlike order number z t (swept (swung m seen g e.0 e.0.stage).0 (swung m seen g e.0 e.0.stage).1) in
       let R : Turn C V → Type 0 = λ z. IsUnrefused z.report.outcome in
       let a : SwungAlike order number h (i.2.0, i.2.1) (swung m seen g e.0 e.0.stage) = swung_alike order number h g x always root m r seen s e.0 (i.2.0, i.2.1) e.2 may (subst R i.2.3 un) i.2.2 in
       subst P (sym e.1) (still h' new' new t _ i.0 i.1 (subst Q (sym i.0) (alike_at order number h t _ _ i.2.3 (record {
-        report = ap (λ y. record { decided = false; outcome = outcome_of y }) a.told;
+        report = ap (λ y. record { decided = false; skipped = false; outcome = outcome_of y }) a.told;
         phase = ((swung m seen g e.0 e.0.stage).0, refl, a.scan);
       }))))
-  phase_alike Ended q h' new' t e may holds un i =
+  phase_alike Ended q h' new' t e may holds un sk i =
       let P : Phase ℕ V → Type 0 = λ z. Goal new' t h' (steps z) in
       subst P (sym e) (still h' new' new t _ i.0 i.1 (alike_at order number h' t _ _ i.2 (quiet_alike order number h' Ended Ended refl)))

@@ -1,8 +1,10 @@
 -- The next phase of a call on a store, and that of the same call by numbers.
-use Rattle.std.proofs.Common.{◌≡◌, ℕ, ◌==◌, Bool, true, false, cond, List, refl, sym, ◌∙◌, ap, subst, inl, inr, ◌⊎◌}
+use Rattle.std.proofs.Common.{◌≡◌, ℕ, ◌==◌, ◌&&◌, Bool, true, false, cond, List, refl, sym, ◌∙◌, ap, subst, inl, inr, ◌⊎◌}
+use Rattle.std.proofs.Math.Dec.{ltb}
 use Rattle.std.specs.Prelude.{Option, None, Some, Ok, Err}
 use Rattle.judge.specs.declared.journal.Reply.{Reply}
 use Rattle.judge.specs.declared.journal.Reply.TheVariants as reply
+use Rattle.congee.specs.declared.forms.base_node.NodeType.{NodeType}
 use Rattle.congee.specs.declared.forms.child.Child.{Child}
 use Rattle.congee.specs.declared.forms.child.Child.TheVariants as child
 use Rattle.congee.specs.declared.protocol.store.Refusal.{Refusal}
@@ -11,20 +13,21 @@ use Rattle.congee.specs.declared.protocol.store.Seat.{Seat}
 use Rattle.congee.specs.declared.protocol.phase.Kind.{Kind}
 use Rattle.congee.specs.declared.protocol.phase.Kind.TheVariants.{Get, Insert, Remove, ComputePresent, ComputeInsert, Exchange}
 use Rattle.congee.specs.declared.protocol.phase.Parent.{Parent}
+use Rattle.congee.specs.declared.protocol.phase.Above.{Above as Over}
 use Rattle.congee.specs.declared.protocol.phase.Site.{Site}
 use Rattle.congee.specs.declared.protocol.phase.Single.{Single}
 use Rattle.congee.specs.declared.protocol.phase.Single.TheVariants.{Set}
 use Rattle.congee.specs.declared.protocol.phase.Double.{Double}
-use Rattle.congee.specs.declared.protocol.phase.Double.TheVariants.{Unlink, Grow, GrowLink, Split}
+use Rattle.congee.specs.declared.protocol.phase.Double.TheVariants.{Unlink, Grow, GrowLink, Split, Shrink, Collapse, ShrinkAbove}
 use Rattle.congee.specs.declared.protocol.phase.Two.{Two}
 use Rattle.congee.specs.declared.protocol.phase.Plan.{Plan}
 use Rattle.congee.specs.declared.protocol.phase.Plan.TheVariants.{Here, Above}
 use Rattle.congee.specs.declared.protocol.phase.Phase.{Phase}
-use Rattle.congee.specs.declared.protocol.phase.Phase.TheVariants.{Version, Read, CheckDown, CheckOld, MakeLeaf, MakeGreater, MakeTop, AskOld, AskNew, Confirm, CheckAbove, UpgradeOne, UpgradeAbove, Obsolete, UnlockBelow}
+use Rattle.congee.specs.declared.protocol.phase.Phase.TheVariants.{Version, Read, CheckDown, CheckOld, MakeLeaf, MakeGreater, MakeTop, MakeLesser, AskOld, AskNew, Confirm, CheckAbove, UpgradeOne, UpgradeTop, UpgradeAbove, Obsolete, UnlockBelow, Unlock, Unwind}
 use Rattle.congee.specs.declared.protocol.turn.Turn.{Turn}
 use Rattle.congee.specs.Heap.{Node}
-use Rattle.congee.specs.protocol.Alike.{Named, SeatAlike, ParentAlike, AboveAlike, SeatedAlike, MadeAlike, SiteAlike, ReadAlike, SingleAlike, DoubleAlike, TwoAlike, PlanAlike, SeesAlike, PhaseAlike, TurnAlike, IsUnrefused}
-use Rattle.congee.specs.protocol.Steps.{quiet, again, answered, finished, refused, decided, asking, adds, asks_new, absent_reply, after_version, down, started, ready, seat_above, plan_here, unless_full, missing, absent, CopyFailed, IsAsked, replaced, taken_out, emptied, is_same, IsAtOld, IsAdded, IsExchanged, IsCompared, IsPresent, IsChecked, after_miss, IsGiven, IsGivenNew, greater, after_change, unwound}
+use Rattle.congee.specs.protocol.Alike.{Named, SeatAlike, ParentAlike, TopAlike, OverAlike, AboveAlike, SeatedAlike, MadeAlike, SiteAlike, ReadAlike, SingleAlike, DoubleAlike, TwoAlike, PlanAlike, SeesAlike, PhaseAlike, TurnAlike, IsUnrefused}
+use Rattle.congee.specs.protocol.Steps.{shrinks, here_of, near_of, node_of, below, set_at, both, last_out, after_top, after_retire, after_unwind, given_up, quiet, again, answered, finished, refused, decided, asking, adds, asks_new, absent_reply, after_version, down, started, ready, seat_above, plan_here, unless_full, missing, absent, CopyFailed, IsAsked, replaced, taken_out, emptied, is_same, IsAtOld, IsAdded, IsExchanged, IsCompared, IsPresent, IsChecked, after_miss, IsGiven, IsGivenNew, greater, after_change, unwound}
 use Rattle.congee.specs.protocol.PlainSteps.{asked, at_old, added, exchanged, present, checked, given_old, given_new}
 use Rattle.congee.specs.declared.forms.prefix.TheConstants.{MAX_PREFIX_LEN}
 
@@ -60,29 +63,31 @@ module _ {C V : Type 0} (order : List ℕ) (number : C → ℕ) (h : ℕ → Nod
   pub again_alike : (root : C) (n : ℕ) → Named order number root n → Alike (again root) (again n)
   again_alike root n x = quiet_alike (Version None root) (Version None n) (None, n, refl, refl, x)
 
-  pub version_alike : (root : C) (m : ℕ) (above : Option (Parent C)) (o : Option (Parent ℕ)) (c : C) (n : ℕ) (v : Option ℕ) → Named order number root m → AboveAlike order number above o → Named order number c n
+  pub version_alike : (root : C) (m : ℕ) (above : Option (Over C)) (o : Option (Over ℕ)) (c : C) (n : ℕ) (v : Option ℕ) → Named order number root m → AboveAlike order number above o → Named order number c n
       → Alike (after_version root above c v) (after_version m o n v)
   version_alike root m above o c n None r a x = again_alike root m r
   version_alike root m above o c n (Some v) r a x = quiet_alike (Read above (record { node = c; version = v })) (Read o (record { node = n; version = v })) (o, record { node = n; version = v }, refl, a, record { node = x; version = refl })
 
-  abbrev parent_of : Site C → Parent C
-  parent_of s = record { seat = s.at; byte = s.byte }
+  -- the node at hand as the one above the next, and the nodes above that
+  pub parent_alike : (s : Site C) (u : Site ℕ) → ReadAlike order number s u → ParentAlike order number (here_of s) (here_of u)
+  parent_alike s u x = record { seat = x.site.at; byte = x.site.byte; depth = x.site.depth; count = x.count; form = x.site.form }
 
-  abbrev parent_to : Site ℕ → Parent ℕ
-  parent_to s = record { seat = s.at; byte = s.byte }
+  near_alike : (above : Option (Over C)) (o : Option (Over ℕ)) → AboveAlike order number above o → TopAlike order number (near_of above) (near_of o)
+  near_alike None o a = ap near_of a
+  near_alike (Some u) o a = (a.0.near, ap near_of a.1, a.2.near)
 
-  parent_alike : (s : Site C) (u : Site ℕ) → SiteAlike order number s u → ParentAlike order number (parent_of s) (parent_to u)
-  parent_alike s u x = record { seat = x.at; byte = x.byte }
+  below_alike : (s : Site C) (u : Site ℕ) → ReadAlike order number s u → OverAlike order number (below s) (below u)
+  below_alike s u x = record { near = parent_alike s u x; far = near_alike s.above u.above x.site.above }
 
-  pub down_alike : (b : Bool) (s : Site C) (u : Site ℕ) (above : Option (Parent C)) (o : Option (Parent ℕ)) (c : C) (n : ℕ) → SiteAlike order number s u → AboveAlike order number above o → Named order number c n
+  pub down_alike : (b : Bool) (s : Site C) (u : Site ℕ) (above : Option (Over C)) (o : Option (Over ℕ)) (c : C) (n : ℕ) → ReadAlike order number s u → AboveAlike order number above o → Named order number c n
       → Alike (down b s above c) (down b u o n)
-  down_alike false s u above o c n x a y = quiet_alike (Version (Some (parent_of s)) c) (Version (Some (parent_to u)) n) (Some (parent_to u), n, refl, (parent_to u, refl, parent_alike s u x), y)
+  down_alike false s u above o c n x a y = quiet_alike (Version (Some (below s)) c) (Version (Some (below u)) n) (Some (below u), n, refl, (below u, refl, below_alike s u x), y)
   down_alike true s u None o c n x a y =
       alike_to (down true s None c) (down true u None n) (down true u o n) (ap (λ z. down true u z n) a)
-      (quiet_alike (Version (Some (parent_of s)) c) (Version (Some (parent_to u)) n) (Some (parent_to u), n, refl, (parent_to u, refl, parent_alike s u x), y))
+      (quiet_alike (Version (Some (below s)) c) (Version (Some (below u)) n) (Some (below u), n, refl, (below u, refl, below_alike s u x), y))
   down_alike true s u (Some p) o c n x a y =
       alike_to (down true s (Some p) c) (down true u (Some a.0) n) (down true u o n) (ap (λ z. down true u z n) a.1)
-      (quiet_alike (CheckDown p.seat (parent_of s) c) (CheckDown a.0.seat (parent_to u) n) (a.0.seat, parent_to u, n, refl, a.2.seat, parent_alike s u x, y))
+      (quiet_alike (CheckDown p.near.seat (below s) c) (CheckDown a.0.near.seat (below u) n) (a.0.near.seat, below u, n, refl, a.2.near.seat, below_alike s u x, y))
 
   pub started_alike : (plan : Plan C) (y : Plan ℕ) (r : Reply V) → PlanAlike order number plan y → Alike (started plan r) (started y r)
   started_alike (Here None one) y r x =
@@ -98,18 +103,18 @@ module _ {C V : Type 0} (order : List ℕ) (number : C → ℕ) (h : ℕ → Nod
     by true = asking_alike (AskNew plan) (AskNew y) None (y, refl, x)
     by false = started_alike plan y (absent_reply kind) x
 
-  seated_above : (above : Option (Parent C)) (o : Option (Parent ℕ)) → AboveAlike order number above o → SeatedAlike order number (seat_above above) (seat_above o)
+  seated_above : (above : Option (Over C)) (o : Option (Over ℕ)) → AboveAlike order number above o → SeatedAlike order number (seat_above above) (seat_above o)
   seated_above None o x = ap seat_above x
-  seated_above (Some p) o x = (x.0.seat, ap seat_above x.1, x.2.seat)
+  seated_above (Some p) o x = (x.0.near.seat, ap seat_above x.1, x.2.near.seat)
 
   here_alike : (s : Site C) (u : Site ℕ) (change : Single C) (y : Single ℕ) → SiteAlike order number s u → SingleAlike order number change y → PlanAlike order number (plan_here s change) (plan_here u y)
   here_alike s u change y x a = (seat_above u.above, record { at = u.at; byte = u.byte; change = y }, refl, seated_above s.above u.above x.above, record { at = x.at; byte = x.byte; change = a })
 
-  pub full_alike : (kind : Kind V) (s : Site C) (u : Site ℕ) (b : Bool) (above : Option (Parent C)) (o : Option (Parent ℕ)) (leaf : Option C) (l : Option ℕ) (change : Single C) (y : Single ℕ)
+  pub full_alike : (kind : Kind V) (s : Site C) (u : Site ℕ) (b : Bool) (above : Option (Over C)) (o : Option (Over ℕ)) (leaf : Option C) (l : Option ℕ) (change : Single C) (y : Single ℕ)
       → ReadAlike order number s u → AboveAlike order number above o → MadeAlike order number leaf l → SingleAlike order number change y → Alike (unless_full kind s b above leaf change) (unless_full kind u b o l y)
   full_alike kind s u true (Some p) o leaf l change y x a m d =
       alike_to _ (unless_full kind u true (Some a.0) l y) (unless_full kind u true o l y) (ap (λ z. unless_full kind u true z l y) a.1)
-      (quiet_alike (MakeGreater s p leaf) (MakeGreater u a.0 l) (u, a.0, l, refl, x, a.2, m))
+      (quiet_alike (MakeGreater s p.near leaf) (MakeGreater u a.0.near l) (u, a.0.near, l, refl, x, a.2.near, m))
   full_alike kind s u true None o leaf l change y x a m d =
       alike_to _ (unless_full kind u true None l y) (unless_full kind u true o l y) (ap (λ z. unless_full kind u true z l y) a)
       (ready_alike kind (plan_here s change) (plan_here u y) (here_alike s u change y x.site d))
@@ -144,17 +149,43 @@ module _ {C V : Type 0} (order : List ℕ) (number : C → ℕ) (h : ℕ → Nod
   replaced_alike s u true r x = confirm_alike s.at u.at r x.at
   replaced_alike s u false r x = set_alike s u r x
 
-  taken_alike : (s : Site C) (u : Site ℕ) (b : Bool) (above : Option (Parent C)) (o : Option (Parent ℕ)) (r : Reply V) → SiteAlike order number s u → AboveAlike order number above o → Alike (taken_out s b above r) (taken_out u b o r)
-  taken_alike s u true (Some p) o r x a =
-      alike_to _ (taken_out u true (Some a.0) r) (taken_out u true o r) (ap (λ z. taken_out u true z r) a.1)
-      (quiet_alike (UpgradeAbove (record { above = p; at = s.at; change = Unlink }) r) (UpgradeAbove (record { above = a.0; at = u.at; change = Unlink }) r)
-      (record { above = a.0; at = u.at; change = Unlink }, refl, record { above = a.2; at = x.at; change = refl }))
-  taken_alike s u true None o r x a = alike_to _ (taken_out u true None r) (taken_out u true o r) (ap (λ z. taken_out u true z r) a) (set_alike s u r x)
-  taken_alike s u false above o r x a = set_alike s u r x
+  -- a value's going
+  out_alike : (s : Site C) (u : Site ℕ) (p : Parent C) (q : Parent ℕ) (r : Reply V) → SiteAlike order number s u → ParentAlike order number p q → Alike (quiet (UpgradeAbove (both p s Unlink) r)) (quiet (UpgradeAbove (both q u Unlink) r))
+  out_alike s u p q r x y = quiet_alike (UpgradeAbove (both p s Unlink) r) (UpgradeAbove (both q u Unlink) r) (both q u Unlink, refl, record { top = refl; above = y; at = x.at; change = refl })
+
+  last_alike : (s : Site C) (u : Site ℕ) (p : Parent C) (q : Parent ℕ) (top : Option (Parent C)) (o : Option (Parent ℕ)) (r : Reply V) → ReadAlike order number s u → ParentAlike order number p q → TopAlike order number top o
+      → Alike (last_out s p top r) (last_out u q o r)
+  last_alike s u p q None o r x y a = alike_to _ (last_out u q None r) _ (ap (λ z. last_out u q z r) a) (out_alike s u p q r x.site y)
+  last_alike s u p q (Some top) o r x y a =
+      alike_to _ (last_out u q (Some a.0) r) _ (ap (λ z. last_out u q z r) a.1)
+      (alike_to _ (by_read p.count p.form) _ (ap (λ z. by_read z q.form) y.count ∙ ap (λ z. by_read p.count z) y.form) (each (p.count == 2) (ltb 2 p.count && shrinks p.form p.count)))
+    where
+      by_read : ℕ → NodeType → Turn ℕ V
+      by_read n f = cond (n == 2) (quiet (UpgradeTop a.0 (both q u Collapse) r)) (cond (ltb 2 n && shrinks f n) (quiet (MakeLesser u q (Some a.0) r)) (quiet (UpgradeAbove (both q u Unlink) r)))
+
+      each : (b c : Bool) → Alike (cond b (quiet (UpgradeTop top (both p s Collapse) r)) (cond c (quiet (MakeLesser s p (Some top) r)) (quiet (UpgradeAbove (both p s Unlink) r))))
+          (cond b (quiet (UpgradeTop a.0 (both q u Collapse) r)) (cond c (quiet (MakeLesser u q (Some a.0) r)) (quiet (UpgradeAbove (both q u Unlink) r))))
+      each true c = quiet_alike (UpgradeTop top (both p s Collapse) r) (UpgradeTop a.0 (both q u Collapse) r) (a.0, both q u Collapse, refl, a.2, record { top = refl; above = y; at = x.site.at; change = refl })
+      each false true = quiet_alike (MakeLesser s p (Some top) r) (MakeLesser u q (Some a.0) r) (u, q, Some a.0, refl, x, y, (a.0, refl, a.2))
+      each false false = out_alike s u p q r x.site y
+
+  taken_alike : (s : Site C) (u : Site ℕ) (above : Option (Over C)) (o : Option (Over ℕ)) (r : Reply V) → ReadAlike order number s u → AboveAlike order number above o → Alike (taken_out s above r) (taken_out u o r)
+  taken_alike s u None o r x a = alike_to _ (taken_out u None r) (taken_out u o r) (ap (λ z. taken_out u z r) a) (set_alike s u r x.site)
+  taken_alike s u (Some w) o r x a =
+      alike_to _ (taken_out u (Some a.0) r) (taken_out u o r) (ap (λ z. taken_out u z r) a.1)
+      (alike_to _ (by_read s.count s.form) _ (ap (λ z. by_read z u.form) x.count ∙ ap (λ z. by_read s.count z) x.site.form) (each (s.count == 1) (shrinks s.form s.count)))
+    where
+      by_read : ℕ → NodeType → Turn ℕ V
+      by_read n f = cond (n == 1) (last_out u a.0.near a.0.far r) (cond (shrinks f n) (quiet (MakeLesser u a.0.near None r)) (quiet (UpgradeOne (set_at u) r)))
+
+      each : (b c : Bool) → Alike (cond b (last_out s w.near w.far r) (cond c (quiet (MakeLesser s w.near None r)) (quiet (UpgradeOne (set_at s) r))))
+          (cond b (last_out u a.0.near a.0.far r) (cond c (quiet (MakeLesser u a.0.near None r)) (quiet (UpgradeOne (set_at u) r))))
+      each true c = last_alike s u w.near a.0.near w.far a.0.far r x a.2.near a.2.far
+      each false true = quiet_alike (MakeLesser s w.near None r) (MakeLesser u a.0.near None r) (u, a.0.near, None, refl, x, a.2.near, refl)
+      each false false = set_alike s u r x.site
 
   pub emptied_alike : (s : Site C) (u : Site ℕ) (r : Reply V) → ReadAlike order number s u → Alike (emptied s r) (emptied u r)
-  emptied_alike s u r x =
-      alike_to (emptied s r) (taken_out u (s.count == 1) u.above r) (emptied u r) (ap (λ z. taken_out u (z == 1) u.above r) x.count) (taken_alike s u (s.count == 1) s.above u.above r x.site x.site.above)
+  emptied_alike s u r x = taken_alike s u s.above u.above r x x.site.above
 
   -- no copy failed
   copied : (always : Bool) (t : Turn C V) → IsUnrefused t.report.outcome → CopyFailed always t → ⊥
@@ -175,12 +206,12 @@ module _ {C V : Type 0} (order : List ℕ) (number : C → ℕ) (h : ℕ → Nod
   old_alike always same ComputeInsert new s u v t x n e = asked_alike always s u v t x n e
   old_alike always same (Exchange old) new s u v t x n e = asked_alike always s u v t x n e
 
-  added_alike : (always : Bool) (same : V → V → Bool) (kind : Kind V) (new : Option V) (s : Site C) (u : Site ℕ) (above : Option (Parent C)) (o : Option (Parent ℕ)) (v : V) (t : Turn C V)
+  added_alike : (always : Bool) (same : V → V → Bool) (kind : Kind V) (new : Option V) (s : Site C) (u : Site ℕ) (above : Option (Over C)) (o : Option (Over ℕ)) (v : V) (t : Turn C V)
       → ReadAlike order number s u → AboveAlike order number above o → IsUnrefused t.report.outcome → IsAdded always same kind new s above v t → Alike t (added same kind new u o v)
   added_alike always same kind new s u None o v t x a n e = alike_to t (added same kind new u None v) (added same kind new u o v) (ap (λ z. added same kind new u z v) a) (old_alike always same kind new s u v t x n e)
   added_alike always same kind new s u (Some p) o v t x a n e =
       alike_to t (added same kind new u (Some a.0) v) (added same kind new u o v) (ap (λ z. added same kind new u z v) a.1)
-      (alike_at t _ _ e (quiet_alike (CheckOld p.seat s v) (CheckOld a.0.seat u v) (a.0.seat, u, refl, a.2.seat, x)))
+      (alike_at t _ _ e (quiet_alike (CheckOld p.near.seat s v) (CheckOld a.0.near.seat u v) (a.0.near.seat, u, refl, a.2.near.seat, x)))
 
   exchanged_alike : (always : Bool) (same : V → V → Bool) (new : Option V) (s : Site C) (u : Site ℕ) (v : V) (t : Turn C V) → ReadAlike order number s u → IsUnrefused t.report.outcome → IsExchanged always same new s v t
       → Alike t (exchanged same new u v)
@@ -207,7 +238,7 @@ module _ {C V : Type 0} (order : List ℕ) (number : C → ℕ) (h : ℕ → Nod
   checked_alike always same kind new s child.Blank u d t x y n e =
       alike_to t (checked same kind new u child.Blank) (checked same kind new u d) (ap (checked same kind new u) y.hangs) (alike_at t _ _ e (absent_alike kind s u (record { site = x; count = y.count }) (y.full refl)))
   checked_alike always same kind new s (child.Node c) u d t x y n e =
-      alike_to t (checked same kind new u (child.Node y.hangs.0)) (checked same kind new u d) (ap (checked same kind new u) y.hangs.1) (alike_at t _ _ e (down_alike (adds kind) s u s.above u.above c y.hangs.0 x x.above y.hangs.2))
+      alike_to t (checked same kind new u (child.Node y.hangs.0)) (checked same kind new u d) (ap (checked same kind new u) y.hangs.1) (alike_at t _ _ e (down_alike (adds kind) s u s.above u.above c y.hangs.0 (record { site = x; count = y.count }) x.above y.hangs.2))
   checked_alike always same kind new s (child.Value v) u d t x y n e =
       alike_to t (checked same kind new u (child.Value v)) (checked same kind new u d) (ap (checked same kind new u) y.hangs) (present_alike always same kind new s u v t (record { site = x; count = y.count }) n e)
 
@@ -252,10 +283,29 @@ module _ {C V : Type 0} (order : List ℕ) (number : C → ℕ) (h : ℕ → Nod
   greater_alike s u None l c n x m y = (n, ap (λ z. greater u z n) m, y)
   greater_alike s u (Some leaf) l c n x m y = (n, m.0, ap (λ z. greater u z n) m.1 ∙ ap (λ z. GrowLink n m.0 z) x.byte, y, m.2)
 
-  out : (two : Two C) (u : Two ℕ) (r : Reply V) → TwoAlike order number two u → Alike (decided (Obsolete two.at.node two.above.seat.node r)) (decided (Obsolete u.at.node u.above.seat.node r))
-  out two u r x = decided_alike (Obsolete two.at.node two.above.seat.node r) (Obsolete u.at.node u.above.seat.node r) (u.at.node, u.above.seat.node, refl, x.at.node, x.above.seat.node)
+  out : (two : Two C) (u : Two ℕ) (r : Reply V) → TwoAlike order number two u → Alike (decided (Obsolete two.at.node None two.above.seat.node r)) (decided (Obsolete u.at.node None u.above.seat.node r))
+  out two u r x = decided_alike (Obsolete two.at.node None two.above.seat.node r) (Obsolete u.at.node None u.above.seat.node r) (u.at.node, None, u.above.seat.node, refl, x.at.node, refl, x.above.seat.node)
+
+  top_alike : (two : Two C) (u : Two ℕ) (r : Reply V) → TwoAlike order number two u → (top : Option (Parent C)) (o : Option (Parent ℕ)) → TopAlike order number top o → Alike (after_top two r top) (after_top u r o)
+  top_alike two u r x None o a = alike_to _ (after_top u r None) _ (ap (after_top u r) a) (decided_alike (Unlock two.above.seat.node r) (Unlock u.above.seat.node r) (u.above.seat.node, refl, x.above.seat.node))
+  top_alike two u r x (Some top) o a =
+      alike_to _ (after_top u r (Some a.0)) _ (ap (after_top u r) a.1)
+      (decided_alike (Obsolete two.at.node (Some two.above.seat.node) top.seat.node r) (Obsolete u.at.node (Some u.above.seat.node) a.0.seat.node r)
+      (u.at.node, Some u.above.seat.node, a.0.seat.node, refl, x.at.node, (u.above.seat.node, refl, x.above.seat.node), a.2.seat.node))
+
+  pub node_alike : (top : Option (Parent C)) (o : Option (Parent ℕ)) → TopAlike order number top o → MadeAlike order number (node_of top) (node_of o)
+  node_alike None o a = ap node_of a
+  node_alike (Some top) o a = (a.0.seat.node, ap node_of a.1, a.2.seat.node)
+
+  pub retired_alike : (next : Option C) (o : Option ℕ) (p : C) (q : ℕ) (r : Reply V) → MadeAlike order number next o → Named order number p q → Alike (after_retire next p r) (after_retire o q r)
+  retired_alike None o p q r a y = alike_to _ (after_retire None q r) _ (ap (λ z. after_retire z q r) a) (quiet_alike (Unlock p r) (Unlock q r) (q, refl, y))
+  retired_alike (Some c) o p q r a y =
+      alike_to _ (after_retire (Some a.0) q r) _ (ap (λ z. after_retire z q r) a.1) (quiet_alike (Obsolete c None p r) (Obsolete a.0 None q r) (a.0, None, q, refl, a.2, refl, y))
 
   pub change_alike : (two : Two C) (u : Two ℕ) (r : Reply V) → TwoAlike order number two u → (d : Double C) (y : Double ℕ) → DoubleAlike order number d y → Alike (after_change two r d) (after_change u r y)
+  change_alike two u r x (Shrink c) y e = alike_to _ (after_change u r (Shrink e.0)) _ (ap (after_change u r) e.1) (out two u r x)
+  change_alike two u r x Collapse y e = alike_to _ (after_change u r Collapse) _ (ap (after_change u r) e) (top_alike two u r x two.top u.top x.top)
+  change_alike two u r x (ShrinkAbove c) y e = alike_to _ (after_change u r (ShrinkAbove e.0)) _ (ap (after_change u r) e.1) (top_alike two u r x two.top u.top x.top)
   change_alike two u r x Unlink y e = alike_to _ (after_change u r Unlink) _ (ap (after_change u r) e) (out two u r x)
   change_alike two u r x (Grow c) y e = alike_to _ (after_change u r (Grow e.0)) _ (ap (after_change u r) e.1) (out two u r x)
   change_alike two u r x (GrowLink c leaf byte) y e = alike_to _ (after_change u r (GrowLink e.0 e.1 byte)) _ (ap (after_change u r) e.2) (out two u r x)
@@ -266,3 +316,12 @@ module _ {C V : Type 0} (order : List ℕ) (number : C → ℕ) (h : ℕ → Nod
   pub unwound_alike : (root : C) (n : ℕ) (e : Option Refusal) → Named order number root n → Alike (unwound root e) (unwound n e)
   unwound_alike root n None x = again_alike root n x
   unwound_alike root n (Some e) x = refused_alike e
+
+  pub left_alike : (root : C) (n : ℕ) (next : Option C) (o : Option ℕ) (e : Option Refusal) → Named order number root n → MadeAlike order number next o → Alike (after_unwind root next e) (after_unwind n o e)
+  left_alike root n None o e x a = alike_to _ (after_unwind n None e) _ (ap (λ z. after_unwind n z e) a) (unwound_alike root n e x)
+  left_alike root n (Some c) o e x a = alike_to _ (after_unwind n (Some a.0) e) _ (ap (λ z. after_unwind n z e) a.1) (quiet_alike (Unwind c None e) (Unwind a.0 None e) (a.0, None, refl, a.2, refl))
+
+  pub given_up_alike : (root : C) (n : ℕ) (top : Option (Parent C)) (o : Option (Parent ℕ)) (e : Option Refusal) → Named order number root n → TopAlike order number top o → Alike (given_up root top e) (given_up n o e)
+  given_up_alike root n None o e x a = alike_to _ (given_up n None e) _ (ap (λ z. given_up n z e) a) (unwound_alike root n e x)
+  given_up_alike root n (Some top) o e x a =
+      alike_to _ (given_up n (Some a.0) e) _ (ap (λ z. given_up n z e) a.1) (quiet_alike (Unwind top.seat.node None e) (Unwind a.0.seat.node None e) (a.0.seat.node, None, refl, a.2.seat.node, refl))

@@ -1,35 +1,43 @@
 -- What a call knows after it made a node.
-use Rattle.std.proofs.Common.{◌≡◌, ◌≢◌, ℕ, suc, ◌<◌, Bool, true, false, List, get_or, refl, sym, ◌∙◌, ap, subst, arith}
+use Rattle.std.proofs.Common.{◌≡◌, ◌≢◌, ℕ, suc, ◌-◌, ◌<◌, ◌≤◌, Bool, true, false, List, length, get_or, refl, sym, ◌∙◌, ap, subst, arith}
 use Rattle.std.proofs.Math.Dec.{ltb}
 use Rattle.std.proofs.lemmas.Bool.Decides.{nat_tests}
 use Rattle.std.specs.Prelude.{Option, None, Some, Result, Ok, Err}
 use Rattle.congee.specs.declared.forms.base_node.NodeType.{NodeType}
-use Rattle.congee.specs.declared.forms.base_node.NodeType.TheVariants.{N4}
+use Rattle.congee.specs.declared.forms.base_node.NodeType.TheVariants.{N4, N16, N48, N256}
+use Rattle.judge.specs.declared.journal.Reply.{Reply}
 use Rattle.congee.specs.declared.protocol.store.Seat.{Seat}
 use Rattle.congee.specs.declared.protocol.store.Refusal.{Refusal}
 use Rattle.congee.specs.declared.protocol.phase.Kind.{Kind}
 use Rattle.congee.specs.declared.protocol.phase.Parent.{Parent}
 use Rattle.congee.specs.declared.protocol.phase.Site.{Site}
-use Rattle.congee.specs.declared.protocol.phase.Single.TheVariants.{Link}
+use Rattle.congee.specs.declared.protocol.phase.Single.TheVariants.{Set, Link}
 use Rattle.congee.specs.declared.protocol.phase.Plan.TheVariants.{Above}
-use Rattle.congee.specs.declared.protocol.phase.Phase.TheVariants.{MakeLeaf, MakeGreater, MakeTop, MakeBeside}
+use Rattle.congee.specs.declared.protocol.phase.Phase.TheVariants.{MakeLeaf, MakeGreater, MakeTop, MakeBeside, MakeLesser}
 use Rattle.congee.specs.declared.protocol.turn.Turn.{Turn}
-use Rattle.congee.specs.Heap.{Node, Hung, Nothing}
+use Rattle.congee.specs.Heap.{Node, Hung, Nothing, Holds, fits}
 use Rattle.congee.specs.protocol.Events.{NewNode, Parts, places}
-use Rattle.congee.specs.protocol.Steps.{refused, form_above, greater, MadeLeaf, MadeGreater, MadeTop, MadeBeside}
+use Rattle.congee.specs.protocol.Steps.{shrinks, form_below, both, refused, form_above, greater, MadeLeaf, MadeGreater, MadeTop, MadeBeside, MadeLesser}
 use Rattle.congee.specs.Keys.{key_bytes}
 use Rattle.congee.specs.Ledger.{Note, is_published, Tree, LockWords}
-use Rattle.congee.specs.protocol.Protocol.{Seated, ChildOf, IsAbove, Sees, Knows, Made, MadeLeafFor, PlanKnown, Known, Effect}
+use Rattle.congee.specs.protocol.Protocol.{Seated, ChildOf, Sees, Knows, Made, FitsOne, Goes, Settles, MadeLeafFor, PlanKnown, Known, Effect}
 use Rattle.congee.specs.protocol.Answers.{SameMap, AnswersIf}
 use Rattle.congee.proofs.lemmas.protocol.Rely.{knows_kept, child_kept, seated_kept}
-use Rattle.congee.specs.protocol.Names.{name_above}
+use Rattle.congee.specs.protocol.Names.{names_over}
 use Rattle.congee.proofs.lemmas.protocol.Each.{each_any}
 use Rattle.congee.proofs.lemmas.protocol.Touch.{by_test}
 use Rattle.congee.proofs.lemmas.protocol.Words.{KeepsMap, making, make_still}
 use Rattle.congee.proofs.lemmas.protocol.Locks.{Kept, own_rely}
 use Rattle.congee.proofs.lemmas.protocol.Makes.{Backed, back_none, back_node, made_new, made_before}
 use Rattle.congee.proofs.lemmas.protocol.Sound.{Sound, fresh_map}
-use Rattle.congee.proofs.lemmas.protocol.Plans.{ready_sound, unless_full_sound}
+use Rattle.congee.proofs.lemmas.protocol.Plans.{ready_sound, unless_full_sound, one_set, left_alone}
+
+-- the form below has a place for each child that is left, and for the one that goes
+room_below : (f : NodeType) (n : ℕ) → shrinks f n ≡ true → n ≤ places (form_below f)
+room_below N4 n e = absurd cc
+room_below N16 n e = grind (arith, nat_tests)
+room_below N48 n e = grind (arith, nat_tests)
+room_below N256 n e = grind (arith, nat_tests)
 
 room_above : (n : ℕ) → n < 256 → n < places (form_above n)
 room_above n l = by_test (λ (f : NodeType). n < places f) (ltb n 4) _ _ (λ q. grind (arith, nat_tests))
@@ -65,7 +73,7 @@ module _ {C V : Type 0} (number : C → ℕ) (same : V → V → Bool) (always :
 module _ {C V : Type 0} (number : C → ℕ) (same : V → V → Bool) (always : Bool) (i : ℕ) (a : ℕ → Note) (h : ℕ → Node V) (k : ℕ) (kind : Kind V) (given : Option V)
     (t : Tree a h) (w : LockWords a h) where
   knows_after : (a' : ℕ → Note) (h' : ℕ → Node V) → Effect i a h a' h' → (s : Site C) (x : Hung V) → Knows number a h (key_bytes k) s x → Knows number a' h' (key_bytes k) s x
-  knows_after a' h' e s x m = knows_kept number (key_bytes k) (λ _. Unit {0}) (suc i) a h a' h' (own_rely i a h a' h' e) s x (each_any (name_above number s.above)) tt m
+  knows_after a' h' e s x m = knows_kept number (key_bytes k) (λ _. Unit {0}) (suc i) a h a' h' (own_rely i a h a' h' e) s x (each_any (names_over number s.above)) tt m
 
   child_after : (a' : ℕ → Note) (h' : ℕ → Node V) → Effect i a h a' h' → (p : Parent C) (n : ℕ) → ChildOf number a h (key_bytes k) p n → ChildOf number a' h' (key_bytes k) p n
   child_after a' h' e p n m = child_kept number (key_bytes k) (λ _. Unit {0}) (suc i) a h a' h' (own_rely i a h a' h' e) p n tt m
@@ -84,31 +92,35 @@ module _ {C V : Type 0} (number : C → ℕ) (same : V → V → Bool) (always :
       (unless_full_sound number same always i (making a i (number c)) h' k e.effect.tree e.effect.words kind given s (Some c) (Link c) s.full s.above refl refl m.3 m.4 m.0
       (knows_after _ h' e.effect s Nothing m.1) (m.2, leaf) m.2 leaf))
 
-  greater_known : (a' : ℕ → Note) (h' : ℕ → Node V) (s : Site C) (p : Parent C) (leaf : Option C) (c : C) → s.above ≡ Some p → Knows number a' h' (key_bytes k) s Nothing → MadeLeafFor number i a' h' (key_bytes k) s leaf
-      → ((d : C) → leaf ≡ Some d → number c ≢ number d) → Made i a' h' (key_bytes k) (number c) s.depth s.count → PlanKnown number i a' h' (key_bytes k) (Above (record { above = p; at = s.at; change = greater s leaf c }))
+  greater_known : (a' : ℕ → Note) (h' : ℕ → Node V) (s : Site C) (p : Parent C) (leaf : Option C) (c : C) → ChildOf number a' h' (key_bytes k) p (number s.at.node) → Knows number a' h' (key_bytes k) s Nothing → MadeLeafFor number i a' h' (key_bytes k) s leaf
+      → ((d : C) → leaf ≡ Some d → number c ≢ number d) → Made i a' h' (key_bytes k) (number c) s.depth s.count → PlanKnown number i a' h' (key_bytes k) (Above (both p s (greater s leaf c)))
   greater_known a' h' s p None c ep m l ne made = (
     (
       s.count,
       record {
-        above = (let P : Option (Parent C) → Type 0 = λ x. IsAbove number a' h' (key_bytes k) x (number s.at.node) in subst P ep m.above);
+        top = tt;
+        above = ep;
         placed = (m.fitted, sym m.depth ∙ l);
         fresh = fresh_map a' h' (number s.at.node) s.at.version (Sees (key_bytes k) s Nothing) _ (λ z. (z.child, z.count)) m.fresh;
         made = (let P : ℕ → Type 0 = λ x. Made i a' h' (key_bytes k) (number c) x s.count in subst P m.depth made);
       },
     ),
     tt,
+    refl,
   )
   greater_known a' h' s p (Some leaf) c ep m l ne made = (
     (
       s.count,
       record {
-        above = (let P : Option (Parent C) → Type 0 = λ x. IsAbove number a' h' (key_bytes k) x (number s.at.node) in subst P ep m.above);
+        top = tt;
+        above = ep;
         placed = (m.fitted, (let P : ℕ → Type 0 = λ x. x < 7 in subst P m.depth l.0), m.byte);
         fresh = fresh_map a' h' (number s.at.node) s.at.version (Sees (key_bytes k) s Nothing) _ (λ z. (z.child, z.count)) m.fresh;
         made = ((let P : ℕ → Type 0 = λ x. Made i a' h' (key_bytes k) (number c) x s.count in subst P m.depth made), l.1, ne leaf refl);
       },
     ),
     tt,
+    refl,
   )
 
   leaf_before : (c : C) (form : NodeType) (size : ℕ) (h' : ℕ → Node V) (s : Site C) (leaf : Option C) → NewNode h (number c) form (key_bytes k) size h' → MadeLeafFor number i a h (key_bytes k) s leaf
@@ -133,7 +145,7 @@ module _ {C V : Type 0} (number : C → ℕ) (same : V → V → Bool) (always :
       kept_at number same always i a h k kind given given _ turn h' g.1
       (kept_after number same always i a h k kind given given _ (making a i (number c)) h' e
       (ready_sound number same always i (making a i (number c)) h' k e.effect.tree e.effect.words kind given _ m.4 m.0
-      (greater_known _ h' s p leaf c m.2 (knows_after _ h' e.effect s Nothing m.1) (leaf_before c _ s.depth h' s leaf g.0 m.3) (leaf_other c _ s.depth h' s leaf g.0 m.3) new)))
+      (greater_known _ h' s p leaf c (child_after _ h' e.effect p (number s.at.node) m.2) (knows_after _ h' e.effect s Nothing m.1) (leaf_before c _ s.depth h' s leaf g.0 m.3) (leaf_other c _ s.depth h' s leaf g.0 m.3) new)))
 
   parts_after : (a' : ℕ → Note) (h' : ℕ → Node V) → Effect i a h a' h' → (n common : ℕ) → is_published (a n).status ≡ true → Parts (h n).prefix (key_bytes k) common → Parts (h' n).prefix (key_bytes k) common
   parts_after a' h' e n common pu q = let P : List ℕ → Type 0 = λ y. Parts y (key_bytes k) common in subst P (sym ((own_rely i a h a' h' e).prefix n tt pu)) q
@@ -176,6 +188,7 @@ module _ {C V : Type 0} (number : C → ℕ) (same : V → V → Bool) (always :
         (
           0,
           record {
+            top = tt;
             above = child_after _ h' e.effect p (number at.node) m.1;
             placed = (parts_after _ h' e.effect (number at.node) common m.2.published m.3, byte_after _ h' e.effect (number at.node) common byte m.2.published m.4);
             fresh = record { seated = seat; holds = λ _. tt };
@@ -183,4 +196,126 @@ module _ {C V : Type 0} (number : C → ℕ) (same : V → V → Bool) (always :
           },
         ),
         tt,
+        refl,
       )))
+
+  at_depth : {a' : ℕ → Note} {h' : ℕ → Node V} {s : Site C} {v : V} → Knows number a' h' (key_bytes k) s (Holds v) → s.depth ≡ 7 → (fits (h' (number s.at.node)).prefix (key_bytes k) ≡ true) × (length (h' (number s.at.node)).prefix ≡ 7)
+  at_depth m d = (m.fitted, sym m.depth ∙ d)
+
+  by_count : (n m : ℕ) → n ≡ m → n ≤ suc (m - 1)
+  by_count n m e = omega (arith, e)
+
+  less : (f : NodeType) (n : ℕ) → shrinks f n ≡ true → n - 1 < places (form_below f)
+  less f n e = omega (arith, room_below f n e, some_place (form_below f))
+    where
+      some_place : (f : NodeType) → 0 < places f
+      some_place N4 = omega arith
+      some_place N16 = omega arith
+      some_place N48 = omega arith
+      some_place N256 = omega arith
+
+  -- the lesser node was made, or the call goes on without it
+  pub lesser_made : (s : Site C) (p : Parent C) (top : Option (Parent C)) (r : Reply V) (turn : Turn C V) (h' : ℕ → Node V) (x : Result C Refusal) → Known number same always i a h k (key_bytes k) kind given (MakeLesser s p top r)
+      → MadeLesser number s p top r h (key_bytes k) x h' turn → Kept number same always i a h k kind given given turn h'
+  lesser_made s p None r turn h' (Err e) m g =
+      let b : Backed i a h h' = back_none i a h h' t w g.0 in
+      kept_at number same always i a h k kind given given _ turn h' g.1 (record {
+        notes = b.notes;
+        effect = b.still.effect;
+        sound = record {
+          known = (
+            m.0,
+            (
+              Holds m.1.0,
+              one_set number same always i b.notes h' k b.still.effect.tree b.still.effect.words s m.1.0 (knows_after _ h' b.still.effect s (Holds m.1.0) m.1.1) m.2,
+              (let P : Option V → Type 0 = λ o. FitsOne {C = C} Set (Holds m.1.0) o in subst P (sym m.3) (tt, (λ e. cc))),
+              (let P : Option V → Type 0 = λ o. Settles same k kind given (Some m.1.0) r o in subst P (sym m.3) m.1.2),
+            ),
+          );
+          answer = b.still.map;
+        };
+      })
+  lesser_made s p (Some top) r turn h' (Err e) m g =
+      let b : Backed i a h h' = back_none i a h h' t w g.0 in
+      kept_at number same always i a h k kind given given _ turn h' g.1 (record {
+        notes = b.notes;
+        effect = b.still.effect;
+        sound = record {
+          known = (
+            m.0,
+            (
+              Some m.1.0,
+              0,
+              record {
+                top = tt;
+                above = child_after _ h' b.still.effect p (number s.at.node) m.4;
+                placed = at_depth (knows_after _ h' b.still.effect s (Holds m.1.0) m.1.1) m.2;
+                fresh = left_alone number same always i b.notes h' k b.still.effect.tree b.still.effect.words s m.1.0 m.5.1 (knows_after _ h' b.still.effect s (Holds m.1.0) m.1.1);
+                made = tt;
+              },
+              refl,
+              (let P : Option V → Type 0 = λ o. Goes (Some m.1.0) o in subst P (sym m.3) tt),
+              (let P : Option V → Type 0 = λ o. Settles same k kind given (Some m.1.0) r o in subst P (sym m.3) m.1.2),
+            ),
+          );
+          answer = b.still.map;
+        };
+      })
+  lesser_made s p None r turn h' (Ok c) m g =
+      let e : KeepsMap i a h (making a i (number c)) h' = make_still i a h (number c) (form_below s.form) (key_bytes k) s.depth h' t w g.0 in
+      let s' : Knows number (making a i (number c)) h' (key_bytes k) s (Holds m.1.0) = knows_after _ h' e.effect s (Holds m.1.0) m.1.1 in
+      let new : Made i (making a i (number c)) h' (key_bytes k) (number c) s.depth (s.count - 1) = made_new i a h (number c) (form_below s.form) k s.depth (s.count - 1) h' g.0 (less s.form s.count m.5) in
+      kept_at number same always i a h k kind given given _ turn h' g.1 (record {
+        notes = making a i (number c);
+        effect = e.effect;
+        sound = record {
+          known = (
+            m.0,
+            (
+              Some m.1.0,
+              s.count - 1,
+              record {
+                top = tt;
+                above = child_after _ h' e.effect p (number s.at.node) m.4;
+                placed = at_depth s' m.2;
+                fresh = fresh_map _ h' (number s.at.node) s.at.version (Sees (key_bytes k) s (Holds m.1.0)) _ (λ z. (z.child, by_count _ s.count z.count)) s'.fresh;
+                made = (let P : ℕ → Type 0 = λ x. Made i (making a i (number c)) h' (key_bytes k) (number c) x (s.count - 1) in subst P s'.depth new);
+              },
+              refl,
+              (let P : Option V → Type 0 = λ o. Goes (Some m.1.0) o in subst P (sym m.3) tt),
+              (let P : Option V → Type 0 = λ o. Settles same k kind given (Some m.1.0) r o in subst P (sym m.3) m.1.2),
+            ),
+          );
+          answer = e.map;
+        };
+      })
+  lesser_made s p (Some top) r turn h' (Ok c) m g =
+      let e : KeepsMap i a h (making a i (number c)) h' = make_still i a h (number c) (form_below p.form) (key_bytes k) p.depth h' t w g.0 in
+      let s' : Knows number (making a i (number c)) h' (key_bytes k) s (Holds m.1.0) = knows_after _ h' e.effect s (Holds m.1.0) m.1.1 in
+      let new : Made i (making a i (number c)) h' (key_bytes k) (number c) p.depth (p.count - 1) = made_new i a h (number c) (form_below p.form) k p.depth (p.count - 1) h' g.0 (less p.form p.count m.5.3) in
+      kept_at number same always i a h k kind given given _ turn h' g.1 (record {
+        notes = making a i (number c);
+        effect = e.effect;
+        sound = record {
+          known = (
+            m.0,
+            (
+              Some m.1.0,
+              p.count - 1,
+              record {
+                top = tt;
+                above = child_after _ h' e.effect p (number s.at.node) m.4;
+                placed = at_depth s' m.2;
+                fresh = left_alone number same always i _ h' k e.effect.tree e.effect.words s m.1.0 m.5.1 s';
+                made = (new, by_count p.count p.count refl);
+              },
+              (let P : Option V → Type 0 = λ o. Goes (Some m.1.0) o in subst P (sym m.3) tt),
+              (let P : Option V → Type 0 = λ o. Settles same k kind given (Some m.1.0) r o in subst P (sym m.3) m.1.2),
+            ),
+            child_after _ h' e.effect top (number p.seat.node) m.5.0,
+            tt,
+            refl,
+          );
+          answer = e.map;
+        };
+      })

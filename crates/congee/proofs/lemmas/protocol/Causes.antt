@@ -1,5 +1,5 @@
 -- A step refuses for its cause alone.
-use Rattle.std.proofs.Common.{◌≡◌, ℕ, ◌==◌, ◌⊎◌, Bool, true, false, cond, List, refl, sym, ◌∙◌, ap, subst, inl, inr}
+use Rattle.std.proofs.Common.{◌≡◌, ℕ, ◌==◌, ◌&&◌, ◌⊎◌, Bool, true, false, cond, List, refl, sym, ◌∙◌, ap, subst, inl, inr}
 use Rattle.std.specs.Prelude.{Option, None, Some, Result, Ok, Err, IfErr}
 use Rattle.std.proofs.Math.Dec.{ltb}
 use Rattle.judge.specs.declared.journal.Reply.{Reply}
@@ -21,17 +21,18 @@ use Rattle.congee.specs.declared.protocol.store.Upgrade.TheVariants.{Locked, Fai
 use Rattle.congee.specs.declared.protocol.phase.Kind.{Kind}
 use Rattle.congee.specs.declared.protocol.phase.Kind.TheVariants.{Get, Insert, Remove, ComputePresent, ComputeInsert, Exchange}
 use Rattle.congee.specs.declared.protocol.phase.Parent.{Parent}
+use Rattle.congee.specs.declared.protocol.phase.Above.{Above as Over}
 use Rattle.congee.specs.declared.protocol.phase.Site.{Site}
 use Rattle.congee.specs.declared.protocol.phase.Single.{Single}
 use Rattle.congee.specs.declared.protocol.phase.Single.TheVariants.{Set, Link}
 use Rattle.congee.specs.declared.protocol.phase.One.{One}
 use Rattle.congee.specs.declared.protocol.phase.Double.{Double}
-use Rattle.congee.specs.declared.protocol.phase.Double.TheVariants.{Unlink, Grow, GrowLink, Split}
+use Rattle.congee.specs.declared.protocol.phase.Double.TheVariants.{Unlink, Grow, GrowLink, Split, Shrink, Collapse, ShrinkAbove}
 use Rattle.congee.specs.declared.protocol.phase.Two.{Two}
 use Rattle.congee.specs.declared.protocol.phase.Plan.{Plan}
 use Rattle.congee.specs.declared.protocol.phase.Plan.TheVariants.{Here, Above}
 use Rattle.congee.specs.declared.protocol.phase.Phase.{Phase}
-use Rattle.congee.specs.declared.protocol.phase.Phase.TheVariants.{New, Version, Read, Check, CheckUncopied, CheckMiss, CheckDown, CheckOld, MakeLeaf, MakeGreater, MakeTop, MakeBeside, AskOld, AskNew, Confirm, CheckAbove, UpgradeOne, ChangeOne, UpgradeAbove, UpgradeBelow, ChangeTwo, Obsolete, Retire, UnlockBelow, Unlock, Unwind, Sweep, Ended}
+use Rattle.congee.specs.declared.protocol.phase.Phase.TheVariants.{New, Version, Read, Check, CheckUncopied, CheckMiss, CheckDown, CheckOld, MakeLeaf, MakeGreater, MakeTop, MakeBeside, MakeLesser, AskOld, AskNew, Confirm, CheckAbove, UpgradeOne, ChangeOne, UpgradeTop, UpgradeAbove, UpgradeBelow, ChangeTwo, Obsolete, Retire, UnlockBelow, Unlock, Unwind, Sweep, Ended}
 use Rattle.congee.specs.declared.protocol.machine.Outcome.{Outcome}
 use Rattle.congee.specs.declared.protocol.machine.Outcome.TheVariants.{Running, Asks, Found, Done, Scanned, Refused}
 use Rattle.congee.specs.declared.protocol.machine.Move.{Move}
@@ -54,7 +55,7 @@ use Rattle.congee.specs.protocol.Protocol.{IsFailure, Known}
 use Rattle.congee.specs.protocol.SweepEvents.{IsAny}
 use Rattle.congee.specs.protocol.SweepKnown.{SweepKnownAt}
 use Rattle.congee.specs.protocol.SweepSteps.{whole, is_outside, last_of, Swung, anew, left_to, entered, begins, IsFollowed, SweptAt}
-use Rattle.congee.specs.protocol.Steps.{again, refused, asking, CopyFailed as Uncopied_turn, adds, asks_new, absent_reply, form_above, greater, after_version, after_read, down, started, ready, plan_here, unless_full, absent, IsAsked, replaced, taken_out, is_same, IsAtOld, IsAdded, IsExchanged, IsPresent, IsChecked, after_miss, IsGiven, IsGivenNew, MadeLeaf, MadeGreater, MadeTop, MadeBeside, UpgradedOne, UpgradedAbove, UpgradedBelow, after_change, unwound, outcome_of, PhaseStepped}
+use Rattle.congee.specs.protocol.Steps.{shrinks, lesser_form, both, last_out, after_top, after_retire, after_unwind, given_up, again, refused, asking, CopyFailed as Uncopied_turn, adds, asks_new, absent_reply, form_above, greater, after_version, after_read, down, started, ready, plan_here, unless_full, absent, IsAsked, replaced, taken_out, is_same, IsAtOld, IsAdded, IsExchanged, IsPresent, IsChecked, after_miss, IsGiven, IsGivenNew, MadeLeaf, MadeGreater, MadeTop, MadeBeside, MadeLesser, UpgradedOne, UpgradedTop, UpgradedAbove, UpgradedBelow, after_change, outcome_of, PhaseStepped}
 use Rattle.congee.proofs.lemmas.Fits.{equal}
 use Rattle.congee.proofs.lemmas.Graft.{on_test}
 use Rattle.congee.proofs.lemmas.protocol.Touch.{by_test}
@@ -87,7 +88,7 @@ module _ (C V : Type 0) (Q : Refusal → Type 0) where
   readies : (kind : Kind V) (plan : Plan C) → Only (ready kind plan)
   readies kind plan = by_test (λ (z : Turn C V). Only z) (asks_new kind) _ _ (λ _. wonders None) (λ _. starts plan (absent_reply kind))
 
-  unless : (kind : Kind V) (s : Site C) (full : Bool) (above : Option (Parent C)) (leaf : Option C) (change : Single C) → Only (unless_full kind s full above leaf change)
+  unless : (kind : Kind V) (s : Site C) (full : Bool) (above : Option (Over C)) (leaf : Option C) (change : Single C) → Only (unless_full kind s full above leaf change)
   unless kind s true (Some p) leaf change = runs
   unless kind s true None leaf change = readies kind (plan_here s change)
   unless kind s false above leaf change = readies kind (plan_here s change)
@@ -100,23 +101,26 @@ module _ (C V : Type 0) (Q : Refusal → Type 0) where
   replaces : (s : Site C) (b : Bool) (r : Reply V) → Only (replaced s b r)
   replaces s b r = by_test (λ (z : Turn C V). Only z) b _ _ (λ _. runs) (λ _. runs)
 
-  takes_out : (s : Site C) (b : Bool) (above : Option (Parent C)) (r : Reply V) → Only (taken_out s b above r)
-  takes_out s true (Some p) r = runs
-  takes_out s true None r = runs
-  takes_out s false above r = runs
+  last : (s : Site C) (p : Parent C) (top : Option (Parent C)) (r : Reply V) → Only (last_out s p top r)
+  last s p None r = runs
+  last s p (Some top) r = by_test (λ (z : Turn C V). Only z) (p.count == 2) _ _ (λ _. runs) (λ _. by_test (λ (z : Turn C V). Only z) (ltb 2 p.count && shrinks p.form p.count) _ _ (λ _. runs) (λ _. runs))
 
-  downs : (b : Bool) (s : Site C) (above : Option (Parent C)) (c : C) → Only (down b s above c)
+  takes_out : (s : Site C) (above : Option (Over C)) (r : Reply V) → Only (taken_out s above r)
+  takes_out s None r = runs
+  takes_out s (Some u) r = by_test (λ (z : Turn C V). Only z) (s.count == 1) _ _ (λ _. last s u.near u.far r) (λ _. by_test (λ (z : Turn C V). Only z) (shrinks s.form s.count) _ _ (λ _. runs) (λ _. runs))
+
+  downs : (b : Bool) (s : Site C) (above : Option (Over C)) (c : C) → Only (down b s above c)
   downs false s above c = runs
   downs true s None c = runs
   downs true s (Some p) c = runs
 
-  reads : (root : C) (above : Option (Parent C)) (seat : Seat C) (r : Reading C V) → Only (after_read root above seat r)
+  reads : (root : C) (above : Option (Over C)) (seat : Seat C) (r : Reading C V) → Only (after_read root above seat r)
   reads root None seat (Differs common byte) = runs
   reads root (Some p) seat (Differs common byte) = runs
-  reads root above seat (Fits depth s) = runs
+  reads root above seat (Fits depth form s) = runs
   reads root above seat Uncopied = runs
 
-  versions : (root : C) (above : Option (Parent C)) (n : C) (o : Option ℕ) → Only (after_version root above n o)
+  versions : (root : C) (above : Option (Over C)) (n : C) (o : Option ℕ) → Only (after_version root above n o)
   versions root above n None = runs
   versions root above n (Some x) = runs
 
@@ -126,8 +130,19 @@ module _ (C V : Type 0) (Q : Refusal → Type 0) where
   misses : (kind : Kind V) (p : Parent C) (seat : Seat C) (common byte : ℕ) → Only (after_miss kind p seat common byte)
   misses kind p seat common byte = by_test (λ (z : Turn C V). Only z) (adds kind) _ _ (λ _. runs) (λ _. answers (absent_reply kind))
 
+  tops : (two : Two C) (r : Reply V) (top : Option (Parent C)) → Only (after_top two r top)
+  tops two r None = runs
+  tops two r (Some top) = runs
+
+  hands_on : (next : Option C) (last : C) (r : Reply V) → Only (after_retire next last r)
+  hands_on None last r = runs
+  hands_on (Some c) last r = runs
+
   changes : (two : Two C) (r : Reply V) (change : Double C) → Only (after_change two r change)
   changes two r Unlink = runs
+  changes two r (Shrink c) = runs
+  changes two r Collapse = tops two r two.top
+  changes two r (ShrinkAbove c) = tops two r two.top
   changes two r (Grow c) = runs
   changes two r (GrowLink c leaf byte) = runs
   changes two r (Split top leaf common byte) = runs
@@ -154,18 +169,18 @@ module _ (C V : Type 0) (Q : Refusal → Type 0) where
     at_old same ComputeInsert new s old t x = asks s old t x
     at_old same (Exchange u) new s old t x = asks s old t x
 
-    adds_at : (same : V → V → Bool) (kind : Kind V) (new : Option V) (s : Site C) (above : Option (Parent C)) (old : V) (t : Turn C V) → IsAdded always same kind new s above old t → Only t
+    adds_at : (same : V → V → Bool) (kind : Kind V) (new : Option V) (s : Site C) (above : Option (Over C)) (old : V) (t : Turn C V) → IsAdded always same kind new s above old t → Only t
     adds_at same kind new s None old t x = at_old same kind new s old t x
     adds_at same kind new s (Some p) old t x = to _ t x runs
 
     exchanges : (same : V → V → Bool) (new : Option V) (s : Site C) (old : V) (t : Turn C V) → IsExchanged always same new s old t → Only t
-    exchanges same None s old t x = to _ t x (takes_out s (s.count == 1) s.above (reply.Exchange (Ok None)))
+    exchanges same None s old t x = to _ t x (takes_out s s.above (reply.Exchange (Ok None)))
     exchanges same (Some u) s old t x = uncounted _ t x (replaces s (same old u) (reply.Exchange (Ok (Some u))))
 
     presents : (same : V → V → Bool) (kind : Kind V) (new : Option V) (s : Site C) (old : V) (t : Turn C V) → IsPresent always same kind new s old t → Only t
     presents same Get new s old t x = to _ t x (answers (reply.Get (Some old)))
     presents same Insert new s old t x = adds_at same Insert new s s.above old t x
-    presents same Remove new s old t x = to _ t x (takes_out s (s.count == 1) s.above (reply.Remove (Some old)))
+    presents same Remove new s old t x = to _ t x (takes_out s s.above (reply.Remove (Some old)))
     presents same ComputePresent new s old t x = asks s old t x
     presents same ComputeInsert new s old t x = adds_at same ComputeInsert new s s.above old t x
     presents same (Exchange w) new s old t x = on_test (same old w) (λ p. exchanges same new s old t (x.0 p)) (λ p. to _ t (x.1 p) runs)
@@ -179,11 +194,11 @@ module _ (C V : Type 0) (Q : Refusal → Type 0) where
     given same kind s old None v v' t x = asks s old t x.1
     given same ComputeInsert s old (Some None) v v' t x = asks s old t x.1
     given same ComputeInsert s old (Some (Some y)) v v' t x = to _ t x.1 (replaces s (same old y) (reply.ComputeInsert (Some old)))
-    given same Get s old (Some None) v v' t x = to _ t x.1 (takes_out s (s.count == 1) s.above (reply.ComputePresent (Some (old, None))))
-    given same Insert s old (Some None) v v' t x = to _ t x.1 (takes_out s (s.count == 1) s.above (reply.ComputePresent (Some (old, None))))
-    given same Remove s old (Some None) v v' t x = to _ t x.1 (takes_out s (s.count == 1) s.above (reply.ComputePresent (Some (old, None))))
-    given same ComputePresent s old (Some None) v v' t x = to _ t x.1 (takes_out s (s.count == 1) s.above (reply.ComputePresent (Some (old, None))))
-    given same (Exchange w) s old (Some None) v v' t x = to _ t x.1 (takes_out s (s.count == 1) s.above (reply.ComputePresent (Some (old, None))))
+    given same Get s old (Some None) v v' t x = to _ t x.1 (takes_out s s.above (reply.ComputePresent (Some (old, None))))
+    given same Insert s old (Some None) v v' t x = to _ t x.1 (takes_out s s.above (reply.ComputePresent (Some (old, None))))
+    given same Remove s old (Some None) v v' t x = to _ t x.1 (takes_out s s.above (reply.ComputePresent (Some (old, None))))
+    given same ComputePresent s old (Some None) v v' t x = to _ t x.1 (takes_out s s.above (reply.ComputePresent (Some (old, None))))
+    given same (Exchange w) s old (Some None) v v' t x = to _ t x.1 (takes_out s s.above (reply.ComputePresent (Some (old, None))))
     given same Get s old (Some (Some y)) v v' t x = uncounted _ t x.1 (replaces s (same old y) (reply.ComputePresent (Some (old, Some y))))
     given same Insert s old (Some (Some y)) v v' t x = uncounted _ t x.1 (replaces s (same old y) (reply.ComputePresent (Some (old, Some y))))
     given same Remove s old (Some (Some y)) v v' t x = uncounted _ t x.1 (replaces s (same old y) (reply.ComputePresent (Some (old, Some y))))
@@ -258,7 +273,7 @@ module _ {C V : Type 0} (number : C → ℕ) (same : V → V → Bool) (always :
   leaf_made s (Err r) t g e p = to C V (λ x. ◌≡◌ {A = Result C Refusal} (Err r) (Err x)) _ t g.1 (stops C V (λ x. ◌≡◌ {A = Result C Refusal} (Err r) (Err x)) r refl) e p
 
   greater_made : (s : Site C) (above : Parent C) (leaf : Option C) (r : Result C Refusal) (t : Turn C V) → MadeGreater number kind s above leaf h key r h' t → (e : Refusal) → t.report.outcome ≡ Refused e → r ≡ Err e
-  greater_made s above leaf (Ok c) t g e p = absurd (to C V (λ _. ⊥) _ t g.1 (readies C V (λ _. ⊥) kind (Above (record { above = above; at = s.at; change = greater s leaf c }))) e p)
+  greater_made s above leaf (Ok c) t g e p = absurd (to C V (λ _. ⊥) _ t g.1 (readies C V (λ _. ⊥) kind (Above (both above s (greater s leaf c)))) e p)
   greater_made s above leaf (Err r) t g e p = to C V (λ x. ◌≡◌ {A = Result C Refusal} (Err r) (Err x)) _ t g.1 (stops C V (λ x. ◌≡◌ {A = Result C Refusal} (Err r) (Err x)) r refl) e p
 
   top_made : (above : Parent C) (at : Seat C) (common byte : ℕ) (r : Result C Refusal) (t : Turn C V) → MadeTop number above at common byte h key r h' t → (e : Refusal) → t.report.outcome ≡ Refused e → r ≡ Err e
@@ -266,8 +281,14 @@ module _ {C V : Type 0} (number : C → ℕ) (same : V → V → Bool) (always :
   top_made above at common byte (Err r) t g e p = to C V (λ x. ◌≡◌ {A = Result C Refusal} (Err r) (Err x)) _ t g.1 (stops C V (λ x. ◌≡◌ {A = Result C Refusal} (Err r) (Err x)) r refl) e p
 
   beside_made : (above : Parent C) (at : Seat C) (common byte : ℕ) (top : C) (r : Result C Refusal) (t : Turn C V) → MadeBeside number kind above at common byte top h key r h' t → (e : Refusal) → t.report.outcome ≡ Refused e → r ≡ Err e
-  beside_made above at common byte top (Ok c) t g e p = absurd (to C V (λ _. ⊥) _ t g.1 (readies C V (λ _. ⊥) kind (Above (record { above = above; at = at; change = Split top c common byte }))) e p)
+  beside_made above at common byte top (Ok c) t g e p = absurd (to C V (λ _. ⊥) _ t g.1 (readies C V (λ _. ⊥) kind (Above (record { top = None; above = above; at = at; change = Split top c common byte }))) e p)
   beside_made above at common byte top (Err r) t g e p = to C V (λ x. ◌≡◌ {A = Result C Refusal} (Err r) (Err x)) _ t g.1 (stops C V (λ x. ◌≡◌ {A = Result C Refusal} (Err r) (Err x)) r refl) e p
+
+  lesser_made : (s : Site C) (p : Parent C) (top : Option (Parent C)) (r : Reply V) (x : Result C Refusal) (t : Turn C V) → MadeLesser number s p top r h key x h' t → Only C V (λ _. ⊥) t
+  lesser_made s p None r (Ok c) t g = to C V _ _ t g.1 (runs C V _)
+  lesser_made s p None r (Err e) t g = to C V _ _ t g.1 (runs C V _)
+  lesser_made s p (Some top) r (Ok c) t g = to C V _ _ t g.1 (runs C V _)
+  lesser_made s p (Some top) r (Err e) t g = to C V _ _ t g.1 (runs C V _)
 
   refused_make : (form : NodeType) (r : Result C Refusal) → IfErr r (why form) → (e : Refusal) → r ≡ Err e → why form e
   refused_make form r f e p = let P : Result C Refusal → Type 0 = λ x. IfErr x (why form) in subst P p f
@@ -282,17 +303,31 @@ module _ {C V : Type 0} (number : C → ℕ) (same : V → V → Bool) (always :
 
   above_upgraded : (two : Two C) (r : Reply V) (u : Upgrade) (t : Turn C V) → u ≡ upgrade_gives most (h (number two.above.seat.node)) two.above.seat.version fail → UpgradedAbove number root two r h u h' t → Only C V (NoneLeft most two.above.seat.version) t
   above_upgraded two r Locked t q g = to C V _ _ t g.1 (runs C V _)
-  above_upgraded two r Failed t q g = to C V _ _ t g.1 (runs C V _)
-  above_upgraded two r Exhausted t q g = to C V _ _ t g.1 (stops C V _ refusal.Exhausted (none_left (h (number two.above.seat.node)) two.above.seat.version q))
+  above_upgraded two r Failed t q g = to C V _ _ t g.1 (gives_up two.top)
+    where
+      gives_up : (top : Option (Parent C)) → Only C V (NoneLeft most two.above.seat.version) (given_up root top None)
+      gives_up None = runs C V _
+      gives_up (Some top) = runs C V _
+  above_upgraded two r Exhausted t q g = to C V _ _ t g.1 (gives_up two.top)
+    where
+      gives_up : (top : Option (Parent C)) → Only C V (NoneLeft most two.above.seat.version) (given_up root top (Some refusal.Exhausted))
+      gives_up None = stops C V _ refusal.Exhausted (none_left (h (number two.above.seat.node)) two.above.seat.version q)
+      gives_up (Some top) = runs C V _
+
+  top_upgraded : (top : Parent C) (two : Two C) (r : Reply V) (u : Upgrade) (t : Turn C V) → u ≡ upgrade_gives most (h (number top.seat.node)) top.seat.version fail → UpgradedTop number root top two r h u h' t → Only C V (NoneLeft most top.seat.version) t
+  top_upgraded top two r Locked t q g = to C V _ _ t g.1 (runs C V _)
+  top_upgraded top two r Failed t q g = to C V _ _ t g.1 (runs C V _)
+  top_upgraded top two r Exhausted t q g = to C V _ _ t g.1 (stops C V _ refusal.Exhausted (none_left (h (number top.seat.node)) top.seat.version q))
 
   both_upgraded : (two : Two C) (r : Reply V) (u : Upgrade) (t : Turn C V) → UpgradedBelow number two r h u h' t → Only C V (λ _. ⊥) t
   both_upgraded two r Locked t g = to C V _ _ t g.1 (runs C V _)
   both_upgraded two r Failed t g = to C V _ _ t g.1 (runs C V _)
   both_upgraded two r Exhausted t g = to C V _ _ t g.1 (runs C V _)
 
-  unwinds : (o : Option Refusal) (t : Turn C V) → IsFailure o → t ≡ unwound root o → Only C V (λ e. e ≡ refusal.Exhausted) t
-  unwinds None t f p = to C V _ _ t p (runs C V _)
-  unwinds (Some r) t f p = to C V _ _ t p (stops C V _ r f)
+  unwinds : (next : Option C) (o : Option Refusal) (t : Turn C V) → IsFailure o → t ≡ after_unwind root next o → Only C V (λ e. e ≡ refusal.Exhausted) t
+  unwinds None None t f p = to C V _ _ t p (runs C V _)
+  unwinds None (Some r) t f p = to C V _ _ t p (stops C V _ r f)
+  unwinds (Some c) o t f p = to C V _ _ t p (runs C V _)
 
   only : (new : Option V) (s : Phase C V) (new' : Option V) (t : Turn C V) → Known number same always i a h k key kind new s → PhaseStepped number same always most why root key kind fail answer new s h new' t h' → Only C V (By s) t
   only new New new' t x g = to C V _ _ t g.2 (versions C V _ root None root _)
@@ -307,20 +342,22 @@ module _ {C V : Type 0} (number : C → ℕ) (same : V → V → Bool) (always :
   only new (MakeGreater s p leaf) new' t x g = λ e q. refused_make (form_above s.count) g.1.0 g.1.2 e (greater_made s p leaf g.1.0 t g.1.1 e q)
   only new (MakeTop p at common byte) new' t x g = λ e q. refused_make N4 g.1.0 g.1.2 e (top_made p at common byte g.1.0 t g.1.1 e q)
   only new (MakeBeside p at common byte top) new' t x g = λ e q. refused_make N4 g.1.0 g.1.2 e (beside_made p at common byte top g.1.0 t g.1.1 e q)
+  only new (MakeLesser s p top r) new' t x g = lesser_made s p top r g.1.0 t g.1.1
   only new (AskOld s v) new' t x g = given C V _ always count same kind s v answer new new' t g.1
   only new (AskNew plan) new' t x g = given_new C V _ plan answer new new' t g.1
   only new (Confirm at r) new' t x g = if_taken C V _ _ root _ t g.2 (λ y. to C V _ _ t y (answers C V _ r))
   only new (CheckAbove p one r) new' t x g = on_test (is_taken (h (number p.node)) p.version) (λ e. to C V _ _ t (g.1.goes_on e).1 (runs C V _)) (λ e. to C V _ _ t (g.1.goes_back e).1 (runs C V _))
   only new (UpgradeOne one r) new' t x g = one_upgraded one r g.1.0 t g.1.1 g.1.2
   only new (ChangeOne one r) new' t x g = to C V _ _ t g.2 (runs C V _)
+  only new (UpgradeTop top two r) new' t x g = top_upgraded top two r g.1.0 t g.1.1 g.1.2
   only new (UpgradeAbove two r) new' t x g = above_upgraded two r g.1.0 t g.1.1 g.1.2
   only new (UpgradeBelow two r) new' t x g = both_upgraded two r g.1.0 t g.1.2
   only new (ChangeTwo two r) new' t x g = to C V _ _ t g.2 (changes C V _ two r two.change)
-  only new (Obsolete n p r) new' t x g = to C V _ _ t g.2 (runs C V _)
-  only new (Retire n p r) new' t x g = to C V _ _ t g.2 (runs C V _)
+  only new (Obsolete n next p r) new' t x g = to C V _ _ t g.2 (runs C V _)
+  only new (Retire n next p r) new' t x g = to C V _ _ t g.2 (hands_on C V _ next p r)
   only new (UnlockBelow n p r) new' t x g = to C V _ _ t g.2 (runs C V _)
   only new (Unlock n r) new' t x g = to C V _ _ t g.2 (answers C V _ r)
-  only new (Unwind n e) new' t x g = unwinds e t x.2 g.2
+  only new (Unwind n next e) new' t x g = unwinds next e t x.3 g.2
   only new (Sweep s) new' t x g = λ e p. told_cause number always root s g.2.1 (told_swept number always root s a h s.stage (g.2.0, g.2.1) x g.2.2) e (sym (ap (λ (u : Turn C V). u.report.outcome) g.2.3) ∙ p)
   only new Ended new' t x g = to C V _ _ t g.2 (runs C V _)
 
@@ -347,6 +384,7 @@ module _ {C V : Type 0} (number : C → ℕ) (same : V → V → Bool) (always :
   step_weaker root key kind fail answer new (MakeGreater s p leaf) h new' t h' f g = (g.0, (g.1.0, g.1.1, err_weaker (form_above s.count) g.1.0 f g.1.2))
   step_weaker root key kind fail answer new (MakeTop p at common byte) h new' t h' f g = (g.0, (g.1.0, g.1.1, err_weaker N4 g.1.0 f g.1.2))
   step_weaker root key kind fail answer new (MakeBeside p at common byte top) h new' t h' f g = (g.0, (g.1.0, g.1.1, err_weaker N4 g.1.0 f g.1.2))
+  step_weaker root key kind fail answer new (MakeLesser s p top r) h new' t h' f g = (g.0, (g.1.0, g.1.1, err_weaker (lesser_form s p top) g.1.0 f g.1.2))
   step_weaker root key kind fail answer new _ h new' t h' f g = g
 
   cause_weaker : (s : Phase C V) (e : Refusal) → ((form : NodeType) (e : Refusal) → near form e → far form e) → Causes near most always s e → Causes far most always s e

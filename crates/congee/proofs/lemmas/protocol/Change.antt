@@ -2,7 +2,7 @@
 use Rattle.std.proofs.Common.{◌≡◌, ◌≢◌, ℕ, ◌<◌, true, false, List, length, get_or, refl, sym, ◌∙◌, ap, subst, inl, inr, arith}
 use Rattle.std.specs.Prelude.{Option, None, Some}
 use Rattle.congee.specs.Heap.{Node, Hung, Nothing, Below, Holds, Stands, fits, child_for, of_child, value_at}
-use Rattle.congee.specs.protocol.Events.{ChangeGives}
+use Rattle.congee.specs.protocol.Events.{ChangeGives, TakeOverGives}
 use Rattle.congee.specs.protocol.Steps.{value_hung}
 use Rattle.congee.specs.Ledger.{Note, Unmade, Held, Linked, Gone, is_published, BeginsKey, IsChild, HasParent, Tree, LockWords}
 use Rattle.congee.specs.protocol.Protocol.{Made, Holding, TakenOut, IsValue, value_in, Effect}
@@ -98,6 +98,44 @@ live_made i a h key c size least m = record { made = m.made; kept = m.kept; unre
 
 pub live_changed : {V : Type 0} (h : ℕ → Node V) (c b : ℕ) (x : Hung V) (h' : ℕ → Node V) → ChangeGives h c b x h' → Live (h c) → Live (h' c)
 live_changed h c b x h' k l = record { made = k.made ∙ l.made; kept = k.destroyed ∙ l.kept; unretired = k.retired ∙ l.unretired; unlocked = k.locked ∙ l.unlocked; live = k.obsolete ∙ l.live; keyed = rw k.prefix l.keyed }
+
+-- the node above, locked before and after, with one of its children changed
+pub under_above : {V : Type 0} (i : ℕ) (a : ℕ → Note) (h : ℕ → Node V) (a' : ℕ → Note) (g h' : ℕ → Node V) (n b : ℕ) (x : Hung V) → Holding i a n → (a' n).status ≡ (a n).status → (a' n).owner ≡ (a n).owner → g n ≡ h n → ChangeGives g n b x h' → StaysLocked i a h a' h' n
+under_above i a h a' g h' n b x o e eo f k = record {
+  owner = o.owner;
+  owner_after = eo ∙ o.owner;
+  published = ap is_published o.linked;
+  published_after = rw e (ap is_published o.linked);
+  linked = λ _. o.linked;
+  prefix = k.prefix ∙ ap (λ z. z.prefix) f;
+  version = k.version ∙ ap (λ z. z.version) f;
+  locked = k.locked ∙ ap (λ z. z.locked) f;
+  made = k.made ∙ ap (λ z. z.made) f;
+  destroyed = k.destroyed ∙ ap (λ z. z.destroyed) f;
+  retired = k.retired ∙ ap (λ z. z.retired) f;
+  obsolete = k.obsolete ∙ ap (λ z. z.obsolete) f;
+}
+
+-- the old node, whose values may have been moved
+pub under_taken : {V : Type 0} (i : ℕ) (a : ℕ → Note) (h : ℕ → Node V) (a' : ℕ → Note) (g g1 h' : ℕ → Node V) (m c : ℕ) → (a m).owner ≡ Some i → (a m).status ≡ Linked → is_published (a' m).status ≡ true → (a' m).owner ≡ Some i
+    → g m ≡ h m → TakeOverGives g m c g1 → h' m ≡ g1 m → StaysLocked i a h a' h' m
+under_taken i a h a' g g1 h' m c o l p po e k f = record {
+  owner = o;
+  owner_after = po;
+  published = ap is_published l;
+  published_after = p;
+  linked = λ _. l;
+  prefix = ap (λ z. z.prefix) f ∙ (k.prefix_old ∙ ap (λ z. z.prefix) e);
+  version = ap (λ z. z.version) f ∙ (k.version_old ∙ ap (λ z. z.version) e);
+  locked = ap (λ z. z.locked) f ∙ (k.locked_old ∙ ap (λ z. z.locked) e);
+  made = ap (λ z. z.made) f ∙ (k.made_old ∙ ap (λ z. z.made) e);
+  destroyed = ap (λ z. z.destroyed) f ∙ (k.destroyed_old ∙ ap (λ z. z.destroyed) e);
+  retired = ap (λ z. z.retired) f ∙ (k.retired_old ∙ ap (λ z. z.retired) e);
+  obsolete = ap (λ z. z.obsolete) f ∙ (k.obsolete_old ∙ ap (λ z. z.obsolete) e);
+}
+
+pub live_taken : {V : Type 0} (h : ℕ → Node V) (m c : ℕ) (h' : ℕ → Node V) → TakeOverGives h m c h' → Live (h c) → Live (h' c)
+live_taken h m c h' k l = record { made = k.made ∙ l.made; kept = k.destroyed ∙ l.kept; unretired = k.retired ∙ l.unretired; unlocked = k.locked ∙ l.unlocked; live = k.obsolete ∙ l.live; keyed = rw k.prefix l.keyed }
 
 pub live_same : {V : Type 0} (n n' : Node V) → n' ≡ n → Live n → Live n'
 live_same {V} n n' e l = let P : Node V → Type 0 = λ z. Live z in subst P (sym e) l

@@ -6,19 +6,21 @@ use Rattle.congee.specs.declared.protocol.phase.Site.{Site}
 use Rattle.congee.specs.declared.protocol.phase.Single.{Single}
 use Rattle.congee.specs.declared.protocol.phase.Single.TheVariants.{Set, Link}
 use Rattle.congee.specs.declared.protocol.phase.Double.{Double}
-use Rattle.congee.specs.declared.protocol.phase.Double.TheVariants.{Unlink, Grow, GrowLink, Split}
+use Rattle.congee.specs.declared.protocol.phase.Double.TheVariants.{Unlink, Grow, GrowLink, Split, Shrink, Collapse, ShrinkAbove}
+use Rattle.congee.specs.declared.protocol.phase.Parent.{Parent}
+use Rattle.congee.specs.declared.protocol.phase.Two.{Two}
 use Rattle.congee.specs.declared.protocol.phase.Plan.{Plan}
 use Rattle.congee.specs.declared.protocol.phase.Plan.TheVariants.{Here, Above}
 use Rattle.congee.specs.declared.protocol.phase.Phase.{Phase}
-use Rattle.congee.specs.declared.protocol.phase.Phase.TheVariants.{New, Version, Read, Check, CheckUncopied, CheckMiss, CheckDown, CheckOld, MakeLeaf, MakeGreater, MakeTop, MakeBeside, AskOld, AskNew, Confirm, CheckAbove, UpgradeOne, ChangeOne, UpgradeAbove, UpgradeBelow, ChangeTwo, Obsolete, Retire, UnlockBelow, Unlock, Unwind, Sweep, Ended}
+use Rattle.congee.specs.declared.protocol.phase.Phase.TheVariants.{New, Version, Read, Check, CheckUncopied, CheckMiss, CheckDown, CheckOld, MakeLeaf, MakeGreater, MakeTop, MakeBeside, MakeLesser, AskOld, AskNew, Confirm, CheckAbove, UpgradeOne, ChangeOne, UpgradeTop, UpgradeAbove, UpgradeBelow, ChangeTwo, Obsolete, Retire, UnlockBelow, Unlock, Unwind, Sweep, Ended}
 use Rattle.congee.specs.declared.protocol.machine.Machine.{Machine}
 use Rattle.congee.specs.Heap.{Node, walk}
 use Rattle.congee.specs.Keys.{key_bytes}
 use Rattle.congee.specs.Ledger.{Note, Status, Unmade, Held, Linked, Gone, Destroyed, is_published, is_spent, IsChild, HasParent, Tree, WordAt, LockWords}
 use Rattle.congee.specs.protocol.Protocol.{Rely}
 use Rattle.congee.specs.protocol.Answers.{SameMap}
-use Rattle.congee.specs.protocol.Holdings.{LockedBy, MadeForOne, MadeForTwo, MadeForPlan, IsMade, MadeBy, Holdings}
-use Rattle.congee.specs.protocol.Names.{name_seated, name_made, names_for_one, names_for_two, names_site, names_one, names_plan, names}
+use Rattle.congee.specs.protocol.Holdings.{IsTop, LockedBy, MadeForOne, MadeForTwo, MadeForPlan, IsMade, MadeBy, Holdings}
+use Rattle.congee.specs.protocol.Names.{name_above, name_seated, name_made, names_for_one, names_for_two, names_site, names_one, names_two, names_plan, names}
 use Rattle.congee.specs.protocol.Play.{EachKnown, ProtocolAt, Settled}
 use Rattle.congee.specs.protocol.Destroys.{Lost, Destroys, Spares}
 use Rattle.congee.proofs.lemmas.protocol.Each.{Each, left, right}
@@ -37,14 +39,32 @@ module _ {C : Type 0} (number : C → ℕ) (K : ℕ → Type 0) (n : ℕ) where
   two_named : (change : Double C) → Each K (names_for_two number change) → MadeForTwo number change n → K n
   two_named Unlink e x = absurd x
   two_named (Grow c) e x = at_name c x e.0
+  two_named (Shrink c) e x = at_name c x e.0
+  two_named Collapse e x = absurd x
+  two_named (ShrinkAbove c) e x = at_name c x e.0
   two_named (GrowLink c leaf byte) e (inl x) = at_name c x e.0
   two_named (GrowLink c leaf byte) e (inr x) = at_name leaf x e.1.0
   two_named (Split top leaf common byte) e (inl x) = at_name top x e.0
   two_named (Split top leaf common byte) e (inr x) = at_name leaf x e.1.0
 
+  -- what a change of two nodes names behind the two
+  made_for_two : (two : Two C) → Each K (names_two number two) → MadeForTwo number two.change n → K n
+  made_for_two two e x = two_named two.change (right K (name_above number two.top) (names_for_two number two.change) e.1.1) x
+
+  above_named : (top : Option (Parent C)) → Each K (name_above number top) → IsTop number top n → K n
+  above_named None e x = absurd x
+  above_named (Some p) e x = at_name p.seat.node x e.0
+
+  top_named : (two : Two C) → Each K (names_two number two) → IsTop number two.top n → K n
+  top_named two e x = above_named two.top (left K (name_above number two.top) (names_for_two number two.change) e.1.1) x
+
+  next_named : (next : Option C) → Each K (name_made number next) → IsMade number next n → K n
+  next_named None e x = absurd x
+  next_named (Some c) e x = at_name c x e.0
+
   plan_named : (plan : Plan C) → Each K (names_plan number plan) → MadeForPlan number plan n → K n
   plan_named (Here check one) e x = one_named one.change (right K (name_seated number check) (names_one number one) e).1 x
-  plan_named (Above two) e x = two_named two.change e.1.1 x
+  plan_named (Above two) e x = made_for_two two e x
 
   leaf_named : (leaf : Option C) (s : Site C) → Each K (name_made number leaf) → IsMade number leaf n → K n
   leaf_named None s e x = absurd x
@@ -64,20 +84,22 @@ module _ {C : Type 0} (number : C → ℕ) (K : ℕ → Type 0) (n : ℕ) where
     made_named (MakeGreater s p leaf) e x = leaf_named leaf s (left K (name_made number leaf) (names_site number s) e.1) x
     made_named (MakeTop p at common byte) e x = absurd x
     made_named (MakeBeside p at common byte top) e x = at_name top x e.1.1.0
+    made_named (MakeLesser s p g r) e x = absurd x
     made_named (AskOld s v) e x = absurd x
     made_named (AskNew plan) e x = plan_named plan e x
     made_named (Confirm at r) e x = absurd x
     made_named (CheckAbove p one r) e x = one_named one.change e.1.1 x
     made_named (UpgradeOne one r) e x = one_named one.change e.1 x
     made_named (ChangeOne one r) e x = one_named one.change e.1 x
-    made_named (UpgradeAbove two r) e x = two_named two.change e.1.1 x
-    made_named (UpgradeBelow two r) e x = two_named two.change e.1.1 x
-    made_named (ChangeTwo two r) e x = two_named two.change e.1.1 x
-    made_named (Obsolete m p r) e x = absurd x
-    made_named (Retire m p r) e x = absurd x
+    made_named (UpgradeTop g two r) e x = made_for_two two e.1 x
+    made_named (UpgradeAbove two r) e x = made_for_two two e x
+    made_named (UpgradeBelow two r) e x = made_for_two two e x
+    made_named (ChangeTwo two r) e x = made_for_two two e x
+    made_named (Obsolete m next p r) e x = absurd x
+    made_named (Retire m next p r) e x = absurd x
     made_named (UnlockBelow m p r) e x = absurd x
     made_named (Unlock m r) e x = absurd x
-    made_named (Unwind m f) e x = absurd x
+    made_named (Unwind m next f) e x = absurd x
     made_named (Sweep s) e x = absurd x
     made_named Ended e x = absurd x
 
@@ -94,30 +116,37 @@ module _ {C : Type 0} (number : C → ℕ) (K : ℕ → Type 0) (n : ℕ) where
     locked_named (MakeGreater s p leaf) e x = absurd x
     locked_named (MakeTop p at common byte) e x = absurd x
     locked_named (MakeBeside p at common byte top) e x = absurd x
+    locked_named (MakeLesser s p g r) e x = absurd x
     locked_named (AskOld s v) e x = absurd x
     locked_named (AskNew plan) e x = absurd x
     locked_named (Confirm at r) e x = absurd x
     locked_named (CheckAbove p one r) e x = absurd x
     locked_named (UpgradeOne one r) e x = absurd x
     locked_named (ChangeOne one r) e x = at_name one.at.node x e.0
-    locked_named (UpgradeAbove two r) e x = absurd x
-    locked_named (UpgradeBelow two r) e x = at_name two.above.seat.node x e.0
-    locked_named (ChangeTwo two r) e (inl x) = at_name two.above.seat.node x e.0
-    locked_named (ChangeTwo two r) e (inr x) = at_name two.at.node x e.1.0
-    locked_named (Obsolete m p r) e (inl x) = at_name p x e.1.0
-    locked_named (Obsolete m p r) e (inr x) = at_name m x e.0
-    locked_named (Retire m p r) e (inl x) = at_name p x e.1.0
-    locked_named (Retire m p r) e (inr x) = at_name m x e.0
+    locked_named (UpgradeTop g two r) e x = absurd x
+    locked_named (UpgradeAbove two r) e x = top_named two e x
+    locked_named (UpgradeBelow two r) e (inl x) = at_name two.above.seat.node x e.0
+    locked_named (UpgradeBelow two r) e (inr x) = top_named two e x
+    locked_named (ChangeTwo two r) e (inl (inl x)) = at_name two.above.seat.node x e.0
+    locked_named (ChangeTwo two r) e (inl (inr x)) = at_name two.at.node x e.1.0
+    locked_named (ChangeTwo two r) e (inr x) = top_named two e x
+    locked_named (Obsolete m next p r) e (inl (inl x)) = at_name p x e.1.0
+    locked_named (Obsolete m next p r) e (inl (inr x)) = at_name m x e.0
+    locked_named (Obsolete m next p r) e (inr x) = next_named next e.1.1 x
+    locked_named (Retire m next p r) e (inl (inl x)) = at_name p x e.1.0
+    locked_named (Retire m next p r) e (inl (inr x)) = at_name m x e.0
+    locked_named (Retire m next p r) e (inr x) = next_named next e.1.1 x
     locked_named (UnlockBelow m p r) e (inl x) = at_name p x e.1.0
     locked_named (UnlockBelow m p r) e (inr x) = at_name m x e.0
     locked_named (Unlock m r) e x = at_name m x e.0
-    locked_named (Unwind m f) e x = at_name m x e.0
+    locked_named (Unwind m next f) e (inl x) = at_name m x e.0
+    locked_named (Unwind m next f) e (inr x) = next_named next e.1 x
     locked_named (Sweep s) e x = absurd x
     locked_named Ended e x = absurd x
 
 -- the note of a destroyed node, and of one that is as it was
 
-note_after : {V : Type 0} (x : Note) (p q : Node V) → (q ≡ p) ⊎ Lost p q → Note
+pub note_after : {V : Type 0} (x : Note) (p q : Node V) → (q ≡ p) ⊎ Lost p q → Note
 note_after x p q (inl e) = x
 note_after x p q (inr l) = record x { status = Destroyed; owner = None }
 
@@ -280,3 +309,18 @@ module _ {C V : Type 0} (number : C → ℕ) (same : V → V → Bool) (always :
 pub spares : {C V : Type 0} (number : C → ℕ) (same : V → V → Bool) (always : Bool) (h : ℕ → Node V) (ms : List (Machine C V)) → Spares number same always h ms
 spares number same always h ms a h' p s d =
     all_stays number same always a h ms (λ n. note_after (a n) (h n) (h' n) (d.each n)) h' p s d (λ n. fate_after (a n) (h n) (h' n) (d.each n))
+
+-- what it leaves, for more that calls are about to do
+abbrev spared_notes : {C V : Type 0} (number : C → ℕ) (a : ℕ → Note) (h : ℕ → Node V) (ms : List (Machine C V)) (h' : ℕ → Node V) → Destroys number h ms h' → ℕ → Note
+spared_notes number a h ms h' d n = note_after (a n) (h n) (h' n) (d.each n)
+
+module _ {C V : Type 0} (number : C → ℕ) (same : V → V → Bool) (always : Bool) (a : ℕ → Note) (h : ℕ → Node V) (ms : List (Machine C V)) (h' : ℕ → Node V)
+    (p : ProtocolAt number same always a h ms) (s : Holdings number a h ms) (d : Destroys number h ms h') where
+  pub spared_rely : (i : ℕ) → Rely (λ n. h' n ≡ h n) i a h (spared_notes number a h ms h' d) h'
+  spared_rely i = rely number same always a h ms (spared_notes number a h ms h' d) h' p s d (λ n. fate_after (a n) (h n) (h' n) (d.each n)) i
+
+  pub spared_named : (i : ℕ) (m : Machine C V) → slice_get ms i ≡ Some m → Each (λ n. h' n ≡ h n) (names number m.phase)
+  spared_named i m e = named number same always a h ms (spared_notes number a h ms h' d) h' p s d (λ n. fate_after (a n) (h n) (h' n) (d.each n)) i m e
+
+  pub spared_linked : (n : ℕ) → (a n).status ≡ Linked → h' n ≡ h n
+  spared_linked n l = (linked_stays number same always a h ms (spared_notes number a h ms h' d) h' p s d (λ n. fate_after (a n) (h n) (h' n) (d.each n)) n l).0

@@ -15,14 +15,14 @@ use Rattle.congee.specs.declared.protocol.phase.Single.{Single}
 use Rattle.congee.specs.declared.protocol.phase.Single.TheVariants.{Set, Link}
 use Rattle.congee.specs.declared.protocol.phase.One.{One}
 use Rattle.congee.specs.declared.protocol.phase.Double.{Double}
-use Rattle.congee.specs.declared.protocol.phase.Double.TheVariants.{Unlink, Grow, GrowLink, Split}
+use Rattle.congee.specs.declared.protocol.phase.Double.TheVariants.{Unlink, Grow, GrowLink, Split, Shrink, Collapse, ShrinkAbove}
 use Rattle.congee.specs.declared.protocol.phase.Two.{Two}
 use Rattle.congee.specs.declared.protocol.phase.Phase.{Phase}
-use Rattle.congee.specs.declared.protocol.phase.Phase.TheVariants.{MakeLeaf, MakeGreater, MakeTop, MakeBeside, CheckAbove, UpgradeOne, ChangeOne, UpgradeAbove, UpgradeBelow, ChangeTwo, Obsolete, Retire, UnlockBelow, Unlock, Unwind}
+use Rattle.congee.specs.declared.protocol.phase.Phase.TheVariants.{MakeLeaf, MakeGreater, MakeTop, MakeBeside, MakeLesser, CheckAbove, UpgradeOne, ChangeOne, UpgradeTop, UpgradeAbove, UpgradeBelow, ChangeTwo, Obsolete, Retire, UnlockBelow, Unlock, Unwind}
 use Rattle.congee.specs.declared.protocol.turn.Turn.{Turn}
 use Rattle.congee.specs.Heap.{Node, Stands, is_taken}
 use Rattle.congee.specs.protocol.Events.{SameBut, BackGives}
-use Rattle.congee.specs.protocol.Steps.{BackOne, BackTwo, BackLeaf, MadeLeaf, MadeGreater, MadeTop, MadeBeside, UpgradedOne, UpgradedAbove, UpgradedBelow, ChangedOne, ChangedTwo, PhaseStepped}
+use Rattle.congee.specs.protocol.Steps.{BackOne, BackTwo, BackLeaf, MadeLeaf, MadeGreater, MadeTop, MadeBeside, MadeLesser, UpgradedOne, UpgradedTop, UpgradedAbove, UpgradedBelow, PutsLesser, Collapses, Lessens, ChangedOne, ChangedTwo, PhaseStepped}
 use Rattle.congee.specs.protocol.Holdings.{MadeForOne, MadeForTwo, IsMade, MadeBy}
 use Rattle.congee.proofs.lemmas.Graft.{on_test}
 use Rattle.congee.proofs.lemmas.protocol.Lasting.{stands_changed, stands_over}
@@ -67,6 +67,9 @@ module _ {C V : Type 0} (number : C → ℕ) (h h' : ℕ → Node V) where
 
   two_back : (change : Double C) → BackTwo number h change h' → Loses (MadeForTwo number change) h h'
   two_back Unlink g = loses_same _ h h' g
+  two_back Collapse g = loses_same _ h h' g
+  two_back (Shrink c) g = loses_back _ h h' (number c) refl g
+  two_back (ShrinkAbove c) g = loses_back _ h h' (number c) refl g
   two_back (Grow c) g = loses_back _ h h' (number c) refl g
   two_back (GrowLink c leaf byte) g = loses_then _ h g.0 h' (loses_back _ h g.0 (number leaf) (inr refl) g.1) (loses_back _ g.0 h' (number c) (inl refl) g.2)
   two_back (Split top leaf common byte) g = loses_then _ h g.0 h' (loses_back _ h g.0 (number leaf) (inr refl) g.1) (loses_back _ g.0 h' (number top) (inl refl) g.2)
@@ -91,10 +94,21 @@ module _ {C V : Type 0} (number : C → ℕ) (h h' : ℕ → Node V) where
   beside_made kind p at common byte top key (Ok c) t g = loses_new _ h h' (number c) g.0.unmade g.0.others
   beside_made kind p at common byte top key (Err e) t g = loses_back _ h h' (number top) refl g.0
 
+  lesser_made : (M : ℕ → Type 0) (s : Site C) (p : Parent C) (top : Option (Parent C)) (r : Reply V) (key : List ℕ) (x : Result C Refusal) (t : Turn C V) → MadeLesser number s p top r h key x h' t → Loses M h h'
+  lesser_made M s p None r key (Ok c) t g = loses_new M h h' (number c) g.0.unmade g.0.others
+  lesser_made M s p None r key (Err e) t g = loses_same M h h' g.0
+  lesser_made M s p (Some top) r key (Ok c) t g = loses_new M h h' (number c) g.0.unmade g.0.others
+  lesser_made M s p (Some top) r key (Err e) t g = loses_same M h h' g.0
+
   one_upgraded : (root : C) (one : One C) (r : Reply V) (u : Upgrade) (t : Turn C V) → UpgradedOne number root one r h u h' t → Loses (MadeForOne number one.change) h h'
   one_upgraded root one r Locked t g = loses_but _ h h' (number one.at.node) _ refl refl g.0
   one_upgraded root one r Failed t g = one_back one.change g.0
   one_upgraded root one r Exhausted t g = one_back one.change g.0
+
+  top_upgraded : (root : C) (top : Parent C) (two : Two C) (r : Reply V) (u : Upgrade) (t : Turn C V) → UpgradedTop number root top two r h u h' t → Loses (MadeForTwo number two.change) h h'
+  top_upgraded root top two r Locked t g = loses_but _ h h' (number top.seat.node) _ refl refl g.0
+  top_upgraded root top two r Failed t g = two_back two.change g.0
+  top_upgraded root top two r Exhausted t g = two_back two.change g.0
 
   above_upgraded : (root : C) (two : Two C) (r : Reply V) (u : Upgrade) (t : Turn C V) → UpgradedAbove number root two r h u h' t → Loses (MadeForTwo number two.change) h h'
   above_upgraded root two r Locked t g = loses_but _ h h' (number two.above.seat.node) _ refl refl g.0
@@ -110,8 +124,22 @@ module _ {C V : Type 0} (number : C → ℕ) (h h' : ℕ → Node V) where
   one_changed M key new one Set g = loses_none M h h' (λ n s. stands_changed h h' _ _ n _ g s)
   one_changed M key new one (Link leaf) g = loses_none M h h' (λ n s. stands_changed g.0 h' _ _ n _ g.2 (stands_changed h g.0 _ _ n _ g.1 s))
 
+  lessened : (M : ℕ → Type 0) (m c b p up : ℕ) → PutsLesser h m c b p up h' → Loses M h h'
+  lessened M m c b p up g = loses_none M h h' (λ n s. stands_changed g.1 h' _ _ n _ g.4 (stands_changed g.0 g.1 _ _ n _ g.3 (stands_over h g.0 _ _ n g.2 s)))
+
+  top_changed : (M : ℕ → Type 0) (two : Two C) (top : Option (Parent C)) → Collapses number two top h h' → Loses M h h'
+  top_changed M two None g = absurd g
+  top_changed M two (Some top) g = loses_none M h h' (λ n s. stands_changed h h' _ _ n _ g.2 s)
+
+  top_lessened : (M : ℕ → Type 0) (two : Two C) (c : C) (top : Option (Parent C)) → Lessens number two c top h h' → Loses M h h'
+  top_lessened M two c None g = absurd g
+  top_lessened M two c (Some top) g = lessened M _ _ _ _ _ g
+
   two_changed : (M : ℕ → Type 0) (key : List ℕ) (new : Option V) (two : Two C) (change : Double C) → ChangedTwo number key new two change h h' → Loses M h h'
   two_changed M key new two Unlink g = loses_none M h h' (λ n s. stands_changed h h' _ _ n _ g s)
+  two_changed M key new two (Shrink c) g = lessened M _ _ _ _ _ g
+  two_changed M key new two Collapse g = top_changed M two two.top g
+  two_changed M key new two (ShrinkAbove c) g = top_lessened M two c two.top g
   two_changed M key new two (Grow c) g = loses_none M h h' (λ n s. stands_changed g.1 h' _ _ n _ g.4 (stands_changed g.0 g.1 _ _ n _ g.3 (stands_over h g.0 _ _ n g.2 s)))
   two_changed M key new two (GrowLink c leaf byte) g = loses_none M h h' (λ n s. stands_changed g.2 h' _ _ n _ g.6 (stands_changed g.1 g.2 _ _ n _ g.5 (stands_over g.0 g.1 _ _ n g.4 (stands_changed h g.0 _ _ n _ g.3 s))))
   two_changed M key new two (Split top leaf common byte) g = loses_none M h h' (λ n s. stands_changed g.2 h' _ _ n _ g.6 (stands_changed g.1 g.2 _ _ n _ g.5 (stands_changed g.0 g.1 _ _ n _ g.4 (stands_changed h g.0 _ _ n _ g.3 s))))
@@ -122,16 +150,18 @@ module _ {C V : Type 0} (number : C → ℕ) (h h' : ℕ → Node V) where
   step_loses same always most why root key kind fail answer new (MakeGreater s p leaf) new' t g = greater_made kind s p leaf key g.1.0 t g.1.1
   step_loses same always most why root key kind fail answer new (MakeTop p at common byte) new' t g = top_made _ p at common byte key g.1.0 t g.1.1
   step_loses same always most why root key kind fail answer new (MakeBeside p at common byte top) new' t g = beside_made kind p at common byte top key g.1.0 t g.1.1
+  step_loses same always most why root key kind fail answer new (MakeLesser s p top r) new' t g = lesser_made _ s p top r key g.1.0 t g.1.1
   step_loses same always most why root key kind fail answer new (CheckAbove p one r) new' t g =
       on_test (is_taken (h (number p.node)) p.version) (λ e. loses_same _ h h' (g.1.goes_on e).0) (λ e. one_back one.change (g.1.goes_back e).0)
   step_loses same always most why root key kind fail answer new (UpgradeOne one r) new' t g = one_upgraded root one r g.1.0 t g.1.2
   step_loses same always most why root key kind fail answer new (ChangeOne one r) new' t g = one_changed _ key new one one.change g.1
+  step_loses same always most why root key kind fail answer new (UpgradeTop top two r) new' t g = top_upgraded root top two r g.1.0 t g.1.2
   step_loses same always most why root key kind fail answer new (UpgradeAbove two r) new' t g = above_upgraded root two r g.1.0 t g.1.2
   step_loses same always most why root key kind fail answer new (UpgradeBelow two r) new' t g = both_upgraded two r g.1.0 t g.1.2
   step_loses same always most why root key kind fail answer new (ChangeTwo two r) new' t g = two_changed _ key new two two.change g.1
-  step_loses same always most why root key kind fail answer new (Obsolete n p r) new' t g = loses_but _ h h' (number n) _ refl refl g.1
-  step_loses same always most why root key kind fail answer new (Retire n p r) new' t g = loses_but _ h h' (number n) _ refl refl g.1
+  step_loses same always most why root key kind fail answer new (Obsolete n next p r) new' t g = loses_but _ h h' (number n) _ refl refl g.1
+  step_loses same always most why root key kind fail answer new (Retire n next p r) new' t g = loses_but _ h h' (number n) _ refl refl g.1
   step_loses same always most why root key kind fail answer new (UnlockBelow n p r) new' t g = loses_but _ h h' (number n) _ refl refl g.1
   step_loses same always most why root key kind fail answer new (Unlock n r) new' t g = loses_but _ h h' (number n) _ refl refl g.1
-  step_loses same always most why root key kind fail answer new (Unwind n e) new' t g = loses_but _ h h' (number n) _ refl refl g.1
+  step_loses same always most why root key kind fail answer new (Unwind n next e) new' t g = loses_but _ h h' (number n) _ refl refl g.1
   step_loses same always most why root key kind fail answer new _ new' t g = loses_same _ h h' g.0

@@ -1,6 +1,10 @@
--- Each step of a call hands over no node, or the one that the call took out.
-use Rattle.std.proofs.Common.{◌≡◌, ◌≢◌, ℕ, ◌+◌, ◌==◌, ◌⊎◌, inl, inr, ◌&&◌, Bool, true, false, cond, List, [], ◌∷◌, ◌++◌, refl, sym, ◌∙◌, ap, subst}
+-- Each step of a call hands over no node, or one that the call took out.
+use Rattle.std.proofs.Common.{◌≡◌, ◌≢◌, ℕ, zero, suc, ◌+◌, ◌<◌, ◌≤◌, ◌==◌, ◌⊎◌, inl, inr, ◌&&◌, Bool, true, false, cond, List, [], ◌∷◌, ◌++◌, length, arith, refl, sym, ◌∙◌, ap, subst}
 use Rattle.std.proofs.Math.ListN.{set}
+use Rattle.std.specs.List.{Contains}
+use Rattle.std.proofs.lemmas.List.{length-append}
+use Rattle.std.proofs.lemmas.List.Elements.{Contains-append_left, Contains-push, Contains-push_cases}
+use Rattle.std.proofs.lemmas.Option.{slice_get_within, get_or_from_slice_get}
 use Rattle.std.specs.Prelude.{Option, None, Some, Result, Ok, Err, slice_get}
 use Rattle.judge.specs.declared.journal.Reply.{Reply}
 use Rattle.congee.specs.declared.forms.base_node.NodeType.{NodeType}
@@ -15,19 +19,19 @@ use Rattle.congee.specs.declared.protocol.phase.Single.{Single}
 use Rattle.congee.specs.declared.protocol.phase.Single.TheVariants.{Set, Link}
 use Rattle.congee.specs.declared.protocol.phase.One.{One}
 use Rattle.congee.specs.declared.protocol.phase.Double.{Double}
-use Rattle.congee.specs.declared.protocol.phase.Double.TheVariants.{Unlink, Grow, GrowLink, Split}
+use Rattle.congee.specs.declared.protocol.phase.Double.TheVariants.{Unlink, Grow, GrowLink, Split, Shrink, Collapse, ShrinkAbove}
 use Rattle.congee.specs.declared.protocol.phase.Two.{Two}
 use Rattle.congee.specs.declared.protocol.phase.Phase.{Phase}
-use Rattle.congee.specs.declared.protocol.phase.Phase.TheVariants.{New, Version, Read, Check, CheckUncopied, CheckMiss, CheckDown, CheckOld, MakeLeaf, MakeGreater, MakeTop, MakeBeside, AskOld, AskNew, Confirm, CheckAbove, UpgradeOne, ChangeOne, UpgradeAbove, UpgradeBelow, ChangeTwo, Obsolete, Retire, UnlockBelow, Unlock, Unwind, Sweep, Ended}
+use Rattle.congee.specs.declared.protocol.phase.Phase.TheVariants.{New, Version, Read, Check, CheckUncopied, CheckMiss, CheckDown, CheckOld, MakeLeaf, MakeGreater, MakeTop, MakeBeside, MakeLesser, AskOld, AskNew, Confirm, CheckAbove, UpgradeOne, ChangeOne, UpgradeTop, UpgradeAbove, UpgradeBelow, ChangeTwo, Obsolete, Retire, UnlockBelow, Unlock, Unwind, Sweep, Ended}
 use Rattle.congee.specs.declared.protocol.turn.Turn.{Turn}
 use Rattle.congee.specs.declared.protocol.machine.Machine.{Machine}
 use Rattle.congee.specs.declared.protocol.run.Step.{Step}
 use Rattle.congee.specs.Heap.{Node, Hung, Stands, is_taken}
 use Rattle.congee.specs.protocol.Events.{SameBut, upgrade_gives, NewNode, ChangeGives, TakeOverGives, BackGives}
-use Rattle.congee.specs.protocol.Steps.{BackOne, BackTwo, BackLeaf, MadeLeaf, MadeGreater, MadeTop, MadeBeside, UpgradedOne, UpgradedAbove, UpgradedBelow, ChangedOne, ChangedTwo, PhaseStepped}
+use Rattle.congee.specs.protocol.Steps.{BackOne, BackTwo, BackLeaf, MadeLeaf, MadeGreater, MadeTop, MadeBeside, MadeLesser, UpgradedOne, UpgradedTop, UpgradedAbove, UpgradedBelow, PutsLesser, Collapses, Lessens, after_retire, ChangedOne, ChangedTwo, PhaseStepped}
 use Rattle.congee.specs.Keys.{key_bytes}
 use Rattle.congee.specs.Ledger.{Note, Linked, Gone, is_published, Tree, LockWords}
-use Rattle.congee.specs.protocol.Protocol.{Made, MadeOne, MadeTwo, MadeLeafFor, Known}
+use Rattle.congee.specs.protocol.Protocol.{TopLocked, Made, MadeOne, MadeTwo, MadeLeafFor, Known}
 use Rattle.congee.specs.protocol.Holdings.{TakenBy}
 use Rattle.congee.specs.protocol.Handing.{is_waiting, Leads, IsOut, HandsNothing, HandsNode, HandsAt, Hands, IsLeaving, Leaving, Untouched, Handing, StepHands}
 use Rattle.congee.proofs.lemmas.Graft.{on_test}
@@ -146,11 +150,14 @@ module _ {C V : Type 0} (number : C → ℕ) (i : ℕ) (a : ℕ → Note) (h : �
       let s : SparesWaiting h h1 = spares_back h h1 d (idle_made d 7 0 md) g in
       spares_then h h1 h' s (spares_back h1 h' c (still_idle h h1 c s (idle_made c size least mc)) k)
 
-  back_two : (change : Double C) (size q : ℕ) → MadeTwo number i a h key change size q → BackTwo number h change h' → SparesWaiting h h'
-  back_two Unlink size q m g = spares_same h h' g
-  back_two (Grow c) size q m g = spares_back h h' (number c) (idle_made (number c) size q m) g
-  back_two (GrowLink c leaf byte) size q m g = back_both (number c) size q (number leaf) g.0 m.0 m.1 g.1 g.2
-  back_two (Split top leaf common byte) size q m g = back_both (number top) common 1 (number leaf) g.0 m.0 m.1 g.1 g.2
+  back_two : (p : Parent C) (change : Double C) (size q : ℕ) → MadeTwo number i a h key p change size q → BackTwo number h change h' → SparesWaiting h h'
+  back_two p Unlink size q m g = spares_same h h' g
+  back_two p Collapse size q m g = spares_same h h' g
+  back_two p (Shrink c) size q m g = spares_back h h' (number c) (idle_made (number c) size q m) g
+  back_two p (ShrinkAbove c) size q m g = spares_back h h' (number c) (idle_made (number c) p.depth q m.0) g
+  back_two p (Grow c) size q m g = spares_back h h' (number c) (idle_made (number c) size q m) g
+  back_two p (GrowLink c leaf byte) size q m g = back_both (number c) size q (number leaf) g.0 m.0 m.1 g.1 g.2
+  back_two p (Split top leaf common byte) size q m g = back_both (number top) common 1 (number leaf) g.0 m.0 m.1 g.1 g.2
 
   -- nodes are changed
   changed_one : (new : Option V) (one : One C) (change : Single C) → is_waiting (h (number one.at.node)) ≡ false → MadeOne number i a h key change → ChangedOne number key new one change h h' → SparesWaiting h h'
@@ -159,22 +166,45 @@ module _ {C V : Type 0} (number : C → ℕ) (i : ℕ) (a : ℕ → Note) (h : �
       let s : SparesWaiting h g.0 = spares_change h g.0 (number leaf) _ _ (idle_made (number leaf) 7 0 m) g.1 in
       spares_then h g.0 h' s (spares_change g.0 h' (number one.at.node) _ _ (still_idle h g.0 (number one.at.node) s e) g.2)
 
-  changed_two : (new : Option V) (two : Two C) (change : Double C) (size q : ℕ) → is_waiting (h (number two.above.seat.node)) ≡ false → is_waiting (h (number two.at.node)) ≡ false → MadeTwo number i a h key change size q
+  lessened : (m c b p up size q : ℕ) → is_waiting (h p) ≡ false → is_waiting (h m) ≡ false → Made i a h key c size q → PutsLesser h m c b p up h' → SparesWaiting h h'
+  lessened m c b p up size q e f made g =
+      let ec : is_waiting (h c) ≡ false = idle_made c size q made in
+      let s1 : SparesWaiting h g.0 = spares_take h g.0 m c f ec g.2 in
+      let s2 : SparesWaiting h g.1 = spares_then h g.0 g.1 s1 (spares_change g.0 g.1 c _ _ (still_idle h g.0 c s1 ec) g.3) in
+      spares_then h g.1 h' s2 (spares_change g.1 h' p _ _ (still_idle h g.1 p s2 e) g.4)
+
+  -- the node above both doesn't wait
+  abbrev pub TopIdle : Option (Parent C) → Type 0
+  TopIdle None = Unit {0}
+  TopIdle (Some top) = is_waiting (h (number top.seat.node)) ≡ false
+
+  collapsed : (two : Two C) (top : Option (Parent C)) → TopIdle top → Collapses number two top h h' → SparesWaiting h h'
+  collapsed two None e g = absurd g
+  collapsed two (Some top) e g = spares_change h h' (number top.seat.node) _ _ e g.2
+
+  lessened_top : (two : Two C) (c : C) (size q : ℕ) (top : Option (Parent C)) → TopIdle top → is_waiting (h (number two.above.seat.node)) ≡ false → Made i a h key (number c) size q → Lessens number two c top h h' → SparesWaiting h h'
+  lessened_top two c size q None e f made g = absurd g
+  lessened_top two c size q (Some top) e f made g = lessened _ _ _ _ _ size q e f made g
+
+  changed_two : (new : Option V) (two : Two C) (change : Double C) (size q : ℕ) → TopIdle two.top → is_waiting (h (number two.above.seat.node)) ≡ false → is_waiting (h (number two.at.node)) ≡ false → MadeTwo number i a h key two.above change size q
       → ChangedTwo number key new two change h h' → SparesWaiting h h'
-  changed_two new two Unlink size q e f m g = spares_change h h' _ _ _ e g
-  changed_two new two (Grow c) size q e f m g =
+  changed_two new two Unlink size q u e f m g = spares_change h h' _ _ _ e g
+  changed_two new two (Shrink c) size q u e f m g = lessened _ _ _ _ _ size q e f m g
+  changed_two new two Collapse size q u e f m g = collapsed two two.top u g
+  changed_two new two (ShrinkAbove c) size q u e f m g = lessened_top two c _ q two.top u e m.0 g
+  changed_two new two (Grow c) size q u e f m g =
       let p : ℕ = number two.above.seat.node in
       let ec : is_waiting (h (number c)) ≡ false = idle_made (number c) size q m in
       let s1 : SparesWaiting h g.0 = spares_take h g.0 (number two.at.node) (number c) f ec g.2 in
       let s2 : SparesWaiting h g.1 = spares_then h g.0 g.1 s1 (spares_change g.0 g.1 (number c) _ _ (still_idle h g.0 (number c) s1 ec) g.3) in
       spares_then h g.1 h' s2 (spares_change g.1 h' (number two.above.seat.node) _ _ (still_idle h g.1 (number two.above.seat.node) s2 e) g.4)
-  changed_two new two (GrowLink c leaf byte) size q e f m g =
+  changed_two new two (GrowLink c leaf byte) size q u e f m g =
       let ec : is_waiting (h (number c)) ≡ false = idle_made (number c) size q m.0 in
       let s1 : SparesWaiting h g.0 = spares_change h g.0 (number leaf) _ _ (idle_made (number leaf) 7 0 m.1) g.3 in
       let s2 : SparesWaiting h g.1 = spares_then h g.0 g.1 s1 (spares_take g.0 g.1 (number two.at.node) (number c) (still_idle h g.0 (number two.at.node) s1 f) (still_idle h g.0 (number c) s1 ec) g.4) in
       let s3 : SparesWaiting h g.2 = spares_then h g.1 g.2 s2 (spares_change g.1 g.2 (number c) _ _ (still_idle h g.1 (number c) s2 ec) g.5) in
       spares_then h g.2 h' s3 (spares_change g.2 h' (number two.above.seat.node) _ _ (still_idle h g.2 (number two.above.seat.node) s3 e) g.6)
-  changed_two new two (Split top leaf common byte) size q e f m g =
+  changed_two new two (Split top leaf common byte) size q u e f m g =
       let ec : is_waiting (h (number top)) ≡ false = idle_made (number top) common 1 m.0 in
       let s1 : SparesWaiting h g.0 = spares_change h g.0 (number leaf) _ _ (idle_made (number leaf) 7 0 m.1) g.3 in
       let s2 : SparesWaiting h g.1 = spares_then h g.0 g.1 s1 (spares_change g.0 g.1 (number top) _ _ (still_idle h g.0 (number top) s1 ec) g.4) in
@@ -198,6 +228,12 @@ module _ {C V : Type 0} (number : C → ℕ) (i : ℕ) (a : ℕ → Note) (h : �
   beside_made kind p at common byte top (Ok leaf) turn m g = spares_new h h' _ _ _ _ g.0
   beside_made kind p at common byte top (Err e) turn m g = spares_back h h' (number top) (idle_made (number top) common 1 m) g.0
 
+  lesser_made : (s : Site C) (p : Parent C) (top : Option (Parent C)) (r : Reply V) (x : Result C Refusal) (turn : Turn C V) → MadeLesser number s p top r h key x h' turn → SparesWaiting h h'
+  lesser_made s p None r (Ok c) turn g = spares_new h h' _ _ _ _ g.0
+  lesser_made s p None r (Err e) turn g = spares_same h h' g.0
+  lesser_made s p (Some top) r (Ok c) turn g = spares_new h h' _ _ _ _ g.0
+  lesser_made s p (Some top) r (Err e) turn g = spares_same h h' g.0
+
   -- a node is locked
   locked_spares : (most n v : ℕ) (fail : Bool) → LockWords a h → is_published (a n).status ≡ true → Locked ≡ upgrade_gives most (h n) v fail → SameBut h n (record (h n) { locked = true }) h' → SparesWaiting h h'
   locked_spares most n v fail w p e g =
@@ -209,23 +245,29 @@ module _ {C V : Type 0} (number : C → ℕ) (i : ℕ) (a : ℕ → Note) (h : �
   one_upgraded root one r most fail Failed turn w p m e g = back_one one.change m g.0
   one_upgraded root one r most fail Exhausted turn w p m e g = back_one one.change m g.0
 
-  above_upgraded : (root : C) (two : Two C) (r : Reply V) (size q most : ℕ) (fail : Bool) (u : Upgrade) (turn : Turn C V) → LockWords a h → is_published (a (number two.above.seat.node)).status ≡ true → MadeTwo number i a h key two.change size q
+  top_upgraded : (root : C) (top : Parent C) (two : Two C) (r : Reply V) (size q most : ℕ) (fail : Bool) (u : Upgrade) (turn : Turn C V) → LockWords a h → is_published (a (number top.seat.node)).status ≡ true → MadeTwo number i a h key two.above two.change size q
+      → u ≡ upgrade_gives most (h (number top.seat.node)) top.seat.version fail → UpgradedTop number root top two r h u h' turn → SparesWaiting h h'
+  top_upgraded root top two r size q most fail Locked turn w p m e g = locked_spares most (number top.seat.node) top.seat.version fail w p e g.0
+  top_upgraded root top two r size q most fail Failed turn w p m e g = back_two two.above two.change size q m g.0
+  top_upgraded root top two r size q most fail Exhausted turn w p m e g = back_two two.above two.change size q m g.0
+
+  above_upgraded : (root : C) (two : Two C) (r : Reply V) (size q most : ℕ) (fail : Bool) (u : Upgrade) (turn : Turn C V) → LockWords a h → is_published (a (number two.above.seat.node)).status ≡ true → MadeTwo number i a h key two.above two.change size q
       → u ≡ upgrade_gives most (h (number two.above.seat.node)) two.above.seat.version fail → UpgradedAbove number root two r h u h' turn → SparesWaiting h h'
   above_upgraded root two r size q most fail Locked turn w p m e g = locked_spares most (number two.above.seat.node) two.above.seat.version fail w p e g.0
-  above_upgraded root two r size q most fail Failed turn w p m e g = back_two two.change size q m g.0
-  above_upgraded root two r size q most fail Exhausted turn w p m e g = back_two two.change size q m g.0
+  above_upgraded root two r size q most fail Failed turn w p m e g = back_two two.above two.change size q m g.0
+  above_upgraded root two r size q most fail Exhausted turn w p m e g = back_two two.above two.change size q m g.0
 
-  both_upgraded : (two : Two C) (r : Reply V) (size q most : ℕ) (fail : Bool) (u : Upgrade) (turn : Turn C V) → LockWords a h → is_published (a (number two.at.node)).status ≡ true → MadeTwo number i a h key two.change size q
+  both_upgraded : (two : Two C) (r : Reply V) (size q most : ℕ) (fail : Bool) (u : Upgrade) (turn : Turn C V) → LockWords a h → is_published (a (number two.at.node)).status ≡ true → MadeTwo number i a h key two.above two.change size q
       → u ≡ upgrade_gives most (h (number two.at.node)) two.at.version fail → UpgradedBelow number two r h u h' turn → SparesWaiting h h'
   both_upgraded two r size q most fail Locked turn w p m e g = locked_spares most (number two.at.node) two.at.version fail w p e g.0
-  both_upgraded two r size q most fail Failed turn w p m e g = back_two two.change size q m g.0
-  both_upgraded two r size q most fail Exhausted turn w p m e g = back_two two.change size q m g.0
+  both_upgraded two r size q most fail Failed turn w p m e g = back_two two.above two.change size q m g.0
+  both_upgraded two r size q most fail Exhausted turn w p m e g = back_two two.above two.change size q m g.0
 
--- the call hands node n over, in its last step but one
+-- the call hands node n over: it had handed over none, or one and this is the second
 pub record Gives {C V : Type 0} (number : C → ℕ) (h : ℕ → Node V) (s : Phase C V) (n : ℕ) (h' : ℕ → Node V) (s' : Phase C V) : Type 0 where
   pub taken : TakenBy number s n
-  pub was : IsLeaving s → ⊥
-  pub is : IsLeaving s'
+  pub was : (k : ℕ) → IsLeaving s k → k ≡ 1
+  pub is : (k : ℕ) → (k ≡ 0) ⊎ IsLeaving s k → IsLeaving s' (suc k)
   pub marked : (h n).obsolete ≡ true
   pub out : IsOut h n
   pub before : is_waiting (h n) ≡ false
@@ -236,6 +278,10 @@ module _ {C V : Type 0} (number : C → ℕ) (same : V → V → Bool) (always :
     (w : LockWords a h) (t : Tree a h) where
   unlock_spares : (n : ℕ) → (a n).status ≡ Linked → SameBut h n (record (h n) { version = (h n).version + 1; locked = false }) h' → SparesWaiting h h'
   unlock_spares n l g = let q : is_waiting (h n) ≡ false = linked_idle a h n w l in spares_but h h' n _ q q g
+
+  top_idle : (top : Option (Parent C)) (n : ℕ) → TopLocked number i a h (key_bytes k) top n → TopIdle number i a h h' (key_bytes k) top
+  top_idle None n o = tt
+  top_idle (Some top) n o = linked_idle a h (number top.seat.node) w o.holding.linked
 
   -- every step
   pub step_hands : (most : ℕ) (why : NodeType → Refusal → Type 0) (root : C) (kind : Kind V) (fail : Bool) (answer : Option (Option V)) (given : Option V) (s : Phase C V) (given' : Option V) (turn : Turn C V)
@@ -253,6 +299,7 @@ module _ {C V : Type 0} (number : C → ℕ) (same : V → V → Bool) (always :
   step_hands most why root kind fail answer given (MakeGreater s p leaf) given' turn x g = inl (greater_made number i a h h' (key_bytes k) kind s p leaf g.1.0 turn x.3 g.1.1)
   step_hands most why root kind fail answer given (MakeTop p at common byte) given' turn x g = inl (top_made number i a h h' (key_bytes k) p at common byte g.1.0 turn g.1.1)
   step_hands most why root kind fail answer given (MakeBeside p at common byte top) given' turn x g = inl (beside_made number i a h h' (key_bytes k) kind p at common byte top g.1.0 turn x.6 g.1.1)
+  step_hands most why root kind fail answer given (MakeLesser s p top r) given' turn x g = inl (lesser_made number i a h h' (key_bytes k) s p top r g.1.0 turn g.1.1)
   step_hands most why root kind fail answer given (AskOld s v) given' turn x g = inl (spares_same h h' g.0)
   step_hands most why root kind fail answer given (AskNew plan) given' turn x g = inl (spares_same h h' g.0)
   step_hands most why root kind fail answer given (Confirm at r) given' turn x g = inl (spares_same h h' g.0)
@@ -263,75 +310,106 @@ module _ {C V : Type 0} (number : C → ℕ) (same : V → V → Bool) (always :
       inl (one_upgraded number i a h h' (key_bytes k) root one r most fail g.1.0 turn w x.1.1.fresh.seated.published x.1.1.made g.1.1 g.1.2)
   step_hands most why root kind fail answer given (ChangeOne one r) given' turn x g =
       inl (changed_one number i a h h' (key_bytes k) given one one.change (linked_idle a h (number one.at.node) w x.1.holding.linked) x.1.made g.1)
+  step_hands most why root kind fail answer given (UpgradeTop top two r) given' turn x g =
+      inl (top_upgraded number i a h h' (key_bytes k) root top two r _ _ most fail g.1.0 turn w x.2.fresh.seated.published x.1.2.made g.1.1 g.1.2)
   step_hands most why root kind fail answer given (UpgradeAbove two r) given' turn x g =
       inl (above_upgraded number i a h h' (key_bytes k) root two r _ _ most fail g.1.0 turn w x.1.2.above.fresh.seated.published x.1.2.made g.1.1 g.1.2)
   step_hands most why root kind fail answer given (UpgradeBelow two r) given' turn x g =
       inl (both_upgraded number i a h h' (key_bytes k) two r _ _ most fail g.1.0 turn w x.1.2.fresh.seated.published x.1.2.made g.1.1 g.1.2)
   step_hands most why root kind fail answer given (ChangeTwo two r) given' turn x g =
-      inl (changed_two number i a h h' (key_bytes k) given two two.change _ _ (linked_idle a h (number two.above.seat.node) w x.2.above.holding.linked)
+      inl (changed_two number i a h h' (key_bytes k) given two two.change _ _ (top_idle two.top _ x.2.top) (linked_idle a h (number two.above.seat.node) w x.2.above.holding.linked)
       (linked_idle a h (number two.at.node) w (t.down (number two.above.seat.node) _ (number two.at.node) x.2.above.holding.linked x.2.above.child).linked) x.2.made g.1)
-  step_hands most why root kind fail answer given (Obsolete n p r) given' turn x g =
-      let q : is_waiting (h (number n)) ≡ false = unretired_idle (h (number n)) x.unretired in inl (spares_but h h' (number n) _ q q g.1)
-  step_hands most why root kind fail answer given (Retire n p r) given' turn x g = inr (
+  step_hands most why root kind fail answer given (Obsolete n next p r) given' turn x g =
+      let q : is_waiting (h (number n)) ≡ false = unretired_idle (h (number n)) x.0.unretired in inl (spares_but h h' (number n) _ q q g.1)
+  step_hands most why root kind fail answer given (Retire n next p r) given' turn x g = inr (
     number n,
     record {
-      taken = refl;
-      was = λ l. l;
-      is = (let P : Turn C V → Type 0 = λ z. IsLeaving z.phase in subst P (sym g.2) tt);
-      marked = x.1;
+      taken = inl refl;
+      was = was next;
+      is = λ c l. let P : Turn C V → Type 0 = λ z. IsLeaving z.phase (suc c) in subst P (sym g.2) (is next c l);
+      marked = x.2;
       out = unlinked_out a h (number n) t (λ l. let z : Linked ≡ Gone = sym l ∙ x.0.gone in cc);
       before = unretired_idle (h (number n)) x.0.unretired;
       after = (let s : Stands (h (number n)) = (w.each (number n)).stands (ap is_published x.0.gone) in rw (g.1.after, s.made, s.kept) refl);
       others = g.1.others;
     },
-  )
+  ) where
+    was : (next : Option C) (c : ℕ) → IsLeaving (Retire n next p r) c → c ≡ 1
+    was None c l = l
+    was (Some d) c l = absurd l
+
+    is : (next : Option C) (c : ℕ) → (c ≡ 0) ⊎ IsLeaving (Retire n next p r) c → IsLeaving (after_retire next p r).phase (suc c)
+    is None c l = tt
+    is (Some d) c (inl e) = ap suc e
+    is (Some d) c (inr l) = absurd l
   step_hands most why root kind fail answer given (UnlockBelow n p r) given' turn x g = inl (unlock_spares (number n) x.0.linked g.1)
   step_hands most why root kind fail answer given (Unlock n r) given' turn x g = inl (unlock_spares (number n) x.linked g.1)
-  step_hands most why root kind fail answer given (Unwind n e) given' turn x g = inl (unlock_spares (number n) x.1.linked g.1)
+  step_hands most why root kind fail answer given (Unwind n next e) given' turn x g = inl (unlock_spares (number n) x.1.linked g.1)
   step_hands most why root kind fail answer given (Sweep s) given' turn x g = inl (spares_same h h' g.0)
   step_hands most why root kind fail answer given Ended given' turn x g = inl (spares_same h h' g.0)
 
   -- a call that is leaving goes on to leave
   pub leaves_on : (most : ℕ) (why : NodeType → Refusal → Type 0) (root : C) (kind : Kind V) (fail : Bool) (answer : Option (Option V)) (given : Option V) (s : Phase C V) (given' : Option V) (turn : Turn C V)
-      → PhaseStepped number same always most why root (key_bytes k) kind fail answer given s h given' turn h' → IsLeaving s → IsLeaving turn.phase
-  leaves_on most why root kind fail answer given (Unlock n r) given' turn g l = let P : Turn C V → Type 0 = λ z. IsLeaving z.phase in subst P (sym g.2) tt
-  leaves_on most why root kind fail answer given Ended given' turn g l = let P : Turn C V → Type 0 = λ z. IsLeaving z.phase in subst P (sym g.2) tt
-  leaves_on most why root kind fail answer given _ given' turn g l = absurd l
+      → PhaseStepped number same always most why root (key_bytes k) kind fail answer given s h given' turn h' → (c : ℕ) → IsLeaving s c → IsLeaving turn.phase c
+  leaves_on most why root kind fail answer given (Obsolete n None p r) given' turn g c l = let P : Turn C V → Type 0 = λ z. IsLeaving z.phase c in subst P (sym g.2) l
+  leaves_on most why root kind fail answer given (Retire n None p r) given' turn g c l = let P : Turn C V → Type 0 = λ z. IsLeaving z.phase c in subst P (sym g.2) tt
+  leaves_on most why root kind fail answer given (Unlock n r) given' turn g c l = let P : Turn C V → Type 0 = λ z. IsLeaving z.phase c in subst P (sym g.2) tt
+  leaves_on most why root kind fail answer given Ended given' turn g c l = let P : Turn C V → Type 0 = λ z. IsLeaving z.phase c in subst P (sym g.2) tt
+  leaves_on most why root kind fail answer given _ given' turn g c l = absurd l
 
--- what the calls have handed over, with one node more
-unfoldable pub giving : (ℕ → Option ℕ) → ℕ → ℕ → ℕ → Option ℕ
-giving by i n j = cond (j == i) (Some n) (by j)
+-- what the calls have handed over, or taken out, with these of one call
+unfoldable pub giving : (ℕ → List ℕ) → ℕ → List ℕ → ℕ → List ℕ
+giving by i xs j = cond (j == i) xs (by j)
 
-pub giving_here : (by : ℕ → Option ℕ) (i n : ℕ) → giving by i n i ≡ Some n
+pub giving_here : (by : ℕ → List ℕ) (i : ℕ) (xs : List ℕ) → giving by i xs i ≡ xs
 unfolding giving
-giving_here by i n = rw (same_test i i refl) refl
+giving_here by i xs = rw (same_test i i refl) refl
 
-pub giving_apart : (by : ℕ → Option ℕ) (i n j : ℕ) → j ≢ i → giving by i n j ≡ by j
+pub giving_apart : (by : ℕ → List ℕ) (i : ℕ) (xs : List ℕ) (j : ℕ) → j ≢ i → giving by i xs j ≡ by j
 unfolding giving
-giving_apart by i n j e = rw (other_test j i e) refl
+giving_apart by i xs j e = rw (other_test j i e) refl
 
-pub none_if : (o : Option ℕ) → ((n : ℕ) → o ≡ Some n → ⊥) → o ≡ None
-none_if None f = refl
-none_if (Some n) f = absurd (f n refl)
+pub some_of : (xs : List ℕ) (n : ℕ) → Contains xs n → xs ≢ []
+some_of xs n c e = let P : List ℕ → Type 0 = λ y. Contains y n in let z : Contains [] n = subst P e c in absurd (omega (arith, z.1))
+
+pub none_if : (xs : List ℕ) → ((n : ℕ) → Contains xs n → ⊥) → xs ≡ []
+none_if [] f = refl
+none_if (x ∷ xs) f = absurd (f x (0, omega arith, refl))
+
+empty_or : (xs : List ℕ) → (xs ≡ []) ⊎ (xs ≢ [])
+empty_or [] = inl refl
+empty_or (x ∷ xs) = inr (λ e. cc)
+
+pub at_place : (xs : List ℕ) (k n : ℕ) → slice_get xs k ≡ Some n → Contains xs n
+at_place xs k n e = (k, slice_get_within xs k n e, get_or_from_slice_get xs k n n e)
+
+push_at : (xs : List ℕ) (y k n : ℕ) → slice_get (xs ++ y ∷ []) k ≡ Some n → (slice_get xs k ≡ Some n) ⊎ ((k ≡ length xs) × (y ≡ n))
+push_at [] y zero n e = inr (refl, cc)
+push_at [] y (suc k) n e = absurd cc
+push_at (x ∷ xs) y zero n e = inl e
+push_at (x ∷ xs) y (suc k) n e = elim (push_at xs y k n e) [
+  | inl z ↦ inl z
+  | inr z ↦ inr (ap suc z.0, z.1)
+]
 
 -- one step of the calls
 module _ {C V : Type 0} (number : C → ℕ) (h : ℕ → Node V) (ms : List (Machine C V)) (i : ℕ) (m m' : Machine C V) (h' : ℕ → Node V) (e : slice_get ms i ≡ Some m) where
-  leaves_at : (by : ℕ → Option ℕ) → Leaving by ms → (n : ℕ) → by i ≡ Some n → IsLeaving m.phase
-  leaves_at by l n q =
-      let x : (k : Machine C V) × (slice_get ms i ≡ Some k) × IsLeaving k.phase = l i n q in
+  leaves_at : (by : ℕ → List ℕ) → Leaving by ms → by i ≢ [] → IsLeaving m.phase (length (by i))
+  leaves_at by l q =
+      let x : (k : Machine C V) × (slice_get ms i ≡ Some k) × IsLeaving k.phase (length (by i)) = l i q in
       let z : x.0 ≡ m = (let y : Some x.0 ≡ Some m = sym x.1 ∙ e in cc) in
-      let P : Machine C V → Type 0 = λ y. IsLeaving y.phase in subst P z x.2
+      let P : Machine C V → Type 0 = λ y. IsLeaving y.phase (length (by i)) in subst P z x.2
 
-  abbrev At : ℕ → Type 0
-  At j = (k : Machine C V) × (slice_get (set ms i m') j ≡ Some k) × IsLeaving k.phase
+  abbrev At : ℕ → ℕ → Type 0
+  At j c = (k : Machine C V) × (slice_get (set ms i m') j ≡ Some k) × IsLeaving k.phase c
 
-  leaves_here : (j : ℕ) → j ≡ i → IsLeaving m'.phase → At j
-  leaves_here j q x = subst At (sym q) (m', set_here ms i m' m e, x)
+  leaves_here : (j c : ℕ) → j ≡ i → IsLeaving m'.phase c → At j c
+  leaves_here j c q x = let P : ℕ → Type 0 = λ y. At y c in subst P (sym q) (m', set_here ms i m' m e, x)
 
-  leaves_apart : (by : ℕ → Option ℕ) → Leaving by ms → (j n : ℕ) → j ≢ i → by j ≡ Some n → At j
-  leaves_apart by l j n ne q = let x : (k : Machine C V) × (slice_get ms j ≡ Some k) × IsLeaving k.phase = l j n q in (x.0, set_apart ms i j m' x.0 ne x.1, x.2)
+  leaves_apart : (by : ℕ → List ℕ) → Leaving by ms → (j : ℕ) → j ≢ i → by j ≢ [] → At j (length (by j))
+  leaves_apart by l j ne q = let x : (k : Machine C V) × (slice_get ms j ≡ Some k) × IsLeaving k.phase (length (by j)) = l j q in (x.0, set_apart ms i j m' x.0 ne x.1, x.2)
 
-  hands_nothing : (IsLeaving m.phase → IsLeaving m'.phase) → SparesWaiting h h' → StepHands number h ms i h' (set ms i m')
+  hands_nothing : ((c : ℕ) → IsLeaving m.phase c → IsLeaving m'.phase c) → SparesWaiting h h' → StepHands number h ms i h' (set ms i m')
   hands_nothing f s by l = (
     by,
     inl (record {
@@ -341,22 +419,23 @@ module _ {C V : Type 0} (number : C → ℕ) (h : ℕ → Node V) (ms : List (Ma
         | inr q ↦ q.1 ∙ sym q.0
       ];
     }),
-    (λ j n q. elim (same_or_not j i) [
-      | inl y ↦ leaves_here j y (f (leaves_at by l n (let P : ℕ → Type 0 = λ z. by z ≡ Some n in subst P y q)))
-      | inr ne ↦ leaves_apart by l j n ne q
+    (λ j q. elim (same_or_not j i) [
+      | inl y ↦ leaves_here j (length (by j)) y
+          (let P : ℕ → Type 0 = λ z. IsLeaving m'.phase (length (by z)) in subst P (sym y) (f (length (by i)) (leaves_at by l (let Q : ℕ → Type 0 = λ z. by z ≢ [] in subst Q y q))))
+      | inr ne ↦ leaves_apart by l j ne q
     ]),
     (λ j n q. inl q),
   )
 
   hands_node : (n : ℕ) → Gives number h m.phase n h' m'.phase → StepHands number h ms i h' (set ms i m')
   hands_node n g by l = (
-    giving by i n,
+    giving by i (by i ++ n ∷ []),
     inr (
       n,
       record {
-        first = none_if (by i) (λ c q. g.was (leaves_at by l c q));
-        now = giving_here by i n;
-        others = λ j ne. giving_apart by i n j ne;
+        few = few n g by l;
+        now = giving_here by i (by i ++ n ∷ []);
+        others = λ j ne. giving_apart by i (by i ++ n ∷ []) j ne;
         marked = g.marked;
         out = g.out;
         before = g.before;
@@ -364,23 +443,44 @@ module _ {C V : Type 0} (number : C → ℕ) (h : ℕ → Node V) (ms : List (Ma
         nodes = λ c ne. ap is_waiting (g.others c ne);
       },
     ),
-    (λ j c q. elim (same_or_not j i) [
-      | inl y ↦ leaves_here j y g.is
-      | inr ne ↦ leaves_apart by l j c ne (sym (giving_apart by i n j ne) ∙ q)
+    (λ j q. elim (same_or_not j i) [
+      | inl y ↦ leaves_here j _ y (is_now n g by l j y)
+      | inr ne ↦ (let z : giving by i (by i ++ n ∷ []) j ≡ by j = giving_apart by i (by i ++ n ∷ []) j ne in
+          let P : List ℕ → Type 0 = λ u. At j (length u) in subst P (sym z) (leaves_apart by l j ne (λ u. q (z ∙ u))))
     ]),
     (λ j c q. elim (same_or_not j i) [
-      | inl y ↦ inr (taker n g by j c y q)
-      | inr ne ↦ inl (sym (giving_apart by i n j ne) ∙ q)
+      | inl y ↦ taker n g by j c y q
+      | inr ne ↦ inl (let P : List ℕ → Type 0 = λ u. Contains u c in subst P (giving_apart by i (by i ++ n ∷ []) j ne) q)
     ]),
   ) where
-    taker : (n : ℕ) → Gives number h m.phase n h' m'.phase → (by : ℕ → Option ℕ) → (j c : ℕ) → j ≡ i → giving by i n j ≡ Some c → (k : Machine C V) × (slice_get ms j ≡ Some k) × TakenBy number k.phase c
+    before : (n : ℕ) → Gives number h m.phase n h' m'.phase → (by : ℕ → List ℕ) → Leaving by ms → (length (by i) ≡ 0) ⊎ IsLeaving m.phase (length (by i))
+    before n g by l = elim (empty_or (by i)) [
+      | inl z ↦ inl (ap length z)
+      | inr z ↦ inr (leaves_at by l z)
+    ]
+
+    few : (n : ℕ) → Gives number h m.phase n h' m'.phase → (by : ℕ → List ℕ) → Leaving by ms → length (by i) < 2
+    few n g by l = elim (before n g by l) [
+      | inl z ↦ omega (arith, z)
+      | inr z ↦ (let u : length (by i) ≡ 1 = g.was (length (by i)) z in omega (arith, u))
+    ]
+
+    is_now : (n : ℕ) → Gives number h m.phase n h' m'.phase → (by : ℕ → List ℕ) → Leaving by ms → (j : ℕ) → j ≡ i → IsLeaving m'.phase (length (giving by i (by i ++ n ∷ []) j))
+    is_now n g by l j y =
+        let z : length (by i ++ n ∷ []) ≡ suc (length (by i)) = (let u : length (by i ++ n ∷ []) ≡ length (by i) + 1 = length-append (by i) (n ∷ []) in omega (arith, u)) in
+        let P : ℕ → Type 0 = λ u. IsLeaving m'.phase u in
+        let Q : ℕ → Type 0 = λ u. IsLeaving m'.phase (length (giving by i (by i ++ n ∷ []) u)) in
+        let R : List ℕ → Type 0 = λ u. IsLeaving m'.phase (length u) in
+        subst Q (sym y) (subst R (sym (giving_here by i (by i ++ n ∷ []))) (subst P (sym z) (g.is (length (by i)) (before n g by l))))
+
+    taker : (n : ℕ) → Gives number h m.phase n h' m'.phase → (by : ℕ → List ℕ) → (j c : ℕ) → j ≡ i → Contains (giving by i (by i ++ n ∷ []) j) c → Contains (by j) c ⊎ ((k : Machine C V) × (slice_get ms j ≡ Some k) × TakenBy number k.phase c)
     taker n g by j c y q =
-        let P : ℕ → Type 0 = λ z. giving by i n z ≡ Some c in
-        let z : Some n ≡ Some c = sym (giving_here by i n) ∙ subst P y q in
-        let u : n ≡ c = cc in
-        let Q : ℕ → Type 0 = λ z. TakenBy number m.phase z in
-        let R : ℕ → Type 0 = λ z. slice_get ms z ≡ Some m in
-        (m, subst R (sym y) e, subst Q u g.taken)
+        let P : ℕ → Type 0 = λ z. Contains (giving by i (by i ++ n ∷ []) z) c in
+        let R : List ℕ → Type 0 = λ z. Contains z c in
+        elim (Contains-push_cases (by i) n c (subst R (giving_here by i (by i ++ n ∷ [])) (subst P y q))) [
+          | inl z ↦ inl (let Q : ℕ → Type 0 = λ u. Contains (by u) c in subst Q (sym y) z)
+          | inr z ↦ inr (let Q : ℕ → Type 0 = λ u. TakenBy number m.phase u in let S : ℕ → Type 0 = λ u. slice_get ms u ≡ Some m in (m, subst S (sym y) e, subst Q z g.taken))
+        ]
 
   -- what waits is left alone
   spared : SparesWaiting h h' → Untouched h h'
@@ -392,7 +492,7 @@ module _ {C V : Type 0} (number : C → ℕ) (h : ℕ → Node V) (ms : List (Ma
   given_apart : (n : ℕ) → Gives number h m.phase n h' m'.phase → Untouched h h'
   given_apart n g c x = g.others c (λ q. let y : is_waiting (h c) ≡ false = (let P : ℕ → Type 0 = λ z. is_waiting (h z) ≡ false in subst P (sym q) g.before) in let z : true ≡ false = sym x ∙ y in cc)
 
-  pub stepped_hands : (IsLeaving m.phase → IsLeaving m'.phase) → SparesWaiting h h' ⊎ ((n : ℕ) × Gives number h m.phase n h' m'.phase) → StepHands number h ms i h' (set ms i m')
+  pub stepped_hands : ((c : ℕ) → IsLeaving m.phase c → IsLeaving m'.phase c) → SparesWaiting h h' ⊎ ((n : ℕ) × Gives number h m.phase n h' m'.phase) → StepHands number h ms i h' (set ms i m')
   stepped_hands f (inl s) = hands_nothing f s
   stepped_hands f (inr g) = hands_node g.0 g.1
 
@@ -405,36 +505,38 @@ abbrev pub idle_hands : {C V : Type 0} (number : C → ℕ) (h : ℕ → Node V)
 idle_hands number h ms i = λ by l. (by, inl (record { calls = λ j. refl; nodes = λ n. refl }), l, (λ j n q. inl q))
 
 -- steps, one after another
-hands_more : {C V : Type 0} (by : ℕ → Option ℕ) (h : ℕ → Node V) (ss : List (Step C V)) (by1 : ℕ → Option ℕ) (h1 : ℕ → Node V) (s : Step C V) (by2 : ℕ → Option ℕ) (h2 : ℕ → Node V)
+hands_more : {C V : Type 0} (by : ℕ → List ℕ) (h : ℕ → Node V) (ss : List (Step C V)) (by1 : ℕ → List ℕ) (h1 : ℕ → Node V) (s : Step C V) (by2 : ℕ → List ℕ) (h2 : ℕ → Node V)
     → Hands by h ss by1 h1 → HandsAt by1 h1 s.who by2 h2 → Hands by h (ss ++ s ∷ []) by2 h2
 hands_more by h [] by1 h1 s by2 h2 r q =
-    let P : (ℕ → Option ℕ) → Type 0 = λ x. HandsAt x h s.who by2 h2 in
+    let P : (ℕ → List ℕ) → Type 0 = λ x. HandsAt x h s.who by2 h2 in
     let Q : (ℕ → Node _) → Type 0 = λ x. HandsAt by1 x s.who by2 h2 in
     (by2, h2, subst P r.0 (subst Q r.1 q), (refl, refl))
 hands_more by h (x ∷ ss) by1 h1 s by2 h2 r q = (r.0, r.1, r.2, hands_more r.0 r.1 ss by1 h1 s by2 h2 r.3 q)
 
-pub handing_none : {C V : Type 0} (h : ℕ → Node V) (ms : List (Machine C V)) (a : ℕ → Note) → Tree a h → LockWords a h → Handing (λ _. None) h [] h ms
+pub handing_none : {C V : Type 0} (h : ℕ → Node V) (ms : List (Machine C V)) (a : ℕ → Note) → Tree a h → LockWords a h → Handing (λ _. []) h [] h ms
 handing_none h ms a t w = record {
   run = (refl, refl);
-  leaving = λ i n q. absurd cc;
-  once = λ i j n q r. absurd cc;
-  new = λ i n q. absurd cc;
+  leaving = λ i q. absurd (q refl);
+  few = λ i. omega arith;
+  once = λ i j n k l q r. absurd cc;
+  new = λ i n q. absurd (some_of [] n q refl);
   all = λ n x. inl x;
   out = λ n x. waiting_out a h n t w x;
   untouched = λ n x. refl;
 }
 
-module _ {C V : Type 0} (by : ℕ → Option ℕ) (h0 : ℕ → Node V) (ss : List (Step C V)) (h : ℕ → Node V) (ms : List (Machine C V)) (s : Step C V) (by' : ℕ → Option ℕ) (h' : ℕ → Node V) (ms' : List (Machine C V))
+module _ {C V : Type 0} (by : ℕ → List ℕ) (h0 : ℕ → Node V) (ss : List (Step C V)) (h : ℕ → Node V) (ms : List (Machine C V)) (s : Step C V) (by' : ℕ → List ℕ) (h' : ℕ → Node V) (ms' : List (Machine C V))
     (p : Handing by h0 ss h ms) (a' : ℕ → Note) (t : Tree a' h') (w : LockWords a' h') (u : Untouched h h') (l : Leaving by' ms') where
   more_nothing : HandsNothing by h by' h' → Handing by' h0 (ss ++ s ∷ []) h' ms'
   more_nothing x = record {
-    run = hands_more (λ _. None) h0 ss by h s by' h' p.run (inl x);
+    run = hands_more (λ _. []) h0 ss by h s by' h' p.run (inl x);
     leaving = l;
-    once = λ i j n q r. p.once i j n (sym (x.calls i) ∙ q) (sym (x.calls j) ∙ r);
-    new = λ i n q. let y : (is_waiting (h0 n) ≡ false) × (is_waiting (h n) ≡ true) = p.new i n (sym (x.calls i) ∙ q) in (y.0, x.nodes n ∙ y.1);
+    few = λ i. rw (x.calls i) (p.few i);
+    once = λ i j n k m q r. p.once i j n k m (rw (x.calls i) at q) (rw (x.calls j) at r);
+    new = λ i n q. let y : (is_waiting (h0 n) ≡ false) × (is_waiting (h n) ≡ true) = p.new i n (rw (x.calls i) at q) in (y.0, x.nodes n ∙ y.1);
     all = λ n q. elim (p.all n (sym (x.nodes n) ∙ q)) [
       | inl y ↦ inl y
-      | inr y ↦ inr (y.0, x.calls y.0 ∙ y.1)
+      | inr y ↦ inr (y.0, rw (x.calls y.0) y.1)
     ];
     out = λ n y. waiting_out a' h' n t w y;
     untouched = λ n y. u n (ap is_waiting (p.untouched n y) ∙ y) ∙ p.untouched n y;
@@ -442,14 +544,38 @@ module _ {C V : Type 0} (by : ℕ → Option ℕ) (h0 : ℕ → Node V) (ss : Li
 
   module _ (n : ℕ) (x : HandsNode by h s.who n by' h') where
     -- who hands over one node more
-    one_more : (i c : ℕ) → by' i ≡ Some c → ((i ≡ s.who) × (c ≡ n)) ⊎ (by i ≡ Some c)
+    one_more : (i c : ℕ) → Contains (by' i) c → ((i ≡ s.who) × (c ≡ n)) ⊎ Contains (by i) c
     one_more i c q = elim (same_or_not i s.who) [
-      | inl y ↦ (let P : ℕ → Type 0 = λ z. by' z ≡ Some c in let z : Some c ≡ Some n = sym (subst P y q) ∙ x.now in inl (y, cc))
-      | inr ne ↦ inr (sym (x.others i ne) ∙ q)
+      | inl y ↦ (let P : ℕ → Type 0 = λ z. Contains (by' z) c in
+          let R : List ℕ → Type 0 = λ z. Contains z c in elim (Contains-push_cases (by s.who) n c (subst R x.now (subst P y q))) [
+            | inl z ↦ inr (let Q : ℕ → Type 0 = λ v. Contains (by v) c in subst Q (sym y) z)
+            | inr z ↦ inl (y, sym z)
+          ])
+      | inr ne ↦ inr (let R : List ℕ → Type 0 = λ z. Contains z c in subst R (x.others i ne) q)
+    ]
+
+    -- at which place
+    one_at : (i c k : ℕ) → slice_get (by' i) k ≡ Some c → ((i ≡ s.who) × (c ≡ n) × (k ≡ length (by s.who))) ⊎ (slice_get (by i) k ≡ Some c)
+    one_at i c k q = elim (same_or_not i s.who) [
+      | inl y ↦ (let P : ℕ → Type 0 = λ z. slice_get (by' z) k ≡ Some c in
+          let R : List ℕ → Type 0 = λ z. slice_get z k ≡ Some c in elim (push_at (by s.who) n k c (subst R x.now (subst P y q))) [
+            | inl z ↦ inr (let Q : ℕ → Type 0 = λ v. slice_get (by v) k ≡ Some c in subst Q (sym y) z)
+            | inr z ↦ inl (y, sym z.1, z.0)
+          ])
+      | inr ne ↦ inr (let R : List ℕ → Type 0 = λ z. slice_get z k ≡ Some c in subst R (x.others i ne) q)
+    ]
+
+    -- what was handed over stays so
+    kept_on : (i c : ℕ) → Contains (by i) c → Contains (by' i) c
+    kept_on i c q = elim (same_or_not i s.who) [
+      | inl y ↦ (let P : ℕ → Type 0 = λ z. Contains (by z) c in
+          let R : List ℕ → Type 0 = λ z. Contains z c in
+          let Q : ℕ → Type 0 = λ v. Contains (by' v) c in subst Q (sym y) (subst R (sym x.now) (Contains-append_left (by s.who) (n ∷ []) c (subst P y q))))
+      | inr ne ↦ (let R : List ℕ → Type 0 = λ z. Contains z c in subst R (sym (x.others i ne)) q)
     ]
 
     -- nobody handed it over before
-    not_yet : (i c : ℕ) → by i ≡ Some c → c ≡ n → ⊥
+    not_yet : (i c : ℕ) → Contains (by i) c → c ≡ n → ⊥
     not_yet i c q y =
         let z : is_waiting (h c) ≡ true = (p.new i c q).1 in
         let b : is_waiting (h c) ≡ false = (let P : ℕ → Type 0 = λ v. is_waiting (h v) ≡ false in subst P (sym y) x.before) in
@@ -463,21 +589,26 @@ module _ {C V : Type 0} (by : ℕ → Option ℕ) (h0 : ℕ → Node V) (ss : Li
     fresh : (c : ℕ) → c ≡ n → (is_waiting (h0 c) ≡ false) × (is_waiting (h' c) ≡ true)
     fresh c y = let P : ℕ → Type 0 = λ z. (is_waiting (h0 z) ≡ false) × (is_waiting (h' z) ≡ true) in subst P (sym y) (at_first (is_waiting (h0 n)) refl, x.after)
 
-    not_who : (i c : ℕ) → by i ≡ Some c → i ≢ s.who
-    not_who i c q z = let P : ℕ → Type 0 = λ k. by k ≡ Some c in let v : None ≡ Some c = sym x.first ∙ subst P z q in cc
+    few_now : (i : ℕ) → length (by' i) ≤ 2
+    few_now i = elim (same_or_not i s.who) [
+      | inl y ↦ (let z : length (by' s.who) ≡ length (by s.who) + 1 = ap length x.now ∙ length-append (by s.who) (n ∷ []) in
+          let P : ℕ → Type 0 = λ v. length (by' v) ≤ 2 in subst P (sym y) (omega (arith, x.few, z)))
+      | inr ne ↦ rw (x.others i ne) (p.few i)
+    ]
 
     more_node : Handing by' h0 (ss ++ s ∷ []) h' ms'
     more_node = record {
-      run = hands_more (λ _. None) h0 ss by h s by' h' p.run (inr (n, x));
+      run = hands_more (λ _. []) h0 ss by h s by' h' p.run (inr (n, x));
       leaving = l;
-      once = λ i j c q r. elim (one_more i c q) [
-        | inl y ↦ elim (one_more j c r) [
-          | inl z ↦ y.0 ∙ sym z.0
-          | inr z ↦ absurd (not_yet j c z y.1)
+      few = few_now;
+      once = λ i j c k m q r. elim (one_at i c k q) [
+        | inl y ↦ elim (one_at j c m r) [
+          | inl z ↦ (y.0 ∙ sym z.0, y.2 ∙ sym z.2)
+          | inr z ↦ absurd (not_yet j c (at_place (by j) m c z) y.1)
         ]
-        | inr y ↦ elim (one_more j c r) [
-          | inl z ↦ absurd (not_yet i c y z.1)
-          | inr z ↦ p.once i j c y z
+        | inr y ↦ elim (one_at j c m r) [
+          | inl z ↦ absurd (not_yet i c (at_place (by i) k c y) z.1)
+          | inr z ↦ p.once i j c k m y z
         ]
       ];
       new = λ i c q. elim (one_more i c q) [
@@ -485,10 +616,10 @@ module _ {C V : Type 0} (by : ℕ → Option ℕ) (h0 : ℕ → Node V) (ss : Li
         | inr y ↦ (let z : (is_waiting (h0 c) ≡ false) × (is_waiting (h c) ≡ true) = p.new i c y in (z.0, ap is_waiting (u c z.1) ∙ z.1))
       ];
       all = λ c q. elim (same_or_not c n) [
-        | inl y ↦ inr (s.who, (let P : ℕ → Type 0 = λ z. by' s.who ≡ Some z in subst P (sym y) x.now))
+        | inl y ↦ inr (s.who, (let P : ℕ → Type 0 = λ z. Contains (by' s.who) z in let R : List ℕ → Type 0 = λ z. Contains z n in subst P (sym y) (subst R (sym x.now) (Contains-push (by s.who) n))))
         | inr ne ↦ elim (p.all c (sym (x.nodes c ne) ∙ q)) [
           | inl y ↦ inl y
-          | inr y ↦ inr (y.0, x.others y.0 (not_who y.0 c y.1) ∙ y.1)
+          | inr y ↦ inr (y.0, kept_on y.0 c y.1)
         ]
       ];
       out = λ c y. waiting_out a' h' c t w y;

@@ -9,25 +9,26 @@ use Rattle.congee.specs.declared.protocol.store.Upgrade.{Upgrade}
 use Rattle.congee.specs.declared.protocol.store.Upgrade.TheVariants.{Locked, Failed, Exhausted}
 use Rattle.congee.specs.declared.protocol.phase.Kind.{Kind}
 use Rattle.congee.specs.declared.protocol.phase.Parent.{Parent}
+use Rattle.congee.specs.declared.protocol.phase.Above.{Above as Over}
 use Rattle.congee.specs.declared.protocol.phase.Site.{Site}
 use Rattle.congee.specs.declared.protocol.phase.Single.{Single}
 use Rattle.congee.specs.declared.protocol.phase.Single.TheVariants.{Set, Link}
 use Rattle.congee.specs.declared.protocol.phase.One.{One}
 use Rattle.congee.specs.declared.protocol.phase.Double.{Double}
-use Rattle.congee.specs.declared.protocol.phase.Double.TheVariants.{Unlink, Grow, GrowLink, Split}
+use Rattle.congee.specs.declared.protocol.phase.Double.TheVariants.{Unlink, Grow, GrowLink, Split, Shrink, Collapse, ShrinkAbove}
 use Rattle.congee.specs.declared.protocol.phase.Two.{Two}
 use Rattle.congee.specs.declared.protocol.phase.Plan.{Plan}
 use Rattle.congee.specs.declared.protocol.phase.Plan.TheVariants.{Here, Above}
 use Rattle.congee.specs.declared.protocol.phase.Phase.{Phase}
-use Rattle.congee.specs.declared.protocol.phase.Phase.TheVariants.{New, Version, Read, Check, CheckUncopied, CheckMiss, CheckDown, CheckOld, MakeLeaf, MakeGreater, MakeTop, MakeBeside, AskOld, AskNew, Confirm, CheckAbove, UpgradeOne, ChangeOne, UpgradeAbove, UpgradeBelow, ChangeTwo, Obsolete, Retire, UnlockBelow, Unlock, Unwind, Sweep, Ended}
+use Rattle.congee.specs.declared.protocol.phase.Phase.TheVariants.{New, Version, Read, Check, CheckUncopied, CheckMiss, CheckDown, CheckOld, MakeLeaf, MakeGreater, MakeTop, MakeBeside, MakeLesser, AskOld, AskNew, Confirm, CheckAbove, UpgradeOne, ChangeOne, UpgradeTop, UpgradeAbove, UpgradeBelow, ChangeTwo, Obsolete, Retire, UnlockBelow, Unlock, Unwind, Sweep, Ended}
 use Rattle.congee.specs.declared.protocol.turn.Turn.{Turn}
 use Rattle.congee.specs.Heap.{Node, Hung, Below, is_taken}
 use Rattle.congee.specs.protocol.Events.{SameBut, NewNode, ChangeGives, TakeOverGives, BackGives}
-use Rattle.congee.specs.protocol.Steps.{quiet, again, decided, asking, asks_new, absent_reply, started, ready, plan_here, unless_full, unwound, greater, after_change, BackOne, BackTwo, BackLeaf, MadeLeaf, MadeGreater, MadeTop, MadeBeside, UpgradedOne, UpgradedAbove, UpgradedBelow, ChangedOne, ChangedTwo, IsGivenNew, PhaseStepped}
+use Rattle.congee.specs.protocol.Steps.{node_of, both, given_up, after_top, after_retire, after_unwind, PutsLesser, Collapses, Lessens, quiet, again, decided, asking, asks_new, absent_reply, started, ready, plan_here, unless_full, unwound, greater, after_change, BackOne, BackTwo, BackLeaf, MadeLeaf, MadeGreater, MadeTop, MadeBeside, MadeLesser, UpgradedOne, UpgradedTop, UpgradedAbove, UpgradedBelow, ChangedOne, ChangedTwo, IsGivenNew, PhaseStepped}
 use Rattle.congee.specs.Keys.{key_bytes}
 use Rattle.congee.specs.Ledger.{Note, Unmade, Held, Linked, is_published, Tree, LockWords}
-use Rattle.congee.specs.protocol.Protocol.{Made, Holding, MadeOne, MadeTwo, MadeLeafFor, Fares, Known}
-use Rattle.congee.specs.protocol.Holdings.{LockedBy, MadeForOne, MadeForTwo, MadeForPlan, IsMade, MadeBy}
+use Rattle.congee.specs.protocol.Protocol.{HasTop, Made, Holding, MadeOne, MadeTwo, MadeLeafFor, Fares, Known}
+use Rattle.congee.specs.protocol.Holdings.{IsTop, LockedBy, MadeForOne, MadeForTwo, MadeForPlan, IsMade, MadeBy}
 use Rattle.congee.proofs.lemmas.Graft.{on_test}
 use Rattle.congee.proofs.lemmas.Tree.{same_or_not}
 use Rattle.congee.proofs.lemmas.protocol.Touch.{by_test, owner_locked}
@@ -46,7 +47,7 @@ started_made number (Above two) r n m = m
 ready_made : {C V : Type 0} (number : C → ℕ) (kind : Kind V) (plan : Plan C) (n : ℕ) → MadeForPlan number plan n → MadeBy number (ready kind plan).phase n
 ready_made {C} {V} number kind plan n m = by_test (λ (t : Turn C V). MadeBy number t.phase n) (asks_new kind) _ _ (λ _. m) (λ _. started_made number plan (absent_reply kind) n m)
 
-unless_made : {C V : Type 0} (number : C → ℕ) (kind : Kind V) (s : Site C) (full : Bool) (above : Option (Parent C)) (leaf : C) → MadeBy number (unless_full kind s full above (Some leaf) (Link leaf)).phase (number leaf)
+unless_made : {C V : Type 0} (number : C → ℕ) (kind : Kind V) (s : Site C) (full : Bool) (above : Option (Over C)) (leaf : C) → MadeBy number (unless_full kind s full above (Some leaf) (Link leaf)).phase (number leaf)
 unless_made number kind s true (Some p) leaf = refl
 unless_made number kind s true None leaf = ready_made number kind (plan_here s (Link leaf)) (number leaf) refl
 unless_made number kind s false above leaf = ready_made number kind (plan_here s (Link leaf)) (number leaf) refl
@@ -99,8 +100,22 @@ flags_one : {C V : Type 0} (number : C → ℕ) (key : List ℕ) (new : Option V
 flags_one number key new one Set h h' g = flags_change h _ _ _ h' g
 flags_one number key new one (Link leaf) h h' g = flags_then h g.0 h' (flags_change h _ _ _ g.0 g.1) (flags_change g.0 _ _ _ h' g.2)
 
+flags_lesser : {V : Type 0} (h : ℕ → Node V) (m c b p up : ℕ) (h' : ℕ → Node V) → PutsLesser h m c b p up h' → Flags h h'
+flags_lesser h m c b p up h' g = flags_then h g.0 h' (flags_take h _ _ g.0 g.2) (flags_then g.0 g.1 h' (flags_change g.0 _ _ _ g.1 g.3) (flags_change g.1 _ _ _ h' g.4))
+
+flags_collapse : {C V : Type 0} (number : C → ℕ) (two : Two C) (top : Option (Parent C)) (h h' : ℕ → Node V) → Collapses number two top h h' → Flags h h'
+flags_collapse number two None h h' g = absurd g
+flags_collapse number two (Some top) h h' g = flags_change h _ _ _ h' g.2
+
+flags_lessen : {C V : Type 0} (number : C → ℕ) (two : Two C) (c : C) (top : Option (Parent C)) (h h' : ℕ → Node V) → Lessens number two c top h h' → Flags h h'
+flags_lessen number two c None h h' g = absurd g
+flags_lessen number two c (Some top) h h' g = flags_lesser h _ _ _ _ _ h' g
+
 flags_two : {C V : Type 0} (number : C → ℕ) (key : List ℕ) (new : Option V) (two : Two C) (change : Double C) (h h' : ℕ → Node V) → ChangedTwo number key new two change h h' → Flags h h'
 flags_two number key new two Unlink h h' g = flags_change h _ _ _ h' g
+flags_two number key new two (Shrink c) h h' g = flags_lesser h _ _ _ _ _ h' g
+flags_two number key new two Collapse h h' g = flags_collapse number two two.top h h' g
+flags_two number key new two (ShrinkAbove c) h h' g = flags_lessen number two c two.top h h' g
 flags_two number key new two (Grow c) h h' g = flags_then h g.0 h' (flags_take h _ _ g.0 g.2) (flags_then g.0 g.1 h' (flags_change g.0 _ _ _ g.1 g.3) (flags_change g.1 _ _ _ h' g.4))
 flags_two number key new two (GrowLink c leaf byte) h h' g =
     flags_then h g.0 h' (flags_change h _ _ _ g.0 g.3) (flags_then g.0 g.1 h' (flags_take g.0 _ _ g.1 g.4) (flags_then g.1 g.2 h' (flags_change g.1 _ _ _ g.2 g.5) (flags_change g.2 _ _ _ h' g.6)))
@@ -264,17 +279,22 @@ module _ {C V : Type 0} (number : C → ℕ) (i : ℕ) (a : ℕ → Note) (h : �
   all_leaf (Some leaf) s m g =
       let r : Returns h h' × IsBack (h (number leaf)) (h' (number leaf)) = back_node i a h key (number leaf) 7 0 h' m.1 g in (r.0, (λ n x. at_node n (number leaf) x r.1))
 
-  all_two : (change : Double C) (size q : ℕ) → MadeTwo number i a h key change size q → BackTwo number h change h' → AllBack (MadeForTwo number change)
-  all_two Unlink size q m g = (returns_none h h' g, (λ n x. absurd x))
-  all_two (Grow c) size q m g =
+  all_two : (p : Parent C) (change : Double C) (size q : ℕ) → MadeTwo number i a h key p change size q → BackTwo number h change h' → AllBack (MadeForTwo number change)
+  all_two p Unlink size q m g = (returns_none h h' g, (λ n x. absurd x))
+  all_two p Collapse size q m g = (returns_none h h' g, (λ n x. absurd x))
+  all_two p (Shrink c) size q m g =
       let r : Returns h h' × IsBack (h (number c)) (h' (number c)) = back_node i a h key (number c) size q h' m g in (r.0, (λ n x. at_node n (number c) x r.1))
-  all_two (GrowLink c leaf byte) size q m g =
+  all_two p (ShrinkAbove c) size q m g =
+      let r : Returns h h' × IsBack (h (number c)) (h' (number c)) = back_node i a h key (number c) p.depth q h' m.0 g in (r.0, (λ n x. at_node n (number c) x r.1))
+  all_two p (Grow c) size q m g =
+      let r : Returns h h' × IsBack (h (number c)) (h' (number c)) = back_node i a h key (number c) size q h' m g in (r.0, (λ n x. at_node n (number c) x r.1))
+  all_two p (GrowLink c leaf byte) size q m g =
       let r : Returns h h' × IsBack (h (number c)) (h' (number c)) × IsBack (h (number leaf)) (h' (number leaf)) = back_nodes i a h key (number c) size q (number leaf) g.0 h' m.0 m.1 m.2 g.1 g.2 in (r.0, two_of (number c) (number leaf) r.1 r.2)
     where
       two_of : (c d : ℕ) → IsBack (h c) (h' c) → IsBack (h d) (h' d) → (n : ℕ) → (n ≡ c) ⊎ (n ≡ d) → IsBack (h n) (h' n)
       two_of c d x y n (inl e) = at_node n c e x
       two_of c d x y n (inr e) = at_node n d e y
-  all_two (Split top leaf common byte) size q m g =
+  all_two p (Split top leaf common byte) size q m g =
       let r : Returns h h' × IsBack (h (number top)) (h' (number top)) × IsBack (h (number leaf)) (h' (number leaf)) = back_nodes i a h key (number top) common 1 (number leaf) g.0 h' m.0 m.1 m.2 g.1 g.2 in (r.0, two_of (number top) (number leaf) r.1 r.2)
     where
       two_of : (c d : ℕ) → IsBack (h c) (h' c) → IsBack (h d) (h' d) → (n : ℕ) → (n ≡ c) ⊎ (n ≡ d) → IsBack (h n) (h' n)
@@ -331,6 +351,10 @@ module _ {C V : Type 0} (number : C → ℕ) (same : V → V → Bool) (always :
     ];
   }
 
+  only_new : (m n : ℕ) → ⊥ ⊎ (n ≡ m) → n ≡ m
+  only_new m n (inl x) = absurd x
+  only_new m n (inr x) = x
+
   leaf_holds : (kind : Kind V) (s : Site C) (r : Result C Refusal) (turn : Turn C V) → Own (λ _. ⊥) → Mine (λ _. ⊥) → MadeLeaf number kind s h (key_bytes k) r h' turn → Now turn.phase
   leaf_holds kind s (Ok leaf) turn o m g = at_turn _ turn g.1 (new_made (number leaf) _ 7 g.0 o (λ _. ⊥) m _ (by_leaf leaf)) where
     by_leaf : (leaf : C) (n : ℕ) → ⊥ ⊎ (n ≡ number leaf) → MadeBy number (unless_full kind s s.full s.above (Some leaf) (Link leaf)).phase n
@@ -341,7 +365,7 @@ module _ {C V : Type 0} (number : C → ℕ) (same : V → V → Bool) (always :
   greater_holds : (kind : Kind V) (s : Site C) (p : Parent C) (leaf : Option C) (r : Result C Refusal) (turn : Turn C V) → Own (λ _. ⊥) → Mine (IsMade number leaf) → MadeLeafFor number i a h (key_bytes k) s leaf
       → MadeGreater number kind s p leaf h (key_bytes k) r h' turn → Now turn.phase
   greater_holds kind s p leaf (Ok c) turn o m l g = at_turn _ turn g.1
-      (new_made (number c) _ s.depth g.0 o (IsMade number leaf) m _ (λ n x. ready_made number kind (Above (record { above = p; at = s.at; change = greater s leaf c })) n (greater_for number s leaf c n x)))
+      (new_made (number c) _ s.depth g.0 o (IsMade number leaf) m _ (λ n x. ready_made number kind (Above (both p s (greater s leaf c))) n (greater_for number s leaf c n x)))
   greater_holds kind s p leaf (Err e) turn o m l g = at_turn _ turn g.1 (back_bare o (IsMade number leaf) m (all_leaf number i a h h' (key_bytes k) leaf s l g.0) Ended)
 
   top_holds : (p : Parent C) (at : Seat C) (common byte : ℕ) (r : Result C Refusal) (turn : Turn C V) → Own (λ _. ⊥) → Mine (λ _. ⊥) → MadeTop number p at common byte h (key_bytes k) r h' turn → Now turn.phase
@@ -354,10 +378,16 @@ module _ {C V : Type 0} (number : C → ℕ) (same : V → V → Bool) (always :
   beside_holds : (kind : Kind V) (p : Parent C) (at : Seat C) (common byte : ℕ) (top : C) (r : Result C Refusal) (turn : Turn C V) → Own (λ _. ⊥) → Mine (λ n. n ≡ number top) → Made i a h (key_bytes k) (number top) common 1
       → MadeBeside number kind p at common byte top h (key_bytes k) r h' turn → Now turn.phase
   beside_holds kind p at common byte top (Ok leaf) turn o m l g = at_turn _ turn g.1
-      (new_made (number leaf) _ 7 g.0 o (λ n. n ≡ number top) m _ (λ n x. ready_made number kind (Above (record { above = p; at = at; change = Split top leaf common byte })) n x))
+      (new_made (number leaf) _ 7 g.0 o (λ n. n ≡ number top) m _ (λ n x. ready_made number kind (Above (record { top = None; above = p; at = at; change = Split top leaf common byte })) n x))
   beside_holds kind p at common byte top (Err e) turn o m l g =
       let r : Returns h h' × IsBack (h (number top)) (h' (number top)) = back_node i a h (key_bytes k) (number top) common 1 h' l g.0 in
       at_turn _ turn g.1 (back_bare o (λ n. n ≡ number top) m (r.0, (λ n x. at_node number i a h h' (key_bytes k) n (number top) x r.1)) Ended)
+
+  lesser_holds : (s : Site C) (p : Parent C) (top : Option (Parent C)) (r : Reply V) (x : Result C Refusal) (turn : Turn C V) → Own (λ _. ⊥) → Mine (λ _. ⊥) → MadeLesser number s p top r h (key_bytes k) x h' turn → Now turn.phase
+  lesser_holds s p None r (Ok c) turn o m g = at_turn _ turn g.1 (new_made (number c) _ s.depth g.0 o (λ _. ⊥) m _ (only_new (number c)))
+  lesser_holds s p None r (Err e) turn o m g = at_turn _ turn g.1 (calm_bare g.0 o m _)
+  lesser_holds s p (Some top) r (Ok c) turn o m g = at_turn _ turn g.1 (new_made (number c) _ p.depth g.0 o (λ _. ⊥) m _ (only_new (number c)))
+  lesser_holds s p (Some top) r (Err e) turn o m g = at_turn _ turn g.1 (calm_bare g.0 o m _)
 
   -- a node is locked
   lock_holds : (L M : ℕ → Type 0) (m : ℕ) → SameBut h m (record (h m) { locked = true }) h' → Own L → Mine M → (s : Phase C V) → ((n : ℕ) → L n ⊎ (n ≡ m) → LockedBy number s n) → ((n : ℕ) → M n → MadeBy number s n) → Now s
@@ -378,23 +408,55 @@ module _ {C V : Type 0} (number : C → ℕ) (same : V → V → Bool) (always :
   one_upgraded root one r Failed turn o m l g = at_turn _ turn g.1 (back_bare o (MadeForOne number one.change) m (all_one number i a h h' (key_bytes k) one.change l g.0) _)
   one_upgraded root one r Exhausted turn o m l g = at_turn _ turn g.1 (back_bare o (MadeForOne number one.change) m (all_one number i a h h' (key_bytes k) one.change l g.0) _)
 
-  above_upgraded : (root : C) (two : Two C) (r : Reply V) (size q : ℕ) (u : Upgrade) (turn : Turn C V) → Own (λ _. ⊥) → Mine (MadeForTwo number two.change) → MadeTwo number i a h (key_bytes k) two.change size q → UpgradedAbove number root two r h u h' turn → Now turn.phase
-  above_upgraded root two r size q Locked turn o m l g = at_turn _ turn g.1 (lock_holds (λ _. ⊥) (MadeForTwo number two.change) (number two.above.seat.node) g.0 o m (UpgradeBelow two r) (only (number two.above.seat.node)) (λ n x. x))
-  above_upgraded root two r size q Failed turn o m l g = at_turn _ turn g.1 (back_bare o (MadeForTwo number two.change) m (all_two number i a h h' (key_bytes k) two.change size q l g.0) _)
-  above_upgraded root two r size q Exhausted turn o m l g = at_turn _ turn g.1 (back_bare o (MadeForTwo number two.change) m (all_two number i a h h' (key_bytes k) two.change size q l g.0) _)
+  top_upgraded : (root : C) (top : Parent C) (two : Two C) (r : Reply V) (size q : ℕ) (u : Upgrade) (turn : Turn C V) → Own (λ _. ⊥) → Mine (MadeForTwo number two.change) → MadeTwo number i a h (key_bytes k) two.above two.change size q
+      → UpgradedTop number root top two r h u h' turn → Now turn.phase
+  top_upgraded root top two r size q Locked turn o m l g = at_turn _ turn g.1 (lock_holds (λ _. ⊥) (MadeForTwo number two.change) (number top.seat.node) g.0 o m (UpgradeAbove (record two { top = Some top }) r) (only (number top.seat.node)) (λ n x. x))
+  top_upgraded root top two r size q Failed turn o m l g = at_turn _ turn g.1 (back_bare o (MadeForTwo number two.change) m (all_two number i a h h' (key_bytes k) two.above two.change size q l g.0) _)
+  top_upgraded root top two r size q Exhausted turn o m l g = at_turn _ turn g.1 (back_bare o (MadeForTwo number two.change) m (all_two number i a h h' (key_bytes k) two.above two.change size q l g.0) _)
 
-  -- the made nodes go back, and the lock of the node above stays
-  back_locked : (p : C) (refusal : Option Refusal) (M : ℕ → Type 0) → Own (λ n. n ≡ number p) → Mine M → AllBack number i a h h' (key_bytes k) M → Now (Unwind p refusal)
-  back_locked p refusal M o m g = record {
+  -- the made nodes go back, and the locks of the nodes above stay
+  back_locked : (p : C) (next : Option C) (refusal : Option Refusal) (M : ℕ → Type 0) → Own (λ n. (n ≡ number p) ⊎ IsMade number next n) → Mine M → AllBack number i a h h' (key_bytes k) M → Now (Unwind p next refusal)
+  back_locked p next refusal M o m g = record {
     own = λ n x. o n (own_back number same always i a h a' h' (key_bytes k) w w' t' f g.0 n x);
     mine = λ n x. absurd (bare_back M m g n x);
   }
 
-  both_upgraded : (two : Two C) (r : Reply V) (size q : ℕ) (u : Upgrade) (turn : Turn C V) → Own (λ n. n ≡ number two.above.seat.node) → Mine (MadeForTwo number two.change) → MadeTwo number i a h (key_bytes k) two.change size q → UpgradedBelow number two r h u h' turn
-      → Now turn.phase
-  both_upgraded two r size q Locked turn o m l g = at_turn _ turn g.1 (lock_holds (λ n. n ≡ number two.above.seat.node) (MadeForTwo number two.change) (number two.at.node) g.0 o m (ChangeTwo two r) (λ n x. x) (λ n x. x))
-  both_upgraded two r size q Failed turn o m l g = at_turn _ turn g.1 (back_locked two.above.seat.node None (MadeForTwo number two.change) o m (all_two number i a h h' (key_bytes k) two.change size q l g.0))
-  both_upgraded two r size q Exhausted turn o m l g = at_turn _ turn g.1 (back_locked two.above.seat.node _ (MadeForTwo number two.change) o m (all_two number i a h h' (key_bytes k) two.change size q l g.0))
+  gives_up : (root : C) (top : Option (Parent C)) (refusal : Option Refusal) (M : ℕ → Type 0) → Own (IsTop number top) → Mine M → AllBack number i a h h' (key_bytes k) M → Now (given_up {V = V} root top refusal).phase
+  gives_up root None None M o m g = back_bare o M m g _
+  gives_up root None (Some e) M o m g = back_bare o M m g _
+  gives_up root (Some top) refusal M o m g = back_locked top.seat.node None refusal M (λ n x. inl (o n x)) m g
+
+  swap : (L M : Type 0) → L ⊎ M → M ⊎ L
+  swap L M (inl x) = inr x
+  swap L M (inr x) = inl x
+
+  above_upgraded : (root : C) (two : Two C) (r : Reply V) (size q : ℕ) (u : Upgrade) (turn : Turn C V) → Own (IsTop number two.top) → Mine (MadeForTwo number two.change) → MadeTwo number i a h (key_bytes k) two.above two.change size q
+      → UpgradedAbove number root two r h u h' turn → Now turn.phase
+  above_upgraded root two r size q Locked turn o m l g = at_turn _ turn g.1 (lock_holds (IsTop number two.top) (MadeForTwo number two.change) (number two.above.seat.node) g.0 o m (UpgradeBelow two r) (λ n x. swap _ _ x) (λ n x. x))
+  above_upgraded root two r size q Failed turn o m l g = at_turn _ turn g.1 (gives_up root two.top None (MadeForTwo number two.change) o m (all_two number i a h h' (key_bytes k) two.above two.change size q l g.0))
+  above_upgraded root two r size q Exhausted turn o m l g = at_turn _ turn g.1 (gives_up root two.top _ (MadeForTwo number two.change) o m (all_two number i a h h' (key_bytes k) two.above two.change size q l g.0))
+
+  top_is : (top : Option (Parent C)) (n : ℕ) → IsTop number top n → IsMade number (node_of top) n
+  top_is None n x = x
+  top_is (Some top) n x = x
+
+  above_or_top : (two : Two C) (n : ℕ) → (n ≡ number two.above.seat.node) ⊎ IsTop number two.top n → (n ≡ number two.above.seat.node) ⊎ IsMade number (node_of two.top) n
+  above_or_top two n (inl x) = inl x
+  above_or_top two n (inr x) = inr (top_is two.top n x)
+
+  all_locked : (two : Two C) (n : ℕ) → ((n ≡ number two.above.seat.node) ⊎ IsTop number two.top n) ⊎ (n ≡ number two.at.node) → ((n ≡ number two.above.seat.node) ⊎ (n ≡ number two.at.node)) ⊎ IsTop number two.top n
+  all_locked two n (inl (inl x)) = inl (inl x)
+  all_locked two n (inl (inr x)) = inr x
+  all_locked two n (inr x) = inl (inr x)
+
+  both_upgraded : (two : Two C) (r : Reply V) (size q : ℕ) (u : Upgrade) (turn : Turn C V) → Own (λ n. (n ≡ number two.above.seat.node) ⊎ IsTop number two.top n) → Mine (MadeForTwo number two.change) → MadeTwo number i a h (key_bytes k) two.above two.change size q
+      → UpgradedBelow number two r h u h' turn → Now turn.phase
+  both_upgraded two r size q Locked turn o m l g = at_turn _ turn g.1
+      (lock_holds (λ n. (n ≡ number two.above.seat.node) ⊎ IsTop number two.top n) (MadeForTwo number two.change) (number two.at.node) g.0 o m (ChangeTwo two r) (all_locked two) (λ n x. x))
+  both_upgraded two r size q Failed turn o m l g = at_turn _ turn g.1
+      (back_locked two.above.seat.node (node_of two.top) None (MadeForTwo number two.change) (λ n x. above_or_top two n (o n x)) m (all_two number i a h h' (key_bytes k) two.above two.change size q l g.0))
+  both_upgraded two r size q Exhausted turn o m l g = at_turn _ turn g.1
+      (back_locked two.above.seat.node (node_of two.top) _ (MadeForTwo number two.change) (λ n x. above_or_top two n (o n x)) m (all_two number i a h h' (key_bytes k) two.above two.change size q l g.0))
 
   -- what hangs in the tree is held by no call
   hung_free : (n m b c : ℕ) → (a' m).status ≡ Linked → (h' m).children b ≡ Below c → n ≡ c → (a' n).status ≡ Held i → ⊥
@@ -407,9 +469,24 @@ module _ {C V : Type 0} (number : C → ℕ) (same : V → V → Bool) (always :
   one_changed given one Set l g n m x = m
   one_changed given one (Link leaf) l g n m x = hung_free n (number one.at.node) one.byte (number leaf) l g.2.child m x
 
-  two_changed : (given : Option V) (two : Two C) (change : Double C) (size q : ℕ) → (a (number two.above.seat.node)).status ≡ Linked → (a' (number two.above.seat.node)).status ≡ Linked → MadeTwo number i a h (key_bytes k) change size q
+  -- the changed node stays in the tree
+  abbrev StaysIn : Two C → Double C → Option (Parent C) → Type 0
+  StaysIn two Collapse (Some top) = (a' (number top.seat.node)).status ≡ Linked
+  StaysIn two (ShrinkAbove c) (Some top) = (a' (number top.seat.node)).status ≡ Linked
+  StaysIn two Collapse None = Unit {0}
+  StaysIn two (ShrinkAbove c) None = Unit {0}
+  StaysIn two _ top = (a' (number two.above.seat.node)).status ≡ Linked
+
+  lesser_hung : (two : Two C) (c : C) (top : Option (Parent C)) → StaysIn two (ShrinkAbove c) top → Lessens number two c top h h' → (n : ℕ) → n ≡ number c → (a' n).status ≡ Held i → ⊥
+  lesser_hung two c None l g n y x = g
+  lesser_hung two c (Some top) l g n y x = hung_free n (number top.seat.node) top.byte (number c) l g.4.child y x
+
+  two_changed : (given : Option V) (two : Two C) (change : Double C) (size q : ℕ) → (a (number two.above.seat.node)).status ≡ Linked → StaysIn two change two.top → MadeTwo number i a h (key_bytes k) two.above change size q
       → ChangedTwo number (key_bytes k) given two change h h' → (n : ℕ) → MadeForTwo number change n → (a' n).status ≡ Held i → ⊥
   two_changed given two Unlink size q l0 l m g n y x = y
+  two_changed given two Collapse size q l0 l m g n y x = y
+  two_changed given two (Shrink c) size q l0 l m g n y x = hung_free n (number two.above.seat.node) two.above.byte (number c) l g.4.child y x
+  two_changed given two (ShrinkAbove c) size q l0 l m g n y x = lesser_hung two c two.top l g n y x
   two_changed given two (Grow c) size q l0 l m g n y x = hung_free n (number two.above.seat.node) two.above.byte (number c) l g.4.child y x
   two_changed given two (GrowLink c leaf byte) size q l0 l m g n (inl y) x = hung_free n (number two.above.seat.node) two.above.byte (number c) l g.6.child y x
   two_changed given two (GrowLink c leaf byte) size q l0 l m g n (inr y) x =
@@ -422,23 +499,64 @@ module _ {C V : Type 0} (number : C → ℕ) (same : V → V → Bool) (always :
       let e : h' (number top) ≡ g.2 (number top) = g.6.others (number top) (made_apart i a h (key_bytes k) (number top) common 1 (number two.above.seat.node) m.0 (ap is_published l0)) in
       hung_free n (number top) (get_or (key_bytes k) common 0) (number leaf) cl (rw e g.5.child) y x
 
-  -- the locks that a change of two nodes leaves
-  abbrev Goes : Two C → Phase C V → Type 0
-  Goes two s = ((a' (number two.above.seat.node)).status ≡ Linked) × (((n : ℕ) → (n ≡ number two.above.seat.node) ⊎ (n ≡ number two.at.node) → LockedBy number s n))
+  -- the locks that a change of two nodes leaves, or of three
+  abbrev Locks : Two C → Option (Parent C) → ℕ → Type 0
+  Locks two top n = ((n ≡ number two.above.seat.node) ⊎ (n ≡ number two.at.node)) ⊎ IsTop number top n
 
-  marks : (two : Two C) (r : Reply V) (turn : Turn C V) (given' : Option V) (kind : Kind V) → turn ≡ decided (Obsolete two.at.node two.above.seat.node r) → Known number same always i a' h' k (key_bytes k) kind given' turn.phase → Goes two turn.phase
-  marks two r turn given' kind e =
-      let P : Turn C V → Type 0 = λ z. Known number same always i a' h' k (key_bytes k) kind given' z.phase → Goes two z.phase in subst P (sym e) (λ x. (x.above.linked, (λ n y. y)))
+  abbrev Goes : Two C → Double C → Option (Parent C) → Phase C V → Type 0
+  Goes two change top s = StaysIn two change top × ((n : ℕ) → Locks two top n → LockedBy number s n)
 
-  lets_go : (two : Two C) (r : Reply V) (turn : Turn C V) (given' : Option V) (kind : Kind V) → turn ≡ decided (UnlockBelow two.at.node two.above.seat.node r) → Known number same always i a' h' k (key_bytes k) kind given' turn.phase → Goes two turn.phase
-  lets_go two r turn given' kind e =
-      let P : Turn C V → Type 0 = λ z. Known number same always i a' h' k (key_bytes k) kind given' z.phase → Goes two z.phase in subst P (sym e) (λ x. (x.1.linked, (λ n y. y)))
+  no_top : (top : Option (Parent C)) (n : ℕ) → top ≡ None → IsTop number top n → ⊥
+  no_top None n e x = x
+  no_top (Some top) n e x = absurd cc
 
-  after_two : (two : Two C) (r : Reply V) (change : Double C) (turn : Turn C V) (given' : Option V) (kind : Kind V) → turn ≡ after_change two r change → Known number same always i a' h' k (key_bytes k) kind given' turn.phase → Goes two turn.phase
-  after_two two r Unlink turn given' kind e x = marks two r turn given' kind e x
-  after_two two r (Grow c) turn given' kind e x = marks two r turn given' kind e x
-  after_two two r (GrowLink c leaf byte) turn given' kind e x = marks two r turn given' kind e x
-  after_two two r (Split top leaf common byte) turn given' kind e x = lets_go two r turn given' kind e x
+  marks : (two : Two C) (r : Reply V) (turn : Turn C V) (given' : Option V) (kind : Kind V) (top : Option (Parent C)) → turn ≡ decided (Obsolete two.at.node None two.above.seat.node r) → top ≡ None → Known number same always i a' h' k (key_bytes k) kind given' turn.phase
+      → ((a' (number two.above.seat.node)).status ≡ Linked) × ((n : ℕ) → Locks two top n → LockedBy number turn.phase n)
+  marks two r turn given' kind top e z =
+      let P : Turn C V → Type 0 = λ y. Known number same always i a' h' k (key_bytes k) kind given' y.phase → ((a' (number two.above.seat.node)).status ≡ Linked) × ((n : ℕ) → Locks two top n → LockedBy number y.phase n) in
+      subst P (sym e) (λ x. (x.0.above.linked, by_lock))
+    where
+      by_lock : (n : ℕ) → Locks two top n → ((n ≡ number two.above.seat.node) ⊎ (n ≡ number two.at.node)) ⊎ ⊥
+      by_lock n (inl y) = inl y
+      by_lock n (inr y) = inr (no_top top n z y)
+
+  lets_go : (two : Two C) (r : Reply V) (turn : Turn C V) (given' : Option V) (kind : Kind V) (top : Option (Parent C)) → turn ≡ decided (UnlockBelow two.at.node two.above.seat.node r) → top ≡ None → Known number same always i a' h' k (key_bytes k) kind given' turn.phase
+      → ((a' (number two.above.seat.node)).status ≡ Linked) × ((n : ℕ) → Locks two top n → LockedBy number turn.phase n)
+  lets_go two r turn given' kind top e z =
+      let P : Turn C V → Type 0 = λ y. Known number same always i a' h' k (key_bytes k) kind given' y.phase → ((a' (number two.above.seat.node)).status ≡ Linked) × ((n : ℕ) → Locks two top n → LockedBy number y.phase n) in
+      subst P (sym e) (λ x. (x.1.linked, by_lock))
+    where
+      by_lock : (n : ℕ) → Locks two top n → (n ≡ number two.above.seat.node) ⊎ (n ≡ number two.at.node)
+      by_lock n (inl y) = y
+      by_lock n (inr y) = absurd (no_top top n z y)
+
+  tops : (two : Two C) (r : Reply V) (turn : Turn C V) (given' : Option V) (kind : Kind V) (top : Parent C) → turn ≡ after_top two r (Some top) → Known number same always i a' h' k (key_bytes k) kind given' turn.phase
+      → ((a' (number top.seat.node)).status ≡ Linked) × ((n : ℕ) → Locks two (Some top) n → LockedBy number turn.phase n)
+  tops two r turn given' kind top e =
+      let P : Turn C V → Type 0 = λ y. Known number same always i a' h' k (key_bytes k) kind given' y.phase → ((a' (number top.seat.node)).status ≡ Linked) × ((n : ℕ) → Locks two (Some top) n → LockedBy number y.phase n) in
+      subst P (sym e) (λ x. (x.0.above.linked, by_lock))
+    where
+      by_lock : (n : ℕ) → Locks two (Some top) n → ((n ≡ number top.seat.node) ⊎ (n ≡ number two.at.node)) ⊎ (n ≡ number two.above.seat.node)
+      by_lock n (inl (inl y)) = inr y
+      by_lock n (inl (inr y)) = inl (inr y)
+      by_lock n (inr y) = inl (inl y)
+
+  collapse_goes : (two : Two C) (r : Reply V) (turn : Turn C V) (given' : Option V) (kind : Kind V) (top : Option (Parent C)) → turn ≡ after_top two r top → HasTop {C = C} Collapse top → Known number same always i a' h' k (key_bytes k) kind given' turn.phase → Goes two Collapse top turn.phase
+  collapse_goes two r turn given' kind None e z x = absurd z
+  collapse_goes two r turn given' kind (Some top) e z x = tops two r turn given' kind top e x
+
+  lessen_goes : (two : Two C) (r : Reply V) (turn : Turn C V) (given' : Option V) (kind : Kind V) (c : C) (top : Option (Parent C)) → turn ≡ after_top two r top → HasTop (ShrinkAbove c) top → Known number same always i a' h' k (key_bytes k) kind given' turn.phase → Goes two (ShrinkAbove c) top turn.phase
+  lessen_goes two r turn given' kind c None e z x = absurd z
+  lessen_goes two r turn given' kind c (Some top) e z x = tops two r turn given' kind top e x
+
+  after_two : (two : Two C) (r : Reply V) (change : Double C) (turn : Turn C V) (given' : Option V) (kind : Kind V) → turn ≡ after_change two r change → HasTop change two.top → Known number same always i a' h' k (key_bytes k) kind given' turn.phase → Goes two change two.top turn.phase
+  after_two two r Unlink turn given' kind e z x = marks two r turn given' kind two.top e z x
+  after_two two r (Shrink c) turn given' kind e z x = marks two r turn given' kind two.top e z x
+  after_two two r Collapse turn given' kind e z x = collapse_goes two r turn given' kind two.top e z x
+  after_two two r (ShrinkAbove c) turn given' kind e z x = lessen_goes two r turn given' kind c two.top e z x
+  after_two two r (Grow c) turn given' kind e z x = marks two r turn given' kind two.top e z x
+  after_two two r (GrowLink c leaf byte) turn given' kind e z x = marks two r turn given' kind two.top e z x
+  after_two two r (Split top leaf common byte) turn given' kind e z x = lets_go two r turn given' kind two.top e z x
 
   -- a change of the nodes
   changes : (L M : ℕ → Type 0) → Own L → Mine M → Flags h h' → ((n : ℕ) → M n → (a' n).status ≡ Held i → ⊥) → (s : Phase C V) → ((n : ℕ) → (a' n).owner ≡ Some i → L n → LockedBy number s n) → Now s
@@ -490,6 +608,17 @@ module _ {C V : Type 0} (number : C → ℕ) (same : V → V → Bool) (always :
   unwound_holds root None turn x g = at_turn _ turn x (g _)
   unwound_holds root (Some r) turn x g = at_turn _ turn x (g _)
 
+  unwinds : (root : C) (n : C) (next : Option C) (e : Option Refusal) (turn : Turn C V) → turn ≡ after_unwind root next e → SameBut h (number n) (record (h (number n)) { version = (h (number n)).version + 1; locked = false }) h'
+      → Own (λ u. (u ≡ number n) ⊎ IsMade number next u) → Mine (λ _. ⊥) → Now turn.phase
+  unwinds root n None e turn x g o m = unwound_holds root e turn x (λ s. unlocks (number n) g (λ u. (u ≡ number n) ⊎ ⊥) o m s (λ u z. elim z [
+    | inl q ↦ inl q
+    | inr q ↦ absurd q
+  ]))
+  unwinds root n (Some c) e turn x g o m = at_turn _ turn x (unlocks (number n) g (λ u. (u ≡ number n) ⊎ (u ≡ number c)) o m (Unwind c None e) (λ u z. elim z [
+    | inl q ↦ inl q
+    | inr q ↦ inr (inl q)
+  ]))
+
   -- every step
   pub step_holds : (most : ℕ) (why : NodeType → Refusal → Type 0) (root : C) (kind : Kind V) (fail : Bool) (answer : Option (Option V)) (given : Option V) (s : Phase C V) (given' : Option V) (turn : Turn C V)
       → Own (LockedBy number s) → Mine (MadeBy number s) → Known number same always i a h k (key_bytes k) kind given s → Known number same always i a' h' k (key_bytes k) kind given' turn.phase
@@ -506,6 +635,7 @@ module _ {C V : Type 0} (number : C → ℕ) (same : V → V → Bool) (always :
   step_holds most why root kind fail answer given (MakeGreater s p leaf) given' turn o m x x' g = greater_holds kind s p leaf g.1.0 turn o m x.3 g.1.1
   step_holds most why root kind fail answer given (MakeTop p at common byte) given' turn o m x x' g = top_holds p at common byte g.1.0 turn o m g.1.1
   step_holds most why root kind fail answer given (MakeBeside p at common byte top) given' turn o m x x' g = beside_holds kind p at common byte top g.1.0 turn o m x.6 g.1.1
+  step_holds most why root kind fail answer given (MakeLesser s p top r) given' turn o m x x' g = lesser_holds s p top r g.1.0 turn o m g.1.1
   step_holds most why root kind fail answer given (AskOld s v) given' turn o m x x' g = calm_bare g.0 o m turn.phase
   step_holds most why root kind fail answer given (AskNew plan) given' turn o m x x' g = asked answer g.1 where
     stays : turn ≡ asking (AskNew plan) None → Now turn.phase
@@ -524,30 +654,38 @@ module _ {C V : Type 0} (number : C → ℕ) (same : V → V → Bool) (always :
       let P : Turn C V → Type 0 = λ z. Known number same always i a' h' k (key_bytes k) kind given' z.phase in
       let y : Holding i a' (number one.at.node) = subst P g.2 x' in
       at_turn _ turn g.2 (changes (λ n. n ≡ number one.at.node) (MadeForOne number one.change) o m (flags_one number (key_bytes k) given one one.change h h' g.1) (one_changed given one one.change y.linked g.1) (Unlock one.at.node r) (λ n e l. l))
+  step_holds most why root kind fail answer given (UpgradeTop top two r) given' turn o m x x' g = top_upgraded root top two r _ _ g.1.0 turn o m x.1.2.made g.1.2
   step_holds most why root kind fail answer given (UpgradeAbove two r) given' turn o m x x' g = above_upgraded root two r _ _ g.1.0 turn o m x.1.2.made g.1.2
   step_holds most why root kind fail answer given (UpgradeBelow two r) given' turn o m x x' g = both_upgraded two r _ _ g.1.0 turn o m x.1.2.made g.1.2
   step_holds most why root kind fail answer given (ChangeTwo two r) given' turn o m x x' g =
-      let y : ((a' (number two.above.seat.node)).status ≡ Linked) × (((n : ℕ) → (n ≡ number two.above.seat.node) ⊎ (n ≡ number two.at.node) → LockedBy number turn.phase n)) = after_two two r two.change turn given' kind g.2 x' in
-      changes (λ n. (n ≡ number two.above.seat.node) ⊎ (n ≡ number two.at.node)) (MadeForTwo number two.change) o m (flags_two number (key_bytes k) given two two.change h h' g.1)
+      let y : Goes two two.change two.top turn.phase = after_two two r two.change turn given' kind g.2 x.3 x' in
+      changes (Locks two two.top) (MadeForTwo number two.change) o m (flags_two number (key_bytes k) given two two.change h h' g.1)
       (two_changed given two two.change _ _ x.2.above.holding.linked y.0 x.2.made g.1) turn.phase (λ n e l. y.1 n l)
-  step_holds most why root kind fail answer given (Obsolete n p r) given' turn o m x x' g =
-      at_turn _ turn g.2 (changes (λ u. (u ≡ number p) ⊎ (u ≡ number n)) (λ _. ⊥) o m (marked_flags (number n) _ g.1 refl refl) (λ u y _. y) (Retire n p r) (λ u e l. l))
-  step_holds most why root kind fail answer given (Retire n p r) given' turn o m x x' g =
-      at_turn _ turn g.2 (changes (λ u. (u ≡ number p) ⊎ (u ≡ number n)) (λ _. ⊥) o m (marked_flags (number n) _ g.1 refl refl) (λ u y _. y) (Unlock p r) handed)
+  step_holds most why root kind fail answer given (Obsolete n next p r) given' turn o m x x' g =
+      at_turn _ turn g.2 (changes (λ u. ((u ≡ number p) ⊎ (u ≡ number n)) ⊎ IsMade number next u) (λ _. ⊥) o m (marked_flags (number n) _ g.1 refl refl) (λ u y _. y) (Retire n next p r) (λ u e l. l))
+  step_holds most why root kind fail answer given (Retire n next p r) given' turn o m x x' g =
+      at_turn _ turn g.2 (changes (λ u. ((u ≡ number p) ⊎ (u ≡ number n)) ⊎ IsMade number next u) (λ _. ⊥) o m (marked_flags (number n) _ g.1 refl refl) (λ u y _. y) (after_retire next p r).phase (λ u e l. handed u e next l))
     where
-      handed : (u : ℕ) → (a' u).owner ≡ Some i → (u ≡ number p) ⊎ (u ≡ number n) → u ≡ number p
-      handed u e (inl q) = q
-      handed u e (inr q) =
+      not_kept : (u : ℕ) → (a' u).owner ≡ Some i → u ≡ number n → ⊥
+      not_kept u e q =
           let y : (h' u).retired ≡ (h u).retired = (f u).handed i e in
           let z : (h' (number n)).retired ≡ (h (number n)).retired = (let P : ℕ → Type 0 = λ v. (h' v).retired ≡ (h v).retired in subst P q y) in
           let v : (h' (number n)).retired ≡ true = rw g.1.after refl in
-          absurd (let b : true ≡ false = sym v ∙ (z ∙ x.0.unretired) in cc)
+          let b : true ≡ false = sym v ∙ (z ∙ x.0.unretired) in cc
+
+      handed : (u : ℕ) → (a' u).owner ≡ Some i → (next : Option C) → ((u ≡ number p) ⊎ (u ≡ number n)) ⊎ IsMade number next u → LockedBy number (after_retire next p r).phase u
+      handed u e None (inl (inl q)) = q
+      handed u e None (inl (inr q)) = absurd (not_kept u e q)
+      handed u e None (inr q) = absurd q
+      handed u e (Some c) (inl (inl q)) = inl (inl q)
+      handed u e (Some c) (inl (inr q)) = absurd (not_kept u e q)
+      handed u e (Some c) (inr q) = inl (inr q)
   step_holds most why root kind fail answer given (UnlockBelow n p r) given' turn o m x x' g =
       at_turn _ turn g.2 (unlocks (number n) g.1 (λ u. (u ≡ number p) ⊎ (u ≡ number n)) o m (Unlock p r) (λ u y. elim y [
         | inl q ↦ inr q
         | inr q ↦ inl q
       ]))
   step_holds most why root kind fail answer given (Unlock n r) given' turn o m x x' g = at_turn _ turn g.2 (unlocks (number n) g.1 (λ u. u ≡ number n) o m Ended (λ u y. inl y))
-  step_holds most why root kind fail answer given (Unwind n e) given' turn o m x x' g = unwound_holds root e turn g.2 (λ s. unlocks (number n) g.1 (λ u. u ≡ number n) o m s (λ u z. inl z))
+  step_holds most why root kind fail answer given (Unwind n next e) given' turn o m x x' g = unwinds root n next e turn g.2 g.1 o m
   step_holds most why root kind fail answer given (Sweep s) given' turn o m x x' g = calm_bare g.0 o m turn.phase
   step_holds most why root kind fail answer given Ended given' turn o m x x' g = calm_bare g.0 o m turn.phase

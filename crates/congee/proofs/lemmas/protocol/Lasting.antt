@@ -15,14 +15,14 @@ use Rattle.congee.specs.declared.protocol.phase.Single.{Single}
 use Rattle.congee.specs.declared.protocol.phase.Single.TheVariants.{Set, Link}
 use Rattle.congee.specs.declared.protocol.phase.One.{One}
 use Rattle.congee.specs.declared.protocol.phase.Double.{Double}
-use Rattle.congee.specs.declared.protocol.phase.Double.TheVariants.{Unlink, Grow, GrowLink, Split}
+use Rattle.congee.specs.declared.protocol.phase.Double.TheVariants.{Unlink, Grow, GrowLink, Split, Shrink, Collapse, ShrinkAbove}
 use Rattle.congee.specs.declared.protocol.phase.Two.{Two}
 use Rattle.congee.specs.declared.protocol.phase.Phase.{Phase}
-use Rattle.congee.specs.declared.protocol.phase.Phase.TheVariants.{MakeLeaf, MakeGreater, MakeTop, MakeBeside, CheckAbove, UpgradeOne, ChangeOne, UpgradeAbove, UpgradeBelow, ChangeTwo, Obsolete, Retire, UnlockBelow, Unlock, Unwind}
+use Rattle.congee.specs.declared.protocol.phase.Phase.TheVariants.{MakeLeaf, MakeGreater, MakeTop, MakeBeside, MakeLesser, CheckAbove, UpgradeOne, ChangeOne, UpgradeTop, UpgradeAbove, UpgradeBelow, ChangeTwo, Obsolete, Retire, UnlockBelow, Unlock, Unwind}
 use Rattle.congee.specs.declared.protocol.turn.Turn.{Turn}
 use Rattle.congee.specs.Heap.{Node, Hung, Stands, is_taken}
 use Rattle.congee.specs.protocol.Events.{SameBut, ChangeGives, TakeOverGives, BackGives}
-use Rattle.congee.specs.protocol.Steps.{BackOne, BackTwo, BackLeaf, MadeLeaf, MadeGreater, MadeTop, MadeBeside, UpgradedOne, UpgradedAbove, UpgradedBelow, ChangedOne, ChangedTwo, PhaseStepped, MayStep, MayBackOne, MayBackTwo, MayBackLeaf, MayChangeOne, MayChangeTwo}
+use Rattle.congee.specs.protocol.Steps.{BackOne, BackTwo, BackLeaf, MadeLeaf, MadeGreater, MadeTop, MadeBeside, MadeLesser, UpgradedOne, UpgradedTop, UpgradedAbove, UpgradedBelow, PutsLesser, Collapses, Lessens, MayLessen, MayTop, ChangedOne, ChangedTwo, PhaseStepped, MayStep, MayBackOne, MayBackTwo, MayBackLeaf, MayChangeOne, MayChangeTwo}
 use Rattle.congee.proofs.lemmas.Graft.{on_test}
 
 pub record StillAt {V : Type 0} (p q : Node V) : Type 0 where
@@ -104,6 +104,9 @@ module _ {C V : Type 0} (number : C → ℕ) (h h' : ℕ → Node V) where
 
   two_back : (change : Double C) → MayBackTwo number h change → BackTwo number h change h' → Still h h'
   two_back Unlink may g = still_same h h' g
+  two_back Collapse may g = still_same h h' g
+  two_back (Shrink c) may g = still_back h h' (number c) may g
+  two_back (ShrinkAbove c) may g = still_back h h' (number c) may g
   two_back (Grow c) may g = still_back h h' (number c) may g
   two_back (GrowLink c leaf byte) may g =
       let s : Stands (g.0 (number c)) = subst Stands (sym (g.1.others (number c) may.2)) may.1 in
@@ -132,6 +135,12 @@ module _ {C V : Type 0} (number : C → ℕ) (h h' : ℕ → Node V) where
   beside_made kind p at common byte top key (Ok c) t s g = still_new h h' (number c) g.0.unmade g.0.others
   beside_made kind p at common byte top key (Err e) t s g = still_back h h' (number top) s g.0
 
+  lesser_made : (s : Site C) (p : Parent C) (top : Option (Parent C)) (r : Reply V) (key : List ℕ) (x : Result C Refusal) (t : Turn C V) → MadeLesser number s p top r h key x h' t → Still h h'
+  lesser_made s p None r key (Ok c) t g = still_new h h' (number c) g.0.unmade g.0.others
+  lesser_made s p None r key (Err e) t g = still_same h h' g.0
+  lesser_made s p (Some top) r key (Ok c) t g = still_new h h' (number c) g.0.unmade g.0.others
+  lesser_made s p (Some top) r key (Err e) t g = still_same h h' g.0
+
   locked : (n : ℕ) → Stands (h n) → SameBut h n (record (h n) { locked = true }) h' → Still h h'
   locked n s g = still_but h h' n _ s s.made g
 
@@ -139,6 +148,11 @@ module _ {C V : Type 0} (number : C → ℕ) (h h' : ℕ → Node V) where
   one_upgraded root one r Locked t s may g = locked (number one.at.node) s g.0
   one_upgraded root one r Failed t s may g = one_back one.change may g.0
   one_upgraded root one r Exhausted t s may g = one_back one.change may g.0
+
+  top_upgraded : (root : C) (top : Parent C) (two : Two C) (r : Reply V) (u : Upgrade) (t : Turn C V) → Stands (h (number top.seat.node)) → MayBackTwo number h two.change → UpgradedTop number root top two r h u h' t → Still h h'
+  top_upgraded root top two r Locked t s may g = locked (number top.seat.node) s g.0
+  top_upgraded root top two r Failed t s may g = two_back two.change may g.0
+  top_upgraded root top two r Exhausted t s may g = two_back two.change may g.0
 
   above_upgraded : (root : C) (two : Two C) (r : Reply V) (u : Upgrade) (t : Turn C V) → Stands (h (number two.above.seat.node)) → MayBackTwo number h two.change → UpgradedAbove number root two r h u h' t → Still h h'
   above_upgraded root two r Locked t s may g = locked (number two.above.seat.node) s g.0
@@ -157,8 +171,26 @@ module _ {C V : Type 0} (number : C → ℕ) (h h' : ℕ → Node V) where
       still_then h g.0 h' (still_change h g.0 (number leaf) _ _ may.1.stands g.1)
       (still_change g.0 h' (number one.at.node) _ _ (stands_changed h g.0 (number leaf) _ (number one.at.node) _ g.1 may.0.stands) g.2)
 
+  lessened : (m c b p up : ℕ) → MayLessen h m c b p up → PutsLesser h m c b p up h' → Still h h'
+  lessened m c b p up may g =
+      let up1 : Stands (g.0 p) = stands_over h g.0 m c p g.2 may.above.stands in
+      let c1 : Stands (g.0 c) = stands_over h g.0 m c c g.2 may.blank.stands in
+      still_then h g.0 h' (still_over h g.0 m c may.stands may.blank.stands g.2)
+      (still_then g.0 g.1 h' (still_change g.0 g.1 c _ _ c1 g.3) (still_change g.1 h' p _ _ (stands_changed g.0 g.1 c _ p _ g.3 up1) g.4))
+
+  top_changed : (two : Two C) (top : Option (Parent C)) → MayTop number two Collapse top h → Collapses number two top h h' → Still h h'
+  top_changed two None may g = absurd may
+  top_changed two (Some top) may g = still_change h h' (number top.seat.node) _ _ may.stands_top g.2
+
+  top_lessened : (two : Two C) (c : C) (top : Option (Parent C)) → MayTop number two (ShrinkAbove c) top h → Lessens number two c top h h' → Still h h'
+  top_lessened two c None may g = absurd may
+  top_lessened two c (Some top) may g = lessened _ _ _ _ _ may g
+
   two_changed : (key : List ℕ) (new : Option V) (two : Two C) (change : Double C) → MayChangeTwo number key new two change h → ChangedTwo number key new two change h h' → Still h h'
   two_changed key new two Unlink may g = still_change h h' (number two.above.seat.node) _ _ may.stands g
+  two_changed key new two (Shrink c) may g = lessened _ _ _ _ _ may g
+  two_changed key new two Collapse may g = top_changed two two.top may g
+  two_changed key new two (ShrinkAbove c) may g = top_lessened two c two.top may g
   two_changed key None two (Grow c) may g = absurd may
   two_changed key None two (GrowLink c leaf byte) may g = absurd may
   two_changed key None two (Split top leaf common byte) may g = absurd may
@@ -198,16 +230,18 @@ module _ {C V : Type 0} (number : C → ℕ) (h h' : ℕ → Node V) where
   step_still same always most why root key kind fail answer new (MakeGreater s p leaf) new' t may g = greater_made kind s p leaf key g.1.0 t may.1 g.1.1
   step_still same always most why root key kind fail answer new (MakeTop p at common byte) new' t may g = top_made p at common byte key g.1.0 t g.1.1
   step_still same always most why root key kind fail answer new (MakeBeside p at common byte top) new' t may g = beside_made kind p at common byte top key g.1.0 t may g.1.1
+  step_still same always most why root key kind fail answer new (MakeLesser s p top r) new' t may g = lesser_made s p top r key g.1.0 t g.1.1
   step_still same always most why root key kind fail answer new (CheckAbove p one r) new' t may g =
       on_test (is_taken (h (number p.node)) p.version) (λ e. still_same h h' (g.1.goes_on e).0) (λ e. one_back one.change may.1 (g.1.goes_back e).0)
   step_still same always most why root key kind fail answer new (UpgradeOne one r) new' t may g = one_upgraded root one r g.1.0 t may.0 may.1 g.1.2
   step_still same always most why root key kind fail answer new (ChangeOne one r) new' t may g = one_changed key new one one.change may g.1
+  step_still same always most why root key kind fail answer new (UpgradeTop top two r) new' t may g = top_upgraded root top two r g.1.0 t may.0 may.1 g.1.2
   step_still same always most why root key kind fail answer new (UpgradeAbove two r) new' t may g = above_upgraded root two r g.1.0 t may.0 may.1 g.1.2
   step_still same always most why root key kind fail answer new (UpgradeBelow two r) new' t may g = both_upgraded two r g.1.0 t may.0 may.1 g.1.2
   step_still same always most why root key kind fail answer new (ChangeTwo two r) new' t may g = two_changed key new two two.change may g.1
-  step_still same always most why root key kind fail answer new (Obsolete n p r) new' t may g = still_but h h' (number n) _ may.0 may.0.made g.1
-  step_still same always most why root key kind fail answer new (Retire n p r) new' t may g = still_but h h' (number n) _ may.0 may.0.made g.1
+  step_still same always most why root key kind fail answer new (Obsolete n next p r) new' t may g = still_but h h' (number n) _ may.0 may.0.made g.1
+  step_still same always most why root key kind fail answer new (Retire n next p r) new' t may g = still_but h h' (number n) _ may.0 may.0.made g.1
   step_still same always most why root key kind fail answer new (UnlockBelow n p r) new' t may g = still_but h h' (number n) _ may.0 may.0.made g.1
   step_still same always most why root key kind fail answer new (Unlock n r) new' t may g = still_but h h' (number n) _ may.0 may.0.made g.1
-  step_still same always most why root key kind fail answer new (Unwind n e) new' t may g = still_but h h' (number n) _ may.0 may.0.made g.1
+  step_still same always most why root key kind fail answer new (Unwind n next e) new' t may g = still_but h h' (number n) _ may.0 may.0.made g.1
   step_still same always most why root key kind fail answer new _ new' t may g = still_same h h' g.0

@@ -1,27 +1,28 @@
 -- The steps of a call that lock, mark, hand over and unlock.
-use Rattle.std.proofs.Common.{◌≡◌, ◌≢◌, ℕ, suc, ◌==◌, ◌&&◌, not, Bool, true, false, cond, List, length, get_or, refl, sym, ap, subst, arith}
+use Rattle.std.proofs.Common.{◌≡◌, ◌≢◌, ℕ, suc, ◌==◌, ◌&&◌, ◌<◌, not, Bool, true, false, cond, List, length, get_or, refl, sym, ap, subst, arith}
 use Rattle.std.specs.Prelude.{Option, None, Some}
 use Rattle.judge.specs.declared.journal.Reply.{Reply}
 use Rattle.congee.specs.declared.protocol.store.Refusal.{Refusal}
 use Rattle.congee.specs.declared.protocol.store.Upgrade.TheVariants.{Locked, Failed, Exhausted}
 use Rattle.congee.specs.declared.protocol.phase.Kind.{Kind}
+use Rattle.congee.specs.declared.protocol.phase.Parent.{Parent}
 use Rattle.congee.specs.declared.protocol.phase.Single.{Single}
 use Rattle.congee.specs.declared.protocol.phase.Single.TheVariants.{Set, Link}
 use Rattle.congee.specs.declared.protocol.phase.One.{One}
 use Rattle.congee.specs.declared.protocol.phase.Double.{Double}
-use Rattle.congee.specs.declared.protocol.phase.Double.TheVariants.{Unlink, Grow, GrowLink, Split}
+use Rattle.congee.specs.declared.protocol.phase.Double.TheVariants.{Unlink, Grow, GrowLink, Split, Shrink, Collapse, ShrinkAbove}
 use Rattle.congee.specs.declared.protocol.phase.Two.{Two}
 use Rattle.congee.specs.declared.protocol.phase.Phase.{Phase}
-use Rattle.congee.specs.declared.protocol.phase.Phase.TheVariants.{UpgradeOne, ChangeOne, UpgradeAbove, UpgradeBelow, ChangeTwo, Obsolete, Retire, UnlockBelow, Unlock, Unwind}
+use Rattle.congee.specs.declared.protocol.phase.Phase.TheVariants.{UpgradeOne, ChangeOne, UpgradeTop, UpgradeAbove, UpgradeBelow, ChangeTwo, Obsolete, Retire, UnlockBelow, Unlock, Unwind}
 use Rattle.congee.specs.declared.protocol.turn.Turn.{Turn}
 use Rattle.congee.specs.Heap.{Node, Below, child_for, is_taken}
-use Rattle.congee.specs.protocol.Events.{SameBut, upgrade_gives, ObsoleteGives, RetireGives, UnlockGives}
-use Rattle.congee.specs.protocol.Steps.{quiet, finished, unwound}
+use Rattle.congee.specs.protocol.Events.{places, SameBut, upgrade_gives, ObsoleteGives, RetireGives, UnlockGives}
+use Rattle.congee.specs.protocol.Steps.{quiet, finished, after_retire, after_unwind}
 use Rattle.congee.specs.Keys.{key_bytes}
 use Rattle.congee.specs.Ledger.{Note, Linked, Gone, is_published, IsChild, Tree, LockWords}
-use Rattle.congee.specs.protocol.Protocol.{Rely, Fresh, ChildOf, Made, PlacedOne, WantedOne, MadeOne, PlacedTwo, WantedTwo, MadeTwo, TwoKnown, HalfLocked, Known, Effect}
+use Rattle.congee.specs.protocol.Protocol.{Rely, Holding, Fresh, ChildOf, Made, PlacedOne, WantedOne, MadeOne, PlacedTwo, WantedTwo, MadeTwo, TwoKnown, AboveLocked, TopLocked, AlsoOut, HalfLocked, Known, Effect}
 use Rattle.congee.proofs.lemmas.Fits.{both_true}
-use Rattle.congee.proofs.lemmas.protocol.Rely.{fresh_kept}
+use Rattle.congee.proofs.lemmas.protocol.Rely.{fresh_kept, child_kept}
 use Rattle.congee.proofs.lemmas.protocol.Touch.{noted_same, noted_other, own, owned, taken_linked}
 use Rattle.congee.proofs.lemmas.protocol.Words.{KeepsMap, lock_still, unlock_still, obsolete_still, retire_still}
 use Rattle.congee.proofs.lemmas.protocol.Change.{made_apart}
@@ -76,15 +77,37 @@ module _ {C V : Type 0} (number : C → ℕ) (i : ℕ) (a : ℕ → Note) (h : �
   made_one_on Set m = tt
   made_one_on (Link leaf) m = made_on (number leaf) 7 0 m
 
-  pub made_two_on : (change : Double C) (size size' q : ℕ) → size' ≡ size → MadeTwo number i a h key change size q → MadeTwo number i a' h' key change size' q
-  made_two_on Unlink size size' q e m = tt
-  made_two_on (Grow c) size size' q e m = let P : ℕ → Type 0 = λ x. Made i a' h' key (number c) x q in subst P (sym e) (made_on (number c) size q m)
-  made_two_on (GrowLink c leaf byte) size size' q e m = (
+  pub made_two_on : (p : Parent C) (change : Double C) (size size' q : ℕ) → size' ≡ size → MadeTwo number i a h key p change size q → MadeTwo number i a' h' key p change size' q
+  made_two_on p Unlink size size' q e m = tt
+  made_two_on p Collapse size size' q e m = m
+  made_two_on p (Shrink c) size size' q e m = let P : ℕ → Type 0 = λ x. Made i a' h' key (number c) x q in subst P (sym e) (made_on (number c) size q m)
+  made_two_on p (ShrinkAbove c) size size' q e m = (made_on (number c) p.depth q m.0, m.1)
+  made_two_on p (Grow c) size size' q e m = let P : ℕ → Type 0 = λ x. Made i a' h' key (number c) x q in subst P (sym e) (made_on (number c) size q m)
+  made_two_on p (GrowLink c leaf byte) size size' q e m = (
     (let P : ℕ → Type 0 = λ x. Made i a' h' key (number c) x q in subst P (sym e) (made_on (number c) size q m.0)),
     made_on (number leaf) 7 0 m.1,
     m.2,
   )
-  made_two_on (Split top leaf common byte) size size' q e m = (made_on (number top) common 1 m.0, made_on (number leaf) 7 0 m.1, m.2)
+  made_two_on p (Split top leaf common byte) size size' q e m = (made_on (number top) common 1 m.0, made_on (number leaf) 7 0 m.1, m.2)
+
+  -- a locked node, but for this one, and what it holds
+  pub above_on : (p : Parent C) (m : ℕ) → number p.seat.node ≢ n → AboveLocked number i a h key p m → AboveLocked number i a' h' key p m
+  above_on p m ne x =
+      let e : h' (number p.seat.node) ≡ h (number p.seat.node) = o.nodes (number p.seat.node) ne in
+      let f : a' (number p.seat.node) ≡ a (number p.seat.node) = o.notes (number p.seat.node) ne in
+      record {
+        holding = record { owner = rw f x.holding.owner; linked = rw f x.holding.linked };
+        fitted = rw e x.fitted;
+        byte = rw e x.byte;
+        child = rw e x.child;
+        depth = rw e x.depth;
+        count = rw e x.count;
+        form = rw e x.form;
+      }
+
+  pub top_on : (top : Option (Parent C)) (m : ℕ) → ((p : Parent C) → AboveLocked number i a h key p m → number p.seat.node ≢ n) → TopLocked number i a h key top m → TopLocked number i a' h' key top m
+  top_on None m ne x = tt
+  top_on (Some p) m ne x = above_on p m (ne p x) x
 
 -- an upgrade that locked found the word that was taken
 pub locked_taken : {V : Type 0} (most : ℕ) (n : Node V) (v : ℕ) (fail : Bool) → Locked ≡ upgrade_gives most n v fail → is_taken n v ≡ true
@@ -127,6 +150,50 @@ module _ {C V : Type 0} (number : C → ℕ) (same : V → V → Bool) (always :
         m.1.3,
       )
 
+  -- a locked node is another one than what it holds, and than what that holds
+  pub above_longer : (p : Parent C) (m : ℕ) → AboveLocked number i a h (key_bytes k) p m → length (h (number p.seat.node)).prefix < length (h m).prefix
+  above_longer p m x = (t.down (number p.seat.node) _ m x.holding.linked x.child).longer
+
+  pub by_prefix : (x y : ℕ) → length (h x).prefix < length (h y).prefix → x ≢ y
+  by_prefix x y l e = let z : length (h x).prefix ≡ length (h y).prefix = ap (λ b. length (h b).prefix) e in absurd (omega (arith, l))
+
+  pub lock_top : (top : Parent C) (two : Two C) (r : Reply V) (h' : ℕ → Node V) → Known number same always i a h k (key_bytes k) kind given (UpgradeTop top two r) → is_taken (h (number top.seat.node)) top.seat.version ≡ true
+      → SameBut h (number top.seat.node) (record (h (number top.seat.node)) { locked = true }) h' → Kept number same always i a h k kind given given (quiet (UpgradeAbove (record two { top = Some top }) r)) h'
+  lock_top top two r h' m q g =
+      let x : TwoKnown number i a h (key_bytes k) two m.1.0 m.1.1 = m.1.2 in
+      let c : ChildOf number a h (key_bytes k) top (number two.above.seat.node) = m.2 in
+      let same_note : own a (number top.seat.node) (Some i) (number top.seat.node) ≡ owned (a (number top.seat.node)) (Some i) = noted_same a (number top.seat.node) _ in
+      let l : (a (number top.seat.node)).status ≡ Linked = taken_linked a h w (number top.seat.node) top.seat.version c.fresh.seated.published q in
+      let e : KeepsMap i a h (own a (number top.seat.node) (Some i)) h' = lock_still i a h (number top.seat.node) top.seat.version h' t w c.fresh.seated q g in
+      let on : OnOne a h (own a (number top.seat.node) (Some i)) h' (number top.seat.node) = record { published = c.fresh.seated.published; nodes = g.others; notes = noted_other a (number top.seat.node) _ } in
+      let pre : (h' (number two.at.node)).prefix ≡ (h (number two.at.node)).prefix = own_prefix i a h _ h' e.effect (number two.at.node) x.fresh.seated.published in
+      let hung : (child_for (h (number top.seat.node)) (key_bytes k) ≡ Below (number two.above.seat.node)) × ((h (number top.seat.node)).count ≡ top.count) × ((h (number top.seat.node)).capacity ≡ places top.form) = c.fresh.holds q in
+      still_kept (own a (number top.seat.node) (Some i)) h' (UpgradeAbove (record two { top = Some top }) r) e (
+        m.0,
+        (
+          m.1.0,
+          m.1.1,
+          record {
+            top = record {
+              holding = record { owner = rw same_note refl; linked = rw same_note l };
+              fitted = rw g.after c.fitted;
+              byte = rw g.after c.byte;
+              child = rw g.after hung.0;
+              depth = rw g.after c.depth;
+              count = rw g.after hung.1;
+              form = rw g.after hung.2;
+            };
+            above = child_kept number (key_bytes k) (λ _. Unit {0}) (suc i) a h _ h' (own_rely i a h _ h' e.effect) two.above (number two.at.node) tt x.above;
+            placed = (let P : List ℕ → Type 0 = λ y. PlacedTwo (key_bytes k) two.change y in subst P (sym pre) x.placed);
+            fresh = own_fresh i a h _ h' e.effect (number two.at.node) two.at.version _ x.fresh;
+            made = made_two_on number i a h (own a (number top.seat.node) (Some i)) h' (key_bytes k) (number top.seat.node) on two.above two.change _ _ m.1.1 (ap length pre) x.made;
+          },
+          m.3,
+          m.1.3,
+          m.1.4,
+        ),
+      )
+
   pub lock_above : (two : Two C) (r : Reply V) (h' : ℕ → Node V) → Known number same always i a h k (key_bytes k) kind given (UpgradeAbove two r) → is_taken (h (number two.above.seat.node)) two.above.seat.version ≡ true
       → SameBut h (number two.above.seat.node) (record (h (number two.above.seat.node)) { locked = true }) h' → Kept number same always i a h k kind given given (quiet (UpgradeBelow two r)) h'
   lock_above two r h' m q g =
@@ -137,25 +204,30 @@ module _ {C V : Type 0} (number : C → ℕ) (same : V → V → Bool) (always :
       let e : KeepsMap i a h (own a (number two.above.seat.node) (Some i)) h' = lock_still i a h (number two.above.seat.node) two.above.seat.version h' t w c.fresh.seated q g in
       let on : OnOne a h (own a (number two.above.seat.node) (Some i)) h' (number two.above.seat.node) = record { published = c.fresh.seated.published; nodes = g.others; notes = noted_other a (number two.above.seat.node) _ } in
       let pre : (h' (number two.at.node)).prefix ≡ (h (number two.at.node)).prefix = own_prefix i a h _ h' e.effect (number two.at.node) x.fresh.seated.published in
-      let hung : child_for (h (number two.above.seat.node)) (key_bytes k) ≡ Below (number two.at.node) = c.fresh.holds q in
+      let hung : (child_for (h (number two.above.seat.node)) (key_bytes k) ≡ Below (number two.at.node)) × ((h (number two.above.seat.node)).count ≡ two.above.count) × ((h (number two.above.seat.node)).capacity ≡ places two.above.form) = c.fresh.holds q in
       still_kept (own a (number two.above.seat.node) (Some i)) h' (UpgradeBelow two r) e (
         m.0,
         (
           m.1.0,
           m.1.1,
           record {
+            top = top_on number i a h _ h' (key_bytes k) (number two.above.seat.node) on two.top (number two.above.seat.node) (λ p y. by_prefix _ _ (above_longer p (number two.above.seat.node) y)) x.top;
             above = record {
               holding = record { owner = rw same_note refl; linked = rw same_note l };
               fitted = rw g.after c.fitted;
               byte = rw g.after c.byte;
-              child = rw g.after hung;
+              child = rw g.after hung.0;
+              depth = rw g.after c.depth;
+              count = rw g.after hung.1;
+              form = rw g.after hung.2;
             };
             placed = (let P : List ℕ → Type 0 = λ y. PlacedTwo (key_bytes k) two.change y in subst P (sym pre) x.placed);
             fresh = own_fresh i a h _ h' e.effect (number two.at.node) two.at.version _ x.fresh;
-            made = made_two_on number i a h (own a (number two.above.seat.node) (Some i)) h' (key_bytes k) (number two.above.seat.node) on two.change _ _ m.1.1 (ap length pre) x.made;
+            made = made_two_on number i a h (own a (number two.above.seat.node) (Some i)) h' (key_bytes k) (number two.above.seat.node) on two.above two.change _ _ m.1.1 (ap length pre) x.made;
           },
           m.1.3,
           m.1.4,
+          m.1.5,
         ),
       )
 
@@ -173,45 +245,64 @@ module _ {C V : Type 0} (number : C → ℕ) (same : V → V → Bool) (always :
       let e : KeepsMap i a h (own a (number two.at.node) (Some i)) h' = lock_still i a h (number two.at.node) two.at.version h' t w x.fresh.seated q g in
       let on : OnOne a h (own a (number two.at.node) (Some i)) h' (number two.at.node) = record { published = x.fresh.seated.published; nodes = g.others; notes = noted_other a (number two.at.node) _ } in
       let pn : number two.above.seat.node ≢ number two.at.node = above_apart (number two.above.seat.node) (number two.at.node) x.above.holding.linked x.above.child in
-      let ep : h' (number two.above.seat.node) ≡ h (number two.above.seat.node) = g.others (number two.above.seat.node) pn in
-      let np : own a (number two.at.node) (Some i) (number two.above.seat.node) ≡ a (number two.above.seat.node) = noted_other a (number two.at.node) _ (number two.above.seat.node) pn in
       let pre : (h' (number two.at.node)).prefix ≡ (h (number two.at.node)).prefix = rw g.after refl in
       let wanted : WantedTwo (key_bytes k) two.change m.1.0 m.1.1 (h (number two.at.node)) = x.fresh.holds q in
       still_kept (own a (number two.at.node) (Some i)) h' (ChangeTwo two r) e (
         m.1.0,
         m.1.1,
         record {
-          above = record {
-            holding = record { owner = rw np x.above.holding.owner; linked = rw np x.above.holding.linked };
-            fitted = rw ep x.above.fitted;
-            byte = rw ep x.above.byte;
-            child = rw ep x.above.child;
-          };
+          top = top_on number i a h _ h' (key_bytes k) (number two.at.node) on two.top (number two.above.seat.node)
+              (λ p y. by_prefix _ _ (further _ _ _ (above_longer p (number two.above.seat.node) y) (above_longer two.above (number two.at.node) x.above))) x.top;
+          above = above_on number i a h _ h' (key_bytes k) (number two.at.node) on two.above (number two.at.node) pn x.above;
           owner = rw same_note refl;
           placed = (let P : List ℕ → Type 0 = λ y. PlacedTwo (key_bytes k) two.change y in subst P (sym pre) x.placed);
           wanted = wanted_locked two.change m.1.0 m.1.1 wanted;
-          made = made_two_on number i a h (own a (number two.at.node) (Some i)) h' (key_bytes k) (number two.at.node) on two.change _ _ m.1.1 (ap length pre) x.made;
+          made = made_two_on number i a h (own a (number two.at.node) (Some i)) h' (key_bytes k) (number two.at.node) on two.above two.change _ _ m.1.1 (ap length pre) x.made;
         },
         m.1.3,
         m.1.4,
+        m.1.5,
       )
     where
+      further : (x y z : ℕ) → x < y → y < z → x < z
+      further x y z l m = omega (arith, l, m)
+
       wanted_locked : (change : Double C) (found : Option V) (q : ℕ) → WantedTwo (key_bytes k) change found q (h (number two.at.node)) → WantedTwo (key_bytes k) change found q (h' (number two.at.node))
       wanted_locked Unlink None q z = absurd z
       wanted_locked Unlink (Some v) q z = rw g.after z
+      wanted_locked Collapse None q z = absurd z
+      wanted_locked Collapse (Some v) q z = rw g.after z
+      wanted_locked (Shrink c) None q z = absurd z
+      wanted_locked (Shrink c) (Some v) q z = rw g.after z
+      wanted_locked (ShrinkAbove c) None q z = absurd z
+      wanted_locked (ShrinkAbove c) (Some v) q z = rw g.after z
       wanted_locked (Grow c) found q z = rw g.after z
       wanted_locked (GrowLink c leaf byte) found q z = rw g.after z
       wanted_locked (Split top leaf common byte) found q z = tt
 
-  pub marked : (n p : C) (r : Reply V) (h' : ℕ → Node V) → Known number same always i a h k (key_bytes k) kind given (Obsolete n p r) → ObsoleteGives h (number n) h' → Kept number same always i a h k kind given given (quiet (Retire n p r)) h'
-  marked n p r h' m g = still_kept a h' (Retire n p r) (obsolete_still i a h (number p) (number n) h' t w m g)
-      (record { above = m.above; owner = m.owner; gone = m.gone; unretired = rw g.after m.unretired }, rw g.after refl)
+  -- another node that was taken out, over a step on one
+  out_on : (a' : ℕ → Note) (h' : ℕ → Node V) (n : ℕ) (next : Option C) → ((m : ℕ) → m ≢ n → h' m ≡ h m) → ((m : ℕ) → m ≢ n → a' m ≡ a m) → AlsoOut number i a h n next → AlsoOut number i a' h' n next
+  out_on a' h' n None nodes notes x = tt
+  out_on a' h' n (Some c) nodes notes x = (rw (notes (number c) x.3) x.0, rw (notes (number c) x.3) x.1, rw (nodes (number c) x.3) x.2, x.3)
 
-  pub handed_over : (n p : C) (r : Reply V) (h' : ℕ → Node V) → Known number same always i a h k (key_bytes k) kind given (Retire n p r) → RetireGives h (number n) h' → Kept number same always i a h k kind given given (quiet (Unlock p r)) h'
-  handed_over n p r h' m g =
+  pub marked : (n : C) (next : Option C) (p : C) (r : Reply V) (h' : ℕ → Node V) → Known number same always i a h k (key_bytes k) kind given (Obsolete n next p r) → ObsoleteGives h (number n) h'
+      → Kept number same always i a h k kind given given (quiet (Retire n next p r)) h'
+  marked n next p r h' m g = still_kept a h' (Retire n next p r) (obsolete_still i a h (number p) (number n) h' t w m.0 g)
+      (record { above = m.0.above; owner = m.0.owner; gone = m.0.gone; unretired = rw g.after m.0.unretired }, out_on a h' (number n) next g.others (λ x _. refl) m.1, rw g.after refl)
+
+  pub handed_over : (n : C) (next : Option C) (p : C) (r : Reply V) (h' : ℕ → Node V) → Known number same always i a h k (key_bytes k) kind given (Retire n next p r) → RetireGives h (number n) h'
+      → Kept number same always i a h k kind given given (after_retire next p r) h'
+  handed_over n next p r h' m g =
       let ne : number p ≢ number n = (λ e. let z : (a (number n)).status ≡ Linked = (let P : ℕ → Type 0 = λ y. (a y).status ≡ Linked in subst P e m.0.above.linked) in let y : (a (number n)).status ≡ Gone = m.0.gone in cc) in
       let np : own a (number n) None (number p) ≡ a (number p) = noted_other a (number n) _ (number p) ne in
-      still_kept (own a (number n) None) h' (Unlock p r) (retire_still i a h (number p) (number n) h' t w m.0 g) (record { owner = rw np m.0.above.owner; linked = rw np m.0.above.linked })
+      let e : KeepsMap i a h (own a (number n) None) h' = retire_still i a h (number p) (number n) h' t w m.0 g in
+      let held : Holding i (own a (number n) None) (number p) = record { owner = rw np m.0.above.owner; linked = rw np m.0.above.linked } in
+      by_next next e held (out_on _ h' (number n) next g.others (noted_other a (number n) _) m.1)
+    where
+      by_next : (next : Option C) → KeepsMap i a h (own a (number n) None) h' → Holding i (own a (number n) None) (number p) → AlsoOut number i (own a (number n) None) h' (number n) next
+          → Kept number same always i a h k kind given given (after_retire next p r) h'
+      by_next None e held o = still_kept (own a (number n) None) h' (Unlock p r) e held
+      by_next (Some c) e held o = still_kept (own a (number n) None) h' (Obsolete c None p r) e (record { above = held; owner = o.0; gone = o.1; unretired = o.2 }, tt)
 
   pub unlocked_below : (n p : C) (r : Reply V) (h' : ℕ → Node V) → Known number same always i a h k (key_bytes k) kind given (UnlockBelow n p r) → UnlockGives h (number n) h' → Kept number same always i a h k kind given given (quiet (Unlock p r)) h'
   unlocked_below n p r h' m g =
@@ -223,9 +314,13 @@ module _ {C V : Type 0} (number : C → ℕ) (same : V → V → Bool) (always :
       let e : KeepsMap i a h (own a (number n) None) h' = unlock_still i a h (number n) h' t w m g in
       record { notes = own a (number n) None; effect = e.effect; sound = record { known = tt; answer = e.map } }
 
-  pub unwinds : (root : C) → number root ≡ 0 → (n : C) (refusal : Option Refusal) (h' : ℕ → Node V) → Known number same always i a h k (key_bytes k) kind given (Unwind n refusal) → UnlockGives h (number n) h'
-      → Kept number same always i a h k kind given given (unwound root refusal) h'
-  unwinds root z n None h' m g =
+  pub unwinds : (root : C) → number root ≡ 0 → (n : C) (next : Option C) (refusal : Option Refusal) (h' : ℕ → Node V) → Known number same always i a h k (key_bytes k) kind given (Unwind n next refusal) → UnlockGives h (number n) h'
+      → Kept number same always i a h k kind given given (after_unwind root next refusal) h'
+  unwinds root z n (Some c) refusal h' m g =
+      let nc : own a (number n) None (number c) ≡ a (number c) = noted_other a (number n) _ (number c) m.2.1 in
+      still_kept (own a (number n) None) h' (Unwind c None refusal) (unlock_still i a h (number n) h' t w m.1 g)
+      (m.0, record { owner = rw nc m.2.0.owner; linked = rw nc m.2.0.linked }, tt, m.3)
+  unwinds root z n None None h' m g =
       let e : KeepsMap i a h (own a (number n) None) h' = unlock_still i a h (number n) h' t w m.1 g in
       record {
         notes = own a (number n) None;
@@ -235,6 +330,6 @@ module _ {C V : Type 0} (number : C → ℕ) (same : V → V → Bool) (always :
           answer = e.map;
         };
       }
-  unwinds root z n (Some refusal) h' m g =
+  unwinds root z n None (Some refusal) h' m g =
       let e : KeepsMap i a h (own a (number n) None) h' = unlock_still i a h (number n) h' t w m.1 g in
       record { notes = own a (number n) None; effect = e.effect; sound = record { known = tt; answer = e.map } }

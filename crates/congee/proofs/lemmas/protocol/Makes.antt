@@ -4,8 +4,9 @@ use Rattle.std.specs.Prelude.{None}
 use Rattle.congee.specs.declared.forms.base_node.NodeType.{NodeType}
 use Rattle.congee.specs.declared.protocol.phase.Single.{Single}
 use Rattle.congee.specs.declared.protocol.phase.Single.TheVariants.{Set, Link}
+use Rattle.congee.specs.declared.protocol.phase.Parent.{Parent}
 use Rattle.congee.specs.declared.protocol.phase.Double.{Double}
-use Rattle.congee.specs.declared.protocol.phase.Double.TheVariants.{Unlink, Grow, GrowLink, Split}
+use Rattle.congee.specs.declared.protocol.phase.Double.TheVariants.{Unlink, Grow, GrowLink, Split, Shrink, Collapse, ShrinkAbove}
 use Rattle.congee.specs.Heap.{Node, is_taken}
 use Rattle.congee.specs.Keys.{key_bytes}
 use Rattle.congee.specs.protocol.Events.{NewNode, BackGives, places}
@@ -91,11 +92,14 @@ pub back_one : {C V : Type 0} (number : C → ℕ) (i : ℕ) (a : ℕ → Note) 
 back_one number i a h key Set h' t w m g = back_none i a h h' t w g
 back_one number i a h key (Link leaf) h' t w m g = back_node i a h key (number leaf) 7 0 h' t w m g
 
-pub back_two : {C V : Type 0} (number : C → ℕ) (i : ℕ) (a : ℕ → Note) (h : ℕ → Node V) (key : List ℕ) (change : Double C) (size q : ℕ) (h' : ℕ → Node V) → Tree a h → LockWords a h → MadeTwo number i a h key change size q → BackTwo number h change h' → Backed i a h h'
-back_two number i a h key Unlink size q h' t w m g = back_none i a h h' t w g
-back_two number i a h key (Grow c) size q h' t w m g = back_node i a h key (number c) size q h' t w m g
-back_two number i a h key (GrowLink c leaf byte) size q h' t w m g = back_nodes i a h key (number c) size q (number leaf) g.0 h' t w m.0 m.1 m.2 g.1 g.2
-back_two number i a h key (Split top leaf common byte) size q h' t w m g = back_nodes i a h key (number top) common 1 (number leaf) g.0 h' t w m.0 m.1 m.2 g.1 g.2
+pub back_two : {C V : Type 0} (number : C → ℕ) (i : ℕ) (a : ℕ → Note) (h : ℕ → Node V) (key : List ℕ) (p : Parent C) (change : Double C) (size q : ℕ) (h' : ℕ → Node V) → Tree a h → LockWords a h → MadeTwo number i a h key p change size q → BackTwo number h change h' → Backed i a h h'
+back_two number i a h key p Unlink size q h' t w m g = back_none i a h h' t w g
+back_two number i a h key p Collapse size q h' t w m g = back_none i a h h' t w g
+back_two number i a h key p (Shrink c) size q h' t w m g = back_node i a h key (number c) size q h' t w m g
+back_two number i a h key p (ShrinkAbove c) size q h' t w m g = back_node i a h key (number c) p.depth q h' t w m.0 g
+back_two number i a h key p (Grow c) size q h' t w m g = back_node i a h key (number c) size q h' t w m g
+back_two number i a h key p (GrowLink c leaf byte) size q h' t w m g = back_nodes i a h key (number c) size q (number leaf) g.0 h' t w m.0 m.1 m.2 g.1 g.2
+back_two number i a h key p (Split top leaf common byte) size q h' t w m g = back_nodes i a h key (number top) common 1 (number leaf) g.0 h' t w m.0 m.1 m.2 g.1 g.2
 
 -- a new node, made
 pub made_new : {V : Type 0} (i : ℕ) (a : ℕ → Note) (h : ℕ → Node V) (c : ℕ) (form : NodeType) (k size least : ℕ) (h' : ℕ → Node V) → NewNode h c form (key_bytes k) size h' → least < places form → Made i (making a i c) h' (key_bytes k) c size least

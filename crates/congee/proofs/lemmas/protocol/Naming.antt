@@ -6,17 +6,18 @@ use Rattle.std.proofs.lemmas.List.Elements.{All-from_recursion, All-contains}
 use Rattle.congee.specs.declared.protocol.store.Seat.{Seat}
 use Rattle.congee.specs.declared.protocol.phase.Kind.{Kind}
 use Rattle.congee.specs.declared.protocol.phase.Parent.{Parent}
+use Rattle.congee.specs.declared.protocol.phase.Above.{Above as Over}
 use Rattle.congee.specs.declared.protocol.phase.Site.{Site}
 use Rattle.congee.specs.declared.protocol.phase.Single.{Single}
 use Rattle.congee.specs.declared.protocol.phase.Single.TheVariants.{Set, Link}
 use Rattle.congee.specs.declared.protocol.phase.One.{One}
 use Rattle.congee.specs.declared.protocol.phase.Double.{Double}
-use Rattle.congee.specs.declared.protocol.phase.Double.TheVariants.{Unlink, Grow, GrowLink, Split}
+use Rattle.congee.specs.declared.protocol.phase.Double.TheVariants.{Unlink, Grow, GrowLink, Split, Shrink, Collapse, ShrinkAbove}
 use Rattle.congee.specs.declared.protocol.phase.Two.{Two}
 use Rattle.congee.specs.declared.protocol.phase.Plan.{Plan}
 use Rattle.congee.specs.declared.protocol.phase.Plan.TheVariants.{Here, Above}
 use Rattle.congee.specs.declared.protocol.phase.Phase.{Phase}
-use Rattle.congee.specs.declared.protocol.phase.Phase.TheVariants.{New, Version, Read, Check, CheckUncopied, CheckMiss, CheckDown, CheckOld, MakeLeaf, MakeGreater, MakeTop, MakeBeside, AskOld, AskNew, Confirm, CheckAbove, UpgradeOne, ChangeOne, UpgradeAbove, UpgradeBelow, ChangeTwo, Obsolete, Retire, UnlockBelow, Unlock, Unwind, Sweep, Ended}
+use Rattle.congee.specs.declared.protocol.phase.Phase.TheVariants.{New, Version, Read, Check, CheckUncopied, CheckMiss, CheckDown, CheckOld, MakeLeaf, MakeGreater, MakeTop, MakeBeside, MakeLesser, AskOld, AskNew, Confirm, CheckAbove, UpgradeOne, ChangeOne, UpgradeTop, UpgradeAbove, UpgradeBelow, ChangeTwo, Obsolete, Retire, UnlockBelow, Unlock, Unwind, Sweep, Ended}
 use Rattle.congee.specs.declared.protocol.sweep.Rung.{Rung}
 use Rattle.congee.specs.declared.protocol.sweep.Stage.{Stage}
 use Rattle.congee.specs.declared.protocol.sweep.Stage.TheVariants as stage
@@ -25,9 +26,9 @@ use Rattle.congee.specs.protocol.SweepSteps.{rungs_of}
 use Rattle.congee.specs.protocol.SweepKnown.{RungsKnown, SweepKnownAt, names_rungs, names_sweep_at, names_sweep}
 use Rattle.congee.specs.Heap.{Node, Hung, Below, child_for}
 use Rattle.congee.specs.Ledger.{Note, Linked, is_published, Tree}
-use Rattle.congee.specs.protocol.Protocol.{Known, Knows, ChildOf, IsAbove, SeatedIf, PlanKnown}
-use Rattle.congee.specs.protocol.Holdings.{LockedBy, MadeBy, MadeForOne, MadeForTwo, MadeForPlan, IsMade}
-use Rattle.congee.specs.protocol.Names.{name_above, name_seated, name_made, names_for_one, names_for_two, names_site, names_one, names_two, names_plan, names}
+use Rattle.congee.specs.protocol.Protocol.{Known, Knows, TopLocked, AlsoOut, AlsoHolding, IsFar, IsAbove, IsLesser, SeatedIf, PlanKnown}
+use Rattle.congee.specs.protocol.Holdings.{IsTop, LockedBy, MadeBy, MadeForOne, MadeForTwo, MadeForPlan, IsMade}
+use Rattle.congee.specs.protocol.Names.{name_above, names_over, name_seated, name_made, names_for_one, names_for_two, names_site, names_one, names_two, names_plan, names}
 use Rattle.congee.proofs.lemmas.protocol.Each.{Each, both}
 
 each_weaker : (K L : ℕ → Type 0) → ((n : ℕ) → K n → L n) → (xs : List ℕ) → Each K xs → Each L xs
@@ -44,9 +45,29 @@ module _ {C V : Type 0} (number : C → ℕ) (same : V → V → Bool) (always :
   tree_in : (n : ℕ) → (a n).status ≡ Linked → In n
   tree_in n e = ap is_published e
 
-  above_in : (p : Option (Parent C)) (n : ℕ) → IsAbove number a h key p n → Each In (name_above number p)
+  far_in : (p : Option (Parent C)) (n : ℕ) → IsFar number a h key p n → Each In (name_above number p)
+  far_in None n x = tt
+  far_in (Some p) n x = (x.fresh.seated.published, tt)
+
+  above_in : (p : Option (Over C)) (n : ℕ) → IsAbove number a h key p n → Each In (names_over number p)
   above_in None n x = tt
-  above_in (Some p) n x = (x.fresh.seated.published, tt)
+  above_in (Some u) n x = (x.0.fresh.seated.published, far_in u.far (number u.near.seat.node) x.1)
+
+  lesser_in : (s : Site C) (p : Parent C) (g : Option (Parent C)) → IsLesser number a h key s p g → Each In (name_above number g)
+  lesser_in s p None x = tt
+  lesser_in s p (Some g) x = (x.0.fresh.seated.published, tt)
+
+  top_in : (top : Option (Parent C)) (n : ℕ) → TopLocked number i a h key top n → Each In (name_above number top)
+  top_in None n x = tt
+  top_in (Some g) n x = (tree_in _ x.holding.linked, tt)
+
+  out_in : (next : Option C) (n : ℕ) → AlsoOut number i a h n next → Each In (name_made number next)
+  out_in None n x = tt
+  out_in (Some c) n x = (ap is_published x.1, tt)
+
+  holding_in : (next : Option C) (n : ℕ) → AlsoHolding number i a n next → Each In (name_made number next)
+  holding_in None n x = tt
+  holding_in (Some c) n x = (tree_in _ x.0.linked, tt)
 
   site_in : (s : Site C) (x : Hung V) → Knows number a h key s x → Each In (names_site number s)
   site_in s x k = (k.fresh.seated.published, above_in s.above (number s.at.node) k.above)
@@ -64,6 +85,9 @@ module _ {C V : Type 0} (number : C → ℕ) (same : V → V → Bool) (always :
 
   for_two : (change : Double C) → Each (Or (MadeForTwo number change)) (names_for_two number change)
   for_two Unlink = tt
+  for_two Collapse = tt
+  for_two (Shrink c) = (inr refl, tt)
+  for_two (ShrinkAbove c) = (inr refl, tt)
   for_two (Grow c) = (inr refl, tt)
   for_two (GrowLink c leaf byte) = (inr (inl refl), (inr (inr refl), tt))
   for_two (Split top leaf common byte) = (inr (inl refl), (inr (inr refl), tt))
@@ -71,22 +95,16 @@ module _ {C V : Type 0} (number : C → ℕ) (same : V → V → Bool) (always :
   one_in : (one : One C) → In (number one.at.node) → Each (Or (MadeForOne number one.change)) (names_one number one)
   one_in one at = (inl at, for_one one.change)
 
-  two_in : (two : Two C) → In (number two.above.seat.node) → In (number two.at.node) → Each (Or (MadeForTwo number two.change)) (names_two number two)
-  two_in two p at = (inl p, (inl at, for_two two.change))
+  two_in : (two : Two C) → Each In (name_above number two.top) → In (number two.above.seat.node) → In (number two.at.node) → Each (Or (MadeForTwo number two.change)) (names_two number two)
+  two_in two top p at = (inl p, (inl at, both (Or (MadeForTwo number two.change)) (name_above number two.top) (names_for_two number two.change) (up _ (name_above number two.top) top) (for_two two.change)))
 
   plan_in : (plan : Plan C) → PlanKnown number i a h key plan → Each (Or (MadeForPlan number plan)) (names_plan number plan)
   plan_in (Here check one) x = both (Or (MadeForOne number one.change)) (name_seated number check) (names_one number one) (up _ (name_seated number check) (seated_in check x.0)) (one_in one x.1.fresh.seated.published)
-  plan_in (Above two) x = two_in two x.0.1.above.fresh.seated.published x.0.1.fresh.seated.published
+  plan_in (Above two) x = two_in two (top_in two.top _ x.0.1.top) x.0.1.above.fresh.seated.published x.0.1.fresh.seated.published
 
   made_in : (leaf : Option C) → Each (Or (IsMade number leaf)) (name_made number leaf)
   made_in None = tt
   made_in (Some leaf) = (inr refl, tt)
-
-  parent_in : (s : Site C) (p : Parent C) (x : Hung V) → Knows number a h key s x → s.above ≡ Some p → In (number p.seat.node)
-  parent_in s p x k e =
-      let P : Option (Parent C) → Type 0 = λ o. IsAbove number a h key o (number s.at.node) in
-      let c : ChildOf number a h key p (number s.at.node) = subst P e k.above in
-      c.fresh.seated.published
 
   rungs_in : (end above : ℕ) (rs : List (Rung C)) → RungsKnown number a h end above rs → Each In (names_rungs number rs)
   rungs_in end above [] x = tt
@@ -106,31 +124,33 @@ module _ {C V : Type 0} (number : C → ℕ) (same : V → V → Bool) (always :
 
     names_known : (kind : Kind V) (given : Option V) (s : Phase C V) → Known number same always i a h k key kind given s → Each (Or (MadeBy number s)) (names number s)
     names_known kind given New x = tt
-    names_known kind given (Version p c) x = (inl x.2, up _ (name_above number p) (above_in p (number c) x.1))
-    names_known kind given (Read p at) x = (inl x.2.published, up _ (name_above number p) (above_in p (number at.node) x.1))
+    names_known kind given (Version p c) x = (inl x.2, up _ (names_over number p) (above_in p (number c) x.1))
+    names_known kind given (Read p at) x = (inl x.2.published, up _ (names_over number p) (above_in p (number at.node) x.1))
     names_known kind given (Check s c) x = up _ (names_site number s) (site_in s _ x.1)
     names_known kind given (CheckUncopied at) x = (inl x.1.published, tt)
     names_known kind given (CheckMiss p at common byte) x = (inl x.1.fresh.seated.published, (inl x.2.published, tt))
-    names_known kind given (CheckDown p at c) x = (inl x.1.published, (inl x.2.fresh.seated.published, (inl x.3, tt)))
+    names_known kind given (CheckDown p at c) x = (inl x.1.published, (inl x.3, up _ (names_over number (Some at)) (above_in (Some at) (number c) x.2)))
     names_known kind given (CheckOld p s v) x = (inl x.1.published, up _ (names_site number s) (site_in s _ x.2))
     names_known kind given (MakeLeaf s) x = up _ (names_site number s) (site_in s _ x.1)
-    names_known kind given (MakeGreater s p leaf) x = (inl (parent_in s p _ x.1 x.2), both (Or (IsMade number leaf)) (name_made number leaf) (names_site number s) (made_in leaf) (up _ (names_site number s) (site_in s _ x.1)))
+    names_known kind given (MakeGreater s p leaf) x = (inl x.2.fresh.seated.published, both (Or (IsMade number leaf)) (name_made number leaf) (names_site number s) (made_in leaf) (up _ (names_site number s) (site_in s _ x.1)))
     names_known kind given (MakeTop p at common byte) x = (inl x.1.fresh.seated.published, (inl x.2.published, tt))
     names_known kind given (MakeBeside p at common byte top) x = (inl x.1.fresh.seated.published, (inl x.2.published, (inr refl, tt)))
+    names_known kind given (MakeLesser s p g r) x = (inl x.4.fresh.seated.published, both (Or (λ _. ⊥)) (name_above number g) (names_site number s) (up _ (name_above number g) (lesser_in s p g x.5)) (up _ (names_site number s) (site_in s _ x.1.1)))
     names_known kind given (AskOld s v) x = up _ (names_site number s) (site_in s _ x.1)
     names_known kind given (AskNew plan) x = plan_in plan x.0
     names_known kind given (Confirm at r) x = (inl x.1.1.fresh.seated.published, tt)
     names_known kind given (CheckAbove p one r) x = (inl x.1.published, one_in one x.2.fresh.seated.published)
     names_known kind given (UpgradeOne one r) x = one_in one x.1.1.fresh.seated.published
     names_known kind given (ChangeOne one r) x = one_in one (tree_in _ x.1.holding.linked)
-    names_known kind given (UpgradeAbove two r) x = two_in two x.1.2.above.fresh.seated.published x.1.2.fresh.seated.published
-    names_known kind given (UpgradeBelow two r) x = two_in two (tree_in _ x.1.2.above.holding.linked) x.1.2.fresh.seated.published
-    names_known kind given (ChangeTwo two r) x = two_in two (tree_in _ x.2.above.holding.linked) (below_in _ _ x.2.above.holding.linked x.2.above.child)
-    names_known kind given (Obsolete n p r) x = (inl (ap is_published x.gone), (inl (tree_in _ x.above.linked), tt))
-    names_known kind given (Retire n p r) x = (inl (ap is_published x.0.gone), (inl (tree_in _ x.0.above.linked), tt))
+    names_known kind given (UpgradeTop g two r) x = (inl x.2.fresh.seated.published, two_in two (top_in two.top _ x.1.2.top) x.1.2.above.fresh.seated.published x.1.2.fresh.seated.published)
+    names_known kind given (UpgradeAbove two r) x = two_in two (top_in two.top _ x.1.2.top) x.1.2.above.fresh.seated.published x.1.2.fresh.seated.published
+    names_known kind given (UpgradeBelow two r) x = two_in two (top_in two.top _ x.1.2.top) (tree_in _ x.1.2.above.holding.linked) x.1.2.fresh.seated.published
+    names_known kind given (ChangeTwo two r) x = two_in two (top_in two.top _ x.2.top) (tree_in _ x.2.above.holding.linked) (below_in _ _ x.2.above.holding.linked x.2.above.child)
+    names_known kind given (Obsolete n next p r) x = (inl (ap is_published x.0.gone), (inl (tree_in _ x.0.above.linked), up _ (name_made number next) (out_in next (number n) x.1)))
+    names_known kind given (Retire n next p r) x = (inl (ap is_published x.0.gone), (inl (tree_in _ x.0.above.linked), up _ (name_made number next) (out_in next (number n) x.1)))
     names_known kind given (UnlockBelow n p r) x = (inl (tree_in _ x.0.linked), (inl (tree_in _ x.1.linked), tt))
     names_known kind given (Unlock n r) x = (inl (tree_in _ x.linked), tt)
-    names_known kind given (Unwind n e) x = (inl (tree_in _ x.1.linked), tt)
+    names_known kind given (Unwind n next e) x = (inl (tree_in _ x.1.linked), up _ (name_made number next) (holding_in next (number n) x.2))
     names_known kind given (Sweep s) x = up _ (names_sweep number s) (sweep_at s s.stage x)
     names_known kind given Ended x = tt
 
@@ -140,18 +160,36 @@ module _ {C V : Type 0} (number : C → ℕ) (same : V → V → Bool) (always :
     at : (n c : ℕ) → n ≡ c → In c → In n
     at n c e x = subst In (sym e) x
 
+    top_at : (top : Option (Parent C)) (m : ℕ) → TopLocked number i a h key top m → (n : ℕ) → IsTop number top n → In n
+    top_at None m x n l = absurd l
+    top_at (Some g) m x n l = at n _ l (tree_in _ x.holding.linked)
+
+    out_at : (next : Option C) (m : ℕ) → AlsoOut number i a h m next → (n : ℕ) → IsMade number next n → In n
+    out_at None m x n l = absurd l
+    out_at (Some c) m x n l = at n _ l (ap is_published x.1)
+
+    held_at : (next : Option C) (m : ℕ) → AlsoHolding number i a m next → (n : ℕ) → IsMade number next n → In n
+    held_at None m x n l = absurd l
+    held_at (Some c) m x n l = at n _ l (tree_in _ x.0.linked)
+
     -- a lock is of a node that is or was in reach
     pub locked_in : (kind : Kind V) (given : Option V) (s : Phase C V) → Known number same always i a h k key kind given s → (n : ℕ) → LockedBy number s n → is_published (a n).status ≡ true
     locked_in kind given (ChangeOne one r) x n l = at n _ l (tree_in _ x.1.holding.linked)
-    locked_in kind given (UpgradeBelow two r) x n l = at n _ l (tree_in _ x.1.2.above.holding.linked)
-    locked_in kind given (ChangeTwo two r) x n (inl l) = at n _ l (tree_in _ x.2.above.holding.linked)
-    locked_in kind given (ChangeTwo two r) x n (inr l) = at n _ l (below_in _ _ x.2.above.holding.linked x.2.above.child)
-    locked_in kind given (Obsolete m p r) x n (inl l) = at n _ l (tree_in _ x.above.linked)
-    locked_in kind given (Obsolete m p r) x n (inr l) = at n _ l (ap is_published x.gone)
-    locked_in kind given (Retire m p r) x n (inl l) = at n _ l (tree_in _ x.0.above.linked)
-    locked_in kind given (Retire m p r) x n (inr l) = at n _ l (ap is_published x.0.gone)
+    locked_in kind given (UpgradeAbove two r) x n l = top_at two.top _ x.1.2.top n l
+    locked_in kind given (UpgradeBelow two r) x n (inl l) = at n _ l (tree_in _ x.1.2.above.holding.linked)
+    locked_in kind given (UpgradeBelow two r) x n (inr l) = top_at two.top _ x.1.2.top n l
+    locked_in kind given (ChangeTwo two r) x n (inl (inl l)) = at n _ l (tree_in _ x.2.above.holding.linked)
+    locked_in kind given (ChangeTwo two r) x n (inl (inr l)) = at n _ l (below_in _ _ x.2.above.holding.linked x.2.above.child)
+    locked_in kind given (ChangeTwo two r) x n (inr l) = top_at two.top _ x.2.top n l
+    locked_in kind given (Obsolete m next p r) x n (inl (inl l)) = at n _ l (tree_in _ x.0.above.linked)
+    locked_in kind given (Obsolete m next p r) x n (inl (inr l)) = at n _ l (ap is_published x.0.gone)
+    locked_in kind given (Obsolete m next p r) x n (inr l) = out_at next _ x.1 n l
+    locked_in kind given (Retire m next p r) x n (inl (inl l)) = at n _ l (tree_in _ x.0.above.linked)
+    locked_in kind given (Retire m next p r) x n (inl (inr l)) = at n _ l (ap is_published x.0.gone)
+    locked_in kind given (Retire m next p r) x n (inr l) = out_at next _ x.1 n l
     locked_in kind given (UnlockBelow m p r) x n (inl l) = at n _ l (tree_in _ x.1.linked)
     locked_in kind given (UnlockBelow m p r) x n (inr l) = at n _ l (tree_in _ x.0.linked)
     locked_in kind given (Unlock m r) x n l = at n _ l (tree_in _ x.linked)
-    locked_in kind given (Unwind m e) x n l = at n _ l (tree_in _ x.1.linked)
+    locked_in kind given (Unwind m next e) x n (inl l) = at n _ l (tree_in _ x.1.linked)
+    locked_in kind given (Unwind m next e) x n (inr l) = held_at next _ x.2 n l
     locked_in kind given _ x n l = absurd l

@@ -1,7 +1,8 @@
 -- Where the names of a next phase come from: each step of the table gives the call a name that it had, the root's,
 -- that of a node just made, or that of a child which the check of its parent found.
-use Rattle.std.proofs.Common.{◌≡◌, ℕ, ◌==◌, ◌⊎◌, inl, inr, Bool, true, false, List, length, refl, sym, ◌∙◌, subst}
+use Rattle.std.proofs.Common.{◌≡◌, ℕ, ◌==◌, ◌&&◌, ◌⊎◌, inl, inr, Bool, true, false, List, length, refl, sym, ◌∙◌, subst}
 use Rattle.std.specs.Prelude.{Option, None, Some, Result, Ok, Err, slice_index}
+use Rattle.std.proofs.Math.Dec.{ltb}
 use Rattle.std.specs.List.{All, Contains}
 use Rattle.std.proofs.lemmas.List.Elements.{All-from_recursion, recursion_from_All, All-weaker, All-contains_itself}
 use Rattle.judge.specs.declared.journal.Reply.{Reply}
@@ -19,26 +20,27 @@ use Rattle.congee.specs.declared.protocol.store.Refusal.TheVariants as refusal
 use Rattle.congee.specs.declared.protocol.phase.Kind.{Kind}
 use Rattle.congee.specs.declared.protocol.phase.Kind.TheVariants.{Get, Insert, Remove, ComputePresent, ComputeInsert, Exchange}
 use Rattle.congee.specs.declared.protocol.phase.Parent.{Parent}
+use Rattle.congee.specs.declared.protocol.phase.Above.{Above as Over}
 use Rattle.congee.specs.declared.protocol.phase.Site.{Site}
 use Rattle.congee.specs.declared.protocol.phase.Single.{Single}
 use Rattle.congee.specs.declared.protocol.phase.Single.TheVariants.{Set, Link}
 use Rattle.congee.specs.declared.protocol.phase.One.{One}
 use Rattle.congee.specs.declared.protocol.phase.Double.{Double}
-use Rattle.congee.specs.declared.protocol.phase.Double.TheVariants.{Unlink, Grow, GrowLink, Split}
+use Rattle.congee.specs.declared.protocol.phase.Double.TheVariants.{Unlink, Grow, GrowLink, Split, Shrink, Collapse, ShrinkAbove}
 use Rattle.congee.specs.declared.protocol.phase.Two.{Two}
 use Rattle.congee.specs.declared.protocol.phase.Plan.{Plan}
 use Rattle.congee.specs.declared.protocol.phase.Plan.TheVariants.{Here, Above}
 use Rattle.congee.specs.declared.protocol.phase.Phase.{Phase}
-use Rattle.congee.specs.declared.protocol.phase.Phase.TheVariants.{New, Version, Read, Check, CheckUncopied, CheckMiss, CheckDown, CheckOld, MakeLeaf, MakeGreater, MakeTop, MakeBeside, AskOld, AskNew, Confirm, CheckAbove, UpgradeOne, ChangeOne, UpgradeAbove, UpgradeBelow, ChangeTwo, Obsolete, Retire, UnlockBelow, Unlock, Unwind, Sweep, Ended}
+use Rattle.congee.specs.declared.protocol.phase.Phase.TheVariants.{New, Version, Read, Check, CheckUncopied, CheckMiss, CheckDown, CheckOld, MakeLeaf, MakeGreater, MakeTop, MakeBeside, MakeLesser, AskOld, AskNew, Confirm, CheckAbove, UpgradeOne, ChangeOne, UpgradeTop, UpgradeAbove, UpgradeBelow, ChangeTwo, Obsolete, Retire, UnlockBelow, Unlock, Unwind, Sweep, Ended}
 use Rattle.congee.specs.declared.protocol.turn.Turn.{Turn}
 use Rattle.congee.specs.declared.protocol.machine.Machine.{Machine}
 use Rattle.congee.specs.Heap.{Node, Below, is_taken}
 use Rattle.congee.specs.protocol.Events.{hung}
-use Rattle.congee.specs.protocol.Steps.{quiet, swept, again, answered, finished, refused, decided, CopyFailed, adds, asks_new, absent_reply, seat_above, after_version, after_read, down, started, ready, plan_here, unless_full, absent, IsAsked, replaced, taken_out, emptied, is_same, IsAtOld, IsAdded, IsExchanged, IsPresent, IsChecked, after_miss, IsGiven, IsGivenNew, MadeLeaf, greater, MadeGreater, MadeTop, MadeBeside, UpgradedOne, UpgradedAbove, UpgradedBelow, after_change, unwound, PhaseStepped}
+use Rattle.congee.specs.protocol.Steps.{skipping, shrinks, set_at, both as both_of, last_out, near_of, node_of, given_up, after_top, after_retire, after_unwind, quiet, swept, again, answered, finished, refused, decided, CopyFailed, adds, asks_new, absent_reply, seat_above, after_version, after_read, down, started, ready, plan_here, unless_full, absent, IsAsked, replaced, taken_out, emptied, is_same, IsAtOld, IsAdded, IsExchanged, IsPresent, IsChecked, after_miss, IsGiven, IsGivenNew, MadeLeaf, greater, MadeGreater, MadeTop, MadeBeside, MadeLesser, UpgradedOne, UpgradedTop, UpgradedAbove, UpgradedBelow, after_change, unwound, PhaseStepped}
 use Rattle.congee.specs.Keys.{key_bytes}
 use Rattle.congee.specs.Ledger.{Note, Linked, LockWords}
 use Rattle.congee.specs.protocol.Protocol.{Knows, Known}
-use Rattle.congee.specs.protocol.Names.{name_above, name_seated, name_made, names_for_one, names_for_two, names_site, names_one, names_two, names_plan, names, Comes, Had, Top, New_made, Hangs, KeepsOrigin}
+use Rattle.congee.specs.protocol.Names.{name_above, names_over, name_seated, name_made, names_for_one, names_for_two, names_site, names_one, names_two, names_plan, names, Comes, Had, Top, New_made, Hangs, KeepsOrigin}
 use Rattle.congee.proofs.lemmas.protocol.Each.{Each, both, left, right}
 use Rattle.congee.proofs.lemmas.Graft.{on_test}
 use Rattle.congee.proofs.lemmas.protocol.Touch.{by_test, taken_linked}
@@ -53,26 +55,30 @@ module _ {C : Type 0} (V : Type 0) (number : C → ℕ) (K : ℕ → Type 0) whe
   at_turn : (t u : Turn C V) → t ≡ u → Leaves u → Leaves t
   at_turn t u e l = subst Leaves (sym e) l
 
-  seated : (p : Option (Parent C)) → Each K (name_above number p) → Each K (name_seated number (seat_above p))
+  seated : (p : Option (Over C)) → Each K (names_over number p) → Each K (name_seated number (seat_above p))
   seated None e = tt
-  seated (Some p) e = e
+  seated (Some u) e = (e.0, tt)
 
-  of_version : (root : C) → K (number root) → (p : Option (Parent C)) (c : C) (v : Option ℕ) → K (number c) → Each K (name_above number p) → Leaves (after_version root p c v)
+  nearest : (p : Option (Over C)) → Each K (names_over number p) → Each K (name_above number (near_of p))
+  nearest None e = tt
+  nearest (Some u) e = (e.0, tt)
+
+  of_version : (root : C) → K (number root) → (p : Option (Over C)) (c : C) (v : Option ℕ) → K (number c) → Each K (names_over number p) → Leaves (after_version root p c v)
   of_version root r p c None k e = (r, tt)
   of_version root r p c (Some v) k e = (k, e)
 
-  of_read : (root : C) → K (number root) → (p : Option (Parent C)) (at : Seat C) (x : Reading C V) → K (number at.node) → Each K (name_above number p) → Leaves (after_read root p at x)
+  of_read : (root : C) → K (number root) → (p : Option (Over C)) (at : Seat C) (x : Reading C V) → K (number at.node) → Each K (names_over number p) → Leaves (after_read root p at x)
   of_read root r None at (Differs common byte) k e = (r, tt)
   of_read root r (Some p) at (Differs common byte) k e = (e.0, (k, tt))
-  of_read root r None at (Fits depth s) k e = (k, e)
-  of_read root r (Some p) at (Fits depth s) k e = (k, e)
+  of_read root r None at (Fits depth form s) k e = (k, e)
+  of_read root r (Some p) at (Fits depth form s) k e = (k, e)
   of_read root r None at Uncopied k e = (k, tt)
   of_read root r (Some p) at Uncopied k e = (k, tt)
 
-  of_down : (b : Bool) (s : Site C) (p : Option (Parent C)) (c : C) → K (number s.at.node) → Each K (name_above number p) → K (number c) → Leaves (down b s p c)
-  of_down false s p c k e n = (n, (k, tt))
-  of_down true s None c k e n = (n, (k, tt))
-  of_down true s (Some p) c k e n = (e.0, (k, (n, tt)))
+  of_down : (b : Bool) (s : Site C) (p : Option (Over C)) (c : C) → Each K (names_site number s) → Each K (names_over number p) → K (number c) → Leaves (down b s p c)
+  of_down false s p c e f n = (n, (e.0, nearest s.above e.1))
+  of_down true s None c e f n = (n, (e.0, nearest s.above e.1))
+  of_down true s (Some u) c e f n = (f.0, (n, (e.0, nearest s.above e.1)))
 
   of_started : (plan : Plan C) (r : Reply V) → Each K (names_plan number plan) → Leaves (started plan r)
   of_started (Here None one) r e = e
@@ -85,7 +91,7 @@ module _ {C : Type 0} (V : Type 0) (number : C → ℕ) (K : ℕ → Type 0) whe
   of_here : (kind : Kind V) (s : Site C) (change : Single C) → Each K (names_site number s) → Each K (names_for_one number change) → Leaves (ready kind (plan_here s change))
   of_here kind s change e f = of_ready kind (plan_here s change) (both K (name_seated number (seat_above s.above)) _ (seated s.above e.1) (e.0, f))
 
-  of_unless_full : (kind : Kind V) (s : Site C) (full : Bool) (p : Option (Parent C)) (leaf : Option C) (change : Single C) → Each K (names_site number s) → Each K (name_above number p) → Each K (name_made number leaf)
+  of_unless_full : (kind : Kind V) (s : Site C) (full : Bool) (p : Option (Over C)) (leaf : Option C) (change : Single C) → Each K (names_site number s) → Each K (names_over number p) → Each K (name_made number leaf)
       → Each K (names_for_one number change) → Leaves (unless_full kind s full p leaf change)
   of_unless_full kind s true (Some p) leaf change e f l m = (f.0, both K (name_made number leaf) (names_site number s) l e)
   of_unless_full kind s true None leaf change e f l m = of_here kind s change e m
@@ -104,13 +110,19 @@ module _ {C : Type 0} (V : Type 0) (number : C → ℕ) (K : ℕ → Type 0) whe
   of_replaced s true r e = (e.0, tt)
   of_replaced s false r e = (e.0, tt)
 
-  of_taken_out : (s : Site C) (alone : Bool) (p : Option (Parent C)) (r : Reply V) → Each K (names_site number s) → Each K (name_above number p) → Leaves (taken_out s alone p r)
-  of_taken_out s true (Some p) r e f = (f.0, (e.0, tt))
-  of_taken_out s true None r e f = (e.0, tt)
-  of_taken_out s false p r e f = (e.0, tt)
+  -- a value's going
+  of_last_out : (s : Site C) (p : Parent C) (top : Option (Parent C)) (r : Reply V) → Each K (names_site number s) → K (number p.seat.node) → Each K (name_above number top) → Leaves (last_out s p top r)
+  of_last_out s p None r e k f = (k, (e.0, tt))
+  of_last_out s p (Some top) r e k f = by_test Leaves (p.count == 2) _ _ (λ _. (f.0, (k, (e.0, tt))))
+      (λ _. by_test Leaves (ltb 2 p.count && shrinks p.form p.count) _ _ (λ _. (k, (f.0, e))) (λ _. (k, (e.0, tt))))
+
+  of_taken_out : (s : Site C) (p : Option (Over C)) (r : Reply V) → Each K (names_site number s) → Each K (names_over number p) → Leaves (taken_out s p r)
+  of_taken_out s None r e f = (e.0, tt)
+  of_taken_out s (Some u) r e f = by_test Leaves (s.count == 1) _ _ (λ _. of_last_out s u.near u.far r e f.0 f.1)
+      (λ _. by_test Leaves (shrinks s.form s.count) _ _ (λ _. (f.0, e)) (λ _. (e.0, tt)))
 
   of_emptied : (s : Site C) (r : Reply V) → Each K (names_site number s) → Leaves (emptied s r)
-  of_emptied s r e = of_taken_out s (s.count == 1) s.above r e e.1
+  of_emptied s r e = of_taken_out s s.above r e e.1
 
   of_old : (always : Bool) (same : V → V → Bool) (kind : Kind V) (new : Option V) (s : Site C) (v : V) (t : Turn C V) → IsAtOld always same kind new s v t → Each K (names_site number s) → Leaves t
   of_old always same Insert new s v t x e = at_turn t _ x (of_replaced s (is_same same v new) (reply.Insert (Some v)) e)
@@ -120,8 +132,8 @@ module _ {C : Type 0} (V : Type 0) (number : C → ℕ) (K : ℕ → Type 0) whe
   of_old always same ComputeInsert new s v t x e = of_asked always s v t x e
   of_old always same (Exchange old) new s v t x e = of_asked always s v t x e
 
-  of_added : (always : Bool) (same : V → V → Bool) (kind : Kind V) (new : Option V) (s : Site C) (p : Option (Parent C)) (v : V) (t : Turn C V) → IsAdded always same kind new s p v t → Each K (names_site number s)
-      → Each K (name_above number p) → Leaves t
+  of_added : (always : Bool) (same : V → V → Bool) (kind : Kind V) (new : Option V) (s : Site C) (p : Option (Over C)) (v : V) (t : Turn C V) → IsAdded always same kind new s p v t → Each K (names_site number s)
+      → Each K (names_over number p) → Leaves t
   of_added always same kind new s None v t x e f = of_old always same kind new s v t x e
   of_added always same kind new s (Some p) v t x e f = at_turn t _ x (f.0, e)
 
@@ -144,7 +156,7 @@ module _ {C : Type 0} (V : Type 0) (number : C → ℕ) (K : ℕ → Type 0) whe
   of_checked : (always : Bool) (same : V → V → Bool) (kind : Kind V) (new : Option V) (s : Site C) (c : Child C V) (t : Turn C V) → IsChecked always same kind new s c t → Each K (names_site number s)
       → ((n : ℕ) → hung number c ≡ Below n → K n) → Leaves t
   of_checked always same kind new s child.Blank t x e f = at_turn t _ x (of_absent kind s e)
-  of_checked always same kind new s (child.Node c) t x e f = at_turn t _ x (of_down (adds kind) s s.above c e.0 e.1 (f (number c) refl))
+  of_checked always same kind new s (child.Node c) t x e f = at_turn t _ x (of_down (adds kind) s s.above c e e.1 (f (number c) refl))
   of_checked always same kind new s (child.Value v) t x e f = of_present always same kind new s v t x e
 
   of_if : (root : C) → K (number root) → (taken : Bool) (T : Type 0) (t : Turn C V) → (taken ≡ true → T) × (taken ≡ false → t ≡ again root) → (taken ≡ true → T → Leaves t) → Leaves t
@@ -182,15 +194,38 @@ module _ {C : Type 0} (V : Type 0) (number : C → ℕ) (K : ℕ → Type 0) whe
   of_greater s None c e k = (k, tt)
   of_greater s (Some leaf) c e k = (k, e)
 
-  of_change : (two : Two C) (r : Reply V) (change : Double C) → K (number two.above.seat.node) → K (number two.at.node) → Leaves (after_change two r change)
-  of_change two r Unlink k l = (l, (k, tt))
-  of_change two r (Grow c) k l = (l, (k, tt))
-  of_change two r (GrowLink c leaf byte) k l = (l, (k, tt))
-  of_change two r (Split top leaf common byte) k l = (l, (k, tt))
+  of_top : (two : Two C) (r : Reply V) (top : Option (Parent C)) → K (number two.above.seat.node) → K (number two.at.node) → Each K (name_above number top) → Leaves (after_top two r top)
+  of_top two r None k l e = (k, tt)
+  of_top two r (Some top) k l e = (l, (e.0, (k, tt)))
+
+  of_change : (two : Two C) (r : Reply V) (change : Double C) → Each K (names_two number two) → Leaves (after_change two r change)
+  of_change two r Unlink e = (e.1.0, (e.0, tt))
+  of_change two r (Shrink c) e = (e.1.0, (e.0, tt))
+  of_change two r Collapse e = of_top two r two.top e.0 e.1.0 (left K (name_above number two.top) (names_for_two number two.change) e.1.1)
+  of_change two r (ShrinkAbove c) e = of_top two r two.top e.0 e.1.0 (left K (name_above number two.top) (names_for_two number two.change) e.1.1)
+  of_change two r (Grow c) e = (e.1.0, (e.0, tt))
+  of_change two r (GrowLink c leaf byte) e = (e.1.0, (e.0, tt))
+  of_change two r (Split top leaf common byte) e = (e.1.0, (e.0, tt))
+
+  of_retired : (next : Option C) (p : C) (r : Reply V) → K (number p) → Each K (name_made number next) → Leaves (after_retire next p r)
+  of_retired None p r k e = (k, tt)
+  of_retired (Some c) p r k e = (e.0, (k, tt))
 
   of_unwound : (root : C) → K (number root) → (e : Option Refusal) → Leaves (unwound root e)
   of_unwound root r None = (r, tt)
   of_unwound root r (Some e) = tt
+
+  of_after_unwind : (root : C) → K (number root) → (next : Option C) (e : Option Refusal) → Each K (name_made number next) → Leaves (after_unwind root next e)
+  of_after_unwind root r None e f = of_unwound root r e
+  of_after_unwind root r (Some c) e f = (f.0, tt)
+
+  of_given_up : (root : C) → K (number root) → (top : Option (Parent C)) (e : Option Refusal) → Each K (name_above number top) → Leaves (given_up root top e)
+  of_given_up root r None e f = of_unwound root r e
+  of_given_up root r (Some top) e f = (f.0, tt)
+
+  of_node : (top : Option (Parent C)) → Each K (name_above number top) → Each K (name_made number (node_of top))
+  of_node None e = tt
+  of_node (Some top) e = e
 
   -- steps that make a node, or lock one
   module _ (root : C) (top : K (number root)) (h h' : ℕ → Node V) (fresh : (n : ℕ) → (h n).made ≡ false → (h' n).made ≡ true → K n) (k : ℕ) (kind : Kind V) where
@@ -214,20 +249,34 @@ module _ {C : Type 0} (V : Type 0) (number : C → ℕ) (K : ℕ → Type 0) whe
     of_made_beside p at common byte c (Ok leaf) t x k l m = at_turn t _ x.1 (of_ready kind _ (k, (l, (m, (fresh (number leaf) x.0.unmade x.0.made, tt)))))
     of_made_beside p at common byte c (Err e') t x k l m = at_turn t (refused e') x.1 tt
 
+    of_made_lesser : (s : Site C) (p : Parent C) (g : Option (Parent C)) (r : Reply V) (x : Result C Refusal) (t : Turn C V) → MadeLesser number s p g r h (key_bytes k) x h' t → K (number p.seat.node) → Each K (name_above number g) → Each K (names_site number s) → Leaves t
+    of_made_lesser s p None r (Ok c) t x k f e = at_turn t _ x.1 (k, (e.0, (fresh (number c) x.0.unmade x.0.made, tt)))
+    of_made_lesser s p None r (Err e') t x k f e = at_turn t (skipping (UpgradeOne (set_at s) r)) x.1 (e.0, tt)
+    of_made_lesser s p (Some g) r (Ok c) t x k f e = at_turn t _ x.1 (f.0, (k, (e.0, (fresh (number c) x.0.unmade x.0.made, tt))))
+    of_made_lesser s p (Some g) r (Err e') t x k f e = at_turn t (skipping (UpgradeAbove (both_of p s Unlink) r)) x.1 (k, (e.0, tt))
+
     of_upgraded_one : (one : One C) (r : Reply V) (u : Upgrade) (t : Turn C V) → UpgradedOne number root one r h u h' t → Each K (names_one number one) → Leaves t
     of_upgraded_one one r Locked t x e = at_turn t _ x.1 e
     of_upgraded_one one r Failed t x e = at_turn t _ x.1 (top, tt)
     of_upgraded_one one r Exhausted t x e = at_turn t (refused refusal.Exhausted) x.1 tt
 
+    tops : (two : Two C) → Each K (names_two number two) → Each K (name_above number two.top)
+    tops two e = left K (name_above number two.top) (names_for_two number two.change) e.1.1
+
     of_upgraded_above : (two : Two C) (r : Reply V) (u : Upgrade) (t : Turn C V) → UpgradedAbove number root two r h u h' t → Each K (names_two number two) → Leaves t
     of_upgraded_above two r Locked t x e = at_turn t _ x.1 e
-    of_upgraded_above two r Failed t x e = at_turn t _ x.1 (top, tt)
-    of_upgraded_above two r Exhausted t x e = at_turn t (refused refusal.Exhausted) x.1 tt
+    of_upgraded_above two r Failed t x e = at_turn t _ x.1 (of_given_up root top two.top None (tops two e))
+    of_upgraded_above two r Exhausted t x e = at_turn t _ x.1 (of_given_up root top two.top (Some refusal.Exhausted) (tops two e))
+
+    of_upgraded_top : (g : Parent C) (two : Two C) (r : Reply V) (u : Upgrade) (t : Turn C V) → UpgradedTop number root g two r h u h' t → K (number g.seat.node) → Each K (names_two number two) → Leaves t
+    of_upgraded_top g two r Locked t x k e = at_turn t _ x.1 (e.0, (e.1.0, (k, right K (name_above number two.top) (names_for_two number two.change) e.1.1)))
+    of_upgraded_top g two r Failed t x k e = at_turn t _ x.1 (top, tt)
+    of_upgraded_top g two r Exhausted t x k e = at_turn t (refused refusal.Exhausted) x.1 tt
 
     of_upgraded_both : (two : Two C) (r : Reply V) (u : Upgrade) (t : Turn C V) → UpgradedBelow number two r h u h' t → Each K (names_two number two) → Leaves t
     of_upgraded_both two r Locked t x e = at_turn t _ x.1 e
-    of_upgraded_both two r Failed t x e = at_turn t _ x.1 (e.0, tt)
-    of_upgraded_both two r Exhausted t x e = at_turn t _ x.1 (e.0, tt)
+    of_upgraded_both two r Failed t x e = at_turn t _ x.1 (e.0, of_node two.top (tops two e))
+    of_upgraded_both two r Exhausted t x e = at_turn t _ x.1 (e.0, of_node two.top (tops two e))
 
     -- each step of the table
     module _ (same : V → V → Bool) (always : Bool) (most : ℕ) (why : NodeType → Refusal → Type 0) (i : ℕ) (a : ℕ → Note) (fail : Bool) (answer : Option (Option V)) (given given' : Option V) (turn : Turn C V) (w : LockWords a h)
@@ -244,13 +293,14 @@ module _ {C : Type 0} (V : Type 0) (number : C → ℕ) (K : ℕ → Type 0) whe
       step_names (Check s c) m g e = of_if root top _ _ turn g.2 (λ y x. of_checked always same kind given s c turn x e (found s c m.1 y))
       step_names (CheckUncopied at) m g e = of_if root top _ _ turn g.2 (λ y x. at_turn turn (refused refusal.Count) x tt)
       step_names (CheckMiss p at common byte) m g e = of_if root top _ _ turn g.2 (λ y x. at_turn turn _ x (of_miss kind p at common byte e.0 e.1.0))
-      step_names (CheckDown p at c) m g e = of_if root top _ _ turn g.2 (λ y x. at_turn turn (quiet (Version (Some at) c)) x (e.1.1.0, (e.1.0, tt)))
+      step_names (CheckDown p at c) m g e = of_if root top _ _ turn g.2 (λ y x. at_turn turn (quiet (Version (Some at) c)) x (e.1.0, e.1.1))
       step_names (CheckOld p s v) m g e = of_if root top _ _ turn g.2 (λ y x. of_old always same kind given s v turn x e.1)
       step_names (MakeLeaf s) m g e = of_leaf s g.1.0 turn g.1.1 e
       step_names (MakeGreater s p leaf) m g e = of_made_greater s p leaf g.1.0 turn g.1.1 e.0
           (left K (name_made number leaf) (names_site number s) e.1) (right K (name_made number leaf) (names_site number s) e.1)
       step_names (MakeTop p at common byte) m g e = of_made_top p at common byte g.1.0 turn g.1.1 e.0 e.1.0
       step_names (MakeBeside p at common byte c) m g e = of_made_beside p at common byte c g.1.0 turn g.1.1 e.0 e.1.0 e.1.1.0
+      step_names (MakeLesser s p top r) m g e = of_made_lesser s p top r g.1.0 turn g.1.1 e.0 (left K (name_above number top) (names_site number s) e.1) (right K (name_above number top) (names_site number s) e.1)
       step_names (AskOld s v) m g e = of_given always same kind s v answer given given' turn g.1 e
       step_names (AskNew plan) m g e = of_new plan answer given given' turn g.1 e
       step_names (Confirm at r) m g e = of_if root top _ _ turn g.2 (λ y x. at_turn turn (answered r) x tt)
@@ -259,14 +309,15 @@ module _ {C : Type 0} (V : Type 0) (number : C → ℕ) (K : ℕ → Type 0) whe
           (λ y. at_turn turn (again root) (g.1.goes_back y).1 (top, tt))
       step_names (UpgradeOne one r) m g e = of_upgraded_one one r g.1.0 turn g.1.2 e
       step_names (ChangeOne one r) m g e = at_turn turn (decided (Unlock one.at.node r)) g.2 (e.0, tt)
+      step_names (UpgradeTop top two r) m g e = of_upgraded_top top two r g.1.0 turn g.1.2 e.0 e.1
       step_names (UpgradeAbove two r) m g e = of_upgraded_above two r g.1.0 turn g.1.2 e
       step_names (UpgradeBelow two r) m g e = of_upgraded_both two r g.1.0 turn g.1.2 e
-      step_names (ChangeTwo two r) m g e = at_turn turn _ g.2 (of_change two r two.change e.0 e.1.0)
-      step_names (Obsolete n p r) m g e = at_turn turn (quiet (Retire n p r)) g.2 e
-      step_names (Retire n p r) m g e = at_turn turn (quiet (Unlock p r)) g.2 (e.1.0, tt)
+      step_names (ChangeTwo two r) m g e = at_turn turn _ g.2 (of_change two r two.change e)
+      step_names (Obsolete n next p r) m g e = at_turn turn (quiet (Retire n next p r)) g.2 e
+      step_names (Retire n next p r) m g e = at_turn turn _ g.2 (of_retired next p r e.1.0 e.1.1)
       step_names (UnlockBelow n p r) m g e = at_turn turn (quiet (Unlock p r)) g.2 (e.1.0, tt)
       step_names (Unlock n r) m g e = at_turn turn (finished r) g.2 tt
-      step_names (Unwind n r) m g e = at_turn turn _ g.2 (of_unwound root top r)
+      step_names (Unwind n next r) m g e = at_turn turn _ g.2 (of_after_unwind root top next r e.1)
       step_names (Sweep s) m g e = at_turn turn (swept g.2.0 g.2.1) g.2.3 (sweep_names number always a h K root top hangs w s (g.2.0, g.2.1) m g.2.2 e)
       step_names Ended m g e = at_turn turn (quiet Ended) g.2 tt
 

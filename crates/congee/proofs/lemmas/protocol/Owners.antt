@@ -2,26 +2,28 @@
 use Rattle.std.proofs.Common.{◌≡◌, ◌≢◌, ℕ, zero, suc, ◌⊎◌, inl, inr, Bool, true, List, [], ◌∷◌, refl, sym, ◌∙◌, ap, subst, arith}
 use Rattle.std.proofs.Math.ListN.{set}
 use Rattle.std.specs.Prelude.{Option, None, Some, slice_get}
+use Rattle.judge.specs.declared.journal.Reply.{Reply}
 use Rattle.congee.specs.declared.forms.base_node.NodeType.{NodeType}
 use Rattle.congee.specs.declared.protocol.store.Refusal.{Refusal}
 use Rattle.congee.specs.declared.protocol.phase.Kind.{Kind}
+use Rattle.congee.specs.declared.protocol.phase.Parent.{Parent}
 use Rattle.congee.specs.declared.protocol.phase.Site.{Site}
 use Rattle.congee.specs.declared.protocol.phase.Single.{Single}
 use Rattle.congee.specs.declared.protocol.phase.Single.TheVariants.{Set, Link}
 use Rattle.congee.specs.declared.protocol.phase.Double.{Double}
-use Rattle.congee.specs.declared.protocol.phase.Double.TheVariants.{Unlink, Grow, GrowLink, Split}
+use Rattle.congee.specs.declared.protocol.phase.Double.TheVariants.{Unlink, Grow, GrowLink, Split, Shrink, Collapse, ShrinkAbove}
 use Rattle.congee.specs.declared.protocol.phase.Plan.{Plan}
 use Rattle.congee.specs.declared.protocol.phase.Plan.TheVariants.{Here, Above}
 use Rattle.congee.specs.declared.protocol.phase.Phase.{Phase}
-use Rattle.congee.specs.declared.protocol.phase.Phase.TheVariants.{New, Version, Read, Check, CheckUncopied, CheckMiss, CheckDown, CheckOld, MakeLeaf, MakeGreater, MakeTop, MakeBeside, AskOld, AskNew, Confirm, CheckAbove, UpgradeOne, ChangeOne, UpgradeAbove, UpgradeBelow, ChangeTwo, Obsolete, Retire, UnlockBelow, Unlock, Unwind, Sweep, Ended}
+use Rattle.congee.specs.declared.protocol.phase.Phase.TheVariants.{New, Version, Read, Check, CheckUncopied, CheckMiss, CheckDown, CheckOld, MakeLeaf, MakeGreater, MakeTop, MakeBeside, MakeLesser, AskOld, AskNew, Confirm, CheckAbove, UpgradeOne, ChangeOne, UpgradeTop, UpgradeAbove, UpgradeBelow, ChangeTwo, Obsolete, Retire, UnlockBelow, Unlock, Unwind, Sweep, Ended}
 use Rattle.congee.specs.declared.protocol.turn.Turn.{Turn}
 use Rattle.congee.specs.declared.protocol.machine.Machine.{Machine}
 use Rattle.congee.specs.Heap.{Node}
-use Rattle.congee.specs.protocol.Steps.{PhaseStepped}
+use Rattle.congee.specs.protocol.Steps.{after_retire, PhaseStepped}
 use Rattle.congee.specs.Keys.{key_bytes}
 use Rattle.congee.specs.Ledger.{Note, Unmade, Held, Linked, Gone, Tree, LockWords}
-use Rattle.congee.specs.protocol.Protocol.{Made, MadeOne, MadeTwo, MadeLeafFor, PlanKnown, Fares, Known}
-use Rattle.congee.specs.protocol.Holdings.{LockedBy, MadeForOne, MadeForTwo, MadeForPlan, IsMade, MadeBy, TakenBy, Holdings}
+use Rattle.congee.specs.protocol.Protocol.{TopLocked, AlsoOut, AlsoHolding, Made, MadeOne, MadeTwo, MadeLeafFor, PlanKnown, Fares, Known}
+use Rattle.congee.specs.protocol.Holdings.{IsTop, LockedBy, MadeForOne, MadeForTwo, MadeForPlan, IsMade, MadeBy, TakenBy, Holdings}
 use Rattle.congee.proofs.lemmas.Tree.{same_or_not}
 use Rattle.congee.proofs.lemmas.protocol.Holdings.{Holds_now}
 
@@ -56,17 +58,20 @@ module _ {C V : Type 0} (number : C → ℕ) (same : V → V → Bool) (always :
   one_held Set m x = absurd x
   one_held (Link leaf) m x = made_at (number leaf) 7 0 m x
 
-  two_held : (change : Double C) (size q : ℕ) → MadeTwo number i a h (key_bytes k) change size q → MadeForTwo number change n → (a n).status ≡ Held i
-  two_held Unlink size q m x = absurd x
-  two_held (Grow c) size q m x = made_at (number c) size q m x
-  two_held (GrowLink c leaf byte) size q m (inl x) = made_at (number c) size q m.0 x
-  two_held (GrowLink c leaf byte) size q m (inr x) = made_at (number leaf) 7 0 m.1 x
-  two_held (Split top leaf common byte) size q m (inl x) = made_at (number top) common 1 m.0 x
-  two_held (Split top leaf common byte) size q m (inr x) = made_at (number leaf) 7 0 m.1 x
+  two_held : (p : Parent C) (change : Double C) (size q : ℕ) → MadeTwo number i a h (key_bytes k) p change size q → MadeForTwo number change n → (a n).status ≡ Held i
+  two_held p Unlink size q m x = absurd x
+  two_held p Collapse size q m x = absurd x
+  two_held p (Shrink c) size q m x = made_at (number c) size q m x
+  two_held p (ShrinkAbove c) size q m x = made_at (number c) p.depth q m.0 x
+  two_held p (Grow c) size q m x = made_at (number c) size q m x
+  two_held p (GrowLink c leaf byte) size q m (inl x) = made_at (number c) size q m.0 x
+  two_held p (GrowLink c leaf byte) size q m (inr x) = made_at (number leaf) 7 0 m.1 x
+  two_held p (Split top leaf common byte) size q m (inl x) = made_at (number top) common 1 m.0 x
+  two_held p (Split top leaf common byte) size q m (inr x) = made_at (number leaf) 7 0 m.1 x
 
   plan_held : (plan : Plan C) → PlanKnown number i a h (key_bytes k) plan → MadeForPlan number plan n → (a n).status ≡ Held i
   plan_held (Here check one) m x = one_held one.change m.1.made x
-  plan_held (Above two) m x = two_held two.change _ _ m.0.1.made x
+  plan_held (Above two) m x = two_held two.above two.change _ _ m.0.1.made x
 
   leaf_held : (leaf : Option C) (s : Site C) → MadeLeafFor number i a h (key_bytes k) s leaf → IsMade number leaf n → (a n).status ≡ Held i
   leaf_held None s m x = absurd x
@@ -85,25 +90,39 @@ module _ {C V : Type 0} (number : C → ℕ) (same : V → V → Bool) (always :
   made_held (MakeGreater s p leaf) x l = leaf_held leaf s x.3 l
   made_held (MakeTop p at common byte) x l = absurd l
   made_held (MakeBeside p at common byte top) x l = made_at (number top) common 1 x.6 l
+  made_held (MakeLesser s p g r) x l = absurd l
   made_held (AskOld s v) x l = absurd l
   made_held (AskNew plan) x l = plan_held plan x.0 l
   made_held (Confirm at r) x l = absurd l
   made_held (CheckAbove p one r) x l = one_held one.change x.2.made l
   made_held (UpgradeOne one r) x l = one_held one.change x.1.1.made l
   made_held (ChangeOne one r) x l = one_held one.change x.1.made l
-  made_held (UpgradeAbove two r) x l = two_held two.change _ _ x.1.2.made l
-  made_held (UpgradeBelow two r) x l = two_held two.change _ _ x.1.2.made l
-  made_held (ChangeTwo two r) x l = two_held two.change _ _ x.2.made l
-  made_held (Obsolete m p r) x l = absurd l
-  made_held (Retire m p r) x l = absurd l
+  made_held (UpgradeTop g two r) x l = two_held two.above two.change _ _ x.1.2.made l
+  made_held (UpgradeAbove two r) x l = two_held two.above two.change _ _ x.1.2.made l
+  made_held (UpgradeBelow two r) x l = two_held two.above two.change _ _ x.1.2.made l
+  made_held (ChangeTwo two r) x l = two_held two.above two.change _ _ x.2.made l
+  made_held (Obsolete m next p r) x l = absurd l
+  made_held (Retire m next p r) x l = absurd l
   made_held (UnlockBelow m p r) x l = absurd l
   made_held (Unlock m r) x l = absurd l
-  made_held (Unwind m e) x l = absurd l
+  made_held (Unwind m next e) x l = absurd l
   made_held (Sweep s) x l = absurd l
   made_held Ended x l = absurd l
 
   owned_at : (m : ℕ) → (a m).owner ≡ Some i → n ≡ m → (a n).owner ≡ Some i
   owned_at m o q = let P : ℕ → Type 0 = λ y. (a y).owner ≡ Some i in subst P (sym q) o
+
+  top_owned : (top : Option (Parent C)) (m : ℕ) → TopLocked number i a h (key_bytes k) top m → IsTop number top n → (a n).owner ≡ Some i
+  top_owned None m x l = absurd l
+  top_owned (Some g) m x l = owned_at (number g.seat.node) x.holding.owner l
+
+  out_owned : (next : Option C) (m : ℕ) → AlsoOut number i a h m next → IsMade number next n → (a n).owner ≡ Some i
+  out_owned None m x l = absurd l
+  out_owned (Some c) m x l = owned_at (number c) x.0 l
+
+  held_owned : (next : Option C) (m : ℕ) → AlsoHolding number i a m next → IsMade number next n → (a n).owner ≡ Some i
+  held_owned None m x l = absurd l
+  held_owned (Some c) m x l = owned_at (number c) x.0.owner l
 
   pub locks_owned : (s : Phase C V) → Known number same always i a h k (key_bytes k) kind given s → LockedBy number s n → (a n).owner ≡ Some i
   locks_owned New x l = absurd l
@@ -118,31 +137,46 @@ module _ {C V : Type 0} (number : C → ℕ) (same : V → V → Bool) (always :
   locks_owned (MakeGreater s p leaf) x l = absurd l
   locks_owned (MakeTop p at common byte) x l = absurd l
   locks_owned (MakeBeside p at common byte top) x l = absurd l
+  locks_owned (MakeLesser s p g r) x l = absurd l
   locks_owned (AskOld s v) x l = absurd l
   locks_owned (AskNew plan) x l = absurd l
   locks_owned (Confirm at r) x l = absurd l
   locks_owned (CheckAbove p one r) x l = absurd l
   locks_owned (UpgradeOne one r) x l = absurd l
   locks_owned (ChangeOne one r) x l = owned_at (number one.at.node) x.1.holding.owner l
-  locks_owned (UpgradeAbove two r) x l = absurd l
-  locks_owned (UpgradeBelow two r) x l = owned_at (number two.above.seat.node) x.1.2.above.holding.owner l
-  locks_owned (ChangeTwo two r) x (inl l) = owned_at (number two.above.seat.node) x.2.above.holding.owner l
-  locks_owned (ChangeTwo two r) x (inr l) = owned_at (number two.at.node) x.2.owner l
-  locks_owned (Obsolete m p r) x (inl l) = owned_at (number p) x.above.owner l
-  locks_owned (Obsolete m p r) x (inr l) = owned_at (number m) x.owner l
-  locks_owned (Retire m p r) x (inl l) = owned_at (number p) x.0.above.owner l
-  locks_owned (Retire m p r) x (inr l) = owned_at (number m) x.0.owner l
+  locks_owned (UpgradeTop g two r) x l = absurd l
+  locks_owned (UpgradeAbove two r) x l = top_owned two.top _ x.1.2.top l
+  locks_owned (UpgradeBelow two r) x (inl l) = owned_at (number two.above.seat.node) x.1.2.above.holding.owner l
+  locks_owned (UpgradeBelow two r) x (inr l) = top_owned two.top _ x.1.2.top l
+  locks_owned (ChangeTwo two r) x (inl (inl l)) = owned_at (number two.above.seat.node) x.2.above.holding.owner l
+  locks_owned (ChangeTwo two r) x (inl (inr l)) = owned_at (number two.at.node) x.2.owner l
+  locks_owned (ChangeTwo two r) x (inr l) = top_owned two.top _ x.2.top l
+  locks_owned (Obsolete m next p r) x (inl (inl l)) = owned_at (number p) x.0.above.owner l
+  locks_owned (Obsolete m next p r) x (inl (inr l)) = owned_at (number m) x.0.owner l
+  locks_owned (Obsolete m next p r) x (inr l) = out_owned next _ x.1 l
+  locks_owned (Retire m next p r) x (inl (inl l)) = owned_at (number p) x.0.above.owner l
+  locks_owned (Retire m next p r) x (inl (inr l)) = owned_at (number m) x.0.owner l
+  locks_owned (Retire m next p r) x (inr l) = out_owned next _ x.1 l
   locks_owned (UnlockBelow m p r) x (inl l) = owned_at (number p) x.1.owner l
   locks_owned (UnlockBelow m p r) x (inr l) = owned_at (number m) x.0.owner l
   locks_owned (Unlock m r) x l = owned_at (number m) x.owner l
-  locks_owned (Unwind m e) x l = owned_at (number m) x.1.owner l
+  locks_owned (Unwind m next e) x (inl l) = owned_at (number m) x.1.owner l
+  locks_owned (Unwind m next e) x (inr l) = held_owned next _ x.2 l
   locks_owned (Sweep s) x l = absurd l
   locks_owned Ended x l = absurd l
 
   linked_gone : (m : ℕ) → (a m).status ≡ Linked → n ≡ m → (a n).status ≡ Gone → ⊥
   linked_gone m l q g = let y : (a n).status ≡ Linked = (let P : ℕ → Type 0 = λ y. (a y).status ≡ Linked in subst P (sym q) l) in let z : Linked ≡ Gone = sym y ∙ g in cc
 
-  -- a locked node that left the tree is the one that the call took out
+  top_stays : (top : Option (Parent C)) (m : ℕ) → TopLocked number i a h (key_bytes k) top m → IsTop number top n → (a n).status ≡ Gone → ⊥
+  top_stays None m x l g = l
+  top_stays (Some p) m x l g = linked_gone (number p.seat.node) x.holding.linked l g
+
+  held_stays : (next : Option C) (m : ℕ) → AlsoHolding number i a m next → IsMade number next n → (a n).status ≡ Gone → ⊥
+  held_stays None m x l g = l
+  held_stays (Some c) m x l g = linked_gone (number c) x.0.linked l g
+
+  -- a locked node that left the tree is one that the call took out
   pub gone_taken : Tree a h → (s : Phase C V) → Known number same always i a h k (key_bytes k) kind given s → LockedBy number s n → (a n).status ≡ Gone → TakenBy number s n
   gone_taken t New x l g = absurd l
   gone_taken t (Version p n0) x l g = absurd l
@@ -156,26 +190,38 @@ module _ {C V : Type 0} (number : C → ℕ) (same : V → V → Bool) (always :
   gone_taken t (MakeGreater s p leaf) x l g = absurd l
   gone_taken t (MakeTop p at common byte) x l g = absurd l
   gone_taken t (MakeBeside p at common byte top) x l g = absurd l
+  gone_taken t (MakeLesser s p top r) x l g = absurd l
   gone_taken t (AskOld s v) x l g = absurd l
   gone_taken t (AskNew plan) x l g = absurd l
   gone_taken t (Confirm at r) x l g = absurd l
   gone_taken t (CheckAbove p one r) x l g = absurd l
   gone_taken t (UpgradeOne one r) x l g = absurd l
   gone_taken t (ChangeOne one r) x l g = linked_gone (number one.at.node) x.1.holding.linked l g
-  gone_taken t (UpgradeAbove two r) x l g = absurd l
-  gone_taken t (UpgradeBelow two r) x l g = linked_gone (number two.above.seat.node) x.1.2.above.holding.linked l g
-  gone_taken t (ChangeTwo two r) x (inl l) g = linked_gone (number two.above.seat.node) x.2.above.holding.linked l g
-  gone_taken t (ChangeTwo two r) x (inr l) g = linked_gone (number two.at.node) (t.down (number two.above.seat.node) _ (number two.at.node) x.2.above.holding.linked x.2.above.child).linked l g
-  gone_taken t (Obsolete m p r) x (inl l) g = absurd (linked_gone (number p) x.above.linked l g)
-  gone_taken t (Obsolete m p r) x (inr l) g = l
-  gone_taken t (Retire m p r) x (inl l) g = absurd (linked_gone (number p) x.0.above.linked l g)
-  gone_taken t (Retire m p r) x (inr l) g = l
+  gone_taken t (UpgradeTop top two r) x l g = absurd l
+  gone_taken t (UpgradeAbove two r) x l g = top_stays two.top _ x.1.2.top l g
+  gone_taken t (UpgradeBelow two r) x (inl l) g = linked_gone (number two.above.seat.node) x.1.2.above.holding.linked l g
+  gone_taken t (UpgradeBelow two r) x (inr l) g = top_stays two.top _ x.1.2.top l g
+  gone_taken t (ChangeTwo two r) x (inl (inl l)) g = linked_gone (number two.above.seat.node) x.2.above.holding.linked l g
+  gone_taken t (ChangeTwo two r) x (inl (inr l)) g = linked_gone (number two.at.node) (t.down (number two.above.seat.node) _ (number two.at.node) x.2.above.holding.linked x.2.above.child).linked l g
+  gone_taken t (ChangeTwo two r) x (inr l) g = top_stays two.top _ x.2.top l g
+  gone_taken t (Obsolete m next p r) x (inl (inl l)) g = absurd (linked_gone (number p) x.0.above.linked l g)
+  gone_taken t (Obsolete m next p r) x (inl (inr l)) g = inl l
+  gone_taken t (Obsolete m next p r) x (inr l) g = inr l
+  gone_taken t (Retire m next p r) x (inl (inl l)) g = absurd (linked_gone (number p) x.0.above.linked l g)
+  gone_taken t (Retire m next p r) x (inl (inr l)) g = inl l
+  gone_taken t (Retire m next p r) x (inr l) g = inr l
   gone_taken t (UnlockBelow m p r) x (inl l) g = linked_gone (number p) x.1.linked l g
   gone_taken t (UnlockBelow m p r) x (inr l) g = linked_gone (number m) x.0.linked l g
   gone_taken t (Unlock m r) x l g = linked_gone (number m) x.linked l g
-  gone_taken t (Unwind m e) x l g = linked_gone (number m) x.1.linked l g
+  gone_taken t (Unwind m next e) x (inl l) g = linked_gone (number m) x.1.linked l g
+  gone_taken t (Unwind m next e) x (inr l) g = held_stays next _ x.2 l g
   gone_taken t (Sweep s) x l g = absurd l
   gone_taken t Ended x l g = absurd l
+
+  -- the second one is marked next
+  next_out : (next : Option C) (p : C) (r : Reply V) → IsMade number next n → TakenBy number (after_retire next p r).phase n
+  next_out None p r l = absurd l
+  next_out (Some c) p r l = inl l
 
   -- it is marked, and then handed over
   pub taken_on : (most : ℕ) (why : NodeType → Refusal → Type 0) (root : C) (fail : Bool) (answer : Option (Option V)) (s : Phase C V) (given' : Option V) (turn : Turn C V) (h' : ℕ → Node V) → PhaseStepped number same always most why root (key_bytes k) kind fail answer given s h given' turn h'
@@ -192,20 +238,23 @@ module _ {C V : Type 0} (number : C → ℕ) (same : V → V → Bool) (always :
   taken_on most why root fail answer (MakeGreater s p leaf) given' turn h' g l = absurd l
   taken_on most why root fail answer (MakeTop p at common byte) given' turn h' g l = absurd l
   taken_on most why root fail answer (MakeBeside p at common byte top) given' turn h' g l = absurd l
+  taken_on most why root fail answer (MakeLesser s p top r) given' turn h' g l = absurd l
   taken_on most why root fail answer (AskOld s v) given' turn h' g l = absurd l
   taken_on most why root fail answer (AskNew plan) given' turn h' g l = absurd l
   taken_on most why root fail answer (Confirm at r) given' turn h' g l = absurd l
   taken_on most why root fail answer (CheckAbove p one r) given' turn h' g l = absurd l
   taken_on most why root fail answer (UpgradeOne one r) given' turn h' g l = absurd l
   taken_on most why root fail answer (ChangeOne one r) given' turn h' g l = absurd l
+  taken_on most why root fail answer (UpgradeTop top two r) given' turn h' g l = absurd l
   taken_on most why root fail answer (UpgradeAbove two r) given' turn h' g l = absurd l
   taken_on most why root fail answer (UpgradeBelow two r) given' turn h' g l = absurd l
   taken_on most why root fail answer (ChangeTwo two r) given' turn h' g l = absurd l
-  taken_on most why root fail answer (Obsolete m p r) given' turn h' g l = let P : Turn C V → Type 0 = λ y. TakenBy number y.phase n in inr (subst P (sym g.2) l)
-  taken_on most why root fail answer (Retire m p r) given' turn h' g l = let P : ℕ → Type 0 = λ y. (h' y).retired ≡ true in inl (subst P (sym l) (rw g.1.after refl))
+  taken_on most why root fail answer (Obsolete m next p r) given' turn h' g l = let P : Turn C V → Type 0 = λ y. TakenBy number y.phase n in inr (subst P (sym g.2) l)
+  taken_on most why root fail answer (Retire m next p r) given' turn h' g (inl l) = let P : ℕ → Type 0 = λ y. (h' y).retired ≡ true in inl (subst P (sym l) (rw g.1.after refl))
+  taken_on most why root fail answer (Retire m next p r) given' turn h' g (inr l) = let P : Turn C V → Type 0 = λ y. TakenBy number y.phase n in inr (subst P (sym g.2) (next_out next p r l))
   taken_on most why root fail answer (UnlockBelow m p r) given' turn h' g l = absurd l
   taken_on most why root fail answer (Unlock m r) given' turn h' g l = absurd l
-  taken_on most why root fail answer (Unwind m e) given' turn h' g l = absurd l
+  taken_on most why root fail answer (Unwind m next e) given' turn h' g l = absurd l
   taken_on most why root fail answer (Sweep s) given' turn h' g l = absurd l
   taken_on most why root fail answer Ended given' turn h' g l = absurd l
 

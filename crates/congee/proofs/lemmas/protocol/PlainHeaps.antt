@@ -1,21 +1,23 @@
 -- Changes of single nodes of a plain list.
-use Rattle.std.proofs.Common.{◌≡◌, ◌≢◌, ℕ, subst, zero, suc, ◌<◌, ◌≤◌, ◌==◌, Bool, true, false, List, [], ◌∷◌, ◌++◌, length, get_or, set, take, drop, refl, sym, ◌∙◌, ap, arith}
+use Rattle.std.proofs.Common.{◌≡◌, ◌≢◌, ℕ, subst, zero, suc, ◌<◌, ◌≤◌, ◌==◌, Bool, true, false, List, [], ◌∷◌, ◌++◌, length, get_or, set, take, drop, refl, sym, ◌∙◌, ap, arith, inl, inr}
 use Rattle.std.specs.Prelude.{None, Some, slice_index}
 use Rattle.std.proofs.Math.Seq.{take-append_seam}
+use Rattle.std.proofs.lemmas.Bool.{cases_lt}
 use Rattle.std.proofs.lemmas.List.{length-set, length-take-le, get_or-take}
 use Rattle.congee.specs.declared.forms.child.Child.{Child}
+use Rattle.congee.specs.declared.forms.child.Child.TheVariants as hanging
 use Rattle.congee.specs.declared.protocol.plain_node.PlainNode.{PlainNode}
-use Rattle.congee.specs.Heap.{Node, is_taken}
+use Rattle.congee.specs.Heap.{Node, Nothing, Below, is_taken}
 use Rattle.congee.specs.declared.forms.base_node.NodeType.{NodeType}
 use Rattle.congee.specs.declared.forms.base_node.NodeType.TheVariants.{N4, N16, N48, N256}
 use Rattle.congee.specs.declared.protocol.store.Seen.{Seen}
 use Rattle.congee.specs.declared.protocol.store.Upgrade.TheVariants.{Locked, Failed}
 use Rattle.congee.specs.forms.Forms.{capacity_of}
-use Rattle.congee.specs.protocol.Events.{hung, places, ChangeGives, HoldsValues, HoldsNodes, TakeOverGives, NewNode, UpgradeGives, SeenTruly}
+use Rattle.congee.specs.protocol.Events.{hung, places, ChangeGives, HoldsValues, HoldsNodes, IsOther, TakeOverGives, NewNode, UpgradeGives, SeenTruly}
 use Rattle.congee.specs.protocol.Bounds.{Within}
 use Rattle.congee.specs.protocol.Plain.{count_of, child_at}
 use Rattle.congee.specs.protocol.PlainHeap.{plain_node_of, plain_heap, IsFresh, IsTruly, SameWord, HandsOver}
-use Rattle.congee.proofs.lemmas.protocol.PlainLemmas.{child_set, child_beside, count_set, alone, lacking, none_left, all_left}
+use Rattle.congee.proofs.lemmas.protocol.PlainLemmas.{child_set, child_beside, count_set, alone, pair_alone, one_left, past, lacking, none_left, all_left}
 use Rattle.congee.proofs.lemmas.protocol.Leftovers.{kept_node, kept_value}
 use Rattle.congee.proofs.lemmas.owned.Joins.{front_fits}
 use Rattle.congee.proofs.lemmas.Graft.{on_test}
@@ -174,7 +176,7 @@ handed_back nodes f k size i n z w x' y' s ef ek l mi mn hands =
     rw (written_back nodes f k size n i y' x' s ef ek l li) (taken_over nodes i n _ _ x' y' from to hands _ set_two.1 set_two.0 (λ m en ei. set_two.2 m ei en))
 
 -- a new node at the list's end
-places_of : (form : NodeType) → capacity_of form ≡ places form
+pub places_of : (form : NodeType) → capacity_of form ≡ places form
 places_of N4 = refl
 places_of N16 = refl
 places_of N48 = refl
@@ -244,3 +246,24 @@ seen_truly n key b depth s ed e l t =
       alone = λ one ne. alone n.children.items (slice_index key (length n.prefix)) one (λ q. ne (child ∙ q));
       room = λ q. (let w : count_of n.children.items < length n.children.items = lacking n.children.items (slice_index key (length n.prefix)) within (sym child ∙ q) in omega (arith, w, n.wide));
     }
+
+-- a node that hangs beside the one at the byte, where there are two
+pub other_of : (n : PlainNode) (b at c : ℕ) (y : Child ℕ ℕ) → count_of n.children.items ≡ 2 → child_at n.children.items b ≢ Nothing → at ≢ b → at < 256
+    → y ≡ hanging.Node c → hung (λ m. m) y ≡ child_at n.children.items at → IsOther (plain_node_of (Some n)) b c
+other_of n b at c y two there apart fits e child =
+    let below : child_at n.children.items at ≡ Below c = sym child ∙ ap (λ z. hung (λ m. m) z) e in
+    record {
+      at = at;
+      fits = fits;
+      apart = apart;
+      child = below;
+      alone = λ x nb na. pair_alone n.children.items b at two (λ q. apart (sym q)) there (λ q. absurd (let z : Below c ≡ Nothing = sym below ∙ q in cc)) x nb na;
+    }
+
+pub none_other : (n : PlainNode) (b place : ℕ) → count_of n.children.items ≡ 2 → 256 ≤ place → ((q : ℕ) → q ≢ b → q < place → child_at n.children.items q ≡ Nothing) → ⊥
+none_other n b place two far before =
+    let all : (q : ℕ) → q ≢ b → child_at n.children.items q ≡ Nothing = (λ q ne. elim (cases_lt q place) [
+      | inl lt ↦ before q ne lt
+      | inr ge ↦ past n.children.items q (omega (arith, n.wide, far, ge))
+    ]) in
+    omega (arith, two, one_left n.children.items b all)

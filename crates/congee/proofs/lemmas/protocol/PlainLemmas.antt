@@ -88,6 +88,36 @@ alone (x ∷ xs) zero e ne (suc b) d = none_there xs (omega (arith, e, there x n
 alone (x ∷ xs) (suc i) e ne zero d = empty_at x (omega (arith, e, some_there xs i ne, count_cons x xs))
 alone (x ∷ xs) (suc i) e ne (suc b) d = alone xs i (omega (arith, e, some_there xs i ne, count_cons x xs, count_by-le-length is_there (x ∷ xs))) ne b (λ q. d (ap suc q))
 
+-- a list of blanks has no child
+pub none_left : (xs : List (Child ℕ ℕ)) → ((b : ℕ) → child_at xs b ≡ Nothing) → count_of xs ≡ 0
+none_left [] e = refl
+none_left (x ∷ xs) e = (let w : weight (hung (λ n. n) x) ≡ 0 = ap weight (e 0) in omega (arith, w, count_cons x xs, none_left xs (λ b. e (suc b))))
+
+two_there : (xs : List (Child ℕ ℕ)) (i j : ℕ) → i ≢ j → child_at xs i ≢ Nothing → child_at xs j ≢ Nothing → 2 ≤ count_of xs
+two_there [] i j ne ci cj = absurd (ci refl)
+two_there (x ∷ xs) zero zero ne ci cj = absurd (ne refl)
+two_there (x ∷ xs) zero (suc j) ne ci cj = omega (arith, there x ci, some_there xs j cj, count_cons x xs)
+two_there (x ∷ xs) (suc i) zero ne ci cj = omega (arith, there x cj, some_there xs i ci, count_cons x xs)
+two_there (x ∷ xs) (suc i) (suc j) ne ci cj = omega (arith, two_there xs i j (λ q. ne (ap suc q)) ci cj, count_cons x xs)
+
+-- a node with two children has nothing else
+pub pair_alone : (xs : List (Child ℕ ℕ)) (i j : ℕ) → count_of xs ≡ 2 → i ≢ j → child_at xs i ≢ Nothing → child_at xs j ≢ Nothing → (b : ℕ) → b ≢ i → b ≢ j → child_at xs b ≡ Nothing
+pair_alone [] i j e ne ci cj b di dj = refl
+pair_alone (x ∷ xs) zero zero e ne ci cj b di dj = absurd (ne refl)
+pair_alone (x ∷ xs) zero (suc j) e ne ci cj zero di dj = absurd (di refl)
+pair_alone (x ∷ xs) zero (suc j) e ne ci cj (suc b) di dj = alone xs j (omega (arith, e, there x ci, count_cons x xs)) cj b (λ q. dj (ap suc q))
+pair_alone (x ∷ xs) (suc i) zero e ne ci cj zero di dj = absurd (dj refl)
+pair_alone (x ∷ xs) (suc i) zero e ne ci cj (suc b) di dj = alone xs i (omega (arith, e, there x cj, count_cons x xs)) ci b (λ q. di (ap suc q))
+pair_alone (x ∷ xs) (suc i) (suc j) e ne ci cj zero di dj = empty_at x (omega (arith, e, two_there xs i j (λ q. ne (ap suc q)) ci cj, count_cons x xs))
+pair_alone (x ∷ xs) (suc i) (suc j) e ne ci cj (suc b) di dj =
+    pair_alone xs i j (omega (arith, e, two_there xs i j (λ q. ne (ap suc q)) ci cj, count_cons x xs)) (λ q. ne (ap suc q)) ci cj b (λ q. di (ap suc q)) (λ q. dj (ap suc q))
+
+-- a node that has nothing but one place has at most one child
+pub one_left : (xs : List (Child ℕ ℕ)) (i : ℕ) → ((b : ℕ) → b ≢ i → child_at xs b ≡ Nothing) → count_of xs ≤ 1
+one_left [] i e = omega arith
+one_left (x ∷ xs) zero e = omega (arith, at_most x, none_left xs (λ b. e (suc b) (λ q. absurd (omega (arith, q)))), count_cons x xs)
+one_left (x ∷ xs) (suc i) e = (let w : weight (hung (λ n. n) x) ≡ 0 = ap weight (e 0 (λ q. absurd (omega (arith, q)))) in omega (arith, w, count_cons x xs, one_left xs i (λ b ne. e (suc b) (λ q. ne (omega (arith, q))))))
+
 -- a node that lacks a byte has fewer children than places
 pub lacking : (xs : List (Child ℕ ℕ)) (i : ℕ) → i < length xs → child_at xs i ≡ Nothing → count_of xs < length xs
 lacking [] i l e = absurd (omega arith)
@@ -118,10 +148,6 @@ names_end from to same below b = elim (cases_lt b (length from)) [
 ]
 
 -- how many are left
-pub none_left : (xs : List (Child ℕ ℕ)) → ((b : ℕ) → child_at xs b ≡ Nothing) → count_of xs ≡ 0
-none_left [] e = refl
-none_left (x ∷ xs) e = (let w : weight (hung (λ n. n) x) ≡ 0 = ap weight (e 0) in omega (arith, w, count_cons x xs, none_left xs (λ b. e (suc b))))
-
 pub all_left : (xs ys : List (Child ℕ ℕ)) → length ys ≡ length xs → ((b : ℕ) → child_at ys b ≡ child_at xs b) → count_of ys ≡ count_of xs
 all_left [] [] l e = refl
 all_left [] (y ∷ ys) l e = absurd (omega (arith, l))

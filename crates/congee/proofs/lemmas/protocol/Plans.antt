@@ -1,5 +1,7 @@
 -- Where a check that succeeded leads: an absent key, a value, the closure's answer.
-use Rattle.std.proofs.Common.{◌≡◌, ◌≢◌, ℕ, ◌<◌, ◌≤◌, ◌==◌, inl, inr, Bool, true, false, List, refl, sym, ◌∙◌, subst, arith}
+use Rattle.std.proofs.Common.{◌≡◌, ◌≢◌, ℕ, ◌<◌, ◌≤◌, ◌==◌, ◌&&◌, inl, inr, Bool, true, false, List, refl, sym, ◌∙◌, subst, arith}
+use Rattle.std.proofs.Math.Dec.{ltb}
+use Rattle.std.proofs.lemmas.Bool.Decides.{nat_tests}
 use Rattle.std.specs.Prelude.{Option, None, Some}
 use Rattle.judge.specs.declared.journal.Call.TheVariants as call
 use Rattle.judge.specs.declared.journal.Reply.{Reply}
@@ -7,21 +9,23 @@ use Rattle.judge.specs.declared.journal.Reply.TheVariants as reply
 use Rattle.congee.specs.declared.protocol.phase.Kind.{Kind}
 use Rattle.congee.specs.declared.protocol.phase.Kind.TheVariants.{Get, Insert, Remove, ComputePresent, ComputeInsert, Exchange}
 use Rattle.congee.specs.declared.protocol.phase.Parent.{Parent}
+use Rattle.congee.specs.declared.protocol.phase.Above.{Above as Over}
 use Rattle.congee.specs.declared.protocol.phase.Site.{Site}
 use Rattle.congee.specs.declared.protocol.phase.Single.{Single}
 use Rattle.congee.specs.declared.protocol.phase.Single.TheVariants.{Set, Link}
 use Rattle.congee.specs.declared.protocol.phase.Double.{Double}
-use Rattle.congee.specs.declared.protocol.phase.Double.TheVariants.{Unlink, Grow, GrowLink, Split}
+use Rattle.congee.specs.declared.protocol.phase.Double.TheVariants.{Unlink, Grow, GrowLink, Split, Shrink, Collapse, ShrinkAbove}
 use Rattle.congee.specs.declared.protocol.phase.Plan.{Plan}
 use Rattle.congee.specs.declared.protocol.phase.Plan.TheVariants.{Here, Above}
+use Rattle.congee.specs.declared.protocol.phase.Phase.TheVariants.{UpgradeOne, UpgradeAbove}
 use Rattle.congee.specs.declared.protocol.turn.Turn.{Turn}
 use Rattle.congee.specs.Heap.{Node, Nothing, Holds, is_taken}
-use Rattle.congee.specs.protocol.Steps.{adds, absent_reply, seat_above, started, ready, plan_here, unless_full, missing, absent, IsAsked, replaced, taken_out, emptied}
+use Rattle.congee.specs.protocol.Steps.{quiet, shrinks, set_at, both, last_out, adds, absent_reply, seat_above, started, ready, plan_here, unless_full, missing, absent, IsAsked, replaced, taken_out, emptied}
 use Rattle.congee.specs.Keys.{key_bytes}
 use Rattle.congee.specs.Ledger.{Note, Tree, LockWords}
-use Rattle.congee.specs.protocol.Protocol.{IsAbove, Sees, Knows, WantedOne, MadeOne, IsLeafAt, FitsOne, OneKnown, FitsTwo, HasGift, Asking, Adding, SeatedIf, PlanKnown, MadeLeafFor, Settles, Known}
+use Rattle.congee.specs.protocol.Protocol.{Fresh, ChildOf, IsFar, IsAbove, IsAlone, HasTop, Sees, Knows, WantedOne, MadeOne, IsLeafAt, FitsOne, OneKnown, FitsTwo, HasGift, Asking, Adding, SeatedIf, PlanKnown, MadeLeafFor, Settles, Known}
 use Rattle.congee.specs.protocol.Answers.{AnswersIf}
-use Rattle.congee.proofs.lemmas.Fits.{equal, same_test}
+use Rattle.congee.proofs.lemmas.Fits.{equal, same_test, both_true}
 use Rattle.congee.proofs.lemmas.protocol.Touch.{by_test, taken_linked}
 use Rattle.congee.proofs.lemmas.Graft.{on_test}
 use Rattle.congee.proofs.lemmas.protocol.Sound.{Sound, fresh_map, settle_absent, answers_now, stands_at}
@@ -35,10 +39,22 @@ fits_two_new Unlink v d = absurd d
 fits_two_new (Grow c) v d = tt
 fits_two_new (GrowLink c leaf byte) v d = tt
 fits_two_new (Split top leaf common byte) v d = tt
+fits_two_new (Shrink c) v d = absurd d
+fits_two_new Collapse v d = absurd d
+fits_two_new (ShrinkAbove c) v d = absurd d
 
-seated_if : {C V : Type 0} (number : C → ℕ) (a : ℕ → Note) (h : ℕ → Node V) (key : List ℕ) (p : Option (Parent C)) (n : ℕ) → IsAbove number a h key p n → SeatedIf number a h (seat_above p)
+has_no_top : {C : Type 0} (change : Double C) (top : Option (Parent C)) → Adding change → top ≡ None → HasTop change top
+has_no_top Unlink top d e = e
+has_no_top (Grow c) top d e = e
+has_no_top (GrowLink c leaf byte) top d e = e
+has_no_top (Split above leaf common byte) top d e = e
+has_no_top (Shrink c) top d e = e
+has_no_top Collapse top d e = absurd d
+has_no_top (ShrinkAbove c) top d e = absurd d
+
+seated_if : {C V : Type 0} (number : C → ℕ) (a : ℕ → Note) (h : ℕ → Node V) (key : List ℕ) (p : Option (Over C)) (n : ℕ) → IsAbove number a h key p n → SeatedIf number a h (seat_above p)
 seated_if number a h key None n m = tt
-seated_if number a h key (Some p) n m = m.fresh.seated
+seated_if number a h key (Some p) n m = m.0.fresh.seated
 
 settle_insert : {V : Type 0} (same : V → V → Bool) (k : ℕ) (v : V) → Settles same k Insert (Some v) None (reply.Insert None) (Some v)
 settle_insert same k v = record { call = call.Insert k v; is_call = refl; reply = refl; left = refl }
@@ -59,7 +75,7 @@ module _ {C V : Type 0} (number : C → ℕ) (same : V → V → Bool) (always :
       → Sound number same always i k kind given h (Some v) (started plan r) a h
   started_sound kind given v (Here None one) r g p s = record { known = (g, (Nothing, p.1, fits_one_new one.change v, s)); answer = λ x _. refl }
   started_sound kind given v (Here (Some q) one) r g p s = record { known = (g, p.0, p.1, fits_one_new one.change v, s); answer = λ x _. refl }
-  started_sound kind given v (Above two) r g p s = record { known = (g, (None, p.0.0, p.0.1, fits_two_new two.change v p.1, s)); answer = λ x _. refl }
+  started_sound kind given v (Above two) r g p s = record { known = (g, (None, p.0.0, p.0.1, has_no_top two.change two.top p.1 p.2, fits_two_new two.change v p.1, s)); answer = λ x _. refl }
 
   pub ready_sound : (kind : Kind V) (given : Option V) (plan : Plan C) → adds kind ≡ true → HasGift kind given → PlanKnown number i a h (key_bytes k) plan → Sound number same always i k kind given h given (ready kind plan) a h
   ready_sound Get given plan e g p = absurd cc
@@ -83,13 +99,15 @@ module _ {C V : Type 0} (number : C → ℕ) (same : V → V → Bool) (always :
   )
 
   -- a node that isn't full, or the root
-  pub unless_full_sound : (kind : Kind V) (given : Option V) (s : Site C) (leaf : Option C) (change : Single C) (full : Bool) (p : Option (Parent C)) → s.full ≡ full → s.above ≡ p → adds kind ≡ true → s.count < 256 → HasGift kind given
+  pub unless_full_sound : (kind : Kind V) (given : Option V) (s : Site C) (leaf : Option C) (change : Single C) (full : Bool) (p : Option (Over C)) → s.full ≡ full → s.above ≡ p → adds kind ≡ true → s.count < 256 → HasGift kind given
       → Knows number a h (key_bytes k) s Nothing → MadeLeafFor number i a h (key_bytes k) s leaf → IsLeafAt change s.depth → MadeOne number i a h (key_bytes k) change
       → Sound number same always i k kind given h given (unless_full kind s full p leaf change) a h
-  unless_full_sound kind given s leaf change true (Some p) ef ep e few g m made size one = record { known = (g, m, ep, made, e, few); answer = λ x _. refl }
+  unless_full_sound kind given s leaf change true (Some p) ef ep e few g m made size one =
+      let ab : IsAbove number a h (key_bytes k) (Some p) (number s.at.node) = (let P : Option (Over C) → Type 0 = λ x. IsAbove number a h (key_bytes k) x (number s.at.node) in subst P ep m.above) in
+      record { known = (g, m, ab.0, made, e, few); answer = λ x _. refl }
   unless_full_sound kind given s leaf change true None ef ep e few g m made size one = ready_sound kind given (plan_here s change) e g (here_known s change m
       (λ q. let y : Sees (key_bytes k) s Nothing (h (number s.at.node)) = m.fresh.holds q in
-      let z : number s.at.node ≡ 0 = (let P : Option (Parent C) → Type 0 = λ x. IsAbove number a h (key_bytes k) x (number s.at.node) in subst P ep m.above) in
+      let z : number s.at.node ≡ 0 = (let P : Option (Over C) → Type 0 = λ x. IsAbove number a h (key_bytes k) x (number s.at.node) in subst P ep m.above) in
       let wide : (h (number s.at.node)).capacity ≡ 256 = (let P : ℕ → Type 0 = λ x. (h x).capacity ≡ 256 in subst P (sym z) w.wide) in
       on_test ((h (number s.at.node)).count == (h (number s.at.node)).capacity)
       (λ b. let c : (h (number s.at.node)).count ≡ (h (number s.at.node)).capacity = equal _ _ b in absurd (omega (arith, y.room refl, wide, c))) (λ b. b)) size one)
@@ -115,7 +133,7 @@ module _ {C V : Type 0} (number : C → ℕ) (same : V → V → Bool) (always :
   pub at_leaf : (s : Site C) (v : V) → Knows number a h (key_bytes k) s (Holds v) → is_taken (h (number s.at.node)) s.at.version ≡ true → s.depth ≡ 7
   at_leaf s v m q = m.depth ∙ t.leaves (number s.at.node) _ v (taken_linked a h w (number s.at.node) s.at.version m.fresh.seated.published q) (m.fresh.holds q).child
 
-  one_set : (s : Site C) (v : V) → Knows number a h (key_bytes k) s (Holds v) → s.depth ≡ 7 → OneKnown number i a h (key_bytes k) (record { at = s.at; byte = s.byte; change = Set }) (Holds v)
+  pub one_set : (s : Site C) (v : V) → Knows number a h (key_bytes k) s (Holds v) → s.depth ≡ 7 → OneKnown number i a h (key_bytes k) (record { at = s.at; byte = s.byte; change = Set }) (Holds v)
   one_set s v m d = record {
     placed = record { fitted = m.fitted; byte = m.byte; size = sym m.depth ∙ d };
     fresh = fresh_map a h (number s.at.node) s.at.version (Sees (key_bytes k) s (Holds v)) (WantedOne (key_bytes k) (Holds v)) (λ z. record { child = z.child; room = λ e. absurd cc }) m.fresh;
@@ -139,34 +157,59 @@ module _ {C V : Type 0} (number : C → ℕ) (same : V → V → Bool) (always :
       })
       (λ q. record { known = (g, (Holds v, one_set s v m d, tt, z)); answer = λ y _. refl })
 
-  -- the value is taken out, and with its last value the leaf
-  emptied_by : (kind : Kind V) (given : Option V) (s : Site C) (v : V) (r : Reply V) (alone : Bool) (p : Option (Parent C)) → (s.count == 1) ≡ alone → s.above ≡ p → HasGift kind None → Knows number a h (key_bytes k) s (Holds v) → s.depth ≡ 7
-      → Settles same k kind None (Some v) r None → Sound number same always i k kind given h None (taken_out s alone p r) a h
-  emptied_by kind given s v r true (Some p) ea ep g m d z = record {
-    known = (
-      g,
-      (
-        Some v,
-        0,
-        record {
-          above = (let P : Option (Parent C) → Type 0 = λ x. IsAbove number a h (key_bytes k) x (number s.at.node) in subst P ep m.above);
-          placed = (m.fitted, sym m.depth ∙ d);
-          fresh = fresh_map a h (number s.at.node) s.at.version (Sees (key_bytes k) s (Holds v)) _
-              (λ y. (y.child, y.alone (y.count ∙ equal s.count 1 ea) (λ e. cc))) m.fresh;
-          made = tt;
-        },
-        tt,
-        z,
-      ),
-    );
+  -- the value is taken out of the leaf
+  set_out : (kind : Kind V) (given : Option V) (s : Site C) (v : V) (r : Reply V) → HasGift kind None → Knows number a h (key_bytes k) s (Holds v) → s.depth ≡ 7
+      → Settles same k kind None (Some v) r None → Sound number same always i k kind given h None (quiet (UpgradeOne (set_at s) r)) a h
+  set_out kind given s v r g m d z = record { known = (g, (Holds v, one_set s v m d, (tt, (λ e. cc)), z)); answer = λ y _. refl }
+
+  -- the leaf has this value alone
+  pub left_alone : (s : Site C) (v : V) → s.count ≡ 1 → Knows number a h (key_bytes k) s (Holds v) → Fresh a h (number s.at.node) s.at.version (IsAlone (key_bytes k) (Some v))
+  left_alone s v e m = fresh_map a h (number s.at.node) s.at.version (Sees (key_bytes k) s (Holds v)) _ (λ y. (y.child, y.alone (y.count ∙ e) (λ f. cc))) m.fresh
+
+  -- the leaf is taken out of the node above
+  leaf_out : (kind : Kind V) (given : Option V) (s : Site C) (v : V) (r : Reply V) (p : Parent C) → ChildOf number a h (key_bytes k) p (number s.at.node) → s.count ≡ 1 → HasGift kind None → Knows number a h (key_bytes k) s (Holds v)
+      → s.depth ≡ 7 → Settles same k kind None (Some v) r None → Sound number same always i k kind given h None (quiet (UpgradeAbove (both p s Unlink) r)) a h
+  leaf_out kind given s v r p c one g m d z = record {
+    known = (g, (Some v, 0, record { top = tt; above = c; placed = (m.fitted, sym m.depth ∙ d); fresh = left_alone s v one m; made = tt }, refl, tt, z));
     answer = λ y _. refl;
   }
-  emptied_by kind given s v r true None ea ep g m d z = record { known = (g, (Holds v, one_set s v m d, (tt, (λ e. cc)), z)); answer = λ y _. refl }
-  emptied_by kind given s v r false p ea ep g m d z = record { known = (g, (Holds v, one_set s v m d, (tt, (λ e. cc)), z)); answer = λ y _. refl }
+
+  -- and with it the node above, or that one gives way to a lesser node
+  last_sound : (kind : Kind V) (given : Option V) (s : Site C) (v : V) (r : Reply V) (p : Parent C) (f : Option (Parent C)) → ChildOf number a h (key_bytes k) p (number s.at.node) → IsFar number a h (key_bytes k) f (number p.seat.node) → s.count ≡ 1
+      → HasGift kind None → Knows number a h (key_bytes k) s (Holds v) → s.depth ≡ 7 → Settles same k kind None (Some v) r None → Sound number same always i k kind given h None (last_out s p f r) a h
+  last_sound kind given s v r p None c f one g m d z = leaf_out kind given s v r p c one g m d z
+  last_sound kind given s v r p (Some top) c f one g m d z = by_test (λ (x : Turn C V). Sound number same always i k kind given h None x a h) (p.count == 2) _ _
+      (λ q. record {
+        known = (
+          g,
+          (Some v, 0, record { top = tt; above = c; placed = (m.fitted, sym m.depth ∙ d); fresh = left_alone s v one m; made = equal p.count 2 q }, tt, z),
+          f,
+          tt,
+          refl,
+        );
+        answer = λ y _. refl;
+      })
+      (λ _. by_test (λ (x : Turn C V). Sound number same always i k kind given h None x a h) (ltb 2 p.count && shrinks p.form p.count) _ _
+      (λ q. let b : (ltb 2 p.count ≡ true) × (shrinks p.form p.count ≡ true) = both_true (ltb 2 p.count) (shrinks p.form p.count) q in
+      record { known = (g, (v, m, z), d, refl, c, (f, one, more p.count b.0, b.1)); answer = λ y _. refl })
+      (λ _. leaf_out kind given s v r p c one g m d z))
+    where
+      more : (n : ℕ) → ltb 2 n ≡ true → 2 < n
+      more n e = grind (arith, nat_tests)
+
+  -- the value goes, and with its last value the leaf
+  taken_sound : (kind : Kind V) (given : Option V) (s : Site C) (v : V) (r : Reply V) (p : Option (Over C)) → IsAbove number a h (key_bytes k) p (number s.at.node) → HasGift kind None → Knows number a h (key_bytes k) s (Holds v) → s.depth ≡ 7
+      → Settles same k kind None (Some v) r None → Sound number same always i k kind given h None (taken_out s p r) a h
+  taken_sound kind given s v r None ab g m d z = set_out kind given s v r g m d z
+  taken_sound kind given s v r (Some u) ab g m d z = by_test (λ (x : Turn C V). Sound number same always i k kind given h None x a h) (s.count == 1) _ _
+      (λ q. last_sound kind given s v r u.near u.far ab.0 ab.1 (equal s.count 1 q) g m d z)
+      (λ _. by_test (λ (x : Turn C V). Sound number same always i k kind given h None x a h) (shrinks s.form s.count) _ _
+      (λ q. record { known = (g, (v, m, z), d, refl, ab.0, q); answer = λ y _. refl })
+      (λ _. set_out kind given s v r g m d z))
 
   pub emptied_sound : (kind : Kind V) (given : Option V) (s : Site C) (v : V) (r : Reply V) → HasGift kind None → Knows number a h (key_bytes k) s (Holds v) → s.depth ≡ 7
       → Settles same k kind None (Some v) r None → Sound number same always i k kind given h None (emptied s r) a h
-  emptied_sound kind given s v r g m d z = emptied_by kind given s v r (s.count == 1) s.above refl refl g m d z
+  emptied_sound kind given s v r g m d z = taken_sound kind given s v r s.above m.above g m d z
 
   pub turn_at : (kind : Kind V) (given given' : Option V) (x y : Turn C V) → y ≡ x → Sound number same always i k kind given h given' x a h → Sound number same always i k kind given h given' y a h
   turn_at kind given given' x y e s = let P : Turn C V → Type 0 = λ z. Sound number same always i k kind given h given' z a h in subst P (sym e) s

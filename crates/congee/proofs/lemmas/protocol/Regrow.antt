@@ -50,15 +50,15 @@ module _ (a : ℕ → Note) (i p m c d : ℕ) where
   pub regrown_owner : (x : ℕ) → x ≢ c → x ≢ d → x ≢ m → (regrown a i p m c d x).owner ≡ (a x).owner
   regrown_owner x nc nd nm = rw (regrown_rest x nc nd nm) (by_test (λ (n : Note). n.owner ≡ (a x).owner) (is_published (a x).status && ((a x).parent == m)) _ _ (λ _. refl) (λ _. refl))
 
-  regrown_same : (x : ℕ) → x ≢ c → x ≢ d → x ≢ m → (a x).parent ≢ m → (regrown a i p m c d x).parent ≡ (a x).parent
+  pub regrown_same : (x : ℕ) → x ≢ c → x ≢ d → x ≢ m → (a x).parent ≢ m → (regrown a i p m c d x).parent ≡ (a x).parent
   regrown_same x nc nd nm ne = rw (regrown_rest x nc nd nm) (by_test (λ (n : Note). n.parent ≡ (a x).parent) (is_published (a x).status && ((a x).parent == m)) _ _
       (λ q. absurd (ne (equal (a x).parent m (both_true (is_published (a x).status) _ q).1))) (λ _. refl))
 
-  regrown_moved : (x : ℕ) → x ≢ c → x ≢ d → x ≢ m → is_published (a x).status ≡ true → (a x).parent ≡ m → (regrown a i p m c d x).parent ≡ c
+  pub regrown_moved : (x : ℕ) → x ≢ c → x ≢ d → x ≢ m → is_published (a x).status ≡ true → (a x).parent ≡ m → (regrown a i p m c d x).parent ≡ c
   regrown_moved x nc nd nm pu e = rw (regrown_rest x nc nd nm) (by_test (λ (n : Note). n.parent ≡ c) (is_published (a x).status && ((a x).parent == m)) _ _
       (λ _. refl) (λ q. absurd (let z : is_published (a x).status && ((a x).parent == m) ≡ true = both _ _ pu (same_test (a x).parent m e) in cc)))
 
-  regrown_hidden : (x : ℕ) → x ≢ c → x ≢ d → x ≢ m → is_published (a x).status ≡ false → regrown a i p m c d x ≡ a x
+  pub regrown_hidden : (x : ℕ) → x ≢ c → x ≢ d → x ≢ m → is_published (a x).status ≡ false → regrown a i p m c d x ≡ a x
   regrown_hidden x nc nd nm pu = rw (regrown_rest x nc nd nm) (by_test (λ (n : Note). n ≡ a x) (is_published (a x).status && ((a x).parent == m)) _ _
       (λ q. absurd (let z : is_published (a x).status ≡ true = (both_true (is_published (a x).status) _ q).0 in cc)) (λ _. refl))
 

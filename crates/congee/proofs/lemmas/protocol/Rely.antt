@@ -2,24 +2,25 @@
 use Rattle.std.proofs.Common.{◌≡◌, ℕ, Bool, true, List, length, refl, sym, ◌∙◌, ap, subst, arith}
 use Rattle.std.specs.Prelude.{Option, None, Some}
 use Rattle.congee.specs.declared.protocol.phase.Parent.{Parent}
+use Rattle.congee.specs.declared.protocol.phase.Above.{Above as Over}
 use Rattle.congee.specs.declared.protocol.phase.Site.{Site}
 use Rattle.congee.specs.declared.protocol.phase.Single.{Single}
 use Rattle.congee.specs.declared.protocol.phase.Single.TheVariants.{Set, Link}
 use Rattle.congee.specs.declared.protocol.phase.One.{One}
 use Rattle.congee.specs.declared.protocol.phase.Double.{Double}
-use Rattle.congee.specs.declared.protocol.phase.Double.TheVariants.{Unlink, Grow, GrowLink, Split}
+use Rattle.congee.specs.declared.protocol.phase.Double.TheVariants.{Unlink, Grow, GrowLink, Split, Shrink, Collapse, ShrinkAbove}
 use Rattle.congee.specs.declared.protocol.phase.Two.{Two}
 use Rattle.congee.specs.declared.protocol.phase.Plan.{Plan}
 use Rattle.congee.specs.declared.protocol.phase.Plan.TheVariants.{Here, Above}
 use Rattle.congee.specs.declared.protocol.phase.Kind.{Kind}
 use Rattle.congee.specs.declared.protocol.phase.Phase.{Phase}
-use Rattle.congee.specs.declared.protocol.phase.Phase.TheVariants.{New, Version, Read, Check, CheckUncopied, CheckMiss, CheckDown, CheckOld, MakeLeaf, MakeGreater, MakeTop, MakeBeside, AskOld, AskNew, Confirm, CheckAbove, UpgradeOne, ChangeOne, UpgradeAbove, UpgradeBelow, ChangeTwo, Obsolete, Retire, UnlockBelow, Unlock, Unwind, Sweep, Ended}
+use Rattle.congee.specs.declared.protocol.phase.Phase.TheVariants.{New, Version, Read, Check, CheckUncopied, CheckMiss, CheckDown, CheckOld, MakeLeaf, MakeGreater, MakeTop, MakeBeside, MakeLesser, AskOld, AskNew, Confirm, CheckAbove, UpgradeOne, ChangeOne, UpgradeTop, UpgradeAbove, UpgradeBelow, ChangeTwo, Obsolete, Retire, UnlockBelow, Unlock, Unwind, Sweep, Ended}
 use Rattle.congee.specs.declared.protocol.store.Seat.{Seat}
 use Rattle.congee.specs.Heap.{Node, Hung}
 use Rattle.congee.specs.protocol.Events.{hung, Parts}
 use Rattle.congee.specs.Ledger.{Note}
-use Rattle.congee.specs.protocol.Protocol.{ChildOf, IsAbove, Knows, Made, PlacedOne, WantedOne, MadeOne, OneKnown, OneLocked, PlacedTwo, WantedTwo, MadeTwo, TwoKnown, AboveLocked, HalfLocked, TwoLocked, TakenOut, SeatedIf, PlanKnown, MadeLeafFor, Known, Rely}
-use Rattle.congee.specs.protocol.Names.{name_above, name_seated, name_made, names_site, names_one, names_plan, names}
+use Rattle.congee.specs.protocol.Protocol.{ChildOf, IsFar, IsAbove, TopLocked, AlsoOut, AlsoHolding, IsLesser, Knows, Made, PlacedOne, WantedOne, MadeOne, OneKnown, OneLocked, PlacedTwo, WantedTwo, MadeTwo, TwoKnown, AboveLocked, HalfLocked, TwoLocked, TakenOut, SeatedIf, PlanKnown, MadeLeafFor, Known, Rely}
+use Rattle.congee.specs.protocol.Names.{name_above, names_over, name_seated, name_made, names_site, names_one, names_plan, names}
 use Rattle.congee.proofs.lemmas.protocol.Each.{Each, left, right}
 pub use Rattle.congee.proofs.lemmas.protocol.Seats.{seated_kept, fresh_kept, fits_kept, holding_kept, made_kept}
 use Rattle.congee.proofs.lemmas.protocol.SweepRely.{sweep_known_kept}
@@ -39,14 +40,20 @@ module _ {C V : Type 0} (number : C → ℕ) (key : List ℕ) (K : ℕ → Type 
   child_kept p n k c = record {
     fitted = fits_kept K i a h a' h' r (number p.seat.node) key true k c.fresh.seated.published c.fitted;
     byte = rw (r.prefix (number p.seat.node) k c.fresh.seated.published) c.byte;
+    depth = rw (r.prefix (number p.seat.node) k c.fresh.seated.published) c.depth;
+    short = c.short;
     fresh = fresh_kept K i a h a' h' r (number p.seat.node) p.seat.version _ k c.fresh;
   }
 
-  pub above_kept : (p : Option (Parent C)) (n : ℕ) → Each K (name_above number p) → IsAbove number a h key p n → IsAbove number a' h' key p n
-  above_kept None n k e = e
-  above_kept (Some p) n k c = child_kept p n k.0 c
+  pub far_kept : (p : Option (Parent C)) (n : ℕ) → Each K (name_above number p) → IsFar number a h key p n → IsFar number a' h' key p n
+  far_kept None n k e = e
+  far_kept (Some p) n k c = child_kept p n k.0 c
 
-  pub knows_kept : (s : Site C) (x : Hung V) → Each K (name_above number s.above) → K (number s.at.node) → Knows number a h key s x → Knows number a' h' key s x
+  pub above_kept : (p : Option (Over C)) (n : ℕ) → Each K (names_over number p) → IsAbove number a h key p n → IsAbove number a' h' key p n
+  above_kept None n k e = e
+  above_kept (Some u) n k c = (child_kept u.near n k.0 c.0, far_kept u.far (number u.near.seat.node) k.1 c.1)
+
+  pub knows_kept : (s : Site C) (x : Hung V) → Each K (names_over number s.above) → K (number s.at.node) → Knows number a h key s x → Knows number a' h' key s x
   knows_kept s x ka k w =
       let e : (h' (number s.at.node)).prefix ≡ (h (number s.at.node)).prefix = r.prefix (number s.at.node) k w.fresh.seated.published in
       record {
@@ -62,15 +69,18 @@ module _ {C V : Type 0} (number : C → ℕ) (key : List ℕ) (K : ℕ → Type 
   made_one_kept Set m = tt
   made_one_kept (Link leaf) m = made_kept K i a h a' h' r key (number leaf) 7 0 m
 
-  pub made_two_kept : (change : Double C) (size size' q : ℕ) → size' ≡ size → MadeTwo number i a h key change size q → MadeTwo number i a' h' key change size' q
-  made_two_kept Unlink size size' q e m = tt
-  made_two_kept (Grow c) size size' q e m = let P : ℕ → Type 0 = λ x. Made i a' h' key (number c) x q in subst P (sym e) (made_kept K i a h a' h' r key (number c) size q m)
-  made_two_kept (GrowLink c leaf byte) size size' q e m = (
+  pub made_two_kept : (p : Parent C) (change : Double C) (size size' q : ℕ) → size' ≡ size → MadeTwo number i a h key p change size q → MadeTwo number i a' h' key p change size' q
+  made_two_kept p Unlink size size' q e m = tt
+  made_two_kept p Collapse size size' q e m = m
+  made_two_kept p (Shrink c) size size' q e m = let P : ℕ → Type 0 = λ x. Made i a' h' key (number c) x q in subst P (sym e) (made_kept K i a h a' h' r key (number c) size q m)
+  made_two_kept p (ShrinkAbove c) size size' q e m = (made_kept K i a h a' h' r key (number c) p.depth q m.0, m.1)
+  made_two_kept p (Grow c) size size' q e m = let P : ℕ → Type 0 = λ x. Made i a' h' key (number c) x q in subst P (sym e) (made_kept K i a h a' h' r key (number c) size q m)
+  made_two_kept p (GrowLink c leaf byte) size size' q e m = (
     (let P : ℕ → Type 0 = λ x. Made i a' h' key (number c) x q in subst P (sym e) (made_kept K i a h a' h' r key (number c) size q m.0)),
     made_kept K i a h a' h' r key (number leaf) 7 0 m.1,
     m.2,
   )
-  made_two_kept (Split top leaf common byte) size size' q e m =
+  made_two_kept p (Split top leaf common byte) size size' q e m =
       (made_kept K i a h a' h' r key (number top) common 1 m.0, made_kept K i a h a' h' r key (number leaf) 7 0 m.1, m.2)
 
   pub placed_one_kept : (change : Single C) (byte : ℕ) (p p' : List ℕ) → p' ≡ p → PlacedOne key change byte p → PlacedOne key change byte p'
@@ -104,37 +114,47 @@ module _ {C V : Type 0} (number : C → ℕ) (key : List ℕ) (K : ℕ → Type 
         fitted = rw e o.fitted;
         byte = rw e o.byte;
         child = rw e o.child;
+        depth = rw e o.depth;
+        count = rw e o.count;
+        form = rw e o.form;
       }
+
+  pub top_kept : (p : Option (Parent C)) (n : ℕ) → TopLocked number i a h key p n → TopLocked number i a' h' key p n
+  top_kept None n o = tt
+  top_kept (Some g) n o = above_locked_kept g n o
 
   pub two_kept : (two : Two C) (found : Option V) (q : ℕ) → K (number two.above.seat.node) → K (number two.at.node) → TwoKnown number i a h key two found q → TwoKnown number i a' h' key two found q
   two_kept two found q kp k o =
       let e : (h' (number two.at.node)).prefix ≡ (h (number two.at.node)).prefix = r.prefix (number two.at.node) k o.fresh.seated.published in
       record {
+        top = top_kept two.top (number two.above.seat.node) o.top;
         above = child_kept two.above (number two.at.node) kp o.above;
         placed = placed_two_kept two.change _ _ e o.placed;
         fresh = fresh_kept K i a h a' h' r (number two.at.node) two.at.version _ k o.fresh;
-        made = made_two_kept two.change _ _ q (ap length e) o.made;
+        made = made_two_kept two.above two.change _ _ q (ap length e) o.made;
       }
 
   pub half_kept : (two : Two C) (found : Option V) (q : ℕ) → K (number two.at.node) → HalfLocked number i a h key two found q → HalfLocked number i a' h' key two found q
   half_kept two found q k o =
       let e : (h' (number two.at.node)).prefix ≡ (h (number two.at.node)).prefix = r.prefix (number two.at.node) k o.fresh.seated.published in
       record {
+        top = top_kept two.top (number two.above.seat.node) o.top;
         above = above_locked_kept two.above (number two.at.node) o.above;
         placed = placed_two_kept two.change _ _ e o.placed;
         fresh = fresh_kept K i a h a' h' r (number two.at.node) two.at.version _ k o.fresh;
-        made = made_two_kept two.change _ _ q (ap length e) o.made;
+        made = made_two_kept two.above two.change _ _ q (ap length e) o.made;
       }
 
   pub two_locked_kept : (two : Two C) (found : Option V) (q : ℕ) → TwoLocked number i a h key two found q → TwoLocked number i a' h' key two found q
   two_locked_kept two found q o =
       let e : (h' (number two.at.node) ≡ h (number two.at.node)) × ((a' (number two.at.node)).status ≡ (a (number two.at.node)).status) × ((a' (number two.at.node)).owner ≡ (a (number two.at.node)).owner) = r.mine (number two.at.node) o.owner in
       record {
+        top = top_kept two.top (number two.above.seat.node) o.top;
         above = above_locked_kept two.above (number two.at.node) o.above;
         owner = e.2 ∙ o.owner;
         placed = placed_two_kept two.change _ _ (ap (λ z. z.prefix) e.0) o.placed;
         wanted = (let P : Node V → Type 0 = λ z. WantedTwo key two.change found q z in subst P (sym e.0) o.wanted);
-        made = made_two_kept two.change _ _ q (ap (λ z. length z.prefix) e.0) o.made;
+        made = made_two_kept two.above two.change _ _ q (ap (λ z. length z.prefix) e.0) o.made;
       }
 
   pub taken_kept : (p n : ℕ) → TakenOut i a h p n → TakenOut i a' h' p n
@@ -147,13 +167,27 @@ module _ {C V : Type 0} (number : C → ℕ) (key : List ℕ) (K : ℕ → Type 
         unretired = rw e.0 o.unretired;
       }
 
+  pub also_out_kept : (n : ℕ) (next : Option C) → AlsoOut number i a h n next → AlsoOut number i a' h' n next
+  also_out_kept n None o = tt
+  also_out_kept n (Some c) o =
+      let e : (h' (number c) ≡ h (number c)) × ((a' (number c)).status ≡ (a (number c)).status) × ((a' (number c)).owner ≡ (a (number c)).owner) = r.mine (number c) o.0 in
+      (e.2 ∙ o.0, e.1 ∙ o.1, rw e.0 o.2, o.3)
+
+  pub also_holding_kept : (n : ℕ) (next : Option C) → AlsoHolding number i a n next → AlsoHolding number i a' n next
+  also_holding_kept n None o = tt
+  also_holding_kept n (Some c) o = (holding_kept K i a h a' h' r (number c) o.0, o.1)
+
+  pub lesser_kept : (s : Site C) (p : Parent C) (g : Option (Parent C)) → Each K (name_above number g) → IsLesser number a h key s p g → IsLesser number a' h' key s p g
+  lesser_kept s p None k o = o
+  lesser_kept s p (Some g) k o = (child_kept g (number p.seat.node) k.0 o.0, o.1, o.2, o.3)
+
   pub seated_if_kept : (p : Option (Seat C)) → Each K (name_seated number p) → SeatedIf number a h p → SeatedIf number a' h' p
   seated_if_kept None k s = tt
   seated_if_kept (Some p) k s = seated_kept K i a h a' h' r (number p.node) p.version k.0 s
 
   pub plan_kept : (plan : Plan C) → Each K (names_plan number plan) → PlanKnown number i a h key plan → PlanKnown number i a' h' key plan
   plan_kept (Here check one) k x = (seated_if_kept check (left K (name_seated number check) (names_one number one) k) x.0, one_kept one _ (right K (name_seated number check) (names_one number one) k).0 x.1)
-  plan_kept (Above two) k x = ((x.0.0, two_kept two None x.0.0 k.0 k.1.0 x.0.1), x.1)
+  plan_kept (Above two) k x = ((x.0.0, two_kept two None x.0.0 k.0 k.1.0 x.0.1), x.1, x.2)
 
   pub made_leaf_kept : (s : Site C) (leaf : Option C) → MadeLeafFor number i a h key s leaf → MadeLeafFor number i a' h' key s leaf
   made_leaf_kept s None x = x
@@ -179,12 +213,12 @@ known_kept number same always K i a h a' h' r k key kind given (CheckMiss p at c
       rw e m.4,
     )
 known_kept number same always K i a h a' h' r k key kind given (CheckDown p at c) n m =
-    (m.0, seated_kept K i a h a' h' r (number p.node) p.version n.0 m.1, child_kept number key K i a h a' h' r at (number c) n.1.0 m.2, r.published (number c) n.1.1.0 m.3)
+    (m.0, seated_kept K i a h a' h' r (number p.node) p.version n.0 m.1, above_kept number key K i a h a' h' r (Some at) (number c) n.1.1 m.2, r.published (number c) n.1.0 m.3)
 known_kept number same always K i a h a' h' r k key kind given (CheckOld p s v) n m =
     (m.0, seated_kept K i a h a' h' r (number p.node) p.version n.0 m.1, knows_kept number key K i a h a' h' r s _ n.1.1 n.1.0 m.2, m.3, m.4)
 known_kept number same always K i a h a' h' r k key kind given (MakeLeaf s) n m = (m.0, knows_kept number key K i a h a' h' r s _ n.1 n.0 m.1, m.2, m.3, m.4)
 known_kept number same always K i a h a' h' r k key kind given (MakeGreater s p leaf) n m =
-    (m.0, knows_kept number key K i a h a' h' r s _ (right K (name_made number leaf) (names_site number s) n.1).1 (right K (name_made number leaf) (names_site number s) n.1).0 m.1, m.2, made_leaf_kept number key K i a h a' h' r s leaf m.3, m.4, m.5)
+    (m.0, knows_kept number key K i a h a' h' r s _ (right K (name_made number leaf) (names_site number s) n.1).1 (right K (name_made number leaf) (names_site number s) n.1).0 m.1, child_kept number key K i a h a' h' r p (number s.at.node) n.0 m.2, made_leaf_kept number key K i a h a' h' r s leaf m.3, m.4, m.5)
 known_kept number same always K i a h a' h' r k key kind given (MakeTop p at common byte) n m =
     let e : (h' (number at.node)).prefix ≡ (h (number at.node)).prefix = r.prefix (number at.node) n.1.0 m.2.published in (
       m.0,
@@ -203,6 +237,15 @@ known_kept number same always K i a h a' h' r k key kind given (MakeBeside p at 
       rw e m.4,
       m.5,
       made_kept K i a h a' h' r key (number top) common 1 m.6,
+    )
+known_kept number same always K i a h a' h' r k key kind given (MakeLesser s p g reply) n m =
+    let site : Each K (names_site number s) = right K (name_above number g) (names_site number s) n.1 in (
+      m.0,
+      (m.1.0, knows_kept number key K i a h a' h' r s _ site.1 site.0 m.1.1, m.1.2),
+      m.2,
+      m.3,
+      child_kept number key K i a h a' h' r p (number s.at.node) n.0 m.4,
+      lesser_kept number key K i a h a' h' r s p g (left K (name_above number g) (names_site number s) n.1) m.5,
     )
 known_kept number same always K i a h a' h' r k key kind given (AskOld s v) n m = (m.0, knows_kept number key K i a h a' h' r s _ n.1 n.0 m.1, m.2, m.3)
 known_kept number same always K i a h a' h' r k key kind given (AskNew plan) n m = (plan_kept number key K i a h a' h' r plan n m.0, m.1)
@@ -223,18 +266,22 @@ known_kept number same always K i a h a' h' r k key kind given (UpgradeOne one r
     (m.0, (m.1.0, one_kept number key K i a h a' h' r one _ n.0 m.1.1, m.1.2, m.1.3))
 known_kept number same always K i a h a' h' r k key kind given (ChangeOne one reply) n m =
     (m.0, one_locked_kept number key K i a h a' h' r one _ m.1, m.2, m.3)
+known_kept number same always K i a h a' h' r k key kind given (UpgradeTop g two reply) n m =
+    (m.0, (m.1.0, m.1.1, two_kept number key K i a h a' h' r two _ _ n.1.0 n.1.1.0 m.1.2, m.1.3, m.1.4), child_kept number key K i a h a' h' r g (number two.above.seat.node) n.0 m.2, m.3, m.4)
 known_kept number same always K i a h a' h' r k key kind given (UpgradeAbove two reply) n m =
-    (m.0, (m.1.0, m.1.1, two_kept number key K i a h a' h' r two _ _ n.0 n.1.0 m.1.2, m.1.3, m.1.4))
+    (m.0, (m.1.0, m.1.1, two_kept number key K i a h a' h' r two _ _ n.0 n.1.0 m.1.2, m.1.3, m.1.4, m.1.5))
 known_kept number same always K i a h a' h' r k key kind given (UpgradeBelow two reply) n m =
-    (m.0, (m.1.0, m.1.1, half_kept number key K i a h a' h' r two _ _ n.1.0 m.1.2, m.1.3, m.1.4))
+    (m.0, (m.1.0, m.1.1, half_kept number key K i a h a' h' r two _ _ n.1.0 m.1.2, m.1.3, m.1.4, m.1.5))
 known_kept number same always K i a h a' h' r k key kind given (ChangeTwo two reply) n m =
-    (m.0, m.1, two_locked_kept number key K i a h a' h' r two _ _ m.2, m.3, m.4)
-known_kept number same always K i a h a' h' r k key kind given (Obsolete c p reply) n m = taken_kept number key K i a h a' h' r (number p) (number c) m
-known_kept number same always K i a h a' h' r k key kind given (Retire c p reply) n m =
-    (taken_kept number key K i a h a' h' r (number p) (number c) m.0, (let e : h' (number c) ≡ h (number c) = (r.mine (number c) m.0.owner).0 in rw e m.1))
+    (m.0, m.1, two_locked_kept number key K i a h a' h' r two _ _ m.2, m.3, m.4, m.5)
+known_kept number same always K i a h a' h' r k key kind given (Obsolete c next p reply) n m =
+    (taken_kept number key K i a h a' h' r (number p) (number c) m.0, also_out_kept number key K i a h a' h' r (number c) next m.1)
+known_kept number same always K i a h a' h' r k key kind given (Retire c next p reply) n m =
+    (taken_kept number key K i a h a' h' r (number p) (number c) m.0, also_out_kept number key K i a h a' h' r (number c) next m.1, (let e : h' (number c) ≡ h (number c) = (r.mine (number c) m.0.owner).0 in rw e m.2))
 known_kept number same always K i a h a' h' r k key kind given (UnlockBelow c p reply) n m =
     (holding_kept K i a h a' h' r (number c) m.0, holding_kept K i a h a' h' r (number p) m.1, m.2)
 known_kept number same always K i a h a' h' r k key kind given (Unlock c reply) n m = holding_kept K i a h a' h' r (number c) m
-known_kept number same always K i a h a' h' r k key kind given (Unwind c e) n m = (m.0, holding_kept K i a h a' h' r (number c) m.1, m.2)
+known_kept number same always K i a h a' h' r k key kind given (Unwind c next e) n m =
+    (m.0, holding_kept K i a h a' h' r (number c) m.1, also_holding_kept number key K i a h a' h' r (number c) next m.2, m.3)
 known_kept number same always K i a h a' h' r k key kind given (Sweep s) n m = sweep_known_kept number always K i a h a' h' r s n m
 known_kept number same always K i a h a' h' r k key kind given Ended n m = tt

@@ -1,82 +1,33 @@
 -- The steps of a call that change the tree: each one answers as the map.
-use Rattle.std.proofs.Common.{◌≡◌, ◌≢◌, ℕ, ◌<◌, ◌==◌, Bool, true, List, [], ◌∷◌, length, get_or, refl, sym, ◌∙◌, ap, subst, arith}
+use Rattle.std.proofs.Common.{◌≡◌, ◌≢◌, ℕ, ◌<◌, Bool, true, List, length, get_or, refl, sym, ◌∙◌, ap, subst, arith}
 use Rattle.std.specs.Prelude.{Option, None, Some}
 use Rattle.judge.specs.declared.journal.Reply.{Reply}
 use Rattle.congee.specs.declared.protocol.phase.Kind.{Kind}
+use Rattle.congee.specs.declared.protocol.phase.Parent.{Parent}
 use Rattle.congee.specs.declared.protocol.phase.Single.{Single}
 use Rattle.congee.specs.declared.protocol.phase.Single.TheVariants.{Set, Link}
 use Rattle.congee.specs.declared.protocol.phase.One.{One}
 use Rattle.congee.specs.declared.protocol.phase.Double.{Double}
-use Rattle.congee.specs.declared.protocol.phase.Double.TheVariants.{Unlink, Grow, GrowLink, Split}
+use Rattle.congee.specs.declared.protocol.phase.Double.TheVariants.{Unlink, Grow, GrowLink, Split, Shrink, Collapse, ShrinkAbove}
 use Rattle.congee.specs.declared.protocol.phase.Two.{Two}
 use Rattle.congee.specs.declared.protocol.phase.Phase.{Phase}
 use Rattle.congee.specs.declared.protocol.phase.Phase.TheVariants.{ChangeOne, ChangeTwo, Obsolete, UnlockBelow, Unlock}
 use Rattle.congee.specs.Heap.{Node, Hung, Nothing, Below, Holds, fits, child_for}
 use Rattle.congee.specs.protocol.Events.{ChangeGives, TakeOverGives}
-use Rattle.congee.specs.protocol.Steps.{decided, ChangedOne, ChangedTwo, after_change}
+use Rattle.congee.specs.protocol.Steps.{decided, Collapses, Lessens as LessensTop, ChangedOne, ChangedTwo, after_top, after_change}
 use Rattle.congee.specs.Keys.{key_bytes}
-use Rattle.congee.specs.Ledger.{Note, Linked, is_published, IsChild, Tree, LockWords}
-use Rattle.congee.specs.protocol.Protocol.{Made, Holding, PlacedOne, WantedOne, MadeOne, value_in, FitsOne, PlacedTwo, WantedTwo, MadeTwo, FitsTwo, AboveLocked, TakenOut, Settles, Known}
+use Rattle.congee.specs.Ledger.{Note, is_published, IsChild, Tree, LockWords}
+use Rattle.congee.specs.protocol.Protocol.{Made, Holding, PlacedOne, WantedOne, MadeOne, value_in, FitsOne, PlacedTwo, WantedTwo, MadeTwo, FitsTwo, AboveLocked, TopLocked, TakenOut, Settles, Known}
 use Rattle.congee.specs.protocol.Answers.{Decides}
-use Rattle.congee.proofs.lemmas.Fits.{both_true, equal}
+use Rattle.congee.proofs.lemmas.Fits.{fits_same}
 use Rattle.congee.proofs.lemmas.protocol.Grow.{a_value, a_leaf}
 use Rattle.congee.proofs.lemmas.protocol.Touch.{noted, noted_other}
-use Rattle.congee.proofs.lemmas.protocol.Change.{Changed, StaysLocked, Live, live_made, live_changed, live_same, joined, leaf_filled, leaf_same, made_apart, set_changed, link_changed, unlink_changed}
+use Rattle.congee.proofs.lemmas.protocol.Change.{Changed, live_made, live_changed, live_same, joined, leaf_filled, leaf_same, made_apart, under_above, under_taken, live_taken, set_changed, link_changed, unlink_changed}
 use Rattle.congee.proofs.lemmas.protocol.Regrow.{regrown, regrown_leaf, regrown_status, regrown_owner, regrown_old, no_leaf, new_leaf, regrow_changed}
 use Rattle.congee.proofs.lemmas.protocol.Parting.{split_changed}
+use Rattle.congee.proofs.lemmas.protocol.Lessening.{SecondOut, shrink_changed, collapsed, collapse_changed, lessened, lessen_changed}
+use Rattle.congee.proofs.lemmas.Link.{Leaf}
 use Rattle.congee.proofs.lemmas.protocol.Locks.{Kept}
-
--- two beginnings of one key that are as long as each other
-pub fits_same : (p q key : List ℕ) → fits p key ≡ true → fits q key ≡ true → length p ≡ length q → p ≡ q
-fits_same [] [] key a b l = refl
-fits_same [] (y ∷ q) key a b l = absurd (omega (arith, l))
-fits_same (x ∷ p) [] key a b l = absurd (omega (arith, l))
-fits_same (x ∷ p) (y ∷ q) [] a b l = absurd cc
-fits_same (x ∷ p) (y ∷ q) (z ∷ key) a b l =
-    let a' : (x == z ≡ true) × (fits p key ≡ true) = both_true _ _ a in
-    let b' : (y == z ≡ true) × (fits q key ≡ true) = both_true _ _ b in
-    let e : x ≡ z = equal x z a'.0 in
-    let f : y ≡ z = equal y z b'.0 in
-    let g : p ≡ q = fits_same p q key a'.1 b'.1 (omega (arith, l)) in
-    cc
-
--- the node above, locked before and after, with one of its children changed
-under_above : {V : Type 0} (i : ℕ) (a : ℕ → Note) (h : ℕ → Node V) (a' : ℕ → Note) (g h' : ℕ → Node V) (n b : ℕ) (x : Hung V) → Holding i a n → (a' n).status ≡ (a n).status → (a' n).owner ≡ (a n).owner → g n ≡ h n → ChangeGives g n b x h' → StaysLocked i a h a' h' n
-under_above i a h a' g h' n b x o e eo f k = record {
-  owner = o.owner;
-  owner_after = eo ∙ o.owner;
-  published = ap is_published o.linked;
-  published_after = rw e (ap is_published o.linked);
-  linked = λ _. o.linked;
-  prefix = k.prefix ∙ ap (λ z. z.prefix) f;
-  version = k.version ∙ ap (λ z. z.version) f;
-  locked = k.locked ∙ ap (λ z. z.locked) f;
-  made = k.made ∙ ap (λ z. z.made) f;
-  destroyed = k.destroyed ∙ ap (λ z. z.destroyed) f;
-  retired = k.retired ∙ ap (λ z. z.retired) f;
-  obsolete = k.obsolete ∙ ap (λ z. z.obsolete) f;
-}
-
--- the old node, whose values may have been moved
-under_taken : {V : Type 0} (i : ℕ) (a : ℕ → Note) (h : ℕ → Node V) (a' : ℕ → Note) (g g1 h' : ℕ → Node V) (m c : ℕ) → (a m).owner ≡ Some i → (a m).status ≡ Linked → is_published (a' m).status ≡ true → (a' m).owner ≡ Some i
-    → g m ≡ h m → TakeOverGives g m c g1 → h' m ≡ g1 m → StaysLocked i a h a' h' m
-under_taken i a h a' g g1 h' m c o l p po e k f = record {
-  owner = o;
-  owner_after = po;
-  published = ap is_published l;
-  published_after = p;
-  linked = λ _. l;
-  prefix = ap (λ z. z.prefix) f ∙ (k.prefix_old ∙ ap (λ z. z.prefix) e);
-  version = ap (λ z. z.version) f ∙ (k.version_old ∙ ap (λ z. z.version) e);
-  locked = ap (λ z. z.locked) f ∙ (k.locked_old ∙ ap (λ z. z.locked) e);
-  made = ap (λ z. z.made) f ∙ (k.made_old ∙ ap (λ z. z.made) e);
-  destroyed = ap (λ z. z.destroyed) f ∙ (k.destroyed_old ∙ ap (λ z. z.destroyed) e);
-  retired = ap (λ z. z.retired) f ∙ (k.retired_old ∙ ap (λ z. z.retired) e);
-  obsolete = ap (λ z. z.obsolete) f ∙ (k.obsolete_old ∙ ap (λ z. z.obsolete) e);
-}
-
-live_taken : {V : Type 0} (h : ℕ → Node V) (m c : ℕ) (h' : ℕ → Node V) → TakeOverGives h m c h' → Live (h c) → Live (h' c)
-live_taken h m c h' k l = record { made = k.made ∙ l.made; kept = k.destroyed ∙ l.kept; unretired = k.retired ∙ l.unretired; unlocked = k.locked ∙ l.unlocked; live = k.obsolete ∙ l.live; keyed = rw k.prefix l.keyed }
 
 module _ {V : Type 0} (i : ℕ) (a : ℕ → Note) (h : ℕ → Node V) (key : List ℕ) (len : length key ≡ 8) (t : Tree a h) (w : LockWords a h) where
   -- a full leaf gives way to a greater one with the value
@@ -216,32 +167,73 @@ module _ {C V : Type 0} (number : C → ℕ) (same : V → V → Bool) (always :
       → ChangedOne number (key_bytes k) given one one.change h h' → Kept number same always i a h k kind given given' (decided (Unlock one.at.node r)) h'
   changed_one one r given given' h' m g = by_single one r given given' m.0 h' one.change m.1.holding m.1.placed m.1.wanted m.1.made m.2 m.3 g
 
+  -- the changes of the node above both
+  collapsed_top : (two : Two C) (r : Reply V) (given' : Option V) (v : V) (h' : ℕ → Node V) (top : Option (Parent C)) → TopLocked number i a h (key_bytes k) top (number two.above.seat.node)
+      → AboveLocked number i a h (key_bytes k) two.above (number two.at.node) → (a (number two.at.node)).owner ≡ Some i → Leaf h (number two.at.node) (key_bytes k) v → Settles same k kind None (Some v) r None
+      → Collapses number two top h h' → Kept number same always i a h k kind None given' (after_top two r top) h'
+  collapsed_top two r given' v h' None l o om leaf s g = absurd g
+  collapsed_top two r given' v h' (Some top) l o om leaf s g =
+      let a' : ℕ → Note = collapsed a i (number top.seat.node) (number two.above.seat.node) (number two.at.node) g.0 in
+      let e : Changed i a h (key_bytes k) (Some v) None a' h' × TakenOut i a' h' (number top.seat.node) (number two.at.node) × SecondOut i a' h' (number two.at.node) (number two.above.seat.node)
+      = collapse_changed i a h (key_bytes k) refl t w (number top.seat.node) top.byte (number two.above.seat.node) two.above.byte (number two.at.node) g.0 v h' l.holding l.byte l.child o.holding o.fitted o.byte o.child om leaf g.1 g.2 in
+      record {
+        notes = a';
+        effect = e.0.effect;
+        sound = record { known = (e.1, e.2); answer = (r, refl, settled None (Some v) r (Obsolete two.at.node (Some two.above.seat.node) top.seat.node r) given' a' h' s e.0) };
+      }
+
+  lessened_top : (two : Two C) (r : Reply V) (given' : Option V) (v : V) (q : ℕ) (h' : ℕ → Node V) (c : C) (top : Option (Parent C)) → TopLocked number i a h (key_bytes k) top (number two.above.seat.node)
+      → AboveLocked number i a h (key_bytes k) two.above (number two.at.node) → (a (number two.at.node)).owner ≡ Some i → Leaf h (number two.at.node) (key_bytes k) v → Made i a h (key_bytes k) (number c) two.above.depth q
+      → Settles same k kind None (Some v) r None → LessensTop number two c top h h' → Kept number same always i a h k kind None given' (after_top two r top) h'
+  lessened_top two r given' v q h' c None l o om leaf mc s g = absurd g
+  lessened_top two r given' v q h' c (Some top) l o om leaf mc s g =
+      let a' : ℕ → Note = lessened a i (number top.seat.node) (number two.above.seat.node) (number two.at.node) (number c) in
+      let e : Changed i a h (key_bytes k) (Some v) None a' h' × TakenOut i a' h' (number top.seat.node) (number two.at.node) × SecondOut i a' h' (number two.at.node) (number two.above.seat.node)
+      = lessen_changed i a h (key_bytes k) refl t w (number top.seat.node) top.byte (number two.above.seat.node) two.above.byte (number two.at.node) (number c) q two.above.depth v h' l.holding l.byte l.child o.holding o.fitted o.byte o.child om leaf o.depth mc g in
+      record {
+        notes = a';
+        effect = e.0.effect;
+        sound = record { known = (e.1, e.2); answer = (r, refl, settled None (Some v) r (Obsolete two.at.node (Some two.above.seat.node) top.seat.node r) given' a' h' s e.0) };
+      }
+
   by_double : (two : Two C) (r : Reply V) (given given' found : Option V) (q : ℕ) (h' : ℕ → Node V) (change : Double C)
-      → AboveLocked number i a h (key_bytes k) two.above (number two.at.node) → (a (number two.at.node)).owner ≡ Some i → PlacedTwo (key_bytes k) change (h (number two.at.node)).prefix
-      → WantedTwo (key_bytes k) change found q (h (number two.at.node)) → MadeTwo number i a h (key_bytes k) change (length (h (number two.at.node)).prefix) q → FitsTwo change found given
+      → TopLocked number i a h (key_bytes k) two.top (number two.above.seat.node) → AboveLocked number i a h (key_bytes k) two.above (number two.at.node) → (a (number two.at.node)).owner ≡ Some i → PlacedTwo (key_bytes k) change (h (number two.at.node)).prefix
+      → WantedTwo (key_bytes k) change found q (h (number two.at.node)) → MadeTwo number i a h (key_bytes k) two.above change (length (h (number two.at.node)).prefix) q → FitsTwo change found given
       → Settles same k kind given found r given → ChangedTwo number (key_bytes k) given two change h h' → Kept number same always i a h k kind given given' (after_change two r change) h'
-  by_double two r given given' None q h' Unlink o om p n m f s g = absurd f
-  by_double two r (Some w') given' (Some v) q h' Unlink o om p n m f s g = absurd f
-  by_double two r None given' (Some v) q h' Unlink o om p n m f s g =
+  by_double two r given given' None q h' Unlink up o om p n m f s g = absurd f
+  by_double two r (Some w') given' (Some v) q h' Unlink up o om p n m f s g = absurd f
+  by_double two r None given' (Some v) q h' Unlink up o om p n m f s g =
       let c : Changed i a h (key_bytes k) (Some v) None _ h' × TakenOut i _ h' (number two.above.seat.node) (number two.at.node)
       = unlink_changed i a h (key_bytes k) (number two.above.seat.node) two.above.byte (number two.at.node) v h' refl t w o.holding o.fitted o.byte o.child om
       (record { fitted = p.0; seven = p.1; value = n.0; empty = n.1 }) g in
-      record { notes = _; effect = c.0.effect; sound = record { known = c.1; answer = (r, refl, settled None (Some v) r (Obsolete two.at.node two.above.seat.node r) given' _ h' s c.0) } }
-  by_double two r None given' None q h' (Grow c) o om p n m f s g = absurd f
-  by_double two r given given' (Some x) q h' (Grow c) o om p n m f s g = absurd f
-  by_double two r (Some v) given' None q h' (Grow c) o om p n m f s g =
+      record { notes = _; effect = c.0.effect; sound = record { known = (c.1, tt); answer = (r, refl, settled None (Some v) r (Obsolete two.at.node None two.above.seat.node r) given' _ h' s c.0) } }
+  by_double two r given given' None q h' (Shrink c) up o om p n m f s g = absurd f
+  by_double two r (Some w') given' (Some v) q h' (Shrink c) up o om p n m f s g = absurd f
+  by_double two r None given' (Some v) q h' (Shrink c) up o om p n m f s g =
+      let e : Changed i a h (key_bytes k) (Some v) None _ h' × TakenOut i _ h' (number two.above.seat.node) (number two.at.node)
+      = shrink_changed i a h (key_bytes k) refl t w (number two.above.seat.node) two.above.byte (number two.at.node) (number c) q v h' o.holding o.byte o.child om p.0 p.1 n.0 m g in
+      record { notes = _; effect = e.0.effect; sound = record { known = (e.1, tt); answer = (r, refl, settled None (Some v) r (Obsolete two.at.node None two.above.seat.node r) given' _ h' s e.0) } }
+  by_double two r given given' None q h' Collapse up o om p n m f s g = absurd f
+  by_double two r (Some w') given' (Some v) q h' Collapse up o om p n m f s g = absurd f
+  by_double two r None given' (Some v) q h' Collapse up o om p n m f s g = collapsed_top two r given' v h' two.top up o om (record { fitted = p.0; seven = p.1; value = n.0; empty = n.1 }) s g
+  by_double two r given given' None q h' (ShrinkAbove c) up o om p n m f s g = absurd f
+  by_double two r (Some w') given' (Some v) q h' (ShrinkAbove c) up o om p n m f s g = absurd f
+  by_double two r None given' (Some v) q h' (ShrinkAbove c) up o om p n m f s g = lessened_top two r given' v q h' c two.top up o om (record { fitted = p.0; seven = p.1; value = n.0; empty = n.1 }) m.0 s g
+  by_double two r None given' None q h' (Grow c) up o om p n m f s g = absurd f
+  by_double two r given given' (Some x) q h' (Grow c) up o om p n m f s g = absurd f
+  by_double two r (Some v) given' None q h' (Grow c) up o om p n m f s g =
       let e : Changed i a h (key_bytes k) None (Some v) _ h' × TakenOut i _ h' (number two.above.seat.node) (number two.at.node)
       = grow_leaf i a h (key_bytes k) refl t w (number two.above.seat.node) two.above.byte (number two.at.node) (number c) q v g.0 g.1 h' o.holding o.fitted o.byte o.child om p.0 p.1 n.0 m g.2 g.3 g.4 in
-      record { notes = _; effect = e.0.effect; sound = record { known = e.1; answer = (r, refl, settled (Some v) None r (Obsolete two.at.node two.above.seat.node r) given' _ h' s e.0) } }
-  by_double two r None given' None q h' (GrowLink c leaf byte) o om p n m f s g = absurd f
-  by_double two r given given' (Some x) q h' (GrowLink c leaf byte) o om p n m f s g = absurd f
-  by_double two r (Some v) given' None q h' (GrowLink c leaf byte) o om p n m f s g =
+      record { notes = _; effect = e.0.effect; sound = record { known = (e.1, tt); answer = (r, refl, settled (Some v) None r (Obsolete two.at.node None two.above.seat.node r) given' _ h' s e.0) } }
+  by_double two r None given' None q h' (GrowLink c leaf byte) up o om p n m f s g = absurd f
+  by_double two r given given' (Some x) q h' (GrowLink c leaf byte) up o om p n m f s g = absurd f
+  by_double two r (Some v) given' None q h' (GrowLink c leaf byte) up o om p n m f s g =
       let e : Changed i a h (key_bytes k) None (Some v) _ h' × TakenOut i _ h' (number two.above.seat.node) (number two.at.node)
       = grow_inner i a h (key_bytes k) refl t w (number two.above.seat.node) two.above.byte (number two.at.node) (number c) (number leaf) byte q v g.0 g.1 g.2 h' o.holding o.fitted o.byte o.child om p.0 p.1 p.2 n.0 m.0 m.1 m.2 g.3 g.4 g.5 g.6 in
-      record { notes = _; effect = e.0.effect; sound = record { known = e.1; answer = (r, refl, settled (Some v) None r (Obsolete two.at.node two.above.seat.node r) given' _ h' s e.0) } }
-  by_double two r None given' None q h' (Split top leaf common byte) o om p n m f s g = absurd f
-  by_double two r given given' (Some x) q h' (Split top leaf common byte) o om p n m f s g = absurd f
-  by_double two r (Some v) given' None q h' (Split top leaf common byte) o om p n m f s g =
+      record { notes = _; effect = e.0.effect; sound = record { known = (e.1, tt); answer = (r, refl, settled (Some v) None r (Obsolete two.at.node None two.above.seat.node r) given' _ h' s e.0) } }
+  by_double two r None given' None q h' (Split top leaf common byte) up o om p n m f s g = absurd f
+  by_double two r given given' (Some x) q h' (Split top leaf common byte) up o om p n m f s g = absurd f
+  by_double two r (Some v) given' None q h' (Split top leaf common byte) up o om p n m f s g =
       let e : Changed i a h (key_bytes k) None (Some v) _ h' × Holding i _ (number two.at.node) × Holding i _ (number two.above.seat.node)
       = split_changed i a h (key_bytes k) (number two.above.seat.node) two.above.byte (number two.at.node) (number top) (number leaf) common byte v g.0 g.1 g.2 h' refl t w o.holding o.fitted o.byte o.child om p.0 p.1 m.0 m.1 m.2 g.3 g.4 g.5 g.6 in
       let ch : IsChild a h (number two.above.seat.node) _ (number two.at.node) = t.down (number two.above.seat.node) _ (number two.at.node) o.holding.linked o.child in
@@ -256,4 +248,4 @@ module _ {C V : Type 0} (number : C → ℕ) (same : V → V → Bool) (always :
 
   pub changed_two : (two : Two C) (r : Reply V) (given given' : Option V) (h' : ℕ → Node V) → Known number same always i a h k (key_bytes k) kind given (ChangeTwo two r)
       → ChangedTwo number (key_bytes k) given two two.change h h' → Kept number same always i a h k kind given given' (after_change two r two.change) h'
-  changed_two two r given given' h' m g = by_double two r given given' m.0 m.1 h' two.change m.2.above m.2.owner m.2.placed m.2.wanted m.2.made m.3 m.4 g
+  changed_two two r given given' h' m g = by_double two r given given' m.0 m.1 h' two.change m.2.top m.2.above m.2.owner m.2.placed m.2.wanted m.2.made m.4 m.5 g

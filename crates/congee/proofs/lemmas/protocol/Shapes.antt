@@ -1,6 +1,7 @@
 -- What a step of the table may be: before the call took effect it goes on, asks, is refused, answers at once, or
 -- takes effect with the reply that it will give.
-use Rattle.std.proofs.Common.{◌≡◌, ℕ, ◌==◌, ◌⊎◌, inl, inr, Bool, true, false, List, refl, sym, ◌∙◌, ap, subst}
+use Rattle.std.proofs.Math.Dec.{ltb}
+use Rattle.std.proofs.Common.{◌≡◌, ℕ, ◌==◌, ◌&&◌, ◌⊎◌, inl, inr, Bool, true, false, List, refl, sym, ◌∙◌, ap, subst}
 use Rattle.std.specs.Prelude.{Option, None, Some, Result, Ok, Err}
 use Rattle.judge.specs.declared.journal.Reply.{Reply}
 use Rattle.judge.specs.declared.journal.Reply.TheVariants as reply
@@ -16,20 +17,21 @@ use Rattle.congee.specs.declared.protocol.store.Refusal.TheVariants as refusal
 use Rattle.congee.specs.declared.protocol.phase.Kind.{Kind}
 use Rattle.congee.specs.declared.protocol.phase.Kind.TheVariants.{Get, Insert, Remove, ComputePresent, ComputeInsert, Exchange}
 use Rattle.congee.specs.declared.protocol.phase.Parent.{Parent}
+use Rattle.congee.specs.declared.protocol.phase.Above.{Above as Over}
 use Rattle.congee.specs.declared.protocol.phase.Site.{Site}
 use Rattle.congee.specs.declared.protocol.phase.Single.{Single}
 use Rattle.congee.specs.declared.protocol.phase.Single.TheVariants.{Set, Link}
 use Rattle.congee.specs.declared.protocol.phase.One.{One}
 use Rattle.congee.specs.declared.protocol.phase.Double.{Double}
-use Rattle.congee.specs.declared.protocol.phase.Double.TheVariants.{Unlink, Grow, GrowLink, Split}
+use Rattle.congee.specs.declared.protocol.phase.Double.TheVariants.{Unlink, Grow, GrowLink, Split, Shrink, Collapse, ShrinkAbove}
 use Rattle.congee.specs.declared.protocol.phase.Two.{Two}
 use Rattle.congee.specs.declared.protocol.phase.Plan.{Plan}
 use Rattle.congee.specs.declared.protocol.phase.Plan.TheVariants.{Here, Above}
 use Rattle.congee.specs.declared.protocol.phase.Phase.{Phase}
-use Rattle.congee.specs.declared.protocol.phase.Phase.TheVariants.{Version, Read, Check, CheckUncopied, CheckMiss, CheckDown, CheckOld, MakeLeaf, MakeGreater, MakeTop, MakeBeside, AskOld, AskNew, Confirm, CheckAbove, UpgradeOne, ChangeOne, UpgradeAbove, UpgradeBelow, ChangeTwo, Unwind}
+use Rattle.congee.specs.declared.protocol.phase.Phase.TheVariants.{Version, Read, Check, CheckUncopied, CheckMiss, CheckDown, CheckOld, MakeLeaf, MakeGreater, MakeTop, MakeBeside, MakeLesser, AskOld, AskNew, Confirm, CheckAbove, UpgradeOne, ChangeOne, UpgradeTop, UpgradeAbove, UpgradeBelow, ChangeTwo, Unwind}
 use Rattle.congee.specs.declared.protocol.turn.Turn.{Turn}
 use Rattle.congee.specs.Heap.{Node}
-use Rattle.congee.specs.protocol.Steps.{quiet, again, answered, refused, decided, asking, adds, asks_new, absent_reply, after_version, after_read, down, started, ready, plan_here, unless_full, missing, absent, CopyFailed, IsAsked, replaced, taken_out, emptied, is_same, IsAtOld, IsAdded, IsExchanged, IsPresent, IsChecked, after_miss, IsGiven, IsGivenNew, MadeLeaf, MadeGreater, MadeTop, MadeBeside, UpgradedOne, UpgradedAbove, UpgradedBelow, after_change, unwound}
+use Rattle.congee.specs.protocol.Steps.{skipping, shrinks, set_at, both, last_out, after_top, given_up, after_unwind, quiet, again, answered, refused, decided, asking, adds, asks_new, absent_reply, after_version, after_read, down, started, ready, plan_here, unless_full, missing, absent, CopyFailed, IsAsked, replaced, taken_out, emptied, is_same, IsAtOld, IsAdded, IsExchanged, IsPresent, IsChecked, after_miss, IsGiven, IsGivenNew, MadeLeaf, MadeGreater, MadeTop, MadeBeside, MadeLesser, UpgradedOne, UpgradedTop, UpgradedAbove, UpgradedBelow, after_change}
 use Rattle.congee.specs.protocol.Protocol.{Asking}
 use Rattle.congee.specs.protocol.Answers.{reply_in}
 use Rattle.congee.specs.protocol.Play.{Question, Unasked, Asked, Replied, Pending, Decided, heard, resolved, Carries, heeding, flight_in}
@@ -80,6 +82,7 @@ fair_absent (Exchange x) q e = tt
 -- call has of its closure
 pub data StepShape {C V : Type 0} (k : ℕ) (kind : Kind V) (v v1 v' : Option V) (q : Question V) (t : Turn C V) : Type 0 where
   GoesOn : (s : Phase C V) (q' : Question V) → t ≡ quiet s → flight_in k kind v' s ≡ Pending k kind v1 q' → Carries q q' → StepShape k kind v v1 v' q t
+  Skips : (s : Phase C V) (q' : Question V) → t ≡ skipping s → flight_in k kind v' s ≡ Pending k kind v1 q' → Carries q q' → StepShape k kind v v1 v' q t
   Wonders : (s : Phase C V) (o : Option V) → t ≡ asking s o → Asking kind → flight_in k kind v' s ≡ Pending k kind v1 (Asked o) → StepShape k kind v v1 v' q t
   Stops : (e : Refusal) → t ≡ refused e → StepShape k kind v v1 v' q t
   Replies : (r : Reply V) → t ≡ answered r → v1 ≡ v → Ripe r q → StepShape k kind v v1 v' q t
@@ -114,8 +117,8 @@ module _ {C V : Type 0} (k : ℕ) (v v1 v' : Option V) (e : v' ≡ v1) (q : Ques
   readies kind plan w = by_test (λ (z : Turn C V). StepShape k kind v v1 v' q z) (asks_new kind) _ _ (λ p. wonders kind (AskNew plan) None (asks_for kind p) refl)
       (λ n. starts kind plan (absent_reply kind) (ripe_new kind q w n))
 
-  unless : (kind : Kind V) (s : Site C) (full : Bool) (above : Option (Parent C)) (leaf : Option C) (change : Single C) → adds kind ≡ true → StepShape k kind v v1 v' q (unless_full kind s full above leaf change)
-  unless kind s true (Some p) leaf change w = on kind (MakeGreater s p leaf) refl
+  unless : (kind : Kind V) (s : Site C) (full : Bool) (above : Option (Over C)) (leaf : Option C) (change : Single C) → adds kind ≡ true → StepShape k kind v v1 v' q (unless_full kind s full above leaf change)
+  unless kind s true (Some u) leaf change w = on kind (MakeGreater s u.near leaf) refl
   unless kind s true None leaf change w = readies kind (plan_here s change) w
   unless kind s false above leaf change w = readies kind (plan_here s change) w
 
@@ -125,13 +128,20 @@ module _ {C V : Type 0} (k : ℕ) (v v1 v' : Option V) (e : v' ≡ v1) (q : Ques
   replaces : (kind : Kind V) (s : Site C) (b : Bool) (r : Reply V) → Ripe r q → StepShape k kind v v1 v' q (replaced s b r)
   replaces kind s b r c = by_test (λ (z : Turn C V). StepShape k kind v v1 v' q z) b _ _ (λ _. works kind r (Confirm s.at r) c refl) (λ _. works kind r (UpgradeOne _ r) c refl)
 
-  takes_out : (kind : Kind V) (s : Site C) (b : Bool) (above : Option (Parent C)) (r : Reply V) → Ripe r q → StepShape k kind v v1 v' q (taken_out s b above r)
-  takes_out kind s true (Some p) r c = works kind r (UpgradeAbove _ r) c refl
-  takes_out kind s true None r c = works kind r (UpgradeOne _ r) c refl
-  takes_out kind s false above r c = works kind r (UpgradeOne _ r) c refl
+  -- a value's going
+  last : (kind : Kind V) (s : Site C) (p : Parent C) (top : Option (Parent C)) (r : Reply V) → Ripe r q → StepShape k kind v v1 v' q (last_out s p top r)
+  last kind s p None r c = works kind r (UpgradeAbove (both p s Unlink) r) c refl
+  last kind s p (Some top) r c = by_test (λ (z : Turn C V). StepShape k kind v v1 v' q z) (p.count == 2) _ _ (λ _. works kind r (UpgradeTop top (both p s Collapse) r) c refl)
+      (λ _. by_test (λ (z : Turn C V). StepShape k kind v v1 v' q z) (ltb 2 p.count && shrinks p.form p.count) _ _
+      (λ _. works kind r (MakeLesser s p (Some top) r) c refl) (λ _. works kind r (UpgradeAbove (both p s Unlink) r) c refl))
+
+  takes_out : (kind : Kind V) (s : Site C) (above : Option (Over C)) (r : Reply V) → Ripe r q → StepShape k kind v v1 v' q (taken_out s above r)
+  takes_out kind s None r c = works kind r (UpgradeOne (set_at s) r) c refl
+  takes_out kind s (Some u) r c = by_test (λ (z : Turn C V). StepShape k kind v v1 v' q z) (s.count == 1) _ _ (λ _. last kind s u.near u.far r c)
+      (λ _. by_test (λ (z : Turn C V). StepShape k kind v v1 v' q z) (shrinks s.form s.count) _ _ (λ _. works kind r (MakeLesser s u.near None r) c refl) (λ _. works kind r (UpgradeOne (set_at s) r) c refl))
 
   empties : (kind : Kind V) (s : Site C) (r : Reply V) → Ripe r q → StepShape k kind v v1 v' q (emptied s r)
-  empties kind s r c = takes_out kind s (s.count == 1) s.above r c
+  empties kind s r c = takes_out kind s s.above r c
 
   uncounted : (kind : Kind V) (always : Bool) (x t : Turn C V) → (t ≡ x) ⊎ CopyFailed always t → StepShape k kind v v1 v' q x → StepShape k kind v v1 v' q t
   uncounted kind always x t (inl p) s = to kind x t p s
@@ -148,18 +158,18 @@ module _ {C V : Type 0} (k : ℕ) (v v1 v' : Option V) (e : v' ≡ v1) (q : Ques
   at_old always same ComputeInsert new s old t w x = asks ComputeInsert always s old t tt x
   at_old always same (Exchange u) new s old t w x = absurd cc
 
-  adds_at : (always : Bool) (same : V → V → Bool) (kind : Kind V) (new : Option V) (s : Site C) (above : Option (Parent C)) (old : V) (t : Turn C V) → adds kind ≡ true → IsAdded always same kind new s above old t → StepShape k kind v v1 v' q t
+  adds_at : (always : Bool) (same : V → V → Bool) (kind : Kind V) (new : Option V) (s : Site C) (above : Option (Over C)) (old : V) (t : Turn C V) → adds kind ≡ true → IsAdded always same kind new s above old t → StepShape k kind v v1 v' q t
   adds_at always same kind new s None old t w x = at_old always same kind new s old t w x
-  adds_at always same kind new s (Some p) old t w x = to kind _ t x (on kind (CheckOld p.seat s old) refl)
+  adds_at always same kind new s (Some u) old t w x = to kind _ t x (on kind (CheckOld u.near.seat s old) refl)
 
   exchanges : (always : Bool) (same : V → V → Bool) (w : V) (new : Option V) (s : Site C) (old : V) (t : Turn C V) → IsExchanged always same new s old t → StepShape k (Exchange w) v v1 v' q t
   exchanges always same w None s old t x = to (Exchange w) _ t x (empties (Exchange w) s (reply.Exchange (Ok None)) tt)
   exchanges always same w (Some u) s old t x = uncounted (Exchange w) always _ t x (replaces (Exchange w) s (same old u) (reply.Exchange (Ok (Some u))) tt)
 
-  downs : (kind : Kind V) (b : Bool) (s : Site C) (above : Option (Parent C)) (c : C) → StepShape k kind v v1 v' q (down b s above c)
+  downs : (kind : Kind V) (b : Bool) (s : Site C) (above : Option (Over C)) (c : C) → StepShape k kind v v1 v' q (down b s above c)
   downs kind false s above c = on kind (Version _ c) refl
   downs kind true s None c = on kind (Version _ c) refl
-  downs kind true s (Some p) c = on kind (CheckDown p.seat _ c) refl
+  downs kind true s (Some u) c = on kind (CheckDown u.near.seat _ c) refl
 
 -- before an answer was wanted
 pub presents : {C V : Type 0} (k : ℕ) (v v' : Option V) (e : v' ≡ v) (q : Question V) (always : Bool) (same : V → V → Bool) (kind : Kind V) (new : Option V) (s : Site C) (old : V) (t : Turn C V)
@@ -196,13 +206,13 @@ module _ {C V : Type 0} (number : C → ℕ) (k : ℕ) (kind : Kind V) (v v' : O
   checks always same new s (child.Node c) t x = at _ t x (downs k v v v' e q kind (adds kind) s s.above c)
   checks always same new s (child.Value old) t x = presents k v v' e q always same kind new s old t x
 
-  pub reads : (root : C) (above : Option (Parent C)) (seat : Seat C) (r : Reading C V) → StepShape k kind v v v' q (after_read root above seat r)
+  pub reads : (root : C) (above : Option (Over C)) (seat : Seat C) (r : Reading C V) → StepShape k kind v v v' q (after_read root above seat r)
   reads root None seat (Differs common byte) = back root
-  reads root (Some p) seat (Differs common byte) = go (CheckMiss p seat common byte) refl
-  reads root above seat (Fits depth s) = go (Check _ s.child) refl
+  reads root (Some u) seat (Differs common byte) = go (CheckMiss u.near seat common byte) refl
+  reads root above seat (Fits depth form s) = go (Check _ s.child) refl
   reads root above seat Uncopied = go (CheckUncopied seat) refl
 
-  pub versions : (root : C) (above : Option (Parent C)) (n : C) (o : Option ℕ) → StepShape k kind v v v' q (after_version root above n o)
+  pub versions : (root : C) (above : Option (Over C)) (n : C) (o : Option ℕ) → StepShape k kind v v v' q (after_version root above n o)
   versions root above n None = back root
   versions root above n (Some x) = go (Read above _) refl
 
@@ -232,27 +242,54 @@ module _ {C V : Type 0} (number : C → ℕ) (k : ℕ) (kind : Kind V) (v v' : O
   beside_made p seat common byte top h key (Ok leaf) h' t w x = at _ t x.1 (readies k v v v' e q kind _ w)
   beside_made p seat common byte top h key (Err r) h' t w x = halts r t x.1
 
+  skips_to : (r : Reply V) (s : Phase C V) → Ripe r q → flight_in k kind v' s ≡ Pending k kind v' (heeding r) → StepShape k kind v v v' q (skipping s)
+  skips_to r s c f = Skips s (heeding r) refl (f ∙ ap (λ x. Pending k kind x (heeding r)) e) c
+
+  pub lesser_made : (s : Site C) (p : Parent C) (top : Option (Parent C)) (r : Reply V) (h : ℕ → Node V) (key : List ℕ) (x : Result C Refusal) (h' : ℕ → Node V) (t : Turn C V) → Ripe r q → MadeLesser number s p top r h key x h' t → StepShape k kind v v v' q t
+  lesser_made s p None r h key (Ok c) h' t f x = at _ t x.1 (goes_to_work r (UpgradeAbove (both p s (Shrink c)) r) f refl)
+  lesser_made s p None r h key (Err o) h' t f x = at _ t x.1 (skips_to r (UpgradeOne (set_at s) r) f refl)
+  lesser_made s p (Some top) r h key (Ok c) h' t f x = at _ t x.1 (goes_to_work r (UpgradeTop top (both p s (ShrinkAbove c)) r) f refl)
+  lesser_made s p (Some top) r h key (Err o) h' t f x = at _ t x.1 (skips_to r (UpgradeAbove (both p s Unlink) r) f refl)
+
   pub one_upgraded : (root : C) (one : One C) (r : Reply V) (h : ℕ → Node V) (u : Upgrade) (h' : ℕ → Node V) (t : Turn C V) → Ripe r q → UpgradedOne number root one r h u h' t → StepShape k kind v v v' q t
   one_upgraded root one r h Locked h' t c x = at _ t x.1 (goes_to_work r (ChangeOne one r) c refl)
   one_upgraded root one r h Failed h' t c x = at _ t x.1 (back root)
   one_upgraded root one r h Exhausted h' t c x = halts refusal.Exhausted t x.1
 
+  gives_up : (root : C) (top : Option (Parent C)) (o : Option Refusal) (t : Turn C V) → t ≡ given_up root top o → StepShape k kind v v v' q t
+  gives_up root None None t x = at _ t x (back root)
+  gives_up root None (Some r) t x = halts r t x
+  gives_up root (Some top) o t x = at _ t x (go (Unwind top.seat.node None o) refl)
+
   pub above_upgraded : (root : C) (two : Two C) (r : Reply V) (h : ℕ → Node V) (u : Upgrade) (h' : ℕ → Node V) (t : Turn C V) → Ripe r q → UpgradedAbove number root two r h u h' t → StepShape k kind v v v' q t
   above_upgraded root two r h Locked h' t c x = at _ t x.1 (goes_to_work r (UpgradeBelow two r) c refl)
-  above_upgraded root two r h Failed h' t c x = at _ t x.1 (back root)
-  above_upgraded root two r h Exhausted h' t c x = halts refusal.Exhausted t x.1
+  above_upgraded root two r h Failed h' t c x = gives_up root two.top None t x.1
+  above_upgraded root two r h Exhausted h' t c x = gives_up root two.top (Some refusal.Exhausted) t x.1
+
+  pub top_upgraded : (root : C) (top : Parent C) (two : Two C) (r : Reply V) (h : ℕ → Node V) (u : Upgrade) (h' : ℕ → Node V) (t : Turn C V) → Ripe r q → UpgradedTop number root top two r h u h' t → StepShape k kind v v v' q t
+  top_upgraded root top two r h Locked h' t c x = at _ t x.1 (goes_to_work r (UpgradeAbove (record two { top = Some top }) r) c refl)
+  top_upgraded root top two r h Failed h' t c x = at _ t x.1 (back root)
+  top_upgraded root top two r h Exhausted h' t c x = halts refusal.Exhausted t x.1
 
   pub both_upgraded : (two : Two C) (r : Reply V) (h : ℕ → Node V) (u : Upgrade) (h' : ℕ → Node V) (t : Turn C V) → Ripe r q → UpgradedBelow number two r h u h' t → StepShape k kind v v v' q t
   both_upgraded two r h Locked h' t c x = at _ t x.1 (goes_to_work r (ChangeTwo two r) c refl)
-  both_upgraded two r h Failed h' t c x = at _ t x.1 (go (Unwind _ None) refl)
-  both_upgraded two r h Exhausted h' t c x = at _ t x.1 (go (Unwind _ (Some refusal.Exhausted)) refl)
+  both_upgraded two r h Failed h' t c x = at _ t x.1 (go (Unwind _ _ None) refl)
+  both_upgraded two r h Exhausted h' t c x = at _ t x.1 (go (Unwind _ _ (Some refusal.Exhausted)) refl)
 
-  pub unwinds : (root : C) (o : Option Refusal) (t : Turn C V) → t ≡ unwound root o → StepShape k kind v v v' q t
-  unwinds root None t x = at _ t x (back root)
-  unwinds root (Some r) t x = halts r t x
+  pub unwinds : (root : C) (next : Option C) (o : Option Refusal) (t : Turn C V) → t ≡ after_unwind root next o → StepShape k kind v v v' q t
+  unwinds root None None t x = at _ t x (back root)
+  unwinds root None (Some r) t x = halts r t x
+  unwinds root (Some c) o t x = at _ t x (go (Unwind c None o) refl)
 
 -- a change takes effect
+top_shape : {C V : Type 0} (k : ℕ) (kind : Kind V) (v v' : Option V) (two : Two C) (r : Reply V) (top : Option (Parent C)) (t : Turn C V) → t ≡ after_top two r top → StepShape k kind v v v' (heeding r) t
+top_shape k kind v v' two r None t x = Takes _ r x refl refl refl (ripe_at_work r)
+top_shape k kind v v' two r (Some top) t x = Takes _ r x refl refl refl (ripe_at_work r)
+
 pub change_shape : {C V : Type 0} (k : ℕ) (kind : Kind V) (v v' : Option V) (two : Two C) (r : Reply V) (change : Double C) (t : Turn C V) → t ≡ after_change two r change → StepShape k kind v v v' (heeding r) t
+change_shape k kind v v' two r (Shrink c) t x = Takes _ r x refl refl refl (ripe_at_work r)
+change_shape k kind v v' two r Collapse t x = top_shape k kind v v' two r two.top t x
+change_shape k kind v v' two r (ShrinkAbove c) t x = top_shape k kind v v' two r two.top t x
 change_shape k kind v v' two r Unlink t x = Takes _ r x refl refl refl (ripe_at_work r)
 change_shape k kind v v' two r (Grow c) t x = Takes _ r x refl refl refl (ripe_at_work r)
 change_shape k kind v v' two r (GrowLink c leaf byte) t x = Takes _ r x refl refl refl (ripe_at_work r)

@@ -7,19 +7,22 @@ use Rattle.judge.specs.declared.journal.Reply.{Reply}
 use Rattle.congee.specs.declared.protocol.store.Reading.{Reading}
 use Rattle.congee.specs.declared.protocol.store.Reading.TheVariants.{Differs, Fits, Uncopied}
 use Rattle.congee.specs.declared.protocol.store.Seat.{Seat}
+use Rattle.congee.specs.declared.protocol.store.Seen.{Seen}
 use Rattle.congee.specs.declared.protocol.phase.Kind.{Kind}
 use Rattle.congee.specs.declared.protocol.phase.Kind.TheVariants.{Get, Insert, Remove, ComputePresent, ComputeInsert, Exchange}
 use Rattle.congee.specs.declared.protocol.phase.Parent.{Parent}
+use Rattle.congee.specs.declared.protocol.phase.Above.{Above as Over}
+use Rattle.congee.specs.declared.forms.base_node.NodeType.{NodeType}
 use Rattle.congee.specs.declared.protocol.phase.Site.{Site}
 use Rattle.congee.specs.declared.protocol.phase.Phase.{Phase}
 use Rattle.congee.specs.declared.protocol.phase.Phase.TheVariants.{Version, Read, CheckUncopied, CheckMiss, CheckDown}
 use Rattle.congee.specs.declared.protocol.turn.Turn.{Turn}
 use Rattle.congee.specs.Heap.{Node, Hung, Below, fits, child_for, of_child, walk, value_at, is_taken}
 use Rattle.congee.specs.protocol.Events.{hung, Parts, ReadGives, SeenTruly}
-use Rattle.congee.specs.protocol.Steps.{quiet, again, answered, adds, absent_reply, after_version, after_read, down}
+use Rattle.congee.specs.protocol.Steps.{quiet, again, answered, adds, absent_reply, near_of, here_of, below, after_version, after_read, down}
 use Rattle.congee.specs.Keys.{key_bytes}
 use Rattle.congee.specs.Ledger.{Note, Linked, is_published, Tree, LockWords}
-use Rattle.congee.specs.protocol.Protocol.{Seated, Fresh, ChildOf, IsAbove, Knows, HasGift, Settles, Known, Effect}
+use Rattle.congee.specs.protocol.Protocol.{Seated, Fresh, ChildOf, IsFar, IsAbove, Knows, HasGift, Settles, Known, Effect}
 use Rattle.congee.specs.protocol.Answers.{StepAnswers}
 use Rattle.congee.proofs.lemmas.Tree.{finds, misses}
 use Rattle.congee.proofs.lemmas.protocol.Parting.{parts_differ}
@@ -59,46 +62,33 @@ module _ {C V : Type 0} (number : C → ℕ) (same : V → V → Bool) (always :
   pub answers_now : (r : Reply V) (found : Option V) → Settles same k kind given found r found → value_at h (key_bytes k) ≡ found → Sound number same always i k kind given h given (answered r) a h
   answers_now r found s e = record { known = tt; answer = (r, refl, record { found = found; after = found; settles = s; before = e; now = e; rest = λ x _ _. refl }) }
 
-  pub version_sound : (root : C) → number root ≡ 0 → (p : Option (Parent C)) (n : C) → HasGift kind given → IsAbove number a h (key_bytes k) p (number n) → is_published (a (number n)).status ≡ true
+  pub version_sound : (root : C) → number root ≡ 0 → (p : Option (Over C)) (n : C) → HasGift kind given → IsAbove number a h (key_bytes k) p (number n) → is_published (a (number n)).status ≡ true
       → (b : Bool) → Sound number same always i k kind given h given (after_version root p n (cond b (Some (h (number n)).version) None)) a h
   version_sound root e p n g m pu true = goes_on (Read p (record { node = n; version = (h (number n)).version })) (g, m, record { published = pu; up = omega arith })
   version_sound root e p n g m pu false = begins_anew root e g
 
-  pub read_sound : (root : C) → number root ≡ 0 → (p : Option (Parent C)) (at : Seat C) → HasGift kind given → IsAbove number a h (key_bytes k) p (number at.node) → Seated a h (number at.node) at.version
+  -- what a read of a node on the key's way saw
+  saw : (p : Option (Over C)) (at : Seat C) → IsAbove number a h (key_bytes k) p (number at.node) → Seated a h (number at.node) at.version → (depth : ℕ) (form : NodeType) (x : Seen C V) → ReadGives number always (h (number at.node)) at.version (key_bytes k) (Fits depth form x)
+      → Knows number a h (key_bytes k) (record { above = p; at = at; depth = depth; byte = x.byte; count = x.count; full = x.full; form = form }) (hung number x.child)
+  saw p at m s depth form x q = record {
+    above = m;
+    fitted = q.0;
+    depth = q.1;
+    short = q.2;
+    byte = rw (← q.1) q.4;
+    fresh = record {
+      seated = s;
+      holds = λ z. let y : SeenTruly number (h (number at.node)) (key_bytes k) x = q.5 z in
+          record { child = sym y.child; count = sym y.count; full = y.full; form = sym q.3; alone = y.alone; room = y.room };
+    };
+  }
+
+  pub read_sound : (root : C) → number root ≡ 0 → (p : Option (Over C)) (at : Seat C) → HasGift kind given → IsAbove number a h (key_bytes k) p (number at.node) → Seated a h (number at.node) at.version
       → (r : Reading C V) → ReadGives number always (h (number at.node)) at.version (key_bytes k) r → Sound number same always i k kind given h given (after_read root p at r) a h
   read_sound root e None at g m s (Differs common byte) q = begins_anew root e g
-  read_sound root e (Some p) at g m s (Differs common byte) q = goes_on (CheckMiss p at common byte) (g, m, s, q.0, q.1)
-  read_sound root e None at g m s (Fits depth x) q = goes_on _ (g, saw None at m s depth x q)
-    where
-      saw : (p : Option (Parent C)) (at : Seat C) → IsAbove number a h (key_bytes k) p (number at.node) → Seated a h (number at.node) at.version → (depth : ℕ) (x : _) → ReadGives number always (h (number at.node)) at.version (key_bytes k) (Fits depth x)
-          → Knows number a h (key_bytes k) (record { above = p; at = at; depth = depth; byte = x.byte; count = x.count; full = x.full }) (hung number x.child)
-      saw p at m s depth x q = record {
-        above = m;
-        fitted = q.0;
-        depth = q.1;
-        short = q.2;
-        byte = rw (← q.1) q.3;
-        fresh = record {
-          seated = s;
-          holds = λ z. let y : SeenTruly number (h (number at.node)) (key_bytes k) x = q.4 z in
-              record { child = sym y.child; count = sym y.count; full = y.full; alone = y.alone; room = y.room };
-        };
-      }
-  read_sound root e (Some p) at g m s (Fits depth x) q = goes_on _ (
-    g,
-    record {
-      above = m;
-      fitted = q.0;
-      depth = q.1;
-      short = q.2;
-      byte = rw (← q.1) q.3;
-      fresh = record {
-        seated = s;
-        holds = λ z. let y : SeenTruly number (h (number at.node)) (key_bytes k) x = q.4 z in
-            record { child = sym y.child; count = sym y.count; full = y.full; alone = y.alone; room = y.room };
-      };
-    },
-  )
+  read_sound root e (Some p) at g m s (Differs common byte) q = goes_on (CheckMiss p.near at common byte) (g, m.0, s, q.0, q.1)
+  read_sound root e None at g m s (Fits depth form x) q = goes_on _ (g, saw None at m s depth form x q)
+  read_sound root e (Some p) at g m s (Fits depth form x) q = goes_on _ (g, saw (Some p) at m s depth form x q)
   read_sound root e None at g m s Uncopied q = goes_on (CheckUncopied at) (g, s, q.1)
   read_sound root e (Some p) at g m s Uncopied q = goes_on (CheckUncopied at) (g, s, q.1)
 
@@ -108,24 +98,33 @@ module _ {C V : Type 0} (number : C → ℕ) (same : V → V → Bool) (always :
   stands_at n v x Q f c fit q = finds a h t n (key_bytes k) x (taken_linked a h w n v f.seated.published q) fit (c (f.holds q))
 
   pub miss_value : (p : Parent C) (n common : ℕ) → ChildOf number a h (key_bytes k) p n → Parts (h n).prefix (key_bytes k) common → is_taken (h (number p.seat.node)) p.seat.version ≡ true → value_at h (key_bytes k) ≡ None
-  miss_value p n common c q z = misses a h t (number p.seat.node) n (key_bytes k) (taken_linked a h w (number p.seat.node) p.seat.version c.fresh.seated.published z) c.fitted (c.fresh.holds z) (parts_differ (h n).prefix (key_bytes k) common q)
+  miss_value p n common c q z = misses a h t (number p.seat.node) n (key_bytes k) (taken_linked a h w (number p.seat.node) p.seat.version c.fresh.seated.published z) c.fitted (c.fresh.holds z).0 (parts_differ (h n).prefix (key_bytes k) common q)
+
+  -- the node at hand as the one above its child
+  pub here_child : (s : Site C) (c : ℕ) → Knows number a h (key_bytes k) s (Below c) → ChildOf number a h (key_bytes k) (here_of s) c
+  here_child s c m = record {
+    fitted = m.fitted;
+    byte = m.byte;
+    depth = m.depth;
+    short = m.short;
+    fresh = fresh_map a h (number s.at.node) s.at.version _ _ (λ z. (z.child, z.count, z.form)) m.fresh;
+  }
+
+  pub far_above : (p : Option (Over C)) (n : ℕ) → IsAbove number a h (key_bytes k) p n → IsFar number a h (key_bytes k) (near_of p) n
+  far_above None n m = m
+  far_above (Some u) n m = m.0
 
   -- a child that was read in a node whose lock word is the one taken is in the tree
   pub down_sound : (s : Site C) (c : C) → HasGift kind given → Knows number a h (key_bytes k) s (Below (number c)) → is_taken (h (number s.at.node)) s.at.version ≡ true
-      → (b : Bool) (p : Option (Parent C)) → IsAbove number a h (key_bytes k) p (number s.at.node) → Sound number same always i k kind given h given (down b s p c) a h
+      → (b : Bool) (p : Option (Over C)) → IsAbove number a h (key_bytes k) p (number s.at.node) → Sound number same always i k kind given h given (down b s p c) a h
   down_sound s c g m q b p ab =
       let l : (a (number s.at.node)).status ≡ Linked = taken_linked a h w (number s.at.node) s.at.version m.fresh.seated.published q in
       let ch : child_for (h (number s.at.node)) (key_bytes k) ≡ Below (number c) = (m.fresh.holds q).child in
       let pu : is_published (a (number c)).status ≡ true = ap is_published (t.down (number s.at.node) _ (number c) l ch).linked in
-      let below : ChildOf number a h (key_bytes k) (record { seat = s.at; byte = s.byte }) (number c) = record {
-        fitted = m.fitted;
-        byte = m.byte;
-        fresh = fresh_map a h (number s.at.node) s.at.version _ _ (λ z. z.child) m.fresh;
-      } in
-      by_above b p ab pu below
+      by_above b p ab pu (here_child s (number c) m, far_above s.above (number s.at.node) m.above)
     where
-      by_above : (b : Bool) (p : Option (Parent C)) → IsAbove number a h (key_bytes k) p (number s.at.node) → is_published (a (number c)).status ≡ true → ChildOf number a h (key_bytes k) (record { seat = s.at; byte = s.byte }) (number c)
+      by_above : (b : Bool) (p : Option (Over C)) → IsAbove number a h (key_bytes k) p (number s.at.node) → is_published (a (number c)).status ≡ true → IsAbove number a h (key_bytes k) (Some (below s)) (number c)
           → Sound number same always i k kind given h given (down b s p c) a h
-      by_above false p ab pu below = goes_on (Version (Some (record { seat = s.at; byte = s.byte })) c) (g, below, pu)
-      by_above true None ab pu below = goes_on (Version (Some (record { seat = s.at; byte = s.byte })) c) (g, below, pu)
-      by_above true (Some p) ab pu below = goes_on (CheckDown p.seat (record { seat = s.at; byte = s.byte }) c) (g, ab.fresh.seated, below, pu)
+      by_above false p ab pu z = goes_on (Version (Some (below s)) c) (g, z, pu)
+      by_above true None ab pu z = goes_on (Version (Some (below s)) c) (g, z, pu)
+      by_above true (Some p) ab pu z = goes_on (CheckDown p.near.seat (below s) c) (g, ab.0.fresh.seated, z, pu)

@@ -8,28 +8,29 @@ use Rattle.congee.specs.declared.protocol.store.Refusal.TheVariants as refusal
 use Rattle.congee.specs.declared.protocol.store.Upgrade.{Upgrade}
 use Rattle.congee.specs.declared.protocol.store.Upgrade.TheVariants.{Locked, Failed, Exhausted}
 use Rattle.congee.specs.declared.protocol.phase.Kind.{Kind}
+use Rattle.congee.specs.declared.protocol.phase.Parent.{Parent}
 use Rattle.congee.specs.declared.protocol.phase.One.{One}
 use Rattle.congee.specs.declared.protocol.phase.Two.{Two}
 use Rattle.congee.specs.declared.protocol.phase.Phase.{Phase}
-use Rattle.congee.specs.declared.protocol.phase.Phase.TheVariants.{New, Version, Read, Check, CheckUncopied, CheckMiss, CheckDown, CheckOld, MakeLeaf, MakeGreater, MakeTop, MakeBeside, AskOld, AskNew, Confirm, CheckAbove, UpgradeOne, ChangeOne, UpgradeAbove, UpgradeBelow, ChangeTwo, Obsolete, Retire, UnlockBelow, Unlock, Unwind, Sweep, Ended}
+use Rattle.congee.specs.declared.protocol.phase.Phase.TheVariants.{New, Version, Read, Check, CheckUncopied, CheckMiss, CheckDown, CheckOld, MakeLeaf, MakeGreater, MakeTop, MakeBeside, MakeLesser, AskOld, AskNew, Confirm, CheckAbove, UpgradeOne, ChangeOne, UpgradeTop, UpgradeAbove, UpgradeBelow, ChangeTwo, Obsolete, Retire, UnlockBelow, Unlock, Unwind, Sweep, Ended}
 use Rattle.congee.specs.declared.protocol.turn.Turn.{Turn}
 use Rattle.congee.specs.Heap.{Node, Nothing, Holds, child_for, is_taken, is_free}
 use Rattle.congee.specs.protocol.Events.{upgrade_gives}
-use Rattle.congee.specs.protocol.Steps.{quiet, swept, again, refused, adds, absent_reply, UpgradedOne, UpgradedAbove, UpgradedBelow, PhaseStepped, Stepped}
+use Rattle.congee.specs.protocol.Steps.{quiet, swept, again, refused, node_of, given_up, adds, absent_reply, UpgradedOne, UpgradedTop, UpgradedAbove, UpgradedBelow, PhaseStepped, Stepped}
 use Rattle.congee.specs.Keys.{key_bytes}
 use Rattle.congee.specs.Ledger.{Note, is_published, Tree, LockWords}
 use Rattle.congee.specs.declared.protocol.machine.Machine.{Machine}
 use Rattle.congee.specs.declared.protocol.machine.Move.{Move}
 use Rattle.congee.specs.protocol.Answers.{KeepsProtocol}
-use Rattle.congee.specs.protocol.Protocol.{HasGift, Holding, Known, IsFailure}
+use Rattle.congee.specs.protocol.Protocol.{HasGift, Holding, AlsoHolding, TopLocked, Known, IsFailure}
 use Rattle.congee.proofs.lemmas.Graft.{on_test}
 use Rattle.congee.proofs.lemmas.protocol.Touch.{by_test}
 use Rattle.congee.proofs.lemmas.protocol.Sound.{Sound, same_effect, settle_absent, goes_on, begins_anew, answers_now, version_sound, read_sound, stands_at, miss_value}
 use Rattle.congee.proofs.lemmas.protocol.Plans.{turn_at}
 use Rattle.congee.proofs.lemmas.protocol.Values.{at_old_sound, checked_sound, given_sound, given_new_sound}
-use Rattle.congee.proofs.lemmas.protocol.Locks.{Kept, locked_taken, lock_one, lock_above, lock_both, marked, handed_over, unlocked_below, unlocked_last, unwinds}
+use Rattle.congee.proofs.lemmas.protocol.Locks.{Kept, locked_taken, above_longer, by_prefix, lock_one, lock_top, lock_above, lock_both, marked, handed_over, unlocked_below, unlocked_last, unwinds}
 use Rattle.congee.proofs.lemmas.protocol.Makes.{Backed, back_one, back_two}
-use Rattle.congee.proofs.lemmas.protocol.Building.{kept_at, refused_back, leaf_made, greater_made, top_made, beside_made}
+use Rattle.congee.proofs.lemmas.protocol.Building.{kept_at, refused_back, leaf_made, greater_made, top_made, beside_made, lesser_made}
 use Rattle.congee.proofs.lemmas.protocol.SweepStays.{sweep_stays}
 use Rattle.congee.proofs.lemmas.protocol.Settling.{changed_one, changed_two}
 
@@ -64,14 +65,33 @@ module _ {C V : Type 0} (number : C → ℕ) (same : V → V → Bool) (always :
     };
   }
 
-  unwind_back : (p : C) (e : Option Refusal) (h' : ℕ → Node V) → IsFailure e → HasGift kind given → Holding i a (number p) → Backed i a h h' → Kept number same always i a h k kind given given (quiet (Unwind p e)) h'
-  unwind_back p e h' f g o b =
-      let same_note : b.notes (number p) ≡ a (number p) = b.keeps (number p) (ap is_published o.linked) in
-      record {
-        notes = b.notes;
-        effect = b.still.effect;
-        sound = record { known = (g, record { owner = rw same_note o.owner; linked = rw same_note o.linked }, f); answer = b.still.map };
-      }
+  -- a locked node, over the giving back of made ones
+  held_back : (n : ℕ) → Holding i a n → (h' : ℕ → Node V) (b : Backed i a h h') → Holding i b.notes n
+  held_back n o h' b = let e : b.notes n ≡ a n = b.keeps n (ap is_published o.linked) in record { owner = rw e o.owner; linked = rw e o.linked }
+
+  also_back : (n : ℕ) (next : Option C) → AlsoHolding number i a n next → (h' : ℕ → Node V) (b : Backed i a h h') → AlsoHolding number i b.notes n next
+  also_back n None o h' b = tt
+  also_back n (Some c) o h' b = (held_back (number c) o.0 h' b, o.1)
+
+  unwind_back : (p : C) (next : Option C) (e : Option Refusal) (h' : ℕ → Node V) → IsFailure e → HasGift kind given → Holding i a (number p) → AlsoHolding number i a (number p) next → Backed i a h h'
+      → Kept number same always i a h k kind given given (quiet (Unwind p next e)) h'
+  unwind_back p next e h' f g o also b = record {
+    notes = b.notes;
+    effect = b.still.effect;
+    sound = record { known = (g, held_back (number p) o h' b, also_back (number p) next also h' b, f); answer = b.still.map };
+  }
+
+  -- the node above both is locked, where there is one, and is another one than the node above
+  also_top : (top : Option (Parent C)) (p : C) → TopLocked number i a h (key_bytes k) top (number p) → AlsoHolding number i a (number p) (node_of top)
+  also_top None p o = tt
+  also_top (Some g) p o = (o.holding, by_prefix number same always i a h k kind given t w _ _ (above_longer number same always i a h k kind given t w g (number p) o))
+
+  -- an attempt is given up with that one locked, or none
+  gives_up : (root : C) → number root ≡ 0 → (top : Option (Parent C)) (n : ℕ) (e : Option Refusal) (h' : ℕ → Node V) → IsFailure e → HasGift kind given → TopLocked number i a h (key_bytes k) top n → Backed i a h h'
+      → Kept number same always i a h k kind given given (given_up root top e) h'
+  gives_up root z None n None h' f g o b = again_back root z h' g b
+  gives_up root z None n (Some e) h' f g o b = refused_back number same always i a h k kind given h' e b
+  gives_up root z (Some top) n e h' f g o b = unwind_back top.seat.node None e h' f g o.holding tt b
 
   upgraded_one : (root : C) → number root ≡ 0 → (most : ℕ) (fail : Bool) (one : One C) (r : Reply V) (turn : Turn C V) (h' : ℕ → Node V) (u : Upgrade) → Known number same always i a h k (key_bytes k) kind given (UpgradeOne one r)
       → u ≡ upgrade_gives most (h (number one.at.node)) one.at.version fail → UpgradedOne number root one r h u h' turn → Kept number same always i a h k kind given given turn h'
@@ -87,18 +107,27 @@ module _ {C V : Type 0} (number : C → ℕ) (same : V → V → Bool) (always :
   upgraded_above root z most fail two r turn h' Locked m e g = kept_at number same always i a h k kind given given _ turn h' g.1
       (lock_above number same always i a h k kind given t w two r h' m (locked_taken most (h (number two.above.seat.node)) two.above.seat.version fail e) g.0)
   upgraded_above root z most fail two r turn h' Failed m e g = kept_at number same always i a h k kind given given _ turn h' g.1
-      (again_back root z h' m.0 (back_two number i a h (key_bytes k) two.change _ _ h' t w m.1.2.made g.0))
+      (gives_up root z two.top (number two.above.seat.node) None h' tt m.0 m.1.2.top (back_two number i a h (key_bytes k) two.above two.change _ _ h' t w m.1.2.made g.0))
   upgraded_above root z most fail two r turn h' Exhausted m e g = kept_at number same always i a h k kind given given _ turn h' g.1
-      (refused_back number same always i a h k kind given h' refusal.Exhausted (back_two number i a h (key_bytes k) two.change _ _ h' t w m.1.2.made g.0))
+      (gives_up root z two.top (number two.above.seat.node) (Some refusal.Exhausted) h' refl m.0 m.1.2.top (back_two number i a h (key_bytes k) two.above two.change _ _ h' t w m.1.2.made g.0))
+
+  upgraded_top : (root : C) → number root ≡ 0 → (most : ℕ) (fail : Bool) (top : Parent C) (two : Two C) (r : Reply V) (turn : Turn C V) (h' : ℕ → Node V) (u : Upgrade) → Known number same always i a h k (key_bytes k) kind given (UpgradeTop top two r)
+      → u ≡ upgrade_gives most (h (number top.seat.node)) top.seat.version fail → UpgradedTop number root top two r h u h' turn → Kept number same always i a h k kind given given turn h'
+  upgraded_top root z most fail top two r turn h' Locked m e g = kept_at number same always i a h k kind given given _ turn h' g.1
+      (lock_top number same always i a h k kind given t w top two r h' m (locked_taken most (h (number top.seat.node)) top.seat.version fail e) g.0)
+  upgraded_top root z most fail top two r turn h' Failed m e g = kept_at number same always i a h k kind given given _ turn h' g.1
+      (again_back root z h' m.0 (back_two number i a h (key_bytes k) two.above two.change _ _ h' t w m.1.2.made g.0))
+  upgraded_top root z most fail top two r turn h' Exhausted m e g = kept_at number same always i a h k kind given given _ turn h' g.1
+      (refused_back number same always i a h k kind given h' refusal.Exhausted (back_two number i a h (key_bytes k) two.above two.change _ _ h' t w m.1.2.made g.0))
 
   upgraded_both : (most : ℕ) (fail : Bool) (two : Two C) (r : Reply V) (turn : Turn C V) (h' : ℕ → Node V) (u : Upgrade) → Known number same always i a h k (key_bytes k) kind given (UpgradeBelow two r)
       → u ≡ upgrade_gives most (h (number two.at.node)) two.at.version fail → UpgradedBelow number two r h u h' turn → Kept number same always i a h k kind given given turn h'
   upgraded_both most fail two r turn h' Locked m e g = kept_at number same always i a h k kind given given _ turn h' g.1
       (lock_both number same always i a h k kind given t w two r h' m (locked_taken most (h (number two.at.node)) two.at.version fail e) g.0)
   upgraded_both most fail two r turn h' Failed m e g = kept_at number same always i a h k kind given given _ turn h' g.1
-      (unwind_back two.above.seat.node None h' tt m.0 m.1.2.above.holding (back_two number i a h (key_bytes k) two.change _ _ h' t w m.1.2.made g.0))
+      (unwind_back two.above.seat.node (node_of two.top) None h' tt m.0 m.1.2.above.holding (also_top two.top two.above.seat.node m.1.2.top) (back_two number i a h (key_bytes k) two.above two.change _ _ h' t w m.1.2.made g.0))
   upgraded_both most fail two r turn h' Exhausted m e g = kept_at number same always i a h k kind given given _ turn h' g.1
-      (unwind_back two.above.seat.node (Some refusal.Exhausted) h' refl m.0 m.1.2.above.holding (back_two number i a h (key_bytes k) two.change _ _ h' t w m.1.2.made g.0))
+      (unwind_back two.above.seat.node (node_of two.top) (Some refusal.Exhausted) h' refl m.0 m.1.2.above.holding (also_top two.top two.above.seat.node m.1.2.top) (back_two number i a h (key_bytes k) two.above two.change _ _ h' t w m.1.2.made g.0))
 
 -- every step
 pub step_kept : {C V : Type 0} (number : C → ℕ) (same : V → V → Bool) (always : Bool) (most : ℕ) (why : NodeType → Refusal → Type 0) → ((p q : V) → same p q ≡ true → p ≡ q)
@@ -132,6 +161,8 @@ step_kept number same always most why law i a h root z k kind fail answer given 
     (top_made number same always i a h k kind given t w p at common byte turn h' g.1.0 m g.1.1)
 step_kept number same always most why law i a h root z k kind fail answer given (MakeBeside p at common byte top) given' turn h' t w m g = given_at number same always i a h k kind given t w given' turn h' g.0
     (beside_made number same always i a h k kind given t w p at common byte top turn h' g.1.0 m g.1.1)
+step_kept number same always most why law i a h root z k kind fail answer given (MakeLesser s p top r) given' turn h' t w m g = given_at number same always i a h k kind given t w given' turn h' g.0
+    (lesser_made number same always i a h k kind given t w s p top r turn h' g.1.0 m g.1.1)
 step_kept number same always most why law i a h root z k kind fail answer given (AskOld s v) given' turn h' t w m g = quiet_kept number same always i a h k kind given t w given' turn h' g.0
     (given_sound number same always i a h k t w law kind given given' answer s v turn g.1 m.0 m.2 m.1 m.3)
 step_kept number same always most why law i a h root z k kind fail answer given (AskNew plan) given' turn h' t w m g = quiet_kept number same always i a h k kind given t w given' turn h' g.0
@@ -152,22 +183,24 @@ step_kept number same always most why law i a h root z k kind fail answer given 
     (upgraded_one number same always i a h k kind given t w root z most fail one r turn h' g.1.0 m g.1.1 g.1.2)
 step_kept number same always most why law i a h root z k kind fail answer given (ChangeOne one r) given' turn h' t w m g = kept_at number same always i a h k kind given given' _ turn h' g.2
     (changed_one number same always i a h k kind t w one r given given' h' m g.1)
+step_kept number same always most why law i a h root z k kind fail answer given (UpgradeTop top two r) given' turn h' t w m g = given_at number same always i a h k kind given t w given' turn h' g.0
+    (upgraded_top number same always i a h k kind given t w root z most fail top two r turn h' g.1.0 m g.1.1 g.1.2)
 step_kept number same always most why law i a h root z k kind fail answer given (UpgradeAbove two r) given' turn h' t w m g = given_at number same always i a h k kind given t w given' turn h' g.0
     (upgraded_above number same always i a h k kind given t w root z most fail two r turn h' g.1.0 m g.1.1 g.1.2)
 step_kept number same always most why law i a h root z k kind fail answer given (UpgradeBelow two r) given' turn h' t w m g = given_at number same always i a h k kind given t w given' turn h' g.0
     (upgraded_both number same always i a h k kind given t w most fail two r turn h' g.1.0 m g.1.1 g.1.2)
 step_kept number same always most why law i a h root z k kind fail answer given (ChangeTwo two r) given' turn h' t w m g = kept_at number same always i a h k kind given given' _ turn h' g.2
     (changed_two number same always i a h k kind t w two r given given' h' m g.1)
-step_kept number same always most why law i a h root z k kind fail answer given (Obsolete n p r) given' turn h' t w m g = given_at number same always i a h k kind given t w given' turn h' g.0
-    (kept_at number same always i a h k kind given given _ turn h' g.2 (marked number same always i a h k kind given t w n p r h' m g.1))
-step_kept number same always most why law i a h root z k kind fail answer given (Retire n p r) given' turn h' t w m g = given_at number same always i a h k kind given t w given' turn h' g.0
-    (kept_at number same always i a h k kind given given _ turn h' g.2 (handed_over number same always i a h k kind given t w n p r h' m g.1))
+step_kept number same always most why law i a h root z k kind fail answer given (Obsolete n next p r) given' turn h' t w m g = given_at number same always i a h k kind given t w given' turn h' g.0
+    (kept_at number same always i a h k kind given given _ turn h' g.2 (marked number same always i a h k kind given t w n next p r h' m g.1))
+step_kept number same always most why law i a h root z k kind fail answer given (Retire n next p r) given' turn h' t w m g = given_at number same always i a h k kind given t w given' turn h' g.0
+    (kept_at number same always i a h k kind given given _ turn h' g.2 (handed_over number same always i a h k kind given t w n next p r h' m g.1))
 step_kept number same always most why law i a h root z k kind fail answer given (UnlockBelow n p r) given' turn h' t w m g = given_at number same always i a h k kind given t w given' turn h' g.0
     (kept_at number same always i a h k kind given given _ turn h' g.2 (unlocked_below number same always i a h k kind given t w n p r h' m g.1))
 step_kept number same always most why law i a h root z k kind fail answer given (Unlock n r) given' turn h' t w m g = given_at number same always i a h k kind given t w given' turn h' g.0
     (kept_at number same always i a h k kind given given _ turn h' g.2 (unlocked_last number same always i a h k kind given t w n r h' m g.1))
-step_kept number same always most why law i a h root z k kind fail answer given (Unwind n e) given' turn h' t w m g = given_at number same always i a h k kind given t w given' turn h' g.0
-    (kept_at number same always i a h k kind given given _ turn h' g.2 (unwinds number same always i a h k kind given t w root z n e h' m g.1))
+step_kept number same always most why law i a h root z k kind fail answer given (Unwind n next e) given' turn h' t w m g = given_at number same always i a h k kind given t w given' turn h' g.0
+    (kept_at number same always i a h k kind given given _ turn h' g.2 (unwinds number same always i a h k kind given t w root z n next e h' m g.1))
 step_kept number same always most why law i a h root z k kind fail answer given (Sweep s) given' turn h' t w m g = sound_kept number same always i a h k kind given t w given' turn h' g.0 g.1
     (at_turn number same always i a h k kind given t w (swept g.2.0 g.2.1) turn g.2.3 (record { known = sweep_stays number always a h t w root z s (g.2.0, g.2.1) m g.2.2; answer = λ y _. refl }))
 step_kept number same always most why law i a h root z k kind fail answer given Ended given' turn h' t w m g = sound_kept number same always i a h k kind given t w given' turn h' g.0 g.1

@@ -87,7 +87,7 @@ module _ {C V : Type 0} where
 module _ {C V : Type 0} (number : C → ℕ) (same : V → V → Bool) (always : Bool) (a : ℕ → Note) (h : ℕ → Node V) (t : Tree a h) (w : LockWords a h) (m : Pairs V) (st : IsMapOf h m)
     (root : C) (z : number root ≡ 0) (heard : Option (Option V)) where
   abbrev Watches : Scan C V → Flight V → Scan C V → Told V → Type 0
-  Watches s f s' o = (f' : Flight V) × Watched same f m heard (record { decided = false; outcome = outcome_of o }) f' m × ScanFollows s' f'
+  Watches s f s' o = (f' : Flight V) × Watched same f m heard (record { decided = false; skipped = false; outcome = outcome_of o }) f' m × ScanFollows s' f'
 
   -- a scan under way
   tells : (s s' : Scan C V) (states : List (Pairs V)) (places : List (ℕ × V)) (o : Told V) → Tracks s' (m ∷ states) (placed places o) → Tells s (m ∷ states) places s'.stage o → SameCall s s'
@@ -104,14 +104,14 @@ module _ {C V : Type 0} (number : C → ℕ) (same : V → V → Bool) (always :
       let tr : Tracks s [] [] = (let P : Stage C V → Type 0 = λ x. TracksAt s [] [] x in subst P (sym e.1) tt) in
       let out : Out number always a h t w m st [] [] root z s (s', o) = stepped_out number always a h t w m st [] [] root z s s.stage (s', o) k tr g in
       let y = tells s s' [] [] o out.1 out.2 out.3 in
-      (y.0, subst (λ x. Watched same x m heard (record { decided = false; outcome = outcome_of o }) y.0 m) (sym e.0) (refl, y.1, refl), y.2)
+      (y.0, subst (λ x. Watched same x m heard (record { decided = false; skipped = false; outcome = outcome_of o }) y.0 m) (sym e.0) (refl, y.1, refl), y.2)
   scan_watched s s' o f (inr (inl e)) k g =
       let P : Stage C V → Type 0 = λ x. SweptAt number always root s x h (s', o) in
       let q : (s', o) ≡ over s told.Running = subst P e.1 g in
       let is : o ≡ told.Running = ap (λ (u : Swung C V). u.1) q in
       let rests : s'.stage ≡ stage.Over = ap (λ (u : Swung C V). u.0.stage) q in
-      (Over, subst (λ x. Watched same x m heard (record { decided = false; outcome = outcome_of o }) Over m) (sym e.0) (ap (λ y. record { decided = false; outcome = outcome_of y }) is, refl, refl), inr (inl (refl, rests)))
+      (Over, subst (λ x. Watched same x m heard (record { decided = false; skipped = false; outcome = outcome_of o }) Over m) (sym e.0) (ap (λ y. record { decided = false; skipped = false; outcome = outcome_of y }) is, refl, refl), inr (inl (refl, rests)))
   scan_watched s s' o f (inr (inr e)) k g =
       let out : Out number always a h t w m st e.0 e.1 root z s (s', o) = stepped_out number always a h t w m st e.0 e.1 root z s s.stage (s', o) k e.3 g in
       let y = tells s s' e.0 e.1 o out.1 out.2 out.3 in
-      (y.0, subst (λ x. Watched same x m heard (record { decided = false; outcome = outcome_of o }) y.0 m) (sym e.2) (refl, y.1, refl), y.2)
+      (y.0, subst (λ x. Watched same x m heard (record { decided = false; skipped = false; outcome = outcome_of o }) y.0 m) (sym e.2) (refl, y.1, refl), y.2)

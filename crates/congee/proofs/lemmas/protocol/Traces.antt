@@ -1,5 +1,5 @@
 -- A call whose steps nobody else's come between ends within so many of them.
-use Rattle.std.proofs.Common.{◌≡◌, ◌≢◌, ℕ, zero, suc, ◌+◌, ◌<◌, ◌≤◌, ◌-◌, Bool, true, false, List, [], ◌∷◌, length, take, refl, sym, ◌∙◌, ap, subst, inl, inr, arith}
+use Rattle.std.proofs.Common.{◌≡◌, ℕ, zero, suc, ◌<◌, ◌≤◌, ◌-◌, Bool, true, false, List, [], ◌∷◌, length, take, refl, sym, ◌∙◌, subst, inl, inr, arith}
 use Rattle.std.specs.Prelude.{Option, None, Some, slice_get}
 use Rattle.std.proofs.Math.ListN.{set}
 use Rattle.std.proofs.lemmas.Bool.{false≢true}
@@ -65,7 +65,7 @@ module _ {C V : Type 0} (number : C → ℕ) (same : V → V → Bool) (always :
   Sound h ms = Settled number same always h ms
 
   -- what a step leaves settled
-  settled_next : (h : ℕ → Node V) (ms : List (Machine C V)) (s : Step C V) (d : Move V) (h' : ℕ → Node V) (ms' : List (Machine C V)) (o : Option (Machine C V)) → slice_get ms s.who ≡ o → Sound h ms → NextAt number same always most (why h) h ms o s d h' ms' → Sound h' ms'
+  pub settled_next : (h : ℕ → Node V) (ms : List (Machine C V)) (s : Step C V) (d : Move V) (h' : ℕ → Node V) (ms' : List (Machine C V)) (o : Option (Machine C V)) → slice_get ms s.who ≡ o → Sound h ms → NextAt number same always most (why h) h ms o s d h' ms' → Sound h' ms'
   settled_next h ms s d h' ms' None e x n =
       let P : (ℕ → Node V) → Type 0 = λ y. Sound y ms' in
       let Q : List (Machine C V) → Type 0 = λ y. Sound h y in subst P (sym n.1) (subst Q (sym n.2) x)

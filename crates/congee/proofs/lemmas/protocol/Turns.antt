@@ -179,14 +179,14 @@ module _ {C V : Type 0} (number : C → ℕ) (same : V → V → Bool) (always :
 
   -- the step of a call that isn't there
   pub idled : (most : ℕ) (why : NodeType → Refusal → Type 0) (h : ℕ → Node V) (ms : List (Machine C V)) (s : Step C V) → Protocol number same always h ms → length ms ≤ s.who
-      → StepPlays number same always most why h ms s (record { decided = false; outcome = Running }) h ms
+      → StepPlays number same always most why h ms s (record { decided = false; skipped = false; outcome = Running }) h ms
   idled most why h ms s p l = record {
     protocol = p;
-    next = (let P : Option (Machine C V) → Type 0 = λ o. NextAt number same always most why h ms o s (record { decided = false; outcome = Running }) h ms in subst P (sym (slice_get_past ms s.who l)) (refl, refl, refl));
+    next = (let P : Option (Machine C V) → Type 0 = λ o. NextAt number same always most why h ms o s (record { decided = false; skipped = false; outcome = Running }) h ms in subst P (sym (slice_get_past ms s.who l)) (refl, refl, refl));
     moved = λ m e. let z : ◌≡◌ {A = Option (Machine C V)} None (Some m) = sym (slice_get_past ms s.who l) ∙ e in absurd cc;
     settled = λ a x y. (a, x, y);
     watched = λ pairs fs st fl.
-        let T : Option (Flight V) → Type 0 = λ z. WatchedAt same fs pairs z s (record { decided = false; outcome = Running }) fs pairs in
+        let T : Option (Flight V) → Type 0 = λ z. WatchedAt same fs pairs z s (record { decided = false; skipped = false; outcome = Running }) fs pairs in
         (pairs, fs, st, fl, subst T (sym (follow_none ms fs s.who fl l)) (refl, refl, refl));
     hands = idle_hands number h ms s.who;
     untouched = λ n x. refl;
@@ -333,7 +333,7 @@ module _ {C V : Type 0} (number : C → ℕ) (same : V → V → Bool) (always :
     run = λ m st. (m, map flight ms, st, follow_new ms b.new, (refl, refl, refl, refl));
     from_root = λ o. (empty, map flight ms, standing_none h o, follow_new ms b.new, (refl, refl, refl, refl));
     apart = apart h ms (begun_protocol h ms b);
-    by = λ _. None;
+    by = λ _. [];
     handing = handing_none h ms b.notes b.tree b.words;
     unlinking = λ a t w r. unlinking_none number h ms (none_taken h ms b) (accounted number a h ms t (rested number same always h ms a r));
     unlinking_fresh = λ o. unlinking_none number h ms (none_taken h ms b) (accounted number opened h ms (opening_tree h o.alone) (rested number same always h ms opened (opening_rests number h o)));

@@ -7,7 +7,7 @@ use Rattle.congee.specs.declared.forms.child.Child.{Child}
 use Rattle.congee.specs.declared.forms.child.Child.TheVariants as child
 use Rattle.congee.specs.declared.protocol.phase.Kind.{Kind}
 use Rattle.congee.specs.declared.protocol.phase.Kind.TheVariants.{Get, Insert, Remove, ComputePresent, ComputeInsert, Exchange}
-use Rattle.congee.specs.declared.protocol.phase.Parent.{Parent}
+use Rattle.congee.specs.declared.protocol.phase.Above.{Above as Over}
 use Rattle.congee.specs.declared.protocol.phase.Site.{Site}
 use Rattle.congee.specs.declared.protocol.phase.Plan.{Plan}
 use Rattle.congee.specs.declared.protocol.turn.Turn.{Turn}
@@ -35,12 +35,12 @@ module _ {C V : Type 0} (number : C → ℕ) (same : V → V → Bool) (always :
       subst P (sym g.1) (λ f. turn_at number same always i a h k t w Insert _ _ _ turn f
       (replaced_sound number same always i a h k t w Insert (Some g.0) g.0 s v _ law (g.0, refl) m d (record { call = call.Insert k g.0; is_call = refl; reply = refl; left = refl }))) e
 
-  added_sound : (kind : Kind V) (given : Option V) (s : Site C) (p : Option (Parent C)) (v : V) (turn : Turn C V) → IsAdded always same kind given s p v turn → s.above ≡ p → adds kind ≡ true → HasGift kind given → Knows number a h (key_bytes k) s (Holds v) → s.depth ≡ 7
+  added_sound : (kind : Kind V) (given : Option V) (s : Site C) (p : Option (Over C)) (v : V) (turn : Turn C V) → IsAdded always same kind given s p v turn → s.above ≡ p → adds kind ≡ true → HasGift kind given → Knows number a h (key_bytes k) s (Holds v) → s.depth ≡ 7
       → Sound number same always i k kind given h given turn a h
   added_sound kind given s None v turn e ep z g m d = at_old_sound kind given s v turn e z g m d
   added_sound kind given s (Some p) v turn e ep z g m d =
-      let ab : IsAbove number a h (key_bytes k) (Some p) (number s.at.node) = (let P : Option (Parent C) → Type 0 = λ x. IsAbove number a h (key_bytes k) x (number s.at.node) in subst P ep m.above) in
-      turn_at number same always i a h k t w kind given given _ turn e (record { known = (g, ab.fresh.seated, m, z, d); answer = λ y _. refl })
+      let ab : IsAbove number a h (key_bytes k) (Some p) (number s.at.node) = (let P : Option (Over C) → Type 0 = λ x. IsAbove number a h (key_bytes k) x (number s.at.node) in subst P ep m.above) in
+      turn_at number same always i a h k t w kind given given _ turn e (record { known = (g, ab.0.fresh.seated, m, z, d); answer = λ y _. refl })
 
   exchanged_sound : (old : V) (given : Option V) (s : Site C) (v : V) (turn : Turn C V) → same v old ≡ true → IsExchanged always same given s v turn → Knows number a h (key_bytes k) s (Holds v) → s.depth ≡ 7
       → Sound number same always i k (Exchange old) given h given turn a h

@@ -1,22 +1,23 @@
 -- What the store wants of the nodes that a call's next step names, the call knows.
-use Rattle.std.proofs.Common.{◌≡◌, ◌≢◌, ℕ, ◌==◌, Bool, true, false, length, refl, sym, ◌∙◌, ap, subst, arith, inl, inr}
+use Rattle.std.proofs.Common.{◌≡◌, ◌≢◌, ℕ, suc, ◌≤◌, ◌==◌, Bool, true, false, length, refl, sym, ◌∙◌, ap, subst, arith, inl, inr}
 use Rattle.std.specs.Prelude.{Option, None, Some, slice_index}
 use Rattle.congee.specs.declared.protocol.phase.Kind.{Kind}
+use Rattle.congee.specs.declared.protocol.phase.Parent.{Parent}
 use Rattle.congee.specs.declared.protocol.phase.Site.{Site}
 use Rattle.congee.specs.declared.protocol.phase.Single.{Single}
 use Rattle.congee.specs.declared.protocol.phase.Single.TheVariants.{Set, Link}
 use Rattle.congee.specs.declared.protocol.phase.One.{One}
 use Rattle.congee.specs.declared.protocol.phase.Double.{Double}
-use Rattle.congee.specs.declared.protocol.phase.Double.TheVariants.{Unlink, Grow, GrowLink, Split}
+use Rattle.congee.specs.declared.protocol.phase.Double.TheVariants.{Unlink, Grow, GrowLink, Split, Shrink, Collapse, ShrinkAbove}
 use Rattle.congee.specs.declared.protocol.phase.Two.{Two}
 use Rattle.congee.specs.declared.protocol.phase.Phase.{Phase}
-use Rattle.congee.specs.declared.protocol.phase.Phase.TheVariants.{New, Version, Read, Check, CheckUncopied, CheckMiss, CheckDown, CheckOld, MakeLeaf, MakeGreater, MakeTop, MakeBeside, AskOld, AskNew, Confirm, CheckAbove, UpgradeOne, ChangeOne, UpgradeAbove, UpgradeBelow, ChangeTwo, Obsolete, Retire, UnlockBelow, Unlock, Unwind, Sweep, Ended}
-use Rattle.congee.specs.Heap.{Node, Hung, Nothing, Below, Stands, child_for}
-use Rattle.congee.specs.protocol.Events.{MayChange, HoldsAlike, Parts}
-use Rattle.congee.specs.protocol.Steps.{value_hung, MayBackOne, MayBackTwo, MayBackLeaf, Changeable, Blank, MayChangeOne, MayChangeTwo, MayStep}
+use Rattle.congee.specs.declared.protocol.phase.Phase.TheVariants.{New, Version, Read, Check, CheckUncopied, CheckMiss, CheckDown, CheckOld, MakeLeaf, MakeGreater, MakeTop, MakeBeside, MakeLesser, AskOld, AskNew, Confirm, CheckAbove, UpgradeOne, ChangeOne, UpgradeTop, UpgradeAbove, UpgradeBelow, ChangeTwo, Obsolete, Retire, UnlockBelow, Unlock, Unwind, Sweep, Ended}
+use Rattle.congee.specs.Heap.{Node, Hung, Nothing, Below, Holds, Stands, child_for}
+use Rattle.congee.specs.protocol.Events.{MayChange, HoldsNodes, HoldsAlike, Parts}
+use Rattle.congee.specs.protocol.Steps.{value_hung, MayBackOne, MayBackTwo, MayBackLeaf, Changeable, Blank, MayTop, MayChangeOne, MayChangeTwo, MayStep}
 use Rattle.congee.specs.Keys.{key_bytes}
 use Rattle.congee.specs.Ledger.{Note, Linked, is_published, IsChild, Tree, LockWords}
-use Rattle.congee.specs.protocol.Protocol.{Made, Holding, MadeOne, MadeTwo, MadeLeafFor, FitsOne, FitsTwo, OneLocked, TwoLocked, WantedTwo, PlacedTwo, Known}
+use Rattle.congee.specs.protocol.Protocol.{Made, Holding, MadeOne, MadeTwo, MadeLeafFor, FitsOne, FitsTwo, OneLocked, TwoLocked, TopLocked, HasTop, WantedTwo, PlacedTwo, Known}
 use Rattle.congee.proofs.lemmas.Fits.{equal, same_test}
 use Rattle.congee.proofs.lemmas.Graft.{on_test}
 use Rattle.congee.proofs.lemmas.protocol.Touch.{owner_locked}
@@ -56,11 +57,14 @@ module _ {C V : Type 0} (number : C → ℕ) (same : V → V → Bool) (always :
   may_back_one Set m = tt
   may_back_one (Link leaf) m = made_there (number leaf) 7 0 m
 
-  may_back_two : (change : Double C) (size q : ℕ) → MadeTwo number i a h (key_bytes k) change size q → MayBackTwo number h change
-  may_back_two Unlink size q m = tt
-  may_back_two (Grow c) size q m = made_there (number c) size q m
-  may_back_two (GrowLink c leaf byte) size q m = (made_there (number leaf) 7 0 m.1, made_there (number c) size q m.0, m.2)
-  may_back_two (Split top leaf common byte) size q m = (made_there (number leaf) 7 0 m.1, made_there (number top) common 1 m.0, m.2)
+  may_back_two : (p : Parent C) (change : Double C) (size q : ℕ) → MadeTwo number i a h (key_bytes k) p change size q → MayBackTwo number h change
+  may_back_two p Unlink size q m = tt
+  may_back_two p Collapse size q m = tt
+  may_back_two p (Shrink c) size q m = made_there (number c) size q m
+  may_back_two p (ShrinkAbove c) size q m = made_there (number c) p.depth q m.0
+  may_back_two p (Grow c) size q m = made_there (number c) size q m
+  may_back_two p (GrowLink c leaf byte) size q m = (made_there (number leaf) 7 0 m.1, made_there (number c) size q m.0, m.2)
+  may_back_two p (Split top leaf common byte) size q m = (made_there (number leaf) 7 0 m.1, made_there (number top) common 1 m.0, m.2)
 
   -- what hangs at the call's byte of a node
   at_byte : (n b : ℕ) (x : Hung V) → b ≡ slice_index (key_bytes k) (length (h n).prefix) → child_for (h n) (key_bytes k) ≡ x → (h n).children b ≡ x
@@ -117,12 +121,77 @@ module _ {C V : Type 0} (number : C → ℕ) (same : V → V → Bool) (always :
     counted : (c size : ℕ) → (h (number two.at.node)).count ≡ q → Made i a h (key_bytes k) c size q → Blank (h c) (h (number two.at.node)).count
     counted c size e m = let P : ℕ → Type 0 = λ x. Blank (h c) x in subst P (sym e) (blank c size q m)
 
-  two_wants : (two : Two C) (change : Double C) (found : Option V) (q : ℕ) (given : Option V) → two.change ≡ change → TwoLocked number i a h (key_bytes k) two found q → FitsTwo change found given → MayChangeTwo number (key_bytes k) given two change h
-  two_wants two Unlink found q given e o f = take_above two found q o
-  two_wants two (Grow c) None q None e o f = f
-  two_wants two (Grow c) (Some x) q given e o f = absurd f
-  two_wants two (Grow c) None q (Some v) e o f =
-      let m : Made i a h (key_bytes k) (number c) (length (h (number two.at.node)).prefix) q = (let P : Double C → Type 0 = λ y. MadeTwo number i a h (key_bytes k) y (length (h (number two.at.node)).prefix) q in subst P e o.made) in
+  with_room : (c size least : ℕ) → Made i a h (key_bytes k) c size least → Blank (h c) 0
+  with_room c size least m = record { stands = made_there c size least m; empty = m.empty; blank = m.blank; room = omega (arith, m.room) }
+
+  -- an inner node holds nodes
+  inner_nodes : (n b c : ℕ) → (a n).status ≡ Linked → (h n).children b ≡ Below c → HoldsNodes (h n)
+  inner_nodes n b c l e = λ x v y.
+      let ch : IsChild a h n b c = t.down n b c l e in
+      let s : length (h n).prefix ≡ 7 = t.leaves n x v l y in
+      absurd (omega (arith, ch.longer, t.short c ch.linked, s))
+
+  -- the change of the node above both
+  collapse_wants : (two : Two C) (found : Option V) (q : ℕ) (o : TwoLocked number i a h (key_bytes k) two found q) → two.above.count ≡ 2 → (top : Option (Parent C)) → HasTop {C = C} Collapse top → TopLocked number i a h (key_bytes k) top (number two.above.seat.node)
+      → MayTop number two Collapse top h
+  collapse_wants two found q o e None z l = absurd z
+  collapse_wants two found q o e (Some top) z l =
+      let s : Stands (h (number top.seat.node)) × ((h (number top.seat.node)).locked ≡ true) = held_there (number top.seat.node) l.holding in
+      let g : (h (number top.seat.node)).children top.byte ≡ Below (number two.above.seat.node) = at_byte (number top.seat.node) top.byte (Below (number two.above.seat.node)) l.byte l.child in
+      record {
+        stands_top = s.0;
+        locked = s.1;
+        hung = (λ n. let y : Below (number two.above.seat.node) ≡ Nothing = sym g ∙ n in cc);
+        stands = there (number two.above.seat.node) (above_published two found q o);
+        nodes = inner_nodes (number two.above.seat.node) two.above.byte (number two.at.node) o.above.holding.linked (hangs two found q o);
+        two = o.above.count ∙ e;
+        there = (λ n. let y : Below (number two.at.node) ≡ Nothing = sym (hangs two found q o) ∙ n in cc);
+      }
+
+  lessen_wants : (two : Two C) (found : Option V) (q : ℕ) (o : TwoLocked number i a h (key_bytes k) two found q) (c : C) → Made i a h (key_bytes k) (number c) two.above.depth q × (two.above.count ≤ suc q) → (top : Option (Parent C)) → HasTop (ShrinkAbove c) top
+      → TopLocked number i a h (key_bytes k) top (number two.above.seat.node) → MayTop number two (ShrinkAbove c) top h
+  lessen_wants two found q o c m None z l = absurd z
+  lessen_wants two found q o c m (Some top) z l =
+      let s : Stands (h (number top.seat.node)) × ((h (number top.seat.node)).locked ≡ true) = held_there (number top.seat.node) l.holding in
+      let g : (h (number top.seat.node)).children top.byte ≡ Below (number two.above.seat.node) = at_byte (number top.seat.node) top.byte (Below (number two.above.seat.node)) l.byte l.child in
+      let ch : IsChild a h (number top.seat.node) top.byte (number two.above.seat.node) = t.down (number top.seat.node) top.byte (number two.above.seat.node) l.holding.linked g in
+      record {
+        above = record { stands = s.0; locked = s.1; room = λ n. absurd (let y : Below (number two.above.seat.node) ≡ Nothing = sym g ∙ n in cc) };
+        stands = there (number two.above.seat.node) (above_published two found q o);
+        alike = holds_alike a h t (number two.above.seat.node) o.above.holding.linked;
+        there = (λ n. let y : Below (number two.at.node) ≡ Nothing = sym (hangs two found q o) ∙ n in cc);
+        blank = with_room (number c) _ q m.0;
+        room = omega (arith, m.1, o.above.count, m.0.room);
+        above_apart = (λ n. made_apart i a h (key_bytes k) (number c) _ q (number top.seat.node) m.0 (ap is_published l.holding.linked) (sym n));
+        old_apart = apart_above two found q o (number c) _ q m.0;
+        apart = (λ n. let y : length (h (number top.seat.node)).prefix ≡ length (h (number two.above.seat.node)).prefix = ap (λ y. length (h y).prefix) n in absurd (omega (arith, ch.longer)));
+      }
+
+  two_wants : (two : Two C) (change : Double C) (found : Option V) (q : ℕ) (given : Option V) → two.change ≡ change → TwoLocked number i a h (key_bytes k) two found q → HasTop change two.top → FitsTwo change found given → MayChangeTwo number (key_bytes k) given two change h
+  two_wants two Unlink found q given e o z f = take_above two found q o
+  two_wants two (Shrink c) None q given e o z f = absurd f
+  two_wants two (Shrink c) (Some v) q given e o z f =
+      let m : Made i a h (key_bytes k) (number c) (length (h (number two.at.node)).prefix) q = (let P : Double C → Type 0 = λ y. MadeTwo number i a h (key_bytes k) two.above y (length (h (number two.at.node)).prefix) q in subst P e o.made) in
+      let g : (child_for (h (number two.at.node)) (key_bytes k) ≡ Holds v) × ((h (number two.at.node)).count ≤ suc q) = (let P : Double C → Type 0 = λ y. WantedTwo {C = C} {V = V} (key_bytes k) y (Some v) q (h (number two.at.node)) in subst P e o.wanted) in
+      let l : length (h (number two.at.node)).prefix ≡ 7 = t.leaves (number two.at.node) _ v (is_child two (Some v) q o).linked g.0 in
+      let b : (h (number two.at.node)).children (slice_index (key_bytes k) 7) ≡ Holds v = (let P : ℕ → Type 0 = λ y. (h (number two.at.node)).children (slice_index (key_bytes k) y) ≡ Holds v in subst P l g.0) in
+      record {
+        above = put_above two (Some v) q o (number c);
+        stands = there (number two.at.node) (at_published two (Some v) q o);
+        alike = holds_alike a h t (number two.at.node) (is_child two (Some v) q o).linked;
+        there = (λ n. let y : Holds v ≡ Nothing = sym b ∙ n in cc);
+        blank = with_room (number c) _ q m;
+        room = omega (arith, g.1, m.room);
+        above_apart = apart_above two (Some v) q o (number c) _ q m;
+        old_apart = apart_at two (Some v) q o (number c) _ q m;
+        apart = two_apart two (Some v) q o;
+      }
+  two_wants two Collapse found q given e o z f = collapse_wants two found q o (let P : Double C → Type 0 = λ y. MadeTwo number i a h (key_bytes k) two.above y (length (h (number two.at.node)).prefix) q in subst P e o.made) two.top z o.top
+  two_wants two (ShrinkAbove c) found q given e o z f = lessen_wants two found q o c (let P : Double C → Type 0 = λ y. MadeTwo number i a h (key_bytes k) two.above y (length (h (number two.at.node)).prefix) q in subst P e o.made) two.top z o.top
+  two_wants two (Grow c) None q None e o z f = f
+  two_wants two (Grow c) (Some x) q given e o z f = absurd f
+  two_wants two (Grow c) None q (Some v) e o z f =
+      let m : Made i a h (key_bytes k) (number c) (length (h (number two.at.node)).prefix) q = (let P : Double C → Type 0 = λ y. MadeTwo number i a h (key_bytes k) two.above y (length (h (number two.at.node)).prefix) q in subst P e o.made) in
       let g : (child_for (h (number two.at.node)) (key_bytes k) ≡ Nothing) × ((h (number two.at.node)).count ≡ q) = (let P : Double C → Type 0 = λ y. WantedTwo {C = C} {V = V} (key_bytes k) y None q (h (number two.at.node)) in subst P e o.wanted) in (
         put_above two None q o (number c),
         there (number two.at.node) (at_published two None q o),
@@ -132,10 +201,10 @@ module _ {C V : Type 0} (number : C → ℕ) (same : V → V → Bool) (always :
         two_apart two None q o,
         holds_alike a h t (number two.at.node) (is_child two None q o).linked,
       )
-  two_wants two (GrowLink c leaf byte) None q None e o f = f
-  two_wants two (GrowLink c leaf byte) (Some x) q given e o f = absurd f
-  two_wants two (GrowLink c leaf byte) None q (Some v) e o f =
-      let m : MadeTwo number i a h (key_bytes k) (GrowLink c leaf byte) (length (h (number two.at.node)).prefix) q = (let P : Double C → Type 0 = λ y. MadeTwo number i a h (key_bytes k) y (length (h (number two.at.node)).prefix) q in subst P e o.made) in
+  two_wants two (GrowLink c leaf byte) None q None e o z f = f
+  two_wants two (GrowLink c leaf byte) (Some x) q given e o z f = absurd f
+  two_wants two (GrowLink c leaf byte) None q (Some v) e o z f =
+      let m : MadeTwo number i a h (key_bytes k) two.above (GrowLink c leaf byte) (length (h (number two.at.node)).prefix) q = (let P : Double C → Type 0 = λ y. MadeTwo number i a h (key_bytes k) two.above y (length (h (number two.at.node)).prefix) q in subst P e o.made) in
       let g : (child_for (h (number two.at.node)) (key_bytes k) ≡ Nothing) × ((h (number two.at.node)).count ≡ q) = (let P : Double C → Type 0 = λ y. WantedTwo {C = C} {V = V} (key_bytes k) y None q (h (number two.at.node)) in subst P e o.wanted) in (
         put_above two None q o (number c),
         there (number two.at.node) (at_published two None q o),
@@ -149,10 +218,10 @@ module _ {C V : Type 0} (number : C → ℕ) (same : V → V → Bool) (always :
         m.2,
         holds_alike a h t (number two.at.node) (is_child two None q o).linked,
       )
-  two_wants two (Split top leaf common byte) None q None e o f = f
-  two_wants two (Split top leaf common byte) (Some x) q given e o f = absurd f
-  two_wants two (Split top leaf common byte) None q (Some v) e o f =
-      let m : MadeTwo number i a h (key_bytes k) (Split top leaf common byte) (length (h (number two.at.node)).prefix) q = (let P : Double C → Type 0 = λ y. MadeTwo number i a h (key_bytes k) y (length (h (number two.at.node)).prefix) q in subst P e o.made) in
+  two_wants two (Split top leaf common byte) None q None e o z f = f
+  two_wants two (Split top leaf common byte) (Some x) q given e o z f = absurd f
+  two_wants two (Split top leaf common byte) None q (Some v) e o z f =
+      let m : MadeTwo number i a h (key_bytes k) two.above (Split top leaf common byte) (length (h (number two.at.node)).prefix) q = (let P : Double C → Type 0 = λ y. MadeTwo number i a h (key_bytes k) two.above y (length (h (number two.at.node)).prefix) q in subst P e o.made) in
       let g : Parts (h (number two.at.node)).prefix (key_bytes k) common × (byte ≡ slice_index (h (number two.at.node)).prefix common) = (let P : Double C → Type 0 = λ y. PlacedTwo (key_bytes k) y (h (number two.at.node)).prefix in subst P e o.placed) in (
         put_above two None q o (number top),
         blank (number top) common 1 m.0,
@@ -178,19 +247,21 @@ module _ {C V : Type 0} (number : C → ℕ) (same : V → V → Bool) (always :
   wants root z kind given (MakeGreater s p leaf) m = (m.1.short, back_leaf s leaf m.3)
   wants root z kind given (MakeTop p at common byte) m = m.3.seventh
   wants root z kind given (MakeBeside p at common byte top) m = made_there (number top) common 1 m.6
+  wants root z kind given (MakeLesser s p g r) m = (m.1.1.short, m.4.short)
   wants root z kind given (AskOld s v) m = tt
   wants root z kind given (AskNew plan) m = tt
   wants root z kind given (Confirm at r) m = there (number at.node) m.1.1.fresh.seated.published
   wants root z kind given (CheckAbove p one r) m = (there (number p.node) m.1.published, may_back_one one.change m.2.made)
   wants root z kind given (UpgradeOne one r) m = (there (number one.at.node) m.1.1.fresh.seated.published, may_back_one one.change m.1.1.made)
   wants root z kind given (ChangeOne one r) m = one_wants one one.change m.0 given refl m.1 m.2 m.1.made
-  wants root z kind given (UpgradeAbove two r) m = (there (number two.above.seat.node) m.1.2.above.fresh.seated.published, may_back_two two.change _ _ m.1.2.made)
-  wants root z kind given (UpgradeBelow two r) m = (there (number two.at.node) m.1.2.fresh.seated.published, may_back_two two.change _ _ m.1.2.made)
-  wants root z kind given (ChangeTwo two r) m = two_wants two two.change m.0 m.1 given refl m.2 m.3
-  wants root z kind given (Obsolete n p r) m = (there (number n) (ap is_published m.gone), owner_locked a h w (number n) i m.owner)
-  wants root z kind given (Retire n p r) m = (there (number n) (ap is_published m.0.gone), m.1, m.0.unretired)
+  wants root z kind given (UpgradeTop g two r) m = (there (number g.seat.node) m.2.fresh.seated.published, may_back_two two.above two.change _ _ m.1.2.made)
+  wants root z kind given (UpgradeAbove two r) m = (there (number two.above.seat.node) m.1.2.above.fresh.seated.published, may_back_two two.above two.change _ _ m.1.2.made)
+  wants root z kind given (UpgradeBelow two r) m = (there (number two.at.node) m.1.2.fresh.seated.published, may_back_two two.above two.change _ _ m.1.2.made)
+  wants root z kind given (ChangeTwo two r) m = two_wants two two.change m.0 m.1 given refl m.2 m.3 m.4
+  wants root z kind given (Obsolete n next p r) m = (there (number n) (ap is_published m.0.gone), owner_locked a h w (number n) i m.0.owner)
+  wants root z kind given (Retire n next p r) m = (there (number n) (ap is_published m.0.gone), m.2, m.0.unretired)
   wants root z kind given (UnlockBelow n p r) m = held_there (number n) m.0
   wants root z kind given (Unlock n r) m = held_there (number n) m
-  wants root z kind given (Unwind n e) m = held_there (number n) m.1
+  wants root z kind given (Unwind n next e) m = held_there (number n) m.1
   wants root z kind given (Sweep s) m = sweep_wants number always a h t w root z s m
   wants root z kind given Ended m = tt

@@ -13,10 +13,10 @@ use Rattle.congee.specs.declared.protocol.store.Refusal.{Refusal}
 use Rattle.congee.specs.declared.protocol.phase.Kind.{Kind}
 use Rattle.congee.specs.declared.protocol.phase.Kind.TheVariants.{Get, Insert, Remove, ComputePresent, ComputeInsert, Exchange}
 use Rattle.congee.specs.declared.protocol.phase.Phase.{Phase}
-use Rattle.congee.specs.declared.protocol.phase.Phase.TheVariants.{New, Version, Read, Check, CheckUncopied, CheckMiss, CheckDown, CheckOld, MakeLeaf, MakeGreater, MakeTop, MakeBeside, AskOld, AskNew, Confirm, CheckAbove, UpgradeOne, ChangeOne, UpgradeAbove, UpgradeBelow, ChangeTwo, Obsolete, Retire, UnlockBelow, Unlock, Unwind, Sweep, Ended}
+use Rattle.congee.specs.declared.protocol.phase.Phase.TheVariants.{New, Version, Read, Check, CheckUncopied, CheckMiss, CheckDown, CheckOld, MakeLeaf, MakeGreater, MakeTop, MakeBeside, MakeLesser, AskOld, AskNew, Confirm, CheckAbove, UpgradeOne, ChangeOne, UpgradeTop, UpgradeAbove, UpgradeBelow, ChangeTwo, Obsolete, Retire, UnlockBelow, Unlock, Unwind, Sweep, Ended}
 use Rattle.congee.specs.declared.protocol.turn.Turn.{Turn}
 use Rattle.congee.specs.Heap.{Node, is_taken, version_of}
-use Rattle.congee.specs.protocol.Steps.{quiet, answered, finished, decided, PhaseStepped}
+use Rattle.congee.specs.protocol.Steps.{after_retire, quiet, answered, finished, decided, PhaseStepped}
 use Rattle.congee.specs.Keys.{key_bytes, IsMapOf}
 use Rattle.congee.specs.Ledger.{Note}
 use Rattle.congee.specs.protocol.Protocol.{IsCall, Known}
@@ -24,7 +24,7 @@ use Rattle.congee.specs.protocol.Answers.{Decides, StepAnswers, reply_in}
 use Rattle.congee.specs.protocol.Play.{Question, Unasked, Asked, Replied, Flight, Pending, Decided, Over, heard, resolved, Heeds, Watched, PendingMoves, heeding, flight_in, IsOfPoint}
 use Rattle.congee.proofs.lemmas.Graft.{on_test}
 use Rattle.congee.proofs.lemmas.Keys.{standing_same, standing_changed}
-use Rattle.congee.proofs.lemmas.protocol.Shapes.{Ripe, ripe_at_work, StepShape, GoesOn, Wonders, Stops, Replies, Takes, go, goes_to_work, back, at, answers, checks, reads, versions, if_taken, misses_at, halts, leaf_made, greater_made, top_made, beside_made, one_upgraded, above_upgraded, both_upgraded, unwinds, at_old, change_shape, given_shape, given_new_shape_at}
+use Rattle.congee.proofs.lemmas.protocol.Shapes.{Ripe, ripe_at_work, StepShape, GoesOn, Skips, Wonders, Stops, Replies, Takes, go, goes_to_work, back, at, answers, checks, reads, versions, if_taken, misses_at, halts, leaf_made, greater_made, top_made, beside_made, lesser_made, one_upgraded, top_upgraded, above_upgraded, both_upgraded, unwinds, at_old, change_shape, given_shape, given_new_shape_at}
 
 -- the call is on its key
 call_key : {V : Type 0} (k : ℕ) (kind : Kind V) (given found : Option V) (c : Call V) → IsCall k kind given found c → key_of c ≡ k
@@ -111,6 +111,7 @@ module _ {C V : Type 0} (same : V → V → Bool) (k : ℕ) (kind : Kind V) (v v
 
   pub from_shape : (t : Turn C V) → StepShape k kind v v1 v' q t → StepAnswers same k kind v h t h' → Out t
   from_shape t (GoesOn st q' e f c) = subst Then (sym e) (λ x. (m, standing_same h h' m x s, ((q', c, f), refl)))
+  from_shape t (Skips st q' e f c) = subst Then (sym e) (λ x. (m, standing_same h h' m x s, ((q', c, f), refl)))
   from_shape t (Wonders st o e w f) = subst Then (sym e) (λ x. (m, standing_same h h' m x s, ((w, f), refl)))
   from_shape t (Stops r e) = subst Then (sym e) (λ x. (m, standing_same h h' m x s, (refl, refl)))
   from_shape t (Replies r e o f) = replied r t e o f
@@ -171,6 +172,11 @@ module _ {C V : Type 0} (number : C → ℕ) (same : V → V → Bool) (always :
   by_work : (r : Reply V) → StepAnswers same k kind v h t h' → StepShape k kind v v v' (heeding r) t → Next (Pending k kind v (heeding r))
   by_work r n x = by_state (heeding r) (closed r) n x
 
+  -- a node was handed over, and the next one or the last lock follows
+  hands_on : (r : Reply V) (next : Option C) (last : C) → StepAnswers same k kind v h t h' → t ≡ after_retire next last r → (m' : Pairs V) × IsMapOf h' m' × Watched same (Decided r) m None t.report (flight_in k kind v' t.phase) m'
+  hands_on r None last n e = settled same k kind v v v' h h' m p st r (Unlock last r) t e refl n
+  hands_on r (Some c) last n e = settled same k kind v v v' h h' m p st r (Obsolete c None last r) t e refl n
+
   -- every step
   pub watched : (s : Phase C V) → IsOfPoint (flight_in k kind v s) → Known number same always i a h k (key_bytes k) kind v s → PhaseStepped number same always most why root (key_bytes k) kind fail told v s h v' t h'
       → StepAnswers same k kind v h t h' → Next (flight_in k kind v s)
@@ -186,6 +192,7 @@ module _ {C V : Type 0} (number : C → ℕ) (same : V → V → Bool) (always :
   watched (MakeGreater s q leaf) pf c g n = by_shape n (greater_made number k kind v v' g.0 Unasked s q leaf h (key_bytes k) g.1.0 h' t c.4 g.1.1)
   watched (MakeTop q seat common byte) pf c g n = by_shape n (top_made number k kind v v' g.0 Unasked q seat common byte h (key_bytes k) g.1.0 h' t g.1.1)
   watched (MakeBeside q seat common byte top) pf c g n = by_shape n (beside_made number k kind v v' g.0 Unasked q seat common byte top h (key_bytes k) g.1.0 h' t c.5 g.1.1)
+  watched (MakeLesser s q top r) pf c g n = by_work r n (lesser_made number k kind v v' g.0 (heeding r) s q top r h (key_bytes k) g.1.0 h' t (ripe_at_work r) g.1.1)
   watched (AskOld s old) pf c g n = by_answer (Some old) n (given_shape always same k kind s old told v v' t c.2 g.1)
   watched (AskNew plan) pf c g n = by_answer None n (given_new_shape_at k kind plan told v v' t c.1 g.1)
   watched (Confirm seat r) pf c g n = by_work r n (if_taken number k kind v v' g.1 (heeding r) _ root _ t g.2 (λ y. at number k kind v v' g.1 (heeding r) _ t y (answers number k kind v v' g.1 (heeding r) r (ripe_at_work r))))
@@ -194,13 +201,14 @@ module _ {C V : Type 0} (number : C → ℕ) (same : V → V → Bool) (always :
       (λ y. at number k kind v v' g.0 (heeding r) _ t (g.1.goes_back y).1 (back number k kind v v' g.0 (heeding r) root)))
   watched (UpgradeOne one r) pf c g n = by_work r n (one_upgraded number k kind v v' g.0 (heeding r) root one r h g.1.0 h' t (ripe_at_work r) g.1.2)
   watched (ChangeOne one r) pf c g n = by_work r n (Takes (Unlock one.at.node r) r g.2 refl refl refl (ripe_at_work r))
+  watched (UpgradeTop top two r) pf c g n = by_work r n (top_upgraded number k kind v v' g.0 (heeding r) root top two r h g.1.0 h' t (ripe_at_work r) g.1.2)
   watched (UpgradeAbove two r) pf c g n = by_work r n (above_upgraded number k kind v v' g.0 (heeding r) root two r h g.1.0 h' t (ripe_at_work r) g.1.2)
   watched (UpgradeBelow two r) pf c g n = by_work r n (both_upgraded number k kind v v' g.0 (heeding r) two r h g.1.0 h' t (ripe_at_work r) g.1.2)
   watched (ChangeTwo two r) pf c g n = by_work r n (change_shape k kind v v' two r two.change t g.2)
-  watched (Obsolete x q r) pf c g n = settled same k kind v v v' h h' m p st r (Retire x q r) t g.2 refl n
-  watched (Retire x q r) pf c g n = settled same k kind v v v' h h' m p st r (Unlock q r) t g.2 refl n
+  watched (Obsolete x next q r) pf c g n = settled same k kind v v v' h h' m p st r (Retire x next q r) t g.2 refl n
+  watched (Retire x next q r) pf c g n = hands_on r next q n g.2
   watched (UnlockBelow x q r) pf c g n = settled same k kind v v v' h h' m p st r (Unlock q r) t g.2 refl n
   watched (Unlock x r) pf c g n = ends same k kind v v v' h h' m p st r t g.2 n
-  watched (Unwind x e) pf c g n = by_shape n (unwinds number k kind v v' g.0 Unasked root e t g.2)
+  watched (Unwind x next e) pf c g n = by_shape n (unwinds number k kind v v' g.0 Unasked root next e t g.2)
   watched (Sweep s) pf c g n = absurd pf
   watched Ended pf c g n = rests same k kind v v v' h h' m p st t g.2 n

@@ -12,7 +12,7 @@ insert-requires g c = (
   any_node_fits the_row g.row.P small_id g.met.P.Small.small,
   (
     c.loop-byte.invariant.above c.in-Some.byte c.in-Some.ensures.past,
-    copy_room c.args.node.now c.args.greater.now c.loop-byte.greater c.loop-byte.from c.loop-byte.invariant c.requires.room,
+    copy_room c.args.node.now c.args.greater.now c.loop-byte.greater c.loop-byte.from c.in-Some.byte c.in-Some.child.now c.loop-byte.invariant c.in-Some.ensures c.requires.room,
   ),
 )
 

@@ -2,6 +2,7 @@ use Rattle.std.proofs.Common.{refl, ◌∙◌, ap}
 use Rattle.std.specs.Vec.{vec_len}
 use Rattle.congee.proofs.lemmas.protocol.Turns.{progress_none, progress_more, progress_end, trace_end}
 use Rattle.congee.proofs.lemmas.protocol.Traces.{all_end_alone, fresh_end_alone}
+use Rattle.congee.proofs.lemmas.protocol.FillingTraces.{run_filled}
 use Rattle.congee.proofs.lemmas.protocol.Destroys.{spares}
 use Rattle.congee.proofs.protocol.run.play.Goals as goal
 use Rattle.congee.proofs.protocol.run.play.Goals.{in-Some+then-is_err, in_default}
@@ -44,3 +45,11 @@ returns-clause-alone g c trace z = all_end_alone _ _ _ _ _ g.met.P.Payload.same_
 
 pub returns-clause-alone_fresh : goal.returns-clause-alone_fresh
 returns-clause-alone_fresh g c trace f = fresh_end_alone _ _ _ _ _ g.met.P.Payload.same_is_equal _ _ trace.traced c.requires.begins f trace.each
+
+pub returns-clause-filled_fresh : goal.returns-clause-filled_fresh
+returns-clause-filled_fresh g c f n = elim c.match-next.branch [
+  | in-Some+then-is_err w ↦ run_filled _ _ _ _ _ g.met.P.Payload.same_is_equal _ _ _ _ _ _ c.requires.begins f
+      (trace_end _ _ _ _ _ _ _ _ _ _ _ _ _ _ _ c.loop-step.invariant.progress (c.len-done.ensures ∙ (ap (λ v. vec_len v) w.moves-is ∙ w.reserve.ensures.len)) (ap (λ v. v.items) w.moves-is ∙ w.reserve.ensures.items)) n
+  | in_default w ↦ run_filled _ _ _ _ _ g.met.P.Payload.same_is_equal _ _ _ _ _ _ c.requires.begins f
+      (trace_end _ _ _ _ _ _ _ _ _ _ _ _ _ _ _ c.loop-step.invariant.progress (c.len-done.ensures ∙ ap (λ v. vec_len v) w.moves-is) (ap (λ v. v.items) w.moves-is)) n
+]

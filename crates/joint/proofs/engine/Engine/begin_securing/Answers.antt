@@ -21,6 +21,6 @@ set_call-requires g c =
 pub returns-clause-begins : goal.returns-clause-begins
 returns-clause-begins g c =
     begins_securing g.P.Payload.same_as g.P.Payload.always_copies c.args.self.now.nodes c.args.self.now.machines.items c.args.self.now.calls.items c.requires.intact c.args.who c.progress.ensures c.in-Reserving.op c.in-Reserving.ensures.taken c.collect.result c.collect.new.self.nodes
-    (collected_at g.P.Payload.same_as g.P.Payload.always_copies c.take_call.new.self.nodes c.args.self.now.nodes c.collect.new.self.nodes c.take_call.new.self.machines.items c.args.self.now.machines.items c.args.who (Begin (Secure 1)) c.collect.result c.take_call.ensures.nodes (ap (λ v. v.items) c.take_call.ensures.machines) c.collect.ensures.collected)
+    (collected_at g.P.Payload.same_as g.P.Payload.always_copies c.take_call.new.self.nodes c.args.self.now.nodes c.collect.new.self.nodes c.take_call.new.self.machines.items c.args.self.now.machines.items c.args.who (Begin (Secure 2)) c.collect.result c.take_call.ensures.nodes (ap (λ v. v.items) c.take_call.ensures.machines) c.collect.ensures.collected)
     c.set_call.new.self.nodes c.set_call.new.self.machines.items c.set_call.new.self.calls.items c.set_call.ensures.nodes (ap (λ v. v.items) (c.set_call.ensures.machines ∙ (c.collect.ensures.machines ∙ c.take_call.ensures.machines)))
     (c.set_call.ensures.calls ∙ ap (λ xs. slice_set xs c.args.who (Securing c.in-Reserving.op)) (ap (λ v. v.items) c.collect.ensures.calls ∙ c.take_call.ensures.calls))

@@ -1,5 +1,5 @@
 use Rattle.std.proofs.Common.{arith}
-use Rattle.std.specs.List.{filter_map}
+use Rattle.std.specs.List.{flat_map}
 use Rattle.std.proofs.lemmas.List.{length-append}
 use Rattle.joint.specs.Listing.{handed_nodes, taken_by}
 use Rattle.joint.proofs.lemmas.Counted.{few_machines, taken_few}
@@ -12,5 +12,5 @@ overflow_add-result g c =
 
 pub returns : goal.returns
 returns g c =
-    let l = length-append (handed_nodes c.args.self.now.nodes) (filter_map taken_by c.args.self.now.machines.items) in
+    let l = length-append (handed_nodes c.args.self.now.nodes) (flat_map taken_by c.args.self.now.machines.items) in
     omega (arith, l, c.requires.counted.taken, c.handed.ensures.value)

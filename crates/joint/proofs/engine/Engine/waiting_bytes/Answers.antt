@@ -1,5 +1,5 @@
 use Rattle.std.proofs.Common.{arith}
-use Rattle.std.specs.List.{filter_map}
+use Rattle.std.specs.List.{flat_map}
 use Rattle.std.proofs.lemmas.List.Sums.{sum_by-append}
 use Rattle.joint.specs.Listing.{bytes_of, handed_nodes, taken_by}
 use Rattle.joint.proofs.lemmas.Counted.{bytes_small, few_machines}
@@ -12,5 +12,5 @@ overflow_add-result g c =
 
 pub returns : goal.returns
 returns g c =
-    let l = sum_by-append (bytes_of c.args.self.now.nodes) (handed_nodes c.args.self.now.nodes) (filter_map taken_by c.args.self.now.machines.items) in
+    let l = sum_by-append (bytes_of c.args.self.now.nodes) (handed_nodes c.args.self.now.nodes) (flat_map taken_by c.args.self.now.machines.items) in
     omega (arith, l, c.requires.counted.bytes, c.handed_bytes.ensures.value)

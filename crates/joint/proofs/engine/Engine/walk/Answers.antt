@@ -2,6 +2,9 @@ use Rattle.std.proofs.Common.{ap}
 use Rattle.joint.proofs.lemmas.Walk.{owed, walked, walked_over}
 use Rattle.joint.proofs.engine.Engine.walk.Goals as goal
 
+pub step_tree-moved-requires-clause-runs : goal.step_tree-moved-requires-clause-runs
+step_tree-moved-requires-clause-runs g c = rw c.deref_mut.ensures.value c.requires.runs
+
 pub hand_over-requires : goal.hand_over-requires
 hand_over-requires g c =
     owed g.P.Payload.same_as g.P.Payload.always_copies c.cell_laws.ensures c.args.self.now.nodes c.step_tree-moved.new.store c.args.self.now.machines.items c.deref_mut.result.now c.deref.result.now c.step_tree-moved.new.machines c.args.self.now.machines.len

@@ -1,9 +1,14 @@
-use Rattle.std.proofs.Common.{rules, ◌≡◌, length, arith, refl, ap, ◌∙◌, inl}
+use Rattle.std.proofs.Common.{rules, ◌≡◌, length, get_or, arith, refl, sym, ap, ◌∙◌, inl}
 use Rattle.congee.proofs.lemmas.owned.Answered.{at_free}
+use Rattle.congee.proofs.lemmas.owned.FullSteps.{leaf_filled}
 use Rattle.congee.proofs.lemmas.owned.Sizes.{bytes_same}
-use Rattle.congee.proofs.lemmas.owned.Moves.{roomy_stands, roomy_absent, roomy_room}
-use Rattle.congee.proofs.lemmas.owned.Hangings.{hung_roomy, roomy_inner, leaf_hung, same_stands, same_heap}
+use Rattle.congee.proofs.lemmas.owned.Moves.{prefix_at, roomy_stands, roomy_absent, roomy_room}
+use Rattle.congee.proofs.lemmas.owned.Hangings.{hung_roomy, roomy_inner, roomy_prefix, leaf_hung, same_stands, same_heap}
+use Rattle.congee.specs.Heap.{fits}
+use Rattle.congee.specs.forms.Forms.{prefix_of}
 use Rattle.congee.specs.owned.Arena.{heap_of}
+use Rattle.congee.specs.owned.Entries.{first_byte}
+use Rattle.congee.proofs.lemmas.owned.Firsts.{first_of_key}
 use Rattle.congee.specs.owned.Wanted.{gain, room_for}
 use Rattle.congee.proofs.lemmas.owned.Wanting.{fit_after, refused_after}
 use Rattle.congee.proofs.owned.arena.Arena.add_leaf.Goals as goal
@@ -44,6 +49,15 @@ hang_leaf-requires-clause-room g c =
 
 pub hang_leaf-requires-clause-spare : goal.hang_leaf-requires-clause-spare
 hang_leaf-requires-clause-spare g c = c.make_room.ensures.keeps 1 c.in_default.ensures.room
+
+pub hang_leaf-requires-clause-begins : goal.hang_leaf-requires-clause-begins
+hang_leaf-requires-clause-begins g c = λ x e.
+    let s = c.args.self.now.nodes in
+    let s2 = c.make_room.new.self.nodes in
+    let r = hung_roomy s c.ready.new.self.nodes s2 c.args.at c.requires.way.stands c.ready.ensures.same c.in_default-make_room.ensures.grows in
+    let p : prefix_of x ≡ (heap_of s c.args.at).prefix = roomy_prefix s s2 c.args.at r x e in
+    first_of_key (prefix_of x) c.args.key.now (ap (λ q. fits q c.args.key.now) p ∙ c.requires.way.fitted)
+    ∙ ap (first_byte (prefix_of x)) (ap (λ q. get_or c.args.key.now (length q) 0) (sym (prefix_at s2 c.args.at x e)) ∙ sym c.byte_at-byte.ensures)
 
 pub returns-in-Err-clause-refused : goal.returns-in-Err-clause-refused
 returns-in-Err-clause-refused g c = record {
@@ -88,4 +102,8 @@ returns-clause-adds g c =
           (same_heap c.args.self.now.nodes c.ready.new.self.nodes c.args.at c.ready.ensures.same)
           c.in_default.ensures.charge c.ready.ensures.limit c.in_default.ensures.fits c.in_default-make_room.ensures.fits;
       bytes = omega (arith, added.1, same, room, c.in_default-make_room.ensures.grown);
+      filled = leaf_filled c.args.self.now.nodes c.ready.new.self.nodes c.make_room.new.self.nodes c.hang_leaf.new.self c.args.key.now c.args.at c.byte_at-byte.result c.args.value len c.requires.way.stands c.ready.ensures.same c.in_default-make_room.ensures.grows
+          (roomy_absent c.args.self.now.nodes c.make_room.new.self.nodes c.args.key.now c.args.at c.byte_at-byte.result
+          (hung_roomy c.args.self.now.nodes c.ready.new.self.nodes c.make_room.new.self.nodes c.args.at c.requires.way.stands c.ready.ensures.same c.in_default-make_room.ensures.grows) c.requires.free c.byte_at-byte.ensures)
+          c.hang_leaf.ensures.hangs;
     }

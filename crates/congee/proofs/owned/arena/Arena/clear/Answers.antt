@@ -49,6 +49,9 @@ returns-clause-wants g c = (left g (goal.at.returns-clause-wants g c).After-clea
 pub returns-clause-bytes : goal.returns-clause-bytes
 returns-clause-bytes g c = (left g (goal.at.returns-clause-bytes g c).After-clear).bytes
 
+pub returns-clause-filled : goal.returns-clause-filled
+returns-clause-filled g c = (left g (goal.at.returns-clause-filled g c).After-clear).lacking
+
 pub returns-clause-balance : goal.returns-clause-balance
 returns-clause-balance g c =
     let now = (left g (goal.at.returns-clause-balance g c).After-clear).bytes in

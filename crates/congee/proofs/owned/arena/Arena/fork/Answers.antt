@@ -1,23 +1,35 @@
-use Rattle.std.proofs.Common.{rules, ◌≡◌, length, get_or, refl, sym, ap, subst, arith, IsSome}
+use Rattle.std.proofs.Common.{rules, ◌≡◌, ◌≢◌, length, take, get_or, refl, sym, ap, subst, ◌∙◌, arith, IsSome}
 use Rattle.slab.specs.Slab.{get}
-use Rattle.congee.specs.owned.Changes.{DiffersAt}
-use Rattle.congee.proofs.lemmas.owned.Moves.{node_at, prefix_at, stands_at, fresh_absent, fresh_room, fresh_made}
+use Rattle.congee.specs.Heap.{fits}
+use Rattle.congee.specs.forms.Forms.{prefix_of}
+use Rattle.congee.specs.owned.Arena.{node_of}
+use Rattle.congee.specs.owned.Entries.{first_byte}
+use Rattle.congee.proofs.lemmas.owned.Firsts.{first_taken}
+use Rattle.congee.proofs.lemmas.owned.FullSteps.{fork_filled}
+use Rattle.congee.proofs.lemmas.owned.Moves.{node_at, one_node, prefix_at, stands_at, fresh_absent, fresh_room, fresh_made}
 use Rattle.congee.proofs.lemmas.owned.Ways.{below_stands}
-use Rattle.congee.proofs.lemmas.owned.Hangings.{Forked, forked_at, fork_hung, fork_hosts, fork_below, fork_hangs, made_inner, hung_inner, hung_absent, hung_room, room_made, up_inner, up_node, short_take}
+use Rattle.congee.proofs.lemmas.owned.Hangings.{child_there, Forked, forked_at, fork_hung, fork_hosts, fork_below, fork_hangs, made_inner, hung_inner, hung_absent, hung_room, room_made, up_inner, up_node, short_take}
 use Rattle.congee.proofs.owned.arena.Arena.fork.Given.{Over}
-use Rattle.congee.proofs.owned.arena.Arena.fork.Goals.{After-hang_node}
+use Rattle.congee.proofs.owned.arena.Arena.fork.Goals.{After-parting-place, After-hang_node}
 use Rattle.congee.proofs.owned.arena.Arena.fork.Goals as goal
 
-pub prefix-prefix-requires : goal.prefix-prefix-requires
-prefix-prefix-requires g c = below_stands c.args.self.now.nodes c.requires.tree c.args.at c.args.below c.args.key.now c.requires.way.stands c.requires.hangs
+pub parting-place-requires-clause-stands : goal.parting-place-requires-clause-stands
+parting-place-requires-clause-stands g c = below_stands c.args.self.now.nodes c.requires.tree c.args.at c.args.below c.args.key.now c.requires.way.stands c.requires.hangs
 
-pub first_apart-common-requires-clause-differs : goal.first_apart-common-requires-clause-differs
-first_apart-common-requires-clause-differs g c =
+pub parting-place-requires-clause-differs : goal.parting-place-requires-clause-differs
+parting-place-requires-clause-differs g c = λ x e. ap (λ p. fits p c.args.key.now) (sym (prefix_at c.args.self.now.nodes c.args.below x e)) ∙ c.requires.differs
+
+-- the other byte is another one
+abbrev Apart : (g : Over) → After-parting-place g → Type 0
+Apart g c = get_or c.args.key.now c.parting-place.result.place 0 ≢ c.parting-place.result.other
+
+apart : (g : Over) (c : After-parting-place g) → Apart g c
+apart g c =
     let n = node_at c.args.self.now.nodes c.args.below (below_stands c.args.self.now.nodes c.requires.tree c.args.at c.args.below c.args.key.now c.requires.way.stands c.requires.hangs) in
-    rw (c.prefix-prefix.ensures.bytes n.0 n.1, ← prefix_at c.args.self.now.nodes c.args.below n.0 n.1) c.requires.differs
+    λ q. (c.parting-place.ensures.place n.0 n.1).apart (q ∙ c.parting-place.ensures.other n.0 n.1)
 
 pub make-over-requires-clause-inner : goal.make-over-requires-clause-inner
-make-over-requires-clause-inner g c = short_take c.first_apart-common.result c.args.key.now (omega (arith, c.first_apart-common.ensures.within, c.prefix-prefix.ensures.fits))
+make-over-requires-clause-inner g c = short_take c.parting-place.result.place c.args.key.now c.parting-place.ensures.within
 
 pub make-over-requires-clause-room : goal.make-over-requires-clause-room
 make-over-requires-clause-room g c = omega (arith, c.requires.room)
@@ -27,13 +39,20 @@ hang_leaf-requires-clause-stands g c = stands_at c.make-over.new.self c.make-ove
 
 pub hang_leaf-requires-clause-inner : goal.hang_leaf-requires-clause-inner
 hang_leaf-requires-clause-inner g c = made_inner c.args.self.now.nodes c.make-over.new.self c.make-over.result _ c.make-over.ensures.made
-    (short_take c.first_apart-common.result c.args.key.now (omega (arith, c.first_apart-common.ensures.within, c.prefix-prefix.ensures.fits)))
+    (short_take c.parting-place.result.place c.args.key.now c.parting-place.ensures.within)
 
 pub hang_leaf-requires-clause-absent : goal.hang_leaf-requires-clause-absent
 hang_leaf-requires-clause-absent g c = λ x e. fresh_absent c.make-over.new.self c.make-over.result _ (fresh_made c.args.self.now.nodes c.make-over.new.self c.make-over.new.self c.make-over.result _ c.make-over.ensures.made refl) x e _
 
 pub hang_leaf-requires-clause-room : goal.hang_leaf-requires-clause-room
 hang_leaf-requires-clause-room g c = λ x e. fresh_room c.make-over.new.self c.make-over.result _ (fresh_made c.args.self.now.nodes c.make-over.new.self c.make-over.new.self c.make-over.result _ c.make-over.ensures.made refl) x e
+
+pub hang_leaf-requires-clause-begins : goal.hang_leaf-requires-clause-begins
+hang_leaf-requires-clause-begins g c = λ x e.
+    let m = c.make-over.ensures.made in
+    let len : length c.args.key.now ≡ 8 = search rules in
+    let p : prefix_of x ≡ take c.parting-place.result.place c.args.key.now = ap prefix_of (one_node c.make-over.new.self c.make-over.result x m.node e m.updates.changed) ∙ m.prefixed in
+    first_taken c.parting-place.result.place c.args.key.now (omega (arith, len, c.parting-place.ensures.within)) ∙ ap (λ q. first_byte q (get_or c.args.key.now c.parting-place.result.place 0)) (sym p)
 
 pub hang_leaf-requires-clause-spare : goal.hang_leaf-requires-clause-spare
 hang_leaf-requires-clause-spare g c = room_made c.args.self.now.nodes c.make-over.new.self c.make-over.result 1 _ c.make-over.ensures.made c.make-over.ensures.capacity c.requires.room
@@ -48,12 +67,12 @@ pub hang_node-requires-clause-inner : goal.hang_node-requires-clause-inner
 hang_node-requires-clause-inner g c =
     let m = c.make-over.ensures.made in
     hung_inner c.args.self.now.nodes c.make-over.new.self c.hang_leaf.new.self c.make-over.result _ _ _ c.args.value m (c.hang_leaf.ensures.hangs m.node m.updates.changed)
-    (short_take c.first_apart-common.result c.args.key.now (omega (arith, c.first_apart-common.ensures.within, c.prefix-prefix.ensures.fits)))
+    (short_take c.parting-place.result.place c.args.key.now c.parting-place.ensures.within)
 
 pub hang_node-requires-clause-absent : goal.hang_node-requires-clause-absent
 hang_node-requires-clause-absent g c =
     let m = c.make-over.ensures.made in
-    hung_absent c.args.self.now.nodes c.make-over.new.self c.hang_leaf.new.self c.make-over.result _ _ _ c.args.value m (c.hang_leaf.ensures.hangs m.node m.updates.changed) _ c.first_apart-common.ensures.apart
+    hung_absent c.args.self.now.nodes c.make-over.new.self c.hang_leaf.new.self c.make-over.result _ _ _ c.args.value m (c.hang_leaf.ensures.hangs m.node m.updates.changed) _ (apart g (goal.at.hang_node-requires-clause-absent g c).After-parting-place)
 
 pub hang_node-requires-clause-room : goal.hang_node-requires-clause-room
 hang_node-requires-clause-room g c =
@@ -62,19 +81,18 @@ hang_node-requires-clause-room g c =
 
 -- the node over the other one, as it was made and filled
 abbrev IsForked : (g : Over) → After-hang_node g → Type 0
-IsForked g c = Forked c.args.self.now.nodes c.make-over.new.self c.hang_leaf.new.self c.hang_node.new.self c.args.key.now c.first_apart-common.result c.make-over.result (get_or c.prefix-prefix.result.now c.first_apart-common.result 0) c.args.below c.args.value
+IsForked g c = Forked c.args.self.now.nodes c.make-over.new.self c.hang_leaf.new.self c.hang_node.new.self c.args.key.now c.parting-place.result.place c.make-over.result c.parting-place.result.other c.args.below c.args.value
 
 forked : (g : Over) (c : After-hang_node g) → IsForked g c
 forked g c =
     let n = node_at c.args.self.now.nodes c.args.below (below_stands c.args.self.now.nodes c.requires.tree c.args.at c.args.below c.args.key.now c.requires.way.stands c.requires.hangs) in
-    let p = c.prefix-prefix.ensures.bytes n.0 n.1 in
     let m = c.make-over.ensures.made in
     let h = c.hang_leaf.ensures.hangs m.node m.updates.changed in
     record {
       lower = n.0;
       stands = n.1;
-      parts = subst (λ q. DiffersAt c.args.key.now q c.first_apart-common.result) p c.first_apart-common.ensures;
-      other_is = ap (λ q. get_or q c.first_apart-common.result 0) p;
+      parts = c.parting-place.ensures.place n.0 n.1;
+      other_is = c.parting-place.ensures.other n.0 n.1;
       made = m;
       hangs = h;
       forks = c.hang_node.ensures.hangs h.node h.now;
@@ -85,7 +103,7 @@ abbrev IsThere : (g : Over) → After-hang_node g → Type 0
 IsThere g c = get c.hang_node.new.self c.args.at ≡ get c.args.self.now.nodes c.args.at
 
 there : (g : Over) (c : After-hang_node g) → IsThere g c
-there g c = forked_at c.args.self.now.nodes c.make-over.new.self c.hang_leaf.new.self c.hang_node.new.self c.args.key.now c.first_apart-common.result c.make-over.result _ c.args.below c.args.value (forked g c) c.args.at c.requires.way.stands
+there g c = forked_at c.args.self.now.nodes c.make-over.new.self c.hang_leaf.new.self c.hang_node.new.self c.args.key.now c.parting-place.result.place c.make-over.result _ c.args.below c.args.value (forked g c) c.args.at c.requires.way.stands
 
 pub byte_at-up-requires : goal.byte_at-up-requires
 byte_at-up-requires g c = subst IsSome (sym (there g c)) c.requires.way.stands
@@ -106,31 +124,41 @@ swap_node-requires-clause-present g c =
 pub returns-clause-tree : goal.returns-clause-tree
 returns-clause-tree g c =
     let len : length c.args.key.now ≡ 8 = search rules in
-    (fork_hung c.args.self.now.nodes c.make-over.new.self c.hang_leaf.new.self c.hang_node.new.self c.args.key.now c.first_apart-common.result c.make-over.result _ c.args.below c.args.value (forked g (goal.at.returns-clause-tree g c).After-hang_node)
+    (fork_hung c.args.self.now.nodes c.make-over.new.self c.hang_leaf.new.self c.hang_node.new.self c.args.key.now c.parting-place.result.place c.make-over.result _ c.args.below c.args.value (forked g (goal.at.returns-clause-tree g c).After-hang_node)
     c.swap_node.new.self c.args.at c.byte_at-up.result len c.requires.tree c.requires.way c.requires.hangs c.requires.differs c.byte_at-up.ensures c.swap_node.ensures.swaps).0.0
 
 pub returns-clause-change : goal.returns-clause-change
 returns-clause-change g c =
     let len : length c.args.key.now ≡ 8 = search rules in
-    (fork_hung c.args.self.now.nodes c.make-over.new.self c.hang_leaf.new.self c.hang_node.new.self c.args.key.now c.first_apart-common.result c.make-over.result _ c.args.below c.args.value (forked g (goal.at.returns-clause-change g c).After-hang_node)
+    (fork_hung c.args.self.now.nodes c.make-over.new.self c.hang_leaf.new.self c.hang_node.new.self c.args.key.now c.parting-place.result.place c.make-over.result _ c.args.below c.args.value (forked g (goal.at.returns-clause-change g c).After-hang_node)
     c.swap_node.new.self c.args.at c.byte_at-up.result len c.requires.tree c.requires.way c.requires.hangs c.requires.differs c.byte_at-up.ensures c.swap_node.ensures.swaps).0.1
 
 pub returns-clause-bytes : goal.returns-clause-bytes
 returns-clause-bytes g c =
     let len : length c.args.key.now ≡ 8 = search rules in
-    let r = fork_hung c.args.self.now.nodes c.make-over.new.self c.hang_leaf.new.self c.hang_node.new.self c.args.key.now c.first_apart-common.result c.make-over.result _ c.args.below c.args.value (forked g (goal.at.returns-clause-bytes g c).After-hang_node)
+    let r = fork_hung c.args.self.now.nodes c.make-over.new.self c.hang_leaf.new.self c.hang_node.new.self c.args.key.now c.parting-place.result.place c.make-over.result _ c.args.below c.args.value (forked g (goal.at.returns-clause-bytes g c).After-hang_node)
     c.swap_node.new.self c.args.at c.byte_at-up.result len c.requires.tree c.requires.way c.requires.hangs c.requires.differs c.byte_at-up.ensures c.swap_node.ensures.swaps in
     omega (arith, r.1)
+
+pub returns-clause-filled : goal.returns-clause-filled
+returns-clause-filled g c =
+    let len : length c.args.key.now ≡ 8 = search rules in
+    let f = forked g (goal.at.returns-clause-filled g c).After-hang_node in
+    let same = there g (goal.at.returns-clause-filled g c).After-hang_node in
+    fork_filled c.args.self.now.nodes c.make-over.new.self c.hang_leaf.new.self c.hang_node.new.self c.swap_node.new.self c.args.key.now c.parting-place.result.place c.make-over.result _ c.args.below c.args.at c.byte_at-up.result c.args.value f len c.requires.way.stands
+    (λ x e. child_there c.args.self.now.nodes c.requires.tree c.args.key.now c.args.at c.args.below c.requires.way.stands c.requires.hangs x (sym same ∙ e) c.byte_at-up.result
+    (c.byte_at-up.ensures ∙ ap (λ o. get_or c.args.key.now (length (node_of o).prefix) 0) same))
+    c.swap_node.ensures.swaps
 
 pub returns-clause-hosts : goal.returns-clause-hosts
 returns-clause-hosts g c =
     let len : length c.args.key.now ≡ 8 = search rules in
-    fork_hosts c.args.self.now.nodes c.make-over.new.self c.hang_leaf.new.self c.hang_node.new.self c.args.key.now c.first_apart-common.result c.make-over.result _ c.args.below c.args.value (forked g (goal.at.returns-clause-hosts g c).After-hang_node)
+    fork_hosts c.args.self.now.nodes c.make-over.new.self c.hang_leaf.new.self c.hang_node.new.self c.args.key.now c.parting-place.result.place c.make-over.result _ c.args.below c.args.value (forked g (goal.at.returns-clause-hosts g c).After-hang_node)
     c.swap_node.new.self c.args.at c.byte_at-up.result len c.requires.tree c.requires.way c.requires.hangs c.requires.differs c.byte_at-up.ensures c.swap_node.ensures.swaps
-    (short_take c.first_apart-common.result c.args.key.now (omega (arith, c.first_apart-common.ensures.within, c.prefix-prefix.ensures.fits)))
+    (short_take c.parting-place.result.place c.args.key.now c.parting-place.ensures.within)
 
 pub returns-clause-same : goal.returns-clause-same
 returns-clause-same g c =
     let len : length c.args.key.now ≡ 8 = search rules in
-    fork_below c.args.self.now.nodes c.make-over.new.self c.hang_leaf.new.self c.hang_node.new.self c.args.key.now c.first_apart-common.result c.make-over.result _ c.args.below c.args.value (forked g (goal.at.returns-clause-same g c).After-hang_node)
+    fork_below c.args.self.now.nodes c.make-over.new.self c.hang_leaf.new.self c.hang_node.new.self c.args.key.now c.parting-place.result.place c.make-over.result _ c.args.below c.args.value (forked g (goal.at.returns-clause-same g c).After-hang_node)
     c.swap_node.new.self c.args.at c.byte_at-up.result len c.requires.tree c.requires.way c.requires.hangs c.requires.differs c.byte_at-up.ensures c.swap_node.ensures.swaps

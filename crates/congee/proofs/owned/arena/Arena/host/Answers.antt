@@ -1,5 +1,6 @@
 use Rattle.std.proofs.Common.{rules, sym, ap, ◌∙◌, arith}
 use Rattle.congee.specs.Heap.{fits}
+use Rattle.congee.proofs.lemmas.owned.Firsts.{first_below}
 use Rattle.congee.proofs.lemmas.owned.Hangings.{own_of, inline_of, unfolded, above_inner, child_inline, hosts_inner, hosts_child}
 use Rattle.congee.proofs.lemmas.owned.Renaming.{renamed, renamed_change, change_renamed}
 use Rattle.congee.proofs.lemmas.owned.Moves.{stands_at}
@@ -37,6 +38,11 @@ fold-requires-clause-inner g c = hosts_inner c.fork-over.new.self.nodes c.fork-o
 pub fold-requires-clause-present : goal.fold-requires-clause-present
 fold-requires-clause-present g c = hosts_child c.fork-over.new.self.nodes c.fork-over.result.over c.fork-over.result.other c.unfold-leaf.result c.fork-over.ensures.hosts
 
+pub fold-requires-clause-begins : goal.fold-requires-clause-begins
+fold-requires-clause-begins g c = λ x y e h.
+    first_below c.fork-over.new.self.nodes c.fork-over.ensures.tree c.fork-over.result.over c.fork-over.result.other c.unfold-leaf.result x y e h
+    (hosts_child c.fork-over.new.self.nodes c.fork-over.result.over c.fork-over.result.other c.unfold-leaf.result c.fork-over.ensures.hosts x e)
+
 pub fold-requires-clause-below : goal.fold-requires-clause-below
 fold-requires-clause-below g c =
     let u = unfolded c.args.self.now.nodes c.unfold-leaf.new.self c.args.key.now c.args.at c.args.below c.byte_at-up.result c.unfold-leaf.result c.requires.tree c.requires.way c.requires.hangs c.byte_at-up.ensures c.unfold-leaf.ensures.renames in
@@ -60,6 +66,12 @@ returns-then-is_inline-clause-bytes g c =
     let u = unfolded c.args.self.now.nodes c.unfold-leaf.new.self c.args.key.now c.args.at c.args.below c.byte_at-up.result c.unfold-leaf.result c.requires.tree c.requires.way c.requires.hangs c.byte_at-up.ensures c.unfold-leaf.ensures.renames in
     let f = renamed c.fork-over.new.self.nodes c.fold.new.self c.fork-over.result.over c.fork-over.result.other c.unfold-leaf.result c.fold.ensures.folds.name c.fork-over.ensures.tree c.fold.ensures.folds.renames in
     omega (arith, u.renamed.bytes, f.bytes, c.fork-over.ensures.bytes)
+
+pub returns-then-is_inline-clause-filled : goal.returns-then-is_inline-clause-filled
+returns-then-is_inline-clause-filled g c = λ h.
+    let u = unfolded c.args.self.now.nodes c.unfold-leaf.new.self c.args.key.now c.args.at c.args.below c.byte_at-up.result c.unfold-leaf.result c.requires.tree c.requires.way c.requires.hangs c.byte_at-up.ensures c.unfold-leaf.ensures.renames in
+    let f = renamed c.fork-over.new.self.nodes c.fold.new.self c.fork-over.result.over c.fork-over.result.other c.unfold-leaf.result c.fold.ensures.folds.name c.fork-over.ensures.tree c.fold.ensures.folds.renames in
+    f.filled (c.fork-over.ensures.filled (u.renamed.filled h))
 
 pub fork-requires-clause-own : goal.fork-requires-clause-own
 fork-requires-clause-own g c = own_of c.is_inline.result c.args.below c.is_inline.ensures (search rules)

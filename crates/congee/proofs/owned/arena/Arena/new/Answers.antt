@@ -34,3 +34,6 @@ returns-in-Ok-new-clause-wants g c = (left g (goal.at.returns-in-Ok-new-clause-w
 
 pub returns-in-Ok-new-clause-bytes : goal.returns-in-Ok-new-clause-bytes
 returns-in-Ok-new-clause-bytes g c = (left g (goal.at.returns-in-Ok-new-clause-bytes g c).In-Ok-new).bytes
+
+pub returns-in-Ok-new-clause-filled : goal.returns-in-Ok-new-clause-filled
+returns-in-Ok-new-clause-filled g c = (left g (goal.at.returns-in-Ok-new-clause-filled g c).In-Ok-new).lacking

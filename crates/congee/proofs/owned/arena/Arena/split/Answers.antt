@@ -55,4 +55,5 @@ returns-clause-adds g c =
       };
       fits = both_fit _ _ _ _ c.in_default.ensures.charge c.ready.ensures.limit c.in_default.ensures.fits c.in_default-ready.ensures.fits;
       bytes = omega (arith, r.bytes, c.host.ensures.bytes);
+      filled = λ h. c.host.ensures.filled (r.filled h);
     }

@@ -1,5 +1,6 @@
 use Rattle.std.proofs.Common.{rules, ◌≡◌, sym, ap, ◌∙◌, length}
 use Rattle.congee.specs.declared.forms.base_node.NodeType.TheVariants.{N4}
+use Rattle.congee.proofs.lemmas.owned.Firsts.{first_below}
 use Rattle.congee.proofs.lemmas.owned.Moves.{prefix_at}
 use Rattle.congee.proofs.lemmas.owned.Hangings.{above_inner, child_there, has_one, hung_stands}
 use Rattle.congee.proofs.lemmas.owned.Renaming.{renamed}
@@ -13,6 +14,11 @@ fold-requires-clause-inner g c = above_inner c.args.self.now.nodes c.requires.tr
 
 pub fold-requires-clause-present : goal.fold-requires-clause-present
 fold-requires-clause-present g c = λ x e. child_there c.args.self.now.nodes c.requires.tree c.args.key.now c.args.above c.args.at c.requires.hangs.way.stands c.requires.hangs.child x e c.byte_at-up.result c.byte_at-up.ensures
+
+pub fold-requires-clause-begins : goal.fold-requires-clause-begins
+fold-requires-clause-begins g c = λ x y e h.
+    first_below c.args.self.now.nodes c.requires.tree c.args.above c.byte_at-up.result c.args.at x y e h
+    (child_there c.args.self.now.nodes c.requires.tree c.args.key.now c.args.above c.args.at c.requires.hangs.way.stands c.requires.hangs.child x e c.byte_at-up.result c.byte_at-up.ensures)
 
 pub fold-requires-clause-lone : goal.fold-requires-clause-lone
 fold-requires-clause-lone g c = λ y e.

@@ -1,4 +1,4 @@
-use Rattle.std.proofs.Common.{rules, ◌≡◌, refl, ap, sym, ◌∙◌}
+use Rattle.std.proofs.Common.{rules, ◌≡◌, ◌^◌, ◌-◌, ℕ, refl, ap, sym, subst, ◌∙◌}
 use Rattle.std.specs.FinMap as map
 use Rattle.std.specs.Prelude.{None, Some}
 use Rattle.std.specs.Arc.{arc_value}
@@ -8,12 +8,13 @@ use Rattle.judge.specs.declared.journal.Reply.TheVariants as reply
 use Rattle.congee.specs.Heap.{value_at}
 use Rattle.congee.specs.owned.Arena.{heap_of}
 use Rattle.congee.specs.owned.Owners.{never_same}
-use Rattle.congee.specs.owned.Wanted.{lone_of}
+use Rattle.congee.specs.owned.Sizes.{bytes_of}
+use Rattle.congee.specs.owned.Going.{Went, goes_of, going_by}
 use Rattle.congee.proofs.lemmas.owned.Answered.{answered_absent}
-use Rattle.congee.proofs.lemmas.owned.Contents.{present_told, freed, found_at}
+use Rattle.congee.proofs.lemmas.owned.Contents.{filled_still, present_told, went, found_at}
 use Rattle.congee.proofs.lemmas.owned.OwnerLemmas.{if_some, is_there, on_error, same_some}
 use Rattle.congee.proofs.lemmas.owned.Tables.{answer_pairs}
-use Rattle.congee.proofs.lemmas.owned.Wanting.{freed_map}
+use Rattle.congee.proofs.lemmas.owned.Goings.{going_map}
 use Rattle.congee.proofs.owned.congee_arc.CongeeArc.compute_if_present.Goals as goal
 
 pub returns-in_err-given-in-Some-clause-refused : goal.returns-in_err-given-in-Some-clause-refused
@@ -34,7 +35,9 @@ returns-clause-present g c =
     let old = c.in-Some.payload.now in
     let new = c.payload_of-new.result in
     let answers = present_told never_same _ _ c.self.inside.arena c.settle.new.self (g.K.Word64.word c.args.key) c.bytes_of_key-bytes.ensures.small c.bytes_of_key-bytes.result c.bytes_of_key-bytes.ensures.bytes c.settle.result old new _ c.in-Some.ensures c.settle.ensures in
-    let bytes = freed never_same _ _ c.self.inside.arena c.settle.new.self (g.K.Word64.word c.args.key) c.bytes_of_key-bytes.ensures.small c.bytes_of_key-bytes.result c.bytes_of_key-bytes.ensures.bytes new c.settle.result _ c.settle.ensures in
+    let Q : ℕ → Type 0 = λ n. Went n (2 ^ 64 - 1) (bytes_of c.self.inside.arena.nodes) (bytes_of c.settle.new.self.nodes) (going_by new (map.get (goes_of c.self.inside.arena.nodes) (g.K.Word64.word c.args.key))) in
+    let bytes = subst Q (sym c.self.invariant.1) (went never_same _ _ c.self.inside.arena c.settle.new.self (g.K.Word64.word c.args.key) c.bytes_of_key-bytes.ensures.small c.bytes_of_key-bytes.result c.bytes_of_key-bytes.ensures.bytes new c.settle.result _ c.settle.ensures) in
+    let filled = filled_still never_same _ _ c.self.inside.arena c.settle.new.self (g.K.Word64.word c.args.key) c.bytes_of_key-bytes.ensures.small c.bytes_of_key-bytes.result c.bytes_of_key-bytes.ensures.bytes new c.settle.result _ c.settle.ensures in
     if_some c.owner_of.result _ (λ x is.
     let r : c.settle.result ≡ Some (arc_value x) = sym c.owner_of.ensures ∙ ap (option_map arc_value) is in
     let same : old ≡ arc_value x = same_some old (arc_value x) (c.in-Some.ensures ∙ c.settle.ensures.edits.change.was ∙ r) in (
@@ -43,5 +46,5 @@ returns-clause-present g c =
       c.f.new.self,
       c.in_ok-given-in-Some.ensures ∙ same,
       search rules,
-      rw (← c.self.view_is, ← freed_map arc_value c.f.result (map.get (lone_of c.self.inside.arena.nodes) (g.K.Word64.word c.args.key)), ← c.payload_of-new.ensures, ← same) (record { answers = answers; bytes = bytes }),
+      rw (← c.self.view_is, ← going_map arc_value c.f.result (map.get (goes_of c.self.inside.arena.nodes) (g.K.Word64.word c.args.key)), ← c.payload_of-new.ensures, ← same) (record { answers = answers; bytes = bytes; filled = filled }),
     ))

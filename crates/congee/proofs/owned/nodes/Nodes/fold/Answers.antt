@@ -1,10 +1,13 @@
-use Rattle.std.proofs.Common.{◌≡◌, length, rules}
-use Rattle.congee.proofs.lemmas.owned.Folds.{fold_folds, fold_inner, fold_left, fold_present, fold_room, fold_seven, fold_stands, fold_value, fold_whole, not_bare}
+use Rattle.std.proofs.Common.{◌≡◌, length, rules, arith}
+use Rattle.congee.proofs.lemmas.owned.Folds.{fold_first, fold_folds, fold_inner, fold_left, fold_present, fold_room, fold_seven, fold_stands, fold_value, fold_whole, not_bare}
 use Rattle.congee.proofs.lemmas.owned.Unfolds.{fits_room}
 use Rattle.congee.proofs.owned.nodes.Nodes.fold.Goals as goal
 
 pub unreachable-requires : goal.unreachable-requires
 unreachable-requires g c = not_bare c.args.self.now c.args.at c.args.leaf c.requires.stands c.requires.inner c.requires.below c.requires.lone c.in-None.ensures.first
+
+pub prefix-requires-clause-stands : goal.prefix-requires-clause-stands
+prefix-requires-clause-stands g c = c.requires.below
 
 pub key_from-key-requires : goal.key_from-key-requires
 key_from-key-requires g c = fold_whole c.args.self.now c.args.at c.args.leaf c.requires.stands c.requires.inner c.requires.below c.requires.lone c.prefix.result.now c.prefix.ensures.bytes
@@ -31,6 +34,10 @@ pub swap_leaf-requires-clause-spare : goal.swap_leaf-requires-clause-spare
 swap_leaf-requires-clause-spare g c =
     let room = fits_room c.self.inside.slab c.args.self.now c.self.view_is c.self.inside.inline c.self.invariant in
     fold_room c.args.self.now c.args.at c.args.leaf c.requires.stands c.requires.inner c.requires.below c.requires.lone c.in-Some.last _ c.in-Some.ensures.first c.take_value-value.new.self c.take_value-value.ensures.takes c.remove.new.self c.remove.ensures.gone room c.take_value-value.ensures.capacity c.remove.ensures.capacity
+
+pub swap_leaf-requires-clause-begins : goal.swap_leaf-requires-clause-begins
+swap_leaf-requires-clause-begins g c =
+    fold_first c.args.self.now c.args.at c.args.leaf c.requires.stands c.requires.inner c.requires.below c.requires.lone c.in-Some.last _ c.in-Some.ensures.first c.take_value-value.new.self c.take_value-value.ensures.takes c.remove.new.self c.remove.ensures.gone c.args.byte c.requires.begins c.key_from-key.result c.prefix.result.now c.prefix.ensures.bytes (c.key_from-key.ensures.bytes 0 (omega arith))
 
 pub returns-clause-folds : goal.returns-clause-folds
 returns-clause-folds g c =

@@ -1,12 +1,12 @@
-use denote.Param.{layout, param}
+use denote.Param.{layout}
 use Rattle.std.specs.Borrow.{usize as word}
 use Rattle.std.proofs.Common.{rules}
-use Rattle.congee.specs.contracts.owned.lone.Lone.{the_row as lone_row}
 use Rattle.congee.specs.forms.Room.{IsSmall}
 use Rattle.congee.specs.forms.RoomLemmas.{node16_fits, node48_fits, node256_fits}
 use Rattle.congee.proofs.lemmas.owned.SlotComes.{leaves_stored, leaves_done}
 use Rattle.congee.proofs.lemmas.owned.SlotLeaves.{leaf_slot}
 use Rattle.congee.proofs.lemmas.owned.SlotOps.{same_view_room}
+use Rattle.congee.specs.owned.EntryRoom.{places16_fits, places48_fits, places256_fits}
 use Rattle.congee.proofs.owned.nodes.Nodes.remove.Goals as goal
 
 pub remove-requires : goal.remove-requires
@@ -22,13 +22,13 @@ returns g c = record {
 }
 
 pub drop-requires-room-T-Destruct : goal.drop-requires-room-T-Destruct
-drop-requires-room-T-Destruct g c κs within = let us : IsSmall (layout word) = search rules in node16_fits word (lone_row (param 0 g.row.P)) us g.met.P.Stored.lone_small
+drop-requires-room-T-Destruct g c κs within = places16_fits g.row.P g.met.P.Small.small
 
 pub drop-requires-2-room-T-Destruct : goal.drop-requires-2-room-T-Destruct
-drop-requires-2-room-T-Destruct g c κs within = let us : IsSmall (layout word) = search rules in node48_fits word (lone_row (param 0 g.row.P)) us g.met.P.Stored.lone_small
+drop-requires-2-room-T-Destruct g c κs within = places48_fits g.row.P g.met.P.Small.small
 
 pub drop-requires-3-room-T-Destruct : goal.drop-requires-3-room-T-Destruct
-drop-requires-3-room-T-Destruct g c κs within = let us : IsSmall (layout word) = search rules in node256_fits word (lone_row (param 0 g.row.P)) us g.met.P.Stored.lone_small
+drop-requires-3-room-T-Destruct g c κs within = places256_fits g.row.P g.met.P.Small.small
 
 pub drop-requires-4-room-T-Destruct : goal.drop-requires-4-room-T-Destruct
 drop-requires-4-room-T-Destruct g c κs within = let us : IsSmall (layout word) = search rules in node16_fits word g.row.P us g.met.P.Small.small

@@ -1,5 +1,5 @@
 use Rattle.std.proofs.Common.{rules, refl, ◌<◌, arith}
-use Rattle.congee.proofs.lemmas.owned.SlotOps.{has_slot, slot_present, spare_room, same_room, node_free, hang_leaf_stored, hang_leaf_done}
+use Rattle.congee.proofs.lemmas.owned.SlotOps.{has_slot, slot_first, slot_present, spare_room, same_room, node_free, hang_leaf_stored, hang_leaf_done}
 use Rattle.congee.proofs.owned.nodes.Nodes.swap_leaf.Goals as goal
 
 pub prove-unreachable-requires : goal.prove-unreachable-requires
@@ -13,7 +13,7 @@ index_mut-requires g c = has_slot c.self.inside.slab c.args.self.now c.self.view
 pub change_child-requires : goal.change_child-requires
 change_child-requires g c = (
   g.met.P.Stored.fits,
-  (let low : c.args.byte < 256 = search rules in slot_present c.self.inside.slab c.args.self.now c.self.view_is c.self.inside.inline c.self.invariant c.args.at c.at.inside.slot c.at.inside.byte c.at.view_is c.at.invariant c.requires.stands c.requires.inner c.index_mut.result.now c.index_mut.result.now c.index_mut.ensures.value c.args.byte low c.requires.present),
+  (let low : c.args.byte < 256 = search rules in slot_present c.self.inside.slab c.args.self.now c.self.view_is c.self.inside.inline c.self.invariant c.args.at c.at.inside.slot c.at.inside.byte c.at.view_is c.at.invariant c.requires.stands c.requires.inner c.index_mut.result.now c.index_mut.result.now c.index_mut.ensures.value c.args.byte low c.requires.present, slot_first c.self.inside.slab c.args.self.now c.self.view_is c.self.inside.inline c.self.invariant c.args.at c.at.inside.slot c.at.inside.byte c.at.view_is c.at.invariant c.requires.stands c.requires.inner c.index_mut.result.now c.index_mut.ensures.value c.args.byte _ c.requires.begins),
 )
 
 pub invariant_of-self : goal.invariant_of-self

@@ -1,0 +1,39 @@
+use denote.Param.{layout}
+use Rattle.std.specs.Borrow.{usize as word}
+use Rattle.std.proofs.Common.{rules}
+use Rattle.congee.specs.forms.Room.{IsSmall}
+use Rattle.congee.specs.forms.RoomLemmas.{node16_fits, node48_fits, node256_fits}
+use Rattle.congee.proofs.lemmas.owned.Lessening.{bare_stored, bare_done}
+use Rattle.congee.proofs.lemmas.owned.SlotOps.{has_slot, same_view_room}
+use Rattle.congee.specs.owned.EntryRoom.{places16_fits, places48_fits, places256_fits}
+use Rattle.congee.proofs.owned.nodes.Nodes.remove_bare.Goals as goal
+
+pub remove-requires : goal.remove-requires
+remove-requires g c = has_slot c.self.inside.slab c.args.self.now c.self.view_is c.self.inside.inline c.self.invariant c.args.at c.at.inside.slot c.at.inside.byte c.at.view_is c.at.invariant c.requires.stands c.requires.inner
+
+pub invariant_of-self : goal.invariant_of-self
+invariant_of-self g c = bare_stored c.self.inside.slab c.remove.new.self c.args.self.now c.self.view_is c.self.inside.inline c.self.invariant c.args.at c.at.inside.slot c.at.inside.byte c.at.view_is c.at.invariant c.requires.stands c.requires.inner c.requires.bare c.remove.ensures.updates c.remove.ensures.capacity c.remove.ensures.len
+
+pub returns : goal.returns
+returns g c = record {
+  gone = bare_done c.self.inside.slab c.remove.new.self c.args.self.now c.self.view_is c.self.inside.inline c.self.invariant c.args.at c.at.inside.slot c.at.inside.byte c.at.view_is c.at.invariant c.requires.stands c.requires.inner c.requires.bare c.remove.ensures.updates;
+  capacity = same_view_room c.self.inside.slab c.remove.new.self c.args.self.now c.self.view_is c.remove.ensures.capacity;
+}
+
+pub drop-requires-room-T-Destruct : goal.drop-requires-room-T-Destruct
+drop-requires-room-T-Destruct g c κs within = places16_fits g.row.P g.met.P.Small.small
+
+pub drop-requires-2-room-T-Destruct : goal.drop-requires-2-room-T-Destruct
+drop-requires-2-room-T-Destruct g c κs within = places48_fits g.row.P g.met.P.Small.small
+
+pub drop-requires-3-room-T-Destruct : goal.drop-requires-3-room-T-Destruct
+drop-requires-3-room-T-Destruct g c κs within = places256_fits g.row.P g.met.P.Small.small
+
+pub drop-requires-4-room-T-Destruct : goal.drop-requires-4-room-T-Destruct
+drop-requires-4-room-T-Destruct g c κs within = let us : IsSmall (layout word) = search rules in node16_fits word g.row.P us g.met.P.Small.small
+
+pub drop-requires-5-room-T-Destruct : goal.drop-requires-5-room-T-Destruct
+drop-requires-5-room-T-Destruct g c κs within = let us : IsSmall (layout word) = search rules in node48_fits word g.row.P us g.met.P.Small.small
+
+pub drop-requires-6-room-T-Destruct : goal.drop-requires-6-room-T-Destruct
+drop-requires-6-room-T-Destruct g c κs within = let us : IsSmall (layout word) = search rules in node256_fits word g.row.P us g.met.P.Small.small

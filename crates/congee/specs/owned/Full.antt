@@ -1,0 +1,61 @@
+-- How full the nodes of an owned tree are, where no removal goes on without a lesser node that it wants.
+use Rattle.std.specs.Prelude.{◌≡◌, ◌≢◌, ℕ, ◌+◌, ◌-◌, nat_lt, cond, max, List, [], ◌∷◌, length, drop, Option, None, Some}
+use Rattle.std.specs.FinMap as map
+use Rattle.std.specs.List.{All}
+use Rattle.slab.specs.Slab.{get}
+use Rattle.congee.specs.forms.Forms.{capacity_of, children_of, form_of, prefix_of}
+use Rattle.congee.specs.owned.Arena.{Nodes}
+use Rattle.congee.specs.owned.Going.{Going, Lesser}
+use Rattle.congee.specs.owned.Stats.{Shape}
+use Rattle.congee.specs.protocol.Filled.{FilledAs, least_in}
+use Rattle.congee.specs.declared.forms.base_node.Node.{Node}
+use Rattle.congee.specs.declared.forms.base_node.NodeType.{NodeType}
+use Rattle.congee.specs.declared.forms.prefix.TheConstants.{MAX_PREFIX_LEN}
+
+-- each node of the tree but the root, which alone is on level 0, has a child, two where it holds nodes, and isn't too small for
+-- its form
+abbrev pub AllFilled : List Shape → Type 0
+AllFilled nodes = All (λ n. n.level ≢ 0 → FilledAs n.prefix n.children (capacity_of n.form)) nodes
+
+-- the fewest children of such a node, by its form and the bytes of its prefix
+abbrev pub fewest : NodeType → ℕ → ℕ
+fewest form prefix = max (least_in form) (cond (nat_lt prefix MAX_PREFIX_LEN) 2 1)
+
+module _ {P : Type 0} where
+  -- how many children it lacks
+  abbrev pub lacks : Option (Node ℕ P) → ℕ
+  lacks None = 0
+  lacks (Some x) = fewest (form_of x) (length (prefix_of x)) - map.len (children_of x)
+
+  abbrev pub lacks_all : List (Option (Node ℕ P)) → ℕ
+  lacks_all [] = 0
+  lacks_all (o ∷ r) = lacks o + lacks_all r
+
+  -- how many the nodes lack in all; the first, the root, lacks none
+  unfoldable pub lacking_of : Nodes P → ℕ
+  lacking_of s = lacks_all (drop 1 s.slots)
+
+  -- the node has enough for so many places, or for those of its form
+  abbrev pub FilledIn : ℕ → Node ℕ P → Type 0
+  FilledIn capacity x = FilledAs (length (prefix_of x)) (map.len (children_of x)) capacity
+
+  abbrev pub HasEnough : Node ℕ P → Type 0
+  HasEnough x = FilledIn (capacity_of (form_of x)) x
+
+  -- so have the nodes of an arena, but the root
+  abbrev pub NodesFilled : Nodes P → Type 0
+  NodesFilled s = (n : ℕ) (x : Node ℕ P) → n ≢ 0 → get s n ≡ Some x → HasEnough x
+
+  -- but the root and this one
+  abbrev pub OthersFilled : Nodes P → ℕ → Type 0
+  OthersFilled s at = (n : ℕ) (x : Node ℕ P) → n ≢ 0 → n ≢ at → get s n ≡ Some x → HasEnough x
+
+-- the lesser node that was wanted came in the place of the greater one, as the sum of the nodes' sizes tells
+abbrev pub LesserCame : (before after gone : ℕ) → Option Lesser → Type 0
+LesserCame before after gone None = Unit {0}
+LesserCame before after gone (Some l) = after + gone + l.left ≡ before + l.made
+
+-- a call with which these nodes went did without none that it wanted
+abbrev pub NoneSkipped : (before after : ℕ) → Option Going → Type 0
+NoneSkipped before after None = Unit {0}
+NoneSkipped before after (Some g) = LesserCame before after g.gone g.lesser

@@ -1,0 +1,276 @@
+//! The places of an inner node, in each form.
+ghost use Rattle.std.specs.Prelude.{◌≡◌, ◌≢◌, ◌≤◌, ◌<◌, ℕ, false, MatchOption, None, Some, IsSome, IfOk, OnOk, OnErr};
+ghost use Rattle.std.specs.Option.{option_copied};
+ghost use Rattle.std.specs.FinMap as map;
+ghost use Rattle.congee.specs.forms.Bytes.{IsFirst};
+ghost use Rattle.congee.specs.forms.Forms.{capacity_of, next_form};
+ghost use Rattle.congee.specs.owned.Entries.{form_in, entries_in, full_in, Refills};
+ghost use Rattle.congee.specs.protocol.Steps.{form_below};
+
+use crate::forms::base_node::NodeType;
+use crate::forms::child::Small;
+use crate::forms::indexed::Indexed;
+use crate::forms::masked::Masked;
+use crate::forms::sorted::Sorted;
+use crate::owned::entries::Entry;
+use std::alloc::{AllocError, Global};
+
+/// At most 16 entries.
+#[derive(Drop)]
+pub(crate) struct Places16<P> {
+    pub(crate) children: Sorted<Entry<P>, 16>,
+}
+
+/// At most 48 entries.
+#[derive(Drop)]
+pub(crate) struct Places48<P> {
+    pub(crate) children: Indexed<Entry<P>>,
+}
+
+/// An entry for each byte.
+#[derive(Drop)]
+pub(crate) struct Places256<P> {
+    pub(crate) children: Masked<Entry<P>>,
+}
+
+/// A payload whose inner nodes fit in memory in every form. Each payload is one.
+pub(crate) trait Nested: Small {
+    ghost use Rattle.std.specs.Mem.{FitsInMemory};
+    ghost use Rattle.congee.specs.contracts.owned.places.Places16.{the_row as row_16};
+    ghost use Rattle.congee.specs.contracts.owned.places.Places48.{the_row as row_48};
+    ghost use Rattle.congee.specs.contracts.owned.places.Places256.{the_row as row_256};
+
+    ghost fits_16: { FitsInMemory (row_16 Self.row) };
+
+    ghost fits_48: { FitsInMemory (row_48 Self.row) };
+
+    ghost fits_256: { FitsInMemory (row_256 Self.row) };
+}
+
+impl<P: Small> Nested for P {
+    ghost use Rattle.congee.specs.owned.EntryRoom.{places16_fits, places48_fits, places256_fits};
+
+    ghost fits_16 = { places16_fits P.row P.small };
+
+    ghost fits_48 = { places48_fits P.row P.small };
+
+    ghost fits_256 = { places256_fits P.row P.small };
+}
+
+/// What an inner node has by byte. The least form lies inline, the others in a box.
+#[derive(Drop)]
+pub(crate) enum Places<P: Nested> {
+    N4(Sorted<Entry<P>, 4>),
+    N16(Box<Places16<P>>),
+    N48(Box<Places48<P>>),
+    N256(Box<Places256<P>>),
+}
+
+impl<P: Small> Places<P> {
+    ghost use Rattle.congee.specs.declared.forms.base_node.NodeType.TheVariants.{N4};
+
+    /// No entries, in a form. The least one asks for no memory.
+    pub(crate) fn new(alloc: Global, form: NodeType) -> Result<Self, AllocError>
+        ensures form { IfOk result (λ n. form_in n ≡ form) }
+        ensures entries { IfOk result (λ n. entries_in n ≡ map.empty) }
+        ensures memory { OnErr result (form ≢ N4) }
+    {
+        Ok(match form {
+            NodeType::N4 => Places::N4(Sorted::new()),
+            NodeType::N16 => Places::N16(Box::new(
+                alloc,
+                Places16 {
+                    children: Sorted::new(),
+                },
+            )?),
+            NodeType::N48 => Places::N48(Box::new(
+                alloc,
+                Places48 {
+                    children: Indexed::new(),
+                },
+            )?),
+            NodeType::N256 => Places::N256(Box::new(
+                alloc,
+                Places256 {
+                    children: Masked::new(),
+                },
+            )?),
+        })
+    }
+
+    /// No entries, in the least form.
+    pub(crate) fn least() -> Self
+        ensures form { form_in result ≡ N4 }
+        ensures entries { entries_in result ≡ map.empty }
+    {
+        Places::N4(Sorted::new())
+    }
+
+    /// The form.
+    #[inline(always)]
+    pub(crate) fn node_type(&self) -> NodeType
+        ensures { result ≡ form_in self.now }
+    {
+        match self {
+            Places::N4(_) => NodeType::N4,
+            Places::N16(_) => NodeType::N16,
+            Places::N48(_) => NodeType::N48,
+            Places::N256(_) => NodeType::N256,
+        }
+    }
+
+    /// How many entries there are.
+    #[inline(always)]
+    pub(crate) fn len(&self) -> usize
+        ensures count { result ≡ map.len (entries_in self.now) }
+        ensures fits { result ≤ capacity_of (form_in self.now) }
+        ensures bytes { (b : ℕ) → IsSome (map.get (entries_in self.now) b) → b < 256 }
+    {
+        match self {
+            Places::N4(n) => n.len(),
+            Places::N16(n) => n.children.len(),
+            Places::N48(n) => n.children.len(),
+            Places::N256(n) => n.children.len(),
+        }
+    }
+
+    /// Whether no further entry fits.
+    #[inline(always)]
+    pub(crate) fn is_full(&self) -> bool
+        ensures { result ≡ full_in self.now }
+    {
+        match self {
+            Places::N4(n) => n.len() == 4,
+            Places::N16(n) => n.children.len() == 16,
+            Places::N48(n) => n.children.len() == 48,
+            Places::N256(_) => false,
+        }
+    }
+
+    /// The entry of a byte.
+    #[inline(always)]
+    pub(crate) fn get_child(&self, byte: u8) -> Option<&Entry<P>>
+        ensures { option_copied result ≡ map.get (entries_in self.now) byte }
+    {
+        match self {
+            Places::N4(n) => n.get_child(byte),
+            Places::N16(n) => n.children.get_child(byte),
+            Places::N48(n) => n.children.get_child(byte),
+            Places::N256(n) => n.children.get_child(byte),
+        }
+    }
+
+    /// The entry of the least byte from `from` on.
+    #[inline(always)]
+    pub(crate) fn first_from(&self, from: usize) -> Option<(u8, &Entry<P>)>
+        ensures { MatchOption result ((b : ℕ) → from ≤ b → map.get (entries_in self.now) b ≡ None)
+            (λ r. IsFirst (entries_in self.now) from r.0 r.1.now) }
+    {
+        match self {
+            Places::N4(n) => n.first_from(from),
+            Places::N16(n) => n.children.first_from(from),
+            Places::N48(n) => n.children.first_from(from),
+            Places::N256(n) => n.children.first_from(from),
+        }
+    }
+
+    /// Adds an entry under a byte that has none, where there is room.
+    #[inline(always)]
+    pub(crate) fn insert(&mut self, byte: u8, entry: Entry<P>)
+        requires absent { map.get (entries_in self.old) byte ≡ None }
+        requires room { full_in self.old ≡ false }
+        ensures { Refills self.old self.new (map.insert (entries_in self.old) byte entry) }
+    {
+        match self {
+            Places::N4(n) => n.insert(byte, entry),
+            Places::N16(n) => n.children.insert(byte, entry),
+            Places::N48(n) => n.children.insert(byte, entry),
+            Places::N256(n) => n.children.insert(byte, entry),
+        }
+    }
+
+    /// Puts another entry under a byte that has one, and gives the one before.
+    #[inline(always)]
+    pub(crate) fn change(&mut self, byte: u8, entry: Entry<P>) -> Entry<P>
+        requires present { IsSome (map.get (entries_in self.old) byte) }
+        ensures before { map.get (entries_in self.old) byte ≡ Some result }
+        ensures after { Refills self.old self.new (map.insert (entries_in self.old) byte entry) }
+    {
+        match self {
+            Places::N4(n) => n.change(byte, entry),
+            Places::N16(n) => n.children.change(byte, entry),
+            Places::N48(n) => n.children.change(byte, entry),
+            Places::N256(n) => n.children.change(byte, entry),
+        }
+    }
+
+    /// Takes out the entry of a byte that has one.
+    #[inline(always)]
+    pub(crate) fn remove(&mut self, byte: u8) -> Entry<P>
+        requires present { IsSome (map.get (entries_in self.old) byte) }
+        ensures before { map.get (entries_in self.old) byte ≡ Some result }
+        ensures after { Refills self.old self.new (map.remove (entries_in self.old) byte) }
+    {
+        match self {
+            Places::N4(n) => n.remove(byte),
+            Places::N16(n) => n.children.remove(byte),
+            Places::N48(n) => n.children.remove(byte),
+            Places::N256(n) => n.children.remove(byte),
+        }
+    }
+
+    /// Takes every entry out.
+    pub(crate) fn clear(&mut self)
+        ensures { Refills self.old self.new map.empty }
+    {
+        let mut next = 0;
+        while let Some((byte, _)) = self.first_from(next) {
+            self.remove(byte);
+            next = 1 + byte as usize;
+        }
+    }
+
+    /// Moves every entry to `greater`, which has none and has room for them.
+    fn move_to(&mut self, greater: &mut Places<P>)
+        requires empty { entries_in greater.old ≡ map.empty }
+        requires room { map.len (entries_in self.old) ≤ capacity_of (form_in greater.old) }
+        ensures left { Refills self.old self.new map.empty }
+        ensures moved { Refills greater.old greater.new (entries_in self.old) }
+    {
+        let mut from = 0;
+        while let Some((byte, _)) = self.first_from(from) {
+            let entry = self.remove(byte);
+            greater.insert(byte, entry);
+            from = byte as usize + 1;
+        }
+    }
+
+    /// Becomes the next greater form with the same entries. Memory is asked for first: where it is refused, all stays.
+    pub(crate) fn grow(&mut self, alloc: Global) -> Result<(), AllocError>
+        ensures form { OnOk result (form_in self.new ≡ next_form (form_in self.old)) }
+        ensures entries { OnOk result (entries_in self.new ≡ entries_in self.old) }
+        ensures refused { OnErr result (self.new ≡ self.old) }
+    {
+        let form = self.node_type().next();
+        let mut greater = Places::new(alloc, form)?;
+        prove!(self.len() <= form.capacity());
+        self.move_to(&mut greater);
+        *self = greater;
+        Ok(())
+    }
+
+    /// Becomes the form below with the same entries. Memory is asked for first, but for the least form: where it is refused, all stays.
+    pub(crate) fn shrink(&mut self, alloc: Global) -> Result<(), AllocError>
+        requires room { map.len (entries_in self.old) ≤ capacity_of (form_below (form_in self.old)) }
+        ensures form { OnOk result (form_in self.new ≡ form_below (form_in self.old)) }
+        ensures entries { OnOk result (entries_in self.new ≡ entries_in self.old) }
+        ensures refused { OnErr result (self.new ≡ self.old) }
+        ensures memory { OnErr result (form_below (form_in self.old) ≢ N4) }
+    {
+        let form = self.node_type().below();
+        let mut lesser = Places::new(alloc, form)?;
+        self.move_to(&mut lesser);
+        *self = lesser;
+        Ok(())
+    }
+}
